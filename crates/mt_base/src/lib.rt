@@ -1,0 +1,19 @@
+//! Numbers, limits, lock modes and refusals: the words that every crate of the transaction kernel
+//! speaks in, the bytes of keys and values, and a history that only proofs see.
+#![tactic(auto)]
+
+mod bytes;
+mod history;
+pub mod limits;
+mod modes;
+mod numbers;
+mod refusal;
+
+pub use bytes::Bytes;
+pub use history::History;
+pub use modes::{LockMode, Mode};
+pub use numbers::{CtrNo, LogPos, OpNo, PageNo, RecordName, RelNo, TxnNo};
+pub use refusal::Refusal;
+
+#[cfg(test)]
+mod tests;

@@ -1,0 +1,3 @@
+pub mod Frame
+mod Kept
+mod Past

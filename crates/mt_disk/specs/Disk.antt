@@ -1,0 +1,56 @@
+-- What the calls of a device do to its content, and what a crash may leave of it. All of it goes by
+-- single bytes, since facts on ranges then come from facts on indexes.
+use Rattle.std.specs.Prelude.{◌<◌, ◌≡◌, ◌⊎◌, ℕ, ◌+◌, ◌≤◌, List, length, Result, IsErr, IsOk}
+use Rattle.std.proofs.Math.ListN.{get_or}
+
+-- the content holds these bytes from this place on
+pub record Has (content : List ℕ) (at : ℕ) (bytes : List ℕ) : Type 0 where
+  pub within : at + length bytes ≤ length content
+  pub each : (i : ℕ) → i < length bytes → get_or content (at + i) 0 ≡ get_or bytes i 0
+
+-- the n bytes from `at` on may have become any bytes, and each other one stays
+pub record Torn (at n : ℕ) (old new : List ℕ) : Type 0 where
+  pub size : length new ≡ length old
+  pub below : (i : ℕ) → i < at → get_or new i 0 ≡ get_or old i 0
+  pub above : (i : ℕ) → at + n ≤ i → get_or new i 0 ≡ get_or old i 0
+
+-- these bytes stand there now, and each other one stays
+pub record Wrote (at : ℕ) (bytes old new : List ℕ) : Type 0 where
+  pub has : Has new at bytes
+  pub rest : Torn at (length bytes) old new
+
+-- the n bytes from `at` on and the m bytes from p on do not overlap
+abbrev pub Apart : ℕ → ℕ → ℕ → ℕ → Type 0
+Apart at n p m = (p + m ≤ at) ⊎ (at + n ≤ p)
+
+-- whatever a crash may leave now comes by such a step from what it might have left before
+abbrev pub Follows : (List ℕ → List ℕ → Type 0) → (List ℕ → Type 0) → (List ℕ → Type 0) → Type 0
+Follows step old new = (c : List ℕ) → new c → (d : List ℕ) × old d × step d c
+
+-- whatever a crash may leave has P
+abbrev pub Leaves : (List ℕ → Type 0) → (List ℕ → Type 0) → Type 0
+Leaves outcomes P = (c : List ℕ) → outcomes c → P c
+
+-- a crash leaves this content and no other
+abbrev pub Only : List ℕ → (List ℕ → Type 0) → Type 0
+Only content outcomes = (c : List ℕ) → outcomes c → c ≡ content
+
+-- One call's time: what a crash since some earlier moment might have left is what it might have left
+-- before the call, or what it may leave after it.
+pub record Elapses (before now : ℕ) (past since : ℕ → List ℕ → Type 0) (may_leave : List ℕ → Type 0) : Type 0 where
+  pub later : before ≤ now
+  pub nothing_else : (t : ℕ) (c : List ℕ) → t ≤ before → since t c → past t c ⊎ may_leave c
+  pub keeps : (t : ℕ) (c : List ℕ) → t ≤ before → past t c → since t c
+
+-- Whenever a crash comes between these two states of a device, it leaves what has P.
+pub record LeavesOnly {D : Type 0} (moment : D → ℕ) (left_since : D → ℕ → List ℕ → Type 0) (old new : D) (P : List ℕ → Type 0) : Type 0 where
+  pub later : moment old ≤ moment new
+  pub each : (c : List ℕ) → left_since new (moment old) c → P c
+  -- the same, for a run of calls that began before
+  pub before : (t : ℕ) (c : List ℕ) → t ≤ moment old → left_since new t c → left_since old t c ⊎ P c
+
+-- A call tells of a fault exactly where the device failed in it.
+pub record HasCause {T E : Type 0} (before now : ℕ) (result : Result T E) : Type 0 where
+  pub later : before ≤ now
+  pub failed : IsErr result → before < now
+  pub quiet : IsOk result → now ≡ before

@@ -1,0 +1,244 @@
+ghost use Rattle.std.specs.Prelude.{◌≡◌, ℕ, List, ◌+◌, ◌*◌, ◌<◌, ◌≤◌, ◌⊎◌, length, replicate, IsTrue, IfOk, IfErr, OnOk, OnErr, IsOk, IsErr};
+ghost use Rattle.mt_disk.specs.Disk.{Has, Only, Follows, Torn, Wrote, Elapses, HasCause};
+ghost use Rattle.mt_disk.specs.Memory.{content, MayLeave, moment_of, left_by, failures_of, writes_left, bytes_left};
+
+use crate::{Device, DeviceFault, MemDevice};
+use mt_base::limits::PAGE_BYTES;
+use mt_base::{History, Refusal};
+use std::alloc::{AllocError, Global};
+use std::fs::{OpenFile, OpenOptions};
+use std::io::{Read, Seek, SeekFrom, Write};
+use std::rt::Files;
+
+/// Writes without a sync that a file's device has room for, beside one for each page of its file.
+const SPARE_WRITES: usize = 64;
+
+/// A device in a file. It reads its file once, when it is made, and answers each read from memory;
+/// each write and each sync is made on both.
+///
+/// What the proofs say of it, they say of its copy in memory. That the file holds the same is for
+/// the operating system, the disk and whoever else can reach the file, and is trusted: a proof cannot
+/// know what a file does. What can be seen of a file gone wrong is a fault: an error that the system
+/// answers, and a length, looked at when the file is read and at each sync, that is not what it was.
+/// A write that meets an error counts as written all the same. After one error of the file each
+/// later write and sync fails as well, since a system may forget after a failed sync what it could
+/// not write, and answer the next one well.
+///
+/// It has room without a sync for a write to each page of 4096 bytes and 64 more, with as many bytes
+/// as the file has and 262,144 more: enough to format it whole.
+#[derive(Drop)]
+pub struct FileDevice<F> {
+    memory: MemDevice,
+    file: F,
+    broken: bool,
+    failures: History<DeviceFault>,
+}
+
+impl<F: Read + Write + Seek + OpenFile + Drop> FileDevice<F> {
+    ghost use Rattle.mt_disk.specs.File.{copy_in, file_failures, IsBroken};
+
+    /// The device in the file of this path, of the file's length. What the file holds is synced
+    /// first, so that none of it can be lost any more. Refused by `NoMemory` for want of memory, and
+    /// by `DeviceFailed` where the file cannot be opened to be read and written, or read, or does
+    /// not keep its length; it is then as it was.
+    pub fn open<R: Files<File = F> + AllocGlobal>(
+        rt: &R,
+        path: &str,
+    ) -> Result<FileDevice<F>, Refusal>
+        ensures synced { IfOk result (λ device. Only (content (copy_in device)) (MayLeave (copy_in device))) }
+        ensures quiet { IfOk result (λ device. (failures_of (copy_in device) ≡ 0) × (file_failures device ≡ 0)) }
+        ensures writes { IfOk result (λ device. length (content (copy_in device)) ≤ 4096 * writes_left (copy_in device)) }
+        ensures written { IfOk result (λ device. length (content (copy_in device)) ≤ bytes_left (copy_in device)) }
+        ensures refusals { IfErr result (λ refusal. (refusal ≡ Refusal.NoMemory) ⊎ (refusal ≡ Refusal.DeviceFailed)) }
+    {
+        let mut file = opened(rt, path)?;
+        settle_file(&mut file)?;
+        let len = length_of(&mut file)?;
+        let mut bytes = vec![in rt.alloc(); 0u8; len as usize]?;
+        read_from_start(&mut file, bytes.as_mut_slice())?;
+        if length_of(&mut file)? != len {
+            return Err(Refusal::DeviceFailed);
+        }
+        let memory = copy_of(rt.alloc(), bytes)?;
+        Ok(FileDevice {
+            memory,
+            file,
+            broken: false,
+            failures: History::new(),
+        })
+    }
+
+    /// A device of so many bytes, all of them 0, in a file of this path; what the file held before
+    /// is gone. Refused by `NoMemory` for want of memory, before the file is touched, and by
+    /// `DeviceFailed` where the file cannot be made or written, which may then be there in part.
+    pub fn make<R: Files<File = F> + AllocGlobal>(
+        rt: &R,
+        path: &str,
+        len: u64,
+    ) -> Result<FileDevice<F>, Refusal>
+        ensures content { IfOk result (λ device. content (copy_in device) ≡ replicate len 0) }
+        ensures synced { IfOk result (λ device. Only (content (copy_in device)) (MayLeave (copy_in device))) }
+        ensures quiet { IfOk result (λ device. (failures_of (copy_in device) ≡ 0) × (file_failures device ≡ 0)) }
+        ensures writes { IfOk result (λ device. length (content (copy_in device)) ≤ 4096 * writes_left (copy_in device)) }
+        ensures written { IfOk result (λ device. length (content (copy_in device)) ≤ bytes_left (copy_in device)) }
+        ensures refusals { IfErr result (λ refusal. (refusal ≡ Refusal.NoMemory) ⊎ (refusal ≡ Refusal.DeviceFailed)) }
+    {
+        let bytes = vec![in rt.alloc(); 0u8; len as usize]?;
+        let memory = copy_of(rt.alloc(), bytes)?;
+        let mut file = created(rt, path)?;
+        put(&mut file, 0, memory.bytes())?;
+        settle_file(&mut file)?;
+        Ok(FileDevice {
+            memory,
+            file,
+            broken: false,
+            failures: History::new(),
+        })
+    }
+
+    /// Notes a failure of the file, after which it is not asked again.
+    fn fail(&mut self) -> DeviceFault
+        ensures memory { copy_in self.new ≡ copy_in self.old }
+        ensures broken { IsBroken self.new }
+        ensures failures { file_failures self.new ≡ file_failures self.old + 1 }
+    {
+        self.broken = true;
+        self.failures = self.failures.and(&DeviceFault);
+        DeviceFault
+    }
+}
+
+/// The device in memory over these bytes, with the room of a file's.
+fn copy_of(alloc: Global, bytes: Vec<u8>) -> Result<MemDevice, AllocError>
+    ensures content { IfOk result (λ device. content device ≡ bytes.items) }
+    ensures synced { IfOk result (λ device. Only (content device) (MayLeave device)) }
+    ensures quiet { IfOk result (λ device. failures_of device ≡ 0) }
+    ensures writes { IfOk result (λ device. length (content device) ≤ 4096 * writes_left device) }
+    ensures written { IfOk result (λ device. length (content device) ≤ bytes_left device) }
+{
+    let len = bytes.len();
+    let writes = len / PAGE_BYTES + SPARE_WRITES;
+    let written = len.saturating_add(SPARE_WRITES * PAGE_BYTES);
+    MemDevice::new(alloc, bytes, writes, written)
+}
+
+fn opened<R: Files>(rt: &R, path: &str) -> Result<R::File, DeviceFault> {
+    Ok(OpenOptions::new().read(true).write(true).open(rt, path)?)
+}
+
+fn created<R: Files>(rt: &R, path: &str) -> Result<R::File, DeviceFault> {
+    Ok(
+        OpenOptions::new()
+            .read(true)
+            .write(true)
+            .create(true)
+            .truncate(true)
+            .open(rt, path)?,
+    )
+}
+
+/// The file's length, by a seek: asking for all that is known of a file between two writes makes
+/// the next sync write down the time of the last change as well.
+fn length_of<F: Seek>(file: &mut F) -> Result<u64, DeviceFault> {
+    Ok(file.seek(SeekFrom::End(0))?)
+}
+
+fn read_from_start<F: Read + Seek>(file: &mut F, buf: &mut [u8]) -> Result<(), DeviceFault> {
+    file.seek(SeekFrom::Start(0))?;
+    file.read_exact(buf)?;
+    Ok(())
+}
+
+fn put<F: Write + Seek>(file: &mut F, at: u64, bytes: &[u8]) -> Result<(), DeviceFault> {
+    file.seek(SeekFrom::Start(at))?;
+    file.write_all(bytes)?;
+    Ok(())
+}
+
+/// Has the file's bytes and its length written down.
+fn settle_file<F: Write + OpenFile>(file: &mut F) -> Result<(), DeviceFault> {
+    file.flush()?;
+    file.sync_all()?;
+    Ok(())
+}
+
+/// Has the file's bytes written down, and looks whether it is as long as it was.
+fn sync_file<F: Write + Seek + OpenFile>(file: &mut F, len: u64) -> Result<(), DeviceFault> {
+    file.flush()?;
+    file.sync_data()?;
+    if length_of(file)? == len {
+        Ok(())
+    } else {
+        Err(DeviceFault)
+    }
+}
+
+impl<F: Read + Write + Seek + OpenFile + Drop> Device for FileDevice<F> {
+    ghost use Rattle.std.proofs.Common.{inl};
+    ghost use Rattle.mt_disk.specs.Memory.{only_present, same_size};
+    ghost use Rattle.mt_disk.specs.File.{copy_in, file_failures, IsBroken};
+
+    ghost seen = { λ f. content (copy_in f) };
+
+    ghost may_leave = { λ f c. MayLeave (copy_in f) c };
+
+    ghost moment = { λ f. moment_of (copy_in f) };
+
+    ghost left_since = { λ f t c. left_by (copy_in f) t c };
+
+    ghost faults = { λ f. failures_of (copy_in f) + file_failures f };
+
+    ghost present = { λ f. f.memory.state.present };
+
+    ghost sized = { λ f c left. same_size f.memory.state c left };
+
+    ghost counts_now = { λ f t c le now. inl now };
+
+    ghost only_now = { λ f c left. only_present f.memory.state f.memory.past.items c left };
+
+    fn len(&self) -> u64 {
+        self.memory.len()
+    }
+
+    /// Answers from memory. Never fails, and leaves the device as it was.
+    fn read(&mut self, at: u64, buf: &mut [u8]) -> Result<(), DeviceFault>
+        requires { at + length buf.old ≤ length (content (copy_in self.old)) }
+        ensures bytes { Has (content (copy_in self.old)) at buf.new }
+        ensures succeeds { IsOk result }
+        ensures same { self.new ≡ self.old }
+    {
+        self.memory.read(at, buf)
+    }
+
+    fn write_at(&mut self, at: u64, bytes: &[u8]) -> Result<(), DeviceFault>
+        requires { at + length bytes.now ≤ length (content (copy_in self.old)) }
+        ensures written { OnOk result (Wrote at bytes.now (content (copy_in self.old)) (content (copy_in self.new))) }
+        ensures rest { Torn at (length bytes.now) (content (copy_in self.old)) (content (copy_in self.new)) }
+        ensures crash { Follows (Torn at (length bytes.now)) (MayLeave (copy_in self.old)) (MayLeave (copy_in self.new)) }
+        ensures time { Elapses (moment_of (copy_in self.old)) (moment_of (copy_in self.new)) (left_by (copy_in self.old)) (left_by (copy_in self.new)) (MayLeave (copy_in self.new)) }
+        ensures cause { HasCause (failures_of (copy_in self.old) + file_failures self.old) (failures_of (copy_in self.new) + file_failures self.new) result }
+        ensures broken { IsBroken self.old → IsErr result × IsBroken self.new }
+    {
+        self.memory.write_at(at, bytes)?;
+        if self.broken || put(&mut self.file, at, bytes).is_err() {
+            return Err(self.fail());
+        }
+        Ok(())
+    }
+
+    fn sync(&mut self) -> Result<(), DeviceFault>
+        ensures durable { OnOk result (Only (content (copy_in self.old)) (MayLeave (copy_in self.new))) }
+        ensures seen { content (copy_in self.new) ≡ content (copy_in self.old) }
+        ensures crash { (c : List ℕ) → MayLeave (copy_in self.new) c → MayLeave (copy_in self.old) c }
+        ensures time { Elapses (moment_of (copy_in self.old)) (moment_of (copy_in self.new)) (left_by (copy_in self.old)) (left_by (copy_in self.new)) (MayLeave (copy_in self.new)) }
+        ensures cause { HasCause (failures_of (copy_in self.old) + file_failures self.old) (failures_of (copy_in self.new) + file_failures self.new) result }
+        ensures broken { IsBroken self.old → IsErr result × IsBroken self.new }
+        ensures breaks { OnErr result (IsBroken self.new) }
+    {
+        let len = self.len();
+        if self.broken || sync_file(&mut self.file, len).is_err() {
+            return Err(self.fail());
+        }
+        self.memory.sync()
+    }
+}

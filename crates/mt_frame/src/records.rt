@@ -1,0 +1,380 @@
+// The records of the log.
+ghost use Rattle.std.specs.Prelude.{◌≡◌, ◌↔◌, IsTrue, IfOk};
+ghost use Rattle.mt_frame.specs.Grammar.{IsRecord, IsOperation};
+ghost use Rattle.mt_frame.specs.History.{txn_of};
+ghost use Rattle.mt_frame.specs.Lengths.{record_length, operation_length};
+
+use mt_base::{Bytes, CtrNo, OpNo, PageNo, RelNo, TxnNo};
+use std::alloc::AllocError;
+
+/// An operation that has ended, with all that its inverse needs. An operation without effect and a
+/// read are not logged.
+#[derive(Debug, Drop)]
+pub enum LoggedOp {
+    /// The key was put into the relation with this value.
+    Insert {
+        relation: RelNo,
+        key: Bytes,
+        value: Bytes,
+    },
+    /// The key's value, which was `old`, was replaced.
+    Update {
+        relation: RelNo,
+        key: Bytes,
+        value: Bytes,
+        old: Bytes,
+    },
+    /// The key, whose value was `old`, was taken out.
+    Delete {
+        relation: RelNo,
+        key: Bytes,
+        old: Bytes,
+    },
+    /// The step, which is not 0, was added to the counter.
+    Add {
+        counter: CtrNo,
+        step: i64,
+    },
+}
+
+/// A record of the log.
+#[derive(Debug, Drop)]
+pub enum Record {
+    /// A change of the page's bytes from `start` on: they were `old` and are `new`. The page's first
+    /// change in a log area carries the page as it was before, the image. Of transaction 0 it is no
+    /// change but the image alone, as a rotation or a restart writes it.
+    Page {
+        txn: TxnNo,
+        op: OpNo,
+        page: PageNo,
+        image: Option<Bytes>,
+        start: u16,
+        old: Bytes,
+        new: Bytes,
+    },
+    /// The operation has ended. Where `undoes` is not 0, it is the inverse of the operation of that
+    /// number.
+    OpEnd {
+        txn: TxnNo,
+        op: OpNo,
+        undoes: u64,
+        done: LoggedOp,
+    },
+    /// The unfinished operation was taken back.
+    OpDropped {
+        txn: TxnNo,
+        op: OpNo,
+    },
+    /// The transaction has committed.
+    Commit {
+        txn: TxnNo,
+    },
+    /// The transaction has been undone.
+    AbortEnd {
+        txn: TxnNo,
+    },
+}
+
+// What stands before the bytes of a page record.
+#[derive(Clone, Copy)]
+pub(crate) struct PageHead {
+    pub(crate) txn: u64,
+    pub(crate) op: u64,
+    pub(crate) page: u16,
+    pub(crate) has_image: bool,
+    pub(crate) start: u16,
+    pub(crate) length: u16,
+}
+
+fn same_bytes(left: &Bytes, right: &Bytes) -> bool
+    ensures { IsTrue result ↔ (left.now ≡ right.now) }
+{
+    left.as_slice() == right.as_slice()
+}
+
+fn same_image(left: &Option<Bytes>, right: &Option<Bytes>) -> bool
+    ensures { IsTrue result ↔ (left.now ≡ right.now) }
+{
+    match left {
+        Some(left) => match right {
+            Some(right) => same_bytes(left, right),
+            None => false,
+        },
+        None => right.is_none(),
+    }
+}
+
+impl LoggedOp {
+    /// Whether the two are the same operation.
+    pub fn equals(&self, other: &LoggedOp) -> bool
+        ensures { IsTrue result ↔ (self.now ≡ other.now) }
+    {
+        match (self, other) {
+            (
+                LoggedOp::Insert {
+                    relation,
+                    key,
+                    value,
+                },
+                LoggedOp::Insert {
+                    relation: other_relation,
+                    key: other_key,
+                    value: other_value,
+                },
+            ) => {
+                *relation == *other_relation
+                    && same_bytes(key, other_key)
+                    && same_bytes(value, other_value)
+            }
+            (
+                LoggedOp::Update {
+                    relation,
+                    key,
+                    value,
+                    old,
+                },
+                LoggedOp::Update {
+                    relation: other_relation,
+                    key: other_key,
+                    value: other_value,
+                    old: other_old,
+                },
+            ) => {
+                *relation == *other_relation
+                    && same_bytes(key, other_key)
+                    && same_bytes(value, other_value)
+                    && same_bytes(old, other_old)
+            }
+            (
+                LoggedOp::Delete { relation, key, old },
+                LoggedOp::Delete {
+                    relation: other_relation,
+                    key: other_key,
+                    old: other_old,
+                },
+            ) => {
+                *relation == *other_relation
+                    && same_bytes(key, other_key)
+                    && same_bytes(old, other_old)
+            }
+            (
+                LoggedOp::Add { counter, step },
+                LoggedOp::Add {
+                    counter: other_counter,
+                    step: other_step,
+                },
+            ) => *counter == *other_counter && *step == *other_step,
+            _ => false,
+        }
+    }
+
+    /// A copy. The only error is want of memory.
+    pub fn try_clone(&self) -> Result<LoggedOp, AllocError>
+        ensures { IfOk result (λ copy. copy ≡ self.now) }
+    {
+        match self {
+            LoggedOp::Insert {
+                relation,
+                key,
+                value,
+            } => Ok(LoggedOp::Insert {
+                relation: *relation,
+                key: key.try_clone()?,
+                value: value.try_clone()?,
+            }),
+            LoggedOp::Update {
+                relation,
+                key,
+                value,
+                old,
+            } => Ok(LoggedOp::Update {
+                relation: *relation,
+                key: key.try_clone()?,
+                value: value.try_clone()?,
+                old: old.try_clone()?,
+            }),
+            LoggedOp::Delete { relation, key, old } => Ok(LoggedOp::Delete {
+                relation: *relation,
+                key: key.try_clone()?,
+                old: old.try_clone()?,
+            }),
+            LoggedOp::Add { counter, step } => Ok(LoggedOp::Add {
+                counter: *counter,
+                step: *step,
+            }),
+        }
+    }
+
+    // The bytes of its text, the tag included.
+    pub(crate) fn length(&self) -> usize
+        requires { IsOperation self.now }
+        ensures { result ≡ operation_length self.now }
+    {
+        match self {
+            LoggedOp::Insert { key, value, .. } => 5 + key.len() + value.len(),
+            LoggedOp::Update {
+                key,
+                value,
+                old,
+                ..
+            } => 7 + key.len() + value.len() + old.len(),
+            LoggedOp::Delete { key, old, .. } => 5 + key.len() + old.len(),
+            LoggedOp::Add { .. } => 10,
+        }
+    }
+}
+
+fn image_clone(image: &Option<Bytes>) -> Result<Option<Bytes>, AllocError>
+    ensures { IfOk result (λ copy. copy ≡ image.now) }
+{
+    match image {
+        Some(image) => Ok(Some(image.try_clone()?)),
+        None => Ok(None),
+    }
+}
+
+impl Record {
+    /// Whether the two are the same record.
+    pub fn equals(&self, other: &Record) -> bool
+        ensures { IsTrue result ↔ (self.now ≡ other.now) }
+    {
+        match (self, other) {
+            (
+                Record::Page {
+                    txn,
+                    op,
+                    page,
+                    image,
+                    start,
+                    old,
+                    new,
+                },
+                Record::Page {
+                    txn: other_txn,
+                    op: other_op,
+                    page: other_page,
+                    image: other_image,
+                    start: other_start,
+                    old: other_old,
+                    new: other_new,
+                },
+            ) => {
+                *txn == *other_txn
+                    && *op == *other_op
+                    && *page == *other_page
+                    && *start == *other_start
+                    && same_image(image, other_image)
+                    && same_bytes(old, other_old)
+                    && same_bytes(new, other_new)
+            }
+            (
+                Record::OpEnd {
+                    txn,
+                    op,
+                    undoes,
+                    done,
+                },
+                Record::OpEnd {
+                    txn: other_txn,
+                    op: other_op,
+                    undoes: other_undoes,
+                    done: other_done,
+                },
+            ) => {
+                *txn == *other_txn
+                    && *op == *other_op
+                    && *undoes == *other_undoes
+                    && done.equals(other_done)
+            }
+            (
+                Record::OpDropped { txn, op },
+                Record::OpDropped {
+                    txn: other_txn,
+                    op: other_op,
+                },
+            ) => *txn == *other_txn && *op == *other_op,
+            (Record::Commit { txn }, Record::Commit { txn: other_txn }) => *txn == *other_txn,
+            (Record::AbortEnd { txn }, Record::AbortEnd { txn: other_txn }) => *txn == *other_txn,
+            _ => false,
+        }
+    }
+
+    /// A copy. The only error is want of memory.
+    pub fn try_clone(&self) -> Result<Record, AllocError>
+        ensures { IfOk result (λ copy. copy ≡ self.now) }
+    {
+        match self {
+            Record::Page {
+                txn,
+                op,
+                page,
+                image,
+                start,
+                old,
+                new,
+            } => Ok(Record::Page {
+                txn: *txn,
+                op: *op,
+                page: *page,
+                image: image_clone(image)?,
+                start: *start,
+                old: old.try_clone()?,
+                new: new.try_clone()?,
+            }),
+            Record::OpEnd {
+                txn,
+                op,
+                undoes,
+                done,
+            } => Ok(Record::OpEnd {
+                txn: *txn,
+                op: *op,
+                undoes: *undoes,
+                done: done.try_clone()?,
+            }),
+            Record::OpDropped { txn, op } => Ok(Record::OpDropped { txn: *txn, op: *op }),
+            Record::Commit { txn } => Ok(Record::Commit { txn: *txn }),
+            Record::AbortEnd { txn } => Ok(Record::AbortEnd { txn: *txn }),
+        }
+    }
+
+    /// The record's transaction; 0 for an image alone.
+    pub fn txn(&self) -> TxnNo
+        ensures { result ≡ txn_of self.now }
+    {
+        match self {
+            Record::Page { txn, .. } => *txn,
+            Record::OpEnd { txn, .. } => *txn,
+            Record::OpDropped { txn, .. } => *txn,
+            Record::Commit { txn } => *txn,
+            Record::AbortEnd { txn } => *txn,
+        }
+    }
+
+    /// How many bytes its text takes in a batch's body: 24 and its bytes for a page, 25 and the
+    /// operation's for an operation's end, 17 for an operation taken back, and 9 for the end of a
+    /// transaction.
+    pub fn length(&self) -> usize
+        requires { IsRecord self.now }
+        ensures { result ≡ record_length self.now }
+    {
+        match self {
+            Record::Page {
+                image,
+                old,
+                new,
+                ..
+            } => {
+                let image_bytes = match image {
+                    Some(image) => image.len(),
+                    None => 0,
+                };
+                24 + image_bytes + old.len() + new.len()
+            }
+            Record::OpEnd { done, .. } => 25 + done.length(),
+            Record::OpDropped { .. } => 17,
+            Record::Commit { .. } => 9,
+            Record::AbortEnd { .. } => 9,
+        }
+    }
+}

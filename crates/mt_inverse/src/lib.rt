@@ -1,0 +1,36 @@
+//! The operation that takes back what another did.
+#![tactic(auto)]
+
+ghost use Rattle.std.specs.Prelude.{◌≡◌, IfOk, IfErr};
+ghost use Rattle.mt_base.specs.declared.refusal.Refusal.{Refusal};
+ghost use Rattle.mt_model.specs.Model.{inverse_of as inverse};
+ghost use Rattle.mt_inverse.specs.Steps.{IsWithinSteps};
+
+use mt_base::Refusal;
+use mt_model::{Op, Reply};
+
+/// The operation that takes back what this one did, where it replied this: an insert by a delete, an
+/// update or a delete by putting the old value back, an add by the opposite step. `None` where it did
+/// nothing, as a read, an insert on a key that was there, or an update or a delete on one that was not
+/// (Weikum 1991).
+///
+/// The only refusal is [`Refusal::NoMemory`].
+pub fn inverse_of(op: &Op, reply: &Reply) -> Result<Option<Op>, Refusal>
+    requires { IsWithinSteps op.now }
+    ensures inverse { IfOk result (λ inverse_op. inverse_op ≡ inverse op.now reply.now) }
+    ensures only_memory { IfErr result (λ why. why ≡ Refusal.NoMemory) }
+{
+    match (op, reply) {
+        (Op::Insert(relation, key, _), Reply::Done) => Ok(Some(Op::Delete(*relation, key.try_clone()?))),
+        (Op::Update(relation, key, _), Reply::Was(old)) => {
+            let key = key.try_clone()?;
+            Ok(Some(Op::Update(*relation, key, old.try_clone()?)))
+        }
+        (Op::Delete(relation, key), Reply::Was(old)) => {
+            let key = key.try_clone()?;
+            Ok(Some(Op::Insert(*relation, key, old.try_clone()?)))
+        }
+        (Op::Add(counter, step), Reply::Done) => Ok(Some(Op::Add(*counter, -*step))),
+        _ => Ok(None),
+    }
+}

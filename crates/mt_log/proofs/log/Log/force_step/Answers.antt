@@ -1,0 +1,47 @@
+use Rattle.std.proofs.Common.{◌≡◌, ◌+◌, ◌-◌, ◌*◌, ◌++◌, ◌∷◌, [], ℕ, List, map, length, ap, sym, ◌∙◌, refl, vec_len, append-nil, arith}
+use Rattle.mt_disk.proofs.Frame.{started}
+use Rattle.mt_frame.specs.declared.records.Record.{Record}
+use Rattle.mt_log.specs.Batch.{joined}
+use Rattle.mt_log.specs.Words.{durable_batches, durable, in_flight, waiting, area_start, area_end, used, coming, IsOn}
+use Rattle.mt_log.specs.declared.stage.Step.TheVariants.{WriteBody}
+use Rattle.mt_log.proofs.Settled.{leaves_coming, appended_kept, step_taken}
+use Rattle.mt_log.proofs.log.Log.force_step.Goals as goal
+
+nothing : (l : List Record) → length l ≡ 0 → l ≡ []
+nothing [] is = refl
+nothing (x ∷ l) is = absurd (omega arith)
+
+pub returns-in-Failed-clause-moments : goal.returns-in-Failed-clause-moments
+unfolding durable_batches area_start area_end coming IsOn
+returns-in-Failed-clause-moments g c =
+    let s = c.args.self.now in
+    let d = c.args.device.now in
+    started g.D.Device.moment g.D.Device.left_since d _
+    (λ k left. leaves_coming (g.D.Device.seen d) (g.D.Device.may_leave d) s.place.start s.place.end s.next (map (λ batch. batch.items) s.batches.items) s.in_flight.items s.waiting.items s.stage c.requires.on k (g.met.D.Device.only_now d k left))
+
+pub returns-else-self-eq0-clause-appended : goal.returns-else-self-eq0-clause-appended
+unfolding durable in_flight waiting
+returns-else-self-eq0-clause-appended g c =
+    let s = c.args.self.now in
+    let t = c.seal.new.self in
+    let m = c.make_call.ensures in
+    let b = c.seal.ensures in
+    appended_kept t c.make_call.new.self WriteBody m.place m.waiting c.make_call.result m.on_the_way m.arrived m.not_idle m.err
+    ∙ ap (λ h. joined (map (λ batch. batch.items) h.items) ++ (t.in_flight.items ++ t.waiting.items)) b.batches
+    ∙ ap (λ (l : List Record). joined (map (λ batch. batch.items) s.batches.items) ++ (l ++ t.waiting.items)) b.in_flight
+    ∙ ap (λ (l : List Record). joined (map (λ batch. batch.items) s.batches.items) ++ (s.waiting.items ++ l)) b.waiting
+    ∙ ap (λ (l : List Record). joined (map (λ batch. batch.items) s.batches.items) ++ l) (append-nil s.waiting.items ∙ ap (λ (l : List Record). l ++ s.waiting.items) (sym (nothing s.in_flight.items (s.at_rest c.in-Idle.is).none)))
+
+pub returns-in-Forcing-clause-appended : goal.returns-in-Forcing-clause-appended
+returns-in-Forcing-clause-appended g c =
+    let m = c.make_call-in-Forcing.ensures in
+    appended_kept c.args.self.now c.make_call-in-Forcing.new.self c.in-Forcing.step m.place m.waiting c.make_call-in-Forcing.result m.on_the_way m.arrived m.not_idle m.err
+
+pub returns-in-Forcing-clause-step : goal.returns-in-Forcing-clause-step
+unfolding used
+returns-in-Forcing-clause-step g c =
+    let m = c.make_call-in-Forcing.ensures in
+    let s = c.args.self.now in
+    let t = c.make_call-in-Forcing.new.self in
+    let same : used t ≡ used s = ap (λ p. (t.behind - p.start) + 5 * t.waiting_count + (vec_len t.pending - 4)) m.place ∙ ap (λ (k : ℕ). (k - s.place.start) + 5 * t.waiting_count + (vec_len t.pending - 4)) m.behind ∙ ap (λ (k : ℕ). (s.behind - s.place.start) + 5 * k + (vec_len t.pending - 4)) m.count ∙ ap (λ v. (s.behind - s.place.start) + 5 * s.waiting_count + (vec_len v - 4)) m.pending in
+    step_taken s t c.in-Forcing.step m.place m.waiting c.make_call-in-Forcing.result c.in-Forcing.is same m.on_the_way m.arrived m.not_idle

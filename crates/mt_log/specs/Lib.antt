@@ -1,0 +1,5 @@
+pub mod Area
+pub mod Batch
+pub mod Same
+pub mod Texts
+pub mod Words

@@ -1,0 +1,101 @@
+-- What a log is seen as.
+use Rattle.std.specs.Prelude.{ℕ, ◌≡◌, ◌<◌, ◌+◌, ◌-◌, ◌*◌, Bool, true, false, List, [], ◌∷◌, ◌++◌, length, map, vec_len, vec_capacity}
+use Rattle.mt_frame.specs.declared.records.Record.{Record}
+use Rattle.mt_log.specs.Batch.{joined}
+use Rattle.mt_log.specs.Area.{Area}
+use Rattle.mt_log.specs.declared.stage.Step.TheVariants.{WriteBody, SyncBody, WriteGate, SyncGate}
+use Rattle.mt_log.specs.declared.stage.Stage.{Stage}
+use Rattle.mt_log.specs.declared.stage.Stage.TheVariants.{Idle, Forcing, Failed}
+use Rattle.mt_log.specs.declared.log.Log.{Log}
+use Rattle.mt_log.specs.declared.log.Forced.{Forced}
+use Rattle.mt_log.specs.declared.log.Forced.TheVariants.{More, Durable, Idle as Nothing}
+
+-- the batches that no crash takes away, the area's first one included
+unfoldable pub durable_batches : Log → List (List Record)
+durable_batches log = map (λ batch. batch.items) log.batches.items
+
+-- the records that no crash takes away, those in the batch being forced, and those for the next
+unfoldable pub durable : Log → List Record
+durable log = joined (map (λ batch. batch.items) log.batches.items)
+
+unfoldable pub in_flight : Log → List Record
+in_flight log = log.in_flight.items
+
+unfoldable pub waiting : Log → List Record
+waiting log = log.waiting.items
+
+abbrev pub appended : Log → List Record
+appended log = durable log ++ (in_flight log ++ waiting log)
+
+-- where the area begins and where it ends
+unfoldable pub area_start : Log → ℕ
+area_start log = log.place.start
+
+unfoldable pub area_end : Log → ℕ
+area_end log = log.place.end
+
+-- bytes of the area in use, and in all
+unfoldable pub used : Log → ℕ
+used log = (log.behind - log.place.start) + 5 * log.waiting_count + (vec_len log.pending - 4)
+
+unfoldable pub area_size : Log → ℕ
+area_size log = log.place.end - log.place.start
+
+-- bytes of text that can be appended without memory
+unfoldable pub room : Log → ℕ
+room log = vec_capacity log.pending - (vec_len log.pending + 1)
+
+abbrev pub calls_after : Stage → ℕ
+calls_after Idle = 0
+calls_after (Forcing WriteBody) = 4
+calls_after (Forcing SyncBody) = 3
+calls_after (Forcing WriteGate) = 2
+calls_after (Forcing SyncGate) = 1
+calls_after Failed = 0
+
+-- device calls until what is being forced is durable; 0 where nothing is being forced
+unfoldable pub calls_left : Log → ℕ
+calls_left log = calls_after log.stage
+
+abbrev pub is_failed : Stage → Bool
+is_failed Idle = false
+is_failed (Forcing step) = false
+is_failed Failed = true
+
+unfoldable pub has_failed : Log → Bool
+has_failed log = is_failed log.stage
+
+-- the batch that is being forced, or the one that a force would write
+abbrev pub batch_of : Stage → List Record → List Record → List Record
+batch_of Idle waiting in_flight = waiting
+batch_of (Forcing step) waiting in_flight = in_flight
+batch_of Failed waiting in_flight = in_flight
+
+unfoldable pub coming : Log → List Record
+coming log = batch_of log.stage log.waiting.items log.in_flight.items
+
+-- what is known of the log's area: where it begins and ends, the gate of the next batch, the durable
+-- batches, the one that is being forced, and how far its force has come
+unfoldable pub stands_at : Log → ℕ × ℕ × ℕ × List (List Record) × List Record × Stage
+stands_at log = (log.place.start, log.place.end, log.next, map (λ batch. batch.items) log.batches.items, log.in_flight.items, log.stage)
+
+-- what a step that gave this answer did
+abbrev pub IsStep : Log → Forced → Log → Type 0
+IsStep old Nothing new = (calls_left old ≡ 0) × (waiting old ≡ []) × (durable new ≡ durable old) × (in_flight new ≡ []) × (waiting new ≡ []) × (used new ≡ used old)
+IsStep old More new = (durable new ≡ durable old) × (calls_left old ≡ 0 → (in_flight new ≡ waiting old) × (waiting new ≡ []) × (calls_left new ≡ 3))
+    × (0 < calls_left old → (in_flight new ≡ in_flight old) × (waiting new ≡ waiting old) × (calls_left new + 1 ≡ calls_left old) × (0 < calls_left new) × (used new ≡ used old))
+IsStep old (Durable pos) new = (calls_left old ≡ 1) × (calls_left new ≡ 0) × (durable new ≡ durable old ++ in_flight old) × (in_flight new ≡ []) × (waiting new ≡ waiting old) × (used new ≡ used old) × (pos ≡ length (durable new))
+
+-- the durable batches after a step that gave this answer
+abbrev pub batches_after : Log → Forced → List (List Record)
+batches_after old Nothing = durable_batches old
+batches_after old More = durable_batches old
+batches_after old (Durable pos) = durable_batches old ++ in_flight old ∷ []
+
+-- what the log knows of its area, of the fields
+abbrev pub AreaOf : List ℕ → (List ℕ → Type 0) → Log → Type 0
+AreaOf seen may_leave log = Area seen may_leave log.place.start log.place.end log.next (map (λ batch. batch.items) log.batches.items) log.in_flight.items log.stage
+
+-- The log is on this device: its durable batches stand in its area, whatever a crash leaves.
+unfoldable pub IsOn : {D : Type 0} → (D → List ℕ) → (D → List ℕ → Type 0) → Log → D → Type 0
+IsOn seen may_leave log device = AreaOf (seen device) (may_leave device) log

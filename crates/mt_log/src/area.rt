@@ -1,0 +1,40 @@
+ghost use Rattle.std.specs.Prelude.{false, true, ◌≡◌, ◌+◌, ◌*◌, ◌<◌, ◌≤◌};
+ghost use Rattle.mt_base.specs.Limits.{IsPageCount, IsAreaSize};
+
+use mt_base::limits::{MASTER_BYTES, area_bytes};
+
+/// Where a log area lies on its device: from its first byte to the one behind its last.
+#[derive(Clone, Copy, Debug)]
+pub struct AreaPlace {
+    pub start: u64,
+    pub end: u64,
+    ghost some_bytes: { start + 5 < end },
+    ghost not_too_many: { end ≤ start + 67108864 },
+}
+
+impl AreaPlace {
+    /// The first (false) or the second (true) log area of a device of this many pages, whose areas
+    /// have this many MiB.
+    pub fn of(pages: u16, mib: u8, second: bool) -> AreaPlace
+        requires page_count { IsPageCount pages }
+        requires area_size { IsAreaSize mib }
+        ensures size { result.end ≡ result.start + mib * 1048576 }
+        ensures first { second ≡ false → result.start ≡ 8192 + 4096 * pages }
+        ensures second { second ≡ true → result.start ≡ 8192 + 4096 * pages + mib * 1048576 }
+    {
+        let size = area_bytes(mib);
+        let pages_end = MASTER_BYTES + 4096 * u64::from(pages);
+        let start = if second { pages_end + size } else { pages_end };
+        AreaPlace {
+            start,
+            end: start + size,
+        }
+    }
+
+    /// Its bytes.
+    pub fn size(&self) -> u64
+        ensures { self.now.start + result ≡ self.now.end }
+    {
+        self.end - self.start
+    }
+}

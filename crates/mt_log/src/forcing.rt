@@ -1,0 +1,188 @@
+// A force makes four device calls: the batch's length, its body and a closed gate behind it; a sync;
+// the open gate; a sync. So no open gate ever stands before a body that a crash may take away.
+ghost use Rattle.std.specs.Prelude.{◌≡◌, ◌⊎◌, ◌+◌, ◌-◌, ◌*◌, ◌<◌, ◌≤◌, ◌^◌, ◌++◌, ◌∷◌, [], ◌↔◌, ℕ, true, false, length, drop, map, vec_len, vec_capacity, Ok, IfOk, IfErr, OnOk, OnErr, IsOk, IsErr};
+ghost use Rattle.std.specs.Int.{w32, to_be_bytes};
+ghost use Rattle.mt_base.specs.declared.refusal.Refusal.{Refusal};
+ghost use Rattle.mt_disk.specs.Disk.{Torn, Follows, Elapses, LeavesOnly, HasCause};
+ghost use Rattle.mt_log.specs.Area.{Area, AreaAfter, ScansWithOrWithout, step_behind};
+ghost use Rattle.mt_log.specs.declared.log.Forced.{Forced};
+ghost use Rattle.mt_log.specs.declared.stage.Step.TheVariants.{WriteBody, SyncBody, WriteGate, SyncGate};
+ghost use Rattle.mt_log.specs.declared.stage.Stage.TheVariants.{Idle, Forcing, Failed};
+
+use crate::log::{Forced, Log};
+use crate::stage::{Stage, Step};
+use mt_base::{History, LogPos, Refusal};
+use mt_disk::{Device, DeviceFault};
+use mt_frame::{CLOSED_GATE, OPEN_GATE};
+
+// Puts the body's length before the body, and a closed gate behind it.
+fn close_text(text: &mut Vec<u8>)
+    requires head { 4 ≤ vec_len text.old }
+    requires short { vec_len text.old < 2 ^ 32 }
+    requires gate_room { vec_len text.old < vec_capacity text.old }
+    ensures items { text.new.items ≡ (to_be_bytes w32 (length (drop 4 text.old.items)) ++ drop 4 text.old.items) ++ 0 ∷ [] }
+    ensures capacity { vec_capacity text.old ≤ vec_capacity text.new }
+{
+    let length = (text.len() - 4) as u32;
+    let [first, second, third, fourth] = length.to_be_bytes();
+    text[0] = first;
+    text[1] = second;
+    text[2] = third;
+    text[3] = fourth;
+    text.push_reserved(CLOSED_GATE);
+}
+
+impl Log {
+    ghost use Rattle.mt_log.specs.Words.{durable_batches, durable, in_flight, waiting, appended, area_start, area_end, used, area_size, calls_left, has_failed, coming, AreaOf, IsOn, IsStep, batches_after};
+
+    // The batch of the records that wait becomes the one that is forced.
+    fn seal(&mut self)
+        requires idle { self.old.stage ≡ Idle }
+        requires some { 0 < self.old.waiting_count }
+        ensures stage { self.new.stage ≡ Forcing WriteBody }
+        ensures place { self.new.place ≡ self.old.place }
+        ensures next { self.new.next ≡ self.old.next }
+        ensures in_flight { self.new.in_flight.items ≡ self.old.waiting.items }
+        ensures waiting { self.new.waiting.items ≡ [] }
+        ensures batches { self.new.batches ≡ self.old.batches }
+        ensures count { self.new.waiting_count ≡ 0 }
+        ensures size { vec_len self.new.pending ≡ 4 }
+        ensures behind { self.new.behind ≡ self.old.behind + 1 + vec_len self.old.pending }
+    {
+        close_text(&mut self.pending);
+        std::mem::swap(&mut self.pending, &mut self.flight);
+        std::mem::swap(&mut self.waiting, &mut self.in_flight);
+        self.behind += self.flight.len() as u64;
+        self.batched += self.waiting_count;
+        self.waiting_count = 0;
+        self.stage = Stage::Forcing(Step::WriteBody);
+    }
+
+    // The device call of this step, and nothing else.
+    fn call<D: Device>(&self, device: &mut D, step: Step) -> Result<(), DeviceFault>
+        requires on { AreaOf (D.seen device.old) (D.may_leave device.old) self.now }
+        requires stage { self.now.stage ≡ Forcing step }
+        ensures done { OnOk result (AreaAfter step (D.seen device.new) (D.may_leave device.new) self.now.place.start self.now.place.end self.now.next (map (λ batch. batch.items) self.now.batches.items) self.now.in_flight.items) }
+        ensures failed { OnErr result (Area (D.seen device.new) (D.may_leave device.new) self.now.place.start self.now.place.end self.now.next (map (λ batch. batch.items) self.now.batches.items) self.now.in_flight.items Failed) }
+        ensures time { Elapses (D.moment device.old) (D.moment device.new) (D.left_since device.old) (D.left_since device.new) (D.may_leave device.new) }
+        ensures elsewhere { Follows (Torn self.now.place.start (self.now.place.end - self.now.place.start)) (D.may_leave device.old) (D.may_leave device.new) }
+        ensures rest { Torn self.now.place.start (self.now.place.end - self.now.place.start) (D.seen device.old) (D.seen device.new) }
+        ensures cause { HasCause (D.faults device.old) (D.faults device.new) result }
+    {
+        match step {
+            Step::WriteBody => device.write_at(self.next + 1, &self.flight),
+            Step::SyncBody => device.sync(),
+            Step::WriteGate => device.write_at(self.next, &[OPEN_GATE]),
+            Step::SyncGate => device.sync(),
+        }
+    }
+
+    // What this step's device call has come to.
+    fn settle(&mut self, step: Step, done: Result<(), DeviceFault>) -> Result<Forced, Refusal>
+        requires stage { self.old.stage ≡ Forcing step }
+        ensures place { self.new.place ≡ self.old.place }
+        ensures waiting { self.new.waiting ≡ self.old.waiting }
+        ensures count { self.new.waiting_count ≡ self.old.waiting_count }
+        ensures pending { self.new.pending ≡ self.old.pending }
+        ensures behind { self.new.behind ≡ self.old.behind }
+        ensures on_the_way { result ≡ Ok Forced.More → (step ≡ SyncGate → ⊥) × (self.new.stage ≡ Forcing (step_behind step)) × (self.new.next ≡ self.old.next) × (self.new.batches ≡ self.old.batches) × (self.new.in_flight ≡ self.old.in_flight) }
+        ensures arrived { (pos : ℕ) → result ≡ Ok (Forced.Durable pos) → (step ≡ SyncGate) × (self.new.stage ≡ Idle) × (self.new.next ≡ self.old.behind) × (self.new.batches.items ≡ self.old.batches.items ++ self.old.in_flight ∷ []) × (self.new.in_flight.items ≡ []) × (pos ≡ self.old.batched) }
+        ensures not_idle { result ≡ Ok Forced.Idle → ⊥ }
+        ensures err { OnErr result ((self.new.stage ≡ Failed) × (self.new.next ≡ self.old.next) × (self.new.batches ≡ self.old.batches) × (self.new.in_flight ≡ self.old.in_flight)) }
+        ensures cause { IsErr result ↔ IsErr done }
+        ensures only_device { IfErr result (λ why. why ≡ Refusal.DeviceFailed) }
+    {
+        if done.is_err() {
+            self.stage = Stage::Failed;
+            return Err(Refusal::DeviceFailed);
+        }
+        match step {
+            Step::WriteBody => self.stage = Stage::Forcing(Step::SyncBody),
+            Step::SyncBody => self.stage = Stage::Forcing(Step::WriteGate),
+            Step::WriteGate => self.stage = Stage::Forcing(Step::SyncGate),
+            Step::SyncGate => {
+                self.batches = self.batches.and(&self.in_flight);
+                self.in_flight = History::new();
+                self.next = self.behind;
+                self.flight.truncate(4);
+                self.stage = Stage::Idle;
+                return Ok(Forced::Durable(LogPos::new(self.batched)));
+            }
+        }
+        Ok(Forced::More)
+    }
+
+    // One device call of the batch's force.
+    fn make_call<D: Device>(&mut self, device: &mut D, step: Step) -> Result<Forced, Refusal>
+        requires on { AreaOf (D.seen device.old) (D.may_leave device.old) self.old }
+        requires stage { self.old.stage ≡ Forcing step }
+        ensures on { AreaOf (D.seen device.new) (D.may_leave device.new) self.new }
+        ensures place { self.new.place ≡ self.old.place }
+        ensures waiting { self.new.waiting ≡ self.old.waiting }
+        ensures count { self.new.waiting_count ≡ self.old.waiting_count }
+        ensures pending { self.new.pending ≡ self.old.pending }
+        ensures behind { self.new.behind ≡ self.old.behind }
+        ensures on_the_way { result ≡ Ok Forced.More → (step ≡ SyncGate → ⊥) × (self.new.stage ≡ Forcing (step_behind step)) × (self.new.next ≡ self.old.next) × (self.new.batches ≡ self.old.batches) × (self.new.in_flight ≡ self.old.in_flight) }
+        ensures arrived { (pos : ℕ) → result ≡ Ok (Forced.Durable pos) → (step ≡ SyncGate) × (self.new.stage ≡ Idle) × (self.new.next ≡ self.old.behind) × (self.new.batches.items ≡ self.old.batches.items ++ self.old.in_flight ∷ []) × (self.new.in_flight.items ≡ []) × (pos ≡ self.old.batched) }
+        ensures not_idle { result ≡ Ok Forced.Idle → ⊥ }
+        ensures err { OnErr result ((self.new.stage ≡ Failed) × (self.new.next ≡ self.old.next) × (self.new.batches ≡ self.old.batches) × (self.new.in_flight ≡ self.old.in_flight)) }
+        ensures only_device { IfErr result (λ why. why ≡ Refusal.DeviceFailed) }
+        ensures moments { LeavesOnly D.moment D.left_since device.old device.new (ScansWithOrWithout self.old.place.start self.old.place.end (map (λ batch. batch.items) self.old.batches.items) self.old.in_flight.items) }
+        ensures time { Elapses (D.moment device.old) (D.moment device.new) (D.left_since device.old) (D.left_since device.new) (D.may_leave device.new) }
+        ensures elsewhere { Follows (Torn self.old.place.start (self.old.place.end - self.old.place.start)) (D.may_leave device.old) (D.may_leave device.new) }
+        ensures rest { Torn self.old.place.start (self.old.place.end - self.old.place.start) (D.seen device.old) (D.seen device.new) }
+        ensures cause { HasCause (D.faults device.old) (D.faults device.new) result }
+    {
+        let done = self.call(device, step);
+        self.settle(step, done)
+    }
+
+    /// One device call of a force, or none where every record is durable: the first call takes all
+    /// records that wait into a batch, and those that are appended later wait for the next one. The
+    /// fourth makes the batch durable. It takes no memory.
+    ///
+    /// The only refusal is [`Refusal::DeviceFailed`], where the device failed in this call or in an
+    /// earlier one; what is durable stays, and each later call is refused.
+    #[tactic(auto, unfolding(crate::specs::Words::durable_batches, crate::specs::Words::durable, crate::specs::Words::in_flight, crate::specs::Words::waiting, crate::specs::Words::area_start, crate::specs::Words::area_end, crate::specs::Words::used, crate::specs::Words::area_size, crate::specs::Words::calls_left, crate::specs::Words::has_failed, crate::specs::Words::coming, crate::specs::Words::IsOn))]
+    pub fn force_step<D: Device>(&mut self, device: &mut D) -> Result<Forced, Refusal>
+        requires on { IsOn D.seen D.may_leave self.old device.old }
+        ensures on { IsOn D.seen D.may_leave self.new device.new }
+        // Whenever a crash comes in this call, reading the area finds the durable batches, or these and
+        // the one that is being forced.
+        ensures moments { LeavesOnly D.moment D.left_since device.old device.new
+            (ScansWithOrWithout (area_start self.old) (area_end self.old) (durable_batches self.old) (coming self.old)) }
+        ensures step { IfOk result (λ forced. IsStep self.old forced self.new) }
+        ensures batches { IfOk result (λ forced. durable_batches self.new ≡ batches_after self.old forced) }
+        ensures err_batches { OnErr result (durable_batches self.new ≡ durable_batches self.old) }
+        ensures appended { appended self.new ≡ appended self.old }
+        ensures used { used self.new ≤ used self.old }
+        // Each record of the batch but its first has cost five bytes while it waited.
+        ensures used_less { 0 < calls_left self.old → used self.new ≡ used self.old }
+        ensures start { area_start self.new ≡ area_start self.old }
+        ensures end { area_end self.new ≡ area_end self.old }
+        ensures area { area_size self.new ≡ area_size self.old }
+        ensures failed { has_failed self.old ≡ true → IsErr result }
+        ensures now_failed { IsErr result → has_failed self.new ≡ true }
+        ensures well { IsOk result → has_failed self.new ≡ false }
+        ensures cause { IsErr result → (D.faults device.old < D.faults device.new ⊎ (has_failed self.old ≡ true)) }
+        ensures quiet { IsOk result → D.faults device.new ≡ D.faults device.old }
+        ensures only_device { IfErr result (λ why. why ≡ Refusal.DeviceFailed) }
+        ensures err_durable { OnErr result (durable self.new ≡ durable self.old) }
+        // At most one device call, within the area, for what others keep on the device.
+        ensures time { Elapses (D.moment device.old) (D.moment device.new) (D.left_since device.old) (D.left_since device.new) (D.may_leave device.new) }
+        ensures elsewhere { Follows (Torn (area_start self.old) (area_size self.old)) (D.may_leave device.old) (D.may_leave device.new) }
+        ensures rest { Torn (area_start self.old) (area_size self.old) (D.seen device.old) (D.seen device.new) }
+    {
+        match self.stage {
+            Stage::Failed => Err(Refusal::DeviceFailed),
+            Stage::Idle => {
+                if self.waiting_count == 0 {
+                    return Ok(Forced::Idle);
+                }
+                self.seal();
+                self.make_call(device, Step::WriteBody)
+            }
+            Stage::Forcing(step) => self.make_call(device, step),
+        }
+    }
+}

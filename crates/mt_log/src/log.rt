@@ -1,0 +1,182 @@
+// The log: records wait for a force, which makes them durable a batch at a time.
+ghost use Rattle.std.specs.Prelude.{◌≡◌, ◌+◌, ◌-◌, ◌*◌, ◌<◌, ◌≤◌, ◌++◌, ◌∷◌, [], ℕ, true, false, length, map, drop, vec_len, vec_capacity, IfOk, IfErr, OnOk, OnErr, IsOk, IsErr};
+ghost use Rattle.mt_base.specs.declared.refusal.Refusal.{Refusal};
+ghost use Rattle.mt_frame.specs.Grammar.{IsRecord, body_text};
+ghost use Rattle.mt_frame.specs.Lengths.{record_length};
+ghost use Rattle.mt_log.specs.Batch.{joined};
+ghost use Rattle.mt_log.specs.Texts.{IsAtRest, IsUnderWay};
+ghost use Rattle.mt_log.specs.declared.stage.Stage.TheVariants.{Idle};
+
+use crate::area::AreaPlace;
+use crate::stage::Stage;
+use mt_base::limits::BATCH_HEAD_BYTES;
+use mt_base::{History, LogPos, Refusal};
+use mt_frame::{Record, push_record};
+use std::alloc::{AllocError, Global};
+
+/// What a step of a force did.
+#[derive(Clone, Copy, Debug, PartialEq, Eq)]
+pub enum Forced {
+    /// A device call of a force, which needs more of them.
+    More,
+    /// The last call of a force: the records up to this place are durable.
+    Durable(LogPos),
+    /// Nothing, since every record that was appended is durable.
+    Idle,
+}
+
+/// The log of one area, from the area's first batch on, which it has no record of.
+#[derive(Drop)]
+pub struct Log {
+    pub(crate) place: AreaPlace,
+    /// The gate of the batch that is being forced, or of the next one.
+    pub(crate) next: u64,
+    /// The gate behind that batch.
+    pub(crate) behind: u64,
+    pub(crate) stage: Stage,
+    /// Four bytes, and the texts of the records that wait.
+    pub(crate) pending: Vec<u8>,
+    /// Length, body and closed gate of the batch that is being forced; else four bytes.
+    pub(crate) flight: Vec<u8>,
+    /// How many records are in a batch.
+    pub(crate) batched: u64,
+    pub(crate) waiting_count: u64,
+    pub(crate) waiting: History<Record>,
+    pub(crate) in_flight: History<Record>,
+    pub(crate) batches: History<History<Record>>,
+    ghost in_order: { place.start ≤ behind },
+    ghost fits: { behind + (5 * waiting_count + vec_len pending) < place.end + 4 },
+    ghost head: { 4 ≤ vec_len pending },
+    ghost gate_room: { vec_len pending < vec_capacity pending },
+    ghost flight_room: { 5 ≤ vec_capacity flight },
+    ghost text: { drop 4 pending.items ≡ body_text waiting.items },
+    ghost counted: { waiting_count ≡ length waiting.items },
+    ghost few_waiting: { waiting_count + 4 ≤ vec_len pending },
+    ghost counted_batched: { batched ≡ length (joined (map (λ batch. batch.items) batches.items)) + length in_flight.items },
+    ghost few_batched: { batched + place.start ≤ behind },
+    ghost at_rest: { stage ≡ Idle → IsAtRest next behind (vec_len flight) in_flight.items },
+    ghost under_way: { (stage ≡ Idle → ⊥) → IsUnderWay next behind flight.items in_flight.items },
+}
+
+// Four bytes for a length, with room for a gate behind them.
+pub(crate) fn head_alone(alloc: Global) -> Result<Vec<u8>, AllocError>
+    ensures len { IfOk result (λ text. vec_len text ≡ 4) }
+    ensures capacity { IfOk result (λ text. 5 ≤ vec_capacity text) }
+{
+    let mut text = Vec::from_elem(alloc, 0u8, 4)?;
+    text.reserve(1)?;
+    Ok(text)
+}
+
+#[tactic(auto, unfolding(crate::specs::Words::durable_batches, crate::specs::Words::durable, crate::specs::Words::in_flight, crate::specs::Words::waiting, crate::specs::Words::area_start, crate::specs::Words::area_end, crate::specs::Words::used, crate::specs::Words::area_size, crate::specs::Words::room, crate::specs::Words::calls_left, crate::specs::Words::has_failed, crate::specs::Words::stands_at))]
+impl Log {
+    ghost use Rattle.mt_log.specs.Words.{durable_batches, durable, in_flight, waiting, appended, area_start, area_end, used, area_size, room, calls_left, has_failed, stands_at};
+
+    /// The log of an area that has nothing but its first batch, with no record in it. The only refusal
+    /// is [`Refusal::NoMemory`].
+    pub fn new(alloc: Global, place: AreaPlace) -> Result<Log, Refusal>
+        ensures durable { IfOk result (λ log. durable log ≡ []) }
+        ensures in_flight { IfOk result (λ log. in_flight log ≡ []) }
+        ensures waiting { IfOk result (λ log. waiting log ≡ []) }
+        ensures used { IfOk result (λ log. used log ≡ 5) }
+        ensures start { IfOk result (λ log. area_start log ≡ place.start) }
+        ensures end { IfOk result (λ log. area_end log ≡ place.end) }
+        ensures size { IfOk result (λ log. area_size log ≡ place.end - place.start) }
+        ensures calls { IfOk result (λ log. calls_left log ≡ 0) }
+        ensures failed { IfOk result (λ log. has_failed log ≡ false) }
+        ensures stands { IfOk result (λ log. stands_at log ≡ (place.start, place.end, place.start + 5, [] ∷ [], [], Idle)) }
+        ensures only_memory { IfErr result (λ why. why ≡ Refusal.NoMemory) }
+    {
+        let pending = head_alone(alloc)?;
+        let flight = head_alone(alloc)?;
+        let next = place.start + BATCH_HEAD_BYTES;
+        Ok(Log {
+            place,
+            next,
+            behind: next,
+            stage: Stage::Idle,
+            pending,
+            flight,
+            batched: 0,
+            waiting_count: 0,
+            waiting: History::new(),
+            in_flight: History::new(),
+            batches: History::new().and(&History::new()),
+        })
+    }
+
+    /// Whether the device has failed under it.
+    pub fn has_failed(&self) -> bool
+        ensures { result ≡ has_failed self.now }
+    {
+        match self.stage {
+            Stage::Failed => true,
+            Stage::Idle => false,
+            Stage::Forcing(_) => false,
+        }
+    }
+
+    /// The bytes of the area in use: those before the place of the next batch, and 5 more and its own
+    /// length for each record that is in no batch yet.
+    pub fn used(&self) -> u64
+        ensures { result ≡ used self.now }
+    {
+        self.behind - self.place.start + 5 * self.waiting_count + (self.pending.len() - 4) as u64
+    }
+
+    /// The bytes of the area.
+    pub fn area_size(&self) -> u64
+        ensures size { result ≡ area_size self.now }
+        ensures small { result ≤ 67108864 }
+    {
+        self.place.size()
+    }
+
+    /// Makes room for so many bytes of text, so that the records that they are of can be appended
+    /// without memory. The only refusal is [`Refusal::NoMemory`], and the log is as before in any case.
+    pub fn reserve(&mut self, text: usize) -> Result<(), Refusal>
+        requires { text ≤ 67108864 }
+        ensures room { OnOk result (text ≤ room self.new) }
+        ensures room_kept { room self.old ≤ room self.new }
+        ensures durable { durable self.new ≡ durable self.old }
+        ensures in_flight { in_flight self.new ≡ in_flight self.old }
+        ensures waiting { waiting self.new ≡ waiting self.old }
+        ensures used { used self.new ≡ used self.old }
+        ensures area { area_size self.new ≡ area_size self.old }
+        ensures calls { calls_left self.new ≡ calls_left self.old }
+        ensures failed { has_failed self.new ≡ has_failed self.old }
+        ensures stands { stands_at self.new ≡ stands_at self.old }
+        ensures only_memory { IfErr result (λ why. why ≡ Refusal.NoMemory) }
+    {
+        self.pending.reserve(text + 1)?;
+        Ok(())
+    }
+
+    /// Appends a record, which the next force takes along, and answers its place: how many records
+    /// have been appended to the area, this one counted. The only refusal is [`Refusal::NoMemory`],
+    /// and nothing is appended then; with room for the record's text there is none.
+    pub fn append(&mut self, entry: Record) -> Result<LogPos, Refusal>
+        requires grammar { IsRecord entry }
+        requires fits { used self.old + 5 + record_length entry < area_size self.old }
+        ensures durable { durable self.new ≡ durable self.old }
+        ensures in_flight { in_flight self.new ≡ in_flight self.old }
+        ensures waiting { OnOk result (waiting self.new ≡ waiting self.old ++ entry ∷ []) }
+        ensures used { OnOk result (used self.new ≡ used self.old + 5 + record_length entry) }
+        ensures place { IfOk result (λ place. place ≡ length (appended self.new)) }
+        ensures area { area_size self.new ≡ area_size self.old }
+        ensures calls { calls_left self.new ≡ calls_left self.old }
+        ensures failed { has_failed self.new ≡ has_failed self.old }
+        ensures stands { stands_at self.new ≡ stands_at self.old }
+        ensures room { 0 < record_length entry → record_length entry ≤ room self.old → IsOk result }
+        ensures room_left { room self.old ≤ room self.new + record_length entry }
+        ensures err_waiting { OnErr result (waiting self.new ≡ waiting self.old) }
+        ensures err_used { OnErr result (used self.new ≡ used self.old) }
+        ensures only_memory { IfErr result (λ why. why ≡ Refusal.NoMemory) }
+    {
+        self.pending.reserve(entry.length() + 1)?;
+        push_record(&mut self.pending, &entry)?;
+        self.waiting = self.waiting.and(&entry);
+        self.waiting_count += 1;
+        Ok(LogPos::new(self.batched + self.waiting_count))
+    }
+}

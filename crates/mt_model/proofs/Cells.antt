@@ -1,0 +1,109 @@
+-- A base seen at one object at a time: an operation reads one cell and changes no other.
+use Rattle.std.proofs.Common.{◌≡◌, ℕ, pos, ◌==◌, ◌&&◌, Bool, true, false, cond, List, Option, None, bytes_eq, refl}
+use Rattle.std.proofs.lemmas.Bool.Decides.{Decides-eqb}
+use Rattle.std.specs.Cmp.Lexicographic.{bytes_decides}
+use Rattle.mt_model.specs.declared.counters.Count.{Count}
+use Rattle.mt_model.specs.declared.operations.Op.{Op}
+use Rattle.mt_model.specs.declared.operations.Op.TheVariants.{Get, Insert, Update, Delete, Add, Read}
+use Rattle.mt_model.specs.declared.operations.Reply.{Reply}
+use Rattle.mt_model.specs.declared.operations.Reply.TheVariants.{Done, Value, OutOfBounds}
+use Rattle.mt_model.specs.Model.{Base, Object, Key, Counter, object_of, same_object, inserted, updated, deleted, stays, added, found, done_unless, was, reply_of, base_after}
+
+-- what a base has at one object: a row or none, or a counter
+pub record Cell : Type 0 where
+  pub row : Option (List ℕ)
+  pub count : Count
+
+-- the counter of a key's cell
+abbrev pub idle : Count
+idle = record { low = pos 0; high = pos 0; number = pos 0 }
+
+abbrev pub row_cell : Option (List ℕ) → Cell
+row_cell row = record { row = row; count = idle }
+
+abbrev pub count_cell : Count → Cell
+count_cell n = record { row = None; count = n }
+
+abbrev pub cell : Base → Object → Cell
+cell b (Key r k) = row_cell (b.rows r k)
+cell b (Counter c) = count_cell (b.counts c)
+
+-- the cell after an operation on its object
+abbrev pub next : Op → Cell → Cell
+next (Get r k) c = c
+next (Insert r k v) c = record { row = inserted v c.row; count = c.count }
+next (Update r k v) c = record { row = updated v c.row; count = c.count }
+next (Delete r k) c = record { row = deleted c.row; count = c.count }
+next (Add n d) c = record { row = c.row; count = added d c.count }
+next (Read n) c = c
+
+-- what an operation on its object replies
+abbrev pub says : Op → Cell → Reply
+says (Get r k) c = found c.row
+says (Insert r k v) c = done_unless c.row
+says (Update r k v) c = was c.row
+says (Delete r k) c = was c.row
+says (Add n d) c = cond (stays c.count d) Done OutOfBounds
+says (Read n) c = Value c.count.number
+
+-- ---- a base at a cell
+
+pub reply-cell : (b : Base) (op : Op) → reply_of b op ≡ says op (cell b (object_of op))
+reply-cell b (Get r k) = refl
+reply-cell b (Insert r k v) = refl
+reply-cell b (Update r k v) = refl
+reply-cell b (Delete r k) = refl
+reply-cell b (Add c d) = refl
+reply-cell b (Read c) = refl
+
+cond_out : {A B : Type 0} (f : A → B) (t : Bool) (x y : A) → f (cond t x y) ≡ cond t (f x) (f y)
+cond_out f true x y = refl
+cond_out f false x y = refl
+
+cond_both : {A : Type 0} (t : Bool) (x : A) → x ≡ cond t x x
+cond_both true x = refl
+cond_both false x = refl
+
+pub cell-next : (b : Base) (op : Op) (x : Object)
+    → cell (base_after b op) x ≡ cond (same_object (object_of op) x) (next op (cell b x)) (cell b x)
+cell-next b (Get r k) x = cond_both (same_object (Key r k) x) (cell b x)
+cell-next b (Insert r k v) (Key s l) = cond_out row_cell ((r == s) && bytes_eq k l) (inserted v (b.rows s l)) (b.rows s l)
+cell-next b (Insert r k v) (Counter d) = refl
+cell-next b (Update r k v) (Key s l) = cond_out row_cell ((r == s) && bytes_eq k l) (updated v (b.rows s l)) (b.rows s l)
+cell-next b (Update r k v) (Counter d) = refl
+cell-next b (Delete r k) (Key s l) = cond_out row_cell ((r == s) && bytes_eq k l) (deleted (b.rows s l)) (b.rows s l)
+cell-next b (Delete r k) (Counter d) = refl
+cell-next b (Add c d) (Key s l) = refl
+cell-next b (Add c d) (Counter e) = cond_out count_cell (c == e) (added d (b.counts e)) (b.counts e)
+cell-next b (Read c) x = cond_both (same_object (Counter c) x) (cell b x)
+
+-- bases with the same cells are the same
+pub same_base : (a b : Base) → ((x : Object) → cell a x ≡ cell b x) → a ≡ b
+same_base a b h = λ i. record {
+  rows = λ r k. (h (Key r k) i).row;
+  counts = λ c. (h (Counter c) i).count;
+}
+
+-- ---- the test of objects
+
+pub and_parts : (p q : Bool) → (p && q) ≡ true → (p ≡ true) × (q ≡ true)
+and_parts true q h = (refl, h)
+and_parts false q h = absurd cc
+
+pub both_true : (p q : Bool) → p ≡ true → q ≡ true → (p && q) ≡ true
+both_true true q is also = also
+both_true false q is also = absurd cc
+
+pub same-true : (x y : Object) → same_object x y ≡ true → x ≡ y
+same-true (Key r k) (Key s l) h =
+    let p = and_parts (r == s) (bytes_eq k l) h in
+    let relations : r ≡ s = (Decides-eqb r s).0 p.0 in
+    let keys : k ≡ l = (bytes_decides k l).0 p.1 in
+    cc
+same-true (Key r k) (Counter d) h = absurd cc
+same-true (Counter c) (Key s l) h = absurd cc
+same-true (Counter c) (Counter d) h = let counters : c ≡ d = (Decides-eqb c d).0 h in cc
+
+pub same-self : (x : Object) → same_object x x ≡ true
+same-self (Key r k) = both_true (r == r) (bytes_eq k k) ((Decides-eqb r r).1 refl) ((bytes_decides k k).1 refl)
+same-self (Counter c) = (Decides-eqb c c).1 refl

@@ -1,0 +1,9 @@
+pub mod Cells
+pub mod Split
+pub mod Sums
+pub mod Steps
+pub mod Undo
+pub mod Commuting
+pub mod Appends
+pub mod RowLemmas
+pub mod CounterLemmas

@@ -1,0 +1,138 @@
+-- What takes an operation back, and what an operation with no inverse left.
+use Rattle.std.proofs.Common.{◌≡◌, ℕ, ℤ, pos, ◌≤ℤ◌, neg_ℤ, Bool, true, false, cond, List, Option, Some, None, refl, ap, ◌∙◌, subst, arith}
+use Rattle.std.proofs.lemmas.Int.{ints}
+use Rattle.mt_model.specs.declared.counters.Count.{Count}
+use Rattle.mt_model.specs.declared.operations.Op.{Op}
+use Rattle.mt_model.specs.declared.operations.Op.TheVariants.{Get, Insert, Update, Delete, Add, Read}
+use Rattle.mt_model.specs.declared.operations.Reply.{Reply}
+use Rattle.mt_model.specs.declared.operations.Reply.TheVariants.{Done, Was, OutOfBounds}
+use Rattle.mt_model.specs.Model.{Base, IsBase, IsInBounds, Object, Key, Counter, object_of, same_object, mode_of, moved, stays, inserted, updated, deleted, done_unless, was, reply_of, base_after, inverse_of}
+use Rattle.mt_model.proofs.Cells.{Cell, cell, next, says, reply-cell, cell-next, same-true, same_base}
+use Rattle.mt_model.proofs.Steps.{added_back}
+
+-- ---- an operation with no inverse
+
+no_insert : (r : ℕ) (k v : List ℕ) (row : Option (List ℕ)) → inverse_of (Insert r k v) (done_unless row) ≡ None → inserted v row ≡ row
+no_insert r k v None h = absurd cc
+no_insert r k v (Some old) h = refl
+
+no_update : (r : ℕ) (k v : List ℕ) (row : Option (List ℕ)) → inverse_of (Update r k v) (was row) ≡ None → updated v row ≡ row
+no_update r k v None h = refl
+no_update r k v (Some old) h = absurd cc
+
+no_delete : (r : ℕ) (k : List ℕ) (row : Option (List ℕ)) → inverse_of (Delete r k) (was row) ≡ None → deleted row ≡ row
+no_delete r k None h = refl
+no_delete r k (Some old) h = absurd cc
+
+no_add : (c : ℕ) (d : ℤ) (n m : Count) (t : Bool) → inverse_of (Add c d) (cond t Done OutOfBounds) ≡ None → cond t m n ≡ n
+no_add c d n m true h = absurd cc
+no_add c d n m false h = refl
+
+pub effectless : (op : Op) (c : Cell) → inverse_of op (says op c) ≡ None → next op c ≡ c
+effectless (Get r k) c h = refl
+effectless (Read n) c h = refl
+effectless (Insert r k v) c h = let e = no_insert r k v c.row h in λ i. record { row = e i; count = c.count }
+effectless (Update r k v) c h = let e = no_update r k v c.row h in λ i. record { row = e i; count = c.count }
+effectless (Delete r k) c h = let e = no_delete r k c.row h in λ i. record { row = e i; count = c.count }
+effectless (Add n d) c h =
+    let e = no_add n d c.count (moved c.count d) (stays c.count d) h in λ i. record { row = c.row; count = e i }
+
+-- ---- an inverse
+
+abbrev both : Option (List ℕ) → Count → Cell
+both row n = record { row = row; count = n }
+
+-- i gives the cell before again
+pub record TakesBack (i : Op) (before after : Cell) : Type 0 where
+  pub back : next i after ≡ before
+
+takes : (i j : Op) (before after : Cell) → Some i ≡ Some j → next i after ≡ before → TakesBack j before after
+takes i j before after e h = let same : i ≡ j = cc in subst (λ x. TakesBack x before after) same (record { back = h })
+
+take_insert : (r : ℕ) (k v : List ℕ) (row : Option (List ℕ)) (i : Op) (n : Count) → inverse_of (Insert r k v) (done_unless row) ≡ Some i
+    → TakesBack i (both row n) (both (inserted v row) n)
+take_insert r k v None i n h = takes (Delete r k) i _ _ h refl
+take_insert r k v (Some old) i n h = absurd cc
+
+take_update : (r : ℕ) (k v : List ℕ) (row : Option (List ℕ)) (i : Op) (n : Count) → inverse_of (Update r k v) (was row) ≡ Some i
+    → TakesBack i (both row n) (both (updated v row) n)
+take_update r k v (Some old) i n h = takes (Update r k old) i _ _ h refl
+take_update r k v None i n h = absurd cc
+
+take_delete : (r : ℕ) (k : List ℕ) (row : Option (List ℕ)) (i : Op) (n : Count) → inverse_of (Delete r k) (was row) ≡ Some i
+    → TakesBack i (both row n) (both (deleted row) n)
+take_delete r k (Some old) i n h = takes (Insert r k old) i _ _ h refl
+take_delete r k None i n h = absurd cc
+
+take_add : (c : ℕ) (d : ℤ) (row : Option (List ℕ)) (i : Op) (n : Count) (t : Bool) → IsInBounds n
+    → inverse_of (Add c d) (cond t Done OutOfBounds) ≡ Some i → TakesBack i (both row n) (both row (cond t (moved n d) n))
+take_add c d row i n true within h = takes (Add c (neg_ℤ d)) i _ _ h (ap (both row) (added_back n d within))
+take_add c d row i n false within h = absurd cc
+
+pub takes_back : (op i : Op) (c : Cell) → IsInBounds c.count → inverse_of op (says op c) ≡ Some i → TakesBack i c (next op c)
+takes_back (Get r k) i c within h = absurd cc
+takes_back (Read n) i c within h = absurd cc
+takes_back (Insert r k v) i c within h = take_insert r k v c.row i c.count h
+takes_back (Update r k v) i c within h = take_update r k v c.row i c.count h
+takes_back (Delete r k) i c within h = take_delete r k c.row i c.count h
+takes_back (Add n d) i c within h = take_add n d c.row i c.count (stays c.count d) within h
+
+-- ---- an inverse's object and mode
+
+pub record SamePlace (op i : Op) : Type 0 where
+  pub object : object_of i ≡ object_of op
+  pub mode : mode_of i ≡ mode_of op
+
+placed : (op i j : Op) → Some i ≡ Some j → SamePlace op i → SamePlace op j
+placed op i j e h = let same : i ≡ j = cc in subst (λ x. SamePlace op x) same h
+
+pub inverse_place : (op i : Op) (reply : Reply) → inverse_of op reply ≡ Some i → SamePlace op i
+inverse_place (Insert r k v) i Done h = placed (Insert r k v) (Delete r k) i h (record { object = refl; mode = refl })
+inverse_place (Update r k v) i (Was old) h = placed (Update r k v) (Update r k old) i h (record { object = refl; mode = refl })
+inverse_place (Delete r k) i (Was old) h = placed (Delete r k) (Insert r k old) i h (record { object = refl; mode = refl })
+inverse_place (Add c d) i Done h = placed (Add c d) (Add c (neg_ℤ d)) i h (record { object = refl; mode = refl })
+inverse_place (Insert r k v) i _ h = absurd cc
+inverse_place (Update r k v) i _ h = absurd cc
+inverse_place (Delete r k) i _ h = absurd cc
+inverse_place (Add c d) i _ h = absurd cc
+inverse_place (Get r k) i _ h = absurd cc
+inverse_place (Read c) i _ h = absurd cc
+
+-- ---- over bases
+
+unchanged : {A : Type 0} (t : Bool) (x y : A) → (t ≡ true → x ≡ y) → cond t x y ≡ y
+unchanged true x y h = h refl
+unchanged false x y h = refl
+
+pub base_effectless : (b : Base) (op : Op) → inverse_of op (reply_of b op) ≡ None → base_after b op ≡ b
+base_effectless b op h = same_base (base_after b op) b (λ x.
+    cell-next b op x ∙ unchanged (same_object (object_of op) x) (next op (cell b x)) (cell b x)
+    (λ same. subst (λ y. next op (cell b y) ≡ cell b y) (same-true (object_of op) x same)
+    (effectless op (cell b (object_of op)) (rw reply-cell at h))))
+
+twice : (t : Bool) (op i : Op) (c : Cell) → (t ≡ true → next i (next op c) ≡ c)
+    → cond t (next i (cond t (next op c) c)) (cond t (next op c) c) ≡ c
+twice true op i c h = h refl
+twice false op i c h = refl
+
+zero_within : pos 0 ≤ℤ pos 0
+zero_within = omega (arith, ints)
+
+pub cell_within : (b : Base) (x : Object) → IsBase b → IsInBounds (cell b x).count
+cell_within b (Key r k) within = record { not_under = zero_within; not_over = zero_within }
+cell_within b (Counter c) within = within c
+
+pub base_takes : (b : Base) (op i : Op) → IsBase b → inverse_of op (reply_of b op) ≡ Some i
+    → TakesBack i (cell b (object_of op)) (next op (cell b (object_of op)))
+base_takes b op i within h = takes_back op i (cell b (object_of op)) (cell_within b (object_of op) within) (rw reply-cell at h)
+
+pub base_back : (b : Base) (op i : Op) → IsBase b → inverse_of op (reply_of b op) ≡ Some i → base_after (base_after b op) i ≡ b
+base_back b op i within h =
+    let place = inverse_place op i (reply_of b op) h in
+    let taken = base_takes b op i within h in
+    same_base (base_after (base_after b op) i) b (λ x.
+    cell-next (base_after b op) i x
+    ∙ (ap (λ y. cond (same_object y x) (next i (cell (base_after b op) x)) (cell (base_after b op) x)) place.object
+    ∙ (ap (λ c. cond (same_object (object_of op) x) (next i c) c) (cell-next b op x)
+    ∙ twice (same_object (object_of op) x) op i (cell b x)
+    (λ same. subst (λ y. next i (next op (cell b y)) ≡ cell b y) (same-true (object_of op) x same) taken.back))))

@@ -1,0 +1,72 @@
+-- What holds of the model: the statements of its laws.
+use Rattle.std.specs.Prelude.{ℤ, ◌≡◌, ◌≢◌, ◌⊎◌, ◌↔◌, ◌++◌, true, List, Some, None}
+use Rattle.mt_base.specs.Modes.{granted_together}
+use Rattle.mt_model.specs.declared.counters.Count.{Count}
+use Rattle.mt_model.specs.declared.operations.Op.{Op}
+use Rattle.mt_model.specs.declared.operations.Reply.{Reply}
+use Rattle.mt_model.specs.declared.operations.Reply.TheVariants.{OutOfBounds}
+use Rattle.mt_model.specs.declared.history.Committed.{Committed}
+use Rattle.mt_model.specs.Model.{Base, IsBase, object_of, mode_of, reply_of, base_after, inverse_of}
+use Rattle.mt_model.specs.Escrow.{IsAdmissible, HasRoom}
+use Rattle.mt_model.specs.History.{Call, alone, run, IsActed, ops_of, replies_of, after, IsLegal}
+
+-- both orders give the same two replies and the same base
+pub record DoCommute (b : Base) (f g : Op) : Type 0 where
+  pub first : reply_of b f ≡ reply_of (base_after b g) f
+  pub second : reply_of b g ≡ reply_of (base_after b f) g
+  pub base : base_after (base_after b f) g ≡ base_after (base_after b g) f
+
+-- in this order neither of the two leaves a counter's bounds
+pub record StaysIn (b : Base) (f g : Op) : Type 0 where
+  pub first : reply_of b f ≢ OutOfBounds
+  pub second : reply_of (base_after b f) g ≢ OutOfBounds
+
+-- on different objects, or in modes that are granted together
+abbrev pub AreFree : Op → Op → Type 0
+AreFree f g = (object_of f ≢ object_of g) ⊎ (granted_together (mode_of f) (mode_of g) ≡ true)
+
+-- ---- the laws
+
+abbrev pub OperationsCommute : Type 0
+OperationsCommute = (b : Base) (f g : Op) → AreFree f g → StaysIn b f g → StaysIn b g f → DoCommute b f g
+
+-- what has an inverse is taken back by it
+abbrev pub InversesTakeBack : Type 0
+InversesTakeBack =
+    (b : Base) (op i : Op) → IsBase b → inverse_of op (reply_of b op) ≡ Some i → base_after (base_after b op) i ≡ b
+
+-- and what has none left the base as it was
+abbrev pub NoInverseNoEffect : Type 0
+NoInverseNoEffect = (b : Base) (op : Op) → inverse_of op (reply_of b op) ≡ None → base_after b op ≡ b
+
+-- an inverse is on the same object, and needs no other lock
+abbrev pub InversesStayOnObject : Type 0
+InversesStayOnObject =
+    (op i : Op) (reply : Reply) → inverse_of op reply ≡ Some i → (object_of i ≡ object_of op) × (mode_of i ≡ mode_of op)
+
+-- counters stay in their bounds
+abbrev pub BoundsAreKept : Type 0
+BoundsAreKept = (b : Base) (op : Op) → IsBase b → IsBase (base_after b op)
+
+abbrev pub TwoNumbersDecide : Type 0
+TwoNumbersDecide = (n : Count) (ds : List ℤ) → HasRoom n ds ↔ IsAdmissible n ds
+
+-- alone over a list behind another: the replies of the first, then those from the base that it leaves
+abbrev pub RepliesAppend : Type 0
+RepliesAppend =
+    (b : Base) (xs ys : List Op)
+    → alone b (xs ++ ys) ≡ ((alone (alone b xs).0 ys).0, (alone b xs).1 ++ (alone (alone b xs).0 ys).1)
+
+-- calls are acted exactly where their replies are those of their operations alone
+abbrev pub ActedIsAlone : Type 0
+ActedIsAlone = (b : Base) (cs : List Call) → IsActed b cs ↔ ((alone b (ops_of cs)).1 ≡ replies_of cs)
+
+-- and they leave the same base
+abbrev pub RunIsAlone : Type 0
+RunIsAlone = (b : Base) (cs : List Call) → run b cs ≡ (alone b (ops_of cs)).0
+
+abbrev pub LegalAppends : Type 0
+LegalAppends = (b : Base) (cs ds : List Committed) → IsLegal b (cs ++ ds) ↔ (IsLegal b cs × IsLegal (after b cs) ds)
+
+abbrev pub AfterAppends : Type 0
+AfterAppends = (b : Base) (cs ds : List Committed) → after b (cs ++ ds) ≡ after (after b cs) ds

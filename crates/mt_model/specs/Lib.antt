@@ -1,0 +1,7 @@
+pub mod Model
+pub mod Escrow
+pub mod History
+pub mod Laws
+pub mod Rows
+pub mod Tables
+pub mod Views

@@ -1,0 +1,83 @@
+ghost use Rattle.std.specs.Prelude.{◌≡◌, ◌++◌, ◌∷◌, [], IfOk, OnOk, OnErr, length};
+
+use crate::{Op, Reply};
+use std::alloc::AllocError;
+use std::marker::Model;
+
+/// Operations with what each replied, in the order in which they ended. Contracts see the list of
+/// the pairs.
+#[derive(Debug, Drop)]
+pub struct Calls {
+    list: Vec<(Op, Reply)>,
+}
+
+impl Model for Calls {
+    ghost use Rattle.std.specs.Prelude.{List};
+    ghost use Rattle.mt_model.specs.declared.operations.Op.{Op};
+    ghost use Rattle.mt_model.specs.declared.operations.Reply.{Reply};
+
+    ghost Value = { List (Op × Reply) };
+
+    ghost view = { λ c. c.list.items };
+}
+
+/// A transaction that committed: the session that ran it, and its operations with their replies.
+#[derive(Debug, Drop)]
+pub struct Committed {
+    pub session: u32,
+    pub calls: Calls,
+}
+
+impl Calls {
+    /// These calls, with the memory that holds them.
+    pub fn new(list: Vec<(Op, Reply)>) -> Calls
+        ensures { result ≡ list.items }
+    {
+        Calls { list }
+    }
+
+    /// The memory that holds the calls, given back.
+    pub fn into_vec(self) -> Vec<(Op, Reply)>
+        ensures { result.items ≡ self }
+    {
+        let Calls { list } = self;
+        list
+    }
+
+    /// The calls, lent.
+    pub fn as_slice(&self) -> &[(Op, Reply)]
+        ensures { result.now ≡ self.now }
+    {
+        self.list.as_slice()
+    }
+
+    /// How many calls there are.
+    pub fn len(&self) -> usize
+        ensures { result ≡ length self.now }
+    {
+        self.list.len()
+    }
+
+    /// Puts a call behind the others. The only error is want of memory; the calls are then as
+    /// before.
+    pub fn push(&mut self, op: Op, reply: Reply) -> Result<(), AllocError>
+        ensures ok { OnOk result (self.new ≡ self.old ++ (op, reply) ∷ []) }
+        ensures err { OnErr result (self.new ≡ self.old) }
+    {
+        self.list.push((op, reply))?;
+        Ok(())
+    }
+
+    /// A copy of the calls. The only error is want of memory.
+    pub fn try_clone(&self) -> Result<Calls, AllocError>
+        ensures { IfOk result (λ copy. copy ≡ self.now) }
+    {
+        let mut list = Vec::with_capacity(*self.list.allocator(), self.list.len())?;
+        for (op, reply) in &self.list {
+            let op = op.try_clone()?;
+            let reply = reply.try_clone()?;
+            list.push((op, reply))?;
+        }
+        Ok(Calls { list })
+    }
+}

@@ -1,0 +1,52 @@
+//! Laws of the model. Each is a function with an empty body, whose contract is the law.
+ghost use Rattle.mt_model.specs.Laws.{OperationsCommute, InversesTakeBack, NoInverseNoEffect, InversesStayOnObject, BoundsAreKept, TwoNumbersDecide, RepliesAppend, ActedIsAlone, RunIsAlone, LegalAppends, AfterAppends};
+
+/// Operations on different objects, and operations whose modes are granted together, commute: both
+/// orders give the same replies and the same base. It holds wherever neither order leaves a
+/// counter's bounds (Weikum 1991).
+pub fn operations_commute()
+    ensures { OperationsCommute }
+{}
+
+/// An operation that has an inverse is taken back by it, and one that has none did nothing. An
+/// inverse is on the same object, in the same mode.
+pub fn inverses_take_back()
+    ensures back { InversesTakeBack }
+    ensures nothing { NoInverseNoEffect }
+    ensures object { InversesStayOnObject }
+{}
+
+/// Operations keep each counter in its bounds.
+pub fn bounds_are_kept()
+    ensures { BoundsAreKept }
+{}
+
+/// Whichever of some steps are made, a counter stays in its bounds exactly where it does so with
+/// all the steps down, and with all the steps up (escrow, O'Neil 1986).
+pub fn two_numbers_decide()
+    ensures { TwoNumbersDecide }
+{}
+
+/// The replies and the base of operations that follow others are those from the base that the
+/// others leave.
+pub fn replies_append()
+    ensures { RepliesAppend }
+{}
+
+/// Calls are acted exactly where their replies are those of their operations run alone, and they
+/// leave the same base.
+pub fn acted_is_alone()
+    ensures replies { ActedIsAlone }
+    ensures base { RunIsAlone }
+{}
+
+/// Transactions behind others are legal exactly where the others are, and they themselves from the
+/// base that the others leave.
+pub fn legal_appends()
+    ensures { LegalAppends }
+{}
+
+/// The base that transactions behind others leave is theirs from the base that the others leave.
+pub fn after_appends()
+    ensures { AfterAppends }
+{}

@@ -1,0 +1,255 @@
+ghost use Rattle.std.specs.Prelude.{◌≡◌, ◌≤◌, ◌<◌, IfOk, OnOk, IfErr, OnErr, All, map, length};
+ghost use Rattle.mt_base.specs.Limits.{IsCounter, IsStep};
+ghost use Rattle.mt_model.specs.Model.{IsWithin, IsBase, IsInBounds, reply_of, base_after};
+ghost use Rattle.mt_model.specs.Rows.{IsOrdered};
+ghost use Rattle.mt_model.specs.Tables.{AreLimited, IsLimited, started};
+ghost use Rattle.mt_model.specs.Views.{base_of, rows_of, counters_of, relations_of};
+
+use crate::counters::Counters;
+use crate::rows::Rows;
+use crate::{Count, Op, Reply, Row};
+use mt_base::{Bytes, CtrNo, Refusal, RelNo};
+use std::alloc::{AllocError, Global};
+
+/// A base: the rows of some relations, each a value under a key, and some counters in their bounds.
+/// Rows stand in order of relation and key bytes, each key once.
+///
+/// Contracts see its two look-ups, `base_of`: the value under each key, and each counter.
+#[derive(Debug, Drop)]
+pub struct Base {
+    relations: u16,
+    rows: Rows,
+    counters: Counters,
+}
+
+impl Base {
+    /// A base of so many relations, with no rows, and of counters with these bounds and starts: low,
+    /// high and start of each. The only error is want of memory.
+    pub fn new(
+        alloc: Global,
+        relations: u16,
+        counters: &[(i64, i64, i64)],
+    ) -> Result<Base, AllocError>
+        requires relations { relations ≤ 64 }
+        requires count { length counters.now ≤ 128 }
+        requires bounds { All (λ t. IsCounter t.0 t.1 t.2) counters.now }
+        ensures relations { IfOk result (λ base. relations_of base ≡ relations) }
+        ensures rows { IfOk result (λ base. length (rows_of base) ≡ 0) }
+        ensures counters { IfOk result (λ base. counters_of base ≡ map started counters.now) }
+        ensures bounds { IfOk result (λ base. IsBase (base_of base)) }
+    {
+        let counters = Counters::new(alloc, counters)?;
+        Ok(Base {
+            relations,
+            rows: Rows::empty(alloc),
+            counters,
+        })
+    }
+
+    /// How many relations there are; they are numbered from 0.
+    pub fn relations(&self) -> u16
+        ensures { result ≡ relations_of self.now }
+    {
+        self.relations
+    }
+
+    /// The rows in order of relation and key bytes, each key once.
+    pub fn rows(&self) -> &[Row]
+        ensures rows { result.now ≡ rows_of self.now }
+        ensures ordered { IsOrdered result.now }
+    {
+        self.rows.as_slice()
+    }
+
+    /// The counters; they are numbered from 0. Each lies in its bounds.
+    pub fn counters(&self) -> &[Count]
+        ensures counters { result.now ≡ counters_of self.now }
+        ensures limited { AreLimited result.now }
+    {
+        self.counters.as_slice()
+    }
+
+    /// A counter: its bounds and its number.
+    pub fn counter(&self, counter: CtrNo) -> Count
+        requires { counter < length (counters_of self.now) }
+        ensures count { result ≡ (base_of self.now).counts counter }
+        ensures bounds { IsInBounds result }
+        ensures limited { IsLimited result }
+    {
+        self.counters.get(counter)
+    }
+
+    /// Makes one operation on the base, and answers its reply.
+    ///
+    /// | operation | a value is under the key | none is |
+    /// |---|---|---|
+    /// | `Get` | `Found(value)` | `Missing` |
+    /// | `Insert` | `Exists` | `Done` |
+    /// | `Update` | `Was(old)` | `Missing` |
+    /// | `Delete` | `Was(old)` | `Missing` |
+    ///
+    /// `Add` answers `Done`, or `OutOfBounds` where the sum would lie outside the counter's bounds,
+    /// and changes nothing then; `Read` answers `Value` of the counter's number. The operation's
+    /// relation or counter is there, and its key, value or step within the limits.
+    ///
+    /// The only error is [`Refusal::NoMemory`]; the base is then as before.
+    pub fn act(&mut self, op: &Op) -> Result<Reply, Refusal>
+        requires { IsWithin (relations_of self.old) (length (counters_of self.old)) op.now }
+        ensures reply { IfOk result (λ reply. reply ≡ reply_of (base_of self.old) op.now) }
+        ensures base { OnOk result (base_of self.new ≡ base_after (base_of self.old) op.now) }
+        ensures refused { IfErr result (λ refusal. refusal ≡ Refusal.NoMemory) }
+        ensures kept { OnErr result (self.new ≡ self.old) }
+        ensures relations { relations_of self.new ≡ relations_of self.old }
+        ensures counters { length (counters_of self.new) ≡ length (counters_of self.old) }
+    {
+        match op {
+            Op::Get(relation, key) => self.get(*relation, key),
+            Op::Insert(relation, key, value) => self.insert(*relation, key, value),
+            Op::Update(relation, key, value) => self.update(*relation, key, value),
+            Op::Delete(relation, key) => Ok(self.delete(*relation, key)),
+            Op::Add(counter, step) => Ok(self.add(*counter, *step)),
+            Op::Read(counter) => Ok(Reply::Value(self.counters.get(*counter).number)),
+        }
+    }
+
+    /// What the operation would reply now. Nothing is changed. The conditions are those of
+    /// [`Base::act`], and the only error is [`Refusal::NoMemory`].
+    pub fn answer(&self, op: &Op) -> Result<Reply, Refusal>
+        requires { IsWithin (relations_of self.now) (length (counters_of self.now)) op.now }
+        ensures reply { IfOk result (λ reply. reply ≡ reply_of (base_of self.now) op.now) }
+        ensures refused { IfErr result (λ refusal. refusal ≡ Refusal.NoMemory) }
+    {
+        match op {
+            Op::Get(relation, key) => self.get(*relation, key),
+            Op::Insert(relation, key, _) => Ok(match self.rows.get(*relation, key) {
+                Some(_) => Reply::Exists,
+                None => Reply::Done,
+            }),
+            Op::Update(relation, key, _) | Op::Delete(relation, key) => {
+                match self.rows.get(*relation, key) {
+                    Some(old) => Ok(Reply::Was(old.try_clone()?)),
+                    None => Ok(Reply::Missing),
+                }
+            }
+            Op::Add(counter, step) => Ok(self.answer_add(*counter, *step)),
+            Op::Read(counter) => Ok(Reply::Value(self.counter(*counter).number)),
+        }
+    }
+
+    // What an add would reply now.
+    fn answer_add(&self, counter: CtrNo, step: i64) -> Reply
+        requires there { counter < length (counters_of self.now) }
+        requires step { IsStep step }
+        ensures { result ≡ reply_of (base_of self.now) (Op.Add counter step) }
+    {
+        if self.counter(counter).takes(step) {
+            Reply::Done
+        } else {
+            Reply::OutOfBounds
+        }
+    }
+
+    /// A base keeps each counter in its bounds. The call does nothing but say so to its caller.
+    pub fn keeps_bounds(&self)
+        ensures { IsBase (base_of self.now) }
+    {
+        let _counters = self.counters();
+    }
+
+    /// A copy of the base. The only error is want of memory.
+    pub fn try_clone(&self) -> Result<Base, AllocError>
+        ensures { IfOk result (λ copy. copy ≡ self.now) }
+    {
+        let Base {
+            relations,
+            rows,
+            counters,
+        } = self;
+        let rows = rows.try_clone()?;
+        let counters = counters.try_clone()?;
+        Ok(Base {
+            relations: *relations,
+            rows,
+            counters,
+        })
+    }
+
+    /// The reply to a `Get`.
+    fn get(&self, relation: RelNo, key: &Bytes) -> Result<Reply, Refusal>
+        ensures reply { IfOk result (λ reply.
+            reply ≡ reply_of (base_of self.now) (Op.Get relation key.now)) }
+        ensures refused { IfErr result (λ refusal. refusal ≡ Refusal.NoMemory) }
+    {
+        match self.rows.get(relation, key) {
+            Some(value) => Ok(Reply::Found(value.try_clone()?)),
+            None => Ok(Reply::Missing),
+        }
+    }
+
+    /// An `Insert`.
+    fn insert(&mut self, relation: RelNo, key: &Bytes, value: &Bytes) -> Result<Reply, Refusal>
+        ensures reply { IfOk result (λ reply.
+            reply ≡ reply_of (base_of self.old) (Op.Insert relation key.now value.now)) }
+        ensures base { OnOk result
+            (base_of self.new
+            ≡ base_after (base_of self.old) (Op.Insert relation key.now value.now)) }
+        ensures refused { IfErr result (λ refusal. refusal ≡ Refusal.NoMemory) }
+        ensures kept { OnErr result (self.new ≡ self.old) }
+        ensures relations { relations_of self.new ≡ relations_of self.old }
+        ensures counters { counters_of self.new ≡ counters_of self.old }
+    {
+        if self.rows.insert(relation, key, value)? {
+            Ok(Reply::Done)
+        } else {
+            Ok(Reply::Exists)
+        }
+    }
+
+    /// An `Update`.
+    fn update(&mut self, relation: RelNo, key: &Bytes, value: &Bytes) -> Result<Reply, Refusal>
+        ensures reply { IfOk result (λ reply.
+            reply ≡ reply_of (base_of self.old) (Op.Update relation key.now value.now)) }
+        ensures base { OnOk result
+            (base_of self.new
+            ≡ base_after (base_of self.old) (Op.Update relation key.now value.now)) }
+        ensures refused { IfErr result (λ refusal. refusal ≡ Refusal.NoMemory) }
+        ensures kept { OnErr result (self.new ≡ self.old) }
+        ensures relations { relations_of self.new ≡ relations_of self.old }
+        ensures counters { counters_of self.new ≡ counters_of self.old }
+    {
+        match self.rows.update(relation, key, value)? {
+            Some(old) => Ok(Reply::Was(old)),
+            None => Ok(Reply::Missing),
+        }
+    }
+
+    /// A `Delete`.
+    fn delete(&mut self, relation: RelNo, key: &Bytes) -> Reply
+        ensures reply { result ≡ reply_of (base_of self.old) (Op.Delete relation key.now) }
+        ensures base { base_of self.new
+            ≡ base_after (base_of self.old) (Op.Delete relation key.now) }
+        ensures relations { relations_of self.new ≡ relations_of self.old }
+        ensures counters { counters_of self.new ≡ counters_of self.old }
+    {
+        match self.rows.delete(relation, key) {
+            Some(old) => Reply::Was(old),
+            None => Reply::Missing,
+        }
+    }
+
+    /// An `Add`.
+    fn add(&mut self, counter: CtrNo, step: i64) -> Reply
+        requires there { counter < length (counters_of self.old) }
+        requires step { IsStep step }
+        ensures reply { result ≡ reply_of (base_of self.old) (Op.Add counter step) }
+        ensures base { base_of self.new ≡ base_after (base_of self.old) (Op.Add counter step) }
+        ensures relations { relations_of self.new ≡ relations_of self.old }
+        ensures counters { length (counters_of self.new) ≡ length (counters_of self.old) }
+    {
+        if self.counters.add(counter, step) {
+            Reply::Done
+        } else {
+            Reply::OutOfBounds
+        }
+    }
+}

@@ -1,0 +1,15 @@
+use Rattle.std.proofs.Common.{arith, refl, length}
+use Rattle.std.proofs.lemmas.List.Elements.{All-set}
+use Rattle.mt_model.specs.Views.{counters_of, relations_of}
+use Rattle.mt_txn.specs.Sound.{IsParty}
+use Rattle.mt_txn.proofs.Soundness.{within, called_party}
+use Rattle.mt_txn.proofs.kernel.Kernel.call.Goals as goal
+
+pub invariant_of-self-2-clause-parties : goal.invariant_of-self-2-clause-parties
+invariant_of-self-2-clause-parties g c =
+    let base = c.args.self.now.base in
+    let ready = c.in_ok-place.ensures in
+    All-set (IsParty (relations_of base) (length (counters_of base))) c.args.self.now.live.items c.in_ok-place.place c.start.new.self
+    (called_party _ _ _ _ c.args.op _ _ c.args.self.now.live.items c.in_ok-start.ensures.ok c.index_mut.ensures.value c.args.self.now.parties ready.within ready.started
+    (omega (arith, c.new-number.ensures)) (omega (arith, c.new-number.ensures, c.args.self.now.sound.numbered, c.args.self.now.sound.begun_below)) (within _ _ _ ready.named ready.sized))
+    c.args.self.now.parties

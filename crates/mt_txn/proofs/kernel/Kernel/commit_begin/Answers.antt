@@ -1,0 +1,43 @@
+use Rattle.std.proofs.Common.{ℕ, ◌≡◌, ◌+◌, ◌≤◌, arith, refl, length, subst, sym, ap, get_or, ◌∙◌, length-append, ◌∷◌, []}
+use Rattle.mt_model.specs.Views.{base_of, counters_of, relations_of}
+use Rattle.mt_txn.specs.declared.live.Committing.{Committing}
+use Rattle.mt_txn.specs.Sound.{IsSound, IsParty}
+use Rattle.mt_txn.proofs.Leaving.{All-remove, commit_sound}
+use Rattle.mt_log.proofs.Elsewhere.{on_same}
+use Rattle.mt_txn.proofs.kernel.Kernel.commit_begin.Goals as goal
+
+pub invariant_of-self-2 : goal.invariant_of-self-2
+invariant_of-self-2 g c =
+    let was = c.args.self.now in
+    let place = c.in_ok-place.place in
+    let within = c.in_ok-place.ensures.within in
+    let l = c.remove-live.result in
+    let party : IsParty (relations_of was.base) (length (counters_of was.base)) l =
+    subst (IsParty (relations_of was.base) (length (counters_of was.base))) (sym c.remove-live.ensures.value) (was.parties place l within) in
+    let taken = c.remove-live.ensures.items in
+    let sound = commit_sound _ _ _ _ _ _ _ _ was.live.items was.committing.items place l c.into_committing.result was.sound within c.remove-live.ensures.value
+    (omega (arith, party.reserved)) (ap (λ (x : Committing). x.reserved) c.into_committing.ensures) (omega (arith, c.in_ok-at.ensures.used)) c.append.ensures.area in
+    record {
+      sound = rw (c.push_reserved.ensures.items, c.reserve.ensures.items, c.reserve-2.ensures.items, taken) sound;
+      parties = rw taken (All-remove (IsParty _ _) was.live.items place within was.parties);
+      values = was.values;
+      on = on_same g.D.Device.seen g.D.Device.may_leave was.log c.append.new.self was.device c.append.ensures.stands was.on;
+      shelf = let pushed : length c.push_reserved.new.self.items ≡ length was.committing.items + 1 =
+          omega (arith, ap length c.push_reserved.ensures.items, length-append c.reserve.new.self.items (c.into_committing.result ∷ []), ap length c.reserve.ensures.items) in
+          omega (arith, c.in_ok-reserve-2.ensures.ok, c.len-commits.ensures, pushed);
+      relations = was.relations;
+      counters = was.counters;
+    }
+
+pub invariant_of-self-in-Break-branch-4 : goal.invariant_of-self-in-Break-branch-4
+invariant_of-self-in-Break-branch-4 g c =
+    let was = c.args.self.now in
+    record {
+      sound = rw (c.in_err-at.ensures.err_used, c.append.ensures.area, c.reserve.ensures.items, c.reserve-2.ensures.items) was.sound;
+      parties = was.parties;
+      values = was.values;
+      on = on_same g.D.Device.seen g.D.Device.may_leave was.log c.append.new.self was.device c.append.ensures.stands was.on;
+      shelf = omega (arith, was.shelf, c.reserve-2.ensures.len, c.reserve-2.ensures.capacity, ap length c.reserve.ensures.items);
+      relations = was.relations;
+      counters = was.counters;
+    }

@@ -1,0 +1,11 @@
+use Rattle.std.proofs.Common.{ℕ, ◌≡◌, ◌+◌, ◌≤◌, arith, refl, length, subst, sym, ap}
+use Rattle.mt_txn.specs.Commits.{durable_count}
+use Rattle.mt_txn.proofs.Settled.{settled_sound}
+use Rattle.mt_txn.proofs.kernel.Kernel.force_step.Goals as goal
+
+pub invariant_of-self-in-Durable-clause-sound : goal.invariant_of-self-in-Durable-clause-sound
+invariant_of-self-in-Durable-clause-sound g c =
+    let was = c.args.self.now in
+    let done = c.settle.ensures in
+    settled_sound _ _ _ _ _ _ _ _ (durable_count was.committing.items c.in-Durable.place) was.book.items c.settle.new.book.items was.live.items was.committing.items c.settle.new.committing.items
+    was.sound c.force_step.ensures.used c.force_step.ensures.area done.left done.book done.reserved done.within

@@ -1,0 +1,49 @@
+use Rattle.std.proofs.Common.{◌≡◌, ◌+◌, arith, refl, length, subst, sym, ap, get_or}
+use Rattle.mt_log.specs.Words.{used, area_size, has_failed}
+use Rattle.mt_model.specs.Model.{reply_of}
+use Rattle.mt_model.specs.Views.{base_of}
+use Rattle.mt_txn.specs.declared.answers.Stepped.{Stepped}
+use Rattle.mt_txn.specs.declared.answers.Stepped.TheVariants.{Replied}
+use Rattle.mt_txn.specs.declared.live.Running.{Running}
+use Rattle.mt_txn.specs.Ends.{IsUnderWay, IsFinished, IsStepped, HasEnded}
+use Rattle.mt_txn.specs.Party.{Party}
+use Rattle.mt_txn.specs.State.{State, state_of, place_in}
+use Rattle.mt_txn.proofs.Finishing.{under_way, answered, item_at}
+use Rattle.mt_log.proofs.Elsewhere.{on_same}
+use Rattle.mt_txn.proofs.kernel.Kernel.step.Goals as goal
+
+pub returns-clause-ended : goal.returns-clause-ended
+returns-clause-ended g c =
+    let was = c.args.self.now in
+    let ending = c.in_ok-ending.ending in
+    let same = c.in_ok-reserve.ensures in
+    let place = c.in_ok-place.place in
+    let item = item_at was.live.items place c.in_ok-place.ensures.within in
+    let way = under_way was.live.items place item.0 c.in_ok-place.ensures.within item.1 (c.in_ok-place.ensures.running item.0 item.1) in
+    let said = c.in_ok-ending.ensures.ending.at_l item.0 way.0 way.1 in
+    answered c.finish.result (Replied ending.reply) _ (λ stepped. IsStepped (state_of was) c.args.txn stepped (state_of c.finish.new.self)) c.finish.ensures.answer c.finish.ensures.ended
+    (λ ends. record {
+      ended = (
+        place,
+        item.0,
+        way.0,
+        c.in_ok-place.ensures.place,
+        way.1,
+        said.0,
+        subst (λ (s : State). IsFinished s place item.0 way.0 ending.reply (state_of c.finish.new.self)) (λ i. record (state_of was) { used = same.used i; area = same.area i; failed = same.failed i }) (ends item.0 way.0 way.1),
+      );
+    })
+
+pub invariant_of-self : goal.invariant_of-self
+invariant_of-self g c =
+    let was = c.args.self.now in
+    let same = c.reserve.ensures in
+    record {
+      sound = rw (same.used, same.area) was.sound;
+      parties = was.parties;
+      values = was.values;
+      on = on_same g.D.Device.seen g.D.Device.may_leave was.log c.reserve.new.self was.device same.stands was.on;
+      shelf = was.shelf;
+      relations = was.relations;
+      counters = was.counters;
+    }

@@ -1,0 +1,41 @@
+-- What commits and forces do.
+use Rattle.std.specs.Prelude.{ℕ, ◌≡◌, ◌<◌, ◌≤◌, ◌+◌, ◌++◌, ◌∷◌, [], List, length, Option, Some, None, is_some, if◌then◌else◌, slice_index_or, remove, map, take, drop, nat_lt}
+use Rattle.std.specs.List.{sum_by, position_or_len}
+use Rattle.mt_base.specs.declared.refusal.Refusal.{Refusal}
+use Rattle.mt_txn.specs.Party.{Party}
+use Rattle.mt_txn.specs.Parties.{committing_of, committed_of}
+use Rattle.mt_txn.specs.declared.live.Committing.{Committing}
+use Rattle.mt_txn.specs.declared.answers.KernelForced.{KernelForced}
+use Rattle.mt_txn.specs.declared.answers.KernelForced.TheVariants as forced
+use Rattle.mt_txn.specs.State.{State, first_of, open_cause, live_at, place_in, busy_cause}
+
+-- why a commit is refused, if it is
+abbrev pub commit_cause : State → ℕ → Option Refusal
+commit_cause s t = first_of (open_cause s t) (busy_cause (live_at s t))
+
+-- the open transaction t is the last of those that are committing; all else is as before
+pub record HasBegunCommit (s : State) (t : ℕ) (z : State) : Type 0 where
+  pub moved : (i : ℕ) × (l : Party) × (place : ℕ) × (place_in s.live t ≡ Some i) × (i < length s.live) × (l ≡ slice_index_or s.live i l)
+      × (z.live ≡ remove s.live i) × (z.committing ≡ s.committing ++ committing_of l place ∷ [])
+  pub used : z.used ≡ s.used + 14
+  pub reserved : z.reserved + 14 ≡ s.reserved
+  pub rest : z ≡ record s { live = z.live; committing = z.committing; used = z.used; reserved = z.reserved }
+
+-- how many of those that are committing stand before the first whose record is behind this place
+abbrev pub durable_count : List Committing → ℕ → ℕ
+durable_count cs place = position_or_len (λ (c : Committing). nat_lt place c.place) cs
+
+-- the first of those that are committing, as many as are durable now, are in the book, and live no more
+pub record IsSettled (s : State) (names : List ℕ) (z : State) : Type 0 where
+  pub durable : (place : ℕ) × (let n = durable_count s.committing place in
+      (z.committing ≡ drop n s.committing) × (z.book ≡ s.book ++ map committed_of (take n s.committing))
+      × (names ≡ map (λ (c : Committing). c.number) (take n s.committing))
+      × (z.reserved + sum_by (λ (c : Committing). c.reserved) (take n s.committing) ≡ s.reserved))
+  pub used : z.used ≡ s.used
+  pub rest : z ≡ record s { committing = z.committing; book = z.book; reserved = z.reserved; used = z.used }
+
+-- what a force step that answered this did
+abbrev pub IsForced : State → KernelForced → State → Type 0
+IsForced s forced.More z = (z.used ≤ s.used) × (z ≡ record s { used = z.used })
+IsForced s forced.Idle z = z ≡ s
+IsForced s (forced.Durable names) z = IsSettled s names.items z

@@ -1,0 +1,9 @@
+pub mod Logged
+pub mod Party
+pub mod Parties
+pub mod Sound
+pub mod State
+pub mod Ends
+pub mod Commits
+pub mod Effects
+pub mod Aborts

@@ -156,7 +156,7 @@ impl Log {
         ensures err_batches { OnErr result (durable_batches self.new ≡ durable_batches self.old) }
         ensures appended { appended self.new ≡ appended self.old }
         ensures used { used self.new ≤ used self.old }
-        // Each record of the batch but its first has cost five bytes while it waited.
+        // Only the first call of a force changes the bytes in use.
         ensures used_less { 0 < calls_left self.old → used self.new ≡ used self.old }
         ensures start { area_start self.new ≡ area_start self.old }
         ensures end { area_end self.new ≡ area_end self.old }

@@ -12,8 +12,9 @@ mod begins;
 mod calls;
 mod commits;
 mod kernel;
-pub mod live;
-pub mod logged;
+mod live;
+mod logged;
 mod steps;
 
 pub use answers::{AbortStepped, Called, KernelForced, Stepped};
+pub use kernel::Kernel;

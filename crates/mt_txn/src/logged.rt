@@ -18,8 +18,7 @@ pub fn log_need(op: &Op) -> u64
 {
     match op {
         Op::Get(_, _) | Op::Read(_) => 0,
-        Op::Insert(_, _, _) | Op::Update(_, _, _) | Op::Delete(_, _) | Op::Add(_, _) => 2
-            * OPERATION_LOG_BYTES,
+        _ => 2 * OPERATION_LOG_BYTES,
     }
 }
 

@@ -1,0 +1,57 @@
+-- The lines of a script, as bytes.
+use Rattle.std.specs.Prelude.{ℕ, ℤ, ◌≡◌, ◌≤◌, ◌<◌, ◌^◌, ◌≤ℤ◌, pos, neg_ℤ, List, [], ◌∷◌, ◌++◌, All, length, codes, ⊤}
+use Rattle.std.specs.Fmt.{decimal, signed_decimal}
+use Rattle.mt_model.specs.declared.operations.Op.{Op}
+use Rattle.mt_model.specs.declared.operations.Op.TheVariants.{Get, Insert, Update, Delete, Add, Read}
+use Rattle.mt_cli.specs.declared.lines.Line.{Line}
+use Rattle.mt_cli.specs.declared.lines.Line.TheVariants.{Begin, Call, Commit, Abort}
+
+-- a key's bytes: one or more, graphic
+abbrev pub IsWord : List ℕ → Type 0
+IsWord bytes = (1 ≤ length bytes) × All (λ b. (33 ≤ b) × (b ≤ 126)) bytes
+
+-- a value's bytes: spaces too, or none at all
+abbrev pub IsText : List ℕ → Type 0
+IsText bytes = All (λ b. (32 ≤ b) × (b ≤ 126)) bytes
+
+-- the number of a relation or a counter
+abbrev pub IsPlace : ℕ → Type 0
+IsPlace n = n < 2 ^ 16
+
+-- a number of 64 bits with its sign
+abbrev pub IsWide : ℤ → Type 0
+IsWide n = (neg_ℤ (pos 9223372036854775808) ≤ℤ n) × (n ≤ℤ pos 9223372036854775807)
+
+-- how an operation is spelled
+abbrev pub op_text : Op → List ℕ
+op_text (Get r k) = codes "get" ++ 32 ∷ decimal r ++ 32 ∷ k
+op_text (Insert r k v) = codes "insert" ++ 32 ∷ decimal r ++ 32 ∷ k ++ 32 ∷ v
+op_text (Update r k v) = codes "update" ++ 32 ∷ decimal r ++ 32 ∷ k ++ 32 ∷ v
+op_text (Delete r k) = codes "delete" ++ 32 ∷ decimal r ++ 32 ∷ k
+op_text (Add c n) = codes "add" ++ 32 ∷ decimal c ++ 32 ∷ signed_decimal n
+op_text (Read c) = codes "read" ++ 32 ∷ decimal c
+
+-- an operation that can be spelled
+abbrev pub IsSpelled : Op → Type 0
+IsSpelled (Get r k) = IsPlace r × IsWord k
+IsSpelled (Insert r k v) = IsPlace r × IsWord k × IsText v
+IsSpelled (Update r k v) = IsPlace r × IsWord k × IsText v
+IsSpelled (Delete r k) = IsPlace r × IsWord k
+IsSpelled (Add c n) = IsPlace c × IsWide n
+IsSpelled (Read c) = IsPlace c
+
+-- how a line is spelled, without its end
+abbrev pub line_text : Line → List ℕ
+line_text Begin = codes "begin"
+line_text (Call op) = op_text op
+line_text Commit = codes "commit"
+line_text Abort = codes "abort"
+
+-- a line of the grammar
+abbrev pub IsInGrammar : Line → Type 0
+IsInGrammar (Call op) = IsSpelled op
+IsInGrammar _ = ⊤
+
+-- the bytes spell the line
+abbrev pub Spells : List ℕ → Line → Type 0
+Spells bytes line = (bytes ≡ line_text line) × IsInGrammar line

@@ -1,0 +1,205 @@
+// The commands, done.
+ghost use Rattle.std.specs.Prelude.{◌≡◌, ◌≤◌, length, IfOk};
+ghost use Rattle.mt_base.specs.Limits.{device_bytes_of};
+ghost use Rattle.mt_disk.specs.Memory.{content};
+ghost use Rattle.mt_model.specs.Views.{base_of, counters_of, relations_of};
+ghost use Rattle.mt_txn.specs.Sound.{HasSmallValues};
+
+use crate::command::{CliFault, Command, command_of};
+use crate::folder::Folder;
+use crate::reader::{Script, ScriptFault, read_script};
+use crate::running::{RunFault, run_alone};
+use mt_base::Refusal;
+use mt_base::limits::device_bytes;
+use mt_disk::MemDevice;
+use mt_log::{AreaPlace, begin_area};
+use mt_model::Base;
+use mt_txn::Kernel;
+use std::alloc::Global;
+use std::io::{Read, Write};
+
+/// The status of a command that was done; refusals within a transcript count as done.
+const DONE: u8 = 0;
+
+/// The status of a command that was refused, or whose output could not be written.
+const REFUSED: u8 = 1;
+
+/// The status of a command line that names no command.
+const MISUSED: u8 = 2;
+
+/// Pages of the device that `try` runs on.
+const PAGES: u16 = 64;
+
+/// MiB of each of its two log areas.
+const AREA_MIB: u8 = 4;
+
+/// Its relations.
+const RELATIONS: u16 = 2;
+
+/// Low, high and start of its counters.
+const COUNTERS: [(i64, i64, i64); 1] = [(0, 10, 5)];
+
+/// Writes without a sync that its device has room for, and the bytes in them.
+const WRITES: usize = 16;
+
+const WRITTEN_BYTES: usize = 8_400_000;
+
+/// Why `try` did not end well.
+#[derive(Drop)]
+enum Fault {
+    /// The output cannot be written.
+    Output,
+    /// What was asked for was refused.
+    Refused(Refusal),
+}
+
+/// Tells of a refusal on the error output, and answers the status.
+fn tell<E: Write>(err: &mut E, refusal: Refusal) -> u8 {
+    let _ = writeln!(err, "{refusal}");
+    REFUSED
+}
+
+/// The script of this name, or the one on standard input where there is no name.
+fn script_of<F: Folder, I: Read>(
+    alloc: Global,
+    folder: &mut F,
+    name: Option<&str>,
+    input: &mut I,
+) -> Result<Script, Refusal> {
+    let read = match name {
+        Some(name) => {
+            let bytes = folder.script(name)?;
+            let mut rest = bytes.as_slice();
+            read_script(alloc, &mut rest)
+        }
+        None => read_script(alloc, input),
+    };
+    match read {
+        Ok(script) => Ok(script),
+        Err(ScriptFault::Input) => Err(Refusal::DeviceFailed),
+        Err(ScriptFault::Refused(refusal)) => Err(refusal),
+    }
+}
+
+/// The base of the schema that `try` runs on.
+fn first_base(alloc: Global) -> Result<Base, Refusal>
+    ensures relations { IfOk result (λ base. relations_of base ≤ 64) }
+    ensures counters { IfOk result (λ base. length (counters_of base) ≤ 128) }
+    ensures values { IfOk result (λ base. HasSmallValues (base_of base)) }
+{
+    let base = Base::new(alloc, RELATIONS, &COUNTERS)?;
+    Ok(base)
+}
+
+/// A device in memory of the size that `try` runs on, all of its bytes 0.
+fn first_device(alloc: Global) -> Result<MemDevice, Refusal>
+    ensures { IfOk result (λ device. length (content device) ≡ device_bytes_of 64 4) }
+{
+    let len = device_bytes(PAGES, AREA_MIB) as usize;
+    let bytes = vec![in alloc; 0u8; len]?;
+    Ok(MemDevice::new(alloc, bytes, WRITES, WRITTEN_BYTES)?)
+}
+
+/// The kernel that `try` runs on: over a device in memory, with nothing committed.
+fn first_kernel(alloc: Global) -> Result<Kernel<MemDevice>, Refusal> {
+    let base = first_base(alloc)?;
+    let mut device = first_device(alloc)?;
+    let place = AreaPlace::of(PAGES, AREA_MIB, false);
+    let log = begin_area(alloc, &mut device, place)?;
+    Ok(Kernel::assemble(alloc, device, log, base))
+}
+
+/// Runs a script over a device in memory, and writes its transcript.
+fn try_script<O: Write>(alloc: Global, script: &Script, out: &mut O) -> Result<(), Fault> {
+    let mut kernel = match first_kernel(alloc) {
+        Ok(kernel) => kernel,
+        Err(refusal) => return Err(Fault::Refused(refusal)),
+    };
+    let ran = run_alone(&mut kernel, 1, script, out);
+    let _device = kernel.into_device();
+    match ran {
+        Ok(()) => Ok(()),
+        Err(RunFault::Output) => Err(Fault::Output),
+        Err(RunFault::Refused(refusal)) => Err(Fault::Refused(refusal)),
+    }
+}
+
+/// Does `try`: reads the whole script, and then runs it.
+fn perform_try<F: Folder, I: Read, O: Write>(
+    alloc: Global,
+    folder: &mut F,
+    name: Option<&str>,
+    input: &mut I,
+    out: &mut O,
+) -> Result<(), Fault> {
+    match script_of(alloc, folder, name, input) {
+        Ok(script) => try_script(alloc, &script, out),
+        Err(refusal) => Err(Fault::Refused(refusal)),
+    }
+}
+
+/// Flushes the output after a command, and answers the status.
+fn finish<O: Write, E: Write>(done: Result<(), Fault>, out: &mut O, err: &mut E) -> u8 {
+    let flushed = out.flush();
+    match done {
+        Ok(()) if flushed.is_ok() => DONE,
+        Ok(()) | Err(Fault::Output) => {
+            let _ = writeln!(err, "{}", RunFault::Output);
+            REFUSED
+        }
+        Err(Fault::Refused(refusal)) => tell(err, refusal),
+    }
+}
+
+/// Writes the help or the version.
+fn show<O: Write>(text: &str, out: &mut O) -> Result<(), Fault> {
+    match out.write_all(text.as_bytes()) {
+        Ok(()) => Ok(()),
+        Err(_) => Err(Fault::Output),
+    }
+}
+
+/// Does a command, and answers the status of the program:
+///
+/// - 0: it was done. Refusals within a transcript count as done.
+/// - 1: it was refused, and the refusal's text is on `err`; or `out` could not be written. An input
+///   that cannot be read, and a file that is not there or cannot be read, is refusal 2.
+///
+/// A script is read whole before any of it runs.
+pub fn perform<F: Folder, I: Read, O: Write, E: Write>(
+    alloc: Global,
+    command: &Command,
+    folder: &mut F,
+    input: &mut I,
+    out: &mut O,
+    err: &mut E,
+) -> u8 {
+    let done = match command {
+        Command::Try { script: Some(name) } => {
+            perform_try(alloc, folder, Some(name.as_str()), input, out)
+        }
+        Command::Try { script: None } => perform_try(alloc, folder, None, input, out),
+        Command::Show { text } => show(text.as_str(), out),
+    };
+    finish(done, out, err)
+}
+
+/// Does the command that these words name, those behind the program's name, and answers the status:
+/// that of [`perform`], or 2 with what is wrong on `err` where they name none.
+pub fn perform_words<F: Folder, I: Read, O: Write, E: Write>(
+    alloc: Global,
+    words: &[&str],
+    folder: &mut F,
+    input: &mut I,
+    out: &mut O,
+    err: &mut E,
+) -> u8 {
+    match command_of(alloc, words) {
+        Ok(command) => perform(alloc, &command, folder, input, out, err),
+        Err(CliFault::Usage(text)) => {
+            let _ = err.write_all(text.as_str().as_bytes());
+            MISUSED
+        }
+        Err(CliFault::Refused(refusal)) => tell(err, refusal),
+    }
+}

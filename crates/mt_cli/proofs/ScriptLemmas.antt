@@ -1,5 +1,5 @@
 -- A line put behind a script, and a byte behind the line under way.
-use Rattle.std.proofs.Common.{rules, ◌≡◌, ◌<◌, ℕ, List, Option, Some, None, [], ◌∷◌, ◌++◌, All, length, take, refl, ap, sym, subst, IfSome, ◌∙◌}
+use Rattle.std.proofs.Common.{rules, ◌≡◌, ◌<◌, ℕ, List, Option, Some, None, [], ◌∷◌, ◌++◌, length, take, refl, ap, sym, subst, IfSome, ◌∙◌}
 use Rattle.std.specs.Io.KnownBytes.{Consumes, IsAtEnd}
 use Rattle.std.proofs.lemmas.List.{append_assoc}
 use Rattle.std.proofs.lemmas.List.Elements.{All-append}

@@ -1,9 +1,8 @@
 // The commands, done.
-ghost use Rattle.std.specs.Prelude.{◌≡◌, ◌≤◌, length, IfOk};
-ghost use Rattle.mt_base.specs.Limits.{device_bytes_of};
+ghost use Rattle.std.specs.Prelude.{◌≡◌, ◌≤◌, ℕ, List, Some, IfOk, length};
+ghost use Rattle.mt_base.specs.Limits.{IsValue};
 ghost use Rattle.mt_disk.specs.Memory.{content};
-ghost use Rattle.mt_model.specs.Views.{base_of, counters_of, relations_of};
-ghost use Rattle.mt_txn.specs.Sound.{HasSmallValues};
+ghost use Rattle.mt_model.specs.Views.{base_of, relations_of, counters_of};
 
 use crate::command::{CliFault, Command, command_of};
 use crate::folder::Folder;
@@ -83,17 +82,16 @@ fn script_of<F: Folder, I: Read>(
 
 /// The base of the schema that `try` runs on.
 fn first_base(alloc: Global) -> Result<Base, Refusal>
+    ensures values { IfOk result (λ base. (r : ℕ) (k v : List ℕ) → (base_of base).rows r k ≡ Some v → IsValue v) }
     ensures relations { IfOk result (λ base. relations_of base ≤ 64) }
     ensures counters { IfOk result (λ base. length (counters_of base) ≤ 128) }
-    ensures values { IfOk result (λ base. HasSmallValues (base_of base)) }
 {
-    let base = Base::new(alloc, RELATIONS, &COUNTERS)?;
-    Ok(base)
+    Ok(Base::new(alloc, RELATIONS, &COUNTERS)?)
 }
 
 /// A device in memory of the size that `try` runs on, all of its bytes 0.
 fn first_device(alloc: Global) -> Result<MemDevice, Refusal>
-    ensures { IfOk result (λ device. length (content device) ≡ device_bytes_of 64 4) }
+    ensures { IfOk result (λ device. length (content device) ≡ 8658944) }
 {
     let len = device_bytes(PAGES, AREA_MIB) as usize;
     let bytes = vec![in alloc; 0u8; len]?;

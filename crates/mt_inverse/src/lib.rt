@@ -21,7 +21,10 @@ pub fn inverse_of(op: &Op, reply: &Reply) -> Result<Option<Op>, Refusal>
     ensures only_memory { IfErr result (λ why. why ≡ Refusal.NoMemory) }
 {
     match (op, reply) {
-        (Op::Insert(relation, key, _), Reply::Done) => Ok(Some(Op::Delete(*relation, key.try_clone()?))),
+        (Op::Insert(relation, key, _), Reply::Done) => Ok(Some(Op::Delete(
+            *relation,
+            key.try_clone()?,
+        ))),
         (Op::Update(relation, key, _), Reply::Was(old)) => {
             let key = key.try_clone()?;
             Ok(Some(Op::Update(*relation, key, old.try_clone()?)))

@@ -1,15 +1,14 @@
 -- What one operation does to the base, to the log's bytes and to a transaction's share of them.
-use Rattle.std.proofs.Common.{◌≡◌, ℕ, ℤ, ◌<◌, ◌≤◌, ◌+◌, ◌-◌, ◌*◌, ◌^◌, ◌∷◌, ◌++◌, [], Bool, true, false, cond, List, length, get_or, refl, sym, ap, arith, Option, Some, None, is_some, subst, ◌&&◌, ◌==◌, bytes_eq, IfSome, IsSome}
-use Rattle.std.specs.List.{All, count_by}
+use Rattle.std.proofs.Common.{◌≡◌, ℕ, ◌≤◌, ◌+◌, ◌*◌, ◌∷◌, ◌++◌, [], Bool, true, false, cond, List, refl, sym, ap, arith, Option, Some, None, is_some, subst, ◌&&◌, ◌==◌, bytes_eq, IfSome}
+use Rattle.std.specs.List.{All}
 use Rattle.std.proofs.lemmas.List.Sums.{sum_by_push}
 use Rattle.std.proofs.lemmas.List.Elements.{All-push}
-use Rattle.mt_base.specs.Limits.{IsKey, IsValue, IsStep}
+use Rattle.mt_base.specs.Limits.{IsValue}
 use Rattle.mt_frame.specs.Grammar.{IsOperation}
-use Rattle.mt_frame.specs.Lengths.{operation_length}
 use Rattle.mt_model.specs.declared.operations.Op.{Op}
 use Rattle.mt_model.specs.declared.operations.Op.TheVariants.{Get, Insert, Update, Delete, Add, Read}
 use Rattle.mt_model.specs.declared.operations.Reply.{Reply}
-use Rattle.mt_model.specs.declared.operations.Reply.TheVariants.{Found, Missing, Exists, Done, Was, Value, OutOfBounds}
+use Rattle.mt_model.specs.declared.operations.Reply.TheVariants.{Done, Was, OutOfBounds}
 use Rattle.mt_model.specs.Model.{Base, IsWithin, reply_of, base_after, inverse_of, found, done_unless, was, inserted, updated, deleted}
 use Rattle.mt_txn.specs.Logged.{log_need_of, logged_of, HasSmallReply}
 use Rattle.mt_txn.specs.Party.{Party}

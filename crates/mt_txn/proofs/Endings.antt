@@ -1,6 +1,6 @@
 -- That the end of an operation under way is one that the kernel has room for.
-use Rattle.std.proofs.Common.{◌≡◌, ℕ, ◌<◌, ◌≤◌, ◌+◌, ◌-◌, ◌*◌, ◌^◌, ◌∙◌, List, length, get_or, refl, sym, ap, arith, Option, Some, None, is_some, IsSome, IfSome, subst, cond}
-use Rattle.std.specs.List.{sum_by, All}
+use Rattle.std.proofs.Common.{◌≡◌, ℕ, ◌≤◌, ◌∙◌, List, get_or, refl, sym, ap, arith, Option, Some, None, is_some, IfSome, subst, cond}
+use Rattle.std.specs.List.{All}
 use Rattle.std.proofs.lemmas.List.Sums.{get_or-le-sum_by}
 use Rattle.mt_frame.specs.declared.records.LoggedOp.{LoggedOp}
 use Rattle.mt_frame.specs.declared.records.LoggedOp.TheVariants as logged

@@ -1,16 +1,15 @@
 -- How the end of an operation keeps the kernel's numbers, and what it leaves.
-use Rattle.std.proofs.Common.{◌≡◌, ℕ, ◌<◌, ◌≤◌, ◌+◌, ◌-◌, ◌*◌, ◌∙◌, List, [], ◌∷◌, zero, suc, length, get_or, refl, sym, ap, arith, Option, Some, None, IsSome, IfSome, subst, Result, Ok, Err, IfOk, OnOk}
+use Rattle.std.proofs.Common.{◌≡◌, ℕ, ◌<◌, ◌≤◌, ◌+◌, ◌-◌, ◌∙◌, List, [], ◌∷◌, zero, suc, length, get_or, refl, sym, ap, arith, Option, Some, None, IsSome, IfSome, subst, Result, Ok, Err, IfOk, OnOk}
 use Rattle.std.proofs.Math.ListN.{set, length-set}
-use Rattle.std.specs.List.{sum_by, All}
+use Rattle.std.specs.List.{All}
 use Rattle.std.specs.Option.{option_map, option_map_or}
 use Rattle.std.proofs.lemmas.List.{get_or_default}
-use Rattle.std.proofs.lemmas.List.Sums.{sum_by-set, get_or-le-sum_by}
+use Rattle.std.proofs.lemmas.List.Sums.{sum_by-set}
 use Rattle.mt_frame.specs.declared.records.LoggedOp.{LoggedOp}
 use Rattle.mt_frame.specs.declared.records.Record.{Record}
 use Rattle.mt_frame.specs.declared.records.Record.TheVariants.{OpEnd}
 use Rattle.mt_frame.specs.Lengths.{operation_length, record_length}
 use Rattle.mt_model.specs.Model.{Base}
-use Rattle.mt_model.specs.declared.operations.Reply.{Reply}
 use Rattle.mt_txn.specs.Party.{Party}
 use Rattle.mt_txn.specs.Parties.{noted}
 use Rattle.mt_txn.specs.declared.live.Running.{Running}

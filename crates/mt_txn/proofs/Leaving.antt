@@ -1,7 +1,7 @@
 -- What the kernel keeps when a transaction leaves those that are open or aborting.
-use Rattle.std.proofs.Common.{◌≡◌, ℕ, ◌<◌, ◌≤◌, ◌+◌, ◌-◌, ◌*◌, ◌++◌, ◌∷◌, [], List, length, get_or, refl, sym, ap, arith, subst, length-append, inl, inr, ◌⊎◌}
+use Rattle.std.proofs.Common.{◌≡◌, ℕ, ◌<◌, ◌≤◌, ◌+◌, ◌-◌, ◌++◌, ◌∷◌, [], List, length, get_or, sym, ap, arith, subst, length-append, inl, inr, ◌⊎◌}
 use Rattle.std.proofs.lemmas.Bool.{cases_lt}
-use Rattle.std.specs.List.{sum_by, All, remove}
+use Rattle.std.specs.List.{All, remove}
 use Rattle.std.proofs.lemmas.List.Edits.{length-remove, get_or-remove_below, get_or-remove_above}
 use Rattle.std.proofs.lemmas.List.Sums.{sum_by-remove, sum_by_push}
 use Rattle.mt_txn.specs.Party.{Party}

@@ -1,11 +1,11 @@
 -- What each event keeps of the live transactions.
-use Rattle.std.proofs.Common.{◌≡◌, ℕ, ◌<◌, ◌≤◌, ◌+◌, ◌-◌, ◌*◌, ◌^◌, ◌∷◌, ◌++◌, [], List, length, get_or, refl, sym, ap, arith, Option, Some, None, subst}
+use Rattle.std.proofs.Common.{◌≡◌, ℕ, ◌<◌, ◌≤◌, ◌^◌, List, length, get_or, sym, ap, arith, None, subst}
 use Rattle.std.specs.List.{All}
 use Rattle.mt_model.specs.declared.operations.Op.{Op}
 use Rattle.mt_model.specs.declared.operations.Op.TheVariants.{Get, Insert, Update, Delete, Add, Read}
 use Rattle.mt_model.specs.Model.{IsWithin}
 use Rattle.mt_txn.specs.Party.{Party}
-use Rattle.mt_txn.specs.Parties.{with_running, noted}
+use Rattle.mt_txn.specs.Parties.{with_running}
 use Rattle.mt_txn.specs.Sound.{IsParty, IsCallWithin, IsRunningWithin}
 use Rattle.mt_txn.specs.Effects.{effects, running_need}
 use Rattle.mt_txn.specs.State.{IsNamed, IsSized, IsFresh}

@@ -1,18 +1,16 @@
 -- What the kernel keeps when a call is undone.
-use Rattle.std.proofs.Common.{◌≡◌, ℕ, ℤ, ◌<◌, ◌≤◌, ◌+◌, ◌-◌, ◌*◌, ◌∙◌, List, length, take, get_or, refl, sym, ap, arith, subst, Option, Some, None, IfSome, neg_ℤ, inl, inr}
+use Rattle.std.proofs.Common.{◌≡◌, ℕ, ℤ, ◌<◌, ◌≤◌, ◌-◌, List, length, get_or, sym, ap, arith, IfSome, neg_ℤ, inl, inr}
 use Rattle.std.proofs.Math.ListN.{set, length-set}
-use Rattle.std.specs.List.{sum_by, All}
 use Rattle.std.proofs.lemmas.Int.{ints}
 use Rattle.std.proofs.lemmas.List.Elements.{All-take}
 use Rattle.std.proofs.lemmas.List.Sums.{sum_by-set, get_or-le-sum_by}
 use Rattle.mt_base.specs.Limits.{IsStep}
 use Rattle.mt_model.specs.declared.operations.Op.{Op}
-use Rattle.mt_model.specs.declared.operations.Op.TheVariants.{Get, Insert, Update, Delete, Add, Read}
+use Rattle.mt_model.specs.declared.operations.Op.TheVariants.{Insert, Update, Delete, Add}
 use Rattle.mt_model.specs.declared.operations.Reply.{Reply}
-use Rattle.mt_model.specs.declared.operations.Reply.TheVariants.{Found, Missing, Exists, Done, Was, Value, OutOfBounds}
+use Rattle.mt_model.specs.declared.operations.Reply.TheVariants.{Done, Was}
 use Rattle.mt_model.specs.Model.{inverse_of, IsWithin}
 use Rattle.mt_txn.specs.Aborts.{IsLastEffect}
-use Rattle.mt_txn.specs.Effects.{Call, effects, running_need}
 use Rattle.mt_txn.specs.Logged.{HasSmallReply}
 use Rattle.mt_txn.specs.Party.{Party}
 use Rattle.mt_txn.specs.Parties.{cut_at}

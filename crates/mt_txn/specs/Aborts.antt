@@ -9,7 +9,7 @@ use Rattle.mt_txn.specs.declared.answers.AbortStepped.TheVariants as stepped
 use Rattle.mt_txn.specs.Effects.{Call, effects, running_need}
 use Rattle.mt_txn.specs.Party.{Party}
 use Rattle.mt_txn.specs.Parties.{aborting, given_up, cut_at}
-use Rattle.mt_txn.specs.State.{State, first_of, is_open, live_at, place_in}
+use Rattle.mt_txn.specs.State.{State, is_open, live_at, place_in}
 
 -- the transaction is not one that is being undone
 abbrev pub not_aborting_cause : Option Party → Option Refusal
@@ -56,9 +56,10 @@ pub record HasUndone (s : State) (i : ℕ) (l : Party) (z : State) : Type 0 wher
 pub record HasLeft (s : State) (i : ℕ) (l : Party) (z : State) : Type 0 where
   pub nothing_left : effects l.calls ≡ 0
   pub live : z.live ≡ remove s.live i
+  pub appended : z.appended ≡ s.appended + 1
   pub used : z.used ≡ s.used + 14
   pub reserved : z.reserved + l.reserved ≡ s.reserved
-  pub rest : z ≡ record s { live = z.live; used = z.used; reserved = z.reserved }
+  pub rest : z ≡ record s { live = z.live; appended = z.appended; used = z.used; reserved = z.reserved }
 
 -- what a step of the abort of t that answered this did
 abbrev pub IsAbortStepped : State → ℕ → AbortStepped → State → Type 0

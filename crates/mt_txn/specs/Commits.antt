@@ -1,5 +1,5 @@
 -- What commits and forces do.
-use Rattle.std.specs.Prelude.{ℕ, ◌≡◌, ◌<◌, ◌≤◌, ◌+◌, ◌++◌, ◌∷◌, [], List, length, Option, Some, None, is_some, if◌then◌else◌, slice_index_or, remove, map, take, drop, nat_lt}
+use Rattle.std.specs.Prelude.{ℕ, ◌≡◌, ◌<◌, ◌≤◌, ◌+◌, ◌++◌, ◌∷◌, [], List, length, Option, Some, slice_index_or, remove, map, take, drop, nat_lt}
 use Rattle.std.specs.List.{sum_by, position_or_len}
 use Rattle.mt_base.specs.declared.refusal.Refusal.{Refusal}
 use Rattle.mt_txn.specs.Party.{Party}
@@ -13,26 +13,29 @@ use Rattle.mt_txn.specs.State.{State, first_of, open_cause, live_at, place_in, b
 abbrev pub commit_cause : State → ℕ → Option Refusal
 commit_cause s t = first_of (open_cause s t) (busy_cause (live_at s t))
 
--- the open transaction t is the last of those that are committing; all else is as before
+-- the open transaction t is the last of those that are committing, with the place of its Commit record,
+-- the last that was appended; all else is as before
 pub record HasBegunCommit (s : State) (t : ℕ) (z : State) : Type 0 where
-  pub moved : (i : ℕ) × (l : Party) × (place : ℕ) × (place_in s.live t ≡ Some i) × (i < length s.live) × (l ≡ slice_index_or s.live i l)
-      × (z.live ≡ remove s.live i) × (z.committing ≡ s.committing ++ committing_of l place ∷ [])
+  pub moved : (i : ℕ) × (l : Party) × (place_in s.live t ≡ Some i) × (i < length s.live) × (l ≡ slice_index_or s.live i l)
+      × (z.live ≡ remove s.live i) × (z.committing ≡ s.committing ++ committing_of l z.appended ∷ [])
+  pub appended : z.appended ≡ s.appended + 1
   pub used : z.used ≡ s.used + 14
   pub reserved : z.reserved + 14 ≡ s.reserved
-  pub rest : z ≡ record s { live = z.live; committing = z.committing; used = z.used; reserved = z.reserved }
+  pub rest : z ≡ record s { live = z.live; committing = z.committing; appended = z.appended; used = z.used; reserved = z.reserved }
 
 -- how many of those that are committing stand before the first whose record is behind this place
 abbrev pub durable_count : List Committing → ℕ → ℕ
 durable_count cs place = position_or_len (λ (c : Committing). nat_lt place c.place) cs
 
--- the first of those that are committing, as many as are durable now, are in the book, and live no more
+-- The transactions whose Commit records are durable now are in the book, in the order of their commits,
+-- with their sessions and calls, and live no more. All else is as before.
 pub record IsSettled (s : State) (names : List ℕ) (z : State) : Type 0 where
-  pub durable : (place : ℕ) × (let n = durable_count s.committing place in
-      (z.committing ≡ drop n s.committing) × (z.book ≡ s.book ++ map committed_of (take n s.committing))
-      × (names ≡ map (λ (c : Committing). c.number) (take n s.committing))
-      × (z.reserved + sum_by (λ (c : Committing). c.reserved) (take n s.committing) ≡ s.reserved))
+  pub left : z.committing ≡ drop (durable_count s.committing z.durable) s.committing
+  pub book : z.book ≡ s.book ++ map committed_of (take (durable_count s.committing z.durable) s.committing)
+  pub named : names ≡ map (λ (c : Committing). c.number) (take (durable_count s.committing z.durable) s.committing)
+  pub reserved : z.reserved + sum_by (λ (c : Committing). c.reserved) (take (durable_count s.committing z.durable) s.committing) ≡ s.reserved
   pub used : z.used ≡ s.used
-  pub rest : z ≡ record s { committing = z.committing; book = z.book; reserved = z.reserved; used = z.used }
+  pub rest : z ≡ record s { committing = z.committing; book = z.book; reserved = z.reserved; durable = z.durable; used = z.used }
 
 -- what a force step that answered this did
 abbrev pub IsForced : State → KernelForced → State → Type 0

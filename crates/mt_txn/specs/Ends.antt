@@ -1,9 +1,8 @@
 -- What an operation's end does.
-use Rattle.std.specs.Prelude.{ℕ, ◌≡◌, ◌<◌, ◌+◌, ◌∷◌, [], cond, List, length, Option, Some, None, is_some, IsSome, IfSome, ◌≤◌, slice_set, slice_index_or}
+use Rattle.std.specs.Prelude.{ℕ, ◌≡◌, ◌<◌, ◌+◌, cond, List, length, Option, Some, None, is_some, IsSome, IfSome, ◌≤◌, slice_set, slice_index_or}
 use Rattle.std.specs.Option.{option_map, option_map_or}
 use Rattle.mt_base.specs.declared.refusal.Refusal.{Refusal}
 use Rattle.mt_base.specs.declared.refusal.Refusal.TheVariants as refusal
-use Rattle.mt_frame.specs.declared.records.LoggedOp.{LoggedOp}
 use Rattle.mt_frame.specs.declared.records.Record.{Record}
 use Rattle.mt_frame.specs.declared.records.Record.TheVariants.{OpEnd}
 use Rattle.mt_frame.specs.Grammar.{IsRecord}
@@ -47,7 +46,7 @@ pub record IsFinished (s : State) (i : ℕ) (l : Party) (r : Running) (reply : R
   pub live : z.live ≡ slice_set s.live i (noted l reply (given_back_of r.op reply))
   pub used : z.used ≡ s.used + end_bytes r.op reply
   pub reserved : z.reserved + given_back_of r.op reply ≡ s.reserved
-  pub rest : z ≡ record s { held = z.held; live = z.live; used = z.used; reserved = z.reserved }
+  pub rest : z ≡ record s { held = z.held; live = z.live; appended = z.appended; used = z.used; reserved = z.reserved }
 
 -- a transaction at a place, and its operation under way
 pub record IsUnderWay (ls : List Party) (i : ℕ) (l : Party) (r : Running) : Type 0 where

@@ -1,19 +1,18 @@
 -- What the kernel keeps of its numbers and of its transactions.
-use Rattle.std.specs.Prelude.{ℕ, ℤ, ◌≡◌, ◌<◌, ◌≤◌, ◌+◌, ◌*◌, ◌-◌, ◌^◌, ◌⊎◌, ◌≤ℤ◌, List, length, Option, Some, None, is_some, All}
-use Rattle.std.specs.List.{sum_by, count_by}
-use Rattle.std.specs.Vec.{vec_len, vec_capacity}
+use Rattle.std.specs.Prelude.{ℕ, ℤ, ◌≡◌, ◌<◌, ◌≤◌, ◌+◌, ◌*◌, ◌-◌, ◌^◌, ◌⊎◌, List, length, Option, Some, None, All}
+use Rattle.std.specs.List.{sum_by}
 use Rattle.std.proofs.Common.{inl, inr, ap, arith}
 use Rattle.std.proofs.lemmas.Int.{ints}
 use Rattle.std.specs.Coded.{le_prop}
 use Rattle.std.proofs.Math.Nat.{ℕ_set}
 use Rattle.std.proofs.Math.Dec.{T_prop}
-use Rattle.mt_base.specs.Limits.{IsKey, IsValue, IsStep}
+use Rattle.mt_base.specs.Limits.{IsValue, IsStep}
 use Rattle.mt_model.specs.declared.operations.Op.{Op}
 use Rattle.mt_model.specs.declared.operations.Op.TheVariants.{Get, Insert, Update, Delete, Add, Read}
 use Rattle.mt_model.specs.declared.operations.Reply.{Reply}
 use Rattle.mt_model.specs.declared.operations.Reply.TheVariants.{Found, Missing, Exists, Done, Was, Value, OutOfBounds}
-use Rattle.mt_model.specs.Model.{inverse_of, IsWithin, Base}
-use Rattle.mt_txn.specs.Logged.{log_need_of, HasSmallReply}
+use Rattle.mt_model.specs.Model.{IsWithin, Base}
+use Rattle.mt_txn.specs.Logged.{HasSmallReply}
 use Rattle.mt_txn.specs.Effects.{Call, effects, running_need}
 use Rattle.mt_txn.specs.Party.{Party}
 use Rattle.mt_txn.specs.declared.live.Running.{Running}

@@ -1,10 +1,10 @@
 -- A kernel as its callers see it, and which calls it refuses.
-use Rattle.std.specs.Prelude.{ℕ, ℤ, ◌≡◌, ◌<◌, ◌≤◌, ◌+◌, ◌*◌, ◌^◌, ◌||◌, ◌&&◌, ◌==◌, not, nat_lt, nat_le, if◌then◌else◌, Bool, true, false, cond, List, [], ◌∷◌, ◌++◌, length, Option, Some, None, position, slice_get, slice_set, slice_index_or, is_some, int_le, neg_ℤ, pos}
+use Rattle.std.specs.Prelude.{ℕ, ℤ, ◌≡◌, ◌<◌, ◌+◌, ◌^◌, ◌||◌, ◌&&◌, ◌==◌, nat_lt, nat_le, if◌then◌else◌, Bool, true, false, List, [], ◌∷◌, ◌++◌, length, Option, Some, None, position, slice_get, slice_set, slice_index_or, is_some, int_le, neg_ℤ, pos}
 use Rattle.mt_base.specs.Limits.{IsKey, IsValue, IsStep}
 use Rattle.mt_base.specs.declared.refusal.Refusal.{Refusal}
 use Rattle.mt_base.specs.declared.refusal.Refusal.TheVariants as refusal
 use Rattle.mt_disk.specs.declared.device.Device.{Ghosts}
-use Rattle.mt_log.specs.Words.{used, area_size, has_failed}
+use Rattle.mt_log.specs.Words.{used, area_size, has_failed, appended, durable}
 use Rattle.mt_model.specs.declared.history.Committed.{Committed}
 use Rattle.mt_model.specs.declared.operations.Op.{Op}
 use Rattle.mt_model.specs.declared.operations.Op.TheVariants.{Get, Insert, Update, Delete, Add, Read}
@@ -28,6 +28,9 @@ pub record State : Type 0 where
   pub committing : List Committing
   pub live : List Party
   pub begun : ℕ
+  -- records of the log: how many were appended, and how many of them are durable
+  pub appended : ℕ
+  pub durable : ℕ
   -- bytes of the log's area
   pub used : ℕ
   pub reserved : ℕ
@@ -43,6 +46,8 @@ state_of k = record {
   committing = k.committing.items;
   live = k.live.items;
   begun = k.begun;
+  appended = length (appended k.log);
+  durable = length (durable k.log);
   used = used k.log;
   reserved = k.reserved;
   area = area_size k.log;

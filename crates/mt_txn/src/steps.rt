@@ -2,7 +2,7 @@ ghost use Rattle.std.specs.Prelude.{◌≡◌, ◌≢◌, ◌<◌, ◌≤◌, �
 ghost use Rattle.mt_base.specs.declared.refusal.Refusal.{Refusal};
 ghost use Rattle.mt_frame.specs.Lengths.{record_length};
 ghost use Rattle.mt_frame.specs.Grammar.{IsRecord};
-ghost use Rattle.mt_log.specs.Words.{room, used, area_size, stands_at, has_failed};
+ghost use Rattle.mt_log.specs.Words.{room, used, area_size, stands_at, durable, has_failed};
 ghost use Rattle.std.specs.Option.{option_map_or};
 ghost use Rattle.mt_txn.specs.Sound.{IsRunningWithin};
 ghost use Rattle.mt_model.specs.Model.{reply_of, base_after};
@@ -56,6 +56,7 @@ fn append_end(log: &mut Log, entry: Option<Record>)
     requires fits { IsSome entry → used log.old + 2149 < area_size log.old }
     requires room { 2144 ≤ room log.old }
     ensures used { used log.new ≡ used log.old + option_map_or (λ e. 5 + record_length e) entry 0 }
+    ensures durable { durable log.new ≡ durable log.old }
     ensures area { area_size log.new ≡ area_size log.old }
     ensures stands { stands_at log.new ≡ stands_at log.old }
     ensures failed { has_failed log.new ≡ has_failed log.old }

@@ -1,4 +1,4 @@
-use Rattle.std.proofs.Common.{rules, ◌≡◌, ◌∙◌, ℕ, ◌<◌, ◌^◌, arith, sym}
+use Rattle.std.proofs.Common.{rules, ◌≡◌, ◌∙◌, arith, sym}
 use Rattle.std.specs.Fmt.{decimal}
 use Rattle.std.proofs.lemmas.Fmt.{decimal_injective}
 use Rattle.mt_cli.proofs.lines.place_of.Goals as goal

@@ -1,5 +1,5 @@
-use Rattle.std.proofs.Common.{rules, arith, ◌≡◌, ℕ, List, [], ◌∷◌, ◌++◌, ◌<◌, length, take, Some, IfOk, IfSome}
-use Rattle.mt_cli.specs.Scripts.{Gathered, IsScript}
+use Rattle.std.proofs.Common.{rules, ◌≡◌, ◌<◌, length, take}
+use Rattle.mt_cli.specs.Scripts.{IsScript}
 use Rattle.mt_cli.proofs.ScriptLemmas.{read_more, read_done, if_some}
 use Rattle.mt_cli.proofs.reader.read_script.Goals as goal
 

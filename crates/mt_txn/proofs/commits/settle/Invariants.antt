@@ -1,4 +1,4 @@
-use Rattle.std.proofs.Common.{◌≡◌, ℕ, ◌+◌, ◌≤◌, ◌++◌, length, take, drop, map, vec_len, vec_capacity}
+use Rattle.std.proofs.Common.{◌≡◌, ◌+◌, ◌≤◌, ◌++◌, length, take, drop, map, vec_len, vec_capacity}
 use Rattle.std.specs.List.{sum_by}
 use Rattle.mt_txn.specs.Parties.{committed_of}
 use Rattle.mt_txn.specs.declared.live.Committing.{Committing}

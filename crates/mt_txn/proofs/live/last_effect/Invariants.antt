@@ -1,4 +1,4 @@
-use Rattle.std.proofs.Common.{◌≡◌, ℕ, ◌≤◌, take, length}
+use Rattle.std.proofs.Common.{◌≡◌, ◌≤◌, take, length}
 use Rattle.mt_txn.specs.Effects.{effects}
 use Rattle.mt_txn.proofs.live.last_effect.Given as goal
 

@@ -1,7 +1,6 @@
-use Rattle.std.proofs.Common.{rules, arith, suc, ◌≡◌, ℕ, List, [], ◌∷◌, ◌++◌, ◌+◌, ◌<◌, length, take, get_or, ap, sym, ◌∙◌}
+use Rattle.std.proofs.Common.{rules, arith, suc, ◌≡◌, [], ◌∷◌, ◌++◌, ◌+◌, ◌<◌, length, take, get_or, ap, sym, ◌∙◌}
 use Rattle.std.proofs.lemmas.List.{append_assoc}
 use Rattle.std.proofs.Math.Seq.{take-suc, take-length}
-use Rattle.mt_cli.specs.Scripts.{Gathered}
 use Rattle.mt_cli.proofs.reader.Reading.take_all.Goals as goal
 
 pub loop-byte-preserved : goal.loop-byte-preserved

@@ -1,4 +1,4 @@
-use Rattle.std.proofs.Common.{◌≡◌, ℕ, List, ◌++◌, take}
+use Rattle.std.proofs.Common.{ℕ, List, ◌++◌, take}
 use Rattle.mt_cli.specs.Scripts.{Gathered}
 use Rattle.mt_cli.proofs.reader.Reading.take_all.Given as goal
 

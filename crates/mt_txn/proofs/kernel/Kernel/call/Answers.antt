@@ -1,4 +1,4 @@
-use Rattle.std.proofs.Common.{arith, refl, length}
+use Rattle.std.proofs.Common.{arith, length}
 use Rattle.std.proofs.lemmas.List.Elements.{All-set}
 use Rattle.mt_model.specs.Views.{counters_of, relations_of}
 use Rattle.mt_txn.specs.Sound.{IsParty}

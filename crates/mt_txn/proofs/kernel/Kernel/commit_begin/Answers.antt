@@ -1,7 +1,7 @@
-use Rattle.std.proofs.Common.{ℕ, ◌≡◌, ◌+◌, ◌≤◌, arith, refl, length, subst, sym, ap, get_or, ◌∙◌, length-append, ◌∷◌, []}
-use Rattle.mt_model.specs.Views.{base_of, counters_of, relations_of}
+use Rattle.std.proofs.Common.{◌≡◌, ◌+◌, arith, length, subst, sym, ap, length-append, ◌∷◌, []}
+use Rattle.mt_model.specs.Views.{counters_of, relations_of}
 use Rattle.mt_txn.specs.declared.live.Committing.{Committing}
-use Rattle.mt_txn.specs.Sound.{IsSound, IsParty}
+use Rattle.mt_txn.specs.Sound.{IsParty}
 use Rattle.mt_txn.proofs.Leaving.{All-remove, commit_sound}
 use Rattle.mt_log.proofs.Elsewhere.{on_same}
 use Rattle.mt_txn.proofs.kernel.Kernel.commit_begin.Goals as goal

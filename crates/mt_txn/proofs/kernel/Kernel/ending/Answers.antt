@@ -1,9 +1,8 @@
-use Rattle.std.proofs.Common.{ℕ, ◌≡◌, arith, refl, sym, ◌∙◌, Some, Option, ap, subst}
+use Rattle.std.proofs.Common.{sym, ◌∙◌, Some, ap, subst}
 use Rattle.mt_frame.specs.declared.records.Record.TheVariants.{OpEnd}
 use Rattle.mt_log.specs.Words.{used, area_size}
 use Rattle.mt_model.specs.Views.{base_of}
 use Rattle.mt_txn.specs.Ends.{IsEnding}
-use Rattle.mt_frame.specs.declared.records.LoggedOp.{LoggedOp}
 use Rattle.mt_txn.specs.Party.{Party}
 use Rattle.mt_txn.proofs.Endings.{writing_end}
 use Rattle.mt_txn.proofs.kernel.Kernel.ending.Goals as goal

@@ -1,12 +1,10 @@
-use Rattle.std.proofs.Common.{ℕ, ◌≡◌, ◌+◌, ◌≤◌, ◌<◌, arith, refl, length, subst, sym, IfSome, Some, ◌∙◌, ap, List, Option}
-use Rattle.std.specs.List.{All}
-use Rattle.std.specs.Option.{option_map, option_map_or}
+use Rattle.std.proofs.Common.{ℕ, ◌≡◌, ◌+◌, ◌≤◌, arith, length, subst, sym, IfSome, Some, ◌∙◌, ap, Option}
+use Rattle.std.specs.Option.{option_map_or}
 use Rattle.std.proofs.lemmas.List.Elements.{All-set}
 use Rattle.mt_frame.specs.declared.records.Record.{Record}
 use Rattle.mt_frame.specs.Lengths.{record_length, operation_length}
 use Rattle.mt_log.specs.Words.{used}
-use Rattle.mt_model.specs.declared.operations.Reply.{Reply}
-use Rattle.mt_model.specs.Model.{Base, reply_of, base_after}
+use Rattle.mt_model.specs.Model.{reply_of, base_after}
 use Rattle.mt_model.specs.Views.{base_of, counters_of, relations_of}
 use Rattle.mt_txn.specs.declared.live.Running.{Running}
 use Rattle.mt_txn.specs.declared.answers.Stepped.TheVariants.{Replied}
@@ -79,7 +77,7 @@ returns-clause-ended g c = λ l r way.
       live = ap (λ (x : Party). set was.live.items c.args.place x) new;
       used = c.append_end.ensures.used ∙ ap (λ (k : ℕ). used was.log + k) bytes;
       reserved = omega (arith, end.2, c.requires.ending.reserved_more);
-      rest = rw (c.act_on.ensures.relations, c.act_on.ensures.counters, c.append_end.ensures.area, c.append_end.ensures.failed);
+      rest = rw (c.act_on.ensures.relations, c.act_on.ensures.counters, c.append_end.ensures.area, c.append_end.ensures.failed, c.append_end.ensures.durable);
     }
 
 pub returns-clause-answer : goal.returns-clause-answer

@@ -1,4 +1,3 @@
-use Rattle.std.proofs.Common.{ℕ, ◌≡◌, ◌+◌, ◌≤◌, arith, refl, length, subst, sym, ap}
 use Rattle.mt_txn.specs.Commits.{durable_count}
 use Rattle.mt_txn.proofs.Settled.{settled_sound}
 use Rattle.mt_txn.proofs.kernel.Kernel.force_step.Goals as goal

@@ -1,13 +1,7 @@
-use Rattle.std.proofs.Common.{◌≡◌, ◌+◌, arith, refl, length, subst, sym, ap, get_or}
-use Rattle.mt_log.specs.Words.{used, area_size, has_failed}
-use Rattle.mt_model.specs.Model.{reply_of}
-use Rattle.mt_model.specs.Views.{base_of}
-use Rattle.mt_txn.specs.declared.answers.Stepped.{Stepped}
+use Rattle.std.proofs.Common.{◌++◌, length, subst}
 use Rattle.mt_txn.specs.declared.answers.Stepped.TheVariants.{Replied}
-use Rattle.mt_txn.specs.declared.live.Running.{Running}
-use Rattle.mt_txn.specs.Ends.{IsUnderWay, IsFinished, IsStepped, HasEnded}
-use Rattle.mt_txn.specs.Party.{Party}
-use Rattle.mt_txn.specs.State.{State, state_of, place_in}
+use Rattle.mt_txn.specs.Ends.{IsFinished, IsStepped}
+use Rattle.mt_txn.specs.State.{State, state_of}
 use Rattle.mt_txn.proofs.Finishing.{under_way, answered, item_at}
 use Rattle.mt_log.proofs.Elsewhere.{on_same}
 use Rattle.mt_txn.proofs.kernel.Kernel.step.Goals as goal
@@ -30,7 +24,7 @@ returns-clause-ended g c =
         c.in_ok-place.ensures.place,
         way.1,
         said.0,
-        subst (λ (s : State). IsFinished s place item.0 way.0 ending.reply (state_of c.finish.new.self)) (λ i. record (state_of was) { used = same.used i; area = same.area i; failed = same.failed i }) (ends item.0 way.0 way.1),
+        subst (λ (s : State). IsFinished s place item.0 way.0 ending.reply (state_of c.finish.new.self)) (λ i. record (state_of was) { appended = length (same.durable i ++ (same.in_flight i ++ same.waiting i)); durable = length (same.durable i); used = same.used i; area = same.area i; failed = same.failed i }) (ends item.0 way.0 way.1),
       );
     })
 

@@ -1,13 +1,11 @@
-use Rattle.std.proofs.Common.{ℕ, ◌≡◌, ◌+◌, ◌≤◌, arith, refl, length, subst, sym, ap, get_or, ◌∙◌, IfSome, Some}
-use Rattle.std.specs.List.{All}
+use Rattle.std.proofs.Common.{◌≡◌, ◌≤◌, arith, length, subst, sym, ap, get_or, ◌∙◌, IfSome}
 use Rattle.std.proofs.lemmas.List.Elements.{All-set}
 use Rattle.std.proofs.Math.ListN.{set}
-use Rattle.mt_model.specs.Model.{IsWithin, inverse_of}
+use Rattle.mt_model.specs.Model.{IsWithin}
 use Rattle.mt_model.specs.Views.{base_of, counters_of, relations_of}
-use Rattle.mt_txn.specs.Effects.{Call}
 use Rattle.mt_txn.specs.Party.{Party}
 use Rattle.mt_txn.specs.Parties.{cut_at}
-use Rattle.mt_txn.specs.Sound.{IsSound, IsParty, IsCallWithin, HasSmallValues}
+use Rattle.mt_txn.specs.Sound.{IsParty, IsCallWithin, HasSmallValues}
 use Rattle.mt_txn.proofs.Effects.{small_after}
 use Rattle.mt_txn.proofs.Finishing.{same_schema, same_party, same_item, item_at}
 use Rattle.mt_txn.proofs.Undoing.{inverse_within, cut_party, enough_for_one, enough_in_all, undone_sound}

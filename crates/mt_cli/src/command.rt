@@ -1,8 +1,9 @@
 // The command line, read by `clap`.
 use clap::error::ErrorKind;
-use clap::{Arg, Command as Parser, Error};
+use clap::{Arg, Command as Parser};
 use mt_base::Refusal;
 use std::alloc::{AllocError, Global};
+use thiserror::Error;
 
 /// What the program is asked to do.
 #[derive(Debug, Drop)]
@@ -14,11 +15,13 @@ pub enum Command {
 }
 
 /// Why a command line names no command.
-#[derive(Debug, Drop)]
+#[derive(Debug, Drop, Error)]
 pub enum CliFault {
     /// The words are no command. The text says what is wrong with them.
+    #[error("{0}")]
     Usage(String),
     /// `NoMemory`.
+    #[error("{0}")]
     Refused(Refusal),
 }
 
@@ -57,7 +60,7 @@ fn copied(alloc: Global, text: Option<&str>) -> Result<Option<String>, AllocErro
 }
 
 /// What a parse that gave no command stands for: a text to be shown, or a fault.
-fn shown(alloc: Global, error: &Error) -> Result<Command, CliFault> {
+fn shown(alloc: Global, error: &clap::Error) -> Result<Command, CliFault> {
     if error.kind() == ErrorKind::OutOfMemory {
         return Err(CliFault::Refused(Refusal::NoMemory));
     }

@@ -8,6 +8,7 @@ ghost use Rattle.mt_frame.specs.SlotText.{IsSlot, slot_text, IsSlotRead};
 
 use crate::OPEN_GATE;
 use crate::fields::{ReadError, byte_within, u16_within, u32_within, u64_within};
+use byteorder::{BigEndian, ByteOrder};
 use mt_base::limits::{MAX_AREA_MIB, MAX_EPOCH, MAX_PAGES, MIN_AREA_MIB, MIN_PAGES};
 
 /// What an open master slot says.
@@ -40,8 +41,12 @@ pub fn encode_slot(slot: &MasterSlot) -> [u8; 17]
     requires { IsSlot slot.now }
     ensures { result ≡ slot_text slot.now }
 {
-    let [e0, e1, e2, e3, e4, e5, e6, e7] = slot.epoch.to_be_bytes();
-    let [p0, p1] = slot.pages.to_be_bytes();
+    let mut epoch = [0; 8];
+    BigEndian::write_u64(&mut epoch, slot.epoch);
+    let mut pages = [0; 2];
+    BigEndian::write_u16(&mut pages, slot.pages);
+    let [e0, e1, e2, e3, e4, e5, e6, e7] = epoch;
+    let [p0, p1] = pages;
     [
         OPEN_GATE, b'M', b'T', b'K', b'1', e0, e1, e2, e3, e4, e5, e6, e7, slot.area, p0, p1,
         slot.mib,

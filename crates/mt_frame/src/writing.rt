@@ -10,6 +10,7 @@ ghost use Rattle.mt_frame.specs.Lengths.{operation_length, image_length, record_
 
 use crate::OPEN_GATE;
 use crate::records::{LoggedOp, PageHead, Record};
+use byteorder::{BigEndian, ByteOrder};
 use mt_base::{Bytes, OpNo, Refusal, RelNo, TxnNo};
 use std::alloc::{AllocError, Global};
 
@@ -39,7 +40,9 @@ fn put_u64(out: &mut Vec<u8>, number: u64)
     ensures len { vec_len out.new ≡ vec_len out.old + 8 }
     ensures capacity { vec_capacity out.old ≤ vec_capacity out.new }
 {
-    put_bytes(out, &number.to_be_bytes())
+    let mut text = [0; 8];
+    BigEndian::write_u64(&mut text, number);
+    put_bytes(out, &text)
 }
 
 fn put_u32(out: &mut Vec<u8>, number: u32)
@@ -48,7 +51,9 @@ fn put_u32(out: &mut Vec<u8>, number: u32)
     ensures len { vec_len out.new ≡ vec_len out.old + 4 }
     ensures capacity { vec_capacity out.old ≤ vec_capacity out.new }
 {
-    put_bytes(out, &number.to_be_bytes())
+    let mut text = [0; 4];
+    BigEndian::write_u32(&mut text, number);
+    put_bytes(out, &text)
 }
 
 fn put_u16(out: &mut Vec<u8>, number: u16)
@@ -57,7 +62,9 @@ fn put_u16(out: &mut Vec<u8>, number: u16)
     ensures len { vec_len out.new ≡ vec_len out.old + 2 }
     ensures capacity { vec_capacity out.old ≤ vec_capacity out.new }
 {
-    put_bytes(out, &number.to_be_bytes())
+    let mut text = [0; 2];
+    BigEndian::write_u16(&mut text, number);
+    put_bytes(out, &text)
 }
 
 fn put_i64(out: &mut Vec<u8>, number: i64)

@@ -1,7 +1,6 @@
 pub mod Calls
 pub mod Elsewhere
 pub mod Frames
-pub mod Lengths
 pub mod Prefix
 pub mod Settled
 pub mod Steps

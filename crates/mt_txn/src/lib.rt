@@ -18,3 +18,6 @@ mod steps;
 
 pub use answers::{AbortStepped, Called, KernelForced, Stepped};
 pub use kernel::Kernel;
+
+#[cfg(test)]
+mod tests;

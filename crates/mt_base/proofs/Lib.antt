@@ -1,1 +1,3 @@
 mod Fieldless
+mod Editing
+pub mod Places

@@ -1,3 +1,5 @@
+pub mod Edits
 pub mod Limits
 pub mod Modes
+pub mod Ranges
 pub mod Refusal

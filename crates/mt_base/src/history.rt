@@ -34,6 +34,6 @@ impl<T> History<T> {
     pub fn and(&self, last: &T) -> History<T>
         ensures { result.items ≡ self.now.items ++ last.now ∷ [] }
     {
-        History { of: PhantomData }
+        Self { of: PhantomData }
     }
 }

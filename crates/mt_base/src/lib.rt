@@ -1,15 +1,19 @@
 //! Numbers, limits, lock modes and refusals: the words that every crate of the transaction kernel
-//! speaks in, the bytes of keys and values, and a history that only proofs see.
+//! speaks in, the bytes of keys and values, ranges of a page and what changed in it, and a history that
+//! only proofs see.
 #![tactic(auto)]
 
 mod bytes;
+mod edits;
 mod history;
 pub mod limits;
 mod modes;
 mod numbers;
+pub mod ranges;
 mod refusal;
 
 pub use bytes::Bytes;
+pub use edits::{Edit, edits_of};
 pub use history::History;
 pub use modes::{LockMode, Mode};
 pub use numbers::{CtrNo, LogPos, OpNo, PageNo, RecordName, RelNo, TxnNo};

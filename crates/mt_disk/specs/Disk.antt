@@ -1,27 +1,7 @@
 -- What the calls of a device do to its content, and what a crash may leave of it. All of it goes by
 -- single bytes, since facts on ranges then come from facts on indexes.
-use Rattle.std.specs.Prelude.{◌<◌, ◌≡◌, ◌⊎◌, ℕ, ◌+◌, ◌≤◌, List, length, Result, IsErr, IsOk}
-use Rattle.std.proofs.Math.ListN.{get_or}
-
--- the content holds these bytes from this place on
-pub record Has (content : List ℕ) (at : ℕ) (bytes : List ℕ) : Type 0 where
-  pub within : at + length bytes ≤ length content
-  pub each : (i : ℕ) → i < length bytes → get_or content (at + i) 0 ≡ get_or bytes i 0
-
--- the n bytes from `at` on may have become any bytes, and each other one stays
-pub record Torn (at n : ℕ) (old new : List ℕ) : Type 0 where
-  pub size : length new ≡ length old
-  pub below : (i : ℕ) → i < at → get_or new i 0 ≡ get_or old i 0
-  pub above : (i : ℕ) → at + n ≤ i → get_or new i 0 ≡ get_or old i 0
-
--- these bytes stand there now, and each other one stays
-pub record Wrote (at : ℕ) (bytes old new : List ℕ) : Type 0 where
-  pub has : Has new at bytes
-  pub rest : Torn at (length bytes) old new
-
--- the n bytes from `at` on and the m bytes from p on do not overlap
-abbrev pub Apart : ℕ → ℕ → ℕ → ℕ → Type 0
-Apart at n p m = (p + m ≤ at) ⊎ (at + n ≤ p)
+use Rattle.std.specs.Prelude.{◌<◌, ◌≡◌, ◌⊎◌, ℕ, ◌≤◌, List, Result, IsErr, IsOk}
+pub use Rattle.mt_base.specs.Ranges.{Has, Torn, Wrote, Apart}
 
 -- whatever a crash may leave now comes by such a step from what it might have left before
 abbrev pub Follows : (List ℕ → List ℕ → Type 0) → (List ℕ → Type 0) → (List ℕ → Type 0) → Type 0

@@ -1,0 +1,48 @@
+-- A change of a page as ranges of new bytes.
+use Rattle.std.specs.Prelude.{◌≡◌, ◌≢◌, ◌⊎◌, All, ℕ, ◌+◌, ◌-◌, ◌*◌, ◌<◌, ◌≤◌, List, [], ◌∷◌, ◌++◌, length, take, drop}
+use Rattle.std.proofs.Math.ListN.{get_or}
+use Rattle.mt_base.specs.declared.edits.Edit.{Edit}
+
+-- the page with these bytes at a place
+abbrev pub splice : ℕ → List ℕ → List ℕ → List ℕ
+splice at bytes page = take at page ++ (bytes ++ drop (at + length bytes) page)
+
+-- the page once all edits are made, the first one first
+abbrev pub patched : List Edit → List ℕ → List ℕ
+patched [] page = page
+patched (e ∷ es) page = patched es (splice e.start e.bytes page)
+
+-- what the edits take in a log, at most: a record's fields and head, old bytes and new bytes
+abbrev pub log_size : List Edit → ℕ
+log_size [] = 0
+log_size (e ∷ es) = 29 + 2 * length e.bytes + log_size es
+
+-- a range within the page whose first and last byte change
+pub record IsShortest (old new : List ℕ) (e : Edit) : Type 0 where
+  pub some : 1 ≤ length e.bytes
+  pub within : e.start + length e.bytes ≤ length old
+  pub first : get_or old e.start 0 ≢ get_or new e.start 0
+  pub last : get_or old (e.start + length e.bytes - 1) 0 ≢ get_or new (e.start + length e.bytes - 1) 0
+
+-- the new bytes below i, the old ones from i on
+pub record Halfway (old new mid : List ℕ) (i : ℕ) : Type 0 where
+  pub len : length mid ≡ length old
+  pub done : (k : ℕ) → k < i → get_or mid k 0 ≡ get_or new k 0
+  pub rest : (k : ℕ) → i ≤ k → get_or mid k 0 ≡ get_or old k 0
+
+-- where a run of changes that begins at i ends: fifteen equal bytes follow, or the page's end
+pub record EndsRun (old new : List ℕ) (i end : ℕ) : Type 0 where
+  pub after : i < end
+  pub within : end ≤ length old
+  pub last : get_or old (end - 1) 0 ≢ get_or new (end - 1) 0
+  pub quiet : (k : ℕ) → end ≤ k → k < end + 15 → k < length old → get_or old k 0 ≡ get_or new k 0
+
+-- The edits so far change all below `last`, and no byte from there up to i differs.
+pub record Edited (old new : List ℕ) (edits : List Edit) (last i : ℕ) : Type 0 where
+  pub ends : last ≤ length old
+  pub made : Halfway old new (patched edits old) last
+  pub equal : (k : ℕ) → last ≤ k → k < i → get_or old k 0 ≡ get_or new k 0
+  pub quiet : (last ≡ 0) ⊎ ((k : ℕ) → last ≤ k → k < last + 15 → k < length old → get_or old k 0 ≡ get_or new k 0)
+  pub short : All (IsShortest old new) edits
+  pub size : log_size edits ≤ 29 + 2 * last
+  pub none : last ≡ 0 → log_size edits ≡ 0

@@ -1,0 +1,4 @@
+mod Cells
+mod Hashes
+mod Lists
+mod Moves

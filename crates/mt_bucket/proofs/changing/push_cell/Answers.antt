@@ -1,0 +1,9 @@
+use Rattle.std.proofs.Common.{◌+◌, ◌*◌, ℕ, subst, arith}
+use Rattle.mt_base.specs.Ranges.{Wrote}
+use Rattle.mt_bucket.proofs.Moves.{pushed}
+use Rattle.mt_bucket.proofs.changing.push_cell.Goals as goal
+
+pub returns : goal.returns
+returns c = pushed c.args.page.now c.put.new.page c.set_count.new.page c.args.bytes.now c.requires.whole c.requires.cell c.requires.room
+    (subst (λ (n : ℕ). Wrote (8 + 70 * n) c.args.bytes.now c.args.page.now c.put.new.page) c.count-count.ensures c.put.ensures)
+    c.set_count.ensures.rest (omega arith)

@@ -1,0 +1,27 @@
+-- A list of entries, and what is done to it.
+use Rattle.std.specs.Prelude.{ℕ, ◌==◌, ◌&&◌, Bool, cond, List, [], ◌∷◌, Option, Some, None, bytes_eq}
+use Rattle.mt_base.specs.declared.numbers.RecordName.{RecordName}
+
+-- a relation, a key, and the name of the record under it
+pub record Entry : Type 0 where
+  pub relation : ℕ
+  pub key : List ℕ
+  pub name : RecordName
+
+abbrev pub is_at : ℕ → List ℕ → Entry → Bool
+is_at r k e = (e.relation == r) && bytes_eq e.key k
+
+-- the name that the first entry of this relation and key gives
+abbrev pub look : ℕ → List ℕ → List Entry → Option RecordName
+look r k [] = None
+look r k (e ∷ es) = cond (is_at r k e) (Some e.name) (look r k es)
+
+-- the list whose first entry of this relation and key gives another name
+abbrev pub renamed : ℕ → List ℕ → RecordName → List Entry → List Entry
+renamed r k n [] = []
+renamed r k n (e ∷ es) = cond (is_at r k e) (record e { name = n } ∷ es) (e ∷ renamed r k n es)
+
+-- the list without the first entry of this relation and key
+abbrev pub without : ℕ → List ℕ → List Entry → List Entry
+without r k [] = []
+without r k (e ∷ es) = cond (is_at r k e) es (e ∷ without r k es)

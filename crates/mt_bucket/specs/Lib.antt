@@ -1,0 +1,4 @@
+pub mod Entries
+pub mod Hash
+pub mod Page
+pub mod Steps

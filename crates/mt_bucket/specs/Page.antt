@@ -1,0 +1,80 @@
+-- A bucket page is a list of entries.
+use Rattle.std.specs.Prelude.{ℕ, zero, suc, ◌≡◌, ◌≤◌, ◌<◌, ◌+◌, ◌*◌, Bool, true, false, List, [], ◌∷◌, length, take, drop, min}
+use Rattle.std.proofs.Math.ListN.{get_or}
+use Rattle.mt_base.specs.Ranges.{u16_at, part}
+use Rattle.mt_bucket.specs.Entries.{Entry, is_at}
+use Rattle.mt_bucket.specs.Hash.{hash, high}
+
+-- the depth, the count and the overflow page that a page's head names
+abbrev pub depth_of : List ℕ → ℕ
+depth_of page = get_or page 0 0
+
+abbrev pub count_of : List ℕ → ℕ
+count_of page = min (u16_at page 2) 58
+
+abbrev pub next_of : List ℕ → ℕ
+next_of page = u16_at page 4
+
+-- the 70 bytes from a place on, and the entry that they are
+abbrev pub cell : List ℕ → ℕ → List ℕ
+cell page at = part page at 70
+
+abbrev pub entry_of : List ℕ → Entry
+entry_of bytes = record {
+  relation = get_or bytes 0 0;
+  key = take (get_or bytes 1 0) (drop 2 bytes);
+  name = record { page = u16_at bytes 66; slot = u16_at bytes 68 };
+}
+
+-- so many cells, one behind the other
+abbrev pub entries_from : List ℕ → ℕ → ℕ → List Entry
+entries_from page at zero = []
+entries_from page at (suc n) = entry_of (cell page at) ∷ entries_from page (at + 70) n
+
+-- the page as a list, whatever its bytes are
+abbrev pub entries : List ℕ → List Entry
+entries page = entries_from page 8 (count_of page)
+
+-- the entry at place i is one of this relation and key
+abbrev pub holds : ℕ → List ℕ → List ℕ → ℕ → Bool
+holds r k page i = is_at r k (entry_of (cell page (8 + 70 * i)))
+
+-- the first entry of this relation and key is at place i
+pub record IsFirst (r : ℕ) (k page : List ℕ) (i : ℕ) : Type 0 where
+  pub within : i < count_of page
+  pub here : holds r k page i ≡ true
+  pub before : (j : ℕ) → j < i → holds r k page j ≡ false
+
+-- no entry is of this relation and key
+abbrev pub HasNone : ℕ → List ℕ → List ℕ → Type 0
+HasNone r k page = (j : ℕ) → j < count_of page → holds r k page j ≡ false
+
+-- the same depth and overflow page
+pub record KeepsHead (old new : List ℕ) : Type 0 where
+  pub size : length new ≡ length old
+  pub depth : depth_of new ≡ depth_of old
+  pub next : next_of new ≡ next_of old
+
+-- the entries whose hash has the bit, and those whose hash has not
+abbrev pub goes_over : ℕ → Entry → Bool
+goes_over bit e = high bit (hash e.key)
+
+-- ---- a bucket page, by its bytes
+
+-- a cell: its relation, key and page are of the schema, and the bytes behind the key are zero
+pub record IsCell (relations pages : ℕ) (page : List ℕ) (at : ℕ) : Type 0 where
+  pub relation : get_or page at 0 < relations
+  pub some : 1 ≤ get_or page (at + 1) 0
+  pub short : get_or page (at + 1) 0 ≤ 64
+  pub fill : (i : ℕ) → get_or page (at + 1) 0 ≤ i → i < 64 → get_or page (at + 2 + i) 0 ≡ 0
+  pub place : u16_at page (at + 66) < pages
+
+-- a bucket page of a schema of so many relations and pages
+pub record IsBucket (relations pages : ℕ) (page : List ℕ) : Type 0 where
+  pub length : length page ≡ 4096
+  pub shallow : depth_of page ≤ 9
+  pub first_zero : get_or page 1 0 ≡ 0
+  pub few : u16_at page 2 ≤ 58
+  pub next : next_of page < pages
+  pub zeros : u16_at page 6 ≡ 0
+  pub each : (i : ℕ) → i < u16_at page 2 → IsCell relations pages page (8 + 70 * i)

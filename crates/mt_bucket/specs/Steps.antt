@@ -1,0 +1,30 @@
+-- What single steps do to a page.
+use Rattle.std.specs.Prelude.{ℕ, ◌≡◌, ◌+◌, ◌*◌, ◌<◌, ◌≤◌, ◌++◌, ◌∷◌, [], Bool, cond, not, List, filter}
+use Rattle.mt_bucket.specs.Entries.{Entry}
+use Rattle.mt_bucket.specs.Page.{cell, count_of, entries, KeepsHead}
+
+-- an entry more, behind the others
+pub record Pushed (e : Entry) (old new : List ℕ) : Type 0 where
+  pub head : KeepsHead old new
+  pub counted : count_of new ≡ count_of old + 1
+  pub entries : entries new ≡ entries old ++ e ∷ []
+
+-- the cell at place i is gone, and those behind it are one place further up
+pub record Closed (i : ℕ) (old new : List ℕ) : Type 0 where
+  pub head : KeepsHead old new
+  pub counted : count_of old ≡ count_of new + 1
+  pub front : (j : ℕ) → j < i → cell new (8 + 70 * j) ≡ cell old (8 + 70 * j)
+  pub back : (j : ℕ) → i ≤ j → j < count_of new → cell new (8 + 70 * j) ≡ cell old (8 + 70 * (j + 1))
+
+-- an entry goes to the one page or to the other
+abbrev pub Sorted : Bool → Entry → List ℕ → List ℕ → List ℕ → List ℕ → Type 0
+Sorted over e page page2 to to2 = cond over ((page2 ≡ page) × Pushed e to to2) (Pushed e page page2 × (to2 ≡ to))
+
+-- the first entries of a page have been dealt out: these stay, and those go behind what was there
+pub record Dealt (over : Entry → Bool) (all : List Entry) (i : ℕ) (old page start to : List ℕ) : Type 0 where
+  pub head : KeepsHead old page
+  pub to_head : KeepsHead start to
+  pub few : count_of page ≤ i
+  pub to_few : count_of to ≤ count_of start + i
+  pub stay : entries page ≡ filter (λ e. not (over e)) all
+  pub go : entries to ≡ entries start ++ filter over all

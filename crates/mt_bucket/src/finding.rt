@@ -1,0 +1,63 @@
+// Looking for an entry.
+ghost use Rattle.std.specs.Prelude.{◌≡◌, ◌+◌, ◌*◌, ◌≤◌, ◌<◌, length, IfSome, IfNone};
+ghost use Rattle.mt_bucket.specs.Entries.{is_at, look};
+ghost use Rattle.mt_bucket.specs.Page.{cell, entry_of, entries, IsFirst, HasNone};
+
+use crate::heads::{CELL_BYTES, HEAD_BYTES, count};
+use mt_base::ranges::{part_of, u16_at};
+use mt_base::{PageNo, RecordName, RelNo};
+
+/// The name of the record under a relation and a key; `None` where the page has no entry of them.
+pub fn find(page: &[u8], relation: RelNo, key: &[u8]) -> Option<RecordName>
+    requires whole { length page.now ≡ 4096 }
+    requires short { length key.now ≤ 64 }
+    ensures { result ≡ look relation key.now (entries page.now) }
+{
+    match place_of(page, relation, key) {
+        Some(i) => Some(name_at(page, HEAD_BYTES + CELL_BYTES * i)),
+        None => None,
+    }
+}
+
+// The place of the first entry of a relation and a key.
+pub(crate) fn place_of(page: &[u8], relation: RelNo, key: &[u8]) -> Option<usize>
+    requires whole { length page.now ≡ 4096 }
+    requires short { length key.now ≤ 64 }
+    ensures found { IfSome result (λ i. IsFirst relation key.now page.now i) }
+    ensures none { IfNone result (HasNone relation key.now page.now) }
+{
+    for i in 0..count(page) {
+        if holds(page, HEAD_BYTES + CELL_BYTES * i, relation, key) {
+            return Some(i);
+        }
+    }
+    None
+}
+
+// Whether the cell at a place is of a relation and a key.
+fn holds(page: &[u8], at: usize, relation: RelNo, key: &[u8]) -> bool
+    requires whole { length page.now ≡ 4096 }
+    requires within { at + 70 ≤ 4096 }
+    requires short { length key.now ≤ 64 }
+    ensures { result ≡ is_at relation key.now (entry_of (cell page.now at)) }
+{
+    if u16::from(page[at]) != relation.get() {
+        return false;
+    }
+    if usize::from(page[at + 1]) != key.len() {
+        return false;
+    }
+    part_of(page, at + 2, key.len()) == key
+}
+
+// The name in the cell at a place.
+fn name_at(page: &[u8], at: usize) -> RecordName
+    requires whole { length page.now ≡ 4096 }
+    requires within { at + 70 ≤ 4096 }
+    ensures { result ≡ (entry_of (cell page.now at)).name }
+{
+    RecordName {
+        page: PageNo::new(u16_at(page, at + 66)),
+        slot: u16_at(page, at + 68),
+    }
+}

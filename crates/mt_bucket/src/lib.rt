@@ -1,0 +1,22 @@
+//! A bucket page of the index, in place on its 4,096 bytes: a head with the bucket's depth, the count of
+//! entries and the overflow page behind, and 58 cells of 70 bytes. Contracts see a page as the list of its
+//! entries, each a relation, a key and the name of the record under them, whatever its bytes are; each
+//! call is that list's operation. The hash by which a bucket splits is here too (Fagin 1979).
+//!
+//! Nothing is decoded: a find compares the cells where they lie.
+#![tactic(auto)]
+
+mod changing;
+mod checking;
+mod finding;
+mod hashing;
+mod heads;
+
+pub use changing::{partition, push, remove, set};
+pub use checking::check;
+pub use finding::find;
+pub use hashing::{has_bit, hash};
+pub use heads::{MAX_ENTRIES, count, depth, empty, next, set_depth, set_next};
+
+#[cfg(test)]
+mod tests;

@@ -114,6 +114,14 @@ IsRecord (OpDropped txn op) = IsTxn txn × IsOp op
 IsRecord (Commit txn) = IsTxn txn
 IsRecord (AbortEnd txn) = IsTxn txn
 
+-- the record is one of a page
+abbrev pub IsOfPage : Record → Type 0
+IsOfPage (Page txn op page image start old new) = Unit {0}
+IsOfPage (OpEnd txn op undoes done) = ⊥
+IsOfPage (OpDropped txn op) = ⊥
+IsOfPage (Commit txn) = ⊥
+IsOfPage (AbortEnd txn) = ⊥
+
 -- the records may stand in one batch: its body's length has four bytes
 pub record IsBatchable (records : List Record) : Type 0 where
   pub each : AllByRecursion IsRecord records

@@ -1,6 +1,6 @@
 // The records of the log.
 ghost use Rattle.std.specs.Prelude.{◌≡◌, ◌↔◌, IsTrue, IfOk};
-ghost use Rattle.mt_frame.specs.Grammar.{IsRecord, IsOperation};
+ghost use Rattle.mt_frame.specs.Grammar.{IsRecord, IsOfPage, IsOperation};
 ghost use Rattle.mt_frame.specs.History.{txn_of};
 ghost use Rattle.mt_frame.specs.Lengths.{record_length, operation_length};
 
@@ -233,40 +233,52 @@ fn image_clone(image: &Option<Bytes>) -> Result<Option<Bytes>, AllocError>
     }
 }
 
+// Whether the two page records are the same.
+fn same_page(left: &Record, right: &Record) -> bool
+    requires left { IsOfPage left.now }
+    requires right { IsOfPage right.now }
+    ensures { IsTrue result ↔ (left.now ≡ right.now) }
+{
+    match (left, right) {
+        (
+            Record::Page {
+                txn,
+                op,
+                page,
+                image,
+                start,
+                old,
+                new,
+            },
+            Record::Page {
+                txn: other_txn,
+                op: other_op,
+                page: other_page,
+                image: other_image,
+                start: other_start,
+                old: other_old,
+                new: other_new,
+            },
+        ) => {
+            *txn == *other_txn
+                && *op == *other_op
+                && *page == *other_page
+                && *start == *other_start
+                && same_image(image, other_image)
+                && same_bytes(old, other_old)
+                && same_bytes(new, other_new)
+        }
+        _ => false,
+    }
+}
+
 impl Record {
     /// Whether the two are the same record.
     pub fn equals(&self, other: &Record) -> bool
         ensures { IsTrue result ↔ (self.now ≡ other.now) }
     {
         match (self, other) {
-            (
-                Record::Page {
-                    txn,
-                    op,
-                    page,
-                    image,
-                    start,
-                    old,
-                    new,
-                },
-                Record::Page {
-                    txn: other_txn,
-                    op: other_op,
-                    page: other_page,
-                    image: other_image,
-                    start: other_start,
-                    old: other_old,
-                    new: other_new,
-                },
-            ) => {
-                *txn == *other_txn
-                    && *op == *other_op
-                    && *page == *other_page
-                    && *start == *other_start
-                    && same_image(image, other_image)
-                    && same_bytes(old, other_old)
-                    && same_bytes(new, other_new)
-            }
+            (Record::Page { .. }, Record::Page { .. }) => same_page(self, other),
             (
                 Record::OpEnd {
                     txn,

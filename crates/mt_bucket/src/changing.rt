@@ -1,8 +1,8 @@
 // The operations of a bucket page.
-ghost use Rattle.std.specs.Prelude.{◌≡◌, ◌+◌, ◌-◌, ◌*◌, ◌≤◌, ◌<◌, ◌++◌, ◌∷◌, [], length, true, false, not, Some, None, List, filter};
+ghost use Rattle.std.specs.Prelude.{◌≡◌, ◌+◌, ◌-◌, ◌*◌, ◌≤◌, ◌<◌, ◌++◌, ◌∷◌, [], length, true, false, not, Some, None, filter};
 ghost use Rattle.std.specs.Bool.{OnTrue, OnFalse};
-ghost use Rattle.mt_base.specs.Ranges.{u16_at as number_at, Torn, Wrote};
-ghost use Rattle.mt_bucket.specs.Entries.{Entry, look, renamed, without};
+ghost use Rattle.mt_base.specs.Ranges.{u16_at as number_at, Torn};
+ghost use Rattle.mt_bucket.specs.Entries.{look, renamed, without};
 ghost use Rattle.mt_bucket.specs.Page.{entry_of, entries, count_of, KeepsHead, goes_over};
 ghost use Rattle.mt_bucket.specs.Steps.{Pushed, Closed, Sorted};
 

@@ -1,7 +1,7 @@
 // The head of a bucket page.
-ghost use Rattle.std.specs.Prelude.{◌≡◌, ◌+◌, ◌*◌, ◌≤◌, ◌<◌, [], length};
+ghost use Rattle.std.specs.Prelude.{◌≡◌, ◌≤◌, [], length};
 ghost use Rattle.mt_base.specs.Ranges.{u16_at as number_at, Torn};
-ghost use Rattle.mt_bucket.specs.Page.{depth_of, count_of, next_of, entries, KeepsHead};
+ghost use Rattle.mt_bucket.specs.Page.{depth_of, count_of, next_of, entries};
 
 use mt_base::PageNo;
 use mt_base::ranges::{put, put_u16, u16_at};

@@ -1,6 +1,6 @@
 // A reading of any bytes: whether they are a page of records.
-ghost use Rattle.std.specs.Prelude.{◌≡◌, ◌≢◌, ◌+◌, ◌*◌, ◌<◌, ◌≤◌, ℕ, length, get_or, MatchBool};
-ghost use Rattle.mt_slots.specs.Page.{IsPage, IsRow, IsSlot, IsFree, Fits, count, offset, size, row_size, row_at, live_bytes};
+ghost use Rattle.std.specs.Prelude.{◌≡◌, ◌+◌, ◌*◌, ◌<◌, ◌≤◌, ℕ, length, get_or, MatchBool};
+ghost use Rattle.mt_slots.specs.Page.{IsPage, IsRow, IsSlot, IsFree, Fits, count, row_size, row_at};
 ghost use Rattle.mt_slots.specs.Parts.{IsGood};
 
 use crate::heads::{PAGE_HEAD_BYTES, SLOT_BYTES, offset_of, size_of, slot_count};

@@ -1,5 +1,5 @@
 // Packing the records of a page at its end.
-ghost use Rattle.std.specs.Prelude.{◌≡◌, ◌≢◌, ◌+◌, ◌<◌, ◌≤◌, ℕ};
+ghost use Rattle.std.specs.Prelude.{◌≡◌, ◌≢◌, ◌+◌, ◌<◌, ℕ};
 ghost use Rattle.mt_slots.specs.Page.{IsShaped, count, size};
 ghost use Rattle.mt_slots.specs.Parts.{IsPlace, Compacted, Packed};
 

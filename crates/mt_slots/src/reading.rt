@@ -1,13 +1,12 @@
 // What a page holds.
-ghost use Rattle.std.specs.Prelude.{◌≡◌, ◌≢◌, ◌+◌, ◌*◌, ◌<◌, ◌≤◌, length, Some, None, IfSome, IfNone, ℕ};
-ghost use Rattle.mt_base.specs.Ranges.{part};
-ghost use Rattle.mt_slots.specs.Page.{IsShaped, count, offset, size, slot as held, row_size, row_at, live_slots, room_of};
+ghost use Rattle.std.specs.Prelude.{◌≡◌, ◌+◌, ◌*◌, ◌<◌, ◌≤◌, length, Some, None, IfSome, IfNone};
+ghost use Rattle.mt_slots.specs.Page.{IsShaped, count, slot as held, row_size, row_at, live_slots, room_of};
 ghost use Rattle.mt_slots.specs.Parts.{Surveyed};
 
 use crate::heads::{PAGE_HEAD_BYTES, SLOT_BYTES, offset_of, size_of, slot_count};
 use mt_base::RelNo;
 use mt_base::limits::PAGE_BYTES;
-use mt_base::ranges::{part_of, put, u16_at};
+use mt_base::ranges::{part_of, u16_at};
 
 /// The record in a slot, lent from its page.
 #[derive(Clone, Copy, Debug)]

@@ -42,7 +42,9 @@ struct Reading {
 
 impl Script {
     /// The lines in order.
-    pub fn lines(&self) -> &[Line] {
+    pub fn lines(&self) -> &[Line]
+        ensures { result.now ≡ self.now.lines.items }
+    {
         self.lines.as_slice()
     }
 }

@@ -102,7 +102,10 @@ fn write_refusal<W: Write>(writer: &mut W, refusal: Refusal) -> Result<(), Unhea
         Refusal::BadFormat(place) | Refusal::BadLine(place) => {
             let mut digits = Buffer::new();
             let place = digits.format(place).as_bytes();
-            put_all(writer, &[b"refused ", number, b" ", name, b" ", place, b"\n"])
+            put_all(
+                writer,
+                &[b"refused ", number, b" ", name, b" ", place, b"\n"],
+            )
         }
         _ => put_all(writer, &[b"refused ", number, b" ", name, b"\n"]),
     }

@@ -23,4 +23,4 @@ returns-in-BadFormat-clause-front g c =
     let name : c.as_bytes-name.result.now ≡ name_of c.args.refusal = search rules in
     let place : place_of c.args.refusal ≡ 32 ∷ c.as_bytes-place.result.now = search rules in
     subst (λ t. OnErr c.put_all-in-BadFormat.result (AppendsFront (g.W.Write.contents c.args.writer.now) (g.W.Write.contents c.put_all-in-BadFormat.new.writer) t))
-        (placed_line c.args.refusal _ _ _ number name place) c.put_all-in-BadFormat.ensures.front
+    (placed_line c.args.refusal _ _ _ number name place) c.put_all-in-BadFormat.ensures.front

@@ -18,9 +18,9 @@ pub returns-in-Some-clause-cut : goal.returns-in-Some-clause-cut
 returns-in-Some-clause-cut g c =
     let ran = rw c.in-Some.is at (rw c.lines.ensures at c.in_ok-txn.ensures.ran) in
     IfErr-weaker c.end_live.result
-        (IsCutAtEnd (state_of c.run_lines.new.kernel) c.in-Some.txn (g.W.Write.contents c.run_lines.new.writer) (g.W.Write.contents c.end_live.new.writer) (state_of c.end_live.new.kernel))
-        (IsCutRun c.args.session (state_of c.args.kernel.now) c.args.script.now.lines.items (g.W.Write.contents c.args.writer.now) (g.W.Write.contents c.end_live.new.writer) (state_of c.end_live.new.kernel))
-        (λ why cut. end_cut _ _ _ _ _ c.in-Some.txn _ _ _ why ran cut) c.end_live.ensures.cut
+    (IsCutAtEnd (state_of c.run_lines.new.kernel) c.in-Some.txn (g.W.Write.contents c.run_lines.new.writer) (g.W.Write.contents c.end_live.new.writer) (state_of c.end_live.new.kernel))
+    (IsCutRun c.args.session (state_of c.args.kernel.now) c.args.script.now.lines.items (g.W.Write.contents c.args.writer.now) (g.W.Write.contents c.end_live.new.writer) (state_of c.end_live.new.kernel))
+    (λ why cut. end_cut _ _ _ _ _ c.in-Some.txn _ _ _ why ran cut) c.end_live.ensures.cut
 
 pub returns-in-None-clause-ran : goal.returns-in-None-clause-ran
 returns-in-None-clause-ran g c = closed_run _ _ _ _ _ _ (rw c.in-None.is at (rw c.lines.ensures at c.in_ok-txn.ensures.ran))

@@ -9,7 +9,7 @@ use Rattle.mt_cli.specs.declared.answers.Answer.{Answer}
 use Rattle.mt_cli.specs.declared.answers.Answer.TheVariants.{Aborted}
 use Rattle.mt_cli.specs.declared.running.RunFault.{RunFault}
 use Rattle.mt_cli.specs.Answers.{answer_text, transcript_text}
-use Rattle.mt_cli.specs.Runs.{Runs, starts, goes_on, IsTold, IsEnded, IsCut, IsCutAtEnd, IsCutRun, at_line, at_end, HasRunLines, HasRun, Closes, line_of}
+use Rattle.mt_cli.specs.Runs.{Runs, starts, goes_on, IsTold, IsEnded, IsCut, IsCutAtEnd, IsCutRun, at_line, at_end, HasRunLines, HasRun, line_of}
 
 pub text_push : (answers : List Answer) (answer : Answer) → transcript_text (answers ++ answer ∷ []) ≡ transcript_text answers ++ line_of answer
 unfolding transcript_text

@@ -1,7 +1,6 @@
 -- A script run on a kernel, line by line.
 use Rattle.std.specs.Prelude.{ℕ, ◌≡◌, ◌≢◌, ◌+◌, ◌⊎◌, List, [], ◌∷◌, ◌++◌, length, Option, Some, None, Contains}
 use Rattle.std.specs.Io.KnownBytes.{Appends}
-use Rattle.mt_base.specs.Refusal.{text_of}
 use Rattle.mt_base.specs.declared.refusal.Refusal.{Refusal}
 use Rattle.mt_base.specs.declared.refusal.Refusal.TheVariants as refusal
 use Rattle.mt_model.specs.declared.operations.Op.{Op}

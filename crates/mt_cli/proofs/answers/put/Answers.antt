@@ -1,5 +1,4 @@
-use Rattle.std.proofs.Common.{rules, arith, ◌≡◌, ◌≤◌, ◌+◌, ◌-◌, length, take, drop, refl}
-use Rattle.std.specs.Io.KnownBytes.{Appends, Keeps}
+use Rattle.std.proofs.Common.{◌≤◌, ◌+◌, ◌-◌, length, take, drop}
 use Rattle.mt_cli.proofs.TextLemmas.{appends_more, appends_kept, front_to, left_over}
 use Rattle.mt_cli.proofs.answers.put.Goals as goal
 use Rattle.mt_cli.proofs.answers.put.Goals.{in-Ok+else-count-eq0, in-Err+else-ne}

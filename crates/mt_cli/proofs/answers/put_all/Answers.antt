@@ -1,6 +1,5 @@
-use Rattle.std.proofs.Common.{arith, suc, ◌≡◌, ◌+◌, ◌++◌, ◌<◌, length, take, drop, get_or, sym, subst, add-one}
+use Rattle.std.proofs.Common.{arith, suc, ◌<◌, length, take, drop, sym, subst, add-one}
 use Rattle.std.proofs.lemmas.Result.{err_from_is_err_and}
-use Rattle.std.specs.Io.KnownBytes.{Appends}
 use Rattle.std.proofs.KnownBytes.{Appends-trans}
 use Rattle.mt_cli.specs.Answers.{AppendsFront}
 use Rattle.mt_cli.proofs.TextLemmas.{joined, joined_more, joined_about, front_then}

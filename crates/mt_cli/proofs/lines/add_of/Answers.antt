@@ -1,4 +1,4 @@
-use Rattle.std.proofs.Common.{rules, ◌≢◌, ◌∙◌, sym, ℕ, ℤ}
+use Rattle.std.proofs.Common.{◌≢◌, ℕ, ℤ}
 use Rattle.std.specs.Fmt.{decimal}
 use Rattle.mt_cli.specs.Lines.{IsPlace, SpellsStep}
 use Rattle.mt_cli.proofs.LineLemmas.{no_add, add_spaced, add_cut}

@@ -1,4 +1,4 @@
-use Rattle.std.proofs.Common.{rules, arith}
+use Rattle.std.proofs.Common.{arith}
 use Rattle.std.proofs.lemmas.Int.{ints}
 use Rattle.mt_cli.proofs.LineLemmas.{size_within}
 use Rattle.mt_cli.proofs.lines.negated.Goals as goal

@@ -1,4 +1,4 @@
-use Rattle.std.proofs.Common.{rules, ◌≢◌, ◌∙◌, sym, ℕ}
+use Rattle.std.proofs.Common.{◌≢◌, ℕ}
 use Rattle.std.specs.Fmt.{decimal}
 use Rattle.mt_cli.specs.Lines.{IsPlace, IsWord, IsText}
 use Rattle.mt_cli.proofs.LineLemmas.{row_spaced, row_unspaced, row_cut_twice, lacks}

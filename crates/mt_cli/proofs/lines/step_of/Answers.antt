@@ -1,4 +1,4 @@
-use Rattle.std.proofs.Common.{rules, arith, ◌≡◌, ◌≢◌, ◌-◌, ◌<◌, ◌^◌, ◌∷◌, ℕ, length, get_or, take, drop, subst}
+use Rattle.std.proofs.Common.{arith, ◌≡◌, ◌≢◌, ◌-◌, ◌<◌, ◌^◌, ◌∷◌, ℕ, length, get_or, take, drop, subst}
 use Rattle.std.specs.Fmt.{decimal}
 use Rattle.std.proofs.lemmas.Grind.{common_steps}
 use Rattle.mt_cli.specs.Lines.{SpellsStep}

@@ -1,4 +1,4 @@
-use Rattle.std.proofs.Common.{rules, arith, ◌≡◌, ◌≢◌, ◌≤◌, [], length, sym, subst}
+use Rattle.std.proofs.Common.{rules, arith, ◌≢◌, ◌≤◌, [], length, sym, subst}
 use Rattle.std.proofs.lemmas.Grind.{common_steps}
 use Rattle.mt_cli.specs.Scripts.{IsRefusedFor}
 use Rattle.mt_cli.proofs.ScriptLemmas.{unended}

@@ -1,4 +1,4 @@
-use Rattle.std.proofs.Common.{rules, arith, ◌≡◌, ◌≢◌, ◌≤◌, ◌∷◌, ◌++◌, [], length, sym, subst}
+use Rattle.std.proofs.Common.{rules, ◌≡◌, ◌≤◌, ◌∷◌, ◌++◌, length, sym, subst}
 use Rattle.mt_cli.specs.declared.lines.Line.{Line}
 use Rattle.mt_cli.specs.Lines.{Spells}
 use Rattle.mt_cli.specs.Scripts.{IsRefusedFor}

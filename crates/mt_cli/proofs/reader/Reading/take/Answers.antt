@@ -1,4 +1,4 @@
-use Rattle.std.proofs.Common.{rules, arith, ◌≡◌, ◌≢◌, ◌≤◌, ◌∷◌, ◌++◌, length, sym, subst}
+use Rattle.std.proofs.Common.{arith, ◌≡◌, ◌≢◌, ◌≤◌, ◌∷◌, ◌++◌, length, sym, subst}
 use Rattle.mt_cli.specs.Scripts.{IsRefusedFor}
 use Rattle.mt_cli.proofs.ScriptLemmas.{too_many, too_long}
 use Rattle.mt_cli.proofs.reader.Reading.take.Goals as goal

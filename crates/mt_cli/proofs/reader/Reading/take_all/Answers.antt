@@ -1,6 +1,6 @@
 use Rattle.std.proofs.Common.{rules, arith, suc, ◌≡◌, [], ◌∷◌, ◌++◌, ◌+◌, ◌<◌, length, take, drop, get_or, ap, sym, subst, ◌∙◌}
 use Rattle.std.proofs.lemmas.List.{append_assoc}
-use Rattle.std.proofs.Math.Seq.{take-suc, take-length, drop-cons}
+use Rattle.std.proofs.Math.Seq.{take-suc, take-length}
 use Rattle.std.proofs.lemmas.Result.{err_from_is_err_and}
 use Rattle.mt_cli.specs.Scripts.{IsRefusedFor}
 use Rattle.mt_cli.proofs.ScriptLemmas.{bytes_about}

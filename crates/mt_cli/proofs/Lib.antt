@@ -1,1 +1,4 @@
+mod LineLemmas
+mod RunLemmas
 mod ScriptLemmas
+mod TextLemmas

@@ -1,10 +1,14 @@
 -- The lines of a script, as bytes.
-use Rattle.std.specs.Prelude.{ℕ, ℤ, ◌≡◌, ◌≤◌, ◌<◌, ◌^◌, ◌≤ℤ◌, pos, neg_ℤ, List, ◌∷◌, ◌++◌, All, length, codes, ⊤}
+use Rattle.std.specs.Prelude.{ℕ, ℤ, ◌≡◌, ◌≢◌, ◌≤◌, ◌<◌, ◌^◌, ◌≤ℤ◌, pos, neg_ℤ, List, ◌∷◌, ◌++◌, All, Option, MatchOption, length, codes, ⊤}
 use Rattle.std.specs.Fmt.{decimal, signed_decimal}
 use Rattle.mt_model.specs.declared.operations.Op.{Op}
 use Rattle.mt_model.specs.declared.operations.Op.TheVariants.{Get, Insert, Update, Delete, Add, Read}
 use Rattle.mt_cli.specs.declared.lines.Line.{Line}
 use Rattle.mt_cli.specs.declared.lines.Line.TheVariants.{Begin, Call, Commit, Abort}
+
+-- bytes with no space among them
+abbrev pub IsUnspaced : List ℕ → Type 0
+IsUnspaced bytes = All (λ b. b ≢ 32) bytes
 
 -- a key's bytes: one or more, graphic
 abbrev pub IsWord : List ℕ → Type 0
@@ -21,6 +25,18 @@ IsPlace n = n < 2 ^ 16
 -- a number of 64 bits with its sign
 abbrev pub IsWide : ℤ → Type 0
 IsWide n = (neg_ℤ (pos 9223372036854775808) ≤ℤ n) × (n ≤ℤ pos 9223372036854775807)
+
+-- the bytes spell a step of a counter
+abbrev pub SpellsStep : List ℕ → ℤ → Type 0
+SpellsStep bytes n = (bytes ≡ signed_decimal n) × IsWide n
+
+-- a relation and a key
+abbrev pub SpellsKey : List ℕ → ℕ → List ℕ → Type 0
+SpellsKey bytes r k = (bytes ≡ decimal r ++ 32 ∷ k) × IsPlace r × IsWord k
+
+-- and a value behind them
+abbrev pub SpellsRow : List ℕ → ℕ → List ℕ → List ℕ → Type 0
+SpellsRow bytes r k v = (bytes ≡ decimal r ++ 32 ∷ k ++ 32 ∷ v) × IsPlace r × IsWord k × IsText v
 
 -- how an operation is spelled
 abbrev pub op_text : Op → List ℕ
@@ -40,6 +56,14 @@ IsSpelled (Delete r k) = IsPlace r × IsWord k
 IsSpelled (Add c n) = IsPlace c × IsWide n
 IsSpelled (Read c) = IsPlace c
 
+-- the bytes spell the operation
+abbrev pub SpellsOp : List ℕ → Op → Type 0
+SpellsOp bytes op = (bytes ≡ op_text op) × IsSpelled op
+
+-- an operation that the bytes spell, or none where they spell none
+abbrev pub ReadsOp : List ℕ → Option Op → Type 0
+ReadsOp bytes o = MatchOption o ((op : Op) → ¬ SpellsOp bytes op) (SpellsOp bytes)
+
 -- how a line is spelled, without its end
 abbrev pub line_text : Line → List ℕ
 line_text Begin = codes "begin"
@@ -55,3 +79,7 @@ IsInGrammar _ = ⊤
 -- the bytes spell the line
 abbrev pub Spells : List ℕ → Line → Type 0
 Spells bytes line = (bytes ≡ line_text line) × IsInGrammar line
+
+-- a line that the bytes spell, or none where they spell none
+abbrev pub ReadsLine : List ℕ → Option Line → Type 0
+ReadsLine bytes o = MatchOption o ((line : Line) → ¬ Spells bytes line) (Spells bytes)

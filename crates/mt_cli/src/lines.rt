@@ -1,8 +1,7 @@
 // The lines of a script, each read from its bytes.
-ghost use Rattle.std.specs.Prelude.{◌≡◌, ◌≢◌, ℕ, ◌^◌, ◌<◌, ◌≤◌, ◌∷◌, ◌++◌, ◌↔◌, All, IfOk, IfSome, IsTrue, MatchOption, length, codes};
+ghost use Rattle.std.specs.Prelude.{◌≡◌, ◌≢◌, ℕ, ℤ, List, ◌^◌, ◌<◌, ◌≤◌, ◌∷◌, ◌++◌, ◌↔◌, All, IfOk, IfSome, IfNone, IsTrue, MatchOption, length, codes};
 ghost use Rattle.std.specs.Fmt.{decimal, signed_decimal};
-ghost use Rattle.mt_cli.specs.Lines.{IsWord, IsText, IsPlace, IsWide, IsSpelled, Spells, op_text};
-ghost use Rattle.mt_model.specs.declared.operations.Op.{Op};
+ghost use Rattle.mt_cli.specs.Lines.{IsUnspaced, IsWord, IsText, IsPlace, IsWide, SpellsStep, SpellsKey, SpellsRow, ReadsOp, ReadsLine};
 
 use mt_base::{Bytes, CtrNo, RelNo};
 use mt_model::Op;
@@ -35,7 +34,8 @@ pub enum Line {
 
 /// What stands before the first space, and what stands behind it; `None` where there is no space.
 fn split_at_space(bytes: &[u8]) -> Option<(&[u8], &[u8])>
-    ensures { IfSome result (λ p. bytes.now ≡ p.0.now ++ 32 ∷ p.1.now) }
+    ensures found { IfSome result (λ p. (bytes.now ≡ p.0.now ++ 32 ∷ p.1.now) × IsUnspaced p.0.now) }
+    ensures none { IfNone result (IsUnspaced bytes.now) }
 {
     for (place, byte) in bytes.iter().enumerate() {
         if *byte == b' ' {
@@ -77,7 +77,7 @@ fn place_of(alloc: Global, word: &[u8]) -> Result<Option<u16>, AllocError>
 /// The step that a word spells: a number that fits 64 bits with its sign, `-` before a negative one
 /// only.
 fn step_of(alloc: Global, word: &[u8]) -> Result<Option<i64>, AllocError>
-    ensures { IfOk result (λ o. IfSome o (λ n. word.now ≡ signed_decimal n)) }
+    ensures { IfOk result (λ o. MatchOption o ((n : ℤ) → ¬ SpellsStep word.now n) (SpellsStep word.now)) }
 {
     match word {
         [b'-', size @ ..] => match number_of(alloc, size)? {
@@ -93,7 +93,7 @@ fn step_of(alloc: Global, word: &[u8]) -> Result<Option<i64>, AllocError>
 
 /// The negative number of this size, where there is one in 64 bits.
 fn negated(size: u64) -> Option<i64>
-    ensures { IfSome result (λ n. 45 ∷ decimal size ≡ signed_decimal n) }
+    ensures { MatchOption result ((n : ℤ) → ¬ SpellsStep (45 ∷ decimal size) n) (SpellsStep (45 ∷ decimal size)) }
 {
     if size == 0 {
         return None;
@@ -118,9 +118,16 @@ fn is_text(bytes: &[u8]) -> bool
     bytes.iter().all(|byte| 0x20 <= *byte && *byte <= 0x7E)
 }
 
+/// Whether these are the bytes of this text.
+fn is_text_of(bytes: &[u8], text: &str) -> bool
+    ensures { IsTrue result ↔ (bytes.now ≡ text.now) }
+{
+    bytes == text.as_bytes()
+}
+
 /// A relation and a key: `R K`.
 fn key_of(alloc: Global, words: &[u8]) -> Result<Option<(RelNo, Bytes)>, AllocError>
-    ensures { IfOk result (λ o. IfSome o (λ p. (words.now ≡ decimal p.0 ++ 32 ∷ p.1) × IsPlace p.0 × IsWord p.1)) }
+    ensures { IfOk result (λ o. MatchOption o ((r : ℕ) (k : List ℕ) → ¬ SpellsKey words.now r k) (λ p. SpellsKey words.now p.0 p.1)) }
 {
     let Some((number, word)) = split_at_space(words) else {
         return Ok(None);
@@ -137,7 +144,7 @@ fn key_of(alloc: Global, words: &[u8]) -> Result<Option<(RelNo, Bytes)>, AllocEr
 
 /// A relation, a key and a value: `R K V`.
 fn row_of(alloc: Global, words: &[u8]) -> Result<Option<(RelNo, Bytes, Bytes)>, AllocError>
-    ensures { IfOk result (λ o. IfSome o (λ p. (words.now ≡ decimal p.0 ++ 32 ∷ p.1 ++ 32 ∷ p.2) × IsPlace p.0 × IsWord p.1 × IsText p.2)) }
+    ensures { IfOk result (λ o. MatchOption o ((r : ℕ) (k v : List ℕ) → ¬ SpellsRow words.now r k v) (λ p. SpellsRow words.now p.0 p.1 p.2)) }
 {
     let Some((number, rest)) = split_at_space(words) else {
         return Ok(None);
@@ -158,7 +165,7 @@ fn row_of(alloc: Global, words: &[u8]) -> Result<Option<(RelNo, Bytes, Bytes)>, 
 
 /// `get R K` and `delete R K`, of the words behind the first.
 fn get_of(alloc: Global, words: &[u8]) -> Result<Option<Op>, AllocError>
-    ensures { IfOk result (λ o. IfSome o (λ op. (codes "get" ++ 32 ∷ words.now ≡ op_text op) × IsSpelled op)) }
+    ensures { IfOk result (ReadsOp (codes "get" ++ 32 ∷ words.now)) }
 {
     let Some((relation, key)) = key_of(alloc, words)? else {
         return Ok(None);
@@ -167,7 +174,7 @@ fn get_of(alloc: Global, words: &[u8]) -> Result<Option<Op>, AllocError>
 }
 
 fn delete_of(alloc: Global, words: &[u8]) -> Result<Option<Op>, AllocError>
-    ensures { IfOk result (λ o. IfSome o (λ op. (codes "delete" ++ 32 ∷ words.now ≡ op_text op) × IsSpelled op)) }
+    ensures { IfOk result (ReadsOp (codes "delete" ++ 32 ∷ words.now)) }
 {
     let Some((relation, key)) = key_of(alloc, words)? else {
         return Ok(None);
@@ -176,7 +183,7 @@ fn delete_of(alloc: Global, words: &[u8]) -> Result<Option<Op>, AllocError>
 }
 
 fn insert_of(alloc: Global, words: &[u8]) -> Result<Option<Op>, AllocError>
-    ensures { IfOk result (λ o. IfSome o (λ op. (codes "insert" ++ 32 ∷ words.now ≡ op_text op) × IsSpelled op)) }
+    ensures { IfOk result (ReadsOp (codes "insert" ++ 32 ∷ words.now)) }
 {
     let Some((relation, key, value)) = row_of(alloc, words)? else {
         return Ok(None);
@@ -185,7 +192,7 @@ fn insert_of(alloc: Global, words: &[u8]) -> Result<Option<Op>, AllocError>
 }
 
 fn update_of(alloc: Global, words: &[u8]) -> Result<Option<Op>, AllocError>
-    ensures { IfOk result (λ o. IfSome o (λ op. (codes "update" ++ 32 ∷ words.now ≡ op_text op) × IsSpelled op)) }
+    ensures { IfOk result (ReadsOp (codes "update" ++ 32 ∷ words.now)) }
 {
     let Some((relation, key, value)) = row_of(alloc, words)? else {
         return Ok(None);
@@ -194,7 +201,7 @@ fn update_of(alloc: Global, words: &[u8]) -> Result<Option<Op>, AllocError>
 }
 
 fn add_of(alloc: Global, words: &[u8]) -> Result<Option<Op>, AllocError>
-    ensures { IfOk result (λ o. IfSome o (λ op. (codes "add" ++ 32 ∷ words.now ≡ op_text op) × IsSpelled op)) }
+    ensures { IfOk result (ReadsOp (codes "add" ++ 32 ∷ words.now)) }
 {
     let Some((word, rest)) = split_at_space(words) else {
         return Ok(None);
@@ -209,7 +216,7 @@ fn add_of(alloc: Global, words: &[u8]) -> Result<Option<Op>, AllocError>
 }
 
 fn read_of(alloc: Global, words: &[u8]) -> Result<Option<Op>, AllocError>
-    ensures { IfOk result (λ o. IfSome o (λ op. (codes "read" ++ 32 ∷ words.now ≡ op_text op) × IsSpelled op)) }
+    ensures { IfOk result (ReadsOp (codes "read" ++ 32 ∷ words.now)) }
 {
     match place_of(alloc, words)? {
         Some(counter) => Ok(Some(Op::Read(CtrNo::new(counter)))),
@@ -219,23 +226,46 @@ fn read_of(alloc: Global, words: &[u8]) -> Result<Option<Op>, AllocError>
 
 /// The operation of a line, of its first word and the words behind it.
 fn op_of(alloc: Global, word: &[u8], words: &[u8]) -> Result<Option<Op>, AllocError>
-    ensures { IfOk result (λ o. IfSome o (λ op. (word.now ++ 32 ∷ words.now ≡ op_text op) × IsSpelled op)) }
+    requires { IsUnspaced word.now }
+    ensures { IfOk result (ReadsOp (word.now ++ 32 ∷ words.now)) }
 {
-    match word {
-        b"get" => get_of(alloc, words),
-        b"insert" => insert_of(alloc, words),
-        b"update" => update_of(alloc, words),
-        b"delete" => delete_of(alloc, words),
-        b"add" => add_of(alloc, words),
-        b"read" => read_of(alloc, words),
-        _ => Ok(None),
+    if is_text_of(word, "get") {
+        get_of(alloc, words)
+    } else if is_text_of(word, "insert") {
+        insert_of(alloc, words)
+    } else if is_text_of(word, "update") {
+        update_of(alloc, words)
+    } else if is_text_of(word, "delete") {
+        delete_of(alloc, words)
+    } else if is_text_of(word, "add") {
+        add_of(alloc, words)
+    } else if is_text_of(word, "read") {
+        read_of(alloc, words)
+    } else {
+        Ok(None)
+    }
+}
+
+/// The line of one word.
+fn bare_line_of(word: &[u8]) -> Option<Line>
+    requires { IsUnspaced word.now }
+    ensures { ReadsLine word.now result }
+{
+    if is_text_of(word, "begin") {
+        Some(Line::Begin)
+    } else if is_text_of(word, "commit") {
+        Some(Line::Commit)
+    } else if is_text_of(word, "abort") {
+        Some(Line::Abort)
+    } else {
+        None
     }
 }
 
 /// The line that these bytes spell, without its end; `None` where they are not in the grammar. The
 /// only error is want of memory.
 pub fn line_of(alloc: Global, bytes: &[u8]) -> Result<Option<Line>, AllocError>
-    ensures { IfOk result (λ o. IfSome o (Spells bytes.now)) }
+    ensures { IfOk result (ReadsLine bytes.now) }
 {
     if let Some((word, words)) = split_at_space(bytes) {
         return match op_of(alloc, word, words)? {
@@ -243,10 +273,5 @@ pub fn line_of(alloc: Global, bytes: &[u8]) -> Result<Option<Line>, AllocError>
             None => Ok(None),
         };
     }
-    match bytes {
-        b"begin" => Ok(Some(Line::Begin)),
-        b"commit" => Ok(Some(Line::Commit)),
-        b"abort" => Ok(Some(Line::Abort)),
-        _ => Ok(None),
-    }
+    Ok(bare_line_of(bytes))
 }

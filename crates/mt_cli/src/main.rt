@@ -1,6 +1,7 @@
 //! The program `mtk`: scripts of transactions, and the command line.
 #![tactic(auto)]
 
+mod answers;
 mod command;
 mod folder;
 mod lines;

@@ -10,7 +10,7 @@ use crate::reader::{Script, ScriptFault, read_script};
 use crate::running::{RunFault, run_alone};
 use mt_base::Refusal;
 use mt_base::limits::device_bytes;
-use mt_disk::MemDevice;
+use mt_disk::{Device, MemDevice};
 use mt_log::{AreaPlace, begin_area};
 use mt_model::Base;
 use mt_txn::Kernel;
@@ -90,7 +90,7 @@ fn first_base(alloc: Global) -> Result<Base, Refusal>
 }
 
 /// A device in memory of the size that `try` runs on, all of its bytes 0.
-fn first_device(alloc: Global) -> Result<MemDevice, Refusal>
+pub(crate) fn first_device(alloc: Global) -> Result<MemDevice, Refusal>
     ensures { IfOk result (λ device. length (content device) ≡ 8658944) }
 {
     let len = device_bytes(PAGES, AREA_MIB) as usize;
@@ -98,13 +98,23 @@ fn first_device(alloc: Global) -> Result<MemDevice, Refusal>
     Ok(MemDevice::new(alloc, bytes, WRITES, WRITTEN_BYTES)?)
 }
 
-/// The kernel that `try` runs on: over a device in memory, with nothing committed.
-fn first_kernel(alloc: Global) -> Result<Kernel<MemDevice>, Refusal> {
+/// A kernel with the schema that `try` has, over a device, with nothing committed.
+pub(crate) fn kernel_over<D: Device + Drop>(
+    alloc: Global,
+    mut device: D,
+) -> Result<Kernel<D>, Refusal>
+    requires { 8658944 ≤ length (D.seen device) }
+{
     let base = first_base(alloc)?;
-    let mut device = first_device(alloc)?;
     let place = AreaPlace::of(PAGES, AREA_MIB, false);
     let log = begin_area(alloc, &mut device, place)?;
     Ok(Kernel::assemble(alloc, device, log, base))
+}
+
+/// The kernel that `try` runs on: over a device in memory, with nothing committed.
+fn first_kernel(alloc: Global) -> Result<Kernel<MemDevice>, Refusal> {
+    let device = first_device(alloc)?;
+    kernel_over(alloc, device)
 }
 
 /// Runs a script over a device in memory, and writes its transcript.

@@ -1,6 +1,7 @@
 // A script, read from its bytes.
-ghost use Rattle.std.specs.Prelude.{◌≡◌, ◌≤◌, ℕ, List, [], ◌∷◌, ◌++◌, length, vec_len, IfOk, IfSome, OnOk};
-ghost use Rattle.mt_cli.specs.Scripts.{Gathered, IsScript};
+ghost use Rattle.std.specs.Prelude.{◌≡◌, ◌≤◌, ◌+◌, ℕ, List, [], ◌∷◌, ◌++◌, length, vec_len, IfOk, IfErr, IfSome, OnOk};
+ghost use Rattle.mt_base.specs.declared.refusal.Refusal.{Refusal};
+ghost use Rattle.mt_cli.specs.Scripts.{Gathered, IsScript, IsRefusedFor, IsFaultOf};
 
 use crate::lines::{Line, line_of};
 use mt_base::Refusal;
@@ -41,7 +42,9 @@ struct Reading {
 
 impl Script {
     /// The lines in order.
-    pub fn lines(&self) -> &[Line] {
+    pub fn lines(&self) -> &[Line]
+        ensures { result.now ≡ self.now.lines.items }
+    {
         self.lines.as_slice()
     }
 }
@@ -59,14 +62,17 @@ impl Reading {
     }
 
     /// That the line under way is not in the grammar.
-    fn bad_line(&self) -> Refusal {
+    fn bad_line(&self) -> Refusal
+        ensures { result ≡ Refusal.BadLine (length self.now.lines.items + 1) }
+    {
         Refusal::BadLine(self.lines.len() as u64 + 1)
     }
 
     /// Takes the next byte.
     #[tactic(auto, using(crate::proofs::ScriptLemmas::gathered_byte))]
     fn take(&mut self, byte: u8) -> Result<(), Refusal>
-        ensures { OnOk result ((front : List ℕ) → Gathered front self.old.lines.items self.old.line.items → Gathered (front ++ byte ∷ []) self.new.lines.items self.new.line.items) }
+        ensures refused { IfErr result (λ why. (front more : List ℕ) → Gathered front self.old.lines.items self.old.line.items → IsRefusedFor (front ++ byte ∷ more) why) }
+        ensures taken { OnOk result ((front : List ℕ) → Gathered front self.old.lines.items self.old.line.items → Gathered (front ++ byte ∷ []) self.new.lines.items self.new.line.items) }
     {
         if byte == b'\n' {
             self.end_line()
@@ -81,7 +87,8 @@ impl Reading {
     /// Takes the end of the line under way.
     #[tactic(auto, using(crate::proofs::ScriptLemmas::gathered_line))]
     fn end_line(&mut self) -> Result<(), Refusal>
-        ensures { OnOk result ((front : List ℕ) → Gathered front self.old.lines.items self.old.line.items → Gathered (front ++ 10 ∷ []) self.new.lines.items self.new.line.items) }
+        ensures refused { IfErr result (λ why. (front more : List ℕ) → Gathered front self.old.lines.items self.old.line.items → IsRefusedFor (front ++ 10 ∷ more) why) }
+        ensures taken { OnOk result ((front : List ℕ) → Gathered front self.old.lines.items self.old.line.items → Gathered (front ++ 10 ∷ []) self.new.lines.items self.new.line.items) }
     {
         if self.lines.len() >= MAX_LINES {
             return Err(self.bad_line());
@@ -96,7 +103,8 @@ impl Reading {
 
     /// Takes the next bytes.
     fn take_all(&mut self, bytes: &[u8]) -> Result<(), Refusal>
-        ensures { OnOk result ((front : List ℕ) → Gathered front self.old.lines.items self.old.line.items → Gathered (front ++ bytes.now) self.new.lines.items self.new.line.items) }
+        ensures refused { IfErr result (λ why. (front more : List ℕ) → Gathered front self.old.lines.items self.old.line.items → IsRefusedFor (front ++ bytes.now ++ more) why) }
+        ensures taken { OnOk result ((front : List ℕ) → Gathered front self.old.lines.items self.old.line.items → Gathered (front ++ bytes.now) self.new.lines.items self.new.line.items) }
     {
         for byte in bytes {
             self.take(*byte)?;
@@ -107,7 +115,8 @@ impl Reading {
     /// The script, where no line is under way.
     #[tactic(auto, using(crate::proofs::ScriptLemmas::is_script))]
     fn end(self) -> Result<Script, Refusal>
-        ensures { IfOk result (λ script. (bytes : List ℕ) → Gathered bytes self.lines.items self.line.items → IsScript bytes script.lines.items) }
+        ensures refused { IfErr result (λ why. (bytes : List ℕ) → Gathered bytes self.lines.items self.line.items → IsRefusedFor bytes why) }
+        ensures script { IfOk result (λ script. (bytes : List ℕ) → Gathered bytes self.lines.items self.line.items → IsScript bytes script.lines.items) }
     {
         if !self.line.is_empty() {
             return Err(self.bad_line());
@@ -124,7 +133,8 @@ impl Reading {
 /// Reads a script to the reader's end, in pieces. It holds no more than the script, the line under
 /// way and one piece.
 pub fn read_script<R: Read>(alloc: Global, reader: &mut R) -> Result<Script, ScriptFault>
-    ensures { IfOk result (λ script. IfSome (R.remaining reader.old) (λ bytes. IsScript bytes script.lines.items)) }
+    ensures refused { IfErr result (λ fault. IfSome (R.remaining reader.old) (λ bytes. IsFaultOf bytes fault)) }
+    ensures script { IfOk result (λ script. IfSome (R.remaining reader.old) (λ bytes. IsScript bytes script.lines.items)) }
 {
     let mut reading = Reading::new(alloc);
     let mut piece = [0u8; PIECE_BYTES];

@@ -1,13 +1,19 @@
 // A script, run by itself on a kernel.
-ghost use Rattle.std.specs.Prelude.{◌≡◌, ◌≤◌, length};
+ghost use Rattle.std.specs.Prelude.{◌≡◌, IfOk, IfErr, OnOk, OnErr};
+ghost use Rattle.mt_txn.specs.State.{state_of};
+ghost use Rattle.mt_txn.specs.Ends.{HasEnded, IsStepped};
+ghost use Rattle.mt_txn.specs.Commits.{IsForced};
+ghost use Rattle.mt_txn.specs.Aborts.{IsAbortStepped};
+ghost use Rattle.mt_cli.specs.Runs.{IsCallAnswered, HasMadeDurable, IsCommitAnswered, HasUndoneAll, IsAborted, IsAbortAnswered, IsAnsweredOutside, IsAnsweredWithin, IsAnswered, IsLeft, IsStopped, IsTold, IsEnded, IsCut, IsCutAtEnd, IsCutRun, HasRunLines, HasRun, open_after};
 
+use crate::answers::{Answer, write_answer};
 use crate::lines::Line;
 use crate::reader::Script;
 use mt_base::{Refusal, TxnNo};
 use mt_disk::Device;
 use mt_model::{Op, Reply};
 use mt_txn::{AbortStepped, Called, Kernel, KernelForced, Stepped};
-use std::io::{self, Write};
+use std::io::Write;
 use thiserror::Error;
 
 /// How often a step that found no memory is asked again.
@@ -21,57 +27,20 @@ const MOST_STEPS: usize = (2 * 4000 + 10) * 257;
 #[derive(Debug, Drop, Error)]
 pub enum RunFault {
     /// The writer failed. What was written is a beginning of the transcript, and the transaction
-    /// that lived is aborted.
+    /// that lived is aborted, unless the device had failed.
     #[error("the output cannot be written")]
     Output,
     /// `NoMemory`, where a step found none when it was asked nine times, and the transaction stands
-    /// as it was; or `DeviceFailed`.
+    /// as it was; or `DeviceFailed`, which is the transcript's last line.
     #[error("{0}")]
     Refused(Refusal),
 }
 
-/// What is answered to a line of a script.
-#[derive(Debug, Drop)]
-enum Answer {
-    Begun,
-    Replied(Reply),
-    Committed(u64),
-    Aborted,
-    Refused(Refusal),
-}
-
-/// Writes a word, a space and a value as one line.
-fn write_value<W: Write>(writer: &mut W, word: &[u8], value: &[u8]) -> io::Result<()> {
-    writer.write_all(word)?;
-    writer.write_all(value)?;
-    writer.write_all(b"\n")
-}
-
-fn write_reply<W: Write>(writer: &mut W, reply: &Reply) -> io::Result<()> {
-    match reply {
-        Reply::Found(value) => write_value(writer, b"found ", value.as_slice()),
-        Reply::Missing => writer.write_all(b"missing\n"),
-        Reply::Exists => writer.write_all(b"exists\n"),
-        Reply::Done => writer.write_all(b"done\n"),
-        Reply::Was(value) => write_value(writer, b"was ", value.as_slice()),
-        Reply::Value(number) => writeln!(writer, "value {number}"),
-        Reply::OutOfBounds => writeln!(writer, "{}", Refusal::Escrow),
-    }
-}
-
-/// Writes an answer as one line.
-fn write_answer<W: Write>(writer: &mut W, answer: &Answer) -> io::Result<()> {
-    match answer {
-        Answer::Begun => writer.write_all(b"begun\n"),
-        Answer::Replied(reply) => write_reply(writer, reply),
-        Answer::Committed(place) => writeln!(writer, "committed {place}"),
-        Answer::Aborted => writer.write_all(b"aborted\n"),
-        Answer::Refused(refusal) => writeln!(writer, "{refusal}"),
-    }
-}
-
 /// A step, asked for again where it finds no memory.
-fn ask_step<D: Device>(kernel: &mut Kernel<D>, txn: TxnNo) -> Result<Stepped, Refusal> {
+fn ask_step<D: Device>(kernel: &mut Kernel<D>, txn: TxnNo) -> Result<Stepped, Refusal>
+    ensures ended { IfOk result (λ stepped. IsStepped (state_of kernel.old) txn stepped (state_of kernel.new)) }
+    ensures err { OnErr result (state_of kernel.new ≡ state_of kernel.old) }
+{
     for _ in 0..ASKED_AGAIN {
         match kernel.step(txn) {
             Err(Refusal::NoMemory) => {}
@@ -82,7 +51,9 @@ fn ask_step<D: Device>(kernel: &mut Kernel<D>, txn: TxnNo) -> Result<Stepped, Re
 }
 
 /// A force step, asked for again where it finds no memory.
-fn ask_force<D: Device>(kernel: &mut Kernel<D>) -> Result<KernelForced, Refusal> {
+fn ask_force<D: Device>(kernel: &mut Kernel<D>) -> Result<KernelForced, Refusal>
+    ensures { IfOk result (λ forced. IsForced (state_of kernel.old) forced (state_of kernel.new)) }
+{
     for _ in 0..ASKED_AGAIN {
         match kernel.force_step() {
             Err(Refusal::NoMemory) => {}
@@ -93,7 +64,9 @@ fn ask_force<D: Device>(kernel: &mut Kernel<D>) -> Result<KernelForced, Refusal>
 }
 
 /// A step of an abort, asked for again where it finds no memory.
-fn ask_abort<D: Device>(kernel: &mut Kernel<D>, txn: TxnNo) -> Result<AbortStepped, Refusal> {
+fn ask_abort<D: Device>(kernel: &mut Kernel<D>, txn: TxnNo) -> Result<AbortStepped, Refusal>
+    ensures { IfOk result (λ stepped. IsAbortStepped (state_of kernel.old) txn stepped (state_of kernel.new)) }
+{
     for _ in 0..ASKED_AGAIN {
         match kernel.abort_step(txn) {
             Err(Refusal::NoMemory) => {}
@@ -103,124 +76,117 @@ fn ask_abort<D: Device>(kernel: &mut Kernel<D>, txn: TxnNo) -> Result<AbortStepp
     kernel.abort_step(txn)
 }
 
-/// One step of an operation: its answer where it ended with one, the only error `NoMemory`.
-fn step_once<D: Device>(kernel: &mut Kernel<D>, txn: TxnNo) -> Result<Option<Answer>, Refusal> {
-    match ask_step(kernel, txn) {
-        Ok(Stepped::Replied(reply)) => Ok(Some(Answer::Replied(reply))),
-        Ok(Stepped::Wait(_)) => Ok(Some(Answer::Refused(Refusal::Busy))),
-        Ok(Stepped::Went) | Ok(Stepped::Again) => Ok(None),
-        Ok(Stepped::Flush) => make_room(kernel),
-        Err(Refusal::NoMemory) => Err(Refusal::NoMemory),
-        Err(refusal) => Ok(Some(Answer::Refused(refusal))),
-    }
-}
-
-/// A force step, so that the pool finds a frame to give.
-fn make_room<D: Device>(kernel: &mut Kernel<D>) -> Result<Option<Answer>, Refusal> {
-    match ask_force(kernel).err() {
-        None => Ok(None),
-        Some(Refusal::NoMemory) => Err(Refusal::NoMemory),
-        Some(refusal) => Ok(Some(Answer::Refused(refusal))),
-    }
-}
-
-/// Takes an operation that was begun to its answer. The only error is `NoMemory`.
-fn step_to_reply<D: Device>(kernel: &mut Kernel<D>, txn: TxnNo) -> Result<Answer, Refusal> {
+/// Takes an operation that was begun to its reply. Refused by `NoMemory` and `DeviceFailed`, and by
+/// `Busy` where a lock was in the way, which in a run alone none is.
+fn step_to_reply<D: Device>(kernel: &mut Kernel<D>, txn: TxnNo) -> Result<Reply, Refusal>
+    ensures { IfOk result (λ reply. HasEnded (state_of kernel.old) txn reply (state_of kernel.new)) }
+{
     for _ in 0..MOST_STEPS {
-        if let Some(answer) = step_once(kernel, txn)? {
-            return Ok(answer);
+        match ask_step(kernel, txn)? {
+            Stepped::Replied(reply) => return Ok(reply),
+            Stepped::Wait(_) => return Err(Refusal::Busy),
+            Stepped::Went | Stepped::Again => {}
+            Stepped::Flush => {
+                let _forced = ask_force(kernel)?;
+            }
         }
     }
-    Ok(Answer::Refused(Refusal::Busy))
+    Err(Refusal::Busy)
 }
 
-/// Makes one operation in a transaction. The only error is `NoMemory` of a step.
-fn call<D: Device>(kernel: &mut Kernel<D>, txn: TxnNo, op: &Op) -> Result<Answer, Refusal> {
+/// Makes one operation in a transaction.
+fn call<D: Device>(kernel: &mut Kernel<D>, txn: TxnNo, op: &Op) -> Result<Answer, Refusal>
+    ensures { IfOk result (λ answer. IsCallAnswered (state_of kernel.old) txn op.now answer (state_of kernel.new)) }
+{
     let Ok(copy) = op.try_clone() else {
         return Ok(Answer::Refused(Refusal::NoMemory));
     };
     match kernel.call(txn, copy) {
-        Ok(Called::Started) => step_to_reply(kernel, txn),
-        Ok(Called::Wait(_)) => Ok(Answer::Refused(Refusal::Busy)),
+        Ok(Called::Started) => {
+            let reply = step_to_reply(kernel, txn)?;
+            Ok(Answer::Replied(reply))
+        }
+        Ok(Called::Wait(_)) => Err(Refusal::Busy),
         Err(refusal) => Ok(Answer::Refused(refusal)),
     }
 }
 
-/// One force step of a commit: its answer where it ended with one.
-fn force_once<D: Device>(
-    kernel: &mut Kernel<D>,
-    txn: TxnNo,
-    place: u64,
-) -> Result<Option<Answer>, Refusal> {
-    match ask_force(kernel) {
-        Ok(KernelForced::Durable(named)) if named.contains(&txn) => {
-            Ok(Some(Answer::Committed(place)))
-        }
-        Ok(KernelForced::Durable(_)) | Ok(KernelForced::More) => Ok(None),
-        Ok(KernelForced::Idle) => Ok(Some(Answer::Refused(Refusal::Busy))),
-        Err(Refusal::NoMemory) => Err(Refusal::NoMemory),
-        Err(refusal) => Ok(Some(Answer::Refused(refusal))),
-    }
-}
-
-/// Makes force steps until a commit is durable. The only error is `NoMemory`.
-fn force_commit<D: Device>(
-    kernel: &mut Kernel<D>,
-    txn: TxnNo,
-    place: u64,
-) -> Result<Answer, Refusal> {
+/// Makes force steps until a commit is durable.
+fn force_commit<D: Device>(kernel: &mut Kernel<D>, txn: TxnNo) -> Result<(), Refusal>
+    ensures { OnOk result (HasMadeDurable (state_of kernel.old) txn (state_of kernel.new)) }
+{
     for _ in 0..MOST_STEPS {
-        if let Some(answer) = force_once(kernel, txn, place)? {
-            return Ok(answer);
+        match ask_force(kernel)? {
+            KernelForced::Durable(named) => {
+                if named.contains(&txn) {
+                    return Ok(());
+                }
+            }
+            KernelForced::More => {}
+            KernelForced::Idle => return Err(Refusal::Busy),
         }
     }
-    Ok(Answer::Refused(Refusal::Busy))
+    Err(Refusal::Busy)
 }
 
-/// Commits a transaction. The only error is `NoMemory` of a force step.
-fn commit<D: Device>(kernel: &mut Kernel<D>, txn: TxnNo) -> Result<Answer, Refusal> {
+/// Commits a transaction.
+fn commit<D: Device>(kernel: &mut Kernel<D>, txn: TxnNo) -> Result<Answer, Refusal>
+    ensures { IfOk result (λ answer. IsCommitAnswered (state_of kernel.old) txn answer (state_of kernel.new)) }
+{
     match kernel.commit_begin(txn) {
-        Ok(place) => force_commit(kernel, txn, place),
+        Ok(place) => {
+            force_commit(kernel, txn)?;
+            Ok(Answer::Committed(place))
+        }
         Err(refusal) => Ok(Answer::Refused(refusal)),
     }
 }
 
-/// One step of an abort: its answer where it ended with one.
-fn abort_once<D: Device>(kernel: &mut Kernel<D>, txn: TxnNo) -> Result<Option<Answer>, Refusal> {
-    match ask_abort(kernel, txn) {
-        Ok(AbortStepped::Ended) => Ok(Some(Answer::Aborted)),
-        Ok(AbortStepped::Wait(_)) => Ok(Some(Answer::Refused(Refusal::Busy))),
-        Ok(AbortStepped::More) | Ok(AbortStepped::Again) => Ok(None),
-        Ok(AbortStepped::Flush) => make_room(kernel),
-        Err(Refusal::NoMemory) => Err(Refusal::NoMemory),
-        Err(refusal) => Ok(Some(Answer::Refused(refusal))),
-    }
-}
-
-/// Takes an abort that was begun to its end. The only error is `NoMemory`.
-fn step_to_end<D: Device>(kernel: &mut Kernel<D>, txn: TxnNo) -> Result<Answer, Refusal> {
+/// Takes an abort that was begun to its end.
+fn undo<D: Device>(kernel: &mut Kernel<D>, txn: TxnNo) -> Result<(), Refusal>
+    ensures { OnOk result (HasUndoneAll (state_of kernel.old) txn (state_of kernel.new)) }
+{
     for _ in 0..MOST_STEPS {
-        if let Some(answer) = abort_once(kernel, txn)? {
-            return Ok(answer);
+        match ask_abort(kernel, txn)? {
+            AbortStepped::Ended => return Ok(()),
+            AbortStepped::More => {}
+            AbortStepped::Wait(_) | AbortStepped::Again | AbortStepped::Flush => {
+                return Err(Refusal::Busy);
+            }
         }
     }
-    Ok(Answer::Refused(Refusal::Busy))
+    Err(Refusal::Busy)
 }
 
-/// Aborts a transaction. The only error is `NoMemory` of a step.
-fn abort<D: Device>(kernel: &mut Kernel<D>, txn: TxnNo) -> Result<Answer, Refusal> {
+/// Aborts a transaction, where a line asks for it.
+fn abort<D: Device>(kernel: &mut Kernel<D>, txn: TxnNo) -> Result<Answer, Refusal>
+    ensures { IfOk result (λ answer. IsAbortAnswered (state_of kernel.old) txn answer (state_of kernel.new)) }
+{
     match kernel.abort_begin(txn) {
-        Ok(()) => step_to_end(kernel, txn),
+        Ok(()) => {
+            undo(kernel, txn)?;
+            Ok(Answer::Aborted)
+        }
         Err(refusal) => Ok(Answer::Refused(refusal)),
     }
 }
 
-/// The answer to a line where no transaction is open.
+/// Aborts the transaction that is open, where the run ends.
+fn end_open<D: Device>(kernel: &mut Kernel<D>, txn: TxnNo) -> Result<(), Refusal>
+    ensures { OnOk result (IsAborted (state_of kernel.old) txn (state_of kernel.new)) }
+{
+    kernel.abort_begin(txn)?;
+    undo(kernel, txn)
+}
+
+/// The answer to a line where no transaction is open, and the transaction that is open then.
 fn answer_outside<D: Device>(
     kernel: &mut Kernel<D>,
     session: u32,
     line: &Line,
-) -> (Answer, Option<TxnNo>) {
+) -> (Answer, Option<TxnNo>)
+    ensures { IsAnsweredOutside session (state_of kernel.old) line.now result.0 (state_of kernel.new) result.1 }
+{
     match line {
         Line::Begin => match kernel.begin(session) {
             Ok(txn) => (Answer::Begun, Some(txn)),
@@ -235,7 +201,9 @@ fn answer_within<D: Device>(
     kernel: &mut Kernel<D>,
     txn: TxnNo,
     line: &Line,
-) -> Result<Answer, Refusal> {
+) -> Result<Answer, Refusal>
+    ensures { IfOk result (λ answer. IsAnsweredWithin (state_of kernel.old) txn line.now answer (state_of kernel.new)) }
+{
     match line {
         Line::Begin => Ok(Answer::Refused(Refusal::Busy)),
         Line::Call(op) => call(kernel, txn, op),
@@ -244,48 +212,94 @@ fn answer_within<D: Device>(
     }
 }
 
-/// Aborts the transaction that lives after a failed write, and answers how the run ends.
-fn end_unheard<D: Device>(kernel: &mut Kernel<D>, live: Option<TxnNo>) -> RunFault {
+/// The transaction that is open after an answer within this one.
+fn open_after(txn: TxnNo, answer: &Answer) -> Option<TxnNo>
+    ensures { result ≡ open_after txn answer.now }
+{
+    match answer {
+        Answer::Committed(_) | Answer::Aborted => None,
+        _ => Some(txn),
+    }
+}
+
+/// The answer to a line, and the transaction that is open then.
+fn answer<D: Device>(
+    kernel: &mut Kernel<D>,
+    session: u32,
+    live: Option<TxnNo>,
+    line: &Line,
+) -> Result<(Answer, Option<TxnNo>), Refusal>
+    ensures { IfOk result (λ told. IsAnswered session (state_of kernel.old) live line.now told.0 (state_of kernel.new) told.1) }
+{
+    match live {
+        None => Ok(answer_outside(kernel, session, line)),
+        Some(txn) => {
+            let answer = answer_within(kernel, txn, line)?;
+            let open = open_after(txn, &answer);
+            Ok((answer, open))
+        }
+    }
+}
+
+/// Aborts the transaction that is open after a failed write, and answers how the run ends.
+fn end_unheard<D: Device>(kernel: &mut Kernel<D>, live: Option<TxnNo>) -> RunFault
+    ensures { IsLeft (state_of kernel.old) live (state_of kernel.new) result }
+{
     let Some(txn) = live else {
         return RunFault::Output;
     };
-    let ended = abort(kernel, txn);
-    match &ended {
-        Ok(Answer::Refused(refusal)) | Err(refusal) => RunFault::Refused(*refusal),
-        Ok(_) => RunFault::Output,
+    match end_open(kernel, txn) {
+        Ok(()) => RunFault::Output,
+        Err(refusal) => RunFault::Refused(refusal),
     }
 }
 
-/// The transaction that is open after an answer.
-fn open_after(live: Option<TxnNo>, answer: &Answer) -> Option<TxnNo> {
-    match answer {
-        Answer::Committed(_) | Answer::Aborted => None,
-        _ => live,
+/// Writes that the device failed, and answers how the run ends.
+fn end_failed<W: Write>(writer: &mut W) -> RunFault
+    ensures { IsStopped (W.contents writer.old) (W.contents writer.new) result }
+{
+    match write_answer(writer, &Answer::Refused(Refusal::DeviceFailed)) {
+        Ok(()) => RunFault::Refused(Refusal::DeviceFailed),
+        Err(_) => RunFault::Output,
     }
 }
 
-/// Answers one line, and writes the answer.
+/// Answers how the run ends after a step that was refused. That the device failed is written.
+fn end_refused<W: Write>(writer: &mut W, refusal: Refusal) -> RunFault
+    ensures { IsStopped (W.contents writer.old) (W.contents writer.new) result }
+{
+    match refusal {
+        Refusal::DeviceFailed => end_failed(writer),
+        _ => RunFault::Refused(refusal),
+    }
+}
+
+/// Whether the answer is that the device failed.
+fn is_failure(answer: &Answer) -> bool {
+    matches!(answer, Answer::Refused(Refusal::DeviceFailed))
+}
+
+/// Answers one line, and writes the answer. Answers the transaction that is open then.
 fn run_line<D: Device, W: Write>(
     kernel: &mut Kernel<D>,
     session: u32,
     live: Option<TxnNo>,
     line: &Line,
     writer: &mut W,
-) -> Result<Option<TxnNo>, RunFault> {
-    let (answer, open) = match live {
-        None => answer_outside(kernel, session, line),
-        Some(txn) => match answer_within(kernel, txn, line) {
-            Ok(answer) => (answer, live),
-            Err(refusal) => return Err(RunFault::Refused(refusal)),
-        },
+) -> Result<Option<TxnNo>, RunFault>
+    ensures told { IfOk result (IsTold session (state_of kernel.old) live line.now (W.contents writer.old) (W.contents writer.new) (state_of kernel.new)) }
+    ensures cut { IfErr result (IsCut session (state_of kernel.old) live line.now (W.contents writer.old) (W.contents writer.new) (state_of kernel.new)) }
+{
+    let told = match answer(kernel, session, live, line) {
+        Ok(told) => told,
+        Err(refusal) => return Err(end_refused(writer, refusal)),
     };
-    let open = open_after(open, &answer);
-    if write_answer(writer, &answer).is_err() {
-        return Err(end_unheard(kernel, open));
+    if is_failure(&told.0) {
+        return Err(end_failed(writer));
     }
-    match answer {
-        Answer::Refused(Refusal::DeviceFailed) => Err(RunFault::Refused(Refusal::DeviceFailed)),
-        _ => Ok(open),
+    match write_answer(writer, &told.0) {
+        Ok(()) => Ok(told.1),
+        Err(_) => Err(end_unheard(kernel, told.1)),
     }
 }
 
@@ -294,37 +308,53 @@ fn end_live<D: Device, W: Write>(
     kernel: &mut Kernel<D>,
     txn: TxnNo,
     writer: &mut W,
-) -> Result<(), RunFault> {
-    match abort(kernel, txn) {
-        Ok(answer) => write_last(writer, &answer),
-        Err(refusal) => Err(RunFault::Refused(refusal)),
+) -> Result<(), RunFault>
+    ensures ended { OnOk result (IsEnded (state_of kernel.old) txn (W.contents writer.old) (W.contents writer.new) (state_of kernel.new)) }
+    ensures cut { IfErr result (IsCutAtEnd (state_of kernel.old) txn (W.contents writer.old) (W.contents writer.new) (state_of kernel.new)) }
+{
+    if let Err(refusal) = end_open(kernel, txn) {
+        return Err(RunFault::Refused(refusal));
+    }
+    match write_answer(writer, &Answer::Aborted) {
+        Ok(()) => Ok(()),
+        Err(_) => Err(RunFault::Output),
     }
 }
 
-/// Writes the answer to the abort at a script's end.
-fn write_last<W: Write>(writer: &mut W, answer: &Answer) -> Result<(), RunFault> {
-    if write_answer(writer, answer).is_err() {
-        return Err(RunFault::Output);
+/// Runs the lines of a script, and answers the transaction that is open behind the last.
+fn run_lines<D: Device, W: Write>(
+    kernel: &mut Kernel<D>,
+    session: u32,
+    lines: &[Line],
+    writer: &mut W,
+) -> Result<Option<TxnNo>, RunFault>
+    ensures ran { IfOk result (λ live. HasRunLines session (state_of kernel.old) lines.now (W.contents writer.old) (W.contents writer.new) (state_of kernel.new) live) }
+    ensures cut { IfErr result (IsCutRun session (state_of kernel.old) lines.now (W.contents writer.old) (W.contents writer.new) (state_of kernel.new)) }
+{
+    let mut live = None;
+    for line in lines {
+        live = run_line(kernel, session, live, line, writer)?;
     }
-    match answer {
-        Answer::Refused(refusal) => Err(RunFault::Refused(*refusal)),
-        _ => Ok(()),
-    }
+    Ok(live)
 }
 
 /// Runs a script by itself on a kernel in which no transaction lives, and writes the answer of each
-/// line as one line.
+/// line as one line. A transaction that is open at the script's end is aborted, with the line
+/// `aborted`.
+///
+/// A step that finds no memory is asked again, up to eight times. After `Output` a beginning of the
+/// transcript is written and the transaction that lived is aborted; after refusal 1 it stands as it
+/// was; refusal 2 is the last line.
 pub fn run_alone<D: Device, W: Write>(
     kernel: &mut Kernel<D>,
     session: u32,
     script: &Script,
     writer: &mut W,
-) -> Result<(), RunFault> {
-    let mut live = None;
-    for line in script.lines() {
-        live = run_line(kernel, session, live, line, writer)?;
-    }
-    match live {
+) -> Result<(), RunFault>
+    ensures ran { OnOk result (HasRun session (state_of kernel.old) script.now.lines.items (W.contents writer.old) (W.contents writer.new) (state_of kernel.new)) }
+    ensures cut { IfErr result (IsCutRun session (state_of kernel.old) script.now.lines.items (W.contents writer.old) (W.contents writer.new) (state_of kernel.new)) }
+{
+    match run_lines(kernel, session, script.lines(), writer)? {
         Some(txn) => end_live(kernel, txn, writer),
         None => Ok(()),
     }

@@ -80,6 +80,11 @@ pub answered : {X E : Type 0} (r : Result X E) (a : X) (Q : Type 0) (P : X → T
 answered (Ok x) a Q P is holds gives = subst P (sym is) (gives holds)
 answered (Err e) a Q P is holds gives = tt
 
+-- and what follows wherever there is an answer
+pub ok_gives : {X E : Type 0} (r : Result X E) (P Q : Type 0) → OnOk r P → (P → Q) → OnOk r Q
+ok_gives (Ok x) P Q holds gives = gives holds
+ok_gives (Err e) P Q holds gives = tt
+
 -- each place within a list has an item
 pub item_at : {X : Type 0} (xs : List X) (i : ℕ) → i < length xs → (x : X) × (x ≡ get_or xs i x)
 item_at [] i within = absurd (omega arith)

@@ -5,3 +5,5 @@ pub mod Endings
 pub mod Leaving
 pub mod Settled
 pub mod Undoing
+pub mod Bounds
+pub mod Keeping

@@ -7,3 +7,4 @@ pub mod Ends
 pub mod Commits
 pub mod Effects
 pub mod Aborts
+pub mod Kept

@@ -4,6 +4,7 @@ ghost use Rattle.mt_model.specs.Model.{inverse_of, IsWithin};
 ghost use Rattle.mt_txn.specs.Aborts.{abort_cause, HasBegunAbort, HasGivenUp, HasUndone, HasLeft, IsLastEffect, IsAbortStepped};
 ghost use Rattle.mt_txn.specs.Effects.{Call, effects};
 ghost use Rattle.mt_txn.specs.Sound.{IsCallWithin};
+ghost use Rattle.mt_txn.specs.Kept.{Keeps, IsSingle};
 ghost use Rattle.mt_txn.specs.Party.{Party};
 ghost use Rattle.mt_txn.specs.State.{state_of, open_cause, place_in};
 
@@ -42,6 +43,7 @@ impl<D: Device> Kernel<D> {
         ensures cause { IfErr result (λ why. open_cause (state_of self.old) txn ≡ Some why) }
         ensures may { OnOk result (open_cause (state_of self.old) txn ≡ None) }
         ensures begun { OnOk result (HasBegunAbort (state_of self.old) txn (state_of self.new)) }
+        ensures kept { OnOk result (Keeps (state_of self.old) (state_of self.new)) }
         ensures err { OnErr result (state_of self.new ≡ state_of self.old) }
     {
         let place = self.open_place(txn)?;
@@ -118,6 +120,7 @@ impl<D: Device> Kernel<D> {
         ensures cause { IfErr result (λ why. why ≢ Refusal.NoMemory → abort_cause (state_of self.old) txn ≡ Some why) }
         ensures may { OnOk result (abort_cause (state_of self.old) txn ≡ None) }
         ensures stepped { IfOk result (λ stepped. IsAbortStepped (state_of self.old) txn stepped (state_of self.new)) }
+        ensures kept { OnOk result (IsSingle (state_of self.old) → Keeps (state_of self.old) (state_of self.new)) }
         ensures err { OnErr result (state_of self.new ≡ state_of self.old) }
     {
         let place = self.aborting_place(txn)?;

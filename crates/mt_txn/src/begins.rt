@@ -1,5 +1,6 @@
 ghost use Rattle.std.specs.Prelude.{◌≡◌, ◌≢◌, ◌<◌, ◌≤◌, ◌+◌, ◌∷◌, ◌++◌, [], IfOk, IfErr, OnOk, OnErr, None, Some, IfNone, ◌^◌};
 ghost use Rattle.mt_base.specs.declared.refusal.Refusal.{Refusal};
+ghost use Rattle.mt_txn.specs.Kept.{Keeps};
 ghost use Rattle.mt_txn.specs.State.{state_of, begin_cause, IsBegun};
 
 use crate::kernel::Kernel;
@@ -39,6 +40,7 @@ impl<D: Device> Kernel<D> {
         ensures may { OnOk result (begin_cause (state_of self.old) ≡ None) }
         ensures cause { IfErr result (λ why. why ≢ Refusal.NoMemory → begin_cause (state_of self.old) ≡ Some why) }
         ensures begun { OnOk result (IsBegun (state_of self.old) session (state_of self.new)) }
+        ensures kept { OnOk result (Keeps (state_of self.old) (state_of self.new)) }
         ensures err { OnErr result (state_of self.new ≡ state_of self.old) }
     {
         if let Some(why) = self.begin_cause() {

@@ -3,6 +3,7 @@ ghost use Rattle.std.specs.List.{sum_by};
 ghost use Rattle.std.specs.Vec.{vec_len, vec_capacity};
 ghost use Rattle.mt_base.specs.declared.refusal.Refusal.{Refusal};
 ghost use Rattle.mt_txn.specs.Commits.{commit_cause, HasBegunCommit, durable_count, IsForced};
+ghost use Rattle.mt_txn.specs.Kept.{Keeps, IsSingle};
 ghost use Rattle.mt_txn.specs.Parties.{committed_of};
 ghost use Rattle.mt_txn.specs.declared.live.Committing.{Committing};
 ghost use Rattle.mt_txn.specs.State.{state_of, place_in};
@@ -89,6 +90,7 @@ impl<D: Device> Kernel<D> {
         ensures may { OnOk result (commit_cause (state_of self.old) txn ≡ None) }
         ensures place { IfOk result (λ place. place ≡ length self.old.book.items + length self.old.committing.items + 1) }
         ensures begun { OnOk result (HasBegunCommit (state_of self.old) txn (state_of self.new)) }
+        ensures kept { OnOk result (IsSingle (state_of self.old) → Keeps (state_of self.old) (state_of self.new)) }
         ensures err { OnErr result (state_of self.new ≡ state_of self.old) }
     {
         let place = self.idle_place(txn)?;
@@ -113,6 +115,7 @@ impl<D: Device> Kernel<D> {
         ensures failed { IfErr result (λ why. why ≢ Refusal.NoMemory → why ≡ Refusal.DeviceFailed) }
         ensures memory { IsErrOf result Refusal.NoMemory → state_of self.new ≡ state_of self.old }
         ensures forced { IfOk result (λ forced. IsForced (state_of self.old) forced (state_of self.new)) }
+        ensures kept { OnOk result (Keeps (state_of self.old) (state_of self.new)) }
     {
         if self.log.has_failed() {
             return Err(Refusal::DeviceFailed);

@@ -35,6 +35,9 @@ pub struct Kernel<D: Device> {
 }
 
 impl<D: Device> Kernel<D> {
+    ghost use Rattle.mt_txn.specs.Kept.{IsKept};
+    ghost use Rattle.mt_txn.specs.State.{state_of, fresh_state};
+
     /// A kernel without transactions over a device, with the log of its area and a base.
     pub fn assemble(alloc: Global, device: D, log: Log, base: Base) -> Kernel<D>
         requires used { used log < area_size log }
@@ -43,7 +46,10 @@ impl<D: Device> Kernel<D> {
         requires values { HasSmallValues (base_of base) }
         requires relations { relations_of base ≤ 64 }
         requires counters { length (counters_of base) ≤ 128 }
+        ensures state { state_of result ≡ fresh_state base log }
+        ensures kept { IsKept (base_of base) (state_of result) }
     {
+        base.keeps_bounds();
         Kernel {
             device,
             log,

@@ -1,8 +1,9 @@
-use Rattle.std.proofs.Common.{arith, refl, length}
+use Rattle.std.proofs.Common.{arith, refl, length, rules}
 use Rattle.std.proofs.lemmas.List.Elements.{All-push}
 use Rattle.mt_model.specs.Views.{counters_of, relations_of}
 use Rattle.mt_txn.specs.Sound.{IsParty}
 use Rattle.mt_txn.proofs.Soundness.{fresh_party}
+use Rattle.mt_txn.proofs.Keeping.{begun_keeps}
 use Rattle.mt_txn.proofs.kernel.Kernel.begin.Goals as goal
 
 pub invariant_of-self-2-clause-parties : goal.invariant_of-self-2-clause-parties
@@ -10,3 +11,6 @@ invariant_of-self-2-clause-parties g c =
     let base = c.args.self.now.base in
     rw c.in_ok-push.ensures.items (All-push (IsParty (relations_of base) (length (counters_of base))) c.args.self.now.live.items _ c.args.self.now.parties
     (fresh_party _ _ _ _ _ (record { number_is = refl; session_is = refl; is_open = refl; idle = refl; no_calls = c.new.ensures.items; none_started = refl; reserves = refl }) (omega (arith, c.new-number.ensures)) (omega (arith, c.new-number.ensures, c.in_default.ensures.few))))
+
+pub returns-clause-kept : goal.returns-clause-kept
+returns-clause-kept g c = begun_keeps _ c.args.session _ (search rules)

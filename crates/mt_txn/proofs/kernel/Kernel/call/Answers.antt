@@ -1,8 +1,9 @@
-use Rattle.std.proofs.Common.{arith, length}
+use Rattle.std.proofs.Common.{arith, length, rules}
 use Rattle.std.proofs.lemmas.List.Elements.{All-set}
 use Rattle.mt_model.specs.Views.{counters_of, relations_of}
 use Rattle.mt_txn.specs.Sound.{IsParty}
 use Rattle.mt_txn.proofs.Soundness.{within, called_party}
+use Rattle.mt_txn.proofs.Keeping.{called_keeps}
 use Rattle.mt_txn.proofs.kernel.Kernel.call.Goals as goal
 
 pub invariant_of-self-2-clause-parties : goal.invariant_of-self-2-clause-parties
@@ -13,3 +14,6 @@ invariant_of-self-2-clause-parties g c =
     (called_party _ _ _ _ c.args.op _ _ c.args.self.now.live.items c.in_ok-start.ensures.ok c.index_mut.ensures.value c.args.self.now.parties ready.within ready.started
     (omega (arith, c.new-number.ensures)) (omega (arith, c.new-number.ensures, c.args.self.now.sound.numbered, c.args.self.now.sound.begun_below)) (within _ _ _ ready.named ready.sized))
     c.args.self.now.parties
+
+pub returns-clause-kept : goal.returns-clause-kept
+returns-clause-kept g c = called_keeps _ c.args.txn c.args.op _ (search rules)

@@ -5,6 +5,7 @@ use Rattle.std.specs.List.{All}
 use Rattle.std.specs.Option.{option_map, option_map_or}
 use Rattle.std.proofs.lemmas.List.{get_or_default}
 use Rattle.std.proofs.lemmas.List.Sums.{sum_by-set}
+use Rattle.std.proofs.lemmas.List.Elements.{All-set}
 use Rattle.mt_frame.specs.declared.records.LoggedOp.{LoggedOp}
 use Rattle.mt_frame.specs.declared.records.Record.{Record}
 use Rattle.mt_frame.specs.declared.records.Record.TheVariants.{OpEnd}
@@ -60,6 +61,8 @@ finished_sound b used area reserved begun operations book new_used new_area live
       numbered = omega (arith, sound.numbered, lefts, started, same);
       crowd = omega (arith, length-set live i z, sound.crowd);
       commits = omega (arith, length-set live i z, sound.commits);
+      old_numbers = All-set (λ (x : Party). x.number ≤ begun) live i z
+          (omega (arith, sound.old_numbers i l way.within, ap (λ (x : Party). x.number) here, ap (λ (x : Party). x.number) is)) sound.old_numbers;
     }
 
 -- the bytes of an end's record, with its batch's head

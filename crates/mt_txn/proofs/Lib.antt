@@ -7,3 +7,6 @@ pub mod Settled
 pub mod Undoing
 pub mod Bounds
 pub mod Keeping
+pub mod Places
+pub mod Taking
+pub mod Working

@@ -55,6 +55,7 @@ pub record HasUndone (s : State) (i : ℕ) (l : Party) (z : State) : Type 0 wher
 
 -- nothing of it is left to be undone: its end is logged, and it lives no more
 pub record HasLeft (s : State) (i : ℕ) (l : Party) (z : State) : Type 0 where
+  pub idle : l.running ≡ None
   pub nothing_left : effects l.calls ≡ 0
   pub live : z.live ≡ remove s.live i
   pub appended : z.appended ≡ s.appended + 1

@@ -8,3 +8,5 @@ pub mod Commits
 pub mod Effects
 pub mod Aborts
 pub mod Kept
+pub mod Work
+pub mod Undo

@@ -6,6 +6,7 @@ ghost use Rattle.mt_txn.specs.Effects.{Call, effects};
 ghost use Rattle.mt_txn.specs.Sound.{IsCallWithin};
 ghost use Rattle.mt_txn.specs.Kept.{Keeps, IsSingle};
 ghost use Rattle.mt_txn.specs.Party.{Party};
+ghost use Rattle.mt_txn.specs.Work.{work_left, LowersAbortWork};
 ghost use Rattle.mt_txn.specs.State.{state_of, open_cause, place_in};
 
 use crate::answers::AbortStepped;
@@ -44,6 +45,7 @@ impl<D: Device> Kernel<D> {
         ensures may { OnOk result (open_cause (state_of self.old) txn ≡ None) }
         ensures begun { OnOk result (HasBegunAbort (state_of self.old) txn (state_of self.new)) }
         ensures kept { OnOk result (Keeps (state_of self.old) (state_of self.new)) }
+        ensures work { OnOk result (work_left (state_of self.new) txn ≤ 257) }
         ensures err { OnErr result (state_of self.new ≡ state_of self.old) }
     {
         let place = self.open_place(txn)?;
@@ -98,6 +100,7 @@ impl<D: Device> Kernel<D> {
     // Ends the abort of the transaction at this place, of which nothing is left to be undone.
     fn leave(&mut self, place: usize) -> Result<(), Refusal>
         requires within { place < length self.old.live.items }
+        requires idle { (l : Party) → l ≡ slice_index_or self.old.live.items place l → l.running ≡ None }
         requires nothing { (l : Party) → l ≡ slice_index_or self.old.live.items place l → effects l.calls ≡ 0 }
         ensures left { OnOk result ((l : Party) → l ≡ slice_index_or self.old.live.items place l → HasLeft (state_of self.old) place l (state_of self.new)) }
         ensures err { OnErr result (state_of self.new ≡ state_of self.old) }
@@ -120,6 +123,7 @@ impl<D: Device> Kernel<D> {
         ensures cause { IfErr result (λ why. why ≢ Refusal.NoMemory → abort_cause (state_of self.old) txn ≡ Some why) }
         ensures may { OnOk result (abort_cause (state_of self.old) txn ≡ None) }
         ensures stepped { IfOk result (λ stepped. IsAbortStepped (state_of self.old) txn stepped (state_of self.new)) }
+        ensures work { IfOk result (λ stepped. LowersAbortWork stepped (work_left (state_of self.old) txn) (work_left (state_of self.new) txn)) }
         ensures kept { OnOk result (IsSingle (state_of self.old) → Keeps (state_of self.old) (state_of self.new)) }
         ensures err { OnErr result (state_of self.new ≡ state_of self.old) }
     {

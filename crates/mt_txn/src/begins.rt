@@ -1,7 +1,8 @@
-ghost use Rattle.std.specs.Prelude.{◌≡◌, ◌≢◌, ◌<◌, ◌≤◌, ◌+◌, ◌∷◌, ◌++◌, [], IfOk, IfErr, OnOk, OnErr, None, Some, IfNone, ◌^◌};
+ghost use Rattle.std.specs.Prelude.{◌≡◌, ◌≢◌, ◌<◌, ◌≤◌, ◌+◌, ◌∷◌, ◌++◌, [], IfOk, IfErr, OnOk, OnErr, None, Some, IfNone, ◌^◌, length};
+ghost use Rattle.mt_log.specs.Words.{used, area_size};
 ghost use Rattle.mt_base.specs.declared.refusal.Refusal.{Refusal};
 ghost use Rattle.mt_txn.specs.Kept.{Keeps};
-ghost use Rattle.mt_txn.specs.State.{state_of, begin_cause, IsBegun};
+ghost use Rattle.mt_txn.specs.State.{state_of, begin_cause, lives, IsBegun};
 
 use crate::kernel::Kernel;
 use crate::live::{Live, Phase};
@@ -14,6 +15,9 @@ impl<D: Device> Kernel<D> {
     fn begin_cause(&self) -> Option<Refusal>
         ensures cause { result ≡ begin_cause (state_of self.now) }
         ensures few { IfNone result (self.now.begun < 2 ^ 40) }
+        ensures crowd { IfNone result (lives (state_of self.now) < 64) }
+        ensures commits { IfNone result (length self.now.book.items + lives (state_of self.now) < 1000000) }
+        ensures room { IfNone result (used self.now.log + self.now.reserved + 128 < area_size self.now.log) }
     {
         let lives = self.live.len() + self.committing.len();
         if self.log.has_failed() {

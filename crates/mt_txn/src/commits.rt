@@ -1,8 +1,8 @@
-ghost use Rattle.std.specs.Prelude.{◌≡◌, ◌≢◌, ◌<◌, ◌≤◌, ◌+◌, ◌^◌, ◌++◌, length, map, take, drop, IfOk, IfErr, IsErrOf, OnOk, OnErr, None, Some, slice_index_or};
+ghost use Rattle.std.specs.Prelude.{◌≡◌, ◌≢◌, ◌⊎◌, true, false, ◌<◌, ◌≤◌, ◌+◌, ◌^◌, ◌++◌, length, map, take, drop, IfOk, IfErr, IsErrOf, OnOk, OnErr, None, Some, slice_index_or};
 ghost use Rattle.std.specs.List.{sum_by};
 ghost use Rattle.std.specs.Vec.{vec_len, vec_capacity};
 ghost use Rattle.mt_base.specs.declared.refusal.Refusal.{Refusal};
-ghost use Rattle.mt_txn.specs.Commits.{commit_cause, HasBegunCommit, durable_count, IsForced};
+ghost use Rattle.mt_txn.specs.Commits.{commit_cause, HasBegunCommit, durable_count, IsForced, HasFailed};
 ghost use Rattle.mt_txn.specs.Kept.{Keeps, IsSingle};
 ghost use Rattle.mt_txn.specs.Parties.{committed_of};
 ghost use Rattle.mt_txn.specs.declared.live.Committing.{Committing};
@@ -116,6 +116,13 @@ impl<D: Device> Kernel<D> {
         ensures memory { IsErrOf result Refusal.NoMemory → state_of self.new ≡ state_of self.old }
         ensures forced { IfOk result (λ forced. IsForced (state_of self.old) forced (state_of self.new)) }
         ensures kept { OnOk result (Keeps (state_of self.old) (state_of self.new)) }
+        // 2 comes from a fault of the device, in this call or in an earlier one, and stays for good
+        ensures fault { IsErrOf result Refusal.DeviceFailed → (D.faults self.old.device < D.faults self.new.device) ⊎ ((state_of self.old).failed ≡ true) }
+        ensures stopped { IsErrOf result Refusal.DeviceFailed → HasFailed (state_of self.old) (state_of self.new) }
+        ensures for_good { (state_of self.old).failed ≡ true → IsErrOf result Refusal.DeviceFailed }
+        ensures well { OnOk result ((state_of self.new).failed ≡ false) }
+        ensures quiet { OnOk result (D.faults self.new.device ≡ D.faults self.old.device) }
+        ensures no_call { IsErrOf result Refusal.NoMemory → self.new.device ≡ self.old.device }
     {
         if self.log.has_failed() {
             return Err(Refusal::DeviceFailed);

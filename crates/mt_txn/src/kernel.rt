@@ -46,6 +46,7 @@ impl<D: Device> Kernel<D> {
         requires values { HasSmallValues (base_of base) }
         requires relations { relations_of base ≤ 64 }
         requires counters { length (counters_of base) ≤ 128 }
+        ensures device { result.device ≡ device }
         ensures state { state_of result ≡ fresh_state base log }
         ensures kept { IsKept (base_of base) (state_of result) }
     {
@@ -64,7 +65,9 @@ impl<D: Device> Kernel<D> {
     }
 
     /// The device, for another opening. What lived is gone.
-    pub fn into_device(self) -> D {
+    pub fn into_device(self) -> D
+        ensures { result ≡ self.device }
+    {
         let Kernel {
             device,
             log: _,

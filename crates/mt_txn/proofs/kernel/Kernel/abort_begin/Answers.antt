@@ -1,6 +1,23 @@
-use Rattle.std.proofs.Common.{rules}
+use Rattle.std.proofs.Common.{rules, length, subst, sym, ap}
+use Rattle.mt_model.specs.Views.{counters_of, relations_of}
+use Rattle.mt_txn.specs.Sound.{IsParty}
+use Rattle.mt_txn.specs.State.{state_of}
+use Rattle.std.proofs.Math.ListN.{set}
 use Rattle.mt_txn.proofs.Keeping.{aborting_keeps}
+use Rattle.mt_txn.proofs.Working.{aborting_work}
 use Rattle.mt_txn.proofs.kernel.Kernel.abort_begin.Goals as goal
 
 pub returns-clause-kept : goal.returns-clause-kept
 returns-clause-kept g c = aborting_keeps _ c.args.txn _ (search rules)
+
+pub returns-clause-work : goal.returns-clause-work
+returns-clause-work g c =
+    let was = c.args.self.now in
+    let place = c.in_ok-place.place in
+    let within = c.in_ok-place.ensures.within in
+    let l = c.index_mut.result.now in
+    let new = set was.live.items place c.begin_abort.new.self in
+    let party : IsParty (relations_of was.base) (length (counters_of was.base)) l =
+    subst (IsParty (relations_of was.base) (length (counters_of was.base))) (sym c.index_mut.ensures.value) (was.parties place l within) in
+    aborting_work _ _ (state_of was) (record (state_of was) { live = new }) c.args.txn place l
+    (record { place = c.in_ok-place.ensures.place; within = within; there = c.index_mut.ensures.value }) party (ap (set was.live.items place) c.begin_abort.ensures)

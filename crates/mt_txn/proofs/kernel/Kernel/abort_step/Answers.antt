@@ -1,6 +1,8 @@
 use Rattle.std.proofs.Common.{rules}
 use Rattle.mt_txn.specs.declared.answers.AbortStepped.TheVariants.{More, Ended}
+use Rattle.mt_txn.specs.State.{state_of}
 use Rattle.mt_txn.proofs.Keeping.{abort_keeps}
+use Rattle.mt_txn.proofs.Working.{abort_work}
 use Rattle.mt_txn.proofs.kernel.Kernel.abort_step.Goals as goal
 
 pub returns-in_ok-undo-in-Some-clause-kept : goal.returns-in_ok-undo-in-Some-clause-kept
@@ -8,3 +10,15 @@ returns-in_ok-undo-in-Some-clause-kept g c = abort_keeps _ c.args.txn More _ (se
 
 pub returns-in_ok-leave-in-None-clause-kept : goal.returns-in_ok-leave-in-None-clause-kept
 returns-in_ok-leave-in-None-clause-kept g c = abort_keeps _ c.args.txn Ended _ (search rules)
+
+pub returns-then-is_some-clause-kept : goal.returns-then-is_some-clause-kept
+returns-then-is_some-clause-kept g c = abort_keeps _ c.args.txn More _ (search rules)
+
+pub returns-then-is_some-clause-work : goal.returns-then-is_some-clause-work
+returns-then-is_some-clause-work g c = abort_work (state_of c.args.self.now) c.args.txn More (state_of c.give_up.new.self) c.in_ok-place.ensures.may (search rules)
+
+pub returns-in_ok-undo-in-Some-clause-work : goal.returns-in_ok-undo-in-Some-clause-work
+returns-in_ok-undo-in-Some-clause-work g c = abort_work (state_of c.args.self.now) c.args.txn More (state_of c.undo.new.self) c.in_ok-place.ensures.may (search rules)
+
+pub returns-in_ok-leave-in-None-clause-work : goal.returns-in_ok-leave-in-None-clause-work
+returns-in_ok-leave-in-None-clause-work g c = abort_work (state_of c.args.self.now) c.args.txn Ended (state_of c.leave.new.self) c.in_ok-place.ensures.may (search rules)

@@ -2,7 +2,7 @@ use Rattle.std.proofs.Common.{arith, refl, length, rules}
 use Rattle.std.proofs.lemmas.List.Elements.{All-push}
 use Rattle.mt_model.specs.Views.{counters_of, relations_of}
 use Rattle.mt_txn.specs.Sound.{IsParty}
-use Rattle.mt_txn.proofs.Soundness.{fresh_party}
+use Rattle.mt_txn.proofs.Soundness.{fresh_party, begun_sound}
 use Rattle.mt_txn.proofs.Keeping.{begun_keeps}
 use Rattle.mt_txn.proofs.kernel.Kernel.begin.Goals as goal
 
@@ -14,3 +14,11 @@ invariant_of-self-2-clause-parties g c =
 
 pub returns-clause-kept : goal.returns-clause-kept
 returns-clause-kept g c = begun_keeps _ c.args.session _ (search rules)
+
+pub invariant_of-self-2-clause-sound : goal.invariant_of-self-2-clause-sound
+invariant_of-self-2-clause-sound g c =
+    let was = c.args.self.now in
+    let may = c.in_default.ensures in
+    begun_sound _ _ _ _ _ _ was.live.items c.push.new.self.items was.committing.items _ was.sound c.in_ok-push.ensures.items
+    (record { number_is = c.new-number.ensures; session_is = refl; is_open = refl; idle = refl; no_calls = c.new.ensures.items; none_started = refl; reserves = refl })
+    may.room may.few may.crowd may.commits

@@ -3,7 +3,9 @@ use Rattle.mt_txn.specs.declared.answers.Stepped.TheVariants.{Replied}
 use Rattle.mt_txn.specs.Ends.{IsFinished, IsStepped}
 use Rattle.mt_txn.specs.State.{State, state_of}
 use Rattle.mt_txn.proofs.Finishing.{under_way, answered, item_at, ok_gives}
+use Rattle.mt_txn.specs.Work.{work_left, LowersWork}
 use Rattle.mt_txn.proofs.Keeping.{ended_keeps}
+use Rattle.mt_txn.proofs.Working.{ended_work, first_none}
 use Rattle.mt_log.proofs.Elsewhere.{on_same}
 use Rattle.mt_txn.proofs.kernel.Kernel.step.Goals as goal
 
@@ -55,3 +57,15 @@ invariant_of-self g c =
       relations = was.relations;
       counters = was.counters;
     }
+
+pub returns-clause-work : goal.returns-clause-work
+returns-clause-work g c =
+    let was = c.args.self.now in
+    let reply = c.in_ok-ending.ending.reply in
+    let same = c.in_ok-reserve.ensures in
+    let place = c.in_ok-place.place in
+    let item = item_at was.live.items place c.in_ok-place.ensures.within in
+    let way = under_way was.live.items place item.0 c.in_ok-place.ensures.within item.1 (c.in_ok-place.ensures.running item.0 item.1) in
+    answered c.finish.result (Replied reply) _ (λ stepped. LowersWork stepped (work_left (state_of was) c.args.txn) (work_left (state_of c.finish.new.self) c.args.txn)) c.finish.ensures.answer c.finish.ensures.ended
+    (λ ends. ended_work (state_of was) (state_of c.finish.new.self) c.args.txn place item.0 way.0 reply (first_none _ _ c.in_ok-place.ensures.may) c.in_ok-place.ensures.place way.1
+    (ends item.0 way.0 way.1).live)

@@ -1,0 +1,40 @@
+-- What undoing a transaction leads to, whoever else is live.
+use Rattle.std.specs.Prelude.{ℕ, ◌≡◌, ◌≢◌, Option, Some, None, List, [], ◌∷◌, IfSome, All}
+use Rattle.mt_model.specs.declared.operations.Op.{Op}
+use Rattle.mt_model.specs.Model.{Base, Object, Key, Counter, object_of, base_after, inverse_of}
+use Rattle.mt_model.specs.History.{Call}
+use Rattle.mt_txn.specs.declared.live.Running.{Running}
+use Rattle.mt_txn.specs.Party.{Party}
+use Rattle.mt_txn.specs.State.{State, live_at}
+
+-- two bases have the same under a key, or the same counter
+abbrev pub SameAt : Object → Base → Base → Type 0
+SameAt (Key r k) a b = a.rows r k ≡ b.rows r k
+SameAt (Counter c) a b = a.counts c ≡ b.counts c
+
+-- the base after an inverse, if there is one
+abbrev pub back_by : Base → Option Op → Base
+back_by b None = b
+back_by b (Some inverse) = base_after b inverse
+
+-- the base after the inverses of the calls, the last call's first
+abbrev pub taken_back : Base → List Call → Base
+taken_back b [] = b
+taken_back b (c ∷ cs) = back_by (taken_back b cs) (inverse_of c.0 c.1)
+
+-- transaction t is open or aborting, and if it were undone now, x would be as in the base b
+abbrev pub UndoesTo : ℕ → Object → Base → State → Type 0
+UndoesTo t x b s = (l : Party) × (live_at s t ≡ Some l) × SameAt x (taken_back s.held l.calls) b
+
+-- no operation of the transaction is on x, whether it has ended or not
+pub record IsOff (x : Object) (l : Party) : Type 0 where
+  pub running : IfSome l.running (λ (r : Running). object_of r.op ≢ x)
+  pub calls : All (λ (c : Call). object_of c.0 ≢ x) l.calls
+
+-- transaction u is none that has to do with x
+abbrev pub StaysOff : State → ℕ → Object → Type 0
+StaysOff s u x = (l : Party) → live_at s u ≡ Some l → IsOff x l
+
+-- of the transactions and objects with P, the one state tells what the other did of their undoing
+abbrev pub KeepsUndo : (ℕ → Object → Type 0) → State → State → Type 0
+KeepsUndo P s z = (t : ℕ) (x : Object) (b : Base) → P t x → UndoesTo t x b s → UndoesTo t x b z

@@ -10,3 +10,4 @@ pub mod Keeping
 pub mod Places
 pub mod Taking
 pub mod Working
+pub mod Undone

@@ -1,5 +1,5 @@
 -- The live transaction of a number, after each change of the list of them.
-use Rattle.std.proofs.Common.{◌≡◌, ◌≢◌, ℕ, zero, suc, ◌<◌, ◌≤◌, ◌==◌, ◌++◌, ◌∷◌, [], ◌∙◌, Bool, true, false, cond, List, length, take, drop, get_or, refl, sym, ap, arith, subst, Option, Some, None}
+use Rattle.std.proofs.Common.{◌≡◌, ◌≢◌, ℕ, zero, suc, ◌<◌, ◌==◌, ◌++◌, ◌∷◌, [], ◌∙◌, Bool, true, false, cond, List, length, get_or, refl, sym, ap, arith, subst, Some, None}
 use Rattle.std.proofs.Math.ListN.{set}
 use Rattle.std.specs.List.{find, remove, position_or_len, slice_get}
 use Rattle.std.specs.Prelude.{nat_lt}
@@ -9,7 +9,7 @@ use Rattle.std.proofs.lemmas.Bool.Decides.{Decides-eqb}
 use Rattle.std.proofs.lemmas.Option.{slice_get_past, slice_get-get_or}
 use Rattle.std.proofs.lemmas.List.Folds.{find_at, find-set, find_past, find-append}
 use Rattle.mt_txn.specs.Party.{Party}
-use Rattle.mt_txn.specs.State.{State, place_in, at_place, live_at}
+use Rattle.mt_txn.specs.State.{place_in, at_place}
 
 -- a party has this number
 abbrev pub has : ℕ → Party → Bool

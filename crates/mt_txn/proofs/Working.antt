@@ -1,5 +1,5 @@
 -- What each event does to the work that is left of a transaction.
-use Rattle.std.proofs.Common.{◌≡◌, ℕ, ◌<◌, ◌≤◌, ◌+◌, ◌∙◌, ◌⊎◌, inl, inr, Bool, true, false, List, length, get_or, take, refl, sym, ap, arith, Option, Some, None, IsSome, subst}
+use Rattle.std.proofs.Common.{◌≡◌, ℕ, ◌<◌, ◌≤◌, ◌+◌, ◌∙◌, ◌⊎◌, inl, inr, Bool, true, false, length, get_or, take, refl, sym, ap, arith, Option, Some, None, IsSome}
 use Rattle.std.proofs.Math.ListN.{set}
 use Rattle.std.specs.List.{find}
 use Rattle.std.specs.Prelude.{is_some, if◌then◌else◌}

@@ -1,8 +1,10 @@
 -- What undoing a transaction leads to, whoever else is live.
-use Rattle.std.specs.Prelude.{ℕ, ◌≡◌, ◌≢◌, Option, Some, None, List, [], ◌∷◌, IfSome, All}
+use Rattle.std.specs.Prelude.{ℕ, ◌≡◌, ◌≢◌, Option, Some, None, List, [], ◌∷◌, IfSome, All, ⊤}
 use Rattle.mt_model.specs.declared.operations.Op.{Op}
 use Rattle.mt_model.specs.Model.{Base, Object, Key, Counter, object_of, base_after, inverse_of}
 use Rattle.mt_model.specs.History.{Call}
+use Rattle.mt_txn.specs.declared.answers.AbortStepped.{AbortStepped}
+use Rattle.mt_txn.specs.declared.answers.AbortStepped.TheVariants as stepped
 use Rattle.mt_txn.specs.declared.live.Running.{Running}
 use Rattle.mt_txn.specs.Party.{Party}
 use Rattle.mt_txn.specs.State.{State, live_at}
@@ -35,6 +37,25 @@ pub record IsOff (x : Object) (l : Party) : Type 0 where
 abbrev pub StaysOff : State → ℕ → Object → Type 0
 StaysOff s u x = (l : Party) → live_at s u ≡ Some l → IsOff x l
 
--- of the transactions and objects with P, the one state tells what the other did of their undoing
+-- for the transactions and objects with P, undoing leads to the same in both states
 abbrev pub KeepsUndo : (ℕ → Object → Type 0) → State → State → Type 0
 KeepsUndo P s z = (t : ℕ) (x : Object) (b : Base) → P t x → UndoesTo t x b s → UndoesTo t x b z
+
+-- any transaction, and any but one
+abbrev pub Whoever : ℕ → Object → Type 0
+Whoever t x = ⊤
+
+abbrev pub OtherThan : ℕ → ℕ → Object → Type 0
+OtherThan u t x = t ≢ u
+
+-- the transaction u itself, and each other one on an object that u has nothing to do with
+abbrev pub IsApart : State → ℕ → ℕ → Object → Type 0
+IsApart s u t x = t ≢ u → StaysOff s u x
+
+-- Once the abort of u has ended, each object is as undoing u would have left it.
+abbrev pub KeepsAbortUndo : State → ℕ → AbortStepped → State → Type 0
+KeepsAbortUndo s u stepped.More z = KeepsUndo (IsApart s u) s z
+KeepsAbortUndo s u stepped.Ended z = KeepsUndo (OtherThan u) s z × ((x : Object) (b : Base) → UndoesTo u x b s → SameAt x z.held b)
+KeepsAbortUndo s u (stepped.Wait other) z = KeepsUndo Whoever s z
+KeepsAbortUndo s u stepped.Again z = KeepsUndo Whoever s z
+KeepsAbortUndo s u stepped.Flush z = KeepsUndo Whoever s z

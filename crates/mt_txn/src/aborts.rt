@@ -6,6 +6,7 @@ ghost use Rattle.mt_txn.specs.Effects.{Call, effects};
 ghost use Rattle.mt_txn.specs.Sound.{IsCallWithin};
 ghost use Rattle.mt_txn.specs.Kept.{Keeps, IsSingle};
 ghost use Rattle.mt_txn.specs.Party.{Party};
+ghost use Rattle.mt_txn.specs.Undo.{KeepsUndo, Whoever, KeepsAbortUndo};
 ghost use Rattle.mt_txn.specs.Work.{work_left, LowersAbortWork};
 ghost use Rattle.mt_txn.specs.State.{state_of, open_cause, place_in};
 
@@ -45,6 +46,7 @@ impl<D: Device> Kernel<D> {
         ensures may { OnOk result (open_cause (state_of self.old) txn ≡ None) }
         ensures begun { OnOk result (HasBegunAbort (state_of self.old) txn (state_of self.new)) }
         ensures kept { OnOk result (Keeps (state_of self.old) (state_of self.new)) }
+        ensures undo { OnOk result (KeepsUndo Whoever (state_of self.old) (state_of self.new)) }
         ensures work { OnOk result (work_left (state_of self.new) txn ≤ 257) }
         ensures err { OnErr result (state_of self.new ≡ state_of self.old) }
     {
@@ -123,6 +125,7 @@ impl<D: Device> Kernel<D> {
         ensures cause { IfErr result (λ why. why ≢ Refusal.NoMemory → abort_cause (state_of self.old) txn ≡ Some why) }
         ensures may { OnOk result (abort_cause (state_of self.old) txn ≡ None) }
         ensures stepped { IfOk result (λ stepped. IsAbortStepped (state_of self.old) txn stepped (state_of self.new)) }
+        ensures undo { IfOk result (λ stepped. KeepsAbortUndo (state_of self.old) txn stepped (state_of self.new)) }
         ensures work { IfOk result (λ stepped. LowersAbortWork stepped (work_left (state_of self.old) txn) (work_left (state_of self.new) txn)) }
         ensures kept { OnOk result (IsSingle (state_of self.old) → Keeps (state_of self.old) (state_of self.new)) }
         ensures err { OnErr result (state_of self.new ≡ state_of self.old) }

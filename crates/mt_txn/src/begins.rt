@@ -2,7 +2,9 @@ ghost use Rattle.std.specs.Prelude.{◌≡◌, ◌≢◌, ◌<◌, ◌≤◌, �
 ghost use Rattle.mt_log.specs.Words.{used, area_size};
 ghost use Rattle.mt_base.specs.declared.refusal.Refusal.{Refusal};
 ghost use Rattle.mt_txn.specs.Kept.{Keeps};
+ghost use Rattle.mt_model.specs.Model.{Object};
 ghost use Rattle.mt_txn.specs.State.{state_of, begin_cause, lives, IsBegun};
+ghost use Rattle.mt_txn.specs.Undo.{KeepsUndo, Whoever, UndoesTo};
 
 use crate::kernel::Kernel;
 use crate::live::{Live, Phase};
@@ -45,6 +47,8 @@ impl<D: Device> Kernel<D> {
         ensures cause { IfErr result (λ why. why ≢ Refusal.NoMemory → begin_cause (state_of self.old) ≡ Some why) }
         ensures begun { OnOk result (IsBegun (state_of self.old) session (state_of self.new)) }
         ensures kept { OnOk result (Keeps (state_of self.old) (state_of self.new)) }
+        ensures undo { OnOk result (KeepsUndo Whoever (state_of self.old) (state_of self.new)) }
+        ensures fresh_undo { IfOk result (λ txn. (x : Object) → UndoesTo txn x (state_of self.old).held (state_of self.new)) }
         ensures err { OnErr result (state_of self.new ≡ state_of self.old) }
     {
         if let Some(why) = self.begin_cause() {

@@ -8,6 +8,7 @@ ghost use Rattle.mt_log.specs.Words.{used, area_size};
 ghost use Rattle.mt_txn.specs.Logged.{log_need_of};
 ghost use Rattle.mt_txn.specs.Kept.{Keeps};
 ghost use Rattle.mt_txn.specs.Party.{Party};
+ghost use Rattle.mt_txn.specs.Undo.{KeepsUndo, Whoever};
 ghost use Rattle.mt_txn.specs.Work.{work_left};
 
 use crate::answers::Called;
@@ -183,6 +184,7 @@ impl<D: Device> Kernel<D> {
         ensures answer { IfOk result (λ called. called ≡ Called.Started) }
         ensures called { OnOk result (HasCalled (state_of self.old) txn op (state_of self.new)) }
         ensures kept { OnOk result (Keeps (state_of self.old) (state_of self.new)) }
+        ensures undo { OnOk result (KeepsUndo Whoever (state_of self.old) (state_of self.new)) }
         ensures work { OnOk result (work_left (state_of self.new) txn ≡ 1) }
         ensures err { OnErr result (state_of self.new ≡ state_of self.old) }
     {

@@ -4,6 +4,7 @@ ghost use Rattle.std.specs.Vec.{vec_len, vec_capacity};
 ghost use Rattle.mt_base.specs.declared.refusal.Refusal.{Refusal};
 ghost use Rattle.mt_txn.specs.Commits.{commit_cause, HasBegunCommit, durable_count, IsForced, HasFailed};
 ghost use Rattle.mt_txn.specs.Kept.{Keeps, IsSingle};
+ghost use Rattle.mt_txn.specs.Undo.{KeepsUndo, Whoever, OtherThan};
 ghost use Rattle.mt_txn.specs.Parties.{committed_of};
 ghost use Rattle.mt_txn.specs.declared.live.Committing.{Committing};
 ghost use Rattle.mt_txn.specs.State.{state_of, place_in};
@@ -91,6 +92,7 @@ impl<D: Device> Kernel<D> {
         ensures place { IfOk result (λ place. place ≡ length self.old.book.items + length self.old.committing.items + 1) }
         ensures begun { OnOk result (HasBegunCommit (state_of self.old) txn (state_of self.new)) }
         ensures kept { OnOk result (IsSingle (state_of self.old) → Keeps (state_of self.old) (state_of self.new)) }
+        ensures undo { OnOk result (KeepsUndo (OtherThan txn) (state_of self.old) (state_of self.new)) }
         ensures err { OnErr result (state_of self.new ≡ state_of self.old) }
     {
         let place = self.idle_place(txn)?;
@@ -116,6 +118,7 @@ impl<D: Device> Kernel<D> {
         ensures memory { IsErrOf result Refusal.NoMemory → state_of self.new ≡ state_of self.old }
         ensures forced { IfOk result (λ forced. IsForced (state_of self.old) forced (state_of self.new)) }
         ensures kept { OnOk result (Keeps (state_of self.old) (state_of self.new)) }
+        ensures undo { OnOk result (KeepsUndo Whoever (state_of self.old) (state_of self.new)) }
         // 2 comes from a fault of the device, in this call or in an earlier one, and stays for good
         ensures fault { IsErrOf result Refusal.DeviceFailed → (D.faults self.old.device < D.faults self.new.device) ⊎ ((state_of self.old).failed ≡ true) }
         ensures stopped { IsErrOf result Refusal.DeviceFailed → HasFailed (state_of self.old) (state_of self.new) }

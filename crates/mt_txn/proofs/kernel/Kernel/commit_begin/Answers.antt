@@ -6,6 +6,9 @@ use Rattle.mt_txn.specs.Sound.{IsParty}
 use Rattle.mt_txn.proofs.Leaving.{All-remove, commit_sound}
 use Rattle.mt_log.proofs.Elsewhere.{on_same}
 use Rattle.mt_txn.proofs.Keeping.{committing_keeps}
+use Rattle.mt_txn.specs.State.{state_of}
+use Rattle.mt_txn.proofs.Places.{placed}
+use Rattle.mt_txn.proofs.Undone.{gone_undo}
 use Rattle.mt_txn.proofs.kernel.Kernel.commit_begin.Goals as goal
 
 pub invariant_of-self-2 : goal.invariant_of-self-2
@@ -50,3 +53,11 @@ returns-clause-kept g c =
     c.push_reserved.ensures.items ∙ (ap (λ ds. ds ++ c.into_committing.result ∷ []) c.reserve.ensures.items
     ∙ ap (λ (d : Committing). c.args.self.now.committing.items ++ d ∷ []) c.into_committing.ensures) in
     committing_keeps _ _ c.in_ok-place.place c.remove-live.result c.in_ok-at.at c.in_ok-place.ensures.within c.remove-live.ensures.value c.remove-live.ensures.items begun c.reserve-2.ensures.items refl
+
+pub returns-clause-undo : goal.returns-clause-undo
+returns-clause-undo g c =
+    let was = c.args.self.now in
+    let place = c.in_ok-place.place in
+    let l = c.remove-live.result in
+    gone_undo (state_of was) (record (state_of was) { live = c.remove-live.new.self.items }) c.args.txn place l
+    (placed was.live.items c.args.txn place l c.in_ok-place.ensures.place c.in_ok-place.ensures.within c.remove-live.ensures.value) c.remove-live.ensures.items refl

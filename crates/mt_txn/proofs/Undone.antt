@@ -1,5 +1,5 @@
 -- What each event does of the undoing of the live transactions.
-use Rattle.std.proofs.Common.{◌≡◌, ◌≢◌, ℕ, suc, ◌≤◌, ◌+◌, ◌==◌, ◌++◌, ◌∷◌, [], ◌∙◌, ◌⊎◌, inl, inr, Bool, true, false, take, drop, refl, sym, ap, arith, Option, Some, None, is_some, cond, subst, IfSome}
+use Rattle.std.proofs.Common.{◌≡◌, ◌≢◌, ℕ, suc, ◌≤◌, ◌+◌, ◌==◌, ◌++◌, ◌∷◌, [], ◌∙◌, ◌⊎◌, inl, inr, Bool, true, false, take, drop, refl, sym, ap, arith, Option, Some, None, is_some, cond, subst, IfSome, IsSome}
 use Rattle.std.proofs.Math.ListN.{set}
 use Rattle.std.specs.List.{find, remove, All}
 use Rattle.std.proofs.lemmas.Bool.Decides.{Decides-eqb}
@@ -12,14 +12,15 @@ use Rattle.mt_model.specs.History.{Call}
 use Rattle.mt_txn.specs.declared.answers.AbortStepped.{AbortStepped}
 use Rattle.mt_txn.specs.declared.answers.AbortStepped.TheVariants as step
 use Rattle.mt_txn.specs.declared.live.Running.{Running}
-use Rattle.mt_txn.specs.Aborts.{HasGivenUp, HasUndone, HasLeft, IsAbortStepped}
+use Rattle.mt_txn.specs.Aborts.{IsLastEffect, HasGivenUp, HasUndone, HasLeft, IsAbortStepped}
 use Rattle.mt_txn.specs.Effects.{effects}
 use Rattle.mt_txn.specs.Ends.{IsUnderWay, given_back_of}
 use Rattle.mt_txn.specs.Party.{Party}
 use Rattle.mt_txn.specs.Parties.{noted, calls_with, given_up, cut_at}
 use Rattle.mt_txn.specs.State.{State, live_at, place_in}
-use Rattle.mt_txn.specs.Undo.{SameAt, back_by, taken_back, UndoesTo, KeepsUndo, Whoever, OtherThan, IsApart, KeepsAbortUndo}
+use Rattle.mt_txn.specs.Undo.{SameAt, back_by, taken_back, UndoesTo, KeepsUndo, Whoever, OtherThan, IsApart, IsApartFromUndo, KeepsAbortUndo}
 use Rattle.mt_txn.proofs.Bounds.{effects-cons}
+use Rattle.mt_txn.proofs.Finishing.{same_item}
 use Rattle.mt_txn.proofs.Places.{has, IsPlaced, placed, live-find, found-set_same, found-set_other, found-remove_other, found-push, found-push_fresh, none_above}
 use Rattle.mt_txn.proofs.Taking.{same_bases, same_twice, same_off, inverse_off, same_taken, taken-append, taken_nothing, one_taken}
 
@@ -108,12 +109,24 @@ ended_undo s z u i l r reply within place way replied is acts =
     (λ x _. same_bases x (taken_back z.held n.calls) (taken_back s.held l.calls) back)
     (λ t x other off.
     let away = off other l (live-find s.live u ∙ at.found) in
-    let elsewhere : object_of r.op ≢ x = subst (λ (o : Option Running). IfSome o (λ (y : Running). object_of y.op ≢ x)) way.running away.running in
+    let elsewhere : object_of r.op ≢ x = subst (λ (o : Option Running). IfSome o (λ (y : Running). object_of y.op ≢ x)) way.running away in
     subst (λ h. SameAt x h s.held) (sym acts) (same_off x s.held r.op elsewhere))
 
 -- ---- aborts
 
-undone_undo : (s z : State) (u i : ℕ) (l : Party) → IsPlaced s.live u i l → HasUndone s i l z → KeepsUndo (IsApart s u) s z
+last_of : (s : State) (i : ℕ) (l : Party) (z : State) (undone : HasUndone s i l z) → IsLastEffect l undone.call.0
+last_of s i l z undone = record {
+  within = undone.call.3;
+  effect = λ c is.
+      let same : undone.call.1 ≡ c = same_item l.calls undone.call.0 undone.call.1 c undone.call.3 undone.call.4 is in
+      subst (λ (y : Call). IsSome (inverse_of y.0 y.1)) same (subst (λ o. IsSome o) undone.call.5 some_there);
+  last = undone.last;
+}
+  where
+    some_there : IsSome (Some undone.call.2)
+    some_there = refl
+
+undone_undo : (s z : State) (u i : ℕ) (l : Party) → IsPlaced s.live u i l → HasUndone s i l z → KeepsUndo (IsApartFromUndo s u) s z
 undone_undo s z u i l at undone =
     let n = undone.call.0 in let c = undone.call.1 in let inverse = undone.call.2 in
     let behind : drop n l.calls ≡ c ∷ drop (suc n) l.calls = drop-cons l.calls n c undone.call.3 ∙ ap (λ y. y ∷ drop (suc n) l.calls) (sym undone.call.4) in
@@ -126,14 +139,13 @@ undone_undo s z u i l at undone =
     let back : taken_back z.held (take n l.calls) ≡ taken_back s.held l.calls =
     ap (λ b. taken_back b (take n l.calls)) (sym last) ∙ (sym (taken-append s.held (take n l.calls) (c ∷ drop (suc n) l.calls))
     ∙ ap (taken_back s.held) (ap (λ cs. take n l.calls ++ cs) (sym behind) ∙ take-append-drop n l.calls)) in
-    changed_undo s z u i l (cut_at l n) (IsApart s u) at refl undone.call.7
+    changed_undo s z u i l (cut_at l n) (IsApartFromUndo s u) at refl undone.call.7
     (λ x _. same_bases x (taken_back z.held (take n l.calls)) (taken_back s.held l.calls) back)
     (λ t x other off.
-    let away = off other l (live-find s.live u ∙ at.found) in
-    let elsewhere : object_of c.0 ≢ x = subst (λ (y : Call). object_of y.0 ≢ x) (sym undone.call.4) (away.calls n c undone.call.3) in
+    let elsewhere : object_of c.0 ≢ x = off other l (live-find s.live u ∙ at.found) n c (last_of s i l z undone) undone.call.4 in
     subst (λ h. SameAt x h s.held) (sym undone.call.6) (same_off x s.held inverse (inverse_off x c.0 inverse c.1 (sym undone.call.5) elsewhere)))
 
-more_undo : (s z : State) (u i : ℕ) (l : Party) → IsPlaced s.live u i l → HasGivenUp s i l z ⊎ HasUndone s i l z → KeepsUndo (IsApart s u) s z
+more_undo : (s z : State) (u i : ℕ) (l : Party) → IsPlaced s.live u i l → HasGivenUp s i l z ⊎ HasUndone s i l z → KeepsUndo (IsApartFromUndo s u) s z
 more_undo s z u i l at (inl gave) = λ t x b _ undoes. unmoved_undo s z u i l (given_up l) at refl refl gave.live (ap (λ (y : State). y.held) gave.rest) t x b tt undoes
 more_undo s z u i l at (inr undone) = undone_undo s z u i l at undone
 

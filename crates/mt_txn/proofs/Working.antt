@@ -86,7 +86,7 @@ ended_work s z t i l r reply may place way is =
 pub few_effects : (relations counters : ℕ) (l : Party) → IsParty relations counters l → unfinished l.running + effects l.calls ≤ 256
 few_effects relations counters l party = omega (arith, party.few, party.started, count_by-le-length (λ (c : Call). is_some (inverse_of c.0 c.1)) l.calls)
 
-pub aborting_work : (relations counters : ℕ) (s z : State) (t i : ℕ) (l : Party) → IsThere s.live t i l → IsParty relations counters l → z.live ≡ set s.live i (aborting l) → work_left z t ≤ 257
+pub aborting_work : (relations counters : ℕ) (s z : State) (t i : ℕ) (l : Party) → IsThere s.live t i l → IsParty relations counters l → z.live ≡ set s.live i (aborting l) → work_left z t ≤ 256
 aborting_work relations counters s z t i l there party is =
     let at = placed s.live t i l there.place there.within there.there in
     omega (arith, ap work_of (live_becomes s z t i l (aborting l) at refl is), few_effects relations counters l party)

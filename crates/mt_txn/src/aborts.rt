@@ -37,7 +37,7 @@ fn inverse_at(live: &Live, at: usize) -> Result<Op, Refusal>
 
 impl<D: Device> Kernel<D> {
     /// Begins to undo an open transaction, whether an operation of it is unfinished or not; abort steps
-    /// bring it to its end. It takes no memory.
+    /// bring it to its end, at most 257 of them. It takes no memory.
     ///
     /// Refused, in this order: 2 where the device has failed, 15 where the transaction is not open. Nothing
     /// has changed then.
@@ -47,7 +47,7 @@ impl<D: Device> Kernel<D> {
         ensures begun { OnOk result (HasBegunAbort (state_of self.old) txn (state_of self.new)) }
         ensures kept { OnOk result (Keeps (state_of self.old) (state_of self.new)) }
         ensures undo { OnOk result (KeepsUndo Whoever (state_of self.old) (state_of self.new)) }
-        ensures work { OnOk result (work_left (state_of self.new) txn ≤ 257) }
+        ensures work { OnOk result (work_left (state_of self.new) txn ≤ 256) }
         ensures err { OnErr result (state_of self.new ≡ state_of self.old) }
     {
         let place = self.open_place(txn)?;

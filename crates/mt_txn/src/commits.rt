@@ -111,8 +111,9 @@ impl<D: Device> Kernel<D> {
     /// becomes durable with its last, which answers the transactions whose commits are durable now. They
     /// are in the book then, in the order of their commits, and live no more.
     ///
-    /// Refused, in this order: 2 where the device fails or has failed, 1 for want of memory. After 1 nothing has
-    /// changed.
+    /// Refused, in this order: 2 where the device fails in this call or has failed, 1 for want of memory. After 1
+    /// nothing has changed, and the device was not called. After 2 the transactions, the book and the base are
+    /// as before, and each later event is refused 2.
     pub fn force_step(&mut self) -> Result<KernelForced, Refusal>
         ensures failed { IfErr result (λ why. why ≢ Refusal.NoMemory → why ≡ Refusal.DeviceFailed) }
         ensures memory { IsErrOf result Refusal.NoMemory → state_of self.new ≡ state_of self.old }

@@ -142,7 +142,7 @@ undone_undo s z u i l at undone =
     changed_undo s z u i l (cut_at l n) (IsApartFromUndo s u) at refl undone.call.7
     (λ x _. same_bases x (taken_back z.held (take n l.calls)) (taken_back s.held l.calls) back)
     (λ t x other off.
-    let elsewhere : object_of c.0 ≢ x = off other l (live-find s.live u ∙ at.found) n c (last_of s i l z undone) undone.call.4 in
+    let elsewhere : object_of c.0 ≢ x = off other l (live-find s.live u ∙ at.found) undone.idle n c (last_of s i l z undone) undone.call.4 in
     subst (λ h. SameAt x h s.held) (sym undone.call.6) (same_off x s.held inverse (inverse_off x c.0 inverse c.1 (sym undone.call.5) elsewhere)))
 
 more_undo : (s z : State) (u i : ℕ) (l : Party) → IsPlaced s.live u i l → HasGivenUp s i l z ⊎ HasUndone s i l z → KeepsUndo (IsApartFromUndo s u) s z

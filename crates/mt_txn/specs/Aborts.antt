@@ -47,6 +47,7 @@ pub record IsLastEffect (l : Party) (n : ℕ) : Type 0 where
 -- its last call that did anything is undone: the inverse acted once on the held base, and neither the
 -- call nor any after it stands any more
 pub record HasUndone (s : State) (i : ℕ) (l : Party) (z : State) : Type 0 where
+  pub idle : l.running ≡ None
   pub call : (n : ℕ) × (c : Call) × (inverse : Op) × (n < length l.calls) × (c ≡ slice_index_or l.calls n c) × (Some inverse ≡ inverse_of c.0 c.1)
       × (z.held ≡ base_after s.held inverse) × (z.live ≡ slice_set s.live i (cut_at l n))
   pub last : effects l.calls ≡ effects (take call.0 l.calls) + 1

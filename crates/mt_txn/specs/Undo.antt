@@ -44,9 +44,9 @@ OtherThan u t x = t ≢ u
 abbrev pub RunsOff : State → ℕ → Object → Type 0
 RunsOff s u x = (l : Party) → live_at s u ≡ Some l → IfSome l.running (λ (r : Running). object_of r.op ≢ x)
 
--- nor is the call of u that would be undone next
+-- nor is the call of u that is undone next, where no operation is unfinished
 abbrev pub UndoesOff : State → ℕ → Object → Type 0
-UndoesOff s u x = (l : Party) → live_at s u ≡ Some l → (n : ℕ) (c : Call) → IsLastEffect l n → c ≡ slice_index_or l.calls n c → object_of c.0 ≢ x
+UndoesOff s u x = (l : Party) → live_at s u ≡ Some l → l.running ≡ None → (n : ℕ) (c : Call) → IsLastEffect l n → c ≡ slice_index_or l.calls n c → object_of c.0 ≢ x
 
 -- the transaction u itself, and each other one on the objects that the event of u is not on
 abbrev pub IsApart : State → ℕ → ℕ → Object → Type 0
@@ -55,7 +55,7 @@ IsApart s u t x = t ≢ u → RunsOff s u x
 abbrev pub IsApartFromUndo : State → ℕ → ℕ → Object → Type 0
 IsApartFromUndo s u t x = t ≢ u → UndoesOff s u x
 
--- Once the abort of u has ended, each object is as undoing u would have left it.
+-- A step that gives an unfinished operation up leaves all as it was. Once the abort of u has ended, each object is as undoing u would have left it.
 abbrev pub KeepsAbortUndo : State → ℕ → AbortStepped → State → Type 0
 KeepsAbortUndo s u stepped.More z = KeepsUndo (IsApartFromUndo s u) s z
 KeepsAbortUndo s u stepped.Ended z = KeepsUndo (OtherThan u) s z × ((x : Object) (b : Base) → UndoesTo u x b s → SameAt x z.held b)

@@ -87,6 +87,7 @@ impl<D: Device> Kernel<D> {
     // Undoes the call at this place of the transaction, the last of its calls that did anything.
     fn undo(&mut self, place: usize, at: usize) -> Result<(), Refusal>
         requires within { place < length self.old.live.items }
+        requires idle { (l : Party) → l ≡ slice_index_or self.old.live.items place l → l.running ≡ None }
         requires call { (l : Party) → l ≡ slice_index_or self.old.live.items place l → IsLastEffect l at }
         ensures undone { OnOk result ((l : Party) → l ≡ slice_index_or self.old.live.items place l → HasUndone (state_of self.old) place l (state_of self.new)) }
         ensures err { OnErr result (state_of self.new ≡ state_of self.old) }

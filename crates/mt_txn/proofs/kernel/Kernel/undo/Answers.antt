@@ -68,6 +68,7 @@ returns-clause-undone g c = λ l there.
     let party : IsParty (relations_of was.base) (length (counters_of was.base)) l =
     subst (IsParty (relations_of was.base) (length (counters_of was.base))) (sym there) (was.parties c.args.place l c.requires.within) in
     record {
+      idle = c.requires.idle l there;
       call = (
         c.args.at,
         call.0,

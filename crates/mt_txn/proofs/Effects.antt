@@ -1,5 +1,5 @@
 -- What one operation does to the base, to the log's bytes and to a transaction's share of them.
-use Rattle.std.proofs.Common.{◌≡◌, ℕ, ◌≤◌, ◌+◌, ◌*◌, ◌∷◌, ◌++◌, [], Bool, true, false, cond, List, refl, sym, ap, arith, Option, Some, None, is_some, subst, ◌&&◌, ◌==◌, bytes_eq, IfSome}
+use Rattle.std.proofs.Common.{◌≡◌, ℕ, ◌≤◌, ◌+◌, ◌*◌, ◌∷◌, ◌++◌, [], Bool, true, false, cond, List, refl, sym, ap, arith, Option, Some, None, is_some, subst, ◌&&◌, ◌==◌, bytes_eq, IfSome, length, length-append}
 use Rattle.std.specs.List.{All}
 use Rattle.std.proofs.lemmas.List.Sums.{sum_by_push}
 use Rattle.std.proofs.lemmas.List.Elements.{All-push}
@@ -15,7 +15,7 @@ use Rattle.mt_txn.specs.Party.{Party}
 use Rattle.mt_txn.specs.Parties.{noted, calls_with}
 use Rattle.mt_txn.specs.declared.live.Running.{Running}
 use Rattle.mt_txn.specs.Sound.{IsParty, IsCallWithin, IsRunningWithin, HasSmallValues}
-use Rattle.mt_txn.specs.Effects.{Call, effects, running_need}
+use Rattle.mt_txn.specs.Effects.{Call, effects, running_need, unfinished}
 use Rattle.mt_txn.specs.Ends.{given_back_of}
 
 -- ---- values stay small
@@ -113,6 +113,7 @@ noted_party relations counters l r reply party runs small =
       not_above = party.not_above;
       started = party.started;
       reserved = omega (arith, party.reserved, needs, pushed, even);
+      few = omega (arith, party.few, ap unfinished runs, ap length calls, length-append l.calls ((r.op, reply) ∷ []));
       running = tt;
       calls = subst (All (IsCallWithin relations counters)) (sym calls) (All-push (IsCallWithin relations counters) l.calls (r.op, reply) party.calls (inside.2, small));
     }

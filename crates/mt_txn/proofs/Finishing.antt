@@ -5,6 +5,7 @@ use Rattle.std.specs.List.{All}
 use Rattle.std.specs.Option.{option_map, option_map_or}
 use Rattle.std.proofs.lemmas.List.{get_or_default}
 use Rattle.std.proofs.lemmas.List.Sums.{sum_by-set}
+use Rattle.std.proofs.lemmas.List.Elements.{All-set}
 use Rattle.mt_frame.specs.declared.records.LoggedOp.{LoggedOp}
 use Rattle.mt_frame.specs.declared.records.Record.{Record}
 use Rattle.mt_frame.specs.declared.records.Record.TheVariants.{OpEnd}
@@ -60,6 +61,8 @@ finished_sound b used area reserved begun operations book new_used new_area live
       numbered = omega (arith, sound.numbered, lefts, started, same);
       crowd = omega (arith, length-set live i z, sound.crowd);
       commits = omega (arith, length-set live i z, sound.commits);
+      old_numbers = All-set (λ (x : Party). x.number ≤ begun) live i z
+          (omega (arith, sound.old_numbers i l way.within, ap (λ (x : Party). x.number) here, ap (λ (x : Party). x.number) is)) sound.old_numbers;
     }
 
 -- the bytes of an end's record, with its batch's head
@@ -79,6 +82,11 @@ same_party IsParty' r s c d l e f party = subst (λ n. IsParty' s n l) (sym f) (
 pub answered : {X E : Type 0} (r : Result X E) (a : X) (Q : Type 0) (P : X → Type 0) → IfOk r (λ x. x ≡ a) → OnOk r Q → (Q → P a) → IfOk r P
 answered (Ok x) a Q P is holds gives = subst P (sym is) (gives holds)
 answered (Err e) a Q P is holds gives = tt
+
+-- and what follows wherever there is an answer
+pub ok_gives : {X E : Type 0} (r : Result X E) (P Q : Type 0) → OnOk r P → (P → Q) → OnOk r Q
+ok_gives (Ok x) P Q holds gives = gives holds
+ok_gives (Err e) P Q holds gives = tt
 
 -- each place within a list has an item
 pub item_at : {X : Type 0} (xs : List X) (i : ℕ) → i < length xs → (x : X) × (x ≡ get_or xs i x)

@@ -40,6 +40,7 @@ commit_sound used area reserved begun operations book new_used new_area live com
       numbered = omega (arith, sound.numbered, lefts);
       crowd = omega (arith, length-append committing (c ∷ []), fewer, sound.crowd);
       commits = omega (arith, length-append committing (c ∷ []), fewer, sound.commits);
+      old_numbers = All-remove (λ (x : Party). x.number ≤ begun) live i within sound.old_numbers;
     }
 
 -- a transaction whose abort has ended
@@ -60,4 +61,5 @@ leave_sound used area reserved begun operations book new_used new_area live comm
       numbered = omega (arith, sound.numbered, lefts);
       crowd = omega (arith, fewer, sound.crowd);
       commits = omega (arith, fewer, sound.commits);
+      old_numbers = All-remove (λ (x : Party). x.number ≤ begun) live i within sound.old_numbers;
     }

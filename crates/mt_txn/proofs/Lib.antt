@@ -5,3 +5,9 @@ pub mod Endings
 pub mod Leaving
 pub mod Settled
 pub mod Undoing
+pub mod Bounds
+pub mod Keeping
+pub mod Places
+pub mod Taking
+pub mod Working
+pub mod Undone

@@ -28,4 +28,5 @@ settled_sound used area reserved begun operations new_used new_area given_back n
       numbered = sound.numbered;
       crowd = omega (arith, sound.crowd, fewer);
       commits = omega (arith, sound.commits, fewer, more, within);
+      old_numbers = sound.old_numbers;
     }

@@ -1,13 +1,16 @@
 -- What each event keeps of the live transactions.
-use Rattle.std.proofs.Common.{◌≡◌, ℕ, ◌<◌, ◌≤◌, ◌^◌, List, length, get_or, sym, ap, arith, None, subst}
-use Rattle.std.specs.List.{All}
+use Rattle.std.proofs.Common.{◌≡◌, ℕ, ◌<◌, ◌≤◌, ◌^◌, List, length, get_or, sym, ap, arith, None, subst, ◌+◌, ◌++◌, ◌∷◌, [], ◌∙◌, length-append}
+use Rattle.std.specs.List.{All, sum_by}
+use Rattle.std.proofs.lemmas.List.Elements.{All-push}
+use Rattle.std.proofs.lemmas.List.Sums.{sum_by_push}
 use Rattle.mt_model.specs.declared.operations.Op.{Op}
 use Rattle.mt_model.specs.declared.operations.Op.TheVariants.{Get, Insert, Update, Delete, Add, Read}
 use Rattle.mt_model.specs.Model.{IsWithin}
 use Rattle.mt_txn.specs.Party.{Party}
 use Rattle.mt_txn.specs.Parties.{with_running}
-use Rattle.mt_txn.specs.Sound.{IsParty, IsCallWithin, IsRunningWithin}
-use Rattle.mt_txn.specs.Effects.{effects, running_need}
+use Rattle.mt_txn.specs.declared.live.Committing.{Committing}
+use Rattle.mt_txn.specs.Sound.{IsSound, starts_left, IsParty, IsCallWithin, IsRunningWithin}
+use Rattle.mt_txn.specs.Effects.{effects, running_need, unfinished}
 use Rattle.mt_txn.specs.State.{IsNamed, IsSized, IsFresh}
 
 -- a named and sized operation is one of the schema
@@ -29,8 +32,31 @@ running_party relations counters l number op party idle few from_one fits inside
       not_above = party.not_above;
       started = omega arith;
       reserved = omega (arith, party.reserved);
+      few = omega (arith, party.few, ap unfinished idle);
       running = (from_one, fits, inside);
       calls = party.calls;
+    }
+
+-- a transaction that begins
+pub begun_sound : (used area reserved begun operations book : ℕ) (live new : List Party) (committing : List Committing) (l : Party)
+    → IsSound used area reserved begun operations book live committing → new ≡ live ++ l ∷ [] → IsFresh l (begun + 1) l.session
+    → used + reserved + 128 < area → begun < 2 ^ 40 → length live + length committing < 64 → book + (length live + length committing) < 1000000
+    → IsSound used area (reserved + 128) (begun + 1) operations book new committing
+begun_sound used area reserved begun operations book live new committing l sound pushed fresh room few crowd commits =
+    let one_more : length new ≡ length live + 1 = omega (arith, ap length pushed, length-append live (l ∷ [])) in
+    let shares : sum_by (λ (x : Party). x.reserved) new ≡ sum_by (λ (x : Party). x.reserved) live + l.reserved =
+    ap (sum_by (λ (x : Party). x.reserved)) pushed ∙ sum_by_push (λ (x : Party). x.reserved) live l in
+    let lefts : sum_by starts_left new ≡ sum_by starts_left live + starts_left l = ap (sum_by starts_left) pushed ∙ sum_by_push starts_left live l in
+    record {
+      room = omega arith;
+      small = sound.small;
+      shares = omega (arith, sound.shares, shares, fresh.reserves);
+      begun_below = omega arith;
+      numbered = omega (arith, sound.numbered, lefts, fresh.none_started);
+      crowd = omega arith;
+      commits = omega arith;
+      old_numbers = subst (All (λ (x : Party). x.number ≤ begun + 1)) (sym pushed)
+          (All-push (λ (x : Party). x.number ≤ begun + 1) live l (λ k d below. omega (arith, sound.old_numbers k d below)) (omega (arith, fresh.number_is)));
     }
 
 pub fresh_party : (relations counters number session : ℕ) (l : Party) → IsFresh l number session → 1 ≤ number → number ≤ 2 ^ 40
@@ -43,6 +69,7 @@ fresh_party relations counters number session l fresh from_one fits =
       not_above = omega (arith, fresh.number_is);
       started = omega (arith, fresh.none_started);
       reserved = omega (arith, fresh.reserves);
+      few = omega (arith, ap length fresh.no_calls, ap unfinished fresh.idle);
       running = subst (IsRunningWithin relations counters) (sym fresh.idle) tt;
       calls = subst (All (IsCallWithin relations counters)) (sym fresh.no_calls) (λ k d below. absurd (omega (arith, below)));
     }

@@ -1,8 +1,8 @@
 -- What the kernel keeps when a call is undone.
-use Rattle.std.proofs.Common.{◌≡◌, ℕ, ℤ, ◌<◌, ◌≤◌, ◌-◌, List, length, get_or, sym, ap, arith, IfSome, neg_ℤ, inl, inr}
+use Rattle.std.proofs.Common.{◌≡◌, ℕ, ℤ, ◌<◌, ◌≤◌, ◌-◌, List, length, get_or, sym, ap, arith, IfSome, neg_ℤ, inl, inr, length-take}
 use Rattle.std.proofs.Math.ListN.{set, length-set}
 use Rattle.std.proofs.lemmas.Int.{ints}
-use Rattle.std.proofs.lemmas.List.Elements.{All-take}
+use Rattle.std.proofs.lemmas.List.Elements.{All-take, All-set}
 use Rattle.std.proofs.lemmas.List.Sums.{sum_by-set, get_or-le-sum_by}
 use Rattle.mt_base.specs.Limits.{IsStep}
 use Rattle.mt_model.specs.declared.operations.Op.{Op}
@@ -37,6 +37,7 @@ cut_party relations counters l n party last = record {
   not_above = party.not_above;
   started = party.started;
   reserved = omega (arith, party.reserved, last.last);
+  few = omega (arith, party.few, length-take n l.calls);
   running = party.running;
   calls = All-take (IsCallWithin relations counters) n l.calls party.calls;
 }
@@ -62,6 +63,8 @@ undone_sound used area reserved begun operations book live committing i n l z so
       numbered = omega (arith, sound.numbered, lefts, started, same);
       crowd = omega (arith, length-set live i z, sound.crowd);
       commits = omega (arith, length-set live i z, sound.commits);
+      old_numbers = All-set (λ (x : Party). x.number ≤ begun) live i z
+          (omega (arith, sound.old_numbers i l within, ap (λ (x : Party). x.number) there, ap (λ (x : Party). x.number) is)) sound.old_numbers;
     }
 
 -- what one transaction has reserved is reserved

@@ -47,13 +47,16 @@ pub record IsLastEffect (l : Party) (n : ℕ) : Type 0 where
 -- its last call that did anything is undone: the inverse acted once on the held base, and neither the
 -- call nor any after it stands any more
 pub record HasUndone (s : State) (i : ℕ) (l : Party) (z : State) : Type 0 where
+  pub idle : l.running ≡ None
   pub call : (n : ℕ) × (c : Call) × (inverse : Op) × (n < length l.calls) × (c ≡ slice_index_or l.calls n c) × (Some inverse ≡ inverse_of c.0 c.1)
       × (z.held ≡ base_after s.held inverse) × (z.live ≡ slice_set s.live i (cut_at l n))
+  pub last : effects l.calls ≡ effects (take call.0 l.calls) + 1
   pub reserved : z.reserved + 106496 ≡ s.reserved
   pub rest : z ≡ record s { held = z.held; live = z.live; reserved = z.reserved }
 
 -- nothing of it is left to be undone: its end is logged, and it lives no more
 pub record HasLeft (s : State) (i : ℕ) (l : Party) (z : State) : Type 0 where
+  pub idle : l.running ≡ None
   pub nothing_left : effects l.calls ≡ 0
   pub live : z.live ≡ remove s.live i
   pub appended : z.appended ≡ s.appended + 1

@@ -1,5 +1,5 @@
 -- What commits and forces do.
-use Rattle.std.specs.Prelude.{ℕ, ◌≡◌, ◌<◌, ◌≤◌, ◌+◌, ◌++◌, ◌∷◌, [], List, length, Option, Some, slice_index_or, remove, map, take, drop, nat_lt}
+use Rattle.std.specs.Prelude.{ℕ, ◌≡◌, ◌<◌, ◌≤◌, ◌+◌, ◌++◌, ◌∷◌, [], List, length, Option, Some, slice_index_or, remove, map, take, drop, nat_lt, true}
 use Rattle.std.specs.List.{sum_by, position_or_len}
 use Rattle.mt_base.specs.declared.refusal.Refusal.{Refusal}
 use Rattle.mt_txn.specs.Party.{Party}
@@ -36,6 +36,12 @@ pub record IsSettled (s : State) (names : List ℕ) (z : State) : Type 0 where
   pub reserved : z.reserved + sum_by (λ (c : Committing). c.reserved) (take (durable_count s.committing z.durable) s.committing) ≡ s.reserved
   pub used : z.used ≡ s.used
   pub rest : z ≡ record s { committing = z.committing; book = z.book; reserved = z.reserved; durable = z.durable; used = z.used }
+
+-- the device has failed, for good; of the rest, only bytes that were used may be used no more
+pub record HasFailed (s z : State) : Type 0 where
+  pub failed : z.failed ≡ true
+  pub used : z.used ≤ s.used
+  pub rest : z ≡ record s { used = z.used; failed = z.failed }
 
 -- what a force step that answered this did
 abbrev pub IsForced : State → KernelForced → State → Type 0

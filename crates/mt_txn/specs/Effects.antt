@@ -15,6 +15,11 @@ Call = Op × Reply
 abbrev pub effects : List Call → ℕ
 effects calls = count_by (λ (c : Call). is_some (inverse_of c.0 c.1)) calls
 
+-- one for an unfinished operation
+abbrev pub unfinished : Option Running → ℕ
+unfinished None = 0
+unfinished (Some r) = 1
+
 -- what an unfinished operation has reserved of the log
 abbrev pub running_need : Option Running → ℕ
 running_need None = 0

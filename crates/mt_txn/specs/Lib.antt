@@ -7,3 +7,6 @@ pub mod Ends
 pub mod Commits
 pub mod Effects
 pub mod Aborts
+pub mod Kept
+pub mod Work
+pub mod Undo

@@ -13,7 +13,7 @@ use Rattle.mt_model.specs.declared.operations.Reply.{Reply}
 use Rattle.mt_model.specs.declared.operations.Reply.TheVariants.{Found, Missing, Exists, Done, Was, Value, OutOfBounds}
 use Rattle.mt_model.specs.Model.{IsWithin, Base}
 use Rattle.mt_txn.specs.Logged.{HasSmallReply}
-use Rattle.mt_txn.specs.Effects.{Call, effects, running_need}
+use Rattle.mt_txn.specs.Effects.{Call, effects, running_need, unfinished}
 use Rattle.mt_txn.specs.Party.{Party}
 use Rattle.mt_txn.specs.declared.live.Running.{Running}
 use Rattle.mt_txn.specs.declared.live.Committing.{Committing}
@@ -38,6 +38,7 @@ pub record IsParty (relations counters : ℕ) (l : Party) : Type 0 where
   pub not_above : l.number ≤ 2 ^ 40
   pub started : l.started ≤ 256
   pub reserved : l.reserved ≡ reservation l.running l.calls
+  pub few : length l.calls + unfinished l.running ≤ l.started
   pub running : IsRunningWithin relations counters l.running
   pub calls : All (IsCallWithin relations counters) l.calls
 
@@ -58,6 +59,7 @@ pub record IsSound (used area reserved begun operations book : ℕ) (live : List
   pub numbered : operations + sum_by starts_left live ≤ 256 * begun
   pub crowd : length live + length committing ≤ 64
   pub commits : book + (length live + length committing) ≤ 1000000
+  pub old_numbers : All (λ (l : Party). l.number ≤ begun) live
 
 -- ---- each is a fact with one proof at most
 

@@ -5,7 +5,9 @@ use Rattle.mt_base.specs.declared.refusal.Refusal.{Refusal}
 use Rattle.mt_base.specs.declared.refusal.Refusal.TheVariants as refusal
 use Rattle.mt_disk.specs.declared.device.Device.{Ghosts}
 use Rattle.mt_log.specs.Words.{used, area_size, has_failed, appended, durable}
+use Rattle.mt_log.specs.declared.log.Log.{Log}
 use Rattle.mt_model.specs.declared.history.Committed.{Committed}
+use Rattle.mt_model.specs.declared.tables.Base as code
 use Rattle.mt_model.specs.declared.operations.Op.{Op}
 use Rattle.mt_model.specs.declared.operations.Op.TheVariants.{Get, Insert, Update, Delete, Add, Read}
 use Rattle.mt_model.specs.Model.{Base, stays}
@@ -52,6 +54,24 @@ state_of k = record {
   reserved = k.reserved;
   area = area_size k.log;
   failed = has_failed k.log;
+}
+
+-- a kernel without transactions, over a base and a log
+abbrev pub fresh_state : code.Base → Log → State
+fresh_state base log = record {
+  held = base_of base;
+  relations = relations_of base;
+  counters = length (counters_of base);
+  book = [];
+  committing = [];
+  live = [];
+  begun = 0;
+  appended = length (appended log);
+  durable = length (durable log);
+  used = used log;
+  reserved = 0;
+  area = area_size log;
+  failed = has_failed log;
 }
 
 -- how many transactions live, those that are committing counted too

@@ -4,7 +4,10 @@ ghost use Rattle.mt_model.specs.Model.{inverse_of, IsWithin};
 ghost use Rattle.mt_txn.specs.Aborts.{abort_cause, HasBegunAbort, HasGivenUp, HasUndone, HasLeft, IsLastEffect, IsAbortStepped};
 ghost use Rattle.mt_txn.specs.Effects.{Call, effects};
 ghost use Rattle.mt_txn.specs.Sound.{IsCallWithin};
+ghost use Rattle.mt_txn.specs.Kept.{Keeps, IsSingle};
 ghost use Rattle.mt_txn.specs.Party.{Party};
+ghost use Rattle.mt_txn.specs.Undo.{KeepsUndo, Whoever, KeepsAbortUndo};
+ghost use Rattle.mt_txn.specs.Work.{work_left, LowersAbortWork};
 ghost use Rattle.mt_txn.specs.State.{state_of, open_cause, place_in};
 
 use crate::answers::AbortStepped;
@@ -34,7 +37,7 @@ fn inverse_at(live: &Live, at: usize) -> Result<Op, Refusal>
 
 impl<D: Device> Kernel<D> {
     /// Begins to undo an open transaction, whether an operation of it is unfinished or not; abort steps
-    /// bring it to its end. It takes no memory.
+    /// bring it to its end, at most 257 of them. It takes no memory.
     ///
     /// Refused, in this order: 2 where the device has failed, 15 where the transaction is not open. Nothing
     /// has changed then.
@@ -42,6 +45,9 @@ impl<D: Device> Kernel<D> {
         ensures cause { IfErr result (λ why. open_cause (state_of self.old) txn ≡ Some why) }
         ensures may { OnOk result (open_cause (state_of self.old) txn ≡ None) }
         ensures begun { OnOk result (HasBegunAbort (state_of self.old) txn (state_of self.new)) }
+        ensures kept { OnOk result (Keeps (state_of self.old) (state_of self.new)) }
+        ensures undo { OnOk result (KeepsUndo Whoever (state_of self.old) (state_of self.new)) }
+        ensures work { OnOk result (work_left (state_of self.new) txn ≤ 256) }
         ensures err { OnErr result (state_of self.new ≡ state_of self.old) }
     {
         let place = self.open_place(txn)?;
@@ -81,6 +87,7 @@ impl<D: Device> Kernel<D> {
     // Undoes the call at this place of the transaction, the last of its calls that did anything.
     fn undo(&mut self, place: usize, at: usize) -> Result<(), Refusal>
         requires within { place < length self.old.live.items }
+        requires idle { (l : Party) → l ≡ slice_index_or self.old.live.items place l → l.running ≡ None }
         requires call { (l : Party) → l ≡ slice_index_or self.old.live.items place l → IsLastEffect l at }
         ensures undone { OnOk result ((l : Party) → l ≡ slice_index_or self.old.live.items place l → HasUndone (state_of self.old) place l (state_of self.new)) }
         ensures err { OnErr result (state_of self.new ≡ state_of self.old) }
@@ -96,6 +103,7 @@ impl<D: Device> Kernel<D> {
     // Ends the abort of the transaction at this place, of which nothing is left to be undone.
     fn leave(&mut self, place: usize) -> Result<(), Refusal>
         requires within { place < length self.old.live.items }
+        requires idle { (l : Party) → l ≡ slice_index_or self.old.live.items place l → l.running ≡ None }
         requires nothing { (l : Party) → l ≡ slice_index_or self.old.live.items place l → effects l.calls ≡ 0 }
         ensures left { OnOk result ((l : Party) → l ≡ slice_index_or self.old.live.items place l → HasLeft (state_of self.old) place l (state_of self.new)) }
         ensures err { OnErr result (state_of self.new ≡ state_of self.old) }
@@ -118,6 +126,9 @@ impl<D: Device> Kernel<D> {
         ensures cause { IfErr result (λ why. why ≢ Refusal.NoMemory → abort_cause (state_of self.old) txn ≡ Some why) }
         ensures may { OnOk result (abort_cause (state_of self.old) txn ≡ None) }
         ensures stepped { IfOk result (λ stepped. IsAbortStepped (state_of self.old) txn stepped (state_of self.new)) }
+        ensures undo { IfOk result (λ stepped. KeepsAbortUndo (state_of self.old) txn stepped (state_of self.new)) }
+        ensures work { IfOk result (λ stepped. LowersAbortWork stepped (work_left (state_of self.old) txn) (work_left (state_of self.new) txn)) }
+        ensures kept { OnOk result (IsSingle (state_of self.old) → Keeps (state_of self.old) (state_of self.new)) }
         ensures err { OnErr result (state_of self.new ≡ state_of self.old) }
     {
         let place = self.aborting_place(txn)?;

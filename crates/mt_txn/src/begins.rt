@@ -1,6 +1,10 @@
-ghost use Rattle.std.specs.Prelude.{◌≡◌, ◌≢◌, ◌<◌, ◌≤◌, ◌+◌, ◌∷◌, ◌++◌, [], IfOk, IfErr, OnOk, OnErr, None, Some, IfNone, ◌^◌};
+ghost use Rattle.std.specs.Prelude.{◌≡◌, ◌≢◌, ◌<◌, ◌≤◌, ◌+◌, ◌∷◌, ◌++◌, [], IfOk, IfErr, OnOk, OnErr, None, Some, IfNone, ◌^◌, length};
+ghost use Rattle.mt_log.specs.Words.{used, area_size};
 ghost use Rattle.mt_base.specs.declared.refusal.Refusal.{Refusal};
-ghost use Rattle.mt_txn.specs.State.{state_of, begin_cause, IsBegun};
+ghost use Rattle.mt_txn.specs.Kept.{Keeps};
+ghost use Rattle.mt_model.specs.Model.{Object};
+ghost use Rattle.mt_txn.specs.State.{state_of, begin_cause, lives, IsBegun};
+ghost use Rattle.mt_txn.specs.Undo.{KeepsUndo, Whoever, UndoesTo};
 
 use crate::kernel::Kernel;
 use crate::live::{Live, Phase};
@@ -13,6 +17,9 @@ impl<D: Device> Kernel<D> {
     fn begin_cause(&self) -> Option<Refusal>
         ensures cause { result ≡ begin_cause (state_of self.now) }
         ensures few { IfNone result (self.now.begun < 2 ^ 40) }
+        ensures crowd { IfNone result (lives (state_of self.now) < 64) }
+        ensures commits { IfNone result (length self.now.book.items + lives (state_of self.now) < 1000000) }
+        ensures room { IfNone result (used self.now.log + self.now.reserved + 128 < area_size self.now.log) }
     {
         let lives = self.live.len() + self.committing.len();
         if self.log.has_failed() {
@@ -39,6 +46,9 @@ impl<D: Device> Kernel<D> {
         ensures may { OnOk result (begin_cause (state_of self.old) ≡ None) }
         ensures cause { IfErr result (λ why. why ≢ Refusal.NoMemory → begin_cause (state_of self.old) ≡ Some why) }
         ensures begun { OnOk result (IsBegun (state_of self.old) session (state_of self.new)) }
+        ensures kept { OnOk result (Keeps (state_of self.old) (state_of self.new)) }
+        ensures undo { OnOk result (KeepsUndo Whoever (state_of self.old) (state_of self.new)) }
+        ensures fresh_undo { IfOk result (λ txn. (x : Object) → UndoesTo txn x (state_of self.old).held (state_of self.new)) }
         ensures err { OnErr result (state_of self.new ≡ state_of self.old) }
     {
         if let Some(why) = self.begin_cause() {

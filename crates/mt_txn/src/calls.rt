@@ -6,7 +6,10 @@ ghost use Rattle.mt_model.specs.Views.{base_of, counters_of, relations_of};
 ghost use Rattle.mt_txn.specs.State.{state_of, IsNamed, IsSized, place_in, live_at, open_cause, name_cause, size_cause, bounds_cause, log_cause, operation_cause, busy_cause, count_cause, call_cause, first_of, is_step, HasCalled};
 ghost use Rattle.mt_log.specs.Words.{used, area_size};
 ghost use Rattle.mt_txn.specs.Logged.{log_need_of};
+ghost use Rattle.mt_txn.specs.Kept.{Keeps};
 ghost use Rattle.mt_txn.specs.Party.{Party};
+ghost use Rattle.mt_txn.specs.Undo.{KeepsUndo, Whoever};
+ghost use Rattle.mt_txn.specs.Work.{work_left};
 
 use crate::answers::Called;
 use crate::kernel::Kernel;
@@ -180,6 +183,9 @@ impl<D: Device> Kernel<D> {
         ensures may { OnOk result (call_cause (state_of self.old) txn op ≡ None) }
         ensures answer { IfOk result (λ called. called ≡ Called.Started) }
         ensures called { OnOk result (HasCalled (state_of self.old) txn op (state_of self.new)) }
+        ensures kept { OnOk result (Keeps (state_of self.old) (state_of self.new)) }
+        ensures undo { OnOk result (KeepsUndo Whoever (state_of self.old) (state_of self.new)) }
+        ensures work { OnOk result (work_left (state_of self.new) txn ≡ 1) }
         ensures err { OnErr result (state_of self.new ≡ state_of self.old) }
     {
         let place = self.place_for_call(txn, &op)?;

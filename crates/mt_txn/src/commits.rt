@@ -1,8 +1,10 @@
-ghost use Rattle.std.specs.Prelude.{◌≡◌, ◌≢◌, ◌<◌, ◌≤◌, ◌+◌, ◌^◌, ◌++◌, length, map, take, drop, IfOk, IfErr, IsErrOf, OnOk, OnErr, None, Some, slice_index_or};
+ghost use Rattle.std.specs.Prelude.{◌≡◌, ◌≢◌, ◌⊎◌, true, false, ◌<◌, ◌≤◌, ◌+◌, ◌^◌, ◌++◌, length, map, take, drop, IfOk, IfErr, IsErrOf, OnOk, OnErr, None, Some, slice_index_or};
 ghost use Rattle.std.specs.List.{sum_by};
 ghost use Rattle.std.specs.Vec.{vec_len, vec_capacity};
 ghost use Rattle.mt_base.specs.declared.refusal.Refusal.{Refusal};
-ghost use Rattle.mt_txn.specs.Commits.{commit_cause, HasBegunCommit, durable_count, IsForced};
+ghost use Rattle.mt_txn.specs.Commits.{commit_cause, HasBegunCommit, durable_count, IsForced, HasFailed};
+ghost use Rattle.mt_txn.specs.Kept.{Keeps, IsSingle};
+ghost use Rattle.mt_txn.specs.Undo.{KeepsUndo, Whoever, OtherThan};
 ghost use Rattle.mt_txn.specs.Parties.{committed_of};
 ghost use Rattle.mt_txn.specs.declared.live.Committing.{Committing};
 ghost use Rattle.mt_txn.specs.State.{state_of, place_in};
@@ -89,6 +91,8 @@ impl<D: Device> Kernel<D> {
         ensures may { OnOk result (commit_cause (state_of self.old) txn ≡ None) }
         ensures place { IfOk result (λ place. place ≡ length self.old.book.items + length self.old.committing.items + 1) }
         ensures begun { OnOk result (HasBegunCommit (state_of self.old) txn (state_of self.new)) }
+        ensures kept { OnOk result (IsSingle (state_of self.old) → Keeps (state_of self.old) (state_of self.new)) }
+        ensures undo { OnOk result (KeepsUndo (OtherThan txn) (state_of self.old) (state_of self.new)) }
         ensures err { OnErr result (state_of self.new ≡ state_of self.old) }
     {
         let place = self.idle_place(txn)?;
@@ -107,12 +111,22 @@ impl<D: Device> Kernel<D> {
     /// becomes durable with its last, which answers the transactions whose commits are durable now. They
     /// are in the book then, in the order of their commits, and live no more.
     ///
-    /// Refused, in this order: 2 where the device fails or has failed, 1 for want of memory. After 1 nothing has
-    /// changed.
+    /// Refused, in this order: 2 where the device fails in this call or has failed, 1 for want of memory. After 1
+    /// nothing has changed, and the device was not called. After 2 the transactions, the book and the base are
+    /// as before, and each later event is refused 2.
     pub fn force_step(&mut self) -> Result<KernelForced, Refusal>
         ensures failed { IfErr result (λ why. why ≢ Refusal.NoMemory → why ≡ Refusal.DeviceFailed) }
         ensures memory { IsErrOf result Refusal.NoMemory → state_of self.new ≡ state_of self.old }
         ensures forced { IfOk result (λ forced. IsForced (state_of self.old) forced (state_of self.new)) }
+        ensures kept { OnOk result (Keeps (state_of self.old) (state_of self.new)) }
+        ensures undo { OnOk result (KeepsUndo Whoever (state_of self.old) (state_of self.new)) }
+        // 2 comes from a fault of the device, in this call or in an earlier one, and stays for good
+        ensures fault { IsErrOf result Refusal.DeviceFailed → (D.faults self.old.device < D.faults self.new.device) ⊎ ((state_of self.old).failed ≡ true) }
+        ensures stopped { IsErrOf result Refusal.DeviceFailed → HasFailed (state_of self.old) (state_of self.new) }
+        ensures for_good { (state_of self.old).failed ≡ true → IsErrOf result Refusal.DeviceFailed }
+        ensures well { OnOk result ((state_of self.new).failed ≡ false) }
+        ensures quiet { OnOk result (D.faults self.new.device ≡ D.faults self.old.device) }
+        ensures no_call { IsErrOf result Refusal.NoMemory → self.new.device ≡ self.old.device }
     {
         if self.log.has_failed() {
             return Err(Refusal::DeviceFailed);

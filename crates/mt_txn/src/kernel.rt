@@ -13,6 +13,15 @@ use mt_model::{Base, Committed};
 use std::alloc::Global;
 
 /// A kernel over its device.
+///
+/// Each event keeps what contracts call `IsKept`: from the first base on, the commits have the replies that
+/// their operations give alone, one transaction after the other, and so have the calls that stand behind
+/// them, which leave the held base. An operation's end, a commit and an abort step keep it where at most one
+/// transaction is open or aborting.
+///
+/// With any number of them, each event keeps what undoing a transaction would lead to (`UndoesTo`), at each
+/// object that no other transaction's operation or inverse ends on: so an abort leaves such an object as it was
+/// when its transaction began.
 pub struct Kernel<D: Device> {
     pub(crate) device: D,
     pub(crate) log: Log,
@@ -35,7 +44,11 @@ pub struct Kernel<D: Device> {
 }
 
 impl<D: Device> Kernel<D> {
-    /// A kernel without transactions over a device, with the log of its area and a base.
+    ghost use Rattle.mt_txn.specs.Kept.{IsKept};
+    ghost use Rattle.mt_txn.specs.State.{state_of, fresh_state};
+
+    /// A kernel without transactions over a device, with the log of its area and a base, which is the first
+    /// base of its history.
     pub fn assemble(alloc: Global, device: D, log: Log, base: Base) -> Kernel<D>
         requires used { used log < area_size log }
         requires area { area_size log ≤ 67108864 }
@@ -43,7 +56,11 @@ impl<D: Device> Kernel<D> {
         requires values { HasSmallValues (base_of base) }
         requires relations { relations_of base ≤ 64 }
         requires counters { length (counters_of base) ≤ 128 }
+        ensures device { result.device ≡ device }
+        ensures state { state_of result ≡ fresh_state base log }
+        ensures kept { IsKept (base_of base) (state_of result) }
     {
+        base.keeps_bounds();
         Kernel {
             device,
             log,
@@ -58,7 +75,9 @@ impl<D: Device> Kernel<D> {
     }
 
     /// The device, for another opening. What lived is gone.
-    pub fn into_device(self) -> D {
+    pub fn into_device(self) -> D
+        ensures { result ≡ self.device }
+    {
         let Kernel {
             device,
             log: _,

@@ -9,7 +9,10 @@ ghost use Rattle.mt_model.specs.Model.{reply_of, base_after};
 ghost use Rattle.mt_model.specs.Views.{base_of, counters_of, relations_of};
 ghost use Rattle.mt_txn.specs.Ends.{step_cause, IsEnding, IsUnderWay, IsFinished, IsStepped};
 ghost use Rattle.mt_txn.specs.declared.live.Running.{Running};
+ghost use Rattle.mt_txn.specs.Kept.{Keeps, IsSingle};
 ghost use Rattle.mt_txn.specs.Party.{Party};
+ghost use Rattle.mt_txn.specs.Undo.{KeepsUndo, IsApart};
+ghost use Rattle.mt_txn.specs.Work.{work_left, LowersWork};
 ghost use Rattle.mt_txn.specs.State.{state_of, place_in};
 
 use crate::answers::Stepped;
@@ -144,10 +147,14 @@ impl<D: Device> Kernel<D> {
         ensures cause { IfErr result (λ why. why ≢ Refusal.NoMemory → step_cause (state_of self.old) txn ≡ Some why) }
         ensures may { OnOk result (step_cause (state_of self.old) txn ≡ None) }
         ensures ended { IfOk result (λ stepped. IsStepped (state_of self.old) txn stepped (state_of self.new)) }
+        ensures undo { OnOk result (KeepsUndo (IsApart (state_of self.old) txn) (state_of self.old) (state_of self.new)) }
+        ensures work { IfOk result (λ stepped. LowersWork stepped (work_left (state_of self.old) txn) (work_left (state_of self.new) txn)) }
+        ensures kept { OnOk result (IsSingle (state_of self.old) → Keeps (state_of self.old) (state_of self.new)) }
         ensures err { OnErr result (state_of self.new ≡ state_of self.old) }
     {
         let place = self.running_place(txn)?;
         let ending = self.ending(place)?;
+        self.base.keeps_bounds();
         self.log.reserve(LARGEST_OP_END as usize)?;
         self.finish(place, ending)
     }

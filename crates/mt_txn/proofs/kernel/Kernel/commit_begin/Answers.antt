@@ -1,9 +1,14 @@
-use Rattle.std.proofs.Common.{◌≡◌, ◌+◌, arith, length, subst, sym, ap, length-append, ◌∷◌, []}
+use Rattle.std.proofs.Common.{◌≡◌, ◌+◌, arith, length, subst, sym, ap, length-append, ◌∷◌, [], ◌++◌, ◌∙◌, refl}
 use Rattle.mt_model.specs.Views.{counters_of, relations_of}
 use Rattle.mt_txn.specs.declared.live.Committing.{Committing}
+use Rattle.mt_txn.specs.Parties.{committing_of}
 use Rattle.mt_txn.specs.Sound.{IsParty}
 use Rattle.mt_txn.proofs.Leaving.{All-remove, commit_sound}
 use Rattle.mt_log.proofs.Elsewhere.{on_same}
+use Rattle.mt_txn.proofs.Keeping.{committing_keeps}
+use Rattle.mt_txn.specs.State.{state_of}
+use Rattle.mt_txn.proofs.Places.{placed}
+use Rattle.mt_txn.proofs.Undone.{gone_undo}
 use Rattle.mt_txn.proofs.kernel.Kernel.commit_begin.Goals as goal
 
 pub invariant_of-self-2 : goal.invariant_of-self-2
@@ -41,3 +46,18 @@ invariant_of-self-in-Break-branch-4 g c =
       relations = was.relations;
       counters = was.counters;
     }
+
+pub returns-clause-kept : goal.returns-clause-kept
+returns-clause-kept g c =
+    let begun : c.push_reserved.new.self.items ≡ c.args.self.now.committing.items ++ committing_of c.remove-live.result c.in_ok-at.at ∷ [] =
+    c.push_reserved.ensures.items ∙ (ap (λ ds. ds ++ c.into_committing.result ∷ []) c.reserve.ensures.items
+    ∙ ap (λ (d : Committing). c.args.self.now.committing.items ++ d ∷ []) c.into_committing.ensures) in
+    committing_keeps _ _ c.in_ok-place.place c.remove-live.result c.in_ok-at.at c.in_ok-place.ensures.within c.remove-live.ensures.value c.remove-live.ensures.items begun c.reserve-2.ensures.items refl
+
+pub returns-clause-undo : goal.returns-clause-undo
+returns-clause-undo g c =
+    let was = c.args.self.now in
+    let place = c.in_ok-place.place in
+    let l = c.remove-live.result in
+    gone_undo (state_of was) (record (state_of was) { live = c.remove-live.new.self.items }) c.args.txn place l
+    (placed was.live.items c.args.txn place l c.in_ok-place.ensures.place c.in_ok-place.ensures.within c.remove-live.ensures.value) c.remove-live.ensures.items refl

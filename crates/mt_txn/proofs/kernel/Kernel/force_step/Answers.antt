@@ -1,4 +1,6 @@
+use Rattle.std.proofs.Common.{refl}
 use Rattle.mt_txn.specs.Commits.{durable_count}
+use Rattle.mt_txn.proofs.Keeping.{settled_keeps}
 use Rattle.mt_txn.proofs.Settled.{settled_sound}
 use Rattle.mt_txn.proofs.kernel.Kernel.force_step.Goals as goal
 
@@ -8,3 +10,7 @@ invariant_of-self-in-Durable-clause-sound g c =
     let done = c.settle.ensures in
     settled_sound _ _ _ _ _ _ _ _ (durable_count was.committing.items c.in-Durable.place) was.book.items c.settle.new.book.items was.live.items was.committing.items c.settle.new.committing.items
     was.sound c.force_step.ensures.used c.force_step.ensures.area done.left done.book done.reserved done.within
+
+pub returns-in-Durable-clause-kept : goal.returns-in-Durable-clause-kept
+returns-in-Durable-clause-kept g c =
+    settled_keeps _ _ (durable_count c.args.self.now.committing.items c.in-Durable.place) c.settle.ensures.left c.settle.ensures.book refl refl

@@ -68,6 +68,7 @@ returns-clause-undone g c = λ l there.
     let party : IsParty (relations_of was.base) (length (counters_of was.base)) l =
     subst (IsParty (relations_of was.base) (length (counters_of was.base))) (sym there) (was.parties c.args.place l c.requires.within) in
     record {
+      idle = c.requires.idle l there;
       call = (
         c.args.at,
         call.0,
@@ -78,6 +79,7 @@ returns-clause-undone g c = λ l there.
         c.in_ok-_reply.ensures.base,
         ap (λ (x : Party). set was.live.items c.args.place x) new,
       );
+      last = last.last;
       reserved = omega (arith, enough_in_all _ _ _ _ _ _ 106496 was.live.items was.committing.items c.args.place l was.sound c.requires.within there (enough_for_one _ _ l c.args.at party last));
       rest = rw (acts.relations, acts.counters);
     }

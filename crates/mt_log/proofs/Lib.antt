@@ -1,6 +1,9 @@
 pub mod Calls
 pub mod Elsewhere
 pub mod Frames
+pub mod OneWay
+pub mod Pieces
 pub mod Prefix
+pub mod ReadOn
 pub mod Settled
 pub mod Steps

@@ -3,13 +3,19 @@
 #![tactic(auto)]
 
 mod area;
+mod batch;
 mod beginning;
+mod fetch;
 mod forcing;
 mod log;
+mod reading;
+mod scanning;
 mod stage;
 #[cfg(test)]
 mod tests;
 
 pub use area::AreaPlace;
+pub use batch::Batch;
 pub use beginning::begin_area;
 pub use log::{Forced, Log};
+pub use scanning::scan;

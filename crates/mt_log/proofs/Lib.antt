@@ -1,3 +1,4 @@
+pub mod AtRest
 pub mod Calls
 pub mod Elsewhere
 pub mod Frames

@@ -72,6 +72,53 @@ holds_or_breaks c start end pages at xs short a b =
       rules = next_follows b.before y rest (subst IsHistory is a.rules);
     })
 
+-- ---- two rows from one place
+
+-- they end at one place, or the one goes on behind the other
+record GoesOn (c : List ℕ) (pages p q : ℕ) (xs ys : List (List Record)) : Type 0 where
+  next : List Record
+  rest : List (List Record)
+  is : ys ≡ xs ++ next ∷ rest
+  row : Stands c p (next ∷ rest) q
+  each : AreBatches pages (next ∷ rest)
+
+goes_on_behind : (c : List ℕ) (pages p q : ℕ) (x y : List Record) (xs ys : List (List Record)) → y ≡ x → GoesOn c pages p q xs ys → GoesOn c pages p q (x ∷ xs) (y ∷ ys)
+goes_on_behind c pages p q x y xs ys same g = record { next = g.next; rest = g.rest; is = (λ i. same i ∷ g.is i); row = g.row; each = g.each }
+
+two_rows : (c : List ℕ) (s p q end pages : ℕ) (xs ys : List (List Record)) → Stands c s xs p → p < end → Stands c s ys q → q < end → end < s + 2 ^ 32 → AreBatches pages xs → AreBatches pages ys
+    → (p ≡ q) ⊎ (GoesOn c pages p q xs ys ⊎ GoesOn c pages q p ys xs)
+two_rows c s p q end pages [] [] a inside b within short each each2 = inl (sym a ∙ b)
+two_rows c s p q end pages [] (y ∷ ys) a inside b within short each each2 = inr (inl (record { next = y; rest = ys; is = refl; row = subst (λ (k : ℕ). Stands c k (y ∷ ys) q) a b; each = each2 }))
+two_rows c s p q end pages (x ∷ xs) [] a inside b within short each each2 = inr (inr (record { next = x; rest = xs; is = refl; row = subst (λ (k : ℕ). Stands c k (x ∷ xs) p) b a; each = each }))
+two_rows c s p q end pages (x ∷ xs) (y ∷ ys) a inside b within short each each2 =
+    let le : s + 5 + length (body_text x) ≤ p = stands_le c (s + 5 + length (body_text x)) xs p a.1 in
+    let le2 : s + 5 + length (body_text y) ≤ q = stands_le c (s + 5 + length (body_text y)) ys q b.1 in
+    let same : y ≡ x = same_batch c s pages y x b.0 a.0 (omega arith) (omega arith) each2.0 each.0 in
+    let b2 : Stands c (s + 5 + length (body_text x)) ys q = subst (λ (l : List Record). Stands c (s + 5 + length (body_text l)) ys q) same b.1 in
+    ⊎_elim (λ (one : p ≡ q). inl one)
+    (λ (goes : GoesOn c pages p q xs ys ⊎ GoesOn c pages q p ys xs). inr (⊎_elim (λ (on : GoesOn c pages p q xs ys). inl (goes_on_behind c pages p q x y xs ys same on)) (λ (on : GoesOn c pages q p ys xs). inr (goes_on_behind c pages q p y x ys xs (sym same) on)) goes))
+    (two_rows c (s + 5 + length (body_text x)) p q end pages xs ys a.1 inside b2 within (omega arith) each.1 each2.1)
+
+a_history : (front : List (List Record)) (b : List Record) (rest : List (List Record)) → BreakNoRule (front ++ b ∷ rest) → IsHistory (front ++ b ∷ rest)
+a_history [] b rest all = all
+a_history (x ∷ front) b rest all = all
+
+-- a row does not go on behind a place where none may
+stops : (c : List ℕ) (start end pages p q : ℕ) → (a : BreaksAt c start end pages p) → (b : BreaksAt c start end pages q) → GoesOn c pages p q a.before b.before → ⊥
+stops c start end pages p q a b g = a.none g.next (record {
+  text = g.row.0;
+  fits = let le = stands_le c (p + 5 + length (body_text g.next)) g.rest q g.row.1 in let lt = b.inside in omega arith;
+  each = g.each.0;
+  rules = next_follows a.before g.next g.rest (a_history a.before g.next g.rest (subst BreakNoRule g.is b.rules));
+})
+
+-- an area breaks the grammar at one place first
+pub breaks_one : (c : List ℕ) (start end pages p q : ℕ) → end < start + 2 ^ 32 → BreaksAt c start end pages p → BreaksAt c start end pages q → p ≡ q
+breaks_one c start end pages p q short a b = ⊎_elim
+    (λ (one : p ≡ q). one)
+    (λ (goes : GoesOn c pages p q a.before b.before ⊎ GoesOn c pages q p b.before a.before). ⊎_elim (λ (on : GoesOn c pages p q a.before b.before). absurd (stops c start end pages p q a b on)) (λ (on : GoesOn c pages q p b.before a.before). absurd (stops c start end pages q p b a on)) goes)
+    (two_rows c start p q end pages a.before b.before a.row a.inside b.row b.inside short a.each b.each)
+
 -- ---- what a scan comes to
 
 -- it has read to the end

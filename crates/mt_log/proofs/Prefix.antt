@@ -1,5 +1,5 @@
 -- What a crash leaves holds a beginning of the appended records, with all durable ones.
-use Rattle.std.proofs.Common.{◌≡◌, inl, inr, ℕ, ◌<◌, List, [], ◌∷◌, ◌++◌, length, refl, sym, ◌∙◌, ap, subst, arith, append_assoc, append-nil, true, false, Bool}
+use Rattle.std.proofs.Common.{◌≡◌, ◌⊎◌, inl, inr, ℕ, ◌<◌, List, [], ◌∷◌, ◌++◌, length, refl, sym, ◌∙◌, ap, subst, arith, append_assoc, append-nil, true, false, Bool}
 use Rattle.std.specs.List.{AllByRecursion}
 use Rattle.mt_frame.specs.declared.records.Record.{Record}
 use Rattle.mt_frame.specs.Grammar.{IsRecord}
@@ -126,6 +126,16 @@ beginning_found pages log c sound (inr scans) =
       };
     }
 
+-- the same, under other names of what the log has
+pub beginning_at : (pages : ℕ) (log : Log) (c : List ℕ) (start end : ℕ) (bs : List (List Record)) (b : List Record) → start ≡ area_start log → end ≡ area_end log → bs ≡ durable_batches log → b ≡ coming log
+    → IsSound pages log → ScansWithOrWithout start end bs b c → HoldsBeginning pages log c
+beginning_at pages log c start end bs b s e l n sound scans =
+    beginning_found pages log c sound
+    (subst (λ (k : ℕ). ScansWithOrWithout k (area_end log) (durable_batches log) (coming log) c) s
+    (subst (λ (k : ℕ). ScansWithOrWithout start k (durable_batches log) (coming log) c) e
+    (subst (λ (k : List (List Record)). ScansWithOrWithout start end k (coming log) c) l
+    (subst (λ (k : List Record). ScansWithOrWithout start end bs k c) n scans))))
+
 -- ---- a log stays sound
 
 -- the same durable batches, and the same records behind them
@@ -183,3 +193,9 @@ sound_appended pages old new r batches flights waits grammar page may sound =
       each = subst (AreRecords pages) (sym all) (each_both IsRecord (durable old ++ behind) (r ∷ []) sound.each.0 (grammar, tt), each_both (HasItsPage pages) (durable old ++ behind) (r ∷ []) sound.each.1 (page, tt));
       rules = subst IsHistory (sym rows) (history_push bs (behind ++ r ∷ []) sound.begun parts.0 last);
     }
+
+-- whatever a step did
+pub sound_moved : (pages : ℕ) (old new : Log) → ((durable_batches new ≡ durable_batches old) × (in_flight new ++ waiting new ≡ in_flight old ++ waiting old)) ⊎ ((durable_batches new ≡ durable_batches old ++ in_flight old ∷ []) × (in_flight new ≡ []) × (waiting new ≡ waiting old))
+    → IsSound pages old → IsSound pages new
+sound_moved pages old new (inl same) sound = sound_same pages old new same.0 same.1 sound
+sound_moved pages old new (inr more) sound = sound_durable pages old new more.0 more.1 more.2 sound

@@ -2,6 +2,7 @@ pub mod Area
 pub mod Batch
 pub mod Found
 pub mod Holds
+pub mod Laws
 pub mod Quiet
 pub mod Reading
 pub mod Same

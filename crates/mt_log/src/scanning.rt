@@ -4,6 +4,9 @@ ghost use Rattle.mt_base.specs.declared.refusal.Refusal.{Refusal};
 ghost use Rattle.mt_disk.specs.Disk.{LeavesOnly};
 ghost use Rattle.mt_frame.specs.declared.records.Record.{Record};
 ghost use Rattle.mt_log.specs.Found.{records_of, places_of};
+ghost use Rattle.mt_log.specs.declared.log.Log.{Log};
+ghost use Rattle.mt_log.specs.Sound.{IsBeginning, HoldsBeginning};
+ghost use Rattle.mt_log.specs.Words.{area_start, area_end};
 ghost use Rattle.mt_log.specs.Holds.{places_from, HoldsBatches, BreaksAt};
 
 use crate::area::AreaPlace;
@@ -34,6 +37,8 @@ pub fn scan<D: Device>(
     // An area that holds batches is never refused as one that breaks the grammar, and no others are found.
     ensures only { (batches : List (List Record)) → HoldsBatches (D.seen device.old) place.start place.end pages batches → IfOk result (λ found. records_of found.items ≡ batches) }
     ensures no_other_refusal { (batches : List (List Record)) → HoldsBatches (D.seen device.old) place.start place.end pages batches → IfErr result (λ why. (why ≡ Refusal.NoMemory) ⊎ (why ≡ Refusal.DeviceFailed)) }
+    // So of what a crash left of a log whose records break no rule it finds a beginning of them with all durable ones.
+    ensures recovers { (log : Log) → area_start log ≡ place.start → area_end log ≡ place.end → HoldsBeginning pages log (D.seen device.old) → IfOk result (λ found. IsBeginning log (records_of found.items)) }
     ensures seen { D.seen device.new ≡ D.seen device.old }
     ensures crash { (c : List ℕ) → D.may_leave device.new c → D.may_leave device.old c }
     ensures moments { LeavesOnly D.moment D.left_since device.old device.new (D.may_leave device.old) }

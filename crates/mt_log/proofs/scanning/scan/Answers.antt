@@ -1,4 +1,4 @@
-use Rattle.std.proofs.Common.{◌≡◌, ◌≢◌, ℕ, ◌+◌, ◌<◌, ◌^◌, ◌==◌, false, List, [], ◌∷◌, length, vec_len, get_or, refl, subst, sym, ◌∙◌, ap, arith, Ok}
+use Rattle.std.proofs.Common.{◌≡◌, ◌≢◌, ℕ, ◌+◌, ◌<◌, ◌^◌, ◌==◌, Bool, false, List, [], ◌∷◌, length, vec_len, get_or, refl, subst, sym, ◌∙◌, ap, arith, Ok, Vec, Global}
 use Rattle.std.proofs.lemmas.Result.{err_from_is_err_and}
 use Rattle.std.proofs.lemmas.Bool.{eqb-true}
 use Rattle.mt_base.specs.declared.refusal.Refusal.{Refusal}
@@ -9,6 +9,8 @@ use Rattle.mt_log.specs.declared.reading.Reading.{Reading}
 use Rattle.mt_log.specs.Found.{records_of}
 use Rattle.mt_log.specs.Holds.{HoldsBatches, BreaksAt, AreBatches}
 use Rattle.mt_log.specs.Reading.{HasRead}
+use Rattle.mt_log.specs.Sound.{IsBeginning}
+use Rattle.mt_log.specs.Words.{area_start}
 use Rattle.mt_log.proofs.OneWay.{holds_one, holds_or_breaks, holds_found, nothing_found, no_other_cause, refused}
 use Rattle.mt_log.proofs.ReadOn.{reads_none, bad_place}
 use Rattle.mt_log.proofs.scanning.scan.Goals as goal
@@ -16,6 +18,12 @@ use Rattle.mt_log.proofs.scanning.scan.Goals as goal
 length-records : (bs : List Batch) → length (records_of bs) ≡ length bs
 length-records [] = refl
 length-records (b ∷ bs) = omega (arith, length-records bs)
+
+some_found : (found : Vec Batch Global) (empty : Bool) → empty ≡ (vec_len found == 0) → empty ≡ false → length found.items ≡ 0 → ⊥
+some_found found empty is not none =
+    let zero_len : vec_len found ≡ 0 = omega (arith, found.ok.0) in
+    let yes : empty ≡ (0 == 0) = is ∙ ap (λ (k : ℕ). k == 0) zero_len in
+    absurd (cc)
 
 -- the area of which was read
 module _ (c : List ℕ) (place : AreaPlace) (pages : ℕ) (r : Reading) (here : r.place ≡ place) (same : r.pages ≡ pages) (read : HasRead c r) (shut : get_or c r.next 0 ≢ 165) where
@@ -91,8 +99,19 @@ returns-clause-only g c = λ batches holds.
     let r = c.read_batch.new.self in
     let shut : get_or seen r.next 0 ≢ 165 = subst (λ (l : List ℕ). get_or l r.next 0 ≢ 165) inv.reads.same (e.ended (ap Ok c.if-branch.false)) in
     let read = subst (λ (l : List ℕ). HasRead l r) inv.reads.same (e.read refl) in
-    let same_len : vec_len r.found ≡ length r.found.items = omega (arith, r.found.ok.0) in
-    let some : (length r.found.items ≡ 0 → ⊥) = λ zero_len.
-    let is : c.is_empty.result ≡ (0 == 0) = c.is_empty.ensures ∙ ap (λ (k : ℕ). k == 0) (same_len ∙ zero_len) in
-    let not : c.is_empty.result ≡ false = c.if-is_empty.false in absurd (cc) in
+    let some : (length r.found.items ≡ 0 → ⊥) = some_found r.found c.is_empty.result c.is_empty.ensures c.if-is_empty.false in
     holds_one seen place.start place.end c.args.pages (records_of r.found.items) batches (small place) (all_read seen place c.args.pages r (e.place ∙ inv.place) (e.pages ∙ inv.pages) read shut some) holds
+
+pub returns-clause-recovers : goal.returns-clause-recovers
+returns-clause-recovers g c = λ log starts ends holds.
+    let inv = c.loop-reading.invariant in
+    let e = c.in_ok-read_batch.ensures in
+    let seen = g.D.Device.seen c.args.device.now in
+    let place = c.args.place in
+    let r = c.read_batch.new.self in
+    let shut : get_or seen r.next 0 ≢ 165 = subst (λ (l : List ℕ). get_or l r.next 0 ≢ 165) inv.reads.same (e.ended (ap Ok c.if-branch.false)) in
+    let read = subst (λ (l : List ℕ). HasRead l r) inv.reads.same (e.read refl) in
+    let some : (length r.found.items ≡ 0 → ⊥) = some_found r.found c.is_empty.result c.is_empty.ensures c.if-is_empty.false in
+    let held : HoldsBatches seen place.start place.end c.args.pages holds.batches = subst (λ (k : ℕ). HoldsBatches seen k place.end c.args.pages holds.batches) starts (subst (λ (k : ℕ). HoldsBatches seen (area_start log) k c.args.pages holds.batches) ends holds.held) in
+    let same = holds_one seen place.start place.end c.args.pages (records_of r.found.items) holds.batches (small place) (all_read seen place c.args.pages r (e.place ∙ inv.place) (e.pages ∙ inv.pages) read shut some) held in
+    subst (IsBeginning log) (sym same) holds.beginning

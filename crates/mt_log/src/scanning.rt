@@ -52,3 +52,6 @@ pub fn scan<D: Device>(
     }
     Ok(reading.found)
 }
+
+#[cfg(test)]
+mod tests;

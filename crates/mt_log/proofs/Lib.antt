@@ -1,6 +1,10 @@
+pub mod AtRest
 pub mod Calls
 pub mod Elsewhere
 pub mod Frames
+pub mod OneWay
+pub mod Pieces
 pub mod Prefix
+pub mod ReadOn
 pub mod Settled
 pub mod Steps

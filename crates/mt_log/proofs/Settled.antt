@@ -1,11 +1,11 @@
 -- What a force has come to after a device call, and what it has kept.
-use Rattle.std.proofs.Common.{◌≡◌, inl, inr, ℕ, ◌+◌, ◌<◌, List, [], ◌∷◌, ◌++◌, length, refl, sym, ◌∙◌, ap, subst, arith, map, length-append, append_assoc, append-nil, Result, Ok, Err, OnOk, OnErr, IsErr, IfOk}
+use Rattle.std.proofs.Common.{◌≡◌, ◌⊎◌, true, inl, inr, ℕ, ◌+◌, ◌<◌, List, [], ◌∷◌, ◌++◌, length, refl, sym, ◌∙◌, ap, subst, arith, map, length-append, append_assoc, append-nil, Result, Ok, Err, OnOk, OnErr, IsErr, IfOk}
 use Rattle.mt_base.specs.declared.refusal.Refusal.{Refusal}
 use Rattle.mt_frame.specs.declared.records.Record.{Record}
 use Rattle.mt_frame.specs.Grammar.{body_text}
 use Rattle.mt_log.specs.Batch.{joined}
 use Rattle.mt_log.specs.Area.{Area, AreaAfter, ScansWithOrWithout, step_behind}
-use Rattle.mt_log.specs.Words.{durable_batches, batches_after, durable, in_flight, waiting, used, calls_left, calls_after, IsStep, AreaOf, batch_of}
+use Rattle.mt_log.specs.Words.{has_failed, is_failed, Moves, durable_batches, batches_after, durable, in_flight, waiting, used, calls_left, calls_after, IsStep, AreaOf, batch_of}
 use Rattle.mt_log.specs.declared.log.Log.{Log}
 use Rattle.mt_log.specs.declared.log.Forced.{Forced}
 use Rattle.mt_log.specs.declared.log.Forced.TheVariants.{More, Durable, Idle as Nothing}
@@ -175,3 +175,44 @@ module _ (old new : Log) (step : Step) (place : new.place ≡ old.place) (waits 
   batches_kept (Ok (Durable pos)) way arrived not = ap (λ l. map (λ batch. batch.items) l) (arrived pos refl).3 ∙ batches_push old.batches.items old.in_flight
   batches_kept (Ok Nothing) way arrived not = absurd (not refl)
   batches_kept (Err e) way arrived not = tt
+
+  -- where the records went
+  pub moved : (result : Result Forced Refusal) → old.stage ≡ Forcing step
+      → (result ≡ Ok More → (step ≡ SyncGate → ⊥) × (new.stage ≡ Forcing (step_behind step)) × (new.next ≡ old.next) × (new.batches ≡ old.batches) × (new.in_flight ≡ old.in_flight))
+      → ((pos : ℕ) → result ≡ Ok (Durable pos) → (step ≡ SyncGate) × (new.stage ≡ Idle) × (new.next ≡ old.behind) × (new.batches.items ≡ old.batches.items ++ old.in_flight ∷ []) × (new.in_flight.items ≡ []) × (pos ≡ old.batched))
+      → (result ≡ Ok Nothing → ⊥)
+      → OnErr result ((new.stage ≡ Failed) × (new.next ≡ old.next) × (new.batches ≡ old.batches) × (new.in_flight ≡ old.in_flight))
+      → Moves old new
+  unfolding durable in_flight waiting calls_left has_failed
+  moved (Ok More) stage way arrived not err = let w = way refl in inl (
+    ap (λ h. joined (map (λ batch. batch.items) h.items)) w.3,
+    ap (λ h. h.items) w.4,
+    ap (λ h. h.items) waits,
+    (λ zero_left well. absurd (let s = some_after step w.0 new.stage w.1 in omega arith)),
+  )
+  moved (Ok (Durable pos)) stage way arrived not err = let w = arrived pos refl in
+      let more : joined (batches_in new) ≡ joined (batches_in old) ++ old.in_flight.items = ap (λ l. joined (map (λ batch. batch.items) l)) w.3 ∙ ap joined (batches_push old.batches.items old.in_flight) ∙ joined_push (batches_in old) old.in_flight.items in
+      inr (inr (ap calls_after w.1, more, w.4, ap (λ h. h.items) waits))
+  moved (Ok Nothing) stage way arrived not err = absurd (not refl)
+  moved (Err e) stage way arrived not err = inl (
+    ap (λ h. joined (map (λ batch. batch.items) h.items)) err.2,
+    ap (λ h. h.items) err.3,
+    ap (λ h. h.items) waits,
+    (λ zero_left well. let broken : is_failed new.stage ≡ true = ap is_failed err.0 in absurd (cc)),
+  )
+
+  -- the same, of the durable batches
+  pub moved_batches : (result : Result Forced Refusal)
+      → (result ≡ Ok More → (step ≡ SyncGate → ⊥) × (new.stage ≡ Forcing (step_behind step)) × (new.next ≡ old.next) × (new.batches ≡ old.batches) × (new.in_flight ≡ old.in_flight))
+      → ((pos : ℕ) → result ≡ Ok (Durable pos) → (step ≡ SyncGate) × (new.stage ≡ Idle) × (new.next ≡ old.behind) × (new.batches.items ≡ old.batches.items ++ old.in_flight ∷ []) × (new.in_flight.items ≡ []) × (pos ≡ old.batched))
+      → (result ≡ Ok Nothing → ⊥)
+      → OnErr result ((new.stage ≡ Failed) × (new.next ≡ old.next) × (new.batches ≡ old.batches) × (new.in_flight ≡ old.in_flight))
+      → ((durable_batches new ≡ durable_batches old) × (in_flight new ++ waiting new ≡ in_flight old ++ waiting old)) ⊎ ((durable_batches new ≡ durable_batches old ++ in_flight old ∷ []) × (in_flight new ≡ []) × (waiting new ≡ waiting old))
+  unfolding durable_batches in_flight waiting
+  moved_batches (Ok More) way arrived not err = let w = way refl in
+      inl (ap (λ h. map (λ batch. batch.items) h.items) w.3, ap (λ h. h.items ++ new.waiting.items) w.4 ∙ ap (λ h. old.in_flight.items ++ h.items) waits)
+  moved_batches (Ok (Durable pos)) way arrived not err = let w = arrived pos refl in
+      inr (ap (λ l. map (λ batch. batch.items) l) w.3 ∙ batches_push old.batches.items old.in_flight, w.4, ap (λ h. h.items) waits)
+  moved_batches (Ok Nothing) way arrived not err = absurd (not refl)
+  moved_batches (Err e) way arrived not err =
+      inl (ap (λ h. map (λ batch. batch.items) h.items) err.2, ap (λ h. h.items ++ new.waiting.items) err.3 ∙ ap (λ h. old.in_flight.items ++ h.items) waits)

@@ -69,3 +69,8 @@ ScansWithOrWithout start end batches batch c = Scans c start end batches ⊎ Sca
 -- what one of these contents may become where the n bytes from `at` on are torn
 abbrev pub TornFrom : (List ℕ → Type 0) → ℕ → ℕ → List ℕ → Type 0
 TornFrom contents at n c = (d : List ℕ) × contents d × Torn at n d c
+
+-- What a crash may leave of an area that is begun with this batch: what it might have left before, but for the first gate; then
+-- a first gate that is not open; at last the batch.
+abbrev pub AreaBegins : (List ℕ → Type 0) → ℕ → ℕ → List Record → List ℕ → Type 0
+AreaBegins contents start end batch c = TornFrom contents start 1 c ⊎ ScansWithOrWithout start end [] batch c

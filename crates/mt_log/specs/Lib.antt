@@ -1,5 +1,11 @@
 pub mod Area
 pub mod Batch
+pub mod Found
+pub mod Holds
+pub mod Laws
+pub mod Quiet
+pub mod Reading
 pub mod Same
+pub mod Sound
 pub mod Texts
 pub mod Words

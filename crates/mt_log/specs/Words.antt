@@ -1,5 +1,5 @@
 -- What a log is seen as.
-use Rattle.std.specs.Prelude.{ℕ, ◌≡◌, ◌<◌, ◌+◌, ◌-◌, ◌*◌, Bool, true, false, List, [], ◌∷◌, ◌++◌, length, map, vec_len, vec_capacity}
+use Rattle.std.specs.Prelude.{ℕ, ◌≡◌, ◌⊎◌, ◌<◌, ◌+◌, ◌-◌, ◌*◌, Bool, true, false, List, [], ◌∷◌, ◌++◌, length, map, vec_len, vec_capacity}
 use Rattle.mt_frame.specs.declared.records.Record.{Record}
 use Rattle.mt_log.specs.Batch.{joined}
 use Rattle.mt_log.specs.Area.{Area}
@@ -85,6 +85,13 @@ IsStep old Nothing new = (calls_left old ≡ 0) × (waiting old ≡ []) × (dura
 IsStep old More new = (durable new ≡ durable old) × (calls_left old ≡ 0 → (in_flight new ≡ waiting old) × (waiting new ≡ []) × (calls_left new ≡ 3))
     × (0 < calls_left old → (in_flight new ≡ in_flight old) × (waiting new ≡ waiting old) × (calls_left new + 1 ≡ calls_left old) × (0 < calls_left new) × (used new ≡ used old))
 IsStep old (Durable pos) new = (calls_left old ≡ 1) × (calls_left new ≡ 0) × (durable new ≡ durable old ++ in_flight old) × (in_flight new ≡ []) × (waiting new ≡ waiting old) × (used new ≡ used old) × (pos ≡ length (durable new))
+
+-- What a step does to the records, whatever it answered: nothing moves; or those that wait become the batch that is being
+-- forced; or that batch joins the durable ones.
+abbrev pub Moves : Log → Log → Type 0
+Moves old new = ((durable new ≡ durable old) × (in_flight new ≡ in_flight old) × (waiting new ≡ waiting old) × (calls_left new ≡ 0 → has_failed new ≡ false → calls_left old ≡ 0))
+    ⊎ (((calls_left old ≡ 0) × (durable new ≡ durable old) × (in_flight new ≡ waiting old) × (waiting new ≡ []) × (calls_left new ≡ 0 → has_failed new ≡ true))
+    ⊎ ((calls_left new ≡ 0) × (durable new ≡ durable old ++ in_flight old) × (in_flight new ≡ []) × (waiting new ≡ waiting old)))
 
 -- the durable batches after a step that gave this answer
 abbrev pub batches_after : Log → Forced → List (List Record)

@@ -1,45 +1,73 @@
 // The beginning of an area: an empty first batch, forced as any other behind a gate that is closed.
-ghost use Rattle.std.specs.Prelude.{◌≡◌, ◌⊎◌, ◌+◌, ◌-◌, ◌<◌, ◌≤◌, ◌++◌, ◌∷◌, [], ℕ, List, true, false, length, slice_index, IfOk, IfErr, OnOk, IsErr, Err};
+ghost use Rattle.std.specs.Prelude.{◌≡◌, ◌⊎◌, ◌+◌, ◌-◌, ◌<◌, ◌≤◌, ◌^◌, ◌++◌, ◌∷◌, [], ℕ, List, true, false, length, vec_capacity, slice_index, IfOk, IfErr, OnOk, IsErr, Err};
+ghost use Rattle.std.specs.List.{AllByRecursion};
 ghost use Rattle.mt_base.specs.declared.refusal.Refusal.{Refusal};
 ghost use Rattle.mt_disk.specs.Disk.{Torn, Follows, Elapses, LeavesOnly, HasCause};
-ghost use Rattle.mt_log.specs.Area.{TornFrom};
+ghost use Rattle.mt_frame.specs.Grammar.{IsRecord, body_text};
+ghost use Rattle.mt_frame.specs.History.{MayFollow};
+ghost use Rattle.mt_log.specs.Area.{ScansWithOrWithout, TornFrom, AreaBegins};
+ghost use Rattle.mt_log.specs.Batch.{framed, Scans};
+ghost use Rattle.mt_log.specs.Holds.{AreRecords};
+ghost use Rattle.mt_log.specs.Sound.{IsSound};
 ghost use Rattle.mt_log.specs.Words.{durable_batches, durable, in_flight, waiting, area_start, area_end, area_size, used, calls_left, has_failed, IsOn};
 ghost use Rattle.mt_log.specs.declared.stage.Step.TheVariants.{WriteBody};
 ghost use Rattle.mt_log.specs.declared.stage.Stage.TheVariants.{Forcing};
 
 use crate::area::AreaPlace;
+use crate::forcing::close_text;
 use crate::log::{Forced, Log, head_alone};
 use crate::stage::{Stage, Step};
-use mt_base::limits::BATCH_HEAD_BYTES;
 use mt_base::{History, Refusal};
 use mt_disk::{Device, DeviceFault};
-use mt_frame::CLOSED_GATE;
+use mt_frame::{CLOSED_GATE, Record, push_record};
 use std::alloc::Global;
 
-// The log of an area that has no batch, with an empty one about to be forced.
-fn before_first(alloc: Global, place: AreaPlace) -> Result<Log, Refusal>
+// What a force of these records writes behind the gate, and the records as a batch.
+fn first_batch(alloc: Global, records: &[Record]) -> Result<(Vec<u8>, History<Record>), Refusal>
+    requires grammar { AllByRecursion IsRecord records.now }
+    requires short { 5 + length (body_text records.now) < 2 ^ 32 }
+    ensures text { IfOk result (λ first. first.0.items ≡ framed records.now ++ 0 ∷ []) }
+    ensures room { IfOk result (λ first. 5 ≤ vec_capacity first.0) }
+    ensures records { IfOk result (λ first. first.1.items ≡ records.now) }
+    ensures only_memory { IfErr result (λ why. why ≡ Refusal.NoMemory) }
+{
+    let mut text = head_alone(alloc)?;
+    let mut batch = History::new();
+    for entry in records {
+        text.reserve(entry.length() + 1)?;
+        push_record(&mut text, entry)?;
+        batch = batch.and(entry);
+    }
+    close_text(&mut text);
+    Ok((text, batch))
+}
+
+// The log of an area that has no batch, with one of these records about to be forced.
+fn before_first(alloc: Global, place: AreaPlace, records: &[Record]) -> Result<Log, Refusal>
+    requires grammar { AllByRecursion IsRecord records.now }
+    requires fits { 5 + length (body_text records.now) < place.end - place.start }
     ensures place { IfOk result (λ log. log.place ≡ place) }
     ensures next { IfOk result (λ log. log.next ≡ place.start) }
     ensures stage { IfOk result (λ log. log.stage ≡ Forcing WriteBody) }
     ensures batches { IfOk result (λ log. log.batches.items ≡ []) }
-    ensures in_flight { IfOk result (λ log. log.in_flight.items ≡ []) }
+    ensures in_flight { IfOk result (λ log. log.in_flight.items ≡ records.now) }
     ensures waiting { IfOk result (λ log. log.waiting.items ≡ []) }
-    ensures behind { IfOk result (λ log. log.behind ≡ place.start + 5) }
+    ensures used { IfOk result (λ log. used log ≡ 5 + length (body_text records.now)) }
     ensures only_memory { IfErr result (λ why. why ≡ Refusal.NoMemory) }
 {
     let pending = head_alone(alloc)?;
-    let flight = Vec::from_elem(alloc, CLOSED_GATE, 5)?;
+    let (flight, in_flight) = first_batch(alloc, records)?;
     Ok(Log {
         place,
         next: place.start,
-        behind: place.start + BATCH_HEAD_BYTES,
+        behind: place.start + flight.len() as u64,
         stage: Stage::Forcing(Step::WriteBody),
         pending,
         flight,
-        batched: 0,
+        batched: records.len() as u64,
         waiting_count: 0,
         waiting: History::new(),
-        in_flight: History::new(),
+        in_flight,
         batches: History::new(),
     })
 }
@@ -73,6 +101,7 @@ fn force_all<D: Device>(log: &mut Log, device: &mut D) -> Result<(), Refusal>
     ensures calls { OnOk result (calls_left log.new ≡ 0) }
     ensures failed { OnOk result (has_failed log.new ≡ false) }
     ensures moments { LeavesOnly D.moment D.left_since device.old device.new (TornFrom (D.may_leave device.old) (area_start log.old) (area_size log.old)) }
+    ensures scans { LeavesOnly D.moment D.left_since device.old device.new (ScansWithOrWithout (area_start log.old) (area_end log.old) (durable_batches log.old) (in_flight log.old)) }
     ensures elsewhere { Follows (Torn (area_start log.old) (area_size log.old)) (D.may_leave device.old) (D.may_leave device.new) }
     ensures rest { Torn (area_start log.old) (area_size log.old) (D.seen device.old) (D.seen device.new) }
     ensures cause { IsErr result → D.faults device.old < D.faults device.new }
@@ -82,14 +111,9 @@ fn force_all<D: Device>(log: &mut Log, device: &mut D) -> Result<(), Refusal>
     Ok(())
 }
 
-/// Begins an area anew with an empty first batch, and answers its log. The area may hold anything
-/// before: its first gate is closed and synced, then the empty batch is written with a closed gate
-/// behind it and synced, then the gate is opened and synced. Until the first sync a crash may leave
-/// the old gate, and until the last one a gate that is closed.
-///
-/// Refusals are [`Refusal::NoMemory`], before any device call, and [`Refusal::DeviceFailed`], after
-/// which the area holds anything. Nothing outside of the area is touched in any case.
-#[tactic(auto, unfolding(crate::specs::Words::durable_batches, crate::specs::Words::durable, crate::specs::Words::in_flight, crate::specs::Words::waiting, crate::specs::Words::area_start, crate::specs::Words::area_end, crate::specs::Words::area_size, crate::specs::Words::used, crate::specs::Words::calls_left, crate::specs::Words::has_failed, crate::specs::Words::IsOn))]
+/// Begins an area anew with an empty first batch, and answers its log, as [`begin_area_with`] does
+/// without images.
+#[tactic(auto, unfolding(crate::specs::Words::durable))]
 pub fn begin_area<D: Device>(
     alloc: Global,
     device: &mut D,
@@ -107,12 +131,55 @@ pub fn begin_area<D: Device>(
     ensures used { IfOk result (λ log. used log ≡ 5) }
     ensures calls { IfOk result (λ log. calls_left log ≡ 0) }
     ensures failed { IfOk result (λ log. has_failed log ≡ false) }
+    ensures sound { IfOk result (λ log. (pages : ℕ) → IsSound pages log) }
+    ensures begins { LeavesOnly D.moment D.left_since device.old device.new (AreaBegins (D.may_leave device.old) place.start place.end []) }
+    ensures begun { OnOk result ((c : List ℕ) → D.may_leave device.new c → Scans c place.start place.end ([] ∷ [])) }
     ensures moments { LeavesOnly D.moment D.left_since device.old device.new (TornFrom (D.may_leave device.old) place.start (place.end - place.start)) }
     ensures elsewhere { Follows (Torn place.start (place.end - place.start)) (D.may_leave device.old) (D.may_leave device.new) }
     ensures rest { Torn place.start (place.end - place.start) (D.seen device.old) (D.seen device.new) }
     ensures cause { IfErr result (λ why. (why ≡ Refusal.NoMemory) ⊎ (why ≡ Refusal.DeviceFailed) × (D.faults device.old < D.faults device.new)) }
 {
-    let mut log = before_first(alloc, place)?;
+    begin_area_with(alloc, device, place, &[])
+}
+
+/// Begins an area anew with a first batch of these records, which are images of pages and nothing
+/// else, and answers its log. The area may hold anything before: its first gate is closed and synced,
+/// then the batch is written with a closed gate behind it and synced, then the gate is opened and
+/// synced. Until the first sync a crash may leave any byte as the first gate, and the rest as it was;
+/// until the last one a gate that is closed, or the batch; from then on the batch.
+///
+/// Refusals are [`Refusal::NoMemory`], before any device call, and [`Refusal::DeviceFailed`]. Nothing
+/// outside of the area is touched in any case.
+#[tactic(auto, unfolding(crate::specs::Words::durable_batches, crate::specs::Words::durable, crate::specs::Words::in_flight, crate::specs::Words::waiting, crate::specs::Words::area_start, crate::specs::Words::area_end, crate::specs::Words::area_size, crate::specs::Words::used, crate::specs::Words::calls_left, crate::specs::Words::has_failed, crate::specs::Words::IsOn))]
+pub fn begin_area_with<D: Device>(
+    alloc: Global,
+    device: &mut D,
+    place: AreaPlace,
+    images: &[Record],
+) -> Result<Log, Refusal>
+    requires within { place.end ≤ length (D.seen device.old) }
+    requires grammar { AllByRecursion IsRecord images.now }
+    requires fits { 5 + length (body_text images.now) < place.end - place.start }
+    ensures on { IfOk result (λ log. IsOn D.seen D.may_leave log device.new) }
+    ensures start { IfOk result (λ log. area_start log ≡ place.start) }
+    ensures end { IfOk result (λ log. area_end log ≡ place.end) }
+    ensures size { IfOk result (λ log. area_size log ≡ place.end - place.start) }
+    ensures batches { IfOk result (λ log. durable_batches log ≡ images.now ∷ []) }
+    ensures in_flight { IfOk result (λ log. in_flight log ≡ []) }
+    ensures waiting { IfOk result (λ log. waiting log ≡ []) }
+    ensures used { IfOk result (λ log. used log ≡ 5 + length (body_text images.now)) }
+    ensures calls { IfOk result (λ log. calls_left log ≡ 0) }
+    ensures failed { IfOk result (λ log. has_failed log ≡ false) }
+    ensures sound { IfOk result (λ log. (pages : ℕ) → AreRecords pages images.now → MayFollow true [] images.now → IsSound pages log) }
+    // Whenever a crash comes in this call, and what it leaves once the call has gone well.
+    ensures begins { LeavesOnly D.moment D.left_since device.old device.new (AreaBegins (D.may_leave device.old) place.start place.end images.now) }
+    ensures begun { OnOk result ((c : List ℕ) → D.may_leave device.new c → Scans c place.start place.end (images.now ∷ [])) }
+    ensures moments { LeavesOnly D.moment D.left_since device.old device.new (TornFrom (D.may_leave device.old) place.start (place.end - place.start)) }
+    ensures elsewhere { Follows (Torn place.start (place.end - place.start)) (D.may_leave device.old) (D.may_leave device.new) }
+    ensures rest { Torn place.start (place.end - place.start) (D.seen device.old) (D.seen device.new) }
+    ensures cause { IfErr result (λ why. (why ≡ Refusal.NoMemory) ⊎ (why ≡ Refusal.DeviceFailed) × (D.faults device.old < D.faults device.new)) }
+{
+    let mut log = before_first(alloc, place, images)?;
     close_gate(device, place.start)?;
     force_all(&mut log, device)?;
     Ok(log)

@@ -16,7 +16,7 @@ use mt_disk::{Device, DeviceFault};
 use mt_frame::{CLOSED_GATE, OPEN_GATE};
 
 // Puts the body's length before the body, and a closed gate behind it.
-fn close_text(text: &mut Vec<u8>)
+pub(crate) fn close_text(text: &mut Vec<u8>)
     requires head { 4 ≤ vec_len text.old }
     requires short { vec_len text.old < 2 ^ 32 }
     requires gate_room { vec_len text.old < vec_capacity text.old }
@@ -33,7 +33,8 @@ fn close_text(text: &mut Vec<u8>)
 }
 
 impl Log {
-    ghost use Rattle.mt_log.specs.Words.{durable_batches, durable, in_flight, waiting, appended, area_start, area_end, used, area_size, calls_left, has_failed, coming, AreaOf, IsOn, IsStep, batches_after};
+    ghost use Rattle.mt_log.specs.Words.{durable_batches, durable, in_flight, waiting, appended, area_start, area_end, used, area_size, calls_left, has_failed, coming, AreaOf, IsOn, IsStep, Moves, batches_after};
+    ghost use Rattle.mt_log.specs.Sound.{IsSound, HoldsBeginning};
 
     // The batch of the records that wait becomes the one that is forced.
     fn seal(&mut self)
@@ -158,6 +159,13 @@ impl Log {
         ensures used { used self.new ≤ used self.old }
         // Only the first call of a force changes the bytes in use.
         ensures used_less { 0 < calls_left self.old → used self.new ≡ used self.old }
+        // That call puts the records that wait under one head of 5 bytes; each was counted with one of its own.
+        ensures used_shared { calls_left self.old ≡ 0 → has_failed self.old ≡ false → 0 < length (waiting self.old) → used self.new + 5 * length (waiting self.old) ≡ used self.old + 5 }
+        ensures moves { Moves self.old self.new }
+        // While the appended records break no rule: whenever a crash comes in this call, the area holds
+        // batches whose records are a beginning of them with all durable ones. `scan` finds just those.
+        ensures holds { (pages : ℕ) → IsSound pages self.old → LeavesOnly D.moment D.left_since device.old device.new (HoldsBeginning pages self.old) }
+        ensures sound { (pages : ℕ) → IsSound pages self.old → IsSound pages self.new }
         ensures start { area_start self.new ≡ area_start self.old }
         ensures end { area_end self.new ≡ area_end self.old }
         ensures area { area_size self.new ≡ area_size self.old }

@@ -3,13 +3,21 @@
 #![tactic(auto)]
 
 mod area;
+mod batch;
 mod beginning;
+mod fetch;
 mod forcing;
+mod laws;
 mod log;
+mod reading;
+mod scanning;
 mod stage;
 #[cfg(test)]
 mod tests;
 
 pub use area::AreaPlace;
-pub use beginning::begin_area;
+pub use batch::Batch;
+pub use beginning::{begin_area, begin_area_with};
+pub use laws::{a_crash_leaves_a_beginning, areas_are_read_one_way};
 pub use log::{Forced, Log};
+pub use scanning::scan;

@@ -3,7 +3,9 @@ ghost use Rattle.std.specs.Prelude.{◌≡◌, ◌+◌, ◌-◌, ◌*◌, ◌<�
 ghost use Rattle.mt_base.specs.declared.refusal.Refusal.{Refusal};
 ghost use Rattle.mt_frame.specs.Grammar.{IsRecord, body_text};
 ghost use Rattle.mt_frame.specs.Lengths.{record_length};
+ghost use Rattle.mt_frame.specs.History.{may_stand};
 ghost use Rattle.mt_log.specs.Batch.{joined};
+ghost use Rattle.mt_log.specs.Holds.{HasItsPage};
 ghost use Rattle.mt_log.specs.Texts.{IsAtRest, IsUnderWay};
 ghost use Rattle.mt_log.specs.declared.stage.Stage.TheVariants.{Idle};
 
@@ -71,6 +73,7 @@ pub(crate) fn head_alone(alloc: Global) -> Result<Vec<u8>, AllocError>
 #[tactic(auto, unfolding(crate::specs::Words::durable_batches, crate::specs::Words::durable, crate::specs::Words::in_flight, crate::specs::Words::waiting, crate::specs::Words::area_start, crate::specs::Words::area_end, crate::specs::Words::used, crate::specs::Words::area_size, crate::specs::Words::room, crate::specs::Words::calls_left, crate::specs::Words::has_failed, crate::specs::Words::stands_at))]
 impl Log {
     ghost use Rattle.mt_log.specs.Words.{durable_batches, durable, in_flight, waiting, appended, area_start, area_end, used, area_size, room, calls_left, has_failed, stands_at};
+    ghost use Rattle.mt_log.specs.Sound.{IsSound};
 
     /// The log of an area that has nothing but its first batch, with no record in it. The only refusal
     /// is [`Refusal::NoMemory`].
@@ -85,6 +88,7 @@ impl Log {
         ensures calls { IfOk result (λ log. calls_left log ≡ 0) }
         ensures failed { IfOk result (λ log. has_failed log ≡ false) }
         ensures stands { IfOk result (λ log. stands_at log ≡ (place.start, place.end, place.start + 5, [] ∷ [], [], Idle)) }
+        ensures sound { IfOk result (λ log. (pages : ℕ) → IsSound pages log) }
         ensures only_memory { IfErr result (λ why. why ≡ Refusal.NoMemory) }
     {
         let pending = head_alone(alloc)?;
@@ -146,6 +150,7 @@ impl Log {
         ensures calls { calls_left self.new ≡ calls_left self.old }
         ensures failed { has_failed self.new ≡ has_failed self.old }
         ensures stands { stands_at self.new ≡ stands_at self.old }
+        ensures sound { (pages : ℕ) → IsSound pages self.old → IsSound pages self.new }
         ensures only_memory { IfErr result (λ why. why ≡ Refusal.NoMemory) }
     {
         self.pending.reserve(text + 1)?;
@@ -167,6 +172,8 @@ impl Log {
         ensures calls { calls_left self.new ≡ calls_left self.old }
         ensures failed { has_failed self.new ≡ has_failed self.old }
         ensures stands { stands_at self.new ≡ stands_at self.old }
+        // A record that may stand behind the others leaves a log whose records break no rule one.
+        ensures sound { (pages : ℕ) → IsSound pages self.old → HasItsPage pages entry → may_stand false (appended self.old) entry ≡ true → IsSound pages self.new }
         ensures room { 0 < record_length entry → record_length entry ≤ room self.old → IsOk result }
         ensures room_left { room self.old ≤ room self.new + record_length entry }
         ensures err_waiting { OnErr result (waiting self.new ≡ waiting self.old) }

@@ -17,7 +17,7 @@ const IDLE: Result<Forced, Refusal> = Ok(Forced::Idle);
 const FAILED: Result<Forced, Refusal> = Err(Refusal::DeviceFailed);
 
 /// Where the area of each test lies.
-fn place() -> AreaPlace
+pub(crate) fn place() -> AreaPlace
     ensures start { result.start ≡ 8 }
     ensures end { result.end ≡ 60 }
 {
@@ -26,7 +26,11 @@ fn place() -> AreaPlace
 
 /// Appends the end of a transaction.
 #[tactic(auto, using(crate::proofs::Elsewhere::on_same))]
-fn append_commit<D: Device>(log: &mut Log, device: &D, txn: u64) -> Result<LogPos, Refusal>
+pub(crate) fn append_commit<D: Device>(
+    log: &mut Log,
+    device: &D,
+    txn: u64,
+) -> Result<LogPos, Refusal>
     requires on { IsOn D.seen D.may_leave log.old device.now }
     requires number { IsTxn txn }
     requires fits { used log.old + 14 < area_size log.old }
@@ -41,7 +45,7 @@ fn append_commit<D: Device>(log: &mut Log, device: &D, txn: u64) -> Result<LogPo
 }
 
 /// What five steps answered.
-fn five_steps<D: Device>(log: &mut Log, device: &mut D) -> [Result<Forced, Refusal>; 5]
+pub(crate) fn five_steps<D: Device>(log: &mut Log, device: &mut D) -> [Result<Forced, Refusal>; 5]
     requires { IsOn D.seen D.may_leave log.old device.old }
     ensures on { IsOn D.seen D.may_leave log.new device.new }
     ensures size { area_size log.new ≡ area_size log.old }
@@ -136,5 +140,14 @@ fn records_wait_for_the_next_batch(rt: HostRuntime) -> Result<(), Fail> {
     assert_eq!(rt; bytes.len(), 64);
     let batch = b"\xa5\0\0\0\x12\x04\0\0\0\0\0\0\0\x02\x04\0\0\0\0\0\0\0\x03\0".as_slice();
     assert_eq!(rt; &bytes[27..51], batch);
+    Ok(())
+}
+
+#[test]
+fn the_areas_lie_behind_the_pages(rt: HostRuntime) -> Result<(), Fail> {
+    assert_eq!(rt; AreaPlace::of(64, 4, false).start, 270_336);
+    assert_eq!(rt; AreaPlace::of(64, 4, true).end, 8_658_944);
+    let mut log = Log::new(rt.alloc(), place())?;
+    assert_eq!(rt; log.reserve(9), Ok(()));
     Ok(())
 }

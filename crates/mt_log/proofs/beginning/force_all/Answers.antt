@@ -1,10 +1,12 @@
 use Rattle.std.proofs.Common.{◌≡◌, ◌<◌, ◌++◌, ◌∷◌, [], List, ap, subst, ◌∙◌, refl, arith}
 use Rattle.mt_frame.specs.declared.records.Record.{Record}
-use Rattle.mt_log.specs.Words.{durable_batches, durable, in_flight, waiting, area_start, area_size, used, calls_left, IsStep, batches_after}
+use Rattle.mt_log.specs.Words.{durable_batches, durable, in_flight, waiting, area_start, area_end, area_size, used, calls_left, coming, IsStep, batches_after}
 use Rattle.mt_log.specs.declared.log.Log.{Log}
 use Rattle.mt_log.specs.declared.log.Forced.{Forced}
 use Rattle.mt_log.specs.declared.log.Forced.TheVariants.{More, Durable, Idle}
-use Rattle.mt_log.proofs.Frames.{frame_more, follows_more, torn_more}
+use Rattle.mt_disk.proofs.Frame.{started, torn_refl}
+use Rattle.mt_log.proofs.AtRest.{scans_forced, scans_more, coming-in_flight}
+use Rattle.mt_log.proofs.Frames.{frame_none, frame_more, follows_more, torn_more}
 use Rattle.mt_log.proofs.beginning.force_all.Goals as goal
 
 -- where a force that was under way needs no further call
@@ -21,6 +23,37 @@ returns-in_err-force_step-clause-moments g c =
     let inv = c.loop.invariant in
     frame_more g.D.Device.moment g.D.Device.left_since g.D.Device.may_leave g.met.D.Device.only_now (area_start c.args.log.now) (area_size c.args.log.now) c.args.device.now c.loop.device c.force_step.new.device (area_start c.loop.log) (area_size c.loop.log) inv.start inv.size inv.moments inv.elsewhere c.force_step.ensures.time c.force_step.ensures.elsewhere
 
+pub loop-init : goal.loop-init
+loop-init g c =
+    let log = c.args.log.now in
+    let d = c.args.device.now in
+    record {
+      scans = started g.D.Device.moment g.D.Device.left_since d _ (λ k left. scans_forced g.D.Device.seen g.D.Device.may_leave log d c.requires.on k (g.met.D.Device.only_now d k left));
+      on = c.requires.on;
+      calls = c.requires.under_way;
+      well = c.requires.well;
+      start = refl;
+      end = refl;
+      size = refl;
+      batches = refl;
+      durable = refl;
+      in_flight = refl;
+      waiting = refl;
+      used = refl;
+      faults = refl;
+      moments = frame_none g.D.Device.moment g.D.Device.left_since g.D.Device.may_leave g.met.D.Device.only_now (area_start log) (area_size log) d;
+      elsewhere = λ k left. (k, left, torn_refl (area_start log) (area_size log) k);
+      rest = torn_refl (area_start log) (area_size log) (g.D.Device.seen d);
+    }
+
+pub returns-in_err-force_step-clause-scans : goal.returns-in_err-force_step-clause-scans
+returns-in_err-force_step-clause-scans g c =
+    let inv = c.loop.invariant in
+    let old = c.args.log.now in
+    let mid = c.loop.log in
+    scans_more g.D.Device.moment g.D.Device.left_since c.args.device.now c.loop.device c.force_step.new.device (area_start old) (area_start mid) (area_end old) (area_end mid) (durable_batches old) (durable_batches mid) (in_flight old) (coming mid)
+    inv.start inv.end inv.batches (coming-in_flight mid inv.calls ∙ inv.in_flight) inv.scans c.force_step.ensures.moments
+
 pub loop-preserved : goal.loop-preserved
 loop-preserved g c =
     let inv = c.loop.invariant in
@@ -31,6 +64,8 @@ loop-preserved g c =
     let batches = subst (λ (f : Forced). durable_batches new ≡ batches_after old f) c.in-More.is c.in_ok-force_step.ensures.batches in
     let way = step.2 inv.calls in
     record {
+      scans = scans_more g.D.Device.moment g.D.Device.left_since c.args.device.now c.loop.device c.force_step.new.device (area_start c.args.log.now) (area_start old) (area_end c.args.log.now) (area_end old) (durable_batches c.args.log.now) (durable_batches old) (in_flight c.args.log.now) (coming old)
+          inv.start inv.end inv.batches (coming-in_flight old inv.calls ∙ inv.in_flight) inv.scans e.moments;
       on = e.on;
       calls = way.3;
       well = c.in_ok-force_step.ensures.well refl;
@@ -67,6 +102,8 @@ returns g c =
       calls = end.5;
       failed = c.in_ok-force_step.ensures.well refl;
       moments = frame_more g.D.Device.moment g.D.Device.left_since g.D.Device.may_leave g.met.D.Device.only_now (area_start c.args.log.now) (area_size c.args.log.now) c.args.device.now c.loop.device c.force_step.new.device (area_start c.loop.log) (area_size c.loop.log) inv.start inv.size inv.moments inv.elsewhere e.time e.elsewhere;
+      scans = scans_more g.D.Device.moment g.D.Device.left_since c.args.device.now c.loop.device c.force_step.new.device (area_start c.args.log.now) (area_start old) (area_end c.args.log.now) (area_end old) (durable_batches c.args.log.now) (durable_batches old) (in_flight c.args.log.now) (coming old)
+          inv.start inv.end inv.batches (coming-in_flight old inv.calls ∙ inv.in_flight) inv.scans e.moments;
       elsewhere = follows_more (g.D.Device.may_leave c.args.device.now) (g.D.Device.may_leave c.loop.device) (g.D.Device.may_leave c.force_step.new.device) (area_start c.args.log.now) (area_size c.args.log.now) (area_start c.loop.log) (area_size c.loop.log) inv.start inv.size inv.elsewhere e.elsewhere;
       rest = torn_more (g.D.Device.seen c.args.device.now) (g.D.Device.seen c.loop.device) (g.D.Device.seen c.force_step.new.device) (area_start c.args.log.now) (area_size c.args.log.now) (area_start c.loop.log) (area_size c.loop.log) inv.start inv.size inv.rest e.rest;
       cause = λ is. absurd (cc);

@@ -1,11 +1,12 @@
 use Rattle.std.proofs.Common.{◌≡◌, ◌<◌, false}
 use Rattle.mt_disk.specs.Disk.{Torn, Follows, LeavesOnly}
-use Rattle.mt_log.specs.Area.{TornFrom}
+use Rattle.mt_log.specs.Area.{ScansWithOrWithout, TornFrom}
 use Rattle.mt_log.specs.Words.{durable_batches, durable, in_flight, waiting, area_start, area_end, area_size, used, calls_left, has_failed, IsOn}
 use Rattle.mt_log.proofs.beginning.force_all.Given as goal
 
 abbrev pub invariant-loop : goal.invariant-loop
 invariant-loop g l = record {
+  scans : LeavesOnly g.D.Device.moment g.D.Device.left_since l.fn.device l.device (ScansWithOrWithout (area_start l.fn.log) (area_end l.fn.log) (durable_batches l.fn.log) (in_flight l.fn.log));
   on : IsOn g.D.Device.seen g.D.Device.may_leave l.log l.device;
   calls : 0 < calls_left l.log;
   well : has_failed l.log ≡ false;

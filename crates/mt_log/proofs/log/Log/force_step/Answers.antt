@@ -1,10 +1,14 @@
 use Rattle.std.proofs.Common.{◌≡◌, ◌+◌, ◌-◌, ◌*◌, ◌++◌, ◌∷◌, [], ℕ, List, map, length, ap, sym, ◌∙◌, refl, vec_len, append-nil, arith}
-use Rattle.mt_disk.proofs.Frame.{started}
+use Rattle.mt_disk.proofs.Frame.{started, leaves_more}
 use Rattle.mt_frame.specs.declared.records.Record.{Record}
+use Rattle.mt_log.specs.Area.{ScansWithOrWithout}
 use Rattle.mt_log.specs.Batch.{joined}
-use Rattle.mt_log.specs.Words.{durable_batches, durable, in_flight, waiting, area_start, area_end, used, coming, IsOn}
+use Rattle.mt_log.specs.Sound.{HoldsBeginning}
+use Rattle.mt_log.specs.Words.{durable_batches, durable, in_flight, waiting, area_start, area_end, used, coming, IsOn, batch_of}
+use Rattle.mt_log.specs.declared.stage.Stage.{Stage}
 use Rattle.mt_log.specs.declared.stage.Step.TheVariants.{WriteBody}
-use Rattle.mt_log.proofs.Settled.{leaves_coming, appended_kept, step_taken}
+use Rattle.mt_log.proofs.Prefix.{beginning_found, beginning_at, sound_same, sound_moved}
+use Rattle.mt_log.proofs.Settled.{leaves_coming, appended_kept, step_taken, batches_kept, moved, moved_batches}
 use Rattle.mt_log.proofs.log.Log.force_step.Goals as goal
 
 nothing : (l : List Record) → length l ≡ 0 → l ≡ []
@@ -45,3 +49,70 @@ returns-in-Forcing-clause-step g c =
     let t = c.make_call-in-Forcing.new.self in
     let same : used t ≡ used s = ap (λ p. (t.behind - p.start) + 5 * t.waiting_count + (vec_len t.pending - 4)) m.place ∙ ap (λ (k : ℕ). (k - s.place.start) + 5 * t.waiting_count + (vec_len t.pending - 4)) m.behind ∙ ap (λ (k : ℕ). (s.behind - s.place.start) + 5 * k + (vec_len t.pending - 4)) m.count ∙ ap (λ v. (s.behind - s.place.start) + 5 * s.waiting_count + (vec_len v - 4)) m.pending in
     step_taken s t c.in-Forcing.step m.place m.waiting c.make_call-in-Forcing.result c.in-Forcing.is same m.on_the_way m.arrived m.not_idle
+
+pub returns-in-Forcing-clause-batches : goal.returns-in-Forcing-clause-batches
+returns-in-Forcing-clause-batches g c =
+    let m = c.make_call-in-Forcing.ensures in
+    batches_kept c.args.self.now c.make_call-in-Forcing.new.self c.in-Forcing.step m.place m.waiting c.make_call-in-Forcing.result m.on_the_way m.arrived m.not_idle
+
+pub returns-in-Forcing-clause-moves : goal.returns-in-Forcing-clause-moves
+returns-in-Forcing-clause-moves g c =
+    let m = c.make_call-in-Forcing.ensures in
+    moved c.args.self.now c.make_call-in-Forcing.new.self c.in-Forcing.step m.place m.waiting c.make_call-in-Forcing.result c.in-Forcing.is m.on_the_way m.arrived m.not_idle m.err
+
+pub returns-in-Forcing-clause-sound : goal.returns-in-Forcing-clause-sound
+returns-in-Forcing-clause-sound g c = λ pages sound.
+    let m = c.make_call-in-Forcing.ensures in
+    sound_moved pages c.args.self.now c.make_call-in-Forcing.new.self
+    (moved_batches c.args.self.now c.make_call-in-Forcing.new.self c.in-Forcing.step m.place m.waiting c.make_call-in-Forcing.result m.on_the_way m.arrived m.not_idle m.err) sound
+
+-- the records that wait become the batch that is forced
+sealed_behind : (old new : List Record) (wait : List Record) → old ≡ [] → new ≡ wait → new ++ [] ≡ old ++ wait
+sealed_behind old new wait none is = append-nil new ∙ is ∙ ap (λ (l : List Record). l ++ wait) (sym none)
+
+pub returns-else-self-eq0-clause-sound : goal.returns-else-self-eq0-clause-sound
+unfolding durable_batches in_flight waiting
+returns-else-self-eq0-clause-sound g c = λ pages sound.
+    let s = c.args.self.now in
+    let t = c.seal.new.self in
+    let m = c.make_call.ensures in
+    let b = c.seal.ensures in
+    let behind : t.in_flight.items ++ t.waiting.items ≡ s.in_flight.items ++ s.waiting.items =
+    ap (λ (l : List Record). t.in_flight.items ++ l) b.waiting ∙ sealed_behind s.in_flight.items t.in_flight.items s.waiting.items (nothing s.in_flight.items (s.at_rest c.in-Idle.is).none) b.in_flight in
+    sound_moved pages t c.make_call.new.self (moved_batches t c.make_call.new.self WriteBody m.place m.waiting c.make_call.result m.on_the_way m.arrived m.not_idle m.err)
+    (sound_same pages s t (ap (λ h. map (λ batch. batch.items) h.items) b.batches) behind sound)
+
+pub returns-in-Failed-clause-holds : goal.returns-in-Failed-clause-holds
+unfolding durable_batches area_start area_end coming IsOn
+returns-in-Failed-clause-holds g c = λ pages sound.
+    let s = c.args.self.now in
+    let d = c.args.device.now in
+    started g.D.Device.moment g.D.Device.left_since d _
+    (λ k left. beginning_found pages s k sound (leaves_coming (g.D.Device.seen d) (g.D.Device.may_leave d) s.place.start s.place.end s.next (map (λ batch. batch.items) s.batches.items) s.in_flight.items s.waiting.items s.stage c.requires.on k (g.met.D.Device.only_now d k left)))
+
+pub returns-then-self-eq0-clause-holds : goal.returns-then-self-eq0-clause-holds
+unfolding durable_batches area_start area_end coming IsOn
+returns-then-self-eq0-clause-holds g c = λ pages sound.
+    let s = c.args.self.now in
+    let d = c.args.device.now in
+    started g.D.Device.moment g.D.Device.left_since d _
+    (λ k left. beginning_found pages s k sound (leaves_coming (g.D.Device.seen d) (g.D.Device.may_leave d) s.place.start s.place.end s.next (map (λ batch. batch.items) s.batches.items) s.in_flight.items s.waiting.items s.stage c.requires.on k (g.met.D.Device.only_now d k left)))
+
+pub returns-in-Forcing-clause-holds : goal.returns-in-Forcing-clause-holds
+unfolding durable_batches area_start area_end coming
+returns-in-Forcing-clause-holds g c = λ pages sound.
+    let s = c.args.self.now in
+    let bs : List (List Record) = map (λ batch. batch.items) s.batches.items in
+    leaves_more g.D.Device.moment g.D.Device.left_since c.args.device.now c.make_call-in-Forcing.new.device (ScansWithOrWithout s.place.start s.place.end bs s.in_flight.items) (HoldsBeginning pages s) c.make_call-in-Forcing.ensures.moments
+    (λ k scans. beginning_at pages s k s.place.start s.place.end bs s.in_flight.items refl refl refl (ap (λ (x : Stage). batch_of x s.waiting.items s.in_flight.items) (sym c.in-Forcing.is)) sound scans)
+
+pub returns-else-self-eq0-clause-holds : goal.returns-else-self-eq0-clause-holds
+unfolding durable_batches area_start area_end coming
+returns-else-self-eq0-clause-holds g c = λ pages sound.
+    let s = c.args.self.now in
+    let t = c.seal.new.self in
+    let b = c.seal.ensures in
+    let bs : List (List Record) = map (λ batch. batch.items) t.batches.items in
+    leaves_more g.D.Device.moment g.D.Device.left_since c.args.device.now c.make_call.new.device (ScansWithOrWithout t.place.start t.place.end bs t.in_flight.items) (HoldsBeginning pages s) c.make_call.ensures.moments
+    (λ k scans. beginning_at pages s k t.place.start t.place.end bs t.in_flight.items (ap (λ p. p.start) b.place) (ap (λ p. p.end) b.place) (ap (λ h. map (λ batch. batch.items) h.items) b.batches)
+    (b.in_flight ∙ ap (λ (x : Stage). batch_of x s.waiting.items s.in_flight.items) (sym c.in-Idle.is)) sound scans)

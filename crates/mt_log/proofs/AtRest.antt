@@ -1,0 +1,64 @@
+-- What a crash leaves of a log's area, in the words of its callers.
+use Rattle.std.proofs.Common.{◌≡◌, ℕ, ◌<◌, List, refl, subst, arith, false}
+use Rattle.mt_disk.specs.Disk.{LeavesOnly}
+use Rattle.mt_disk.proofs.Frame.{runs_both, leaves_more}
+use Rattle.mt_frame.specs.declared.records.Record.{Record}
+use Rattle.mt_log.specs.Batch.{Scans}
+use Rattle.mt_log.specs.Area.{Area, ScansWithOrWithout}
+use Rattle.mt_log.specs.Words.{durable_batches, in_flight, area_start, area_end, calls_left, calls_after, has_failed, is_failed, coming, batch_of, IsOn}
+use Rattle.mt_log.specs.declared.log.Log.{Log}
+use Rattle.mt_log.specs.declared.stage.Step.{Step}
+use Rattle.mt_log.specs.declared.stage.Step.TheVariants.{WriteBody, SyncBody, WriteGate, SyncGate}
+use Rattle.mt_log.specs.declared.stage.Stage.{Stage}
+use Rattle.mt_log.specs.declared.stage.Stage.TheVariants.{Idle, Forcing, Failed}
+use Rattle.mt_log.proofs.Steps.{leaves}
+use Rattle.mt_log.proofs.Settled.{leaves_coming, batches_in}
+
+module _ {D : Type 0} (seen : D → List ℕ) (may_leave : D → List ℕ → Type 0) (log : Log) (device : D) where
+  -- the durable batches, with the one that comes or without
+  pub scans_coming : IsOn seen may_leave log device → (c : List ℕ) → may_leave device c → ScansWithOrWithout (area_start log) (area_end log) (durable_batches log) (coming log) c
+  unfolding IsOn area_start area_end durable_batches coming
+  scans_coming on c left = leaves_coming (seen device) (may_leave device) log.place.start log.place.end log.next (batches_in log) log.in_flight.items log.waiting.items log.stage on c left
+
+  -- the durable batches, with the one that is being forced or without
+  pub scans_forced : IsOn seen may_leave log device → (c : List ℕ) → may_leave device c → ScansWithOrWithout (area_start log) (area_end log) (durable_batches log) (in_flight log) c
+  unfolding IsOn area_start area_end durable_batches in_flight
+  scans_forced on c left = leaves (seen device) (may_leave device) log.place.start log.place.end log.next (batches_in log) log.in_flight.items log.stage on c left
+
+no_calls : (step : Step) → calls_after (Forcing step) ≡ 0 → ⊥
+no_calls WriteBody is = cc
+no_calls SyncBody is = cc
+no_calls WriteGate is = cc
+no_calls SyncGate is = cc
+
+idle_scans : (seen : List ℕ) (may : List ℕ → Type 0) (start end next : ℕ) (bs : List (List Record)) (b : List Record) (stage : Stage) → Area seen may start end next bs b stage → calls_after stage ≡ 0 → is_failed stage ≡ false → (c : List ℕ) → may c → Scans c start end bs
+idle_scans seen may start end next bs b Idle a none well c left = (next, a.front c left, a.room, a.outcome c left)
+idle_scans seen may start end next bs b (Forcing step) a none well c left = absurd (no_calls step none)
+idle_scans seen may start end next bs b Failed a none well c left = absurd (cc)
+
+-- where nothing is being forced, the durable batches
+pub scans_at_rest : {D : Type 0} (seen : D → List ℕ) (may_leave : D → List ℕ → Type 0) (log : Log) (device : D) → IsOn seen may_leave log device → calls_left log ≡ 0 → has_failed log ≡ false
+    → (c : List ℕ) → may_leave device c → Scans c (area_start log) (area_end log) (durable_batches log)
+unfolding IsOn area_start area_end durable_batches calls_left has_failed
+scans_at_rest seen may_leave log device on none well c left = idle_scans (seen device) (may_leave device) log.place.start log.place.end log.next (batches_in log) log.in_flight.items log.stage on none well c left
+
+coming_forced : (stage : Stage) (wait flight : List Record) → 0 < calls_after stage → batch_of stage wait flight ≡ flight
+coming_forced Idle wait flight some = absurd (omega arith)
+coming_forced (Forcing step) wait flight some = refl
+coming_forced Failed wait flight some = refl
+
+-- what comes is what is being forced
+pub coming-in_flight : (log : Log) → 0 < calls_left log → coming log ≡ in_flight log
+unfolding coming in_flight calls_left
+coming-in_flight log some = coming_forced log.stage log.waiting.items log.in_flight.items some
+
+-- a step more of a force
+pub scans_more : {D : Type 0} (moment : D → ℕ) (left_since : D → ℕ → List ℕ → Type 0) (old mid new : D) (start start2 end end2 : ℕ) (bs bs2 : List (List Record)) (b b2 : List Record) → start2 ≡ start → end2 ≡ end → bs2 ≡ bs → b2 ≡ b
+    → LeavesOnly moment left_since old mid (ScansWithOrWithout start end bs b) → LeavesOnly moment left_since mid new (ScansWithOrWithout start2 end2 bs2 b2) → LeavesOnly moment left_since old new (ScansWithOrWithout start end bs b)
+scans_more moment left_since old mid new start start2 end end2 bs bs2 b b2 s e l n first second =
+    runs_both moment left_since old mid new (ScansWithOrWithout start end bs b) first
+    (leaves_more moment left_since mid new (ScansWithOrWithout start2 end2 bs2 b2) (ScansWithOrWithout start end bs b) second
+    (λ c scans. subst (λ (k : ℕ). ScansWithOrWithout k end bs b c) s
+    (subst (λ (k : ℕ). ScansWithOrWithout start2 k bs b c) e
+    (subst (λ (k : List (List Record)). ScansWithOrWithout start2 end2 k b c) l
+    (subst (λ (k : List Record). ScansWithOrWithout start2 end2 bs2 k c) n scans)))))

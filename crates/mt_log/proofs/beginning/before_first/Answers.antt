@@ -1,0 +1,32 @@
+use Rattle.std.proofs.Common.{◌≤◌, List, [], ◌∷◌, length, ap, arith, length-append}
+use Rattle.std.proofs.lemmas.List.Concat.{flat_map-cons}
+use Rattle.mt_frame.specs.declared.records.Record.{Record}
+use Rattle.mt_frame.specs.Grammar.{record_text, body_text}
+use Rattle.mt_frame.proofs.Rows.{text_some}
+use Rattle.mt_log.proofs.Steps.{length-closed}
+use Rattle.mt_log.specs.Words.{used}
+use Rattle.mt_log.proofs.beginning.before_first.Goals as goal
+
+-- a byte a record at least
+length-body : (rs : List Record) → length rs ≤ length (body_text rs)
+length-body [] = omega arith
+length-body (r ∷ rs) = omega (arith, length-body rs, text_some r, ap length (flat_map-cons record_text r rs), length-append (record_text r) (body_text rs))
+
+pub invariant_of-result-clause-fits : goal.invariant_of-result-clause-fits
+invariant_of-result-clause-fits c =
+    let flight = c.in_ok-flight.flight in
+    let four = c.in_ok-pending.ensures.len in
+    let room = c.requires.fits in
+    omega (arith, c.len.ensures, flight.ok.0, ap length c.in_ok-flight.ensures.text, length-closed c.args.records.now)
+
+pub invariant_of-result-clause-few_batched : goal.invariant_of-result-clause-few_batched
+invariant_of-result-clause-few_batched c =
+    let flight = c.in_ok-flight.flight in
+    omega (arith, c.len.ensures, flight.ok.0, ap length c.in_ok-flight.ensures.text, length-closed c.args.records.now, length-body c.args.records.now)
+
+pub returns-clause-used : goal.returns-clause-used
+unfolding used
+returns-clause-used c =
+    let flight = c.in_ok-flight.flight in
+    let four = c.in_ok-pending.ensures.len in
+    omega (arith, c.len.ensures, flight.ok.0, ap length c.in_ok-flight.ensures.text, length-closed c.args.records.now)

@@ -1,0 +1,70 @@
+-- What an area holds by the grammar, and where it breaks it.
+use Rattle.std.specs.Prelude.{◌<◌, ◌≡◌, ◌⊎◌, ℕ, ◌+◌, List, [], ◌∷◌, length, true, false}
+use Rattle.std.specs.List.{AllByRecursion}
+use Rattle.std.proofs.Math.ListN.{get_or}
+use Rattle.mt_disk.specs.Disk.{Has}
+use Rattle.mt_frame.specs.declared.records.Record.{Record}
+use Rattle.mt_frame.specs.declared.records.Record.TheVariants.{Page, OpEnd, OpDropped, Commit, AbortEnd}
+use Rattle.mt_frame.specs.Grammar.{IsRecord, body_text, batch_text}
+use Rattle.mt_frame.specs.History.{MayFollow, IsHistory}
+use Rattle.mt_log.specs.Batch.{Stands, Scans, joined}
+
+-- ---- batches
+
+-- the page of a page record is one of the device's
+abbrev pub HasItsPage : ℕ → Record → Type 0
+HasItsPage pages (Page txn op page image start old new) = page < pages
+HasItsPage pages (OpEnd txn op undoes done) = Unit {0}
+HasItsPage pages (OpDropped txn op) = Unit {0}
+HasItsPage pages (Commit txn) = Unit {0}
+HasItsPage pages (AbortEnd txn) = Unit {0}
+
+-- each record is one of the grammar, on a device of so many pages
+abbrev pub AreRecords : ℕ → List Record → Type 0
+AreRecords pages records = AllByRecursion IsRecord records × AllByRecursion (HasItsPage pages) records
+
+-- so in each batch
+abbrev pub AreBatches : ℕ → List (List Record) → Type 0
+AreBatches pages batches = AllByRecursion (AreRecords pages) batches
+
+-- the batch may stand behind these, the area's first ones; with none of them it is the area's first
+abbrev pub MayComeNext : List (List Record) → List Record → Type 0
+MayComeNext [] batch = MayFollow true [] batch
+MayComeNext (b ∷ bs) batch = MayFollow false (joined (b ∷ bs)) batch
+
+-- none of the area's first batches breaks a rule
+abbrev pub BreakNoRule : List (List Record) → Type 0
+BreakNoRule [] = Unit {0}
+BreakNoRule (b ∷ bs) = IsHistory (b ∷ bs)
+
+-- where these batches stand in a row from p on
+abbrev pub places_from : ℕ → List (List Record) → List ℕ
+places_from p [] = []
+places_from p (b ∷ bs) = p ∷ places_from (p + 5 + length (body_text b)) bs
+
+-- ---- areas
+
+-- The area holds these batches and no more: they stand in a row from its first byte on, behind them and before its end is a
+-- gate that is not open, and they break no rule.
+pub record HoldsBatches (c : List ℕ) (start end pages : ℕ) (batches : List (List Record)) : Type 0 where
+  pub row : Scans c start end batches
+  pub each : AreBatches pages batches
+  pub rules : IsHistory batches
+
+-- the batch stands at this place, with the next gate before the area's end, and breaks no rule behind those before it
+pub record IsNextBatch (c : List ℕ) (place end pages : ℕ) (before : List (List Record)) (batch : List Record) : Type 0 where
+  pub text : Has c place (batch_text batch)
+  pub fits : place + 5 + length (body_text batch) < end
+  pub each : AreRecords pages batch
+  pub rules : MayComeNext before batch
+
+-- The area breaks the grammar at this place first: a row of batches that break no rule stands up to it, a batch is due there,
+-- since its gate is open or it would be the first one, and none that may stand there does.
+pub record BreaksAt (c : List ℕ) (start end pages place : ℕ) : Type 0 where
+  pub before : List (List Record)
+  pub row : Stands c start before place
+  pub inside : place < end
+  pub each : AreBatches pages before
+  pub rules : BreakNoRule before
+  pub due : (get_or c place 0 ≡ 165) ⊎ (before ≡ [])
+  pub none : (batch : List Record) → IsNextBatch c place end pages before batch → ⊥

@@ -1,0 +1,143 @@
+// What a scan keeps while it reads an area.
+ghost use Rattle.std.specs.Prelude.{◌≡◌, ◌≢◌, ◌⊎◌, ◌+◌, ◌<◌, ◌≤◌, ◌++◌, ℕ, List, true, false, length, slice_index, Ok, IfOk, IfErr, IfSome, IfNone, IsOk};
+ghost use Rattle.std.specs.List.{AllByRecursion};
+ghost use Rattle.mt_base.specs.declared.refusal.Refusal.{Refusal};
+ghost use Rattle.mt_frame.specs.declared.records.Record.{Record};
+ghost use Rattle.mt_frame.specs.Grammar.{IsBody};
+ghost use Rattle.mt_frame.specs.History.{MayFollow};
+ghost use Rattle.mt_frame.specs.Known.{Knows};
+ghost use Rattle.mt_log.specs.Holds.{HasItsPage, AreRecords, BreaksAt};
+ghost use Rattle.mt_log.specs.Quiet.{OnlyReads};
+
+use crate::area::AreaPlace;
+use crate::batch::Batch;
+use crate::fetch::{body_length, gate_is_open, read_into};
+use mt_base::Refusal;
+use mt_base::limits::BATCH_HEAD_BYTES;
+use mt_disk::Device;
+use mt_frame::{AreaRules, Record, decode_body};
+use std::alloc::Global;
+
+// What was read of an area so far.
+#[derive(Drop)]
+pub(crate) struct Reading {
+    pub(crate) place: AreaPlace,
+    pub(crate) pages: u16,
+    /// The gate of the batch to be read next.
+    pub(crate) next: u64,
+    /// The body that was read last.
+    pub(crate) body: Vec<u8>,
+    pub(crate) rules: AreaRules,
+    pub(crate) found: Vec<Batch>,
+    ghost in_order: { place.start ≤ next },
+    ghost inside: { next < place.end },
+}
+
+// Whether the page of a page record is one of the device's.
+fn has_its_page(entry: &Record, pages: u16) -> bool
+    ensures yes { result ≡ true → HasItsPage pages entry.now }
+    ensures no { result ≡ false → HasItsPage pages entry.now → ⊥ }
+{
+    match entry {
+        Record::Page { page, .. } => page.get() < pages,
+        _ => true,
+    }
+}
+
+fn have_their_pages(records: &[Record], pages: u16) -> bool
+    ensures yes { result ≡ true → AllByRecursion (HasItsPage pages) records.now }
+    ensures no { result ≡ false → AllByRecursion (HasItsPage pages) records.now → ⊥ }
+{
+    for entry in records {
+        if !has_its_page(entry, pages) {
+            return false;
+        }
+    }
+    true
+}
+
+// The records that the body is a row of, where they may stand behind those that are known; they
+// are known then.
+fn admitted(
+    alloc: Global,
+    body: &[u8],
+    pages: u16,
+    first: bool,
+    rules: &mut AreaRules,
+) -> Result<Option<Vec<Record>>, Refusal>
+    ensures row { IfOk result (λ o. IfSome o (λ records. IsBody body.now records.items)) }
+    ensures each { IfOk result (λ o. IfSome o (λ records. AreRecords pages records.items)) }
+    ensures may { IfOk result (λ o. IfSome o (λ records. (earlier : List Record) → Knows rules.old earlier → MayFollow first earlier records.items)) }
+    ensures known { IfOk result (λ o. IfSome o (λ records. (earlier : List Record) → Knows rules.old earlier → Knows rules.new (earlier ++ records.items))) }
+    ensures none { IfOk result (λ o. IfNone o ((records earlier : List Record) → Knows rules.old earlier → IsBody body.now records → AreRecords pages records → MayFollow first earlier records → ⊥)) }
+    ensures only_memory { IfErr result (λ why. why ≡ Refusal.NoMemory) }
+{
+    let Some(records) = decode_body(alloc, body)? else {
+        return Ok(None);
+    };
+    if !have_their_pages(&records, pages) {
+        return Ok(None);
+    }
+    if !rules.admit(first, &records)? {
+        return Ok(None);
+    }
+    Ok(Some(records))
+}
+
+impl Reading {
+    ghost use Rattle.mt_log.specs.Reading.{HasRead};
+
+    // Nothing was read of the area.
+    pub(crate) fn new(alloc: Global, place: AreaPlace, pages: u16) -> Reading
+        ensures read { (c : List ℕ) → HasRead c result }
+        ensures place { result.place ≡ place }
+        ensures pages { result.pages ≡ pages }
+        ensures next { result.next ≡ place.start }
+    {
+        Reading {
+            place,
+            pages,
+            next: place.start,
+            body: Vec::new(alloc),
+            rules: AreaRules::new(alloc),
+            found: Vec::new(alloc),
+        }
+    }
+
+    // Reads the next batch, where its gate is open.
+    pub(crate) fn read_batch<D: Device>(
+        &mut self,
+        alloc: Global,
+        device: &mut D,
+    ) -> Result<bool, Refusal>
+        requires read { HasRead (D.seen device.old) self.old }
+        requires within { self.old.place.end ≤ length (D.seen device.old) }
+        ensures read { IsOk result → HasRead (D.seen device.old) self.new }
+        ensures place { self.new.place ≡ self.old.place }
+        ensures pages { self.new.pages ≡ self.old.pages }
+        ensures more { result ≡ Ok true → self.old.next < self.new.next }
+        ensures ended { result ≡ Ok false → slice_index (D.seen device.old) self.new.next ≢ 165 }
+        ensures bad { IfErr result (λ why. (at : ℕ) → why ≡ Refusal.BadFormat at → BreaksAt (D.seen device.old) self.old.place.start self.old.place.end self.old.pages at) }
+        ensures cause { IfErr result (λ why. (why ≡ Refusal.NoMemory) ⊎ (((why ≡ Refusal.DeviceFailed) × (D.faults device.old < D.faults device.new)) ⊎ ((at : ℕ) × (why ≡ Refusal.BadFormat at)))) }
+        ensures reads { OnlyReads D.seen D.may_leave D.moment D.left_since device.old device.new }
+        ensures quiet { IsOk result → D.faults device.new ≡ D.faults device.old }
+    {
+        if !gate_is_open(device, self.next)? {
+            return Ok(false);
+        }
+        let Some(size) = body_length(device, self.next, self.place.end)? else {
+            return Err(Refusal::BadFormat(self.next));
+        };
+        read_into(device, self.next + BATCH_HEAD_BYTES, size, &mut self.body)?;
+        let first = self.found.is_empty();
+        let Some(records) = admitted(alloc, &self.body, self.pages, first, &mut self.rules)? else {
+            return Err(Refusal::BadFormat(self.next));
+        };
+        self.found.push(Batch {
+            place: self.next,
+            records,
+        })?;
+        self.next += BATCH_HEAD_BYTES + size as u64;
+        Ok(true)
+    }
+}

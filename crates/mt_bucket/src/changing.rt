@@ -14,7 +14,7 @@ use mt_base::ranges::{part_of, put, put_u16};
 use mt_base::{RecordName, RelNo};
 
 /// Puts an entry behind the others and answers true. Where the page has 58 already, it answers false, and
-/// the page is as before.
+/// the page is as before. In a page a relation has one byte, and a key at most 64.
 pub fn push(page: &mut [u8], relation: RelNo, key: &[u8], name: RecordName) -> bool
     requires whole { length page.old ≡ 4096 }
     requires relation_fits { relation < 256 }

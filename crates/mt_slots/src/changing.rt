@@ -22,7 +22,8 @@ pub fn empty(page: &mut [u8])
 }
 
 /// Puts a record into the lowest empty slot, or into a new one where there is none, and answers which.
-/// `None` where it does not fit, and the page is as before then.
+/// `None` where it does not fit, and the page is as before then. In a page a relation has one byte, as
+/// has a key's length, and no value is longer than the page; a schema's limits are narrower.
 pub fn insert(page: &mut [u8], relation: RelNo, key: &[u8], value: &[u8]) -> Option<u16>
     requires shaped { IsShaped page.old }
     requires relation_fits { relation < 256 }
@@ -68,7 +69,8 @@ fn clear(page: &mut [u8], i: usize)
 }
 
 /// Gives the record in a slot another value, in that slot, and answers true. Where its new length is more
-/// than the page's room and its old length, it answers false, and the page is as before.
+/// than the page's room and its old length, it answers false, and the page is as before. The record's bytes
+/// stay in place where they can.
 pub fn replace(page: &mut [u8], slot: u16, value: &[u8]) -> bool
     requires shaped { IsShaped page.old }
     requires live { IsSome (held page.old slot) }

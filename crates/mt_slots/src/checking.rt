@@ -12,7 +12,7 @@ use mt_base::ranges::u16_at;
 /// Whether these 4,096 bytes are a page of records of a schema of so many relations, with no value
 /// longer than this: the page's six zero bytes, empty slots as zeros, each record behind the table and
 /// within the page, of the length that its own head says, with its relation, key and value within
-/// their limits, and no two that overlap.
+/// their limits, no two that overlap, and table and records together no longer than the page.
 pub fn check(page: &[u8], relations: u16, longest: usize) -> bool
     requires whole { length page.now ≡ 4096 }
     ensures { MatchBool result (IsPage relations longest page.now) (IsPage relations longest page.now → ⊥) }

@@ -118,3 +118,21 @@ placed_by old a b new i n at bytes text opens low is wrote head points sized tor
           ∙ ⊎_elim (λ (x : k < 8 + 4 * i). head.below k x) (λ (y : 12 + 4 * i ≤ k). head.above k (omega arith)) out
           ∙ ⊎_elim (λ (x : k < at). wrote.rest.below k x) (λ (y : at + length text ≤ k). wrote.rest.above k y) body;
     }
+
+-- what the three writes come to
+pub record PutThere (old new : List ℕ) (i n : ℕ) (r : Row) : Type 0 where
+  pub shaped : IsShaped new
+  pub sets : Sets old new i (Some r) n
+  pub live : live_bytes new (count new) ≡ live_bytes old (count old) + (4 + length r.key + length r.value)
+
+pub put_there : (old a b new : List ℕ) (i n at bytes : ℕ) (r : Row) → IsShaped old → IsPlace old i n at (4 + length r.key + length r.value) → bytes ≡ 4 + length r.key + length r.value
+    → Wrote at (row_text r) old a
+    → Torn (8 + 4 * i) 4 a b → offset b i ≡ at → size b i ≡ bytes
+    → Torn 0 2 b new → count new ≡ n
+    → PutThere old new i n r
+put_there old a b new i n at bytes r shaped free is wrote head points sized torn counted =
+    let long = row_text_length r in
+    let place : IsPlace old i n at (length (row_text r)) = rw long free in
+    let done = placed old new i n at r shaped place (placed_by old a b new i n at bytes (row_text r) place.opens place.low (is ∙ sym long) wrote head points sized torn counted) in
+    let live = done.2 in
+    record { shaped = done.0; sets = done.1; live = omega arith }

@@ -1,5 +1,7 @@
 pub mod Model
 pub mod Escrow
+pub mod Locks
+pub mod Pending
 pub mod History
 pub mod Laws
 pub mod Rows

@@ -4,6 +4,8 @@ use Rattle.mt_base.specs.Limits.{IsKey, IsValue, IsStep}
 use Rattle.mt_base.specs.declared.modes.LockMode.{LockMode}
 use Rattle.mt_base.specs.declared.modes.LockMode.TheVariants as mode
 use Rattle.mt_model.specs.declared.counters.Count.{Count}
+pub use Rattle.mt_model.specs.declared.objects.Object.{Object}
+pub use Rattle.mt_model.specs.declared.objects.Object.TheVariants.{Key, Counter}
 use Rattle.mt_model.specs.declared.operations.Op.{Op}
 use Rattle.mt_model.specs.declared.operations.Op.TheVariants.{Get, Insert, Update, Delete, Add, Read}
 use Rattle.mt_model.specs.declared.operations.Reply.{Reply}
@@ -34,10 +36,6 @@ IsWithin relations counters (Add c d) = (c < counters) × IsStep d
 IsWithin relations counters (Read c) = c < counters
 
 -- what an operation is on
-pub data Object : Type 0 where
-  Key : (relation : ℕ) → (key : List ℕ) → Object
-  Counter : (counter : ℕ) → Object
-
 abbrev pub object_of : Op → Object
 object_of (Get r k) = Key r k
 object_of (Insert r k v) = Key r k

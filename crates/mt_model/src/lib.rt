@@ -10,7 +10,9 @@
 mod counters;
 mod history;
 pub mod laws;
+mod objects;
 mod operations;
+mod pending;
 mod rows;
 mod tables;
 #[cfg(test)]
@@ -18,6 +20,8 @@ mod tests;
 
 pub use counters::Count;
 pub use history::{Calls, Committed};
+pub use objects::Object;
 pub use operations::{Op, Reply};
+pub use pending::Pending;
 pub use rows::Row;
 pub use tables::Base;

@@ -2,8 +2,8 @@ ghost use Rattle.std.specs.Prelude.{◌≡◌, length};
 ghost use Rattle.mt_model.specs.Model.{IsWithin};
 ghost use Rattle.mt_model.specs.Views.{counters_of, relations_of};
 
-use crate::{Base, Calls, Committed, Op, Reply};
-use mt_base::{Bytes, CtrNo, Refusal, RelNo};
+use crate::{Base, Calls, Committed, Object, Op, Reply};
+use mt_base::{Bytes, CtrNo, LockMode, Refusal, RelNo};
 use std::process::Abort;
 use std::test::Fail;
 
@@ -148,5 +148,28 @@ fn calls_keep_their_order(rt: HostRuntime) -> Result<(), Fail> {
     assert!(rt; !calls[1].1.equals(&Reply::Value(7)));
     assert_eq!(rt; committed.calls.try_clone()?.len(), 2);
     assert_eq!(rt; committed.calls.into_vec().len(), 2);
+    Ok(())
+}
+
+#[test]
+fn operations_name_their_objects(rt: HostRuntime) -> Result<(), Fail> {
+    let alloc = rt.alloc();
+    let insert = Op::Insert(
+        RelNo::new(1),
+        Bytes::copy_of(alloc, b"k")?,
+        Bytes::copy_of(alloc, b"v")?,
+    );
+    let get = Op::Get(RelNo::new(1), Bytes::copy_of(alloc, b"k")?);
+    assert!(rt; insert.object()? == get.object()?);
+    assert_eq!(rt; insert.mode(), LockMode::Write);
+    assert_eq!(rt; get.mode(), LockMode::Read);
+
+    let add = Op::Add(CtrNo::new(1), 2);
+    let read = Op::Read(CtrNo::new(1));
+    assert!(rt; add.object()? == Object::Counter(CtrNo::new(1)));
+    assert!(rt; read.object()? == add.object()?);
+    assert!(rt; get.object()? != add.object()?);
+    assert_eq!(rt; add.mode(), LockMode::Add);
+    assert_eq!(rt; read.mode(), LockMode::Read);
     Ok(())
 }

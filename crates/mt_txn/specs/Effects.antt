@@ -6,10 +6,7 @@ use Rattle.mt_model.specs.declared.operations.Reply.{Reply}
 use Rattle.mt_model.specs.Model.{inverse_of}
 use Rattle.mt_txn.specs.Logged.{log_need_of}
 use Rattle.mt_txn.specs.declared.live.Running.{Running}
-
--- an operation with its reply
-abbrev pub Call : Type 0
-Call = Op × Reply
+pub use Rattle.mt_model.specs.History.{Call}
 
 -- how many of the calls did anything
 abbrev pub effects : List Call → ℕ

@@ -1,0 +1,10 @@
+use mt_base::{CtrNo, TxnNo};
+
+/// An add of a live transaction that was granted and not taken back: it counts singly beside every
+/// other, of its own transaction too (escrow, O'Neil 1986).
+#[derive(Clone, Copy, PartialEq, Eq, Debug)]
+pub struct Pending {
+    pub txn: TxnNo,
+    pub counter: CtrNo,
+    pub step: i64,
+}

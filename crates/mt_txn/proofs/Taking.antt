@@ -3,7 +3,9 @@ use Rattle.std.proofs.Common.{◌≡◌, ◌≢◌, ◌==◌, ◌&&◌, ◌++◌
 use Rattle.mt_model.specs.declared.operations.Op.{Op}
 use Rattle.mt_model.specs.declared.operations.Op.TheVariants.{Get, Insert, Update, Delete, Add, Read}
 use Rattle.mt_model.specs.declared.operations.Reply.{Reply}
-use Rattle.mt_model.specs.Model.{Base, IsBase, Object, Key, Counter, object_of, same_object, inserted, updated, deleted, added, reply_of, base_after, inverse_of}
+use Rattle.mt_model.specs.declared.objects.Object.{Object}
+use Rattle.mt_model.specs.declared.objects.Object.TheVariants.{Key, Counter}
+use Rattle.mt_model.specs.Model.{Base, IsBase, object_of, same_object, inserted, updated, deleted, added, reply_of, base_after, inverse_of}
 use Rattle.mt_model.specs.History.{Call}
 use Rattle.mt_model.proofs.Cells.{Cell, cell, next, cell-next, same-true}
 use Rattle.mt_model.proofs.Undo.{base_effectless, base_back, inverse_place}

@@ -7,7 +7,8 @@ use Rattle.std.proofs.lemmas.List.{take-append-drop}
 use Rattle.std.proofs.lemmas.List.Sums.{sum_by-take-drop}
 use Rattle.std.proofs.Math.Seq.{drop-cons}
 use Rattle.mt_model.specs.declared.operations.Reply.{Reply}
-use Rattle.mt_model.specs.Model.{Base, IsBase, Object, object_of, reply_of, base_after, inverse_of}
+use Rattle.mt_model.specs.declared.objects.Object.{Object}
+use Rattle.mt_model.specs.Model.{Base, IsBase, object_of, reply_of, base_after, inverse_of}
 use Rattle.mt_model.specs.History.{Call}
 use Rattle.mt_txn.specs.declared.answers.AbortStepped.{AbortStepped}
 use Rattle.mt_txn.specs.declared.answers.AbortStepped.TheVariants as step

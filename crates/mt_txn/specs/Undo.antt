@@ -1,7 +1,9 @@
 -- What undoing a transaction leads to, whoever else is live.
 use Rattle.std.specs.Prelude.{ℕ, ◌≡◌, ◌≢◌, Option, Some, None, List, [], ◌∷◌, IfSome, ⊤, slice_index_or}
 use Rattle.mt_model.specs.declared.operations.Op.{Op}
-use Rattle.mt_model.specs.Model.{Base, Object, Key, Counter, object_of, base_after, inverse_of}
+use Rattle.mt_model.specs.declared.objects.Object.{Object}
+use Rattle.mt_model.specs.declared.objects.Object.TheVariants.{Key, Counter}
+use Rattle.mt_model.specs.Model.{Base, object_of, base_after, inverse_of}
 use Rattle.mt_model.specs.History.{Call}
 use Rattle.mt_txn.specs.declared.answers.AbortStepped.{AbortStepped}
 use Rattle.mt_txn.specs.declared.answers.AbortStepped.TheVariants as stepped

@@ -2,7 +2,7 @@ ghost use Rattle.std.specs.Prelude.{◌≡◌, ◌≢◌, ◌<◌, ◌≤◌, �
 ghost use Rattle.mt_log.specs.Words.{used, area_size};
 ghost use Rattle.mt_base.specs.declared.refusal.Refusal.{Refusal};
 ghost use Rattle.mt_txn.specs.Kept.{Keeps};
-ghost use Rattle.mt_model.specs.Model.{Object};
+ghost use Rattle.mt_model.specs.declared.objects.Object.{Object};
 ghost use Rattle.mt_txn.specs.State.{state_of, begin_cause, lives, IsBegun};
 ghost use Rattle.mt_txn.specs.Undo.{KeepsUndo, Whoever, UndoesTo};
 

@@ -2,3 +2,4 @@ mod Cells
 mod Hashes
 mod Lists
 mod Moves
+mod Kept

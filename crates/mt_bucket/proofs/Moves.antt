@@ -7,7 +7,7 @@ use Rattle.mt_base.specs.Ranges.{u16_at, part, Torn, Wrote}
 use Rattle.mt_base.proofs.Places.{same_u16, same_torn, part_length}
 use Rattle.mt_bucket.specs.Entries.{Entry, look, renamed}
 use Rattle.mt_bucket.specs.Page.{cell, entry_of, entries, entries_from, count_of, KeepsHead, IsFirst}
-use Rattle.mt_bucket.specs.Steps.{Pushed, Closed, Sorted, Dealt}
+use Rattle.mt_bucket.specs.Steps.{OneMore, Pushed, Closed, Sorted, Dealt}
 use Rattle.mt_bucket.proofs.Cells.{cell_same, cell_has, cell_moved, cell_renamed, key_length, long_cell}
 use Rattle.mt_bucket.proofs.Lists.{take_it, pass_it, entries_push, entries_moved, look_first, look_renamed, renamed_first}
 
@@ -18,26 +18,38 @@ entries_kept c d p n size torn apart low =
     ap (λ (m : ℕ). entries_from d 8 (min m 58)) count
     ∙ entries_moved c d 8 8 (count_of c) (λ j lt. cell_same c d (8 + 70 * j) (omega arith) torn.size (same_torn p n (8 + 70 * j) 70 c d torn (inr (omega arith))))
 
--- the cell and the count are written: an entry more
-pub pushed : (c d f b : List ℕ) → length c ≡ 4096 → length b ≡ 70 → count_of c < 58 → Wrote (8 + 70 * count_of c) b c d → Torn 2 2 d f → u16_at f 2 ≡ count_of c + 1 → Pushed (entry_of b) c f
-pushed c d f b size long room wrote torn number =
+-- the cell and the count are written: a cell more
+pub one_more : (c d f b : List ℕ) → length c ≡ 4096 → length b ≡ 70 → count_of c < 58 → Wrote (8 + 70 * count_of c) b c d → Torn 2 2 d f → u16_at f 2 ≡ count_of c + 1 → OneMore b c f
+one_more c d f b size long room wrote torn number =
     let n = count_of c in
     let sd = wrote.rest.size in
     let sf = torn.size in
-    let counted : count_of f ≡ n + 1 = omega arith in
     let kept : (j : ℕ) → 8 + 70 * j + 70 ≤ 4096 → cell f (8 + 70 * j) ≡ cell d (8 + 70 * j) =
     λ j le. cell_same d f (8 + 70 * j) (omega arith) torn.size (same_torn 2 2 (8 + 70 * j) 70 d f torn (inr (omega arith))) in
     record {
       head = record {
         size = sf ∙ sd;
         depth = torn.below 0 (omega arith) ∙ wrote.rest.below 0 (omega arith);
+        first = torn.below 1 (omega arith) ∙ wrote.rest.below 1 (omega arith);
         next = same_u16 4 d f (same_torn 2 2 4 2 d f torn (inr (omega arith))) ∙ same_u16 4 c d (same_torn (8 + 70 * n) (length b) 4 2 c d wrote.rest (inl (omega arith)));
+        last = same_u16 6 d f (same_torn 2 2 6 2 d f torn (inr (omega arith))) ∙ same_u16 6 c d (same_torn (8 + 70 * n) (length b) 6 2 c d wrote.rest (inl (omega arith)));
       };
+      number = number;
+      front = λ j lt. kept j (omega arith) ∙ cell_same c d (8 + 70 * j) (omega arith) sd (same_torn (8 + 70 * n) (length b) (8 + 70 * j) 70 c d wrote.rest (inl (omega arith)));
+      last = kept n (omega arith) ∙ cell_has d b (8 + 70 * n) long wrote.has;
+    }
+
+-- which is an entry more
+pub pushed : (c f b : List ℕ) → count_of c < 58 → OneMore b c f → Pushed (entry_of b) c f
+pushed c f b room more =
+    let n = count_of c in
+    let number = more.number in
+    let counted : count_of f ≡ n + 1 = omega arith in
+    record {
+      head = more.head;
       counted = counted;
       entries = ap (entries_from f 8) (counted ∙ (let e : n + 1 ≡ suc n = omega arith in e)) ∙ entries_push f 8 n
-          ∙ ap₂ (λ (xs : List Entry) (x : List ℕ). xs ++ entry_of x ∷ [])
-          (entries_moved c f 8 8 n (λ j lt. kept j (omega arith) ∙ cell_same c d (8 + 70 * j) (omega arith) sd (same_torn (8 + 70 * n) (length b) (8 + 70 * j) 70 c d wrote.rest (inl (omega arith)))))
-          (kept n (omega arith) ∙ cell_has d b (8 + 70 * n) long wrote.has);
+          ∙ ap₂ (λ (xs : List Entry) (x : List ℕ). xs ++ entry_of x ∷ []) (entries_moved c f 8 8 n more.front) more.last;
     }
 
 -- the cells behind one are written over it, and the count falls
@@ -53,9 +65,12 @@ closed c d f i size lt wrote torn number =
       head = record {
         size = sf ∙ sd;
         depth = torn.below 0 (omega arith) ∙ wrote.rest.below 0 (omega arith);
+        first = torn.below 1 (omega arith) ∙ wrote.rest.below 1 (omega arith);
         next = same_u16 4 d f (same_torn 2 2 4 2 d f torn (inr (omega arith))) ∙ same_u16 4 c d (same_torn (8 + 70 * i) (length (part c (8 + 70 * (i + 1)) (70 * (count_of c - i - 1)))) 4 2 c d wrote.rest (inl (omega arith)));
+        last = same_u16 6 d f (same_torn 2 2 6 2 d f torn (inr (omega arith))) ∙ same_u16 6 c d (same_torn (8 + 70 * i) (length (part c (8 + 70 * (i + 1)) (70 * (count_of c - i - 1)))) 6 2 c d wrote.rest (inl (omega arith)));
       };
       counted = omega arith;
+      few = omega arith;
       front = λ j less. kept j (omega arith) ∙ cell_same c d (8 + 70 * j) (omega arith) sd (same_torn (8 + 70 * i) (length (part c (8 + 70 * (i + 1)) (70 * (count_of c - i - 1)))) (8 + 70 * j) 70 c d wrote.rest (inl (omega arith)));
       back = λ j le less. kept j (omega arith) ∙ cell_moved c d (8 + 70 * (j + 1)) (8 + 70 * j) (omega arith) (omega arith)
           (λ k small. ap (λ (m : ℕ). get_or d m 0) (let e : 8 + 70 * j + k ≡ 8 + 70 * i + (70 * (j - i) + k) = omega arith in e)
@@ -86,7 +101,9 @@ set_first r k c d i name size short first torn page slot =
       head = record {
         size = torn.size;
         depth = torn.below 0 (omega arith);
+        first = torn.below 1 (omega arith);
         next = same_u16 4 c d (same_torn (8 + 70 * i + 66) 4 4 2 c d torn (inl (omega arith)));
+        last = same_u16 6 c d (same_torn (8 + 70 * i + 66) 4 6 2 c d torn (inl (omega arith)));
       };
       list = list;
       found = ap (look r k) list ∙ look_renamed r k name (entries c) _ (look_first r k c 8 (count_of c) i first.within first.here first.before);
@@ -95,7 +112,7 @@ set_first r k c d i name size short first torn page slot =
 -- ---- a partition
 
 pub heads_trans : (a b c : List ℕ) → KeepsHead a b → KeepsHead b c → KeepsHead a c
-heads_trans a b c f g = record { size = g.size ∙ f.size; depth = g.depth ∙ f.depth; next = g.next ∙ f.next }
+heads_trans a b c f g = record { size = g.size ∙ f.size; depth = g.depth ∙ f.depth; first = g.first ∙ f.first; next = g.next ∙ f.next; last = g.last ∙ f.last }
 
 pub dealt_more : (over : Entry → Bool) (all : List Entry) (i : ℕ) (e : Entry) (old page page2 start to to2 : List ℕ)
     → Dealt over all i old page start to → Sorted (over e) e page page2 to to2 → Dealt over (all ++ e ∷ []) (i + 1) old page2 start to2
@@ -138,9 +155,11 @@ dealt_none over c d start size torn number =
       head = record {
         size = torn.size;
         depth = torn.below 0 (omega arith);
+        first = torn.below 1 (omega arith);
         next = same_u16 4 c d (same_torn 2 2 4 2 c d torn (inr (omega arith)));
+        last = same_u16 6 c d (same_torn 2 2 6 2 c d torn (inr (omega arith)));
       };
-      to_head = record { size = refl; depth = refl; next = refl };
+      to_head = record { size = refl; depth = refl; first = refl; next = refl; last = refl };
       few = omega arith;
       to_few = omega arith;
       stay = ap (entries_from d 8) none;

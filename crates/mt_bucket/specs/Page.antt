@@ -49,11 +49,13 @@ pub record IsFirst (r : ℕ) (k page : List ℕ) (i : ℕ) : Type 0 where
 abbrev pub HasNone : ℕ → List ℕ → List ℕ → Type 0
 HasNone r k page = (j : ℕ) → j < count_of page → holds r k page j ≡ false
 
--- the same depth and overflow page
+-- the same head, but for the count
 pub record KeepsHead (old new : List ℕ) : Type 0 where
   pub size : length new ≡ length old
   pub depth : depth_of new ≡ depth_of old
+  pub first : get_or new 1 0 ≡ get_or old 1 0
   pub next : next_of new ≡ next_of old
+  pub last : u16_at new 6 ≡ u16_at old 6
 
 -- the entries whose hash has the bit, and those whose hash has not
 abbrev pub goes_over : ℕ → Entry → Bool
@@ -78,3 +80,11 @@ pub record IsBucket (relations pages : ℕ) (page : List ℕ) : Type 0 where
   pub next : next_of page < pages
   pub zeros : u16_at page 6 ≡ 0
   pub each : (i : ℕ) → i < u16_at page 2 → IsCell relations pages page (8 + 70 * i)
+
+-- a bucket page stays one
+abbrev pub KeepsBucket : List ℕ → List ℕ → Type 0
+KeepsBucket old new = (relations pages : ℕ) → IsBucket relations pages old → IsBucket relations pages new
+
+-- it does, with a cell more
+abbrev pub TakesCell : List ℕ → List ℕ → List ℕ → Type 0
+TakesCell bytes old new = (relations pages : ℕ) → IsCell relations pages bytes 0 → IsBucket relations pages old → IsBucket relations pages new

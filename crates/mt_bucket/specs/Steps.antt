@@ -1,7 +1,15 @@
 -- What single steps do to a page.
 use Rattle.std.specs.Prelude.{ℕ, ◌≡◌, ◌+◌, ◌*◌, ◌<◌, ◌≤◌, ◌++◌, ◌∷◌, [], Bool, cond, not, List, filter}
+use Rattle.mt_base.specs.Ranges.{u16_at}
 use Rattle.mt_bucket.specs.Entries.{Entry}
 use Rattle.mt_bucket.specs.Page.{cell, count_of, entries, KeepsHead}
+
+-- a cell more, behind the others
+pub record OneMore (bytes old new : List ℕ) : Type 0 where
+  pub head : KeepsHead old new
+  pub number : u16_at new 2 ≡ count_of old + 1
+  pub front : (j : ℕ) → j < count_of old → cell new (8 + 70 * j) ≡ cell old (8 + 70 * j)
+  pub last : cell new (8 + 70 * count_of old) ≡ bytes
 
 -- an entry more, behind the others
 pub record Pushed (e : Entry) (old new : List ℕ) : Type 0 where
@@ -13,6 +21,7 @@ pub record Pushed (e : Entry) (old new : List ℕ) : Type 0 where
 pub record Closed (i : ℕ) (old new : List ℕ) : Type 0 where
   pub head : KeepsHead old new
   pub counted : count_of old ≡ count_of new + 1
+  pub few : u16_at new 2 ≤ 58
   pub front : (j : ℕ) → j < i → cell new (8 + 70 * j) ≡ cell old (8 + 70 * j)
   pub back : (j : ℕ) → i ≤ j → j < count_of new → cell new (8 + 70 * j) ≡ cell old (8 + 70 * (j + 1))
 

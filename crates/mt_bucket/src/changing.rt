@@ -1,9 +1,9 @@
 // The operations of a bucket page.
-ghost use Rattle.std.specs.Prelude.{◌≡◌, ◌+◌, ◌-◌, ◌*◌, ◌≤◌, ◌<◌, ◌++◌, ◌∷◌, [], length, true, false, not, Some, None, filter};
+ghost use Rattle.std.specs.Prelude.{ℕ, ◌≡◌, ◌+◌, ◌-◌, ◌*◌, ◌≤◌, ◌<◌, ◌++◌, ◌∷◌, [], length, true, false, not, Some, None, filter};
 ghost use Rattle.std.specs.Bool.{OnTrue, OnFalse};
 ghost use Rattle.mt_base.specs.Ranges.{u16_at as number_at, Torn};
 ghost use Rattle.mt_bucket.specs.Entries.{look, renamed, without};
-ghost use Rattle.mt_bucket.specs.Page.{entry_of, entries, count_of, KeepsHead, goes_over};
+ghost use Rattle.mt_bucket.specs.Page.{entry_of, entries, count_of, KeepsHead, goes_over, IsCell, IsBucket, KeepsBucket, TakesCell};
 ghost use Rattle.mt_bucket.specs.Steps.{Pushed, Closed, Sorted};
 
 use crate::finding::place_of;
@@ -22,6 +22,7 @@ pub fn push(page: &mut [u8], relation: RelNo, key: &[u8], name: RecordName) -> b
     ensures head { KeepsHead page.old page.new }
     ensures pushed { OnTrue result (entries page.new ≡ entries page.old ++ record { relation = relation; key = key.now; name = name } ∷ []) }
     ensures full { OnFalse result (count_of page.old ≡ 58) }
+    ensures kept { (relations pages : ℕ) → relation < relations → 1 ≤ length key.now → name.page < pages → IsBucket relations pages page.old → IsBucket relations pages page.new }
     ensures unchanged { OnFalse result (page.new ≡ page.old) }
 {
     if count(page) == MAX_ENTRIES {
@@ -39,6 +40,7 @@ pub fn set(page: &mut [u8], relation: RelNo, key: &[u8], name: RecordName) -> bo
     ensures head { KeepsHead page.old page.new }
     ensures set { OnTrue result (entries page.new ≡ renamed relation key.now name (entries page.old)) }
     ensures found { OnTrue result (look relation key.now (entries page.new) ≡ Some name) }
+    ensures kept { (relations pages : ℕ) → name.page < pages → IsBucket relations pages page.old → IsBucket relations pages page.new }
     ensures none { OnFalse result (look relation key.now (entries page.old) ≡ None) }
     ensures unchanged { OnFalse result (page.new ≡ page.old) }
 {
@@ -56,6 +58,7 @@ pub fn remove(page: &mut [u8], relation: RelNo, key: &[u8]) -> bool
     requires short { length key.now ≤ 64 }
     ensures head { KeepsHead page.old page.new }
     ensures removed { OnTrue result (entries page.new ≡ without relation key.now (entries page.old)) }
+    ensures kept { KeepsBucket page.old page.new }
     ensures none { OnFalse result (look relation key.now (entries page.old) ≡ None) }
     ensures unchanged { OnFalse result (page.new ≡ page.old) }
 {
@@ -77,6 +80,8 @@ pub fn partition(page: &mut [u8], bit: u8, to: &mut [u8])
     ensures to_head { KeepsHead to.old to.new }
     ensures stay { entries page.new ≡ filter (λ e. not (goes_over bit e)) (entries page.old) }
     ensures go { entries to.new ≡ entries to.old ++ filter (goes_over bit) (entries page.old) }
+    ensures kept { KeepsBucket page.old page.new }
+    ensures to_kept { (relations pages : ℕ) → IsBucket relations pages page.old → IsBucket relations pages to.old → IsBucket relations pages to.new }
 {
     let mut copy = [0u8; PAGE_BYTES];
     copy.copy_from_slice(page);
@@ -96,6 +101,8 @@ fn sort_cell(page: &mut [u8], bit: u8, to: &mut [u8], bytes: &[u8])
     requires room { count_of page.old < 58 }
     requires to_room { count_of to.old < 58 }
     ensures sorted { Sorted (goes_over bit (entry_of bytes.now)) (entry_of bytes.now) page.old page.new to.old to.new }
+    ensures kept { TakesCell bytes.now page.old page.new }
+    ensures to_kept { TakesCell bytes.now to.old to.new }
 {
     let length = usize::from(bytes[1]).min(bytes.len() - 2);
     if has_bit(hash(part_of(bytes, 2, length)), bit) {
@@ -110,7 +117,8 @@ fn push_cell(page: &mut [u8], bytes: &[u8])
     requires whole { length page.old ≡ 4096 }
     requires cell { length bytes.now ≡ 70 }
     requires room { count_of page.old < 58 }
-    ensures { Pushed (entry_of bytes.now) page.old page.new }
+    ensures pushed { Pushed (entry_of bytes.now) page.old page.new }
+    ensures kept { TakesCell bytes.now page.old page.new }
 {
     let count = count(page);
     put(page, HEAD_BYTES + CELL_BYTES * count, bytes);
@@ -121,7 +129,8 @@ fn push_cell(page: &mut [u8], bytes: &[u8])
 fn close_gap(page: &mut [u8], i: usize)
     requires whole { length page.old ≡ 4096 }
     requires there { i < count_of page.old }
-    ensures { Closed i page.old page.new }
+    ensures closed { Closed i page.old page.new }
+    ensures kept { KeepsBucket page.old page.new }
 {
     let count = count(page);
     let mut copy = [0u8; PAGE_BYTES];
@@ -139,13 +148,13 @@ fn close_gap(page: &mut [u8], i: usize)
 fn cell_of(relation: RelNo, key: &[u8], name: RecordName) -> [u8; CELL_BYTES]
     requires relation_fits { relation < 256 }
     requires short { length key.now ≤ 64 }
-    ensures { entry_of result ≡ record { relation = relation; key = key.now; name = name } }
+    ensures entry { entry_of result ≡ record { relation = relation; key = key.now; name = name } }
+    ensures cell { (relations pages : ℕ) → relation < relations → 1 ≤ length key.now → name.page < pages → IsCell relations pages result 0 }
 {
     let mut bytes = [0u8; CELL_BYTES];
-    bytes[0] = relation.get() as u8;
-    bytes[1] = key.len() as u8;
-    write_name(&mut bytes, 66, name);
+    put(&mut bytes, 0, &[relation.get() as u8, key.len() as u8]);
     put(&mut bytes, 2, key);
+    write_name(&mut bytes, 66, name);
     bytes
 }
 

@@ -1,7 +1,7 @@
 // The head of a bucket page.
-ghost use Rattle.std.specs.Prelude.{◌≡◌, ◌≤◌, [], length};
+ghost use Rattle.std.specs.Prelude.{ℕ, ◌≡◌, ◌≤◌, ◌<◌, [], length};
 ghost use Rattle.mt_base.specs.Ranges.{u16_at as number_at, Torn};
-ghost use Rattle.mt_bucket.specs.Page.{depth_of, count_of, next_of, entries};
+ghost use Rattle.mt_bucket.specs.Page.{depth_of, count_of, next_of, entries, IsBucket, KeepsBucket};
 
 use mt_base::PageNo;
 use mt_base::ranges::{put, put_u16, u16_at};
@@ -45,7 +45,7 @@ pub fn empty(page: &mut [u8], depth: u8)
     ensures depth { depth_of page.new ≡ depth }
     ensures next { next_of page.new ≡ 0 }
     ensures entries { entries page.new ≡ [] }
-    ensures zero { number_at page.new 6 ≡ 0 }
+    ensures bucket { (relations pages : ℕ) → depth ≤ 9 → 0 < pages → IsBucket relations pages page.new }
 {
     put(page, 0, &[depth, 0, 0, 0, 0, 0, 0, 0]);
 }
@@ -57,6 +57,7 @@ pub fn set_depth(page: &mut [u8], depth: u8)
     ensures depth { depth_of page.new ≡ depth }
     ensures next { next_of page.new ≡ next_of page.old }
     ensures entries { entries page.new ≡ entries page.old }
+    ensures kept { depth ≤ 9 → KeepsBucket page.old page.new }
 {
     put(page, 0, &[depth]);
 }
@@ -68,6 +69,7 @@ pub fn set_next(page: &mut [u8], next: PageNo)
     ensures depth { depth_of page.new ≡ depth_of page.old }
     ensures next { next_of page.new ≡ next }
     ensures entries { entries page.new ≡ entries page.old }
+    ensures kept { (relations pages : ℕ) → next < pages → IsBucket relations pages page.old → IsBucket relations pages page.new }
 {
     put_u16(page, 4, next.get());
 }

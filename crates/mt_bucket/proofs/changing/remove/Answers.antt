@@ -10,7 +10,7 @@ returns-in_default-clause-none c = look_none c.args.relation c.args.key.now c.ar
 pub returns-clause-removed : goal.returns-clause-removed
 returns-clause-removed c =
     let first = c.in-Some.ensures.found in
-    let gone = c.close_gap.ensures in
+    let gone = c.close_gap.ensures.closed in
     let counted = gone.counted in
     let within = first.within in
     without_first c.args.relation c.args.key.now c.args.page.now c.close_gap.new.page 8 (count_of c.close_gap.new.page) c.in-Some.i (omega arith) first.here first.before gone.front gone.back

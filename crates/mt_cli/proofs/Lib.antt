@@ -1,4 +1,5 @@
 mod LineLemmas
+mod PlayLemmas
 mod RunLemmas
 mod ScriptLemmas
 mod TextLemmas

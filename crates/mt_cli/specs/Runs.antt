@@ -4,7 +4,9 @@ use Rattle.std.specs.Io.KnownBytes.{Appends}
 use Rattle.mt_base.specs.declared.refusal.Refusal.{Refusal}
 use Rattle.mt_base.specs.declared.refusal.Refusal.TheVariants as refusal
 use Rattle.mt_model.specs.declared.operations.Op.{Op}
-use Rattle.mt_txn.specs.State.{State, begin_cause, call_cause, open_cause, IsBegun, HasCalled}
+use Rattle.mt_model.specs.Model.{Base}
+use Rattle.mt_txn.specs.Kept.{IsKept}
+use Rattle.mt_txn.specs.State.{State, lives, begin_cause, call_cause, open_cause, IsBegun, HasCalled}
 use Rattle.mt_txn.specs.Ends.{HasEnded}
 use Rattle.mt_txn.specs.Commits.{commit_cause, HasBegunCommit, IsForced}
 use Rattle.mt_txn.specs.Aborts.{HasBegunAbort, IsAbortStepped}
@@ -17,6 +19,7 @@ use Rattle.mt_cli.specs.declared.answers.Answer.{Answer}
 use Rattle.mt_cli.specs.declared.answers.Answer.TheVariants.{Begun, Replied, Committed, Aborted, Refused}
 use Rattle.mt_cli.specs.declared.running.RunFault.{RunFault}
 use Rattle.mt_cli.specs.declared.running.RunFault.TheVariants as fault
+use Rattle.mt_cli.specs.Plays.{IsModelRun}
 use Rattle.mt_cli.specs.Answers.{AppendsFront, answer_text, transcript_text}
 
 -- a refused call: nothing has changed, and this was the cause, unless memory was wanting
@@ -109,10 +112,12 @@ abbrev pub Closes : State → Option ℕ → State → List Answer → Type 0
 Closes m None z last = (z ≡ m) × (last ≡ [])
 Closes m (Some t) z last = IsAborted m t z × (last ≡ Aborted ∷ [])
 
--- the script ran to its end, and the texts of the kernel's answers were written, one line each
+-- The script ran to its end, and the texts of the kernel's answers were written, one line each. Where no
+-- transaction lived, and the kernel had kept its past from some first base on, the answers are the model's.
 pub record HasRun (session : ℕ) (s : State) (lines : List Line) (was now : Option (List ℕ)) (z : State) : Type 0 where
   pub run : (answers last : List Answer) × (m : State) × (live : Option ℕ) × Runs session s lines answers m live × Closes m live z last
       × Appends was now (transcript_text (answers ++ last))
+      × ((b : Base) → IsKept b s → lives s ≡ 0 → IsModelRun session s lines answers z)
 
 -- ---- a run that was cut short
 

@@ -1,6 +1,10 @@
 // The command line, read by `clap`.
+ghost use Rattle.std.specs.Prelude.{◌≡◌, List, IfOk, IfErr, map, option_map, string_bytes};
+ghost use Rattle.clap.specs.Words.{Text, app_of, subcommand_rows_of};
+ghost use Rattle.mt_cli.specs.CommandLines.{program, script_in, IsCommandOf, IsFaultAt, IsFaultOf};
+
 use clap::error::ErrorKind;
-use clap::{Arg, Command as Parser};
+use clap::{Arg, ArgMatches, Command as Parser};
 use mt_base::Refusal;
 use std::alloc::{AllocError, Global};
 use thiserror::Error;
@@ -26,13 +30,21 @@ pub enum CliFault {
 }
 
 impl From<AllocError> for CliFault {
+    ghost use Rattle.mt_base.specs.declared.refusal.Refusal.{Refusal};
+    ghost use Rattle.mt_cli.specs.declared.command.CliFault.{CliFault};
+    ghost use Rattle.std.specs.Prelude.{◌≡◌};
+
+    ghost from_gives = { λ _ fault. fault ≡ CliFault.Refused Refusal.NoMemory };
+
     fn from(_error: AllocError) -> CliFault {
         CliFault::Refused(Refusal::NoMemory)
     }
 }
 
 /// The program's command line.
-fn parser<'a>(alloc: Global) -> Result<Parser<'a>, AllocError> {
+fn parser<'a>(alloc: Global) -> Result<Parser<'a>, AllocError>
+    ensures { IfOk result (λ parser. app_of parser ≡ program) }
+{
     let script = Arg::new(alloc, "script")
         .value_name("SCRIPT")
         .help("The script's file; without it, standard input");
@@ -52,15 +64,30 @@ const EXAMPLES: &str =
     "Examples:\n  mtk try bank.script\n  printf 'begin\\ninsert 0 a x\\ncommit\\n' | mtk try";
 
 /// A text, in memory of its own.
-fn copied(alloc: Global, text: Option<&str>) -> Result<Option<String>, AllocError> {
+fn copied(alloc: Global, text: Option<&str>) -> Result<Option<String>, AllocError>
+    ensures { IfOk result (λ copy. option_map string_bytes copy ≡ option_map (λ t. t.now) text.entry) }
+{
     match text {
         Some(text) => Ok(Some(String::from_str(alloc, text)?)),
         None => Ok(None),
     }
 }
 
+/// The script that a parse found.
+fn script_of(alloc: Global, matches: &ArgMatches) -> Result<Option<String>, AllocError>
+    ensures { IfOk result (λ script. option_map string_bytes script ≡ script_in (subcommand_rows_of matches.now)) }
+{
+    match matches.subcommand() {
+        Some((_, found)) => copied(alloc, found.get_str("script")),
+        None => Ok(None),
+    }
+}
+
 /// What a parse that gave no command stands for: a text to be shown, or a fault.
-fn shown(alloc: Global, error: &clap::Error) -> Result<Command, CliFault> {
+fn shown(alloc: Global, error: &clap::Error) -> Result<Command, CliFault>
+    ensures command { (words : List Text) → IsFaultAt words error.now → IfOk result (IsCommandOf words) }
+    ensures fault { (words : List Text) → IsFaultAt words error.now → IfErr result (IsFaultOf words) }
+{
     if error.kind() == ErrorKind::OutOfMemory {
         return Err(CliFault::Refused(Refusal::NoMemory));
     }
@@ -74,14 +101,14 @@ fn shown(alloc: Global, error: &clap::Error) -> Result<Command, CliFault> {
 
 /// The command that these words name: those behind the program's name, in any spelling and place
 /// that `clap` takes. `Usage` where they name none, and `NoMemory`.
-pub fn command_of(alloc: Global, words: &[&str]) -> Result<Command, CliFault> {
+pub fn command_of(alloc: Global, words: &[&str]) -> Result<Command, CliFault>
+    ensures command { IfOk result (IsCommandOf (map (λ word. word.now) words.now)) }
+    ensures fault { IfErr result (IsFaultOf (map (λ word. word.now) words.now)) }
+{
     let parser = parser(alloc)?;
     match parser.try_get_matches_from(words) {
         Ok(matches) => {
-            let script = match matches.subcommand() {
-                Some((_, found)) => copied(alloc, found.get_str("script"))?,
-                None => None,
-            };
+            let script = script_of(alloc, &matches)?;
             Ok(Command::Try { script })
         }
         Err(error) => shown(alloc, &error),

@@ -97,14 +97,16 @@ call_played b session m n z p t op reply calls played opened called ended =
     let ends : z.live ≡ d ∷ [] = finished.live ∙ (ap (λ ls. set ls last.0 d) two.live ∙ ap (λ j. set (k ∷ []) j d) two.place) in
     let held : n.held ≡ run p.base calls = ap (λ (x : State). x.held) called.rest ∙ held_is b m p calls played.kept played.committing played.book played.base (one_stands m first calls opened.1 opened.3) in
     let replied : reply ≡ reply_of (run p.base calls) op = last.5 ∙ ap₂ reply_of held its in
-    let more : d.calls ≡ calls ++ (op, reply) ∷ [] = ap (λ (y : Party). calls_with y.calls y.running reply) runs ∙ ap (λ (y : Party). y.calls ++ (op, reply) ∷ []) same ∙ ap (λ cs. cs ++ (op, reply) ∷ []) opened.3 in
-    (replied, record {
-      kept = ended_keeps n last.0 k r reply z way last.5 finished (few n w now) b (called_keeps m t op n called b played.kept);
-      committing = ap (λ (x : State). x.committing) finished.rest ∙ ap (λ (x : State). x.committing) called.rest ∙ played.committing;
-      book = ap (λ (x : State). x.book) finished.rest ∙ ap (λ (x : State). x.book) called.rest ∙ played.book;
-      base = played.base;
-      under_way = (d, ends, ap (λ (y : Party). y.session) runs ∙ ap (λ (y : Party). y.session) same ∙ opened.2, more ∙ ap (λ x. calls ++ (op, x) ∷ []) replied);
-    })
+    let more : d.calls ≡ calls ++ (op, reply) ∷ [] = ap (λ (y : Party). calls_with y.calls y.running reply) runs ∙ ap (λ (y : Party). y.calls ++ (op, reply) ∷ []) same ∙ ap (λ cs. cs ++ (op, reply) ∷ []) opened.3 in (
+      replied,
+      record {
+        kept = ended_keeps n last.0 k r reply z way last.5 finished (few n w now) b (called_keeps m t op n called b played.kept);
+        committing = ap (λ (x : State). x.committing) finished.rest ∙ ap (λ (x : State). x.committing) called.rest ∙ played.committing;
+        book = ap (λ (x : State). x.book) finished.rest ∙ ap (λ (x : State). x.book) called.rest ∙ played.book;
+        base = played.base;
+        under_way = (d, ends, ap (λ (y : Party). y.session) runs ∙ ap (λ (y : Party). y.session) same ∙ opened.2, more ∙ ap (λ x. calls ++ (op, x) ∷ []) replied);
+      },
+    )
 
 -- ---- commit
 
@@ -397,9 +399,10 @@ line_modelled b session p lines as' m z was live line answer before is = record 
         let all : heard (lines ++ line ∷ []) (as' ++ answer ∷ []) ≡ heard lines as' ++ (line, answer) ∷ [] = heard_more lines as' line answer before.lengths ∙ ap (λ t. cond t (heard lines as') (heard lines as' ++ (line, answer) ∷ [])) e in
         let ls = map-append (λ (h : Line × Answer). h.0) (heard lines as') ((line, answer) ∷ []) in
         subst (λ (hs : List (Line × Answer)). (map (λ (h : Line × Answer). h.1) hs ≡ model_answers session p (map (λ (h : Line × Answer). h.0) hs)) × IsPlayed b session z live (model_after session p (map (λ (h : Line × Answer). h.0) hs)))
-        (sym all)
-        (map-append (λ (h : Line × Answer). h.1) (heard lines as') ((line, answer) ∷ []) ∙ (ap₂ (λ xs (x : Answer). xs ++ x ∷ []) before.told w.0 ∙ (sym (answers_more session p (lines_heard lines as') line) ∙ sym (ap (model_answers session p) ls))),
-        subst (IsPlayed b session z live) (sym (ap (model_after session p) ls ∙ after_more session p (lines_heard lines as') line)) w.1)
+        (sym all) (
+          map-append (λ (h : Line × Answer). h.1) (heard lines as') ((line, answer) ∷ []) ∙ (ap₂ (λ xs (x : Answer). xs ++ x ∷ []) before.told w.0 ∙ (sym (answers_more session p (lines_heard lines as') line) ∙ sym (ap (model_answers session p) ls))),
+          subst (IsPlayed b session z live) (sym (ap (model_after session p) ls ∙ after_more session p (lines_heard lines as') line)) w.1,
+        )
 
 modelled : (b : Base) (session : ℕ) (s : State) (p : Play) (lines : List Line) (as' : List Answer) (m : State) (live : Option ℕ) → IsPlayed b session s None p → Runs session s lines as' m live
     → IsModelled b session p lines as' m live

@@ -50,14 +50,34 @@ pub ended_run : (session : ℕ) (s m z : State) (lines : List Line) (t : ℕ) (a
 ended_run session s m z lines t a b c ran ended =
     let r = ran.run in
     let text = Appends-trans a b c (transcript_text r.0) (line_of Aborted) r.2 ended.told in
-    record { run = (r.0, Aborted ∷ [], m, Some t, r.1, (ended.aborted, refl), subst (Appends a c) (sym (text_push r.0 Aborted)) text,
-      λ base kept idle. model_run base session s m z lines r.0 (Aborted ∷ []) (Some t) kept idle r.1 (ended.aborted, refl)) }
+    record {
+      run = (
+        r.0,
+        Aborted ∷ [],
+        m,
+        Some t,
+        r.1,
+        (ended.aborted, refl),
+        subst (Appends a c) (sym (text_push r.0 Aborted)) text,
+        λ base kept idle. model_run base session s m z lines r.0 (Aborted ∷ []) (Some t) kept idle r.1 (ended.aborted, refl),
+      );
+    }
 
 pub closed_run : (session : ℕ) (s z : State) (lines : List Line) (a b : Option (List ℕ)) → HasRunLines session s lines a b z None → HasRun session s lines a b z
 closed_run session s z lines a b ran =
     let r = ran.run in
-    record { run = (r.0, [], z, None, r.1, (refl, refl), subst (λ as'. Appends a b (transcript_text as')) (sym (append-nil r.0)) r.2,
-      λ base kept idle. model_run base session s z z lines r.0 [] None kept idle r.1 (refl, refl)) }
+    record {
+      run = (
+        r.0,
+        [],
+        z,
+        None,
+        r.1,
+        (refl, refl),
+        subst (λ as'. Appends a b (transcript_text as')) (sym (append-nil r.0)) r.2,
+        λ base kept idle. model_run base session s z z lines r.0 [] None kept idle r.1 (refl, refl),
+      );
+    }
 
 pub end_cut : (session : ℕ) (s m z : State) (lines : List Line) (t : ℕ) (a b c : Option (List ℕ)) (why : RunFault) → HasRunLines session s lines a b m (Some t) → IsCutAtEnd m t b c z why
     → IsCutRun session s lines a c z why

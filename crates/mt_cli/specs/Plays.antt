@@ -38,10 +38,10 @@ after_at session p None line.Abort = p
 after_at session p (Some calls) line.Begin = p
 after_at session p (Some calls) (line.Call op) = record p { under_way = Some (calls ++ (op, reply_of (run p.base calls) op) ∷ []) }
 after_at session p (Some calls) line.Commit = record {
-    base = run p.base calls;
-    book = p.book ++ record { session = session; calls = calls } ∷ [];
-    under_way = None;
-  }
+  base = run p.base calls;
+  book = p.book ++ record { session = session; calls = calls } ∷ [];
+  under_way = None;
+}
 after_at session p (Some calls) line.Abort = record p { under_way = None }
 
 -- ---- lines

@@ -32,7 +32,7 @@ pub enum Answer {
 pub struct Unheard;
 
 /// Writes all of these bytes. Where the writer fails, it has written a beginning of them.
-fn put<W: Write>(writer: &mut W, bytes: &[u8]) -> Result<(), Unheard>
+pub(crate) fn put<W: Write>(writer: &mut W, bytes: &[u8]) -> Result<(), Unheard>
     ensures all { OnOk result (Appends (W.contents writer.old) (W.contents writer.new) bytes.now) }
     ensures front { OnErr result (AppendsFront (W.contents writer.old) (W.contents writer.new) bytes.now) }
 {

@@ -1,9 +1,16 @@
 // The commands, done.
-ghost use Rattle.std.specs.Prelude.{◌≡◌, ◌≤◌, ℕ, List, Some, IfOk, length};
+ghost use Rattle.std.specs.Prelude.{◌≡◌, ◌≢◌, ◌≤◌, ℕ, List, Some, IfOk, IfErr, IfSome, IsOk, OnOk, length, map, option_map, false};
 ghost use Rattle.mt_base.specs.Limits.{IsValue};
 ghost use Rattle.mt_disk.specs.Memory.{content};
 ghost use Rattle.mt_model.specs.Views.{base_of, relations_of, counters_of};
+ghost use Rattle.mt_txn.specs.State.{state_of};
+ghost use Rattle.mt_cli.specs.Answers.{AppendsFront};
+ghost use Rattle.mt_cli.specs.Scripts.{IsScript};
+ghost use Rattle.mt_cli.specs.CommandLines.{fits};
+ghost use Rattle.mt_cli.specs.Performs.{IsFirstBase, IsFirst, HasTried, IsTried, IsUnread, IsDone, IsWordsDone, IsTold, source_of, script_source, fault_line};
+ghost use Rattle.std.specs.Io.KnownBytes.{Appends, Keeps};
 
+use crate::answers::{Answer, put, write_answer};
 use crate::command::{CliFault, Command, command_of};
 use crate::folder::Folder;
 use crate::reader::{Script, ScriptFault, read_script};
@@ -52,10 +59,17 @@ enum Fault {
     Refused(Refusal),
 }
 
-/// Tells of a refusal on the error output, and answers the status.
-fn tell<E: Write>(err: &mut E, refusal: Refusal) -> u8 {
-    let _ = writeln!(err, "{refusal}");
-    REFUSED
+/// What is told of an output that cannot be written.
+const NO_OUTPUT: &str = "the output cannot be written\n";
+
+/// Tells of a fault on the error output.
+fn tell<E: Write>(err: &mut E, fault: &Fault)
+    ensures { AppendsFront (E.contents err.old) (E.contents err.new) (fault_line fault.now) }
+{
+    let _ = match fault {
+        Fault::Output => put(err, NO_OUTPUT.as_bytes()),
+        Fault::Refused(refusal) => write_answer(err, &Answer::Refused(*refusal)),
+    };
 }
 
 /// The script of this name, or the one on standard input where there is no name.
@@ -64,7 +78,10 @@ fn script_of<F: Folder, I: Read>(
     folder: &mut F,
     name: Option<&str>,
     input: &mut I,
-) -> Result<Script, Refusal> {
+) -> Result<Script, Refusal>
+    ensures script { IfOk result (λ script. IfSome (source_of (F.known folder.old) (option_map (λ n. n.now) name.entry) (I.remaining input.old)) (λ bytes. IsScript bytes script.lines.items)) }
+    ensures unread { IfErr result (IsUnread (source_of (F.known folder.old) (option_map (λ n. n.now) name.entry) (I.remaining input.old))) }
+{
     let read = match name {
         Some(name) => {
             let bytes = folder.script(name)?;
@@ -85,6 +102,7 @@ fn first_base(alloc: Global) -> Result<Base, Refusal>
     ensures values { IfOk result (λ base. (r : ℕ) (k v : List ℕ) → (base_of base).rows r k ≡ Some v → IsValue v) }
     ensures relations { IfOk result (λ base. relations_of base ≤ 64) }
     ensures counters { IfOk result (λ base. length (counters_of base) ≤ 128) }
+    ensures first { IfOk result IsFirstBase }
 {
     Ok(Base::new(alloc, RELATIONS, &COUNTERS)?)
 }
@@ -104,6 +122,7 @@ pub(crate) fn kernel_over<D: Device + Drop>(
     mut device: D,
 ) -> Result<Kernel<D>, Refusal>
     requires { 8658944 ≤ length (D.seen device) }
+    ensures { IfOk result (λ kernel. IsFirst (state_of kernel)) }
 {
     let base = first_base(alloc)?;
     let place = AreaPlace::of(PAGES, AREA_MIB, false);
@@ -112,13 +131,17 @@ pub(crate) fn kernel_over<D: Device + Drop>(
 }
 
 /// The kernel that `try` runs on: over a device in memory, with nothing committed.
-fn first_kernel(alloc: Global) -> Result<Kernel<MemDevice>, Refusal> {
+fn first_kernel(alloc: Global) -> Result<Kernel<MemDevice>, Refusal>
+    ensures { IfOk result (λ kernel. IsFirst (state_of kernel)) }
+{
     let device = first_device(alloc)?;
     kernel_over(alloc, device)
 }
 
 /// Runs a script over a device in memory, and writes its transcript.
-fn try_script<O: Write>(alloc: Global, script: &Script, out: &mut O) -> Result<(), Fault> {
+fn try_script<O: Write>(alloc: Global, script: &Script, out: &mut O) -> Result<(), Fault>
+    ensures { OnOk result (HasTried script.now.lines.items (O.contents out.old) (O.contents out.new)) }
+{
     let mut kernel = match first_kernel(alloc) {
         Ok(kernel) => kernel,
         Err(refusal) => return Err(Fault::Refused(refusal)),
@@ -139,7 +162,9 @@ fn perform_try<F: Folder, I: Read, O: Write>(
     name: Option<&str>,
     input: &mut I,
     out: &mut O,
-) -> Result<(), Fault> {
+) -> Result<(), Fault>
+    ensures { OnOk result (IsTried (source_of (F.known folder.old) (option_map (λ n. n.now) name.entry) (I.remaining input.old)) (O.contents out.old) (O.contents out.new)) }
+{
     match script_of(alloc, folder, name, input) {
         Ok(script) => try_script(alloc, &script, out),
         Err(refusal) => Err(Fault::Refused(refusal)),
@@ -147,21 +172,25 @@ fn perform_try<F: Folder, I: Read, O: Write>(
 }
 
 /// Flushes the output after a command, and answers the status.
-fn finish<O: Write, E: Write>(done: Result<(), Fault>, out: &mut O, err: &mut E) -> u8 {
+fn finish<O: Write, E: Write>(done: Result<(), Fault>, out: &mut O, err: &mut E) -> u8
+    ensures done { result ≡ 0 → IsOk done × Keeps (O.contents out.old) (O.contents out.new) × (err.new ≡ err.old) }
+    ensures told { result ≢ 0 → (result ≡ 1) × IsTold (E.contents err.old) (E.contents err.new) }
+{
     let flushed = out.flush();
-    match done {
-        Ok(()) if flushed.is_ok() => DONE,
-        Ok(()) | Err(Fault::Output) => {
-            let _ = writeln!(err, "{}", RunFault::Output);
-            REFUSED
-        }
-        Err(Fault::Refused(refusal)) => tell(err, refusal),
-    }
+    let fault = match done {
+        Ok(()) if flushed.is_ok() => return DONE,
+        Ok(()) => Fault::Output,
+        Err(fault) => fault,
+    };
+    tell(err, &fault);
+    REFUSED
 }
 
 /// Writes the help or the version.
-fn show<O: Write>(text: &str, out: &mut O) -> Result<(), Fault> {
-    match out.write_all(text.as_bytes()) {
+fn show<O: Write>(text: &str, out: &mut O) -> Result<(), Fault>
+    ensures { OnOk result (Appends (O.contents out.old) (O.contents out.new) text.now) }
+{
+    match put(out, text.as_bytes()) {
         Ok(()) => Ok(()),
         Err(_) => Err(Fault::Output),
     }
@@ -181,7 +210,10 @@ pub fn perform<F: Folder, I: Read, O: Write, E: Write>(
     input: &mut I,
     out: &mut O,
     err: &mut E,
-) -> u8 {
+) -> u8
+    ensures done { result ≡ 0 → IsDone command.now (script_source (F.known folder.old) command.now (I.remaining input.old)) (O.contents out.old) (O.contents out.new) × (err.new ≡ err.old) }
+    ensures told { result ≢ 0 → (result ≡ 1) × IsTold (E.contents err.old) (E.contents err.new) }
+{
     let done = match command {
         Command::Try { script: Some(name) } => {
             perform_try(alloc, folder, Some(name.as_str()), input, out)
@@ -201,13 +233,21 @@ pub fn perform_words<F: Folder, I: Read, O: Write, E: Write>(
     input: &mut I,
     out: &mut O,
     err: &mut E,
-) -> u8 {
+) -> u8
+    ensures status { result ≤ 2 }
+    ensures done { result ≡ 0 → IsWordsDone (map (λ word. word.now) words.now) (F.known folder.old) (I.remaining input.old) (O.contents out.old) (O.contents out.new) }
+    ensures told { result ≡ 1 → IsTold (E.contents err.old) (E.contents err.new) }
+    ensures misused { result ≡ 2 → fits (map (λ word. word.now) words.now) ≡ false }
+{
     match command_of(alloc, words) {
         Ok(command) => perform(alloc, &command, folder, input, out, err),
         Err(CliFault::Usage(text)) => {
-            let _ = err.write_all(text.as_str().as_bytes());
+            let _ = put(err, text.as_str().as_bytes());
             MISUSED
         }
-        Err(CliFault::Refused(refusal)) => tell(err, refusal),
+        Err(CliFault::Refused(refusal)) => {
+            tell(err, &Fault::Refused(refusal));
+            REFUSED
+        }
     }
 }

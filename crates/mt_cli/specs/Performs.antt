@@ -1,0 +1,70 @@
+-- What the program's commands do.
+use Rattle.std.specs.Prelude.{ℕ, ℤ, pos, ◌≡◌, ◌⊎◌, List, [], ◌∷◌, ◌++◌, length, Option, Some, None, IfSome, option_map, string_bytes, codes}
+use Rattle.std.specs.Io.KnownBytes.{Appends, Keeps}
+use Rattle.mt_base.specs.declared.refusal.Refusal.{Refusal}
+use Rattle.mt_base.specs.declared.refusal.Refusal.TheVariants as refusal
+use Rattle.mt_log.specs.declared.log.Log.{Log}
+use Rattle.mt_model.specs.declared.tables.Base as code
+use Rattle.mt_model.specs.Views.{relations_of, rows_of, counters_of}
+use Rattle.mt_txn.specs.State.{State, fresh_state}
+use Rattle.mt_txn.specs.Kept.{IsKept}
+use Rattle.mt_cli.specs.declared.lines.Line.{Line}
+use Rattle.mt_cli.specs.declared.answers.Answer.TheVariants.{Refused as RefusedLine}
+use Rattle.mt_cli.specs.declared.command.Command.{Command}
+use Rattle.mt_cli.specs.declared.command.Command.TheVariants.{Try, Show}
+use Rattle.mt_cli.specs.declared.perform.Fault.{Fault}
+use Rattle.mt_cli.specs.declared.perform.Fault.TheVariants.{Output, Refused}
+use Rattle.mt_cli.specs.Answers.{AppendsFront}
+use Rattle.mt_cli.specs.CommandLines.{IsCommandOf}
+use Rattle.mt_cli.specs.Scripts.{IsScript, IsRefusedFor}
+use Rattle.mt_cli.specs.Runs.{HasRun, line_of}
+
+-- two relations without rows, and one counter from 0 to 10 that starts at 5
+pub record IsFirstBase (base : code.Base) : Type 0 where
+  pub relations : relations_of base ≡ 2
+  pub rows : length (rows_of base) ≡ 0
+  pub counters : counters_of base ≡ record { low = pos 0; high = pos 10; number = pos 5 } ∷ []
+
+-- a kernel without transactions over that base, as `try` begins
+pub record IsFirst (s : State) : Type 0 where
+  pub fresh : (base : code.Base) × (log : Log) × IsFirstBase base × (s ≡ fresh_state base log)
+  pub kept : IsKept s.held s
+
+-- `try` ran these lines on it, and wrote their transcript
+pub record HasTried (lines : List Line) (was now : Option (List ℕ)) : Type 0 where
+  pub ran : (s z : State) × IsFirst s × HasRun 1 s lines was now z
+
+-- those that the bytes spell, where they are known
+pub record IsTried (bytes was now : Option (List ℕ)) : Type 0 where
+  pub tried : (lines : List Line) × IfSome bytes (λ bs. IsScript bs lines) × HasTried lines was now
+
+-- why the script is not read: the bytes are no script, or could not be had, or memory was wanting
+abbrev pub IsUnread : Option (List ℕ) → Refusal → Type 0
+IsUnread bytes why = IfSome bytes (λ bs. (why ≡ refusal.DeviceFailed) ⊎ IsRefusedFor bs why)
+
+-- the bytes of a script, where they are known: of the file of its name, or else of the input
+abbrev pub source_of : (List ℕ → Option (List ℕ)) → Option (List ℕ) → Option (List ℕ) → Option (List ℕ)
+source_of known None input = input
+source_of known (Some name) input = known name
+
+abbrev pub script_source : (List ℕ → Option (List ℕ)) → Command → Option (List ℕ) → Option (List ℕ)
+script_source known (Try script) input = source_of known (option_map string_bytes script) input
+script_source known (Show text) input = None
+
+-- what a command leaves on the output once it is done; the bytes are its script's, where they are known
+abbrev pub IsDone : Command → Option (List ℕ) → Option (List ℕ) → Option (List ℕ) → Type 0
+IsDone (Try script) bytes was now = IsTried bytes was now
+IsDone (Show text) bytes was now = Appends was now (string_bytes text)
+
+-- and what the command that words name leaves there
+abbrev pub IsWordsDone : List (List ℕ) → (List ℕ → Option (List ℕ)) → Option (List ℕ) → Option (List ℕ) → Option (List ℕ) → Type 0
+IsWordsDone words known input was now = (command : Command) × IsCommandOf words command × IsDone command (script_source known command input) was now
+
+-- the line that tells of a fault
+abbrev pub fault_line : Fault → List ℕ
+fault_line Output = codes "the output cannot be written\n"
+fault_line (Refused why) = line_of (RefusedLine why)
+
+-- such a line was written, or a beginning of it
+abbrev pub IsTold : Option (List ℕ) → Option (List ℕ) → Type 0
+IsTold was now = (fault : Fault) × AppendsFront was now (fault_line fault)

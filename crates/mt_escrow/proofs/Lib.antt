@@ -1,0 +1,5 @@
+mod Adding
+mod Changing
+mod Settling
+mod Removing
+mod Viewing

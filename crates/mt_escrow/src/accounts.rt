@@ -1,0 +1,131 @@
+ghost use Rattle.std.specs.Prelude.{◌≡◌, ◌<◌, ◌⊎◌, ℕ, [], length, OnOk, OnErr, IfOk, IfErr};
+ghost use Rattle.mt_base.specs.Limits.{IsStep};
+ghost use Rattle.mt_model.specs.Pending.{pending_without, moved_by, TakesOut};
+ghost use Rattle.mt_model.specs.Tables.{AreLimited, IsLimited, count_at};
+ghost use Rattle.mt_escrow.specs.Seen.{add_of, with_add, CanStand, LosesLast, AreAdmissible};
+
+use crate::rooms::{Room, last_place, settle};
+use mt_base::{CtrNo, Refusal, TxnNo};
+use mt_model::{Count, Pending};
+use std::alloc::Global;
+use std::marker::Model;
+
+/// The counters as they are committed, and the adds that are pending, in order of grant. Each add
+/// counts singly, beside the others of its own transaction too.
+///
+/// Contracts see the two lists.
+#[derive(Debug, Drop)]
+pub struct Escrow {
+    rooms: Vec<Room>,
+    pending: Vec<Pending>,
+}
+
+impl Model for Escrow {
+    ghost use Rattle.std.specs.Prelude.{map};
+    ghost use Rattle.mt_escrow.specs.Seen.{Escrowed};
+    ghost use Rattle.mt_escrow.specs.Rooms.{AreKept, count_of};
+
+    ghost Value = { Escrowed };
+
+    ghost view = { λ e. record {
+      committed = map count_of e.rooms.items;
+      pending = e.pending.items;
+    } };
+
+    ghost invariant = { λ e. AreKept e.rooms.items e.pending.items };
+}
+
+impl Escrow {
+    /// The escrow of these counters, with no add pending. The only error is [`Refusal::NoMemory`].
+    pub fn new(alloc: Global, counters: &[Count]) -> Result<Escrow, Refusal>
+        requires { AreLimited counters.now }
+        ensures escrow { IfOk result (λ escrow.
+            escrow ≡ record { committed = counters.now; pending = [] }) }
+        ensures refused { IfErr result (λ refusal. refusal ≡ Refusal.NoMemory) }
+    {
+        let mut rooms = Vec::with_capacity(alloc, counters.len())?;
+        for count in counters {
+            rooms.push(Room::new(*count))?;
+        }
+        Ok(Escrow {
+            rooms,
+            pending: Vec::new(alloc),
+        })
+    }
+
+    /// Asks leave for an add. It is granted where the counter stays in its bounds whichever of the
+    /// pending adds are made, this one among them; it is then the last of the pending adds.
+    ///
+    /// [`Refusal::NoMemory`] where the list of pending adds could not grow; else
+    /// [`Refusal::Escrow`] where some choice of them leaves the bounds. The escrow is then as before.
+    pub fn ask(&mut self, txn: TxnNo, counter: CtrNo, step: i64) -> Result<(), Refusal>
+        requires there { counter < length self.old.committed }
+        requires step { IsStep step }
+        ensures granted { OnOk result (self.new ≡ with_add (add_of txn counter step) self.old) }
+        ensures admitted { OnOk result (CanStand self.old (add_of txn counter step)) }
+        ensures refused { IfErr result (λ refusal.
+            (refusal ≡ Refusal.NoMemory)
+            ⊎ ((refusal ≡ Refusal.Escrow) × ¬ CanStand self.old (add_of txn counter step))) }
+        ensures kept { OnErr result (self.new ≡ self.old) }
+    {
+        self.pending.reserve(1)?;
+        let place = usize::from(counter.get());
+        let room = self.rooms[place].with(step);
+        if !room.fits() {
+            return Err(Refusal::Escrow);
+        }
+        self.pending.push(Pending { txn, counter, step })?;
+        self.rooms[place] = room;
+        Ok(())
+    }
+
+    /// The end of a commit: the pending adds of the transaction move into the committed counters,
+    /// which stay in their bounds, and none of them is pending any more. Those of others stay. It
+    /// takes no memory.
+    pub fn commit(&mut self, txn: TxnNo)
+        ensures counters { length self.new.committed ≡ length self.old.committed }
+        ensures moved { (c : ℕ) →
+            count_at self.new.committed c
+            ≡ moved_by txn c self.old.pending (count_at self.old.committed c) }
+        ensures limited { AreLimited self.new.committed }
+        ensures pending { self.new.pending ≡ pending_without txn self.old.pending }
+    {
+        settle(&mut self.rooms, &self.pending, txn);
+        self.pending.retain(|add| add.txn != txn);
+    }
+
+    /// The end of an add's inverse, or of an add that was given up: the last pending add of this
+    /// transaction to this counter by this step goes, and nothing else changes. Where none is pending
+    /// nothing changes. It takes no memory.
+    pub fn taken_back(&mut self, txn: TxnNo, counter: CtrNo, step: i64)
+        ensures committed { self.new.committed ≡ self.old.committed }
+        ensures gone { LosesLast (add_of txn counter step) self.old.pending self.new.pending }
+        ensures taken { TakesOut (add_of txn counter step) self.old.pending self.new.pending }
+    {
+        let add = Pending { txn, counter, step };
+        if let Some(place) = last_place(&self.pending, &add) {
+            self.pending.remove(place);
+            let room = &mut self.rooms[usize::from(counter.get())];
+            *room = room.without(step);
+        }
+    }
+
+    /// A counter as it is committed: its bounds, and its number with the adds of all the
+    /// transactions that committed.
+    pub fn committed(&self, counter: CtrNo) -> Count
+        requires { counter < length self.now.committed }
+        ensures count { result ≡ count_at self.now.committed counter }
+        ensures limited { IsLimited result }
+    {
+        self.rooms[usize::from(counter.get())].count
+    }
+
+    /// The pending adds in order of grant, lent. Whichever of them are made, each counter stays in
+    /// its bounds.
+    pub fn pending(&self) -> &[Pending]
+        ensures pending { result.now ≡ self.now.pending }
+        ensures admissible { AreAdmissible self.now }
+    {
+        self.pending.as_slice()
+    }
+}

@@ -1,0 +1,2 @@
+mod Removing
+mod Finding

@@ -1,0 +1,52 @@
+-- Which pages of a device are free, and how many of them are reserved.
+use Rattle.std.specs.Prelude.{ℕ, ◌≡◌, ◌≤◌, ◌<◌, ◌+◌, ◌*◌, ◌==◌, Bool, true, false, List, length, map, take, count_by}
+use Rattle.std.proofs.Math.ListN.{get_or}
+
+-- of each page whether it is free, and how many free pages are reserved
+abbrev pub Room : Type 0
+Room = List Bool × ℕ
+
+abbrev pub is_free : Room → ℕ → Bool
+is_free s p = get_or s.0 p false
+
+abbrev pub reserved_of : Room → ℕ
+reserved_of s = s.1
+
+-- how many pages are free
+abbrev pub free_in : List Bool → ℕ
+free_in pages = count_by (λ b. b) pages
+
+abbrev pub free_of : Room → ℕ
+free_of s = free_in s.0
+
+-- the pages of kind 0 in a space map
+abbrev pub mapped : List ℕ → ℕ → List Bool
+mapped kinds pages = map (λ kind. kind == 0) (take pages kinds)
+
+-- the free page with the smallest number
+pub record IsFirstFree (pages : List Bool) (page : ℕ) : Type 0 where
+  pub within : page < length pages
+  pub free : get_or pages page false ≡ true
+  pub first : (p : ℕ) → p < page → get_or pages p false ≡ false
+
+-- none of the pages of a group of 64 is free
+abbrev pub HasNone : List Bool → ℕ → Type 0
+HasNone pages group = (p : ℕ) → 64 * group ≤ p → p < 64 * group + 64 → get_or pages p false ≡ false
+
+-- the first of them that is
+pub record IsFirstIn (pages : List Bool) (group page : ℕ) : Type 0 where
+  pub from : 64 * group ≤ page
+  pub to : page < 64 * group + 64
+  pub within : page < length pages
+  pub free : get_or pages page false ≡ true
+  pub first : (p : ℕ) → 64 * group ≤ p → p < page → get_or pages p false ≡ false
+
+-- What a space keeps: the number of free pages, of which those reserved are a part, and a flag for each
+-- group of 64 pages, which is set where one of them is free.
+pub record IsKept (pages groups : List Bool) (free reserved : ℕ) : Type 0 where
+  pub few : length pages ≤ 4000
+  pub grouped : length pages ≤ 64 * length groups
+  pub few_groups : length groups ≤ 64
+  pub counted : free ≡ free_in pages
+  pub covered : (group : ℕ) → get_or groups group false ≡ false → HasNone pages group
+  pub room : reserved ≤ free

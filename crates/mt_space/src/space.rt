@@ -1,0 +1,191 @@
+ghost use Rattle.std.specs.Prelude.{◌≡◌, ◌==◌, map, ◌≤◌, ◌<◌, ◌+◌, ◌*◌, ◌-◌, ℕ, length, get_or, IfOk, IfErr, OnOk, OnErr, MatchOption, slice_set, true, false};
+ghost use Rattle.mt_base.specs.declared.refusal.Refusal.{Refusal};
+ghost use Rattle.mt_space.specs.Rooms.{is_free, free_in, reserved_of, free_of, mapped, IsFirstFree, HasNone, IsFirstIn};
+
+use mt_base::{PageNo, Refusal};
+use std::alloc::{AllocError, Global};
+use std::marker::Model;
+
+/// Pages of a group. Of each group it is known whether one of them is free.
+const GROUP_PAGES: usize = 64;
+
+/// The free pages of a device, and how many of them are reserved. Contracts see of each page whether it is
+/// free, and the number of those reserved, which is never more than the free ones.
+#[derive(Drop)]
+pub struct Space {
+    pages: Vec<bool>,
+    groups: Vec<bool>,
+    free: u16,
+    reserved: u16,
+}
+
+impl Model for Space {
+    ghost use Rattle.mt_space.specs.Rooms.{Room, IsKept};
+
+    ghost Value = { Room };
+
+    ghost view = { λ s. (s.pages.items, s.reserved) };
+
+    ghost invariant = { λ s. IsKept s.pages.items s.groups.items s.free s.reserved };
+}
+
+impl Space {
+    /// The space of a map, a byte for each page: those of kind 0 are free. None is reserved. The only error
+    /// is want of memory.
+    pub fn of(alloc: Global, map: &[u8], pages: u16) -> Result<Space, AllocError>
+        requires map { length map.now ≡ 4096 }
+        requires few { pages ≤ 4000 }
+        ensures free { IfOk result (λ space. space.0 ≡ mapped map.now pages) }
+        ensures none { IfOk result (λ space. reserved_of space ≡ 0) }
+    {
+        let pages = freedom(alloc, &map[..usize::from(pages)])?;
+        let free = count_free(pages.as_slice());
+        let groups = vec![in alloc; true; pages.len() / GROUP_PAGES + 1]?;
+        Ok(Space {
+            pages,
+            groups,
+            free,
+            reserved: 0,
+        })
+    }
+
+    /// Reserves so many of the free pages. Refused with 10 exactly where fewer are free and not reserved;
+    /// the space is then as before. It takes no memory.
+    pub fn claim(&mut self, pages: u16) -> Result<(), Refusal>
+        ensures free { self.new.0 ≡ self.old.0 }
+        ensures claimed { OnOk result (reserved_of self.new ≡ reserved_of self.old + pages) }
+        ensures fits { OnOk result (reserved_of self.old + pages ≤ free_of self.old) }
+        ensures refused { IfErr result (λ why. why ≡ Refusal.NoRoom) }
+        ensures cause { OnErr result (free_of self.old < reserved_of self.old + pages) }
+        ensures err { OnErr result (self.new ≡ self.old) }
+    {
+        if self.free - self.reserved < pages {
+            return Err(Refusal::NoRoom);
+        }
+        self.reserved += pages;
+        Ok(())
+    }
+
+    /// Gives so many reservations back.
+    pub fn give_back(&mut self, pages: u16)
+        requires { pages ≤ reserved_of self.old }
+        ensures free { self.new.0 ≡ self.old.0 }
+        ensures given { reserved_of self.new ≡ reserved_of self.old - pages }
+    {
+        self.reserved -= pages;
+    }
+
+    /// Takes the free page with the smallest number, for one reservation. Who takes a page writes it whole
+    /// in its new form, since the bytes of a free page are open.
+    pub fn take(&mut self) -> PageNo
+        requires { 0 < reserved_of self.old }
+        ensures first { IsFirstFree self.old.0 result }
+        ensures taken { self.new.0 ≡ slice_set self.old.0 result false }
+        ensures reserved { reserved_of self.new ≡ reserved_of self.old - 1 }
+    {
+        let page = first_free(self.pages.as_slice(), self.groups.as_slice());
+        self.pages[page] = false;
+        self.free -= 1;
+        self.reserved -= 1;
+        let group = page / GROUP_PAGES;
+        let more = first_in(self.pages.as_slice(), group).is_some();
+        self.groups[group] = more;
+        PageNo::new(page as u16)
+    }
+
+    /// Makes a page free that was taken. It is not reserved.
+    pub fn put_back(&mut self, page: PageNo)
+        requires within { page < length self.old.0 }
+        requires taken { is_free self.old page ≡ false }
+        ensures free { self.new.0 ≡ slice_set self.old.0 page true }
+        ensures reserved { reserved_of self.new ≡ reserved_of self.old }
+    {
+        let page = usize::from(page.get());
+        self.pages[page] = true;
+        self.groups[page / GROUP_PAGES] = true;
+        self.free += 1;
+    }
+
+    /// Whether a page of the device is free.
+    pub fn is_free(&self, page: PageNo) -> bool
+        requires { page < length self.now.0 }
+        ensures { result ≡ is_free self.now page }
+    {
+        self.pages[usize::from(page.get())]
+    }
+
+    /// How many pages are free, reserved or not.
+    pub fn free(&self) -> u16
+        ensures { result ≡ free_of self.now }
+    {
+        self.free // the reserved ones are among them
+    }
+
+    /// How many of the free pages are reserved.
+    pub fn reserved(&self) -> u16
+        ensures reserved { result ≡ reserved_of self.now }
+        ensures room { result ≤ free_of self.now }
+    {
+        self.reserved // never more than the free ones
+    }
+}
+
+// Of each page whether its kind is that of a free one.
+fn freedom(alloc: Global, kinds: &[u8]) -> Result<Vec<bool>, AllocError>
+    ensures { IfOk result (λ pages. pages.items ≡ map (λ kind. kind == 0) kinds.now) }
+{
+    let mut pages = Vec::with_capacity(alloc, kinds.len())?;
+    for kind in kinds {
+        pages.push(*kind == 0)?;
+    }
+    Ok(pages)
+}
+
+// How many pages are free.
+fn count_free(pages: &[bool]) -> u16
+    requires { length pages.now ≤ 4000 }
+    ensures { result ≡ free_in pages.now }
+{
+    let mut free = 0;
+    for page in pages {
+        if *page {
+            free += 1;
+        }
+    }
+    free
+}
+
+// The free page with the smallest number.
+fn first_free(pages: &[bool], groups: &[bool]) -> usize
+    requires few { length pages.now ≤ 4000 }
+    requires few_groups { length groups.now ≤ 64 }
+    requires grouped { length pages.now ≤ 64 * length groups.now }
+    requires covered { (group : ℕ) → get_or groups.now group false ≡ false → HasNone pages.now group }
+    requires some { 0 < free_in pages.now }
+    ensures { IsFirstFree pages.now result }
+{
+    for group in 0..groups.len() {
+        if groups[group] {
+            if let Some(page) = first_in(pages, group) {
+                return page;
+            }
+        }
+    }
+    0
+}
+
+// The free page with the smallest number in a group.
+fn first_in(pages: &[bool], group: usize) -> Option<usize>
+    requires few { length pages.now ≤ 4000 }
+    requires group { group < 64 }
+    ensures { MatchOption result (HasNone pages.now group) (λ page. IsFirstIn pages.now group page) }
+{
+    let start = GROUP_PAGES * group;
+    let end = (start + GROUP_PAGES).min(pages.len());
+    for page in start..end {
+        if pages[page] {
+            return Some(page);
+        }
+    }
+    None
+}

@@ -1,0 +1,16 @@
+use Rattle.std.proofs.Common.{◌≡◌, ◌+◌, ◌<◌, ◌≤◌, ◌++◌, ◌∷◌, [], length, true, arith, sym, ap, ◌∙◌, subst, refl}
+use mathlib.Core.List.{IsPrefix}
+use Rattle.mt_mark.specs.Legal.{IsLegal}
+use Rattle.mt_mark.specs.declared.view.View.{View}
+use Rattle.mt_mark.specs.Rule.{LooksTo, IsConfirmed, CanEnter, dones, labelled, heard, pass_note, end_note}
+use Rattle.mt_mark.proofs.Moves.{looks, names, enters, settles, checks, end_notes, pass_notes, hears, new_passes}
+use Rattle.mt_mark.proofs.seats.Seat.exchange.Goals as goal
+
+pub compare_exchange-found-requires : goal.compare_exchange-found-requires
+compare_exchange-found-requires c =
+    let i = c.self.invariant in
+    let d = c.deref.ensures in
+    let same = ap (λ t. t.shared.table_id) (sym d) in
+    let v : c.self.inside.place.me.0 ≡ c.args.self.now.view = ap (λ h. h.view) c.self.view_is in
+    let q = subst (λ x. CanEnter x c.args.at) (sym v) c.requires.named in
+    (i.same ∙ same, (let n = ap (λ z. z.words) same in let m = i.words in omega arith), enters _ _ _ _ c.args.at q.0 q.1 i.sees q.2 q.3 q.4 q.5 q.6)

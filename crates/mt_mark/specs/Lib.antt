@@ -1,0 +1,3 @@
+pub mod Legal
+pub mod Rule
+pub mod Held

@@ -1,0 +1,83 @@
+ghost use Rattle.std.specs.Prelude.{◌≡◌, [], ◌<◌, length};
+ghost use Rattle.mt_mark.specs.Rule.{IsConfirmed};
+
+use crate::{About, End, Entry, Seat, new};
+use mt_model::{Base, Calls, Committed};
+use std::alloc::Global;
+use std::process::Abort;
+use std::snapshot::Snapshot;
+use std::test::Fail;
+use std::thread::{self, Threads};
+
+/// A transaction that did nothing.
+fn idle(alloc: Global, session: u32) -> Committed
+    ensures { result.calls ≡ [] }
+{
+    Committed {
+        session,
+        calls: Calls::new(Vec::new(alloc)),
+    }
+}
+
+/// Both passes look, each in a thread of its own.
+fn look<R: Threads>(rt: &R, first: &mut Seat, second: &mut Seat) -> (u64, u64) {
+    thread::join(rt, || first.load(), || second.load())
+}
+
+#[test]
+fn two_passes_enter_one_history(rt: HostRuntime) -> Result<(), Fail> {
+    let alloc = rt.alloc();
+    let base = Base::new(alloc, 1, &[])?;
+    let book: Vec<Committed> = Vec::new(alloc);
+    let about = About {
+        base: Snapshot::of(&base),
+        book: Snapshot::of(&book),
+    };
+    let (mut end, mut seats) = new(alloc, &about, 0, 2)?;
+    let (Some(mut second), Some(mut first)) = (seats.pop(), seats.pop()) else {
+        return Err(Fail::new("two seats"));
+    };
+    let entry = Entry {
+        pass: second.number(),
+        done: idle(alloc, 7),
+    };
+    assert!(rt; end.enter(&mut second, &entry));
+    let next = Entry {
+        pass: first.number(),
+        done: idle(alloc, 8),
+    };
+    assert!(rt; end.enter(&mut first, &next));
+    let counts = look(&rt, &mut first, &mut second);
+    assert_eq!(rt; counts.0, 2);
+    assert_eq!(rt; counts.1, 2);
+    Ok(())
+}
+
+/// A pass looks between the name of another's entry and its exchange, and behind it.
+#[test]
+fn a_named_entry_is_not_seen_before_it_is_counted(rt: HostRuntime) -> Result<(), Fail> {
+    let alloc = rt.alloc();
+    let base = Base::new(alloc, 1, &[])?;
+    let book: Vec<Committed> = Vec::new(alloc);
+    let about = About {
+        base: Snapshot::of(&base),
+        book: Snapshot::of(&book),
+    };
+    let (mut end, mut seats) = new(alloc, &about, 0, 2)?;
+    let (Some(mut second), Some(mut first)) = (seats.pop(), seats.pop()) else {
+        return Err(Fail::new("two seats"));
+    };
+    let entry = Entry {
+        pass: first.number(),
+        done: idle(alloc, 3),
+    };
+    end.hear(&mut first);
+    let at = end.name(&entry);
+    assert_eq!(rt; second.load(), 0);
+    first.hear(&mut end);
+    assert!(rt; first.exchange(at));
+    end.confirm(&mut first);
+    assert_eq!(rt; second.load(), 1);
+    second.meet(&mut end);
+    Ok(())
+}

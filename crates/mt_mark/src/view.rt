@@ -1,0 +1,36 @@
+use mt_model::{Base, Committed};
+use std::collections::LinkedList;
+use std::snapshot::Snapshot;
+
+/// One transaction of the history: the number of the pass that entered it, or 0 where it was in the book
+/// already when the mark was made, and what it did.
+#[derive(Drop)]
+pub struct Entry {
+    pub pass: u64,
+    pub done: Committed,
+}
+
+/// What a mark is made about, seen by contracts alone: the base at the opening, and the book so far. It takes
+/// no bytes.
+#[derive(Drop)]
+pub struct About {
+    pub base: Snapshot<Base>,
+    pub book: Snapshot<Vec<Committed>>,
+}
+
+/// What a seat of the mark knows. No value of it is made: contracts alone see one.
+///
+/// The end `keeps` the list, and may have named one entry more than the word counts. A pass `sees` a
+/// beginning of the history. By a note each is `told` of the other's list, which begins the end's, and that
+/// `sure` entries at least are counted. `made` counts the numbers that passes have been given, and `base` is
+/// the base at the opening.
+pub struct View {
+    pub keeps: bool,
+    pub sees: bool,
+    pub number: u64,
+    pub made: u64,
+    pub list: LinkedList<Entry>,
+    pub told: LinkedList<Entry>,
+    pub sure: u64,
+    pub base: Base,
+}

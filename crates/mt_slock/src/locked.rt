@@ -1,8 +1,10 @@
 ghost use Rattle.std.specs.Prelude.{◌≡◌, IfOk, OnOk, OnErr, MatchOption};
 ghost use Rattle.mt_model.specs.Locks.{no_locks, with_lock, without_lock, IsFree, IsLeastBar};
 ghost use Rattle.mt_slock.specs.Views.{held_of};
+ghost use Rattle.mt_slock.specs.Noted.{without_locks};
 
 use crate::holders::{Holder, Holders};
+use crate::notes::Lock;
 use indexmap::IndexMap;
 use mt_base::{LockMode, TxnNo};
 use mt_model::Object;
@@ -83,6 +85,15 @@ impl LockedObjects {
         holders.remove(txn, mode);
         if holders.is_empty() {
             self.holders.swap_remove(object);
+        }
+    }
+
+    /// These locks of a transaction less, those of them that were held.
+    pub fn remove_all(&mut self, txn: TxnNo, locks: &[Lock])
+        ensures { held_of self.new ≡ without_locks (held_of self.old) txn locks.now }
+    {
+        for lock in locks {
+            self.remove(txn, &lock.object, lock.mode);
         }
     }
 }

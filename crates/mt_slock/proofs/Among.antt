@@ -162,10 +162,13 @@ found_more hs h t m (Some o) bar f = elim (either o h.txn) [
   where
     either : (a b : ℕ) → (min a b ≡ a) ⊎ (min a b ≡ b)
     either a b = grind arith
+
     down_left : (a b v : ℕ) → a ≤ v → min a b ≤ v
     down_left a b v k = omega arith
+
     down_right : (a b v : ℕ) → v ≡ b → min a b ≤ v
     down_right a b v k = omega arith
+
     least : (v : ℕ) (n : LockMode) → is_among (hs ++ h ∷ []) v n ≡ true → conflicts t m v n ≡ true → min o h.txn ≤ v
     least v n e bars = elim (parts_of_push hs h v n e) [
       | inl a ↦ down_left o h.txn v (f.oldest v n a bars)

@@ -80,7 +80,7 @@ noted_with held notes t x m noted = λ u y k h.
     let lock : Lock = record { object = x; mode = m } in
     at_own (t == u) (notes u ++ lock ∷ []) (notes u) y k
     (λ own. among_push (notes u) lock y k ∙ either (is_among_locks (notes u) y k) (same_object x y && same_mode m k)
-        (elim (or_cases (held u y k) (is_lock t x m u y k) h) [ inl a ↦ inl (noted u y k a) | inr b ↦ inr (and_parts (u == t) (same_object x y && same_mode m k) b).1 ]))
+    (elim (or_cases (held u y k) (is_lock t x m u y k) h) [ inl a ↦ inl (noted u y k a) | inr b ↦ inr (and_parts (u == t) (same_object x y && same_mode m k) b).1 ]))
     (λ other. elim (or_cases (held u y k) (is_lock t x m u y k) h) [ inl a ↦ noted u y k a | inr b ↦ absurd (flip t u other (and_parts (u == t) (same_object x y && same_mode m k) b).0) ])
   where
     either : (a b : Bool) → (a ≡ true) ⊎ (b ≡ true) → (a || b) ≡ true
@@ -97,12 +97,12 @@ noted_without_last held notes t x m last noted = λ u y k h.
     let gone : is_lock t x m u y k ≡ false = not-true (is_lock t x m u y k) p.1 in
     at_own (t == u) (front (notes u)) (notes u) y k
     (λ own.
-        let e : t ≡ u = eqb-true t u own in
-        let ends : notes u ≡ front (notes u) ++ lock ∷ [] = subst (λ n. notes n ≡ front (notes n) ++ lock ∷ []) e last in
-        let there : (is_among_locks (front (notes u)) y k || (same_object x y && same_mode m k)) ≡ true =
-            sym (among_push (front (notes u)) lock y k) ∙ (ap (λ ls. is_among_locks ls y k) (sym ends) ∙ noted u y k p.0) in
-        let other : (same_object x y && same_mode m k) ≡ false = ap (λ b. b && (same_object x y && same_mode m k)) (sym (ap (λ n. u == n) e ∙ eqb_self u)) ∙ gone in
-        sym (or_false (is_among_locks (front (notes u)) y k)) ∙ (ap (λ b. is_among_locks (front (notes u)) y k || b) (sym other) ∙ there))
+    let e : t ≡ u = eqb-true t u own in
+    let ends : notes u ≡ front (notes u) ++ lock ∷ [] = subst (λ n. notes n ≡ front (notes n) ++ lock ∷ []) e last in
+    let there : (is_among_locks (front (notes u)) y k || (same_object x y && same_mode m k)) ≡ true =
+    sym (among_push (front (notes u)) lock y k) ∙ (ap (λ ls. is_among_locks ls y k) (sym ends) ∙ noted u y k p.0) in
+    let other : (same_object x y && same_mode m k) ≡ false = ap (λ b. b && (same_object x y && same_mode m k)) (sym (ap (λ n. u == n) e ∙ eqb_self u)) ∙ gone in
+    sym (or_false (is_among_locks (front (notes u)) y k)) ∙ (ap (λ b. is_among_locks (front (notes u)) y k || b) (sym other) ∙ there))
     (λ other. noted u y k p.0)
 
 -- ---- kept
@@ -148,6 +148,7 @@ with_held held t x m h = λ i u y k. same u y k (is_lock t x m u y k) refl i
     or_true : (a : Bool) → a ≡ true → a ≡ (a || true)
     or_true true e = refl
     or_true false e = e
+
     same : (u : ℕ) (y : Object) (k : LockMode) (b : Bool) → is_lock t x m u y k ≡ b → held u y k ≡ (held u y k || is_lock t x m u y k)
     same u y k true e =
         let p = lock_is t x m u y k e in

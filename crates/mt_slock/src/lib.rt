@@ -15,3 +15,6 @@ mod table;
 
 pub use holders::Holder;
 pub use table::{Asked, LockTable};
+
+#[cfg(test)]
+mod tests;

@@ -84,7 +84,7 @@ impl LockedObjects {
         };
         holders.remove(txn, mode);
         if holders.is_empty() {
-            self.holders.swap_remove(object);
+            drop(self.holders.swap_remove(object));
         }
     }
 

@@ -39,16 +39,16 @@ returns-in-Some-clause-added c =
     let old : Object → Option (List Holder) = λ q. lookup (same_object q) c.args.self.now in
     let new : Object → Option (List Holder) = λ q. lookup (same_object q) c.match-object.self in
     on_ok_weaker c.add.result (λ e i u y n. with_changed old new x (Some c.add.new.self) (changes c) t m
-        (λ v k. ap (λ (l : List Holder). is_among l v k) e ∙ (among-push hs (record { txn = t; mode = m }) v k ∙ ap (λ (o : Option (List Holder)). holds_in o v k || ((v == t) && same_mode m k)) (sym (found c))))
-        u y n i) c.add.ensures.added
+    (λ v k. ap (λ (l : List Holder). is_among l v k) e ∙ (among-push hs (record { txn = t; mode = m }) v k ∙ ap (λ (o : Option (List Holder)). holds_in o v k || ((v == t) && same_mode m k)) (sym (found c))))
+    u y n i) c.add.ensures.added
 
 pub returns-in-Some-clause-err : goal.returns-in-Some-clause-err
 returns-in-Some-clause-err c =
     let old : Object → Option (List Holder) = λ q. lookup (same_object q) c.args.self.now in
     let new : Object → Option (List Holder) = λ q. lookup (same_object q) c.match-object.self in
     on_err_weaker c.add.result (λ e i u y n. same_changed old new c.args.object (Some c.add.new.self) (changes c)
-        (λ v k. ap (λ (l : List Holder). is_among l v k) e ∙ ap (λ (o : Option (List Holder)). holds_in o v k) (sym (found c)))
-        u y n i) c.add.ensures.err
+    (λ v k. ap (λ (l : List Holder). is_among l v k) e ∙ ap (λ (o : Option (List Holder)). holds_in o v k) (sym (found c)))
+    u y n i) c.add.ensures.err
 
 pub returns-in_ok-insert-in-None-clause-added : goal.returns-in_ok-insert-in-None-clause-added
 returns-in_ok-insert-in-None-clause-added c =
@@ -64,7 +64,7 @@ returns-in_ok-insert-in-None-clause-added c =
     ap (lookup (same_object x)) (sym c.self.view_is) ∙ (sym (same_lookup x c.self.inside.holders.entries) ∙ sym c.in-None.ensures.value) in
     let update = c.in_ok-insert-in-None.ensures.updates in
     λ i u y n. with_changed old new x (Some hs)
-        (λ q. updated x (Some hs) c.get_mut.follows.lender-at-none.entries c.insert.new.self.entries update.0 q
-        ∙ ap (λ (l : List (Object × List Holder)). cond (same_object x q) (Some hs) (lookup (same_object q) l)) same) t m
-        (λ v k. ap (λ (l : List Holder). is_among l v k) c.in_ok-holders-in-None.ensures ∙ (or_false ((v == t) && same_mode m k) ∙ ap (λ (o : Option (List Holder)). holds_in o v k || ((v == t) && same_mode m k)) (sym missing)))
-        u y n i
+    (λ q. updated x (Some hs) c.get_mut.follows.lender-at-none.entries c.insert.new.self.entries update.0 q
+    ∙ ap (λ (l : List (Object × List Holder)). cond (same_object x q) (Some hs) (lookup (same_object q) l)) same) t m
+    (λ v k. ap (λ (l : List Holder). is_among l v k) c.in_ok-holders-in-None.ensures ∙ (or_false ((v == t) && same_mode m k) ∙ ap (λ (o : Option (List Holder)). holds_in o v k || ((v == t) && same_mode m k)) (sym missing)))
+    u y n i

@@ -10,7 +10,6 @@ use Rattle.mt_slock.proofs.Among.{among-filter}
 use Rattle.mt_slock.proofs.Keys.{same_lookup, updated}
 use Rattle.mt_slock.proofs.Entries.{without_changed, own_entry, cond_twice}
 use Rattle.mt_slock.proofs.locked.LockedObjects.remove.Goals as goal
-use Rattle.mt_slock.proofs.locked.LockedObjects.remove.Goals.{in-Some-1, in-None-1}
 
 pub returns-in_default : goal.returns-in_default
 returns-in_default c =
@@ -21,11 +20,11 @@ returns-in_default c =
     let old : Object → Option (List Holder) = λ q. lookup (same_object q) es in
     let same : c.get_mut.follows.lender-at-none.entries ≡ es = ap (λ k. k.entries) (c.get_mut.follows.holds-at-none) ∙ c.self.view_is in
     let missing : old x ≡ None =
-        ap (lookup (same_object x)) (sym c.self.view_is) ∙ (sym (same_lookup x c.self.inside.holders.entries) ∙ (sym c.get_mut.ensures.value ∙ ap option_copied_mut c.in_default.is)) in
+    ap (lookup (same_object x)) (sym c.self.view_is) ∙ (sym (same_lookup x c.self.inside.holders.entries) ∙ (sym c.get_mut.ensures.value ∙ ap option_copied_mut c.in_default.is)) in
     λ i u y n. (ap (λ (l : List (Object × List Holder)). holds_in (lookup (same_object y) l) u n) same
     ∙ without_changed old old x (old x) (own_entry old x) t m
-        (λ v k. ap (λ (o : Option (List Holder)). holds_in o v k) missing ∙ ap (λ (o : Option (List Holder)). holds_in o v k && not ((v == t) && same_mode m k)) (sym missing))
-        u y n) i
+    (λ v k. ap (λ (o : Option (List Holder)). holds_in o v k) missing ∙ ap (λ (o : Option (List Holder)). holds_in o v k && not ((v == t) && same_mode m k)) (sym missing))
+    u y n) i
 
 pub returns-else-is_empty : goal.returns-else-is_empty
 returns-else-is_empty c =
@@ -40,12 +39,12 @@ returns-else-is_empty c =
     let old : Object → Option (List Holder) = λ q. lookup (same_object q) es in
     let new : Object → Option (List Holder) = λ q. lookup (same_object q) (c.get_mut.follows.lender kept).entries in
     let found : old x ≡ Some hs =
-        ap (lookup (same_object x)) (sym c.self.view_is) ∙ (sym (same_lookup x c.self.inside.holders.entries) ∙ (sym c.get_mut.ensures.value ∙ ap option_copied_mut c.in-Some.is)) in
+    ap (lookup (same_object x)) (sym c.self.view_is) ∙ (sym (same_lookup x c.self.inside.holders.entries) ∙ (sym c.get_mut.ensures.value ∙ ap option_copied_mut c.in-Some.is)) in
     λ i u y n. without_changed old new x (Some kept)
-        (λ q. updated x (Some kept) c.self.inside.holders.entries (c.get_mut.follows.lender kept).entries (write.3 there).0 q
-        ∙ ap (λ (l : List (Object × List Holder)). cond (same_object x q) (Some kept) (lookup (same_object q) l)) c.self.view_is) t m
-        (λ v k. ap (λ (l : List Holder). is_among l v k) c.remove.ensures ∙ (among-filter hs t m v k ∙ ap (λ (o : Option (List Holder)). holds_in o v k && not ((v == t) && same_mode m k)) (sym found)))
-        u y n i
+    (λ q. updated x (Some kept) c.self.inside.holders.entries (c.get_mut.follows.lender kept).entries (write.3 there).0 q
+    ∙ ap (λ (l : List (Object × List Holder)). cond (same_object x q) (Some kept) (lookup (same_object q) l)) c.self.view_is) t m
+    (λ v k. ap (λ (l : List Holder). is_among l v k) c.remove.ensures ∙ (among-filter hs t m v k ∙ ap (λ (o : Option (List Holder)). holds_in o v k && not ((v == t) && same_mode m k)) (sym found)))
+    u y n i
 
 pub returns-then-is_empty : goal.returns-then-is_empty
 returns-then-is_empty c =
@@ -59,16 +58,14 @@ returns-then-is_empty c =
     let write = c.get_mut.follows.holds kept in
     let gone = c.swap_remove.ensures.updates in
     let old : Object → Option (List Holder) = λ q. lookup (same_object q) es in
-    let new : Object → Option (List Holder) = λ q. lookup (same_object q) c.match-swap_remove.self in
+    let new : Object → Option (List Holder) = λ q. lookup (same_object q) c.swap_remove.new.self.entries in
     let found : old x ≡ Some hs =
-        ap (lookup (same_object x)) (sym c.self.view_is) ∙ (sym (same_lookup x c.self.inside.holders.entries) ∙ (sym c.get_mut.ensures.value ∙ ap option_copied_mut c.in-Some.is)) in
+    ap (lookup (same_object x)) (sym c.self.view_is) ∙ (sym (same_lookup x c.self.inside.holders.entries) ∙ (sym c.get_mut.ensures.value ∙ ap option_copied_mut c.in-Some.is)) in
     let none : kept ≡ [] = c.is_empty.ensures c.if-is_empty.true in
-    let left : c.match-swap_remove.self ≡ c.swap_remove.new.self.entries = elim c.match-swap_remove.branch [ in-Some-1 w ↦ w.self-is | in-None-1 w ↦ w.self-is ] in
     λ i u y n. without_changed old new x None
-        (λ q. ap (lookup (same_object q)) left
-        ∙ (updated x None (c.get_mut.follows.lender kept).entries c.swap_remove.new.self.entries gone.0 q
-        ∙ (ap (λ (o : Option (List Holder)). cond (same_object x q) None o) (updated x (Some kept) c.self.inside.holders.entries (c.get_mut.follows.lender kept).entries (write.3 there).0 q)
-        ∙ (cond_twice (same_object x q) None (Some kept) (lookup (same_object q) c.self.inside.holders.entries)
-        ∙ ap (λ (l : List (Object × List Holder)). cond (same_object x q) None (lookup (same_object q) l)) c.self.view_is)))) t m
-        (λ v k. ap (λ (l : List Holder). is_among l v k) (sym none ∙ c.remove.ensures) ∙ (among-filter hs t m v k ∙ ap (λ (o : Option (List Holder)). holds_in o v k && not ((v == t) && same_mode m k)) (sym found)))
-        u y n i
+    (λ q. updated x None (c.get_mut.follows.lender kept).entries c.swap_remove.new.self.entries gone.0 q
+    ∙ (ap (λ (o : Option (List Holder)). cond (same_object x q) None o) (updated x (Some kept) c.self.inside.holders.entries (c.get_mut.follows.lender kept).entries (write.3 there).0 q)
+    ∙ (cond_twice (same_object x q) None (Some kept) (lookup (same_object q) c.self.inside.holders.entries)
+    ∙ ap (λ (l : List (Object × List Holder)). cond (same_object x q) None (lookup (same_object q) l)) c.self.view_is))) t m
+    (λ v k. ap (λ (l : List Holder). is_among l v k) (sym none ∙ c.remove.ensures) ∙ (among-filter hs t m v k ∙ ap (λ (o : Option (List Holder)). holds_in o v k && not ((v == t) && same_mode m k)) (sym found)))
+    u y n i

@@ -17,8 +17,8 @@ returns c = elim c.match-get_mut.branch [
       let write = c.get_mut.follows.holds now in
       let end : List (ℕ × List Lock) = c.match-get_mut.self-inside.locks.entries in
       let changes : (q : ℕ) → lookup (λ u. q == u) end ≡ cond (t == q) (Some now) (lookup (λ u. q == u) start) = λ q.
-          ap (λ k. lookup (λ u. q == u) k.locks.entries) w.self-inside-is
-          ∙ ((write.3 there).0 q ∙ ap (λ (l : List (ℕ × List Lock)). cond (t == q) (Some now) (lookup (λ u. q == u) l)) c.self.view_is) in
+      ap (λ k. lookup (λ u. q == u) k.locks.entries) w.self-inside-is
+      ∙ ((write.3 there).0 q ∙ ap (λ (l : List (ℕ × List Lock)). cond (t == q) (Some now) (lookup (λ u. q == u) l)) c.self.view_is) in
       let found : lookup (λ u. t == u) start ≡ Some w.in-Some.locks.now = ap (lookup (λ u. t == u)) (sym c.self.view_is) ∙ (sym c.get_mut.ensures.value ∙ ap option_copied_mut w.in-Some.is) in
       λ i u. notes_changed t (Some now) start end front changes (w.pop.ensures ∙ ap (λ (o : Option (List Lock)). front (or_none o)) (sym found)) u i
   | in_default w ↦
@@ -29,5 +29,5 @@ returns c = elim c.match-get_mut.branch [
       let missing : lookup (λ u. t == u) start ≡ None = ap (lookup (λ u. t == u)) (sym c.self.view_is) ∙ (sym c.get_mut.ensures.value ∙ ap option_copied_mut w.in_default.is) in
       λ i u. (ap (λ (l : List (ℕ × List Lock)). notes_of l u) same
       ∙ notes_changed t (lookup (λ v. t == v) start) start start front (own_notes t start)
-          (ap or_none missing ∙ ap (λ (o : Option (List Lock)). front (or_none o)) (sym missing)) u) i
+      (ap or_none missing ∙ ap (λ (o : Option (List Lock)). front (or_none o)) (sym missing)) u) i
 ]

@@ -14,7 +14,7 @@ returns-then-has-clause-granted c =
 failed : (c : After-drop_last) → IsKept (held_of c.add-2.new.self) (notes_of c.drop_last.new.self)
 failed c =
     let notes : notes_of c.drop_last.new.self ≡ notes_of c.self.inside.notes =
-        c.drop_last.ensures ∙ (ap (λ n. without_last n c.args.txn) c.in_ok-add.ensures.added ∙ dropped_again (notes_of c.self.inside.notes) c.args.txn c.args.object c.args.mode) in
+    c.drop_last.ensures ∙ (ap (λ n. without_last n c.args.txn) c.in_ok-add.ensures.added ∙ dropped_again (notes_of c.self.inside.notes) c.args.txn c.args.object c.args.mode) in
     subst (λ h. IsKept h (notes_of c.drop_last.new.self)) (sym c.in-Err.ensures.err) (subst (λ n. IsKept (held_of c.self.inside.objects) n) (sym notes) c.self.invariant)
 
 kept : (c : In-Ok) → IsKept (held_of c.add-2.new.self) (notes_of c.add.new.self)

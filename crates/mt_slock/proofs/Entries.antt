@@ -1,5 +1,5 @@
 -- What entries hold, after the entry of one object is changed.
-use Rattle.std.proofs.Common.{◌≡◌, ◌≢◌, ℕ, ◌==◌, ◌&&◌, ◌||◌, Bool, true, false, not, cond, List, Option, None, Some, MatchOption, refl, ap, sym, ◌∙◌}
+use Rattle.std.proofs.Common.{◌≡◌, ◌≢◌, ℕ, ◌==◌, ◌&&◌, ◌||◌, Bool, true, false, not, cond, List, Option, None, Some, MatchOption, Result, Ok, Err, OnOk, OnErr, [], ◌∷◌, ◌++◌, refl, ap, sym, ◌∙◌}
 use Rattle.std.specs.Map.{lookup}
 use Rattle.std.proofs.lemmas.Bool.{and_parts, not-true, ne_eqb}
 use Rattle.std.proofs.lemmas.Bool.Decides.{Decides-eqb}
@@ -10,7 +10,7 @@ use Rattle.mt_model.specs.Model.{same_object}
 use Rattle.mt_model.specs.Locks.{same_mode, with_lock, without_lock, IsFree, IsLeastBar}
 use Rattle.mt_model.proofs.Cells.{same-true}
 use Rattle.mt_slock.specs.declared.holders.Holder.{Holder}
-use Rattle.mt_slock.specs.Views.{holds_in, held_of, conflicts}
+use Rattle.mt_slock.specs.Views.{holds_in, held_of, conflicts, HasNoIdle}
 use Rattle.mt_slock.proofs.Among.{or_false, and_false, not_both, Found}
 
 with_step : (s e m new old : Bool) → (s ≡ true → new ≡ (old || (e && m))) → (s ≡ false → new ≡ old) → new ≡ (old || (e && (s && m)))
@@ -94,3 +94,28 @@ barring_is es x t m hs (Some u) is f = record {
 -- nobody holds what has no entry
 pub free_alone : (es : List (Object × List Holder)) (x : Object) (t : ℕ) (m : LockMode) → lookup (same_object x) es ≡ None → IsFree (held_of es) t x m
 free_alone es x t m is = λ u b. not_both (holds_in (lookup (same_object x) es) u b.mode) b.holds (ap (λ o. holds_in o u b.mode) is)
+
+-- ---- objects that nobody holds
+
+idle_step : (s : Bool) (w old new : Option (List Holder)) → new ≡ cond s w old → w ≢ Some [] → old ≢ Some [] → new ≢ Some []
+idle_step true w old new e a b = λ f. a (sym e ∙ f)
+idle_step false w old new e a b = λ f. b (sym e ∙ f)
+
+pub still_no_idle : (x : Object) (w : Option (List Holder)) (old new : List (Object × List Holder))
+    → ((q : Object) → lookup (same_object q) new ≡ cond (same_object x q) w (lookup (same_object q) old)) → w ≢ Some [] → HasNoIdle old → HasNoIdle new
+still_no_idle x w old new changes here idle = λ q. idle_step (same_object x q) w (lookup (same_object q) old) (lookup (same_object q) new) (changes q) here (idle q)
+
+pub some_not_empty : (hs : List Holder) → hs ≢ [] → Some hs ≢ Some []
+some_not_empty hs h = λ e. h cc
+
+pub none_not_empty : ◌≢◌ {A = Option (List Holder)} None (Some [])
+none_not_empty e = absurd cc
+
+push_not_empty : (hs : List Holder) (h : Holder) → hs ++ h ∷ [] ≢ []
+push_not_empty [] h e = absurd cc
+push_not_empty (x ∷ xs) h e = absurd cc
+
+-- after one more was put there, or could not be
+pub grown_not_empty : {E : Type 0} (r : Result (Unit {0}) E) (hs now : List Holder) (h : Holder) → OnOk r (now ≡ hs ++ h ∷ []) → OnErr r (now ≡ hs) → hs ≢ [] → now ≢ []
+grown_not_empty (Ok u) hs now h ok err there = λ e. push_not_empty hs h (sym ok ∙ e)
+grown_not_empty (Err y) hs now h ok err there = λ e. there (sym err ∙ e)

@@ -1,5 +1,5 @@
 -- What a table of locks holds: its entries, each an object with its holders, as a test of locks.
-use Rattle.std.specs.Prelude.{ℕ, ◌≡◌, ◌≤◌, ◌==◌, ◌&&◌, Bool, true, false, not, min, List, Option, None, Some}
+use Rattle.std.specs.Prelude.{ℕ, ◌≡◌, ◌≢◌, [], ◌≤◌, ◌==◌, ◌&&◌, Bool, true, false, not, min, List, Option, None, Some}
 use Rattle.std.specs.List.{list_any}
 use Rattle.std.specs.Map.{lookup}
 use Rattle.mt_base.specs.Modes.{granted_together}
@@ -43,3 +43,7 @@ holds_in (Some hs) t m = is_among hs t m
 -- each object is held by the holders of its entry
 abbrev pub held_of : List (Object × List Holder) → Held
 held_of es t x m = holds_in (lookup (same_object x) es) t m
+
+-- no object stands there that nobody holds
+abbrev pub HasNoIdle : List (Object × List Holder) → Type 0
+HasNoIdle es = (x : Object) → lookup (same_object x) es ≢ Some []

@@ -1,4 +1,4 @@
-ghost use Rattle.std.specs.Prelude.{◌≡◌, ◌++◌, ◌∷◌, [], filter, not, length, IfOk, OnOk, OnErr, MatchOption, true};
+ghost use Rattle.std.specs.Prelude.{◌≡◌, ◌++◌, ◌∷◌, [], filter, not, length, IfOk, OnOk, OnErr, MatchOption, IsTrue, ◌↔◌};
 ghost use Rattle.mt_slock.specs.Views.{is_holder, is_among, conflicts, least_of, IsUnbarred, IsOldestBar};
 
 use mt_base::{LockMode, TxnNo};
@@ -102,7 +102,7 @@ impl Holders {
 
     /// Whether there are none.
     pub fn is_empty(&self) -> bool
-        ensures { result ≡ true → self.now ≡ [] }
+        ensures { IsTrue result ↔ (self.now ≡ []) }
     {
         self.list.is_empty()
     }

@@ -1,6 +1,6 @@
 ghost use Rattle.std.specs.Prelude.{◌≡◌, IfOk, OnOk, OnErr, MatchOption};
 ghost use Rattle.mt_model.specs.Locks.{no_locks, with_lock, without_lock, IsFree, IsLeastBar};
-ghost use Rattle.mt_slock.specs.Views.{held_of};
+ghost use Rattle.mt_slock.specs.Views.{held_of, HasNoIdle};
 ghost use Rattle.mt_slock.specs.Noted.{without_locks};
 
 use crate::holders::{Holder, Holders};
@@ -31,7 +31,8 @@ impl Model for LockedObjects {
 impl LockedObjects {
     /// No objects.
     pub fn new(alloc: Global) -> LockedObjects
-        ensures { held_of result ≡ no_locks }
+        ensures held { held_of result ≡ no_locks }
+        ensures idle { HasNoIdle result }
     {
         LockedObjects {
             alloc,
@@ -63,6 +64,7 @@ impl LockedObjects {
     pub fn add(&mut self, txn: TxnNo, object: Object, mode: LockMode) -> Result<(), AllocError>
         ensures added { OnOk result (held_of self.new ≡ with_lock (held_of self.old) txn object mode) }
         ensures err { OnErr result (held_of self.new ≡ held_of self.old) }
+        ensures idle { HasNoIdle self.old → HasNoIdle self.new }
     {
         let holder = Holder { txn, mode };
         match self.holders.get_mut(&object) {
@@ -77,7 +79,8 @@ impl LockedObjects {
 
     /// One lock less, if it was held. An object that nobody holds any more goes.
     pub fn remove(&mut self, txn: TxnNo, object: &Object, mode: LockMode)
-        ensures { held_of self.new ≡ without_lock (held_of self.old) txn object.now mode }
+        ensures removed { held_of self.new ≡ without_lock (held_of self.old) txn object.now mode }
+        ensures idle { HasNoIdle self.old → HasNoIdle self.new }
     {
         let Some(holders) = self.holders.get_mut(object) else {
             return;
@@ -90,7 +93,8 @@ impl LockedObjects {
 
     /// These locks of a transaction less, those of them that were held.
     pub fn remove_all(&mut self, txn: TxnNo, locks: &[Lock])
-        ensures { held_of self.new ≡ without_locks (held_of self.old) txn locks.now }
+        ensures removed { held_of self.new ≡ without_locks (held_of self.old) txn locks.now }
+        ensures idle { HasNoIdle self.old → HasNoIdle self.new }
     {
         for lock in locks {
             self.remove(txn, &lock.object, lock.mode);

@@ -20,8 +20,11 @@ pub enum Asked {
 }
 
 /// The semantic locks that live transactions hold (Weikum 1991). Contracts see each object that is locked with
-/// its holders in order of grant, and read by `held_of` which locks are held. Of two transactions that hold an
-/// object, the modes are granted together.
+/// its holders in order of grant, and read by `held_of` which locks are held. An object that nobody holds is
+/// not there. Where two transactions hold an object, their modes are granted together.
+///
+/// Beside the objects it notes of each transaction its locks in order of grant, by which a release finds them.
+/// A lock that is taken out after a later one was granted is noted on until the release.
 #[derive(Drop)]
 pub struct LockTable {
     objects: LockedObjects,
@@ -32,20 +35,21 @@ impl Model for LockTable {
     ghost use Rattle.std.specs.Prelude.{List};
     ghost use Rattle.mt_model.specs.declared.objects.Object.{Object};
     ghost use Rattle.mt_slock.specs.declared.holders.Holder.{Holder};
-    ghost use Rattle.mt_slock.specs.Views.{held_of};
+    ghost use Rattle.mt_slock.specs.Views.{held_of, HasNoIdle};
     ghost use Rattle.mt_slock.specs.Noted.{notes_of, IsKept};
 
     ghost Value = { List (Object × List Holder) };
 
     ghost view = { λ t. t.objects };
 
-    ghost invariant = { λ t. IsKept (held_of t.objects) (notes_of t.notes) };
+    ghost invariant = { λ t. record { kept : IsKept (held_of t.objects) (notes_of t.notes); idle : HasNoIdle t.objects } };
 }
 
 impl LockTable {
     /// A table in which nothing is held. It takes no memory.
     pub fn new(alloc: Global) -> LockTable
-        ensures { held_of result ≡ no_locks }
+        ensures held { held_of result ≡ no_locks }
+        ensures together { AreTogether (held_of result) }
     {
         LockTable {
             objects: LockedObjects::new(alloc),
@@ -109,9 +113,9 @@ impl LockTable {
         self.objects.has(txn, object, mode)
     }
 
-    /// Takes a lock back that was just granted, for a call that was refused by a later test. That lock alone
-    /// goes; nothing changes where it was not held. It takes no memory, and time in proportion to the holders
-    /// of the object.
+    /// Takes a lock back that was just granted, for a call that a later test refused. That lock alone goes;
+    /// nothing changes where it was not held. It takes no memory, and time in proportion to the holders of the
+    /// object.
     pub fn take_out(&mut self, txn: TxnNo, object: &Object, mode: LockMode)
         ensures taken { held_of self.new ≡ without_lock (held_of self.old) txn object.now mode }
         ensures together { AreTogether (held_of self.new) }

@@ -1,4 +1,4 @@
-use Rattle.std.proofs.Common.{◌≡◌, ◌==◌, ◌&&◌, ◌||◌, cond, List, Option, Some, None, is_some, ap, sym, ◌∙◌}
+use Rattle.std.proofs.Common.{◌≡◌, ◌≢◌, ◌==◌, ◌&&◌, ◌||◌, cond, [], ◌∷◌, List, Option, Some, None, is_some, ap, sym, ◌∙◌}
 use Rattle.std.specs.Map.{lookup}
 use Rattle.std.specs.Option.{option_copied_mut}
 use Rattle.std.proofs.lemmas.Result.{on_ok_weaker, on_err_weaker}
@@ -9,7 +9,7 @@ use Rattle.mt_slock.specs.declared.holders.Holder.{Holder}
 use Rattle.mt_slock.specs.Views.{holds_in, is_among}
 use Rattle.mt_slock.proofs.Among.{among-push, or_false}
 use Rattle.mt_slock.proofs.Keys.{same_lookup, updated}
-use Rattle.mt_slock.proofs.Entries.{with_changed, same_changed}
+use Rattle.mt_slock.proofs.Entries.{with_changed, same_changed, still_no_idle, some_not_empty, grown_not_empty}
 use Rattle.mt_slock.proofs.locked.LockedObjects.add.Goals as goal
 use Rattle.mt_slock.proofs.locked.LockedObjects.add.Goals.{in-Key-2, in-Counter-2, Joined-object}
 
@@ -29,6 +29,9 @@ changes c q =
     ap (lookup (same_object q)) (written c)
     ∙ (updated c.args.object (Some c.add.new.self) c.self.inside.holders.entries (c.get_mut.follows.lender c.add.new.self).entries (w.3 there).0 q
     ∙ ap (λ (es : List (Object × List Holder)). cond (same_object c.args.object q) (Some c.add.new.self) (lookup (same_object q) es)) c.self.view_is)
+
+one_not_empty : (h : Holder) → h ∷ [] ≢ []
+one_not_empty h e = absurd cc
 
 pub returns-in-Some-clause-added : goal.returns-in-Some-clause-added
 returns-in-Some-clause-added c =
@@ -68,3 +71,23 @@ returns-in_ok-insert-in-None-clause-added c =
     ∙ ap (λ (l : List (Object × List Holder)). cond (same_object x q) (Some hs) (lookup (same_object q) l)) same) t m
     (λ v k. ap (λ (l : List Holder). is_among l v k) c.in_ok-holders-in-None.ensures ∙ (or_false ((v == t) && same_mode m k) ∙ ap (λ (o : Option (List Holder)). holds_in o v k || ((v == t) && same_mode m k)) (sym missing)))
     u y n i
+
+pub returns-in-Some-clause-idle : goal.returns-in-Some-clause-idle
+returns-in-Some-clause-idle c = λ idle.
+    let hs : List Holder = c.in-Some.holders.now in
+    let there : hs ≢ [] = λ e. idle c.args.object (found c ∙ ap (λ (l : List Holder). Some l) e) in
+    still_no_idle c.args.object (Some c.add.new.self) c.args.self.now c.match-object.self (changes c)
+    (some_not_empty c.add.new.self (grown_not_empty c.add.result hs c.add.new.self (record { txn = c.args.txn; mode = c.args.mode }) c.add.ensures.added c.add.ensures.err there)) idle
+
+pub returns-in_ok-insert-in-None-clause-idle : goal.returns-in_ok-insert-in-None-clause-idle
+returns-in_ok-insert-in-None-clause-idle c = λ idle.
+    let x = c.args.object in
+    let hs : List Holder = c.in_ok-holders-in-None.holders in
+    let es : List (Object × List Holder) = c.args.self.now in
+    let same : c.get_mut.follows.lender-at-none.entries ≡ es = ap (λ k. k.entries) (c.get_mut.follows.holds-at-none) ∙ c.self.view_is in
+    let one : hs ≢ [] = λ e. absurd (one_not_empty (record { txn = c.args.txn; mode = c.args.mode }) (sym c.in_ok-holders-in-None.ensures ∙ e)) in
+    let update = c.in_ok-insert-in-None.ensures.updates in
+    still_no_idle x (Some hs) es c.insert.new.self.entries
+    (λ q. updated x (Some hs) c.get_mut.follows.lender-at-none.entries c.insert.new.self.entries update.0 q
+    ∙ ap (λ (l : List (Object × List Holder)). cond (same_object x q) (Some hs) (lookup (same_object q) l)) same)
+    (some_not_empty hs one) idle

@@ -15,6 +15,9 @@ loop-lock-preserved c =
     let lt : i < length ls = c.loop-lock-test.true in
     let more : take (i + 1) ls ≡ take i ls ++ l ∷ [] = ap (λ n. take n ls) (add-one i) ∙ (take-suc ls i l lt ∙ ap (λ (k : Lock). take i ls ++ k ∷ []) (sym c.lock-item.is)) in
     let start : Held = held_of c.args.self.now in
-    c.remove.ensures
-    ∙ (ap (λ (h : Held). without_lock h t l.object l.mode) c.loop-lock.invariant
-    ∙ ((λ j u x m. without_more start t (take i ls) l u x m j) ∙ ap (without_locks start t) (sym more)))
+    record {
+      removed = c.remove.ensures.removed
+          ∙ (ap (λ (h : Held). without_lock h t l.object l.mode) c.loop-lock.invariant.removed
+          ∙ ((λ j u x m. without_more start t (take i ls) l u x m j) ∙ ap (without_locks start t) (sym more)));
+      idle = λ h. c.remove.ensures.idle (c.loop-lock.invariant.idle h);
+    }

@@ -1,10 +1,10 @@
 -- What is noted, after the notes of one transaction are changed; and the locks that go with a list of them.
-use Rattle.std.proofs.Common.{◌≡◌, ℕ, ◌==◌, ◌&&◌, ◌||◌, ◌++◌, ◌∷◌, [], Bool, true, false, not, cond, suc, ◌-◌, ◌<◌, slice_get, take-suc, length-append, arith, List, Option, Some, length, take, refl, ap, sym, ◌∙◌}
+use Rattle.std.proofs.Common.{◌≡◌, None, ℕ, ◌==◌, ◌&&◌, ◌||◌, ◌++◌, ◌∷◌, [], Bool, true, false, not, cond, suc, ◌-◌, ◌<◌, slice_get, get_or, take-suc, length-append, arith, List, Option, Some, length, take, refl, ap, sym, ◌∙◌}
 use Rattle.std.specs.Map.{lookup}
 use Rattle.std.proofs.Math.Seq.{take-append_seam}
 use Rattle.std.proofs.lemmas.Bool.{and_parts}
 use Rattle.std.proofs.lemmas.List.{take_all}
-use Rattle.std.proofs.lemmas.Option.{slice_get_within, get_or_from_slice_get}
+use Rattle.std.proofs.lemmas.Option.{slice_get_within, get_or_from_slice_get, slice_get-get_or}
 use Rattle.std.proofs.lemmas.Bool.Decides.{Decides-eqb}
 use Rattle.std.proofs.lemmas.List.Folds.{list_any-append}
 use Rattle.mt_base.specs.contracts.numbers.TxnNoPartialEq.TheImpl.{ghosts}
@@ -12,10 +12,10 @@ use Rattle.mt_base.specs.declared.modes.LockMode.{LockMode}
 use Rattle.mt_model.specs.declared.objects.Object.{Object}
 use Rattle.mt_model.specs.Model.{same_object}
 use Rattle.mt_model.specs.Locks.{Held, same_mode, without_lock}
-use Rattle.mt_model.proofs.Cells.{same-true}
+use Rattle.mt_model.proofs.Cells.{same-true, same-self}
 use Rattle.mt_slock.specs.declared.notes.Lock.{Lock}
-use Rattle.mt_slock.specs.Noted.{front, or_none, notes_of, is_among_locks, without_locks}
-use Rattle.mt_slock.proofs.Among.{or_false, same_mode-true}
+use Rattle.mt_slock.specs.Noted.{front, EndsWith, or_none, notes_of, is_among_locks, without_locks}
+use Rattle.mt_slock.proofs.Among.{or_false, same_mode-true, same_mode-self}
 
 -- the map compares transactions by their numbers
 same_number : (t u : ℕ) → ghosts.eq t u ≡ (t == u)
@@ -53,6 +53,31 @@ pub lock_parts : (l : Lock) (x : Object) (m : LockMode) → (same_object l.objec
 lock_parts l x m e =
     let p = and_parts (same_object l.object x) (same_mode l.mode m) e in
     λ i. record { object = same-true l.object x p.0 i; mode = same_mode-true l.mode m p.1 i }
+
+same_last : (fs : List Lock) (k l : Lock) → fs ++ k ∷ [] ≡ fs ++ l ∷ [] → k ≡ l
+same_last [] k l e = cc
+same_last (f ∷ fs) k l e = let rest : fs ++ k ∷ [] ≡ fs ++ l ∷ [] = cc in same_last fs k l rest
+
+-- the last lock is the one that the list ends with
+pub ended_is : (ls : List Lock) (l : Lock) (x : Object) (m : LockMode) → slice_get ls (length ls - 1) ≡ Some l → EndsWith ls x m → (same_object l.object x && same_mode l.mode m) ≡ true
+ended_is ls l x m at ends =
+    let same : l ≡ record { object = x; mode = m } = same_last (front ls) l (record { object = x; mode = m }) (sym (split_front ls l at) ∙ ends) in
+    (λ i. same_object (same i).object x && same_mode (same i).mode m) ∙ (ap (λ b. b && same_mode m m) (same-self x) ∙ same_mode-self m)
+
+nothing_pushed : (fs : List Lock) (l : Lock) → [] ≡ fs ++ l ∷ [] → ⊥
+nothing_pushed [] l e = absurd cc
+nothing_pushed (f ∷ fs) l e = absurd cc
+
+-- no locks end with none
+pub none_ends : (x : Object) (m : LockMode) → EndsWith [] x m → ⊥
+none_ends x m ends = nothing_pushed [] (record { object = x; mode = m }) ends
+
+pub no_last : (ls : List Lock) (x : Object) (m : LockMode) → slice_get ls (length ls - 1) ≡ None → EndsWith ls x m → ⊥
+no_last [] x m at ends = none_ends x m ends
+no_last (l ∷ ls) x m at ends = some_is_not (get_or (l ∷ ls) (length (l ∷ ls) - 1) l) (sym at ∙ slice_get-get_or (l ∷ ls) (length (l ∷ ls) - 1) l (omega arith))
+  where
+    some_is_not : (k : Lock) → None ≡ Some k → ⊥
+    some_is_not k e = absurd cc
 
 pub front_push : (ls : List Lock) (l : Lock) → front (ls ++ l ∷ []) ≡ ls
 front_push ls l =

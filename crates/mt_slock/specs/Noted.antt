@@ -12,6 +12,10 @@ use Rattle.mt_slock.specs.declared.notes.Lock.{Lock}
 abbrev pub front : List Lock → List Lock
 front ls = take (length ls - 1) ls
 
+-- this lock is the last
+abbrev pub EndsWith : List Lock → Object → LockMode → Type 0
+EndsWith ls x m = ls ≡ front ls ++ record { object = x; mode = m } ∷ []
+
 abbrev pub or_none : Option (List Lock) → List Lock
 or_none None = []
 or_none (Some ls) = ls

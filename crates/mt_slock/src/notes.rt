@@ -1,7 +1,7 @@
-ghost use Rattle.std.specs.Prelude.{◌≡◌, ◌&&◌, ◌++◌, ◌∷◌, [], true, IfOk, OnOk, OnErr};
+ghost use Rattle.std.specs.Prelude.{◌≡◌, ◌&&◌, ◌++◌, ◌∷◌, [], ◌↔◌, IsTrue, IfOk, OnOk, OnErr};
 ghost use Rattle.mt_model.specs.Model.{same_object};
 ghost use Rattle.mt_model.specs.Locks.{same_mode};
-ghost use Rattle.mt_slock.specs.Noted.{front, notes_of, no_notes, with_note, without_last, without_notes};
+ghost use Rattle.mt_slock.specs.Noted.{front, notes_of, EndsWith, no_notes, with_note, without_last, without_notes};
 
 use indexmap::IndexMap;
 use mt_base::{LockMode, TxnNo};
@@ -78,7 +78,7 @@ impl LockList {
 
     /// Whether this lock is the last.
     pub fn ends_with(&self, object: &Object, mode: LockMode) -> bool
-        ensures { result ≡ true → self.now ≡ front self.now ++ record { object = object.now; mode = mode } ∷ [] }
+        ensures { IsTrue result ↔ EndsWith self.now object.now mode }
     {
         match self.list.last() {
             Some(lock) => lock.is(object, mode),
@@ -141,7 +141,7 @@ impl Notes {
 
     /// Whether this lock is the last that is noted of a transaction.
     pub fn ends_with(&self, txn: TxnNo, object: &Object, mode: LockMode) -> bool
-        ensures { result ≡ true → notes_of self.now txn ≡ front (notes_of self.now txn) ++ record { object = object.now; mode = mode } ∷ [] }
+        ensures { IsTrue result ↔ EndsWith (notes_of self.now txn) object.now mode }
     {
         match self.locks.get(&txn) {
             Some(locks) => locks.ends_with(object, mode),

@@ -6,7 +6,7 @@ use Rattle.mt_slock.proofs.table.LockTable.take_out.Goals as goal
 pub invariant_of-self : goal.invariant_of-self
 invariant_of-self c = record {
   kept = kept_without_last (held_of c.self.inside.objects) (held_of c.remove.new.self) (notes_of c.self.inside.notes) (notes_of c.drop_last.new.self) c.args.txn
-      c.args.object.now c.args.mode c.remove.ensures.removed c.drop_last.ensures (c.ends_with.ensures c.if-ends_with.true) c.self.invariant.kept;
+      c.args.object.now c.args.mode c.remove.ensures.removed c.drop_last.ensures (c.ends_with.ensures.0 c.if-ends_with.true) c.self.invariant.kept;
   idle = c.remove.ensures.idle c.self.invariant.idle;
 }
 

@@ -1,0 +1,101 @@
+-- What is noted, after the notes of one transaction are changed; and the locks that go with a list of them.
+use Rattle.std.proofs.Common.{◌≡◌, None, ℕ, ◌==◌, ◌&&◌, ◌||◌, ◌++◌, ◌∷◌, [], Bool, true, false, not, cond, suc, ◌-◌, ◌<◌, slice_get, get_or, take-suc, length-append, arith, List, Option, Some, length, take, refl, ap, sym, ◌∙◌}
+use Rattle.std.specs.Map.{lookup}
+use Rattle.std.proofs.Math.Seq.{take-append_seam}
+use Rattle.std.proofs.lemmas.Bool.{and_parts}
+use Rattle.std.proofs.lemmas.List.{take_all}
+use Rattle.std.proofs.lemmas.Option.{slice_get_within, get_or_from_slice_get, slice_get-get_or}
+use Rattle.std.proofs.lemmas.Bool.Decides.{Decides-eqb}
+use Rattle.std.proofs.lemmas.List.Folds.{list_any-append}
+use Rattle.mt_base.specs.contracts.numbers.TxnNoPartialEq.TheImpl.{ghosts}
+use Rattle.mt_base.specs.declared.modes.LockMode.{LockMode}
+use Rattle.mt_model.specs.declared.objects.Object.{Object}
+use Rattle.mt_model.specs.Model.{same_object}
+use Rattle.mt_model.specs.Locks.{Held, same_mode, without_lock}
+use Rattle.mt_model.proofs.Cells.{same-true, same-self}
+use Rattle.mt_slock.specs.declared.notes.Lock.{Lock}
+use Rattle.mt_slock.specs.Noted.{front, EndsWith, or_none, notes_of, is_among_locks, without_locks}
+use Rattle.mt_slock.proofs.Among.{or_false, same_mode-true, same_mode-self}
+
+-- the map compares transactions by their numbers
+same_number : (t u : ℕ) → ghosts.eq t u ≡ (t == u)
+same_number t u = refl
+
+notes_step : (s : Bool) (new old : List Lock) (f : List Lock → List Lock) → (s ≡ true → new ≡ f old) → (s ≡ false → new ≡ old) → new ≡ cond s (f old) old
+notes_step true new old f here elsewhere = here refl
+notes_step false new old f here elsewhere = elsewhere refl
+
+pub notes_changed : (t : ℕ) (w : Option (List Lock)) (old new : List (ℕ × List Lock)) (f : List Lock → List Lock)
+    → ((q : ℕ) → lookup (λ u. q == u) new ≡ cond (t == q) w (lookup (λ u. q == u) old)) → or_none w ≡ f (notes_of old t)
+    → (u : ℕ) → notes_of new u ≡ cond (t == u) (f (notes_of old u)) (notes_of old u)
+notes_changed t w old new f changes is u = notes_step (t == u) (notes_of new u) (notes_of old u) f
+    (λ s. ap or_none (changes u ∙ ap (λ b. cond b w (lookup (λ v. u == v) old)) s) ∙ (is ∙ ap (λ n. f (notes_of old n)) ((Decides-eqb t u).0 s)))
+    (λ s. ap or_none (changes u ∙ ap (λ b. cond b w (lookup (λ v. u == v) old)) s))
+
+-- each transaction's notes are its own
+pub own_notes : (t : ℕ) (es : List (ℕ × List Lock)) (q : ℕ) → lookup (λ u. q == u) es ≡ cond (t == q) (lookup (λ u. t == u) es) (lookup (λ u. q == u) es)
+own_notes t es q = by (t == q) refl
+  where
+    by : (s : Bool) → (t == q) ≡ s → lookup (λ u. q == u) es ≡ cond s (lookup (λ u. t == u) es) (lookup (λ u. q == u) es)
+    by true e = ap (λ n. lookup (λ u. n == u) es) (sym ((Decides-eqb t q).0 e))
+    by false e = refl
+
+-- ---- the last note
+
+pub split_front : (ls : List Lock) (l : Lock) → slice_get ls (length ls - 1) ≡ Some l → ls ≡ front ls ++ l ∷ []
+split_front ls l at =
+    let n = length ls - 1 in
+    let lt : n < length ls = slice_get_within ls n l at in
+    sym (take_all (suc n) ls (omega arith)) ∙ (take-suc ls n l lt ∙ ap (λ (k : Lock). take n ls ++ k ∷ []) (get_or_from_slice_get ls n l l at))
+
+-- what a lock is, where it is this one
+pub lock_parts : (l : Lock) (x : Object) (m : LockMode) → (same_object l.object x && same_mode l.mode m) ≡ true → l ≡ record { object = x; mode = m }
+lock_parts l x m e =
+    let p = and_parts (same_object l.object x) (same_mode l.mode m) e in
+    λ i. record { object = same-true l.object x p.0 i; mode = same_mode-true l.mode m p.1 i }
+
+same_last : (fs : List Lock) (k l : Lock) → fs ++ k ∷ [] ≡ fs ++ l ∷ [] → k ≡ l
+same_last [] k l e = cc
+same_last (f ∷ fs) k l e = let rest : fs ++ k ∷ [] ≡ fs ++ l ∷ [] = cc in same_last fs k l rest
+
+-- the last lock is the one that the list ends with
+pub ended_is : (ls : List Lock) (l : Lock) (x : Object) (m : LockMode) → slice_get ls (length ls - 1) ≡ Some l → EndsWith ls x m → (same_object l.object x && same_mode l.mode m) ≡ true
+ended_is ls l x m at ends =
+    let same : l ≡ record { object = x; mode = m } = same_last (front ls) l (record { object = x; mode = m }) (sym (split_front ls l at) ∙ ends) in
+    (λ i. same_object (same i).object x && same_mode (same i).mode m) ∙ (ap (λ b. b && same_mode m m) (same-self x) ∙ same_mode-self m)
+
+nothing_pushed : (fs : List Lock) (l : Lock) → [] ≡ fs ++ l ∷ [] → ⊥
+nothing_pushed [] l e = absurd cc
+nothing_pushed (f ∷ fs) l e = absurd cc
+
+-- no locks end with none
+pub none_ends : (x : Object) (m : LockMode) → EndsWith [] x m → ⊥
+none_ends x m ends = nothing_pushed [] (record { object = x; mode = m }) ends
+
+pub no_last : (ls : List Lock) (x : Object) (m : LockMode) → slice_get ls (length ls - 1) ≡ None → EndsWith ls x m → ⊥
+no_last [] x m at ends = none_ends x m ends
+no_last (l ∷ ls) x m at ends = some_is_not (get_or (l ∷ ls) (length (l ∷ ls) - 1) l) (sym at ∙ slice_get-get_or (l ∷ ls) (length (l ∷ ls) - 1) l (omega arith))
+  where
+    some_is_not : (k : Lock) → None ≡ Some k → ⊥
+    some_is_not k e = absurd cc
+
+pub front_push : (ls : List Lock) (l : Lock) → front (ls ++ l ∷ []) ≡ ls
+front_push ls l =
+    let long : length (ls ++ l ∷ []) - 1 ≡ length ls = omega (arith, length-append ls (l ∷ [])) in
+    ap (λ n. take n (ls ++ l ∷ [])) long ∙ take-append_seam ls (l ∷ [])
+
+-- ---- locks that go
+
+one_more_step : (h e n s : Bool) → ((h && not (e && n)) && not (e && s)) ≡ (h && not (e && (n || s)))
+one_more_step false e n s = refl
+one_more_step true false n s = refl
+one_more_step true true true s = refl
+one_more_step true true false s = refl
+
+-- one lock more that goes
+pub without_more : (held : Held) (t : ℕ) (ls : List Lock) (l : Lock) (u : ℕ) (x : Object) (m : LockMode)
+    → without_lock (without_locks held t ls) t l.object l.mode u x m ≡ without_locks held t (ls ++ l ∷ []) u x m
+without_more held t ls l u x m =
+    let is = same_object l.object x && same_mode l.mode m in
+    one_more_step (held u x m) (u == t) (is_among_locks ls x m) is
+    ∙ ap (λ b. held u x m && not ((u == t) && b)) (ap (λ b. is_among_locks ls x m || b) (sym (or_false is)) ∙ sym (list_any-append (λ (k : Lock). same_object k.object x && same_mode k.mode m) ls (l ∷ [])))

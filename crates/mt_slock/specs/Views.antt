@@ -1,0 +1,49 @@
+-- What a table of locks holds: its entries, each an object with its holders, as a test of locks.
+use Rattle.std.specs.Prelude.{ℕ, ◌≡◌, ◌≢◌, [], ◌≤◌, ◌==◌, ◌&&◌, Bool, true, false, not, min, List, Option, None, Some}
+use Rattle.std.specs.List.{list_any}
+use Rattle.std.specs.Map.{lookup}
+use Rattle.mt_base.specs.Modes.{granted_together}
+use Rattle.mt_base.specs.declared.modes.LockMode.{LockMode}
+use Rattle.mt_model.specs.declared.objects.Object.{Object}
+use Rattle.mt_model.specs.Model.{same_object}
+use Rattle.mt_model.specs.Locks.{Held, same_mode}
+use Rattle.mt_slock.specs.declared.holders.Holder.{Holder}
+
+-- this transaction, in this mode
+abbrev pub is_holder : ℕ → LockMode → Holder → Bool
+is_holder t m h = (t == h.txn) && same_mode h.mode m
+
+-- it is among the holders of an object
+abbrev pub is_among : List Holder → ℕ → LockMode → Bool
+is_among hs t m = list_any (is_holder t m) hs
+
+-- holding an object so, another transaction is in the way of this one's lock
+abbrev pub conflicts : ℕ → LockMode → ℕ → LockMode → Bool
+conflicts t m u n = not (t == u) && not (granted_together n m)
+
+-- nobody is
+abbrev pub IsUnbarred : List Holder → ℕ → LockMode → Type 0
+IsUnbarred hs t m = (u : ℕ) (n : LockMode) → is_among hs u n ≡ true → conflicts t m u n ≡ false
+
+-- the oldest that is
+pub record IsOldestBar (hs : List Holder) (t : ℕ) (m : LockMode) (u : ℕ) : Type 0 where
+  pub mode : LockMode
+  pub among : is_among hs u mode ≡ true
+  pub bars : conflicts t m u mode ≡ true
+  pub oldest : (v : ℕ) (n : LockMode) → is_among hs v n ≡ true → conflicts t m v n ≡ true → u ≤ v
+
+abbrev pub least_of : Option ℕ → ℕ → ℕ
+least_of None b = b
+least_of (Some a) b = min a b
+
+abbrev pub holds_in : Option (List Holder) → ℕ → LockMode → Bool
+holds_in None t m = false
+holds_in (Some hs) t m = is_among hs t m
+
+-- each object is held by the holders of its entry
+abbrev pub held_of : List (Object × List Holder) → Held
+held_of es t x m = holds_in (lookup (same_object x) es) t m
+
+-- no object stands there that nobody holds
+abbrev pub HasNoIdle : List (Object × List Holder) → Type 0
+HasNoIdle es = (x : Object) → lookup (same_object x) es ≢ Some []

@@ -1,0 +1,20 @@
+//! The semantic locks that transactions hold on keys and counters (Weikum 1991), with the rule by which a
+//! transaction waits or dies where another is in its way.
+//!
+//! A table keeps each locked object with its holders in order of grant, and of each transaction the locks it
+//! holds, so that asking looks at the holders of one object, and a release at the locks of one transaction.
+//! Contracts see which locks are held, as a test of a transaction, an object and a mode. The law of the table
+//! stands in [`laws`].
+#![tactic(auto)]
+
+mod holders;
+pub mod laws;
+mod locked;
+mod notes;
+mod table;
+
+pub use holders::Holder;
+pub use table::{Asked, LockTable};
+
+#[cfg(test)]
+mod tests;

@@ -1,0 +1,103 @@
+ghost use Rattle.std.specs.Prelude.{◌≡◌, IfOk, OnOk, OnErr, MatchOption};
+ghost use Rattle.mt_model.specs.Locks.{no_locks, with_lock, without_lock, IsFree, IsLeastBar};
+ghost use Rattle.mt_slock.specs.Views.{held_of, HasNoIdle};
+ghost use Rattle.mt_slock.specs.Noted.{without_locks};
+
+use crate::holders::{Holder, Holders};
+use crate::notes::Lock;
+use indexmap::IndexMap;
+use mt_base::{LockMode, TxnNo};
+use mt_model::Object;
+use std::alloc::{AllocError, Global};
+use std::marker::Model;
+
+/// The objects that are locked, each with its holders in order of grant.
+#[derive(Drop)]
+pub struct LockedObjects {
+    alloc: Global,
+    holders: IndexMap<Object, Holders>,
+}
+
+impl Model for LockedObjects {
+    ghost use Rattle.std.specs.Prelude.{List};
+    ghost use Rattle.mt_model.specs.declared.objects.Object.{Object};
+    ghost use Rattle.mt_slock.specs.declared.holders.Holder.{Holder};
+
+    ghost Value = { List (Object × List Holder) };
+
+    ghost view = { λ l. l.holders.entries };
+}
+
+impl LockedObjects {
+    /// No objects.
+    pub fn new(alloc: Global) -> LockedObjects
+        ensures held { held_of result ≡ no_locks }
+        ensures idle { HasNoIdle result }
+    {
+        LockedObjects {
+            alloc,
+            holders: IndexMap::new(alloc),
+        }
+    }
+
+    /// Whether a transaction holds an object in a mode.
+    pub fn has(&self, txn: TxnNo, object: &Object, mode: LockMode) -> bool
+        ensures { result ≡ held_of self.now txn object.now mode }
+    {
+        match self.holders.get(object) {
+            Some(holders) => holders.has(txn, mode),
+            None => false,
+        }
+    }
+
+    /// The oldest of the other transactions that hold an object in a mode that conflicts with this one.
+    pub fn barring(&self, txn: TxnNo, object: &Object, mode: LockMode) -> Option<TxnNo>
+        ensures { MatchOption result (IsFree (held_of self.now) txn object.now mode) (IsLeastBar (held_of self.now) txn object.now mode) }
+    {
+        match self.holders.get(object) {
+            Some(holders) => holders.barring(txn, mode),
+            None => None,
+        }
+    }
+
+    /// One lock more. The only error is want of memory.
+    pub fn add(&mut self, txn: TxnNo, object: Object, mode: LockMode) -> Result<(), AllocError>
+        ensures added { OnOk result (held_of self.new ≡ with_lock (held_of self.old) txn object mode) }
+        ensures err { OnErr result (held_of self.new ≡ held_of self.old) }
+        ensures idle { HasNoIdle self.old → HasNoIdle self.new }
+    {
+        let holder = Holder { txn, mode };
+        match self.holders.get_mut(&object) {
+            Some(holders) => holders.add(holder),
+            None => {
+                let holders = Holders::one(self.alloc, holder)?;
+                self.holders.insert(object, holders)?;
+                Ok(())
+            }
+        }
+    }
+
+    /// One lock less, if it was held. An object that nobody holds any more goes.
+    pub fn remove(&mut self, txn: TxnNo, object: &Object, mode: LockMode)
+        ensures removed { held_of self.new ≡ without_lock (held_of self.old) txn object.now mode }
+        ensures idle { HasNoIdle self.old → HasNoIdle self.new }
+    {
+        let Some(holders) = self.holders.get_mut(object) else {
+            return;
+        };
+        holders.remove(txn, mode);
+        if holders.is_empty() {
+            drop(self.holders.swap_remove(object));
+        }
+    }
+
+    /// These locks of a transaction less, those of them that were held.
+    pub fn remove_all(&mut self, txn: TxnNo, locks: &[Lock])
+        ensures removed { held_of self.new ≡ without_locks (held_of self.old) txn locks.now }
+        ensures idle { HasNoIdle self.old → HasNoIdle self.new }
+    {
+        for lock in locks {
+            self.remove(txn, &lock.object, lock.mode);
+        }
+    }
+}

@@ -1,0 +1,171 @@
+ghost use Rattle.std.specs.Prelude.{◌≡◌, ◌&&◌, ◌++◌, ◌∷◌, [], ◌↔◌, IsTrue, IfOk, OnOk, OnErr};
+ghost use Rattle.mt_model.specs.Model.{same_object};
+ghost use Rattle.mt_model.specs.Locks.{same_mode};
+ghost use Rattle.mt_slock.specs.Noted.{front, notes_of, EndsWith, no_notes, with_note, without_last, without_notes};
+
+use indexmap::IndexMap;
+use mt_base::{LockMode, TxnNo};
+use mt_model::Object;
+use std::alloc::{AllocError, Global};
+use std::marker::Model;
+
+/// A lock: an object, and the mode in which it is held.
+#[derive(Debug, Drop)]
+pub struct Lock {
+    pub object: Object,
+    pub mode: LockMode,
+}
+
+impl Lock {
+    // Whether it is on this object, in this mode.
+    fn is(&self, object: &Object, mode: LockMode) -> bool
+        ensures { result ≡ (same_object self.now.object object.now && same_mode self.now.mode mode) }
+    {
+        self.object == *object && self.mode == mode
+    }
+}
+
+// A copy of an object. The only error is want of memory.
+fn copy_of(object: &Object) -> Result<Object, AllocError>
+    ensures { IfOk result (λ copy. copy ≡ object.now) }
+{
+    match object {
+        Object::Key(relation, key) => Ok(Object::Key(*relation, key.try_clone()?)),
+        Object::Counter(counter) => Ok(Object::Counter(*counter)),
+    }
+}
+
+/// The locks of one transaction, in order of grant.
+#[derive(Debug, Drop)]
+pub struct LockList {
+    list: Vec<Lock>,
+}
+
+impl Model for LockList {
+    ghost use Rattle.std.specs.Prelude.{List};
+    ghost use Rattle.mt_slock.specs.declared.notes.Lock.{Lock};
+
+    ghost Value = { List Lock };
+
+    ghost view = { λ l. l.list.items };
+}
+
+impl LockList {
+    /// No locks.
+    pub fn new(alloc: Global) -> LockList
+        ensures { result ≡ [] }
+    {
+        LockList {
+            list: Vec::new(alloc),
+        }
+    }
+
+    /// One lock more, last. The only error is want of memory.
+    pub fn push(&mut self, lock: Lock) -> Result<(), AllocError>
+        ensures added { OnOk result (self.new ≡ self.old ++ lock ∷ []) }
+        ensures err { OnErr result (self.new ≡ self.old) }
+    {
+        self.list.push(lock)?;
+        Ok(())
+    }
+
+    /// The last one goes.
+    pub fn pop(&mut self)
+        ensures { self.new ≡ front self.old }
+    {
+        self.list.pop();
+    }
+
+    /// Whether this lock is the last.
+    pub fn ends_with(&self, object: &Object, mode: LockMode) -> bool
+        ensures { IsTrue result ↔ EndsWith self.now object.now mode }
+    {
+        match self.list.last() {
+            Some(lock) => lock.is(object, mode),
+            None => false,
+        }
+    }
+
+    /// The locks, lent.
+    pub fn as_slice(&self) -> &[Lock]
+        ensures { result.now ≡ self.now }
+    {
+        self.list.as_slice()
+    }
+}
+
+/// The locks that each transaction holds, in order of grant, by which they are found when it ends.
+#[derive(Drop)]
+pub struct Notes {
+    alloc: Global,
+    locks: IndexMap<TxnNo, LockList>,
+}
+
+impl Model for Notes {
+    ghost use Rattle.std.specs.Prelude.{ℕ, List};
+    ghost use Rattle.mt_slock.specs.declared.notes.Lock.{Lock};
+
+    ghost Value = { List (ℕ × List Lock) };
+
+    ghost view = { λ n. n.locks.entries };
+}
+
+impl Notes {
+    /// No notes.
+    pub fn new(alloc: Global) -> Notes
+        ensures { notes_of result ≡ no_notes }
+    {
+        Notes {
+            alloc,
+            locks: IndexMap::new(alloc),
+        }
+    }
+
+    /// Notes a lock, the last of its transaction. The only error is want of memory.
+    pub fn add(&mut self, txn: TxnNo, object: &Object, mode: LockMode) -> Result<(), AllocError>
+        ensures added { OnOk result (notes_of self.new ≡ with_note (notes_of self.old) txn object.now mode) }
+        ensures err { OnErr result (notes_of self.new ≡ notes_of self.old) }
+    {
+        let object = copy_of(object)?;
+        let lock = Lock { object, mode };
+        match self.locks.get_mut(&txn) {
+            Some(locks) => locks.push(lock),
+            None => {
+                let mut locks = LockList::new(self.alloc);
+                locks.push(lock)?;
+                self.locks.insert(txn, locks)?;
+                Ok(())
+            }
+        }
+    }
+
+    /// Whether this lock is the last that is noted of a transaction.
+    pub fn ends_with(&self, txn: TxnNo, object: &Object, mode: LockMode) -> bool
+        ensures { IsTrue result ↔ EndsWith (notes_of self.now txn) object.now mode }
+    {
+        match self.locks.get(&txn) {
+            Some(locks) => locks.ends_with(object, mode),
+            None => false,
+        }
+    }
+
+    /// The last lock of a transaction is noted no more.
+    pub fn drop_last(&mut self, txn: TxnNo)
+        ensures { notes_of self.new ≡ without_last (notes_of self.old) txn }
+    {
+        if let Some(locks) = self.locks.get_mut(&txn) {
+            locks.pop();
+        }
+    }
+
+    /// Takes what is noted of a transaction.
+    pub fn take(&mut self, txn: TxnNo) -> LockList
+        ensures locks { result ≡ notes_of self.old txn }
+        ensures rest { notes_of self.new ≡ without_notes (notes_of self.old) txn }
+    {
+        match self.locks.swap_remove(&txn) {
+            Some(locks) => locks,
+            None => LockList::new(self.alloc),
+        }
+    }
+}

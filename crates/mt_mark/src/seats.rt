@@ -59,7 +59,7 @@ impl Seat {
     pub fn number(&self) -> u64
         ensures { result ≡ self.now.view.number }
     {
-        self.number
+        self.number // from 1
     }
 
     /// Sees the history as it is, and answers its length. What came since the last look is by others. It is one
@@ -238,7 +238,7 @@ impl End {
         ensures end { SameEnd self.old.view self.new.view }
         ensures confirmed { IsConfirmed self.new.view }
     {
-        self.hear(seat);
+        self.hear(seat); // it has seen the whole list, so all of it is counted
     }
 
     /// Answers where the mark stands.

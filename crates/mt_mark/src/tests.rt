@@ -1,5 +1,6 @@
-ghost use Rattle.std.specs.Prelude.{◌≡◌, [], ◌<◌, length};
-ghost use Rattle.mt_mark.specs.Rule.{IsConfirmed};
+ghost use Rattle.std.specs.Prelude.{◌≡◌, [], ◌∷◌, ◌++◌, ◌+◌, ◌<◌, ◌^◌, length};
+ghost use Rattle.mt_mark.specs.Legal.{IsLegal};
+ghost use Rattle.mt_mark.specs.Rule.{IsConfirmed, dones};
 
 use crate::{About, End, Entry, Seat, new};
 use mt_model::{Base, Calls, Committed};
@@ -53,7 +54,25 @@ fn two_passes_enter_one_history(rt: HostRuntime) -> Result<(), Fail> {
     Ok(())
 }
 
-/// A pass looks between the name of another's entry and its exchange, and behind it.
+/// Another pass looks between the name of this pass's entry and its exchange, and behind it.
+fn seen_by_another<A: Abort>(rt: &A, end: &mut End, own: &mut Seat, other: &mut Seat, entry: &Entry)
+    requires mark { own.old.mark ≡ end.old.mark }
+    requires other_mark { other.old.mark ≡ end.old.mark }
+    requires confirmed { IsConfirmed end.old.view }
+    requires pass { entry.now.pass ≡ own.old.view.number }
+    requires legal { IsLegal end.old.view.base (dones (end.old.view.list ++ entry.now ∷ [])) }
+    requires room { length end.old.view.list + 1 < 2 ^ 64 }
+{
+    end.hear(own);
+    let at = end.name(entry);
+    assert_eq!(rt; other.load(), at);
+    own.hear(end);
+    assert!(rt; own.exchange(at));
+    end.confirm(own);
+    assert_eq!(rt; other.load(), at + 1);
+    other.meet(end);
+}
+
 #[test]
 fn a_named_entry_is_not_seen_before_it_is_counted(rt: HostRuntime) -> Result<(), Fail> {
     let alloc = rt.alloc();
@@ -71,13 +90,6 @@ fn a_named_entry_is_not_seen_before_it_is_counted(rt: HostRuntime) -> Result<(),
         pass: first.number(),
         done: idle(alloc, 3),
     };
-    end.hear(&mut first);
-    let at = end.name(&entry);
-    assert_eq!(rt; second.load(), 0);
-    first.hear(&mut end);
-    assert!(rt; first.exchange(at));
-    end.confirm(&mut first);
-    assert_eq!(rt; second.load(), 1);
-    second.meet(&mut end);
+    seen_by_another(&rt, &mut end, &mut first, &mut second, &entry);
     Ok(())
 }

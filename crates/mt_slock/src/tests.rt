@@ -141,3 +141,31 @@ fn a_transaction_holds_several_modes(rt: HostRuntime) -> Result<(), Fail> {
     answers(&rt, &mut table, 2, k, LockMode::Write, granted);
     Ok(())
 }
+
+#[test]
+fn the_younger_dies_and_the_older_waits(rt: HostRuntime) -> Result<(), Fail> {
+    let alloc = rt.alloc();
+    let mut table = LockTable::new(alloc);
+    let granted = Ok(Asked::Granted);
+    answers(
+        &rt,
+        &mut table,
+        1,
+        key(alloc, b"a")?,
+        LockMode::Write,
+        granted,
+    );
+    let die = Err(Refusal::Die(TxnNo::new(1)));
+    answers(&rt, &mut table, 2, key(alloc, b"a")?, LockMode::Read, die);
+    answers(
+        &rt,
+        &mut table,
+        2,
+        key(alloc, b"b")?,
+        LockMode::Write,
+        granted,
+    );
+    let wait = Ok(Asked::Wait(TxnNo::new(2)));
+    answers(&rt, &mut table, 1, key(alloc, b"b")?, LockMode::Read, wait);
+    Ok(())
+}

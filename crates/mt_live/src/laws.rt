@@ -1,0 +1,4 @@
+//! Laws.
+
+/// Nothing.
+pub fn nothing() {}

@@ -1,0 +1,4 @@
+//! Live transactions.
+#![tactic(auto)]
+
+pub mod laws;

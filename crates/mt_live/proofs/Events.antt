@@ -26,6 +26,7 @@ use Rattle.mt_model.proofs.Undo.{base_effectless, inverse_place}
 use Rattle.mt_live.specs.Entries.{Entry, calls, runs, AreActed, kept, struck, IsExplained}
 use Rattle.mt_live.specs.Adds.{add_before, adds}
 use Rattle.mt_live.specs.Sound.{Each, IsLocked, IsDone, IsSound}
+use Rattle.mt_live.specs.Laws.{IsMoved}
 use Rattle.mt_live.proofs.Entries.{on, cell_runs, AreCellActed, runs-on, acted-on, acted_from_each, runs-append, acted_append, acted_front, acted_back}
 use Rattle.mt_live.proofs.Shapes.{each_map, each_filter, Agree, AllAgree}
 use Rattle.mt_live.proofs.AtCell.{with_step, steps, count_run, strikes, room_part, part_less, with_less}
@@ -204,11 +205,6 @@ ended held b es e s lock room says' = (
 
 -- ---- a commit becomes durable
 
-pub record Commits (held : Held) (b : Base) (p : ℕ → Bool) (es : List Entry) : Type 0 where
-  pub legal : AreActed b (kept p es)
-  pub sound : IsSound held (runs b (kept p es)) (struck p es)
-  pub same : runs (runs b (kept p es)) (struck p es) ≡ runs b es
-
 moves_at : (held : Held) → AreTogether held → (b : Base) (es : List Entry) → IsSound held b es → (p : ℕ → Bool) (x : Object) → Moves (cell b x) p (on x es)
 moves_at held locks b es s p x =
     moves (cell b x) (on x es) (agree_on held locks x es s.locked) (each_filter _ (λ e. same_object (object_of e.op) x) es s.done) (room_on b es s.room x) (acted-on b es x s.acted) p
@@ -219,10 +215,10 @@ kept-on p x es = filter-swap (λ e. p e.txn) (λ e. same_object (object_of e.op)
 cell_kept : (b : Base) (p : ℕ → Bool) (x : Object) (es : List Entry) → cell_runs (cell b x) (kept p (on x es)) ≡ cell (runs b (kept p es)) x
 cell_kept b p x es = ap (cell_runs (cell b x)) (kept-on p x es) ∙ sym (runs-on b (kept p es) x)
 
-pub commits : (held : Held) → AreTogether held → (b : Base) (es : List Entry) → IsSound held b es → (p : ℕ → Bool) → Commits held b p es
+pub commits : (held : Held) → AreTogether held → (b : Base) (es : List Entry) → IsSound held b es → (p : ℕ → Bool) → IsMoved held b p es
 commits held locks b es s p = record {
-    legal = subst (AreActed b) (kept_is p es) ((explained held locks b es s).whichever (λ t. not (p t)));
-    sound = record {
+    acted = subst (AreActed b) (kept_is p es) ((explained held locks b es s).whichever (λ t. not (p t)));
+    rest = record {
       acted = acted_from_each (runs b (kept p es)) (struck p es) (λ x.
           subst (λ w. AreCellActed (cell (runs b (kept p es)) x) w) (kept-on (λ t. not (p t)) x es)
           (subst (λ w. AreCellActed w (struck p (on x es))) (cell_kept b p x es) (moves_at held locks b es s p x).acted));

@@ -3,3 +3,8 @@ pub mod Shapes
 pub mod AtCell
 pub mod Moving
 pub mod Events
+pub mod Pending
+pub mod Locking
+pub mod AddLemmas
+pub mod Keeping
+pub mod Schedule

@@ -1,3 +1,5 @@
 pub mod Entries
 pub mod Sound
 pub mod Adds
+pub mod Machine
+pub mod Laws

@@ -1,27 +1,24 @@
 -- Pending adds and the adds of entries, transaction by transaction.
-use Rattle.std.specs.Bool.{⊤}
-use Rattle.std.proofs.Common.{◌≡◌, ◌≢◌, ℕ, ℤ, pos, negsuc, ◌+ℤ◌, ◌≤ℤ◌, Bool, true, false, cond, not, ◌&&◌, ◌==◌, List, [], ◌∷◌, ◌++◌, Option, Some, None, refl, ap, sym, ◌∙◌, subst, arith, filter, append-nil}
+use Rattle.std.proofs.Common.{◌≡◌, ◌≢◌, ℕ, ℤ, pos, ◌+ℤ◌, Bool, true, false, cond, not, ◌==◌, List, [], ◌∷◌, ◌++◌, None, refl, ap, sym, ◌∙◌, subst, arith, append-nil}
 use Rattle.std.proofs.lemmas.Int.{ints}
 use Rattle.std.proofs.lemmas.Bool.Decides.{Decides-eqb}
 use Rattle.std.proofs.lemmas.List.Elements.{filter-append}
-use Rattle.mt_base.specs.Modes.{granted_together}
-use Rattle.mt_base.specs.declared.modes.LockMode.{LockMode}
 use Rattle.mt_base.specs.declared.modes.LockMode.TheVariants as mode
 use Rattle.mt_model.specs.declared.counters.Count.{Count}
 use Rattle.mt_model.specs.declared.operations.Op.{Op}
 use Rattle.mt_model.specs.declared.operations.Op.TheVariants.{Get, Insert, Update, Delete, Add, Read}
 use Rattle.mt_model.specs.declared.operations.Reply.{Reply}
-use Rattle.mt_model.specs.declared.operations.Reply.TheVariants.{Done, Was, OutOfBounds}
+use Rattle.mt_model.specs.declared.operations.Reply.TheVariants.{Done}
 use Rattle.mt_model.specs.declared.pending.Pending.{Pending}
 use Rattle.mt_model.specs.Model.{moved, inverse_of, mode_of}
 use Rattle.mt_model.specs.Escrow.{total, lowest, highest, HasRoom}
-use Rattle.mt_model.specs.Pending.{steps_at, pending_of, pending_without, TakesOut}
-use Rattle.mt_model.proofs.Sums.{below_is, above_is, total_between}
+use Rattle.mt_model.specs.Pending.{steps_at, pending_of, pending_without}
+use Rattle.mt_model.proofs.Sums.{total_between}
 use Rattle.mt_live.specs.Entries.{Entry, kept}
-use Rattle.mt_live.specs.Adds.{add_before, adds, add_of, GivesBack}
+use Rattle.mt_live.specs.Adds.{add_before, adds, GivesBack}
 use Rattle.mt_live.specs.Sound.{Each, IsDone}
 use Rattle.mt_live.specs.Machine.{only, others, IsIdle}
-use Rattle.mt_live.proofs.Pending.{not_eq, Covers, Wider, covers_wider, room_wider}
+use Rattle.mt_live.proofs.Pending.{covers_wider, room_wider}
 
 pub eq_self : (a : ℕ) → (a == a) ≡ true
 eq_self a = (Decides-eqb a a).1 refl
@@ -203,17 +200,17 @@ undone_tied t front e rest ps qs run' its none out u true is idle tied =
     let same : u ≡ t = (Decides-eqb u t).0 is in
     let n : run' ≡ [] = idle refl in
     let a : pending_of t (adds (front ++ e ∷ rest)) ≡ pending_of t (adds front) ++ add_before t e.op [] =
-        ap (pending_of t) (adds-append front (e ∷ rest)) ∙ (pending_of-append t (adds front) (add_before e.txn e.op (adds rest))
-        ∙ ap (λ w. pending_of t (adds front) ++ w) (ap (λ v. pending_of t (add_before v e.op (adds rest))) its
-        ∙ (of_before t t e.op (adds rest) ∙ (ap (λ w. cond w (add_before t e.op (pending_of t (adds rest))) (pending_of t (adds rest))) (eq_self t)
-        ∙ ap (add_before t e.op) none)))) in
+    ap (pending_of t) (adds-append front (e ∷ rest)) ∙ (pending_of-append t (adds front) (add_before e.txn e.op (adds rest))
+    ∙ ap (λ w. pending_of t (adds front) ++ w) (ap (λ v. pending_of t (add_before v e.op (adds rest))) its
+    ∙ (of_before t t e.op (adds rest) ∙ (ap (λ w. cond w (add_before t e.op (pending_of t (adds rest))) (pending_of t (adds rest))) (eq_self t)
+    ∙ ap (add_before t e.op) none)))) in
     let b : pending_of t ps ≡ pending_of t (adds front) ++ add_before t e.op [] =
-        subst (λ v. pending_of v ps ≡ pending_of v (adds (front ++ e ∷ rest)) ++ run') same tied ∙ (ap (λ w. pending_of t (adds (front ++ e ∷ rest)) ++ w) n
-        ∙ (append-nil (pending_of t (adds (front ++ e ∷ rest))) ∙ a)) in
+    subst (λ v. pending_of v ps ≡ pending_of v (adds (front ++ e ∷ rest)) ++ run') same tied ∙ (ap (λ w. pending_of t (adds (front ++ e ∷ rest)) ++ w) n
+    ∙ (append-nil (pending_of t (adds (front ++ e ∷ rest))) ∙ a)) in
     let c : pending_of t (adds (front ++ kept (others t) rest)) ≡ pending_of t (adds front) =
-        ap (pending_of t) (adds-append front (kept (others t) rest)) ∙ (pending_of-append t (adds front) (adds (kept (others t) rest))
-        ∙ (ap (λ w. pending_of t (adds front) ++ w) (adds-kept (others t) t rest ∙ ap (λ w. cond (not w) (pending_of t (adds rest)) []) (eq_self t))
-        ∙ append-nil (pending_of t (adds front)))) in
+    ap (pending_of t) (adds-append front (kept (others t) rest)) ∙ (pending_of-append t (adds front) (adds (kept (others t) rest))
+    ∙ (ap (λ w. pending_of t (adds front) ++ w) (adds-kept (others t) t rest ∙ ap (λ w. cond (not w) (pending_of t (adds rest)) []) (eq_self t))
+    ∙ append-nil (pending_of t (adds front)))) in
     ap (λ v. pending_of v qs) same ∙ (out.its (pending_of t (adds front)) b ∙ (sym c
     ∙ (ap (λ v. pending_of v (adds (front ++ kept (others t) rest))) (sym same)
     ∙ (sym (append-nil (pending_of u (adds (front ++ kept (others t) rest)))) ∙ ap (λ w. pending_of u (adds (front ++ kept (others t) rest)) ++ w) (sym n)))))
@@ -221,11 +218,11 @@ undone_tied t front e rest ps qs run' its none out u false is idle tied =
     let apart : u ≢ t = λ s. let x : (u == t) ≡ true = (Decides-eqb u t).1 s in absurd cc in
     let flip : (e.txn == u) ≡ false = ap (λ v. v == u) its ∙ (eq_flip t u (t == u) (u == t) refl refl ∙ is) in
     let a : pending_of u (adds (front ++ e ∷ rest)) ≡ pending_of u (adds front) ++ pending_of u (adds rest) =
-        ap (pending_of u) (adds-append front (e ∷ rest)) ∙ (pending_of-append u (adds front) (add_before e.txn e.op (adds rest))
-        ∙ ap (λ w. pending_of u (adds front) ++ w) (of_other u e.txn e.op (adds rest) flip)) in
+    ap (pending_of u) (adds-append front (e ∷ rest)) ∙ (pending_of-append u (adds front) (add_before e.txn e.op (adds rest))
+    ∙ ap (λ w. pending_of u (adds front) ++ w) (of_other u e.txn e.op (adds rest) flip)) in
     let c : pending_of u (adds (front ++ kept (others t) rest)) ≡ pending_of u (adds front) ++ pending_of u (adds rest) =
-        ap (pending_of u) (adds-append front (kept (others t) rest)) ∙ (pending_of-append u (adds front) (adds (kept (others t) rest))
-        ∙ ap (λ w. pending_of u (adds front) ++ w) (adds-kept (others t) u rest ∙ ap (λ w. cond (not w) (pending_of u (adds rest)) []) is)) in
+    ap (pending_of u) (adds-append front (kept (others t) rest)) ∙ (pending_of-append u (adds front) (adds (kept (others t) rest))
+    ∙ ap (λ w. pending_of u (adds front) ++ w) (adds-kept (others t) u rest ∙ ap (λ w. cond (not w) (pending_of u (adds rest)) []) is)) in
     out.apart u apart ∙ (tied ∙ ap (λ w. w ++ run') (a ∙ sym c))
 
 -- what is taken out only widens the room

@@ -1,25 +1,22 @@
 -- Entries on one object.
-use Rattle.std.specs.Bool.{⊤}
-use Rattle.std.proofs.Common.{◌≡◌, ◌≢◌, ℕ, ℤ, pos, negsuc, ◌+ℤ◌, ◌≤ℤ◌, neg_ℤ, Bool, true, false, cond, not, ◌&&◌, ◌==◌, List, [], ◌∷◌, ◌++◌, Option, Some, None, refl, ap, sym, ◌∙◌, subst, arith, filter, int_le}
+use Rattle.std.proofs.Common.{◌≡◌, ℕ, ℤ, ◌+ℤ◌, ◌≤ℤ◌, Bool, true, false, cond, List, [], ◌∷◌, refl, ap, sym, ◌∙◌, subst, arith, filter}
 use Rattle.std.proofs.lemmas.Int.{ints}
-use Rattle.mt_base.specs.Modes.{granted_together}
-use Rattle.mt_base.specs.declared.modes.LockMode.{LockMode}
 use Rattle.mt_base.specs.declared.modes.LockMode.TheVariants as mode
 use Rattle.mt_model.specs.declared.counters.Count.{Count}
 use Rattle.mt_model.specs.declared.operations.Op.{Op}
 use Rattle.mt_model.specs.declared.operations.Op.TheVariants.{Get, Insert, Update, Delete, Add, Read}
 use Rattle.mt_model.specs.declared.operations.Reply.{Reply}
-use Rattle.mt_model.specs.declared.operations.Reply.TheVariants.{Done, Was, OutOfBounds}
-use Rattle.mt_model.specs.Model.{object_of, same_object, stays, moved, added, mode_of}
-use Rattle.mt_model.specs.Escrow.{total, below, above, lowest, highest, HasRoom}
+use Rattle.mt_model.specs.declared.operations.Reply.TheVariants.{Done, OutOfBounds}
+use Rattle.mt_model.specs.Model.{stays, moved, mode_of}
+use Rattle.mt_model.specs.Escrow.{total, lowest, highest, HasRoom}
 use Rattle.mt_model.proofs.Cells.{Cell, next, says}
 use Rattle.mt_model.proofs.Steps.{stays_with_room, room_moved, moved-moved, moved_none}
-use Rattle.mt_model.proofs.Sums.{below_is, above_is, lowest_below, highest_above, total_between}
+use Rattle.mt_model.proofs.Sums.{below_is, above_is}
 use Rattle.mt_model.proofs.Commuting.{read_leaves}
-use Rattle.mt_live.specs.Entries.{Entry, kept, struck}
+use Rattle.mt_live.specs.Entries.{Entry, kept}
 use Rattle.mt_live.specs.Sound.{Each, IsDone}
 use Rattle.mt_live.proofs.Entries.{cell_runs, AreCellActed}
-use Rattle.mt_live.proofs.Shapes.{each_map, each_filter, Agree, AllAgree, Shape, Owned, Reads, Adds, shape}
+use Rattle.mt_live.proofs.Shapes.{each_filter, AllAgree, Shape, Owned, Reads, Adds, shape}
 
 abbrev pub with_step : Op → List ℤ → List ℤ
 with_step (Add n d) ds = d ∷ ds
@@ -160,8 +157,8 @@ strikes c es ag d room a p = go (shape es ag)
     whole : (u : ℕ) → Each (λ e. e.txn ≡ u) es → (b : Bool) → p u ≡ b → AreCellActed c (kept p es)
     whole u h true t = subst (AreCellActed c) (sym (owned_kept p es u h true t)) a
     whole u h false t = subst (AreCellActed c) (sym (owned_kept p es u h false t)) tt
+
     go : Shape es → AreCellActed c (kept p es)
     go (Owned u h) = whole u h (p u) refl
     go (Reads h) = reads_acted (λ e. p e.txn) c es h a
     go (Adds h) = adds_acted c (kept p es) (each_filter _ (λ e. p e.txn) es h) (each_filter _ (λ e. p e.txn) es d) (room_part c.count (λ e. p e.txn) es room)
-

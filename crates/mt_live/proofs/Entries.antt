@@ -1,5 +1,5 @@
 -- Entries at one object: the model's lemmas on calls, for entries.
-use Rattle.std.proofs.Common.{◌≡◌, Bool, true, false, cond, List, [], ◌∷◌, ◌++◌, filter, map, refl, ap, sym, ◌∙◌, subst}
+use Rattle.std.proofs.Common.{◌≡◌, Bool, true, false, cond, List, [], ◌∷◌, ◌++◌, filter, refl, ap, sym, ◌∙◌, subst}
 use Rattle.mt_model.specs.declared.objects.Object.{Object}
 use Rattle.mt_model.specs.Model.{Base, object_of, same_object}
 use Rattle.mt_model.specs.History.{Call, run, IsActed}

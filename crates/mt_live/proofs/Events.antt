@@ -1,35 +1,32 @@
 -- What each event leaves of entries that are sound.
-use Rattle.std.specs.Bool.{⊤}
-use Rattle.std.proofs.Common.{◌≡◌, ◌≢◌, ℕ, ℤ, pos, negsuc, ◌+ℤ◌, ◌≤ℤ◌, neg_ℤ, Bool, true, false, cond, not, ◌&&◌, ◌==◌, List, [], ◌∷◌, ◌++◌, Option, Some, None, refl, ap, sym, ◌∙◌, subst, arith, filter, int_le, append-nil}
+use Rattle.std.proofs.Common.{◌≡◌, ◌≢◌, ℕ, ℤ, pos, ◌+ℤ◌, ◌≤ℤ◌, Bool, true, false, cond, not, ◌==◌, List, [], ◌∷◌, ◌++◌, Some, None, refl, ap, sym, ◌∙◌, subst, arith}
 use Rattle.std.proofs.lemmas.Int.{ints}
 use Rattle.std.proofs.lemmas.List.Elements.{filter-append}
-use Rattle.mt_base.specs.Modes.{granted_together}
-use Rattle.mt_base.specs.declared.modes.LockMode.{LockMode}
 use Rattle.mt_base.specs.declared.modes.LockMode.TheVariants as mode
 use Rattle.mt_model.specs.declared.counters.Count.{Count}
 use Rattle.mt_model.specs.declared.operations.Op.{Op}
 use Rattle.mt_model.specs.declared.operations.Op.TheVariants.{Get, Insert, Update, Delete, Add, Read}
 use Rattle.mt_model.specs.declared.operations.Reply.{Reply}
-use Rattle.mt_model.specs.declared.operations.Reply.TheVariants.{Done, Was, OutOfBounds}
+use Rattle.mt_model.specs.declared.operations.Reply.TheVariants.{Done, OutOfBounds}
 use Rattle.mt_model.specs.declared.objects.Object.{Object}
 use Rattle.mt_model.specs.declared.objects.Object.TheVariants.{Key, Counter}
 use Rattle.mt_model.specs.declared.pending.Pending.{Pending}
-use Rattle.mt_model.specs.Model.{Base, IsInBounds, object_of, same_object, stays, moved, added, inverse_of, mode_of, reply_of, base_after}
-use Rattle.mt_model.specs.Escrow.{total, below, above, lowest, highest, HasRoom}
+use Rattle.mt_model.specs.Model.{Base, object_of, same_object, moved, inverse_of, mode_of, reply_of, base_after}
+use Rattle.mt_model.specs.Escrow.{total, lowest, highest, HasRoom}
 use Rattle.mt_model.specs.Locks.{Held, AreTogether}
 use Rattle.mt_model.specs.Pending.{steps_at}
-use Rattle.mt_model.proofs.Cells.{Cell, cell, next, says, idle, reply-cell, cell-next, same-true, same-self, same_base}
+use Rattle.mt_model.proofs.Cells.{Cell, cell, next, idle, cell-next, same-true, same-self, same_base}
 use Rattle.mt_model.proofs.Split.{filter-swap}
 use Rattle.mt_model.proofs.Steps.{stays_with_room}
 use Rattle.mt_model.proofs.Sums.{total_between}
 use Rattle.mt_model.proofs.Undo.{base_effectless, inverse_place}
-use Rattle.mt_live.specs.Entries.{Entry, calls, runs, AreActed, kept, struck, IsExplained}
+use Rattle.mt_live.specs.Entries.{Entry, runs, AreActed, kept, struck, IsExplained}
 use Rattle.mt_live.specs.Adds.{add_before, adds}
 use Rattle.mt_live.specs.Sound.{Each, IsLocked, IsDone, IsSound}
 use Rattle.mt_live.specs.Laws.{IsMoved}
 use Rattle.mt_live.proofs.Entries.{on, cell_runs, AreCellActed, runs-on, acted-on, acted_from_each, runs-append, acted_append, acted_front, acted_back}
-use Rattle.mt_live.proofs.Shapes.{each_map, each_filter, Agree, AllAgree}
-use Rattle.mt_live.proofs.AtCell.{with_step, steps, count_run, strikes, room_part, part_less, with_less}
+use Rattle.mt_live.proofs.Shapes.{each_filter, Agree, AllAgree}
+use Rattle.mt_live.proofs.AtCell.{with_step, steps, count_run, strikes, part_less, with_less}
 use Rattle.mt_live.proofs.Moving.{Moves, moves, undoes}
 
 -- the steps that entries add to a counter
@@ -47,8 +44,8 @@ agree_with held locks e le x is [] l = tt
 agree_with held locks e le x is (f ∷ es) l =
     cond_each (Agree e) (same_object (object_of f.op) x) f (on x es)
     (λ t apart. locks e.txn f.txn x (mode_of e.op) (mode_of f.op) apart
-        (subst (λ y. held e.txn y (mode_of e.op) ≡ true) is le)
-        (subst (λ y. held f.txn y (mode_of f.op) ≡ true) (same-true (object_of f.op) x t) l.0))
+    (subst (λ y. held e.txn y (mode_of e.op) ≡ true) is le)
+    (subst (λ y. held f.txn y (mode_of f.op) ≡ true) (same-true (object_of f.op) x t) l.0))
     (agree_with held locks e le x is es l.1)
 
 cond_agree : (t : Bool) (e : Entry) (es : List Entry) → (t ≡ true → Each (Agree e) es) → AllAgree es → AllAgree (cond t (e ∷ es) es)
@@ -110,12 +107,12 @@ room_off b es h c = subst (HasRoom (b.counts c)) (steps-at c es) (h (Counter c))
 
 pub explained : (held : Held) → AreTogether held → (b : Base) (es : List Entry) → IsSound held b es → IsExplained b es (runs b es)
 explained held locks b es s = record {
-    whichever = λ set. acted_from_each b (struck set es) (λ x.
-        subst (AreCellActed (cell b x)) (filter-swap (λ e. not (set e.txn)) (λ e. same_object (object_of e.op) x) es)
-        (strikes (cell b x) (on x es) (agree_on held locks x es s.locked) (each_filter _ (λ e. same_object (object_of e.op) x) es s.done)
-         (room_on b es s.room x) (acted-on b es x s.acted) (λ t. not (set t))));
-    all = refl;
-  }
+  whichever = λ set. acted_from_each b (struck set es) (λ x.
+      subst (AreCellActed (cell b x)) (filter-swap (λ e. not (set e.txn)) (λ e. same_object (object_of e.op) x) es)
+      (strikes (cell b x) (on x es) (agree_on held locks x es s.locked) (each_filter _ (λ e. same_object (object_of e.op) x) es s.done)
+      (room_on b es s.room x) (acted-on b es x s.acted) (λ t. not (set t))));
+  all = refl;
+}
 
 -- ---- an operation ends
 
@@ -194,14 +191,14 @@ pub ended : (held : Held) (b : Base) (es : List Entry) (e : Entry) → IsSound h
     → ((c : ℕ) → HasRoom (b.counts c) (steps_on c (es ++ e ∷ []))) → reply_of (runs b es) e.op ≡ e.reply
     → IsSound held b (es ++ e ∷ []) × (runs b (es ++ e ∷ []) ≡ base_after (runs b es) e.op)
 ended held b es e s lock room says' = (
-    record {
-      acted = acted_append b es (e ∷ []) s.acted (says', tt);
-      locked = each_append _ es (e ∷ []) s.locked (lock, tt);
-      done = each_append _ es (e ∷ []) s.done (done_of (runs b es) e.txn e.op e.reply (room_later b es (e ∷ []) s.acted s.done room) says', tt);
-      room = room;
-    },
-    runs-append b es (e ∷ []),
-  )
+  record {
+    acted = acted_append b es (e ∷ []) s.acted (says', tt);
+    locked = each_append _ es (e ∷ []) s.locked (lock, tt);
+    done = each_append _ es (e ∷ []) s.done (done_of (runs b es) e.txn e.op e.reply (room_later b es (e ∷ []) s.acted s.done room) says', tt);
+    room = room;
+  },
+  runs-append b es (e ∷ []),
+)
 
 -- ---- a commit becomes durable
 
@@ -217,28 +214,29 @@ cell_kept b p x es = ap (cell_runs (cell b x)) (kept-on p x es) ∙ sym (runs-on
 
 pub commits : (held : Held) → AreTogether held → (b : Base) (es : List Entry) → IsSound held b es → (p : ℕ → Bool) → IsMoved held b p es
 commits held locks b es s p = record {
-    acted = subst (AreActed b) (kept_is p es) ((explained held locks b es s).whichever (λ t. not (p t)));
-    rest = record {
-      acted = acted_from_each (runs b (kept p es)) (struck p es) (λ x.
-          subst (λ w. AreCellActed (cell (runs b (kept p es)) x) w) (kept-on (λ t. not (p t)) x es)
-          (subst (λ w. AreCellActed w (struck p (on x es))) (cell_kept b p x es) (moves_at held locks b es s p x).acted));
-      locked = each_filter _ (λ e. not (p e.txn)) es s.locked;
-      done = each_filter _ (λ e. not (p e.txn)) es s.done;
-      room = room_off (runs b (kept p es)) (struck p es) (λ x.
-          subst (λ w. HasRoom (cell (runs b (kept p es)) x).count (steps w)) (kept-on (λ t. not (p t)) x es)
-          (subst (λ w. HasRoom w.count (steps (struck p (on x es)))) (cell_kept b p x es) (moves_at held locks b es s p x).room));
-    };
-    same = same_base (runs (runs b (kept p es)) (struck p es)) (runs b es) (λ x.
-        runs-on (runs b (kept p es)) (struck p es) x
-        ∙ (ap (cell_runs (cell (runs b (kept p es)) x)) (sym (kept-on (λ t. not (p t)) x es))
-        ∙ (ap (λ w. cell_runs w (struck p (on x es))) (sym (cell_kept b p x es))
-        ∙ ((moves_at held locks b es s p x).same
-        ∙ sym (runs-on b es x)))));
-  }
+  acted = subst (AreActed b) (kept_is p es) ((explained held locks b es s).whichever (λ t. not (p t)));
+  rest = record {
+    acted = acted_from_each (runs b (kept p es)) (struck p es) (λ x.
+        subst (λ w. AreCellActed (cell (runs b (kept p es)) x) w) (kept-on (λ t. not (p t)) x es)
+        (subst (λ w. AreCellActed w (struck p (on x es))) (cell_kept b p x es) (moves_at held locks b es s p x).acted));
+    locked = each_filter _ (λ e. not (p e.txn)) es s.locked;
+    done = each_filter _ (λ e. not (p e.txn)) es s.done;
+    room = room_off (runs b (kept p es)) (struck p es) (λ x.
+        subst (λ w. HasRoom (cell (runs b (kept p es)) x).count (steps w)) (kept-on (λ t. not (p t)) x es)
+        (subst (λ w. HasRoom w.count (steps (struck p (on x es)))) (cell_kept b p x es) (moves_at held locks b es s p x).room));
+  };
+  same = same_base (runs (runs b (kept p es)) (struck p es)) (runs b es) (λ x.
+      runs-on (runs b (kept p es)) (struck p es) x
+      ∙ (ap (cell_runs (cell (runs b (kept p es)) x)) (sym (kept-on (λ t. not (p t)) x es))
+      ∙ (ap (λ w. cell_runs w (struck p (on x es))) (sym (cell_kept b p x es))
+      ∙ ((moves_at held locks b es s p x).same
+      ∙ sym (runs-on b es x)))));
+}
   where
     not_not : (t : Bool) → not (not t) ≡ t
     not_not true = refl
     not_not false = refl
+
     kept_is : (q : ℕ → Bool) (fs : List Entry) → kept (λ t. not (not (q t))) fs ≡ kept q fs
     kept_is q fs = ap (λ f. kept f fs) (λ i t. not_not (q t) i)
 
@@ -246,11 +244,11 @@ commits held locks b es s p = record {
 
 pub sound_later : (held : Held) (b : Base) (es fs : List Entry) → IsSound held b (es ++ fs) → IsSound held (runs b es) fs
 sound_later held b es fs s = record {
-    acted = acted_back b es fs s.acted;
-    locked = each_back _ es fs s.locked;
-    done = each_back _ es fs s.done;
-    room = room_later b es fs (acted_front b es fs s.acted) (each_front _ es fs s.done) s.room;
-  }
+  acted = acted_back b es fs s.acted;
+  locked = each_back _ es fs s.locked;
+  done = each_back _ es fs s.done;
+  room = room_later b es fs (acted_front b es fs s.acted) (each_front _ es fs s.done) s.room;
+}
 
 -- ---- an inverse ends
 
@@ -299,11 +297,11 @@ undone held locks b es e fs i s others h =
     let later : IsSound held m (e ∷ fs) = sound_later held b es (e ∷ fs) s in
     let at : (x : Object) → Undone (cell m x) e (on x fs) i (same_object (object_of e.op) x) = undone_at held locks m e fs i later others h in
     let back : runs m fs ≡ base_after (runs m (e ∷ fs)) i = same_base (runs m fs) (base_after (runs m (e ∷ fs)) i) (λ x.
-        runs-on m fs x
-        ∙ ((at x).1
-        ∙ (ap (λ w. cond (same_object (object_of e.op) x) (next i w) w) (sym (runs-on m (e ∷ fs) x))
-        ∙ (ap (λ y. cond (same_object y x) (next i (cell (runs m (e ∷ fs)) x)) (cell (runs m (e ∷ fs)) x)) (sym (inverse_place e.op i e.reply h).object)
-        ∙ sym (cell-next (runs m (e ∷ fs)) i x))))) in
+    runs-on m fs x
+    ∙ ((at x).1
+    ∙ (ap (λ w. cond (same_object (object_of e.op) x) (next i w) w) (sym (runs-on m (e ∷ fs) x))
+    ∙ (ap (λ y. cond (same_object y x) (next i (cell (runs m (e ∷ fs)) x)) (cell (runs m (e ∷ fs)) x)) (sym (inverse_place e.op i e.reply h).object)
+    ∙ sym (cell-next (runs m (e ∷ fs)) i x))))) in
     record {
       sound = record {
         acted = acted_append b es fs (acted_front b es (e ∷ fs) s.acted) (acted_from_each m fs (λ x. (at x).0));

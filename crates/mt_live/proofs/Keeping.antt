@@ -1,6 +1,5 @@
 -- Each event keeps what is kept.
-use Rattle.std.specs.Bool.{⊤}
-use Rattle.std.proofs.Common.{◌≡◌, ◌≢◌, ◌⊎◌, inl, inr, ℕ, ℤ, ◌≤◌, ◌+◌, Bool, true, false, cond, not, ◌&&◌, ◌==◌, List, [], ◌∷◌, ◌++◌, Option, Some, None, is_some, refl, ap, sym, ◌∙◌, subst, arith, filter, append-nil, append_assoc}
+use Rattle.std.proofs.Common.{◌≡◌, ◌≢◌, ◌⊎◌, inl, inr, ℕ, ◌≤◌, ◌+◌, Bool, true, false, cond, not, ◌==◌, List, [], ◌∷◌, ◌++◌, Option, Some, None, is_some, refl, ap, sym, ◌∙◌, subst, arith, append-nil, append_assoc}
 use Rattle.std.proofs.lemmas.Bool.Decides.{Decides-eqb}
 use Rattle.mt_base.specs.declared.modes.LockMode.{LockMode}
 use Rattle.mt_model.specs.declared.counters.Count.{Count}
@@ -10,19 +9,19 @@ use Rattle.mt_model.specs.declared.operations.Op.{Op}
 use Rattle.mt_model.specs.declared.pending.Pending.{Pending}
 use Rattle.mt_model.specs.declared.history.Committed.{Committed}
 use Rattle.mt_model.specs.Model.{Base, moved, object_of, mode_of, reply_of, base_after, inverse_of}
-use Rattle.mt_model.specs.History.{after, IsLegal}
+use Rattle.mt_model.specs.History.{after}
 use Rattle.mt_model.specs.Escrow.{total, HasRoom}
-use Rattle.mt_model.specs.Locks.{Held, with_lock, without_holder}
+use Rattle.mt_model.specs.Locks.{Held, without_holder}
 use Rattle.mt_model.specs.Pending.{steps_at, pending_of, pending_without, moved_by}
 use Rattle.mt_model.proofs.Appends.{after-append, legal_append}
-use Rattle.mt_live.specs.Entries.{Entry, calls, runs, kept, struck, IsExplained}
+use Rattle.mt_live.specs.Entries.{Entry, calls, runs, kept, IsExplained}
 use Rattle.mt_live.specs.Adds.{add_before, adds, add_of, GivesBack}
 use Rattle.mt_live.specs.Sound.{Each, IsLocked, IsDone, IsSound}
 use Rattle.mt_live.specs.Machine.{State, committed_base, only, others, put, is_live, AreOwned, IsKept, begun, called, MayCall, ended, dropped, gone, booked, IsIdle, IsLastDone, undone}
 use Rattle.mt_live.specs.Laws.{IsMoved}
 use Rattle.mt_live.proofs.Shapes.{each_map, each_filter}
-use Rattle.mt_live.proofs.Events.{explained, counts_run, steps-at, steps_on, each_append, each_front, each_back, ended as entry_ended, commits, Undoes, undone as entry_undone, Leaves, leaves}
-use Rattle.mt_live.proofs.Pending.{not_eq, Covers, Wider, covers_wider, room_wider}
+use Rattle.mt_live.proofs.Events.{explained, counts_run, steps-at, steps_on, each_append, each_front, each_back, ended as entry_ended, commits, undone as entry_undone, leaves}
+use Rattle.mt_live.proofs.Pending.{not_eq, Covers, covers_wider, room_wider}
 use Rattle.mt_live.proofs.Locking.{has_lock, still_held, more_locks, holder_of, held_before, another_holds, held_after, fewer_locks, still_locked}
 use Rattle.mt_live.proofs.AddLemmas.{eq_self, eq_flip, adds-append, pending_of-append, of_before, of_mine, of_other, adds_last, of_without, adds-kept, not_others, room_shared, adds_only, idle_adds, Taken, taken_of, undone_tied, out_room}
 
@@ -164,23 +163,23 @@ ended_tied : (s : State) (e : Entry) → s.running e.txn ≡ Some e.op → ((u :
 ended_tied s e run' tied u true f g =
     let same : e.txn ≡ u = (Decides-eqb e.txn u).0 g in
     let x : pending_of e.txn (adds (s.standing ++ e ∷ [])) ≡ pending_of e.txn (adds s.standing) ++ add_before e.txn e.op [] =
-        adds_last s.standing e e.txn ∙ ap (λ w. pending_of e.txn (adds s.standing) ++ w) (of_mine e.txn e.op) in
+    adds_last s.standing e e.txn ∙ ap (λ w. pending_of e.txn (adds s.standing) ++ w) (of_mine e.txn e.op) in
     let y : pending_of e.txn s.pending ≡ pending_of e.txn (adds s.standing) ++ add_before e.txn e.op [] =
-        tied e.txn ∙ ap (λ w. pending_of e.txn (adds s.standing) ++ add_of e.txn w) run' in
+    tied e.txn ∙ ap (λ w. pending_of e.txn (adds s.standing) ++ add_of e.txn w) run' in
     subst (λ v. pending_of v s.pending ≡ pending_of v (adds (s.standing ++ e ∷ [])) ++ []) same (y ∙ (sym x ∙ sym (append-nil (pending_of e.txn (adds (s.standing ++ e ∷ []))))))
 ended_tied s e run' tied u false f g =
     let x : pending_of u (adds (s.standing ++ e ∷ [])) ≡ pending_of u (adds s.standing) =
-        adds_last s.standing e u ∙ (ap (λ w. pending_of u (adds s.standing) ++ w) (of_other u e.txn e.op [] g) ∙ append-nil (pending_of u (adds s.standing))) in
+    adds_last s.standing e u ∙ (ap (λ w. pending_of u (adds s.standing) ++ w) (of_other u e.txn e.op [] g) ∙ append-nil (pending_of u (adds s.standing))) in
     tied u ∙ ap (λ w. w ++ add_of u (s.running u)) (sym x)
 
 pub kept_ended : (b : Base) (s : State) (t : ℕ) (op : Op) → IsKept b s → s.running t ≡ Some op → IsKept b (ended s t op)
 kept_ended b s t op k running =
     let e : Entry = record { txn = t; op = op; reply = reply_of s.base op } in
     let tied : (u : ℕ) → pending_of u s.pending ≡ pending_of u (adds (s.standing ++ e ∷ [])) ++ add_of u (put s.running t None u) =
-        λ u. ended_tied s e running k.tied u (u == t) refl (eq_flip t u (t == u) (u == t) refl refl) in
+    λ u. ended_tied s e running k.tied u (u == t) refl (eq_flip t u (t == u) (u == t) refl refl) in
     let r = entry_ended s.held (committed_base b s) s.standing e k.sound (k.locked t op running)
-        (λ c. room_covered ((committed_base b s).counts c) c s.pending (s.standing ++ e ∷ []) (λ u. add_of u (put s.running t None u)) tied (k.room c))
-        (ap (λ w. reply_of w op) k.base) in
+    (λ c. room_covered ((committed_base b s).counts c) c s.pending (s.standing ++ e ∷ []) (λ u. add_of u (put s.running t None u)) tied (k.room c))
+    (ap (λ w. reply_of w op) k.base) in
     record {
       legal = k.legal;
       sound = r.0;
@@ -357,15 +356,15 @@ kept_undone b s t front e rest i ps k idle m given =
     let s0 : IsSound h base (front ++ (e ∷ rest)) = subst (IsSound h base) m.place k.sound in
     let s1 : IsSound h base ((front ++ (e ∷ [])) ++ rest) = subst (IsSound h base) (sym one) s0 in
     let none : Each (λ f. others t f.txn ≡ false → inverse_of f.op f.reply ≡ None) rest =
-        each_map (IsIdle t) (λ f. others t f.txn ≡ false → inverse_of f.op f.reply ≡ None) (λ f x n. x (not_others t f.txn n)) rest m.idle in
+    each_map (IsIdle t) (λ f. others t f.txn ≡ false → inverse_of f.op f.reply ≡ None) (λ f x n. x (not_others t f.txn n)) rest m.idle in
     let l = leaves h base (others t) (front ++ (e ∷ [])) rest s1 none in
     let s2 : IsSound h base (front ++ (e ∷ kept (others t) rest)) = subst (IsSound h base) two l.sound in
     let u = entry_undone h k.locks base front e (kept (others t) rest) i s2 (others_apart e t rest m.its) m.inverse in
     let same : runs base (front ++ (e ∷ kept (others t) rest)) ≡ s.base =
-        sym (ap (runs base) two) ∙ (l.base ∙ (ap (runs base) one ∙ (sym (ap (runs base) m.place) ∙ k.base))) in
+    sym (ap (runs base) two) ∙ (l.base ∙ (ap (runs base) one ∙ (sym (ap (runs base) m.place) ∙ k.base))) in
     let nothing : pending_of t (adds rest) ≡ [] = idle_adds t rest m.idle (each_back IsDone (front ++ (e ∷ [])) rest s1.done) in
     let tied : (v : ℕ) → pending_of v s.pending ≡ pending_of v (adds (front ++ (e ∷ rest))) ++ add_of v (s.running v) =
-        λ v. k.tied v ∙ ap (λ w. pending_of v (adds w) ++ add_of v (s.running v)) m.place in
+    λ v. k.tied v ∙ ap (λ w. pending_of v (adds w) ++ add_of v (s.running v)) m.place in
     let live : Each (λ (f : Entry). is_live s f.txn ≡ true) (front ++ (e ∷ rest)) = subst (Each (λ (f : Entry). is_live s f.txn ≡ true)) m.place k.owned.standing in
     record {
       legal = k.legal;
@@ -387,6 +386,7 @@ kept_undone b s t front e rest i ps k idle m given =
     quiet v c is true_now =
         let x : v ≡ t = (Decides-eqb v t).0 (is ∙ true_now) in
         ap (add_of v) (ap s.running x ∙ idle)
+
     mine : ((v : ℕ) → pending_of v s.pending ≡ pending_of v (adds (front ++ e ∷ rest)) ++ add_of v (s.running v)) → pending_of t (adds rest) ≡ [] → pending_of t s.pending ≡ pending_of t (adds front) ++ add_before t e.op []
     mine tied nothing =
         tied t ∙ (ap (λ w. pending_of t (adds (front ++ e ∷ rest)) ++ add_of t w) idle ∙ (append-nil (pending_of t (adds (front ++ e ∷ rest)))
@@ -394,4 +394,3 @@ kept_undone b s t front e rest i ps k idle m given =
         ∙ ap (λ w. pending_of t (adds front) ++ w) (ap (λ v. pending_of t (add_before v e.op (adds rest))) m.its
         ∙ (of_before t t e.op (adds rest) ∙ (ap (λ w. cond w (add_before t e.op (pending_of t (adds rest))) (pending_of t (adds rest))) (eq_self t)
         ∙ ap (add_before t e.op) nothing)))))))
-

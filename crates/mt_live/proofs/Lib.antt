@@ -8,3 +8,5 @@ pub mod Locking
 pub mod AddLemmas
 pub mod Keeping
 pub mod Schedule
+pub mod Witness
+pub mod Failures

@@ -1,17 +1,16 @@
 -- Locks that are granted, and one transaction's that go.
-use Rattle.std.proofs.Common.{◌≡◌, ◌≢◌, ◌⊎◌, inl, inr, ℕ, Bool, true, false, cond, not, ◌&&◌, ◌||◌, ◌==◌, List, [], ◌∷◌, refl, ap, sym, ◌∙◌, subst}
+use Rattle.std.proofs.Common.{◌≡◌, ◌≢◌, ◌⊎◌, inl, inr, ℕ, Bool, true, false, cond, not, ◌&&◌, ◌||◌, ◌==◌, List, [], ◌∷◌, refl, sym, ◌∙◌, subst}
 use Rattle.std.proofs.lemmas.Bool.Decides.{Decides-eqb}
 use Rattle.mt_base.specs.Modes.{granted_together}
 use Rattle.mt_base.specs.declared.modes.LockMode.{LockMode}
 use Rattle.mt_base.specs.declared.modes.LockMode.TheVariants as mode
 use Rattle.mt_model.specs.declared.objects.Object.{Object}
 use Rattle.mt_model.specs.Model.{object_of, mode_of, same_object}
-use Rattle.mt_model.specs.Locks.{Held, same_mode, is_lock, with_lock, without_holder, Bars, IsFree, AreTogether}
+use Rattle.mt_model.specs.Locks.{Held, same_mode, is_lock, with_lock, without_holder, IsFree, AreTogether}
 use Rattle.mt_model.proofs.Cells.{and_parts, both_true, same-true, same-self}
 use Rattle.mt_live.specs.Entries.{Entry, kept}
 use Rattle.mt_live.specs.Sound.{Each, IsLocked}
 use Rattle.mt_live.specs.Machine.{others}
-use Rattle.mt_live.proofs.Shapes.{each_map}
 
 or_parts : (p q : Bool) → (p || q) ≡ true → (p ≡ true) ⊎ (q ≡ true)
 or_parts true q h = inl refl
@@ -50,12 +49,12 @@ granted-flip mode.Add mode.Add = refl
 
 -- ---- one lock more
 
-record IsThis (t : ℕ) (x : Object) (m : LockMode) (u : ℕ) (y : Object) (n : LockMode) : Type 0 where
+pub record IsThis (t : ℕ) (x : Object) (m : LockMode) (u : ℕ) (y : Object) (n : LockMode) : Type 0 where
   pub txn : u ≡ t
   pub object : x ≡ y
   pub mode : m ≡ n
 
-is_this : (t : ℕ) (x : Object) (m : LockMode) (u : ℕ) (y : Object) (n : LockMode) → is_lock t x m u y n ≡ true → IsThis t x m u y n
+pub is_this : (t : ℕ) (x : Object) (m : LockMode) (u : ℕ) (y : Object) (n : LockMode) → is_lock t x m u y n ≡ true → IsThis t x m u y n
 is_this t x m u y n h =
     let p = and_parts (u == t) (same_object x y && same_mode m n) h in
     let q = and_parts (same_object x y) (same_mode m n) p.1 in

@@ -1,6 +1,5 @@
 -- One transaction's entries moved before the others', and one entry taken back.
-use Rattle.std.specs.Bool.{⊤}
-use Rattle.std.proofs.Common.{◌≡◌, ◌≢◌, ℕ, ℤ, pos, negsuc, ◌+ℤ◌, ◌≤ℤ◌, neg_ℤ, Bool, true, false, cond, not, ◌&&◌, ◌==◌, List, [], ◌∷◌, ◌++◌, Option, Some, None, refl, ap, sym, ◌∙◌, subst, arith, filter, int_le, append-nil}
+use Rattle.std.proofs.Common.{◌≡◌, ◌≢◌, ℕ, ℤ, ◌+ℤ◌, neg_ℤ, Bool, true, false, cond, not, List, [], ◌∷◌, Some, refl, ap, sym, ◌∙◌, subst, arith}
 use Rattle.std.proofs.lemmas.Int.{ints}
 use Rattle.mt_base.specs.Modes.{granted_together}
 use Rattle.mt_base.specs.declared.modes.LockMode.{LockMode}
@@ -9,19 +8,19 @@ use Rattle.mt_model.specs.declared.counters.Count.{Count}
 use Rattle.mt_model.specs.declared.operations.Op.{Op}
 use Rattle.mt_model.specs.declared.operations.Op.TheVariants.{Get, Insert, Update, Delete, Add, Read}
 use Rattle.mt_model.specs.declared.operations.Reply.{Reply}
-use Rattle.mt_model.specs.declared.operations.Reply.TheVariants.{Done, Was, OutOfBounds}
-use Rattle.mt_model.specs.Model.{IsInBounds, object_of, same_object, stays, moved, added, inverse_of, mode_of}
-use Rattle.mt_model.specs.Escrow.{total, below, above, lowest, highest, HasRoom}
-use Rattle.mt_model.proofs.Cells.{Cell, next, says}
+use Rattle.mt_model.specs.declared.operations.Reply.TheVariants.{Done}
+use Rattle.mt_model.specs.Model.{IsInBounds, moved, added, inverse_of, mode_of}
+use Rattle.mt_model.specs.Escrow.{total, lowest, highest, HasRoom}
+use Rattle.mt_model.proofs.Cells.{Cell, next}
 use Rattle.mt_model.proofs.Steps.{moved-moved, added_back}
 use Rattle.mt_model.proofs.Sums.{below_is, above_is, lowest_below, highest_above, total_between}
 use Rattle.mt_model.proofs.Commuting.{with_add, with_write}
-use Rattle.mt_model.proofs.Undo.{TakesBack, takes_back, effectless}
+use Rattle.mt_model.proofs.Undo.{takes_back}
 use Rattle.mt_live.specs.Entries.{Entry, kept, struck}
 use Rattle.mt_live.specs.Sound.{Each, IsDone}
 use Rattle.mt_live.proofs.Entries.{cell_runs, AreCellActed}
 use Rattle.mt_live.proofs.Shapes.{each_map, each_filter, Agree, AllAgree, Shape, Owned, Reads, Adds, shape}
-use Rattle.mt_live.proofs.AtCell.{with_step, steps, moved_cell, moved_cell-moved, count_run, adds_run, adds_acted, reads_run, reads_acted, owned_kept, room_part, strikes}
+use Rattle.mt_live.proofs.AtCell.{with_step, steps, moved_cell, moved_cell-moved, count_run, adds_run, adds_acted, reads_run, reads_acted, owned_kept, strikes}
 
 -- the three sums of a list's steps, of those that stay, and of those that are struck out
 pub record Parts (all some rest : List ℤ) : Type 0 where
@@ -72,39 +71,44 @@ pub moves : (c : Cell) (es : List Entry) → AllAgree es → Each IsDone es → 
 moves c es ag d room a p =
     let k : AreCellActed c (kept p es) = strikes c es ag d room a p in
     let r : HasRoom (cell_runs c (kept p es)).count (steps (struck p es)) =
-        subst (λ n. HasRoom n (steps (struck p es))) (sym (count_run c (kept p es) k (each_filter _ (λ e. p e.txn) es d))) (room_after c.count p es room) in
+    subst (λ n. HasRoom n (steps (struck p es))) (sym (count_run c (kept p es) k (each_filter _ (λ e. p e.txn) es d))) (room_after c.count p es room) in
     let m = go (shape es ag) k r in
     record { acted = m.0; same = m.1; room = r }
   where
     whole : (u : ℕ) → Each (λ e. e.txn ≡ u) es → (b : Bool) → p u ≡ b → Moved c p es
     whole u h true t =
         let x : kept p es ≡ es = owned_kept p es u h true t in
-        let y : struck p es ≡ [] = owned_kept (λ v. not (p v)) es u h false (ap not t) in
-        (subst (λ w. AreCellActed (cell_runs c (kept p es)) w) (sym y) tt,
-         ap (λ w. cell_runs (cell_runs c (kept p es)) w) y ∙ ap (cell_runs c) x)
+        let y : struck p es ≡ [] = owned_kept (λ v. not (p v)) es u h false (ap not t) in (
+          subst (λ w. AreCellActed (cell_runs c (kept p es)) w) (sym y) tt,
+          ap (λ w. cell_runs (cell_runs c (kept p es)) w) y ∙ ap (cell_runs c) x,
+        )
     whole u h false t =
         let x : kept p es ≡ [] = owned_kept p es u h false t in
-        let y : struck p es ≡ es = owned_kept (λ v. not (p v)) es u h true (ap not t) in
-        (subst (λ w. AreCellActed (cell_runs c w) (struck p es)) (sym x) (subst (λ w. AreCellActed c w) (sym y) a),
-         ap (λ w. cell_runs (cell_runs c w) (struck p es)) x ∙ ap (cell_runs c) y)
+        let y : struck p es ≡ es = owned_kept (λ v. not (p v)) es u h true (ap not t) in (
+          subst (λ w. AreCellActed (cell_runs c w) (struck p es)) (sym x) (subst (λ w. AreCellActed c w) (sym y) a),
+          ap (λ w. cell_runs (cell_runs c w) (struck p es)) x ∙ ap (cell_runs c) y,
+        )
+
     go : Shape es → AreCellActed c (kept p es) → HasRoom (cell_runs c (kept p es)).count (steps (struck p es)) → Moved c p es
     go (Owned u h) k r = whole u h (p u) refl
     go (Reads h) k r =
-        let x : cell_runs c (kept p es) ≡ c = reads_run c (kept p es) (each_filter _ (λ e. p e.txn) es h) in
-        (subst (λ w. AreCellActed w (struck p es)) (sym x) (reads_acted (λ e. not (p e.txn)) c es h a),
-         reads_run (cell_runs c (kept p es)) (struck p es) (each_filter _ (λ e. not (p e.txn)) es h) ∙ (x ∙ sym (reads_run c es h)))
+        let x : cell_runs c (kept p es) ≡ c = reads_run c (kept p es) (each_filter _ (λ e. p e.txn) es h) in (
+          subst (λ w. AreCellActed w (struck p es)) (sym x) (reads_acted (λ e. not (p e.txn)) c es h a),
+          reads_run (cell_runs c (kept p es)) (struck p es) (each_filter _ (λ e. not (p e.txn)) es h) ∙ (x ∙ sym (reads_run c es h)),
+        )
     go (Adds h) k r =
         let hk = each_filter _ (λ e. p e.txn) es h in
         let hs = each_filter _ (λ e. not (p e.txn)) es h in
         let dk = each_filter _ (λ e. p e.txn) es d in
         let ds = each_filter _ (λ e. not (p e.txn)) es d in
-        let as' : AreCellActed (cell_runs c (kept p es)) (struck p es) = adds_acted (cell_runs c (kept p es)) (struck p es) hs ds r in
-        (as',
-         adds_run (cell_runs c (kept p es)) (struck p es) hs as' ds
-         ∙ (ap (λ w. moved_cell w (total (steps (struck p es)))) (adds_run c (kept p es) hk k dk)
-         ∙ (moved_cell-moved c (total (steps (kept p es))) (total (steps (struck p es)))
-         ∙ (ap (moved_cell c) (sym (parts p es).sums)
-         ∙ sym (adds_run c es h a d)))))
+        let as' : AreCellActed (cell_runs c (kept p es)) (struck p es) = adds_acted (cell_runs c (kept p es)) (struck p es) hs ds r in (
+          as',
+          adds_run (cell_runs c (kept p es)) (struck p es) hs as' ds
+              ∙ (ap (λ w. moved_cell w (total (steps (struck p es)))) (adds_run c (kept p es) hk k dk)
+              ∙ (moved_cell-moved c (total (steps (kept p es))) (total (steps (struck p es)))
+              ∙ (ap (moved_cell c) (sym (parts p es).sums)
+              ∙ sym (adds_run c es h a d)))),
+        )
 
 -- ---- one entry taken back
 
@@ -151,9 +155,9 @@ add_back (Add n d) r i c ds m done h room =
     let s : Some (Add n (neg_ℤ d)) ≡ Some i = subst (λ w. inverse_of (Add n d) w ≡ Some i) done h in
     let t : Add n (neg_ℤ d) ≡ i = cc in
     let swap : moved c.count (d +ℤ total ds) ≡ moved (moved c.count (total ds)) d =
-        ap (moved c.count) (other d (total ds)) ∙ sym (moved-moved c.count (total ds) d) in
+    ap (moved c.count) (other d (total ds)) ∙ sym (moved-moved c.count (total ds) d) in
     let e : added (neg_ℤ d) (moved c.count (d +ℤ total ds)) ≡ moved c.count (total ds) =
-        ap (added (neg_ℤ d)) swap ∙ added_back (moved c.count (total ds)) d (total_bounds c.count ds room) in
+    ap (added (neg_ℤ d)) swap ∙ added_back (moved c.count (total ds)) d (total_bounds c.count ds room) in
     subst (λ j. moved_cell c (total ds) ≡ next j (moved_cell c (d +ℤ total ds))) t (λ k. record { row = c.row; count = sym e k })
   where
     other : (x y : ℤ) → x +ℤ y ≡ y +ℤ x
@@ -178,8 +182,9 @@ undoes c e es i ag d room a others h = go (mode_of e.op) refl
     go mode.Add is =
         let adds = each_map _ _ (λ f g. with_add (mode_of f.op) g) es (beside e mode.Add es is ag others) in
         let less = less_room c.count e.op (steps es) room in
-        let here : AreCellActed c es = adds_acted c es adds d.1 less in
-        (here,
-         adds_run c es adds here d.1
-         ∙ (add_back e.op e.reply i c (steps es) is (d.0 is) h less
-         ∙ ap (next i) (sym (adds_run c (e ∷ es) (is, adds) a d))))
+        let here : AreCellActed c es = adds_acted c es adds d.1 less in (
+          here,
+          adds_run c es adds here d.1
+              ∙ (add_back e.op e.reply i c (steps es) is (d.0 is) h less
+              ∙ ap (next i) (sym (adds_run c (e ∷ es) (is, adds) a d))),
+        )

@@ -1,14 +1,13 @@
 -- Transaction by transaction the pending adds are those that stand and the one that runs, so there is
 -- room for what stands.
-use Rattle.std.specs.Bool.{⊤}
-use Rattle.std.proofs.Common.{◌≡◌, ◌≢◌, ℕ, ℤ, pos, negsuc, ◌+ℤ◌, ◌≤ℤ◌, Bool, true, false, cond, not, ◌&&◌, ◌||◌, ◌==◌, List, [], ◌∷◌, ◌++◌, Option, Some, None, refl, ap, sym, ◌∙◌, subst, arith, filter, append-nil}
+use Rattle.std.proofs.Common.{◌≡◌, ◌≢◌, ℕ, ℤ, ◌≤ℤ◌, Bool, true, false, cond, ◌==◌, List, [], ◌∷◌, ◌++◌, refl, ap, sym, ◌∙◌, subst, arith}
 use Rattle.std.proofs.lemmas.Int.{ints}
 use Rattle.std.proofs.lemmas.Bool.Decides.{Decides-eqb}
 use Rattle.mt_model.specs.declared.counters.Count.{Count}
 use Rattle.mt_model.specs.declared.pending.Pending.{Pending}
-use Rattle.mt_model.specs.Escrow.{total, below, above, lowest, highest, HasRoom}
+use Rattle.mt_model.specs.Escrow.{lowest, highest, HasRoom}
 use Rattle.mt_model.specs.Pending.{steps_at, pending_of}
-use Rattle.mt_model.proofs.Sums.{below_is, above_is, lowest_below, highest_above, total_between}
+use Rattle.mt_model.proofs.Sums.{lowest_below, highest_above}
 
 -- one entry's step before others
 abbrev led : Bool → ℤ → List ℤ → List ℤ
@@ -96,4 +95,3 @@ pub room_wider : (n : Count) (xs ys : List ℤ) → Wider xs ys → HasRoom n xs
 room_wider n xs ys w h =
     let a = w.lows in let b = w.highs in let l = h.low in let u = h.high in
     record { low = omega (arith, ints); high = omega (arith, ints) }
-

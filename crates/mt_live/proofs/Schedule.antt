@@ -1,6 +1,5 @@
 -- Whole runs, and lists of transactions moved in front.
-use Rattle.std.specs.Bool.{⊤}
-use Rattle.std.proofs.Common.{◌≡◌, ◌≢◌, ℕ, ℤ, pos, ◌+ℤ◌, ◌≤ℤ◌, ◌≤◌, Bool, true, false, cond, ◌==◌, List, [], ◌∷◌, ◌++◌, Option, Some, None, is_some, refl, ap, sym, ◌∙◌, subst, arith, filter}
+use Rattle.std.proofs.Common.{◌≡◌, ℕ, Bool, true, ◌==◌, List, [], ◌∷◌, ◌++◌, Option, Some, None, refl, ap, sym, ◌∙◌, subst, arith}
 use Rattle.std.proofs.lemmas.Int.{ints}
 use Rattle.std.proofs.lemmas.Bool.Decides.{Decides-eqb}
 use Rattle.mt_base.specs.declared.modes.LockMode.{LockMode}
@@ -13,11 +12,11 @@ use Rattle.mt_model.specs.History.{after, IsLegal}
 use Rattle.mt_model.specs.Escrow.{HasRoom}
 use Rattle.mt_model.specs.Locks.{Held, AreTogether}
 use Rattle.mt_model.specs.Pending.{pending_of}
-use Rattle.mt_live.specs.Entries.{Entry, runs, kept, struck}
+use Rattle.mt_live.specs.Entries.{Entry, runs, kept}
 use Rattle.mt_live.specs.Adds.{adds, add_of}
 use Rattle.mt_live.specs.Sound.{Each, IsSound}
-use Rattle.mt_live.specs.Machine.{State, committed_base, only, others, is_live, IsKept, Goes, Begins, Calls, Ends, Drops, Commits, Undoes, Aborts, AllGo, last_state, start}
-use Rattle.mt_live.specs.Laws.{IsMoved, in_turn, without_all, IsRight}
+use Rattle.mt_live.specs.Machine.{State, only, others, is_live, IsKept, Goes, Begins, Calls, Ends, Drops, Commits, Undoes, Aborts, AllGo, last_state, start}
+use Rattle.mt_live.specs.Laws.{in_turn, without_all, IsRight}
 use Rattle.mt_live.proofs.Events.{commits}
 use Rattle.mt_live.proofs.Keeping.{kept_explained, kept_begun, kept_called, kept_ended, kept_dropped, kept_booked, kept_undone, kept_gone}
 

@@ -1,5 +1,5 @@
 -- What holds of the kernel without pages: the statements of its laws.
-use Rattle.std.specs.Prelude.{ℕ, ◌≡◌, ◌≢◌, List, [], ◌∷◌, ◌++◌, Option, Some, None, Bool, true}
+use Rattle.std.specs.Prelude.{ℕ, ◌≡◌, List, [], ◌∷◌, Some, None, Bool, true}
 use Rattle.mt_base.specs.declared.modes.LockMode.{LockMode}
 use Rattle.mt_model.specs.declared.objects.Object.{Object}
 use Rattle.mt_model.specs.declared.operations.Op.{Op}

@@ -3,3 +3,5 @@ pub mod Sound
 pub mod Adds
 pub mod Machine
 pub mod Laws
+pub mod Witness
+pub mod Mistakes

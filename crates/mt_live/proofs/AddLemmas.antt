@@ -10,14 +10,14 @@ use Rattle.mt_model.specs.declared.operations.Op.TheVariants.{Get, Insert, Updat
 use Rattle.mt_model.specs.declared.operations.Reply.{Reply}
 use Rattle.mt_model.specs.declared.operations.Reply.TheVariants.{Done}
 use Rattle.mt_model.specs.declared.pending.Pending.{Pending}
-use Rattle.mt_model.specs.Model.{moved, inverse_of, mode_of}
-use Rattle.mt_model.specs.Escrow.{total, lowest, highest, HasRoom}
+use Rattle.mt_model.specs.Model.{Base, moved, inverse_of, mode_of}
+use Rattle.mt_model.specs.Escrow.{IsAdmissible, total, lowest, highest, HasRoom}
 use Rattle.mt_model.specs.Pending.{steps_at, pending_of, pending_without}
-use Rattle.mt_model.proofs.Sums.{total_between}
+use Rattle.mt_model.proofs.Sums.{room_from_admissible, total_between}
 use Rattle.mt_live.specs.Entries.{Entry, kept}
 use Rattle.mt_live.specs.Adds.{add_before, adds, GivesBack}
 use Rattle.mt_live.specs.Sound.{Each, IsDone}
-use Rattle.mt_live.specs.Machine.{only, others, IsIdle}
+use Rattle.mt_live.specs.Machine.{IsAdmitted, only, others, IsIdle}
 use Rattle.mt_live.proofs.Pending.{covers_wider, room_wider}
 
 pub eq_self : (a : ℕ) → (a == a) ≡ true
@@ -236,3 +236,35 @@ out_room n c t op ps qs front out is h = room_wider n (steps_at c ps) (steps_at 
     go u false e =
         let apart : u ≢ t = λ s. let x : (u == t) ≡ true = (Decides-eqb u t).1 s in absurd cc in
         sym (append-nil (pending_of u qs) ∙ out.apart u apart)
+
+-- ---- an add is admitted
+
+steps_at-append : (c : ℕ) (ps qs : List Pending) → steps_at c (ps ++ qs) ≡ steps_at c ps ++ steps_at c qs
+steps_at-append c [] qs = refl
+steps_at-append c (p ∷ ps) qs = go (p.counter == c) (steps_at-append c ps qs)
+  where
+    go : (b : Bool) → steps_at c (ps ++ qs) ≡ steps_at c ps ++ steps_at c qs
+        → cond b (p.step ∷ steps_at c (ps ++ qs)) (steps_at c (ps ++ qs)) ≡ cond b (p.step ∷ steps_at c ps) (steps_at c ps) ++ steps_at c qs
+    go true h = ap (λ w. p.step ∷ w) h
+    go false h = h
+
+-- at the add's counter there is room by its admission, at any other by the room before
+room_beside : (m : Base) (ps : List Pending) (p : Pending) → ((c : ℕ) → HasRoom (m.counts c) (steps_at c ps))
+    → IsAdmissible (m.counts p.counter) (steps_at p.counter (ps ++ p ∷ [])) → (c : ℕ) (b : Bool) → (p.counter == c) ≡ b → HasRoom (m.counts c) (steps_at c (ps ++ p ∷ []))
+room_beside m ps p room admitted c true is =
+    let same : p.counter ≡ c = (Decides-eqb p.counter c).0 is in
+    subst (λ d. HasRoom (m.counts d) (steps_at d (ps ++ p ∷ []))) same (room_from_admissible (m.counts p.counter) (steps_at p.counter (ps ++ p ∷ [])) admitted)
+room_beside m ps p room admitted c false is =
+    let none : steps_at c (p ∷ []) ≡ [] = rw is refl in
+    subst (HasRoom (m.counts c)) (sym (steps_at-append c ps (p ∷ []) ∙ (ap (λ w. steps_at c ps ++ w) none ∙ append-nil (steps_at c ps)))) (room c)
+
+room_still : (m : Base) (ps : List Pending) → ((c : ℕ) → HasRoom (m.counts c) (steps_at c ps)) → (c : ℕ) → HasRoom (m.counts c) (steps_at c (ps ++ []))
+room_still m ps room c = subst (λ w. HasRoom (m.counts c) (steps_at c w)) (sym (append-nil ps)) (room c)
+
+pub room_called : (m : Base) (ps : List Pending) (t : ℕ) (op : Op) → ((c : ℕ) → HasRoom (m.counts c) (steps_at c ps)) → IsAdmitted m ps t op → (c : ℕ) → HasRoom (m.counts c) (steps_at c (ps ++ add_before t op []))
+room_called m ps t (Add n d) room admitted c = room_beside m ps (record { txn = t; counter = n; step = d }) room admitted c (n == c) refl
+room_called m ps t (Get r k) room admitted c = room_still m ps room c
+room_called m ps t (Insert r k v) room admitted c = room_still m ps room c
+room_called m ps t (Update r k v) room admitted c = room_still m ps room c
+room_called m ps t (Delete r k) room admitted c = room_still m ps room c
+room_called m ps t (Read n) room admitted c = room_still m ps room c

@@ -23,7 +23,7 @@ use Rattle.mt_live.proofs.Shapes.{each_map, each_filter}
 use Rattle.mt_live.proofs.Events.{explained, counts_run, steps-at, steps_on, each_append, each_front, each_back, ended as entry_ended, commits, undone as entry_undone, leaves}
 use Rattle.mt_live.proofs.Pending.{not_eq, Covers, covers_wider, room_wider}
 use Rattle.mt_live.proofs.Locking.{has_lock, still_held, more_locks, holder_of, held_before, another_holds, held_after, fewer_locks, still_locked}
-use Rattle.mt_live.proofs.AddLemmas.{eq_self, eq_flip, adds-append, pending_of-append, of_before, of_mine, of_other, adds_last, of_without, adds-kept, not_others, room_shared, adds_only, idle_adds, Taken, taken_of, undone_tied, out_room}
+use Rattle.mt_live.proofs.AddLemmas.{eq_self, eq_flip, adds-append, pending_of-append, of_before, of_mine, of_other, adds_last, of_without, adds-kept, not_others, room_shared, adds_only, idle_adds, Taken, taken_of, undone_tied, out_room, room_called}
 
 -- ---- what is kept is what is claimed
 
@@ -142,7 +142,7 @@ kept_called b s t op k may = record {
   sound = relocked s.held (called s t op).held (still_held s.held t (object_of op) (mode_of op)) (committed_base b s) s.standing k.sound;
   base = k.base;
   locks = more_locks s.held t (object_of op) (mode_of op) k.locks may.free;
-  room = may.admitted;
+  room = room_called (committed_base b s) s.pending t op k.room may.admitted;
   tied = λ u. called_tied s t op may.idle k.tied u (u == t) (flip u) refl;
   locked = λ u p is. called_locked s t op k.locked u p (u == t) refl is;
   owned = record {

@@ -11,22 +11,18 @@ use Rattle.mt_model.specs.declared.operations.Reply.TheVariants.{Done}
 use Rattle.mt_model.specs.declared.pending.Pending.{Pending}
 use Rattle.mt_model.specs.Escrow.{HasRoom}
 use Rattle.mt_model.specs.Locks.{Held, no_locks, with_lock, IsFree}
+use Rattle.mt_model.proofs.Sums.{admissible_from_room}
 use Rattle.mt_live.specs.Machine.{AllGo, Begins, Calls, Ends, Drops, Commits, Undoes, Aborts, start}
 use Rattle.mt_live.specs.Witness.{five, opening, insert, first_add, states, RunTakesPlace}
 use Rattle.mt_live.proofs.Locking.{is_this, holder_of}
 
 -- ---- room
 
-no_steps : HasRoom five []
-no_steps = record { low = omega (arith, ints); high = omega (arith, ints) }
+one_step : HasRoom five (pos 2 ∷ [])
+one_step = record { low = omega (arith, ints); high = omega (arith, ints) }
 
-one_step : (b : Bool) → HasRoom five (cond b (pos 2 ∷ []) [])
-one_step true = record { low = omega (arith, ints); high = omega (arith, ints) }
-one_step false = no_steps
-
-two_steps : (b : Bool) → HasRoom five (cond b (pos 2 ∷ cond b (pos 1 ∷ []) []) (cond b (pos 1 ∷ []) []))
-two_steps true = record { low = omega (arith, ints); high = omega (arith, ints) }
-two_steps false = no_steps
+two_steps : HasRoom five (pos 2 ∷ pos 1 ∷ [])
+two_steps = record { low = omega (arith, ints); high = omega (arith, ints) }
 
 -- ---- locks
 
@@ -85,15 +81,15 @@ goes = (
   (
     Begins 8 refl,
     (
-      Calls 1 insert (record { live = refl; idle = refl; free = free_at_first; admitted = λ c. no_steps }) refl,
+      Calls 1 insert (record { live = refl; idle = refl; free = free_at_first; admitted = tt }) refl,
       (
-        Calls 2 (Add 0 (pos 2)) (record { live = refl; idle = refl; free = free_beside_the_row; admitted = λ c. one_step (0 == c) }) refl,
+        Calls 2 (Add 0 (pos 2)) (record { live = refl; idle = refl; free = free_beside_the_row; admitted = admissible_from_room five (pos 2 ∷ []) one_step }) refl,
         (
           Ends 2 (Add 0 (pos 2)) refl refl,
           (
             Ends 1 insert refl refl,
             (
-              Calls 2 (Add 0 (pos 1)) (record { live = refl; idle = refl; free = free_beside_its_own; admitted = λ c. two_steps (0 == c) }) refl,
+              Calls 2 (Add 0 (pos 1)) (record { live = refl; idle = refl; free = free_beside_its_own; admitted = admissible_from_room five (pos 2 ∷ pos 1 ∷ []) two_steps }) refl,
               (
                 Drops 2 (Add 0 (pos 1)) (first_add ∷ []) refl (record {
                   its = λ front h. same_front second_add (first_add ∷ []) front h;

@@ -3,11 +3,12 @@ use Rattle.std.specs.Prelude.{ℕ, ◌≡◌, ◌≤◌, ◌+◌, ◌==◌, Bool
 use Rattle.mt_base.specs.declared.modes.LockMode.{LockMode}
 use Rattle.mt_model.specs.declared.objects.Object.{Object}
 use Rattle.mt_model.specs.declared.operations.Op.{Op}
+use Rattle.mt_model.specs.declared.operations.Op.TheVariants.{Add}
 use Rattle.mt_model.specs.declared.pending.Pending.{Pending}
 use Rattle.mt_model.specs.declared.history.Committed.{Committed}
 use Rattle.mt_model.specs.Model.{Base, object_of, mode_of, reply_of, base_after, inverse_of}
 use Rattle.mt_model.specs.History.{after, IsLegal}
-use Rattle.mt_model.specs.Escrow.{HasRoom}
+use Rattle.mt_model.specs.Escrow.{IsAdmissible, HasRoom}
 use Rattle.mt_model.specs.Locks.{Held, no_locks, with_lock, without_holder, IsFree, AreTogether}
 use Rattle.mt_model.specs.Pending.{steps_at, pending_of, pending_without}
 use Rattle.mt_live.specs.Entries.{Entry, calls, runs, kept}
@@ -80,13 +81,17 @@ called s t op = record s {
   pending = s.pending ++ add_before t op [];
 }
 
--- its transaction lives and runs nothing, no other holds a lock that bars it, and each counter has room
--- for whichever of the pending adds and this one
+-- an add is admissible beside those that are pending
+abbrev pub IsAdmitted : Base → List Pending → ℕ → Op → Type 0
+IsAdmitted m ps t (Add c d) = IsAdmissible (m.counts c) (steps_at c (ps ++ record { txn = t; counter = c; step = d } ∷ []))
+IsAdmitted m ps t _ = ⊤
+
+-- its transaction lives and runs nothing, no other holds a lock that bars it, and escrow admits it
 pub record MayCall (b : Base) (s : State) (t : ℕ) (op : Op) : Type 0 where
   pub live : is_live s t ≡ true
   pub idle : s.running t ≡ None
   pub free : IsFree s.held t (object_of op) (mode_of op)
-  pub admitted : (c : ℕ) → HasRoom ((committed_base b s).counts c) (steps_at c (s.pending ++ add_before t op []))
+  pub admitted : IsAdmitted (committed_base b s) s.pending t op
 
 -- what a transaction runs ends: it stands behind all others, with the model's reply on the base
 abbrev pub ended : State → ℕ → Op → State

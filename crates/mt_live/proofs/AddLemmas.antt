@@ -17,7 +17,9 @@ use Rattle.mt_model.proofs.Sums.{room_from_admissible, total_between}
 use Rattle.mt_live.specs.Entries.{Entry, kept}
 use Rattle.mt_live.specs.Adds.{add_before, adds, GivesBack}
 use Rattle.mt_live.specs.Sound.{Each, IsDone}
-use Rattle.mt_live.specs.Machine.{IsAdmitted, only, others, IsIdle}
+use Rattle.mt_live.specs.Undoing.{only, others}
+use Rattle.mt_live.specs.Machine.{IsAdmitted}
+use Rattle.mt_live.proofs.Cuts.{IsIdle}
 use Rattle.mt_live.proofs.Pending.{covers_wider, room_wider}
 
 pub eq_self : (a : ℕ) → (a == a) ≡ true

@@ -17,7 +17,9 @@ use Rattle.mt_model.proofs.Appends.{after-append, legal_append}
 use Rattle.mt_live.specs.Entries.{Entry, calls, runs, kept, IsExplained}
 use Rattle.mt_live.specs.Adds.{add_before, adds, add_of, GivesBack}
 use Rattle.mt_live.specs.Sound.{Each, IsLocked, IsDone, IsSound}
-use Rattle.mt_live.specs.Machine.{State, committed_base, only, others, put, is_live, AreOwned, IsKept, begun, called, MayCall, ended, dropped, gone, booked, IsIdle, IsLastDone, undone}
+use Rattle.mt_live.specs.Undoing.{only, others, last_effect, cut_back}
+use Rattle.mt_live.specs.Machine.{State, committed_base, put, is_live, AreOwned, IsKept, begun, called, MayCall, ended, dropped, gone, booked, undone}
+use Rattle.mt_live.proofs.Cuts.{IsIdle, IsLastDone, idle_all, Cut, cut_of}
 use Rattle.mt_live.specs.Laws.{IsMoved}
 use Rattle.mt_live.proofs.Shapes.{each_map, each_filter}
 use Rattle.mt_live.proofs.Events.{explained, counts_run, steps-at, steps_on, each_append, each_front, each_back, ended as entry_ended, commits, undone as entry_undone, leaves}
@@ -274,8 +276,9 @@ booked_owned s t session idle o =
 
 -- ---- an abort ends
 
-pub kept_gone : (b : Base) (s : State) (t : ℕ) → IsKept b s → s.running t ≡ None → Each (IsIdle t) s.standing → IsKept b (gone s t)
-kept_gone b s t k idle none =
+pub kept_gone : (b : Base) (s : State) (t : ℕ) → IsKept b s → s.running t ≡ None → last_effect t s.standing ≡ None → IsKept b (gone s t)
+kept_gone b s t k idle nothing =
+    let none = idle_all t s.standing nothing in
     let n : Each (λ e. others t e.txn ≡ false → inverse_of e.op e.reply ≡ None) s.standing = each_map (IsIdle t) (λ e. others t e.txn ≡ false → inverse_of e.op e.reply ≡ None) (λ e i h. i (not_others t e.txn h)) s.standing none in
     let l = leaves s.held (committed_base b s) (others t) [] s.standing k.sound n in
     record {
@@ -345,9 +348,13 @@ others_apart : (e : Entry) (t : ℕ) (fs : List Entry) → e.txn ≡ t → Each 
 others_apart e t [] same = tt
 others_apart e t (f ∷ fs) same = cond_apart e t f (kept (others t) fs) (f.txn == t) refl same (others_apart e t fs same)
 
-pub kept_undone : (b : Base) (s : State) (t : ℕ) (front : List Entry) (e : Entry) (rest : List Entry) (i : Op) (ps : List Pending) → IsKept b s → s.running t ≡ None
-    → IsLastDone t s.standing front e rest i → GivesBack t e.op s.pending ps → IsKept b (undone s t front rest i ps)
-kept_undone b s t front e rest i ps k idle m given =
+-- what stands once the entry is undone, as lists
+abbrev undone_at : State → List Entry → Op → List Pending → State
+undone_at s standing i ps = record s { standing = standing; pending = ps; base = base_after s.base i }
+
+kept_undone_at : (b : Base) (s : State) (t : ℕ) (front : List Entry) (e : Entry) (rest : List Entry) (i : Op) (ps : List Pending) → IsKept b s → s.running t ≡ None
+    → IsLastDone t s.standing front e rest i → GivesBack t e.op s.pending ps → IsKept b (undone_at s (front ++ kept (others t) rest) i ps)
+kept_undone_at b s t front e rest i ps k idle m given =
     let h : Held = s.held in
     let base : Base = committed_base b s in
     let out = taken_of t e.op s.pending ps given in
@@ -394,3 +401,9 @@ kept_undone b s t front e rest i ps k idle m given =
         ∙ ap (λ w. pending_of t (adds front) ++ w) (ap (λ v. pending_of t (add_before v e.op (adds rest))) m.its
         ∙ (of_before t t e.op (adds rest) ∙ (ap (λ w. cond w (add_before t e.op (pending_of t (adds rest))) (pending_of t (adds rest))) (eq_self t)
         ∙ ap (add_before t e.op) nothing)))))))
+
+pub kept_undone : (b : Base) (s : State) (t : ℕ) (e : Entry) (i : Op) (ps : List Pending) → IsKept b s → s.running t ≡ None
+    → last_effect t s.standing ≡ Some e → inverse_of e.op e.reply ≡ Some i → GivesBack t e.op s.pending ps → IsKept b (undone s t i ps)
+kept_undone b s t e i ps k idle last inverse given =
+    let c = cut_of t s.standing e i last inverse in
+    subst (λ w. IsKept b (undone_at s w i ps)) (sym c.then) (kept_undone_at b s t c.front e c.rest i ps k idle c.done given)

@@ -4,6 +4,7 @@ pub mod AtCell
 pub mod Moving
 pub mod Events
 pub mod Pending
+pub mod Cuts
 pub mod Locking
 pub mod AddLemmas
 pub mod Keeping

@@ -10,7 +10,7 @@ use Rattle.mt_model.specs.Locks.{Held, same_mode, is_lock, with_lock, without_ho
 use Rattle.mt_model.proofs.Cells.{and_parts, both_true, same-true, same-self}
 use Rattle.mt_live.specs.Entries.{Entry, kept}
 use Rattle.mt_live.specs.Sound.{Each, IsLocked}
-use Rattle.mt_live.specs.Machine.{others}
+use Rattle.mt_live.specs.Undoing.{others}
 
 or_parts : (p q : Bool) → (p || q) ≡ true → (p ≡ true) ⊎ (q ≡ true)
 or_parts true q h = inl refl

@@ -15,7 +15,8 @@ use Rattle.mt_model.specs.Pending.{pending_of}
 use Rattle.mt_live.specs.Entries.{Entry, runs, kept}
 use Rattle.mt_live.specs.Adds.{adds, add_of}
 use Rattle.mt_live.specs.Sound.{Each, IsSound}
-use Rattle.mt_live.specs.Machine.{State, only, others, is_live, IsKept, Goes, Begins, Calls, Ends, Drops, Commits, Undoes, Aborts, AllGo, last_state, start}
+use Rattle.mt_live.specs.Undoing.{only, others}
+use Rattle.mt_live.specs.Machine.{State, is_live, IsKept, Goes, Begins, Calls, Ends, Drops, Commits, Undoes, Aborts, AllGo, last_state, start}
 use Rattle.mt_live.specs.Laws.{in_turn, without_all, IsRight}
 use Rattle.mt_live.proofs.Events.{commits}
 use Rattle.mt_live.proofs.Keeping.{kept_explained, kept_begun, kept_called, kept_ended, kept_dropped, kept_booked, kept_undone, kept_gone}
@@ -28,7 +29,7 @@ goes b s z k (Calls t op may is) = subst (IsKept b) (sym is) (kept_called b s t 
 goes b s z k (Ends t op running is) = subst (IsKept b) (sym is) (kept_ended b s t op k running)
 goes b s z k (Drops t op ps running given is) = subst (IsKept b) (sym is) (kept_dropped b s t op ps k running given)
 goes b s z k (Commits t session live idle is) = subst (IsKept b) (sym is) (kept_booked b s t session k idle)
-goes b s z k (Undoes t front last rest i ps idle m given is) = subst (IsKept b) (sym is) (kept_undone b s t front last rest i ps k idle m given)
+goes b s z k (Undoes t last i ps idle done inverse given is) = subst (IsKept b) (sym is) (kept_undone b s t last i ps k idle done inverse given)
 goes b s z k (Aborts t idle none is) = subst (IsKept b) (sym is) (kept_gone b s t k idle none)
 
 pub all_go : (b : Base) (s : State) (zs : List State) → IsKept b s → AllGo b s zs → IsKept b (last_state s zs)

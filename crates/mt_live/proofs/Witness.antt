@@ -98,13 +98,12 @@ goes = (
                 (
                   Commits 1 7 refl refl refl,
                   (
-                    Undoes 2 [] (record { txn = 2; op = Add 0 (pos 2); reply = Done }) [] (Add 0 (negsuc 1)) [] refl
-                        (record { place = refl; its = refl; inverse = refl; idle = tt })
+                    Undoes 2 (record { txn = 2; op = Add 0 (pos 2); reply = Done }) (Add 0 (negsuc 1)) [] refl refl refl
                         (record {
                           its = λ front h. same_front first_add [] front h;
                           apart = λ u apart. let no_other = another u apart (2 == u) refl in rw no_other refl;
                         }) refl,
-                    (Aborts 2 refl tt refl, tt),
+                    (Aborts 2 refl refl refl, tt),
                   ),
                 ),
               ),

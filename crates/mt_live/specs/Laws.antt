@@ -5,14 +5,15 @@ use Rattle.mt_model.specs.declared.objects.Object.{Object}
 use Rattle.mt_model.specs.declared.operations.Op.{Op}
 use Rattle.mt_model.specs.declared.pending.Pending.{Pending}
 use Rattle.mt_model.specs.declared.history.Committed.{Committed}
-use Rattle.mt_model.specs.Model.{Base, IsBase}
+use Rattle.mt_model.specs.Model.{Base, IsBase, inverse_of}
 use Rattle.mt_model.specs.History.{IsLegal, after}
 use Rattle.mt_model.specs.Locks.{Held, AreTogether}
 use Rattle.mt_model.specs.Pending.{moved_by}
 use Rattle.mt_live.specs.Entries.{Entry, calls, runs, AreActed, kept, struck, IsExplained}
 use Rattle.mt_live.specs.Adds.{GivesBack}
 use Rattle.mt_live.specs.Sound.{Each, IsSound}
-use Rattle.mt_live.specs.Machine.{State, committed_base, only, others, is_live, IsKept, begun, called, MayCall, ended, dropped, gone, booked, IsIdle, IsLastDone, undone, AllGo, last_state, start}
+use Rattle.mt_live.specs.Undoing.{only, others, last_effect}
+use Rattle.mt_live.specs.Machine.{State, committed_base, is_live, IsKept, begun, called, MayCall, ended, dropped, gone, booked, undone, AllGo, last_state, start}
 
 -- ---- what each event keeps
 
@@ -41,18 +42,19 @@ CommitMovesCounters =
 
 abbrev pub InverseKeeps : Type 0
 InverseKeeps =
-    (b : Base) (s : State) (t : ℕ) (front : List Entry) (last : Entry) (rest : List Entry) (i : Op) (ps : List Pending)
-    → IsKept b s → s.running t ≡ None → IsLastDone t s.standing front last rest i → GivesBack t last.op s.pending ps
-    → IsKept b (undone s t front rest i ps)
+    (b : Base) (s : State) (t : ℕ) (last : Entry) (i : Op) (ps : List Pending) → IsKept b s → s.running t ≡ None
+    → last_effect t s.standing ≡ Some last → inverse_of last.op last.reply ≡ Some i → GivesBack t last.op s.pending ps
+    → IsKept b (undone s t i ps)
 
 abbrev pub AbortKeeps : Type 0
-AbortKeeps = (b : Base) (s : State) (t : ℕ) → IsKept b s → s.running t ≡ None → Each (IsIdle t) s.standing → IsKept b (gone s t)
+AbortKeeps =
+    (b : Base) (s : State) (t : ℕ) → IsKept b s → s.running t ≡ None → last_effect t s.standing ≡ None → IsKept b (gone s t)
 
 -- what stands is what stood without the transaction, on the same book, and its run alone leads to the
 -- base that the pages hold
 abbrev pub AbortLeavesNoTrace : Type 0
 AbortLeavesNoTrace =
-    (b : Base) (s : State) (t : ℕ) → IsKept b s → s.running t ≡ None → Each (IsIdle t) s.standing
+    (b : Base) (s : State) (t : ℕ) → IsKept b s → s.running t ≡ None → last_effect t s.standing ≡ None
     → ((gone s t).standing ≡ kept (others t) s.standing) × ((gone s t).book ≡ s.book)
     × ((gone s t).base ≡ runs (committed_base b s) (kept (others t) s.standing))
 

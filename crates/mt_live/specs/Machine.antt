@@ -13,6 +13,7 @@ use Rattle.mt_model.specs.Locks.{Held, no_locks, with_lock, without_holder, IsFr
 use Rattle.mt_model.specs.Pending.{steps_at, pending_of, pending_without}
 use Rattle.mt_live.specs.Entries.{Entry, calls, runs, kept}
 use Rattle.mt_live.specs.Adds.{add_before, adds, add_of, GivesBack}
+use Rattle.mt_live.specs.Undoing.{only, others, last_effect, cut_back}
 use Rattle.mt_live.specs.Sound.{Each, IsSound}
 
 -- the transactions that are durable, in the order of their commits; the session of each live one, and
@@ -31,13 +32,6 @@ pub record State : Type 0 where
 -- the base that the durable transactions leave
 abbrev pub committed_base : Base → State → Base
 committed_base b s = after b s.book
-
--- one number, and all others
-abbrev pub only : ℕ → ℕ → Bool
-only t u = u == t
-
-abbrev pub others : ℕ → ℕ → Bool
-others t u = not (u == t)
 
 abbrev pub put : {A : Type 0} → (ℕ → A) → ℕ → A → ℕ → A
 put f t x u = cond (u == t) x (f u)
@@ -120,21 +114,10 @@ booked s t session = record (gone s t) {
   book = s.book ++ record { session = session; calls = calls (kept (only t) s.standing) } ∷ [];
 }
 
--- an entry of the transaction has nothing to be undone
-abbrev pub IsIdle : ℕ → Entry → Type 0
-IsIdle t e = e.txn ≡ t → inverse_of e.op e.reply ≡ None
-
--- of what stands, this is the last entry of the transaction that has an inverse, and this the inverse
-pub record IsLastDone (t : ℕ) (standing front : List Entry) (last : Entry) (rest : List Entry) (i : Op) : Type 0 where
-  pub place : standing ≡ front ++ last ∷ rest
-  pub its : last.txn ≡ t
-  pub inverse : inverse_of last.op last.reply ≡ Some i
-  pub idle : Each (IsIdle t) rest
-
--- the inverse has ended: the entry goes, and with it the transaction's entries behind it
-abbrev pub undone : State → ℕ → List Entry → List Entry → Op → List Pending → State
-undone s t front rest i pending = record s {
-  standing = front ++ kept (others t) rest;
+-- the inverse of a transaction's last effect has ended
+abbrev pub undone : State → ℕ → Op → List Pending → State
+undone s t i pending = record s {
+  standing = cut_back t s.standing;
   pending = pending;
   base = base_after s.base i;
 }
@@ -147,10 +130,10 @@ pub data Goes (b : Base) (s z : State) : Type 0 where
   Drops : (t : ℕ) → (op : Op) → (ps : List Pending) → s.running t ≡ Some op → GivesBack t op s.pending ps
       → z ≡ dropped s t ps → Goes b s z
   Commits : (t : ℕ) → (session : ℕ) → s.sessions t ≡ Some session → s.running t ≡ None → z ≡ booked s t session → Goes b s z
-  Undoes : (t : ℕ) → (front : List Entry) → (last : Entry) → (rest : List Entry) → (i : Op) → (ps : List Pending)
-      → s.running t ≡ None → IsLastDone t s.standing front last rest i → GivesBack t last.op s.pending ps
-      → z ≡ undone s t front rest i ps → Goes b s z
-  Aborts : (t : ℕ) → s.running t ≡ None → Each (IsIdle t) s.standing → z ≡ gone s t → Goes b s z
+  Undoes : (t : ℕ) → (last : Entry) → (i : Op) → (ps : List Pending) → s.running t ≡ None
+      → last_effect t s.standing ≡ Some last → inverse_of last.op last.reply ≡ Some i
+      → GivesBack t last.op s.pending ps → z ≡ undone s t i ps → Goes b s z
+  Aborts : (t : ℕ) → s.running t ≡ None → last_effect t s.standing ≡ None → z ≡ gone s t → Goes b s z
 
 -- one event after the other
 abbrev pub AllGo : Base → State → List State → Type 0

@@ -34,7 +34,7 @@ states =
     let g : State = called f 2 (Add 0 (pos 1)) in
     let h : State = dropped g 2 (first_add ∷ []) in
     let i : State = booked h 1 7 in
-    let j : State = undone i 2 [] [] (Add 0 (negsuc 1)) [] in
+    let j : State = undone i 2 (Add 0 (negsuc 1)) [] in
     let k : State = gone j 2 in
     a ∷ b ∷ c ∷ d ∷ e ∷ f ∷ g ∷ h ∷ i ∷ j ∷ k ∷ []
 

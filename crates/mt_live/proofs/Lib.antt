@@ -11,3 +11,5 @@ pub mod Keeping
 pub mod Schedule
 pub mod Witness
 pub mod Failures
+pub mod Lasts
+pub mod Ends

@@ -6,3 +6,5 @@ pub mod Machine
 pub mod Laws
 pub mod Witness
 pub mod Mistakes
+pub mod Members
+pub mod Lives

@@ -6,3 +6,7 @@
 
 pub mod laws;
 pub mod mistakes;
+mod places;
+mod transactions;
+
+pub use transactions::TxnState;

@@ -2,6 +2,7 @@
 use Rattle.std.specs.Bool.{⊤}
 use Rattle.std.proofs.Common.{◌≡◌, ◌≢◌, ◌⊎◌, inl, inr, ℕ, zero, suc, ◌<◌, ◌≤◌, ◌+◌, ◌==◌, ◌||◌, ◌&&◌, nat_lt, Bool, true, false, cond, not, List, [], ◌∷◌, ◌++◌, Option, Some, None, is_some, filter, map, take, drop, length, refl, ap, sym, ◌∙◌, subst, arith, append-nil, append_assoc}
 use Rattle.std.proofs.lemmas.Bool.Decides.{Decides-eqb, nat_tests}
+use Rattle.std.proofs.lemmas.List.{length-take-le}
 use Rattle.std.proofs.lemmas.List.Elements.{filter-append}
 use Rattle.mt_model.specs.History.{Call}
 use Rattle.mt_live.specs.declared.places.Place.{Place}
@@ -73,6 +74,7 @@ numbers_between t (o ∷ os) j m h = go (o.txn == t) refl h (λ i k. numbers_bet
     lower : (k : ℕ) (ps : List Place) → Each (λ (p : Place). p.txn ≡ t → (suc j ≤ p.index) × (p.index < suc j + k)) ps → m ≡ suc k → Each (λ (p : Place). p.txn ≡ t → (j ≤ p.index) × (p.index < j + m)) ps
     lower k [] e is = tt
     lower k (p ∷ ps) e is = ((λ own. let b = e.0 own in (omega (arith, b.0), omega (arith, b.1, is))), lower k ps e.1 is)
+
     go : (b : Bool) → (o.txn == t) ≡ b → map (λ (p : Place). p.index) (cond b (o ∷ filter (λ (p : Place). p.txn == t) os) (filter (λ (p : Place). p.txn == t) os)) ≡ count_from j m
         → ((i k : ℕ) → numbers t os ≡ count_from i k → Each (λ (p : Place). p.txn ≡ t → (i ≤ p.index) × (p.index < i + k)) os)
         → Each (λ (p : Place). p.txn ≡ t → (j ≤ p.index) × (p.index < j + m)) (o ∷ os)
@@ -111,6 +113,7 @@ standing_own f t (o ∷ os) j m r h is size = go (o.txn == t) refl h (λ i k s. 
     here : (c : Call) (s : List Call) → o.txn ≡ t → o.index ≡ j → drop j (f t) ≡ c ∷ s → entries_at f o ≡ entry_by t c ∷ []
     here c s own at' d =
         ap (λ v. map (entry_by v) (take 1 (drop o.index (f v)))) own ∙ (ap (λ n. map (entry_by t) (take 1 (drop n (f t)))) at' ∙ ap (λ w. map (entry_by t) (take 1 w)) d)
+
     mine : (k : ℕ) (s : List Call) → r ≡ s → m ≡ suc k → o.txn ≡ t → o.index ≡ j → numbers t os ≡ count_from (suc j) k
         → ((i n : ℕ) (q : List Call) → numbers t os ≡ count_from i n → drop i (f t) ≡ q → length q ≡ n → kept (only t) (standing_by f os) ≡ map (entry_by t) q)
         → entries_at f o ++ kept (only t) (standing_by f os) ≡ map (entry_by t) s
@@ -120,6 +123,7 @@ standing_own f t (o ∷ os) j m r h is size = go (o.txn == t) refl h (λ i k s. 
         let l : suc (length s) ≡ length r = sym (ap length same) in
         ap (λ w. w ++ kept (only t) (standing_by f os)) (here c s own at' d)
         ∙ ap (λ w. entry_by t c ∷ w) (rec (suc j) k s rest (drop_next (f t) j c s d) (omega (arith, l, size, ms)))
+
     go : (b : Bool) → (o.txn == t) ≡ b → map (λ (p : Place). p.index) (cond b (o ∷ filter (λ (p : Place). p.txn == t) os) (filter (λ (p : Place). p.txn == t) os)) ≡ count_from j m
         → ((i n : ℕ) (q : List Call) → numbers t os ≡ count_from i n → drop i (f t) ≡ q → length q ≡ n → kept (only t) (standing_by f os) ≡ map (entry_by t) q)
         → kept (only t) (standing_by f (o ∷ os)) ≡ map (entry_by t) r
@@ -259,7 +263,7 @@ effect_beyond : (t u : ℕ) (cs : List Call) (es : List Entry) → (u == t) ≡ 
 effect_beyond t u [] es apart = refl
 effect_beyond t u (c ∷ cs) es apart = rw apart (last_false (last_effect t (map (entry_by u) cs ++ es)) (entry_by u c) ∙ effect_beyond t u cs es apart)
 
-cut_none : (t : ℕ) (es : List Entry) → last_effect t es ≡ None → cut_back t es ≡ es
+pub cut_none : (t : ℕ) (es : List Entry) → last_effect t es ≡ None → cut_back t es ≡ es
 cut_none t [] h = refl
 cut_none t (e ∷ es) h = go (last_effect t es) refl (is_effect t e) refl h
   where
@@ -321,6 +325,7 @@ nothing_to_undo f t (o ∷ os) j m r h is size none = go (o.txn == t) refl h (λ
         let after = rec (suc j) k s rest (drop_next (f t) j c s d) n.1.1.1 l.0 in
         let idle = own_effect t c false l.1 in
         ap (λ w. last_effect t (w ++ standing_by f os)) (own_entry f t o j c s own place d) ∙ rw (after, idle) refl
+
     go : (b : Bool) → (o.txn == t) ≡ b → map (λ (p : Place). p.index) (cond b (o ∷ filter (λ (p : Place). p.txn == t) os) (filter (λ (p : Place). p.txn == t) os)) ≡ count_from j m
         → ((i n : ℕ) (q : List Call) → numbers t os ≡ count_from i n → drop i (f t) ≡ q → length q ≡ n → last_place q ≡ None → last_effect t (standing_by f os) ≡ None)
         → last_effect t (standing_by f (o ∷ os)) ≡ None
@@ -380,6 +385,7 @@ undone_by f t k (o ∷ os) j m r n h is size last at' = go (o.txn == t) refl h (
               ∙ (ap (λ w. w ++ standing_by (put f t (take k (f t))) (filter (before_cut t k) os)) (sym here ∙ sym kept_entry)
               ∙ ap (λ b. standing_by (put f t (take k (f t))) (cond b (o ∷ filter (before_cut t k) os) (filter (before_cut t k) os))) (sym test)));
         }
+
     goes : (c : Call) (s : List Call) (l : ℕ) → o.txn ≡ t → o.index ≡ j → drop j (f t) ≡ c ∷ s → numbers t os ≡ count_from (suc j) l → length s ≡ l → last_place s ≡ None → has_inverse c ≡ true → n ≡ 0
         → IsUndone f t k (o ∷ os)
     goes c s l own place d rest size none effect first =
@@ -399,6 +405,7 @@ undone_by f t k (o ∷ os) j m r n h is size last at' = go (o.txn == t) refl h (
               ∙ (ap (standing_by (put f t (take k (f t)))) (sym (filter_same (before_cut t k) (λ (p : Place). not (p.txn == t)) os (all_cut t k os l bounds)))
               ∙ ap (λ b. standing_by (put f t (take k (f t))) (cond b (o ∷ filter (before_cut t k) os) (filter (before_cut t k) os))) (sym test))));
         }
+
     mine : (l : ℕ) → m ≡ suc l → o.txn ≡ t → o.index ≡ j → numbers t os ≡ count_from (suc j) l
         → ((i e : ℕ) (q : List Call) (p : ℕ) → numbers t os ≡ count_from i e → drop i (f t) ≡ q → length q ≡ e → last_place q ≡ Some p → i + p ≡ k → IsUndone f t k os)
         → IsUndone f t k (o ∷ os)
@@ -411,6 +418,7 @@ undone_by f t k (o ∷ os) j m r n h is size last at' = go (o.txn == t) refl h (
         either : (c : Call) (s : List Call) → drop j (f t) ≡ c ∷ s → length s ≡ l → ((p : ℕ) × ((last_place s ≡ Some p) × (n ≡ suc p))) ⊎ ((last_place s ≡ None) × (has_inverse c ≡ true) × (n ≡ 0)) → IsUndone f t k (o ∷ os)
         either c s d short (inl p) = stays c s p.0 own place d p.1.1 (rec (suc j) l s p.0 rest (drop_next (f t) j c s d) short p.1.0 (omega (arith, p.1.1, at')))
         either c s d short (inr e) = goes c s l own place d rest short e.0 e.1 e.2
+
     other : IsUndone f t k os → (o.txn == t) ≡ false → IsUndone f t k (o ∷ os)
     other u apart =
         let test : before_cut t k o ≡ true = rw apart refl in
@@ -424,8 +432,49 @@ undone_by f t k (o ∷ os) j m r n h is size last at' = go (o.txn == t) refl h (
               ∙ (ap (λ w. map (entry_by o.txn) (take 1 (drop o.index w)) ++ standing_by (put f t (take k (f t))) (filter (before_cut t k) os)) (sym (put_apart f t o.txn (take k (f t)) apart))
               ∙ ap (λ b. standing_by (put f t (take k (f t))) (cond b (o ∷ filter (before_cut t k) os) (filter (before_cut t k) os))) (sym test)));
         }
+
     go : (b : Bool) → (o.txn == t) ≡ b → map (λ (p : Place). p.index) (cond b (o ∷ filter (λ (p : Place). p.txn == t) os) (filter (λ (p : Place). p.txn == t) os)) ≡ count_from j m
         → ((i e : ℕ) (q : List Call) (p : ℕ) → numbers t os ≡ count_from i e → drop i (f t) ≡ q → length q ≡ e → last_place q ≡ Some p → i + p ≡ k → IsUndone f t k os)
         → IsUndone f t k (o ∷ os)
     go true own e rec = let x = first_number o (numbers t os) j m e in mine x.0 x.1.0 (is_same o.txn t own) x.1.1 x.1.2 rec
     go false own e rec = other (rec j m r n e is size last at') own
+
+numbers_cut : (t k : ℕ) (os : List Place) (j m n : ℕ) → numbers t os ≡ count_from j m → j + n ≡ k → n ≤ m → numbers t (filter (before_cut t k) os) ≡ count_from j n
+numbers_cut t k [] j zero zero h at' few = refl
+numbers_cut t k [] j zero (suc n) h at' few = absurd (omega (arith, few))
+numbers_cut t k [] j (suc m) n h at' few = absurd cc
+numbers_cut t k (o ∷ os) j m n h at' few = go (o.txn == t) refl h (λ i l p. numbers_cut t k os i l p)
+  where
+    mine : (l p : ℕ) → n ≡ p → m ≡ suc l → o.txn ≡ t → o.index ≡ j → numbers t os ≡ count_from (suc j) l
+        → ((i e q : ℕ) → numbers t os ≡ count_from i e → i + q ≡ k → q ≤ e → numbers t (filter (before_cut t k) os) ≡ count_from i q)
+        → numbers t (cond (before_cut t k o) (o ∷ filter (before_cut t k) os) (filter (before_cut t k) os)) ≡ count_from j p
+    mine l zero is more own place rest rec =
+        let same : j ≡ k = omega (arith, at', is) in
+        let far : k ≤ o.index = omega (arith, place, same) in
+        let test : before_cut t k o ≡ false = let a = same_is o.txn t own in let b = not_below o.index k far in rw (a, b) refl in
+        let bounds = numbers_between t os (suc k) l (subst (λ i. numbers t os ≡ count_from (suc i) l) same rest) in
+        ap (λ b. numbers t (cond b (o ∷ filter (before_cut t k) os) (filter (before_cut t k) os))) test
+        ∙ (ap (numbers t) (filter_same (before_cut t k) (λ (p : Place). not (p.txn == t)) os (all_cut t k os l bounds)) ∙ numbers_gone t os)
+    mine l (suc p) is more own place rest rec =
+        let near : o.index < k = omega (arith, place, is, at') in
+        let here = same_is o.txn t own in
+        let test : before_cut t k o ≡ true = let b = is_below o.index k near in rw (here, b) refl in
+        ap (λ b. numbers t (cond b (o ∷ filter (before_cut t k) os) (filter (before_cut t k) os))) test
+        ∙ (ap (λ b. map (λ (q : Place). q.index) (cond b (o ∷ filter (λ (q : Place). q.txn == t) (filter (before_cut t k) os)) (filter (λ (q : Place). q.txn == t) (filter (before_cut t k) os)))) here
+        ∙ (ap (λ i. i ∷ numbers t (filter (before_cut t k) os)) place ∙ ap (λ w. j ∷ w) (rec (suc j) l p rest (omega (arith, is, at')) (omega (arith, is, more, few)))))
+
+    go : (b : Bool) → (o.txn == t) ≡ b → map (λ (p : Place). p.index) (cond b (o ∷ filter (λ (p : Place). p.txn == t) os) (filter (λ (p : Place). p.txn == t) os)) ≡ count_from j m
+        → ((i e q : ℕ) → numbers t os ≡ count_from i e → i + q ≡ k → q ≤ e → numbers t (filter (before_cut t k) os) ≡ count_from i q)
+        → numbers t (cond (before_cut t k o) (o ∷ filter (before_cut t k) os) (filter (before_cut t k) os)) ≡ count_from j n
+    go true own e rec = let x = first_number o (numbers t os) j m e in mine x.0 n refl x.1.0 (is_same o.txn t own) x.1.1 x.1.2 rec
+    go false own e rec = rw own (rw own (rec j m n e at' few))
+
+pub placed_undone : (f : ℕ → List Call) (t k : ℕ) (os : List Place) → k ≤ length (f t) → ((u : ℕ) → numbers u os ≡ count_from 0 (length (f u)))
+    → (u : ℕ) → numbers u (filter (before_cut t k) os) ≡ count_from 0 (length (put f t (take k (f t)) u))
+placed_undone f t k os within h u = go (u == t) refl
+  where
+    go : (b : Bool) → (u == t) ≡ b → numbers u (filter (before_cut t k) os) ≡ count_from 0 (length (cond b (take k (f t)) (f u)))
+    go true is =
+        subst (λ v. numbers v (filter (before_cut t k) os) ≡ count_from 0 (length (take k (f t)))) (sym (is_same u t is))
+        (numbers_cut t k os 0 (length (f t)) k (h t) (omega arith) within ∙ ap (count_from 0) (sym (length-take-le k (f t) within)))
+    go false is = numbers_kept u (before_cut t k) os (λ o own. let same : o.txn ≡ u = is_same o.txn u own in let x : (o.txn == t) ≡ false = ap (λ v. v == t) same ∙ is in rw x refl) ∙ h u

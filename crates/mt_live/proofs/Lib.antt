@@ -13,3 +13,5 @@ pub mod Witness
 pub mod Failures
 pub mod Lasts
 pub mod Ends
+pub mod MemberLists
+pub mod Wells

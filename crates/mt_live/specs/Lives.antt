@@ -1,5 +1,5 @@
 -- The live transactions as contracts see them.
-use Rattle.std.specs.Prelude.{ℕ, zero, suc, ◌≡◌, ◌≢◌, ◌<◌, ◌≤◌, ◌+◌, ◌==◌, Bool, false, cond, List, [], ◌∷◌, ◌++◌, Option, Some, None, filter, map, take, drop, length, is_some}
+use Rattle.std.specs.Prelude.{ℕ, zero, suc, ◌≡◌, ◌≢◌, ◌<◌, ◌≤◌, ◌+◌, ◌==◌, Bool, false, cond, List, [], ◌∷◌, ◌++◌, Option, Some, None, filter, map, take, drop, length, is_some, slice_index_or}
 use Rattle.std.specs.List.{sum_by}
 use Rattle.mt_model.specs.History.{Call}
 use Rattle.mt_live.specs.declared.places.Place.{Place}
@@ -19,6 +19,12 @@ pub record Lives : Type 0 where
 abbrev pub member_of : List Member → ℕ → Option Member
 member_of [] t = None
 member_of (m ∷ ms) t = cond (m.number == t) (Some m) (member_of ms t)
+
+-- this is its place in the list
+pub record IsFirst (ms : List Member) (t i : ℕ) : Type 0 where
+  pub within : i < length ms
+  pub own : (d : Member) → (slice_index_or ms i d).number ≡ t
+  pub before : (k : ℕ) (d : Member) → k < i → (slice_index_or ms k d).number ≢ t
 
 abbrev pub is_member : List Member → ℕ → Bool
 is_member ms t = is_some (member_of ms t)

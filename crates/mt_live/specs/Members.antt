@@ -32,6 +32,10 @@ with_state m state = record m { state = state }
 abbrev pub cut_at : Member → ℕ → Member
 cut_at m n = record m { calls = take n m.calls }
 
+abbrev pub cut_to : Member → Option ℕ → Member
+cut_to m None = m
+cut_to m (Some n) = cut_at m n
+
 abbrev pub committed_of : Member → Committed
 committed_of m = record { session = m.session; calls = m.calls }
 
@@ -47,3 +51,7 @@ later None here = cond here (Some 0) None
 abbrev pub last_place : List Call → Option ℕ
 last_place [] = None
 last_place (c ∷ cs) = later (last_place cs) (has_inverse c)
+
+-- the transaction without its last call that did something, and without those behind it
+abbrev pub taken_back : Member → Member
+taken_back m = cut_to m (last_place m.calls)

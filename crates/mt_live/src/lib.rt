@@ -5,8 +5,10 @@
 #![tactic(auto)]
 
 pub mod laws;
+mod live;
 pub mod mistakes;
 mod places;
 mod transactions;
 
+pub use live::Live;
 pub use transactions::TxnState;

@@ -21,9 +21,9 @@ pub enum TxnState {
 /// A live transaction.
 #[derive(Debug, Drop)]
 pub struct Transaction {
-    pub number: TxnNo,
-    pub session: u32,
-    pub state: TxnState,
+    number: TxnNo,
+    session: u32,
+    state: TxnState,
     // what stands of its operations with their replies, in the order of their ends
     calls: Vec<(Op, Reply)>,
     // there is room for one more call
@@ -87,6 +87,27 @@ impl Transaction {
             calls: Vec::new(alloc),
             has_room: false,
         }
+    }
+
+    /// Its number.
+    pub fn number(&self) -> TxnNo
+        ensures { result ≡ self.now.number }
+    {
+        self.number
+    }
+
+    /// What it is about.
+    pub fn state(&self) -> TxnState
+        ensures { result ≡ self.now.state }
+    {
+        self.state
+    }
+
+    /// Sets what it is about.
+    pub fn set_state(&mut self, state: TxnState)
+        ensures { self.new ≡ with_state self.old state }
+    {
+        self.state = state;
     }
 
     /// Makes room for one more call. The only error is want of memory.

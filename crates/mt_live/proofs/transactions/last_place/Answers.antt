@@ -9,7 +9,7 @@ loop-at-init c = refl
 
 pub loop-at-preserved : goal.loop-at-preserved
 loop-at-preserved c = elim c.if-has_inverse.branch [
-  then-has_inverse w ↦ w.last-is ∙ sym (last_place-more c.args.calls.now c.loop-at.at c.index-calls-at.result _ c.loop-at-test.true c.index-calls-at.is (sym c.has_inverse.ensures ∙ w.if-has_inverse.true))
+  | then-has_inverse w ↦ w.last-is ∙ sym (last_place-more c.args.calls.now c.loop-at.at c.index-calls-at.result _ c.loop-at-test.true c.index-calls-at.is (sym c.has_inverse.ensures ∙ w.if-has_inverse.true))
   | else-has_inverse w ↦ w.last-is ∙ (c.loop-at.invariant ∙ sym (last_place-more c.args.calls.now c.loop-at.at c.index-calls-at.result _ c.loop-at-test.true c.index-calls-at.is (sym c.has_inverse.ensures ∙ w.if-has_inverse.false)))
 ]
 

@@ -17,9 +17,9 @@ use Rattle.mt_model.proofs.Appends.{after-append, legal_append}
 use Rattle.mt_live.specs.Entries.{Entry, calls, runs, kept, IsExplained}
 use Rattle.mt_live.specs.Adds.{add_before, adds, add_of, GivesBack}
 use Rattle.mt_live.specs.Sound.{Each, IsLocked, IsDone, IsSound}
-use Rattle.mt_live.specs.Undoing.{only, others, last_effect, cut_back}
+use Rattle.mt_live.specs.Undoing.{only, others, last_effect}
 use Rattle.mt_live.specs.Machine.{State, committed_base, put, is_live, AreOwned, IsKept, begun, called, MayCall, ended, dropped, gone, booked, undone}
-use Rattle.mt_live.proofs.Cuts.{IsIdle, IsLastDone, idle_all, Cut, cut_of}
+use Rattle.mt_live.proofs.Cuts.{IsIdle, IsLastDone, idle_all, cut_of}
 use Rattle.mt_live.specs.Laws.{IsMoved}
 use Rattle.mt_live.proofs.Shapes.{each_map, each_filter}
 use Rattle.mt_live.proofs.Events.{explained, counts_run, steps-at, steps_on, each_append, each_front, each_back, ended as entry_ended, commits, undone as entry_undone, leaves}

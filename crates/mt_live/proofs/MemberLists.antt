@@ -1,9 +1,9 @@
 -- The transaction of a number, in a list that changes.
-use Rattle.std.proofs.Common.{◌≡◌, ◌≢◌, ℕ, zero, suc, ◌<◌, ◌≤◌, ◌+◌, ◌==◌, Bool, true, false, cond, List, [], ◌∷◌, ◌++◌, Option, Some, None, is_some, get_or, set, take, drop, length, refl, ap, sym, ◌∙◌, subst, arith}
+use Rattle.std.proofs.Common.{◌≡◌, ◌≢◌, ℕ, zero, suc, ◌<◌, ◌≤◌, ◌+◌, ◌==◌, Bool, true, false, cond, List, [], ◌∷◌, ◌++◌, Option, Some, None, get_or, set, refl, ap, sym, ◌∙◌, subst, arith}
 use Rattle.std.proofs.lemmas.Bool.Decides.{Decides-eqb}
 use Rattle.std.specs.List.{remove}
 use Rattle.mt_live.specs.Machine.{put}
-use Rattle.mt_live.specs.Members.{Member, fresh}
+use Rattle.mt_live.specs.Members.{Member}
 use Rattle.mt_live.specs.Lives.{member_of, IsFirst, AreRising}
 
 same_is : (a b : ℕ) → a ≡ b → (a == b) ≡ true

@@ -1,5 +1,5 @@
 -- What is kept of the live transactions, as their list and the order of ends change.
-use Rattle.std.proofs.Common.{◌≡◌, ◌≢◌, ℕ, zero, suc, ◌<◌, ◌≤◌, ◌+◌, ◌==◌, Bool, true, false, cond, not, filter, map, List, [], ◌∷◌, ◌++◌, Option, Some, None, is_some, get_or, set, take, drop, length, All, MatchOption, refl, ap, sym, ◌∙◌, subst, arith}
+use Rattle.std.proofs.Common.{◌≡◌, ℕ, zero, suc, ◌<◌, ◌≤◌, ◌+◌, ◌==◌, Bool, true, false, cond, not, filter, map, List, [], ◌∷◌, ◌++◌, Option, Some, None, is_some, get_or, set, take, drop, length, All, MatchOption, refl, ap, sym, ◌∙◌, subst, arith}
 use Rattle.std.specs.List.{remove, position, position_from, sum_by}
 use Rattle.std.proofs.lemmas.Iterator.Adapters.{position_from-zero}
 use Rattle.std.proofs.lemmas.Bool.Decides.{Decides-eqb}
@@ -8,12 +8,12 @@ use Rattle.std.proofs.lemmas.List.Quantifiers.{position-Some}
 use Rattle.std.proofs.lemmas.List.Sums.{sum_by-set, sum_by-remove, sum_by_push, sum_by-le}
 use Rattle.mt_model.specs.History.{Call}
 use Rattle.mt_live.specs.declared.places.Place.{Place}
-use Rattle.mt_live.specs.Entries.{Entry, calls, kept}
+use Rattle.mt_live.specs.Entries.{calls, kept}
 use Rattle.mt_live.specs.Machine.{put}
 use Rattle.mt_live.specs.Undoing.{only, others, last_effect, cut_back}
 use Rattle.mt_live.specs.Members.{Member, fresh, with_room, with_call, cut_at, cut_to, taken_back, last_place}
 use Rattle.mt_live.specs.Lives.{member_of, is_member, has_room, entry_by, IsFirst, IsChanged, calls_in, calls_of, standing_by, numbers, count_from, AreRising, rooms, IsWell}
-use Rattle.mt_live.proofs.Ends.{standing_noted, placed_noted, standing_left, placed_left, standing_own, nothing_to_undo, before_cut, IsUndone, undone_by, placed_undone, cut_none}
+use Rattle.mt_live.proofs.Ends.{standing_noted, placed_noted, standing_left, placed_left, standing_own, nothing_to_undo, before_cut, IsUndone, undone_by, placed_undone}
 use Rattle.mt_live.proofs.MemberLists.{there, member_of-set, member_of-push, member_of-remove, nobody_above, rising_set, rising_remove, rising_push}
 
 -- ---- one transaction's list of calls is another
@@ -153,6 +153,7 @@ rooms_few ms = let h = sum_by-le rooms 1 ms (each ms) in omega (arith, h)
     one : (b : Bool) → cond b 1 0 ≤ 1
     one true = omega arith
     one false = omega arith
+
     each : (xs : List Member) → All (λ (m : Member). rooms m ≤ 1) xs
     each xs = λ k d less. one (get_or xs k d).has_room
 
@@ -313,3 +314,8 @@ left_calls begun ms os used capacity t i m w first is =
     back : (cs : List Call) → calls (map (entry_by t) cs) ≡ cs
     back [] = refl
     back (c ∷ cs) = ap (λ w'. c ∷ w') (back cs)
+
+pub same_size : (ms : List Member) (t i : ℕ) (m l : Member) (k : ℕ) → IsFirst ms t i → m ≡ get_or ms i m → l ≡ get_or ms i l → k < length l.calls → k ≤ length m.calls
+same_size ms t i m l k first is lis within =
+    let same : length m.calls ≡ length l.calls = ap (λ (x : Member). length x.calls) (same_two ms t i m l first is lis) in
+    omega (arith, same, within)

@@ -11,7 +11,7 @@ use Rattle.mt_model.specs.Locks.{Held, AreTogether}
 use Rattle.mt_model.specs.Pending.{moved_by}
 use Rattle.mt_live.specs.Entries.{Entry, calls, runs, AreActed, kept, struck, IsExplained}
 use Rattle.mt_live.specs.Adds.{GivesBack}
-use Rattle.mt_live.specs.Sound.{Each, IsSound}
+use Rattle.mt_live.specs.Sound.{IsSound}
 use Rattle.mt_live.specs.Undoing.{only, others, last_effect}
 use Rattle.mt_live.specs.Machine.{State, committed_base, is_live, IsKept, begun, called, MayCall, ended, dropped, gone, booked, undone, AllGo, last_state, start}
 

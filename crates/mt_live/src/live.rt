@@ -8,7 +8,7 @@ ghost use Rattle.mt_live.specs.Machine.{put};
 ghost use Rattle.mt_live.specs.Members.{Member, fresh, with_room, with_call, with_state, taken_back, committed_of};
 ghost use Rattle.mt_live.specs.Lives.{member_of, is_member, has_room, IsFirst, IsChanged};
 
-use crate::places::Place;
+use crate::places::{Place, cut_from, take_out};
 use crate::transactions::{Transaction, TxnState};
 use mt_base::{Refusal, TxnNo};
 use mt_model::{Committed, Op, Reply};
@@ -176,7 +176,7 @@ impl Live {
         let place = place_in(&self.transactions, txn);
         if let Some(at) = self.transactions[place].last_place() {
             self.transactions[place].cut(at);
-            self.order.retain(|one| one.txn != txn || one.index < at);
+            cut_from(&mut self.order, txn, at);
         }
     }
 
@@ -191,7 +191,7 @@ impl Live {
         ensures begun { self.new.begun ≡ self.old.begun }
     {
         let place = place_in(&self.transactions, txn);
-        self.order.retain(|one| one.txn != txn);
+        take_out(&mut self.order, txn);
         self.transactions.remove(place).into_committed()
     }
 }

@@ -1,4 +1,4 @@
-use Rattle.std.proofs.Common.{◌≡◌, sym, ◌∙◌}
+use Rattle.std.proofs.Common.{sym, ◌∙◌}
 use Rattle.mt_live.proofs.Wells.{first_from, must_be_there}
 use Rattle.mt_live.proofs.live.place_in.Goals as goal
 

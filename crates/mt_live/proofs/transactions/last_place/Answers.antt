@@ -1,4 +1,4 @@
-use Rattle.std.proofs.Common.{◌≡◌, ◌<◌, ◌∙◌, sym, ap, subst, rules, refl, IfSome, Some, length, take, arith, take_all}
+use Rattle.std.proofs.Common.{◌<◌, ◌∙◌, sym, ap, subst, refl, IfSome, length, take_all}
 use Rattle.mt_live.specs.Members.{last_place}
 use Rattle.mt_live.proofs.Lasts.{last_place-more, last_within}
 use Rattle.mt_live.proofs.transactions.last_place.Goals.{then-has_inverse, else-has_inverse}

@@ -1,4 +1,4 @@
-use Rattle.std.proofs.Common.{◌≡◌, ◌∙◌, ap, subst, set}
+use Rattle.std.proofs.Common.{◌∙◌, ap, subst, set}
 use Rattle.mt_live.specs.Lives.{Lives, IsFirst, IsChanged, rooms}
 use Rattle.mt_live.specs.Members.{Member, with_state}
 use Rattle.mt_live.proofs.Wells.{well_same, same_standing, changed, its_number, state_room}

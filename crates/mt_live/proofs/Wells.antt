@@ -1,5 +1,6 @@
 -- What is kept of the live transactions, as their list and the order of ends change.
 use Rattle.std.proofs.Common.{◌≡◌, ℕ, zero, suc, ◌<◌, ◌≤◌, ◌+◌, ◌==◌, Bool, true, false, cond, not, filter, map, List, [], ◌∷◌, ◌++◌, Option, Some, None, is_some, get_or, set, take, drop, length, All, MatchOption, refl, ap, sym, ◌∙◌, subst, arith}
+use Rattle.std.specs.Option.{option_map}
 use Rattle.std.specs.List.{remove, position, position_from, sum_by}
 use Rattle.std.proofs.lemmas.Iterator.Adapters.{position_from-zero}
 use Rattle.std.proofs.lemmas.Bool.Decides.{Decides-eqb}
@@ -51,10 +52,9 @@ first_from ms t i h = record {
 }
 
 pub changed : (ms : List Member) (t i : ℕ) (m y : Member) (f : Member → Member) → IsFirst ms t i → m ≡ get_or ms i m → y ≡ f m → y.number ≡ t → IsChanged ms (set ms i y) t f
-changed ms t i m y f first is now own other found u =
-    let same : Some m ≡ Some other = sym (is_there ms t i m first is) ∙ found in
-    let e : m ≡ other = cc in
-    member_of-set ms t i y first own u ∙ ap (λ (z : Member). put (member_of ms) t (Some z) u) (now ∙ ap f e)
+changed ms t i m y f first is now own u =
+    member_of-set ms t i y first own u
+    ∙ ap (λ (x : Option Member). put (member_of ms) t x u) (ap Some now ∙ sym (ap (option_map f) (is_there ms t i m first is)))
 
 -- ---- the whole
 
@@ -275,11 +275,10 @@ undone_member ms t i m l y k first is lis last now =
     changed ms t i m y taken_back first is (now ∙ sym back) (ap (λ (x : Member). x.number) now ∙ its_number ms t i m first is)
 
 pub nothing_member : (ms : List Member) (t i : ℕ) (l : Member) → IsFirst ms t i → l ≡ get_or ms i l → last_place l.calls ≡ None → IsChanged ms ms t taken_back
-nothing_member ms t i l first lis last m found u =
-    let e : Some l ≡ Some m = sym (is_there ms t i l first lis) ∙ found in
-    let same : l ≡ m = cc in
-    let back : taken_back m ≡ m = ap (cut_to m) (ap (λ (x : Member). last_place x.calls) (sym same) ∙ last) in
-    sym (put_same (member_of ms) t (Some (taken_back m)) (ap Some back ∙ sym found) u)
+nothing_member ms t i l first lis last u =
+    let found = is_there ms t i l first lis in
+    let back : taken_back l ≡ l = ap (cut_to l) last in
+    sym (put_same (member_of ms) t (option_map taken_back (member_of ms t)) (ap (option_map taken_back) found ∙ (ap Some back ∙ sym found)) u)
 
 -- ---- one leaves
 
@@ -319,3 +318,27 @@ pub same_size : (ms : List Member) (t i : ℕ) (m l : Member) (k : ℕ) → IsFi
 same_size ms t i m l k first is lis within =
     let same : length m.calls ≡ length l.calls = ap (λ (x : Member). length x.calls) (same_two ms t i m l first is lis) in
     omega (arith, same, within)
+
+-- ---- for callers
+
+-- who is changed is there still, and so are all others
+pub still_member : (old new : List Member) (t : ℕ) (f : Member → Member) → IsChanged old new t f → (u : ℕ) → is_member new u ≡ is_member old u
+still_member old new t f h u = ap is_some (h u) ∙ go (u == t) refl
+  where
+    some_map : (x : Option Member) → is_some (option_map f x) ≡ is_some x
+    some_map None = refl
+    some_map (Some m) = refl
+
+    go : (b : Bool) → (u == t) ≡ b → is_some (cond b (option_map f (member_of old t)) (member_of old u)) ≡ is_some (member_of old u)
+    go true is = some_map (member_of old t) ∙ ap (λ v. is_some (member_of old v)) (sym ((Decides-eqb u t).0 is))
+    go false is = refl
+
+-- where room was made, there is room
+pub room_made : (old new : List Member) (t : ℕ) → IsChanged old new t with_room → is_member old t ≡ true → has_room (member_of new t) ≡ true
+room_made old new t h there =
+    let self = (Decides-eqb t t).1 refl in
+    ap has_room (h t) ∙ rw self (go (member_of old t) there)
+  where
+    go : (x : Option Member) → is_some x ≡ true → has_room (option_map with_room x) ≡ true
+    go None k = absurd cc
+    go (Some m) k = refl

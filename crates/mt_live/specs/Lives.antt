@@ -1,6 +1,7 @@
 -- The live transactions as contracts see them.
 use Rattle.std.specs.Prelude.{ℕ, zero, suc, ◌≡◌, ◌≢◌, ◌<◌, ◌≤◌, ◌+◌, ◌==◌, Bool, false, cond, List, [], ◌∷◌, ◌++◌, Option, Some, None, filter, map, take, drop, length, is_some, slice_index_or}
 use Rattle.std.specs.List.{sum_by}
+use Rattle.std.specs.Option.{option_map}
 use Rattle.mt_model.specs.History.{Call}
 use Rattle.mt_live.specs.declared.places.Place.{Place}
 use Rattle.mt_live.specs.Entries.{Entry}
@@ -35,8 +36,7 @@ has_room (Some m) = m.has_room
 
 -- one transaction is changed, and no other
 abbrev pub IsChanged : List Member → List Member → ℕ → (Member → Member) → Type 0
-IsChanged old new t f =
-    (m : Member) → member_of old t ≡ Some m → (u : ℕ) → member_of new u ≡ put (member_of old) t (Some (f m)) u
+IsChanged old new t f = (u : ℕ) → member_of new u ≡ put (member_of old) t (option_map f (member_of old t)) u
 
 -- ---- the standing list, from each transaction's calls and the order in which they ended
 

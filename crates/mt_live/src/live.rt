@@ -184,7 +184,7 @@ impl Live {
     /// which they ended. It takes no memory.
     pub fn leave(&mut self, txn: TxnNo) -> Committed
         requires { is_member self.old.members txn ≡ true }
-        ensures session { (m : Member) → member_of self.old.members txn ≡ Some m → result.session ≡ m.session }
+        ensures session { Some result.session ≡ option_map (λ m. m.session) (member_of self.old.members txn) }
         ensures calls { result.calls ≡ calls (kept (only txn) self.old.standing) }
         ensures standing { self.new.standing ≡ kept (others txn) self.old.standing }
         ensures member { (u : ℕ) → member_of self.new.members u ≡ put (member_of self.old.members) txn None u }

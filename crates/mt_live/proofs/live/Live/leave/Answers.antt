@@ -1,5 +1,6 @@
 use Rattle.std.proofs.Common.{◌≡◌, ◌∙◌, None, Some, ap, subst, sym}
 use Rattle.mt_live.specs.Entries.{calls, kept}
+use Rattle.std.specs.Option.{option_map}
 use Rattle.mt_live.specs.Undoing.{only, others}
 use Rattle.mt_live.specs.Machine.{put}
 use Rattle.mt_model.specs.declared.history.Committed.{Committed}
@@ -16,14 +17,13 @@ invariant_of-self c =
     left_well _ ms _ _ _ c.args.txn i _ _ _ _ c.self.invariant first c.take_out.ensures.places c.remove.ensures.items c.take_out.ensures.len c.take_out.ensures.capacity
 
 pub returns-clause-session : goal.returns-clause-session
-returns-clause-session c = λ m found.
+returns-clause-session c =
     let ms = c.self.inside.transactions.items in
     let i = c.place_in-place.result in
     let first : IsFirst ms c.args.txn i = subst (λ xs. IsFirst xs c.args.txn i) c.deref.ensures.value c.place_in-place.ensures in
     let there : member_of ms c.args.txn ≡ Some c.remove.result = is_there ms c.args.txn i c.remove.result first c.remove.ensures.value in
-    let same : Some c.remove.result ≡ Some m = sym there ∙ (ap (λ (x : Lives). member_of x.members c.args.txn) c.self.view_is ∙ found) in
-    let e : c.remove.result ≡ m = cc in
-    ap (λ (x : Committed). x.session) c.into_committed.ensures ∙ ap (λ (x : Member). x.session) e
+    ap (λ (x : Committed). Some x.session) c.into_committed.ensures
+    ∙ (sym (ap (option_map (λ (x : Member). x.session)) there) ∙ ap (λ (x : Lives). option_map (λ (y : Member). y.session) (member_of x.members c.args.txn)) c.self.view_is)
 
 pub returns-clause-calls : goal.returns-clause-calls
 returns-clause-calls c =

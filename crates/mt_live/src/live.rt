@@ -83,6 +83,7 @@ impl Live {
         ensures unused { IfOk result (λ txn. member_of self.old.members txn ≡ None) }
         ensures member { IfOk result (λ txn. (u : ℕ) →
             member_of self.new.members u ≡ put (member_of self.old.members) txn (Some (fresh txn session)) u) }
+        ensures count { OnOk result (length self.new.members ≡ length self.old.members + 1) }
         ensures standing { OnOk result (self.new.standing ≡ self.old.standing) }
         ensures cause { IfErr result (λ why. why ≡ Refusal.NoMemory) }
         ensures err { OnErr result (self.new ≡ self.old) }
@@ -114,6 +115,7 @@ impl Live {
     pub fn set_state(&mut self, txn: TxnNo, state: TxnState)
         requires { is_member self.old.members txn ≡ true }
         ensures member { IsChanged self.old.members self.new.members txn (λ m. with_state m state) }
+        ensures count { length self.new.members ≡ length self.old.members }
         ensures begun { self.new.begun ≡ self.old.begun }
         ensures standing { self.new.standing ≡ self.old.standing }
     {
@@ -127,6 +129,7 @@ impl Live {
     pub fn room(&mut self, txn: TxnNo) -> Result<(), Refusal>
         requires { is_member self.old.members txn ≡ true }
         ensures member { OnOk result (IsChanged self.old.members self.new.members txn with_room) }
+        ensures count { OnOk result (length self.new.members ≡ length self.old.members) }
         ensures begun { OnOk result (self.new.begun ≡ self.old.begun) }
         ensures standing { OnOk result (self.new.standing ≡ self.old.standing) }
         ensures cause { IfErr result (λ why. why ≡ Refusal.NoMemory) }
@@ -145,6 +148,7 @@ impl Live {
         ensures standing { self.new.standing
             ≡ self.old.standing ++ record { txn = txn; op = op; reply = reply } ∷ [] }
         ensures member { IsChanged self.old.members self.new.members txn (λ m. with_call m (op, reply)) }
+        ensures count { length self.new.members ≡ length self.old.members }
         ensures begun { self.new.begun ≡ self.old.begun }
     {
         let place = place_in(&self.transactions, txn);
@@ -171,6 +175,7 @@ impl Live {
         requires { is_member self.old.members txn ≡ true }
         ensures standing { self.new.standing ≡ cut_back txn self.old.standing }
         ensures member { IsChanged self.old.members self.new.members txn taken_back }
+        ensures count { length self.new.members ≡ length self.old.members }
         ensures begun { self.new.begun ≡ self.old.begun }
     {
         let place = place_in(&self.transactions, txn);
@@ -188,6 +193,7 @@ impl Live {
         ensures calls { result.calls ≡ calls (kept (only txn) self.old.standing) }
         ensures standing { self.new.standing ≡ kept (others txn) self.old.standing }
         ensures member { (u : ℕ) → member_of self.new.members u ≡ put (member_of self.old.members) txn None u }
+        ensures count { length self.new.members + 1 ≡ length self.old.members }
         ensures begun { self.new.begun ≡ self.old.begun }
     {
         let place = place_in(&self.transactions, txn);

@@ -13,7 +13,7 @@ use Rattle.mt_live.specs.Entries.{Entry, calls, runs, AreActed, kept, struck, Is
 use Rattle.mt_live.specs.Adds.{GivesBack}
 use Rattle.mt_live.specs.Sound.{IsSound}
 use Rattle.mt_live.specs.Undoing.{only, others, last_effect}
-use Rattle.mt_live.specs.Machine.{State, committed_base, is_live, IsKept, begun, called, MayCall, ended, dropped, gone, booked, undone, AllGo, last_state, start}
+use Rattle.mt_live.specs.Machine.{State, committed_base, is_live, IsKept, begun, called, MayCall, ended, dropped, gone, booked, undone, Goes, AllGo, last_state, start}
 
 -- ---- what each event keeps
 
@@ -103,6 +103,13 @@ TransactionsMoveInFront =
 pub record IsRight (b : Base) (s : State) : Type 0 where
   pub explained : IsExplained (committed_base b s) s.standing s.base
   pub legal : IsLegal b s.book
+
+-- what is kept holds of an empty kernel, and each event keeps it
+abbrev pub StartIsKept : Type 0
+StartIsKept = (b : Base) → IsBase b → IsKept b (start b)
+
+abbrev pub EventKeeps : Type 0
+EventKeeps = (b : Base) (s z : State) → IsKept b s → Goes b s z → IsKept b z
 
 abbrev pub EveryScheduleIsRight : Type 0
 EveryScheduleIsRight =

@@ -1,6 +1,6 @@
 //! Laws of live transactions: why strict commuting locks, escrow and inverses explain every state.
 //! Each is a function with an empty body, whose contract is the law.
-ghost use Rattle.mt_live.specs.Laws.{BeginKeeps, CallKeeps, EndKeeps, DropKeeps, CommitKeeps, CommitMovesCounters, InverseKeeps, AbortKeeps, AbortLeavesNoTrace, KeptIsExplained, SoundIsExplained, SetMovesInFront, TransactionsMoveInFront, EveryScheduleIsRight, EmptyHoldsBook, NobodyLeavesNothing};
+ghost use Rattle.mt_live.specs.Laws.{BeginKeeps, CallKeeps, EndKeeps, DropKeeps, CommitKeeps, CommitMovesCounters, InverseKeeps, AbortKeeps, AbortLeavesNoTrace, KeptIsExplained, SoundIsExplained, SetMovesInFront, TransactionsMoveInFront, StartIsKept, EventKeeps, EveryScheduleIsRight, EmptyHoldsBook, NobodyLeavesNothing};
 ghost use Rattle.mt_live.specs.Witness.{RunTakesPlace};
 
 /// A transaction that begins changes nothing of what is kept.
@@ -61,9 +61,11 @@ pub fn entries_move_in_front()
 {}
 
 /// Whatever the schedule, from an empty kernel on counters within their bounds: each state is explained,
-/// and its book is legal.
+/// and its book is legal. For what is kept holds at the start, and each event keeps it.
 pub fn every_schedule_is_right()
-    ensures { EveryScheduleIsRight }
+    ensures start { StartIsKept }
+    ensures event { EventKeeps }
+    ensures schedule { EveryScheduleIsRight }
 {}
 
 /// Where nothing stands, the held base is what the book leaves; and where nobody is live, nothing

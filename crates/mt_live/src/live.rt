@@ -17,6 +17,10 @@ use std::marker::Model;
 
 /// The live transactions: each with its session, its state and what stands of its operations, and the
 /// order in which these ended.
+///
+/// Contracts see the standing list: the operations of live transactions in the order of their ends, of
+/// one that is being undone only those before the earliest that is undone. What [`laws`](crate::laws)
+/// says of it is why any set of live transactions may be undone at any time.
 #[derive(Debug, Drop)]
 pub struct Live {
     begun: u64,
@@ -73,7 +77,7 @@ impl Live {
     }
 
     /// Begins a transaction of this session, open and without operations. Its number is the next one,
-    /// from 1.
+    /// from 1; at most 2^40 transactions begin.
     ///
     /// Refused 1 for want of memory; nothing has changed then.
     pub fn begin(&mut self, session: u32) -> Result<TxnNo, Refusal>
@@ -123,7 +127,7 @@ impl Live {
         self.transactions[place].set_state(state);
     }
 
-    /// Makes room for one [`Live::note`] of a live transaction.
+    /// Makes room for one [`Live::note`] of a live transaction. Where there is room already, it stays.
     ///
     /// Refused 1 for want of memory; nothing has changed then.
     pub fn room(&mut self, txn: TxnNo) -> Result<(), Refusal>

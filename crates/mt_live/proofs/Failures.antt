@@ -2,7 +2,7 @@
 use Rattle.std.proofs.Common.{◌≡◌, ◌==◌, pos, false, [], ◌∷◌, refl, ap}
 use Rattle.mt_model.specs.declared.operations.Reply.TheVariants.{Found, Missing, Done, OutOfBounds}
 use Rattle.mt_model.specs.Model.{Base}
-use Rattle.mt_live.specs.Mistakes.{EarlyReleaseFails, PresentNumberFails, OldNumberFails, ReadLeftOverFails}
+use Rattle.mt_live.specs.Counterexamples.{EarlyReleaseFails, PresentNumberFails, OldNumberFails, ReadLeftOverFails}
 
 pub early_release_fails : EarlyReleaseFails
 early_release_fails = (

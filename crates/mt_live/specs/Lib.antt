@@ -5,6 +5,6 @@ pub mod Undoing
 pub mod Machine
 pub mod Laws
 pub mod Witness
-pub mod Mistakes
+pub mod Counterexamples
 pub mod Members
 pub mod Lives

@@ -1,6 +1,6 @@
 //! Mistakes that a kernel could make, each a state that is not explained. Each is a function with an
 //! empty body, whose contract is the counterexample.
-ghost use Rattle.mt_live.specs.Mistakes.{EarlyReleaseFails, PresentNumberFails, OldNumberFails, ReadLeftOverFails};
+ghost use Rattle.mt_live.specs.Counterexamples.{EarlyReleaseFails, PresentNumberFails, OldNumberFails, ReadLeftOverFails};
 
 /// A lock that is given up before its transaction ends lets another read what an abort takes away.
 pub fn early_release_fails()

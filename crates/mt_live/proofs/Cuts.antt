@@ -1,0 +1,79 @@
+-- A transaction's last effect among the entries, and what is behind it.
+use Rattle.std.proofs.Common.{◌≡◌, ℕ, Bool, true, false, ◌==◌, List, [], ◌∷◌, ◌++◌, Option, Some, None, is_some, refl, ap, ◌∙◌, subst}
+use Rattle.std.proofs.lemmas.Bool.Decides.{Decides-eqb}
+use Rattle.mt_model.specs.declared.operations.Op.{Op}
+use Rattle.mt_model.specs.Model.{inverse_of}
+use Rattle.mt_model.proofs.Cells.{and_parts}
+use Rattle.mt_live.specs.Entries.{Entry, kept}
+use Rattle.mt_live.specs.Sound.{Each}
+use Rattle.mt_live.specs.Undoing.{others, is_effect, last_of, last_effect, cut_back}
+
+-- an entry of the transaction has nothing to be undone
+abbrev pub IsIdle : ℕ → Entry → Type 0
+IsIdle t e = e.txn ≡ t → inverse_of e.op e.reply ≡ None
+
+-- of these entries, this is the last of the transaction that has an inverse, and this the inverse
+pub record IsLastDone (t : ℕ) (es front : List Entry) (last : Entry) (rest : List Entry) (i : Op) : Type 0 where
+  pub place : es ≡ front ++ last ∷ rest
+  pub its : last.txn ≡ t
+  pub inverse : inverse_of last.op last.reply ≡ Some i
+  pub idle : Each (IsIdle t) rest
+
+-- the entries around it, and what stands without it
+pub record Cut (t : ℕ) (es : List Entry) (last : Entry) (i : Op) : Type 0 where
+  pub front : List Entry
+  pub rest : List Entry
+  pub done : IsLastDone t es front last rest i
+  pub then : cut_back t es ≡ front ++ kept (others t) rest
+
+none_of : {A : Type 0} (x : Option A) → is_some x ≡ false → x ≡ None
+none_of None h = refl
+none_of (Some a) h = absurd cc
+
+idle_here : (t : ℕ) (e : Entry) → is_effect t e ≡ false → IsIdle t e
+idle_here t e h same =
+    let own : (e.txn == t) ≡ true = (Decides-eqb e.txn t).1 same in
+    none_of (inverse_of e.op e.reply) (rw own at h)
+
+pub idle_all : (t : ℕ) (es : List Entry) → last_effect t es ≡ None → Each (IsIdle t) es
+idle_all t [] h = tt
+idle_all t (e ∷ es) h = go (last_effect t es) refl (is_effect t e) refl h (λ is. idle_all t es is)
+  where
+    go : (x : Option Entry) → last_effect t es ≡ x → (b : Bool) → is_effect t e ≡ b → last_of x b e ≡ None → (last_effect t es ≡ None → Each (IsIdle t) es) → Each (IsIdle t) (e ∷ es)
+    go (Some later) is b test k rec = absurd cc
+    go None is true test k rec = absurd cc
+    go None is false test k rec = (idle_here t e test, rec is)
+
+cut_here : (t : ℕ) (e : Entry) (es : List Entry) (last : Entry) (i : Op) → last_effect t es ≡ None → is_effect t e ≡ true → Some e ≡ Some last
+    → inverse_of last.op last.reply ≡ Some i → Cut t (e ∷ es) last i
+cut_here t e es last i none test is inverse =
+    let same : e ≡ last = cc in
+    let own : e.txn ≡ t = (Decides-eqb e.txn t).0 (and_parts (e.txn == t) (is_some (inverse_of e.op e.reply)) test).0 in
+    record {
+      front = [];
+      rest = es;
+      done = record {
+        place = ap (λ x. x ∷ es) same;
+        its = subst (λ (x : Entry). x.txn ≡ t) same own;
+        inverse = inverse;
+        idle = idle_all t es none;
+      };
+      then = rw (none, test) refl;
+    }
+
+cut_later : (t : ℕ) (e : Entry) (es : List Entry) (last : Entry) (i : Op) → last_effect t es ≡ Some last → Cut t es last i → Cut t (e ∷ es) last i
+cut_later t e es last i some c = record {
+  front = e ∷ c.front;
+  rest = c.rest;
+  done = record { place = ap (λ x. e ∷ x) c.done.place; its = c.done.its; inverse = c.done.inverse; idle = c.done.idle };
+  then = rw some (ap (λ x. e ∷ x) c.then);
+}
+
+pub cut_of : (t : ℕ) (es : List Entry) (last : Entry) (i : Op) → last_effect t es ≡ Some last → inverse_of last.op last.reply ≡ Some i → Cut t es last i
+cut_of t [] last i h inverse = absurd cc
+cut_of t (e ∷ es) last i h inverse = go (last_effect t es) refl (is_effect t e) refl h (λ is. cut_of t es last i is inverse)
+  where
+    go : (x : Option Entry) → last_effect t es ≡ x → (b : Bool) → is_effect t e ≡ b → last_of x b e ≡ Some last → (last_effect t es ≡ Some last → Cut t es last i) → Cut t (e ∷ es) last i
+    go (Some later) is b test k rec = let same : last_effect t es ≡ Some last = is ∙ k in cut_later t e es last i same (rec same)
+    go None is true test k rec = cut_here t e es last i is test k inverse
+    go None is false test k rec = absurd cc

@@ -1,0 +1,409 @@
+-- Each event keeps what is kept.
+use Rattle.std.proofs.Common.{◌≡◌, ◌≢◌, ◌⊎◌, inl, inr, ℕ, ◌≤◌, ◌+◌, Bool, true, false, cond, not, ◌==◌, List, [], ◌∷◌, ◌++◌, Option, Some, None, is_some, refl, ap, sym, ◌∙◌, subst, arith, append-nil, append_assoc}
+use Rattle.std.proofs.lemmas.Bool.Decides.{Decides-eqb}
+use Rattle.mt_base.specs.declared.modes.LockMode.{LockMode}
+use Rattle.mt_model.specs.declared.counters.Count.{Count}
+use Rattle.mt_model.specs.declared.objects.Object.{Object}
+use Rattle.mt_model.specs.declared.objects.Object.TheVariants.{Counter}
+use Rattle.mt_model.specs.declared.operations.Op.{Op}
+use Rattle.mt_model.specs.declared.pending.Pending.{Pending}
+use Rattle.mt_model.specs.declared.history.Committed.{Committed}
+use Rattle.mt_model.specs.Model.{Base, moved, object_of, mode_of, reply_of, base_after, inverse_of}
+use Rattle.mt_model.specs.History.{after}
+use Rattle.mt_model.specs.Escrow.{total, HasRoom}
+use Rattle.mt_model.specs.Locks.{Held, without_holder}
+use Rattle.mt_model.specs.Pending.{steps_at, pending_of, pending_without, moved_by}
+use Rattle.mt_model.proofs.Appends.{after-append, legal_append}
+use Rattle.mt_live.specs.Entries.{Entry, calls, runs, kept, IsExplained}
+use Rattle.mt_live.specs.Adds.{add_before, adds, add_of, GivesBack}
+use Rattle.mt_live.specs.Sound.{Each, IsLocked, IsDone, IsSound}
+use Rattle.mt_live.specs.Undoing.{only, others, last_effect}
+use Rattle.mt_live.specs.Machine.{State, committed_base, put, is_live, AreOwned, IsKept, begun, called, MayCall, ended, dropped, gone, booked, undone}
+use Rattle.mt_live.proofs.Cuts.{IsIdle, IsLastDone, idle_all, cut_of}
+use Rattle.mt_live.specs.Laws.{IsMoved}
+use Rattle.mt_live.proofs.Shapes.{each_map, each_filter}
+use Rattle.mt_live.proofs.Events.{explained, counts_run, steps-at, steps_on, each_append, each_front, each_back, ended as entry_ended, commits, undone as entry_undone, leaves}
+use Rattle.mt_live.proofs.Pending.{not_eq, Covers, covers_wider, room_wider}
+use Rattle.mt_live.proofs.Locking.{has_lock, still_held, more_locks, holder_of, held_before, another_holds, held_after, fewer_locks, still_locked}
+use Rattle.mt_live.proofs.AddLemmas.{eq_self, eq_flip, adds-append, pending_of-append, of_before, of_mine, of_other, adds_last, of_without, adds-kept, not_others, room_shared, adds_only, idle_adds, Taken, taken_of, undone_tied, out_room, room_called}
+
+-- ---- what is kept is what is claimed
+
+pub kept_explained : (b : Base) (s : State) → IsKept b s → IsExplained (committed_base b s) s.standing s.base
+kept_explained b s k = record {
+  whichever = (explained s.held k.locks (committed_base b s) s.standing k.sound).whichever;
+  all = k.base;
+}
+
+-- there is room for what stands
+room_covered : (n : Count) (c : ℕ) (ps : List Pending) (es : List Entry) (rest : ℕ → List Pending) → Covers ps (adds es) rest → HasRoom n (steps_at c ps) → HasRoom n (steps_on c es)
+room_covered n c ps es rest h r = room_wider n (steps_at c ps) (steps_at c (adds es)) (covers_wider (adds es) ps rest h c) r
+
+-- ---- numbers
+
+put_some : {A : Type 0} (f : ℕ → Option A) (t u : ℕ) (x : A) → is_some (f u) ≡ true → is_some (put f t (Some x) u) ≡ true
+put_some f t u x h = go (u == t)
+  where
+    go : (b : Bool) → is_some (cond b (Some x) (f u)) ≡ true
+    go true = refl
+    go false = h
+
+put_other : {A : Type 0} (f : ℕ → Option A) (t u : ℕ) (x : Option A) → (u == t) ≡ false → is_some (f u) ≡ true → is_some (put f t x u) ≡ true
+put_other f t u x apart h = rw apart h
+
+put_none : {A : Type 0} (f : ℕ → Option A) (t u : ℕ) (a : A) → put f t None u ≡ Some a → f u ≡ Some a
+put_none f t u a h = go (u == t) h
+  where
+    go : (b : Bool) → cond b None (f u) ≡ Some a → f u ≡ Some a
+    go true k = absurd cc
+    go false k = k
+
+some_none : {A : Type 0} (f : ℕ → Option A) (t u : ℕ) → is_some (put f t None u) ≡ true → is_some (f u) ≡ true
+some_none f t u h = go (u == t) h
+  where
+    go : (b : Bool) → is_some (cond b None (f u)) ≡ true → is_some (f u) ≡ true
+    go true k = absurd cc
+    go false k = k
+
+apart_from : {A : Type 0} (f : ℕ → Option A) (t u : ℕ) (a : A) → f t ≡ None → f u ≡ Some a → u ≢ t
+apart_from f t u a idle is e = let x : f u ≡ None = ap f e ∙ idle in absurd cc
+
+-- ---- a transaction begins
+
+begun_fresh : (s : State) (session : ℕ) → AreOwned s → (t : ℕ) → s.next + 1 ≤ t → is_live (begun s session) t ≡ true → ⊥
+begun_fresh s session o t later h = go (t == s.next) refl h
+  where
+    go : (b : Bool) → (t == s.next) ≡ b → is_some (cond b (Some session) (s.sessions t)) ≡ true → ⊥
+    go true is k = let same : t ≡ s.next = (Decides-eqb t s.next).0 is in absurd (omega arith)
+    go false is k = o.fresh t (omega arith) k
+
+pub kept_begun : (b : Base) (s : State) (session : ℕ) → IsKept b s → IsKept b (begun s session)
+kept_begun b s session k = record {
+  legal = k.legal;
+  sound = k.sound;
+  base = k.base;
+  locks = k.locks;
+  room = k.room;
+  tied = k.tied;
+  locked = k.locked;
+  owned = record {
+    standing = each_map _ _ (λ (e : Entry) h. put_some s.sessions s.next e.txn session h) s.standing k.owned.standing;
+    running = λ t op h. put_some s.sessions s.next t session (k.owned.running t op h);
+    held = λ t x m h. put_some s.sessions s.next t session (k.owned.held t x m h);
+    fresh = begun_fresh s session k.owned;
+  };
+}
+
+-- ---- a call is granted
+
+called_tied : (s : State) (t : ℕ) (op : Op) → s.running t ≡ None → ((u : ℕ) → pending_of u s.pending ≡ pending_of u (adds s.standing) ++ add_of u (s.running u))
+    → (u : ℕ) (b : Bool) → (t == u) ≡ b → (u == t) ≡ b → pending_of u (s.pending ++ add_before t op []) ≡ pending_of u (adds s.standing) ++ add_of u (cond b (Some op) (s.running u))
+called_tied s t op idle tied u true e f =
+    let same : t ≡ u = (Decides-eqb t u).0 e in
+    let now : s.running u ≡ None = ap s.running (sym same) ∙ idle in
+    let x : pending_of u (add_before t op []) ≡ add_before t op [] = of_before u t op [] ∙ ap (λ w. cond w (add_before t op []) []) e in
+    let y : pending_of u s.pending ≡ pending_of u (adds s.standing) = tied u ∙ (ap (λ w. pending_of u (adds s.standing) ++ add_of u w) now ∙ append-nil (pending_of u (adds s.standing))) in
+    pending_of-append u s.pending (add_before t op []) ∙ (ap (λ w. w ++ pending_of u (add_before t op [])) y ∙ (ap (λ w. pending_of u (adds s.standing) ++ w) x
+    ∙ ap (λ v. pending_of u (adds s.standing) ++ add_before v op []) same))
+called_tied s t op idle tied u false e f =
+    let x : pending_of u (add_before t op []) ≡ [] = of_before u t op [] ∙ ap (λ w. cond w (add_before t op []) []) e in
+    pending_of-append u s.pending (add_before t op []) ∙ (ap (λ w. pending_of u s.pending ++ w) x ∙ (append-nil (pending_of u s.pending) ∙ tied u))
+
+called_locked : (s : State) (t : ℕ) (op : Op) → ((u : ℕ) (p : Op) → s.running u ≡ Some p → s.held u (object_of p) (mode_of p) ≡ true)
+    → (u : ℕ) (p : Op) (b : Bool) → (u == t) ≡ b → cond b (Some op) (s.running u) ≡ Some p → (called s t op).held u (object_of p) (mode_of p) ≡ true
+called_locked s t op h u p true e is =
+    let same : u ≡ t = (Decides-eqb u t).0 e in
+    let q : op ≡ p = cc in
+    subst (λ v. (called s t op).held v (object_of p) (mode_of p) ≡ true) (sym same)
+    (subst (λ w. (called s t op).held t (object_of w) (mode_of w) ≡ true) q (has_lock s.held t (object_of op) (mode_of op)))
+called_locked s t op h u p false e is = still_held s.held t (object_of op) (mode_of op) u (object_of p) (mode_of p) (h u p is)
+
+called_running : (s : State) (t : ℕ) (op : Op) → is_live s t ≡ true → ((u : ℕ) (p : Op) → s.running u ≡ Some p → is_live s u ≡ true)
+    → (u : ℕ) (p : Op) (b : Bool) → (u == t) ≡ b → cond b (Some op) (s.running u) ≡ Some p → is_live s u ≡ true
+called_running s t op live h u p true e is = subst (λ v. is_live s v ≡ true) (sym ((Decides-eqb u t).0 e)) live
+called_running s t op live h u p false e is = h u p is
+
+called_held : (s : State) (t : ℕ) (op : Op) → is_live s t ≡ true → AreOwned s → (u : ℕ) (x : Object) (m : LockMode) → (called s t op).held u x m ≡ true → is_live s u ≡ true
+called_held s t op live o u x m h = go (holder_of s.held t (object_of op) (mode_of op) u x m h)
+  where
+    go : (s.held u x m ≡ true) ⊎ (u ≡ t) → is_live s u ≡ true
+    go (inl a) = o.held u x m a
+    go (inr e) = subst (λ v. is_live s v ≡ true) (sym e) live
+
+relocked : (held more : Held) → ((t : ℕ) (x : Object) (m : LockMode) → held t x m ≡ true → more t x m ≡ true) → (b : Base) (es : List Entry) → IsSound held b es → IsSound more b es
+relocked held more f b es s = record {
+  acted = s.acted;
+  locked = each_map _ _ (λ (e : Entry) h. f e.txn (object_of e.op) (mode_of e.op) h) es s.locked;
+  done = s.done;
+  room = s.room;
+}
+
+pub kept_called : (b : Base) (s : State) (t : ℕ) (op : Op) → IsKept b s → MayCall b s t op → IsKept b (called s t op)
+kept_called b s t op k may = record {
+  legal = k.legal;
+  sound = relocked s.held (called s t op).held (still_held s.held t (object_of op) (mode_of op)) (committed_base b s) s.standing k.sound;
+  base = k.base;
+  locks = more_locks s.held t (object_of op) (mode_of op) k.locks may.free;
+  room = room_called (committed_base b s) s.pending t op k.room may.admitted;
+  tied = λ u. called_tied s t op may.idle k.tied u (u == t) (flip u) refl;
+  locked = λ u p is. called_locked s t op k.locked u p (u == t) refl is;
+  owned = record {
+    standing = k.owned.standing;
+    running = λ u p is. called_running s t op may.live k.owned.running u p (u == t) refl is;
+    held = called_held s t op may.live k.owned;
+    fresh = k.owned.fresh;
+  };
+}
+  where
+    flip : (u : ℕ) → (t == u) ≡ (u == t)
+    flip u = eq_flip t u (t == u) (u == t) refl refl
+
+-- ---- an operation ends
+
+ended_tied : (s : State) (e : Entry) → s.running e.txn ≡ Some e.op → ((u : ℕ) → pending_of u s.pending ≡ pending_of u (adds s.standing) ++ add_of u (s.running u))
+    → (u : ℕ) (b : Bool) → (u == e.txn) ≡ b → (e.txn == u) ≡ b → pending_of u s.pending ≡ pending_of u (adds (s.standing ++ e ∷ [])) ++ add_of u (cond b None (s.running u))
+ended_tied s e run' tied u true f g =
+    let same : e.txn ≡ u = (Decides-eqb e.txn u).0 g in
+    let x : pending_of e.txn (adds (s.standing ++ e ∷ [])) ≡ pending_of e.txn (adds s.standing) ++ add_before e.txn e.op [] =
+    adds_last s.standing e e.txn ∙ ap (λ w. pending_of e.txn (adds s.standing) ++ w) (of_mine e.txn e.op) in
+    let y : pending_of e.txn s.pending ≡ pending_of e.txn (adds s.standing) ++ add_before e.txn e.op [] =
+    tied e.txn ∙ ap (λ w. pending_of e.txn (adds s.standing) ++ add_of e.txn w) run' in
+    subst (λ v. pending_of v s.pending ≡ pending_of v (adds (s.standing ++ e ∷ [])) ++ []) same (y ∙ (sym x ∙ sym (append-nil (pending_of e.txn (adds (s.standing ++ e ∷ []))))))
+ended_tied s e run' tied u false f g =
+    let x : pending_of u (adds (s.standing ++ e ∷ [])) ≡ pending_of u (adds s.standing) =
+    adds_last s.standing e u ∙ (ap (λ w. pending_of u (adds s.standing) ++ w) (of_other u e.txn e.op [] g) ∙ append-nil (pending_of u (adds s.standing))) in
+    tied u ∙ ap (λ w. w ++ add_of u (s.running u)) (sym x)
+
+pub kept_ended : (b : Base) (s : State) (t : ℕ) (op : Op) → IsKept b s → s.running t ≡ Some op → IsKept b (ended s t op)
+kept_ended b s t op k running =
+    let e : Entry = record { txn = t; op = op; reply = reply_of s.base op } in
+    let tied : (u : ℕ) → pending_of u s.pending ≡ pending_of u (adds (s.standing ++ e ∷ [])) ++ add_of u (put s.running t None u) =
+    λ u. ended_tied s e running k.tied u (u == t) refl (eq_flip t u (t == u) (u == t) refl refl) in
+    let r = entry_ended s.held (committed_base b s) s.standing e k.sound (k.locked t op running)
+    (λ c. room_covered ((committed_base b s).counts c) c s.pending (s.standing ++ e ∷ []) (λ u. add_of u (put s.running t None u)) tied (k.room c))
+    (ap (λ w. reply_of w op) k.base) in
+    record {
+      legal = k.legal;
+      sound = r.0;
+      base = r.1 ∙ ap (λ w. base_after w op) k.base;
+      locks = k.locks;
+      room = k.room;
+      tied = tied;
+      locked = λ u p h. k.locked u p (put_none s.running t u p h);
+      owned = record {
+        standing = each_append _ s.standing (e ∷ []) k.owned.standing (k.owned.running t op running, tt);
+        running = λ u p h. k.owned.running u p (put_none s.running t u p h);
+        held = k.owned.held;
+        fresh = k.owned.fresh;
+      };
+    }
+
+-- ---- an unfinished operation is taken back
+
+dropped_tied : (s : State) (t : ℕ) (op : Op) (ps : List Pending) → s.running t ≡ Some op → Taken t op s.pending ps
+    → ((u : ℕ) → pending_of u s.pending ≡ pending_of u (adds s.standing) ++ add_of u (s.running u))
+    → (u : ℕ) (b : Bool) → (u == t) ≡ b → pending_of u ps ≡ pending_of u (adds s.standing) ++ add_of u (cond b None (s.running u))
+dropped_tied s t op ps run' out tied u true e =
+    let same : u ≡ t = (Decides-eqb u t).0 e in
+    let x : pending_of t s.pending ≡ pending_of t (adds s.standing) ++ add_before t op [] = tied t ∙ ap (λ w. pending_of t (adds s.standing) ++ add_of t w) run' in
+    subst (λ v. pending_of v ps ≡ pending_of v (adds s.standing) ++ []) (sym same) (out.its (pending_of t (adds s.standing)) x ∙ sym (append-nil (pending_of t (adds s.standing))))
+dropped_tied s t op ps run' out tied u false e =
+    let apart : u ≢ t = λ k. let x : (u == t) ≡ true = (Decides-eqb u t).1 k in absurd cc in
+    out.apart u apart ∙ tied u
+
+pub kept_dropped : (b : Base) (s : State) (t : ℕ) (op : Op) (ps : List Pending) → IsKept b s → s.running t ≡ Some op → GivesBack t op s.pending ps → IsKept b (dropped s t ps)
+kept_dropped b s t op ps k running given =
+    let out = taken_of t op s.pending ps given in
+    record {
+      legal = k.legal;
+      sound = k.sound;
+      base = k.base;
+      locks = k.locks;
+      room = λ c. out_room ((committed_base b s).counts c) c t op s.pending ps (pending_of t (adds s.standing)) out (k.tied t ∙ ap (λ w. pending_of t (adds s.standing) ++ add_of t w) running) (k.room c);
+      tied = λ u. dropped_tied s t op ps running out k.tied u (u == t) refl;
+      locked = λ u p h. k.locked u p (put_none s.running t u p h);
+      owned = record {
+        standing = k.owned.standing;
+        running = λ u p h. k.owned.running u p (put_none s.running t u p h);
+        held = k.owned.held;
+        fresh = k.owned.fresh;
+      };
+    }
+
+-- ---- a transaction is gone
+
+left_tied : (s : State) (t : ℕ) → s.running t ≡ None → ((u : ℕ) → pending_of u s.pending ≡ pending_of u (adds s.standing) ++ add_of u (s.running u))
+    → (u : ℕ) (b : Bool) → (u == t) ≡ b → pending_of u (pending_without t s.pending) ≡ pending_of u (adds (kept (others t) s.standing)) ++ add_of u (s.running u)
+left_tied s t idle tied u true e =
+    let same : u ≡ t = (Decides-eqb u t).0 e in
+    let x : pending_of u (pending_without t s.pending) ≡ [] = of_without u t s.pending ∙ ap (λ w. cond w [] (pending_of u s.pending)) e in
+    let y : pending_of u (adds (kept (others t) s.standing)) ≡ [] = adds-kept (others t) u s.standing ∙ ap (λ w. cond (not w) (pending_of u (adds s.standing)) []) e in
+    let z : add_of u (s.running u) ≡ [] = ap (add_of u) (ap s.running same ∙ idle) in
+    x ∙ sym (ap (λ w. w ++ add_of u (s.running u)) y ∙ z)
+left_tied s t idle tied u false e =
+    let x : pending_of u (pending_without t s.pending) ≡ pending_of u s.pending = of_without u t s.pending ∙ ap (λ w. cond w [] (pending_of u s.pending)) e in
+    let y : pending_of u (adds (kept (others t) s.standing)) ≡ pending_of u (adds s.standing) = adds-kept (others t) u s.standing ∙ ap (λ w. cond (not w) (pending_of u (adds s.standing)) []) e in
+    x ∙ (tied u ∙ ap (λ w. w ++ add_of u (s.running u)) (sym y))
+
+left_locked : (s : State) (t : ℕ) → s.running t ≡ None → ((u : ℕ) (p : Op) → s.running u ≡ Some p → s.held u (object_of p) (mode_of p) ≡ true)
+    → (u : ℕ) (p : Op) → s.running u ≡ Some p → without_holder s.held t u (object_of p) (mode_of p) ≡ true
+left_locked s t idle h u p is = held_after s.held t u (object_of p) (mode_of p) (not_eq u t (apart_from s.running t u p idle is) (u == t) refl) (h u p is)
+
+left_sound : (s : State) (t : ℕ) (b : Base) → IsSound s.held b (kept (others t) s.standing) → Each (IsLocked s.held) s.standing → IsSound (without_holder s.held t) b (kept (others t) s.standing)
+left_sound s t b h l = record { acted = h.acted; locked = still_locked s.held t s.standing l; done = h.done; room = h.room }
+
+live_choice : (s : State) (t : ℕ) (e : Entry) (es : List Entry) (b : Bool) → (e.txn == t) ≡ b → is_live s e.txn ≡ true → Each (λ (f : Entry). is_live (gone s t) f.txn ≡ true) es
+    → Each (λ (f : Entry). is_live (gone s t) f.txn ≡ true) (cond (not b) (e ∷ es) es)
+live_choice s t e es true is h rest = rest
+live_choice s t e es false is h rest = (put_other s.sessions t e.txn None is h, rest)
+
+still_live : (s : State) (t : ℕ) (es : List Entry) → Each (λ (e : Entry). is_live s e.txn ≡ true) es → Each (λ (e : Entry). is_live (gone s t) e.txn ≡ true) (kept (others t) es)
+still_live s t [] h = tt
+still_live s t (e ∷ es) h = live_choice s t e (kept (others t) es) (e.txn == t) refl h.0 (still_live s t es h.1)
+
+gone_owned : (s : State) (t : ℕ) → s.running t ≡ None → AreOwned s → AreOwned (gone s t)
+gone_owned s t idle o = record {
+  standing = still_live s t s.standing o.standing;
+  running = λ u op is. put_other s.sessions t u None (not_eq u t (apart_from s.running t u op idle is) (u == t) refl) (o.running u op is);
+  held = λ u x m h. put_other s.sessions t u None (another_holds s.held t u x m h) (o.held u x m (held_before s.held t u x m h));
+  fresh = λ u later h. o.fresh u later (some_none s.sessions t u h);
+}
+
+booked_owned : (s : State) (t session : ℕ) → s.running t ≡ None → AreOwned s → AreOwned (booked s t session)
+booked_owned s t session idle o =
+    let g = gone_owned s t idle o in
+    record { standing = g.standing; running = g.running; held = g.held; fresh = g.fresh }
+
+-- ---- an abort ends
+
+pub kept_gone : (b : Base) (s : State) (t : ℕ) → IsKept b s → s.running t ≡ None → last_effect t s.standing ≡ None → IsKept b (gone s t)
+kept_gone b s t k idle nothing =
+    let none = idle_all t s.standing nothing in
+    let n : Each (λ e. others t e.txn ≡ false → inverse_of e.op e.reply ≡ None) s.standing = each_map (IsIdle t) (λ e. others t e.txn ≡ false → inverse_of e.op e.reply ≡ None) (λ e i h. i (not_others t e.txn h)) s.standing none in
+    let l = leaves s.held (committed_base b s) (others t) [] s.standing k.sound n in
+    record {
+      legal = k.legal;
+      sound = left_sound s t (committed_base b s) l.sound k.sound.locked;
+      base = l.base ∙ k.base;
+      locks = fewer_locks s.held t k.locks;
+      room = λ c. room_wider ((committed_base b s).counts c) (steps_at c s.pending) (steps_at c (pending_without t s.pending))
+          (covers_wider (pending_without t s.pending) s.pending (λ u. cond (u == t) (pending_of t s.pending) []) (λ u. split u (u == t) refl) c) (k.room c);
+      tied = λ u. left_tied s t idle k.tied u (u == t) refl;
+      locked = left_locked s t idle k.locked;
+      owned = gone_owned s t idle k.owned;
+    }
+  where
+    split : (u : ℕ) (c : Bool) → (u == t) ≡ c → pending_of u s.pending ≡ pending_of u (pending_without t s.pending) ++ cond c (pending_of t s.pending) []
+    split u true e =
+        let same : u ≡ t = (Decides-eqb u t).0 e in
+        ap (λ v. pending_of v s.pending) same ∙ ap (λ w. w ++ pending_of t s.pending) (sym (of_without u t s.pending ∙ ap (λ w. cond w [] (pending_of u s.pending)) e))
+    split u false e = sym (append-nil (pending_of u (pending_without t s.pending)) ∙ (of_without u t s.pending ∙ ap (λ w. cond w [] (pending_of u s.pending)) e))
+
+-- ---- a commit becomes durable
+
+-- the steps that t commits at a counter are what it has pending there
+committed_steps : (s : State) (t c : ℕ) → s.running t ≡ None → ((u : ℕ) → pending_of u s.pending ≡ pending_of u (adds s.standing) ++ add_of u (s.running u))
+    → steps_on c (kept (only t) s.standing) ≡ steps_at c (pending_of t s.pending)
+committed_steps s t c idle tied =
+    ap (steps_at c) (adds_only t s.standing ∙ sym (tied t ∙ (ap (λ w. pending_of t (adds s.standing) ++ add_of t w) idle ∙ append-nil (pending_of t (adds s.standing)))))
+
+counts_at : (held : Held) (m : Base) (es : List Entry) (c u : ℕ) → IsMoved held m (only u) es → IsSound held m es → (runs m (kept (only u) es)).counts c ≡ moved (m.counts c) (total (steps_on c (kept (only u) es)))
+counts_at held m es c u l h =
+    counts_run m (kept (only u) es) (Counter c) l.acted (each_filter _ (λ (e : Entry). e.txn == u) es h.done)
+    ∙ ap (λ w. moved (m.counts c) (total w)) (steps-at c (kept (only u) es))
+
+-- a counter that is committed moves by what the transaction has pending there
+pub committed_count : (b : Base) (s : State) (t session : ℕ) → IsKept b s → s.running t ≡ None → (c : ℕ) → (committed_base b (booked s t session)).counts c ≡ moved_by t c s.pending ((committed_base b s).counts c)
+committed_count b s t session k idle c =
+    let m = committed_base b s in
+    let l = commits s.held k.locks m s.standing k.sound (only t) in
+    ap (λ (w : Base). w.counts c) (after-append b s.book (record { session = session; calls = calls (kept (only t) s.standing) } ∷ []))
+    ∙ (counts_at s.held m s.standing c t l k.sound ∙ ap (λ w. moved (m.counts c) (total w)) (committed_steps s t c idle k.tied))
+
+pub kept_booked : (b : Base) (s : State) (t session : ℕ) → IsKept b s → s.running t ≡ None → IsKept b (booked s t session)
+kept_booked b s t session k idle =
+    let m = committed_base b s in
+    let x = kept (only t) s.standing in
+    let new : Committed = record { session = session; calls = calls x } in
+    let l = commits s.held k.locks m s.standing k.sound (only t) in
+    let now : after b (s.book ++ new ∷ []) ≡ runs m x = after-append b s.book (new ∷ []) in
+    record {
+      legal = legal_append b s.book (new ∷ []) k.legal (l.acted, tt);
+      sound = subst (λ w. IsSound (without_holder s.held t) w (kept (others t) s.standing)) (sym now) (left_sound s t (runs m x) l.rest k.sound.locked);
+      base = ap (λ w. runs w (kept (others t) s.standing)) now ∙ (l.same ∙ k.base);
+      locks = fewer_locks s.held t k.locks;
+      room = λ c. subst (λ n. HasRoom n (steps_at c (pending_without t s.pending))) (sym (committed_count b s t session k idle c)) (room_shared (m.counts c) t c s.pending (k.room c));
+      tied = λ u. left_tied s t idle k.tied u (u == t) refl;
+      locked = left_locked s t idle k.locked;
+      owned = booked_owned s t session idle k.owned;
+    }
+
+-- ---- an inverse ends
+
+cond_apart : (e : Entry) (t : ℕ) (f : Entry) (fs : List Entry) (b : Bool) → (f.txn == t) ≡ b → e.txn ≡ t → Each (λ g. g.txn ≢ e.txn) fs → Each (λ g. g.txn ≢ e.txn) (cond (not b) (f ∷ fs) fs)
+cond_apart e t f fs true is same h = h
+cond_apart e t f fs false is same h = ((λ s. let x : (f.txn == t) ≡ true = (Decides-eqb f.txn t).1 (s ∙ same) in absurd cc), h)
+
+others_apart : (e : Entry) (t : ℕ) (fs : List Entry) → e.txn ≡ t → Each (λ g. g.txn ≢ e.txn) (kept (others t) fs)
+others_apart e t [] same = tt
+others_apart e t (f ∷ fs) same = cond_apart e t f (kept (others t) fs) (f.txn == t) refl same (others_apart e t fs same)
+
+-- what stands once the entry is undone, as lists
+abbrev undone_at : State → List Entry → Op → List Pending → State
+undone_at s standing i ps = record s { standing = standing; pending = ps; base = base_after s.base i }
+
+kept_undone_at : (b : Base) (s : State) (t : ℕ) (front : List Entry) (e : Entry) (rest : List Entry) (i : Op) (ps : List Pending) → IsKept b s → s.running t ≡ None
+    → IsLastDone t s.standing front e rest i → GivesBack t e.op s.pending ps → IsKept b (undone_at s (front ++ kept (others t) rest) i ps)
+kept_undone_at b s t front e rest i ps k idle m given =
+    let h : Held = s.held in
+    let base : Base = committed_base b s in
+    let out = taken_of t e.op s.pending ps given in
+    let one : (front ++ (e ∷ [])) ++ rest ≡ front ++ (e ∷ rest) = append_assoc front (e ∷ []) rest in
+    let two : (front ++ (e ∷ [])) ++ kept (others t) rest ≡ front ++ (e ∷ kept (others t) rest) = append_assoc front (e ∷ []) (kept (others t) rest) in
+    let s0 : IsSound h base (front ++ (e ∷ rest)) = subst (IsSound h base) m.place k.sound in
+    let s1 : IsSound h base ((front ++ (e ∷ [])) ++ rest) = subst (IsSound h base) (sym one) s0 in
+    let none : Each (λ f. others t f.txn ≡ false → inverse_of f.op f.reply ≡ None) rest =
+    each_map (IsIdle t) (λ f. others t f.txn ≡ false → inverse_of f.op f.reply ≡ None) (λ f x n. x (not_others t f.txn n)) rest m.idle in
+    let l = leaves h base (others t) (front ++ (e ∷ [])) rest s1 none in
+    let s2 : IsSound h base (front ++ (e ∷ kept (others t) rest)) = subst (IsSound h base) two l.sound in
+    let u = entry_undone h k.locks base front e (kept (others t) rest) i s2 (others_apart e t rest m.its) m.inverse in
+    let same : runs base (front ++ (e ∷ kept (others t) rest)) ≡ s.base =
+    sym (ap (runs base) two) ∙ (l.base ∙ (ap (runs base) one ∙ (sym (ap (runs base) m.place) ∙ k.base))) in
+    let nothing : pending_of t (adds rest) ≡ [] = idle_adds t rest m.idle (each_back IsDone (front ++ (e ∷ [])) rest s1.done) in
+    let tied : (v : ℕ) → pending_of v s.pending ≡ pending_of v (adds (front ++ (e ∷ rest))) ++ add_of v (s.running v) =
+    λ v. k.tied v ∙ ap (λ w. pending_of v (adds w) ++ add_of v (s.running v)) m.place in
+    let live : Each (λ (f : Entry). is_live s f.txn ≡ true) (front ++ (e ∷ rest)) = subst (Each (λ (f : Entry). is_live s f.txn ≡ true)) m.place k.owned.standing in
+    record {
+      legal = k.legal;
+      sound = u.sound;
+      base = u.base ∙ ap (λ w. base_after w i) same;
+      locks = k.locks;
+      room = λ c. out_room (base.counts c) c t e.op s.pending ps (pending_of t (adds front)) out (mine tied nothing) (k.room c);
+      tied = λ v. undone_tied t front e rest s.pending ps (add_of v (s.running v)) m.its nothing out v (v == t) refl (quiet v (v == t) refl) (tied v);
+      locked = k.locked;
+      owned = record {
+        standing = each_append _ front (kept (others t) rest) (each_front _ front (e ∷ rest) live) (each_filter _ (λ (f : Entry). others t f.txn) rest (each_back _ front (e ∷ rest) live).1);
+        running = k.owned.running;
+        held = k.owned.held;
+        fresh = k.owned.fresh;
+      };
+    }
+  where
+    quiet : (v : ℕ) (c : Bool) → (v == t) ≡ c → c ≡ true → add_of v (s.running v) ≡ []
+    quiet v c is true_now =
+        let x : v ≡ t = (Decides-eqb v t).0 (is ∙ true_now) in
+        ap (add_of v) (ap s.running x ∙ idle)
+
+    mine : ((v : ℕ) → pending_of v s.pending ≡ pending_of v (adds (front ++ e ∷ rest)) ++ add_of v (s.running v)) → pending_of t (adds rest) ≡ [] → pending_of t s.pending ≡ pending_of t (adds front) ++ add_before t e.op []
+    mine tied nothing =
+        tied t ∙ (ap (λ w. pending_of t (adds (front ++ e ∷ rest)) ++ add_of t w) idle ∙ (append-nil (pending_of t (adds (front ++ e ∷ rest)))
+        ∙ (ap (pending_of t) (adds-append front (e ∷ rest)) ∙ (pending_of-append t (adds front) (add_before e.txn e.op (adds rest))
+        ∙ ap (λ w. pending_of t (adds front) ++ w) (ap (λ v. pending_of t (add_before v e.op (adds rest))) m.its
+        ∙ (of_before t t e.op (adds rest) ∙ (ap (λ w. cond w (add_before t e.op (pending_of t (adds rest))) (pending_of t (adds rest))) (eq_self t)
+        ∙ ap (add_before t e.op) nothing)))))))
+
+pub kept_undone : (b : Base) (s : State) (t : ℕ) (e : Entry) (i : Op) (ps : List Pending) → IsKept b s → s.running t ≡ None
+    → last_effect t s.standing ≡ Some e → inverse_of e.op e.reply ≡ Some i → GivesBack t e.op s.pending ps → IsKept b (undone s t i ps)
+kept_undone b s t e i ps k idle last inverse given =
+    let c = cut_of t s.standing e i last inverse in
+    subst (λ w. IsKept b (undone_at s w i ps)) (sym c.then) (kept_undone_at b s t c.front e c.rest i ps k idle c.done given)

@@ -1,0 +1,17 @@
+pub mod Entries
+pub mod Shapes
+pub mod AtCell
+pub mod Moving
+pub mod Events
+pub mod Pending
+pub mod Cuts
+pub mod Locking
+pub mod AddLemmas
+pub mod Keeping
+pub mod Schedule
+pub mod Witness
+pub mod Failures
+pub mod Lasts
+pub mod Ends
+pub mod MemberLists
+pub mod Wells

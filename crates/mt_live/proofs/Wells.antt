@@ -1,0 +1,344 @@
+-- What is kept of the live transactions, as their list and the order of ends change.
+use Rattle.std.proofs.Common.{◌≡◌, ℕ, zero, suc, ◌<◌, ◌≤◌, ◌+◌, ◌==◌, Bool, true, false, cond, not, filter, map, List, [], ◌∷◌, ◌++◌, Option, Some, None, is_some, get_or, set, take, drop, length, All, MatchOption, refl, ap, sym, ◌∙◌, subst, arith}
+use Rattle.std.specs.Option.{option_map}
+use Rattle.std.specs.List.{remove, position, position_from, sum_by}
+use Rattle.std.proofs.lemmas.Iterator.Adapters.{position_from-zero}
+use Rattle.std.proofs.lemmas.Bool.Decides.{Decides-eqb}
+use Rattle.std.proofs.lemmas.List.{length-set}
+use Rattle.std.proofs.lemmas.List.Quantifiers.{position-Some}
+use Rattle.std.proofs.lemmas.List.Sums.{sum_by-set, sum_by-remove, sum_by_push, sum_by-le}
+use Rattle.mt_model.specs.History.{Call}
+use Rattle.mt_live.specs.declared.places.Place.{Place}
+use Rattle.mt_live.specs.Entries.{calls, kept}
+use Rattle.mt_live.specs.Machine.{put}
+use Rattle.mt_live.specs.Undoing.{only, others, last_effect, cut_back}
+use Rattle.mt_live.specs.Members.{Member, fresh, with_room, with_call, cut_at, cut_to, taken_back, last_place}
+use Rattle.mt_live.specs.Lives.{member_of, is_member, has_room, entry_by, IsFirst, IsChanged, calls_in, calls_of, standing_by, numbers, count_from, AreRising, rooms, IsWell}
+use Rattle.mt_live.proofs.Ends.{standing_noted, placed_noted, standing_left, placed_left, standing_own, nothing_to_undo, before_cut, IsUndone, undone_by, placed_undone}
+use Rattle.mt_live.proofs.MemberLists.{there, member_of-set, member_of-push, member_of-remove, nobody_above, rising_set, rising_remove, rising_push}
+
+-- ---- one transaction's list of calls is another
+
+put_out : (f : ℕ → Option Member) (t : ℕ) (x : Option Member) (u : ℕ) → calls_in (put f t x u) ≡ put (λ v. calls_in (f v)) t (calls_in x) u
+put_out f t x u = go (u == t)
+  where
+    go : (b : Bool) → calls_in (cond b x (f u)) ≡ cond b (calls_in x) (calls_in (f u))
+    go true = refl
+    go false = refl
+
+pub put_same : {A : Type 0} (f : ℕ → A) (t : ℕ) (x : A) → x ≡ f t → (u : ℕ) → put f t x u ≡ f u
+put_same f t x is u = go (u == t) refl
+  where
+    go : (b : Bool) → (u == t) ≡ b → cond b x (f u) ≡ f u
+    go true e = is ∙ ap f (sym ((Decides-eqb u t).0 e))
+    go false e = refl
+
+pub calls_set : (ms : List Member) (t i : ℕ) (y : Member) → IsFirst ms t i → y.number ≡ t → calls_of (set ms i y) ≡ put (calls_of ms) t y.calls
+calls_set ms t i y f is = λ k u. (ap calls_in (member_of-set ms t i y f is u) ∙ put_out (member_of ms) t (Some y) u) k
+
+pub calls_remove : (begun : ℕ) (ms : List Member) (t i : ℕ) → IsFirst ms t i → AreRising 0 ms begun → calls_of (remove ms i) ≡ put (calls_of ms) t []
+calls_remove begun ms t i f r = λ k u. (ap calls_in (member_of-remove 0 ms begun t i f r u) ∙ put_out (member_of ms) t None u) k
+
+-- ---- the member at a place
+
+pub is_there : (ms : List Member) (t i : ℕ) (m : Member) → IsFirst ms t i → m ≡ get_or ms i m → member_of ms t ≡ Some m
+is_there ms t i m f is = there ms t i m f ∙ ap Some (sym is)
+
+pub first_from : (ms : List Member) (t i : ℕ) → position (λ (m : Member). m.number == t) ms ≡ Some i → IsFirst ms t i
+first_from ms t i h = record {
+  within = (position-Some (λ (m : Member). m.number == t) ms i (fresh 0 0) h).0;
+  own = λ d. (Decides-eqb (get_or ms i d).number t).0 (position-Some (λ (m : Member). m.number == t) ms i d h).1;
+  before = λ k d less e. let test = (position-Some (λ (m : Member). m.number == t) ms i d h).2 k less in let is = (Decides-eqb (get_or ms k d).number t).1 e in cc;
+}
+
+pub changed : (ms : List Member) (t i : ℕ) (m y : Member) (f : Member → Member) → IsFirst ms t i → m ≡ get_or ms i m → y ≡ f m → y.number ≡ t → IsChanged ms (set ms i y) t f
+changed ms t i m y f first is now own u =
+    member_of-set ms t i y first own u
+    ∙ ap (λ (x : Option Member). put (member_of ms) t x u) (ap Some now ∙ sym (ap (option_map f) (is_there ms t i m first is)))
+
+-- ---- the whole
+
+pub well_set : (begun : ℕ) (ms : List Member) (os : List Place) (used capacity t i : ℕ) (m y : Member) (os' : List Place) (used' capacity' : ℕ)
+    → IsWell begun ms os used capacity → IsFirst ms t i → m ≡ get_or ms i m → y.number ≡ t
+    → ((u : ℕ) → numbers u os' ≡ count_from 0 (length (put (calls_of ms) t y.calls u)))
+    → (sum_by rooms (set ms i y) + rooms m ≡ sum_by rooms ms + rooms y → used' + sum_by rooms (set ms i y) ≤ capacity')
+    → IsWell begun (set ms i y) os' used' capacity'
+well_set begun ms os used capacity t i m y os' used' capacity' w first is own placed room = record {
+  rising = rising_set 0 ms begun t i y first own w.rising;
+  placed = λ u. placed u ∙ ap (λ f. count_from 0 (length (f u))) (sym (calls_set ms t i y first own));
+  room = room (ap (λ (x : Member). sum_by rooms (set ms i y) + rooms x) is ∙ sum_by-set rooms ms i y m first.within);
+}
+
+none_from : (ms : List Member) (t i : ℕ) → position_from (λ (m : Member). m.number == t) i ms ≡ None → member_of ms t ≡ None
+none_from [] t i h = refl
+none_from (x ∷ xs) t i h = go (x.number == t) h (λ k. none_from xs t (i + 1) k)
+  where
+    go : (b : Bool) → cond b (Some i) (position_from (λ (m : Member). m.number == t) (i + 1) xs) ≡ None → (position_from (λ (m : Member). m.number == t) (i + 1) xs ≡ None → member_of xs t ≡ None) → cond b (Some x) (member_of xs t) ≡ None
+    go true k rec = absurd cc
+    go false k rec = rec k
+
+pub found_or_none : (ms : List Member) (t : ℕ) (x : Option ℕ) → x ≡ position (λ (m : Member). m.number == t) ms → MatchOption x (member_of ms t ≡ None) (IsFirst ms t)
+found_or_none ms t None h = none_from ms t 0 (sym (position_from-zero (λ (m : Member). m.number == t) ms) ∙ sym h)
+found_or_none ms t (Some i) h = first_from ms t i (sym h)
+
+-- ---- nothing of the calls changes
+
+same_calls : (ms : List Member) (t i : ℕ) (m y : Member) → IsFirst ms t i → m ≡ get_or ms i m → y.calls ≡ m.calls → (u : ℕ) → put (calls_of ms) t y.calls u ≡ calls_of ms u
+same_calls ms t i m y first is same u = put_same (calls_of ms) t y.calls (same ∙ sym (ap calls_in (is_there ms t i m first is))) u
+
+pub same_standing : (ms : List Member) (os : List Place) (t i : ℕ) (m y : Member) → IsFirst ms t i → m ≡ get_or ms i m → y.number ≡ t → y.calls ≡ m.calls
+    → standing_by (calls_of (set ms i y)) os ≡ standing_by (calls_of ms) os
+same_standing ms os t i m y first is own same =
+    ap (λ f. standing_by f os) (calls_set ms t i y first own ∙ (λ k u. same_calls ms t i m y first is same u k))
+
+pub well_same : (begun : ℕ) (ms : List Member) (os : List Place) (used capacity t i : ℕ) (m y : Member) (capacity' : ℕ) → IsWell begun ms os used capacity → IsFirst ms t i → m ≡ get_or ms i m → y.number ≡ t → y.calls ≡ m.calls
+    → (sum_by rooms (set ms i y) + rooms m ≡ sum_by rooms ms + rooms y → used + sum_by rooms (set ms i y) ≤ capacity')
+    → IsWell begun (set ms i y) os used capacity'
+well_same begun ms os used capacity t i m y capacity' w first is own same room =
+    well_set begun ms os used capacity t i m y os used capacity' w first is own
+    (λ u. w.placed u ∙ ap (λ w'. count_from 0 (length w')) (sym (same_calls ms t i m y first is same u))) room
+
+pub its_number : (ms : List Member) (t i : ℕ) (m : Member) → IsFirst ms t i → m ≡ get_or ms i m → m.number ≡ t
+its_number ms t i m first is = ap (λ (x : Member). x.number) is ∙ first.own m
+
+-- ---- one begins
+
+begun_calls : (ms : List Member) (m : Member) → member_of ms m.number ≡ None → m.calls ≡ [] → (u : ℕ) → calls_of (ms ++ m ∷ []) u ≡ calls_of ms u
+begun_calls ms m none empty u =
+    ap calls_in (member_of-push ms m none u) ∙ (put_out (member_of ms) m.number (Some m) u
+    ∙ put_same (calls_of ms) m.number m.calls (empty ∙ sym (ap calls_in none)) u)
+
+pub begun_well : (begun : ℕ) (ms : List Member) (os : List Place) (used capacity session : ℕ) (number : ℕ) (m : Member) (new : List Member) → IsWell begun ms os used capacity
+    → number ≡ begun + 1 → m ≡ fresh number session → new ≡ ms ++ m ∷ [] → IsWell (begun + 1) new os used capacity
+begun_well begun ms os used capacity session number m new w next is now =
+    let own : m.number ≡ begun + 1 = ap (λ (x : Member). x.number) is ∙ next in
+    let none : member_of ms m.number ≡ None = nobody_above 0 ms begun m.number (omega (arith, own)) w.rising in
+    let no_room : rooms m ≡ 0 = ap rooms is in
+    let before = w.room in
+    subst (λ xs. IsWell (begun + 1) xs os used capacity) (sym now) (record {
+      rising = rising_push 0 ms begun m own w.rising;
+      placed = λ u. w.placed u ∙ ap (λ cs. count_from 0 (length cs)) (sym (begun_calls ms m none (ap (λ (x : Member). x.calls) is) u));
+      room = let sums = sum_by_push rooms ms m in omega (arith, sums, no_room, before);
+    })
+
+pub begun_unused : (begun : ℕ) (ms : List Member) (os : List Place) (used capacity number : ℕ) → IsWell begun ms os used capacity → number ≡ begun + 1 → member_of ms number ≡ None
+begun_unused begun ms os used capacity number w next = nobody_above 0 ms begun number (omega (arith, next)) w.rising
+
+pub begun_member : (ms : List Member) (session number : ℕ) (m : Member) (new : List Member) → member_of ms number ≡ None → m ≡ fresh number session → new ≡ ms ++ m ∷ []
+    → (u : ℕ) → member_of new u ≡ put (member_of ms) number (Some (fresh number session)) u
+begun_member ms session number m new none is now u =
+    ap (λ xs. member_of xs u) (now ∙ ap (λ (x : Member). ms ++ x ∷ []) is) ∙ member_of-push ms (fresh number session) none u
+
+pub begun_standing : (ms : List Member) (os : List Place) (session number : ℕ) (m : Member) (new : List Member) → member_of ms number ≡ None → m ≡ fresh number session → new ≡ ms ++ m ∷ []
+    → standing_by (calls_of new) os ≡ standing_by (calls_of ms) os
+begun_standing ms os session number m new none is now =
+    ap (λ xs. standing_by (calls_of xs) os) (now ∙ ap (λ (x : Member). ms ++ x ∷ []) is)
+    ∙ ap (λ f. standing_by f os) (λ k u. begun_calls ms (fresh number session) none refl u k)
+
+pub must_be_there : (ms : List Member) (t : ℕ) → position (λ (m : Member). m.number == t) ms ≡ None → is_member ms t ≡ true → ⊥
+must_be_there ms t h is =
+    let none : member_of ms t ≡ None = found_or_none ms t None (sym h) in
+    let not_there : is_member ms t ≡ false = ap is_some none in
+    cc
+
+-- ---- a state is set, or room is made
+
+pub state_room : (ms : List Member) (m y : Member) (i used capacity : ℕ) → rooms y ≡ rooms m → used + sum_by rooms ms ≤ capacity
+    → sum_by rooms (set ms i y) + rooms m ≡ sum_by rooms ms + rooms y → used + sum_by rooms (set ms i y) ≤ capacity
+state_room ms m y i used capacity same room sums = omega (arith, same, room, sums)
+
+pub rooms_few : (ms : List Member) → sum_by rooms ms ≤ length ms
+rooms_few ms = let h = sum_by-le rooms 1 ms (each ms) in omega (arith, h)
+  where
+    one : (b : Bool) → cond b 1 0 ≤ 1
+    one true = omega arith
+    one false = omega arith
+
+    each : (xs : List Member) → All (λ (m : Member). rooms m ≤ 1) xs
+    each xs = λ k d less. one (get_or xs k d).has_room
+
+pub room_well : (begun : ℕ) (ms : List Member) (os : List Place) (used capacity t i : ℕ) (m y : Member) (os' : List Place) (used' capacity' : ℕ) → IsWell begun ms os used capacity
+    → IsFirst ms t i → m ≡ get_or ms i m → y ≡ with_room m → os' ≡ os → used' + length ms ≤ capacity' → IsWell begun (set ms i y) os' used' capacity'
+room_well begun ms os used capacity t i m y os' used' capacity' w first is now same room =
+    let few = rooms_few (set ms i y) in
+    let size : length (set ms i y) ≡ length ms = length-set ms i y in
+    well_set begun ms os used capacity t i m y os' used' capacity' w first is (ap (λ (x : Member). x.number) now ∙ its_number ms t i m first is)
+    (λ u. ap (numbers u) same ∙ (w.placed u ∙ ap (λ cs. count_from 0 (length cs)) (sym (same_calls ms t i m y first is (ap (λ (x : Member). x.calls) now) u))))
+    (λ sums. omega (arith, few, size, room))
+
+-- ---- a call is noted
+
+pub room_there : (ms : List Member) (t i : ℕ) (m : Member) → IsFirst ms t i → m ≡ get_or ms i m → has_room (member_of ms t) ≡ true → m.has_room ≡ true
+room_there ms t i m first is h = sym (ap has_room (is_there ms t i m first is)) ∙ h
+
+its_calls : (ms : List Member) (t i : ℕ) (m : Member) → IsFirst ms t i → m ≡ get_or ms i m → calls_of ms t ≡ m.calls
+its_calls ms t i m first is = ap calls_in (is_there ms t i m first is)
+
+one_room : (m : Member) → m.has_room ≡ true → rooms m ≡ 1
+one_room m h = rw h refl
+
+-- the list of ends has a place for it
+pub place_left : (begun : ℕ) (ms : List Member) (os : List Place) (used capacity t i : ℕ) (m : Member) → IsWell begun ms os used capacity → IsFirst ms t i → m ≡ get_or ms i m → m.has_room ≡ true
+    → used < capacity
+place_left begun ms os used capacity t i m w first is h =
+    let sums = sum_by-remove rooms ms i m first.within in
+    let mine : rooms (get_or ms i m) ≡ 1 = ap rooms (sym is) ∙ one_room m h in
+    let room = w.room in
+    omega (arith, sums, mine, room)
+
+noted_calls : (ms : List Member) (t i : ℕ) (m y : Member) (c : Call) → IsFirst ms t i → m ≡ get_or ms i m → y ≡ with_call m c → y.calls ≡ calls_of ms t ++ c ∷ []
+noted_calls ms t i m y c first is now = ap (λ (x : Member). x.calls) now ∙ ap (λ cs. cs ++ c ∷ []) (sym (its_calls ms t i m first is))
+
+noted_at : (ms : List Member) (t i : ℕ) (l : Member) (index : ℕ) → IsFirst ms t i → l ≡ get_or ms i l → index ≡ length l.calls → index ≡ length (calls_of ms t)
+noted_at ms t i l index first is at' = at' ∙ ap length (sym (its_calls ms t i l first is))
+
+pub noted_well : (begun : ℕ) (ms : List Member) (os : List Place) (used capacity t i : ℕ) (m y l : Member) (c : Call) (index : ℕ) (os' : List Place) (used' capacity' : ℕ) → IsWell begun ms os used capacity
+    → IsFirst ms t i → m ≡ get_or ms i m → y ≡ with_call m c → l ≡ get_or ms i l → index ≡ length l.calls → m.has_room ≡ true
+    → os' ≡ os ++ record { txn = t; index = index } ∷ [] → used' ≡ used + 1 → capacity' ≡ capacity → IsWell begun (set ms i y) os' used' capacity'
+noted_well begun ms os used capacity t i m y l c index os' used' capacity' w first is now lis at' h more longer same =
+    let place = noted_at ms t i l index first lis at' in
+    let mine = one_room m h in
+    let none : rooms y ≡ 0 = ap rooms now in
+    let room = w.room in
+    well_set begun ms os used capacity t i m y os' used' capacity' w first is (ap (λ (x : Member). x.number) now ∙ its_number ms t i m first is)
+    (λ u. ap (numbers u) (more ∙ ap (λ (n : ℕ). os ++ record { txn = t; index = n } ∷ []) place) ∙ (placed_noted (calls_of ms) t c os w.placed u
+    ∙ ap (λ cs. count_from 0 (length (put (calls_of ms) t cs u))) (sym (noted_calls ms t i m y c first is now))))
+    (λ sums. omega (arith, sums, mine, none, room, longer, same))
+
+pub noted_standing : (begun : ℕ) (ms : List Member) (os : List Place) (used capacity t i : ℕ) (m y l : Member) (c : Call) (index : ℕ) (os' : List Place) → IsWell begun ms os used capacity
+    → IsFirst ms t i → m ≡ get_or ms i m → y ≡ with_call m c → l ≡ get_or ms i l → index ≡ length l.calls
+    → os' ≡ os ++ record { txn = t; index = index } ∷ [] → standing_by (calls_of (set ms i y)) os' ≡ standing_by (calls_of ms) os ++ entry_by t c ∷ []
+noted_standing begun ms os used capacity t i m y l c index os' w first is now lis at' more =
+    let place = noted_at ms t i l index first lis at' in
+    ap (λ f. standing_by f os') (calls_set ms t i y first (ap (λ (x : Member). x.number) now ∙ its_number ms t i m first is)
+    ∙ ap (put (calls_of ms) t) (noted_calls ms t i m y c first is now))
+    ∙ (ap (standing_by (put (calls_of ms) t (calls_of ms t ++ c ∷ []))) (more ∙ ap (λ (n : ℕ). os ++ record { txn = t; index = n } ∷ []) place)
+    ∙ standing_noted (calls_of ms) t c os (w.placed t))
+
+-- ---- the last effect, and its end
+
+pub undone_at : (begun : ℕ) (ms : List Member) (os : List Place) (used capacity t i : ℕ) (m : Member) (k : ℕ) → IsWell begun ms os used capacity → IsFirst ms t i → m ≡ get_or ms i m
+    → last_place m.calls ≡ Some k → IsUndone (calls_of ms) t k os
+undone_at begun ms os used capacity t i m k w first is last =
+    undone_by (calls_of ms) t k os 0 (length (calls_of ms t)) (calls_of ms t) k (w.placed t) refl refl (ap last_place (its_calls ms t i m first is) ∙ last) (omega arith)
+
+pub nothing_undone : (begun : ℕ) (ms : List Member) (os : List Place) (used capacity t : ℕ) → IsWell begun ms os used capacity → last_place (calls_of ms t) ≡ None → last_effect t (standing_by (calls_of ms) os) ≡ None
+nothing_undone begun ms os used capacity t w last =
+    nothing_to_undo (calls_of ms) t os 0 (length (calls_of ms t)) (calls_of ms t) (w.placed t) refl refl last
+
+pub no_effect : (begun : ℕ) (ms : List Member) (os : List Place) (used capacity t i : ℕ) (m : Member) → IsWell begun ms os used capacity → IsFirst ms t i → m ≡ get_or ms i m → last_place m.calls ≡ None
+    → last_effect t (standing_by (calls_of ms) os) ≡ None
+no_effect begun ms os used capacity t i m w first is last =
+    nothing_undone begun ms os used capacity t w (ap last_place (its_calls ms t i m first is) ∙ last)
+
+read_at : (cs : List Call) (k : ℕ) (c d : Call) (behind : List Call) → drop k cs ≡ c ∷ behind → get_or cs k d ≡ c
+read_at [] zero c d behind h = absurd cc
+read_at [] (suc k) c d behind h = absurd cc
+read_at (x ∷ cs) zero c d behind h = cc
+read_at (x ∷ cs) (suc k) c d behind h = read_at cs k c d behind h
+
+-- the call that is read there is that of the last effect
+pub read_last : (begun : ℕ) (ms : List Member) (os : List Place) (used capacity t i j : ℕ) (m l : Member) (k : ℕ) (c : Call) → IsWell begun ms os used capacity → IsFirst ms t i → m ≡ get_or ms i m → l ≡ get_or ms i l
+    → last_place m.calls ≡ Some k → c ≡ get_or l.calls k c → last_effect t (standing_by (calls_of ms) os) ≡ Some (entry_by t c)
+read_last begun ms os used capacity t i j m l k c w first is lis last read =
+    let u = undone_at begun ms os used capacity t i m k w first is last in
+    let d : drop k l.calls ≡ u.call ∷ u.behind = ap (drop k) (sym (its_calls ms t i l first lis)) ∙ u.there in
+    u.last ∙ ap (λ (x : Call). Some (entry_by t x)) (sym (read ∙ read_at l.calls k u.call c u.behind d))
+
+pub undone_well : (begun : ℕ) (ms : List Member) (os : List Place) (used capacity t i : ℕ) (m y : Member) (k : ℕ) (os' : List Place) (used' capacity' : ℕ) → IsWell begun ms os used capacity
+    → IsFirst ms t i → m ≡ get_or ms i m → y ≡ cut_at m k → k ≤ length m.calls → os' ≡ filter (before_cut t k) os → used' ≤ used → capacity' ≡ capacity → IsWell begun (set ms i y) os' used' capacity'
+undone_well begun ms os used capacity t i m y k os' used' capacity' w first is now within less shorter same =
+    let its = its_calls ms t i m first is in
+    let cut : y.calls ≡ take k (calls_of ms t) = ap (λ (x : Member). x.calls) now ∙ ap (take k) (sym its) in
+    let rooms_same : rooms y ≡ rooms m = ap rooms now in
+    let few : k ≤ length (calls_of ms t) = subst (λ n. k ≤ n) (ap length (sym its)) within in
+    let room = w.room in
+    well_set begun ms os used capacity t i m y os' used' capacity' w first is (ap (λ (x : Member). x.number) now ∙ its_number ms t i m first is)
+    (λ u. ap (numbers u) less ∙ (placed_undone (calls_of ms) t k os few w.placed u ∙ ap (λ cs. count_from 0 (length (put (calls_of ms) t cs u))) (sym cut)))
+    (λ sums. omega (arith, sums, rooms_same, room, shorter, same))
+
+pub undone_standing : (begun : ℕ) (ms : List Member) (os : List Place) (used capacity t i : ℕ) (m l y : Member) (k : ℕ) (os' : List Place) → IsWell begun ms os used capacity
+    → IsFirst ms t i → m ≡ get_or ms i m → l ≡ get_or ms i l → last_place l.calls ≡ Some k → y ≡ cut_at m k → os' ≡ filter (before_cut t k) os
+    → standing_by (calls_of (set ms i y)) os' ≡ cut_back t (standing_by (calls_of ms) os)
+undone_standing begun ms os used capacity t i m l y k os' w first is lis last now less =
+    let u = undone_at begun ms os used capacity t i l k w first lis last in
+    let cut : y.calls ≡ take k (calls_of ms t) = ap (λ (x : Member). x.calls) now ∙ ap (take k) (sym (its_calls ms t i m first is)) in
+    ap (λ f. standing_by f os') (calls_set ms t i y first (ap (λ (x : Member). x.number) now ∙ its_number ms t i m first is) ∙ ap (put (calls_of ms) t) cut)
+    ∙ (ap (standing_by (put (calls_of ms) t (take k (calls_of ms t)))) less ∙ sym u.cut)
+
+same_two : (ms : List Member) (t i : ℕ) (m l : Member) → IsFirst ms t i → m ≡ get_or ms i m → l ≡ get_or ms i l → m ≡ l
+same_two ms t i m l first is lis = let e : Some m ≡ Some l = sym (is_there ms t i m first is) ∙ is_there ms t i l first lis in cc
+
+pub undone_member : (ms : List Member) (t i : ℕ) (m l y : Member) (k : ℕ) → IsFirst ms t i → m ≡ get_or ms i m → l ≡ get_or ms i l → last_place l.calls ≡ Some k → y ≡ cut_at m k → IsChanged ms (set ms i y) t taken_back
+undone_member ms t i m l y k first is lis last now =
+    let back : taken_back m ≡ cut_at m k = ap (cut_to m) (ap (λ (x : Member). last_place x.calls) (same_two ms t i m l first is lis) ∙ last) in
+    changed ms t i m y taken_back first is (now ∙ sym back) (ap (λ (x : Member). x.number) now ∙ its_number ms t i m first is)
+
+pub nothing_member : (ms : List Member) (t i : ℕ) (l : Member) → IsFirst ms t i → l ≡ get_or ms i l → last_place l.calls ≡ None → IsChanged ms ms t taken_back
+nothing_member ms t i l first lis last u =
+    let found = is_there ms t i l first lis in
+    let back : taken_back l ≡ l = ap (cut_to l) last in
+    sym (put_same (member_of ms) t (option_map taken_back (member_of ms t)) (ap (option_map taken_back) found ∙ (ap Some back ∙ sym found)) u)
+
+-- ---- one leaves
+
+pub left_well : (begun : ℕ) (ms : List Member) (os : List Place) (used capacity t i : ℕ) (os' : List Place) (new : List Member) (used' capacity' : ℕ) → IsWell begun ms os used capacity
+    → IsFirst ms t i → os' ≡ filter (λ (o : Place). not (o.txn == t)) os → new ≡ remove ms i → used' ≤ used → capacity' ≡ capacity → IsWell begun new os' used' capacity'
+left_well begun ms os used capacity t i os' new used' capacity' w first less now shorter same =
+    let sums = sum_by-remove rooms ms i (fresh 0 0) first.within in
+    let room = w.room in
+    subst (λ xs. IsWell begun xs os' used' capacity') (sym now) (record {
+      rising = rising_remove 0 ms begun i w.rising;
+      placed = λ u. ap (numbers u) less ∙ (placed_left (calls_of ms) t os w.placed u ∙ ap (λ f. count_from 0 (length (f u))) (sym (calls_remove begun ms t i first w.rising)));
+      room = omega (arith, sums, room, shorter, same);
+    })
+
+pub left_standing : (begun : ℕ) (ms : List Member) (os : List Place) (used capacity t i : ℕ) (os' : List Place) (new : List Member) → IsWell begun ms os used capacity
+    → IsFirst ms t i → os' ≡ filter (λ (o : Place). not (o.txn == t)) os → new ≡ remove ms i → standing_by (calls_of new) os' ≡ kept (others t) (standing_by (calls_of ms) os)
+left_standing begun ms os used capacity t i os' new w first less now =
+    ap (λ xs. standing_by (calls_of xs) os') now ∙ (ap (standing_by (calls_of (remove ms i))) less
+    ∙ standing_left (calls_of ms) (calls_of (remove ms i)) t os (λ u apart. ap (λ f. f u) (calls_remove begun ms t i first w.rising) ∙ (let is = apart in rw is refl)))
+
+pub left_member : (begun : ℕ) (ms : List Member) (os : List Place) (used capacity t i : ℕ) (new : List Member) → IsWell begun ms os used capacity → IsFirst ms t i → new ≡ remove ms i
+    → (u : ℕ) → member_of new u ≡ put (member_of ms) t None u
+left_member begun ms os used capacity t i new w first now u = ap (λ xs. member_of xs u) now ∙ member_of-remove 0 ms begun t i first w.rising u
+
+-- its calls are its entries
+pub left_calls : (begun : ℕ) (ms : List Member) (os : List Place) (used capacity t i : ℕ) (m : Member) → IsWell begun ms os used capacity → IsFirst ms t i → m ≡ get_or ms i m
+    → m.calls ≡ calls (kept (only t) (standing_by (calls_of ms) os))
+left_calls begun ms os used capacity t i m w first is =
+    sym (its_calls ms t i m first is)
+    ∙ sym (ap calls (standing_own (calls_of ms) t os 0 (length (calls_of ms t)) (calls_of ms t) (w.placed t) refl refl) ∙ back (calls_of ms t))
+  where
+    back : (cs : List Call) → calls (map (entry_by t) cs) ≡ cs
+    back [] = refl
+    back (c ∷ cs) = ap (λ w'. c ∷ w') (back cs)
+
+pub same_size : (ms : List Member) (t i : ℕ) (m l : Member) (k : ℕ) → IsFirst ms t i → m ≡ get_or ms i m → l ≡ get_or ms i l → k < length l.calls → k ≤ length m.calls
+same_size ms t i m l k first is lis within =
+    let same : length m.calls ≡ length l.calls = ap (λ (x : Member). length x.calls) (same_two ms t i m l first is lis) in
+    omega (arith, same, within)
+
+-- ---- for callers
+
+-- who is changed is there still, and so are all others
+pub still_member : (old new : List Member) (t : ℕ) (f : Member → Member) → IsChanged old new t f → (u : ℕ) → is_member new u ≡ is_member old u
+still_member old new t f h u = ap is_some (h u) ∙ go (u == t) refl
+  where
+    some_map : (x : Option Member) → is_some (option_map f x) ≡ is_some x
+    some_map None = refl
+    some_map (Some m) = refl
+
+    go : (b : Bool) → (u == t) ≡ b → is_some (cond b (option_map f (member_of old t)) (member_of old u)) ≡ is_some (member_of old u)
+    go true is = some_map (member_of old t) ∙ ap (λ v. is_some (member_of old v)) (sym ((Decides-eqb u t).0 is))
+    go false is = refl
+
+-- where room was made, there is room
+pub room_made : (old new : List Member) (t : ℕ) → IsChanged old new t with_room → is_member old t ≡ true → has_room (member_of new t) ≡ true
+room_made old new t h there =
+    let self = (Decides-eqb t t).1 refl in
+    ap has_room (h t) ∙ rw self (go (member_of old t) there)
+  where
+    go : (x : Option Member) → is_some x ≡ true → has_room (option_map with_room x) ≡ true
+    go None k = absurd cc
+    go (Some m) k = refl

@@ -1,0 +1,119 @@
+-- The run in which each event takes place.
+use Rattle.std.proofs.Common.{◌≡◌, ◌≢◌, ◌⊎◌, inl, inr, ℕ, pos, negsuc, Bool, true, false, ◌==◌, List, [], ◌∷◌, ◌++◌, refl, sym, arith}
+use Rattle.std.proofs.lemmas.Int.{ints}
+use Rattle.std.proofs.lemmas.Bool.Decides.{Decides-eqb}
+use Rattle.mt_base.specs.declared.modes.LockMode.{LockMode}
+use Rattle.mt_base.specs.declared.modes.LockMode.TheVariants as mode
+use Rattle.mt_model.specs.declared.objects.Object.{Object}
+use Rattle.mt_model.specs.declared.objects.Object.TheVariants.{Key, Counter}
+use Rattle.mt_model.specs.declared.operations.Op.TheVariants.{Add}
+use Rattle.mt_model.specs.declared.operations.Reply.TheVariants.{Done}
+use Rattle.mt_model.specs.declared.pending.Pending.{Pending}
+use Rattle.mt_model.specs.Escrow.{HasRoom}
+use Rattle.mt_model.specs.Locks.{Held, no_locks, with_lock, IsFree}
+use Rattle.mt_model.proofs.Sums.{admissible_from_room}
+use Rattle.mt_live.specs.Machine.{AllGo, Begins, Calls, Ends, Drops, Commits, Undoes, Aborts, start}
+use Rattle.mt_live.specs.Witness.{five, opening, insert, first_add, states, RunTakesPlace}
+use Rattle.mt_live.proofs.Locking.{is_this, holder_of}
+
+-- ---- room
+
+one_step : HasRoom five (pos 2 ∷ [])
+one_step = record { low = omega (arith, ints); high = omega (arith, ints) }
+
+two_steps : HasRoom five (pos 2 ∷ pos 1 ∷ [])
+two_steps = record { low = omega (arith, ints); high = omega (arith, ints) }
+
+-- ---- locks
+
+abbrev row : Object
+row = Key 0 (1 ∷ [])
+
+abbrev row_locked : Held
+row_locked = with_lock no_locks 1 row mode.Write
+
+row_bars_nobody : (u : ℕ) (n : LockMode) → row_locked u (Counter 0) n ≡ true → ⊥
+row_bars_nobody u n h =
+    let same : row ≡ Counter 0 = (is_this 1 row mode.Write u (Counter 0) n h).object in
+    cc
+
+free_at_first : IsFree no_locks 1 row mode.Write
+free_at_first u bars = let wrong : false ≡ true = bars.holds in cc
+
+free_beside_the_row : IsFree row_locked 2 (Counter 0) mode.Add
+free_beside_the_row u bars = row_bars_nobody u bars.mode bars.holds
+
+free_beside_its_own : IsFree (with_lock row_locked 2 (Counter 0) mode.Add) 2 (Counter 0) mode.Add
+free_beside_its_own u bars = go (holder_of row_locked 2 (Counter 0) mode.Add u (Counter 0) bars.mode bars.holds)
+  where
+    go : (row_locked u (Counter 0) bars.mode ≡ true) ⊎ (u ≡ 2) → ⊥
+    go (inl h) = row_bars_nobody u bars.mode h
+    go (inr e) = bars.another e
+
+-- ---- pending adds
+
+nothing_before : {A : Type 0} (p : A) (xs : List A) → [] ≡ xs ++ p ∷ [] → ⊥
+nothing_before p [] h = cc
+nothing_before p (x ∷ xs) h = cc
+
+same_front : {A : Type 0} (p : A) (xs ys : List A) → xs ++ p ∷ [] ≡ ys ++ p ∷ [] → xs ≡ ys
+same_front p [] [] h = refl
+same_front p [] (y ∷ ys) h = let rest : [] ≡ ys ++ p ∷ [] = cc in absurd (nothing_before p ys rest)
+same_front p (x ∷ xs) [] h = let rest : [] ≡ xs ++ p ∷ [] = cc in absurd (nothing_before p xs rest)
+same_front p (x ∷ xs) (y ∷ ys) h =
+    let head : x ≡ y = cc in
+    let rest : xs ++ p ∷ [] ≡ ys ++ p ∷ [] = cc in
+    let tail = same_front p xs ys rest in
+    cc
+
+abbrev second_add : Pending
+second_add = record { txn = 2; counter = 0; step = pos 1 }
+
+another : (u : ℕ) → u ≢ 2 → (b : Bool) → (2 == u) ≡ b → b ≡ false
+another u apart true e = absurd (apart (sym ((Decides-eqb 2 u).0 e)))
+another u apart false e = refl
+
+-- ---- the run
+
+goes : AllGo opening (start opening) states
+goes = (
+  Begins 7 refl,
+  (
+    Begins 8 refl,
+    (
+      Calls 1 insert (record { live = refl; idle = refl; free = free_at_first; admitted = tt }) refl,
+      (
+        Calls 2 (Add 0 (pos 2)) (record { live = refl; idle = refl; free = free_beside_the_row; admitted = admissible_from_room five (pos 2 ∷ []) one_step }) refl,
+        (
+          Ends 2 (Add 0 (pos 2)) refl refl,
+          (
+            Ends 1 insert refl refl,
+            (
+              Calls 2 (Add 0 (pos 1)) (record { live = refl; idle = refl; free = free_beside_its_own; admitted = admissible_from_room five (pos 2 ∷ pos 1 ∷ []) two_steps }) refl,
+              (
+                Drops 2 (Add 0 (pos 1)) (first_add ∷ []) refl (record {
+                  its = λ front h. same_front second_add (first_add ∷ []) front h;
+                  apart = λ u apart. let no_other = another u apart (2 == u) refl in rw no_other refl;
+                }) refl,
+                (
+                  Commits 1 7 refl refl refl,
+                  (
+                    Undoes 2 (record { txn = 2; op = Add 0 (pos 2); reply = Done }) (Add 0 (negsuc 1)) [] refl refl refl
+                        (record {
+                          its = λ front h. same_front first_add [] front h;
+                          apart = λ u apart. let no_other = another u apart (2 == u) refl in rw no_other refl;
+                        }) refl,
+                    (Aborts 2 refl refl refl, tt),
+                  ),
+                ),
+              ),
+            ),
+          ),
+        ),
+      ),
+    ),
+  ),
+)
+
+pub takes_place : RunTakesPlace
+takes_place = (λ c. record { not_under = omega (arith, ints); not_over = omega (arith, ints) }, goes, refl, refl, refl)

@@ -1,0 +1,10 @@
+pub mod Entries
+pub mod Sound
+pub mod Adds
+pub mod Undoing
+pub mod Machine
+pub mod Laws
+pub mod Witness
+pub mod Counterexamples
+pub mod Members
+pub mod Lives

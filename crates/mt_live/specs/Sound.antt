@@ -1,0 +1,31 @@
+-- What locks and escrow keep of the entries that stand.
+use Rattle.std.specs.Prelude.{ℕ, ◌≡◌, true, List, [], ◌∷◌, ⊤}
+use Rattle.mt_base.specs.declared.modes.LockMode.TheVariants as mode
+use Rattle.mt_model.specs.declared.operations.Reply.TheVariants.{Done}
+use Rattle.mt_model.specs.Model.{Base, object_of, mode_of}
+use Rattle.mt_model.specs.Escrow.{HasRoom}
+use Rattle.mt_model.specs.Locks.{Held}
+use Rattle.mt_model.specs.Pending.{steps_at}
+use Rattle.mt_live.specs.Entries.{Entry, AreActed}
+use Rattle.mt_live.specs.Adds.{adds}
+
+-- P holds of each element
+abbrev pub Each : {A : Type 0} → (A → Type 0) → List A → Type 0
+Each P [] = ⊤
+Each P (x ∷ xs) = P x × Each P xs
+
+-- the entry's transaction holds the entry's object in its mode
+abbrev pub IsLocked : Held → Entry → Type 0
+IsLocked held e = held e.txn (object_of e.op) (mode_of e.op) ≡ true
+
+-- if the entry is an add, it was done
+abbrev pub IsDone : Entry → Type 0
+IsDone e = mode_of e.op ≡ mode.Add → e.reply ≡ Done
+
+-- the entries have the replies that the model gives, their locks are held, their adds were done, and
+-- each counter has room for whichever of the adds
+pub record IsSound (held : Held) (b : Base) (standing : List Entry) : Type 0 where
+  pub acted : AreActed b standing
+  pub locked : Each (IsLocked held) standing
+  pub done : Each IsDone standing
+  pub room : (c : ℕ) → HasRoom (b.counts c) (steps_at c (adds standing))

@@ -1,0 +1,81 @@
+//! Laws of live transactions: why strict commuting locks, escrow and inverses explain every state.
+//! Each is a function with an empty body, whose contract is the law.
+ghost use Rattle.mt_live.specs.Laws.{BeginKeeps, CallKeeps, EndKeeps, DropKeeps, CommitKeeps, CommitMovesCounters, InverseKeeps, AbortKeeps, AbortLeavesNoTrace, KeptIsExplained, SoundIsExplained, SetMovesInFront, TransactionsMoveInFront, StartIsKept, EventKeeps, EveryScheduleIsRight, EmptyHoldsBook, NobodyLeavesNothing};
+ghost use Rattle.mt_live.specs.Witness.{RunTakesPlace};
+
+/// A transaction that begins changes nothing of what is kept.
+pub fn begin_keeps()
+    ensures { BeginKeeps }
+{}
+
+/// A call that is granted keeps what is kept: its lock is barred by no other transaction's, and each
+/// counter has room for whichever of the pending adds and this one (Weikum 1991, O'Neil 1986).
+pub fn call_keeps()
+    ensures { CallKeeps }
+{}
+
+/// An operation that ends as one act on the held base, under its lock and admitted by escrow, keeps
+/// what is kept.
+pub fn end_keeps()
+    ensures { EndKeeps }
+{}
+
+/// An operation that is taken back unfinished, its add with it, keeps what is kept.
+pub fn drop_keeps()
+    ensures { DropKeeps }
+{}
+
+/// A commit moves its transaction's entries behind the book, whatever others did in between: the book
+/// stays legal, and what stands is explained on the base that it leaves. That base's counters move by
+/// what the transaction had pending.
+pub fn commit_keeps()
+    ensures kept { CommitKeeps }
+    ensures counters { CommitMovesCounters }
+{}
+
+/// The inverse of a transaction's last effect, as one act on the held base, keeps what is kept: the
+/// state is as if the undone operation, and what its transaction read after it, had never been.
+pub fn inverse_keeps()
+    ensures { InverseKeeps }
+{}
+
+/// Where nothing is left to undo, a transaction leaves no trace: what stands is the list without it, on
+/// the same book, and the held base is that of a run without it.
+pub fn abort_keeps()
+    ensures kept { AbortKeeps }
+    ensures trace { AbortLeavesNoTrace }
+{}
+
+/// What is kept explains the state: whichever set of live transactions is struck out, the rest has the
+/// model's replies, and with nobody struck out it leads to the held base.
+pub fn kept_is_explained()
+    ensures kept { KeptIsExplained }
+    ensures sound { SoundIsExplained }
+{}
+
+/// The entries of a set of transactions may be moved in front of the others', and whole transactions
+/// one after the other, in any order, with every reply as it was.
+pub fn entries_move_in_front()
+    ensures set { SetMovesInFront }
+    ensures transactions { TransactionsMoveInFront }
+{}
+
+/// Whatever the schedule, from an empty kernel on counters within their bounds: each state is explained,
+/// and its book is legal. For what is kept holds at the start, and each event keeps it.
+pub fn every_schedule_is_right()
+    ensures start { StartIsKept }
+    ensures event { EventKeeps }
+    ensures schedule { EveryScheduleIsRight }
+{}
+
+/// Where nothing stands, the held base is what the book leaves; and where nobody is live, nothing
+/// stands, no add is pending, and no lock is held.
+pub fn an_empty_kernel_holds_its_book()
+    ensures base { EmptyHoldsBook }
+    ensures nobody { NobodyLeavesNothing }
+{}
+
+/// The conditions of the events can be met: a run in which each takes place.
+pub fn a_run_takes_place()
+    ensures { RunTakesPlace }
+{}

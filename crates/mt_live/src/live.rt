@@ -1,0 +1,207 @@
+ghost use Rattle.std.specs.Prelude.{ℕ, [], ◌∷◌, ◌++◌, ◌≡◌, ◌==◌, ◌<◌, ◌+◌, ◌^◌, true, false, None, Some, IfOk, IfErr, OnOk, OnErr, MatchOption, length};
+ghost use Rattle.std.specs.List.{position};
+ghost use Rattle.std.specs.Option.{option_copied, option_map};
+ghost use Rattle.mt_base.specs.declared.refusal.Refusal.{Refusal};
+ghost use Rattle.mt_live.specs.Entries.{Entry, calls, kept};
+ghost use Rattle.mt_live.specs.Undoing.{only, others, last_effect, cut_back};
+ghost use Rattle.mt_live.specs.Machine.{put};
+ghost use Rattle.mt_live.specs.Members.{Member, fresh, with_room, with_call, with_state, taken_back, committed_of};
+ghost use Rattle.mt_live.specs.Lives.{member_of, is_member, has_room, IsFirst, IsChanged};
+
+use crate::places::{Place, cut_from, take_out};
+use crate::transactions::{Transaction, TxnState};
+use mt_base::{Refusal, TxnNo};
+use mt_model::{Committed, Op, Reply};
+use std::alloc::Global;
+use std::marker::Model;
+
+/// The live transactions: each with its session, its state and what stands of its operations, and the
+/// order in which these ended.
+///
+/// Contracts see the standing list: the operations of live transactions in the order of their ends, of
+/// one that is being undone only those before the earliest that is undone. What [`laws`](crate::laws)
+/// says of it is why any set of live transactions may be undone at any time.
+#[derive(Debug, Drop)]
+pub struct Live {
+    begun: u64,
+    transactions: Vec<Transaction>,
+    order: Vec<Place>,
+}
+
+impl Model for Live {
+    ghost use Rattle.std.specs.Vec.{vec_len, vec_capacity};
+    ghost use Rattle.mt_live.specs.Lives.{Lives, IsWell, calls_of, standing_by};
+
+    ghost Value = { Lives };
+
+    ghost view = { λ l. record {
+      begun = l.begun;
+      members = l.transactions.items;
+      standing = standing_by (calls_of l.transactions.items) l.order.items;
+    } };
+
+    ghost invariant = { λ l.
+        IsWell l.begun l.transactions.items l.order.items (vec_len l.order) (vec_capacity l.order) };
+}
+
+// Where the transaction of a number is, if it is there.
+fn place_of(transactions: &[Transaction], txn: TxnNo) -> Option<usize>
+    ensures { result ≡ position (λ m. m.number == txn) transactions.now }
+{
+    transactions.iter().position(|one| one.number() == txn)
+}
+
+// Where a transaction is that is there.
+fn place_in(transactions: &[Transaction], txn: TxnNo) -> usize
+    requires { is_member transactions.now txn ≡ true }
+    ensures { IsFirst transactions.now txn result }
+{
+    let Some(place) = place_of(transactions, txn) else {
+        unreachable!()
+    };
+    place
+}
+
+impl Live {
+    /// No live transactions. It takes no memory.
+    pub fn new(alloc: Global) -> Live
+        ensures begun { result.begun ≡ 0 }
+        ensures members { length result.members ≡ 0 }
+        ensures standing { length result.standing ≡ 0 }
+    {
+        Live {
+            begun: 0,
+            transactions: Vec::new(alloc),
+            order: Vec::new(alloc),
+        }
+    }
+
+    /// Begins a transaction of this session, open and without operations. Its number is the next one,
+    /// from 1; at most 2^40 transactions begin.
+    ///
+    /// Refused 1 for want of memory; nothing has changed then.
+    pub fn begin(&mut self, session: u32) -> Result<TxnNo, Refusal>
+        requires { self.old.begun < 2 ^ 40 }
+        ensures number { IfOk result (λ txn. txn ≡ self.old.begun + 1) }
+        ensures begun { OnOk result (self.new.begun ≡ self.old.begun + 1) }
+        ensures unused { IfOk result (λ txn. member_of self.old.members txn ≡ None) }
+        ensures member { IfOk result (λ txn. (u : ℕ) →
+            member_of self.new.members u ≡ put (member_of self.old.members) txn (Some (fresh txn session)) u) }
+        ensures count { OnOk result (length self.new.members ≡ length self.old.members + 1) }
+        ensures standing { OnOk result (self.new.standing ≡ self.old.standing) }
+        ensures cause { IfErr result (λ why. why ≡ Refusal.NoMemory) }
+        ensures err { OnErr result (self.new ≡ self.old) }
+    {
+        let number = TxnNo::new(self.begun + 1);
+        let alloc = *self.transactions.allocator();
+        self.transactions
+            .push(Transaction::new(alloc, number, session))?;
+        self.begun += 1;
+        Ok(number)
+    }
+
+    /// How many transactions live.
+    pub fn count(&self) -> usize
+        ensures { result ≡ length self.now.members }
+    {
+        self.transactions.len()
+    }
+
+    /// The state of a transaction, if it lives.
+    pub fn state(&self, txn: TxnNo) -> Option<TxnState>
+        ensures { result ≡ option_map (λ m. m.state) (member_of self.now.members txn) }
+    {
+        let place = place_of(&self.transactions, txn)?;
+        Some(self.transactions[place].state())
+    }
+
+    /// Sets the state of a live transaction.
+    pub fn set_state(&mut self, txn: TxnNo, state: TxnState)
+        requires { is_member self.old.members txn ≡ true }
+        ensures member { IsChanged self.old.members self.new.members txn (λ m. with_state m state) }
+        ensures count { length self.new.members ≡ length self.old.members }
+        ensures begun { self.new.begun ≡ self.old.begun }
+        ensures standing { self.new.standing ≡ self.old.standing }
+    {
+        let place = place_in(&self.transactions, txn);
+        self.transactions[place].set_state(state);
+    }
+
+    /// Makes room for one [`Live::note`] of a live transaction. Where there is room already, it stays.
+    ///
+    /// Refused 1 for want of memory; nothing has changed then.
+    pub fn room(&mut self, txn: TxnNo) -> Result<(), Refusal>
+        requires { is_member self.old.members txn ≡ true }
+        ensures member { OnOk result (IsChanged self.old.members self.new.members txn with_room) }
+        ensures count { OnOk result (length self.new.members ≡ length self.old.members) }
+        ensures begun { OnOk result (self.new.begun ≡ self.old.begun) }
+        ensures standing { OnOk result (self.new.standing ≡ self.old.standing) }
+        ensures cause { IfErr result (λ why. why ≡ Refusal.NoMemory) }
+        ensures err { OnErr result (self.new ≡ self.old) }
+    {
+        self.order.reserve(self.transactions.len())?;
+        let place = place_in(&self.transactions, txn);
+        self.transactions[place].make_room()?;
+        Ok(())
+    }
+
+    /// An operation of a live transaction has ended with this reply: it stands behind all others. It
+    /// takes the room that [`Live::room`] made, and no memory.
+    pub fn note(&mut self, txn: TxnNo, op: Op, reply: Reply)
+        requires { has_room (member_of self.old.members txn) ≡ true }
+        ensures standing { self.new.standing
+            ≡ self.old.standing ++ record { txn = txn; op = op; reply = reply } ∷ [] }
+        ensures member { IsChanged self.old.members self.new.members txn (λ m. with_call m (op, reply)) }
+        ensures count { length self.new.members ≡ length self.old.members }
+        ensures begun { self.new.begun ≡ self.old.begun }
+    {
+        let place = place_in(&self.transactions, txn);
+        let index = self.transactions[place].len();
+        self.transactions[place].note(op, reply);
+        self.order.push_reserved(Place { txn, index });
+    }
+
+    /// The last operation that stands of a transaction and did something, with its reply: its inverse
+    /// is the next to run in an abort.
+    pub fn last_to_undo(&self, txn: TxnNo) -> Option<&(Op, Reply)>
+        ensures { option_copied result
+            ≡ option_map (λ e. (e.op, e.reply)) (last_effect txn self.now.standing) }
+    {
+        let place = place_of(&self.transactions, txn)?;
+        let at = self.transactions[place].last_place()?;
+        Some(self.transactions[place].call(at))
+    }
+
+    /// The inverse of [`Live::last_to_undo`] has ended: neither that operation stands any more, nor the
+    /// transaction's later ones, which did nothing but may have seen what is undone. Where there is
+    /// nothing to undo, nothing changes. It takes no memory.
+    pub fn undone(&mut self, txn: TxnNo)
+        requires { is_member self.old.members txn ≡ true }
+        ensures standing { self.new.standing ≡ cut_back txn self.old.standing }
+        ensures member { IsChanged self.old.members self.new.members txn taken_back }
+        ensures count { length self.new.members ≡ length self.old.members }
+        ensures begun { self.new.begun ≡ self.old.begun }
+    {
+        let place = place_in(&self.transactions, txn);
+        if let Some(at) = self.transactions[place].last_place() {
+            self.transactions[place].cut(at);
+            cut_from(&mut self.order, txn, at);
+        }
+    }
+
+    /// A live transaction leaves, with its session and what stands of its operations, in the order in
+    /// which they ended. It takes no memory.
+    pub fn leave(&mut self, txn: TxnNo) -> Committed
+        requires { is_member self.old.members txn ≡ true }
+        ensures session { Some result.session ≡ option_map (λ m. m.session) (member_of self.old.members txn) }
+        ensures calls { result.calls ≡ calls (kept (only txn) self.old.standing) }
+        ensures standing { self.new.standing ≡ kept (others txn) self.old.standing }
+        ensures member { (u : ℕ) → member_of self.new.members u ≡ put (member_of self.old.members) txn None u }
+        ensures count { length self.new.members + 1 ≡ length self.old.members }
+        ensures begun { self.new.begun ≡ self.old.begun }
+    {
+        let place = place_in(&self.transactions, txn);
+        take_out(&mut self.order, txn);
+        self.transactions.remove(place).into_committed()
+    }
+}

@@ -1,0 +1,25 @@
+//! Mistakes that a kernel could make, each a state that is not explained. Each is a function with an
+//! empty body, whose contract is the counterexample.
+ghost use Rattle.mt_live.specs.Counterexamples.{EarlyReleaseFails, PresentNumberFails, OldNumberFails, ReadLeftOverFails};
+
+/// A lock that is given up before its transaction ends lets another read what an abort takes away.
+pub fn early_release_fails()
+    ensures { EarlyReleaseFails }
+{}
+
+/// An add that is admitted by the counter's present number alone may leave the bounds once another
+/// add is undone.
+pub fn present_number_fails()
+    ensures { PresentNumberFails }
+{}
+
+/// An abort that puts back a counter's old number, in place of adding the step's negative, loses the
+/// adds that others made since.
+pub fn old_number_fails()
+    ensures { OldNumberFails }
+{}
+
+/// A read that still stood after the write that it saw is undone would be explained by no base.
+pub fn read_left_over_fails()
+    ensures { ReadLeftOverFails }
+{}

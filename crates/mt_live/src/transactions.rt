@@ -1,0 +1,171 @@
+ghost use Rattle.std.specs.Prelude.{◌≡◌, ◌<◌, IfSome, IfNone, OnOk, OnErr, is_some, length, true, slice_index_or};
+ghost use Rattle.mt_model.specs.Model.{inverse_of};
+ghost use Rattle.mt_live.specs.Members.{fresh, with_room, with_call, with_state, cut_at, committed_of, last_place};
+
+use mt_base::TxnNo;
+use mt_model::{Calls, Committed, Op, Reply};
+use std::alloc::{AllocError, Global};
+use std::marker::Model;
+
+/// What a live transaction is about.
+#[derive(Clone, Copy, PartialEq, Eq, Debug)]
+pub enum TxnState {
+    /// Operations may be called in it.
+    Open,
+    /// Its commit is under way, and not yet durable.
+    Committing,
+    /// It is being undone.
+    Aborting,
+}
+
+/// A live transaction.
+#[derive(Debug, Drop)]
+pub struct Transaction {
+    number: TxnNo,
+    session: u32,
+    state: TxnState,
+    // what stands of its operations with their replies, in the order of their ends
+    calls: Vec<(Op, Reply)>,
+    // there is room for one more call
+    has_room: bool,
+}
+
+impl Model for Transaction {
+    ghost use Rattle.std.specs.Prelude.{◌≡◌, ◌<◌, true};
+    ghost use Rattle.std.specs.Vec.{vec_len, vec_capacity};
+    ghost use Rattle.mt_live.specs.Members.{Member};
+
+    ghost Value = { Member };
+
+    ghost view = { λ t. record {
+      number = t.number;
+      session = t.session;
+      state = t.state;
+      calls = t.calls.items;
+      has_room = t.has_room;
+    } };
+
+    ghost invariant = { λ t. t.has_room ≡ true → vec_len t.calls < vec_capacity t.calls };
+}
+
+// Whether an operation with this reply did something, so that it has an inverse.
+fn has_inverse(op: &Op, reply: &Reply) -> bool
+    ensures { result ≡ is_some (inverse_of op.now reply.now) }
+{
+    matches!(
+        (op, reply),
+        (Op::Insert(_, _, _), Reply::Done)
+            | (Op::Update(_, _, _), Reply::Was(_))
+            | (Op::Delete(_, _), Reply::Was(_))
+            | (Op::Add(_, _), Reply::Done)
+    )
+}
+
+// The number of the last call that did something.
+fn last_place(calls: &[(Op, Reply)]) -> Option<usize>
+    ensures place { result ≡ last_place calls.now }
+    ensures within { IfSome result (λ at. at < length calls.now) }
+{
+    let mut last = None;
+    for (at, (op, reply)) in calls.iter().enumerate() {
+        if has_inverse(op, reply) {
+            last = Some(at);
+        }
+    }
+    last
+}
+
+impl Transaction {
+    /// An open transaction without calls. It takes no memory.
+    pub fn new(alloc: Global, number: TxnNo, session: u32) -> Transaction
+        ensures { result ≡ fresh number session }
+    {
+        Transaction {
+            number,
+            session,
+            state: TxnState::Open,
+            calls: Vec::new(alloc),
+            has_room: false,
+        }
+    }
+
+    /// Its number.
+    pub fn number(&self) -> TxnNo
+        ensures { result ≡ self.now.number }
+    {
+        self.number
+    }
+
+    /// What it is about.
+    pub fn state(&self) -> TxnState
+        ensures { result ≡ self.now.state }
+    {
+        self.state
+    }
+
+    /// Sets what it is about.
+    pub fn set_state(&mut self, state: TxnState)
+        ensures { self.new ≡ with_state self.old state }
+    {
+        self.state = state;
+    }
+
+    /// Makes room for one more call. The only error is want of memory.
+    pub fn make_room(&mut self) -> Result<(), AllocError>
+        ensures ok { OnOk result (self.new ≡ with_room self.old) }
+        ensures err { OnErr result (self.new ≡ self.old) }
+    {
+        self.calls.reserve(1)?;
+        self.has_room = true;
+        Ok(())
+    }
+
+    /// Puts a call behind the others, in the room that was made for it.
+    pub fn note(&mut self, op: Op, reply: Reply)
+        requires { self.old.has_room ≡ true }
+        ensures { self.new ≡ with_call self.old (op, reply) }
+    {
+        self.calls.push_reserved((op, reply));
+        self.has_room = false;
+    }
+
+    /// How many calls there are.
+    pub fn len(&self) -> usize
+        ensures { result ≡ length self.now.calls }
+    {
+        self.calls.len()
+    }
+
+    /// The call of this number, from 0.
+    pub fn call(&self, at: usize) -> &(Op, Reply)
+        requires { at < length self.now.calls }
+        ensures { result.now ≡ slice_index_or self.now.calls at result.now }
+    {
+        &self.calls[at]
+    }
+
+    /// The number of the last call that did something.
+    pub fn last_place(&self) -> Option<usize>
+        ensures place { result ≡ last_place self.now.calls }
+        ensures within { IfSome result (λ at. at < length self.now.calls) }
+    {
+        last_place(&self.calls)
+    }
+
+    /// The calls from this number on are none any more. It takes no memory.
+    pub fn cut(&mut self, at: usize)
+        ensures { self.new ≡ cut_at self.old at }
+    {
+        self.calls.truncate(at);
+    }
+
+    /// The transaction with its calls, as one that committed. It takes no memory.
+    pub fn into_committed(self) -> Committed
+        ensures { result ≡ committed_of self }
+    {
+        Committed {
+            session: self.session,
+            calls: Calls::new(self.calls),
+        }
+    }
+}

@@ -1,4 +1,4 @@
-ghost use Rattle.std.specs.Prelude.{◌≡◌, ◌++◌, ◌∷◌, [], IfOk, OnOk, OnErr, length};
+ghost use Rattle.std.specs.Prelude.{◌≡◌, ◌↔◌, ◌++◌, ◌∷◌, [], IfOk, OnOk, OnErr, IsTrue, length};
 
 use crate::{Op, Reply};
 use std::alloc::AllocError;
@@ -80,4 +80,35 @@ impl Calls {
         }
         Ok(Calls { list })
     }
+
+    /// Whether the two are the same calls, with the same replies, in the same order.
+    pub fn equals(&self, other: &Calls) -> bool
+        ensures { IsTrue result ↔ (self.now ≡ other.now) }
+    {
+        same_calls(self.as_slice(), other.as_slice())
+    }
+}
+
+impl Committed {
+    /// Whether the two are the same session's transaction, with the same calls and replies.
+    pub fn equals(&self, other: &Committed) -> bool
+        ensures { IsTrue result ↔ (self.now ≡ other.now) }
+    {
+        self.session == other.session && self.calls.equals(&other.calls)
+    }
+}
+
+// Whether two lists of calls are the same.
+fn same_calls(first: &[(Op, Reply)], second: &[(Op, Reply)]) -> bool
+    ensures { IsTrue result ↔ (first.now ≡ second.now) }
+{
+    if first.len() != second.len() {
+        return false;
+    }
+    for i in 0..first.len() {
+        if !first[i].0.equals(&second[i].0) || !first[i].1.equals(&second[i].1) {
+            return false;
+        }
+    }
+    true
 }

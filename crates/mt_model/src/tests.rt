@@ -146,7 +146,11 @@ fn calls_keep_their_order(rt: HostRuntime) -> Result<(), Fail> {
     assert!(rt; calls[0].0.equals(&op));
     assert!(rt; calls[1].1.equals(&reply));
     assert!(rt; !calls[1].1.equals(&Reply::Value(7)));
-    assert_eq!(rt; committed.calls.try_clone()?.len(), 2);
+    let copy = Committed {
+        session: 1,
+        calls: committed.calls.try_clone()?,
+    };
+    assert!(rt; copy.equals(&committed));
     assert_eq!(rt; committed.calls.into_vec().len(), 2);
     Ok(())
 }

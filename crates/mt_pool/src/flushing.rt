@@ -1,5 +1,5 @@
 // Pages are written back under the write-ahead rule.
-ghost use Rattle.std.specs.Prelude.{◌≡◌, ◌⊎◌, ◌<◌, ◌≤◌, ◌+◌, ◌*◌, ℕ, length, get_or, OnOk, IsErr, Ok, Some, None, true, false};
+ghost use Rattle.std.specs.Prelude.{◌≡◌, ◌⊎◌, ◌<◌, ◌≤◌, ◌+◌, ◌*◌, ℕ, length, get_or, set, IsErr, Ok, Some, None, true, false};
 ghost use Rattle.mt_disk.specs.Disk.{Torn, Follows, Elapses, HasCause};
 
 use crate::Pool;
@@ -29,7 +29,7 @@ enum Found {
 }
 
 impl Pool {
-    ghost use Rattle.mt_pool.specs.Views.{IsPool, Shows, IsReady, view, pages, waits_for, to_flush};
+    ghost use Rattle.mt_pool.specs.Views.{IsPool, Shows, IsReady, IsWaiting, view, pages, waits_for, to_flush};
     ghost use Rattle.mt_pool.specs.declared.flushing.Flushed.TheVariants as flushed;
     ghost use Rattle.mt_pool.specs.declared.flushing.Found.TheVariants as found;
 
@@ -37,7 +37,7 @@ impl Pool {
     fn find(&self, durable: u64) -> Found
         requires pool { IsPool self.now }
         ensures ready { (f p : ℕ) → result ≡ found.Ready f p → IsReady self.now durable f p }
-        ensures waiting { result ≡ found.Waiting → ((f : ℕ) × (get_or self.now.dirty.items f false ≡ true)) × ((f p : ℕ) → get_or self.now.dirty.items f false ≡ true → get_or self.now.holds.items f None ≡ Some p → durable < waits_for self.now p) }
+        ensures waiting { result ≡ found.Waiting → IsWaiting self.now durable }
         ensures nothing { result ≡ found.Nothing → (f : ℕ) → get_or self.now.dirty.items f false ≡ false }
     {
         let mut any = false;
@@ -65,7 +65,7 @@ impl Pool {
         requires pool { IsPool self.old }
         requires shows { Shows self.old (D.seen device.old) }
         ensures pool { IsPool self.new }
-        ensures shows { OnOk result (Shows self.new (D.seen device.new)) }
+        ensures shows { Shows self.new (D.seen device.new) }
         ensures views { (q : ℕ) → view self.new (D.seen device.new) q ≡ view self.old (D.seen device.old) q }
         ensures waits { self.new.waits ≡ self.old.waits }
         ensures there { self.new.of_page ≡ self.old.of_page }
@@ -74,8 +74,9 @@ impl Pool {
         ensures crash { (device.new ≡ device.old) ⊎ ((p : ℕ) × (p < pages self.old) × (0 < waits_for self.old p) × (waits_for self.old p ≤ durable)
             × Torn (self.old.place + 4096 * p) 4096 (D.seen device.old) (D.seen device.new) × Follows (Torn (self.old.place + 4096 * p) 4096) (D.may_leave device.old) (D.may_leave device.new)) }
         ensures time { Elapses (D.moment device.old) (D.moment device.new) (D.left_since device.old) (D.left_since device.new) (D.may_leave device.new) }
+        ensures page { (p : ℕ) → result ≡ Ok (flushed.Page p) → (f : ℕ) × IsReady self.old durable f p × (self.new.dirty.items ≡ set self.old.dirty.items f false) }
         ensures fewer { (p : ℕ) → result ≡ Ok (flushed.Page p) → to_flush self.new + 1 ≡ to_flush self.old }
-        ensures forced { result ≡ Ok flushed.Force → (p : ℕ) × (p < pages self.old) × (durable < waits_for self.old p) }
+        ensures forced { result ≡ Ok flushed.Force → IsWaiting self.old durable }
         ensures waiting { result ≡ Ok flushed.Force → (self.new ≡ self.old) × (device.new ≡ device.old) }
         ensures fault { IsErr result → self.new ≡ self.old }
         ensures exact { ((f : ℕ) → get_or self.old.dirty.items f false ≡ false) → result ≡ Ok flushed.Clean }

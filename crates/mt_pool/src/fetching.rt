@@ -1,0 +1,87 @@
+// Pages come into frames.
+ghost use Rattle.std.specs.Prelude.{◌≡◌, ◌<◌, ◌≤◌, ◌+◌, ℕ, List, [], length, get_or, Ok, Some, None};
+ghost use Rattle.mt_disk.specs.Disk.{Elapses, HasCause};
+ghost use Rattle.mt_pool.specs.Images.{slot};
+
+use crate::Pool;
+use crate::slots::{index_of, read_page};
+use mt_base::PageNo;
+use mt_disk::{Device, DeviceFault};
+
+/// What a fetch of a page did.
+#[derive(Clone, Copy, Debug, PartialEq, Eq)]
+pub enum Fetched {
+    /// The page is in a frame.
+    There,
+    /// Nothing: every frame holds a page yet to be flushed, and this page is in none.
+    Flush,
+}
+
+impl Pool {
+    ghost use Rattle.mt_pool.specs.Views.{IsPool, Shows, IsFull, IsThere, view, pages, frames};
+    ghost use Rattle.mt_pool.specs.declared.fetching.Fetched.TheVariants as fetched;
+
+    /// The page, whose bytes are in this free frame, is in it from now on.
+    fn install(&mut self, frame: usize, page: PageNo)
+        requires pool { IsPool self.old }
+        requires frame { frame < frames self.old }
+        requires page { page < pages self.old }
+        requires free { get_or self.old.holds.items frame None ≡ None }
+        requires new { get_or self.old.of_page.items page None ≡ None }
+        ensures pool { IsPool self.new }
+        ensures shows { (seen : List ℕ) → Shows self.old seen → get_or self.old.bytes.items frame [] ≡ slot self.old.place seen page → Shows self.new seen }
+        ensures views { (seen : List ℕ) → Shows self.old seen → get_or self.old.bytes.items frame [] ≡ slot self.old.place seen page → (q : ℕ) → view self.new seen q ≡ view self.old seen q }
+        ensures there { get_or self.new.of_page.items page None ≡ Some frame }
+        ensures waits { self.new.waits ≡ self.old.waits }
+        ensures pages { pages self.new ≡ pages self.old }
+        ensures flush { self.new.dirty ≡ self.old.dirty }
+        ensures place { self.new.place ≡ self.old.place }
+    {
+        self.of_page[index_of(page)] = Some(frame);
+        self.holds[frame] = Some(page);
+        self.used[frame] = true;
+    }
+
+    /// Brings the page into a frame, if it is in none, out of which goes a page that is not to be flushed, by
+    /// second chance. It answers [`Fetched::Flush`] exactly where every frame holds a page yet to be
+    /// flushed and the page is in none, and changes nothing then. It reads one page at most, writes none,
+    /// takes no memory, and all views stand, after an error too, which only the device makes.
+    pub fn fetch<D: Device>(&mut self, device: &mut D, page: PageNo) -> Result<Fetched, DeviceFault>
+        requires pool { IsPool self.old }
+        requires shows { Shows self.old (D.seen device.old) }
+        requires inside { page < pages self.old }
+        ensures pool { IsPool self.new }
+        ensures shows { Shows self.new (D.seen device.new) }
+        ensures views { (q : ℕ) → view self.new (D.seen device.new) q ≡ view self.old (D.seen device.old) q }
+        ensures waits { self.new.waits ≡ self.old.waits }
+        ensures pages { pages self.new ≡ pages self.old }
+        ensures flush { self.new.dirty ≡ self.old.dirty }
+        ensures place { self.new.place ≡ self.old.place }
+        ensures there { result ≡ Ok fetched.There → IsThere self.new page }
+        ensures full { result ≡ Ok fetched.Flush → (IsFull self.old) × (get_or self.old.of_page.items page None ≡ None) }
+        ensures nothing { result ≡ Ok fetched.Flush → (self.new ≡ self.old) × (device.new ≡ device.old) }
+        ensures exact { IsFull self.old → get_or self.old.of_page.items page None ≡ None → result ≡ Ok fetched.Flush }
+        ensures seen { D.seen device.new ≡ D.seen device.old }
+        ensures crash { (c : List ℕ) → D.may_leave device.new c → D.may_leave device.old c }
+        ensures time { Elapses (D.moment device.old) (D.moment device.new) (D.left_since device.old) (D.left_since device.new) (D.may_leave device.new) }
+        ensures cause { HasCause (D.faults device.old) (D.faults device.new) result }
+    {
+        if let Some(frame) = self.frame_of(page) {
+            self.used[frame] = true;
+            return Ok(Fetched::There);
+        }
+        match self.victim() {
+            Some(frame) => {
+                self.forget(frame);
+                match read_page(device, self.place, page, &mut self.bytes[frame]) {
+                    Ok(()) => {
+                        self.install(frame, page);
+                        Ok(Fetched::There)
+                    }
+                    Err(fault) => Err(fault),
+                }
+            }
+            None => Ok(Fetched::Flush),
+        }
+    }
+}

@@ -54,10 +54,21 @@ fn two_passes_enter_one_history(rt: HostRuntime) -> Result<(), Fail> {
     Ok(())
 }
 
-/// Another pass looks between the name of this pass's entry and its exchange, and behind it.
-fn seen_by_another<A: Abort>(rt: &A, end: &mut End, own: &mut Seat, other: &mut Seat, entry: &Entry)
+/// A pass looks from a thread of its own, beside one that does nothing.
+fn look_apart<R: Threads>(rt: &R, seat: &mut Seat) -> u64 {
+    let (seen, ()) = thread::join(rt, || seat.load(), || {});
+    seen
+}
+
+/// Another pass looks, in another thread, between the name of this pass's entry and its exchange, and behind it.
+fn seen_by_another<R: Threads + Abort>(
+    rt: &R,
+    end: &mut End,
+    own: &mut Seat,
+    other: &mut Seat,
+    entry: &Entry,
+)
     requires mark { own.old.mark ≡ end.old.mark }
-    requires other_mark { other.old.mark ≡ end.old.mark }
     requires confirmed { IsConfirmed end.old.view }
     requires pass { entry.now.pass ≡ own.old.view.number }
     requires legal { IsLegal end.old.view.base (dones (end.old.view.list ++ entry.now ∷ [])) }
@@ -65,12 +76,12 @@ fn seen_by_another<A: Abort>(rt: &A, end: &mut End, own: &mut Seat, other: &mut 
 {
     end.hear(own);
     let at = end.name(entry);
-    assert_eq!(rt; other.load(), at);
+    assert_eq!(rt; look_apart(rt, other), at);
     own.hear(end);
     assert!(rt; own.exchange(at));
+    assert_eq!(rt; look_apart(rt, other), at + 1);
     end.confirm(own);
-    assert_eq!(rt; other.load(), at + 1);
-    other.meet(end);
+    own.meet(end);
 }
 
 #[test]

@@ -68,6 +68,41 @@ fn is_stamped(pool: &Pool, page: PageNo) -> bool
     }
 }
 
+/// Puts a stamped page's bytes back, if it is in a frame and has an image.
+fn unstamp(pool: &mut Pool, page: PageNo) -> bool
+    requires pool { IsPool pool.old }
+    requires inside { page < pages_of pool.old }
+    ensures pool { IsPool pool.new }
+    ensures pages { pages_of pool.new ≡ pages_of pool.old }
+{
+    if !pool.is_there(page) || pool.needs_image(page) {
+        return false;
+    }
+    let stamped = pool.view(page)[7] == b'n';
+    pool.restore(page, 7, b"\xa5\xa5\xa5");
+    stamped
+}
+
+/// Begins a new area, if no page is to be flushed. Its first record carries an image of the page, which
+/// then leaves its frame.
+fn begins_anew<D: Device>(pool: &mut Pool, device: &mut D, page: PageNo) -> bool
+    requires pool { IsPool pool.old }
+    requires shows { Shows pool.old (D.seen device.old) }
+    requires inside { page < pages_of pool.old }
+    ensures pool { IsPool pool.new }
+    ensures pages { pages_of pool.new ≡ pages_of pool.old }
+    ensures shows { Shows pool.new (D.seen device.new) }
+{
+    if let Ok(Flushed::Clean) = pool.flush_step(0, device) {
+        pool.begin_area();
+        let unknown = pool.needs_image(page);
+        pool.note_image(page, LogPos::new(1));
+        pool.evict(page);
+        return unknown && !pool.needs_image(page);
+    }
+    false
+}
+
 #[test]
 fn a_full_pool_asks_for_a_flush(rt: HostRuntime) -> Result<(), Fail> {
     let (mut pool, mut device) = opened(rt.alloc(), 32, 33)?;
@@ -94,6 +129,22 @@ fn a_view_follows_its_changes(rt: HostRuntime) -> Result<(), Fail> {
     assert_eq!(rt; pool.flush_step(4, &mut device), Ok(Flushed::Page(page)));
     assert_eq!(rt; pool.flush_step(4, &mut device), Ok(Flushed::Clean));
     assert_eq!(rt; &device.bytes()[12_334..12_339], b"\xa5new\xa5".as_slice());
+    Ok(())
+}
+
+#[test]
+fn an_area_begins_with_an_image(rt: HostRuntime) -> Result<(), Fail> {
+    let (mut pool, mut device) = opened(rt.alloc(), 2, 4)?;
+    let page = PageNo::new(1);
+    assert_eq!(rt; stamp(&mut pool, &mut device, page), THERE);
+    assert!(rt; !begins_anew(&mut pool, &mut device, page));
+    assert_eq!(rt; pool.flush_step(2, &mut device), Ok(Flushed::Page(page)));
+    assert!(rt; begins_anew(&mut pool, &mut device, page));
+    assert!(rt; !is_stamped(&pool, page));
+    assert_eq!(rt; pool.fetch(&mut device, page), THERE);
+    assert!(rt; is_stamped(&pool, page));
+    assert!(rt; unstamp(&mut pool, page));
+    assert!(rt; !is_stamped(&pool, page));
     Ok(())
 }
 

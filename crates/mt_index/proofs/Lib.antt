@@ -1,0 +1,14 @@
+pub mod Lists
+pub mod Buckets
+pub mod Split
+pub mod Bits
+pub mod Chains
+pub mod Steps
+pub mod Overflow
+pub mod Divide
+pub mod Directory
+pub mod Add
+pub mod Find
+pub mod Policy
+pub mod Pigeons
+pub mod Witness

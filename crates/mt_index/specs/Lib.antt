@@ -1,0 +1,5 @@
+pub mod Maps
+pub mod Buckets
+pub mod Index
+pub mod Steps
+pub mod Rule

@@ -6,9 +6,11 @@ pub mod Chains
 pub mod Steps
 pub mod Overflow
 pub mod Divide
-pub mod Directory
-pub mod Add
-pub mod Find
+pub mod Doubling
+pub mod Keeping
+pub mod Looking
 pub mod Policy
 pub mod Pigeons
 pub mod Witness
+pub mod Pointers
+pub mod Passing

@@ -3,3 +3,5 @@ pub mod Buckets
 pub mod Index
 pub mod Steps
 pub mod Rule
+pub mod Pages
+pub mod Answers

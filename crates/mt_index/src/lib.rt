@@ -5,6 +5,14 @@
 //! `mt_bucket`.
 #![tactic(auto)]
 
+mod answers;
+mod directory;
+mod finding;
 mod laws;
+mod pages;
+mod walking;
 
+pub use answers::Find;
+pub use directory::{MAX_DEPTH, depth};
+pub use finding::plan_find;
 pub use laws::a_bucket_is_named_by_its_pattern;

@@ -7,7 +7,7 @@ use Rattle.mt_index.specs.Maps.{Map, Each}
 use Rattle.mt_index.specs.Index.{Node, State, named, IsIndex, entries_of}
 use Rattle.mt_index.specs.Steps.{Walk}
 use Rattle.mt_index.proofs.Lists.{at_parts}
-use Rattle.mt_index.proofs.Add.{walk_splits, walk_whole}
+use Rattle.mt_index.proofs.Keeping.{walk_splits, walk_whole}
 
 past_step : (t : Bool) (n : RecordName) (o p q : Option RecordName) → cond t (Some n) o ≡ None → (o ≡ None → p ≡ q) → cond t (Some n) p ≡ q
 past_step true n o p q h f = absurd cc

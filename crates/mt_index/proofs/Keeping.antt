@@ -11,7 +11,7 @@ use Rattle.mt_index.proofs.Chains.{linked_same, linked_at}
 use Rattle.mt_index.proofs.Steps.{entry_added, entry_dropped, entry_renamed}
 use Rattle.mt_index.proofs.Overflow.{entry_chained}
 use Rattle.mt_index.proofs.Divide.{bucket_divided}
-use Rattle.mt_index.proofs.Directory.{directory_doubled, repointed}
+use Rattle.mt_index.proofs.Doubling.{directory_doubled, repointed}
 
 -- a page that a walk meets stands in the chain
 pub walk_splits : (node : ℕ → Node) (q : ℕ) (front : List ℕ) (p : ℕ) (ns : List ℕ) → Walk node q front p → p ≢ 0 → Linked node q ns → (back : List ℕ) × (ns ≡ front ++ p ∷ back)

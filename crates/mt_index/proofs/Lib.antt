@@ -14,3 +14,4 @@ pub mod Pigeons
 pub mod Witness
 pub mod Pointers
 pub mod Passing
+pub mod OnePage

@@ -1,9 +1,11 @@
 -- The walk along a chain.
-use Rattle.std.proofs.Common.{◌≡◌, ◌≢◌, ℕ, suc, ◌+◌, ◌<◌, ◌≤◌, ◌%◌, ◌^◌, List, [], ◌∷◌, ◌++◌, length, Option, Some, None, refl, ap, sym, ◌∙◌, subst, arith, length-append, get_or}
+use Rattle.std.proofs.Common.{◌≡◌, ◌≢◌, ℕ, suc, ◌+◌, ◌<◌, ◌≤◌, ◌%◌, ◌^◌, List, [], ◌∷◌, ◌++◌, length, Option, Some, None, refl, ap, sym, ◌∙◌, subst, arith, length-append, get_or, nat_eq, true, false, zero, ⊎_elim}
+use Rattle.std.proofs.lemmas.Bool.{both_ways, cases_eq}
+use Rattle.std.proofs.lemmas.Bool.Decides.{Decides-eqb}
 use Rattle.mt_base.specs.declared.numbers.RecordName.{RecordName}
 use Rattle.mt_bucket.specs.Hash.{hash}
 use Rattle.mt_bucket.specs.Entries.{look}
-use Rattle.mt_bucket.specs.Page.{next_of, entries}
+use Rattle.mt_bucket.specs.Page.{next_of, entries, entries_from, count_of}
 use Rattle.mt_index.specs.Maps.{Map, Each}
 use Rattle.mt_index.specs.Index.{named}
 use Rattle.mt_index.specs.Steps.{Walk, OnChain}
@@ -73,3 +75,21 @@ nowhere_map total pages m r k at steps page a p is none last =
     (subst (Walk (λ x. node_of (pages x)) (named (state_of pages) (hash k)) (p.front ++ at ∷ [])) (ap (λ c. next_of c) is ∙ last)
     (walk_more (λ x. node_of (pages x)) (named (state_of pages) (hash k)) p.front at p.walk p.real))
     (each_push (Lacks r k pages) p.front at p.each (ap (λ c. look r k (entries c)) is ∙ sym none))
+
+-- ---- room on the way
+
+pub entries_length : (c : List ℕ) (at n : ℕ) → length (entries_from c at n) ≡ n
+entries_length c at zero = refl
+entries_length c at (suc n) = omega (arith, entries_length c (at + 70) n)
+
+pub full_is : (page : List ℕ) (count : ℕ) → count ≡ count_of page → 58 ≤ count → length (entries page) ≡ 58
+full_is page count is no_room = let long = entries_length page 8 (count_of page) in omega (arith, long, is, no_room)
+
+pub room_is : (page : List ℕ) (count : ℕ) → count ≡ count_of page → count < 58 → length (entries page) < 58
+room_is page count is room = let long = entries_length page 8 (count_of page) in omega (arith, long, is, room)
+
+pub no_step : (n : ℕ) → nat_eq n 0 ≡ true → n ≡ 0
+no_step n e = (Decides-eqb n 0).0 e
+
+pub some_step : (n : ℕ) → nat_eq n 0 ≡ false → 0 < n
+some_step n e = ⊎_elim (λ (z : n ≡ 0). absurd (both_ways (nat_eq n 0) e ((Decides-eqb n 0).1 z))) (λ (z : n ≡ 0 → ⊥). omega (arith, z)) (cases_eq n 0)

@@ -5,14 +5,17 @@
 //! `mt_bucket`.
 #![tactic(auto)]
 
+mod amending;
 mod answers;
+mod changes;
 mod directory;
 mod finding;
 mod laws;
 mod pages;
 mod walking;
 
-pub use answers::Find;
+pub use amending::plan_set;
+pub use answers::{Amend, Find};
 pub use directory::{MAX_DEPTH, depth};
 pub use finding::plan_find;
 pub use laws::a_bucket_is_named_by_its_pattern;

@@ -8,24 +8,21 @@ use Rattle.mt_bucket.specs.Page.{depth_of, next_of, entries, KeepsHead, IsBucket
 use Rattle.mt_index.specs.Maps.{Map, alter}
 use Rattle.mt_index.specs.Index.{Node, State, IsIndex, Rewrites}
 use Rattle.mt_index.specs.Steps.{OnChain, OnePage, Drops, Sets}
-use Rattle.mt_index.specs.Pages.{PageBytes, kind, depth_in, pointers_from, node_of, state_of, AreMap, Passed, IsDirectory, AreFormed}
-use Rattle.mt_index.specs.Answers.{Lacks, Holds, Amends, KeepsOthers}
-use Rattle.mt_index.specs.Stub.{replaced}
+use Rattle.mt_pool.specs.Changes.{PageBytes}
+use Rattle.mt_space.specs.Kinds.{kind}
+use Rattle.mt_index.specs.Pages.{depth_in, pointers_from, node_of, state_of, AreMap, Passed, IsDirectory, AreFormed, Turns}
+use Rattle.mt_index.specs.Answers.{Lacks, Holds}
+use Rattle.mt_pool.specs.Changes.{replaced}
+use Rattle.mt_pool.proofs.Changing.{replaced_here, replaced_other}
 use Rattle.mt_index.proofs.Lists.{at_parts}
 use Rattle.mt_index.proofs.Overflow.{cond_at, cond_off}
 use Rattle.mt_index.proofs.Keeping.{drop_kept, set_kept}
-use Rattle.mt_index.proofs.Passing.{passed_kind, passed_on, held_map}
-
--- one page has new bytes
-pub record Turns (p : ℕ) (new : List ℕ) (pages pages2 : PageBytes) : Type 0 where
-  pub here : pages2 p ≡ new
-  pub others : (n : ℕ) → n ≢ p → pages2 n ≡ pages n
+use Rattle.mt_index.proofs.Passing.{passed_kind, passed_on}
 
 pub turns : (p : ℕ) (new : List ℕ) (pages pages2 : PageBytes) → pages2 ≡ replaced p new pages → Turns p new pages pages2
-unfolding replaced
 turns p new pages pages2 is = record {
-  here = ap (λ (f : PageBytes). f p) is ∙ cond_at p p new (pages p) refl;
-  others = λ n off. ap (λ (f : PageBytes). f n) is ∙ cond_off n p new (pages n) off;
+  here = ap (λ (f : PageBytes). f p) is ∙ replaced_here p p new pages refl;
+  others = λ n off. ap (λ (f : PageBytes). f n) is ∙ replaced_other p n new pages off;
 }
 
 -- pages 0 and 1 are no bucket's
@@ -107,17 +104,15 @@ done r k es old true A is did none = did
 done r k es old false A is did none = absurd (let e : None ≡ Some old = sym none ∙ is in cc)
 
 pub set_map : (total : ℕ) (pages pages2 : PageBytes) (m : Map) (r : ℕ) (k : List ℕ) (p : ℕ) (old name : RecordName) (page new : List ℕ) (b : Bool) → AreMap total pages m → Holds r k pages p old
-    → pages p ≡ page → Turns p new pages pages2 → KeepsHead page new → OnTrue b (entries new ≡ renamed r k name (entries page)) → OnFalse b (look r k (entries page) ≡ None) → Amends total pages pages2 m r k (Some name)
-set_map total pages pages2 m r k p old name page new b a h is t head did none = record {
-    there = (old, held_map total pages m r k p old a h);
-    map = same_space total pages pages2 m _ a (t.others 0 off.0)
+    → pages p ≡ page → Turns p new pages pages2 → KeepsHead page new → OnTrue b (entries new ≡ renamed r k name (entries page)) → OnFalse b (look r k (entries page) ≡ None) → AreMap total pages2 (alter m r k (Some name))
+set_map total pages pages2 m r k p old name page new b a h is t head did none =
+    same_space total pages pages2 m _ a (t.others 0 off.0)
       (subst (λ (x : ℕ × List ℕ). IsIndex (state_of pages2) (alter m x.0 x.1 (Some name))) (λ j. (w.relation j, w.key j))
         (set_kept (state_of pages) (state_of pages2) m w.entry name p w.front w.back a.index (record {
           on = subst (λ (x : List ℕ). OnChain (state_of pages) x p) (sym w.key) (passed_on (Lacks r k pages) pages k p h.steps h.passed);
           there = ap entries is ∙ w.whole;
           change = one_page pages pages2 p new _ off t (subst (λ (c : List ℕ). KeepsHead c new) (sym is) head) (done r k (entries page) old b _ here did none ∙ w.set name);
-        })));
-  }
+        })))
   where
     off : (0 ≢ p) × (1 ≢ p)
     off = no_bucket total pages m p a (passed_kind (Lacks r k pages) total pages m k p h.steps a h.passed)
@@ -129,17 +124,15 @@ set_map total pages pages2 m r k p old name page new b a h is t head did none = 
     w = parts_of r k (entries page) old here
 
 pub drop_map : (total : ℕ) (pages pages2 : PageBytes) (m : Map) (r : ℕ) (k : List ℕ) (p : ℕ) (old : RecordName) (page new : List ℕ) (b : Bool) → AreMap total pages m → Holds r k pages p old
-    → pages p ≡ page → Turns p new pages pages2 → KeepsHead page new → OnTrue b (entries new ≡ without r k (entries page)) → OnFalse b (look r k (entries page) ≡ None) → Amends total pages pages2 m r k None
-drop_map total pages pages2 m r k p old page new b a h is t head did none = record {
-    there = (old, held_map total pages m r k p old a h);
-    map = same_space total pages pages2 m _ a (t.others 0 off.0)
+    → pages p ≡ page → Turns p new pages pages2 → KeepsHead page new → OnTrue b (entries new ≡ without r k (entries page)) → OnFalse b (look r k (entries page) ≡ None) → AreMap total pages2 (alter m r k None)
+drop_map total pages pages2 m r k p old page new b a h is t head did none =
+    same_space total pages pages2 m _ a (t.others 0 off.0)
       (subst (λ (x : ℕ × List ℕ). IsIndex (state_of pages2) (alter m x.0 x.1 None)) (λ j. (w.relation j, w.key j))
         (drop_kept (state_of pages) (state_of pages2) m w.entry p w.front w.back a.index (record {
           on = subst (λ (x : List ℕ). OnChain (state_of pages) x p) (sym w.key) (passed_on (Lacks r k pages) pages k p h.steps h.passed);
           there = ap entries is ∙ w.whole;
           change = one_page pages pages2 p new _ off t (subst (λ (c : List ℕ). KeepsHead c new) (sym is) head) (done r k (entries page) old b _ here did none ∙ w.gone);
-        })));
-  }
+        })))
   where
     off : (0 ≢ p) × (1 ≢ p)
     off = no_bucket total pages m p a (passed_kind (Lacks r k pages) total pages m k p h.steps a h.passed)
@@ -149,7 +142,3 @@ drop_map total pages pages2 m r k p old page new b a h is t head did none = reco
 
     w : Parts r k (entries page)
     w = parts_of r k (entries page) old here
-
--- pages that are no bucket's stay
-pub turns_others : (total : ℕ) (pages pages2 : PageBytes) (m : Map) (p : ℕ) (new : List ℕ) → kind pages p ≡ 2 → Turns p new pages pages2 → KeepsOthers pages pages2
-turns_others total pages pages2 m p new is t n away = t.others n (λ e. away (ap (kind pages) e ∙ is))

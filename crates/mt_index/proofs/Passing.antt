@@ -9,7 +9,9 @@ use Rattle.mt_bucket.specs.Page.{next_of, entries, entries_from, count_of}
 use Rattle.mt_index.specs.Maps.{Map, Each}
 use Rattle.mt_index.specs.Index.{named}
 use Rattle.mt_index.specs.Steps.{Walk, OnChain}
-use Rattle.mt_index.specs.Pages.{PageBytes, kind, depth_in, pointer_at, node_of, state_of, AreMap, Passed}
+use Rattle.mt_pool.specs.Changes.{PageBytes}
+use Rattle.mt_space.specs.Kinds.{kind}
+use Rattle.mt_index.specs.Pages.{depth_in, pointer_at, node_of, state_of, AreMap, Passed}
 use Rattle.mt_index.specs.Answers.{Lacks, Holds}
 use Rattle.mt_index.proofs.Lists.{each_map, each_remove}
 use Rattle.mt_index.proofs.Looking.{find_found, find_none, walk_more}

@@ -1,26 +1,28 @@
 -- What plans answer, over all pages that agree with those at hand.
-use Rattle.std.specs.Prelude.{ℕ, ◌≡◌, ◌≢◌, ◌<◌, ◌⊎◌, Bool, true, false, List, length, Option, Some, None}
+use Rattle.std.specs.Prelude.{ℕ, ◌≡◌, ◌≢◌, ◌<◌, ◌≤◌, ◌⊎◌, Bool, true, false, cond, List, length, Option, Some, None}
 use Rattle.mt_base.specs.declared.numbers.RecordName.{RecordName}
 use Rattle.mt_base.specs.declared.modes.Mode.{Mode}
 use Rattle.mt_base.specs.declared.modes.Mode.TheVariants.{Read, Write}
-use Rattle.mt_bucket.specs.Entries.{look}
-use Rattle.mt_bucket.specs.Page.{entries, next_of}
+use Rattle.mt_bucket.specs.Entries.{Entry, look}
+use Rattle.mt_bucket.specs.Hash.{hash, high}
+use Rattle.mt_bucket.specs.Page.{depth_of, entries, next_of}
 use Rattle.mt_index.specs.Maps.{Map, alter}
-use Rattle.mt_index.specs.declared.changes.PageChange.{PageChange}
+use Rattle.mt_pool.specs.declared.changes.PageChange.{PageChange}
 use Rattle.mt_index.specs.declared.answers.Amend.{Amend}
 use Rattle.mt_index.specs.declared.answers.Amend.TheVariants as amend
-use Rattle.mt_index.specs.Index.{State}
-use Rattle.mt_index.specs.Rule.{IsFull}
-use Rattle.mt_index.specs.Pages.{PageBytes, kind, state_of, AreMap, Passed}
+use Rattle.mt_index.specs.Index.{State, kept_low, kept_high}
+use Rattle.mt_index.specs.Rule.{IsFull, IsSmallest, MaySplit, Way}
+use Rattle.mt_pool.specs.Changes.{PageBytes, Agrees, after, AreShort}
+use Rattle.mt_space.specs.Kinds.{kind}
+use Rattle.mt_index.specs.Pages.{state_of, AreMap, Passed, AreFormed}
 use Rattle.mt_index.specs.declared.answers.Find.{Find}
 use Rattle.mt_index.specs.declared.answers.Find.TheVariants as find
 use Rattle.mt_index.specs.declared.answers.Spot.{Spot}
 use Rattle.mt_index.specs.declared.answers.Spot.TheVariants as spot
+use Rattle.mt_index.specs.declared.answers.Add.{Add}
+use Rattle.mt_index.specs.declared.answers.Add.TheVariants as add
 use Rattle.mt_index.specs.declared.answers.Held.{Held}
 use Rattle.mt_index.specs.declared.answers.Held.TheVariants as held
-
-abbrev pub Agrees : (ℕ → Option (List ℕ)) → PageBytes → Type 0
-Agrees at_hand pages = (p : ℕ) (bytes : List ℕ) → at_hand p ≡ Some bytes → pages p ≡ bytes
 
 -- it holds of all pages that agree with those at hand and are a map
 abbrev pub InMaps : (ℕ → Option (List ℕ)) → ℕ → (PageBytes → Map → Type 0) → Type 0
@@ -99,14 +101,13 @@ abbrev pub AmendEndless : Amend → Type 0 → Type 0
 AmendEndless amend.Endless P = P
 AmendEndless _ P = Unit {0}
 
--- the entry of a key is there, and is the one that changes
-pub record Amends (total : ℕ) (pages pages2 : PageBytes) (m : Map) (r : ℕ) (k : List ℕ) (name : Option RecordName) : Type 0 where
+-- the entry of a key is there, and is the one that changes, in one page of a bucket
+pub record Amends (total : ℕ) (pages : PageBytes) (changes : List PageChange) (m : Map) (r : ℕ) (k : List ℕ) (name : Option RecordName) : Type 0 where
   pub there : (old : RecordName) × (m r k ≡ Some old)
-  pub map : AreMap total pages2 (alter m r k name)
-
--- pages that are no bucket's stay
-abbrev pub KeepsOthers : PageBytes → PageBytes → Type 0
-KeepsOthers pages pages2 = (p : ℕ) → kind pages p ≢ 2 → pages2 p ≡ pages p
+  pub map : AreMap total (after changes pages) (alter m r k name)
+  pub others : (p : ℕ) → kind pages p ≢ 2 → after changes pages p ≡ pages p
+  pub one : length changes ≤ 1
+  pub short : AreShort changes pages
 
 -- ---- the place of a new entry
 
@@ -140,3 +141,77 @@ IfBehind _ P = Unit {0}
 abbrev pub SpotEndless : Spot → Type 0 → Type 0
 SpotEndless spot.Endless P = P
 SpotEndless _ P = Unit {0}
+
+-- ---- an add
+
+-- pages that are not taken keep their kind, and those that are no bucket's keep their bytes, but for
+-- the map of the space and the directory; a page that is taken was free, and is a bucket's
+pub record Stays (total : ℕ) (pages pages2 : PageBytes) : Type 0 where
+  pub size : length (pages2 0) ≡ length (pages 0)
+  pub kinds : (p : ℕ) → kind pages p ≢ 0 → kind pages2 p ≡ kind pages p
+  pub taken : (p : ℕ) → kind pages p ≡ 0 → kind pages2 p ≢ 0 → (kind pages2 p ≡ 2) × (p < total)
+  pub bytes : (p : ℕ) → p ≢ 0 → p ≢ 1 → kind pages2 p ≢ 2 → pages2 p ≡ pages p
+
+-- an entry fits a schema of so many relations and pages
+pub record Fits (relations total : ℕ) (e : Entry) : Type 0 where
+  pub relation : e.relation < relations
+  pub some : 1 ≤ length e.key
+  pub place : e.name.page < total
+
+-- the pages change by the rule
+pub record Added (split : Bool) (total : ℕ) (e : Entry) (pages pages2 : PageBytes) : Type 0 where
+  pub way : Way split e (state_of pages) (state_of pages2)
+  pub stays : Stays total pages pages2
+  pub formed : (relations : ℕ) → Fits relations total e → AreFormed relations total pages → AreFormed relations total pages2
+
+-- at most five pages change, each once
+pub record Adds (split : Bool) (total : ℕ) (e : Entry) (pages : PageBytes) (changes : List PageChange) : Type 0 where
+  pub added : Added split total e pages (after changes pages)
+  pub few : length changes ≤ 5
+  pub short : AreShort changes pages
+
+-- no page is free, or just this one
+abbrev pub HasNoneFree : ℕ → PageBytes → Type 0
+HasNoneFree total pages = (p : ℕ) → p < total → kind pages p ≢ 0
+
+pub record HasOneFree (total : ℕ) (pages : PageBytes) (q : ℕ) : Type 0 where
+  pub free : kind pages q ≡ 0
+  pub within : q < total
+  pub others : (p : ℕ) → p < total → p ≢ q → kind pages p ≢ 0
+
+-- a split takes no entry away from the new one's side
+abbrev pub IsLopsided : Entry → PageBytes → ℕ → Type 0
+IsLopsided e pages b = length (cond (high (depth_of (pages b)) (hash e.key)) (kept_high (depth_of (pages b)) (entries (pages b))) (kept_low (depth_of (pages b)) (entries (pages b)))) ≡ 58
+
+-- The key's bucket has no room, and no page is free; or one is, and the entry wants it split and a page more.
+pub record Shortage (split : Bool) (total : ℕ) (e : Entry) (pages : PageBytes) : Type 0 where
+  pub last : ℕ
+  pub alone : Bool
+  pub full : IsEnd e.key pages last alone
+  pub free : HasNoneFree total pages ⊎ ((split ≡ true) × (MaySplit e.key (state_of pages) × (((q : ℕ) × HasOneFree total pages q) × IsLopsided e pages last)))
+
+-- besides the pages of the bucket, the map of the space and pages to be taken are needed, to be written
+abbrev pub IsInAdd : ℕ → PageBytes → ℕ → Mode → Type 0
+IsInAdd total pages p mode = IsInBucket Write pages p mode ⊎ (((p ≡ 0) ⊎ ((kind pages p ≡ 0) × (p < total))) × (mode ≡ Write))
+
+abbrev pub IsPlanned : (ℕ → Option (List ℕ)) → ℕ → Bool → Entry → Add → Type 0
+IsPlanned at_hand total split e (add.Need p mode) = Asks at_hand total (IsInAdd total) p mode
+IsPlanned at_hand total split e (add.Changes changes) = InMaps at_hand total (λ pages m. Adds split total e pages changes.list.items)
+IsPlanned at_hand total split e add.Full = InMaps at_hand total (λ pages m. Shortage split total e pages)
+IsPlanned at_hand total split e add.Endless = InMaps at_hand total (λ pages m. ⊥)
+
+abbrev pub AddNeeds : Add → (ℕ → Mode → Type 0) → Type 0
+AddNeeds (add.Need p mode) P = P p mode
+AddNeeds _ P = Unit {0}
+
+abbrev pub IfAdded : Add → (List PageChange → Type 0) → Type 0
+IfAdded (add.Changes changes) P = P changes.list.items
+IfAdded _ P = Unit {0}
+
+abbrev pub AddFull : Add → Type 0 → Type 0
+AddFull add.Full P = P
+AddFull _ P = Unit {0}
+
+abbrev pub AddEndless : Add → Type 0 → Type 0
+AddEndless add.Endless P = P
+AddEndless _ P = Unit {0}

@@ -5,4 +5,3 @@ pub mod Steps
 pub mod Rule
 pub mod Pages
 pub mod Answers
-pub mod Stub

@@ -4,15 +4,11 @@ use Rattle.std.proofs.Math.ListN.{get_or}
 use Rattle.mt_base.specs.Ranges.{u16_at}
 use Rattle.mt_bucket.specs.Hash.{hash}
 use Rattle.mt_bucket.specs.Page.{depth_of, next_of, entries, IsBucket}
+use Rattle.mt_pool.specs.Changes.{PageBytes}
+use Rattle.mt_space.specs.Kinds.{kind}
 use Rattle.mt_index.specs.Maps.{Map, Each}
 use Rattle.mt_index.specs.Index.{Node, State, named, IsIndex}
 use Rattle.mt_index.specs.Steps.{Walk}
-
-abbrev pub PageBytes : Type 0
-PageBytes = ℕ → List ℕ
-
-abbrev pub kind : PageBytes → ℕ → ℕ
-kind pages p = get_or (pages 0) p 0
 
 -- the bits of a hash that the directory goes by, and a pointer
 abbrev pub depth_in : List ℕ → ℕ
@@ -63,3 +59,8 @@ pub record IsDirectory (page : List ℕ) : Type 0 where
 pub record AreFormed (relations total : ℕ) (pages : PageBytes) : Type 0 where
   pub directory : IsDirectory (pages 1)
   pub buckets : (p : ℕ) → kind pages p ≡ 2 → IsBucket relations total (pages p)
+
+-- one page has new bytes
+pub record Turns (p : ℕ) (new : List ℕ) (pages pages2 : PageBytes) : Type 0 where
+  pub here : pages2 p ≡ new
+  pub others : (n : ℕ) → n ≢ p → pages2 n ≡ pages n

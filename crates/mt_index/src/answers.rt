@@ -1,6 +1,6 @@
 // What plans answer.
-use crate::changes::Changes;
 use mt_base::{Mode, PageNo, RecordName};
+use mt_pool::Changes;
 use std::alloc::AllocError;
 
 /// What a find answers.

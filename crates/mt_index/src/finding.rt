@@ -3,9 +3,9 @@ ghost use Rattle.mt_base.specs.declared.modes.Mode.TheVariants.{Read};
 ghost use Rattle.mt_index.specs.Answers.{InMaps, IsInBucket, Asks, FindNeeds, IfFound, IfMissing, IfEndless};
 
 use crate::answers::{Find, Held};
-use crate::pages::Pages;
 use crate::walking::holder_of;
 use mt_base::{Mode, RelNo};
+use mt_pool::Pages;
 
 /// The name of the record under a relation and a key, or that there is none, by the pages at hand. The
 /// directory and then pages of the key's bucket are needed for read. In pages that are an index it never

@@ -7,14 +7,13 @@
 
 mod amending;
 mod answers;
-mod changes;
 mod directory;
 mod finding;
 mod laws;
-mod pages;
+mod noting;
 mod walking;
 
-pub use amending::plan_set;
+pub use amending::{plan_drop, plan_set};
 pub use answers::{Amend, Find};
 pub use directory::{MAX_DEPTH, depth};
 pub use finding::plan_find;

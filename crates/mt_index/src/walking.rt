@@ -5,9 +5,9 @@ ghost use Rattle.mt_index.specs.Answers.{InMaps, IsInBucket, Asks, Holds, HeldNe
 
 use crate::answers::{Held, Spot};
 use crate::directory::pointer;
-use crate::pages::Pages;
 use mt_base::{Mode, PageNo, RelNo};
 use mt_bucket::{MAX_ENTRIES, count, find, hash, next};
+use mt_pool::Pages;
 
 // The directory.
 pub(crate) const DIRECTORY: u16 = 1;

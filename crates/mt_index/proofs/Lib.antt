@@ -15,3 +15,8 @@ pub mod Witness
 pub mod Pointers
 pub mod Passing
 pub mod OnePage
+mod Listing
+mod Marks
+mod Settled
+mod Sounds
+mod Made

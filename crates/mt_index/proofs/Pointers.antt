@@ -1,5 +1,5 @@
 -- Pointers in bytes.
-use Rattle.std.proofs.Common.{◌≡◌, ℕ, zero, suc, ◌+◌, ◌*◌, ◌<◌, ◌≤◌, ◌^◌, ◌%◌, List, length, min, get_or, refl, ap, sym, ◌∙◌, subst, arith}
+use Rattle.std.proofs.Common.{◌≡◌, ℕ, zero, suc, ◌+◌, ◌*◌, ◌<◌, ◌≤◌, ◌^◌, ◌%◌, List, length, get_or, refl, ap, sym, ◌∙◌, subst, arith}
 use Rattle.std.proofs.lemmas.Nat.{pow_pos, mod_below, one_shl, pow_below}
 use Rattle.mt_base.specs.Ranges.{u16_at}
 use Rattle.mt_index.specs.Index.{named}
@@ -29,3 +29,7 @@ place_is h g n is le = ap (λ (x : ℕ). 8 + 2 * (h % x)) (one_shl g 64 (omega a
 -- the hash's pointer
 pub named_is : (pages : PageBytes) (h : ℕ) → named (state_of pages) h ≡ pointer_at (pages 1) (h % 2 ^ depth_in (pages 1))
 named_is pages h = get_pointer (pages 1) 8 (2 ^ depth_in (pages 1)) (h % 2 ^ depth_in (pages 1)) (mod_below h (2 ^ depth_in (pages 1)) (pow_pos (depth_in (pages 1))))
+
+-- a pointer's number below a shifted one
+pub in_directory : (i d n : ℕ) → d ≡ n → n ≤ 9 → i < 1 * 2 ^ d % 2 ^ 64 → i < 2 ^ n
+in_directory i d n is le lt = subst (λ (x : ℕ). i < x) (one_shl d 64 (omega (arith, is, le)) ∙ ap (λ (x : ℕ). 2 ^ x) is) lt

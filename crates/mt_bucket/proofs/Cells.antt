@@ -37,7 +37,7 @@ cell_has c b at lb has =
 -- ---- the key and the relation of a cell
 
 -- the key's bytes lie behind its length
-key_cell : (c : List ℕ) (at n : ℕ) → n ≤ 68 → take n (drop 2 (cell c at)) ≡ take n (drop (at + 2) c)
+pub key_cell : (c : List ℕ) (at n : ℕ) → n ≤ 68 → take n (drop 2 (cell c at)) ≡ take n (drop (at + 2) c)
 key_cell c at n le = ap (take n) (drop-take 2 68 (drop at c) ∙ ap (take 68) (drop-drop 2 at c)) ∙ take-take n 68 (drop (at + 2) c) le
 
 and_false_left : (x y : Bool) → x ≡ false → (x && y) ≡ false

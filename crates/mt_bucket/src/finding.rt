@@ -1,7 +1,7 @@
 // Looking for an entry.
-ghost use Rattle.std.specs.Prelude.{◌≡◌, ◌+◌, ◌*◌, ◌≤◌, ◌<◌, length, IfSome, IfNone};
+ghost use Rattle.std.specs.Prelude.{◌≡◌, ◌+◌, ◌*◌, ◌≤◌, ◌<◌, length, get_or, IfSome, IfNone};
 ghost use Rattle.mt_bucket.specs.Entries.{is_at, look};
-ghost use Rattle.mt_bucket.specs.Page.{cell, entry_of, entries, IsFirst, HasNone};
+ghost use Rattle.mt_bucket.specs.Page.{cell, entry_of, count_of, entries, IsFirst, HasNone};
 
 use crate::heads::{CELL_BYTES, HEAD_BYTES, count};
 use mt_base::ranges::{part_of, u16_at};
@@ -19,8 +19,35 @@ pub fn find(page: &[u8], relation: RelNo, key: &[u8]) -> Option<RecordName>
     }
 }
 
-// The place of the first entry of a relation and a key.
-pub(crate) fn place_of(page: &[u8], relation: RelNo, key: &[u8]) -> Option<usize>
+/// An entry, lent from its page.
+#[derive(Clone, Copy, Debug)]
+pub struct EntryView<'a> {
+    /// The relation that it belongs to.
+    pub relation: RelNo,
+    /// Its key.
+    pub key: &'a [u8],
+    /// The name of the record under its relation and key.
+    pub name: RecordName,
+}
+
+/// The entry at a place, from 0.
+pub fn entry(page: &[u8], i: usize) -> EntryView<'_>
+    requires whole { length page.now ≡ 4096 }
+    requires there { i < count_of page.now }
+    requires fits { get_or page.now (8 + 70 * i + 1) 0 ≤ 64 }
+    ensures is { entry_of (cell page.now (8 + 70 * i)) ≡ record { relation = result.relation; key = result.key.now; name = result.name } }
+    ensures short { length result.key.now ≤ 64 }
+{
+    let at = HEAD_BYTES + CELL_BYTES * i;
+    EntryView {
+        relation: RelNo::new(u16::from(page[at])),
+        key: part_of(page, at + 2, usize::from(page[at + 1])),
+        name: name_at(page, at),
+    }
+}
+
+/// The place of the first entry of a relation and a key, from 0; `None` where the page has none of them.
+pub fn place_of(page: &[u8], relation: RelNo, key: &[u8]) -> Option<usize>
     requires whole { length page.now ≡ 4096 }
     requires short { length key.now ≤ 64 }
     ensures found { IfSome result (λ i. IsFirst relation key.now page.now i) }

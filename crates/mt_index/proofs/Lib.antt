@@ -1,0 +1,22 @@
+pub mod Lists
+pub mod Buckets
+pub mod Split
+pub mod Bits
+pub mod Chains
+pub mod Steps
+pub mod Overflow
+pub mod Divide
+pub mod Doubling
+pub mod Keeping
+pub mod Looking
+pub mod Policy
+pub mod Pigeons
+pub mod Witness
+pub mod Pointers
+pub mod Passing
+pub mod OnePage
+mod Listing
+mod Marks
+mod Settled
+mod Sounds
+mod Made

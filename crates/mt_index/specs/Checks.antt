@@ -1,0 +1,117 @@
+-- What a reading of any pages finds out: whether they are an index, each byte of it.
+use Rattle.std.specs.Prelude.{ℕ, ◌≡◌, ◌≢◌, ◌⊎◌, ◌+◌, ◌*◌, ◌^◌, ◌%◌, ◌≤◌, ◌<◌, List, [], length, None}
+use Rattle.std.proofs.Math.ListN.{get_or}
+use Rattle.mt_bucket.specs.Entries.{Entry, look}
+use Rattle.mt_bucket.specs.Hash.{hash}
+use Rattle.mt_bucket.specs.Page.{depth_of, next_of, count_of, cell, entry_of, entries, IsBucket, IsFirst}
+use Rattle.mt_pool.specs.Changes.{PageBytes}
+use Rattle.mt_space.specs.Kinds.{kind}
+use Rattle.mt_index.specs.Maps.{Map, Each}
+use Rattle.mt_index.specs.Index.{named, Linked}
+use Rattle.mt_index.specs.Steps.{Walk}
+use Rattle.mt_index.specs.Pages.{depth_in, pointer_at, node_of, state_of, AreMap, AreFormed}
+
+-- pages in a row, each whole, and no more than the space map has bytes
+pub record AreWhole (pages : List (List ℕ)) : Type 0 where
+  pub some : 2 ≤ length pages
+  pub few : length pages ≤ 4096
+  pub each : (p : ℕ) → p < length pages → length (get_or pages p []) ≡ 4096
+
+abbrev pub bytes_of : List (List ℕ) → PageBytes
+bytes_of pages p = get_or pages p []
+
+-- a page stands in the chain that begins with another
+pub record IsOn (pages : PageBytes) (b p : ℕ) : Type 0 where
+  pub front : List ℕ
+  pub walk : Walk (λ n. node_of (pages n)) b front p
+  pub real : p ≢ 0
+
+-- So many pages are an index, well formed in each byte; each bucket page stands in the chain of some key.
+pub record IsSound (relations total : ℕ) (pages : PageBytes) : Type 0 where
+  pub formed : AreFormed relations total pages
+  pub meaning : Map
+  pub map : AreMap total pages meaning
+  pub chained : (p : ℕ) → kind pages p ≡ 2 → (h : ℕ) × IsOn pages (named (state_of pages) h) p
+
+-- ---- the parts of it that are looked at one after the other
+
+-- the space map has pages 0 and 1 as fixed ones, and none past the last
+pub record AreKinds (total : ℕ) (pages : PageBytes) : Type 0 where
+  pub space_fixed : kind pages 0 ≡ 1
+  pub directory_fixed : kind pages 1 ≡ 1
+  pub within : (p : ℕ) → kind pages p ≢ 0 → p < total
+
+abbrev pub AreBuckets : ℕ → ℕ → PageBytes → Type 0
+AreBuckets relations total pages = (p : ℕ) → kind pages p ≡ 2 → IsBucket relations total (pages p)
+
+-- pointer i names a bucket that is no deeper than the directory, and just the pointers of its pattern do
+abbrev pub IsPattern : List ℕ → ℕ → ℕ → ℕ → Type 0
+IsPattern directory i b l = (j : ℕ) → j < 2 ^ depth_in directory → ((pointer_at directory j ≡ b) → (j % 2 ^ l ≡ i % 2 ^ l)) × ((j % 2 ^ l ≡ i % 2 ^ l) → (pointer_at directory j ≡ b))
+
+pub record IsPointer (pages : PageBytes) (i : ℕ) : Type 0 where
+  pub bucket : kind pages (pointer_at (pages 1) i) ≡ 2
+  pub shallow : depth_of (pages (pointer_at (pages 1) i)) ≤ depth_in (pages 1)
+  pub pattern : IsPattern (pages 1) i (pointer_at (pages 1) i) (depth_of (pages (pointer_at (pages 1) i)))
+
+abbrev pub ArePointers : PageBytes → Type 0
+ArePointers pages = (i : ℕ) → i < 2 ^ depth_in (pages 1) → IsPointer pages i
+
+-- a page of the bucket b is marked with it
+pub record IsMember (pages : PageBytes) (homes : List ℕ) (b n : ℕ) : Type 0 where
+  pub home : get_or homes n 0 ≡ b
+  pub kind : kind pages n ≡ 2
+  pub level : depth_of (pages n) ≡ depth_of (pages b)
+
+-- all pages of the bucket b are
+pub record IsMarked (pages : PageBytes) (homes : List ℕ) (b : ℕ) : Type 0 where
+  pub chain : List ℕ
+  pub linked : Linked (λ n. node_of (pages n)) b chain
+  pub each : Each (IsMember pages homes b) chain
+
+-- the buckets of the first pointers are marked, and no other page is
+pub record AreMarked (pages : PageBytes) (homes : List ℕ) (done : ℕ) : Type 0 where
+  pub each : (i : ℕ) → i < done → IsMarked pages homes (pointer_at (pages 1) i)
+  pub back : (n : ℕ) → get_or homes n 0 ≢ 0 → (i : ℕ) × (i < done) × (get_or homes n 0 ≡ pointer_at (pages 1) i) × IsOn pages (pointer_at (pages 1) i) n
+
+-- the marks of the bucket b are new, and all others as before
+abbrev pub Marks : PageBytes → ℕ → List ℕ → List ℕ → Type 0
+Marks pages b old new = (n : ℕ) → (get_or new n 0 ≡ get_or old n 0) ⊎ ((get_or old n 0 ≡ 0) × (get_or new n 0 ≡ b) × IsOn pages b n)
+
+-- a bucket's page of this depth that has no mark, and one that is none
+abbrev pub CanFollow : ℕ → PageBytes → List ℕ → ℕ → ℕ → Type 0
+CanFollow total pages homes p l = (kind pages p ≡ 2) × (p < total) × (depth_of (pages p) ≡ l) × (get_or homes p 0 ≡ 0)
+
+abbrev pub CannotFollow : PageBytes → List ℕ → ℕ → ℕ → Type 0
+CannotFollow pages homes p l = (kind pages p ≢ 2) ⊎ ((depth_of (pages p) ≢ l) ⊎ (get_or homes p 0 ≢ 0))
+
+-- the walk along a bucket comes to a page that cannot be the bucket's next one
+pub record IsStuck (total : ℕ) (pages : PageBytes) (homes : List ℕ) (b p : ℕ) : Type 0 where
+  pub front : List ℕ
+  pub walk : Walk (λ n. node_of (pages n)) b front p
+  pub real : p ≢ 0
+  pub cause : (kind pages p ≢ 2) ⊎ ((depth_of (pages p) ≢ depth_of (pages b)) ⊎ ((get_or homes p 0 ≢ 0) ⊎ ((Each (λ n. n ≢ p) front → ⊥) ⊎ (total ≤ length front))))
+
+-- no page from this one on has the key
+abbrev pub LacksFrom : PageBytes → ℕ → ℕ → List ℕ → Type 0
+LacksFrom pages p r k = (ns : List ℕ) → Linked (λ n. node_of (pages n)) p ns → Each (λ n. look r k (entries (pages n)) ≡ None) ns
+
+-- the chain from this page on comes to an end
+pub record IsFinite (total : ℕ) (pages : PageBytes) (p : ℕ) : Type 0 where
+  pub chain : List ℕ
+  pub linked : Linked (λ n. node_of (pages n)) p chain
+  pub within : Each (λ n. n < total) chain
+  pub few : length chain ≤ total
+
+abbrev pub entry_at : List ℕ → ℕ → Entry
+entry_at page i = entry_of (cell page (8 + 70 * i))
+
+-- the entry is in the bucket of its hash, and its key in no other entry from there on
+pub record IsAlone (pages : PageBytes) (home p i : ℕ) : Type 0 where
+  pub own : pointer_at (pages 1) (hash (entry_at (pages p) i).key % 2 ^ depth_in (pages 1)) ≡ home
+  pub first : IsFirst (entry_at (pages p) i).relation (entry_at (pages p) i).key (pages p) i
+  pub behind : LacksFrom pages (next_of (pages p)) (entry_at (pages p) i).relation (entry_at (pages p) i).key
+
+-- a page stands in a bucket, and so does each of its entries
+pub record IsSettled (pages : PageBytes) (homes : List ℕ) (p : ℕ) : Type 0 where
+  pub home : get_or homes p 0 ≢ 0
+  pub each : (i : ℕ) → i < count_of (pages p) → IsAlone pages (get_or homes p 0) p i

@@ -1,0 +1,66 @@
+-- An index in the bytes of its pages. Page 0 has the kind of each page, page 1 is the directory.
+use Rattle.std.specs.Prelude.{ℕ, zero, suc, ◌≡◌, ◌≢◌, ◌+◌, ◌*◌, ◌^◌, ◌≤◌, ◌<◌, List, [], ◌∷◌, length, min}
+use Rattle.std.proofs.Math.ListN.{get_or}
+use Rattle.mt_base.specs.Ranges.{u16_at}
+use Rattle.mt_bucket.specs.Hash.{hash}
+use Rattle.mt_bucket.specs.Page.{depth_of, next_of, entries, IsBucket}
+use Rattle.mt_pool.specs.Changes.{PageBytes}
+use Rattle.mt_space.specs.Kinds.{kind}
+use Rattle.mt_index.specs.Maps.{Map, Each}
+use Rattle.mt_index.specs.Index.{Node, State, named, IsIndex}
+use Rattle.mt_index.specs.Steps.{Walk}
+
+-- the bits of a hash that the directory goes by, and a pointer
+abbrev pub depth_in : List ℕ → ℕ
+depth_in directory = min (get_or directory 0 0) 9
+
+abbrev pub pointer_at : List ℕ → ℕ → ℕ
+pointer_at directory i = u16_at directory (8 + 2 * i)
+
+abbrev pub pointers_from : List ℕ → ℕ → ℕ → List ℕ
+pointers_from directory at zero = []
+pointers_from directory at (suc n) = u16_at directory at ∷ pointers_from directory (at + 2) n
+
+abbrev pub node_of : List ℕ → Node
+node_of page = record { depth = depth_of page; next = next_of page; entries = entries page }
+
+-- what the pages are, whatever their bytes
+abbrev pub state_of : PageBytes → State
+state_of pages = record {
+  g = depth_in (pages 1);
+  pointers = pointers_from (pages 1) 8 (2 ^ depth_in (pages 1));
+  node = λ p. node_of (pages p);
+  kind = λ p. kind pages p;
+}
+
+-- So many pages are this map. Pages 0 and 1 are fixed ones, so no bucket's.
+pub record AreMap (total : ℕ) (pages : PageBytes) (m : Map) : Type 0 where
+  pub index : IsIndex (state_of pages) m
+  pub space_fixed : kind pages 0 ≡ 1
+  pub directory_fixed : kind pages 1 ≡ 1
+  pub within : (p : ℕ) → kind pages p ≢ 0 → p < total
+
+-- the pages of the key's bucket before this one are so, and there are so many of them
+pub record Passed (P : ℕ → Type 0) (pages : PageBytes) (key : List ℕ) (at steps : ℕ) : Type 0 where
+  pub front : List ℕ
+  pub walk : Walk (λ p. node_of (pages p)) (named (state_of pages) (hash key)) front at
+  pub real : at ≢ 0
+  pub each : Each P front
+  pub long : length front ≡ steps
+
+-- a directory page
+pub record IsDirectory (page : List ℕ) : Type 0 where
+  pub size : length page ≡ 4096
+  pub shallow : get_or page 0 0 ≤ 9
+  pub zeros : (i : ℕ) → 1 ≤ i → i < 8 → get_or page i 0 ≡ 0
+  pub rest : (i : ℕ) → 8 + 2 * 2 ^ depth_in page ≤ i → get_or page i 0 ≡ 0
+
+-- the index's pages are well formed, each byte of them
+pub record AreFormed (relations total : ℕ) (pages : PageBytes) : Type 0 where
+  pub directory : IsDirectory (pages 1)
+  pub buckets : (p : ℕ) → kind pages p ≡ 2 → IsBucket relations total (pages p)
+
+-- one page has new bytes
+pub record Turns (p : ℕ) (new : List ℕ) (pages pages2 : PageBytes) : Type 0 where
+  pub here : pages2 p ≡ new
+  pub others : (n : ℕ) → n ≢ p → pages2 n ≡ pages n

@@ -1,0 +1,72 @@
+// What plans answer.
+use mt_base::{Mode, PageNo, RecordName};
+use mt_pool::Changes;
+use std::alloc::AllocError;
+
+/// What a find answers.
+#[derive(Clone, Copy, Debug)]
+pub enum Find {
+    /// This page is needed first, in this mode.
+    Need(PageNo, Mode),
+    /// The name of the record under the key.
+    Found(RecordName),
+    /// There is no record under the key.
+    Missing,
+    /// The pages are no index: a chain comes back to itself.
+    Endless,
+}
+
+// Where a key's entry is.
+pub(crate) enum Held {
+    Need(PageNo, Mode),
+    In(PageNo, RecordName),
+    Nowhere,
+    Endless,
+}
+
+/// What a change of one entry, or its removal, answers.
+#[derive(Debug, Drop)]
+pub enum Amend {
+    /// This page is needed first, in this mode.
+    Need(PageNo, Mode),
+    /// The changes that do it.
+    Changes(Changes),
+    /// There is no record under the key.
+    Missing,
+    /// The pages are no index: a chain comes back to itself.
+    Endless,
+}
+
+/// What an add answers.
+#[derive(Debug, Drop)]
+pub enum Add {
+    /// This page is needed first, in this mode.
+    Need(PageNo, Mode),
+    /// The changes that do it.
+    Changes(Changes),
+    /// It takes a page, or two, and there are not so many free.
+    Full,
+    /// The pages are no index: a chain comes back to itself.
+    Endless,
+}
+
+// Where in its bucket an entry goes: into a page with room, or behind the last page, which may be the only one.
+pub(crate) enum Spot {
+    Need(PageNo, Mode),
+    In(PageNo),
+    Behind { last: PageNo, alone: bool },
+    Endless,
+}
+
+// Why a plan has no changes.
+pub(crate) enum Stop {
+    Need(PageNo, Mode),
+    Full,
+    Memory(AllocError),
+}
+
+impl From<AllocError> for Stop {
+    fn from(error: AllocError) -> Stop {
+        Stop::Memory(error)
+    }
+}

@@ -1,0 +1,25 @@
+//! An index over pages: extendible hashing (Fagin 1979), a finite map from a relation and a key to the
+//! name of a record. Page 1 is a directory of pointers to bucket pages; buckets split, and chain overflow
+//! pages. A plan reads pages where they are lent and answers which page it still needs, or the changes of
+//! pages that change the map at its key alone; it writes nothing itself. For how a bucket page is read see
+//! `mt_bucket`.
+#![tactic(auto)]
+
+mod amending;
+mod answers;
+mod checking;
+mod directory;
+mod finding;
+mod laws;
+mod marking;
+mod noting;
+mod pointing;
+mod settling;
+mod walking;
+
+pub use amending::{plan_drop, plan_set};
+pub use answers::{Amend, Find};
+pub use checking::check;
+pub use directory::{MAX_DEPTH, depth};
+pub use finding::plan_find;
+pub use laws::a_bucket_is_named_by_its_pattern;

@@ -1,0 +1,20 @@
+ghost use Rattle.std.specs.Prelude.{◌≡◌, ◌≤◌, ℕ, length, IfOk};
+ghost use Rattle.mt_pool.specs.Changes.{PageBytes, after, AreShort};
+ghost use Rattle.mt_index.specs.Pages.{Turns};
+
+use mt_base::PageNo;
+use mt_pool::Changes;
+use std::alloc::{AllocError, Global};
+
+// The change of one page.
+pub(crate) fn change_of(alloc: Global, page: PageNo, old: &[u8], new: &[u8]) -> Result<Changes, AllocError>
+    requires old_whole { length old.now ≡ 4096 }
+    requires new_whole { length new.now ≡ 4096 }
+    ensures turned { IfOk result (λ changes. (pages : PageBytes) → pages page ≡ old.now → Turns page new.now pages (after changes.list.items pages)) }
+    ensures short { IfOk result (λ changes. (pages : PageBytes) → pages page ≡ old.now → AreShort changes.list.items pages) }
+    ensures one { IfOk result (λ changes. length changes.list.items ≤ 1) }
+{
+    let mut changes = Changes::new(alloc);
+    changes.note(page, old, new)?;
+    Ok(changes)
+}

@@ -1,0 +1,74 @@
+// The walk along the chain of a key's bucket.
+ghost use Rattle.std.specs.Prelude.{◌≡◌, ◌≤◌, length, Some, None};
+ghost use Rattle.mt_base.specs.declared.modes.Mode.TheVariants.{Write};
+ghost use Rattle.mt_index.specs.Answers.{InMaps, IsInBucket, Asks, Holds, HeldNeeds, IfIn, IfNowhere, HeldEndless, HasRoom, IsEnd, SpotNeeds, IfRoom, IfBehind, SpotEndless};
+
+use crate::answers::{Held, Spot};
+use crate::directory::pointer;
+use mt_base::{Mode, PageNo, RelNo};
+use mt_bucket::{MAX_ENTRIES, count, find, hash, next};
+use mt_pool::Pages;
+
+// The directory.
+pub(crate) const DIRECTORY: u16 = 1;
+
+// The page of the key's bucket with an entry of the key. The bucket's pages are needed in this mode.
+pub(crate) fn holder_of<V: Pages>(views: &V, relation: RelNo, key: &[u8], mode: Mode) -> Held
+    requires sound { V.is_sound views.now }
+    requires short { length key.now ≤ 64 }
+    ensures need { HeldNeeds result (Asks (V.at_hand views.now) (V.total views.now) (IsInBucket mode)) }
+    ensures at_hand { IfIn result (λ page name. (V.at_hand views.now page ≡ None → ⊥)) }
+    ensures found { IfIn result (λ page name. InMaps (V.at_hand views.now) (V.total views.now) (λ pages m. Holds relation key.now pages page name)) }
+    ensures nowhere { IfNowhere result (InMaps (V.at_hand views.now) (V.total views.now) (λ pages m. m relation key.now ≡ None)) }
+    ensures endless { HeldEndless result (InMaps (V.at_hand views.now) (V.total views.now) (λ pages m. ⊥)) }
+{
+    let Some(directory) = views.page(PageNo::new(DIRECTORY)) else {
+        return Held::Need(PageNo::new(DIRECTORY), Mode::Read);
+    };
+    let mut at = pointer(directory, hash(key));
+    for _step in 0..views.count() {
+        let Some(page) = views.page(at) else {
+            return Held::Need(at, mode);
+        };
+        if let Some(name) = find(page, relation, key) {
+            return Held::In(at, name);
+        }
+        let behind = next(page);
+        if behind.get() == 0 {
+            return Held::Nowhere;
+        }
+        at = behind;
+    }
+    Held::Endless
+}
+
+// The first page of the key's bucket with room for an entry, or else its last page.
+pub(crate) fn room_in<V: Pages>(views: &V, key: &[u8]) -> Spot
+    requires sound { V.is_sound views.now }
+    ensures need { SpotNeeds result (Asks (V.at_hand views.now) (V.total views.now) (IsInBucket Write)) }
+    ensures room { IfRoom result (λ page. InMaps (V.at_hand views.now) (V.total views.now) (λ pages m. HasRoom key.now pages page)) }
+    ensures behind { IfBehind result (λ last alone. InMaps (V.at_hand views.now) (V.total views.now) (λ pages m. IsEnd key.now pages last alone)) }
+    ensures endless { SpotEndless result (InMaps (V.at_hand views.now) (V.total views.now) (λ pages m. ⊥)) }
+{
+    let Some(directory) = views.page(PageNo::new(DIRECTORY)) else {
+        return Spot::Need(PageNo::new(DIRECTORY), Mode::Read);
+    };
+    let mut at = pointer(directory, hash(key));
+    for step in 0..views.count() {
+        let Some(page) = views.page(at) else {
+            return Spot::Need(at, Mode::Write);
+        };
+        if count(page) < MAX_ENTRIES {
+            return Spot::In(at);
+        }
+        let behind = next(page);
+        if behind.get() == 0 {
+            return Spot::Behind {
+                last: at,
+                alone: step == 0,
+            };
+        }
+        at = behind;
+    }
+    Spot::Endless
+}

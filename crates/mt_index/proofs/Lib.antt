@@ -15,3 +15,6 @@ pub mod Witness
 pub mod Pointers
 pub mod Passing
 pub mod OnePage
+pub mod Notes
+pub mod Free
+pub mod Placing

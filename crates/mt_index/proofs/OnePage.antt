@@ -55,6 +55,7 @@ same_space total pages pages2 m m2 a same index = record {
   space_fixed = ap (λ (c : List ℕ). get_or c 0 0) same ∙ a.space_fixed;
   directory_fixed = ap (λ (c : List ℕ). get_or c 1 0) same ∙ a.directory_fixed;
   within = λ p some. a.within p (λ none. some (ap (λ (c : List ℕ). get_or c p 0) same ∙ none));
+  few = a.few;
 }
 
 pub turns_formed : (relations total : ℕ) (pages pages2 : PageBytes) (p : ℕ) (new : List ℕ) → (0 ≢ p) × (1 ≢ p) → Turns p new pages pages2

@@ -2,6 +2,7 @@
 use Rattle.std.specs.Prelude.{ℕ, zero, suc, ◌≡◌, ◌≢◌, ◌+◌, ◌*◌, ◌^◌, ◌≤◌, ◌<◌, List, [], ◌∷◌, length, min}
 use Rattle.std.proofs.Math.ListN.{get_or}
 use Rattle.mt_base.specs.Ranges.{u16_at}
+use Rattle.mt_bucket.specs.Entries.{Entry}
 use Rattle.mt_bucket.specs.Hash.{hash}
 use Rattle.mt_bucket.specs.Page.{depth_of, next_of, entries, IsBucket}
 use Rattle.mt_pool.specs.Changes.{PageBytes}
@@ -33,12 +34,13 @@ state_of pages = record {
   kind = λ p. kind pages p;
 }
 
--- So many pages are this map. Pages 0 and 1 are fixed ones, so no bucket's.
+-- So many pages are this map. Pages 0 and 1 are fixed ones, so no bucket's; none is used past the last one.
 pub record AreMap (total : ℕ) (pages : PageBytes) (m : Map) : Type 0 where
   pub index : IsIndex (state_of pages) m
   pub space_fixed : kind pages 0 ≡ 1
   pub directory_fixed : kind pages 1 ≡ 1
   pub within : (p : ℕ) → kind pages p ≢ 0 → p < total
+  pub few : total ≤ 4096
 
 -- the pages of the key's bucket before this one are so, and there are so many of them
 pub record Passed (P : ℕ → Type 0) (pages : PageBytes) (key : List ℕ) (at steps : ℕ) : Type 0 where
@@ -64,3 +66,16 @@ pub record AreFormed (relations total : ℕ) (pages : PageBytes) : Type 0 where
 pub record Turns (p : ℕ) (new : List ℕ) (pages pages2 : PageBytes) : Type 0 where
   pub here : pages2 p ≡ new
   pub others : (n : ℕ) → n ≢ p → pages2 n ≡ pages n
+
+-- a page is taken in the map of the space
+pub record TakesPage (p : ℕ) (old new : List ℕ) : Type 0 where
+  pub size : length new ≡ length old
+  pub taken : get_or new p 0 ≡ 2
+  pub others : (q : ℕ) → q ≢ p → get_or new q 0 ≡ get_or old q 0
+
+-- a page with this entry alone
+pub record HasOne (level : ℕ) (e : Entry) (page : List ℕ) : Type 0 where
+  pub size : length page ≡ 4096
+  pub depth : depth_of page ≡ level
+  pub next : next_of page ≡ 0
+  pub entries : entries page ≡ e ∷ []

@@ -18,3 +18,4 @@ pub mod OnePage
 pub mod Notes
 pub mod Free
 pub mod Placing
+pub mod Wiring

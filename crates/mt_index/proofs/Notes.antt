@@ -5,17 +5,10 @@ use Rattle.mt_pool.specs.Changes.{PageBytes, replaced, after, IsUntouched, AreSh
 use Rattle.mt_pool.proofs.Changing.{after_untouched}
 use Rattle.mt_index.specs.Maps.{Each}
 use Rattle.mt_index.specs.Pages.{Turns}
+use Rattle.mt_index.specs.Halves.{Notes}
 use Rattle.mt_index.proofs.Lists.{each_map}
 use Rattle.mt_index.proofs.Overflow.{each_both}
 use Rattle.mt_index.proofs.OnePage.{turns}
-
--- these pages have new bytes
-pub record Notes (xs : List (ℕ × List ℕ)) (pages : PageBytes) (changes : List PageChange) : Type 0 where
-  pub here : Each (λ (x : ℕ × List ℕ). after changes pages x.0 ≡ x.1) xs
-  pub others : (p : ℕ) → Each (λ (x : ℕ × List ℕ). p ≢ x.0) xs → after changes pages p ≡ pages p
-  pub untouched : (p : ℕ) → Each (λ (x : ℕ × List ℕ). p ≢ x.0) xs → IsUntouched changes p
-  pub short : AreShort changes pages
-  pub few : length changes ≤ length xs
 
 pub notes_none : (pages : PageBytes) (changes : List PageChange) → changes ≡ [] → Notes [] pages changes
 notes_none pages changes is = subst (λ cs. Notes [] pages cs) (sym is) (record { here = tt; others = λ p off. refl; untouched = λ p off. tt; short = tt; few = omega arith })

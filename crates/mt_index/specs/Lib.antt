@@ -5,3 +5,4 @@ pub mod Steps
 pub mod Rule
 pub mod Pages
 pub mod Answers
+pub mod Halves

@@ -67,16 +67,16 @@ pub(crate) fn plan_chain<V: Pages>(
     let Some(fresh) = first_free(space, views.count()) else {
         return Ok(Add::Full);
     };
-    let Some(open) = views.page(fresh) else {
+    let Some(spare) = views.page(fresh) else {
         return Ok(Add::Need(fresh, Mode::Write));
     };
     let taken = taken_from(space, fresh);
-    let new = overflow_page(open, depth(old), relation, key, name);
+    let new = overflow_page(spare, depth(old), relation, key, name);
     let mut end = *old;
     set_next(&mut end, fresh);
     let mut changes = Changes::new(alloc);
     changes.note(PageNo::new(SPACE), space, &taken)?;
-    changes.note(fresh, open, &new)?;
+    changes.note(fresh, spare, &new)?;
     changes.note(last, old, &end)?;
     Ok(Add::Changes(changes))
 }
@@ -93,7 +93,7 @@ pub(crate) fn taken_from(space: &[u8; PAGE_BYTES], page: PageNo) -> [u8; PAGE_BY
 
 // A page with this entry alone, whatever its bytes were.
 pub(crate) fn overflow_page(
-    open: &[u8; PAGE_BYTES],
+    spare: &[u8; PAGE_BYTES],
     depth: u8,
     relation: RelNo,
     key: &[u8],
@@ -104,7 +104,7 @@ pub(crate) fn overflow_page(
     ensures one { HasOne depth (record { relation = relation; key = key.now; name = name }) result }
     ensures bucket { (relations pages : ℕ) → depth ≤ 9 → relation < relations → 1 ≤ length key.now → name.page < pages → IsBucket relations pages result }
 {
-    let mut page = *open;
+    let mut page = *spare;
     empty(&mut page, depth);
     push(&mut page, relation, key, name);
     page

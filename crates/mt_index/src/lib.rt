@@ -12,6 +12,7 @@ mod directory;
 mod finding;
 mod laws;
 mod noting;
+mod splitting;
 mod walking;
 
 pub use amending::{plan_drop, plan_set};

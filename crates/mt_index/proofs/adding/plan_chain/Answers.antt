@@ -8,7 +8,7 @@ use Rattle.mt_index.specs.Rule.{IsFull, Chained as ByChain}
 use Rattle.mt_index.specs.Pages.{state_of, AreMap, TakesPage, HasOne}
 use Rattle.mt_index.specs.Maps.{Map}
 use Rattle.mt_index.proofs.Free.{Fresh, fresh, none_fresh}
-use Rattle.mt_index.proofs.Notes.{Notes, notes_none, notes_more}
+use Rattle.mt_index.proofs.Notes.{notes_none, notes_more}
 use Rattle.mt_index.proofs.Passing.{passed_kind}
 use Rattle.mt_index.proofs.OnePage.{no_bucket}
 use Rattle.mt_index.proofs.Placing.{Chained, fresh_off, chain_last, chain_smallest, chain_stays, chain_formed}
@@ -53,7 +53,7 @@ returns g c split no_split pages agree m a =
     let end = c.requires.end pages agree m a in
     let space : pages 0 ≡ c.in-Some.space.now = subst (λ (p : ℕ). pages p ≡ c.in-Some.space.now) c.new.ensures (agree c.new.result c.in-Some.space.now c.in-Some.ensures.some) in
     let old : pages z ≡ c.in-Some-page.old.now = agree z c.in-Some-page.old.now c.in-Some-page.ensures.some in
-    let open_is : pages q ≡ c.in-Some-page-2.open.now = agree q c.in-Some-page-2.open.now c.in-Some-page-2.ensures.some in
+    let spare_is : pages q ≡ c.in-Some-page-2.spare.now = agree q c.in-Some-page-2.spare.now c.in-Some-page-2.ensures.some in
     let f : Fresh (pages 0) total q = rw (space, ← c.count.ensures) (fresh c.in-Some.space.now c.count.result q c.in-Some-first_free.ensures.first) in
     let two : kind pages z ≡ 2 = passed_kind (IsFull (state_of pages)) total pages m c.args.key.now z end.1.steps a end.1.passed in
     let off = fresh_off total pages m q a f.free in
@@ -63,8 +63,8 @@ returns g c split no_split pages agree m a =
     let n0 = notes_none pages c.new-changes.result.list.items c.new-changes.ensures in
     let n1 = notes_more [] pages c.new-changes.result.list.items c.note.new.self.list.items c.new-2.result c.in-Some.space.now c.taken_from-taken.result n0
       tt (ap pages zero_is ∙ space) c.in_ok-note.ensures.noted c.in_ok-note.ensures.short c.in_ok-note.ensures.others c.in_ok-note.ensures.count in
-    let n2 = notes_more _ pages c.note.new.self.list.items c.note-2.new.self.list.items q c.in-Some-page-2.open.now c.overflow_page-new.result n1
-      (λ same. off.0 (sym zero_is ∙ sym same), tt) open_is c.in_ok-note-2.ensures.noted c.in_ok-note-2.ensures.short c.in_ok-note-2.ensures.others c.in_ok-note-2.ensures.count in
+    let n2 = notes_more _ pages c.note.new.self.list.items c.note-2.new.self.list.items q c.in-Some-page-2.spare.now c.overflow_page-new.result n1
+      (λ same. off.0 (sym zero_is ∙ sym same), tt) spare_is c.in_ok-note-2.ensures.noted c.in_ok-note-2.ensures.short c.in_ok-note-2.ensures.others c.in_ok-note-2.ensures.count in
     let n3 = notes_more _ pages c.note-2.new.self.list.items c.note-3.new.self.list.items z c.in-Some-page.old.now c.set_next.new.page n2
       (apart, (λ same. off_z.0 (sym zero_is ∙ sym same), tt)) old c.in_ok-note-3.ensures.noted c.in_ok-note-3.ensures.short c.in_ok-note-3.ensures.others c.in_ok-note-3.ensures.count in
     let pages2 : PageBytes = after c.note-3.new.self.list.items pages in

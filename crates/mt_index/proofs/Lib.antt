@@ -19,3 +19,5 @@ pub mod Notes
 pub mod Free
 pub mod Placing
 pub mod Wiring
+pub mod Halving
+pub mod Composing

@@ -6,7 +6,7 @@ use Rattle.mt_bucket.specs.Page.{depth_of, next_of, count_of, entries, KeepsHead
 use Rattle.mt_pool.specs.declared.changes.PageChange.{PageChange}
 use Rattle.mt_pool.specs.Changes.{PageBytes, after, IsUntouched, AreShort}
 use Rattle.mt_index.specs.Maps.{Each}
-use Rattle.mt_index.specs.Pages.{TakesPage}
+use Rattle.mt_index.specs.Pages.{TakesPage, Rewired, Parted}
 use Rattle.mt_index.specs.declared.splitting.Halves.{Halves}
 
 -- these pages have new bytes
@@ -53,3 +53,11 @@ pub record Links (upper : Bool) (q : ℕ) (old new : Halves) : Type 0 where
   pub taken : TakesPage q old.space new.space
   pub up : OnTrue upper (Linked q old.up new.up × (new ≡ record old { space = new.space; up = new.up }))
   pub low : OnFalse upper (Linked q old.low new.low × (new ≡ record old { space = new.space; low = new.low }))
+
+-- the bucket b is split over b and q
+pub record AreHalves (b q : ℕ) (space directory old : List ℕ) (h : Halves) : Type 0 where
+  pub bucket : h.bucket ≡ b
+  pub fresh : h.fresh ≡ q
+  pub taken : TakesPage q space h.space
+  pub wires : Rewired b q (depth_of old) directory h.directory
+  pub parts : Parted old h.low h.up

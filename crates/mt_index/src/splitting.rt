@@ -8,7 +8,7 @@ ghost use Rattle.mt_index.specs.Index.{named};
 ghost use Rattle.mt_index.specs.Rule.{MaySplit};
 ghost use Rattle.mt_index.specs.Pages.{state_of, TakesPage, Rewired, Parted};
 ghost use Rattle.mt_index.specs.Answers.{InMaps, IsPlanned};
-ghost use Rattle.mt_index.specs.Halves.{changed, Apart, PutsInHalf, Links, Notes};
+ghost use Rattle.mt_index.specs.Halves.{changed, AreHalves, Apart, PutsInHalf, Links, Notes};
 
 use crate::adding::{overflow_page, taken_from};
 use crate::answers::Add;
@@ -22,6 +22,7 @@ use mt_space::first_free;
 use std::alloc::{AllocError, Global};
 
 // The pages that a split changes, once it is made.
+#[derive(Clone, Copy)]
 pub(crate) struct Halves {
     bucket: PageNo,
     fresh: PageNo,
@@ -92,4 +93,78 @@ impl Halves {
         changes.note(self.fresh, spare, &self.up)?;
         Ok(changes)
     }
+}
+
+// The bucket split over its page and the new one.
+fn halve(
+    space: &[u8; PAGE_BYTES],
+    directory: &[u8; PAGE_BYTES],
+    old: &[u8; PAGE_BYTES],
+    spare: &[u8; PAGE_BYTES],
+    bucket: PageNo,
+    fresh: PageNo,
+) -> Halves
+    requires shallow { depth_of old.now < 9 }
+    requires inside { fresh < 4096 }
+    ensures { AreHalves bucket fresh space.now directory.now old.now result }
+{
+    let (low, up) = parted(old, spare);
+    Halves {
+        bucket,
+        fresh,
+        space: taken_from(space, fresh),
+        directory: rewired(directory, bucket, fresh, depth(old)),
+        low,
+        up,
+    }
+}
+
+// Splits a bucket of one page that is full, and adds the entry to its half.
+pub(crate) fn plan_split<V: Pages>(
+    alloc: Global,
+    views: &V,
+    relation: RelNo,
+    key: &[u8],
+    name: RecordName,
+    bucket: PageNo,
+    old: &[u8; PAGE_BYTES],
+) -> Result<Add, AllocError>
+    requires sound { V.is_sound views.now }
+    requires relation_fits { relation < 256 }
+    requires short { length key.now ≤ 64 }
+    requires there { V.at_hand views.now bucket ≡ Some old.now }
+    requires shallow { depth_of old.now < 9 }
+    requires due { InMaps (V.at_hand views.now) (V.total views.now) (λ pages m. MaySplit key.now (state_of pages) × (named (state_of pages) (hash_of key.now) ≡ bucket)) }
+    ensures { IfOk result (IsPlanned (V.at_hand views.now) (V.total views.now) true (record { relation = relation; key = key.now; name = name })) }
+{
+    let Some(space) = views.page(PageNo::new(SPACE)) else {
+        return Ok(Add::Need(PageNo::new(SPACE), Mode::Write));
+    };
+    let Some(directory) = views.page(PageNo::new(DIRECTORY)) else {
+        return Ok(Add::Need(PageNo::new(DIRECTORY), Mode::Write));
+    };
+    let Some(fresh) = first_free(space, views.count()) else {
+        return Ok(Add::Full);
+    };
+    let Some(spare) = views.page(fresh) else {
+        return Ok(Add::Need(fresh, Mode::Write));
+    };
+    let mut halves = halve(space, directory, old, spare, bucket, fresh);
+    let upper = has_bit(hash(key), depth(old));
+    let copy = name;
+    if halves.put(upper, relation, key, copy) {
+        let changes = halves.changes(alloc, space, directory, old, spare)?;
+        return Ok(Add::Changes(changes));
+    }
+    let Some(overflow) = first_free(&halves.space, views.count()) else {
+        return Ok(Add::Full);
+    };
+    let Some(blank) = views.page(overflow) else {
+        return Ok(Add::Need(overflow, Mode::Write));
+    };
+    halves.link(upper, overflow);
+    let page = overflow_page(blank, depth(old) + 1, relation, key, name);
+    let mut changes = halves.changes(alloc, space, directory, old, spare)?;
+    changes.note(overflow, blank, &page)?;
+    Ok(Add::Changes(changes))
 }

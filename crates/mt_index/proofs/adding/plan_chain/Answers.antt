@@ -41,7 +41,7 @@ returns-in_default-page-2 g c split no_split = record {
   role = λ pages agree m a.
       let space : pages 0 ≡ c.in-Some.space.now = subst (λ (p : ℕ). pages p ≡ c.in-Some.space.now) c.new.ensures (agree c.new.result c.in-Some.space.now c.in-Some.ensures.some) in
       let f : Fresh (pages 0) (g.V.Pages.total c.args.views.now) c.in-Some-first_free.fresh = rw (space, ← c.count.ensures) (fresh c.in-Some.space.now c.count.result c.in-Some-first_free.fresh c.in-Some-first_free.ensures.first) in
-      inr (inr (f.free, f.within), refl);
+      inr (inr (inr (f.free, f.within)), refl);
 }
 
 pub returns : goal.returns

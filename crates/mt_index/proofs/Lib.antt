@@ -21,3 +21,4 @@ pub mod Placing
 pub mod Wiring
 pub mod Halving
 pub mod Composing
+pub mod Ruling

@@ -1,19 +1,19 @@
 -- A split, and the entry that goes into its half or behind it.
-use Rattle.std.proofs.Common.{◌≡◌, ◌≢◌, ℕ, suc, ◌+◌, ◌<◌, ◌≤◌, ◌⊎◌, inl, inr, ⊎_elim, Bool, true, false, cond, List, [], ◌∷◌, ◌++◌, length, get_or, refl, ap, sym, ◌∙◌, subst, arith, length-append}
+use Rattle.std.proofs.Common.{◌≡◌, ◌≢◌, ℕ, ◌+◌, ◌<◌, ◌≤◌, inr, ⊎_elim, Bool, true, false, cond, List, [], ◌∷◌, ◌++◌, length, get_or, refl, ap, sym, ◌∙◌, subst, arith, length-append}
 use Rattle.std.proofs.lemmas.Bool.{cases_eq}
 use Rattle.mt_bucket.specs.Entries.{Entry}
 use Rattle.mt_bucket.specs.Hash.{hash, high}
-use Rattle.mt_bucket.specs.Page.{depth_of, next_of, count_of, entries, KeepsHead, IsBucket}
+use Rattle.mt_bucket.specs.Page.{depth_of, next_of, count_of, entries, IsBucket}
 use Rattle.mt_pool.specs.declared.changes.PageChange.{PageChange}
 use Rattle.mt_pool.specs.Changes.{PageBytes, replaced, after}
 use Rattle.mt_pool.proofs.Changing.{replaced_here, replaced_other}
 use Rattle.mt_space.specs.Kinds.{kind}
 use Rattle.mt_index.specs.Maps.{Map}
 use Rattle.mt_index.specs.Index.{named, kept_low, kept_high}
-use Rattle.mt_index.specs.Rule.{IsFull, MaySplit, IsSmallest, Way, SplitHere, SplitChained}
-use Rattle.mt_index.specs.Pages.{depth_in, node_of, state_of, AreMap, AreFormed, Turns, TakesPage, HasOne, Parted}
-use Rattle.mt_index.specs.Answers.{HasRoom, IsEnd, Stays, Fits, Added, HasOneFree, IsLopsided, Shortage}
-use Rattle.mt_index.specs.Halves.{Notes, changed, Apart, Puts, PutsInHalf, Linked, Links, AreHalves}
+use Rattle.mt_index.specs.Rule.{MaySplit, SplitHere, SplitChained}
+use Rattle.mt_index.specs.Pages.{depth_in, node_of, state_of, AreMap, Turns, HasOne}
+use Rattle.mt_index.specs.Answers.{HasRoom, IsEnd, Fits, Added, Shortage}
+use Rattle.mt_index.specs.Halves.{Notes, changed, Apart, Puts, PutsInHalf, Links, AreHalves}
 use Rattle.mt_index.specs.declared.splitting.Halves.{Halves}
 use Rattle.mt_index.proofs.Overflow.{named_taken}
 use Rattle.mt_index.proofs.Passing.{entries_length}
@@ -219,11 +219,15 @@ module _ (total : ℕ) (pages : PageBytes) (m : Map) (e : Entry) (b q : ℕ) (h 
   -- the page to be chained is none of those
   pub second_off : (q2 : ℕ) → Fresh h.space total q2 → (q2 ≢ q) × ((q2 ≢ b) × ((q2 ≢ 1) × (q2 ≢ 0)))
   second_off q2 s = (
-      λ i. clash 2 (ap (λ (x : ℕ). get_or h.space x 0) i ∙ w.taken.taken) (λ z. absurd (omega (arith, z))),
-      (λ i. clash 2 (ap (λ (x : ℕ). get_or h.space x 0) i ∙ w.taken.others b apart.each_other ∙ is_bucket) (λ z. absurd (omega (arith, z))),
-      (λ i. clash 1 (ap (λ (x : ℕ). get_or h.space x 0) i ∙ w.taken.others 1 apart.fresh_1 ∙ a.directory_fixed) (λ z. absurd (omega (arith, z))),
-      λ i. clash 1 (ap (λ (x : ℕ). get_or h.space x 0) i ∙ w.taken.others 0 apart.fresh_0 ∙ a.space_fixed) (λ z. absurd (omega (arith, z))))),
-    )
+    λ i. clash 2 (ap (λ (x : ℕ). get_or h.space x 0) i ∙ w.taken.taken) (λ z. absurd (omega (arith, z))),
+    (
+      λ i. clash 2 (ap (λ (x : ℕ). get_or h.space x 0) i ∙ w.taken.others b apart.each_other ∙ is_bucket) (λ z. absurd (omega (arith, z))),
+      (
+        λ i. clash 1 (ap (λ (x : ℕ). get_or h.space x 0) i ∙ w.taken.others 1 apart.fresh_1 ∙ a.directory_fixed) (λ z. absurd (omega (arith, z))),
+        λ i. clash 1 (ap (λ (x : ℕ). get_or h.space x 0) i ∙ w.taken.others 0 apart.fresh_0 ∙ a.space_fixed) (λ z. absurd (omega (arith, z))),
+      ),
+    ),
+  )
     where
       clash : (k : ℕ) → get_or h.space q2 0 ≡ k → k ≢ 0 → ⊥
       clash k is some = some (sym is ∙ s.free)
@@ -279,9 +283,21 @@ module _ (total : ℕ) (pages : PageBytes) (m : Map) (e : Entry) (b q : ℕ) (h 
     last = b;
     alone = true;
     full = due_end total pages m e.key b a may here;
-    free = inr (refl, (may, ((q, record {
-      free = f.free;
-      within = f.within;
-      others = λ p lt off is. none p lt (w.taken.others p off ∙ is);
-    }), subst (λ (x : Bool). length (cond x (kept_high (depth_of (pages b)) (entries (pages b))) (kept_low (depth_of (pages b)) (entries (pages b)))) ≡ 58) (sym bit) (lopsided t bit full))));
+    free = inr (
+      refl,
+      (
+        may,
+        (
+          (
+            q,
+            record {
+              free = f.free;
+              within = f.within;
+              others = λ p lt off is. none p lt (w.taken.others p off ∙ is);
+            },
+          ),
+          subst (λ (x : Bool). length (cond x (kept_high (depth_of (pages b)) (entries (pages b))) (kept_low (depth_of (pages b)) (entries (pages b)))) ≡ 58) (sym bit) (lopsided t bit full),
+        ),
+      ),
+    );
   }

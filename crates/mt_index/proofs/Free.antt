@@ -1,5 +1,5 @@
 -- The free page of the smallest number.
-use Rattle.std.proofs.Common.{◌≡◌, ◌≢◌, ℕ, ◌<◌, ◌≤◌, ◌==◌, Bool, true, false, List, length, map, take, min, ap, sym, ◌∙◌, arith, get_or}
+use Rattle.std.proofs.Common.{◌≡◌, ◌≢◌, ℕ, ◌<◌, ◌≤◌, ◌==◌, false, List, length, take, min, ap, sym, ◌∙◌, arith, get_or}
 use Rattle.std.proofs.lemmas.List.{get_or-map, get_or-take, length-take}
 use Rattle.std.proofs.lemmas.Bool.{both_ways}
 use Rattle.std.proofs.lemmas.Bool.Decides.{Decides-eqb}
@@ -21,11 +21,11 @@ mapped_at kinds total q lt inside =
 
 pub fresh : (kinds : List ℕ) (total q : ℕ) → IsFirstFree (mapped kinds total) q → Fresh kinds total q
 fresh kinds total q f = record {
-    free = (Decides-eqb (get_or kinds q 0) 0).0 (sym (mapped_at kinds total q low high) ∙ f.free);
-    within = low;
-    inside = high;
-    first = λ n lt z. both_ways (get_or kinds n 0 == 0) (sym (mapped_at kinds total n (omega (arith, lt, low)) (omega (arith, lt, high))) ∙ f.first n lt) ((Decides-eqb (get_or kinds n 0) 0).1 z);
-  }
+  free = (Decides-eqb (get_or kinds q 0) 0).0 (sym (mapped_at kinds total q low high) ∙ f.free);
+  within = low;
+  inside = high;
+  first = λ n lt z. both_ways (get_or kinds n 0 == 0) (sym (mapped_at kinds total n (omega (arith, lt, low)) (omega (arith, lt, high))) ∙ f.first n lt) ((Decides-eqb (get_or kinds n 0) 0).1 z);
+}
   where
     low : q < total
     low = omega (arith, f.within, mapped_length kinds total)

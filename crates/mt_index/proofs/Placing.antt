@@ -1,5 +1,5 @@
 -- An entry goes into a page with room, or into a page behind the last.
-use Rattle.std.proofs.Common.{◌≡◌, ◌≢◌, ℕ, suc, ◌+◌, ◌<◌, ◌≤◌, ◌^◌, Bool, true, false, min, List, [], ◌∷◌, ◌++◌, length, Some, None, refl, ap, sym, ◌∙◌, subst, arith, get_or, ◌⊎◌, inl, inr}
+use Rattle.std.proofs.Common.{◌≡◌, ◌≢◌, ℕ, ◌<◌, ◌≤◌, ◌^◌, Bool, true, false, List, [], ◌∷◌, ◌++◌, length, ap, sym, ◌∙◌, subst, arith, get_or, ◌⊎◌, inl, inr}
 use Rattle.std.specs.Bool.{OnTrue, OnFalse}
 use Rattle.std.proofs.lemmas.Bool.{cases_eq}
 use Rattle.mt_bucket.specs.Entries.{Entry}
@@ -7,12 +7,10 @@ use Rattle.mt_bucket.specs.Page.{depth_of, next_of, count_of, entries, KeepsHead
 use Rattle.mt_pool.specs.Changes.{PageBytes}
 use Rattle.mt_space.specs.Kinds.{kind}
 use Rattle.mt_index.specs.Maps.{Map}
-use Rattle.mt_index.specs.Index.{Node, State}
-use Rattle.mt_index.specs.Steps.{OnChain, InRoom, Behind}
 use Rattle.mt_index.specs.Rule.{IsFull, First, Last, IsSmallest}
-use Rattle.mt_index.specs.Pages.{depth_in, pointers_from, node_of, state_of, AreMap, Passed, IsDirectory, AreFormed, Turns, TakesPage, HasOne}
-use Rattle.mt_index.specs.Answers.{HasRoom, IsEnd, Stays, Fits}
-use Rattle.mt_index.proofs.OnePage.{no_bucket, one_page, turns_formed}
+use Rattle.mt_index.specs.Pages.{depth_in, pointers_from, node_of, state_of, AreMap, IsDirectory, AreFormed, Turns, TakesPage, HasOne}
+use Rattle.mt_index.specs.Answers.{HasRoom, IsEnd, Stays}
+use Rattle.mt_index.proofs.OnePage.{no_bucket, one_page}
 use Rattle.mt_index.proofs.Passing.{entries_length, passed_kind, passed_on}
 use Rattle.mt_index.proofs.Free.{Fresh}
 
@@ -35,11 +33,11 @@ put_first total pages pages2 m e p new a h t head is = record {
 
 pub put_stays : (total : ℕ) (pages pages2 : PageBytes) (p : ℕ) (new : List ℕ) → (0 ≢ p) × (1 ≢ p) → kind pages p ≡ 2 → Turns p new pages pages2 → Stays total pages pages2
 put_stays total pages pages2 p new off is t = record {
-    size = ap length same;
-    kinds = λ n some. same_kind n;
-    taken = λ n none some. absurd (some (same_kind n ∙ none));
-    bytes = λ n z o away. t.others n (λ e. away (same_kind n ∙ ap (kind pages) e ∙ is));
-  }
+  size = ap length same;
+  kinds = λ n some. same_kind n;
+  taken = λ n none some. absurd (some (same_kind n ∙ none));
+  bytes = λ n z o away. t.others n (λ e. away (same_kind n ∙ ap (kind pages) e ∙ is));
+}
   where
     same : pages2 0 ≡ pages 0
     same = t.others 0 off.0
@@ -62,28 +60,28 @@ pub record Chained (total : ℕ) (e : Entry) (z q : ℕ) (pages pages2 : PageByt
 -- a free page is none of the fixed ones, and no bucket's
 pub fresh_off : (total : ℕ) (pages : PageBytes) (m : Map) (q : ℕ) → AreMap total pages m → kind pages q ≡ 0 → (0 ≢ q) × (1 ≢ q)
 fresh_off total pages m q a is = (
-    λ e. let k : kind pages 0 ≡ 0 = ap (kind pages) e ∙ is in let f = a.space_fixed in omega (arith, k, f),
-    λ e. let k : kind pages 1 ≡ 0 = ap (kind pages) e ∙ is in let f = a.directory_fixed in omega (arith, k, f),
-  )
+  λ e. let k : kind pages 0 ≡ 0 = ap (kind pages) e ∙ is in let f = a.space_fixed in omega (arith, k, f),
+  λ e. let k : kind pages 1 ≡ 0 = ap (kind pages) e ∙ is in let f = a.directory_fixed in omega (arith, k, f),
+)
 
 pub chain_last : (total : ℕ) (pages pages2 : PageBytes) (m : Map) (e : Entry) (z q : ℕ) (alone : Bool) → AreMap total pages m → IsEnd e.key pages z alone → Chained total e z q pages pages2
     → Last e z q (state_of pages) (state_of pages2)
 chain_last total pages pages2 m e z q alone a end w = record {
-    puts = record {
-      on = passed_on (IsFull (state_of pages)) pages e.key z end.steps end.passed;
-      last = end.last;
-      g = ap depth_in directory;
-      pointers = ap (λ (c : List ℕ). pointers_from c 8 (2 ^ depth_in c)) directory;
-      takes = record { real = λ e. off.0 (sym e); free = w.fresh.free; taken = w.taken.taken; others = w.taken.others };
-      change = record {
-        page = λ j. record { depth = w.page.depth j; next = w.page.next j; entries = w.page.entries j };
-        last = λ j. record { depth = w.depth j; next = w.next j; entries = w.entries j };
-        others = λ n is not_last. ap node_of (w.others n (λ e. (no_bucket total pages m n a is).0 (sym e)) (λ e. not_free n is (ap (kind pages) e ∙ w.fresh.free)) not_last);
-      };
+  puts = record {
+    on = passed_on (IsFull (state_of pages)) pages e.key z end.steps end.passed;
+    last = end.last;
+    g = ap depth_in directory;
+    pointers = ap (λ (c : List ℕ). pointers_from c 8 (2 ^ depth_in c)) directory;
+    takes = record { real = λ e. off.0 (sym e); free = w.fresh.free; taken = w.taken.taken; others = w.taken.others };
+    change = record {
+      page = λ j. record { depth = w.page.depth j; next = w.page.next j; entries = w.page.entries j };
+      last = λ j. record { depth = w.depth j; next = w.next j; entries = w.entries j };
+      others = λ n is not_last. ap node_of (w.others n (λ e. (no_bucket total pages m n a is).0 (sym e)) (λ e. not_free n is (ap (kind pages) e ∙ w.fresh.free)) not_last);
     };
-    before = end.passed.each;
-    itself = end.full;
-  }
+  };
+  before = end.passed.each;
+  itself = end.full;
+}
   where
     two : kind pages z ≡ 2
     two = passed_kind (IsFull (state_of pages)) total pages m e.key z end.steps a end.passed
@@ -105,11 +103,11 @@ chain_smallest total pages q f = (f.free, f.first)
 
 pub chain_stays : (total : ℕ) (pages pages2 : PageBytes) (m : Map) (e : Entry) (z q : ℕ) → AreMap total pages m → kind pages z ≡ 2 → Chained total e z q pages pages2 → Stays total pages pages2
 chain_stays total pages pages2 m e z q a two w = record {
-    size = w.taken.size;
-    kinds = λ p some. w.taken.others p (λ e. some (ap (kind pages) e ∙ w.fresh.free));
-    taken = λ p none some. took p none some (cases_eq p q);
-    bytes = λ p not_map o away. w.others p not_map (λ e. away (ap (kind pages2) e ∙ w.taken.taken)) (λ e. away (ap (kind pages2) e ∙ w.taken.others z (λ f. not_free (sym (ap (kind pages) f) ∙ two)) ∙ two));
-  }
+  size = w.taken.size;
+  kinds = λ p some. w.taken.others p (λ e. some (ap (kind pages) e ∙ w.fresh.free));
+  taken = λ p none some. took p none some (cases_eq p q);
+  bytes = λ p not_map o away. w.others p not_map (λ e. away (ap (kind pages2) e ∙ w.taken.taken)) (λ e. away (ap (kind pages2) e ∙ w.taken.others z (λ f. not_free (sym (ap (kind pages) f) ∙ two)) ∙ two));
+}
   where
     not_free : kind pages q ≡ 2 → ⊥
     not_free is = omega (arith, is, w.fresh.free)
@@ -121,9 +119,9 @@ chain_stays total pages pages2 m e z q a two w = record {
 pub chain_formed : (relations total : ℕ) (pages pages2 : PageBytes) (m : Map) (e : Entry) (z q : ℕ) → AreMap total pages m → kind pages z ≡ 2 → Chained total e z q pages pages2
     → (depth_of (pages z) ≤ 9 → IsBucket relations total (pages2 q)) → (q < total → IsBucket relations total (pages z) → IsBucket relations total (pages2 z)) → AreFormed relations total pages → AreFormed relations total pages2
 chain_formed relations total pages pages2 m e z q a two w new end f = record {
-    directory = subst IsDirectory (sym directory) f.directory;
-    buckets = λ p is. bucket p is (cases_eq p q) (cases_eq p z);
-  }
+  directory = subst IsDirectory (sym directory) f.directory;
+  buckets = λ p is. bucket p is (cases_eq p q) (cases_eq p z);
+}
   where
     off : (0 ≢ q) × (1 ≢ q)
     off = fresh_off total pages m q a w.fresh.free

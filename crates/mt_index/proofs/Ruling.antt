@@ -1,17 +1,17 @@
 -- Which way an add goes, and that the map is what it is to be.
-use Rattle.std.proofs.Common.{◌≡◌, ◌≢◌, ℕ, suc, ◌<◌, ⊎_elim, Bool, true, false, List, [], ◌∷◌, length, Option, Some, None, Result, Ok, Err, IfOk, refl, ap, sym, ◌∙◌, subst, arith}
+use Rattle.std.proofs.Common.{◌≡◌, ◌≢◌, ℕ, ◌<◌, ⊎_elim, Bool, true, false, List, [], ◌∷◌, length, Option, Some, None, Result, Ok, Err, IfOk, refl, ap, sym, ◌∙◌, arith}
 use Rattle.std.proofs.lemmas.Bool.{cases_eq}
 use Rattle.std.specs.declared.alloc.AllocError.{AllocError}
 use Rattle.mt_bucket.specs.Entries.{Entry}
 use Rattle.mt_bucket.specs.Hash.{hash}
-use Rattle.mt_bucket.specs.Page.{depth_of, next_of}
+use Rattle.mt_bucket.specs.Page.{depth_of}
 use Rattle.mt_pool.specs.Changes.{PageBytes, after}
 use Rattle.mt_space.specs.Kinds.{kind}
 use Rattle.mt_index.specs.Maps.{Map, alter}
 use Rattle.mt_index.specs.Index.{Node, named}
 use Rattle.mt_index.specs.Steps.{Walk}
-use Rattle.mt_index.specs.Rule.{IsFull, MaySplit}
-use Rattle.mt_index.specs.Pages.{node_of, state_of, AreMap, Passed}
+use Rattle.mt_index.specs.Rule.{MaySplit}
+use Rattle.mt_index.specs.Pages.{node_of, state_of, AreMap}
 use Rattle.mt_index.specs.Answers.{InMaps, IsEnd, Added, IsPlanned, IfAdded}
 use Rattle.mt_index.specs.declared.answers.Add.{Add}
 use Rattle.mt_index.specs.declared.answers.Add.TheVariants as add

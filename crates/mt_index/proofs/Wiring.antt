@@ -1,11 +1,11 @@
 -- The directory of a split, in bytes.
-use Rattle.std.proofs.Common.{◌≡◌, ◌≢◌, ℕ, zero, suc, ◌+◌, ◌-◌, ◌*◌, ◌<◌, ◌≤◌, ◌==◌, ◌&&◌, ◌^◌, ◌%◌, ◌⊎◌, inl, inr, ⊎_elim, cond, min, List, [], ◌∷◌, length, get_or, refl, ap, ap₂, sym, ◌∙◌, subst, arith}
-use Rattle.std.proofs.lemmas.Nat.{pow_pos, one_shl, pow_below}
+use Rattle.std.proofs.Common.{◌≡◌, ◌≢◌, ℕ, suc, ◌+◌, ◌*◌, ◌<◌, ◌≤◌, ◌==◌, ◌&&◌, ◌^◌, ◌%◌, ◌⊎◌, inl, inr, ⊎_elim, cond, List, [], ◌∷◌, length, get_or, refl, ap, ap₂, sym, ◌∙◌, subst, arith}
+use Rattle.std.proofs.lemmas.Nat.{one_shl, pow_below}
 use Rattle.std.proofs.lemmas.Bool.{cases_lt, cases_eq}
 use Rattle.mt_base.specs.Ranges.{u16_at, part, Torn, Wrote}
 use Rattle.mt_base.proofs.Places.{part_length}
 use Rattle.mt_bucket.specs.Hash.{high}
-use Rattle.mt_index.specs.Pages.{depth_in, pointer_at, IsDirectory, Doubled, Redirected}
+use Rattle.mt_index.specs.Pages.{depth_in, pointer_at, Doubled}
 
 -- two bytes that are the same
 pub same_pointer : (c d : List ℕ) (p q : ℕ) → get_or d q 0 ≡ get_or c p 0 → get_or d (q + 1) 0 ≡ get_or c (p + 1) 0 → u16_at d q ≡ u16_at c p
@@ -16,20 +16,20 @@ twice_pow g = omega arith
 
 pub doubled : (c d f : List ℕ) (n bits : ℕ) → length c ≡ 4096 → bits ≡ depth_in c → bits < 9 → n ≡ 2 * 2 ^ bits → Wrote (8 + n) (part c 8 n) c d → Wrote 0 ((bits + 1) ∷ []) d f → Doubled c f
 doubled c d f n bits size is room long wrote last = record {
-    size = last.rest.size ∙ wrote.rest.size;
-    depth = deep;
-    below = λ i lt. same_pointer c f (8 + 2 * i) (8 + 2 * i) (low (8 + 2 * i) (omega arith) (omega (arith, lt, count))) (low (8 + 2 * i + 1) (omega arith) (omega (arith, lt, count)));
-    above = λ i lt. same_pointer c f (8 + 2 * i) (8 + 2 * (2 ^ depth_in c + i))
+  size = last.rest.size ∙ wrote.rest.size;
+  depth = deep;
+  below = λ i lt. same_pointer c f (8 + 2 * i) (8 + 2 * i) (low (8 + 2 * i) (omega arith) (omega (arith, lt, count))) (low (8 + 2 * i + 1) (omega arith) (omega (arith, lt, count)));
+  above = λ i lt. same_pointer c f (8 + 2 * i) (8 + 2 * (2 ^ depth_in c + i))
       (ap (λ (k : ℕ). get_or f k 0) (omega (arith, count)) ∙ far (2 * i) (omega (arith, lt, count)) ∙ ap (λ (k : ℕ). get_or c k 0) (omega arith))
       (ap (λ (k : ℕ). get_or f k 0) (omega (arith, count)) ∙ far (2 * i + 1) (omega (arith, lt, count)) ∙ ap (λ (k : ℕ). get_or c k 0) (omega arith));
-    formed = λ w. record {
-      size = last.rest.size ∙ wrote.rest.size ∙ w.size;
-      shallow = omega (arith, first, room);
-      zeros = λ i some lt. low i some (omega arith) ∙ w.zeros i some lt;
-      rest = λ i le. let long_i : 8 + 2 * (2 ^ depth_in c + 2 ^ depth_in c) ≤ i = subst (λ (x : ℕ). 8 + 2 * x ≤ i) (ap (λ (x : ℕ). 2 ^ x) deep ∙ twice_pow (depth_in c)) le in
-          last.rest.above i (omega (arith, long_i)) ∙ wrote.rest.above i (omega (arith, long_i, count, part_is)) ∙ w.rest i (omega (arith, long_i));
-    };
-  }
+  formed = λ w. record {
+    size = last.rest.size ∙ wrote.rest.size ∙ w.size;
+    shallow = omega (arith, first, room);
+    zeros = λ i some lt. low i some (omega arith) ∙ w.zeros i some lt;
+    rest = λ i le. let long_i : 8 + 2 * (2 ^ depth_in c + 2 ^ depth_in c) ≤ i = subst (λ (x : ℕ). 8 + 2 * x ≤ i) (ap (λ (x : ℕ). 2 ^ x) deep ∙ twice_pow (depth_in c)) le in
+        last.rest.above i (omega (arith, long_i)) ∙ wrote.rest.above i (omega (arith, long_i, count, part_is)) ∙ w.rest i (omega (arith, long_i));
+  };
+}
   where
     count : n ≡ 2 * 2 ^ depth_in c
     count = long ∙ ap (λ (x : ℕ). 2 * 2 ^ x) is

@@ -63,7 +63,11 @@ fn double(directory: &mut [u8])
     let bytes = POINTER_BYTES * (1 << bits);
     let mut copy = [0u8; PAGE_BYTES];
     copy.copy_from_slice(directory);
-    put(directory, HEAD_BYTES + bytes, part_of(&copy, HEAD_BYTES, bytes));
+    put(
+        directory,
+        HEAD_BYTES + bytes,
+        part_of(&copy, HEAD_BYTES, bytes),
+    );
     put(directory, 0, &[bits + 1]);
 }
 

@@ -20,5 +20,5 @@ pub use amending::{plan_drop, plan_set};
 pub use answers::{Add, Amend, Find};
 pub use directory::{MAX_DEPTH, depth};
 pub use finding::plan_find;
-pub use planning::plan_add;
 pub use laws::a_bucket_is_named_by_its_pattern;
+pub use planning::plan_add;

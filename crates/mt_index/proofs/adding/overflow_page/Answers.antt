@@ -1,4 +1,4 @@
-use Rattle.std.proofs.Common.{ℕ, arith}
+use Rattle.std.proofs.Common.{arith}
 use Rattle.mt_index.proofs.adding.overflow_page.Goals as goal
 
 pub returns-clause-bucket : goal.returns-clause-bucket

@@ -1,12 +1,11 @@
-use Rattle.std.proofs.Common.{◌≡◌, ◌≢◌, ◌≤◌, ◌<◌, ℕ, List, [], ◌∷◌, get_or, false, inl, inr, refl, ap, sym, ◌∙◌, subst, arith, length}
-use Rattle.mt_pool.specs.Changes.{PageBytes, Agrees, after}
+use Rattle.std.proofs.Common.{◌≡◌, ◌≢◌, ℕ, [], get_or, false, inl, inr, refl, ap, sym, ◌∙◌, subst, arith}
+use Rattle.mt_pool.specs.Changes.{PageBytes, after}
 use Rattle.mt_bucket.specs.Entries.{Entry}
-use Rattle.mt_bucket.specs.Page.{depth_of, entries, IsBucket}
+use Rattle.mt_bucket.specs.Page.{depth_of, IsBucket}
 use Rattle.mt_space.specs.Kinds.{kind}
-use Rattle.mt_space.specs.Rooms.{mapped, IsFirstFree}
+use Rattle.mt_space.specs.Rooms.{mapped}
 use Rattle.mt_index.specs.Rule.{IsFull, Chained as ByChain}
-use Rattle.mt_index.specs.Pages.{state_of, AreMap, TakesPage, HasOne}
-use Rattle.mt_index.specs.Maps.{Map}
+use Rattle.mt_index.specs.Pages.{state_of}
 use Rattle.mt_index.proofs.Free.{Fresh, fresh, none_fresh}
 use Rattle.mt_index.proofs.Notes.{notes_none, notes_more}
 use Rattle.mt_index.proofs.Passing.{passed_kind}
@@ -32,7 +31,7 @@ returns-in_default-first_free g c split no_split pages agree m a =
       alone = end.0;
       full = end.1;
       free = inl (λ p lt. rw space (none_fresh c.in-Some.space.now (g.V.Pages.total c.args.views.now) (omega arith)
-        (subst (λ (n : ℕ). (q : ℕ) → get_or (mapped c.in-Some.space.now n) q false ≡ false) c.count.ensures c.in_default-first_free.ensures.none) p lt));
+          (subst (λ (n : ℕ). (q : ℕ) → get_or (mapped c.in-Some.space.now n) q false ≡ false) c.count.ensures c.in_default-first_free.ensures.none) p lt));
     }
 
 pub returns-in_default-page-2 : goal.returns-in_default-page-2
@@ -62,11 +61,11 @@ returns g c split no_split pages agree m a =
     let zero_is = c.new-2.ensures in
     let n0 = notes_none pages c.new-changes.result.list.items c.new-changes.ensures in
     let n1 = notes_more [] pages c.new-changes.result.list.items c.note.new.self.list.items c.new-2.result c.in-Some.space.now c.taken_from-taken.result n0
-      tt (ap pages zero_is ∙ space) c.in_ok-note.ensures.noted c.in_ok-note.ensures.short c.in_ok-note.ensures.others c.in_ok-note.ensures.count in
+    tt (ap pages zero_is ∙ space) c.in_ok-note.ensures.noted c.in_ok-note.ensures.short c.in_ok-note.ensures.others c.in_ok-note.ensures.count in
     let n2 = notes_more _ pages c.note.new.self.list.items c.note-2.new.self.list.items q c.in-Some-page-2.spare.now c.overflow_page-new.result n1
-      (λ same. off.0 (sym zero_is ∙ sym same), tt) spare_is c.in_ok-note-2.ensures.noted c.in_ok-note-2.ensures.short c.in_ok-note-2.ensures.others c.in_ok-note-2.ensures.count in
+    (λ same. off.0 (sym zero_is ∙ sym same), tt) spare_is c.in_ok-note-2.ensures.noted c.in_ok-note-2.ensures.short c.in_ok-note-2.ensures.others c.in_ok-note-2.ensures.count in
     let n3 = notes_more _ pages c.note-2.new.self.list.items c.note-3.new.self.list.items z c.in-Some-page.old.now c.set_next.new.page n2
-      (apart, (λ same. off_z.0 (sym zero_is ∙ sym same), tt)) old c.in_ok-note-3.ensures.noted c.in_ok-note-3.ensures.short c.in_ok-note-3.ensures.others c.in_ok-note-3.ensures.count in
+    (apart, (λ same. off_z.0 (sym zero_is ∙ sym same), tt)) old c.in_ok-note-3.ensures.noted c.in_ok-note-3.ensures.short c.in_ok-note-3.ensures.others c.in_ok-note-3.ensures.count in
     let pages2 : PageBytes = after c.note-3.new.self.list.items pages in
     let here_0 : pages2 0 ≡ c.taken_from-taken.result = subst (λ (p : ℕ). pages2 p ≡ c.taken_from-taken.result) zero_is n3.here.1.1.0 in
     let level : depth_of (pages z) ≡ c.depth.result = ap depth_of old ∙ sym c.depth.ensures in
@@ -84,8 +83,8 @@ returns g c split no_split pages agree m a =
         way = ByChain z q (no_split pages agree m a) (chain_smallest total pages q f) (chain_last total pages pages2 m e z q end.0 a end.1 w);
         stays = chain_stays total pages pages2 m e z q a two w;
         formed = λ relations fits formed. chain_formed relations total pages pages2 m e z q a two w
-          (λ shallow. rw n3.here.1.0 (c.overflow_page-new.ensures.bucket relations total (omega (arith, shallow, level)) fits.relation fits.some fits.place))
-          (λ within b. rw n3.here.0 (c.set_next.ensures.kept relations total within (subst (IsBucket relations total) old b))) formed;
+            (λ shallow. rw n3.here.1.0 (c.overflow_page-new.ensures.bucket relations total (omega (arith, shallow, level)) fits.relation fits.some fits.place))
+            (λ within b. rw n3.here.0 (c.set_next.ensures.kept relations total within (subst (IsBucket relations total) old b))) formed;
       };
       few = let n = n3.few in omega arith;
       short = n3.short;

@@ -1,5 +1,5 @@
-use Rattle.std.proofs.Common.{◌≡◌, ◌<◌, ℕ, inl, inr, refl, sym, subst, arith, length}
-use Rattle.mt_pool.specs.Changes.{PageBytes, after}
+use Rattle.std.proofs.Common.{◌≡◌, ◌<◌, inl, inr, refl, sym, subst, arith, length}
+use Rattle.mt_pool.specs.Changes.{after}
 use Rattle.mt_bucket.specs.Entries.{Entry}
 use Rattle.mt_bucket.specs.Page.{entries, KeepsHead, IsBucket}
 use Rattle.mt_space.specs.Kinds.{kind}
@@ -30,11 +30,11 @@ returns g c split pages agree m a =
     record {
       added = record {
         way = Here p (put_first total pages (after c.in_ok-change_of.field-0.list.items pages) m e p c.push.new.page a h t
-          (subst (λ x. KeepsHead x c.push.new.page) (sym is) c.push.ensures.head)
-          (rw is (pushed c.in-Some.old.now c.push.new.page e c.push.result (subst (λ x. length (entries x) < 58) is h.room) c.push.ensures.pushed c.push.ensures.full)));
+            (subst (λ x. KeepsHead x c.push.new.page) (sym is) c.push.ensures.head)
+            (rw is (pushed c.in-Some.old.now c.push.new.page e c.push.result (subst (λ x. length (entries x) < 58) is h.room) c.push.ensures.pushed c.push.ensures.full)));
         stays = put_stays total pages (after c.in_ok-change_of.field-0.list.items pages) p c.push.new.page off two t;
         formed = λ relations fits f. turns_formed relations total pages (after c.in_ok-change_of.field-0.list.items pages) p c.push.new.page off t
-          (λ b. c.push.ensures.kept relations total fits.relation fits.some fits.place (subst (IsBucket relations total) is b)) f;
+            (λ b. c.push.ensures.kept relations total fits.relation fits.some fits.place (subst (IsBucket relations total) is b)) f;
       };
       few = let one = c.in_ok-change_of.ensures.one in omega arith;
       short = c.in_ok-change_of.ensures.short pages is;

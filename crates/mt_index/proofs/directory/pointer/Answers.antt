@@ -1,4 +1,4 @@
-use Rattle.std.proofs.Common.{◌≡◌, ◌≤◌, ◌+◌, ◌*◌, ◌%◌, ◌^◌, ℕ, ap, ◌∙◌, arith, length, subst, sym}
+use Rattle.std.proofs.Common.{◌≤◌, ◌+◌, ◌*◌, ◌%◌, ◌^◌, ℕ, ap, ◌∙◌, arith, subst, sym}
 use Rattle.mt_base.specs.Ranges.{u16_at}
 use Rattle.mt_index.specs.Pages.{depth_in}
 use Rattle.mt_index.proofs.Pointers.{place_fits, place_is}

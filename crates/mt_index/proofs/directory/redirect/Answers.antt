@@ -1,4 +1,4 @@
-use Rattle.std.proofs.Common.{◌≡◌, ◌+◌, ◌*◌, ◌<◌, ◌≤◌, ◌^◌, ◌%◌, ℕ, ap, sym, ◌∙◌, subst, arith}
+use Rattle.std.proofs.Common.{◌≡◌, ◌*◌, ◌^◌, ◌%◌, ℕ, ap, ◌∙◌, arith}
 use Rattle.mt_index.specs.Pages.{depth_in}
 use Rattle.mt_index.proofs.Wiring.{none_so_far, more_so_far, few_pointers}
 use Rattle.mt_index.proofs.directory.redirect.Goals as goal
@@ -21,7 +21,7 @@ loop-i-preserved c =
     let few = few_pointers c.depth.result (omega arith) in
     let n : 1 * 2 ^ c.depth.result % 65536 ≡ 2 ^ depth_in c.args.directory.now = few.0 ∙ ap (λ (x : ℕ). 2 ^ x) is in
     more_so_far c.args.from c.args.to c.args.bit c.args.directory.now c.loop-i.directory c.redirect_one.new.directory c.loop-i.i c.loop-i.invariant
-      (let lt = c.loop-i-test.true in omega arith) c.redirect_one.ensures.pointer c.redirect_one.ensures.rest
+    (let lt = c.loop-i-test.true in omega arith) c.redirect_one.ensures.pointer c.redirect_one.ensures.rest
 
 pub returns : goal.returns
 returns c =

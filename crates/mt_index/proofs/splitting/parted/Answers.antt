@@ -1,5 +1,4 @@
-use Rattle.std.proofs.Common.{◌≡◌, ◌+◌, ◌++◌, ◌≤◌, ◌<◌, ℕ, List, refl, ap, sym, ◌∙◌, subst, arith}
-use Rattle.mt_bucket.specs.Entries.{Entry}
+use Rattle.std.proofs.Common.{◌+◌, ◌++◌, ℕ, ap, ◌∙◌, arith}
 use Rattle.mt_bucket.specs.Page.{depth_of, goes_over, IsBucket}
 use Rattle.mt_index.specs.Index.{kept_low, kept_high}
 use Rattle.mt_index.proofs.splitting.parted.Goals as goal

@@ -19,7 +19,7 @@ filter_short p [] = omega arith
 filter_short p (x ∷ xs) = filter_step (p x) x (filter p xs) (length xs) (filter_short p xs)
 
 pub bucket_divided : (names names2 : ℕ → ℕ) (g : ℕ) (node node2 : ℕ → Node) (kind kind2 : ℕ → ℕ) (m : Map) (i : IsTree names g node kind m)
-    (h0 b q l : ℕ) → names h0 ≡ b → i.chain b ≡ b ∷ [] → (node b).depth ≡ l → l < g → Takes q kind kind2 → Points b q l names names2 → Divides b q l node node2
+    (h0 b q l : ℕ) → names h0 ≡ b → i.chain b ≡ b ∷ [] → (node b).depth ≡ l → l < g → Takes q kind kind2 → Points b q l names names2 → Divides b q l kind node node2
     → IsTree names2 g node2 kind2 m
 bucket_divided names names2 g node node2 kind kind2 m i h0 b q l named one level below t p w = record {
   chain = chain2;
@@ -75,11 +75,11 @@ bucket_divided names names2 g node node2 kind kind2 m i h0 b q l named one level
     small_b = (subst (λ ns. Each (λ n. length (node n).entries ≤ 58) ns) one (subst (λ c. Each (λ n. length (node n).entries ≤ 58) (i.chain c)) named (i.small h0))).0
 
     kept : (h : ℕ) → names h ≢ b → node2 (names h) ≡ node (names h)
-    kept h there = w.others (names h) (fresh h) there
+    kept h there = w.others (names h) (named_taken names g node kind m i h) there
 
     stays : (h : ℕ) → names h ≢ b → Each (λ n. node2 n ≡ node n) (i.chain (names h))
     stays h there = each_map (λ n. (i.home n ≡ names h) × (kind n ≡ 2)) (λ n. node2 n ≡ node n)
-        (λ n x. w.others n (off n x.1) (λ is_b. there (sym x.0 ∙ ap i.home is_b ∙ home_b))) (i.chain (names h))
+        (λ n x. w.others n x.1 (λ is_b. there (sym x.0 ∙ ap i.home is_b ∙ home_b))) (i.chain (names h))
         (each_both (λ n. i.home n ≡ names h) (λ n. kind n ≡ 2) (i.chain (names h)) (i.at_home h) (i.kinds h))
 
     -- the three places of a hash

@@ -20,3 +20,10 @@ mod Marks
 mod Settled
 mod Sounds
 mod Made
+pub mod Notes
+pub mod Free
+pub mod Placing
+pub mod Wiring
+pub mod Halving
+pub mod Composing
+pub mod Ruling

@@ -1,21 +1,20 @@
 -- One page of a bucket changes.
-use Rattle.std.proofs.Common.{◌≡◌, ◌≢◌, ℕ, suc, ◌+◌, ◌<◌, ◌≤◌, ◌^◌, ◌==◌, ◌⊎◌, inl, inr, Bool, true, false, cond, if◌then◌else◌, min, List, [], ◌∷◌, ◌++◌, length, Option, Some, None, refl, ap, sym, ◌∙◌, subst, arith, get_or}
+use Rattle.std.proofs.Common.{◌≡◌, ◌≢◌, ℕ, ◌^◌, ◌⊎◌, inl, inr, Bool, true, false, cond, List, [], ◌∷◌, ◌++◌, Some, None, refl, ap, sym, ◌∙◌, subst, arith, get_or}
 use Rattle.std.specs.Bool.{OnTrue, OnFalse}
 use Rattle.std.proofs.lemmas.Bool.{cases_eq}
 use Rattle.mt_base.specs.declared.numbers.RecordName.{RecordName}
 use Rattle.mt_bucket.specs.Entries.{Entry, is_at, look, renamed, without}
 use Rattle.mt_bucket.specs.Page.{depth_of, next_of, entries, KeepsHead, IsBucket}
 use Rattle.mt_index.specs.Maps.{Map, alter}
-use Rattle.mt_index.specs.Index.{Node, State, IsIndex, Rewrites}
-use Rattle.mt_index.specs.Steps.{OnChain, OnePage, Drops, Sets}
+use Rattle.mt_index.specs.Index.{IsIndex}
+use Rattle.mt_index.specs.Steps.{OnChain, OnePage}
 use Rattle.mt_pool.specs.Changes.{PageBytes}
 use Rattle.mt_space.specs.Kinds.{kind}
-use Rattle.mt_index.specs.Pages.{depth_in, pointers_from, node_of, state_of, AreMap, Passed, IsDirectory, AreFormed, Turns}
+use Rattle.mt_index.specs.Pages.{depth_in, pointers_from, node_of, state_of, AreMap, IsDirectory, AreFormed, Turns}
 use Rattle.mt_index.specs.Answers.{Lacks, Holds}
 use Rattle.mt_pool.specs.Changes.{replaced}
 use Rattle.mt_pool.proofs.Changing.{replaced_here, replaced_other}
 use Rattle.mt_index.proofs.Lists.{at_parts}
-use Rattle.mt_index.proofs.Overflow.{cond_at, cond_off}
 use Rattle.mt_index.proofs.Keeping.{drop_kept, set_kept}
 use Rattle.mt_index.proofs.Passing.{passed_kind, passed_on}
 
@@ -28,9 +27,9 @@ turns p new pages pages2 is = record {
 -- pages 0 and 1 are no bucket's
 pub no_bucket : (total : ℕ) (pages : PageBytes) (m : Map) (p : ℕ) → AreMap total pages m → kind pages p ≡ 2 → (0 ≢ p) × (1 ≢ p)
 no_bucket total pages m p a is = (
-    λ e. let k : kind pages 0 ≡ 2 = ap (kind pages) e ∙ is in let f = a.space_fixed in omega (arith, k, f),
-    λ e. let k : kind pages 1 ≡ 2 = ap (kind pages) e ∙ is in let f = a.directory_fixed in omega (arith, k, f),
-  )
+  λ e. let k : kind pages 0 ≡ 2 = ap (kind pages) e ∙ is in let f = a.space_fixed in omega (arith, k, f),
+  λ e. let k : kind pages 1 ≡ 2 = ap (kind pages) e ∙ is in let f = a.directory_fixed in omega (arith, k, f),
+)
 
 pub one_page : (pages pages2 : PageBytes) (p : ℕ) (new : List ℕ) (es : List Entry) → (0 ≢ p) × (1 ≢ p) → Turns p new pages pages2 → KeepsHead (pages p) new → entries new ≡ es
     → OnePage p es (state_of pages) (state_of pages2)
@@ -55,14 +54,15 @@ same_space total pages pages2 m m2 a same index = record {
   space_fixed = ap (λ (c : List ℕ). get_or c 0 0) same ∙ a.space_fixed;
   directory_fixed = ap (λ (c : List ℕ). get_or c 1 0) same ∙ a.directory_fixed;
   within = λ p some. a.within p (λ none. some (ap (λ (c : List ℕ). get_or c p 0) same ∙ none));
+  few = a.few;
 }
 
 pub turns_formed : (relations total : ℕ) (pages pages2 : PageBytes) (p : ℕ) (new : List ℕ) → (0 ≢ p) × (1 ≢ p) → Turns p new pages pages2
     → (IsBucket relations total (pages p) → IsBucket relations total new) → AreFormed relations total pages → AreFormed relations total pages2
 turns_formed relations total pages pages2 p new off t kept f = record {
-    directory = subst IsDirectory (sym (t.others 1 off.1)) f.directory;
-    buckets = λ n is. bucket n (ap (λ (c : List ℕ). get_or c n 0) (sym (t.others 0 off.0)) ∙ is) (cases_eq n p);
-  }
+  directory = subst IsDirectory (sym (t.others 1 off.1)) f.directory;
+  buckets = λ n is. bucket n (ap (λ (c : List ℕ). get_or c n 0) (sym (t.others 0 off.0)) ∙ is) (cases_eq n p);
+}
   where
     bucket : (n : ℕ) → kind pages n ≡ 2 → (n ≡ p) ⊎ (n ≡ p → ⊥) → IsBucket relations total (pages2 n)
     bucket n is (inl here) = subst (λ (x : ℕ). IsBucket relations total (pages2 x)) (sym here)
@@ -88,12 +88,22 @@ parts_of r k (e ∷ es) old is = go (is_at r k e) refl (parts_of r k es old)
   where
     go : (b : Bool) → is_at r k e ≡ b → (look r k es ≡ Some old → Parts r k es) → Parts r k (e ∷ es)
     go true t rec = let p = at_parts r k e t in record {
-      front = []; entry = e; back = es; whole = refl; relation = p.0; key = p.1;
+      front = [];
+      entry = e;
+      back = es;
+      whole = refl;
+      relation = p.0;
+      key = p.1;
       set = λ name. ap (λ (b : Bool). cond b (record e { name = name } ∷ es) (e ∷ renamed r k name es)) t;
       gone = ap (λ (b : Bool). cond b es (e ∷ without r k es)) t;
     }
     go false t rec = let p = rec (sym (ap (λ (b : Bool). cond b (Some e.name) (look r k es)) t) ∙ is) in record {
-      front = e ∷ p.front; entry = p.entry; back = p.back; whole = ap (λ xs. e ∷ xs) p.whole; relation = p.relation; key = p.key;
+      front = e ∷ p.front;
+      entry = p.entry;
+      back = p.back;
+      whole = ap (λ xs. e ∷ xs) p.whole;
+      relation = p.relation;
+      key = p.key;
       set = λ name. ap (λ (b : Bool). cond b (record e { name = name } ∷ es) (e ∷ renamed r k name es)) t ∙ ap (λ xs. e ∷ xs) (p.set name);
       gone = ap (λ (b : Bool). cond b es (e ∷ without r k es)) t ∙ ap (λ xs. e ∷ xs) p.gone;
     }
@@ -107,12 +117,12 @@ pub set_map : (total : ℕ) (pages pages2 : PageBytes) (m : Map) (r : ℕ) (k : 
     → pages p ≡ page → Turns p new pages pages2 → KeepsHead page new → OnTrue b (entries new ≡ renamed r k name (entries page)) → OnFalse b (look r k (entries page) ≡ None) → AreMap total pages2 (alter m r k (Some name))
 set_map total pages pages2 m r k p old name page new b a h is t head did none =
     same_space total pages pages2 m _ a (t.others 0 off.0)
-      (subst (λ (x : ℕ × List ℕ). IsIndex (state_of pages2) (alter m x.0 x.1 (Some name))) (λ j. (w.relation j, w.key j))
-        (set_kept (state_of pages) (state_of pages2) m w.entry name p w.front w.back a.index (record {
-          on = subst (λ (x : List ℕ). OnChain (state_of pages) x p) (sym w.key) (passed_on (Lacks r k pages) pages k p h.steps h.passed);
-          there = ap entries is ∙ w.whole;
-          change = one_page pages pages2 p new _ off t (subst (λ (c : List ℕ). KeepsHead c new) (sym is) head) (done r k (entries page) old b _ here did none ∙ w.set name);
-        })))
+    (subst (λ (x : ℕ × List ℕ). IsIndex (state_of pages2) (alter m x.0 x.1 (Some name))) (λ j. (w.relation j, w.key j))
+    (set_kept (state_of pages) (state_of pages2) m w.entry name p w.front w.back a.index (record {
+      on = subst (λ (x : List ℕ). OnChain (state_of pages) x p) (sym w.key) (passed_on (Lacks r k pages) pages k p h.steps h.passed);
+      there = ap entries is ∙ w.whole;
+      change = one_page pages pages2 p new _ off t (subst (λ (c : List ℕ). KeepsHead c new) (sym is) head) (done r k (entries page) old b _ here did none ∙ w.set name);
+    })))
   where
     off : (0 ≢ p) × (1 ≢ p)
     off = no_bucket total pages m p a (passed_kind (Lacks r k pages) total pages m k p h.steps a h.passed)
@@ -127,12 +137,12 @@ pub drop_map : (total : ℕ) (pages pages2 : PageBytes) (m : Map) (r : ℕ) (k :
     → pages p ≡ page → Turns p new pages pages2 → KeepsHead page new → OnTrue b (entries new ≡ without r k (entries page)) → OnFalse b (look r k (entries page) ≡ None) → AreMap total pages2 (alter m r k None)
 drop_map total pages pages2 m r k p old page new b a h is t head did none =
     same_space total pages pages2 m _ a (t.others 0 off.0)
-      (subst (λ (x : ℕ × List ℕ). IsIndex (state_of pages2) (alter m x.0 x.1 None)) (λ j. (w.relation j, w.key j))
-        (drop_kept (state_of pages) (state_of pages2) m w.entry p w.front w.back a.index (record {
-          on = subst (λ (x : List ℕ). OnChain (state_of pages) x p) (sym w.key) (passed_on (Lacks r k pages) pages k p h.steps h.passed);
-          there = ap entries is ∙ w.whole;
-          change = one_page pages pages2 p new _ off t (subst (λ (c : List ℕ). KeepsHead c new) (sym is) head) (done r k (entries page) old b _ here did none ∙ w.gone);
-        })))
+    (subst (λ (x : ℕ × List ℕ). IsIndex (state_of pages2) (alter m x.0 x.1 None)) (λ j. (w.relation j, w.key j))
+    (drop_kept (state_of pages) (state_of pages2) m w.entry p w.front w.back a.index (record {
+      on = subst (λ (x : List ℕ). OnChain (state_of pages) x p) (sym w.key) (passed_on (Lacks r k pages) pages k p h.steps h.passed);
+      there = ap entries is ∙ w.whole;
+      change = one_page pages pages2 p new _ off t (subst (λ (c : List ℕ). KeepsHead c new) (sym is) head) (done r k (entries page) old b _ here did none ∙ w.gone);
+    })))
   where
     off : (0 ≢ p) × (1 ≢ p)
     off = no_bucket total pages m p a (passed_kind (Lacks r k pages) total pages m k p h.steps a h.passed)

@@ -61,7 +61,7 @@ entries_same old new (n ∷ ns) h = ap (λ (x : List Entry). x ++ entries_of new
 
 pub entry_chained : (names : ℕ → ℕ) (g : ℕ) (node : ℕ → Node) (kind kind2 : ℕ → ℕ) (m : Map) (node2 : ℕ → Node) (i : IsTree names g node kind m)
     (e : Entry) (z q : ℕ) (front : List ℕ) → i.chain (names (hash e.key)) ≡ front ++ z ∷ [] → m e.relation e.key ≡ None
-    → Takes q kind kind2 → Chains z q e node node2 → IsTree names g node2 kind2 (alter m e.relation e.key (Some e.name))
+    → Takes q kind kind2 → Chains z q e kind node node2 → IsTree names g node2 kind2 (alter m e.relation e.key (Some e.name))
 entry_chained names g node kind kind2 m node2 i e z q front parts absent t w = record {
   chain = chain2;
   home = home2;
@@ -100,21 +100,21 @@ entry_chained names g node kind kind2 m node2 i e z q front parts absent t w = r
     level_z : (node z).depth ≡ (node b).depth
     level_z = (each_remove (λ n. (node n).depth ≡ (node b).depth) front z [] (subst (Each (λ n. (node n).depth ≡ (node b).depth)) parts (i.level (hash e.key)))).0
 
-    stays : (n : ℕ) → n ≢ q → ((node2 n).entries ≡ (node n).entries) × ((node2 n).depth ≡ (node n).depth)
-    stays n off = go (cases_eq n z)
+    stays : (n : ℕ) → kind n ≡ 2 → ((node2 n).entries ≡ (node n).entries) × ((node2 n).depth ≡ (node n).depth)
+    stays n two = go (cases_eq n z)
       where
         go : (n ≡ z) ⊎ (n ≡ z → ⊥) → ((node2 n).entries ≡ (node n).entries) × ((node2 n).depth ≡ (node n).depth)
         go (inl here) = rw here (ap (λ (x : Node). x.entries) w.last, ap (λ (x : Node). x.depth) w.last)
-        go (inr there) = (ap (λ (x : Node). x.entries) (w.others n off there), ap (λ (x : Node). x.depth) (w.others n off there))
+        go (inr there) = (ap (λ (x : Node). x.entries) (w.others n two there), ap (λ (x : Node). x.depth) (w.others n two there))
 
     off : (n : ℕ) → kind n ≡ 2 → n ≢ q
     off n is = not_free q kind kind2 t n is
 
     depth_named : (h : ℕ) → (node2 (names h)).depth ≡ (node (names h)).depth
-    depth_named h = (stays (names h) (off (names h) (named_taken names g node kind m i h))).1
+    depth_named h = (stays (names h) (named_taken names g node kind m i h)).1
 
     lists : (h : ℕ) → entries_of node2 (i.chain (names h)) ≡ entries_of node (i.chain (names h))
-    lists h = entries_same node node2 (i.chain (names h)) (each_map (λ n. kind n ≡ 2) (λ n. (node2 n).entries ≡ (node n).entries) (λ n is. (stays n (off n is)).0) (i.chain (names h)) (i.kinds h))
+    lists h = entries_same node node2 (i.chain (names h)) (each_map (λ n. kind n ≡ 2) (λ n. (node2 n).entries ≡ (node n).entries) (λ n is. (stays n is).0) (i.chain (names h)) (i.kinds h))
 
     pick : (h : ℕ) (P : List ℕ → Type 0) → (names h ≡ b → P (i.chain b ++ q ∷ [])) → (names h ≢ b → P (i.chain (names h))) → P (chain2 (names h))
     pick h P f k = go (cases_eq (names h) b)
@@ -132,19 +132,19 @@ entry_chained names g node kind kind2 m node2 i e z q front parts absent t w = r
 
     levels : (h : ℕ) → Each (λ n. (node2 n).depth ≡ (node2 (names h)).depth) (i.chain (names h))
     levels h = each_map (λ n. ((node n).depth ≡ (node (names h)).depth) × (kind n ≡ 2)) (λ n. (node2 n).depth ≡ (node2 (names h)).depth)
-        (λ n x. (stays n (off n x.1)).1 ∙ x.0 ∙ sym (depth_named h)) (i.chain (names h))
+        (λ n x. (stays n x.1).1 ∙ x.0 ∙ sym (depth_named h)) (i.chain (names h))
         (each_both (λ n. (node n).depth ≡ (node (names h)).depth) (λ n. kind n ≡ 2) (i.chain (names h)) (i.level h) (i.kinds h))
 
     smalls : (h : ℕ) → Each (λ n. length (node2 n).entries ≤ 58) (i.chain (names h))
     smalls h = each_map (λ n. (length (node n).entries ≤ 58) × (kind n ≡ 2)) (λ n. length (node2 n).entries ≤ 58)
-        (λ n x. rw ((stays n (off n x.1)).0) x.0) (i.chain (names h))
+        (λ n x. rw ((stays n x.1).0) x.0) (i.chain (names h))
         (each_both (λ n. length (node n).entries ≤ 58) (λ n. kind n ≡ 2) (i.chain (names h)) (i.small h) (i.kinds h))
 
     kinds2 : (h : ℕ) → Each (λ n. kind2 n ≡ 2) (i.chain (names h))
     kinds2 h = each_map (λ n. kind n ≡ 2) (λ n. kind2 n ≡ 2) (λ n is. t.others n (off n is) ∙ is) (i.chain (names h)) (i.kinds h)
 
     next_stays : (n : ℕ) → kind n ≡ 2 → n ≢ z → (node2 n).next ≡ (node n).next
-    next_stays n is not_last = ap (λ (x : Node). x.next) (w.others n (off n is) not_last)
+    next_stays n is not_last = ap (λ (x : Node). x.next) (w.others n is not_last)
 
     linked_off : (h : ℕ) → names h ≢ b → Linked node2 (names h) (i.chain (names h))
     linked_off h there = linked_stay node node2 (names h) (i.chain (names h))

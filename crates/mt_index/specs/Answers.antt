@@ -190,9 +190,10 @@ pub record Shortage (split : Bool) (total : ℕ) (e : Entry) (pages : PageBytes)
   pub full : IsEnd e.key pages last alone
   pub free : HasNoneFree total pages ⊎ ((split ≡ true) × (MaySplit e.key (state_of pages) × (((q : ℕ) × HasOneFree total pages q) × IsLopsided e pages last)))
 
--- besides the pages of the bucket, the map of the space and pages to be taken are needed, to be written
+-- besides the pages of the bucket: the map of the space, the directory where it is to change, and pages to be
+-- taken are needed, to be written
 abbrev pub IsInAdd : ℕ → PageBytes → ℕ → Mode → Type 0
-IsInAdd total pages p mode = IsInBucket Write pages p mode ⊎ (((p ≡ 0) ⊎ ((kind pages p ≡ 0) × (p < total))) × (mode ≡ Write))
+IsInAdd total pages p mode = IsInBucket Write pages p mode ⊎ (((p ≡ 0) ⊎ ((p ≡ 1) ⊎ ((kind pages p ≡ 0) × (p < total)))) × (mode ≡ Write))
 
 abbrev pub IsPlanned : (ℕ → Option (List ℕ)) → ℕ → Bool → Entry → Add → Type 0
 IsPlanned at_hand total split e (add.Need p mode) = Asks at_hand total (IsInAdd total) p mode

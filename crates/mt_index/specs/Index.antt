@@ -69,16 +69,16 @@ pub record Takes (q : ℕ) (kind kind2 : ℕ → ℕ) : Type 0 where
   pub others : (n : ℕ) → n ≢ q → kind2 n ≡ kind n
 
 -- a page q is chained behind the last page z, and takes one entry
-pub record Chains (z q : ℕ) (e : Entry) (node node2 : ℕ → Node) : Type 0 where
+pub record Chains (z q : ℕ) (e : Entry) (kind : ℕ → ℕ) (node node2 : ℕ → Node) : Type 0 where
   pub page : node2 q ≡ record { depth = (node z).depth; next = 0; entries = e ∷ [] }
   pub last : node2 z ≡ record (node z) { next = q }
-  pub others : (n : ℕ) → n ≢ q → n ≢ z → node2 n ≡ node n
+  pub others : (n : ℕ) → kind n ≡ 2 → n ≢ z → node2 n ≡ node n
 
 -- the bucket b of one page splits into b and q
-pub record Divides (b q l : ℕ) (node node2 : ℕ → Node) : Type 0 where
+pub record Divides (b q l : ℕ) (kind : ℕ → ℕ) (node node2 : ℕ → Node) : Type 0 where
   pub low : node2 b ≡ record { depth = suc l; next = 0; entries = kept_low l (node b).entries }
   pub up : node2 q ≡ record { depth = suc l; next = 0; entries = kept_high l (node b).entries }
-  pub others : (n : ℕ) → n ≢ q → n ≢ b → node2 n ≡ node n
+  pub others : (n : ℕ) → kind n ≡ 2 → n ≢ b → node2 n ≡ node n
 
 -- the pointers of b with bit l name q
 pub record Points (b q l : ℕ) (names names2 : ℕ → ℕ) : Type 0 where

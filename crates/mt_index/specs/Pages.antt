@@ -1,13 +1,14 @@
 -- An index in the bytes of its pages. Page 0 has the kind of each page, page 1 is the directory.
-use Rattle.std.specs.Prelude.{ℕ, zero, suc, ◌≡◌, ◌≢◌, ◌+◌, ◌*◌, ◌^◌, ◌≤◌, ◌<◌, List, [], ◌∷◌, length, min}
+use Rattle.std.specs.Prelude.{ℕ, zero, suc, ◌==◌, ◌&&◌, ◌⊎◌, cond, ◌≡◌, ◌≢◌, ◌+◌, ◌*◌, ◌^◌, ◌≤◌, ◌<◌, List, [], ◌∷◌, length, min}
 use Rattle.std.proofs.Math.ListN.{get_or}
-use Rattle.mt_base.specs.Ranges.{u16_at}
-use Rattle.mt_bucket.specs.Hash.{hash}
+use Rattle.mt_base.specs.Ranges.{u16_at, Torn}
+use Rattle.mt_bucket.specs.Entries.{Entry}
+use Rattle.mt_bucket.specs.Hash.{hash, high}
 use Rattle.mt_bucket.specs.Page.{depth_of, next_of, entries, IsBucket}
 use Rattle.mt_pool.specs.Changes.{PageBytes}
 use Rattle.mt_space.specs.Kinds.{kind}
 use Rattle.mt_index.specs.Maps.{Map, Each}
-use Rattle.mt_index.specs.Index.{Node, State, named, IsIndex}
+use Rattle.mt_index.specs.Index.{Node, State, named, IsIndex, kept_low, kept_high}
 use Rattle.mt_index.specs.Steps.{Walk}
 
 -- the bits of a hash that the directory goes by, and a pointer
@@ -33,12 +34,13 @@ state_of pages = record {
   kind = λ p. kind pages p;
 }
 
--- So many pages are this map. Pages 0 and 1 are fixed ones, so no bucket's.
+-- So many pages are this map. Pages 0 and 1 are fixed ones, so no bucket's; none is used past the last one.
 pub record AreMap (total : ℕ) (pages : PageBytes) (m : Map) : Type 0 where
   pub index : IsIndex (state_of pages) m
   pub space_fixed : kind pages 0 ≡ 1
   pub directory_fixed : kind pages 1 ≡ 1
   pub within : (p : ℕ) → kind pages p ≢ 0 → p < total
+  pub few : total ≤ 4096
 
 -- the pages of the key's bucket before this one are so, and there are so many of them
 pub record Passed (P : ℕ → Type 0) (pages : PageBytes) (key : List ℕ) (at steps : ℕ) : Type 0 where
@@ -64,3 +66,47 @@ pub record AreFormed (relations total : ℕ) (pages : PageBytes) : Type 0 where
 pub record Turns (p : ℕ) (new : List ℕ) (pages pages2 : PageBytes) : Type 0 where
   pub here : pages2 p ≡ new
   pub others : (n : ℕ) → n ≢ p → pages2 n ≡ pages n
+
+-- a page is taken in the map of the space
+pub record TakesPage (p : ℕ) (old new : List ℕ) : Type 0 where
+  pub size : length new ≡ length old
+  pub taken : get_or new p 0 ≡ 2
+  pub others : (q : ℕ) → q ≢ p → get_or new q 0 ≡ get_or old q 0
+
+-- a page with this entry alone
+pub record HasOne (level : ℕ) (e : Entry) (page : List ℕ) : Type 0 where
+  pub size : length page ≡ 4096
+  pub depth : depth_of page ≡ level
+  pub next : next_of page ≡ 0
+  pub entries : entries page ≡ e ∷ []
+
+-- ---- a split
+
+-- a directory of twice as many pointers, which name what they did
+pub record Doubled (old new : List ℕ) : Type 0 where
+  pub size : length new ≡ length old
+  pub depth : depth_in new ≡ suc (depth_in old)
+  pub below : (i : ℕ) → i < 2 ^ depth_in old → pointer_at new i ≡ pointer_at old i
+  pub above : (i : ℕ) → i < 2 ^ depth_in old → pointer_at new (2 ^ depth_in old + i) ≡ pointer_at old i
+  pub formed : IsDirectory old → IsDirectory new
+
+-- the pointers to a page whose numbers have a bit name another, and the rest of the directory stays
+pub record Redirected (from to bit : ℕ) (old new : List ℕ) : Type 0 where
+  pub rest : Torn 8 (2 * 2 ^ depth_in old) old new
+  pub each : (i : ℕ) → i < 2 ^ depth_in old → pointer_at new i ≡ cond (pointer_at old i == from && high bit i) to (pointer_at old i)
+
+-- doubled before, just where it goes by so many bits as the bucket
+pub record Rewired (from to bit : ℕ) (old new : List ℕ) : Type 0 where
+  pub between : List ℕ
+  pub first : ((bit ≡ depth_in old) × Doubled old between) ⊎ ((bit ≢ depth_in old) × (between ≡ old))
+  pub then : Redirected from to bit between new
+
+-- a bucket page is two: those entries whose hash has the bit that they do not share so far go to the other
+pub record Parted (old low up : List ℕ) : Type 0 where
+  pub low_depth : depth_of low ≡ depth_of old + 1
+  pub low_next : next_of low ≡ next_of old
+  pub stay : entries low ≡ kept_low (depth_of old) (entries old)
+  pub up_depth : depth_of up ≡ depth_of old + 1
+  pub up_next : next_of up ≡ 0
+  pub go : entries up ≡ kept_high (depth_of old) (entries old)
+  pub kept : (relations pages : ℕ) → IsBucket relations pages old → IsBucket relations pages low × IsBucket relations pages up

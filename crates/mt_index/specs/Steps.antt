@@ -34,7 +34,7 @@ pub record Behind (e : Entry) (z q : ℕ) (s t : State) : Type 0 where
   pub g : t.g ≡ s.g
   pub pointers : t.pointers ≡ s.pointers
   pub takes : Takes q s.kind t.kind
-  pub change : Chains z q e s.node t.node
+  pub change : Chains z q e s.kind s.node t.node
 
 -- the key's bucket, of one page and shallower than the directory, splits
 pub record Halves (key : List ℕ) (q l : ℕ) (s t : State) : Type 0 where
@@ -44,7 +44,7 @@ pub record Halves (key : List ℕ) (q l : ℕ) (s t : State) : Type 0 where
   pub g : t.g ≡ s.g
   pub pointers : Repoints (named s (hash key)) q l s.g s.pointers t.pointers
   pub takes : Takes q s.kind t.kind
-  pub change : Divides (named s (hash key)) q l s.node t.node
+  pub change : Divides (named s (hash key)) q l s.kind s.node t.node
 
 abbrev pub double : State → State
 double s = record s { g = suc s.g; pointers = s.pointers ++ s.pointers }

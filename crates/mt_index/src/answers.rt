@@ -1,7 +1,6 @@
 // What plans answer.
 use mt_base::{Mode, PageNo, RecordName};
 use mt_pool::Changes;
-use std::alloc::AllocError;
 
 /// What a find answers.
 #[derive(Clone, Copy, Debug)]
@@ -56,17 +55,4 @@ pub(crate) enum Spot {
     In(PageNo),
     Behind { last: PageNo, alone: bool },
     Endless,
-}
-
-// Why a plan has no changes.
-pub(crate) enum Stop {
-    Need(PageNo, Mode),
-    Full,
-    Memory(AllocError),
-}
-
-impl From<AllocError> for Stop {
-    fn from(error: AllocError) -> Stop {
-        Stop::Memory(error)
-    }
 }

@@ -5,6 +5,7 @@
 //! `mt_bucket`.
 #![tactic(auto)]
 
+mod adding;
 mod amending;
 mod answers;
 mod checking;
@@ -20,6 +21,13 @@ mod walking;
 pub use amending::{plan_drop, plan_set};
 pub use answers::{Amend, Find};
 pub use checking::check;
+mod planning;
+mod splitting;
+mod walking;
+
+pub use amending::{plan_drop, plan_set};
+pub use answers::{Add, Amend, Find};
 pub use directory::{MAX_DEPTH, depth};
 pub use finding::plan_find;
 pub use laws::a_bucket_is_named_by_its_pattern;
+pub use planning::plan_add;

@@ -7,7 +7,12 @@ use mt_pool::Changes;
 use std::alloc::{AllocError, Global};
 
 // The change of one page.
-pub(crate) fn change_of(alloc: Global, page: PageNo, old: &[u8], new: &[u8]) -> Result<Changes, AllocError>
+pub(crate) fn change_of(
+    alloc: Global,
+    page: PageNo,
+    old: &[u8],
+    new: &[u8],
+) -> Result<Changes, AllocError>
     requires old_whole { length old.now ≡ 4096 }
     requires new_whole { length new.now ≡ 4096 }
     ensures turned { IfOk result (λ changes. (pages : PageBytes) → pages page ≡ old.now → Turns page new.now pages (after changes.list.items pages)) }

@@ -12,6 +12,9 @@ use mt_pool::Pages;
 // The directory.
 pub(crate) const DIRECTORY: u16 = 1;
 
+// The map of the space.
+pub(crate) const SPACE: u16 = 0;
+
 // The page of the key's bucket with an entry of the key. The bucket's pages are needed in this mode.
 pub(crate) fn holder_of<V: Pages>(views: &V, relation: RelNo, key: &[u8], mode: Mode) -> Held
     requires sound { V.is_sound views.now }

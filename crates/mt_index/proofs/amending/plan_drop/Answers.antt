@@ -1,4 +1,4 @@
-use Rattle.std.proofs.Common.{◌≡◌, ℕ, Some, ap, ◌∙◌, subst, sym}
+use Rattle.std.proofs.Common.{◌≡◌, ap, ◌∙◌, subst}
 use Rattle.mt_pool.specs.Changes.{after}
 use Rattle.mt_bucket.specs.Page.{IsBucket}
 use Rattle.mt_space.specs.Kinds.{kind}
@@ -28,5 +28,5 @@ returns-clause-formed g c pages agree m a relations f =
     let held = c.in-In.ensures.found pages agree m a in
     let total = g.V.Pages.total c.args.views.now in
     turns_formed relations total pages (after c.in_ok-change_of.field-0.list.items pages) c.in-In.page c.remove.new.page
-      (no_bucket total pages m c.in-In.page a (passed_kind (Lacks c.args.relation c.args.key.now pages) total pages m c.args.key.now c.in-In.page held.steps a held.passed))
-      (c.in_ok-change_of.ensures.turned pages is) (λ b. c.remove.ensures.kept relations total (subst (IsBucket relations total) is b)) f
+    (no_bucket total pages m c.in-In.page a (passed_kind (Lacks c.args.relation c.args.key.now pages) total pages m c.args.key.now c.in-In.page held.steps a held.passed))
+    (c.in_ok-change_of.ensures.turned pages is) (λ b. c.remove.ensures.kept relations total (subst (IsBucket relations total) is b)) f

@@ -1,4 +1,4 @@
-use Rattle.std.proofs.Common.{◌≡◌, ℕ, sym, ap, ◌∙◌, subst}
+use Rattle.std.proofs.Common.{◌≡◌, sym, ap, ◌∙◌, subst}
 use Rattle.mt_pool.specs.Changes.{PageBytes, after, replaced, IsUntouched, AreShort}
 use Rattle.mt_index.proofs.OnePage.{turns}
 use Rattle.mt_index.proofs.noting.change_of.Goals as goal
@@ -7,7 +7,7 @@ pub returns-clause-turned : goal.returns-clause-turned
 returns-clause-turned c pages is =
     let blank : after c.new-changes.result.list.items pages ≡ pages = ap (λ cs. after cs pages) c.new-changes.ensures in
     turns c.args.page c.args.new.now pages (after c.note.new.self.list.items pages)
-      (c.in_ok-note.ensures.noted pages (ap (λ (f : PageBytes). f c.args.page) blank ∙ is) ∙ ap (replaced c.args.page c.args.new.now) blank)
+    (c.in_ok-note.ensures.noted pages (ap (λ (f : PageBytes). f c.args.page) blank ∙ is) ∙ ap (replaced c.args.page c.args.new.now) blank)
 
 pub returns-clause-short : goal.returns-clause-short
 returns-clause-short c pages is = c.in_ok-note.ensures.short pages is (subst (λ cs. IsUntouched cs c.args.page) (sym c.new-changes.ensures) tt) (subst (λ cs. AreShort cs pages) (sym c.new-changes.ensures) tt)

@@ -1,4 +1,4 @@
-use Rattle.std.proofs.Common.{◌≡◌, ◌≢◌, ℕ, sym, ◌∙◌, arith, refl, inr, subst}
+use Rattle.std.proofs.Common.{◌≡◌, ℕ, sym, ◌∙◌, arith, refl, inr, subst}
 use Rattle.mt_index.specs.Answers.{Lacks}
 use Rattle.mt_index.proofs.Passing.{passed_start, passed_more, passed_kind, passed_ends, nowhere_map}
 use Rattle.mt_index.proofs.walking.holder_of.Goals as goal

@@ -1,5 +1,4 @@
-use Rattle.std.proofs.Common.{◌≡◌, ℕ, length, ap, sym, ◌∙◌, subst, arith, refl, inr}
-use Rattle.mt_bucket.specs.Page.{entries}
+use Rattle.std.proofs.Common.{◌≡◌, ℕ, sym, ◌∙◌, subst, arith, refl, inr}
 use Rattle.mt_index.specs.Rule.{IsFull}
 use Rattle.mt_index.specs.Pages.{state_of}
 use Rattle.mt_index.proofs.Passing.{passed_start, passed_more, passed_kind, passed_ends, full_is, room_is, no_step, some_step}
@@ -37,9 +36,9 @@ pub loop-step-preserved : goal.loop-step-preserved
 loop-step-preserved g c pages agree m a =
     let here = agree c.loop-step.at c.in-Some-page.page.now c.in-Some-page.ensures.some in
     passed_more (IsFull (state_of pages)) pages c.args.key.now c.loop-step.at c.next-behind.result c.loop-step.step c.in-Some-page.page.now (c.loop-step.invariant pages agree m a)
-      here (rw here (full_is c.in-Some-page.page.now c.count.result c.count.ensures c.if-count-lt-MAX_ENTRIES.false)) c.next-behind.ensures (λ e. c.if-get-eq0.false (c.get.ensures ∙ e))
+    here (rw here (full_is c.in-Some-page.page.now c.count.result c.count.ensures c.if-count-lt-MAX_ENTRIES.false)) c.next-behind.ensures (λ e. c.if-get-eq0.false (c.get.ensures ∙ e))
 
 pub returns-clause-endless : goal.returns-clause-endless
 returns-clause-endless g c pages agree m a =
     passed_ends (IsFull (state_of pages)) (g.V.Pages.total c.args.views.now) pages m c.args.key.now c.loop-step.at c.loop-step.step a (c.loop-step.invariant pages agree m a)
-      (let last = c.loop-step-test.false in let end = c.count-step-end.ensures in omega arith)
+    (let last = c.loop-step-test.false in let end = c.count-step-end.ensures in omega arith)

@@ -1,0 +1,6 @@
+use Rattle.mt_index.proofs.Ruling.{planned_map}
+use Rattle.mt_index.proofs.planning.plan_add.Goals as goal
+
+pub returns-clause-map : goal.returns-clause-map
+returns-clause-map g c =
+    planned_map (g.V.Pages.at_hand c.args.views.now) (g.V.Pages.total c.args.views.now) c.args.split (record { relation = c.args.relation; key = c.args.key.now; name = c.args.name }) c.plan_by_rule.result c.plan_by_rule.ensures

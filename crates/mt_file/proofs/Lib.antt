@@ -1,0 +1,3 @@
+pub mod Filed
+mod Slots
+mod Trees

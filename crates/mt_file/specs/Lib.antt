@@ -1,0 +1,3 @@
+pub mod Stub
+pub mod File
+pub mod Rooms

@@ -4,16 +4,10 @@ use Rattle.std.proofs.lemmas.Bool.{cases_eq, cases_lt}
 use Rattle.std.proofs.lemmas.Bool.Decides.{nat_tests}
 use Rattle.mt_slots.specs.Page.{Row, slot, size, offset, row_at, count, live_slots, IsShaped, Fits, Sets, Opens, Inserted, IsFull}
 use Rattle.mt_file.proofs.Slots.{slot_live, slot_empty, slot_past, free_before, none_live}
-use Rattle.mt_file.specs.Stub.{PageBytes, kind, replaced}
+use Rattle.mt_pool.specs.Changes.{PageBytes, replaced}
+use Rattle.mt_pool.proofs.Changing.{replaced_here, replaced_other}
+use Rattle.mt_space.specs.Kinds.{kind}
 use Rattle.mt_file.specs.File.{record_in, IsFile, AreWithin, Puts, Touches, Adds, Drops, Stays, Moves}
-
-pub replaced_here : (p q : ℕ) (page : List ℕ) (pages : PageBytes) → q ≡ p → replaced p page pages q ≡ page
-unfolding replaced
-replaced_here p q page pages is = grind (arith, nat_tests)
-
-pub replaced_other : (p q : ℕ) (page : List ℕ) (pages : PageBytes) → q ≢ p → replaced p page pages q ≡ pages q
-unfolding replaced
-replaced_other p q page pages ne = grind (arith, nat_tests)
 
 pub record_records : (pages : PageBytes) (p s : ℕ) → kind pages p ≡ 3 → record_in pages p s ≡ slot (pages p) s
 unfolding record_in

@@ -1,3 +1,4 @@
 pub mod Filed
+mod Planned
 mod Slots
 mod Trees

@@ -1,7 +1,8 @@
 -- The records of all pages, by their names.
 use Rattle.std.specs.Prelude.{◌≡◌, ◌≢◌, ◌⊎◌, ℕ, ◌==◌, if◌then◌else◌, List, length, Option, Some, None}
 use Rattle.mt_slots.specs.Page.{Row, slot, IsShaped, Fits}
-use Rattle.mt_file.specs.Stub.{PageBytes, kind}
+use Rattle.mt_pool.specs.Changes.{PageBytes}
+use Rattle.mt_space.specs.Kinds.{kind}
 
 -- what stands under the name of a record: a page and a slot
 unfoldable pub record_in : PageBytes → ℕ → ℕ → Option Row

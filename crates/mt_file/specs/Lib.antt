@@ -1,3 +1,3 @@
-pub mod Stub
 pub mod File
+pub mod Plans
 pub mod Rooms

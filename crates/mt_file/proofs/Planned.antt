@@ -1,0 +1,78 @@
+-- Pages that a plan sees, and what its changes make of them.
+use Rattle.std.proofs.Common.{◌≡◌, ◌≢◌, inl, inr, ⊎_elim, ◌⊎◌, ℕ, zero, suc, ◌+◌, ◌*◌, ◌<◌, ◌≤◌, ◌==◌, List, [], ◌∷◌, length, get_or, Bool, true, false, Option, Some, None, refl, sym, ◌∙◌, ap, ap₂, subst, arith}
+use Rattle.std.proofs.lemmas.Bool.{cases_eq, cases_lt}
+use Rattle.std.proofs.lemmas.Bool.Decides.{nat_tests}
+use Rattle.std.proofs.lemmas.List.{get_or_past}
+use Rattle.mt_pool.specs.declared.changes.PageChange.{PageChange}
+use Rattle.mt_pool.specs.Changes.{PageBytes, Agrees, replaced, after, IsUntouched, AreShort}
+use Rattle.mt_pool.proofs.Changing.{replaced_here, replaced_other, after_untouched}
+use Rattle.mt_slots.specs.Page.{Row, slot, size, count, live_slots, IsShaped, Fits, Sets, Inserted, IsFull, row_length}
+use Rattle.mt_space.specs.Kinds.{kind}
+use Rattle.mt_space.specs.Rooms.{mapped, IsFirstFree}
+use Rattle.mt_space.proofs.Maps.{mapped_at, mapped_past, mapped_long}
+use Rattle.mt_file.specs.File.{record_in, IsFile, Puts, Adds, Drops, Stays, Moves}
+use Rattle.mt_file.specs.Rooms.{fits_of}
+use Rattle.mt_file.specs.Plans.{IsReady, IsApart, IsChosen, IsLooked, IsTooFull}
+use Rattle.mt_file.proofs.Slots.{full_fits}
+use Rattle.mt_file.proofs.Filed.{adds_into, adds_new, taken, not_the_map}
+
+-- ---- a put into a named page
+
+pub named_seen : (at_hand : ℕ → Option (List ℕ)) (pages : PageBytes) (p : ℕ) (old : List ℕ) → IsReady at_hand (Some p) pages → at_hand p ≡ Some old → pages p ≡ old
+named_seen at_hand pages p old ready there = ready.seen p old (inr refl) there
+
+pub named_shaped : (at_hand : ℕ → Option (List ℕ)) (pages : PageBytes) (p : ℕ) (old : List ℕ) → IsReady at_hand (Some p) pages → at_hand p ≡ Some old → IsShaped old
+named_shaped at_hand pages p old ready there = subst IsShaped (named_seen at_hand pages p old ready there) (ready.file.each p (ready.named p refl))
+
+pub named_full : (at_hand : ℕ → Option (List ℕ)) (pages : PageBytes) (p : ℕ) (old : List ℕ) (row : Row) → IsReady at_hand (Some p) pages → at_hand p ≡ Some old → IsFull old (row_length row) → fits_of (pages p) < row_length row
+named_full at_hand pages p old row ready there full =
+    let shaped = named_shaped at_hand pages p old ready there in
+    let seen = ap fits_of (named_seen at_hand pages p old ready there) in
+    let over = full_fits old (row_length row) shaped (omega arith) full in
+    omega arith
+
+pub named_adds : (at_hand : ℕ → Option (List ℕ)) (pages next : PageBytes) (p s : ℕ) (old new : List ℕ) (row : Row) → IsReady at_hand (Some p) pages → at_hand p ≡ Some old
+    → IsShaped new → Inserted old new s row → next ≡ replaced p new pages → Adds pages next p s row
+named_adds at_hand pages next p s old new row ready there shaped did made =
+    let seen = named_seen at_hand pages p old ready there in
+    let did_here : Inserted (pages p) new s row = subst (λ (m : List ℕ). Inserted m new s row) (sym seen) did in
+    subst (λ (f : PageBytes). Adds pages f p s row) (sym made) (adds_into pages p s row new ready.file (ready.named p refl) shaped did_here)
+
+-- a page that no change names so far is as it was
+pub untouched_seen : (before : List PageChange) (pages : PageBytes) (p : ℕ) (old : List ℕ) → IsUntouched before p → after before pages p ≡ old → pages p ≡ old
+untouched_seen before pages p old none seen = sym (after_untouched before pages p none) ∙ seen
+
+-- ---- a put into a new page
+
+-- the first free page is free
+pub first_kind : (pages : PageBytes) (total p : ℕ) → length (pages 0) ≡ 4096 → IsFirstFree (mapped (pages 0) total) p → (kind pages p ≡ 0) × (p < 4096) × (p < total)
+first_kind pages total p whole first = ⊎_elim
+    (λ (lt : p < total). ⊎_elim
+      (λ (within : p < length (pages 0)).
+        let flag : (get_or (pages 0) p 0 == 0) ≡ true = sym (mapped_at (pages 0) total p lt within) ∙ first.free in
+        (grind (arith, nat_tests), omega arith, lt))
+      (λ (past : length (pages 0) ≤ p). let not_ : false ≡ true = sym (mapped_long (pages 0) total p past) ∙ first.free in cc)
+      (cases_lt p (length (pages 0))))
+    (λ (past : total ≤ p). let not_ : false ≡ true = sym (mapped_past (pages 0) total p past) ∙ first.free in cc)
+    (cases_lt p total)
+
+pub free_not_map : (pages : PageBytes) (p : ℕ) → IsFile pages → kind pages p ≡ 0 → p ≢ 0
+free_not_map pages p file free = not_the_map pages p file (λ e. absurd (omega arith))
+
+pub map_seen : (at_hand : ℕ → Option (List ℕ)) (room : Option ℕ) (pages : PageBytes) (map : List ℕ) → IsReady at_hand room pages → at_hand 0 ≡ Some map → pages 0 ≡ map
+map_seen at_hand room pages map ready there = ready.seen 0 map (inl (λ e. let fixed = ready.file.fixed in absurd (omega arith))) there
+
+pub first_seen : (pages : PageBytes) (total p : ℕ) (map : List ℕ) → pages 0 ≡ map → IsFirstFree (mapped map total) p → IsFirstFree (mapped (pages 0) total) p
+first_seen pages total p map is first = subst (λ (m : List ℕ). IsFirstFree (mapped m total) p) (sym is) first
+
+pub new_adds : (at_hand : ℕ → Option (List ℕ)) (pages next : PageBytes) (total p s : ℕ) (map new_map new : List ℕ) (row : Row) → IsReady at_hand None pages → at_hand 0 ≡ Some map
+    → IsFirstFree (mapped map total) p → length new_map ≡ 4096 → get_or new_map p 0 ≡ 3 → ((q : ℕ) → q ≢ p → get_or new_map q 0 ≡ get_or map q 0)
+    → IsShaped new → slot new s ≡ Some row → ((t : ℕ) → t ≢ s → slot new t ≡ None)
+    → next ≡ replaced p new (replaced 0 new_map pages) → Adds pages next p s row
+new_adds at_hand pages next total p s map new_map new row ready there first long own rest shaped mine alone made =
+    let seen = map_seen at_hand None pages map ready there in
+    let free = (first_kind pages total p ready.file.whole (first_seen pages total p map seen first)).0 in
+    let apart = free_not_map pages p ready.file free in
+    let is = taken pages p new_map new apart long own (λ q ne. rest q ne ∙ ap (λ (m : List ℕ). get_or m q 0) (sym seen)) in
+    subst (λ (f : PageBytes). Adds pages f p s row) (sym made)
+      (adds_new pages (replaced p new (replaced 0 new_map pages)) p s row new ready.file apart (λ e. absurd (omega arith)) is shaped mine alone)

@@ -1,0 +1,65 @@
+-- What a plan of the record file answers.
+use Rattle.std.specs.Prelude.{◌≡◌, ◌≢◌, ◌⊎◌, ℕ, ◌+◌, ◌<◌, List, Option, Some, None, false}
+use Rattle.std.proofs.Math.ListN.{get_or}
+use Rattle.mt_base.specs.declared.modes.Mode.TheVariants.{Write, Read}
+use Rattle.mt_pool.specs.Changes.{PageBytes, Agrees, after, IsUntouched, AreShort}
+use Rattle.mt_pool.specs.declared.changes.PageChange.{PageChange}
+use Rattle.mt_slots.specs.Page.{Row, Fits, row_length, room_of}
+use Rattle.mt_space.specs.Kinds.{kind}
+use Rattle.mt_space.specs.Rooms.{mapped, IsFirstFree}
+use Rattle.mt_file.specs.File.{record_in, IsFile, Adds, Drops, Stays, Moves}
+use Rattle.mt_file.specs.Rooms.{fits_of}
+use Rattle.mt_file.specs.declared.step.Step.{Step}
+use Rattle.mt_file.specs.declared.step.Step.TheVariants.{Need, Done, Full}
+
+-- ---- which page takes a record
+
+-- the page that is named, or else the smallest free one of so many
+abbrev pub IsChosen : Option ℕ → ℕ → PageBytes → ℕ → Type 0
+IsChosen (Some room) total pages p = p ≡ room
+IsChosen None total pages p = IsFirstFree (mapped (pages 0) total) p
+
+-- a page that has to be seen for it: that one, or the map where none is named
+abbrev pub IsLooked : Option ℕ → ℕ → PageBytes → ℕ → Type 0
+IsLooked (Some room) total pages p = p ≡ room
+IsLooked None total pages p = (p ≡ 0) ⊎ IsFirstFree (mapped (pages 0) total) p
+
+-- the page that is named does not take so many bytes, or none is free
+abbrev pub IsTooFull : Option ℕ → ℕ → PageBytes → ℕ → Type 0
+IsTooFull (Some room) total pages bytes = fits_of (pages room) < bytes
+IsTooFull None total pages bytes = (p : ℕ) → get_or (mapped (pages 0) total) p false ≡ false
+
+-- ---- a put
+
+-- pages of which those that a put may see are at hand as they are: the named page of records, and each other page
+-- that holds no records
+pub record IsReady (at_hand : ℕ → Option (List ℕ)) (room : Option ℕ) (pages : PageBytes) : Type 0 where
+  pub file : IsFile pages
+  pub named : (p : ℕ) → room ≡ Some p → kind pages p ≡ 3
+  pub seen : (p : ℕ) (bytes : List ℕ) → (kind pages p ≢ 3) ⊎ (room ≡ Some p) → at_hand p ≡ Some bytes → pages p ≡ bytes
+
+-- changes of which none is of a page that a put may change
+pub record IsApart (room : Option ℕ) (before : List PageChange) (pages : PageBytes) : Type 0 where
+  pub short : AreShort before pages
+  pub apart : (p : ℕ) → (kind (after before pages) p ≢ 3) ⊎ (room ≡ Some p) → IsUntouched before p
+
+-- the answer of a put after these changes
+abbrev pub IsPut : (ℕ → Option (List ℕ)) → Option ℕ → ℕ → List PageChange → PageBytes → Row → Step → Type 0
+IsPut at_hand room total before pages row (Need p mode) = (at_hand p ≡ None) × (mode ≡ Write) × IsLooked room total (after before pages) p
+IsPut at_hand room total before pages row (Done plan) =
+    Adds (after before pages) (after plan.changes.list.items pages) plan.name.page plan.name.slot row
+    × IsChosen room total (after before pages) plan.name.page
+IsPut at_hand room total before pages row Full = IsTooFull room total (after before pages) (row_length row)
+
+-- the changes of a plan are as a log wants them
+abbrev pub IsShortPlan : PageBytes → Step → Type 0
+IsShortPlan pages (Need p mode) = Unit {0}
+IsShortPlan pages (Done plan) = AreShort plan.changes.list.items pages
+IsShortPlan pages Full = Unit {0}
+
+-- ---- a removal
+
+abbrev pub IsRemoval : (ℕ → Option (List ℕ)) → PageBytes → ℕ → ℕ → Step → Type 0
+IsRemoval at_hand pages p s (Need q mode) = (at_hand q ≡ None) × (mode ≡ Write) × ((q ≡ p) ⊎ (q ≡ 0))
+IsRemoval at_hand pages p s (Done plan) = Drops pages (after plan.changes.list.items pages) p s × (plan.name.page ≡ p) × (plan.name.slot ≡ s)
+IsRemoval at_hand pages p s Full = ⊥

@@ -12,7 +12,7 @@ use Rattle.mt_space.specs.Rooms.{mapped, IsFirstFree}
 use Rattle.mt_space.proofs.Maps.{mapped_at, mapped_past, mapped_long}
 use Rattle.mt_file.specs.File.{record_in, IsFile, Puts, Adds, Drops, Stays, Moves}
 use Rattle.mt_file.specs.Rooms.{fits_of}
-use Rattle.mt_file.specs.Plans.{IsReady, IsApart, IsChosen, IsLooked, IsTooFull}
+use Rattle.mt_file.specs.Plans.{IsNamed, IsReady, IsApart, IsChosen, IsLooked, IsTooFull}
 use Rattle.mt_file.proofs.Slots.{full_fits}
 use Rattle.mt_file.proofs.Filed.{adds_into, adds_new, taken, not_the_map}
 
@@ -76,3 +76,26 @@ new_adds at_hand pages next total p s map new_map new row ready there first long
     let is = taken pages p new_map new apart long own (λ q ne. rest q ne ∙ ap (λ (m : List ℕ). get_or m q 0) (sym seen)) in
     subst (λ (f : PageBytes). Adds pages f p s row) (sym made)
       (adds_new pages (replaced p new (replaced 0 new_map pages)) p s row new ready.file apart (λ e. absurd (omega arith)) is shaped mine alone)
+
+-- the free page that is taken is as it is at hand, also once the map says so
+pub new_seen : (at_hand : ℕ → Option (List ℕ)) (pages mid : PageBytes) (total p : ℕ) (map new_map old : List ℕ) → IsReady at_hand None pages → at_hand 0 ≡ Some map
+    → IsFirstFree (mapped map total) p → at_hand p ≡ Some old → mid ≡ replaced 0 new_map pages → (p ≢ 0) × (pages p ≡ old) × (mid p ≡ old)
+new_seen at_hand pages mid total p map new_map old ready there first here made =
+    let seen = map_seen at_hand None pages map ready there in
+    let free = (first_kind pages total p ready.file.whole (first_seen pages total p map seen first)).0 in
+    let apart = free_not_map pages p ready.file free in
+    let is : pages p ≡ old = ready.seen p old (inl (λ e. absurd (omega arith))) here in
+    (apart, is, ap (λ (f : PageBytes). f p) made ∙ replaced_other 0 p new_map pages apart ∙ is)
+
+pub no_records : (at_hand : ℕ → Option (List ℕ)) (pages : PageBytes) (total p : ℕ) (map : List ℕ) → IsReady at_hand None pages → at_hand 0 ≡ Some map → IsFirstFree (mapped map total) p → kind pages p ≢ 3
+no_records at_hand pages total p map ready there first =
+    let seen = map_seen at_hand None pages map ready there in
+    let free = (first_kind pages total p ready.file.whole (first_seen pages total p map seen first)).0 in
+    λ e. absurd (omega arith)
+
+pub map_kind : (at_hand : ℕ → Option (List ℕ)) (room : Option ℕ) (pages : PageBytes) → IsReady at_hand room pages → kind pages 0 ≢ 3
+map_kind at_hand room pages ready = λ e. let fixed = ready.file.fixed in absurd (omega arith)
+
+-- pages that agree with all that is at hand
+pub ready_at : (at_hand : ℕ → Option (List ℕ)) (room : Option ℕ) (pages : PageBytes) → Agrees at_hand pages → IsFile pages → IsNamed room pages → IsReady at_hand room pages
+ready_at at_hand room pages agrees file named = record { file = file; named = named; seen = λ p bytes apart there. agrees p bytes there }

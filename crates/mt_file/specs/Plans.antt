@@ -29,13 +29,17 @@ abbrev pub IsTooFull : Option ℕ → ℕ → PageBytes → ℕ → Type 0
 IsTooFull (Some room) total pages bytes = fits_of (pages room) < bytes
 IsTooFull None total pages bytes = (p : ℕ) → get_or (mapped (pages 0) total) p false ≡ false
 
+-- the page that is named, if one is, holds records
+abbrev pub IsNamed : Option ℕ → PageBytes → Type 0
+IsNamed room pages = (p : ℕ) → room ≡ Some p → kind pages p ≡ 3
+
 -- ---- a put
 
 -- pages of which those that a put may see are at hand as they are: the named page of records, and each other page
 -- that holds no records
 pub record IsReady (at_hand : ℕ → Option (List ℕ)) (room : Option ℕ) (pages : PageBytes) : Type 0 where
   pub file : IsFile pages
-  pub named : (p : ℕ) → room ≡ Some p → kind pages p ≡ 3
+  pub named : IsNamed room pages
   pub seen : (p : ℕ) (bytes : List ℕ) → (kind pages p ≢ 3) ⊎ (room ≡ Some p) → at_hand p ≡ Some bytes → pages p ≡ bytes
 
 -- changes of which none is of a page that a put may change
@@ -59,7 +63,9 @@ IsShortPlan pages Full = Unit {0}
 
 -- ---- a removal
 
+-- the answer of a removal: the map is asked for only where the page is given back
 abbrev pub IsRemoval : (ℕ → Option (List ℕ)) → PageBytes → ℕ → ℕ → Step → Type 0
-IsRemoval at_hand pages p s (Need q mode) = (at_hand q ≡ None) × (mode ≡ Write) × ((q ≡ p) ⊎ (q ≡ 0))
+IsRemoval at_hand pages p s (Need q mode) =
+    (at_hand q ≡ None) × (mode ≡ Write) × ((q ≡ p) ⊎ ((q ≡ 0) × ((t : ℕ) → t ≢ s → record_in pages p t ≡ None)))
 IsRemoval at_hand pages p s (Done plan) = Drops pages (after plan.changes.list.items pages) p s × (plan.name.page ≡ p) × (plan.name.slot ≡ s)
 IsRemoval at_hand pages p s Full = ⊥

@@ -5,7 +5,7 @@ ghost use Rattle.mt_pool.specs.Changes.{PageBytes, Agrees, after};
 ghost use Rattle.mt_slots.specs.Page.{Row, IsShaped, slot as held};
 ghost use Rattle.mt_space.specs.Kinds.{kind};
 ghost use Rattle.mt_file.specs.File.{IsFile};
-ghost use Rattle.mt_file.specs.Plans.{IsReady, IsApart, IsPut, IsShortPlan};
+ghost use Rattle.mt_file.specs.Plans.{IsNamed, IsReady, IsApart, IsPut, IsShortPlan};
 
 use crate::step::{Plan, Step};
 use mt_base::{Mode, PageNo, RecordName, RelNo};
@@ -17,9 +17,7 @@ use std::alloc::{AllocError, Global};
 /// The page that says of each page what it holds.
 pub(crate) const MAP: u16 = 0;
 
-/// What it says of a free page, and of one that holds records.
-pub(crate) const FREE: u8 = 0;
-
+/// What it says of a page that holds records.
 pub(crate) const RECORDS: u8 = 3;
 
 /// Plans to put a record into the page `room`, which holds records; into a new page, the smallest free one,
@@ -35,12 +33,12 @@ pub fn plan_put<V: Pages>(
     value: &[u8],
 ) -> Result<Step, AllocError>
     requires sound { V.is_sound views.now }
-    requires ready { (pages : PageBytes) × IsReady (V.at_hand views.now) room pages }
+    requires good { (pages : PageBytes) × Agrees (V.at_hand views.now) pages × IsFile pages × IsNamed room pages }
     requires relation_fits { relation < 256 }
     requires key_fits { IsKey key.now }
     requires value_fits { IsValue value.now }
-    ensures put { IfOk result (λ step. (pages : PageBytes) → IsReady (V.at_hand views.now) room pages → IsPut (V.at_hand views.now) room (V.total views.now) [] pages (record { relation = relation; key = key.now; value = value.now }) step) }
-    ensures short { IfOk result (λ step. (pages : PageBytes) → IsReady (V.at_hand views.now) room pages → IsShortPlan pages step) }
+    ensures put { IfOk result (λ step. (pages : PageBytes) → Agrees (V.at_hand views.now) pages → IsFile pages → IsNamed room pages → IsPut (V.at_hand views.now) room (V.total views.now) [] pages (record { relation = relation; key = key.now; value = value.now }) step) }
+    ensures short { IfOk result (λ step. (pages : PageBytes) → Agrees (V.at_hand views.now) pages → IsFile pages → IsNamed room pages → IsShortPlan pages step) }
 {
     put(views, Changes::new(alloc), room, relation, key, value)
 }

@@ -13,8 +13,8 @@ use Rattle.mt_space.proofs.Maps.{mapped_at, mapped_past, mapped_long}
 use Rattle.mt_file.specs.File.{record_in, IsFile, Puts, Adds, Drops, Stays, Moves}
 use Rattle.mt_file.specs.Rooms.{fits_of}
 use Rattle.mt_file.specs.Plans.{IsNamed, IsReady, IsApart, IsChosen, IsLooked, IsTooFull}
-use Rattle.mt_file.proofs.Slots.{full_fits}
-use Rattle.mt_file.proofs.Filed.{adds_into, adds_new, taken, not_the_map}
+use Rattle.mt_file.proofs.Slots.{full_fits, slot_past, some_live}
+use Rattle.mt_file.proofs.Filed.{record_kind, record_records, adds_into, adds_new, taken, not_the_map, drops_from, drops_last, was_alone}
 
 -- ---- a put into a named page
 
@@ -96,6 +96,68 @@ no_records at_hand pages total p map ready there first =
 pub map_kind : (at_hand : ℕ → Option (List ℕ)) (room : Option ℕ) (pages : PageBytes) → IsReady at_hand room pages → kind pages 0 ≢ 3
 map_kind at_hand room pages ready = λ e. let fixed = ready.file.fixed in absurd (omega arith)
 
--- pages that agree with all that is at hand
-pub ready_at : (at_hand : ℕ → Option (List ℕ)) (room : Option ℕ) (pages : PageBytes) → Agrees at_hand pages → IsFile pages → IsNamed room pages → IsReady at_hand room pages
-ready_at at_hand room pages agrees file named = record { file = file; named = named; seen = λ p bytes apart there. agrees p bytes there }
+-- ---- a record under a name
+
+-- what is at hand of a page that holds a record
+pub record IsHeld (pages : PageBytes) (p s : ℕ) (old : List ℕ) (r : Row) : Type 0 where
+  pub seen : pages p ≡ old
+  pub records : kind pages p ≡ 3
+  pub within : p < 4096
+  pub shaped : IsShaped old
+  pub live : slot old s ≡ Some r
+  pub there : s < count old
+
+kind_within : (pages : PageBytes) (p : ℕ) → IsFile pages → kind pages p ≡ 3 → p < 4096
+kind_within pages p file is = ⊎_elim
+    (λ (lt : p < 4096). lt)
+    (λ (le : 4096 ≤ p). let whole = file.whole in let past = get_or_past (pages 0) p 0 (omega arith) in absurd (omega arith))
+    (cases_lt p 4096)
+
+pub held_there : (page : List ℕ) (s : ℕ) (r : Row) → slot page s ≡ Some r → s < count page
+held_there page s r live = ⊎_elim
+    (λ (lt : s < count page). lt)
+    (λ (le : count page ≤ s). let not_ : None ≡ Some r = sym (slot_past page s le) ∙ live in cc)
+    (cases_lt s (count page))
+
+pub is_held : (at_hand : ℕ → Option (List ℕ)) (pages : PageBytes) (p s : ℕ) (old : List ℕ) (r : Row) → Agrees at_hand pages → IsFile pages → record_in pages p s ≡ Some r → at_hand p ≡ Some old → IsHeld pages p s old r
+is_held at_hand pages p s old r agrees file is there =
+    let seen = agrees p old there in
+    let records = record_kind pages p s r is in
+    let live : slot old s ≡ Some r = sym (record_records pages p s records ∙ ap (λ (m : List ℕ). slot m s) seen) ∙ is in
+    record {
+      seen = seen;
+      records = records;
+      within = kind_within pages p file records;
+      shaped = subst IsShaped seen (file.each p records);
+      live = live;
+      there = held_there old s r live;
+    }
+
+-- the first change that is noted
+pub noted_first : (before next : List PageChange) (pages : PageBytes) (p : ℕ) (old new : List ℕ) → before ≡ [] → (after before pages p ≡ old → after next pages ≡ replaced p new (after before pages))
+    → pages p ≡ old → after next pages ≡ replaced p new pages
+noted_first before next pages p old new none made is =
+    let same : after before pages ≡ pages = ap (λ (cs : List PageChange). after cs pages) none in
+    made (ap (λ (f : PageBytes). f p) same ∙ is) ∙ ap (replaced p new) same
+
+-- ---- a removal
+
+pub drops_one : (pages next : PageBytes) (p s : ℕ) (old new : List ℕ) (r : Row) → IsFile pages → IsHeld pages p s old r → IsShaped new → Sets old new s None (count old)
+    → live_slots new (count new) ≢ 0 → next ≡ replaced p new pages → Drops pages next p s
+drops_one pages next p s old new r file held shaped sets some made =
+    let other = some_live new (count new) some in
+    let here : Sets (pages p) new s None (count old) = subst (λ (m : List ℕ). Sets m new s None (count old)) (sym held.seen) sets in
+    subst (λ (f : PageBytes). Drops pages f p s) (sym made) (drops_from pages p s other.0 (count old) new file held.records shaped here other.1 other.2)
+
+pub alone_in : (pages : PageBytes) (p s : ℕ) (old new : List ℕ) (r : Row) → IsHeld pages p s old r → Sets old new s None (count old) → live_slots new (count new) ≡ 0 → (t : ℕ) → t ≢ s → slot (pages p) t ≡ None
+alone_in pages p s old new r held sets none t ne = ap (λ (m : List ℕ). slot m t) held.seen ∙ was_alone old new s (count old) sets none t ne
+
+pub none_beside : (pages : PageBytes) (p s : ℕ) (old new : List ℕ) (r : Row) → IsHeld pages p s old r → Sets old new s None (count old) → live_slots new (count new) ≡ 0 → (t : ℕ) → t ≢ s → record_in pages p t ≡ None
+none_beside pages p s old new r held sets none t ne = record_records pages p t held.records ∙ alone_in pages p s old new r held sets none t ne
+
+pub gives_back : (pages next : PageBytes) (p s : ℕ) (map new_map old new : List ℕ) (r : Row) → IsFile pages → IsHeld pages p s old r → pages 0 ≡ map
+    → length new_map ≡ 4096 → get_or new_map p 0 ≡ 0 → ((q : ℕ) → q ≢ p → get_or new_map q 0 ≡ get_or map q 0)
+    → Sets old new s None (count old) → live_slots new (count new) ≡ 0 → next ≡ replaced 0 new_map pages → Drops pages next p s
+gives_back pages next p s map new_map old new r file held seen long own rest sets none made =
+    subst (λ (f : PageBytes). Drops pages f p s) (sym made)
+      (drops_last pages p s new_map file held.records long own (λ q ne. rest q ne ∙ ap (λ (m : List ℕ). get_or m q 0) (sym seen)) (alone_in pages p s old new r held sets none))

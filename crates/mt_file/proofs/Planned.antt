@@ -13,7 +13,7 @@ use Rattle.mt_space.proofs.Maps.{mapped_at, mapped_past, mapped_long}
 use Rattle.mt_file.specs.File.{record_in, IsFile, Puts, Adds, Drops, Stays, Moves}
 use Rattle.mt_file.specs.Rooms.{fits_of}
 use Rattle.mt_file.specs.Plans.{IsNamed, IsReady, IsApart, IsChosen, IsLooked, IsTooFull}
-use Rattle.mt_file.proofs.Slots.{full_fits, slot_past, some_live}
+use Rattle.mt_file.proofs.Slots.{full_fits, held_there, some_live}
 use Rattle.mt_file.proofs.Filed.{record_kind, record_records, adds_into, adds_new, taken, not_the_map, drops_from, drops_last, was_alone}
 
 -- ---- a put into a named page
@@ -112,12 +112,6 @@ kind_within pages p file is = ⊎_elim
     (λ (lt : p < 4096). lt)
     (λ (le : 4096 ≤ p). let whole = file.whole in let past = get_or_past (pages 0) p 0 (omega arith) in absurd (omega arith))
     (cases_lt p 4096)
-
-pub held_there : (page : List ℕ) (s : ℕ) (r : Row) → slot page s ≡ Some r → s < count page
-held_there page s r live = ⊎_elim
-    (λ (lt : s < count page). lt)
-    (λ (le : count page ≤ s). let not_ : None ≡ Some r = sym (slot_past page s le) ∙ live in cc)
-    (cases_lt s (count page))
 
 pub is_held : (at_hand : ℕ → Option (List ℕ)) (pages : PageBytes) (p s : ℕ) (old : List ℕ) (r : Row) → Agrees at_hand pages → IsFile pages → record_in pages p s ≡ Some r → at_hand p ≡ Some old → IsHeld pages p s old r
 is_held at_hand pages p s old r agrees file is there =

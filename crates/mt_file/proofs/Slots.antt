@@ -1,5 +1,5 @@
 -- What the slots of a page hold.
-use Rattle.std.proofs.Common.{◌≡◌, ◌≢◌, ⊎_elim, ◌⊎◌, ℕ, zero, suc, ◌+◌, ◌-◌, ◌*◌, ◌<◌, ◌≤◌, List, length, Option, Some, None, if◌then◌else◌, ◌==◌, refl, sym, ◌∙◌, ap, subst, arith, inl, inr}
+use Rattle.std.proofs.Common.{◌≡◌, ◌≢◌, ⊎_elim, ◌⊎◌, ℕ, zero, suc, ◌+◌, ◌-◌, ◌*◌, ◌<◌, ◌≤◌, List, length, take, drop, get_or, length-take, Option, Some, None, if◌then◌else◌, ◌==◌, refl, sym, ◌∙◌, ap, subst, arith, inl, inr}
 use Rattle.std.proofs.lemmas.Bool.{cases_eq, cases_lt}
 use Rattle.std.proofs.lemmas.Bool.Decides.{nat_tests}
 use Rattle.mt_slots.specs.Page.{Row, slot, size, count, offset, row_at, live_slots, live_bytes, room_of, row_length, IsShaped, Sets, Opens, Inserted, IsFull}
@@ -93,3 +93,29 @@ empty_takes page bytes none few full =
     let over = full 0 1 (inr (sym none, refl)) in
     let nothing : live_bytes page (count page) ≡ 0 = ap (live_bytes page) none in
     absurd (omega arith)
+
+-- ---- a record as its page has it
+
+pub held_there : (page : List ℕ) (s : ℕ) (r : Row) → slot page s ≡ Some r → s < count page
+held_there page s r live = ⊎_elim
+    (λ (lt : s < count page). lt)
+    (λ (le : count page ≤ s). let not_ : None ≡ Some r = sym (slot_past page s le) ∙ live in cc)
+    (cases_lt s (count page))
+
+held_row : (page : List ℕ) (s : ℕ) (r : Row) → slot page s ≡ Some r → row_at page (offset page s) ≡ r
+held_row page s r live = ⊎_elim
+    (λ (e : size page s ≡ 0). let not_ : None ≡ Some r = sym (slot_empty page s e) ∙ live in cc)
+    (λ (ne : size page s ≢ 0). let same : Some (row_at page (offset page s)) ≡ Some r = sym (slot_live page s (held_there page s r live) ne) ∙ live in cc)
+    (cases_eq (size page s) 0)
+
+short_key : (page : List ℕ) (at : ℕ) → ((i : ℕ) → get_or page i 0 < 256) → ((row_at page at).relation < 256) × (length (row_at page at).key < 256)
+unfolding row_at
+short_key page at bytes =
+    let n = get_or page (at + 1) 0 in
+    let small = bytes (at + 1) in
+    let long = length-take n (drop (at + 4) page) in
+    (bytes at, omega arith)
+
+-- its relation and its key's length are bytes of the page
+pub row_small : (page : List ℕ) (s : ℕ) (r : Row) → ((i : ℕ) → get_or page i 0 < 256) → slot page s ≡ Some r → (r.relation < 256) × (length r.key < 256)
+row_small page s r bytes live = subst (λ (k : Row). (k.relation < 256) × (length k.key < 256)) (held_row page s r live) (short_key page (offset page s) bytes)

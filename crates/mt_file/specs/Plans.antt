@@ -1,14 +1,16 @@
 -- What a plan of the record file answers.
-use Rattle.std.specs.Prelude.{◌≡◌, ◌≢◌, ◌⊎◌, ℕ, ◌+◌, ◌<◌, List, Option, Some, None, false}
+use Rattle.std.specs.Prelude.{◌≡◌, ◌≢◌, ◌⊎◌, ℕ, ◌+◌, ◌<◌, List, [], Option, Some, None, false}
 use Rattle.std.proofs.Math.ListN.{get_or}
 use Rattle.mt_base.specs.declared.modes.Mode.TheVariants.{Write, Read}
 use Rattle.mt_pool.specs.Changes.{PageBytes, Agrees, after, IsUntouched, AreShort}
 use Rattle.mt_pool.specs.declared.changes.PageChange.{PageChange}
-use Rattle.mt_slots.specs.Page.{Row, Fits, row_length, room_of}
+use Rattle.mt_slots.specs.Page.{Row, slot, IsShaped, row_length, room_of}
 use Rattle.mt_space.specs.Kinds.{kind}
 use Rattle.mt_space.specs.Rooms.{mapped, IsFirstFree}
 use Rattle.mt_file.specs.File.{record_in, IsFile, Adds, Drops, Stays, Moves}
 use Rattle.mt_file.specs.Rooms.{fits_of}
+use Rattle.mt_file.specs.declared.reading.Found.{Found}
+use Rattle.mt_file.specs.declared.reading.Found.TheVariants as found
 use Rattle.mt_file.specs.declared.step.Step.{Step}
 use Rattle.mt_file.specs.declared.step.Step.TheVariants.{Need, Done, Full}
 
@@ -69,3 +71,38 @@ IsRemoval at_hand pages p s (Need q mode) =
     (at_hand q ≡ None) × (mode ≡ Write) × ((q ≡ p) ⊎ ((q ≡ 0) × ((t : ℕ) → t ≢ s → record_in pages p t ≡ None)))
 IsRemoval at_hand pages p s (Done plan) = Drops pages (after plan.changes.list.items pages) p s × (plan.name.page ≡ p) × (plan.name.slot ≡ s)
 IsRemoval at_hand pages p s Full = ⊥
+
+-- ---- a replacement
+
+-- the record under a name is r, and its page has no room for this one in its place
+abbrev pub IsOutgrown : PageBytes → ℕ → Row → Row → Type 0
+IsOutgrown pages p r row = room_of (pages p) + row_length r < row_length row
+
+-- The record stays under its name where its page has room for it, and moves to a chosen page only where it has not.
+abbrev pub IsReplaced : Option ℕ → ℕ → PageBytes → PageBytes → ℕ → ℕ → Row → Row → ℕ → ℕ → Type 0
+IsReplaced room total pages next p s r row q t =
+    ((q ≡ p) × (t ≡ s) × Stays pages next p s row)
+    ⊎ (IsOutgrown pages p r row × ((q ≡ p) ⊎ IsChosen room total pages q) × Moves pages next p s q t row)
+
+-- the answer of a replacement of r
+abbrev pub IsReplacement : (ℕ → Option (List ℕ)) → Option ℕ → ℕ → PageBytes → ℕ → ℕ → Row → Row → Step → Type 0
+IsReplacement at_hand room total pages p s r row (Need q mode) =
+    (at_hand q ≡ None) × (mode ≡ Write) × ((q ≡ p) ⊎ (IsOutgrown pages p r row × IsLooked room total pages q))
+IsReplacement at_hand room total pages p s r row (Done plan) =
+    IsReplaced room total pages (after plan.changes.list.items pages) p s r row plan.name.page plan.name.slot
+    × (r ≡ row → plan.changes.list.items ≡ [])
+IsReplacement at_hand room total pages p s r row Full = IsOutgrown pages p r row × IsTooFull room total pages (row_length row)
+
+-- page p holds this record alone, and all else stays
+pub record IsWhole (old new : PageBytes) (p s : ℕ) (row : Row) : Type 0 where
+  pub shaped : IsShaped (new p)
+  pub here : slot (new p) s ≡ Some row
+  pub alone : (t : ℕ) → t ≢ s → slot (new p) t ≡ None
+  pub others : (q : ℕ) → q ≢ p → new q ≡ old q
+
+-- ---- a reading
+
+abbrev pub IsFound : (ℕ → Option (List ℕ)) → PageBytes → ℕ → ℕ → Found → Type 0
+IsFound at_hand pages p s (found.Need q mode) = (at_hand q ≡ None) × (mode ≡ Read) × (q ≡ p)
+IsFound at_hand pages p s (found.Record view) = record_in pages p s ≡ Some (record { relation = view.relation; key = view.key.now; value = view.value.now })
+IsFound at_hand pages p s found.Nothing = record_in pages p s ≡ None

@@ -2,11 +2,15 @@
 #![tactic(auto)]
 
 mod putting;
+mod reading;
 mod removing;
+mod replacing;
 mod rooms;
 mod step;
 
 pub use putting::plan_put;
+pub use reading::{Found, plan_read};
 pub use removing::plan_remove;
+pub use replacing::plan_replace;
 pub use rooms::{Rooms, fits};
 pub use step::{Plan, Step};

@@ -12,7 +12,7 @@ use Rattle.mt_space.specs.Kinds.{kind}
 use Rattle.mt_space.specs.Rooms.{mapped, IsFirstFree}
 use Rattle.mt_file.specs.File.{record_in, IsFile, Puts, Adds, Drops, Stays, Moves}
 use Rattle.mt_file.specs.Rooms.{fits_of}
-use Rattle.mt_file.specs.Plans.{IsNamed, IsReady, IsApart, IsChosen, IsLooked, IsTooFull, IsPut, IsOutgrown, IsReplaced, IsReplacement, IsWhole}
+use Rattle.mt_file.specs.Plans.{IsNamed, IsReady, IsApart, IsChosen, IsLooked, IsTooFull, IsRoomy, IsPut, IsOutgrown, IsReplaced, IsReplacement, IsWhole}
 use Rattle.mt_file.specs.declared.step.Step.{Step}
 use Rattle.mt_file.specs.declared.step.Step.TheVariants.{Need, Done, Full}
 use Rattle.mt_file.proofs.Filed.{record_kind, record_records, records_not_map, kind_kept, file_one, adds_new, Taken, drops_last, stays_in}
@@ -124,6 +124,10 @@ full_same : (room : Option ℕ) (total bytes : ℕ) (pages mid : PageBytes) → 
 full_same (Some h) total bytes pages mid map named is = subst (λ (m : List ℕ). fits_of m < bytes) (named h refl) is
 full_same None total bytes pages mid map named is = subst (λ (m : List ℕ). (p : ℕ) → get_or (mapped m total) p false ≡ false) map is
 
+roomy_same : (room : Option ℕ) (bytes : ℕ) (pages mid : PageBytes) → ((h : ℕ) → room ≡ Some h → mid h ≡ pages h) → IsRoomy room mid bytes → IsRoomy room pages bytes
+roomy_same (Some h) bytes pages mid named is = subst (λ (m : List ℕ). bytes ≤ fits_of m) (named h refl) is
+roomy_same None bytes pages mid named is = tt
+
 -- the answer of the put is that of the replacement
 pub moves_on : (at_hand : ℕ → Option (List ℕ)) (room : Option ℕ) (total : ℕ) (before : List PageChange) (pages : PageBytes) (p s : ℕ) (r row : Row) (step : Step)
     → Drops pages (after before pages) p s → IsOutgrown pages p r row → r ≢ row → after before pages 0 ≡ pages 0 → ((h : ℕ) → room ≡ Some h → after before pages h ≡ pages h)
@@ -131,7 +135,7 @@ pub moves_on : (at_hand : ℕ → Option (List ℕ)) (room : Option ℕ) (total 
 moves_on at_hand room total before pages p s r row (Need q mode) drops outgrown ne map named put =
     (put.0, put.1, inr (outgrown, looked_same room total pages (after before pages) q map put.2))
 moves_on at_hand room total before pages p s r row (Done plan) drops outgrown ne map named put =
-    (inr (outgrown, inr (chosen_same room total pages (after before pages) plan.name.page map put.1), record { between = after before pages; drops = drops; adds = put.0 }),
+    (inr (outgrown, inr (chosen_same room total pages (after before pages) plan.name.page map put.1, roomy_same room (row_length row) pages (after before pages) named put.2), record { between = after before pages; drops = drops; adds = put.0 }),
       λ e. absurd (ne e))
 moves_on at_hand room total before pages p s r row Full drops outgrown ne map named put = (outgrown, full_same room total (row_length row) pages (after before pages) map named put)
 

@@ -13,7 +13,7 @@ use Rattle.mt_space.proofs.Maps.{mapped_at, mapped_past, mapped_long}
 use Rattle.mt_file.specs.File.{record_in, IsFile, Puts, Adds, Drops, Stays, Moves}
 use Rattle.mt_file.specs.Rooms.{fits_of}
 use Rattle.mt_file.specs.Plans.{IsNamed, IsReady, IsApart, IsChosen, IsLooked, IsTooFull}
-use Rattle.mt_file.proofs.Slots.{full_fits, held_there, some_live}
+use Rattle.mt_file.proofs.Slots.{full_fits, took_fits, held_there, some_live}
 use Rattle.mt_file.proofs.Filed.{record_kind, record_records, adds_into, adds_new, taken, not_the_map, drops_from, drops_last, was_alone}
 
 -- ---- a put into a named page
@@ -37,6 +37,13 @@ named_adds at_hand pages next p s old new row ready there shaped did made =
     let seen = named_seen at_hand pages p old ready there in
     let did_here : Inserted (pages p) new s row = subst (λ (m : List ℕ). Inserted m new s row) (sym seen) did in
     subst (λ (f : PageBytes). Adds pages f p s row) (sym made) (adds_into pages p s row new ready.file (ready.named p refl) shaped did_here)
+
+pub named_roomy : (at_hand : ℕ → Option (List ℕ)) (pages : PageBytes) (p s : ℕ) (old new : List ℕ) (row : Row) → IsReady at_hand (Some p) pages → at_hand p ≡ Some old
+    → IsShaped new → Inserted old new s row → row_length row ≤ fits_of (pages p)
+named_roomy at_hand pages p s old new row ready there shaped did =
+    let seen = ap fits_of (named_seen at_hand pages p old ready there) in
+    let fits = took_fits old new s row shaped did in
+    omega arith
 
 -- a page that no change names so far is as it was
 pub untouched_seen : (before : List PageChange) (pages : PageBytes) (p : ℕ) (old : List ℕ) → IsUntouched before p → after before pages p ≡ old → pages p ≡ old

@@ -58,6 +58,16 @@ few_live page (suc n) = ⊎_elim
     (λ (ne : size page n ≢ 0). let one = counts_one page n ne in let few = few_live page n in omega arith)
     (cases_eq (size page n) 0)
 
+-- all of them
+pub all_live : (page : List ℕ) (n i : ℕ) → live_slots page n ≡ n → i < n → size page i ≡ 0 → ⊥
+all_live page zero i all lt none = absurd (omega arith)
+all_live page (suc n) i all lt none = ⊎_elim
+    (λ (e : size page n ≡ 0). let rest = counts_none page n e in let few = few_live page n in absurd (omega arith))
+    (λ (ne : size page n ≢ 0).
+      let one = counts_one page n ne in
+      ⊎_elim (λ (f : i ≡ n). ne (sym (ap (size page) f) ∙ none)) (λ (other : i ≢ n). all_live page n i (omega arith) (omega arith) none) (cases_eq i n))
+    (cases_eq (size page n) 0)
+
 -- not all of them
 pub some_empty : (page : List ℕ) (n : ℕ) → live_slots page n ≢ n → (i : ℕ) × (i < n) × (size page i ≡ 0)
 some_empty page zero ne = absurd (ne refl)
@@ -86,6 +96,25 @@ full_fits page bytes shaped some full = ⊎_elim
       let room = shaped.room in
       grind (arith, nat_tests))
     (cases_eq (live_slots page (count page)) (count page))
+
+-- a record that was put into a page fitted
+pub took_fits : (old new : List ℕ) (s : ℕ) (r : Row) → IsShaped new → Inserted old new s r → row_length r ≤ fits_of old
+unfolding fits_of room_of
+took_fits old new s r shaped did =
+    let n = did.sets.0 in
+    let counted = did.sets.2.counted in
+    let live = did.live in
+    let room = shaped.room in
+    ⊎_elim
+      (λ h.
+        let hole = h.1 in
+        let same = h.2 in
+        ⊎_elim
+          (λ (all : live_slots old (count old) ≡ count old). absurd (all_live old (count old) s all h.0 hole))
+          (λ (ne : live_slots old (count old) ≢ count old). grind (arith, nat_tests))
+          (cases_eq (live_slots old (count old)) (count old)))
+      (λ h. let at_end = h.0 in let more = h.1 in grind (arith, nat_tests))
+      did.sets.1
 
 -- a page without slots is not full for a record
 pub empty_takes : (page : List ℕ) (bytes : ℕ) → count page ≡ 0 → bytes ≤ 4084 → IsFull page bytes → ⊥

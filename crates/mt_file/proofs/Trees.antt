@@ -2,7 +2,9 @@
 use Rattle.std.proofs.Common.{◌≡◌, ◌≢◌, ℕ, zero, suc, ◌+◌, ◌-◌, ◌*◌, ◌/◌, ◌<◌, ◌≤◌, max, Bool, true, false, if◌then◌else◌, List, length, get_or, set, replicate, refl, sym, ◌∙◌, ap, ap₂, arith, ⊎_elim}
 use Rattle.std.proofs.lemmas.List.{get_or-set_same, get_or-set_other, get_or-replicate, get_or_past, length-replicate}
 use Rattle.std.proofs.lemmas.Bool.{cases_eq, cases_lt}
-use Rattle.mt_file.specs.Rooms.{Room, fits_at, is_held, shown, Takes, IsMax, IsTreeBut, IsKept}
+use Rattle.mt_pool.specs.Changes.{PageBytes}
+use Rattle.mt_space.specs.Kinds.{kind}
+use Rattle.mt_file.specs.Rooms.{fits_of, AreRooms, Room, fits_at, is_held, shown, Takes, IsMax, IsTreeBut, IsKept}
 
 -- a change of a byte that is neither a node nor a child of it
 pub stays_max : (old new : List ℕ) (i : ℕ) → get_or new i 0 ≡ get_or old i 0 → get_or new (2 * i) 0 ≡ get_or old (2 * i) 0 → get_or new (2 * i + 1) 0 ≡ get_or old (2 * i + 1) 0
@@ -101,3 +103,19 @@ none_takes rooms tree bytes kept less p takes =
     let all : shown rooms p ≡ fits_at rooms p = ap (λ (b : Bool). if b then 0 else fits_at rooms p) takes.1 in
     let fits = takes.2 in
     omega arith
+
+-- ---- the index beside the pages
+
+pub no_rooms : (n : ℕ) (all : PageBytes) → ((p : ℕ) → kind all p ≢ 3) → AreRooms (replicate n 0) all
+no_rooms n all none = record {
+  records = λ p lt is. absurd (none p is);
+  others = λ p lt ne. same_all n p 0;
+}
+
+pub room_records : (rooms : Room) (pages : PageBytes) (bytes p : ℕ) → AreRooms rooms.0 pages → 0 < bytes → Takes rooms bytes p → (kind pages p ≡ 3) × (bytes ≤ fits_of (pages p))
+room_records rooms pages bytes p are some takes =
+    let fits = takes.2 in
+    ⊎_elim
+      (λ (is : kind pages p ≡ 3). let same = are.records p takes.0 is in (is, omega arith))
+      (λ (ne : kind pages p ≢ 3). let zero = are.others p takes.0 ne in absurd (omega arith))
+      (cases_eq (kind pages p) 3)

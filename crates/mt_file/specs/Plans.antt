@@ -1,5 +1,5 @@
 -- What a plan of the record file answers.
-use Rattle.std.specs.Prelude.{◌≡◌, ◌≢◌, ◌⊎◌, ℕ, ◌+◌, ◌<◌, List, [], Option, Some, None, false}
+use Rattle.std.specs.Prelude.{◌≡◌, ◌≢◌, ◌⊎◌, ℕ, ◌+◌, ◌<◌, ◌≤◌, List, [], Option, Some, None, false}
 use Rattle.std.proofs.Math.ListN.{get_or}
 use Rattle.mt_base.specs.declared.modes.Mode.TheVariants.{Write, Read}
 use Rattle.mt_pool.specs.Changes.{PageBytes, Agrees, after, IsUntouched, AreShort}
@@ -31,6 +31,11 @@ abbrev pub IsTooFull : Option ℕ → ℕ → PageBytes → ℕ → Type 0
 IsTooFull (Some room) total pages bytes = fits_of (pages room) < bytes
 IsTooFull None total pages bytes = (p : ℕ) → get_or (mapped (pages 0) total) p false ≡ false
 
+-- the page that is named takes so many bytes
+abbrev pub IsRoomy : Option ℕ → PageBytes → ℕ → Type 0
+IsRoomy (Some room) pages bytes = bytes ≤ fits_of (pages room)
+IsRoomy None pages bytes = Unit {0}
+
 -- the page that is named, if one is, holds records
 abbrev pub IsNamed : Option ℕ → PageBytes → Type 0
 IsNamed room pages = (p : ℕ) → room ≡ Some p → kind pages p ≡ 3
@@ -55,6 +60,7 @@ IsPut at_hand room total before pages row (Need p mode) = (at_hand p ≡ None) �
 IsPut at_hand room total before pages row (Done plan) =
     Adds (after before pages) (after plan.changes.list.items pages) plan.name.page plan.name.slot row
     × IsChosen room total (after before pages) plan.name.page
+    × IsRoomy room (after before pages) (row_length row)
 IsPut at_hand room total before pages row Full = IsTooFull room total (after before pages) (row_length row)
 
 -- the changes of a plan are as a log wants them
@@ -82,7 +88,7 @@ IsOutgrown pages p r row = room_of (pages p) + row_length r < row_length row
 abbrev pub IsReplaced : Option ℕ → ℕ → PageBytes → PageBytes → ℕ → ℕ → Row → Row → ℕ → ℕ → Type 0
 IsReplaced room total pages next p s r row q t =
     ((q ≡ p) × (t ≡ s) × Stays pages next p s row)
-    ⊎ (IsOutgrown pages p r row × ((q ≡ p) ⊎ IsChosen room total pages q) × Moves pages next p s q t row)
+    ⊎ (IsOutgrown pages p r row × ((q ≡ p) ⊎ (IsChosen room total pages q × IsRoomy room pages (row_length row))) × Moves pages next p s q t row)
 
 -- the answer of a replacement of r
 abbrev pub IsReplacement : (ℕ → Option (List ℕ)) → Option ℕ → ℕ → PageBytes → ℕ → ℕ → Row → Row → Step → Type 0

@@ -1,7 +1,9 @@
 -- What each page of records takes.
 use Rattle.std.specs.Prelude.{◌≡◌, ◌≢◌, ℕ, ◌+◌, ◌-◌, ◌*◌, ◌<◌, ◌≤◌, max, Bool, true, false, List, length, ◌==◌, if◌then◌else◌}
 use Rattle.std.proofs.Math.ListN.{get_or}
+use Rattle.mt_pool.specs.Changes.{PageBytes}
 use Rattle.mt_slots.specs.Page.{count, live_slots, room_of}
+use Rattle.mt_space.specs.Kinds.{kind}
 
 -- the bytes of the longest record that fits: a new slot takes 4 where none is empty
 unfoldable pub fits_of : List ℕ → ℕ
@@ -24,6 +26,11 @@ shown rooms p = if is_held rooms p then 0 else fits_at rooms p
 -- the page takes a record of so many bytes, and nobody holds it
 abbrev pub Takes : Room → ℕ → ℕ → Type 0
 Takes rooms bytes p = (p < length rooms.0) × (is_held rooms p ≡ false) × (bytes ≤ fits_at rooms p)
+
+-- the index beside the pages: what each page of records takes, and 0 for each other page
+pub record AreRooms (fits : List ℕ) (pages : PageBytes) : Type 0 where
+  pub records : (p : ℕ) → p < length fits → kind pages p ≡ 3 → get_or fits p 0 ≡ fits_of (pages p)
+  pub others : (p : ℕ) → p < length fits → kind pages p ≢ 3 → get_or fits p 0 ≡ 0
 
 -- ---- the tree
 

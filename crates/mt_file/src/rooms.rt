@@ -1,7 +1,10 @@
 // Which page of records takes a record of so many bytes.
 ghost use Rattle.std.specs.Prelude.{◌≡◌, ◌≢◌, ◌+◌, ◌*◌, ◌<◌, ◌≤◌, ℕ, length, get_or, replicate, max, IfOk, IfSome, IfNone, slice_set, true, false};
 ghost use Rattle.mt_slots.specs.Page.{IsShaped};
-ghost use Rattle.mt_file.specs.Rooms.{fits_of, fits_at, is_held, Takes, IsMax, IsTreeBut};
+ghost use Rattle.mt_pool.specs.Changes.{PageBytes};
+ghost use Rattle.mt_space.specs.Kinds.{kind};
+ghost use Rattle.mt_file.specs.File.{Touches};
+ghost use Rattle.mt_file.specs.Rooms.{fits_of, fits_at, is_held, Takes, AreRooms, IsMax, IsTreeBut};
 
 use mt_base::PageNo;
 use mt_base::ranges::u16_at;
@@ -54,6 +57,7 @@ impl Rooms {
         requires { pages ≤ 4000 }
         ensures fits { IfOk result (λ rooms. rooms.0 ≡ replicate pages 0) }
         ensures held { IfOk result (λ rooms. rooms.1 ≡ replicate pages false) }
+        ensures rooms { IfOk result (λ rooms. (all : PageBytes) → ((p : ℕ) → kind all p ≢ 3) → AreRooms rooms.0 all) }
     {
         let pages = usize::from(pages);
         Ok(Rooms {
@@ -68,6 +72,8 @@ impl Rooms {
         requires { 0 < bytes }
         ensures found { IfSome result (λ p. Takes self.now bytes p) }
         ensures none { IfNone result ((p : ℕ) → Takes self.now bytes p → ⊥) }
+        ensures records { IfSome result (λ p. (pages : PageBytes) → AreRooms self.now.0 pages → (kind pages p ≡ 3) × (bytes ≤ fits_of (pages p))) }
+        ensures full { IfNone result ((pages : PageBytes) (p : ℕ) → AreRooms self.now.0 pages → p < length self.now.0 → is_held self.now p ≡ false → kind pages p ≡ 3 → fits_of (pages p) < bytes) }
     {
         let leaf = leaf_with(self.tree.as_slice(), bytes)?;
         Some(PageNo::new((leaf - LEAVES) as u16))
@@ -78,6 +84,7 @@ impl Rooms {
         requires { page < length self.old.0 }
         ensures fits { self.new.0 ≡ slice_set self.old.0 page fits }
         ensures held { self.new.1 ≡ self.old.1 }
+        ensures rooms { (old new : PageBytes) → AreRooms self.old.0 old → kind old 0 ≢ 3 → Touches old new page → (kind new page ≡ 3 → fits ≡ fits_of (new page)) → (kind new page ≢ 3 → fits ≡ 0) → AreRooms self.new.0 new }
     {
         let place = usize::from(page.get());
         self.fits[place] = fits;

@@ -1,5 +1,5 @@
 use Rattle.std.proofs.Common.{refl, inr}
-use Rattle.mt_file.proofs.Planned.{named_seen, named_shaped, named_full, named_adds, untouched_seen}
+use Rattle.mt_file.proofs.Planned.{named_seen, named_shaped, named_full, named_adds, named_roomy, untouched_seen}
 use Rattle.mt_pool.specs.Changes.{after}
 use Rattle.mt_file.proofs.putting.put_into.Goals as goal
 
@@ -18,7 +18,9 @@ returns-clause-put g c = λ pages ready.
     let seen = named_seen at_hand before c.args.page c.in-Some.old.now ready c.in-Some.ensures.some in
     (named_adds at_hand before (after c.note.new.self.list.items pages) c.args.page c.in-Some-insert.slot c.in-Some.old.now c.insert.new.page
       (record { relation = c.args.relation; key = c.args.key.now; value = c.args.value.now }) ready c.in-Some.ensures.some c.insert.ensures.shaped c.in-Some-insert.ensures.done
-      (c.in_ok-note.ensures.noted pages seen), refl)
+      (c.in_ok-note.ensures.noted pages seen), refl,
+      named_roomy at_hand before c.args.page c.in-Some-insert.slot c.in-Some.old.now c.insert.new.page
+        (record { relation = c.args.relation; key = c.args.key.now; value = c.args.value.now }) ready c.in-Some.ensures.some c.insert.ensures.shaped c.in-Some-insert.ensures.done)
 
 pub returns-clause-short : goal.returns-clause-short
 returns-clause-short g c = λ pages ready apart.

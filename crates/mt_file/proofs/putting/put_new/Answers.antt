@@ -26,7 +26,7 @@ returns-clause-put g c = λ pages ready.
       (record { relation = c.args.relation; key = c.args.key.now; value = c.args.value.now }) ready there first
       c.with_kind-new_map.ensures.whole c.with_kind-new_map.ensures.here c.with_kind-new_map.ensures.others
       c.page_of_one-slot.ensures.shaped c.page_of_one-slot.ensures.one c.page_of_one-slot.ensures.alone two,
-      first_seen before total page map seen first)
+      first_seen before total page map seen first, tt)
 
 pub returns-clause-short : goal.returns-clause-short
 returns-clause-short g c = λ pages ready apart.

@@ -14,19 +14,15 @@ mod finding;
 mod laws;
 mod marking;
 mod noting;
+mod planning;
 mod pointing;
 mod settling;
-mod walking;
-
-pub use amending::{plan_drop, plan_set};
-pub use answers::{Amend, Find};
-pub use checking::check;
-mod planning;
 mod splitting;
 mod walking;
 
 pub use amending::{plan_drop, plan_set};
 pub use answers::{Add, Amend, Find};
+pub use checking::check;
 pub use directory::{MAX_DEPTH, depth};
 pub use finding::plan_find;
 pub use laws::a_bucket_is_named_by_its_pattern;

@@ -1,0 +1,5 @@
+pub mod Filed
+mod Moved
+mod Planned
+mod Slots
+mod Trees

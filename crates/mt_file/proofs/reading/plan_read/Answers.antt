@@ -1,0 +1,19 @@
+use Rattle.std.proofs.Common.{List, ℕ, ap, subst, ◌∙◌}
+use Rattle.mt_slots.specs.Page.{IsShaped, slot}
+use Rattle.mt_file.proofs.Filed.{record_records}
+use Rattle.mt_file.proofs.reading.plan_read.Goals as goal
+
+pub get-requires : goal.get-requires
+get-requires g c =
+    let good = c.requires.good in
+    record { shaped = subst IsShaped (good.1 c.args.name.page c.in-Some.page.now c.in-Some.ensures.some) (good.2.each c.args.name.page good.3) }
+
+pub returns-in-Some-get : goal.returns-in-Some-get
+returns-in-Some-get g c = λ pages agrees file is.
+    let seen = agrees c.args.name.page c.in-Some.page.now c.in-Some.ensures.some in
+    record_records pages c.args.name.page c.args.name.slot is ∙ ap (λ (m : List ℕ). slot m c.args.name.slot) seen ∙ c.in-Some-get.ensures.found
+
+pub returns-in-None : goal.returns-in-None
+returns-in-None g c = λ pages agrees file is.
+    let seen = agrees c.args.name.page c.in-Some.page.now c.in-Some.ensures.some in
+    record_records pages c.args.name.page c.args.name.slot is ∙ ap (λ (m : List ℕ). slot m c.args.name.slot) seen ∙ c.in-None.ensures.none

@@ -1,0 +1,162 @@
+// A record more.
+ghost use Rattle.std.specs.Prelude.{◌≡◌, ◌≢◌, ◌<◌, ◌≤◌, ℕ, List, [], length, get_or, Option, Some, None, IfOk};
+ghost use Rattle.mt_base.specs.Limits.{IsKey, IsValue};
+ghost use Rattle.mt_pool.specs.Changes.{PageBytes, Agrees, after};
+ghost use Rattle.mt_slots.specs.Page.{Row, IsShaped, slot as held};
+ghost use Rattle.mt_space.specs.Kinds.{kind};
+ghost use Rattle.mt_file.specs.File.{IsFile};
+ghost use Rattle.mt_file.specs.Plans.{IsNamed, IsReady, IsApart, IsPut, IsShortPlan};
+
+use crate::step::{Plan, Step};
+use mt_base::{Mode, PageNo, RecordName, RelNo};
+use mt_pool::{Changes, Pages};
+use mt_slots::{empty, insert};
+use mt_space::first_free;
+use std::alloc::{AllocError, Global};
+
+/// The page that says of each page what it holds.
+pub(crate) const MAP: u16 = 0;
+
+/// What it says of a page that holds records.
+pub(crate) const RECORDS: u8 = 3;
+
+/// Plans to put a record into the page `room`, which holds records; into a new page, the smallest free one,
+/// where no page is named. One record more stands under a name that held nothing, and no other changes.
+/// `Full` exactly where the page that is named has no room, or none is named and none is free. A page that
+/// is taken is written whole, since the bytes of a free page are open. The only error is want of memory.
+pub fn plan_put<V: Pages>(
+    alloc: Global,
+    views: &V,
+    room: Option<PageNo>,
+    relation: RelNo,
+    key: &[u8],
+    value: &[u8],
+) -> Result<Step, AllocError>
+    requires sound { V.is_sound views.now }
+    requires good { (pages : PageBytes) × Agrees (V.at_hand views.now) pages × IsFile pages × IsNamed room pages }
+    requires relation_fits { relation < 256 }
+    requires key_fits { IsKey key.now }
+    requires value_fits { IsValue value.now }
+    ensures put { IfOk result (λ step. (pages : PageBytes) → Agrees (V.at_hand views.now) pages → IsFile pages → IsNamed room pages → IsPut (V.at_hand views.now) room (V.total views.now) [] pages (record { relation = relation; key = key.now; value = value.now }) step) }
+    ensures short { IfOk result (λ step. (pages : PageBytes) → Agrees (V.at_hand views.now) pages → IsFile pages → IsNamed room pages → IsShortPlan pages step) }
+{
+    put(views, Changes::new(alloc), room, relation, key, value)
+}
+
+// The same after some changes, none of which is of a page that changes here.
+pub(crate) fn put<V: Pages>(
+    views: &V,
+    changes: Changes,
+    room: Option<PageNo>,
+    relation: RelNo,
+    key: &[u8],
+    value: &[u8],
+) -> Result<Step, AllocError>
+    requires sound { V.is_sound views.now }
+    requires ready { (pages : PageBytes) × IsReady (V.at_hand views.now) room pages }
+    requires relation_fits { relation < 256 }
+    requires key_fits { length key.now < 256 }
+    requires value_fits { length value.now ≤ 1024 }
+    ensures put { IfOk result (λ step. (pages : PageBytes) → IsReady (V.at_hand views.now) room (after changes.list.items pages) → IsPut (V.at_hand views.now) room (V.total views.now) changes.list.items pages (record { relation = relation; key = key.now; value = value.now }) step) }
+    ensures short { IfOk result (λ step. (pages : PageBytes) → IsReady (V.at_hand views.now) room (after changes.list.items pages) → IsApart room changes.list.items pages → IsShortPlan pages step) }
+{
+    match room {
+        Some(page) => put_into(views, changes, page, relation, key, value),
+        None => put_new(views, changes, relation, key, value),
+    }
+}
+
+// Into a page of records.
+fn put_into<V: Pages>(
+    views: &V,
+    mut changes: Changes,
+    page: PageNo,
+    relation: RelNo,
+    key: &[u8],
+    value: &[u8],
+) -> Result<Step, AllocError>
+    requires sound { V.is_sound views.now }
+    requires ready { (pages : PageBytes) × IsReady (V.at_hand views.now) (Some page) pages }
+    requires relation_fits { relation < 256 }
+    requires key_fits { length key.now < 256 }
+    requires value_fits { length value.now ≤ 1024 }
+    ensures put { IfOk result (λ step. (pages : PageBytes) → IsReady (V.at_hand views.now) (Some page) (after changes.list.items pages) → IsPut (V.at_hand views.now) (Some page) (V.total views.now) changes.list.items pages (record { relation = relation; key = key.now; value = value.now }) step) }
+    ensures short { IfOk result (λ step. (pages : PageBytes) → IsReady (V.at_hand views.now) (Some page) (after changes.list.items pages) → IsApart (Some page) changes.list.items pages → IsShortPlan pages step) }
+{
+    let Some(old) = views.page(page) else {
+        return Ok(Step::Need(page, Mode::Write));
+    };
+    let mut new = *old;
+    let Some(slot) = insert(&mut new, relation, key, value) else {
+        return Ok(Step::Full);
+    };
+    changes.note(page, old, &new)?;
+    Ok(Step::Done(Plan {
+        changes,
+        name: RecordName { page, slot },
+    }))
+}
+
+// Into the smallest free page, which becomes one of records.
+fn put_new<V: Pages>(
+    views: &V,
+    mut changes: Changes,
+    relation: RelNo,
+    key: &[u8],
+    value: &[u8],
+) -> Result<Step, AllocError>
+    requires sound { V.is_sound views.now }
+    requires relation_fits { relation < 256 }
+    requires key_fits { length key.now < 256 }
+    requires value_fits { length value.now ≤ 1024 }
+    ensures put { IfOk result (λ step. (pages : PageBytes) → IsReady (V.at_hand views.now) None (after changes.list.items pages) → IsPut (V.at_hand views.now) None (V.total views.now) changes.list.items pages (record { relation = relation; key = key.now; value = value.now }) step) }
+    ensures short { IfOk result (λ step. (pages : PageBytes) → IsReady (V.at_hand views.now) None (after changes.list.items pages) → IsApart None changes.list.items pages → IsShortPlan pages step) }
+{
+    let map_page = PageNo::new(MAP);
+    let Some(map) = views.page(map_page) else {
+        return Ok(Step::Need(map_page, Mode::Write));
+    };
+    let Some(page) = first_free(map, views.count()) else {
+        return Ok(Step::Full);
+    };
+    let Some(old) = views.page(page) else {
+        return Ok(Step::Need(page, Mode::Write));
+    };
+    let new_map = with_kind(map, page, RECORDS);
+    let (new, slot) = page_of_one(relation, key, value);
+    changes.note(map_page, map, &new_map)?;
+    changes.note(page, old, &new)?;
+    Ok(Step::Done(Plan {
+        changes,
+        name: RecordName { page, slot },
+    }))
+}
+
+// The map with another kind of one page.
+pub(crate) fn with_kind(map: &[u8; 4096], page: PageNo, kind: u8) -> [u8; 4096]
+    requires { page < 4096 }
+    ensures whole { length result ≡ 4096 }
+    ensures here { get_or result page 0 ≡ kind }
+    ensures others { (p : ℕ) → p ≢ page → get_or result p 0 ≡ get_or map.now p 0 }
+{
+    let mut new = *map;
+    new[usize::from(page.get())] = kind;
+    new
+}
+
+// A page that holds one record, and the record's slot there.
+pub(crate) fn page_of_one(relation: RelNo, key: &[u8], value: &[u8]) -> ([u8; 4096], u16)
+    requires relation_fits { relation < 256 }
+    requires key_fits { length key.now < 256 }
+    requires value_fits { length value.now ≤ 1024 }
+    ensures shaped { IsShaped result.0 }
+    ensures one { held result.0 result.1 ≡ Some (record { relation = relation; key = key.now; value = value.now }) }
+    ensures alone { (s : ℕ) → s ≢ result.1 → held result.0 s ≡ None }
+{
+    let mut page = [0u8; 4096];
+    empty(&mut page);
+    match insert(&mut page, relation, key, value) {
+        Some(slot) => (page, slot),
+        None => (page, 0), // an empty page has room
+    }
+}

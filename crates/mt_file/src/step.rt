@@ -1,0 +1,24 @@
+// What a plan of the record file answers.
+use mt_base::{Mode, PageNo, RecordName};
+use mt_pool::Changes;
+
+/// What changes in which pages, and the name of the record that it is about: where it was put, or where
+/// it was taken from.
+#[derive(Debug, Drop)]
+pub struct Plan {
+    /// The changes, of each page once.
+    pub changes: Changes,
+    /// The record's name.
+    pub name: RecordName,
+}
+
+/// The answer of a plan.
+#[derive(Debug, Drop)]
+pub enum Step {
+    /// This page has to be at hand first, locked in this mode. Then the plan is made anew.
+    Need(PageNo, Mode),
+    /// All that changes.
+    Done(Plan),
+    /// The page that was named has no room for the record, or none was named and no page is free.
+    Full,
+}

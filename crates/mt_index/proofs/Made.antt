@@ -57,6 +57,7 @@ made_sound relations total pages homes kinds directory buckets pointers marked s
     space_fixed = kinds.space_fixed;
     directory_fixed = kinds.directory_fixed;
     within = kinds.within;
+    few = kinds.few;
   };
   chained = λ p two.
       let b = marked.back p (settled p two).home in

@@ -37,6 +37,7 @@ pub record IsSound (relations total : ℕ) (pages : PageBytes) : Type 0 where
 
 -- the space map has pages 0 and 1 as fixed ones, and none past the last
 pub record AreKinds (total : ℕ) (pages : PageBytes) : Type 0 where
+  pub few : total ≤ 4096
   pub space_fixed : kind pages 0 ≡ 1
   pub directory_fixed : kind pages 1 ≡ 1
   pub within : (p : ℕ) → kind pages p ≢ 0 → p < total

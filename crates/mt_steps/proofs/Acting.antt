@@ -1,0 +1,188 @@
+-- What the plans of the record file and of the index make of rows, both together.
+use Rattle.std.proofs.Common.{◌≡◌, ◌≢◌, ◌⊎◌, inl, inr, ⊎_elim, ℕ, ◌<◌, ◌≤◌, ◌==◌, ◌&&◌, Bool, true, false, cond, List, length, get_or, Option, None, Some, bytes_eq, refl, ap, sym, ◌∙◌, subst, arith}
+use Rattle.std.proofs.lemmas.Bool.{cases_eq}
+use Rattle.mt_base.specs.declared.numbers.RecordName.{RecordName}
+use Rattle.mt_slots.specs.Page.{Row, Fits}
+use Rattle.mt_pool.specs.Changes.{PageBytes}
+use Rattle.mt_space.specs.Kinds.{kind}
+use Rattle.mt_file.specs.File.{record_in, IsFile, Puts, Touches, Adds, Drops, Stays as StaysThere, Moves}
+use Rattle.mt_file.proofs.Filed.{record_kind}
+use Rattle.mt_index.specs.Maps.{Map, alter}
+use Rattle.mt_index.specs.Pages.{AreMap, AreFormed}
+use Rattle.mt_index.specs.Answers.{Stays}
+use Rattle.mt_model.specs.Model.{Base, alter_row, inserted, updated, deleted}
+use Rattle.mt_steps.specs.Held.{IsThere, HoldsRows, AreNamed, AreRows}
+use Rattle.mt_steps.proofs.Rows.{row_of, name_of, rows_put, names_put, none_lone, name_lone, none_held, alter_same}
+use Rattle.mt_steps.proofs.Apart.{StaysIndex, StaysFile, map_stays, formed_stays, records_stay, file_stays, within_stays, add_stays}
+
+-- pages of different kinds are different ones
+pub apart_kinds : (pages : PageBytes) (p q a b : ℕ) → kind pages p ≡ a → kind pages q ≡ b → a ≢ b → p ≢ q
+apart_kinds pages p q a b is_a is_b ne e = ne (sym is_a ∙ ap (λ (n : ℕ). kind pages n) e ∙ is_b)
+
+-- a page that is no bucket's, before and after, changes its kind and bytes: the index stays
+pub touches_index : (total : ℕ) (pages mid : PageBytes) (m : Map) (p : ℕ) → AreMap total pages m → Touches pages mid p → (kind pages p ≡ 3) ⊎ (kind pages p ≡ 0) → p < total → kind mid p ≢ 2 → StaysIndex total pages mid
+touches_index total pages mid m p a t old inside new = record {
+  directory = t.others 1 (not_fixed 1 a.directory_fixed) (omega arith);
+  space_fixed = t.kinds 0 (not_fixed 0 a.space_fixed) ∙ a.space_fixed;
+  directory_fixed = t.kinds 1 (not_fixed 1 a.directory_fixed) ∙ a.directory_fixed;
+  within = λ q some. ⊎_elim
+    (λ (e : q ≡ p). let same : q ≡ p = e in omega (arith, inside, same))
+    (λ (ne : q ≢ p). a.within q (λ z. some (t.kinds q ne ∙ z)))
+    (cases_eq q p);
+  kinds = λ q is. t.kinds q (not_bucket q is) ∙ is;
+  back = λ q is. ⊎_elim
+    (λ (e : q ≡ p). absurd (new (ap (λ (n : ℕ). kind mid n) (sym e) ∙ is)))
+    (λ (ne : q ≢ p). sym (t.kinds q ne) ∙ is)
+    (cases_eq q p);
+  bytes = λ q is. t.others q (not_bucket q is) (λ z. let w : q ≡ 0 = z in let one : kind pages q ≡ 1 = ap (λ (n : ℕ). kind pages n) w ∙ a.space_fixed in absurd (let two : kind pages q ≡ 2 = is in omega (arith, one, two)));
+}
+  where
+    not_fixed : (q : ℕ) → kind pages q ≡ 1 → q ≢ p
+    not_fixed q one e = ⊎_elim
+        (λ (three : kind pages p ≡ 3). apart_kinds pages q p 1 3 one three (omega arith) e)
+        (λ (zero : kind pages p ≡ 0). apart_kinds pages q p 1 0 one zero (omega arith) e)
+        old
+
+    not_bucket : (q : ℕ) → kind pages q ≡ 2 → q ≢ p
+    not_bucket q two e = ⊎_elim
+        (λ (three : kind pages p ≡ 3). apart_kinds pages q p 2 3 two three (omega arith) e)
+        (λ (zero : kind pages p ≡ 0). apart_kinds pages q p 2 0 two zero (omega arith) e)
+        old
+
+-- buckets change alone: the record file stays
+pub amends_file : (pages pages2 : PageBytes) → kind pages 0 ≡ 1 → ((p : ℕ) → kind pages p ≢ 2 → pages2 p ≡ pages p) → StaysFile pages pages2
+amends_file pages pages2 space others = record {
+  size = ap length map;
+  fixed = kinds 0 ∙ space;
+  kinds = λ p is. kinds p ∙ is;
+  back = λ p is. sym (kinds p) ∙ is;
+  bytes = λ p is. others p (λ two. let a : kind pages p ≡ 3 = is in let b : kind pages p ≡ 2 = two in omega (arith, a, b));
+}
+  where
+    map : pages2 0 ≡ pages 0
+    map = others 0 (λ two. let b : kind pages 0 ≡ 2 = two in omega (arith, space, b))
+
+    kinds : (p : ℕ) → kind pages2 p ≡ kind pages p
+    kinds p = ap (λ (c : List ℕ). get_or c p 0) map
+
+-- what the records are is what the rows and names go by
+pub named_same : (pages pages2 : PageBytes) (m : Map) → ((p s : ℕ) → record_in pages2 p s ≡ record_in pages p s) → AreNamed pages m → AreNamed pages2 m
+named_same pages pages2 m same n = record {
+  names = λ r k name is. let t = n.names r k name is in (t.0, same name.page name.slot ∙ t.1);
+  named = λ p s row e. n.named p s row (sym (same p s) ∙ e);
+}
+
+pub rows_same : (pages pages2 : PageBytes) (b : Base) → ((p s : ℕ) → record_in pages2 p s ≡ record_in pages p s) → HoldsRows pages b → HoldsRows pages2 b
+rows_same pages pages2 b same h = record {
+  found = λ r k v is. let t = h.found r k v is in (t.0, t.1, same t.0 t.1 ∙ t.2);
+  there = λ r k v t. h.there r k v (t.0, t.1, sym (same t.0 t.1) ∙ t.2);
+}
+
+-- the same base, told otherwise
+pub base_same : (pages : PageBytes) (b c : Base) → ((r : ℕ) (k : List ℕ) → b.rows r k ≡ c.rows r k) → HoldsRows pages b → HoldsRows pages c
+base_same pages b c same h = record {
+  found = λ r k v is. h.found r k v (same r k ∙ is);
+  there = λ r k v t. sym (same r k) ∙ h.there r k v t;
+}
+
+-- ---- an insert
+
+pub inserts : (relations total : ℕ) (pages mid last : PageBytes) (m : Map) (b : Base) (p s r : ℕ) (k v : List ℕ) → AreRows relations total pages m → HoldsRows pages b → m r k ≡ None
+    → Fits relations 1024 (record { relation = r; key = k; value = v }) → Adds pages mid p s (record { relation = r; key = k; value = v })
+    → AreMap total mid m → AreMap total last (alter m r k (Some (record { page = p; slot = s }))) → Stays total mid last → AreFormed relations total last
+    → AreRows relations total last (alter m r k (Some (record { page = p; slot = s }))) × HoldsRows last (alter_row b r k (inserted v))
+inserts relations total pages mid last m b p s r k v rows held none fits adds between map stays formed = (
+  record {
+    file = file_stays mid last kept adds.file;
+    within = within_stays relations 1024 mid last kept (adds.within relations 1024 rows.within fits);
+    index = map;
+    formed = formed;
+    named = named_same mid last (alter m r k (Some (record { page = p; slot = s }))) same (names_put pages mid m p s r k None (Some v) rows.named adds.free lone adds.puts);
+  },
+  rows_same mid last (alter_row b r k (inserted v)) same (rows_put pages mid b p s r k None (Some v) (inserted v) held adds.free lone adds.puts after),
+)
+  where
+    kept : StaysFile mid last
+    kept = add_stays total mid last between.space_fixed between.directory_fixed stays
+
+    same : (q t : ℕ) → record_in last q t ≡ record_in mid q t
+    same = records_stay mid last kept
+
+    lone : (q t : ℕ) (w : List ℕ) → (q ≢ p) ⊎ (t ≢ s) → record_in pages q t ≡ Some (record { relation = r; key = k; value = w }) → ⊥
+    lone = none_lone pages m p s r k rows.named none
+
+    after : inserted v (b.rows r k) ≡ Some v
+    after = ap (inserted v) (none_held pages m b r k rows.named held none)
+
+-- ---- a delete
+
+pub deletes : (relations total : ℕ) (pages mid last : PageBytes) (m : Map) (b : Base) (n : RecordName) (r : ℕ) (k v : List ℕ) → AreRows relations total pages m → HoldsRows pages b → m r k ≡ Some n
+    → record_in pages n.page n.slot ≡ Some (record { relation = r; key = k; value = v }) → Drops pages mid n.page n.slot
+    → AreMap total mid m → AreMap total last (alter m r k None) → ((p : ℕ) → kind mid p ≢ 2 → last p ≡ mid p) → AreFormed relations total last
+    → AreRows relations total last (alter m r k None) × HoldsRows last (alter_row b r k deleted)
+deletes relations total pages mid last m b n r k v rows held is stood drops between map others formed = (
+  record {
+    file = file_stays mid last kept drops.file;
+    within = within_stays relations 1024 mid last kept (drops.within relations 1024 rows.within);
+    index = map;
+    formed = formed;
+    named = named_same mid last (alter m r k None) same (names_put pages mid m n.page n.slot r k (Some v) None rows.named stood lone drops.puts);
+  },
+  rows_same mid last (alter_row b r k deleted) same (rows_put pages mid b n.page n.slot r k (Some v) None deleted held stood lone drops.puts refl),
+)
+  where
+    kept : StaysFile mid last
+    kept = amends_file mid last between.space_fixed others
+
+    same : (q t : ℕ) → record_in last q t ≡ record_in mid q t
+    same = records_stay mid last kept
+
+    lone : (q t : ℕ) (w : List ℕ) → (q ≢ n.page) ⊎ (t ≢ n.slot) → record_in pages q t ≡ Some (record { relation = r; key = k; value = w }) → ⊥
+    lone = name_lone pages m r k n rows.named is
+
+-- ---- an update
+
+pub value_held : (pages : PageBytes) (m : Map) (b : Base) (n : RecordName) (r : ℕ) (k v : List ℕ) → HoldsRows pages b → record_in pages n.page n.slot ≡ Some (record { relation = r; key = k; value = v }) → b.rows r k ≡ Some v
+value_held pages m b n r k v held stood = held.there r k v (n.page, n.slot, stood)
+
+-- the record stays under its name
+pub updates_there : (relations total : ℕ) (pages last : PageBytes) (m : Map) (b : Base) (n : RecordName) (r : ℕ) (k v w : List ℕ) → AreRows relations total pages m → HoldsRows pages b → m r k ≡ Some n
+    → record_in pages n.page n.slot ≡ Some (record { relation = r; key = k; value = v }) → Fits relations 1024 (record { relation = r; key = k; value = w })
+    → StaysThere pages last n.page n.slot (record { relation = r; key = k; value = w })
+    → AreRows relations total last m × HoldsRows last (alter_row b r k (updated w))
+updates_there relations total pages last m b n r k v w rows held is stood fits stays = (
+  record {
+    file = stays.file;
+    within = stays.within relations 1024 rows.within fits;
+    index = map_stays total pages last m index rows.index;
+    formed = formed_stays relations total pages last index rows.formed;
+    named = same_map (alter m r k (Some n)) m again (names_put pages last m n.page n.slot r k (Some v) (Some w) rows.named stood lone stays.puts);
+  },
+  rows_put pages last b n.page n.slot r k (Some v) (Some w) (updated w) held stood lone stays.puts (ap (updated w) (value_held pages m b n r k v held stood)),
+)
+  where
+    three : kind pages n.page ≡ 3
+    three = record_kind pages n.page n.slot (record { relation = r; key = k; value = v }) stood
+
+    lone : (q t : ℕ) (u : List ℕ) → (q ≢ n.page) ⊎ (t ≢ n.slot) → record_in pages q t ≡ Some (record { relation = r; key = k; value = u }) → ⊥
+    lone = name_lone pages m r k n rows.named is
+
+    not_here : (q : ℕ) → kind pages q ≢ 3 → q ≢ n.page
+    not_here q ne e = ne (ap (λ (x : ℕ). kind pages x) e ∙ three)
+
+    index : StaysIndex total pages last
+    index = record {
+      directory = stays.others 1 (not_here 1 (λ z. let a : kind pages 1 ≡ 3 = z in let c = rows.index.directory_fixed in omega (arith, a, c)));
+      space_fixed = stays.kinds 0 ∙ rows.index.space_fixed;
+      directory_fixed = stays.kinds 1 ∙ rows.index.directory_fixed;
+      within = λ q some. rows.index.within q (λ z. some (stays.kinds q ∙ z));
+      kinds = λ q two. stays.kinds q ∙ two;
+      back = λ q two. sym (stays.kinds q) ∙ two;
+      bytes = λ q two. stays.others q (not_here q (λ z. let a : kind pages q ≡ 3 = z in let c : kind pages q ≡ 2 = two in omega (arith, a, c)));
+    }
+
+    again : (q : ℕ) (l : List ℕ) → alter m r k (Some n) q l ≡ m q l
+    again q l = alter_same m r k n is q l
+
+    same_map : (x y : Map) → ((q : ℕ) (l : List ℕ) → x q l ≡ y q l) → AreNamed last x → AreNamed last y
+    same_map x y e a = subst (AreNamed last) (λ i q l. e q l i) a

@@ -1,0 +1,32 @@
+-- What all pages together stand for.
+use Rattle.std.specs.Prelude.{◌≡◌, ℕ, ◌<◌, List, Option, Some}
+use Rattle.mt_base.specs.declared.numbers.RecordName.{RecordName}
+use Rattle.mt_slots.specs.Page.{Row}
+use Rattle.mt_pool.specs.Changes.{PageBytes}
+use Rattle.mt_space.specs.Kinds.{kind}
+use Rattle.mt_file.specs.File.{record_in, IsFile, AreWithin}
+use Rattle.mt_index.specs.Maps.{Map}
+use Rattle.mt_index.specs.Pages.{AreMap, AreFormed}
+use Rattle.mt_model.specs.Model.{Base}
+
+-- some record has this value under this relation and key
+abbrev pub IsThere : PageBytes → ℕ → List ℕ → List ℕ → Type 0
+IsThere pages r k v = (p : ℕ) × (s : ℕ) × (record_in pages p s ≡ Some (record { relation = r; key = k; value = v }))
+
+-- The rows are the live records. How the index finds them does not appear.
+pub record HoldsRows (pages : PageBytes) (b : Base) : Type 0 where
+  pub found : (r : ℕ) (k v : List ℕ) → b.rows r k ≡ Some v → IsThere pages r k v
+  pub there : (r : ℕ) (k v : List ℕ) → IsThere pages r k v → b.rows r k ≡ Some v
+
+-- each entry of the index names a record of its relation and key, and each record has one
+pub record AreNamed (pages : PageBytes) (m : Map) : Type 0 where
+  pub names : (r : ℕ) (k : List ℕ) (n : RecordName) → m r k ≡ Some n → (v : List ℕ) × (record_in pages n.page n.slot ≡ Some (record { relation = r; key = k; value = v }))
+  pub named : (p s : ℕ) (row : Row) → record_in pages p s ≡ Some row → m row.relation row.key ≡ Some (record { page = p; slot = s })
+
+-- the records and their index, in pages of a schema of so many relations and pages
+pub record AreRows (relations total : ℕ) (pages : PageBytes) (m : Map) : Type 0 where
+  pub file : IsFile pages
+  pub within : AreWithin relations 1024 pages
+  pub index : AreMap total pages m
+  pub formed : AreFormed relations total pages
+  pub named : AreNamed pages m

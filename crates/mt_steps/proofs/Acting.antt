@@ -1,18 +1,18 @@
 -- What the plans of the record file and of the index make of rows, both together.
-use Rattle.std.proofs.Common.{◌≡◌, ◌≢◌, ◌⊎◌, inl, inr, ⊎_elim, ℕ, ◌<◌, ◌≤◌, ◌==◌, ◌&&◌, Bool, true, false, cond, List, length, get_or, Option, None, Some, bytes_eq, refl, ap, sym, ◌∙◌, subst, arith}
+use Rattle.std.proofs.Common.{◌≡◌, ◌≢◌, ◌⊎◌, ⊎_elim, ℕ, ◌<◌, List, length, get_or, None, Some, refl, ap, sym, ◌∙◌, subst, arith}
 use Rattle.std.proofs.lemmas.Bool.{cases_eq}
 use Rattle.mt_base.specs.declared.numbers.RecordName.{RecordName}
-use Rattle.mt_slots.specs.Page.{Row, Fits}
+use Rattle.mt_slots.specs.Page.{Fits}
 use Rattle.mt_pool.specs.Changes.{PageBytes}
 use Rattle.mt_space.specs.Kinds.{kind}
-use Rattle.mt_file.specs.File.{record_in, IsFile, Puts, Touches, Adds, Drops, Stays as StaysThere, Moves}
+use Rattle.mt_file.specs.File.{record_in, Touches, Adds, Drops, Stays as StaysThere}
 use Rattle.mt_file.proofs.Filed.{record_kind}
 use Rattle.mt_index.specs.Maps.{Map, alter}
 use Rattle.mt_index.specs.Pages.{AreMap, AreFormed}
 use Rattle.mt_index.specs.Answers.{Stays}
 use Rattle.mt_model.specs.Model.{Base, alter_row, inserted, updated, deleted}
-use Rattle.mt_steps.specs.Held.{IsThere, HoldsRows, AreNamed, AreRows}
-use Rattle.mt_steps.proofs.Rows.{row_of, name_of, rows_put, names_put, none_lone, name_lone, none_held, alter_same}
+use Rattle.mt_steps.specs.Held.{HoldsRows, AreNamed, AreRows}
+use Rattle.mt_steps.proofs.Rows.{rows_put, names_put, none_lone, name_lone, none_held, alter_same}
 use Rattle.mt_steps.proofs.Apart.{StaysIndex, StaysFile, map_stays, formed_stays, records_stay, file_stays, within_stays, add_stays}
 
 -- pages of different kinds are different ones
@@ -26,14 +26,14 @@ touches_index total pages mid m p a t old inside new = record {
   space_fixed = t.kinds 0 (not_fixed 0 a.space_fixed) ∙ a.space_fixed;
   directory_fixed = t.kinds 1 (not_fixed 1 a.directory_fixed) ∙ a.directory_fixed;
   within = λ q some. ⊎_elim
-    (λ (e : q ≡ p). let same : q ≡ p = e in omega (arith, inside, same))
-    (λ (ne : q ≢ p). a.within q (λ z. some (t.kinds q ne ∙ z)))
-    (cases_eq q p);
+      (λ (e : q ≡ p). let same : q ≡ p = e in omega (arith, inside, same))
+      (λ (ne : q ≢ p). a.within q (λ z. some (t.kinds q ne ∙ z)))
+      (cases_eq q p);
   kinds = λ q is. t.kinds q (not_bucket q is) ∙ is;
   back = λ q is. ⊎_elim
-    (λ (e : q ≡ p). absurd (new (ap (λ (n : ℕ). kind mid n) (sym e) ∙ is)))
-    (λ (ne : q ≢ p). sym (t.kinds q ne) ∙ is)
-    (cases_eq q p);
+      (λ (e : q ≡ p). absurd (new (ap (λ (n : ℕ). kind mid n) (sym e) ∙ is)))
+      (λ (ne : q ≢ p). sym (t.kinds q ne) ∙ is)
+      (cases_eq q p);
   bytes = λ q is. t.others q (not_bucket q is) (λ z. let w : q ≡ 0 = z in let one : kind pages q ≡ 1 = ap (λ (n : ℕ). kind pages n) w ∙ a.space_fixed in absurd (let two : kind pages q ≡ 2 = is in omega (arith, one, two)));
 }
   where

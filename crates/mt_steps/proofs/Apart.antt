@@ -1,17 +1,16 @@
 -- The record file and the index leave each other alone.
-use Rattle.std.proofs.Common.{◌≡◌, ◌≢◌, ◌⊎◌, inl, inr, ⊎_elim, ℕ, ◌<◌, ◌≤◌, ◌%◌, ◌^◌, List, [], ◌∷◌, length, get_or, Option, None, Some, refl, ap, sym, ◌∙◌, subst, arith}
+use Rattle.std.proofs.Common.{◌≡◌, ◌≢◌, ⊎_elim, ℕ, ◌<◌, ◌≤◌, ◌%◌, ◌^◌, List, [], ◌∷◌, length, get_or, ap, sym, ◌∙◌, subst, arith}
 use Rattle.std.proofs.lemmas.Bool.{cases_eq}
 use Rattle.mt_bucket.specs.Hash.{hash}
-use Rattle.mt_bucket.specs.Entries.{Entry, look}
+use Rattle.mt_bucket.specs.Entries.{look}
 use Rattle.mt_bucket.specs.Page.{IsBucket}
-use Rattle.mt_slots.specs.Page.{Row, slot, IsShaped}
+use Rattle.mt_slots.specs.Page.{slot, IsShaped}
 use Rattle.mt_pool.specs.Changes.{PageBytes}
 use Rattle.mt_space.specs.Kinds.{kind}
 use Rattle.mt_file.specs.File.{record_in, IsFile, AreWithin}
-use Rattle.mt_file.proofs.Filed.{record_records, record_none, record_kind}
+use Rattle.mt_file.proofs.Filed.{record_records, record_none}
 use Rattle.mt_index.specs.Maps.{Map, Each, Agree, Once}
-use Rattle.mt_index.specs.Buckets.{IsBuckets, lookup}
-use Rattle.mt_index.specs.Index.{Node, State, named, Linked, IsTree, IsIndex, entries_of}
+use Rattle.mt_index.specs.Index.{Node, named, Linked, IsTree, entries_of}
 use Rattle.mt_index.specs.Pages.{depth_in, pointers_from, node_of, state_of, AreMap, AreFormed, IsDirectory}
 use Rattle.mt_index.specs.Answers.{Stays}
 use Rattle.mt_index.proofs.Lists.{each_map}

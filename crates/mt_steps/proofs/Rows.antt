@@ -1,5 +1,5 @@
 -- A record more, less or replaced: the rows that the pages hold, and the names in the index.
-use Rattle.std.proofs.Common.{◌≡◌, ◌≢◌, ◌⊎◌, inl, inr, ⊎_elim, ℕ, ◌==◌, ◌&&◌, Bool, true, false, cond, List, Option, None, Some, bytes_eq, refl, ap, sym, ◌∙◌, subst, arith}
+use Rattle.std.proofs.Common.{◌≡◌, ◌≢◌, ◌⊎◌, inl, inr, ⊎_elim, ℕ, ◌==◌, ◌&&◌, Bool, true, false, cond, List, Option, None, Some, bytes_eq, refl, ap, sym, ◌∙◌}
 use Rattle.std.proofs.lemmas.Bool.{cases_eq, and_parts, and_from}
 use Rattle.std.proofs.lemmas.Bool.Decides.{Decides-eqb}
 use Rattle.std.specs.Cmp.Lexicographic.{bytes_decides}
@@ -162,9 +162,9 @@ pub name_lone : (pages : PageBytes) (m : Map) (r : ℕ) (k : List ℕ) (n : Reco
 name_lone pages m r k n named is q t v apart e =
     let same = some_name n (record { page = q; slot = t }) (sym is ∙ named.named q t (record { relation = r; key = k; value = v }) e) in
     ⊎_elim
-      (λ (a : q ≢ n.page). a (sym (ap (λ (x : RecordName). x.page) same)))
-      (λ (a : t ≢ n.slot). a (sym (ap (λ (x : RecordName). x.slot) same)))
-      apart
+    (λ (a : q ≢ n.page). a (sym (ap (λ (x : RecordName). x.page) same)))
+    (λ (a : t ≢ n.slot). a (sym (ap (λ (x : RecordName). x.slot) same)))
+    apart
 
 -- what the base has under a key that the index lacks, and under one that it names
 pub none_held : (pages : PageBytes) (m : Map) (b : Base) (r : ℕ) (k : List ℕ) → AreNamed pages m → HoldsRows pages b → m r k ≡ None → b.rows r k ≡ None

@@ -2,3 +2,9 @@
 //! and what all pages together stand for. An operation's page locks end with it (Weikum 1991); the plan
 //! here says which it needs, and changes nothing itself.
 #![tactic(auto)]
+
+mod act;
+mod getting;
+
+pub use act::Act;
+pub use getting::get;

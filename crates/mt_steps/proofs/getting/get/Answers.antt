@@ -1,0 +1,72 @@
+use Rattle.std.proofs.Common.{◌≡◌, ◌∙◌, ⊎_elim, ℕ, List, Option, None, Some, sym, ap}
+use Rattle.mt_slots.specs.Page.{Row}
+use Rattle.mt_file.proofs.Filed.{record_kind}
+use Rattle.mt_model.specs.declared.operations.Reply.TheVariants.{Found}
+use Rattle.mt_model.specs.Model.{found}
+use Rattle.mt_steps.proofs.Rows.{none_held}
+use Rattle.mt_steps.proofs.Acting.{value_held}
+use Rattle.mt_steps.proofs.getting.get.Goals as goal
+
+value_of : (k v : List ℕ) (x : Row) {r : ℕ} → Some (record { relation = r; key = k; value = v }) ≡ Some x → v ≡ x.value
+value_of k v x e = ap (λ (o : Option Row). elim o [ None ↦ v | Some y ↦ y.value ]) e
+
+no_row : (x : Row) → None ≡ Some x → ⊥
+no_row x e = cc
+
+pub returns-in-Need-clause-lock : goal.returns-in-Need-clause-lock
+returns-in-Need-clause-lock g c =
+    let good = c.requires.good.1 in
+    let asks = c.in-Need.ensures.need in
+    (asks.missing, ⊎_elim (λ d. d.1) (λ b. b.1) (asks.role good.0 good.1 good.2 good.3.index))
+
+pub returns-in-Missing-clause-made : goal.returns-in-Missing-clause-made
+returns-in-Missing-clause-made g c = λ relations. (
+  c.new.ensures,
+  λ pages agrees m rows. record {
+    replies = λ b held. ap found (none_held pages m b c.args.relation c.args.key.now rows.named held (c.in-Missing.ensures.missing pages agrees m rows.index));
+    base = λ b held. held;
+    meaning = m;
+    good = rows;
+  },
+)
+
+pub returns-in-Endless-clause-broken : goal.returns-in-Endless-clause-broken
+returns-in-Endless-clause-broken g c = let good = c.requires.good.1 in c.in-Endless.ensures.endless good.0 good.1 good.2 good.3.index
+
+pub plan_read-requires-clause-good : goal.plan_read-requires-clause-good
+plan_read-requires-clause-good g c =
+    let good = c.requires.good.1 in
+    let named = good.3.named.names c.args.relation c.args.key.now c.in-Found.name (c.in-Found.ensures.found good.0 good.1 good.2 good.3.index) in
+    (good.0, good.1, good.3.file, record_kind good.0 c.in-Found.name.page c.in-Found.name.slot _ named.1)
+
+pub returns-in-Need-plan_read-clause-lock : goal.returns-in-Need-plan_read-clause-lock
+returns-in-Need-plan_read-clause-lock g c =
+    let good = c.requires.good.1 in
+    let named = good.3.named.names c.args.relation c.args.key.now c.in-Found.name (c.in-Found.ensures.found good.0 good.1 good.2 good.3.index) in
+    let told = c.in-Need-plan_read.ensures good.0 good.1 good.3.file (record_kind good.0 c.in-Found.name.page c.in-Found.name.slot _ named.1) in
+    (told.0, told.1)
+
+pub returns-in_ok-value-in-Record-clause-made : goal.returns-in_ok-value-in-Record-clause-made
+returns-in_ok-value-in-Record-clause-made g c = λ relations. (
+  c.new-in-Record.ensures,
+  λ pages agrees m rows.
+      let name = c.in-Found.name in
+      let is = c.in-Found.ensures.found pages agrees m rows.index in
+      let named = rows.named.names c.args.relation c.args.key.now name is in
+      let told = c.in-Record.ensures pages agrees rows.file (record_kind pages name.page name.slot _ named.1) in
+      let same : named.0 ≡ c.in-Record.row.value.now = value_of _ _ _ (sym named.1 ∙ told) in
+      record {
+        replies = λ b held. ap found (value_held pages m b name c.args.relation c.args.key.now named.0 held named.1) ∙ ap Found (same ∙ sym c.in_ok-value-in-Record.ensures);
+        base = λ b held. held;
+        meaning = m;
+        good = rows;
+      },
+)
+
+pub returns-in-Nothing-clause-broken : goal.returns-in-Nothing-clause-broken
+returns-in-Nothing-clause-broken g c =
+    let good = c.requires.good.1 in
+    let name = c.in-Found.name in
+    let named = good.3.named.names c.args.relation c.args.key.now name (c.in-Found.ensures.found good.0 good.1 good.2 good.3.index) in
+    let told = c.in-Nothing.ensures good.0 good.1 good.3.file (record_kind good.0 name.page name.slot _ named.1) in
+    no_row _ (sym told ∙ named.1)

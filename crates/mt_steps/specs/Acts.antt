@@ -1,0 +1,45 @@
+-- What the plan of an operation answers.
+use Rattle.std.specs.Prelude.{◌≡◌, ℕ, List, Option}
+use Rattle.mt_base.specs.declared.modes.Mode.{Mode}
+use Rattle.mt_pool.specs.declared.changes.PageChange.{PageChange}
+use Rattle.mt_pool.specs.Changes.{PageBytes, Agrees}
+use Rattle.mt_index.specs.Maps.{Map}
+use Rattle.mt_model.specs.declared.operations.Op.{Op}
+use Rattle.mt_model.specs.declared.operations.Reply.{Reply}
+use Rattle.mt_model.specs.Model.{Base, reply_of, base_after}
+use Rattle.mt_steps.specs.Held.{HoldsRows, AreRows}
+use Rattle.mt_steps.specs.declared.act.Act.{Act}
+use Rattle.mt_steps.specs.declared.act.Act.TheVariants.{Lock, Made, Full, Broken}
+
+-- some good pages agree with what is at hand
+abbrev pub HasGood : (ℕ → Option (List ℕ)) → ℕ → ℕ → Type 0
+HasGood at_hand relations total = (pages : PageBytes) × Agrees at_hand pages × (m : Map) × AreRows relations total pages m
+
+-- it holds of all good pages that agree with what is at hand
+abbrev pub InGood : (ℕ → Option (List ℕ)) → ℕ → ℕ → (PageBytes → Type 0) → Type 0
+InGood at_hand relations total P = (pages : PageBytes) → Agrees at_hand pages → (m : Map) → AreRows relations total pages m → P pages
+
+-- a page is asked for that is not at hand
+abbrev pub IfLock : Act → (ℕ → Mode → Type 0) → Type 0
+IfLock (Lock p mode) P = P p mode
+IfLock _ P = Unit {0}
+
+abbrev pub IfMade : Act → (List PageChange → Reply → Type 0) → Type 0
+IfMade (Made changes reply) P = P changes.list.items reply
+IfMade _ P = Unit {0}
+
+abbrev pub IfFull : Act → Type 0 → Type 0
+IfFull Full P = P
+IfFull _ P = Unit {0}
+
+abbrev pub IfBroken : Act → Type 0 → Type 0
+IfBroken Broken P = P
+IfBroken _ P = Unit {0}
+
+-- The changes are one act of the operation on these pages: whatever base they hold, the reply is the model's there,
+-- and once the changes are made the pages hold the base that the model leaves, and are as good as before.
+pub record IsAct (relations total : ℕ) (pages pages2 : PageBytes) (op : Op) (reply : Reply) : Type 0 where
+  pub replies : (b : Base) → HoldsRows pages b → reply_of b op ≡ reply
+  pub base : (b : Base) → HoldsRows pages b → HoldsRows pages2 (base_after b op)
+  pub meaning : Map
+  pub good : AreRows relations total pages2 meaning

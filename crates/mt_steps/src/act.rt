@@ -1,0 +1,17 @@
+// What the plan of an operation answers.
+use mt_base::{Mode, PageNo};
+use mt_model::Reply;
+use mt_pool::Changes;
+
+/// The answer of an operation's plan over the pages that are at hand.
+#[derive(Debug, Drop)]
+pub enum Act {
+    /// This page has to be locked first, in this mode, and shown. Then the plan is made anew.
+    Lock(PageNo, Mode),
+    /// What changes in which pages, and the operation's reply.
+    Made(Changes, Reply),
+    /// The operation takes a page, or more of them, and there are not so many free.
+    Full,
+    /// The pages break the rules of their formats.
+    Broken,
+}

@@ -1,3 +1,4 @@
 mod Rows
 mod Apart
 mod Acting
+mod Numbers

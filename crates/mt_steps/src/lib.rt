@@ -4,7 +4,9 @@
 #![tactic(auto)]
 
 mod act;
+mod counters;
 mod getting;
 
 pub use act::Act;
+pub use counters::{add, counter};
 pub use getting::get;

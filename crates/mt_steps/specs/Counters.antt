@@ -1,0 +1,28 @@
+-- The counters page.
+use Rattle.std.specs.Prelude.{◌≡◌, ℕ, ℤ, ◌+◌, ◌*◌, ◌<◌, ◌≤◌, List, length}
+use Rattle.std.specs.Int.{w64, cast_signed}
+use Rattle.std.proofs.Math.ListN.{get_or}
+use Rattle.byteorder.specs.Endian.{big_number}
+use Rattle.mt_base.specs.Limits.{IsCounter}
+use Rattle.mt_base.specs.Ranges.{part}
+use Rattle.mt_model.specs.declared.counters.Count.{Count}
+
+-- the number in the eight bytes at a place, the highest one first, as two's complement
+unfoldable pub i64_at : List ℕ → ℕ → ℤ
+i64_at page at = cast_signed w64 (big_number 8 (part page at 8))
+
+-- where a counter's bounds and number stand
+abbrev pub place_of : ℕ → ℕ
+place_of c = 8 + 24 * c
+
+abbrev pub count_in : List ℕ → ℕ → Count
+count_in page c = record { low = i64_at page (place_of c); high = i64_at page (place_of c + 8); number = i64_at page (place_of c + 16) }
+
+-- a counters page of a schema of so many relations and counters; what lies behind the last counter is open
+pub record AreCounters (relations counters : ℕ) (page : List ℕ) : Type 0 where
+  pub size : length page ≡ 4096
+  pub relations_told : get_or page 0 0 ≡ relations
+  pub counters_told : get_or page 1 0 ≡ counters
+  pub zeros : (i : ℕ) → 2 ≤ i → i < 8 → get_or page i 0 ≡ 0
+  pub few : counters ≤ 128
+  pub each : (c : ℕ) → c < counters → IsCounter (i64_at page (place_of c)) (i64_at page (place_of c + 8)) (i64_at page (place_of c + 16))

@@ -1,0 +1,83 @@
+// The counters page, in place on its bytes: how many relations and counters the schema has, and of each
+// counter its two bounds and its number.
+ghost use Rattle.std.specs.Prelude.{◌≡◌, ◌+◌, ◌+ℤ◌, ◌*◌, ◌<◌, ◌≤◌, ℕ, length, MatchBool};
+ghost use Rattle.std.specs.Bool.{OnTrue, OnFalse};
+ghost use Rattle.mt_base.specs.Limits.{IsCounter, IsStep};
+ghost use Rattle.mt_base.specs.Ranges.{Torn};
+ghost use Rattle.mt_model.specs.Model.{moved, stays};
+ghost use Rattle.mt_model.specs.Tables.{IsLimited};
+ghost use Rattle.mt_steps.specs.Counters.{i64_at, place_of, count_in, AreCounters};
+
+use byteorder::{BigEndian, ByteOrder};
+use mt_base::CtrNo;
+use mt_base::ranges::{part_of, put};
+use mt_model::Count;
+
+// Bytes of the page's head, and of a counter.
+const HEAD_BYTES: usize = 8;
+
+const COUNTER_BYTES: usize = 24;
+
+// The number in the eight bytes at a place.
+#[tactic(auto, unfolding(crate::specs::Counters::i64_at))]
+fn number_at(page: &[u8], at: usize) -> i64
+    requires { at + 8 ≤ length page.now }
+    ensures { result ≡ i64_at page.now at }
+{
+    BigEndian::read_i64(part_of(page, at, 8))
+}
+
+/// A counter of the page.
+pub fn counter(page: &[u8], counter: CtrNo) -> Count
+    requires whole { length page.now ≡ 4096 }
+    requires there { counter < 128 }
+    ensures { result ≡ count_in page.now counter }
+{
+    let at = HEAD_BYTES + COUNTER_BYTES * usize::from(counter.get());
+    Count {
+        low: number_at(page, at),
+        high: number_at(page, at + 8),
+        number: number_at(page, at + 16),
+    }
+}
+
+// Puts a number into the eight bytes at a place.
+fn put_number(page: &mut [u8], at: usize, number: i64)
+    requires { at + 8 ≤ length page.old }
+    ensures number { i64_at page.new at ≡ number }
+    ensures rest { Torn at 8 page.old page.new }
+{
+    let mut text = [0u8; 8];
+    BigEndian::write_u64(&mut text, number.cast_unsigned());
+    put(page, at, &text);
+}
+
+// A counter's number and a step.
+fn sum_of(count: &Count, step: i64) -> i64
+    requires limited { IsLimited count.now }
+    requires step { IsStep step }
+    ensures { result ≡ count.now.number +ℤ step }
+{
+    count.number + step
+}
+
+/// Adds a step to a counter where the sum lies in the counter's bounds, and answers whether it does; else
+/// the page is as before. All other counters stay.
+pub fn add(page: &mut [u8], number: CtrNo, step: i64) -> bool
+    requires whole { length page.old ≡ 4096 }
+    requires there { number < 128 }
+    requires limited { IsLimited (count_in page.old number) }
+    requires step { IsStep step }
+    ensures told { result ≡ stays (count_in page.old number) step }
+    ensures done { OnTrue result (count_in page.new number ≡ moved (count_in page.old number) step) }
+    ensures unchanged { OnFalse result (page.new ≡ page.old) }
+    ensures rest { Torn (place_of number + 16) 8 page.old page.new }
+{
+    let count = counter(page, number);
+    if !count.takes(step) {
+        return false;
+    }
+    let at = HEAD_BYTES + COUNTER_BYTES * usize::from(number.get());
+    put_number(page, at + 16, sum_of(&count, step));
+    true
+}

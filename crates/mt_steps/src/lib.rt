@@ -2,3 +2,7 @@
 //! and what all pages together stand for. An operation's page locks end with it (Weikum 1991); the plan
 //! here says which it needs, and changes nothing itself.
 #![tactic(auto)]
+
+mod draft;
+
+pub use draft::{Draft, merged};

@@ -1,14 +1,16 @@
 -- Copies of pages that lie over others.
-use Rattle.std.proofs.Common.{◌≡◌, ◌≢◌, inl, inr, ℕ, zero, suc, add-one, ◌+◌, ◌<◌, ◌==◌, if◌then◌else◌, true, false, List, [], ◌∷◌, ◌++◌, length, get_or, set, take, drop, Option, Some, None, refl, sym, ◌∙◌, ap, subst, arith, take-append-drop}
-use Rattle.std.specs.Prelude.{IsSome}
+use Rattle.std.proofs.Common.{◌≡◌, ◌≢◌, inl, inr, ℕ, zero, suc, add-one, ◌+◌, ◌<◌, ◌==◌, if◌then◌else◌, true, false, List, [], ◌∷◌, ◌++◌, ◌≤◌, length, get_or, set, take, drop, Option, Some, None, refl, sym, ◌∙◌, ap, subst, arith, take-append-drop}
+use Rattle.std.specs.Prelude.{All, IsSome}
 use mathlib.Core.Path.{fun_ext}
 use Rattle.std.proofs.lemmas.Bool.{cases_eq}
 use Rattle.std.proofs.lemmas.Bool.Decides.{nat_tests}
 use Rattle.std.proofs.lemmas.List.{drop_more, take_more, set_split}
 use Rattle.mt_base.specs.declared.edits.Edit.{Edit}
-use Rattle.mt_base.specs.Edits.{patched}
-use Rattle.mt_pool.specs.Changes.{PageBytes, Agrees, replaced}
-use Rattle.mt_pool.proofs.Changing.{replaced_here, replaced_other}
+use Rattle.mt_base.specs.Edits.{patched, IsShortest}
+use Rattle.std.proofs.lemmas.List.Elements.{All-weaker}
+use Rattle.mt_pool.specs.declared.changes.PageChange.{PageChange}
+use Rattle.mt_pool.specs.Changes.{PageBytes, Agrees, IsUntouched, IsShort, AreShort, replaced, after}
+use Rattle.mt_pool.proofs.Changing.{replaced_here, replaced_other, after_push, after_untouched}
 use Rattle.mt_steps.specs.declared.draft.PageCopy.{PageCopy}
 use Rattle.mt_steps.specs.Drafts.{copied, or_below, shown, or_bytes, drawn, IsUncopied, AreApart, AreCopies, IsCopyAt, Keeps}
 
@@ -181,3 +183,94 @@ agrees_kept below old new p bytes pages keeps agrees q b is = elim (cases_eq p q
   | inl same ↦ replaced_here p q bytes pages (sym same) ∙ same_bytes bytes b (sym (ap (λ (o : Option (List ℕ)). or_below o (below q)) (keeps q ∙ test_yes p q _ _ same)) ∙ is)
   | inr other ↦ replaced_other p q bytes pages (λ e. other (sym e)) ∙ agrees q b (sym (ap (λ (o : Option (List ℕ)). or_below o (below q)) (keeps q ∙ test_no p q (Some bytes) (copied old q) other)) ∙ is)
 ]
+
+-- ---- a list of changes, one by one
+
+pub short_at : (cs : List PageChange) (i : ℕ) (d : PageChange) (pages : PageBytes) → i < length cs → AreShort cs pages → IsShort (pages (get_or cs i d).page) (get_or cs i d)
+short_at [] i d pages lt all = absurd (omega arith)
+short_at (c ∷ cs) zero d pages lt all = all.0
+short_at (c ∷ cs) (suc i) d pages lt all = short_at cs i d pages (omega arith) all.2
+
+-- the edits of a page that is at hand lie within it
+pub edits_fit : (at_hand : ℕ → Option (List ℕ)) (c : PageChange) (pages : PageBytes) → ((p : ℕ) (bytes : List ℕ) → at_hand p ≡ Some bytes → length bytes ≡ 4096) → IsSome (at_hand c.page) → Agrees at_hand pages → IsShort (pages c.page) c
+    → All (λ (e : Edit). e.start + length e.bytes ≤ 4096) c.edits.items
+edits_fit at_hand c pages whole there agrees short =
+    let some = some_value (at_hand c.page) there in
+    let long : length (pages c.page) ≡ 4096 = ap length (agrees c.page some.0 some.1) ∙ whole c.page some.0 some.1 in
+    All-weaker (IsShortest (pages c.page) (patched c.edits.items (pages c.page))) (λ (e : Edit). e.start + length e.bytes ≤ 4096) (λ e range. let within = range.within in omega arith) c.edits.items short.ranges
+
+after_more : (cs : List PageChange) (i : ℕ) (c : PageChange) (pages : PageBytes) → i < length cs → c ≡ get_or cs i c
+    → after (take (i + 1) cs) pages ≡ replaced c.page (patched c.edits.items (after (take i cs) pages c.page)) (after (take i cs) pages)
+after_more cs i c pages lt is =
+    ap (λ (l : List PageChange). after l pages) (take_more cs i c lt ∙ ap (λ (x : PageChange). take i cs ++ x ∷ []) (sym is))
+    ∙ after_push (take i cs) c pages
+
+-- the copy of a page becomes what its change makes of what was shown
+abbrev pub IsMade : (ℕ → Option (List ℕ)) → PageChange → List PageCopy → List PageCopy → Type 0
+IsMade below c old new = (bytes : List ℕ) → shown old below c.page ≡ Some bytes → Keeps c.page (patched c.edits.items bytes) old new
+
+pub agrees_more : (below : ℕ → Option (List ℕ)) (old new : List PageCopy) (cs : List PageChange) (i : ℕ) (c : PageChange) (pages : PageBytes) → i < length cs → c ≡ get_or cs i c → IsSome (shown old below c.page) → IsMade below c old new
+    → Agrees (shown old below) (after (take i cs) pages) → Agrees (shown new below) (after (take (i + 1) cs) pages)
+agrees_more below old new cs i c pages lt is there made agrees =
+    let some = some_value (shown old below c.page) there in
+    let mid = after (take i cs) pages in
+    let next : replaced c.page (patched c.edits.items some.0) mid ≡ after (take (i + 1) cs) pages =
+    sym (after_more cs i c pages lt is ∙ ap (λ (b : List ℕ). replaced c.page (patched c.edits.items b) mid) (agrees c.page some.0 some.1)) in
+    subst (λ (all : PageBytes). Agrees (shown new below) all) next (agrees_kept below old new c.page (patched c.edits.items some.0) mid (made some.0 some.1) agrees)
+
+pub drawn_more : (below : ℕ → Option (List ℕ)) (old new : List PageCopy) (cs : List PageChange) (i : ℕ) (c : PageChange) (start pages : PageBytes) → i < length cs → c ≡ get_or cs i c → IsSome (shown old below c.page) → IsMade below c old new
+    → Agrees below pages → drawn old pages ≡ after (take i cs) start → drawn new pages ≡ after (take (i + 1) cs) start
+drawn_more below old new cs i c start pages lt is there made agrees was =
+    let some = some_value (shown old below c.page) there in
+    let here : drawn old pages c.page ≡ some.0 = drawn_agrees old below pages agrees c.page some.0 some.1 in
+    drawn_kept old new c.page (patched c.edits.items some.0) pages (made some.0 some.1)
+    ∙ ap (λ (b : List ℕ). replaced c.page (patched c.edits.items b) (drawn old pages)) (sym here)
+    ∙ ap (λ (all : PageBytes). replaced c.page (patched c.edits.items (all c.page)) all) was
+    ∙ sym (after_more cs i c start lt is)
+
+-- ---- what copies come to
+
+-- these changes are what the copies come to
+pub record ComeTo (below : ℕ → Option (List ℕ)) (copies : List PageCopy) (changes : List PageChange) : Type 0 where
+  pub made : (pages : PageBytes) → Agrees below pages → after changes pages ≡ drawn copies pages
+  pub short : (pages : PageBytes) → Agrees below pages → AreShort changes pages
+  pub same : (p : ℕ) → shown copies below p ≡ below p → IsUntouched changes p
+
+-- one page's bytes were noted
+pub record IsNoted (p : ℕ) (old new : List ℕ) (was now : List PageChange) : Type 0 where
+  pub noted : (pages : PageBytes) → after was pages p ≡ old → after now pages ≡ replaced p new (after was pages)
+  pub short : (pages : PageBytes) → pages p ≡ old → IsUntouched was p → AreShort was pages → AreShort now pages
+  pub others : (q : ℕ) → q ≢ p → IsUntouched was q → IsUntouched now q
+  pub same : new ≡ old → now ≡ was
+
+come_push : (below : ℕ → Option (List ℕ)) (done : List PageCopy) (c : PageCopy) (old : List ℕ) (was now : List PageChange) → copied done c.page ≡ None → below c.page ≡ Some old → IsNoted c.page old c.bytes was now → ComeTo below done was → ComeTo below (done ++ c ∷ []) now
+come_push below done c old was now none there note so =
+    let keeps = keeps_push done c none in
+    let untouched : IsUntouched was c.page = so.same c.page (ap (λ (o : Option (List ℕ)). or_below o (below c.page)) none) in
+    record {
+      made = λ pages agrees.
+          note.noted pages (after_untouched was pages c.page untouched ∙ agrees c.page old there)
+          ∙ ap (λ (all : PageBytes). replaced c.page c.bytes all) (so.made pages agrees)
+          ∙ sym (drawn_kept done (done ++ c ∷ []) c.page c.bytes pages keeps);
+      short = λ pages agrees. note.short pages (agrees c.page old there) untouched (so.short pages agrees);
+      same = λ p is. elim (cases_eq c.page p) [
+        | inl here ↦
+            let shown_is : shown (done ++ c ∷ []) below p ≡ Some c.bytes = ap (λ (o : Option (List ℕ)). or_below o (below p)) (keeps p ∙ test_yes c.page p _ _ here) in
+            let bytes : c.bytes ≡ old = same_bytes c.bytes old (sym shown_is ∙ is ∙ ap below (sym here) ∙ there) in
+            subst (λ (l : List PageChange). IsUntouched l p) (sym (note.same bytes)) (subst (IsUntouched was) here untouched)
+        | inr other ↦
+            let shown_is : shown (done ++ c ∷ []) below p ≡ shown done below p = ap (λ (o : Option (List ℕ)). or_below o (below p)) (keeps p ∙ test_no c.page p (Some c.bytes) (copied done p) other) in
+            note.others p (λ e. other (sym e)) (so.same p (sym shown_is ∙ is))
+      ];
+    }
+
+pub come_more : (below : ℕ → Option (List ℕ)) (copies : List PageCopy) (i : ℕ) (c : PageCopy) (old : List ℕ) (was now : List PageChange) → i < length copies → c ≡ get_or copies i c → AreCopies below copies → below c.page ≡ Some old → IsNoted c.page old c.bytes was now → ComeTo below (take i copies) was
+    → ComeTo below (take (i + 1) copies) now
+come_more below copies i c old was now lt is sound there note so =
+    let first : copied (take i copies) c.page ≡ None = ap (λ (x : PageCopy). copied (take i copies) x.page) is ∙ apart_before copies i c lt sound.apart in
+    let next : take i copies ++ c ∷ [] ≡ take (i + 1) copies = ap (λ (x : PageCopy). take i copies ++ x ∷ []) is ∙ sym (take_more copies i c lt) in
+    subst (λ (l : List PageCopy). ComeTo below l now) next (come_push below (take i copies) c old was now first there note so)
+
+-- a page with a copy is at hand below
+pub below_there : (below : ℕ → Option (List ℕ)) (copies : List PageCopy) (i : ℕ) (c : PageCopy) → i < length copies → c ≡ get_or copies i c → AreCopies below copies → IsSome (below c.page)
+below_there below copies i c lt is sound = sound.there c.page (get_or copies i c).bytes (ap (λ (x : PageCopy). copied copies x.page) is ∙ is_copy_at copies i c lt sound.apart)

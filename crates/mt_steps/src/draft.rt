@@ -39,10 +39,11 @@ impl<'a, V: Pages> Draft<'a, V> {
     /// lie within its page, as it does in the changes that a plan answers. The only error is want of
     /// memory: some of the changes may be made then, and the draft is still sound.
     pub fn apply(&mut self, changes: &Changes) -> Result<(), AllocError>
-        requires sound { AreCopies (V.at_hand self.old.views.now) self.old.copies.items × V.is_sound self.old.views.now }
+        requires sound { V.is_sound self.old.views.now }
+        requires copies { AreCopies (V.at_hand self.old.views.now) self.old.copies.items }
         requires there { AreAtHand (shown self.old.copies.items (V.at_hand self.old.views.now)) changes.now.list.items }
         requires short { (pages : PageBytes) × Agrees (shown self.old.copies.items (V.at_hand self.old.views.now)) pages × AreShort changes.now.list.items pages }
-        ensures sound { AreCopies (V.at_hand self.old.views.now) self.new.copies.items }
+        ensures copies { AreCopies (V.at_hand self.old.views.now) self.new.copies.items }
         ensures views { self.new.views.now ≡ self.old.views.now }
         ensures same_pages { (p : ℕ) → IsSome (shown self.new.copies.items (V.at_hand self.old.views.now) p) ↔ IsSome (V.at_hand self.old.views.now p) }
         ensures agrees { OnOk result ((pages : PageBytes) → Agrees (shown self.old.copies.items (V.at_hand self.old.views.now)) pages → Agrees (shown self.new.copies.items (V.at_hand self.old.views.now)) (after changes.now.list.items pages)) }
@@ -56,10 +57,11 @@ impl<'a, V: Pages> Draft<'a, V> {
 
     // Makes the change of one page.
     fn make(&mut self, change: &PageChange) -> Result<(), AllocError>
-        requires sound { AreCopies (V.at_hand self.old.views.now) self.old.copies.items × V.is_sound self.old.views.now }
+        requires sound { V.is_sound self.old.views.now }
+        requires copies { AreCopies (V.at_hand self.old.views.now) self.old.copies.items }
         requires there { IsSome (V.at_hand self.old.views.now change.now.page) }
         requires fit { All (λ e. e.start + length e.bytes ≤ 4096) change.now.edits.items }
-        ensures sound { AreCopies (V.at_hand self.old.views.now) self.new.copies.items }
+        ensures copies { AreCopies (V.at_hand self.old.views.now) self.new.copies.items }
         ensures views { self.new.views.now ≡ self.old.views.now }
         ensures kept { OnOk result ((bytes : List ℕ) → shown self.old.copies.items (V.at_hand self.old.views.now) change.now.page ≡ Some bytes → Keeps change.now.page (patched change.now.edits.items bytes) self.old.copies.items self.new.copies.items) }
     {
@@ -75,7 +77,8 @@ impl<'a, V: Pages> Draft<'a, V> {
     /// What all the changes come to: one list that names each page once, and none that is as before. The only
     /// error is want of memory.
     pub fn changes(&self) -> Result<Changes, AllocError>
-        requires sound { AreCopies (V.at_hand self.now.views.now) self.now.copies.items × V.is_sound self.now.views.now }
+        requires sound { V.is_sound self.now.views.now }
+        requires copies { AreCopies (V.at_hand self.now.views.now) self.now.copies.items }
         ensures made { IfOk result (λ changes. (pages : PageBytes) → Agrees (V.at_hand self.now.views.now) pages → after changes.list.items pages ≡ drawn self.now.copies.items pages) }
         ensures short { IfOk result (λ changes. (pages : PageBytes) → Agrees (V.at_hand self.now.views.now) pages → AreShort changes.list.items pages) }
         ensures same { IfOk result (λ changes. (p : ℕ) → shown self.now.copies.items (V.at_hand self.now.views.now) p ≡ V.at_hand self.now.views.now p → IsUntouched changes.list.items p) }

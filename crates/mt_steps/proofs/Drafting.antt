@@ -199,6 +199,12 @@ edits_fit at_hand c pages whole there agrees short =
     let long : length (pages c.page) ≡ 4096 = ap length (agrees c.page some.0 some.1) ∙ whole c.page some.0 some.1 in
     All-weaker (IsShortest (pages c.page) (patched c.edits.items (pages c.page))) (λ (e : Edit). e.start + length e.bytes ≤ 4096) (λ e range. let within = range.within in omega arith) c.edits.items short.ranges
 
+-- a change's page is named
+pub named_at : (cs : List PageChange) (i : ℕ) (d : PageChange) → i < length cs → IsUntouched cs (get_or cs i d).page → ⊥
+named_at [] i d lt none = omega arith
+named_at (c ∷ cs) zero d lt none = none.0 refl
+named_at (c ∷ cs) (suc i) d lt none = named_at cs i d (omega arith) none.1
+
 after_more : (cs : List PageChange) (i : ℕ) (c : PageChange) (pages : PageBytes) → i < length cs → c ≡ get_or cs i c
     → after (take (i + 1) cs) pages ≡ replaced c.page (patched c.edits.items (after (take i cs) pages c.page)) (after (take i cs) pages)
 after_more cs i c pages lt is =

@@ -8,15 +8,16 @@ use mt_base::{Edit, PageNo};
 use mt_pool::{Changes, PageChange, Pages};
 use std::alloc::{AllocError, Global};
 
-/// A page's bytes as they will be.
+// A page's bytes as they will be.
 #[derive(Drop)]
-pub struct PageCopy {
-    pub(crate) page: PageNo,
-    pub(crate) bytes: [u8; 4096],
+struct PageCopy {
+    page: PageNo,
+    bytes: [u8; 4096],
 }
 
 /// Pages as they will be once some changes are made: copies of the pages that change, which lie over
-/// all others. It is for the few pages of one operation, and a page's copy is found by a walk over them.
+/// all pages as they are. An operation that plans twice makes its second plan over a draft with the
+/// changes of the first. It is for the few pages of one operation: a copy is found by a walk over all.
 #[derive(Drop)]
 pub struct Draft<'a, V: Pages> {
     views: &'a V,
@@ -35,9 +36,10 @@ impl<'a, V: Pages> Draft<'a, V> {
         }
     }
 
-    /// Makes changes of pages as the draft shows them. Each page that changes is to be at hand, and each edit to
-    /// lie within its page, as it does in the changes that a plan answers. The only error is want of
-    /// memory: some of the changes may be made then, and the draft is still sound.
+    /// Makes changes of pages as the draft shows them, one page after the other. Each page that changes is
+    /// to be at hand, which [`first_missing`] tells, and each edit to lie within its page, as it does in
+    /// the changes that a plan answers. The only error is want of memory: a first part of the changes is
+    /// made then, and the draft is still sound.
     pub fn apply(&mut self, changes: &Changes) -> Result<(), AllocError>
         requires sound { V.is_sound self.old.views.now }
         requires copies { AreCopies (V.at_hand self.old.views.now) self.old.copies.items }
@@ -74,8 +76,8 @@ impl<'a, V: Pages> Draft<'a, V> {
         keep(&mut self.copies, change.page, bytes)
     }
 
-    /// What all the changes come to: one list that names each page once, and none that is as before. The only
-    /// error is want of memory.
+    /// What all changes so far come to, against the pages as they are: one list that names each page once,
+    /// and none that is as before. The only error is want of memory.
     pub fn changes(&self) -> Result<Changes, AllocError>
         requires sound { V.is_sound self.now.views.now }
         requires copies { AreCopies (V.at_hand self.now.views.now) self.now.copies.items }
@@ -91,27 +93,6 @@ impl<'a, V: Pages> Draft<'a, V> {
         }
         Ok(changes)
     }
-}
-
-/// Two plans' changes as one: the second plan was made over the changes of the first. Pages that change
-/// are to be at hand. The only error is want of memory.
-pub fn merged<V: Pages>(
-    alloc: Global,
-    views: &V,
-    first: &Changes,
-    second: &Changes,
-) -> Result<Changes, AllocError>
-    requires sound { V.is_sound views.now }
-    requires first_there { AreAtHand (V.at_hand views.now) first.now.list.items }
-    requires second_there { AreAtHand (V.at_hand views.now) second.now.list.items }
-    requires short { (pages : PageBytes) × Agrees (V.at_hand views.now) pages × AreShort first.now.list.items pages × AreShort second.now.list.items (after first.now.list.items pages) }
-    ensures made { IfOk result (λ changes. (pages : PageBytes) → Agrees (V.at_hand views.now) pages → after changes.list.items pages ≡ after second.now.list.items (after first.now.list.items pages)) }
-    ensures short { IfOk result (λ changes. (pages : PageBytes) → Agrees (V.at_hand views.now) pages → AreShort changes.list.items pages) }
-{
-    let mut draft = Draft::new(alloc, views);
-    draft.apply(first)?;
-    draft.apply(second)?;
-    draft.changes()
 }
 
 impl<'a, V: Pages> Pages for Draft<'a, V> {
@@ -135,6 +116,43 @@ impl<'a, V: Pages> Pages for Draft<'a, V> {
             None => self.views.page(page),
         }
     }
+}
+
+/// The first page of these changes that is not at hand, so that it has to be seen before a draft takes
+/// them; `None` where each is.
+pub fn first_missing<V: Pages>(views: &V, changes: &Changes) -> Option<PageNo>
+    requires sound { V.is_sound views.now }
+    ensures some { IfSome result (λ p. V.at_hand views.now p ≡ None) }
+    ensures named { IfSome result (λ p. IsUntouched changes.now.list.items p → ⊥) }
+    ensures none { IfNone result (AreAtHand (V.at_hand views.now) changes.now.list.items) }
+{
+    for change in &changes.list {
+        if views.page(change.page).is_none() {
+            return Some(change.page);
+        }
+    }
+    None
+}
+
+/// Two plans' changes as one list, of which the second plan was made over the changes of the first. Each
+/// page that changes is to be at hand. The only error is want of memory.
+pub fn merged<V: Pages>(
+    alloc: Global,
+    views: &V,
+    first: &Changes,
+    second: &Changes,
+) -> Result<Changes, AllocError>
+    requires sound { V.is_sound views.now }
+    requires first_there { AreAtHand (V.at_hand views.now) first.now.list.items }
+    requires second_there { AreAtHand (V.at_hand views.now) second.now.list.items }
+    requires short { (pages : PageBytes) × Agrees (V.at_hand views.now) pages × AreShort first.now.list.items pages × AreShort second.now.list.items (after first.now.list.items pages) }
+    ensures made { IfOk result (λ changes. (pages : PageBytes) → Agrees (V.at_hand views.now) pages → after changes.list.items pages ≡ after second.now.list.items (after first.now.list.items pages)) }
+    ensures short { IfOk result (λ changes. (pages : PageBytes) → Agrees (V.at_hand views.now) pages → AreShort changes.list.items pages) }
+{
+    let mut draft = Draft::new(alloc, views);
+    draft.apply(first)?;
+    draft.apply(second)?;
+    draft.changes()
 }
 
 // The copy of a page, lent.
@@ -162,11 +180,7 @@ fn place_of(copies: &[PageCopy], page: PageNo) -> Option<usize>
 }
 
 // Makes the bytes a page's copy, in place of the one that there is.
-fn keep(
-    copies: &mut Vec<PageCopy>,
-    page: PageNo,
-    bytes: [u8; 4096],
-) -> Result<(), AllocError>
+fn keep(copies: &mut Vec<PageCopy>, page: PageNo, bytes: [u8; 4096]) -> Result<(), AllocError>
     ensures kept { OnOk result (Keeps page bytes copies.old.items copies.new.items) }
     ensures apart { AreApart copies.old.items → AreApart copies.new.items }
     ensures unchanged { OnErr result (copies.new.items ≡ copies.old.items) }

@@ -5,4 +5,4 @@
 
 mod draft;
 
-pub use draft::{Draft, merged};
+pub use draft::{Draft, first_missing, merged};

@@ -1,4 +1,4 @@
-use Rattle.std.proofs.Common.{◌≡◌, ◌∙◌, ℕ, List, ap, sym, subst, None}
+use Rattle.std.proofs.Common.{◌≡◌, List, sym, subst, None}
 use Rattle.mt_steps.specs.declared.draft.PageCopy.{PageCopy}
 use Rattle.mt_steps.specs.Drafts.{copied, AreApart, IsCopyAt, Keeps}
 use Rattle.mt_steps.proofs.Drafting.{keeps_push, keeps_set, apart_push, apart_set, uncopied}

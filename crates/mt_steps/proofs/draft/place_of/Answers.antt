@@ -1,4 +1,4 @@
-use Rattle.std.proofs.Common.{◌≡◌, ◌≢◌, ◌∙◌, ap, sym, arith}
+use Rattle.std.proofs.Common.{◌≢◌, ◌∙◌, ap, arith}
 use Rattle.std.proofs.lemmas.Bool.Decides.{nat_tests}
 use Rattle.mt_steps.specs.declared.draft.PageCopy.{PageCopy}
 use Rattle.mt_steps.proofs.Drafting.{uncopied_more}

@@ -1,7 +1,5 @@
-use Rattle.std.proofs.Common.{◌≡◌, ◌<◌, ◌∙◌, ℕ, length, get_or, List, Option, Some, None, refl, ap, subst, sym, take, ◌+◌}
-use Rattle.std.specs.Prelude.{IsSome}
+use Rattle.std.proofs.Common.{◌≡◌, ◌<◌, ◌∙◌, length, get_or, List, Some, None, ap, subst, sym, take, ◌+◌}
 use Rattle.mt_pool.specs.declared.changes.Changes.{Changes}
-use Rattle.mt_pool.specs.declared.changes.PageChange.{PageChange}
 use Rattle.mt_steps.specs.declared.draft.PageCopy.{PageCopy}
 use Rattle.mt_steps.proofs.Drafting.{ComeTo, IsNoted, come_more, below_there, some_value}
 use Rattle.mt_steps.proofs.draft.Draft.changes.Goals as goal

@@ -2,3 +2,4 @@ mod Rows
 mod Apart
 mod Acting
 mod Numbers
+pub mod Drafting

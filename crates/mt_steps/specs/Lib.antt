@@ -1,3 +1,4 @@
 pub mod Held
 pub mod Acts
 pub mod Counters
+pub mod Drafts

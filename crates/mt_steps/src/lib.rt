@@ -10,3 +10,6 @@ mod getting;
 pub use act::Act;
 pub use counters::{add, counter};
 pub use getting::get;
+mod draft;
+
+pub use draft::{Draft, first_missing, merged};

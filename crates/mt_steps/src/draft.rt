@@ -1,0 +1,206 @@
+// Pages as they will be once some changes are made.
+ghost use Rattle.std.specs.Prelude.{◌≡◌, ◌+◌, ◌≤◌, ℕ, List, [], All, length, IfSome, IfNone, IfOk, OnOk, OnErr, IsSome, ◌↔◌, Some, None};
+ghost use Rattle.mt_base.specs.Edits.{patched};
+ghost use Rattle.mt_pool.specs.Changes.{PageBytes, Agrees, IsUntouched, AreShort, after};
+ghost use Rattle.mt_steps.specs.Drafts.{copied, shown, drawn, AreApart, AreCopies, AreAtHand, IsCopyAt, Keeps};
+
+use mt_base::{Edit, PageNo};
+use mt_pool::{Changes, PageChange, Pages};
+use std::alloc::{AllocError, Global};
+
+// A page's bytes as they will be.
+#[derive(Drop)]
+struct PageCopy {
+    page: PageNo,
+    bytes: [u8; 4096],
+}
+
+/// Pages as they will be once some changes are made: copies of the pages that change, which lie over
+/// all pages as they are. An operation that plans twice makes its second plan over a draft with the
+/// changes of the first. It is for the few pages of one operation: a copy is found by a walk over all.
+#[derive(Drop)]
+pub struct Draft<'a, V: Pages> {
+    views: &'a V,
+    copies: Vec<PageCopy>,
+}
+
+impl<'a, V: Pages> Draft<'a, V> {
+    /// The pages as they are: no change is made so far.
+    pub fn new(alloc: Global, views: &'a V) -> Draft<'a, V>
+        ensures none { result.copies.items ≡ [] }
+        ensures views { result.views.now ≡ views.now }
+    {
+        Draft {
+            views,
+            copies: Vec::new(alloc),
+        }
+    }
+
+    /// Makes changes of pages as the draft shows them, one page after the other. Each page that changes is
+    /// to be at hand, which [`first_missing`] tells, and each edit to lie within its page, as it does in
+    /// the changes that a plan answers. The only error is want of memory: a first part of the changes is
+    /// made then, and the draft is still sound.
+    pub fn apply(&mut self, changes: &Changes) -> Result<(), AllocError>
+        requires sound { V.is_sound self.old.views.now }
+        requires copies { AreCopies (V.at_hand self.old.views.now) self.old.copies.items }
+        requires there { AreAtHand (shown self.old.copies.items (V.at_hand self.old.views.now)) changes.now.list.items }
+        requires short { (pages : PageBytes) × Agrees (shown self.old.copies.items (V.at_hand self.old.views.now)) pages × AreShort changes.now.list.items pages }
+        ensures copies { AreCopies (V.at_hand self.old.views.now) self.new.copies.items }
+        ensures views { self.new.views.now ≡ self.old.views.now }
+        ensures same_pages { (p : ℕ) → IsSome (shown self.new.copies.items (V.at_hand self.old.views.now) p) ↔ IsSome (V.at_hand self.old.views.now p) }
+        ensures agrees { OnOk result ((pages : PageBytes) → Agrees (shown self.old.copies.items (V.at_hand self.old.views.now)) pages → Agrees (shown self.new.copies.items (V.at_hand self.old.views.now)) (after changes.now.list.items pages)) }
+        ensures drawn { OnOk result ((pages : PageBytes) → Agrees (V.at_hand self.old.views.now) pages → drawn self.new.copies.items pages ≡ after changes.now.list.items (drawn self.old.copies.items pages)) }
+    {
+        for change in &changes.list {
+            self.make(change)?;
+        }
+        Ok(())
+    }
+
+    // Makes the change of one page.
+    fn make(&mut self, change: &PageChange) -> Result<(), AllocError>
+        requires sound { V.is_sound self.old.views.now }
+        requires copies { AreCopies (V.at_hand self.old.views.now) self.old.copies.items }
+        requires there { IsSome (V.at_hand self.old.views.now change.now.page) }
+        requires fit { All (λ e. e.start + length e.bytes ≤ 4096) change.now.edits.items }
+        ensures copies { AreCopies (V.at_hand self.old.views.now) self.new.copies.items }
+        ensures views { self.new.views.now ≡ self.old.views.now }
+        ensures kept { OnOk result ((bytes : List ℕ) → shown self.old.copies.items (V.at_hand self.old.views.now) change.now.page ≡ Some bytes → Keeps change.now.page (patched change.now.edits.items bytes) self.old.copies.items self.new.copies.items) }
+    {
+        let mut bytes = match self.page(change.page) {
+            Some(shown) => *shown,
+            // Not reached, since the page is at hand.
+            None => return Ok(()),
+        };
+        patch(&mut bytes, change.edits.as_slice());
+        keep(&mut self.copies, change.page, bytes)
+    }
+
+    /// What all changes so far come to, against the pages as they are: one list that names each page once,
+    /// and none that is as before. The only error is want of memory.
+    pub fn changes(&self) -> Result<Changes, AllocError>
+        requires sound { V.is_sound self.now.views.now }
+        requires copies { AreCopies (V.at_hand self.now.views.now) self.now.copies.items }
+        ensures made { IfOk result (λ changes. (pages : PageBytes) → Agrees (V.at_hand self.now.views.now) pages → after changes.list.items pages ≡ drawn self.now.copies.items pages) }
+        ensures short { IfOk result (λ changes. (pages : PageBytes) → Agrees (V.at_hand self.now.views.now) pages → AreShort changes.list.items pages) }
+        ensures same { IfOk result (λ changes. (p : ℕ) → shown self.now.copies.items (V.at_hand self.now.views.now) p ≡ V.at_hand self.now.views.now p → IsUntouched changes.list.items p) }
+    {
+        let mut changes = Changes::new(*self.copies.allocator());
+        for copy in &self.copies {
+            if let Some(old) = self.views.page(copy.page) {
+                changes.note(copy.page, old, &copy.bytes)?;
+            }
+        }
+        Ok(changes)
+    }
+}
+
+impl<'a, V: Pages> Pages for Draft<'a, V> {
+    ghost use Rattle.mt_steps.specs.Drafts.{shown_whole};
+
+    ghost is_sound = { λ draft. V.is_sound draft.views.now × AreCopies (V.at_hand draft.views.now) draft.copies.items };
+
+    ghost total = { λ draft. V.total draft.views.now };
+
+    ghost at_hand = { λ draft. shown draft.copies.items (V.at_hand draft.views.now) };
+
+    ghost whole = { λ draft sound. shown_whole draft.copies.items (V.at_hand draft.views.now) sound.1 (V.whole draft.views.now sound.0) };
+
+    fn count(&self) -> u16 {
+        self.views.count()
+    }
+
+    fn page(&self, page: PageNo) -> Option<&[u8; 4096]> {
+        match copy_of(self.copies.as_slice(), page) {
+            Some(bytes) => Some(bytes),
+            None => self.views.page(page),
+        }
+    }
+}
+
+/// The first page of these changes that is not at hand, so that it has to be seen before a draft takes
+/// them; `None` where each is.
+pub fn first_missing<V: Pages>(views: &V, changes: &Changes) -> Option<PageNo>
+    requires sound { V.is_sound views.now }
+    ensures some { IfSome result (λ p. V.at_hand views.now p ≡ None) }
+    ensures named { IfSome result (λ p. IsUntouched changes.now.list.items p → ⊥) }
+    ensures none { IfNone result (AreAtHand (V.at_hand views.now) changes.now.list.items) }
+{
+    for change in &changes.list {
+        if views.page(change.page).is_none() {
+            return Some(change.page);
+        }
+    }
+    None
+}
+
+/// Two plans' changes as one list, of which the second plan was made over the changes of the first. Each
+/// page that changes is to be at hand. The only error is want of memory.
+pub fn merged<V: Pages>(
+    alloc: Global,
+    views: &V,
+    first: &Changes,
+    second: &Changes,
+) -> Result<Changes, AllocError>
+    requires sound { V.is_sound views.now }
+    requires first_there { AreAtHand (V.at_hand views.now) first.now.list.items }
+    requires second_there { AreAtHand (V.at_hand views.now) second.now.list.items }
+    requires short { (pages : PageBytes) × Agrees (V.at_hand views.now) pages × AreShort first.now.list.items pages × AreShort second.now.list.items (after first.now.list.items pages) }
+    ensures made { IfOk result (λ changes. (pages : PageBytes) → Agrees (V.at_hand views.now) pages → after changes.list.items pages ≡ after second.now.list.items (after first.now.list.items pages)) }
+    ensures short { IfOk result (λ changes. (pages : PageBytes) → Agrees (V.at_hand views.now) pages → AreShort changes.list.items pages) }
+{
+    let mut draft = Draft::new(alloc, views);
+    draft.apply(first)?;
+    draft.apply(second)?;
+    draft.changes()
+}
+
+// The copy of a page, lent.
+fn copy_of(copies: &[PageCopy], page: PageNo) -> Option<&[u8; 4096]>
+    ensures some { IfSome result (λ bytes. copied copies.now page ≡ Some bytes.now) }
+    ensures none { IfNone result (copied copies.now page ≡ None) }
+{
+    match place_of(copies, page) {
+        Some(i) => Some(&copies[i].bytes),
+        None => None,
+    }
+}
+
+// The place of a page's copy among all.
+fn place_of(copies: &[PageCopy], page: PageNo) -> Option<usize>
+    ensures some { IfSome result (λ i. IsCopyAt copies.now page i) }
+    ensures none { IfNone result (copied copies.now page ≡ None) }
+{
+    for i in 0..copies.len() {
+        if copies[i].page == page {
+            return Some(i);
+        }
+    }
+    None
+}
+
+// Makes the bytes a page's copy, in place of the one that there is.
+fn keep(copies: &mut Vec<PageCopy>, page: PageNo, bytes: [u8; 4096]) -> Result<(), AllocError>
+    ensures kept { OnOk result (Keeps page bytes copies.old.items copies.new.items) }
+    ensures apart { AreApart copies.old.items → AreApart copies.new.items }
+    ensures unchanged { OnErr result (copies.new.items ≡ copies.old.items) }
+{
+    match place_of(copies.as_slice(), page) {
+        Some(i) => copies[i] = PageCopy { page, bytes },
+        None => copies.push(PageCopy { page, bytes })?,
+    }
+    Ok(())
+}
+
+// Puts the edits into a page, the first one first.
+fn patch(page: &mut [u8], edits: &[Edit])
+    requires whole { length page.old ≡ 4096 }
+    requires fit { All (λ e. e.start + length e.bytes ≤ 4096) edits.now }
+    ensures { page.new ≡ patched edits.now page.old }
+{
+    for edit in edits {
+        let start = usize::from(edit.start);
+        let bytes = edit.bytes.as_slice();
+        page[start..start + bytes.len()].copy_from_slice(bytes);
+    }
+}

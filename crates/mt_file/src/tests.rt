@@ -1,15 +1,16 @@
 ghost use Rattle.std.specs.Prelude.{◌≡◌, ◌<◌, ◌≤◌, ℕ, length, slice_get, IfSome};
 ghost use Rattle.std.specs.Bool.{OnTrue};
+ghost use Rattle.mt_base.specs.Limits.{IsKey, IsValue};
 ghost use Rattle.mt_slots.specs.Page.{IsShaped};
 ghost use Rattle.mt_space.specs.Kinds.{kind};
 ghost use Rattle.mt_file.specs.Copies.{copied, AreWhole};
 ghost use Rattle.mt_file.specs.File.{IsFile};
 
-use crate::{Found, Plan, Rooms, Step, fits, plan_put, plan_read, plan_remove, plan_replace};
+use crate::{Plan, Step, fits, plan_put};
 use mt_base::ranges::put;
 use mt_base::{Edit, PageNo, RecordName, RelNo};
 use mt_pool::{Pages, PageChange};
-use mt_slots::{check, room};
+use mt_slots::check;
 use std::alloc::{AllocError, Global};
 use std::test::Fail;
 
@@ -39,4 +40,154 @@ impl Pages for Copies {
     fn page(&self, page: PageNo) -> Option<&[u8; 4096]> {
         self.pages.get(usize::from(page.get()))
     }
+}
+
+impl Copies {
+    // So many free pages behind the fixed ones and one bucket.
+    fn new(alloc: Global, free: u16) -> Result<Copies, AllocError>
+        requires { free ≤ 1000 }
+    {
+        let mut map = [0u8; 4096];
+        put(&mut map, 0, &[1, 1, 1, 2]);
+        let mut pages = Vec::new(alloc);
+        pages.push(map)?;
+        for _page in 0..3 + free {
+            pages.push([0u8; 4096])?;
+        }
+        Ok(Copies { pages })
+    }
+
+    fn kind(&self, page: PageNo) -> u8
+        ensures { result ≡ kind (copied self.now.pages.items) page }
+    {
+        self.kind_at(usize::from(page.get()))
+    }
+
+    fn kind_at(&self, page: usize) -> u8
+        ensures { result ≡ kind (copied self.now.pages.items) page }
+    {
+        match self.pages.first() {
+            Some(map) => {
+                if page < 4096 {
+                    map[page]
+                } else {
+                    0
+                }
+            }
+            None => 0,
+        }
+    }
+
+    // Whether the bytes of a page are those of a page of records.
+    fn is_records(&self, page: usize) -> bool
+        ensures { OnTrue result (IsShaped (copied self.now.pages.items page)) }
+    {
+        page < self.pages.len() && check(&self.pages[page], 64, 1024)
+    }
+
+    fn is_good(&self, page: usize) -> bool
+        ensures { OnTrue result (kind (copied self.now.pages.items) page ≡ 3 → IsShaped (copied self.now.pages.items page)) }
+    {
+        self.kind_at(page) != 3 || self.is_records(page)
+    }
+
+    // Whether these pages are a file of records.
+    fn is_file(&self) -> bool
+        ensures { OnTrue result (IsFile (copied self.now.pages.items)) }
+    {
+        if self.pages.is_empty() || self.kind_at(0) != 1 {
+            return false;
+        }
+        for page in 0..4096 {
+            if !self.is_good(page) {
+                return false;
+            }
+        }
+        true
+    }
+
+    // Makes one edit of a page, where it lies within it.
+    fn write(&mut self, page: PageNo, edit: &Edit) {
+        let place = usize::from(page.get());
+        let start = usize::from(edit.start);
+        let bytes = edit.bytes.as_slice();
+        if place < self.pages.len() && start + bytes.len() <= 4096 {
+            put(&mut self.pages[place], start, bytes);
+        }
+    }
+
+    fn change(&mut self, change: &PageChange) {
+        for edit in &change.edits {
+            self.write(change.page, edit);
+        }
+    }
+
+    // Makes the changes of a plan.
+    fn make(&mut self, plan: &Plan) {
+        for change in &plan.changes.list {
+            self.change(change);
+        }
+    }
+
+    // The first page of records that takes so many bytes.
+    fn with_room(&self, bytes: u16) -> Option<PageNo>
+        ensures { IfSome result (λ p. kind (copied self.now.pages.items) p ≡ 3) }
+    {
+        for page in 0..4000 {
+            let number = PageNo::new(page);
+            if self.kind(number) == 3 && self.takes(usize::from(page), bytes) {
+                return Some(number);
+            }
+        }
+        None
+    }
+
+    fn takes(&self, page: usize, bytes: u16) -> bool {
+        if page >= self.pages.len() {
+            return false;
+        }
+        let page = &self.pages[page];
+        check(page, 64, 1024) && fits(page) >= bytes
+    }
+
+    // How many pages are free.
+    fn free(&self) -> usize {
+        let mut free = 0;
+        for page in 0..self.pages.len() {
+            if self.kind_at(page) == 0 {
+                free += 1;
+            }
+        }
+        free
+    }
+
+    // Puts a record.
+    fn put(&mut self, alloc: Global, key: &[u8], value: &[u8]) -> Result<Option<RecordName>, AllocError>
+        requires key_fits { IsKey key.now }
+        requires value_fits { IsValue value.now }
+    {
+        if !self.is_file() {
+            return Ok(None);
+        }
+        let room = self.with_room((4 + key.len() + value.len()) as u16);
+        match plan_put(alloc, &*self, room, RelNo::new(1), key, value)? {
+            Step::Done(plan) => {
+                self.make(&plan);
+                Ok(Some(plan.name))
+            }
+            _ => Ok(None),
+        }
+    }
+}
+
+#[test]
+fn three_long_records_go_into_a_page(rt: HostRuntime) -> Result<(), Fail> {
+    let mut file = Copies::new(rt.alloc(), 12)?;
+    let value = [7u8; 1024];
+    for record in 0..28u8 {
+        let key = [record, 1];
+        assert!(rt; file.put(rt.alloc(), &key, &value)?.is_some());
+    }
+    assert_eq!(rt; file.free(), 2);
+    Ok(())
 }

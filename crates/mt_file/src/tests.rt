@@ -1,12 +1,12 @@
-ghost use Rattle.std.specs.Prelude.{◌≡◌, ◌<◌, ◌≤◌, ℕ, length, slice_get, IfSome};
+ghost use Rattle.std.specs.Prelude.{◌≡◌, ◌<◌, ◌≤◌, ℕ, length, slice_get, IfSome, Some};
 ghost use Rattle.std.specs.Bool.{OnTrue};
 ghost use Rattle.mt_base.specs.Limits.{IsKey, IsValue};
-ghost use Rattle.mt_slots.specs.Page.{IsShaped};
+ghost use Rattle.mt_slots.specs.Page.{Row, IsShaped};
 ghost use Rattle.mt_space.specs.Kinds.{kind};
 ghost use Rattle.mt_file.specs.Copies.{copied, AreWhole};
-ghost use Rattle.mt_file.specs.File.{IsFile};
+ghost use Rattle.mt_file.specs.File.{IsFile, record_in};
 
-use crate::{Plan, Step, fits, plan_put};
+use crate::{Found, Plan, Step, fits, plan_put, plan_read, plan_remove, plan_replace};
 use mt_base::ranges::put;
 use mt_base::{Edit, PageNo, RecordName, RelNo};
 use mt_pool::{Pages, PageChange};
@@ -178,6 +178,51 @@ impl Copies {
             _ => Ok(None),
         }
     }
+
+    // Whether a name holds a record.
+    fn holds(&self, name: &RecordName) -> bool
+        requires { IsFile (copied self.now.pages.items) }
+        ensures { OnTrue result ((r : Row) × (record_in (copied self.now.pages.items) name.now.page name.now.slot ≡ Some r)) }
+    {
+        if self.kind(name.page) != 3 {
+            return false;
+        }
+        match plan_read(self, *name) {
+            Found::Record(_) => true,
+            _ => false,
+        }
+    }
+
+    // Takes the record under a name away.
+    fn remove(&mut self, alloc: Global, name: &RecordName) -> Result<bool, AllocError> {
+        if !self.is_file() || !self.holds(name) {
+            return Ok(false);
+        }
+        match plan_remove(alloc, &*self, *name)? {
+            Step::Done(plan) => {
+                self.make(&plan);
+                Ok(true)
+            }
+            _ => Ok(false),
+        }
+    }
+
+    // Replaces the record under a name, and answers its name from then on.
+    fn replace(&mut self, alloc: Global, name: &RecordName, value: &[u8]) -> Result<Option<RecordName>, AllocError>
+        requires { IsValue value.now }
+    {
+        if !self.is_file() || !self.holds(name) {
+            return Ok(None);
+        }
+        let room = self.with_room((70 + value.len()) as u16);
+        match plan_replace(alloc, &*self, *name, value, room)? {
+            Step::Done(plan) => {
+                self.make(&plan);
+                Ok(Some(plan.name))
+            }
+            _ => Ok(None),
+        }
+    }
 }
 
 #[test]
@@ -189,5 +234,28 @@ fn three_long_records_go_into_a_page(rt: HostRuntime) -> Result<(), Fail> {
         assert!(rt; file.put(rt.alloc(), &key, &value)?.is_some());
     }
     assert_eq!(rt; file.free(), 2);
+    Ok(())
+}
+
+#[test]
+fn a_record_moves_where_it_does_not_fit(rt: HostRuntime) -> Result<(), Fail> {
+    let mut file = Copies::new(rt.alloc(), 12)?;
+    for record in 0..3u8 {
+        let key = [record, 1];
+        assert!(rt; file.put(rt.alloc(), &key, &[7u8; 1024])?.is_some());
+    }
+    // 986 bytes are free, and 76 once this record has its slot and its 906
+    let name = file.put(rt.alloc(), b"ab", &[8u8; 900])?.ok_or("no room")?;
+    assert_eq!(rt; file.free(), 11);
+    let stays = file.replace(rt.alloc(), &name, &[9u8; 976])?.ok_or("full")?;
+    assert!(rt; stays == name);
+    let moved = file.replace(rt.alloc(), &name, &[9u8; 977])?.ok_or("full")?;
+    assert!(rt; moved.page.get() == 5);
+    assert_eq!(rt; file.free(), 10);
+    // the old name holds nothing from then on
+    assert!(rt; !file.remove(rt.alloc(), &name)?);
+    // the last record of the new page gives it back
+    assert!(rt; file.remove(rt.alloc(), &moved)?);
+    assert_eq!(rt; file.free(), 11);
     Ok(())
 }

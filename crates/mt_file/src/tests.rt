@@ -6,10 +6,10 @@ ghost use Rattle.mt_space.specs.Kinds.{kind};
 ghost use Rattle.mt_file.specs.Copies.{copied, AreWhole};
 ghost use Rattle.mt_file.specs.File.{IsFile, record_in};
 
-use crate::{Found, Plan, Step, fits, plan_put, plan_read, plan_remove, plan_replace};
+use crate::{Found, Plan, Rooms, Step, fits, plan_put, plan_read, plan_remove, plan_replace};
 use mt_base::ranges::put;
 use mt_base::{Edit, PageNo, RecordName, RelNo};
-use mt_pool::{Pages, PageChange};
+use mt_pool::{PageChange, Pages};
 use mt_slots::check;
 use std::alloc::{AllocError, Global};
 use std::test::Fail;
@@ -67,13 +67,7 @@ impl Copies {
         ensures { result ≡ kind (copied self.now.pages.items) page }
     {
         match self.pages.first() {
-            Some(map) => {
-                if page < 4096 {
-                    map[page]
-                } else {
-                    0
-                }
-            }
+            Some(map) => { if page < 4096 { map[page] } else { 0 } }
             None => 0,
         }
     }
@@ -162,7 +156,12 @@ impl Copies {
     }
 
     // Puts a record.
-    fn put(&mut self, alloc: Global, key: &[u8], value: &[u8]) -> Result<Option<RecordName>, AllocError>
+    fn put(
+        &mut self,
+        alloc: Global,
+        key: &[u8],
+        value: &[u8],
+    ) -> Result<Option<RecordName>, AllocError>
         requires key_fits { IsKey key.now }
         requires value_fits { IsValue value.now }
     {
@@ -208,7 +207,12 @@ impl Copies {
     }
 
     // Replaces the record under a name, and answers its name from then on.
-    fn replace(&mut self, alloc: Global, name: &RecordName, value: &[u8]) -> Result<Option<RecordName>, AllocError>
+    fn replace(
+        &mut self,
+        alloc: Global,
+        name: &RecordName,
+        value: &[u8],
+    ) -> Result<Option<RecordName>, AllocError>
         requires { IsValue value.now }
     {
         if !self.is_file() || !self.holds(name) {
@@ -257,5 +261,21 @@ fn a_record_moves_where_it_does_not_fit(rt: HostRuntime) -> Result<(), Fail> {
     // the last record of the new page gives it back
     assert!(rt; file.remove(rt.alloc(), &moved)?);
     assert_eq!(rt; file.free(), 11);
+    Ok(())
+}
+
+#[test]
+fn a_page_is_found_by_what_fits(rt: HostRuntime) -> Result<(), Fail> {
+    let mut rooms = Rooms::of(rt.alloc(), 16)?;
+    assert!(rt; rooms.with_room(1).is_none());
+    rooms.noted(PageNo::new(4), 986);
+    rooms.noted(PageNo::new(15), 4084);
+    assert!(rt; rooms.with_room(986) == Some(PageNo::new(4)));
+    assert!(rt; rooms.with_room(987) == Some(PageNo::new(15)));
+    assert!(rt; rooms.with_room(4085).is_none());
+    rooms.hold(PageNo::new(15));
+    assert!(rt; rooms.with_room(987).is_none());
+    rooms.let_go(PageNo::new(15));
+    assert!(rt; rooms.with_room(987) == Some(PageNo::new(15)));
     Ok(())
 }

@@ -3,4 +3,4 @@ mod Moved
 mod Planned
 mod Slots
 mod Trees
-mod Whole
+pub mod Whole

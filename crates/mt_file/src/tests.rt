@@ -279,3 +279,37 @@ fn a_page_is_found_by_what_fits(rt: HostRuntime) -> Result<(), Fail> {
     assert!(rt; rooms.with_room(987) == Some(PageNo::new(15)));
     Ok(())
 }
+
+// A put, and a replacement of an earlier record, both of this length.
+fn turn(alloc: Global, file: &mut Copies, names: &mut Vec<RecordName>, length: usize) -> Result<(), AllocError>
+    requires { length ≤ 1024 }
+{
+    let value = [7u8; 1024];
+    if let Some(name) = file.put(alloc, b"key", &value[..length])? {
+        names.push(name)?;
+    }
+    let early = names.len() / 2;
+    if early < names.len() {
+        if let Some(name) = file.replace(alloc, &names[early], &value[..1024 - length])? {
+            names[early] = name;
+        }
+    }
+    Ok(())
+}
+
+#[test]
+fn no_page_is_lost(rt: HostRuntime) -> Result<(), Fail> {
+    let mut file = Copies::new(rt.alloc(), 12)?;
+    let mut names = Vec::new(rt.alloc());
+    let mut seed = 1u32;
+    for _turn in 0..40 {
+        seed = seed.wrapping_mul(1_103_515_245).wrapping_add(12_345);
+        turn(rt.alloc(), &mut file, &mut names, (seed / 65_536 % 1_025) as usize)?;
+    }
+    assert!(rt; file.is_file());
+    for name in &names {
+        assert!(rt; file.remove(rt.alloc(), name)?);
+    }
+    assert_eq!(rt; file.free(), 12);
+    Ok(())
+}

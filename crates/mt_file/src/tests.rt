@@ -281,7 +281,12 @@ fn a_page_is_found_by_what_fits(rt: HostRuntime) -> Result<(), Fail> {
 }
 
 // A put, and a replacement of an earlier record, both of this length.
-fn turn(alloc: Global, file: &mut Copies, names: &mut Vec<RecordName>, length: usize) -> Result<(), AllocError>
+fn turn(
+    alloc: Global,
+    file: &mut Copies,
+    names: &mut Vec<RecordName>,
+    length: usize,
+) -> Result<(), AllocError>
     requires { length ≤ 1024 }
 {
     let value = [7u8; 1024];
@@ -304,7 +309,12 @@ fn no_page_is_lost(rt: HostRuntime) -> Result<(), Fail> {
     let mut seed = 1u32;
     for _turn in 0..40 {
         seed = seed.wrapping_mul(1_103_515_245).wrapping_add(12_345);
-        turn(rt.alloc(), &mut file, &mut names, (seed / 65_536 % 1_025) as usize)?;
+        turn(
+            rt.alloc(),
+            &mut file,
+            &mut names,
+            (seed / 65_536 % 1_025) as usize,
+        )?;
     }
     assert!(rt; file.is_file());
     for name in &names {

@@ -1,13 +1,13 @@
 -- What a change of one page of records is to the file.
-use Rattle.std.proofs.Common.{◌≡◌, ◌≢◌, inl, inr, ⊎_elim, ◌⊎◌, ℕ, ◌+◌, ◌*◌, ◌<◌, ◌≤◌, List, [], ◌∷◌, length, get_or, Option, Some, None, refl, sym, ◌∙◌, ap, ap₂, subst, arith}
+use Rattle.std.proofs.Common.{◌≡◌, ◌≢◌, inl, inr, ⊎_elim, ℕ, ◌<◌, ◌≤◌, List, length, get_or, Option, Some, None, refl, sym, ◌∙◌, ap, ap₂, subst, arith}
 use Rattle.std.proofs.lemmas.Bool.{cases_eq, cases_lt}
 use Rattle.std.proofs.lemmas.Bool.Decides.{nat_tests}
-use Rattle.mt_slots.specs.Page.{Row, slot, size, offset, row_at, count, live_slots, IsShaped, Fits, Sets, Opens, Inserted, IsFull}
+use Rattle.mt_slots.specs.Page.{Row, slot, size, offset, row_at, count, live_slots, IsShaped, Fits, Sets, Inserted}
 use Rattle.mt_file.proofs.Slots.{slot_live, slot_empty, slot_past, free_before, none_live}
 use Rattle.mt_pool.specs.Changes.{PageBytes, replaced}
 use Rattle.mt_pool.proofs.Changing.{replaced_here, replaced_other}
 use Rattle.mt_space.specs.Kinds.{kind}
-use Rattle.mt_file.specs.File.{record_in, IsFile, AreWithin, Puts, Touches, Adds, Drops, Stays, Moves}
+use Rattle.mt_file.specs.File.{record_in, IsFile, AreWithin, Puts, Touches, Adds, Drops, Stays}
 
 pub record_records : (pages : PageBytes) (p s : ℕ) → kind pages p ≡ 3 → record_in pages p s ≡ slot (pages p) s
 unfolding record_in
@@ -43,16 +43,16 @@ put_one pages p s n x page zero is sets =
     record {
       here = record_records (replaced p page pages) p s (kinds p ∙ is) ∙ ap (λ (m : List ℕ). slot m s) here ∙ sets.here;
       elsewhere = λ q t other. ⊎_elim
-        (λ (e : q ≡ p).
+          (λ (e : q ≡ p).
           let ne : t ≢ s = ⊎_elim (λ (no_ : q ≢ p). absurd (no_ e)) (λ (ok : t ≢ s). ok) other in
           let k : kind pages q ≡ 3 = ap (kind pages) e ∙ is in
           record_records (replaced p page pages) q t (kinds q ∙ k) ∙ ap (λ (m : List ℕ). slot m t) (replaced_here p q page pages e) ∙ sets.others t ne
           ∙ ap (λ (m : ℕ). slot (pages m) t) (sym e) ∙ sym (record_records pages q t k))
-        (λ (ne : q ≢ p). ⊎_elim
+          (λ (ne : q ≢ p). ⊎_elim
           (λ (k : kind pages q ≡ 3). record_records (replaced p page pages) q t (kinds q ∙ k) ∙ ap (λ (m : List ℕ). slot m t) (replaced_other p q page pages ne) ∙ sym (record_records pages q t k))
           (λ (k : kind pages q ≢ 3). record_none (replaced p page pages) q t (λ e. k (sym (kinds q) ∙ e)) ∙ sym (record_none pages q t k))
           (cases_eq (kind pages q) 3))
-        (cases_eq q p);
+          (cases_eq q p);
     }
 
 pub file_one : (pages : PageBytes) (p : ℕ) (page : List ℕ) → p ≢ 0 → IsFile pages → IsShaped page → IsFile (replaced p page pages)
@@ -62,9 +62,9 @@ file_one pages p page zero file shaped =
       whole = ap length (replaced_other p 0 page pages (λ e. zero (sym e))) ∙ file.whole;
       fixed = kinds 0 ∙ file.fixed;
       each = λ q k. ⊎_elim
-        (λ (e : q ≡ p). subst IsShaped (sym (replaced_here p q page pages e)) shaped)
-        (λ (ne : q ≢ p). subst IsShaped (sym (replaced_other p q page pages ne)) (file.each q (sym (kinds q) ∙ k)))
-        (cases_eq q p);
+          (λ (e : q ≡ p). subst IsShaped (sym (replaced_here p q page pages e)) shaped)
+          (λ (ne : q ≢ p). subst IsShaped (sym (replaced_other p q page pages ne)) (file.each q (sym (kinds q) ∙ k)))
+          (cases_eq q p);
     }
 
 pub touches_one : (pages : PageBytes) (p : ℕ) (page : List ℕ) → p ≢ 0 → Touches pages (replaced p page pages) p
@@ -78,23 +78,23 @@ touches_one pages p page zero = record {
 pub within_put : (old new : PageBytes) (p s relations longest : ℕ) (row : Row) → Puts old new p s (Some row) → AreWithin relations longest old → Fits relations longest row → AreWithin relations longest new
 within_put old new p s relations longest row puts all fits = λ q t r is. ⊎_elim
     (λ (e : q ≡ p). ⊎_elim
-      (λ (f : t ≡ s).
-        let same : Some row ≡ Some r = sym puts.here ∙ ap₂ (record_in new) (sym e) (sym f) ∙ is in
-        let which : row ≡ r = cc in
-        subst (Fits relations longest) which fits)
-      (λ (ne : t ≢ s). all q t r (sym (puts.elsewhere q t (inr ne)) ∙ is))
-      (cases_eq t s))
+    (λ (f : t ≡ s).
+    let same : Some row ≡ Some r = sym puts.here ∙ ap₂ (record_in new) (sym e) (sym f) ∙ is in
+    let which : row ≡ r = cc in
+    subst (Fits relations longest) which fits)
+    (λ (ne : t ≢ s). all q t r (sym (puts.elsewhere q t (inr ne)) ∙ is))
+    (cases_eq t s))
     (λ (ne : q ≢ p). all q t r (sym (puts.elsewhere q t (inl ne)) ∙ is))
     (cases_eq q p)
 
 pub within_drop : (old new : PageBytes) (p s relations longest : ℕ) → Puts old new p s None → AreWithin relations longest old → AreWithin relations longest new
 within_drop old new p s relations longest puts all = λ q t r is. ⊎_elim
     (λ (e : q ≡ p). ⊎_elim
-      (λ (f : t ≡ s).
-        let same : None ≡ Some r = sym puts.here ∙ ap₂ (record_in new) (sym e) (sym f) ∙ is in
-        cc)
-      (λ (ne : t ≢ s). all q t r (sym (puts.elsewhere q t (inr ne)) ∙ is))
-      (cases_eq t s))
+    (λ (f : t ≡ s).
+    let same : None ≡ Some r = sym puts.here ∙ ap₂ (record_in new) (sym e) (sym f) ∙ is in
+    cc)
+    (λ (ne : t ≢ s). all q t r (sym (puts.elsewhere q t (inr ne)) ∙ is))
+    (cases_eq t s))
     (λ (ne : q ≢ p). all q t r (sym (puts.elsewhere q t (inl ne)) ∙ is))
     (cases_eq q p)
 
@@ -142,16 +142,16 @@ put_new pages new p s r page file free taken mine rest =
     record {
       here = record_records new p s taken.own ∙ ap (λ (m : List ℕ). slot m s) taken.here ∙ mine;
       elsewhere = λ q t other. ⊎_elim
-        (λ (e : q ≡ p).
+          (λ (e : q ≡ p).
           let ne : t ≢ s = ⊎_elim (λ (no_ : q ≢ p). absurd (no_ e)) (λ (ok : t ≢ s). ok) other in
           ap (λ (m : ℕ). record_in new m t) e ∙ record_records new p t taken.own ∙ ap (λ (m : List ℕ). slot m t) taken.here ∙ rest t ne
           ∙ sym (ap (λ (m : ℕ). record_in pages m t) e ∙ was t))
-        (λ (ne : q ≢ p). ⊎_elim
+          (λ (ne : q ≢ p). ⊎_elim
           (λ (k : kind pages q ≡ 3).
-            record_records new q t (taken.kinds q ne ∙ k) ∙ ap (λ (m : List ℕ). slot m t) (taken.others q ne (records_not_map pages q file k)) ∙ sym (record_records pages q t k))
+          record_records new q t (taken.kinds q ne ∙ k) ∙ ap (λ (m : List ℕ). slot m t) (taken.others q ne (records_not_map pages q file k)) ∙ sym (record_records pages q t k))
           (λ (k : kind pages q ≢ 3). record_none new q t (λ e. k (sym (taken.kinds q ne) ∙ e)) ∙ sym (record_none pages q t k))
           (cases_eq (kind pages q) 3))
-        (cases_eq q p);
+          (cases_eq q p);
     }
 
 file_new : (pages new : PageBytes) (p : ℕ) (page : List ℕ) → IsFile pages → p ≢ 0 → Taken pages new p page → IsShaped page → IsFile new
@@ -159,11 +159,11 @@ file_new pages new p page file map taken shaped = record {
   whole = taken.whole;
   fixed = taken.kinds 0 (λ e. map (sym e)) ∙ file.fixed;
   each = λ q k. ⊎_elim
-    (λ (e : q ≡ p). subst IsShaped (sym (ap new e ∙ taken.here)) shaped)
-    (λ (ne : q ≢ p).
+      (λ (e : q ≡ p). subst IsShaped (sym (ap new e ∙ taken.here)) shaped)
+      (λ (ne : q ≢ p).
       let k_old = sym (taken.kinds q ne) ∙ k in
       subst IsShaped (sym (taken.others q ne (records_not_map pages q file k_old))) (file.each q k_old))
-    (cases_eq q p);
+      (cases_eq q p);
 }
 
 -- into a page that is taken for it
@@ -195,8 +195,8 @@ drops_from pages p s i n page file is shaped sets within live =
       file = file_one pages p page zero file shaped;
       within = λ relations longest all. within_drop pages (replaced p page pages) p s relations longest puts all;
       last = λ all.
-        let nothing : None ≡ Some (row_at page (offset page i)) = sym (all i apart) ∙ record_records pages p i is ∙ sym (sets.others i apart) ∙ there in
-        cc;
+          let nothing : None ≡ Some (row_at page (offset page i)) = sym (all i apart) ∙ record_records pages p i is ∙ sym (sets.others i apart) ∙ there in
+          cc;
       more = λ t ne some. kind_kept pages p page zero p ∙ is;
       touches = touches_one pages p page zero;
     }
@@ -212,16 +212,16 @@ drops_last pages p s map file is long own rest bare =
     let puts : Puts pages (replaced 0 map pages) p s None = record {
       here = gone s;
       elsewhere = λ q t other. ⊎_elim
-        (λ (e : q ≡ p).
+          (λ (e : q ≡ p).
           let ne : t ≢ s = ⊎_elim (λ (no_ : q ≢ p). absurd (no_ e)) (λ (ok : t ≢ s). ok) other in
           ap (λ (m : ℕ). record_in (replaced 0 map pages) m t) e ∙ gone t
           ∙ sym (ap (λ (m : ℕ). record_in pages m t) e ∙ record_records pages p t is ∙ bare t ne))
-        (λ (ne : q ≢ p). ⊎_elim
+          (λ (ne : q ≢ p). ⊎_elim
           (λ (k : kind pages q ≡ 3).
-            record_records (replaced 0 map pages) q t (kinds q ne ∙ k) ∙ ap (λ (m : List ℕ). slot m t) (replaced_other 0 q map pages (records_not_map pages q file k)) ∙ sym (record_records pages q t k))
+          record_records (replaced 0 map pages) q t (kinds q ne ∙ k) ∙ ap (λ (m : List ℕ). slot m t) (replaced_other 0 q map pages (records_not_map pages q file k)) ∙ sym (record_records pages q t k))
           (λ (k : kind pages q ≢ 3). record_none (replaced 0 map pages) q t (λ e. k (sym (kinds q ne) ∙ e)) ∙ sym (record_none pages q t k))
           (cases_eq (kind pages q) 3))
-        (cases_eq q p);
+          (cases_eq q p);
     } in
     record {
       puts = puts;
@@ -229,11 +229,11 @@ drops_last pages p s map file is long own rest bare =
         whole = ap length zero ∙ long;
         fixed = kinds 0 (λ e. records_not_map pages p file is (sym e)) ∙ file.fixed;
         each = λ q k. ⊎_elim
-          (λ (e : q ≡ p). let same = ap (kind (replaced 0 map pages)) e in absurd (omega arith))
-          (λ (ne : q ≢ p).
+            (λ (e : q ≡ p). let same = ap (kind (replaced 0 map pages)) e in absurd (omega arith))
+            (λ (ne : q ≢ p).
             let k_old = sym (kinds q ne) ∙ k in
             subst IsShaped (sym (replaced_other 0 q map pages (records_not_map pages q file k_old))) (file.each q k_old))
-          (cases_eq q p);
+            (cases_eq q p);
       };
       within = λ relations longest all. within_drop pages (replaced 0 map pages) p s relations longest puts all;
       last = λ all. kind_p;

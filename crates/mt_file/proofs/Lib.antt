@@ -3,3 +3,4 @@ mod Moved
 mod Planned
 mod Slots
 mod Trees
+pub mod Whole

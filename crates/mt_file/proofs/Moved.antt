@@ -1,22 +1,22 @@
 -- A record that is replaced: in its place, or elsewhere.
-use Rattle.std.proofs.Common.{◌≡◌, ◌≢◌, inl, inr, ⊎_elim, ◌⊎◌, ℕ, zero, suc, ◌+◌, ◌-◌, ◌*◌, ◌<◌, ◌≤◌, ◌==◌, List, [], ◌∷◌, length, take, drop, get_or, set, Bool, true, false, Option, Some, None, refl, sym, ◌∙◌, ap, ap₂, subst, arith, length-set, eq-eqb}
-use Rattle.std.proofs.lemmas.Bool.{cases_eq, cases_lt, false≢true}
+use Rattle.std.proofs.Common.{◌≡◌, ◌≢◌, inr, ⊎_elim, ◌⊎◌, ℕ, ◌+◌, ◌<◌, ◌≤◌, ◌==◌, List, length, get_or, set, Bool, true, false, Option, Some, None, refl, sym, ◌∙◌, ap, subst, arith, length-set, eq-eqb}
+use Rattle.std.proofs.lemmas.Bool.{false≢true}
 use Rattle.std.specs.Option.{option_eq}
 use Rattle.std.proofs.lemmas.Bool.Decides.{nat_tests}
 use Rattle.std.proofs.lemmas.List.{get_or-set_same, get_or-set_other}
 use Rattle.mt_pool.specs.declared.changes.PageChange.{PageChange}
 use Rattle.mt_pool.specs.Changes.{PageBytes, Agrees, replaced, after, IsUntouched, AreShort}
 use Rattle.mt_pool.proofs.Changing.{replaced_here, replaced_other}
-use Rattle.mt_slots.specs.Page.{Row, slot, size, count, live_slots, IsShaped, Sets, row_length, room_of}
+use Rattle.mt_slots.specs.Page.{Row, slot, count, live_slots, IsShaped, Sets, row_length, room_of}
 use Rattle.mt_space.specs.Kinds.{kind}
 use Rattle.mt_space.specs.Rooms.{mapped, IsFirstFree}
-use Rattle.mt_file.specs.File.{record_in, IsFile, Puts, Adds, Drops, Stays, Moves}
+use Rattle.mt_file.specs.File.{record_in, IsFile, Drops, Stays, Moves}
 use Rattle.mt_file.specs.Rooms.{fits_of}
-use Rattle.mt_file.specs.Plans.{IsNamed, IsReady, IsApart, IsChosen, IsLooked, IsTooFull, IsRoomy, IsPut, IsOutgrown, IsReplaced, IsReplacement, IsWhole}
+use Rattle.mt_file.specs.Plans.{IsNamed, IsReady, IsApart, IsChosen, IsLooked, IsTooFull, IsRoomy, IsPut, IsOutgrown, IsReplacement, IsWhole}
 use Rattle.mt_file.specs.declared.step.Step.{Step}
 use Rattle.mt_file.specs.declared.step.Step.TheVariants.{Need, Done, Full}
-use Rattle.mt_file.proofs.Filed.{record_kind, record_records, records_not_map, kind_kept, file_one, adds_new, Taken, drops_last, stays_in}
-use Rattle.mt_file.proofs.Planned.{IsHeld, drops_one, alone_in}
+use Rattle.mt_file.proofs.Filed.{records_not_map, kind_kept, file_one, adds_new, Taken, drops_last, stays_in}
+use Rattle.mt_file.proofs.Planned.{IsHeld, alone_in}
 
 -- ---- in its place
 
@@ -90,11 +90,11 @@ ready_mid at_hand room pages mid p s old new r agrees file named held shaped oth
       file = file_one pages p new zero file shaped;
       named = λ q is. kinds q ∙ named q is;
       seen = λ q bytes apart there.
-        let ne : q ≢ p = ⊎_elim
+          let ne : q ≢ p = ⊎_elim
           (λ (k : kind (replaced p new pages) q ≢ 3). λ e. k (kinds q ∙ ap (kind pages) e ∙ held.records))
           (λ (is : room ≡ Some q). λ e. other (is ∙ ap Some e))
           apart in
-        replaced_other p q new pages ne ∙ agrees q bytes there;
+          replaced_other p q new pages ne ∙ agrees q bytes there;
     })
 
 -- what a put needs of the changes so far
@@ -106,9 +106,9 @@ apart_mid room before pages p s old new r file held other made short rest =
     record {
       short = short;
       apart = λ q apart. rest q (⊎_elim
-        (λ (k : kind (after before pages) q ≢ 3). λ e. k (ap (kind (after before pages)) e ∙ own))
-        (λ (is : room ≡ Some q). λ e. other (is ∙ ap Some e))
-        apart);
+          (λ (k : kind (after before pages) q ≢ 3). λ e. k (ap (kind (after before pages)) e ∙ own))
+          (λ (is : room ≡ Some q). λ e. other (is ∙ ap Some e))
+          apart);
     }
 
 -- what is chosen by the pages without the record is chosen by those with it
@@ -134,9 +134,10 @@ pub moves_on : (at_hand : ℕ → Option (List ℕ)) (room : Option ℕ) (total 
     → IsPut at_hand room total before pages row step → IsReplacement at_hand room total pages p s r row step
 moves_on at_hand room total before pages p s r row (Need q mode) drops outgrown ne map named put =
     (put.0, put.1, inr (outgrown, looked_same room total pages (after before pages) q map put.2))
-moves_on at_hand room total before pages p s r row (Done plan) drops outgrown ne map named put =
-    (inr (outgrown, inr (chosen_same room total pages (after before pages) plan.name.page map put.1, roomy_same room (row_length row) pages (after before pages) named put.2), record { between = after before pages; drops = drops; adds = put.0 }),
-      λ e. absurd (ne e))
+moves_on at_hand room total before pages p s r row (Done plan) drops outgrown ne map named put = (
+  inr (outgrown, inr (chosen_same room total pages (after before pages) plan.name.page map put.1, roomy_same room (row_length row) pages (after before pages) named put.2), record { between = after before pages; drops = drops; adds = put.0 }),
+  λ e. absurd (ne e),
+)
 moves_on at_hand room total before pages p s r row Full drops outgrown ne map named put = (outgrown, full_same room total (row_length row) pages (after before pages) map named put)
 
 -- the page that is named is the record's own

@@ -1,18 +1,18 @@
 -- Pages that a plan sees, and what its changes make of them.
-use Rattle.std.proofs.Common.{◌≡◌, ◌≢◌, inl, inr, ⊎_elim, ◌⊎◌, ℕ, zero, suc, ◌+◌, ◌*◌, ◌<◌, ◌≤◌, ◌==◌, List, [], ◌∷◌, length, get_or, Bool, true, false, Option, Some, None, refl, sym, ◌∙◌, ap, ap₂, subst, arith}
-use Rattle.std.proofs.lemmas.Bool.{cases_eq, cases_lt}
+use Rattle.std.proofs.Common.{◌≡◌, ◌≢◌, inl, inr, ⊎_elim, ℕ, ◌<◌, ◌≤◌, ◌==◌, List, [], length, get_or, true, false, Option, Some, None, refl, sym, ◌∙◌, ap, subst, arith}
+use Rattle.std.proofs.lemmas.Bool.{cases_lt}
 use Rattle.std.proofs.lemmas.Bool.Decides.{nat_tests}
 use Rattle.std.proofs.lemmas.List.{get_or_past}
 use Rattle.mt_pool.specs.declared.changes.PageChange.{PageChange}
-use Rattle.mt_pool.specs.Changes.{PageBytes, Agrees, replaced, after, IsUntouched, AreShort}
-use Rattle.mt_pool.proofs.Changing.{replaced_here, replaced_other, after_untouched}
-use Rattle.mt_slots.specs.Page.{Row, slot, size, count, live_slots, IsShaped, Fits, Sets, Inserted, IsFull, row_length}
+use Rattle.mt_pool.specs.Changes.{PageBytes, Agrees, replaced, after, IsUntouched}
+use Rattle.mt_pool.proofs.Changing.{replaced_other, after_untouched}
+use Rattle.mt_slots.specs.Page.{Row, slot, count, live_slots, IsShaped, Sets, Inserted, IsFull, row_length}
 use Rattle.mt_space.specs.Kinds.{kind}
 use Rattle.mt_space.specs.Rooms.{mapped, IsFirstFree}
 use Rattle.mt_space.proofs.Maps.{mapped_at, mapped_past, mapped_long}
-use Rattle.mt_file.specs.File.{record_in, IsFile, Puts, Adds, Drops, Stays, Moves}
+use Rattle.mt_file.specs.File.{record_in, IsFile, Adds, Drops}
 use Rattle.mt_file.specs.Rooms.{fits_of}
-use Rattle.mt_file.specs.Plans.{IsNamed, IsReady, IsApart, IsChosen, IsLooked, IsTooFull}
+use Rattle.mt_file.specs.Plans.{IsReady}
 use Rattle.mt_file.proofs.Slots.{full_fits, took_fits, held_there, some_live}
 use Rattle.mt_file.proofs.Filed.{record_kind, record_records, adds_into, adds_new, taken, not_the_map, drops_from, drops_last, was_alone}
 
@@ -55,11 +55,11 @@ untouched_seen before pages p old none seen = sym (after_untouched before pages 
 pub first_kind : (pages : PageBytes) (total p : ℕ) → length (pages 0) ≡ 4096 → IsFirstFree (mapped (pages 0) total) p → (kind pages p ≡ 0) × (p < 4096) × (p < total)
 first_kind pages total p whole first = ⊎_elim
     (λ (lt : p < total). ⊎_elim
-      (λ (within : p < length (pages 0)).
-        let flag : (get_or (pages 0) p 0 == 0) ≡ true = sym (mapped_at (pages 0) total p lt within) ∙ first.free in
-        (grind (arith, nat_tests), omega arith, lt))
-      (λ (past : length (pages 0) ≤ p). let not_ : false ≡ true = sym (mapped_long (pages 0) total p past) ∙ first.free in cc)
-      (cases_lt p (length (pages 0))))
+    (λ (within : p < length (pages 0)).
+    let flag : (get_or (pages 0) p 0 == 0) ≡ true = sym (mapped_at (pages 0) total p lt within) ∙ first.free in
+    (grind (arith, nat_tests), omega arith, lt))
+    (λ (past : length (pages 0) ≤ p). let not_ : false ≡ true = sym (mapped_long (pages 0) total p past) ∙ first.free in cc)
+    (cases_lt p (length (pages 0))))
     (λ (past : total ≤ p). let not_ : false ≡ true = sym (mapped_past (pages 0) total p past) ∙ first.free in cc)
     (cases_lt p total)
 
@@ -82,7 +82,7 @@ new_adds at_hand pages next total p s map new_map new row ready there first long
     let apart = free_not_map pages p ready.file free in
     let is = taken pages p new_map new apart long own (λ q ne. rest q ne ∙ ap (λ (m : List ℕ). get_or m q 0) (sym seen)) in
     subst (λ (f : PageBytes). Adds pages f p s row) (sym made)
-      (adds_new pages (replaced p new (replaced 0 new_map pages)) p s row new ready.file apart (λ e. absurd (omega arith)) is shaped mine alone)
+    (adds_new pages (replaced p new (replaced 0 new_map pages)) p s row new ready.file apart (λ e. absurd (omega arith)) is shaped mine alone)
 
 -- the free page that is taken is as it is at hand, also once the map says so
 pub new_seen : (at_hand : ℕ → Option (List ℕ)) (pages mid : PageBytes) (total p : ℕ) (map new_map old : List ℕ) → IsReady at_hand None pages → at_hand 0 ≡ Some map
@@ -161,4 +161,4 @@ pub gives_back : (pages next : PageBytes) (p s : ℕ) (map new_map old new : Lis
     → Sets old new s None (count old) → live_slots new (count new) ≡ 0 → next ≡ replaced 0 new_map pages → Drops pages next p s
 gives_back pages next p s map new_map old new r file held seen long own rest sets none made =
     subst (λ (f : PageBytes). Drops pages f p s) (sym made)
-      (drops_last pages p s new_map file held.records long own (λ q ne. rest q ne ∙ ap (λ (m : List ℕ). get_or m q 0) (sym seen)) (alone_in pages p s old new r held sets none))
+    (drops_last pages p s new_map file held.records long own (λ q ne. rest q ne ∙ ap (λ (m : List ℕ). get_or m q 0) (sym seen)) (alone_in pages p s old new r held sets none))

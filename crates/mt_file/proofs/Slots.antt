@@ -1,8 +1,8 @@
 -- What the slots of a page hold.
-use Rattle.std.proofs.Common.{◌≡◌, ◌≢◌, ⊎_elim, ◌⊎◌, ℕ, zero, suc, ◌+◌, ◌-◌, ◌*◌, ◌<◌, ◌≤◌, List, length, take, drop, get_or, length-take, Option, Some, None, if◌then◌else◌, ◌==◌, refl, sym, ◌∙◌, ap, subst, arith, inl, inr}
+use Rattle.std.proofs.Common.{◌≡◌, ◌≢◌, ⊎_elim, ℕ, zero, suc, ◌+◌, ◌<◌, ◌≤◌, List, length, drop, get_or, length-take, Some, None, refl, sym, ◌∙◌, ap, subst, arith, inl, inr}
 use Rattle.std.proofs.lemmas.Bool.{cases_eq, cases_lt}
 use Rattle.std.proofs.lemmas.Bool.Decides.{nat_tests}
-use Rattle.mt_slots.specs.Page.{Row, slot, size, count, offset, row_at, live_slots, live_bytes, room_of, row_length, IsShaped, Sets, Opens, Inserted, IsFull}
+use Rattle.mt_slots.specs.Page.{Row, slot, size, count, offset, row_at, live_slots, live_bytes, room_of, row_length, IsShaped, Opens, Inserted, IsFull}
 use Rattle.mt_file.specs.Rooms.{fits_of}
 
 pub slot_live : (page : List ℕ) (i : ℕ) → i < count page → size page i ≢ 0 → slot page i ≡ Some (row_at page (offset page i))
@@ -34,8 +34,8 @@ pub none_live : (page : List ℕ) (n i : ℕ) → live_slots page n ≡ 0 → i 
 none_live page zero i is lt = absurd (omega arith)
 none_live page (suc n) i is lt = ⊎_elim
     (λ (e : size page n ≡ 0).
-      let rest = counts_none page n e in
-      ⊎_elim (λ (f : i ≡ n). ap (size page) f ∙ e) (λ (ne : i ≢ n). none_live page n i (omega arith) (omega arith)) (cases_eq i n))
+    let rest = counts_none page n e in
+    ⊎_elim (λ (f : i ≡ n). ap (size page) f ∙ e) (λ (ne : i ≢ n). none_live page n i (omega arith) (omega arith)) (cases_eq i n))
     (λ (ne : size page n ≢ 0). let one = counts_one page n ne in absurd (omega arith))
     (cases_eq (size page n) 0)
 
@@ -44,10 +44,10 @@ pub some_live : (page : List ℕ) (n : ℕ) → live_slots page n ≢ 0 → (i :
 some_live page zero ne = absurd (ne refl)
 some_live page (suc n) ne = ⊎_elim
     (λ (e : size page n ≡ 0).
-      let rest = counts_none page n e in
-      let found = some_live page n (λ z. ne (rest ∙ z)) in
-      let lt = found.1 in
-      (found.0, omega arith, found.2))
+    let rest = counts_none page n e in
+    let found = some_live page n (λ z. ne (rest ∙ z)) in
+    let lt = found.1 in
+    (found.0, omega arith, found.2))
     (λ (live : size page n ≢ 0). (n, omega arith, live))
     (cases_eq (size page n) 0)
 
@@ -64,8 +64,8 @@ all_live page zero i all lt none = absurd (omega arith)
 all_live page (suc n) i all lt none = ⊎_elim
     (λ (e : size page n ≡ 0). let rest = counts_none page n e in let few = few_live page n in absurd (omega arith))
     (λ (ne : size page n ≢ 0).
-      let one = counts_one page n ne in
-      ⊎_elim (λ (f : i ≡ n). ne (sym (ap (size page) f) ∙ none)) (λ (other : i ≢ n). all_live page n i (omega arith) (omega arith) none) (cases_eq i n))
+    let one = counts_one page n ne in
+    ⊎_elim (λ (f : i ≡ n). ne (sym (ap (size page) f) ∙ none)) (λ (other : i ≢ n). all_live page n i (omega arith) (omega arith) none) (cases_eq i n))
     (cases_eq (size page n) 0)
 
 -- not all of them
@@ -74,10 +74,10 @@ some_empty page zero ne = absurd (ne refl)
 some_empty page (suc n) ne = ⊎_elim
     (λ (e : size page n ≡ 0). (n, omega arith, e))
     (λ (live : size page n ≢ 0).
-      let one = counts_one page n live in
-      let found = some_empty page n (λ z. ne (let all : live_slots page n ≡ n = z in omega arith)) in
-      let lt = found.1 in
-      (found.0, omega arith, found.2))
+    let one = counts_one page n live in
+    let found = some_empty page n (λ z. ne (let all : live_slots page n ≡ n = z in omega arith)) in
+    let lt = found.1 in
+    (found.0, omega arith, found.2))
     (cases_eq (size page n) 0)
 
 -- ---- what fits
@@ -87,14 +87,14 @@ pub full_fits : (page : List ℕ) (bytes : ℕ) → IsShaped page → 0 < bytes 
 unfolding fits_of room_of
 full_fits page bytes shaped some full = ⊎_elim
     (λ (all : live_slots page (count page) ≡ count page).
-      let over = full (count page) (count page + 1) (inr (refl, refl)) in
-      let room = shaped.room in
-      grind (arith, nat_tests))
+    let over = full (count page) (count page + 1) (inr (refl, refl)) in
+    let room = shaped.room in
+    grind (arith, nat_tests))
     (λ (ne : live_slots page (count page) ≢ count page).
-      let hole = some_empty page (count page) ne in
-      let over = full hole.0 (count page) (inl (hole.1, hole.2, refl)) in
-      let room = shaped.room in
-      grind (arith, nat_tests))
+    let hole = some_empty page (count page) ne in
+    let over = full hole.0 (count page) (inl (hole.1, hole.2, refl)) in
+    let room = shaped.room in
+    grind (arith, nat_tests))
     (cases_eq (live_slots page (count page)) (count page))
 
 -- a record that was put into a page fitted
@@ -106,15 +106,15 @@ took_fits old new s r shaped did =
     let live = did.live in
     let room = shaped.room in
     ⊎_elim
-      (λ h.
-        let hole = h.1 in
-        let same = h.2 in
-        ⊎_elim
-          (λ (all : live_slots old (count old) ≡ count old). absurd (all_live old (count old) s all h.0 hole))
-          (λ (ne : live_slots old (count old) ≢ count old). grind (arith, nat_tests))
-          (cases_eq (live_slots old (count old)) (count old)))
-      (λ h. let at_end = h.0 in let more = h.1 in grind (arith, nat_tests))
-      did.sets.1
+    (λ h.
+    let hole = h.1 in
+    let same = h.2 in
+    ⊎_elim
+    (λ (all : live_slots old (count old) ≡ count old). absurd (all_live old (count old) s all h.0 hole))
+    (λ (ne : live_slots old (count old) ≢ count old). grind (arith, nat_tests))
+    (cases_eq (live_slots old (count old)) (count old)))
+    (λ h. let at_end = h.0 in let more = h.1 in grind (arith, nat_tests))
+    did.sets.1
 
 -- a page without slots is not full for a record
 pub empty_takes : (page : List ℕ) (bytes : ℕ) → count page ≡ 0 → bytes ≤ 4084 → IsFull page bytes → ⊥

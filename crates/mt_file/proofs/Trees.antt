@@ -24,19 +24,19 @@ pub one_up : (tree : List ℕ) (node : ℕ) → length tree ≡ 8192 → 1 ≤ n
     → IsTreeBut (set tree node (max (get_or tree (2 * node) 0) (get_or tree (2 * node + 1) 0))) (node / 2)
 one_up tree node size low high but = λ i from to ne. ⊎_elim
     (λ (e : i ≡ node).
-      let best = max (get_or tree (2 * node) 0) (get_or tree (2 * node + 1) 0) in
-      let here = get_or-set_same tree node best 0 (omega arith) in
-      let left = get_or-set_other tree node (2 * node) best 0 (omega arith) in
-      let right = get_or-set_other tree node (2 * node + 1) best 0 (omega arith) in
-      let mine : IsMax (set tree node best) node = here ∙ sym (ap₂ max left right) in
-      rw e mine)
+    let best = max (get_or tree (2 * node) 0) (get_or tree (2 * node + 1) 0) in
+    let here = get_or-set_same tree node best 0 (omega arith) in
+    let left = get_or-set_other tree node (2 * node) best 0 (omega arith) in
+    let right = get_or-set_other tree node (2 * node + 1) best 0 (omega arith) in
+    let mine : IsMax (set tree node best) node = here ∙ sym (ap₂ max left right) in
+    rw e mine)
     (λ (other : i ≢ node).
-      let best = max (get_or tree (2 * node) 0) (get_or tree (2 * node + 1) 0) in
-      stays_max tree (set tree node best) i
-        (get_or-set_other tree node i best 0 other)
-        (get_or-set_other tree node (2 * i) best 0 (omega arith))
-        (get_or-set_other tree node (2 * i + 1) best 0 (omega arith))
-        (but i from to other))
+    let best = max (get_or tree (2 * node) 0) (get_or tree (2 * node + 1) 0) in
+    stays_max tree (set tree node best) i
+    (get_or-set_other tree node i best 0 other)
+    (get_or-set_other tree node (2 * i) best 0 (omega arith))
+    (get_or-set_other tree node (2 * i + 1) best 0 (omega arith))
+    (but i from to other))
     (cases_eq i node)
 
 -- no node is larger than the root
@@ -45,14 +45,14 @@ below_root tree zero i all le low high = absurd (omega arith)
 below_root tree (suc n) i all le low high = ⊎_elim
     (λ (e : i ≡ 1). let same = ap (λ (k : ℕ). get_or tree k 0) e in omega arith)
     (λ (ne : i ≢ 1).
-      let up = below_root tree n (i / 2) all (omega arith) (omega arith) (omega arith) in
-      let is = all (i / 2) (omega arith) (omega arith) in
-      ⊎_elim
-        (λ (left : i ≡ 2 * (i / 2)). let same = ap (λ (k : ℕ). get_or tree k 0) left in omega arith)
-        (λ (ne : i ≢ 2 * (i / 2)).
-          let right : i ≡ 2 * (i / 2) + 1 = omega arith in
-          let same = ap (λ (k : ℕ). get_or tree k 0) right in omega arith)
-        (cases_eq i (2 * (i / 2))))
+    let up = below_root tree n (i / 2) all (omega arith) (omega arith) (omega arith) in
+    let is = all (i / 2) (omega arith) (omega arith) in
+    ⊎_elim
+    (λ (left : i ≡ 2 * (i / 2)). let same = ap (λ (k : ℕ). get_or tree k 0) left in omega arith)
+    (λ (ne : i ≢ 2 * (i / 2)).
+    let right : i ≡ 2 * (i / 2) + 1 = omega arith in
+    let same = ap (λ (k : ℕ). get_or tree k 0) right in omega arith)
+    (cases_eq i (2 * (i / 2))))
     (cases_eq i 1)
 
 -- at the beginning nothing is shown
@@ -83,9 +83,9 @@ shown_takes rooms bytes p some fits =
     let all : shown rooms p ≡ fits_at rooms p = ap (λ (b : Bool). if b then 0 else fits_at rooms p) open_ in
     (⊎_elim (λ (lt : p < length rooms.0). lt) (λ (le : length rooms.0 ≤ p). let past = get_or_past rooms.0 p 0 le in absurd (omega arith)) (cases_lt p (length rooms.0)), open_, omega arith)
   where
-  not_held : (b : Bool) (n : ℕ) → 0 < (if b then 0 else n) → b ≡ false
-  not_held true n lt = absurd (omega arith)
-  not_held false n lt = refl
+    not_held : (b : Bool) (n : ℕ) → 0 < (if b then 0 else n) → b ≡ false
+    not_held true n lt = absurd (omega arith)
+    not_held false n lt = refl
 
 pub leaf_takes : (rooms : Room) (tree : List ℕ) (bytes leaf p : ℕ) → IsKept rooms tree → 0 < bytes → 4096 ≤ leaf → leaf < 8192 → p ≡ leaf - 4096 → bytes ≤ get_or tree leaf 0 → Takes rooms bytes p
 leaf_takes rooms tree bytes leaf p kept some low high is fits =
@@ -116,6 +116,6 @@ pub room_records : (rooms : Room) (pages : PageBytes) (bytes p : ℕ) → AreRoo
 room_records rooms pages bytes p are some takes =
     let fits = takes.2 in
     ⊎_elim
-      (λ (is : kind pages p ≡ 3). let same = are.records p takes.0 is in (is, omega arith))
-      (λ (ne : kind pages p ≢ 3). let zero = are.others p takes.0 ne in absurd (omega arith))
-      (cases_eq (kind pages p) 3)
+    (λ (is : kind pages p ≡ 3). let same = are.records p takes.0 is in (is, omega arith))
+    (λ (ne : kind pages p ≢ 3). let zero = are.others p takes.0 ne in absurd (omega arith))
+    (cases_eq (kind pages p) 3)

@@ -1,3 +1,4 @@
+pub mod Copies
 pub mod File
 pub mod Plans
 pub mod Rooms

@@ -67,7 +67,8 @@ impl Rooms {
         })
     }
 
-    /// The page with the smallest number that takes a record of so many bytes and is not held.
+    /// A page that takes a record of so many bytes and is not held; `None` where there is none. The tree is
+    /// walked with its left side first, so that pages fill one after the other; which page it is is open.
     pub fn with_room(&self, bytes: u16) -> Option<PageNo>
         requires { 0 < bytes }
         ensures found { IfSome result (λ p. Takes self.now bytes p) }

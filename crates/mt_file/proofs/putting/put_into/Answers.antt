@@ -9,18 +9,20 @@ insert-requires-clause-shaped g c = named_shaped (g.V.Pages.at_hand c.args.views
 pub returns-in_default-insert-clause-put : goal.returns-in_default-insert-clause-put
 returns-in_default-insert-clause-put g c = λ pages ready.
     named_full (g.V.Pages.at_hand c.args.views.now) (after c.args.changes.list.items pages) c.args.page c.in-Some.old.now
-      (record { relation = c.args.relation; key = c.args.key.now; value = c.args.value.now }) ready c.in-Some.ensures.some c.in_default-insert.ensures.full
+    (record { relation = c.args.relation; key = c.args.key.now; value = c.args.value.now }) ready c.in-Some.ensures.some c.in_default-insert.ensures.full
 
 pub returns-clause-put : goal.returns-clause-put
 returns-clause-put g c = λ pages ready.
     let at_hand = g.V.Pages.at_hand c.args.views.now in
     let before = after c.args.changes.list.items pages in
-    let seen = named_seen at_hand before c.args.page c.in-Some.old.now ready c.in-Some.ensures.some in
-    (named_adds at_hand before (after c.note.new.self.list.items pages) c.args.page c.in-Some-insert.slot c.in-Some.old.now c.insert.new.page
-      (record { relation = c.args.relation; key = c.args.key.now; value = c.args.value.now }) ready c.in-Some.ensures.some c.insert.ensures.shaped c.in-Some-insert.ensures.done
-      (c.in_ok-note.ensures.noted pages seen), refl,
+    let seen = named_seen at_hand before c.args.page c.in-Some.old.now ready c.in-Some.ensures.some in (
+      named_adds at_hand before (after c.note.new.self.list.items pages) c.args.page c.in-Some-insert.slot c.in-Some.old.now c.insert.new.page
+          (record { relation = c.args.relation; key = c.args.key.now; value = c.args.value.now }) ready c.in-Some.ensures.some c.insert.ensures.shaped c.in-Some-insert.ensures.done
+          (c.in_ok-note.ensures.noted pages seen),
+      refl,
       named_roomy at_hand before c.args.page c.in-Some-insert.slot c.in-Some.old.now c.insert.new.page
-        (record { relation = c.args.relation; key = c.args.key.now; value = c.args.value.now }) ready c.in-Some.ensures.some c.insert.ensures.shaped c.in-Some-insert.ensures.done)
+          (record { relation = c.args.relation; key = c.args.key.now; value = c.args.value.now }) ready c.in-Some.ensures.some c.insert.ensures.shaped c.in-Some-insert.ensures.done,
+    )
 
 pub returns-clause-short : goal.returns-clause-short
 returns-clause-short g c = λ pages ready apart.

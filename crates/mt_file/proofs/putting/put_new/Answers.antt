@@ -1,7 +1,6 @@
-use Rattle.std.proofs.Common.{◌≡◌, ◌≢◌, ℕ, List, Option, None, Some, inl, sym, ap, subst, ◌∙◌}
-use Rattle.mt_pool.specs.Changes.{PageBytes, after, replaced, IsUntouched}
+use Rattle.std.proofs.Common.{◌≡◌, ℕ, None, Some, inl, sym, ap, subst, ◌∙◌}
+use Rattle.mt_pool.specs.Changes.{after, replaced, IsUntouched}
 use Rattle.mt_space.specs.Rooms.{mapped, IsFirstFree}
-use Rattle.mt_file.specs.Plans.{IsReady, IsApart}
 use Rattle.mt_file.proofs.Planned.{map_seen, map_kind, first_seen, new_adds, new_seen, no_records, untouched_seen}
 use Rattle.mt_file.proofs.putting.put_new.Goals as goal
 
@@ -21,12 +20,14 @@ returns-clause-put g c = λ pages ready.
     let seen = map_seen at_hand None before map ready there in
     let one : mid ≡ replaced 0 new_map before = c.in_ok-note.ensures.noted pages (ap before zero ∙ seen) ∙ ap (λ (k : ℕ). replaced k new_map before) zero in
     let here = new_seen at_hand before mid total page map new_map c.in-Some-page.old.now ready there first c.in-Some-page.ensures.some one in
-    let two = c.in_ok-note-2.ensures.noted pages here.2 ∙ ap (replaced page c.page_of_one-slot.result.0) one in
-    (new_adds at_hand before (after c.note-2.new.self.list.items pages) total page c.page_of_one-slot.result.1 map new_map c.page_of_one-slot.result.0
-      (record { relation = c.args.relation; key = c.args.key.now; value = c.args.value.now }) ready there first
-      c.with_kind-new_map.ensures.whole c.with_kind-new_map.ensures.here c.with_kind-new_map.ensures.others
-      c.page_of_one-slot.ensures.shaped c.page_of_one-slot.ensures.one c.page_of_one-slot.ensures.alone two,
-      first_seen before total page map seen first, tt)
+    let two = c.in_ok-note-2.ensures.noted pages here.2 ∙ ap (replaced page c.page_of_one-slot.result.0) one in (
+      new_adds at_hand before (after c.note-2.new.self.list.items pages) total page c.page_of_one-slot.result.1 map new_map c.page_of_one-slot.result.0
+          (record { relation = c.args.relation; key = c.args.key.now; value = c.args.value.now }) ready there first
+          c.with_kind-new_map.ensures.whole c.with_kind-new_map.ensures.here c.with_kind-new_map.ensures.others
+          c.page_of_one-slot.ensures.shaped c.page_of_one-slot.ensures.one c.page_of_one-slot.ensures.alone two,
+      first_seen before total page map seen first,
+      tt,
+    )
 
 pub returns-clause-short : goal.returns-clause-short
 returns-clause-short g c = λ pages ready apart.

@@ -1,4 +1,4 @@
-use Rattle.std.proofs.Common.{◌≡◌, ℕ, Some, inr, refl, sym, ap, ◌∙◌, arith}
+use Rattle.std.proofs.Common.{◌≡◌, ℕ, inr, refl, sym, ap, ◌∙◌}
 use Rattle.mt_pool.specs.Changes.{after, replaced}
 use Rattle.mt_file.proofs.Planned.{is_held, noted_first, drops_one, none_beside, gives_back}
 use Rattle.mt_file.proofs.removing.plan_remove.Goals as goal
@@ -23,17 +23,22 @@ returns-then-live-ne0-clause-removal g c = λ pages r agrees file is.
     let p = c.args.name.page in
     let s = c.args.name.slot in
     let held = is_held (g.V.Pages.at_hand c.args.views.now) pages p s c.in-Some.old.now r agrees file is c.in-Some.ensures.some in
-    let made = noted_first c.new-changes.result.list.items c.note.new.self.list.items pages p c.in-Some.old.now c.remove.new.page c.new-changes.ensures (c.in_ok-note.ensures.noted pages) held.seen in
-    (drops_one pages (after c.note.new.self.list.items pages) p s c.in-Some.old.now c.remove.new.page r file held c.remove.ensures.shaped c.remove.ensures.sets
-      (λ z. c.if-live-ne0.true (c.live.ensures ∙ z)) made, refl, refl)
+    let made = noted_first c.new-changes.result.list.items c.note.new.self.list.items pages p c.in-Some.old.now c.remove.new.page c.new-changes.ensures (c.in_ok-note.ensures.noted pages) held.seen in (
+      drops_one pages (after c.note.new.self.list.items pages) p s c.in-Some.old.now c.remove.new.page r file held c.remove.ensures.shaped c.remove.ensures.sets
+          (λ z. c.if-live-ne0.true (c.live.ensures ∙ z)) made,
+      refl,
+      refl,
+    )
 
 pub returns-in_default-page-clause-removal : goal.returns-in_default-page-clause-removal
 returns-in_default-page-clause-removal g c = λ pages r agrees file is.
     let p = c.args.name.page in
     let s = c.args.name.slot in
-    let held = is_held (g.V.Pages.at_hand c.args.views.now) pages p s c.in-Some.old.now r agrees file is c.in-Some.ensures.some in
-    (c.in_default-page.ensures.none, refl,
-      inr (c.new-map_page.ensures, none_beside pages p s c.in-Some.old.now c.remove.new.page r held c.remove.ensures.sets (sym c.live.ensures ∙ c.if-live-ne0.false)))
+    let held = is_held (g.V.Pages.at_hand c.args.views.now) pages p s c.in-Some.old.now r agrees file is c.in-Some.ensures.some in (
+      c.in_default-page.ensures.none,
+      refl,
+      inr (c.new-map_page.ensures, none_beside pages p s c.in-Some.old.now c.remove.new.page r held c.remove.ensures.sets (sym c.live.ensures ∙ c.if-live-ne0.false)),
+    )
 
 pub returns-clause-removal : goal.returns-clause-removal
 returns-clause-removal g c = λ pages r agrees file is.
@@ -44,7 +49,10 @@ returns-clause-removal g c = λ pages r agrees file is.
     let zero : c.new-map_page.result ≡ 0 = c.new-map_page.ensures in
     let held = is_held (g.V.Pages.at_hand c.args.views.now) pages p s c.in-Some.old.now r agrees file is c.in-Some.ensures.some in
     let seen = agrees c.new-map_page.result map c.in-Some-page.ensures.some in
-    let made = noted_first c.new-changes.result.list.items c.note-2.new.self.list.items pages c.new-map_page.result map new_map c.new-changes.ensures (c.in_ok-note-2.ensures.noted pages) seen in
-    (gives_back pages (after c.note-2.new.self.list.items pages) p s map new_map c.in-Some.old.now c.remove.new.page r file held (sym (ap pages zero) ∙ seen)
-      c.with_kind-new_map.ensures.whole c.with_kind-new_map.ensures.here c.with_kind-new_map.ensures.others
-      c.remove.ensures.sets (sym c.live.ensures ∙ c.if-live-ne0.false) (made ∙ ap (λ (k : ℕ). replaced k new_map pages) zero), refl, refl)
+    let made = noted_first c.new-changes.result.list.items c.note-2.new.self.list.items pages c.new-map_page.result map new_map c.new-changes.ensures (c.in_ok-note-2.ensures.noted pages) seen in (
+      gives_back pages (after c.note-2.new.self.list.items pages) p s map new_map c.in-Some.old.now c.remove.new.page r file held (sym (ap pages zero) ∙ seen)
+          c.with_kind-new_map.ensures.whole c.with_kind-new_map.ensures.here c.with_kind-new_map.ensures.others
+          c.remove.ensures.sets (sym c.live.ensures ∙ c.if-live-ne0.false) (made ∙ ap (λ (k : ℕ). replaced k new_map pages) zero),
+      refl,
+      refl,
+    )

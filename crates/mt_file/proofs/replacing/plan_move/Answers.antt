@@ -1,4 +1,4 @@
-use Rattle.std.proofs.Common.{◌≡◌, ◌≢◌, ◌<◌, ◌+◌, ℕ, List, Option, Some, None, length, refl, sym, ap, subst, ◌∙◌, inl, inr, arith}
+use Rattle.std.proofs.Common.{◌≡◌, ◌≢◌, ℕ, List, Option, Some, None, refl, sym, ap, subst, ◌∙◌, inl, inr}
 use Rattle.std.proofs.lemmas.Result.{IfOk-weaker}
 use Rattle.mt_pool.specs.declared.changes.PageChange.{PageChange}
 use Rattle.mt_pool.specs.Changes.{PageBytes, after, replaced, IsUntouched, AreShort}
@@ -8,7 +8,7 @@ use Rattle.mt_file.specs.File.{Moves}
 use Rattle.mt_file.specs.Plans.{IsTooFull, IsPut, IsWhole}
 use Rattle.mt_file.proofs.Filed.{records_not_map}
 use Rattle.mt_file.proofs.Slots.{row_small}
-use Rattle.mt_file.proofs.Planned.{IsHeld, is_held, noted_first, drops_one}
+use Rattle.mt_file.proofs.Planned.{is_held, noted_first, drops_one}
 use Rattle.mt_file.proofs.Moved.{moves_whole, ready_mid, apart_mid, moves_on, own_full, named_is, named_is_not, same_row, room_seen}
 use Rattle.mt_file.proofs.replacing.plan_move.Goals as goal
 
@@ -55,12 +55,16 @@ returns-then-live-eq0-clause-replacement g c = λ pages r agrees file named is.
     let plan = c.in_ok-plan.plan in
     let same : r ≡ record { relation = c.in-Some.row.relation; key = c.in-Some.row.key.now; value = c.in-Some.row.value.now } = same_row pages p s old r _ held c.in-Some.ensures.found in
     let whole = subst (λ (k : Row). IsWhole pages (after plan.changes.list.items pages) p plan.name.slot k) (sym (ap (λ (k : Row). record k { value = c.args.value.now }) same))
-      (c.in_ok-plan.ensures.whole pages held.seen) in
+    (c.in_ok-plan.ensures.whole pages held.seen) in
     let moves = moves_whole pages (after plan.changes.list.items pages) p s plan.name.slot r row old c.remove.new.page file held c.remove.ensures.sets (sym c.live.ensures ∙ c.if-live-eq0.true) whole in
-    let here : plan.name.page ≡ p = c.in_ok-plan.ensures.page in
-    (inr (room_seen pages p s old r row held (c.requires.outgrown r held.live), inl here,
-        subst (λ (q : ℕ). Moves pages (after plan.changes.list.items pages) p s q plan.name.slot row) (sym here) moves),
-      λ e. absurd (c.requires.other r held.live (ap (λ (k : Row). k.value) e)))
+    let here : plan.name.page ≡ p = c.in_ok-plan.ensures.page in (
+      inr (
+        room_seen pages p s old r row held (c.requires.outgrown r held.live),
+        inl here,
+        subst (λ (q : ℕ). Moves pages (after plan.changes.list.items pages) p s q plan.name.slot row) (sym here) moves,
+      ),
+      λ e. absurd (c.requires.other r held.live (ap (λ (k : Row). k.value) e)),
+    )
 
 pub returns-then-eq-clause-replacement : goal.returns-then-eq-clause-replacement
 returns-then-eq-clause-replacement g c = λ pages r agrees file named is.
@@ -93,7 +97,7 @@ returns-clause-replacement g c = IfOk-weaker c.put.result _ _ (λ step put. λ p
     let zero = records_not_map pages p file held.records in
     let stays : (q : ℕ) → q ≢ p → after before pages q ≡ pages q = λ q ne. ap (λ (f : PageBytes). f q) made ∙ replaced_other p q new pages ne in
     moves_on at_hand c.args.room total before pages p s r row step drops over (λ e. c.requires.other r held.live (ap (λ (k : Row). k.value) e))
-      (stays 0 (λ e. zero (sym e))) (λ h named_h. stays h (λ e. other (named_h ∙ ap Some e))) put_row)
+    (stays 0 (λ e. zero (sym e))) (λ h named_h. stays h (λ e. other (named_h ∙ ap Some e))) put_row)
     c.put.ensures.put
 
 pub returns-clause-short : goal.returns-clause-short
@@ -111,5 +115,5 @@ returns-clause-short g c = IfOk-weaker c.put.result _ _ (λ step short. λ pages
     let apart : (q : ℕ) → IsUntouched c.args.changes.list.items q = λ q. subst (λ (cs : List PageChange). IsUntouched cs q) (sym c.requires.none) tt in
     let none : AreShort c.args.changes.list.items pages = subst (λ (cs : List PageChange). AreShort cs pages) (sym c.requires.none) tt in
     short pages ready (apart_mid c.args.room before pages p s old new r file held other made (c.in_ok-note.ensures.short pages held.seen (apart p) none)
-      (λ q ne. c.in_ok-note.ensures.others q ne (apart q))))
+    (λ q ne. c.in_ok-note.ensures.others q ne (apart q))))
     c.put.ensures.short

@@ -1,7 +1,7 @@
-use Rattle.std.proofs.Common.{◌≡◌, ◌≢◌, ℕ, List, [], Some, refl, sym, ap, subst, ◌∙◌, inl}
+use Rattle.std.proofs.Common.{◌≡◌, ◌≢◌, ℕ, List, refl, sym, ap, subst, inl}
 use Rattle.std.specs.Option.{IsSome}
 use Rattle.mt_pool.specs.declared.changes.PageChange.{PageChange}
-use Rattle.mt_pool.specs.Changes.{after, replaced}
+use Rattle.mt_pool.specs.Changes.{after}
 use Rattle.mt_slots.specs.Page.{Row}
 use Rattle.mt_file.specs.File.{Stays}
 use Rattle.mt_file.proofs.Planned.{is_held, noted_first}
@@ -30,9 +30,10 @@ returns-then-has_value-clause-replacement g c = λ pages r agrees file named is.
     let s = c.args.name.slot in
     let held = is_held (g.V.Pages.at_hand c.args.views.now) pages p s c.in-Some.old.now r agrees file is c.in-Some.ensures.some in
     let row : Row = record r { value = c.args.value.now } in
-    let same : r ≡ row = ap (λ (v : List ℕ). record r { value = v }) (c.if-has_value.ensures.yes r held.live) in
-    (inl (refl, refl, subst (λ (cs : List PageChange). Stays pages (after cs pages) p s row) (sym c.new-changes.ensures) (stays_same pages p s r row file is same)),
-      λ e. c.new-changes.ensures)
+    let same : r ≡ row = ap (λ (v : List ℕ). record r { value = v }) (c.if-has_value.ensures.yes r held.live) in (
+      inl (refl, refl, subst (λ (cs : List PageChange). Stays pages (after cs pages) p s row) (sym c.new-changes.ensures) (stays_same pages p s r row file is same)),
+      λ e. c.new-changes.ensures,
+    )
 
 pub returns-then-replace-clause-replacement : goal.returns-then-replace-clause-replacement
 returns-then-replace-clause-replacement g c = λ pages r agrees file named is.
@@ -43,6 +44,7 @@ returns-then-replace-clause-replacement g c = λ pages r agrees file named is.
     let held = is_held (g.V.Pages.at_hand c.args.views.now) pages p s old r agrees file is c.in-Some.ensures.some in
     let row : Row = record r { value = c.args.value.now } in
     let differ : r ≢ row = λ e. c.if-has_value.ensures.no r held.live (ap (λ (k : Row). k.value) e) in
-    let made = noted_first c.new-changes.result.list.items c.note.new.self.list.items pages p old new c.new-changes.ensures (c.in_ok-note.ensures.noted pages) held.seen in
-    (inl (refl, refl, stays_one pages (after c.note.new.self.list.items pages) p s old new r row file held c.replace.ensures.shaped (c.if-replace.ensures.done r held.live) made),
-      λ e. absurd (differ e))
+    let made = noted_first c.new-changes.result.list.items c.note.new.self.list.items pages p old new c.new-changes.ensures (c.in_ok-note.ensures.noted pages) held.seen in (
+      inl (refl, refl, stays_one pages (after c.note.new.self.list.items pages) p s old new r row file held c.replace.ensures.shaped (c.if-replace.ensures.done r held.live) made),
+      λ e. absurd (differ e),
+    )

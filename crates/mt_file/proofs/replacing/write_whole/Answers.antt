@@ -1,4 +1,3 @@
-use Rattle.std.proofs.Common.{◌≡◌, List, ℕ, refl}
 use Rattle.mt_pool.specs.Changes.{after}
 use Rattle.mt_file.proofs.Planned.{noted_first}
 use Rattle.mt_file.proofs.Moved.{whole_page}
@@ -7,6 +6,6 @@ use Rattle.mt_file.proofs.replacing.write_whole.Goals as goal
 pub returns-clause-whole : goal.returns-clause-whole
 returns-clause-whole c = λ pages is.
     whole_page pages (after c.note.new.self.list.items pages) c.args.page c.page_of_one-slot.result.1 c.page_of_one-slot.result.0
-      (record { relation = c.args.relation; key = c.args.key.now; value = c.args.value.now })
-      c.page_of_one-slot.ensures.shaped c.page_of_one-slot.ensures.one c.page_of_one-slot.ensures.alone
-      (noted_first c.args.changes.list.items c.note.new.self.list.items pages c.args.page c.args.old.now c.page_of_one-slot.result.0 c.requires.none (c.in_ok-note.ensures.noted pages) is)
+    (record { relation = c.args.relation; key = c.args.key.now; value = c.args.value.now })
+    c.page_of_one-slot.ensures.shaped c.page_of_one-slot.ensures.one c.page_of_one-slot.ensures.alone
+    (noted_first c.args.changes.list.items c.note.new.self.list.items pages c.args.page c.args.old.now c.page_of_one-slot.result.0 c.requires.none (c.in_ok-note.ensures.noted pages) is)

@@ -1,4 +1,4 @@
-use Rattle.std.proofs.Common.{◌≡◌, ◌≢◌, ◌-◌, ◌≤◌, ◌<◌, ◌/◌, ℕ, length, get_or}
+use Rattle.std.proofs.Common.{◌≡◌, ◌≢◌, ◌-◌, ◌≤◌, ◌<◌, ◌/◌, ℕ, get_or}
 use Rattle.mt_file.specs.Rooms.{IsTreeBut}
 use Rattle.mt_file.proofs.rooms.set_leaf.Given as goal
 

@@ -6,3 +6,4 @@ pub mod Rule
 pub mod Pages
 pub mod Answers
 pub mod Halves
+pub mod Copies

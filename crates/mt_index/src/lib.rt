@@ -22,3 +22,6 @@ pub use directory::{MAX_DEPTH, depth};
 pub use finding::plan_find;
 pub use laws::a_bucket_is_named_by_its_pattern;
 pub use planning::plan_add;
+
+#[cfg(test)]
+mod tests;

@@ -1,3 +1,4 @@
+ghost use Rattle.mt_index.specs.Copies.{AreWhole};
 ghost use Rattle.std.specs.Prelude.{◌≡◌, ◌<◌, ◌≤◌, length};
 
 use crate::{Add, Amend, Find, depth as bits, plan_add, plan_drop, plan_find, plan_set};
@@ -16,18 +17,19 @@ struct Copies {
     third: [u8; 4096],
     fourth: [u8; 4096],
     fifth: [u8; 4096],
+    ghost whole: { AreWhole space directory third fourth fifth },
 }
 
 impl Pages for Copies {
-    ghost use Rattle.mt_index.specs.Copies.{copied, AreWhole, copied_whole};
+    ghost use Rattle.mt_index.specs.Copies.{copied, copied_whole};
 
-    ghost is_sound = { λ c. AreWhole c.space c.directory c.third c.fourth c.fifth };
+    ghost is_sound = { λ c. Unit {0} };
 
     ghost total = { λ copies. 64 };
 
     ghost at_hand = { λ c p. copied c.space c.directory c.third c.fourth c.fifth p };
 
-    ghost whole = { λ c w p bytes there. copied_whole c.space c.directory c.third c.fourth c.fifth w p bytes there };
+    ghost whole = { λ c sound p bytes there. copied_whole c.space c.directory c.third c.fourth c.fifth c.whole p bytes there };
 
     fn count(&self) -> u16 {
         64
@@ -43,6 +45,15 @@ impl Pages for Copies {
             _ => None,
         }
     }
+}
+
+/// The map with no page free.
+fn filled(space: &[u8; 4096]) -> [u8; 4096]
+    ensures { length result ≡ 4096 }
+{
+    let mut new = *space;
+    put(&mut new, 6, &[3; 58]);
+    new
 }
 
 fn name_of(page: u16, slot: u16) -> RecordName {
@@ -69,22 +80,27 @@ fn formatted() -> Copies {
     }
 }
 
-fn patch(page: &mut [u8; 4096], edits: &[Edit]) {
+fn patched(page: &[u8; 4096], edits: &[Edit]) -> [u8; 4096]
+    ensures { length result ≡ 4096 }
+{
+    let mut new = *page;
     for edit in edits {
         let at = usize::from(edit.start);
         if at <= 4096 && edit.bytes.len() <= 4096 - at {
-            put(page, at, edit.bytes.as_slice());
+            put(&mut new, at, edit.bytes.as_slice());
         }
     }
+    new
 }
 
 fn make_one(copies: &mut Copies, change: &PageChange) {
+    let edits = change.edits.as_slice();
     match change.page.get() {
-        0 => patch(&mut copies.space, change.edits.as_slice()),
-        1 => patch(&mut copies.directory, change.edits.as_slice()),
-        3 => patch(&mut copies.third, change.edits.as_slice()),
-        4 => patch(&mut copies.fourth, change.edits.as_slice()),
-        5 => patch(&mut copies.fifth, change.edits.as_slice()),
+        0 => copies.space = patched(&copies.space, edits),
+        1 => copies.directory = patched(&copies.directory, edits),
+        3 => copies.third = patched(&copies.third, edits),
+        4 => copies.fourth = patched(&copies.fourth, edits),
+        5 => copies.fifth = patched(&copies.fifth, edits),
         _ => {}
     }
 }
@@ -125,14 +141,16 @@ fn add_all(
     Ok(true)
 }
 
-fn free_pages(copies: &Copies) -> u16 {
-    let mut free = 0;
-    for page in 0..64 {
-        if copies.space[page] == 0 {
-            free += 1;
-        }
+fn free_pages(copies: &Copies) -> usize {
+    copies.space[..64].iter().filter(|kind| **kind == 0).count()
+}
+
+/// Whether this page is needed, to be written.
+fn asks_for(answer: &Add, number: u16) -> bool {
+    match answer {
+        Add::Need(page, mode) => page.get() == number && *mode == Mode::Write,
+        _ => false,
     }
-    free
 }
 
 #[test]
@@ -205,8 +223,8 @@ fn a_page_that_is_not_at_hand_is_asked_for(rt: HostRuntime) -> Result<(), Fail> 
     assert!(rt; add_all(rt.alloc(), &mut copies, 174, false)?);
     let name = name_of(6, 0);
     let needs = plan_add(rt.alloc(), &copies, RelNo::new(200), b"a", name, false)?;
-    assert!(rt; matches!(needs, Add::Need(page, Mode::Write) if page == PageNo::new(6)));
-    put(&mut copies.space, 6, &[3; 58]);
+    assert!(rt; asks_for(&needs, 6));
+    copies.space = filled(&copies.space);
     let full = plan_add(rt.alloc(), &copies, RelNo::new(200), b"a", name, false)?;
     assert!(rt; matches!(full, Add::Full));
     Ok(())

@@ -20,7 +20,10 @@ pub use amending::{plan_drop, plan_set};
 pub use answers::{Add, Amend, Find};
 pub use directory::{MAX_DEPTH, depth};
 pub use finding::plan_find;
-pub use laws::a_bucket_is_named_by_its_pattern;
+pub use laws::{
+    a_bucket_is_named_by_its_pattern, a_formatted_index_is_the_empty_map,
+    other_changes_keep_the_map,
+};
 pub use planning::plan_add;
 
 #[cfg(test)]

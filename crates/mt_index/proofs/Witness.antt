@@ -1,13 +1,12 @@
 -- A formatted index is the empty map, and an index stays where other pages change.
-use Rattle.std.proofs.Common.{◌≡◌, ◌≢◌, ℕ, ◌+◌, ◌*◌, ◌<◌, ◌≤◌, ◌%◌, ◌^◌, List, [], ◌∷◌, ◌++◌, length, get_or, Option, Some, None, ap, sym, ◌∙◌, subst, arith, refl, append-nil}
+use Rattle.std.proofs.Common.{◌≡◌, ℕ, ◌≤◌, ◌%◌, ◌^◌, List, [], ◌∷◌, length, get_or, None, ap, sym, ◌∙◌, subst, arith, refl, append-nil}
 use Rattle.mt_bucket.specs.Entries.{Entry, look}
 use Rattle.mt_bucket.specs.Hash.{hash}
-use Rattle.mt_bucket.specs.Page.{depth_of, entries, IsBucket}
+use Rattle.mt_bucket.specs.Page.{IsBucket}
 use Rattle.mt_pool.specs.Changes.{PageBytes}
 use Rattle.mt_space.specs.Kinds.{kind}
 use Rattle.mt_index.specs.Maps.{Map, Each, Once, Agree}
-use Rattle.mt_index.specs.Buckets.{IsBuckets, lookup}
-use Rattle.mt_index.specs.Index.{Node, State, named, entries_of, Linked, IsTree, IsIndex}
+use Rattle.mt_index.specs.Index.{Node, named, entries_of, IsTree}
 use Rattle.mt_index.specs.Pages.{depth_in, pointer_at, pointers_from, node_of, state_of, AreMap, IsDirectory, AreFormed, IsEmpty, LeavesIndex}
 use Rattle.mt_index.proofs.Lists.{each_map}
 use Rattle.mt_index.proofs.Chains.{linked_stay}

@@ -50,11 +50,15 @@ pub record Passed (P : ℕ → Type 0) (pages : PageBytes) (key : List ℕ) (at 
   pub each : Each P front
   pub long : length front ≡ steps
 
+-- the bytes from one place up to another
+abbrev pub AreZero : List ℕ → ℕ → ℕ → Type 0
+AreZero page from to = (i : ℕ) → from ≤ i → i < to → get_or page i 0 ≡ 0
+
 -- a directory page
 pub record IsDirectory (page : List ℕ) : Type 0 where
   pub size : length page ≡ 4096
   pub shallow : get_or page 0 0 ≤ 9
-  pub zeros : (i : ℕ) → 1 ≤ i → i < 8 → get_or page i 0 ≡ 0
+  pub zeros : AreZero page 1 8
   pub rest : (i : ℕ) → 8 + 2 * 2 ^ depth_in page ≤ i → get_or page i 0 ≡ 0
 
 -- the index's pages are well formed, each byte of them

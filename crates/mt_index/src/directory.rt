@@ -13,9 +13,9 @@ use mt_bucket::has_bit;
 pub const MAX_DEPTH: u8 = 9;
 
 // Bytes before the pointers, and of a pointer.
-const HEAD_BYTES: usize = 8;
+pub(crate) const HEAD_BYTES: usize = 8;
 
-const POINTER_BYTES: usize = 2;
+pub(crate) const POINTER_BYTES: usize = 2;
 
 /// How many low bits of a hash the directory goes by: at most 9, whatever the page's bytes are.
 pub fn depth(directory: &[u8]) -> u8

@@ -8,6 +8,7 @@
 mod adding;
 mod amending;
 mod answers;
+mod checking;
 mod directory;
 mod finding;
 mod laws;
@@ -18,6 +19,7 @@ mod walking;
 
 pub use amending::{plan_drop, plan_set};
 pub use answers::{Add, Amend, Find};
+pub use checking::check_directory;
 pub use directory::{MAX_DEPTH, depth};
 pub use finding::plan_find;
 pub use laws::{

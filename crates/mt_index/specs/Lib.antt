@@ -7,3 +7,4 @@ pub mod Pages
 pub mod Answers
 pub mod Checks
 pub mod Halves
+pub mod Copies

@@ -50,11 +50,15 @@ pub record Passed (P : ℕ → Type 0) (pages : PageBytes) (key : List ℕ) (at 
   pub each : Each P front
   pub long : length front ≡ steps
 
+-- the bytes from one place up to another
+abbrev pub AreZero : List ℕ → ℕ → ℕ → Type 0
+AreZero page from to = (i : ℕ) → from ≤ i → i < to → get_or page i 0 ≡ 0
+
 -- a directory page
 pub record IsDirectory (page : List ℕ) : Type 0 where
   pub size : length page ≡ 4096
   pub shallow : get_or page 0 0 ≤ 9
-  pub zeros : (i : ℕ) → 1 ≤ i → i < 8 → get_or page i 0 ≡ 0
+  pub zeros : AreZero page 1 8
   pub rest : (i : ℕ) → 8 + 2 * 2 ^ depth_in page ≤ i → get_or page i 0 ≡ 0
 
 -- the index's pages are well formed, each byte of them
@@ -110,3 +114,27 @@ pub record Parted (old low up : List ℕ) : Type 0 where
   pub up_next : next_of up ≡ 0
   pub go : entries up ≡ kept_high (depth_of old) (entries old)
   pub kept : (relations pages : ℕ) → IsBucket relations pages old → IsBucket relations pages low × IsBucket relations pages up
+
+-- ---- what stands beside it
+
+-- an index as a device is formatted with it: page 3 is the only bucket, and empty
+pub record IsEmpty (total : ℕ) (pages : PageBytes) : Type 0 where
+  pub space_fixed : kind pages 0 ≡ 1
+  pub directory_fixed : kind pages 1 ≡ 1
+  pub bucket : kind pages 3 ≡ 2
+  pub within : (p : ℕ) → kind pages p ≢ 0 → p < total
+  pub few : total ≤ 4096
+  pub no_bits : depth_in (pages 1) ≡ 0
+  pub pointer : pointer_at (pages 1) 0 ≡ 3
+  pub depth : depth_of (pages 3) ≡ 0
+  pub next : next_of (pages 3) ≡ 0
+  pub entries : entries (pages 3) ≡ []
+
+-- changes of pages that are none of the index's: the directory and the buckets stay, and there are no more
+-- and no fewer of them
+pub record LeavesIndex (total : ℕ) (pages pages2 : PageBytes) : Type 0 where
+  pub directory : pages2 1 ≡ pages 1
+  pub buckets : (p : ℕ) → kind pages p ≡ 2 → (kind pages2 p ≡ 2) × (pages2 p ≡ pages p)
+  pub no_more : (p : ℕ) → kind pages2 p ≡ 2 → kind pages p ≡ 2
+  pub fixed : (p : ℕ) → kind pages p ≡ 1 → kind pages2 p ≡ 1
+  pub within : (p : ℕ) → kind pages2 p ≢ 0 → p < total

@@ -17,7 +17,7 @@ use mt_space::first_free;
 use std::alloc::{AllocError, Global};
 
 // The kind of a bucket's page in the map of the space.
-const BUCKET: u8 = 2;
+pub(crate) const BUCKET: u8 = 2;
 
 // Puts the entry into a page of its bucket with room.
 pub(crate) fn plan_put<V: Pages>(

@@ -1,138 +1,37 @@
-// A reading of any pages: whether they are an index.
-ghost use Rattle.std.specs.Prelude.{◌≡◌, ◌+◌, ◌<◌, ◌≤◌, ℕ, [], length, get_or, IfOk, MatchBool, MatchOption};
-ghost use Rattle.mt_bucket.specs.Page.{IsBucket};
-ghost use Rattle.mt_space.specs.Kinds.{kind};
-ghost use Rattle.mt_index.specs.Pages.{IsDirectory};
-ghost use Rattle.mt_index.specs.Checks.{AreWhole, bytes_of, IsSound, AreKinds, AreBuckets, ArePointers};
+// A reading of any bytes: whether they are a directory page.
+ghost use Rattle.std.specs.Prelude.{◌≡◌, ◌≤◌, ◌<◌, length, MatchBool};
+ghost use Rattle.mt_index.specs.Pages.{AreZero, IsDirectory};
 
-use crate::directory::{HEAD_BYTES, MAX_DEPTH, POINTER_BYTES, depth};
-use crate::marking::mark_buckets;
-use crate::pointing::are_pointers;
-use crate::settling::first_unsettled;
-use mt_base::PageNo;
+use crate::directory::{HEAD_BYTES, MAX_DEPTH, POINTER_BYTES};
 use mt_base::limits::PAGE_BYTES;
-use std::alloc::{AllocError, Global};
 
-// The pages that the index has for itself.
-pub(crate) const SPACE_MAP: u16 = 0;
-
-pub(crate) const DIRECTORY: u16 = 1;
-
-// The kinds that pages have in the space map.
-const FIXED: u8 = 1;
-
-const BUCKET: u8 = 2;
-
-/// Reads any pages, all of a device of a schema of so many relations: `None` where they are an index, each
-/// byte of the directory and of the bucket pages as it has to be, and else a page at which they are not.
-///
-/// Each bucket page stands once in one chain; a bucket is named by just the pointers of its pattern, and
-/// holds keys of that pattern; no relation and key is there twice. The only error is want of memory.
-pub fn check(
-    alloc: Global,
-    pages: &[[u8; 4096]],
-    relations: u16,
-) -> Result<Option<PageNo>, AllocError>
-    requires whole { AreWhole pages.now }
-    ensures { IfOk result (λ broken. MatchOption broken (IsSound relations (length pages.now) (bytes_of pages.now)) (λ p. IsSound relations (length pages.now) (bytes_of pages.now) → ⊥)) }
-{
-    if !are_kinds(pages) {
-        return Ok(Some(PageNo::new(SPACE_MAP)));
-    }
-    if !is_directory(page_at(pages, PageNo::new(DIRECTORY))) {
-        return Ok(Some(PageNo::new(DIRECTORY)));
-    }
-    if let Some(page) = first_malformed(pages, relations) {
-        return Ok(Some(page));
-    }
-    if !are_pointers(pages) {
-        return Ok(Some(PageNo::new(DIRECTORY)));
-    }
-    let mut homes = vec![in alloc; 0; pages.len()]?;
-    Ok(first_misplaced(pages, &mut homes, relations))
-}
-
-// The first bucket page that is in no bucket's chain or in two, or has an entry that belongs elsewhere.
-// Of each page it notes the bucket.
-fn first_misplaced(pages: &[[u8; 4096]], homes: &mut [u16], relations: u16) -> Option<PageNo>
-    requires whole { AreWhole pages.now }
-    requires kinds { AreKinds (length pages.now) (bytes_of pages.now) }
-    requires directory { IsDirectory (bytes_of pages.now 1) }
-    requires buckets { AreBuckets relations (length pages.now) (bytes_of pages.now) }
-    requires pointers { ArePointers (bytes_of pages.now) }
-    requires size { length homes.old ≡ length pages.now }
-    requires none { (n : ℕ) → get_or homes.old n 0 ≡ 0 }
-    ensures { MatchOption result (IsSound relations (length pages.now) (bytes_of pages.now)) (λ p. IsSound relations (length pages.now) (bytes_of pages.now) → ⊥) }
-{
-    if let Some(page) = mark_buckets(pages, homes) {
-        return Some(page);
-    }
-    first_unsettled(pages, homes)
-}
-
-// One of the pages.
-pub(crate) fn page_at(pages: &[[u8; 4096]], page: PageNo) -> &[u8; 4096]
-    requires whole { AreWhole pages.now }
-    requires inside { page < length pages.now }
-    ensures is { result.now ≡ bytes_of pages.now page }
-    ensures size { length result.now ≡ 4096 }
-{
-    &pages[usize::from(page.get())]
-}
-
-// Whether a page is a bucket's, by the space map.
-pub(crate) fn is_bucket(pages: &[[u8; 4096]], page: PageNo) -> bool
-    requires whole { AreWhole pages.now }
-    requires kinds { AreKinds (length pages.now) (bytes_of pages.now) }
-    ensures { MatchBool result ((kind (bytes_of pages.now) page ≡ 2) × (page < length pages.now)) (kind (bytes_of pages.now) page ≡ 2 → ⊥) }
-{
-    let number = usize::from(page.get());
-    number < pages.len() && page_at(pages, PageNo::new(SPACE_MAP))[number] == BUCKET
-}
-
-// Whether the space map has the fixed pages, and nothing past the last page.
-fn are_kinds(pages: &[[u8; 4096]]) -> bool
-    requires whole { AreWhole pages.now }
-    ensures { MatchBool result (AreKinds (length pages.now) (bytes_of pages.now)) (AreKinds (length pages.now) (bytes_of pages.now) → ⊥) }
-{
-    let map = page_at(pages, PageNo::new(SPACE_MAP));
-    map[0] == FIXED && map[1] == FIXED && are_zero(map, pages.len(), PAGE_BYTES)
-}
-
-// Whether these bytes are a directory.
-fn is_directory(page: &[u8]) -> bool
+/// Whether these 4,096 bytes are a directory page: it goes by at most 9 bits of a hash, and the bytes between
+/// their number and the pointers are zero, and so are those behind the pointers. That each pointer names a
+/// bucket is no matter of this page alone.
+pub fn check_directory(page: &[u8]) -> bool
     requires whole { length page.now ≡ 4096 }
     ensures { MatchBool result (IsDirectory page.now) (IsDirectory page.now → ⊥) }
 {
-    let end = HEAD_BYTES + POINTER_BYTES * (1usize << depth(page));
-    page[0] <= MAX_DEPTH && are_zero(page, 1, HEAD_BYTES) && are_zero(page, end, PAGE_BYTES)
+    if page[0] > MAX_DEPTH {
+        return false;
+    }
+    let end = HEAD_BYTES + POINTER_BYTES * (1 << page[0]);
+    if !are_zero(page, 1, HEAD_BYTES) {
+        return false;
+    }
+    are_zero(page, end, PAGE_BYTES)
 }
 
-// Whether the bytes from a place up to another are zero.
-fn are_zero(bytes: &[u8], start: usize, end: usize) -> bool
-    requires inside { end ≤ length bytes.now }
-    ensures { MatchBool result ((i : ℕ) → start ≤ i → i < end → get_or bytes.now i 0 ≡ 0) (((i : ℕ) → start ≤ i → i < end → get_or bytes.now i 0 ≡ 0) → ⊥) }
+// Whether the bytes from one place up to another are zero.
+pub(crate) fn are_zero(page: &[u8], from: usize, to: usize) -> bool
+    requires whole { length page.now ≡ 4096 }
+    requires within { to ≤ 4096 }
+    ensures { MatchBool result (AreZero page.now from to) (AreZero page.now from to → ⊥) }
 {
-    for i in start..end {
-        if bytes[i] != 0 {
+    for i in from..to {
+        if page[i] != 0 {
             return false;
         }
     }
     true
-}
-
-// The first bucket page whose bytes are none.
-fn first_malformed(pages: &[[u8; 4096]], relations: u16) -> Option<PageNo>
-    requires whole { AreWhole pages.now }
-    requires kinds { AreKinds (length pages.now) (bytes_of pages.now) }
-    ensures { MatchOption result (AreBuckets relations (length pages.now) (bytes_of pages.now)) (λ p. AreBuckets relations (length pages.now) (bytes_of pages.now) → ⊥) }
-{
-    let total = pages.len() as u16;
-    for number in 0..total {
-        let page = PageNo::new(number);
-        if is_bucket(pages, page) && !mt_bucket::check(page_at(pages, page), relations, total) {
-            return Some(page);
-        }
-    }
-    None
 }

@@ -16,14 +16,22 @@ mod marking;
 mod noting;
 mod planning;
 mod pointing;
+mod reading;
 mod settling;
 mod splitting;
 mod walking;
 
 pub use amending::{plan_drop, plan_set};
 pub use answers::{Add, Amend, Find};
-pub use checking::check;
+pub use checking::check_directory;
 pub use directory::{MAX_DEPTH, depth};
 pub use finding::plan_find;
-pub use laws::a_bucket_is_named_by_its_pattern;
+pub use laws::{
+    a_bucket_is_named_by_its_pattern, a_formatted_index_is_the_empty_map,
+    other_changes_keep_the_map,
+};
 pub use planning::plan_add;
+pub use reading::check;
+
+#[cfg(test)]
+mod tests;

@@ -3,8 +3,9 @@ ghost use Rattle.std.specs.Prelude.{◌≡◌, ◌≢◌, ◌<◌, ◌≤◌, �
 ghost use Rattle.mt_index.specs.Pages.{depth_in, pointer_at};
 ghost use Rattle.mt_index.specs.Checks.{AreWhole, bytes_of, AreKinds, ArePointers, IsMarked, AreMarked, Marks, IsStuck, IsSound, CanFollow, CannotFollow};
 
-use crate::checking::{DIRECTORY, is_bucket, page_at};
 use crate::directory::{depth, pointer_of};
+use crate::reading::{is_bucket, page_at};
+use crate::walking::DIRECTORY;
 use mt_base::PageNo;
 
 // Marks each page of a bucket with the bucket's first page. Answers a page of two chains, or one that

@@ -5,8 +5,9 @@ ghost use Rattle.mt_space.specs.Kinds.{kind};
 ghost use Rattle.mt_index.specs.Pages.{depth_in};
 ghost use Rattle.mt_index.specs.Checks.{AreWhole, bytes_of, AreKinds, AreBuckets, AreMarked, LacksFrom, IsFinite, IsAlone, IsSettled};
 
-use crate::checking::{DIRECTORY, is_bucket, page_at};
 use crate::directory::pointer;
+use crate::reading::{is_bucket, page_at};
+use crate::walking::DIRECTORY;
 use mt_base::{PageNo, RelNo};
 use mt_bucket::{count, entry, find, hash, next, place_of};
 

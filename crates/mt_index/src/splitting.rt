@@ -151,8 +151,8 @@ pub(crate) fn plan_split<V: Pages>(
     };
     let mut halves = halve(space, directory, old, spare, bucket, fresh);
     let upper = has_bit(hash(key), depth(old));
-    let copy = name;
-    if halves.put(upper, relation, key, copy) {
+    let first = name; // a name goes whole into a call, and it may take a second one
+    if halves.put(upper, relation, key, first) {
         let changes = halves.changes(alloc, space, directory, old, spare)?;
         return Ok(Add::Changes(changes));
     }

@@ -1,5 +1,5 @@
-use Rattle.std.proofs.Common.{◌≡◌, ◌≤◌, ◌<◌, ℕ, get_or}
+use Rattle.mt_index.specs.Pages.{AreZero}
 use Rattle.mt_index.proofs.checking.are_zero.Given as goal
 
 abbrev pub invariant-loop-i : goal.invariant-loop-i
-invariant-loop-i l = (k : ℕ) → l.start ≤ k → k < l.i → get_or l.bytes k 0 ≡ 0
+invariant-loop-i l = AreZero l.page l.fn.from l.i

@@ -4,7 +4,7 @@ use Rattle.mt_space.specs.Kinds.{kind}
 use Rattle.mt_index.specs.Checks.{bytes_of, IsSettled}
 use Rattle.mt_index.proofs.Sounds.{sound_settles}
 use Rattle.mt_index.proofs.Made.{made_sound}
-use Rattle.mt_index.proofs.checking.first_misplaced.Goals as goal
+use Rattle.mt_index.proofs.reading.first_misplaced.Goals as goal
 
 -- what follows from either answer
 follows : {A C D : Type 0} {B : ℕ → Type 0} (o : Option ℕ) → (A → C) → ((p : ℕ) → B p → D) → MatchOption o A B → MatchOption o C (λ p. D)

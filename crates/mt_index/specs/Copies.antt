@@ -1,0 +1,26 @@
+-- Some pages in memory, as the tests have them: the map of the space, the directory, and pages 3 to 5.
+use Rattle.std.specs.Prelude.{ℕ, ◌≡◌, ◌==◌, Bool, true, false, cond, List, length, Option, Some, None}
+use Rattle.std.proofs.Common.{sym, ap, ◌∙◌}
+
+abbrev pub copied : List ℕ → List ℕ → List ℕ → List ℕ → List ℕ → ℕ → Option (List ℕ)
+copied space directory third fourth fifth p =
+    cond (p == 0) (Some space) (cond (p == 1) (Some directory) (cond (p == 3) (Some third) (cond (p == 4) (Some fourth) (cond (p == 5) (Some fifth) None))))
+
+-- each is whole
+pub record AreWhole (space directory third fourth fifth : List ℕ) : Type 0 where
+  pub zero : length space ≡ 4096
+  pub one : length directory ≡ 4096
+  pub three : length third ≡ 4096
+  pub four : length fourth ≡ 4096
+  pub five : length fifth ≡ 4096
+
+pub copied_whole : (space directory third fourth fifth : List ℕ) → AreWhole space directory third fourth fifth → (p : ℕ) (bytes : List ℕ) → copied space directory third fourth fifth p ≡ Some bytes → length bytes ≡ 4096
+copied_whole space directory third fourth fifth w p bytes is =
+    one (p == 0) space _ w.zero (one (p == 1) directory _ w.one (one (p == 3) third _ w.three (one (p == 4) fourth _ w.four (one (p == 5) fifth _ w.five (λ e. absurd cc))))) is
+  where
+    same : (a : List ℕ) → Some a ≡ Some bytes → a ≡ bytes
+    same a e = ap (λ (x : Option (List ℕ)). elim x [ None ↦ a | Some y ↦ y ]) e
+
+    one : (t : Bool) (a : List ℕ) (o : Option (List ℕ)) → length a ≡ 4096 → (o ≡ Some bytes → length bytes ≡ 4096) → cond t (Some a) o ≡ Some bytes → length bytes ≡ 4096
+    one true a o long rest e = sym (ap length (same a e)) ∙ long
+    one false a o long rest e = rest e

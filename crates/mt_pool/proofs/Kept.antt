@@ -3,7 +3,7 @@ use Rattle.std.proofs.Common.{◌≡◌, ◌≢◌, ◌⊎◌, inl, inr, ⊎_eli
 use Rattle.std.proofs.Math.Seq.{take-append_seam}
 use Rattle.std.proofs.lemmas.List.{map-append, length-map}
 use Rattle.mt_disk.specs.Disk.{Torn, Follows, Elapses, LeavesOnly}
-use Rattle.mt_disk.proofs.Frame.{Apart, torn_refl, follows_less, one_call}
+use Rattle.mt_disk.proofs.Frame.{Apart, torn_refl, follows_less, one_call, started}
 use Rattle.mt_frame.specs.declared.records.Record.{Record}
 use Rattle.mt_frame.specs.History.{some_record, is_of_page}
 use Rattle.mt_log.specs.Batch.{joined}
@@ -138,3 +138,42 @@ module _ {D : Type 0} (seen : D → List ℕ) (may : D → List ℕ → Type 0) 
     tied = tied_same s.pool p (seen s.device) (seen d) opening (carried (appended s.log)) k.tied waits count (λ q lt. views q);
     unnamed = λ q lt none. k.unnamed q (omega (arith, lt, count)) (sym (ap (λ v. get_or v.items q 0) waits) ∙ none);
   }
+
+  -- a fetch, which reads
+  pub kept_read : (p : Pool) (d : D) → IsPool p → Shows p (seen d) → p.waits ≡ s.pool.waits → p.place ≡ s.pool.place → pages p ≡ pages s.pool → ((q : ℕ) → view p (seen d) q ≡ view s.pool (seen s.device) q)
+      → seen d ≡ seen s.device → ((c : List ℕ) → may d c → may s.device c) → IsKept seen may opening (record s { pool = p; device = d })
+  kept_read p d ok shows waits place count views same less = record {
+    on = on_elsewhere seen may s.log s.device d 0 0 k.on (inr (omega arith)) (subst (Torn 0 0 (seen s.device)) (sym same) (torn_refl 0 0 (seen s.device))) (follows_less 0 0 (may s.device) (may d) less);
+    sound = subst (λ (x : ℕ). IsSound x s.log) (sym count) k.sound;
+    apart = let a = k.apart in omega (arith, place, count);
+    few = omega (arith, count, k.few);
+    frames = ok;
+    shows = shows;
+    settled = k.settled;
+    safe = subst (λ (x : ℕ). IsSafe x (pages p) opening (carried (appended s.log)) (length (durable s.log)) (may d)) (sym place)
+      (subst (λ (x : ℕ). IsSafe s.pool.place x opening (carried (appended s.log)) (length (durable s.log)) (may d)) (sym count)
+      (safe_less s.pool.place (pages s.pool) opening (carried (appended s.log)) (length (durable s.log)) (may s.device) (may d) k.safe less));
+    tied = tied_same s.pool p (seen s.device) (seen d) opening (carried (appended s.log)) k.tied waits count (λ q lt. views q);
+    unnamed = λ q lt none. k.unnamed q (omega (arith, lt, count)) (sym (ap (λ v. get_or v.items q 0) waits) ∙ none);
+  }
+
+  -- a page is put back
+  pub kept_restore : (p : Pool) → IsPool p → Shows p (seen s.device) → p.waits ≡ s.pool.waits → p.place ≡ s.pool.place → pages p ≡ pages s.pool → IsTied p (seen s.device) opening (carried (appended s.log))
+      → IsKept seen may opening (record s { pool = p })
+  kept_restore p ok shows waits place count tied = record {
+    on = k.on;
+    sound = subst (λ (x : ℕ). IsSound x s.log) (sym count) k.sound;
+    apart = let a = k.apart in omega (arith, place, count);
+    few = omega (arith, count, k.few);
+    frames = ok;
+    shows = shows;
+    settled = k.settled;
+    safe = subst (λ (x : ℕ). IsSafe x (pages p) opening (carried (appended s.log)) (length (durable s.log)) (may s.device)) (sym place)
+      (subst (λ (x : ℕ). IsSafe s.pool.place x opening (carried (appended s.log)) (length (durable s.log)) (may s.device)) (sym count) k.safe);
+    tied = tied;
+    unnamed = λ q lt none. k.unnamed q (omega (arith, lt, count)) (sym (ap (λ v. get_or v.items q 0) waits) ∙ none);
+  }
+
+  -- no device call
+  pub no_call : (moment : D → ℕ) (left_since : D → ℕ → List ℕ → Type 0) → ((d : D) (c : List ℕ) → left_since d (moment d) c → may d c) → LeavesOnly moment left_since s.device s.device (Explains opening s)
+  no_call moment left_since only_now = started moment left_since s.device (Explains opening s) (λ c left. explains seen may opening s k c (only_now s.device c left))

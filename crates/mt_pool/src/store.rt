@@ -1,13 +1,17 @@
 // A device, the log of its area and the pool of its pages, each of which keeps to the others' rules.
-ghost use Rattle.std.specs.Prelude.{◌≡◌, ◌≢◌, ◌<◌, ◌≤◌, ◌+◌, ◌++◌, ℕ, List, length, take, drop, OnOk, IfErr, Ok};
+ghost use Rattle.std.specs.Prelude.{◌≡◌, ◌≢◌, ◌<◌, ◌≤◌, ◌+◌, ◌++◌, ◌∷◌, [], ℕ, List, length, take, drop, false, true, OnOk, OnErr, IfOk, IfErr, Ok};
 ghost use Rattle.mt_base.specs.declared.refusal.Refusal.{Refusal};
 ghost use Rattle.mt_disk.specs.Disk.{LeavesOnly, HasCause};
-ghost use Rattle.mt_log.specs.Words.{durable, appended, IsStep};
+ghost use Rattle.mt_frame.specs.Grammar.{IsRecord, IsOfPage};
+ghost use Rattle.mt_frame.specs.History.{may_stand};
+ghost use Rattle.mt_frame.specs.Lengths.{record_length};
+ghost use Rattle.mt_log.specs.Words.{durable, appended, used, area_size};
 ghost use Rattle.mt_log.specs.declared.log.Forced.TheVariants as forced;
 
 use crate::{Fetched, Flushed, Pool};
 use mt_base::{LogPos, PageNo, Refusal};
 use mt_disk::{Device, DeviceFault};
+use mt_frame::Record;
 use mt_log::{Forced, Log};
 
 /// A device with the log of its ruling area and the pool of its pages.
@@ -27,7 +31,7 @@ pub struct Store<D: Device> {
 
 impl<D: Device> Store<D> {
     ghost use Rattle.mt_pool.specs.Kept.{IsKept, Explains};
-    ghost use Rattle.mt_pool.specs.Views.{IsThere, IsFull, IsReady, IsWaiting, view, pages, waits_for};
+    ghost use Rattle.mt_pool.specs.Views.{IsThere, IsFull, view, pages, waits_for};
     ghost use Rattle.mt_pool.specs.declared.fetching.Fetched.TheVariants as fetched;
     ghost use Rattle.mt_pool.specs.declared.flushing.Flushed.TheVariants as flushed;
 
@@ -60,5 +64,64 @@ impl<D: Device> Store<D> {
         ensures forced { result ≡ Ok flushed.Force → length (durable self.old.log) < length (appended self.old.log) }
     {
         self.pool.flush_step(self.settled.get(), &mut self.device)
+    }
+
+    /// Brings the page into a frame, as [`Pool::fetch`] does.
+    pub fn fetch(&mut self, page: PageNo) -> Result<Fetched, DeviceFault>
+        requires kept { (opening : ℕ → List ℕ) × IsKept D.seen D.may_leave opening self.old }
+        requires inside { page < pages self.old.pool }
+        ensures kept { (opening : ℕ → List ℕ) → IsKept D.seen D.may_leave opening self.old → IsKept D.seen D.may_leave opening self.new }
+        ensures moments { (opening : ℕ → List ℕ) → IsKept D.seen D.may_leave opening self.old → LeavesOnly D.moment D.left_since self.old.device self.new.device (Explains opening self.old) }
+        ensures views { (q : ℕ) → view self.new.pool (D.seen self.new.device) q ≡ view self.old.pool (D.seen self.old.device) q }
+        ensures there { result ≡ Ok fetched.There → IsThere self.new.pool page }
+        ensures full { result ≡ Ok fetched.Flush → IsFull self.old.pool }
+        ensures nothing { result ≡ Ok fetched.Flush → self.new ≡ self.old }
+        ensures log { self.new.log ≡ self.old.log }
+        ensures pages { pages self.new.pool ≡ pages self.old.pool }
+        ensures waits { self.new.pool.waits ≡ self.old.pool.waits }
+        ensures cause { HasCause (D.faults self.old.device) (D.faults self.new.device) result }
+    {
+        self.pool.fetch(&mut self.device, page)
+    }
+
+    /// Puts a page's bytes from before a change back without a record, as [`Pool::restore`] does.
+    pub fn restore(&mut self, page: PageNo, start: usize, before: &[u8])
+        requires kept { (opening : ℕ → List ℕ) × IsKept D.seen D.may_leave opening self.old }
+        requires there { IsThere self.old.pool page }
+        requires inside { page < pages self.old.pool }
+        requires range { start + length before.now ≤ 4096 }
+        requires logged { 0 < waits_for self.old.pool page }
+        ensures kept { (opening : ℕ → List ℕ) → IsKept D.seen D.may_leave opening self.old → IsKept D.seen D.may_leave opening self.new }
+        ensures moments { (opening : ℕ → List ℕ) → IsKept D.seen D.may_leave opening self.old → LeavesOnly D.moment D.left_since self.old.device self.new.device (Explains opening self.old) }
+        ensures view { (seen : List ℕ) → view self.new.pool seen page ≡ take start (view self.old.pool seen page) ++ before.now ++ drop (start + length before.now) (view self.old.pool seen page) }
+        ensures others { (seen : List ℕ) (q : ℕ) → q ≢ page → view self.new.pool seen q ≡ view self.old.pool seen q }
+        ensures there { self.new.pool.of_page ≡ self.old.pool.of_page }
+        ensures waits { self.new.pool.waits ≡ self.old.pool.waits }
+        ensures log { self.new.log ≡ self.old.log }
+        ensures device { self.new.device ≡ self.old.device }
+    {
+        self.pool.restore(page, start, before);
+    }
+
+    /// Appends a record that is of no page, as [`Log::append`] does.
+    pub fn append(&mut self, entry: Record) -> Result<LogPos, Refusal>
+        requires kept { (opening : ℕ → List ℕ) × IsKept D.seen D.may_leave opening self.old }
+        requires grammar { IsRecord entry }
+        requires no_page { IsOfPage entry → ⊥ }
+        requires rules { may_stand false (appended self.old.log) entry ≡ true }
+        requires fits { used self.old.log + 5 + record_length entry < area_size self.old.log }
+        ensures kept { (opening : ℕ → List ℕ) → IsKept D.seen D.may_leave opening self.old → IsKept D.seen D.may_leave opening self.new }
+        ensures moments { (opening : ℕ → List ℕ) → IsKept D.seen D.may_leave opening self.old → LeavesOnly D.moment D.left_since self.old.device self.new.device (Explains opening self.old) }
+        ensures appended { OnOk result (appended self.new.log ≡ appended self.old.log ++ entry ∷ []) }
+        ensures place { IfOk result (λ place. place ≡ length (appended self.new.log)) }
+        ensures used { OnOk result (used self.new.log ≡ used self.old.log + 5 + record_length entry) }
+        ensures err_appended { OnErr result (appended self.new.log ≡ appended self.old.log) }
+        ensures err_used { OnErr result (used self.new.log ≡ used self.old.log) }
+        ensures area { area_size self.new.log ≡ area_size self.old.log }
+        ensures pool { self.new.pool ≡ self.old.pool }
+        ensures device { self.new.device ≡ self.old.device }
+        ensures only_memory { IfErr result (λ why. why ≡ Refusal.NoMemory) }
+    {
+        self.log.append(entry)
     }
 }

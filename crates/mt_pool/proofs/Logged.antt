@@ -7,16 +7,19 @@ use Rattle.std.proofs.lemmas.Bool.{cases_eq}
 use Rattle.mt_frame.specs.declared.records.Record.{Record}
 use Rattle.mt_frame.specs.declared.records.Record.TheVariants.{Page, OpEnd, OpDropped, Commit, AbortEnd}
 use Rattle.mt_frame.specs.Grammar.{IsOfPage}
-use Rattle.mt_frame.specs.History.{some_record, is_of_page}
+use Rattle.std.specs.List.{AllByRecursion}
+use Rattle.mt_frame.specs.History.{some_record, is_of_page, may_stand, MayFollow}
 use Rattle.mt_log.specs.Holds.{HasItsPage}
 use Rattle.mt_log.specs.Sound.{IsSound}
 use Rattle.mt_log.specs.Words.{durable, in_flight, waiting, appended, area_start, area_end, stands_at, IsOn}
 use Rattle.mt_log.specs.declared.log.Log.{Log}
 use Rattle.mt_log.proofs.Elsewhere.{on_same}
+use Rattle.mt_log.proofs.Prefix.{may_back, each_back}
 use Rattle.mt_pool.specs.Images.{has_image, page_in, IsSafe}
 use Rattle.mt_pool.specs.Views.{IsPool, Shows, IsTied, pages, view, waits_for}
 use Rattle.mt_pool.specs.declared.pool.Pool.{Pool}
 use Rattle.mt_pool.specs.Kept.{carried_of, carried, IsKept}
+use Rattle.mt_pool.specs.Writes.{records_size, IsLonger}
 use Rattle.mt_pool.specs.declared.store.Store.{Store}
 use Rattle.mt_pool.proofs.Safe.{bool_cases, has_later, has_all, in_more, in_later}
 use Rattle.mt_pool.proofs.Tied.{has_front, or_some}
@@ -99,28 +102,41 @@ no_records is (x ∷ xs) ys first second = let both = no_or2 (is x) (some_record
   no_or2 true x h = absurd (cc)
   no_or2 false x h = (refl, h)
 
--- a log with records more
-pub record Longer (old new : Log) (rs : List Record) : Type 0 where
-  pub stands : stands_at new ≡ stands_at old
-  pub durable_same : durable new ≡ durable old
-  pub flying_same : in_flight new ≡ in_flight old
-  pub waiting_more : waiting new ≡ waiting old ++ rs
-
-pub longer_appended : (old new : Log) (rs : List Record) → Longer old new rs → appended new ≡ appended old ++ rs
+pub longer_appended : (old new : Log) (rs : List Record) → IsLonger old new rs → appended new ≡ appended old ++ rs
 longer_appended old new rs l =
     ap (λ (x : List Record). x ++ (in_flight new ++ waiting new)) l.durable_same ∙ ap (λ (x : List Record). durable old ++ (x ++ waiting new)) l.flying_same ∙ ap (λ (x : List Record). durable old ++ (in_flight old ++ x)) l.waiting_more
     ∙ ap (λ (x : List Record). durable old ++ x) (sym (append_assoc (in_flight old) (waiting old) rs)) ∙ sym (append_assoc (durable old) (in_flight old ++ waiting old) rs)
+
+-- more records behind those
+pub longer_more : (old mid new : Log) (xs ys : List Record) → IsLonger old mid xs → IsLonger mid new ys → IsLonger old new (xs ++ ys)
+longer_more old mid new xs ys first second = record {
+  stands = second.stands ∙ first.stands;
+  durable_same = second.durable_same ∙ first.durable_same;
+  flying_same = second.flying_same ∙ first.flying_same;
+  waiting_more = second.waiting_more ∙ ap (λ (l : List Record). l ++ ys) first.waiting_more ∙ append_assoc (waiting old) xs ys;
+}
+
+pub size_append : (xs ys : List Record) → records_size (xs ++ ys) ≡ records_size xs + records_size ys
+size_append [] ys = omega arith
+size_append (x ∷ xs) ys = omega (arith, size_append xs ys)
+
+-- what may come behind some records, and the next of them
+pub next_may : (earlier front rest : List Record) (r : Record) → MayFollow false earlier (front ++ r ∷ rest) → may_stand false (earlier ++ front) r ≡ true
+next_may earlier front rest r may = (may_back false earlier front (r ∷ rest) may).0
+
+pub next_page : (pages : ℕ) (front rest : List Record) (r : Record) → AllByRecursion (HasItsPage pages) (front ++ r ∷ rest) → HasItsPage pages r
+next_page pages front rest r all = (each_back (HasItsPage pages) front (r ∷ rest) all).0
 
 pub same_start : (old new : Log) → stands_at new ≡ stands_at old → area_start new ≡ area_start old
 unfolding stands_at area_start
 same_start old new same = ap (λ s. s.0) same
 
-pub carried_more : (old new : Log) (rs : List Record) → Longer old new rs → carried (appended new) ≡ carried (appended old) ++ carried rs
+pub carried_more : (old new : Log) (rs : List Record) → IsLonger old new rs → carried (appended new) ≡ carried (appended old) ++ carried rs
 carried_more old new rs l = ap carried (longer_appended old new rs l) ∙ map-append carried_of (appended old) rs
 
 module _ {D : Type 0} (seen : D → List ℕ) (may : D → List ℕ → Type 0) (opening : ℕ → List ℕ) (s : Store D) (k : IsKept seen may opening s) where
   -- a change of a page behind its records
-  pub kept_write : (log : Log) (p : Pool) (rs : List Record) (page : ℕ) → Longer s.log log rs → (IsSound (pages s.pool) s.log → IsSound (pages s.pool) log)
+  pub kept_write : (log : Log) (p : Pool) (rs : List Record) (page : ℕ) → IsLonger s.log log rs → (IsSound (pages s.pool) s.log → IsSound (pages s.pool) log)
       → page < pages s.pool → 0 < length rs → AreImagesFirst s.pool (seen s.device) page (carried rs) → ((q : ℕ) → q ≢ page → some_record (is_of_page q) rs ≡ false)
       → IsPool p → Shows p (seen s.device) → p.waits.items ≡ set s.pool.waits.items page (length (appended log)) → p.place ≡ s.pool.place → pages p ≡ pages s.pool → ((q : ℕ) → q ≢ page → view p (seen s.device) q ≡ view s.pool (seen s.device) q)
       → IsKept seen may opening (record s { log = log; pool = p })
@@ -158,7 +174,7 @@ module _ {D : Type 0} (seen : D → List ℕ) (may : D → List ℕ → Type 0) 
     }
 
   -- records of no page
-  pub kept_append : (log : Log) (rs : List Record) → Longer s.log log rs → (IsSound (pages s.pool) s.log → IsSound (pages s.pool) log)
+  pub kept_append : (log : Log) (rs : List Record) → IsLonger s.log log rs → (IsSound (pages s.pool) s.log → IsSound (pages s.pool) log)
       → ((q : ℕ) → has_image (carried rs) q ≡ false) → ((q : ℕ) → some_record (is_of_page q) rs ≡ false) → IsKept seen may opening (record s { log = log })
   kept_append log rs longer sound none named =
     let all = longer_appended s.log log rs longer in

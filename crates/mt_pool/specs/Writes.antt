@@ -1,0 +1,49 @@
+-- The records of a change of one page.
+use Rattle.std.specs.Prelude.{◌≡◌, ℕ, ◌+◌, ◌*◌, ◌<◌, ◌≤◌, List, [], ◌∷◌, ◌++◌, length, All, Option, Some, None, false, ◌==◌, if◌then◌else◌}
+use Rattle.mt_base.specs.Edits.{patched, log_size, IsShortest}
+use Rattle.mt_base.specs.Ranges.{part}
+use Rattle.mt_base.specs.declared.edits.Edit.{Edit}
+use Rattle.mt_frame.specs.declared.records.Record.{Record}
+use Rattle.mt_frame.specs.declared.records.Record.TheVariants.{Page}
+use Rattle.mt_frame.specs.History.{some_record, ends_txn, ends_op}
+use Rattle.mt_frame.specs.Lengths.{record_length}
+use Rattle.mt_log.specs.Words.{durable, in_flight, waiting, stands_at}
+use Rattle.mt_log.specs.declared.log.Log.{Log}
+use Rattle.mt_pool.specs.Views.{view, waits_for}
+use Rattle.mt_pool.specs.declared.pool.Pool.{Pool}
+
+-- the record of an edit's range, of a page that is `old` before the whole change and `new` behind it
+abbrev pub range_record : ℕ → ℕ → ℕ → Option (List ℕ) → List ℕ → List ℕ → Edit → Record
+range_record txn op page image old new e = Page txn op page image e.start (part old e.start (length e.bytes)) (part new e.start (length e.bytes))
+
+-- one record for each edit, the first one with the image
+abbrev pub change_records : ℕ → ℕ → ℕ → Option (List ℕ) → List ℕ → List ℕ → List Edit → List Record
+change_records txn op page image old new [] = []
+change_records txn op page image old new (e ∷ es) = range_record txn op page image old new e ∷ change_records txn op page None old new es
+
+-- the image that the first record of a page carries
+abbrev pub due_image : Pool → ℕ → List ℕ → Option (List ℕ)
+due_image pool page bytes = if waits_for pool page == 0 then Some bytes else None
+
+-- what the records take of an area, each with a head of its own
+abbrev pub records_size : List Record → ℕ
+records_size [] = 0
+records_size (r ∷ rs) = 5 + record_length r + records_size rs
+
+-- some edits of the page, each a shortest range, and all together no longer than one of the whole page
+pub record IsShortChange (old : List ℕ) (edits : List Edit) : Type 0 where
+  pub some : 0 < length edits
+  pub each : All (IsShortest old (patched edits old)) edits
+  pub size : log_size edits ≤ 29 + 2 * 4096
+
+-- neither the transaction nor its operation has ended
+pub record IsUnfinished (txn op : ℕ) (records : List Record) : Type 0 where
+  pub transaction : some_record (ends_txn txn) records ≡ false
+  pub operation : some_record (ends_op txn op) records ≡ false
+
+-- the log has these records more, which wait
+pub record IsLonger (log new : Log) (records : List Record) : Type 0 where
+  pub stands : stands_at new ≡ stands_at log
+  pub durable_same : durable new ≡ durable log
+  pub flying_same : in_flight new ≡ in_flight log
+  pub waiting_more : waiting new ≡ waiting log ++ records

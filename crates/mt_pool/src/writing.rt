@@ -1,0 +1,109 @@
+// A change of a page as records of the log.
+ghost use Rattle.std.specs.Prelude.{◌≡◌, ◌≤◌, ◌<◌, ◌+◌, ℕ, length, [], false, All, IfOk, IfErr, OnOk, OnErr};
+ghost use Rattle.std.specs.List.{AllByRecursion};
+ghost use Rattle.mt_base.specs.Edits.{patched};
+ghost use Rattle.mt_base.specs.declared.refusal.Refusal.{Refusal};
+ghost use Rattle.mt_frame.specs.Grammar.{IsRecord};
+ghost use Rattle.mt_frame.specs.History.{MayFollow};
+ghost use Rattle.mt_log.specs.Holds.{HasItsPage};
+ghost use Rattle.mt_log.specs.Sound.{IsSound};
+ghost use Rattle.mt_log.specs.Words.{waiting, appended, used, area_size};
+ghost use Rattle.mt_pool.specs.Writes.{range_record, change_records, records_size, IsLonger};
+
+use mt_base::limits::LARGEST_PAGE_RECORD;
+use mt_base::ranges::part_of;
+use mt_base::{Bytes, Edit, LogPos, OpNo, PageNo, Refusal, TxnNo};
+use mt_frame::Record;
+use mt_log::Log;
+use std::alloc::{AllocError, Global};
+use std::collections::VecDeque;
+
+/// Whose change it is, and of which page.
+#[derive(Clone, Copy, Debug)]
+pub(crate) struct Change {
+    pub(crate) txn: TxnNo,
+    pub(crate) op: OpNo,
+    pub(crate) page: PageNo,
+}
+
+/// Makes the edits in the page's bytes, in order.
+pub(crate) fn patch(page: &mut [u8; 4096], edits: &[Edit])
+    requires { All (λ e. e.start + length e.bytes ≤ 4096) edits.now }
+    ensures { page.new ≡ patched edits.now page.old }
+{
+    for edit in edits {
+        let start = usize::from(edit.start);
+        page[start..start + edit.bytes.len()].copy_from_slice(edit.bytes.as_slice());
+    }
+}
+
+/// The record of an edit's range.
+fn range_record(
+    alloc: Global,
+    change: &Change,
+    image: Option<Bytes>,
+    old: &[u8; 4096],
+    new: &[u8; 4096],
+    edit: &Edit,
+) -> Result<Record, AllocError>
+    requires { edit.now.start + length edit.now.bytes ≤ 4096 }
+    ensures { IfOk result (λ entry. entry ≡ range_record change.now.txn change.now.op change.now.page image old.now new.now edit.now) }
+{
+    let start = usize::from(edit.start);
+    let bytes = edit.bytes.len();
+    Ok(Record::Page {
+        txn: change.txn,
+        op: change.op,
+        page: change.page,
+        image,
+        start: edit.start,
+        old: Bytes::copy_of(alloc, part_of(old, start, bytes))?,
+        new: Bytes::copy_of(alloc, part_of(new, start, bytes))?,
+    })
+}
+
+/// A record for each edit, the first one with the image.
+pub(crate) fn records_of(
+    alloc: Global,
+    change: &Change,
+    image: Option<Bytes>,
+    old: &[u8; 4096],
+    new: &[u8; 4096],
+    edits: &[Edit],
+) -> Result<VecDeque<Record>, AllocError>
+    requires { All (λ e. e.start + length e.bytes ≤ 4096) edits.now }
+    ensures { IfOk result (λ records. records.items ≡ change_records change.now.txn change.now.op change.now.page image old.now new.now edits.now) }
+{
+    let mut image = image;
+    let mut records = VecDeque::new(alloc);
+    for edit in edits {
+        let entry = range_record(alloc, change, image.take(), old, new, edit)?;
+        records.push_back(entry)?;
+    }
+    Ok(records)
+}
+
+/// Appends the records in order, all of them or none, and answers the place of the last one. The only
+/// refusal is [`Refusal::NoMemory`].
+pub(crate) fn append_all(log: &mut Log, records: VecDeque<Record>) -> Result<LogPos, Refusal>
+    requires some { 0 < length records.items }
+    requires grammar { AllByRecursion IsRecord records.items }
+    requires fits { used log.old + records_size records.items < area_size log.old }
+    requires short { records_size records.items ≤ 12317 }
+    ensures longer { OnOk result (IsLonger log.old log.new records.items) }
+    ensures used { OnOk result (used log.new ≡ used log.old + records_size records.items) }
+    ensures place { IfOk result (λ place. place ≡ length (appended log.new)) }
+    ensures sound { (pages : ℕ) → IsSound pages log.old → AllByRecursion (HasItsPage pages) records.items → MayFollow false (appended log.old) records.items → IsSound pages log.new }
+    ensures err_longer { OnErr result (IsLonger log.old log.new []) }
+    ensures err_used { OnErr result (used log.new ≡ used log.old) }
+    ensures area { area_size log.new ≡ area_size log.old }
+    ensures only_memory { IfErr result (λ why. why ≡ Refusal.NoMemory) }
+{
+    let mut records = records;
+    let mut place = LogPos::new(0);
+    log.reserve(LARGEST_PAGE_RECORD as usize)?;
+    while let Some(entry) = records.pop_front() {
+        place = log.append(entry)?;
+    }
+    Ok(place)
+}

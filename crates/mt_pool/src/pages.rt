@@ -1,7 +1,8 @@
 // What pages are read from: the pool, or copies of its pages.
-ghost use Rattle.std.specs.Prelude.{◌≡◌, ◌<◌, ℕ, List, Option, IfSome, IfNone, Some, None};
+ghost use Rattle.std.specs.Prelude.{◌≡◌, ℕ, List, length, Option, IfSome, IfNone, Some, None};
 
 use crate::Pool;
+use crate::slots::index_of;
 use mt_base::PageNo;
 
 /// Pages by their numbers, each of which may be at hand or not.
@@ -9,37 +10,56 @@ pub trait Pages {
     /// What holds of it wherever it is read.
     ghost is_sound: { Self → Type 0 };
 
-    /// How many pages it may have at hand: their numbers are below this.
-    ghost count: { Self → ℕ };
+    /// How many pages there are: their numbers are below this.
+    ghost total: { Self → ℕ };
 
     /// The bytes of the page, where it is at hand.
     ghost at_hand: { Self → ℕ → Option (List ℕ) };
 
-    /// The bytes of the page, lent, or `None` where it is not at hand.
+    /// A page that is at hand is whole.
+    ghost whole: { (pages : Self) → is_sound pages → (p : ℕ) (bytes : List ℕ) → at_hand pages p ≡ Some bytes → length bytes ≡ 4096 };
+
+    /// How many pages there are.
+    fn count(&self) -> u16
+        requires sound { is_sound self.now }
+        ensures { result ≡ total self.now };
+
+    /// The bytes of the page, lent, or `None` where it is not at hand, as a page past the last one never
+    /// is.
     fn page(&self, page: PageNo) -> Option<&[u8; 4096]>
         requires sound { is_sound self.now }
-        requires inside { page < count self.now }
         ensures some { IfSome result (λ bytes. at_hand self.now page ≡ Some bytes.now) }
         ensures none { IfNone result (at_hand self.now page ≡ None) };
 }
 
 /// The pages of a pool that are in frames.
 impl Pages for Pool {
-    ghost use Rattle.mt_pool.specs.Views.{IsPool, pages, in_frame, view};
+    ghost use Rattle.mt_pool.specs.Views.{IsPool, pages, in_frame, frame_whole, view};
 
     ghost is_sound = { λ pool. IsPool pool };
 
-    ghost count = { λ pool. pages pool };
+    ghost total = { λ pool. pages pool };
 
     ghost at_hand = { λ pool p. in_frame pool p };
 
+    ghost whole = { frame_whole };
+
+    fn count(&self) -> u16
+        requires sound { IsPool self.now }
+        ensures { result ≡ pages self.now }
+    {
+        self.of_page.len() as u16
+    }
+
     fn page(&self, page: PageNo) -> Option<&[u8; 4096]>
         requires sound { IsPool self.now }
-        requires inside { page < pages self.now }
         ensures some { IfSome result (λ bytes. in_frame self.now page ≡ Some bytes.now) }
         ensures none { IfNone result (in_frame self.now page ≡ None) }
         ensures view { IfSome result (λ bytes. (seen : List ℕ) → bytes.now ≡ view self.now seen page) }
     {
+        if index_of(page) >= self.of_page.len() {
+            return None;
+        }
         match self.frame_of(page) {
             Some(frame) => Some(&self.bytes[frame]),
             None => None,

@@ -49,6 +49,7 @@ pub(crate) fn read_page<D: Device>(
 ) -> Result<(), DeviceFault>
     requires fits { place + 4096 * page < 2 ^ 64 }
     requires inside { place + 4096 * page + 4096 ≤ length (D.seen device.old) }
+    ensures size { length bytes.new ≡ 4096 }
     ensures read { OnOk result (bytes.new ≡ slot place (D.seen device.old) page) }
     ensures seen { D.seen device.new ≡ D.seen device.old }
     ensures crash { (c : List ℕ) → D.may_leave device.new c → D.may_leave device.old c }

@@ -6,8 +6,10 @@
 //! smallest number is found by groups of pages, without a walk over all of them.
 #![tactic(auto)]
 
+mod map;
 mod space;
 
+pub use map::first_free;
 pub use space::Space;
 
 #[cfg(test)]

@@ -1,4 +1,4 @@
-use Rattle.std.proofs.Common.{◌≡◌, ◌<◌, ℕ, length, get_or, false, arith}
+use Rattle.std.proofs.Common.{arith}
 use Rattle.mt_space.proofs.Counting.{none_free}
 use Rattle.mt_space.proofs.space.first_free.Goals as goal
 

@@ -1,4 +1,4 @@
-use Rattle.std.proofs.Common.{◌≡◌, ◌≤◌, ◌<◌, ◌*◌, ℕ, get_or, false}
+use Rattle.std.proofs.Common.{◌≡◌, ◌<◌, ◌*◌, ℕ, get_or, false}
 use Rattle.mt_space.proofs.space.first_free.Given as goal
 
 abbrev pub invariant-loop-group : goal.invariant-loop-group

@@ -1,0 +1,22 @@
+// The space map by its bytes.
+ghost use Rattle.std.specs.Prelude.{◌≡◌, ℕ, length, get_or, false, IfSome, IfNone};
+ghost use Rattle.mt_space.specs.Rooms.{mapped, IsFirstFree};
+
+use mt_base::PageNo;
+
+// Bytes of the map, one for each page.
+const MAP_BYTES: u16 = 4096;
+
+/// The free page with the smallest number, of so many pages of a map; `None` where none is free.
+pub fn first_free(map: &[u8], pages: u16) -> Option<PageNo>
+    requires map { length map.now ≡ 4096 }
+    ensures first { IfSome result (λ p. IsFirstFree (mapped map.now pages) p) }
+    ensures none { IfNone result ((p : ℕ) → get_or (mapped map.now pages) p false ≡ false) }
+{
+    for page in 0..pages.min(MAP_BYTES) {
+        if map[usize::from(page)] == 0 {
+            return Some(PageNo::new(page));
+        }
+    }
+    None
+}

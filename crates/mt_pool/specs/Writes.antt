@@ -1,6 +1,5 @@
 -- The records of a change of one page.
-use Rattle.std.specs.Prelude.{◌≡◌, ℕ, ◌+◌, ◌*◌, ◌<◌, ◌≤◌, List, [], ◌∷◌, ◌++◌, length, All, Option, Some, None, false, ◌==◌, if◌then◌else◌}
-use Rattle.mt_base.specs.Edits.{patched, log_size, IsShortest}
+use Rattle.std.specs.Prelude.{◌≡◌, ℕ, ◌+◌, List, [], ◌∷◌, ◌++◌, length, Option, Some, None, false, ◌==◌, if◌then◌else◌}
 use Rattle.mt_base.specs.Ranges.{part}
 use Rattle.mt_base.specs.declared.edits.Edit.{Edit}
 use Rattle.mt_frame.specs.declared.records.Record.{Record}
@@ -9,7 +8,7 @@ use Rattle.mt_frame.specs.History.{some_record, ends_txn, ends_op}
 use Rattle.mt_frame.specs.Lengths.{record_length}
 use Rattle.mt_log.specs.Words.{durable, in_flight, waiting, stands_at}
 use Rattle.mt_log.specs.declared.log.Log.{Log}
-use Rattle.mt_pool.specs.Views.{view, waits_for}
+use Rattle.mt_pool.specs.Views.{waits_for}
 use Rattle.mt_pool.specs.declared.pool.Pool.{Pool}
 
 -- the record of an edit's range, of a page that is `old` before the whole change and `new` behind it
@@ -29,12 +28,6 @@ due_image pool page bytes = if waits_for pool page == 0 then Some bytes else Non
 abbrev pub records_size : List Record → ℕ
 records_size [] = 0
 records_size (r ∷ rs) = 5 + record_length r + records_size rs
-
--- some edits of the page, each a shortest range, and all together no longer than one of the whole page
-pub record IsShortChange (old : List ℕ) (edits : List Edit) : Type 0 where
-  pub some : 0 < length edits
-  pub each : All (IsShortest old (patched edits old)) edits
-  pub size : log_size edits ≤ 29 + 2 * 4096
 
 -- neither the transaction nor its operation has ended
 pub record IsUnfinished (txn op : ℕ) (records : List Record) : Type 0 where

@@ -1,18 +1,21 @@
 // A device, the log of its area and the pool of its pages, each of which keeps to the others' rules.
-ghost use Rattle.std.specs.Prelude.{◌≡◌, ◌≢◌, ◌<◌, ◌≤◌, ◌+◌, ◌++◌, ◌∷◌, [], ℕ, List, length, take, drop, false, true, OnOk, OnErr, IfOk, IfErr, Ok};
+ghost use Rattle.std.specs.Prelude.{◌≡◌, ◌≢◌, ◌<◌, ◌≤◌, ◌+◌, ◌++◌, ◌∷◌, [], ℕ, List, length, take, drop, set, false, true, OnOk, OnErr, IfOk, IfErr, Ok};
+ghost use Rattle.mt_base.specs.Edits.{patched, log_size};
 ghost use Rattle.mt_base.specs.declared.refusal.Refusal.{Refusal};
 ghost use Rattle.mt_disk.specs.Disk.{LeavesOnly, HasCause};
-ghost use Rattle.mt_frame.specs.Grammar.{IsRecord, IsOfPage};
+ghost use Rattle.mt_frame.specs.Grammar.{IsRecord, IsOfPage, IsTxn, IsOp};
 ghost use Rattle.mt_frame.specs.History.{may_stand};
 ghost use Rattle.mt_frame.specs.Lengths.{record_length};
 ghost use Rattle.mt_log.specs.Words.{durable, appended, used, area_size};
 ghost use Rattle.mt_log.specs.declared.log.Forced.TheVariants as forced;
 
-use crate::{Fetched, Flushed, Pool};
-use mt_base::{LogPos, PageNo, Refusal};
+use crate::writing::append_all;
+use crate::{Fetched, Flushed, PageChange, Pool};
+use mt_base::{LogPos, OpNo, PageNo, Refusal, TxnNo};
 use mt_disk::{Device, DeviceFault};
 use mt_frame::Record;
 use mt_log::{Forced, Log};
+use std::alloc::Global;
 
 /// A device with the log of its ruling area and the pool of its pages.
 ///
@@ -30,7 +33,9 @@ pub struct Store<D: Device> {
 }
 
 impl<D: Device> Store<D> {
+    ghost use Rattle.mt_pool.specs.Changes.{IsShort};
     ghost use Rattle.mt_pool.specs.Kept.{IsKept, Explains};
+    ghost use Rattle.mt_pool.specs.Writes.{change_records, due_image, IsUnfinished};
     ghost use Rattle.mt_pool.specs.Views.{IsThere, IsFull, view, pages, waits_for};
     ghost use Rattle.mt_pool.specs.declared.fetching.Fetched.TheVariants as fetched;
     ghost use Rattle.mt_pool.specs.declared.flushing.Flushed.TheVariants as flushed;
@@ -123,5 +128,46 @@ impl<D: Device> Store<D> {
         ensures only_memory { IfErr result (λ why. why ≡ Refusal.NoMemory) }
     {
         self.log.append(entry)
+    }
+
+    /// Writes a change of a page that is in a frame: first a log record for each of its ranges, with the
+    /// page's old bytes and its new ones, and in the first of them the page's image where the area has none
+    /// yet; then the bytes in the frame. The page waits for the last of these records.
+    ///
+    /// The only refusal is [`Refusal::NoMemory`], and nothing is appended or written then.
+    pub fn write(
+        &mut self,
+        alloc: Global,
+        txn: TxnNo,
+        op: OpNo,
+        change: &PageChange,
+    ) -> Result<(), Refusal>
+        requires kept { (opening : ℕ → List ℕ) × IsKept D.seen D.may_leave opening self.old }
+        requires there { IsThere self.old.pool change.now.page }
+        requires inside { change.now.page < pages self.old.pool }
+        requires short { IsShort (view self.old.pool (D.seen self.old.device) change.now.page) change.now }
+        requires numbers { IsTxn txn × IsOp op }
+        requires unfinished { IsUnfinished txn op (appended self.old.log) }
+        requires fits { used self.old.log + log_size change.now.edits.items + 4096 < area_size self.old.log }
+        ensures kept { (opening : ℕ → List ℕ) → IsKept D.seen D.may_leave opening self.old → IsKept D.seen D.may_leave opening self.new }
+        ensures moments { (opening : ℕ → List ℕ) → IsKept D.seen D.may_leave opening self.old → LeavesOnly D.moment D.left_since self.old.device self.new.device (Explains opening self.old) }
+        ensures view { OnOk result ((seen : List ℕ) → view self.new.pool seen change.now.page ≡ patched change.now.edits.items (view self.old.pool seen change.now.page)) }
+        ensures others { (seen : List ℕ) (q : ℕ) → q ≢ change.now.page → view self.new.pool seen q ≡ view self.old.pool seen q }
+        ensures appended { OnOk result (let page = view self.old.pool (D.seen self.old.device) change.now.page in appended self.new.log ≡ appended self.old.log
+            ++ change_records txn op change.now.page (due_image self.old.pool change.now.page page) page (patched change.now.edits.items page) change.now.edits.items) }
+        ensures waits { OnOk result (self.new.pool.waits.items ≡ set self.old.pool.waits.items change.now.page (length (appended self.new.log))) }
+        ensures used { OnOk result (used self.new.log ≤ used self.old.log + log_size change.now.edits.items + 4096) }
+        ensures err_appended { OnErr result (appended self.new.log ≡ appended self.old.log) }
+        ensures err_used { OnErr result (used self.new.log ≡ used self.old.log) }
+        ensures err_pool { OnErr result (self.new.pool ≡ self.old.pool) }
+        ensures there { self.new.pool.of_page ≡ self.old.pool.of_page }
+        ensures area { area_size self.new.log ≡ area_size self.old.log }
+        ensures device { self.new.device ≡ self.old.device }
+        ensures only_memory { IfErr result (λ why. why ≡ Refusal.NoMemory) }
+    {
+        let prepared = self.pool.prepare(alloc, txn, op, change)?;
+        let place = append_all(&mut self.log, prepared.records)?;
+        self.pool.change(change.page, 0, &prepared.bytes, place);
+        Ok(())
     }
 }

@@ -1,5 +1,5 @@
 // A change of a page as records of the log.
-ghost use Rattle.std.specs.Prelude.{◌≡◌, ◌≤◌, ◌<◌, ◌+◌, ℕ, length, [], false, All, IfOk, IfErr, OnOk, OnErr};
+ghost use Rattle.std.specs.Prelude.{◌≡◌, ◌≤◌, ◌<◌, ◌+◌, ℕ, List, length, [], false, All, IfOk, IfErr, OnOk, OnErr};
 ghost use Rattle.std.specs.List.{AllByRecursion};
 ghost use Rattle.mt_base.specs.Edits.{patched};
 ghost use Rattle.mt_base.specs.declared.refusal.Refusal.{Refusal};
@@ -10,6 +10,7 @@ ghost use Rattle.mt_log.specs.Sound.{IsSound};
 ghost use Rattle.mt_log.specs.Words.{waiting, appended, used, area_size};
 ghost use Rattle.mt_pool.specs.Writes.{range_record, change_records, records_size, IsLonger};
 
+use crate::{PageChange, Pool};
 use mt_base::limits::LARGEST_PAGE_RECORD;
 use mt_base::ranges::part_of;
 use mt_base::{Bytes, Edit, LogPos, OpNo, PageNo, Refusal, TxnNo};
@@ -29,7 +30,8 @@ pub(crate) struct Change {
 /// Makes the edits in the page's bytes, in order.
 pub(crate) fn patch(page: &mut [u8; 4096], edits: &[Edit])
     requires { All (λ e. e.start + length e.bytes ≤ 4096) edits.now }
-    ensures { page.new ≡ patched edits.now page.old }
+    ensures made { page.new ≡ patched edits.now page.old }
+    ensures size { length page.new ≡ 4096 }
 {
     for edit in edits {
         let start = usize::from(edit.start);
@@ -81,6 +83,58 @@ pub(crate) fn records_of(
         records.push_back(entry)?;
     }
     Ok(records)
+}
+
+/// A change of a page that is about to be logged: its records, and the page's bytes behind it.
+#[derive(Drop)]
+pub(crate) struct Prepared {
+    pub(crate) records: VecDeque<Record>,
+    pub(crate) bytes: [u8; 4096],
+}
+
+impl Pool {
+    ghost use Rattle.mt_pool.specs.Views.{IsPool, IsThere, view, pages};
+    ghost use Rattle.mt_pool.specs.Writes.{due_image};
+
+    /// A copy of the page, in a frame, where the area has no image of it yet.
+    pub(crate) fn due_image(&self, alloc: Global, page: PageNo) -> Result<Option<Bytes>, AllocError>
+        requires pool { IsPool self.now }
+        requires there { IsThere self.now page }
+        requires inside { page < pages self.now }
+        ensures { (seen : List ℕ) → IfOk result (λ image. image ≡ due_image self.now page (view self.now seen page)) }
+    {
+        if self.needs_image(page) {
+            return Ok(Some(Bytes::copy_of(alloc, self.view(page))?));
+        }
+        Ok(None)
+    }
+
+    /// What is to be logged of a change of a page in a frame, and what the page will be.
+    pub(crate) fn prepare(
+        &self,
+        alloc: Global,
+        txn: TxnNo,
+        op: OpNo,
+        change: &PageChange,
+    ) -> Result<Prepared, AllocError>
+        requires pool { IsPool self.now }
+        requires there { IsThere self.now change.now.page }
+        requires inside { change.now.page < pages self.now }
+        requires within { All (λ e. e.start + length e.bytes ≤ 4096) change.now.edits.items }
+        ensures records { (seen : List ℕ) → IfOk result (λ p. let page = view self.now seen change.now.page in
+            p.records.items ≡ change_records txn op change.now.page (due_image self.now change.now.page page) page (patched change.now.edits.items page) change.now.edits.items) }
+        ensures bytes { (seen : List ℕ) → IfOk result (λ p. p.bytes ≡ patched change.now.edits.items (view self.now seen change.now.page)) }
+        ensures size { IfOk result (λ p. length p.bytes ≡ 4096) }
+    {
+        let page = change.page;
+        let old = *self.view(page);
+        let mut bytes = old;
+        patch(&mut bytes, &change.edits);
+        let image = self.due_image(alloc, page)?;
+        let of = Change { txn, op, page };
+        let records = records_of(alloc, &of, image, &old, &bytes, &change.edits)?;
+        Ok(Prepared { records, bytes })
+    }
 }
 
 /// Appends the records in order, all of them or none, and answers the place of the last one. The only

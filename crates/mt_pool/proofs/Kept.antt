@@ -2,7 +2,7 @@
 use Rattle.std.proofs.Common.{◌≡◌, ◌≢◌, ◌⊎◌, inl, inr, ⊎_elim, ℕ, ◌+◌, ◌-◌, ◌*◌, ◌<◌, ◌≤◌, List, [], ◌∷◌, ◌++◌, length, get_or, take, map, refl, sym, ◌∙◌, ap, subst, arith, length-append, append_assoc, append-nil, false, true, Option, None, Some}
 use Rattle.std.proofs.Math.Seq.{take-append_seam}
 use Rattle.std.proofs.lemmas.List.{map-append, length-map}
-use Rattle.mt_disk.specs.Disk.{Torn, Follows, Elapses, LeavesOnly}
+use Rattle.mt_disk.specs.Disk.{Torn, Follows, Only, Elapses, LeavesOnly}
 use Rattle.mt_disk.proofs.Frame.{Apart, torn_refl, follows_less, one_call, started}
 use Rattle.mt_frame.specs.declared.records.Record.{Record}
 use Rattle.mt_frame.specs.History.{some_record, is_of_page}
@@ -16,12 +16,12 @@ use Rattle.mt_log.specs.declared.log.Log.{Log}
 use Rattle.mt_log.proofs.AtRest.{scans_coming}
 use Rattle.mt_log.proofs.Prefix.{beginning_found}
 use Rattle.mt_log.proofs.Elsewhere.{on_elsewhere, on_same}
-use Rattle.mt_pool.specs.Images.{IsSafe, GivesPages}
+use Rattle.mt_pool.specs.Images.{slot, IsSafe, GivesPages}
 use Rattle.mt_pool.specs.Views.{IsPool, Shows, IsTied, pages, view, waits_for}
 use Rattle.mt_pool.specs.declared.pool.Pool.{Pool}
 use Rattle.mt_pool.specs.Kept.{carried_of, carried, Explains, IsKept}
 use Rattle.mt_pool.specs.declared.store.Store.{Store}
-use Rattle.mt_pool.proofs.Safe.{gives_pages, safe_elsewhere, safe_less}
+use Rattle.mt_pool.proofs.Safe.{cut_torn, gives_pages, safe_elsewhere, safe_less}
 use Rattle.mt_pool.proofs.Tied.{tied_same, safe_page, views_apart, shows_apart}
 
 -- the images of a beginning of the records
@@ -177,3 +177,37 @@ module _ {D : Type 0} (seen : D → List ℕ) (may : D → List ℕ → Type 0) 
   -- no device call
   pub no_call : (moment : D → ℕ) (left_since : D → ℕ → List ℕ → Type 0) → ((d : D) (c : List ℕ) → left_since d (moment d) c → may d c) → LeavesOnly moment left_since s.device s.device (Explains opening s)
   no_call moment left_since only_now = started moment left_since s.device (Explains opening s) (λ c left. explains seen may opening s k c (only_now s.device c left))
+
+-- no record is appended yet, and a crash leaves the slots as they are
+pub kept_begin : {D : Type 0} (seen : D → List ℕ) (may : D → List ℕ → Type 0) (opening : ℕ → List ℕ) (s : Store D) → IsOn seen may s.log s.device → IsSound (pages s.pool) s.log → s.pool.place + 4096 * pages s.pool ≤ area_start s.log → pages s.pool ≤ 4000
+    → IsPool s.pool → Shows s.pool (seen s.device) → s.settled ≡ 0 → durable s.log ≡ [] → in_flight s.log ≡ [] → waiting s.log ≡ [] → ((p : ℕ) → waits_for s.pool p ≡ 0)
+    → ((p : ℕ) → p < pages s.pool → view s.pool (seen s.device) p ≡ opening p) → ((p : ℕ) → p < pages s.pool → (c : List ℕ) → may s.device c → slot s.pool.place c p ≡ opening p) → IsKept seen may opening s
+kept_begin seen may opening s on sound apart few frames shows settled durable_none flying_none waiting_none waits views slots =
+    let none : appended s.log ≡ [] =
+      ap (λ (l : List Record). l ++ (in_flight s.log ++ waiting s.log)) durable_none ∙ ap (λ (l : List Record). l ++ waiting s.log) flying_none ∙ waiting_none in
+    record {
+      on = on;
+      sound = sound;
+      apart = apart;
+      few = few;
+      frames = frames;
+      shows = shows;
+      settled = settled ∙ sym (ap length durable_none);
+      safe = subst (λ (l : List Record). IsSafe s.pool.place (pages s.pool) opening (carried l) (length (durable s.log)) (may s.device)) (sym none) (record {
+        within = omega (arith, ap length durable_none);
+        images = λ p lt has d. absurd (cc);
+        slots = λ p lt not c left. slots p lt c left;
+      });
+      tied = subst (λ (l : List Record). IsTied s.pool (seen s.device) opening (carried l)) (sym none) (record {
+        imaged = λ p lt waiting. absurd (let w = waits p in omega arith);
+        within = λ p lt. let w = waits p in omega arith;
+        untouched = λ p lt is. (refl, views p lt);
+      });
+      unnamed = λ p lt is. ap (λ (l : List Record). some_record (is_of_page p) l) none;
+    }
+
+-- what a crash leaves of a slot that is synced, where writes went elsewhere
+pub slot_stays : (at n place pages p : ℕ) (synced : List ℕ) (may may2 : List ℕ → Type 0) → Only synced may → Follows (Torn at n) may may2 → place + 4096 * pages ≤ at → p < pages → (c : List ℕ) → may2 c → slot place c p ≡ slot place synced p
+slot_stays at n place pages p synced may may2 only follows before lt c left =
+    let from : (d : List ℕ) × may d × Torn at n d c = follows c left in
+    cut_torn at n (place + 4096 * p) 4096 from.0 c from.2 (inl (omega arith)) ∙ ap (λ (l : List ℕ). slot place l p) (only from.0 from.1)

@@ -1,5 +1,5 @@
 // A device, the log of its area and the pool of its pages, each of which keeps to the others' rules.
-ghost use Rattle.std.specs.Prelude.{◌≡◌, ◌≢◌, ◌<◌, ◌≤◌, ◌+◌, ◌++◌, ◌∷◌, [], ℕ, List, length, take, drop, set, false, true, OnOk, OnErr, IfOk, IfErr, Ok};
+ghost use Rattle.std.specs.Prelude.{◌≡◌, ◌≢◌, ◌⊎◌, ◌<◌, ◌≤◌, ◌+◌, ◌-◌, ◌*◌, ◌++◌, ◌∷◌, [], ℕ, List, length, take, drop, set, false, true, OnOk, OnErr, IfOk, IfErr, Ok};
 ghost use Rattle.mt_base.specs.Edits.{patched, log_size};
 ghost use Rattle.mt_base.specs.declared.refusal.Refusal.{Refusal};
 ghost use Rattle.mt_disk.specs.Disk.{LeavesOnly, HasCause};
@@ -8,13 +8,14 @@ ghost use Rattle.mt_frame.specs.History.{may_stand};
 ghost use Rattle.mt_frame.specs.Lengths.{record_length};
 ghost use Rattle.mt_log.specs.Words.{durable, appended, used, area_size};
 ghost use Rattle.mt_log.specs.declared.log.Forced.TheVariants as forced;
+ghost use Rattle.mt_pool.specs.Images.{slot};
 
 use crate::writing::append_all;
 use crate::{Fetched, Flushed, PageChange, Pool};
 use mt_base::{LogPos, OpNo, PageNo, Refusal, TxnNo};
 use mt_disk::{Device, DeviceFault};
 use mt_frame::Record;
-use mt_log::{Forced, Log};
+use mt_log::{AreaPlace, Forced, Log, begin_area};
 use std::alloc::Global;
 
 /// A device with the log of its ruling area and the pool of its pages.
@@ -30,6 +31,47 @@ pub struct Store<D: Device> {
     pub pool: Pool,
     /// The place of the last record that is durable, or 0.
     pub settled: LogPos,
+}
+
+impl<D: Device + Drop> Store<D> {
+    ghost use Rattle.mt_pool.specs.Kept.{IsKept};
+    ghost use Rattle.mt_pool.specs.Views.{view, pages as pages_of, frames as frames_of};
+
+    /// A store over a device whose page slots begin at `place`, so many pages, in so many frames. What is on the
+    /// device is synced, and then the log's area begins anew without images, so the pages as they are now
+    /// are those to be had after a crash. Refusals are [`Refusal::NoMemory`] and [`Refusal::DeviceFailed`];
+    /// no slot is touched in any case.
+    pub fn begin(
+        alloc: Global,
+        device: D,
+        frames: usize,
+        pages: u16,
+        place: u64,
+        area: AreaPlace,
+    ) -> Result<Store<D>, Refusal>
+        requires few { pages ≤ 4000 }
+        requires apart { place + 4096 * pages ≤ area.start }
+        requires within { area.end ≤ length (D.seen device) }
+        ensures kept { IfOk result (λ store. IsKept D.seen D.may_leave (slot place (D.seen device)) store) }
+        ensures views { IfOk result (λ store. (q : ℕ) → q < pages → view store.pool (D.seen store.device) q ≡ slot place (D.seen device) q) }
+        ensures appended { IfOk result (λ store. appended store.log ≡ []) }
+        ensures used { IfOk result (λ store. used store.log ≡ 5) }
+        ensures area { IfOk result (λ store. area_size store.log ≡ area.end - area.start) }
+        ensures pages { IfOk result (λ store. pages_of store.pool ≡ pages) }
+        ensures frames { IfOk result (λ store. frames_of store.pool ≡ frames) }
+        ensures why { IfErr result (λ why. (why ≡ Refusal.NoMemory) ⊎ (why ≡ Refusal.DeviceFailed)) }
+    {
+        let mut device = device;
+        let pool = Pool::new(alloc, frames, pages, place)?;
+        device.sync()?;
+        let log = begin_area(alloc, &mut device, area)?;
+        Ok(Store {
+            device,
+            log,
+            pool,
+            settled: LogPos::new(0),
+        })
+    }
 }
 
 impl<D: Device> Store<D> {

@@ -17,7 +17,7 @@ use Rattle.mt_log.proofs.AtRest.{scans_coming}
 use Rattle.mt_log.proofs.Prefix.{beginning_found}
 use Rattle.mt_log.proofs.Elsewhere.{on_elsewhere, on_same}
 use Rattle.mt_pool.specs.Images.{slot, IsSafe, GivesPages}
-use Rattle.mt_pool.specs.Views.{IsPool, Shows, IsTied, pages, view, waits_for}
+use Rattle.mt_pool.specs.Views.{IsPool, Shows, IsTied, held, pages, view, waits_for}
 use Rattle.mt_pool.specs.declared.pool.Pool.{Pool}
 use Rattle.mt_pool.specs.Kept.{carried_of, carried, Explains, IsKept}
 use Rattle.mt_pool.specs.declared.store.Store.{Store}
@@ -211,3 +211,11 @@ pub slot_stays : (at n place pages p : ℕ) (synced : List ℕ) (may may2 : List
 slot_stays at n place pages p synced may may2 only follows before lt c left =
     let from : (d : List ℕ) × may d × Torn at n d c = follows c left in
     cut_torn at n (place + 4096 * p) 4096 from.0 c from.2 (inl (omega arith)) ∙ ap (λ (l : List ℕ). slot place l p) (only from.0 from.1)
+
+-- where no frame is to be flushed, each page is in its slot
+pub all_in_slots : (pool : Pool) (seen : List ℕ) → IsPool pool → Shows pool seen → ((f : ℕ) → get_or pool.dirty.items f false ≡ false) → (q : ℕ) → slot pool.place seen q ≡ view pool seen q
+all_in_slots pool seen ok shows clean q = framed_or_not (get_or pool.of_page.items q None) refl
+  where
+  framed_or_not : (o : Option ℕ) → get_or pool.of_page.items q None ≡ o → slot pool.place seen q ≡ held o pool.bytes.items (slot pool.place seen q)
+  framed_or_not None is = refl
+  framed_or_not (Some f) is = sym (shows.clean f q (ok.names.there q f is).1 (clean f))

@@ -104,6 +104,17 @@ module _ (txn op page : ℕ) (old new : List ℕ) where
   own_pages pages lt image [] = tt
   own_pages pages lt image (e ∷ es) = (lt, own_pages pages lt None es)
 
+  -- they end nothing
+  none_of : (is : Record → Bool) → ((image : Option (List ℕ)) (e : Edit) → is (range_record txn op page image old new e) ≡ false) → (image : Option (List ℕ)) (es : List Edit) → some_record is (change_records txn op page image old new es) ≡ false
+  none_of is never image [] = refl
+  none_of is never image (e ∷ es) = ap (λ b. b || some_record is (change_records txn op page None old new es)) (never image e) ∙ none_of is never None es
+
+  pub ends_nothing : (t o : ℕ) (earlier : List Record) (image : Option (List ℕ)) (es : List Edit) → IsUnfinished t o earlier → IsUnfinished t o (earlier ++ change_records txn op page image old new es)
+  ends_nothing t o earlier image es u = record {
+    transaction = no_records (ends_txn t) earlier (change_records txn op page image old new es) u.transaction (none_of (ends_txn t) (λ i e. refl) image es);
+    operation = no_records (ends_op t o) earlier (change_records txn op page image old new es) u.operation (none_of (ends_op t o) (λ i e. refl) image es);
+  }
+
   -- ---- the grammar
 
   module _ (is_txn : IsTxn txn) (is_op : IsOp op) (few : page < 4000) (old_size : length old ≡ 4096) (new_size : length new ≡ 4096) where

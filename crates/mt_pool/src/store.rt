@@ -1,12 +1,12 @@
 // A device, the log of its area and the pool of its pages, each of which keeps to the others' rules.
-ghost use Rattle.std.specs.Prelude.{◌≡◌, ◌≢◌, ◌⊎◌, ◌<◌, ◌≤◌, ◌+◌, ◌-◌, ◌*◌, ◌++◌, ◌∷◌, [], ℕ, List, length, take, drop, set, false, true, OnOk, OnErr, IfOk, IfErr, Ok};
+ghost use Rattle.std.specs.Prelude.{◌≡◌, ◌≢◌, ◌⊎◌, ◌<◌, ◌≤◌, ◌+◌, ◌-◌, ◌*◌, ◌++◌, ◌∷◌, [], ℕ, List, length, take, drop, set, get_or, None, false, true, IsOk, IsErr, OnOk, OnErr, IfOk, IfErr, Ok};
 ghost use Rattle.mt_base.specs.Edits.{patched, log_size};
 ghost use Rattle.mt_base.specs.declared.refusal.Refusal.{Refusal};
-ghost use Rattle.mt_disk.specs.Disk.{LeavesOnly, HasCause};
+ghost use Rattle.mt_disk.specs.Disk.{Only, LeavesOnly, HasCause};
 ghost use Rattle.mt_frame.specs.Grammar.{IsRecord, IsOfPage, IsTxn, IsOp};
 ghost use Rattle.mt_frame.specs.History.{may_stand};
 ghost use Rattle.mt_frame.specs.Lengths.{record_length};
-ghost use Rattle.mt_log.specs.Words.{durable, appended, used, area_size};
+ghost use Rattle.mt_log.specs.Words.{durable, waiting, appended, used, area_size, calls_left, has_failed, IsStep, Moves};
 ghost use Rattle.mt_log.specs.declared.log.Forced.TheVariants as forced;
 ghost use Rattle.mt_pool.specs.Images.{slot};
 
@@ -78,7 +78,7 @@ impl<D: Device> Store<D> {
     ghost use Rattle.mt_pool.specs.Changes.{IsShort};
     ghost use Rattle.mt_pool.specs.Kept.{IsKept, Explains};
     ghost use Rattle.mt_pool.specs.Writes.{change_records, due_image, IsUnfinished};
-    ghost use Rattle.mt_pool.specs.Views.{IsThere, IsFull, view, pages, waits_for};
+    ghost use Rattle.mt_pool.specs.Views.{IsThere, IsFull, to_flush, view, pages, waits_for};
     ghost use Rattle.mt_pool.specs.declared.fetching.Fetched.TheVariants as fetched;
     ghost use Rattle.mt_pool.specs.declared.flushing.Flushed.TheVariants as flushed;
 
@@ -90,6 +90,18 @@ impl<D: Device> Store<D> {
         ensures views { (q : ℕ) → q < pages self.old.pool → view self.new.pool (D.seen self.new.device) q ≡ view self.old.pool (D.seen self.old.device) q }
         ensures pool { self.new.pool ≡ self.old.pool }
         ensures appended { appended self.new.log ≡ appended self.old.log }
+        ensures step { IfOk result (λ forced. IsStep self.old.log forced self.new.log) }
+        ensures moves { Moves self.old.log self.new.log }
+        ensures used { used self.new.log ≤ used self.old.log }
+        ensures used_less { 0 < calls_left self.old.log → used self.new.log ≡ used self.old.log }
+        ensures used_shared { calls_left self.old.log ≡ 0 → has_failed self.old.log ≡ false → 0 < length (waiting self.old.log) → used self.new.log + 5 * length (waiting self.old.log) ≡ used self.old.log + 5 }
+        ensures area { area_size self.new.log ≡ area_size self.old.log }
+        ensures failed { has_failed self.old.log ≡ true → IsErr result }
+        ensures now_failed { IsErr result → has_failed self.new.log ≡ true }
+        ensures well { IsOk result → has_failed self.new.log ≡ false }
+        ensures cause { IsErr result → (D.faults self.old.device < D.faults self.new.device ⊎ (has_failed self.old.log ≡ true)) }
+        ensures quiet { IsOk result → D.faults self.new.device ≡ D.faults self.old.device }
+        // Idle tells that every record is durable.
         ensures idle { result ≡ Ok forced.Idle → length (durable self.old.log) ≡ length (appended self.old.log) }
         ensures only_device { IfErr result (λ why. why ≡ Refusal.DeviceFailed) }
     {
@@ -107,6 +119,15 @@ impl<D: Device> Store<D> {
         ensures moments { (opening : ℕ → List ℕ) → IsKept D.seen D.may_leave opening self.old → LeavesOnly D.moment D.left_since self.old.device self.new.device (Explains opening self.old) }
         ensures views { (q : ℕ) → view self.new.pool (D.seen self.new.device) q ≡ view self.old.pool (D.seen self.old.device) q }
         ensures log { self.new.log ≡ self.old.log }
+        ensures waits { self.new.pool.waits ≡ self.old.pool.waits }
+        ensures there { self.new.pool.of_page ≡ self.old.pool.of_page }
+        ensures page { (p : ℕ) → result ≡ Ok (flushed.Page p) → waits_for self.old.pool p ≤ length (durable self.old.log) }
+        ensures fewer { (p : ℕ) → result ≡ Ok (flushed.Page p) → to_flush self.new.pool + 1 ≡ to_flush self.old.pool }
+        ensures waiting { result ≡ Ok flushed.Force → self.new ≡ self.old }
+        ensures fault { IsErr result → self.new.pool ≡ self.old.pool }
+        ensures exact { ((f : ℕ) → get_or self.old.pool.dirty.items f false ≡ false) → result ≡ Ok flushed.Clean }
+        ensures nothing { result ≡ Ok flushed.Clean → (f : ℕ) → get_or self.new.pool.dirty.items f false ≡ false }
+        ensures cause { HasCause (D.faults self.old.device) (D.faults self.new.device) result }
         // A force has something to do then.
         ensures forced { result ≡ Ok flushed.Force → length (durable self.old.log) < length (appended self.old.log) }
     {
@@ -123,6 +144,7 @@ impl<D: Device> Store<D> {
         ensures there { result ≡ Ok fetched.There → IsThere self.new.pool page }
         ensures full { result ≡ Ok fetched.Flush → IsFull self.old.pool }
         ensures nothing { result ≡ Ok fetched.Flush → self.new ≡ self.old }
+        ensures exact { IsFull self.old.pool → get_or self.old.pool.of_page.items page None ≡ None → result ≡ Ok fetched.Flush }
         ensures log { self.new.log ≡ self.old.log }
         ensures pages { pages self.new.pool ≡ pages self.old.pool }
         ensures waits { self.new.pool.waits ≡ self.old.pool.waits }
@@ -198,6 +220,8 @@ impl<D: Device> Store<D> {
         ensures appended { OnOk result (let page = view self.old.pool (D.seen self.old.device) change.now.page in appended self.new.log ≡ appended self.old.log
             ++ change_records txn op change.now.page (due_image self.old.pool change.now.page page) page (patched change.now.edits.items page) change.now.edits.items) }
         ensures waits { OnOk result (self.new.pool.waits.items ≡ set self.old.pool.waits.items change.now.page (length (appended self.new.log))) }
+        // These records end neither a transaction nor an operation.
+        ensures ends_none { (t o : ℕ) → IsUnfinished t o (appended self.old.log) → IsUnfinished t o (appended self.new.log) }
         ensures used { OnOk result (used self.new.log ≤ used self.old.log + log_size change.now.edits.items + 4096) }
         ensures err_appended { OnErr result (appended self.new.log ≡ appended self.old.log) }
         ensures err_used { OnErr result (used self.new.log ≡ used self.old.log) }
@@ -211,5 +235,42 @@ impl<D: Device> Store<D> {
         let place = append_all(&mut self.log, prepared.records)?;
         self.pool.change(change.page, 0, &prepared.bytes, place);
         Ok(())
+    }
+
+    /// Makes all writes so far last, as [`Device::sync`] does.
+    pub fn sync(&mut self) -> Result<(), DeviceFault>
+        requires kept { (opening : ℕ → List ℕ) × IsKept D.seen D.may_leave opening self.old }
+        ensures kept { (opening : ℕ → List ℕ) → IsKept D.seen D.may_leave opening self.old → IsKept D.seen D.may_leave opening self.new }
+        ensures moments { (opening : ℕ → List ℕ) → IsKept D.seen D.may_leave opening self.old → LeavesOnly D.moment D.left_since self.old.device self.new.device (Explains opening self.old) }
+        ensures synced { OnOk result (Only (D.seen self.new.device) (D.may_leave self.new.device)) }
+        ensures seen { D.seen self.new.device ≡ D.seen self.old.device }
+        ensures log { self.new.log ≡ self.old.log }
+        ensures pool { self.new.pool ≡ self.old.pool }
+        ensures cause { HasCause (D.faults self.old.device) (D.faults self.new.device) result }
+    {
+        self.device.sync()
+    }
+
+    /// One device call more on the way to where every page is in its slot: a page is written in place, or
+    /// where each has to wait for its records the log is forced a step. `false` tells that nothing was left to
+    /// do. Then a [`Store::sync`] makes the slots last. The only refusal is [`Refusal::DeviceFailed`].
+    pub fn write_back_step(&mut self) -> Result<bool, Refusal>
+        requires kept { (opening : ℕ → List ℕ) × IsKept D.seen D.may_leave opening self.old }
+        ensures kept { (opening : ℕ → List ℕ) → IsKept D.seen D.may_leave opening self.old → IsKept D.seen D.may_leave opening self.new }
+        ensures moments { (opening : ℕ → List ℕ) → IsKept D.seen D.may_leave opening self.old → LeavesOnly D.moment D.left_since self.old.device self.new.device (Explains opening self.old) }
+        ensures views { (q : ℕ) → q < pages self.old.pool → view self.new.pool (D.seen self.new.device) q ≡ view self.old.pool (D.seen self.old.device) q }
+        ensures done { result ≡ Ok false → (q : ℕ) → q < pages self.old.pool → slot self.new.pool.place (D.seen self.new.device) q ≡ view self.new.pool (D.seen self.new.device) q }
+        ensures more { result ≡ Ok true → (to_flush self.new.pool + 1 ≡ to_flush self.old.pool) ⊎ (length (durable self.old.log) < length (appended self.old.log)) }
+        ensures appended { appended self.new.log ≡ appended self.old.log }
+        ensures only_device { IfErr result (λ why. why ≡ Refusal.DeviceFailed) }
+    {
+        match self.flush_step()? {
+            Flushed::Page(_) => Ok(true),
+            Flushed::Force => {
+                self.force_step()?;
+                Ok(true)
+            }
+            Flushed::Clean => Ok(false),
+        }
     }
 }

@@ -7,10 +7,10 @@ use Rattle.mt_log.specs.Words.{appended}
 use Rattle.mt_frame.specs.History.{MayFollow}
 use Rattle.mt_log.specs.Holds.{HasItsPage}
 use Rattle.mt_pool.specs.Views.{view, pages}
-use Rattle.mt_pool.specs.Writes.{records_size, IsLonger}
+use Rattle.mt_pool.specs.Writes.{records_size, IsLonger, IsUnfinished}
 use Rattle.mt_pool.proofs.Kept.{no_call}
 use Rattle.mt_pool.proofs.Logged.{kept_append, kept_write, longer_appended}
-use Rattle.mt_pool.proofs.Writes.{now_records, now_some, now_size, now_pages, now_may, changes_images, other_pages, view_whole, view_any, all_other}
+use Rattle.mt_pool.proofs.Writes.{now_records, now_some, now_size, now_pages, now_may, changes_images, ends_nothing, other_pages, view_whole, view_any, all_other}
 use Rattle.mt_pool.proofs.store.Store.write.Goals as goal
 
 pub returns-in_err-prepared-clause-moments : goal.returns-in_err-prepared-clause-moments
@@ -102,3 +102,11 @@ returns-clause-used g c =
     let s = c.args.self.now in let r = c.requires in let p = c.in_ok-prepared.ensures in let seen = g.D.Device.seen s.device in
     let size = sym (ap length (p.bytes seen)) ∙ p.size in
     omega (arith, c.in_ok-place.ensures.used, ap records_size (p.records seen), now_size g.D.Device.seen g.D.Device.may_leave r.kept.0 s r.kept.1 c.args.txn c.args.op c.args.change.now r.there r.inside r.short r.numbers size)
+
+pub returns-clause-ends_none : goal.returns-clause-ends_none
+returns-clause-ends_none g c = λ t o unfinished.
+    let s = c.args.self.now in let p = c.in_ok-prepared.ensures in let seen = g.D.Device.seen s.device in
+    let page = c.args.change.now.page in
+    let v = view s.pool seen page in
+    subst (IsUnfinished t o) (sym (longer_appended s.log c.append_all.new.log _ c.in_ok-place.ensures.longer ∙ ap (λ (rs : List Record). appended s.log ++ rs) (p.records seen)))
+    (ends_nothing c.args.txn c.args.op page v (patched c.args.change.now.edits.items v) t o (appended s.log) _ c.args.change.now.edits.items unfinished)

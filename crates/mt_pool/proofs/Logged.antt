@@ -98,9 +98,9 @@ pub no_records : (is : Record → Bool) (xs ys : List Record) → some_record is
 no_records is [] ys first second = second
 no_records is (x ∷ xs) ys first second = let both = no_or2 (is x) (some_record is xs) first in ap (λ b. b || some_record is (xs ++ ys)) both.0 ∙ no_records is xs ys both.1 second
   where
-  no_or2 : (b x : Bool) → (b || x) ≡ false → (b ≡ false) × (x ≡ false)
-  no_or2 true x h = absurd (cc)
-  no_or2 false x h = (refl, h)
+    no_or2 : (b x : Bool) → (b || x) ≡ false → (b ≡ false) × (x ≡ false)
+    no_or2 true x h = absurd (cc)
+    no_or2 false x h = (refl, h)
 
 pub longer_appended : (old new : Log) (rs : List Record) → IsLonger old new rs → appended new ≡ appended old ++ rs
 longer_appended old new rs l =
@@ -141,71 +141,71 @@ module _ {D : Type 0} (seen : D → List ℕ) (may : D → List ℕ → Type 0) 
       → IsPool p → Shows p (seen s.device) → p.waits.items ≡ set s.pool.waits.items page (length (appended log)) → p.place ≡ s.pool.place → pages p ≡ pages s.pool → ((q : ℕ) → q ≢ page → view p (seen s.device) q ≡ view s.pool (seen s.device) q)
       → IsKept seen may opening (record s { log = log; pool = p })
   kept_write log p rs page longer sound lt some first named ok shows waits place count others =
-    let all = longer_appended s.log log rs longer in
-    let images = carried_more s.log log rs longer in
-    let position : length (appended log) ≡ length (carried (appended s.log)) + length (carried rs) =
+      let all = longer_appended s.log log rs longer in
+      let images = carried_more s.log log rs longer in
+      let position : length (appended log) ≡ length (carried (appended s.log)) + length (carried rs) =
       ap length all ∙ length-append (appended s.log) rs ∙ ap (λ (n : ℕ). n + length rs) (sym (length-map (appended s.log) carried_of)) ∙ ap (λ (n : ℕ). length (carried (appended s.log)) + n) (sym (length-map rs carried_of)) in
-    let durable_len : length (durable log) ≡ length (durable s.log) = ap length longer.durable_same in
-    record {
-      on = on_same seen may s.log log s.device longer.stands k.on;
-      sound = subst (λ (x : ℕ). IsSound x log) (sym count) (sound k.sound);
-      apart = let a = k.apart in omega (arith, place, count, same_start s.log log longer.stands);
-      few = omega (arith, count, k.few);
-      frames = ok;
-      shows = shows;
-      settled = k.settled ∙ sym durable_len;
-      safe = subst (λ es. IsSafe p.place (pages p) opening es (length (durable log)) (may s.device)) (sym images)
-        (subst (λ (x : ℕ). IsSafe x (pages p) opening (carried (appended s.log) ++ carried rs) (length (durable log)) (may s.device)) (sym place)
-        (subst (λ (x : ℕ). IsSafe s.pool.place x opening (carried (appended s.log) ++ carried rs) (length (durable log)) (may s.device)) (sym count)
-        (subst (λ (x : ℕ). IsSafe s.pool.place (pages s.pool) opening (carried (appended s.log) ++ carried rs) x (may s.device)) (sym durable_len)
-        (safe_images s.pool (seen s.device) opening (carried (appended s.log)) (carried rs) (length (durable s.log)) (may s.device) page k.tied lt first k.safe))));
-      tied = subst (λ es. IsTied p (seen s.device) opening es) (sym images)
-        (tied_images s.pool p (seen s.device) opening (carried (appended s.log)) (carried rs) page k.frames k.tied lt (omega (arith, some, length-map rs carried_of)) first
-          (waits ∙ ap (λ (n : ℕ). set s.pool.waits.items page n) position) count others);
-      unnamed = λ q q_in none. elim (cases_eq q page) [
-        | inl same ↦ absurd (
-            let w : get_or p.waits.items q 0 ≡ length (appended log) = ap (λ (l : List ℕ). get_or l q 0) waits ∙ ap (λ (x : ℕ). get_or (set s.pool.waits.items page (length (appended log))) x 0) same
+      let durable_len : length (durable log) ≡ length (durable s.log) = ap length longer.durable_same in
+      record {
+        on = on_same seen may s.log log s.device longer.stands k.on;
+        sound = subst (λ (x : ℕ). IsSound x log) (sym count) (sound k.sound);
+        apart = let a = k.apart in omega (arith, place, count, same_start s.log log longer.stands);
+        few = omega (arith, count, k.few);
+        frames = ok;
+        shows = shows;
+        settled = k.settled ∙ sym durable_len;
+        safe = subst (λ es. IsSafe p.place (pages p) opening es (length (durable log)) (may s.device)) (sym images)
+            (subst (λ (x : ℕ). IsSafe x (pages p) opening (carried (appended s.log) ++ carried rs) (length (durable log)) (may s.device)) (sym place)
+            (subst (λ (x : ℕ). IsSafe s.pool.place x opening (carried (appended s.log) ++ carried rs) (length (durable log)) (may s.device)) (sym count)
+            (subst (λ (x : ℕ). IsSafe s.pool.place (pages s.pool) opening (carried (appended s.log) ++ carried rs) x (may s.device)) (sym durable_len)
+            (safe_images s.pool (seen s.device) opening (carried (appended s.log)) (carried rs) (length (durable s.log)) (may s.device) page k.tied lt first k.safe))));
+        tied = subst (λ es. IsTied p (seen s.device) opening es) (sym images)
+            (tied_images s.pool p (seen s.device) opening (carried (appended s.log)) (carried rs) page k.frames k.tied lt (omega (arith, some, length-map rs carried_of)) first
+            (waits ∙ ap (λ (n : ℕ). set s.pool.waits.items page n) position) count others);
+        unnamed = λ q q_in none. elim (cases_eq q page) [
+          | inl same ↦ absurd (
+              let w : get_or p.waits.items q 0 ≡ length (appended log) = ap (λ (l : List ℕ). get_or l q 0) waits ∙ ap (λ (x : ℕ). get_or (set s.pool.waits.items page (length (appended log))) x 0) same
               ∙ get_or-set_same s.pool.waits.items page (length (appended log)) 0 (omega (arith, lt, k.frames.waits)) in
-            omega (arith, w, none, position, some, length-map rs carried_of))
-        | inr differ ↦
-            let w : get_or p.waits.items q 0 ≡ get_or s.pool.waits.items q 0 = ap (λ (l : List ℕ). get_or l q 0) waits ∙ get_or-set_other s.pool.waits.items page q (length (appended log)) 0 differ in
-            ap (λ (l : List Record). some_record (is_of_page q) l) all ∙ no_records (is_of_page q) (appended s.log) rs (k.unnamed q (omega (arith, q_in, count)) (sym w ∙ none)) (named q differ)
-      ];
-    }
+              omega (arith, w, none, position, some, length-map rs carried_of))
+          | inr differ ↦
+              let w : get_or p.waits.items q 0 ≡ get_or s.pool.waits.items q 0 = ap (λ (l : List ℕ). get_or l q 0) waits ∙ get_or-set_other s.pool.waits.items page q (length (appended log)) 0 differ in
+              ap (λ (l : List Record). some_record (is_of_page q) l) all ∙ no_records (is_of_page q) (appended s.log) rs (k.unnamed q (omega (arith, q_in, count)) (sym w ∙ none)) (named q differ)
+        ];
+      }
 
   -- records of no page
   pub kept_append : (log : Log) (rs : List Record) → IsLonger s.log log rs → (IsSound (pages s.pool) s.log → IsSound (pages s.pool) log)
       → ((q : ℕ) → has_image (carried rs) q ≡ false) → ((q : ℕ) → some_record (is_of_page q) rs ≡ false) → IsKept seen may opening (record s { log = log })
   kept_append log rs longer sound none named =
-    let all = longer_appended s.log log rs longer in
-    let images = carried_more s.log log rs longer in
-    let durable_len : length (durable log) ≡ length (durable s.log) = ap length longer.durable_same in
-    let t = k.tied in
-    let f = k.safe in
-    let before = carried (appended s.log) in
-    record {
-      on = on_same seen may s.log log s.device longer.stands k.on;
-      sound = sound k.sound;
-      apart = let a = k.apart in omega (arith, same_start s.log log longer.stands);
-      few = k.few;
-      frames = k.frames;
-      shows = k.shows;
-      settled = k.settled ∙ sym durable_len;
-      safe = subst (λ es. IsSafe s.pool.place (pages s.pool) opening es (length (durable log)) (may s.device)) (sym images) (subst (λ (x : ℕ). IsSafe s.pool.place (pages s.pool) opening (before ++ carried rs) x (may s.device)) (sym durable_len) (record {
-        within = let w = f.within in omega (arith, length-append before (carried rs));
-        images = λ p lt has d. elim (bool_cases (has_image before p)) [
-          | inl was ↦ in_more p before (carried rs) d d was ∙ f.images p lt was d
-          | inr not ↦ absurd (same_false (has_image (carried rs) p) (sym (has_later p before (carried rs) not) ∙ has) (none p))
-        ];
-        slots = λ p lt not c left. f.slots p lt (sym (ap (λ l. has_image l p) (take-append-le (length (durable s.log)) before (carried rs) f.within)) ∙ not) c left;
-      }));
-      tied = subst (λ es. IsTied s.pool (seen s.device) opening es) (sym images) (record {
-        imaged = λ p lt waits. ap (λ l. has_image l p) (take-append-le (get_or s.pool.waits.items p 0) before (carried rs) (t.within p lt)) ∙ t.imaged p lt waits;
-        within = λ p lt. let le = t.within p lt in omega (arith, length-append before (carried rs));
-        untouched = λ p lt not. let was = t.untouched p lt not in (has_later p before (carried rs) was.0 ∙ none p, was.1);
-      });
-      unnamed = λ q lt not. ap (λ (l : List Record). some_record (is_of_page q) l) all ∙ no_records (is_of_page q) (appended s.log) rs (k.unnamed q lt not) (named q);
-    }
+      let all = longer_appended s.log log rs longer in
+      let images = carried_more s.log log rs longer in
+      let durable_len : length (durable log) ≡ length (durable s.log) = ap length longer.durable_same in
+      let t = k.tied in
+      let f = k.safe in
+      let before = carried (appended s.log) in
+      record {
+        on = on_same seen may s.log log s.device longer.stands k.on;
+        sound = sound k.sound;
+        apart = let a = k.apart in omega (arith, same_start s.log log longer.stands);
+        few = k.few;
+        frames = k.frames;
+        shows = k.shows;
+        settled = k.settled ∙ sym durable_len;
+        safe = subst (λ es. IsSafe s.pool.place (pages s.pool) opening es (length (durable log)) (may s.device)) (sym images) (subst (λ (x : ℕ). IsSafe s.pool.place (pages s.pool) opening (before ++ carried rs) x (may s.device)) (sym durable_len) (record {
+          within = let w = f.within in omega (arith, length-append before (carried rs));
+          images = λ p lt has d. elim (bool_cases (has_image before p)) [
+            | inl was ↦ in_more p before (carried rs) d d was ∙ f.images p lt was d
+            | inr not ↦ absurd (same_false (has_image (carried rs) p) (sym (has_later p before (carried rs) not) ∙ has) (none p))
+          ];
+          slots = λ p lt not c left. f.slots p lt (sym (ap (λ l. has_image l p) (take-append-le (length (durable s.log)) before (carried rs) f.within)) ∙ not) c left;
+        }));
+        tied = subst (λ es. IsTied s.pool (seen s.device) opening es) (sym images) (record {
+          imaged = λ p lt waits. ap (λ l. has_image l p) (take-append-le (get_or s.pool.waits.items p 0) before (carried rs) (t.within p lt)) ∙ t.imaged p lt waits;
+          within = λ p lt. let le = t.within p lt in omega (arith, length-append before (carried rs));
+          untouched = λ p lt not. let was = t.untouched p lt not in (has_later p before (carried rs) was.0 ∙ none p, was.1);
+        });
+        unnamed = λ q lt not. ap (λ (l : List Record). some_record (is_of_page q) l) all ∙ no_records (is_of_page q) (appended s.log) rs (k.unnamed q lt not) (named q);
+      }
 
 -- a record of no page
 pub no_image : (r : Record) → (IsOfPage r → ⊥) → (q : ℕ) → has_image (carried (r ∷ [])) q ≡ false

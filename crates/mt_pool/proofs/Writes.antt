@@ -40,20 +40,20 @@ view_any pool seen seen2 page there =
 pub all_other : (old new : List ℕ) → length old ≡ 4096 → length new ≡ 4096 → take 0 old ++ (new ++ drop (0 + length new) old) ≡ new
 all_other old new size size2 = ap (λ (l : List ℕ). new ++ l) (drop_all (0 + length new) old (omega arith)) ∙ append-nil new
   where
-  drop_all : (n : ℕ) (l : List ℕ) → length l ≤ n → drop n l ≡ []
-  drop_all n l le = list_nil (drop n l) (let d = length-drop n l in omega arith)
-    where
-    list_nil : (l : List ℕ) → length l ≡ 0 → l ≡ []
-    list_nil [] is = refl
-    list_nil (x ∷ l) is = absurd (omega arith)
+    drop_all : (n : ℕ) (l : List ℕ) → length l ≤ n → drop n l ≡ []
+    drop_all n l le = list_nil (drop n l) (let d = length-drop n l in omega arith)
+      where
+        list_nil : (l : List ℕ) → length l ≡ 0 → l ≡ []
+        list_nil [] is = refl
+        list_nil (x ∷ l) is = absurd (omega arith)
 
 -- ---- the image that is due
 
 pub due_cases : (pool : Pool) (page : ℕ) (bytes : List ℕ) → ((waits_for pool page ≡ 0) × (due_image pool page bytes ≡ Some bytes)) ⊎ ((waits_for pool page ≢ 0) × (due_image pool page bytes ≡ None))
 due_cases pool page bytes = ⊎_elim
-  (λ (none : waits_for pool page ≡ 0). inl (none, ap (λ b. cond b (Some bytes) None) (eq-eqb (waits_for pool page) 0 none)))
-  (λ (some : waits_for pool page ≢ 0). inr (some, ⊎_elim (λ is. absurd (some (eqb-true (waits_for pool page) 0 is))) (λ other. ap (λ b. cond b (Some bytes) None) other) (bool_cases (waits_for pool page == 0))))
-  (cases_eq (waits_for pool page) 0)
+    (λ (none : waits_for pool page ≡ 0). inl (none, ap (λ b. cond b (Some bytes) None) (eq-eqb (waits_for pool page) 0 none)))
+    (λ (some : waits_for pool page ≢ 0). inr (some, ⊎_elim (λ is. absurd (some (eqb-true (waits_for pool page) 0 is))) (λ other. ap (λ b. cond b (Some bytes) None) other) (bool_cases (waits_for pool page == 0))))
+    (cases_eq (waits_for pool page) 0)
 
 module _ (txn op page : ℕ) (old new : List ℕ) where
   -- ---- images
@@ -83,13 +83,13 @@ module _ (txn op page : ℕ) (old new : List ℕ) where
   image_first pool seen (e ∷ es) (Some i) some due = record {
     others = λ q differ. one_page page q (has_image (carried (change_records txn op page None old new es)) q) (λ same. differ (sym same)) (bare es q);
     only = λ has d. ⊎_elim
-      (λ is. (is.0, ap (λ b. cond b i (page_in (carried (change_records txn op page None old new es)) page d)) (eq-eqb page page refl) ∙ same_some i (view pool seen page) is.1))
-      (λ is. absurd (let t = is.1 in cc)) due;
+        (λ is. (is.0, ap (λ b. cond b i (page_in (carried (change_records txn op page None old new es)) page d)) (eq-eqb page page refl) ∙ same_some i (view pool seen page) is.1))
+        (λ is. absurd (let t = is.1 in cc)) due;
     due = λ none. this_page page (has_image (carried (change_records txn op page None old new es)) page);
   }
     where
-    same_some : (a b : List ℕ) → Some a ≡ Some b → a ≡ b
-    same_some a b e = ap (λ (x : Option (List ℕ)). elim x [ None ↦ a | Some y ↦ y ]) e
+      same_some : (a b : List ℕ) → Some a ≡ Some b → a ≡ b
+      same_some a b e = ap (λ (x : Option (List ℕ)). elim x [ None ↦ a | Some y ↦ y ]) e
 
   pub changes_images : (pool : Pool) (seen : List ℕ) (es : List Edit) → 0 < length es → AreImagesFirst pool seen page (carried (change_records txn op page (due_image pool page (view pool seen page)) old new es))
   changes_images pool seen es some = image_first pool seen es (due_image pool page (view pool seen page)) some (due_cases pool page (view pool seen page))
@@ -120,27 +120,27 @@ module _ (txn op page : ℕ) (old new : List ℕ) where
   module _ (is_txn : IsTxn txn) (is_op : IsOp op) (few : page < 4000) (old_size : length old ≡ 4096) (new_size : length new ≡ 4096) where
     is_record : (image : Option (List ℕ)) → IsImage image → (e : Edit) → IsShortest old new e → IsPageRecord txn op page image e.start (part old e.start (length e.bytes)) (part new e.start (length e.bytes))
     is_record image whole e short =
-      let w = short.within in
-      let some = short.some in
-      let before = part_length old e.start (length e.bytes) w in
-      let behind = part_length new e.start (length e.bytes) (omega (arith, w, old_size, new_size)) in
-      let n = length e.bytes in
-      record {
-        txn_below = is_txn.1;
-        op_below = is_op.1;
-        page_below = few;
-        whole = whole;
-        same_length = behind.0 ∙ sym before.0;
-        in_page = omega (arith, before.0, w, old_size);
-        alone = λ none. absurd (let low = is_txn.0 in omega arith);
-        change = λ real. record {
-          operation = is_op.0;
-          some_bytes = omega (arith, before.0, some);
-          first_changes = λ same. short.first (ap (λ (x : ℕ). get_or old x 0) (omega arith) ∙ sym (before.1 0 (omega arith)) ∙ same ∙ behind.1 0 (omega arith) ∙ ap (λ (x : ℕ). get_or new x 0) (omega arith));
-          last_changes = λ same. short.last (ap (λ (x : ℕ). get_or old x 0) (omega arith) ∙ sym (before.1 (n - 1) (omega arith)) ∙ ap (λ (x : ℕ). get_or (part old e.start n) (x - 1) 0) (sym before.0) ∙ same
-            ∙ ap (λ (x : ℕ). get_or (part new e.start n) (x - 1) 0) behind.0 ∙ behind.1 (n - 1) (omega arith) ∙ ap (λ (x : ℕ). get_or new x 0) (omega arith));
-        };
-      }
+        let w = short.within in
+        let some = short.some in
+        let before = part_length old e.start (length e.bytes) w in
+        let behind = part_length new e.start (length e.bytes) (omega (arith, w, old_size, new_size)) in
+        let n = length e.bytes in
+        record {
+          txn_below = is_txn.1;
+          op_below = is_op.1;
+          page_below = few;
+          whole = whole;
+          same_length = behind.0 ∙ sym before.0;
+          in_page = omega (arith, before.0, w, old_size);
+          alone = λ none. absurd (let low = is_txn.0 in omega arith);
+          change = λ real. record {
+            operation = is_op.0;
+            some_bytes = omega (arith, before.0, some);
+            first_changes = λ same. short.first (ap (λ (x : ℕ). get_or old x 0) (omega arith) ∙ sym (before.1 0 (omega arith)) ∙ same ∙ behind.1 0 (omega arith) ∙ ap (λ (x : ℕ). get_or new x 0) (omega arith));
+            last_changes = λ same. short.last (ap (λ (x : ℕ). get_or old x 0) (omega arith) ∙ sym (before.1 (n - 1) (omega arith)) ∙ ap (λ (x : ℕ). get_or (part old e.start n) (x - 1) 0) (sym before.0) ∙ same
+                ∙ ap (λ (x : ℕ). get_or (part new e.start n) (x - 1) 0) behind.0 ∙ behind.1 (n - 1) (omega arith) ∙ ap (λ (x : ℕ). get_or new x 0) (omega arith));
+          };
+        }
 
     pub are_records : (image : Option (List ℕ)) → IsImage image → (es : List Edit) → AllByRecursion (IsShortest old new) es → AllByRecursion IsRecord (change_records txn op page image old new es)
     are_records image whole [] short = tt
@@ -151,10 +151,10 @@ module _ (txn op page : ℕ) (old new : List ℕ) where
   pub changes_size : (image : Option (List ℕ)) (es : List Edit) → AllByRecursion (IsShortest old new) es → length old ≡ length new → records_size (change_records txn op page image old new es) ≤ log_size es + image_length image
   changes_size image [] short same = omega arith
   changes_size image (e ∷ es) short same =
-    let w = short.0.within in
-    let before = part_length old e.start (length e.bytes) w in
-    let behind = part_length new e.start (length e.bytes) (omega (arith, w, same)) in
-    omega (arith, before.0, behind.0, changes_size None es short.1 same)
+      let w = short.0.within in
+      let before = part_length old e.start (length e.bytes) w in
+      let behind = part_length new e.start (length e.bytes) (omega (arith, w, same)) in
+      omega (arith, before.0, behind.0, changes_size None es short.1 same)
 
   -- ---- the rules
 
@@ -175,9 +175,9 @@ module _ (txn op page : ℕ) (old new : List ℕ) where
     some_behind is [] ys some = some
     some_behind is (x ∷ xs) ys some = or_true (is x) (some_record is (xs ++ ys)) (some_behind is xs ys some)
       where
-      or_true : (b x : Bool) → x ≡ true → (b || x) ≡ true
-      or_true true x h = refl
-      or_true false x h = h
+        or_true : (b x : Bool) → x ≡ true → (b || x) ≡ true
+        or_true true x h = refl
+        or_true false x h = h
 
     follow_on : (earlier : List Record) (es : List Edit) → some_record (is_of_page page) earlier ≡ true → IsUnfinished txn op earlier → MayFollow false earlier (change_records txn op page None old new es)
     follow_on earlier [] named u = tt
@@ -199,14 +199,14 @@ pub image_named : (p : ℕ) (rs : List Record) → has_image (carried rs) p ≡ 
 image_named p [] has = absurd (cc)
 image_named p (Page txn op page None start old new ∷ rs) has = or_more (page == p) (some_record (is_of_page p) rs) (image_named p rs has)
   where
-  or_more : (b x : Bool) → x ≡ true → (b || x) ≡ true
-  or_more true x h = refl
-  or_more false x h = h
+    or_more : (b x : Bool) → x ≡ true → (b || x) ≡ true
+    or_more true x h = refl
+    or_more false x h = h
 image_named p (Page txn op page (Some i) start old new ∷ rs) has = either (page == p) (has_image (carried rs) p) (some_record (is_of_page p) rs) (image_named p rs) has
   where
-  either : (b x y : Bool) → (x ≡ true → y ≡ true) → (b || x) ≡ true → (b || y) ≡ true
-  either true x y f h = refl
-  either false x y f h = f h
+    either : (b x y : Bool) → (x ≡ true → y ≡ true) → (b || x) ≡ true → (b || y) ≡ true
+    either true x y f h = refl
+    either false x y f h = f h
 image_named p (OpEnd txn op undoes done ∷ rs) has = image_named p rs has
 image_named p (OpDropped txn op ∷ rs) has = image_named p rs has
 image_named p (Commit txn ∷ rs) has = image_named p rs has
@@ -234,7 +234,7 @@ module _ {D : Type 0} (seen : D → List ℕ) (may : D → List ℕ → Type 0) 
 
   pub now_records : AllByRecursion IsRecord records_now
   now_records = are_records txn op change.page page_now (patched change.edits.items page_now) numbers.0 numbers.1 (let f = k.few in omega (arith, inside)) whole new_size (due_image s.pool change.page page_now)
-    (image_whole _ (due_cases s.pool change.page page_now)).0 change.edits.items each
+      (image_whole _ (due_cases s.pool change.page page_now)).0 change.edits.items each
 
   pub now_some : 0 < length records_now
   now_some = let s2 = short.some in omega (arith, s2, length-changes txn op change.page page_now (patched change.edits.items page_now) (due_image s.pool change.page page_now) change.edits.items)
@@ -248,9 +248,9 @@ module _ {D : Type 0} (seen : D → List ℕ) (may : D → List ℕ → Type 0) 
   first : (due : Option (List ℕ)) → ((waits_for s.pool change.page ≡ 0) × (due ≡ Some page_now)) ⊎ ((waits_for s.pool change.page ≢ 0) × (due ≡ None))
       → (if is_some due then not (some_record (is_of_page change.page) (appended s.log)) else some_record (is_of_page change.page) (appended s.log)) ≡ true
   first due (inl is) = ap (λ (i : Option (List ℕ)). if is_some i then not (some_record (is_of_page change.page) (appended s.log)) else some_record (is_of_page change.page) (appended s.log)) is.1
-    ∙ ap not (k.unnamed change.page inside is.0)
+      ∙ ap not (k.unnamed change.page inside is.0)
   first due (inr is) = ap (λ (i : Option (List ℕ)). if is_some i then not (some_record (is_of_page change.page) (appended s.log)) else some_record (is_of_page change.page) (appended s.log)) is.1
-    ∙ image_named change.page (appended s.log) (has_all change.page (carried (appended s.log)) (waits_for s.pool change.page) (k.tied.imaged change.page inside (let n = is.0 in omega (arith, n))))
+      ∙ image_named change.page (appended s.log) (has_all change.page (carried (appended s.log)) (waits_for s.pool change.page) (k.tied.imaged change.page inside (let n = is.0 in omega (arith, n))))
 
   pub now_may : IsUnfinished txn op (appended s.log) → MayFollow false (appended s.log) records_now
   now_may u = changes_may txn op change.page page_now (patched change.edits.items page_now) numbers.0 (appended s.log) (due_image s.pool change.page page_now) change.edits.items (first _ (due_cases s.pool change.page page_now)) u

@@ -18,6 +18,9 @@ use mt_frame::Record;
 use mt_log::{AreaPlace, Forced, Log, begin_area};
 use std::alloc::Global;
 
+#[cfg(test)]
+mod tests;
+
 /// A device with the log of its ruling area and the pool of its pages.
 ///
 /// Each call keeps what contracts call `IsKept`, for the pages as they were when the area began; and at

@@ -44,5 +44,5 @@ loop-entry-preserved c =
       each = (subst (AllByRecursion IsRecord) c.in-Some.ensures.items i.each).1;
       room = omega (arith, i.room, ap records_size c.in-Some.ensures.items, e.room_left);
       sound = λ pages sound each may. e.sound pages (i.sound pages sound each may) (next_page pages d.0 rest r (subst (AllByRecursion (HasItsPage pages)) whole each))
-        (ap (λ (l : List Record). may_stand false l r) (longer_appended c.args.log.now c.loop-entry.log d.0 d.2) ∙ next_may (appended c.args.log.now) d.0 rest r (subst (MayFollow false (appended c.args.log.now)) whole may));
+          (ap (λ (l : List Record). may_stand false l r) (longer_appended c.args.log.now c.loop-entry.log d.0 d.2) ∙ next_may (appended c.args.log.now) d.0 rest r (subst (MayFollow false (appended c.args.log.now)) whole may));
     }

@@ -20,4 +20,4 @@ returns-clause-kept g c =
     c.new-2.ensures log.durable log.in_flight log.waiting p.waits
     (λ q lt. returns-clause-views g c q (omega (arith, lt, p.pages)))
     (λ q lt d left. ap (λ (n : ℕ). slot n d q) p.place ∙
-      slot_stays _ _ c.args.place c.args.pages q (g.D.Device.seen c.args.device) (g.D.Device.may_leave c.sync.new.self) (g.D.Device.may_leave c.begin_area.new.device) c.in_ok-sync.ensures.durable e.elsewhere r.apart (omega (arith, lt, p.pages)) d left)
+    slot_stays _ _ c.args.place c.args.pages q (g.D.Device.seen c.args.device) (g.D.Device.may_leave c.sync.new.self) (g.D.Device.may_leave c.begin_area.new.device) c.in_ok-sync.ensures.durable e.elsewhere r.apart (omega (arith, lt, p.pages)) d left)

@@ -43,8 +43,8 @@ pub returns-clause-moments : goal.returns-clause-moments
 returns-clause-moments g c = λ opening k. let f = c.force_step.ensures in let s = c.args.self.now in let a = after g c in let more = joined_more s.log c.force_step.new.self f.moves in
     subst (λ (t : _). LeavesOnly g.D.Device.moment g.D.Device.left_since s.device t.device (Explains opening s)) (sym a.2)
     (each_moment g.D.Device.seen g.D.Device.may_leave g.D.Device.moment g.D.Device.left_since g.met.D.Device.only_now opening s _ k
-      (kept_force g.D.Device.seen g.D.Device.may_leave opening s k c.force_step.new.self c.force_step.new.device a.0 f.on (f.sound _) f.moves f.appended a.1 f.start f.rest f.elsewhere)
-      f.start f.end refl refl f.appended more.0 more.1 f.time)
+    (kept_force g.D.Device.seen g.D.Device.may_leave opening s k c.force_step.new.self c.force_step.new.device a.0 f.on (f.sound _) f.moves f.appended a.1 f.start f.rest f.elsewhere)
+    f.start f.end refl refl f.appended more.0 more.1 f.time)
 
 pub returns-clause-views : goal.returns-clause-views
 returns-clause-views g c = let s = c.args.self.now in let a = after g c in

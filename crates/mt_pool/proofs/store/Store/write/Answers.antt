@@ -54,8 +54,8 @@ returns-in_err-place-clause-kept g c = λ opening k.
     let size = sym (ap length (p.bytes seen)) ∙ p.size in
     kept_append g.D.Device.seen g.D.Device.may_leave opening s k c.append_all.new.log [] c.in_err-place.ensures.err_longer
     (λ sound. c.append_all.ensures.sound _ sound
-      (subst (AllByRecursion (HasItsPage (pages s.pool))) (sym (p.records seen)) (now_pages g.D.Device.seen g.D.Device.may_leave r.kept.0 s r.kept.1 c.args.txn c.args.op c.args.change.now r.there r.inside r.short r.numbers size))
-      (subst (MayFollow false (appended s.log)) (sym (p.records seen)) (now_may g.D.Device.seen g.D.Device.may_leave r.kept.0 s r.kept.1 c.args.txn c.args.op c.args.change.now r.there r.inside r.short r.numbers size r.unfinished)))
+    (subst (AllByRecursion (HasItsPage (pages s.pool))) (sym (p.records seen)) (now_pages g.D.Device.seen g.D.Device.may_leave r.kept.0 s r.kept.1 c.args.txn c.args.op c.args.change.now r.there r.inside r.short r.numbers size))
+    (subst (MayFollow false (appended s.log)) (sym (p.records seen)) (now_may g.D.Device.seen g.D.Device.may_leave r.kept.0 s r.kept.1 c.args.txn c.args.op c.args.change.now r.there r.inside r.short r.numbers size r.unfinished)))
     (λ q. refl) (λ q. refl)
 
 pub change-requires-clause-position : goal.change-requires-clause-position
@@ -78,8 +78,8 @@ returns-clause-kept g c = λ opening k.
     let longer : IsLonger s.log c.append_all.new.log _ = subst (IsLonger s.log c.append_all.new.log) (p.records seen) l.longer in
     kept_write g.D.Device.seen g.D.Device.may_leave opening s k c.append_all.new.log c.change.new.self _ page longer
     (λ sound. c.append_all.ensures.sound _ sound
-      (subst (AllByRecursion (HasItsPage (pages s.pool))) (sym (p.records seen)) (now_pages g.D.Device.seen g.D.Device.may_leave r.kept.0 s r.kept.1 c.args.txn c.args.op c.args.change.now r.there r.inside r.short r.numbers size))
-      (subst (MayFollow false (appended s.log)) (sym (p.records seen)) (now_may g.D.Device.seen g.D.Device.may_leave r.kept.0 s r.kept.1 c.args.txn c.args.op c.args.change.now r.there r.inside r.short r.numbers size r.unfinished)))
+    (subst (AllByRecursion (HasItsPage (pages s.pool))) (sym (p.records seen)) (now_pages g.D.Device.seen g.D.Device.may_leave r.kept.0 s r.kept.1 c.args.txn c.args.op c.args.change.now r.there r.inside r.short r.numbers size))
+    (subst (MayFollow false (appended s.log)) (sym (p.records seen)) (now_may g.D.Device.seen g.D.Device.may_leave r.kept.0 s r.kept.1 c.args.txn c.args.op c.args.change.now r.there r.inside r.short r.numbers size r.unfinished)))
     r.inside
     (now_some g.D.Device.seen g.D.Device.may_leave r.kept.0 s r.kept.1 c.args.txn c.args.op c.args.change.now r.there r.inside r.short r.numbers size)
     (changes_images c.args.txn c.args.op page v (patched c.args.change.now.edits.items v) s.pool seen c.args.change.now.edits.items r.short.some)

@@ -7,6 +7,7 @@ ghost use Rattle.mt_frame.specs.Grammar.{IsRecord, IsOfPage, IsTxn, IsOp};
 ghost use Rattle.mt_frame.specs.History.{may_stand};
 ghost use Rattle.mt_frame.specs.Lengths.{record_length};
 ghost use Rattle.mt_log.specs.Words.{durable, waiting, appended, used, area_size, calls_left, has_failed, IsStep, Moves};
+ghost use Rattle.mt_log.specs.declared.log.Forced.{Forced};
 ghost use Rattle.mt_log.specs.declared.log.Forced.TheVariants as forced;
 ghost use Rattle.mt_pool.specs.Images.{slot};
 
@@ -262,8 +263,13 @@ impl<D: Device> Store<D> {
         ensures kept { (opening : ℕ → List ℕ) → IsKept D.seen D.may_leave opening self.old → IsKept D.seen D.may_leave opening self.new }
         ensures moments { (opening : ℕ → List ℕ) → IsKept D.seen D.may_leave opening self.old → LeavesOnly D.moment D.left_since self.old.device self.new.device (Explains opening self.old) }
         ensures views { (q : ℕ) → q < pages self.old.pool → view self.new.pool (D.seen self.new.device) q ≡ view self.old.pool (D.seen self.old.device) q }
+        ensures there { self.new.pool.of_page ≡ self.old.pool.of_page }
+        ensures waits { self.new.pool.waits ≡ self.old.pool.waits }
+        ensures used { used self.new.log ≤ used self.old.log }
+        ensures area { area_size self.new.log ≡ area_size self.old.log }
         ensures done { result ≡ Ok false → (q : ℕ) → q < pages self.old.pool → slot self.new.pool.place (D.seen self.new.device) q ≡ view self.new.pool (D.seen self.new.device) q }
-        ensures more { result ≡ Ok true → (to_flush self.new.pool + 1 ≡ to_flush self.old.pool) ⊎ (length (durable self.old.log) < length (appended self.old.log)) }
+        ensures more { result ≡ Ok true → (to_flush self.new.pool + 1 ≡ to_flush self.old.pool)
+            ⊎ ((length (durable self.old.log) < length (appended self.old.log)) × (forced : Forced) × IsStep self.old.log forced self.new.log) }
         ensures appended { appended self.new.log ≡ appended self.old.log }
         ensures only_device { IfErr result (λ why. why ≡ Refusal.DeviceFailed) }
     {

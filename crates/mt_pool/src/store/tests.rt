@@ -1,4 +1,4 @@
-ghost use Rattle.std.specs.Prelude.{◌≡◌, ◌<◌, ◌≤◌, ◌+◌, ◌*◌, ℕ, List, length, IfOk};
+ghost use Rattle.std.specs.Prelude.{◌≡◌, ◌<◌, ◌≤◌, ◌+◌, ◌*◌, ℕ, List, [], length, IfOk};
 ghost use Rattle.mt_disk.specs.Memory.{content, MayLeave};
 ghost use Rattle.mt_log.specs.Words.{appended, used, area_size};
 ghost use Rattle.mt_pool.specs.Kept.{IsKept};
@@ -8,6 +8,7 @@ ghost use Rattle.mt_pool.specs.Writes.{IsUnfinished};
 use crate::{Fetched, Flushed, PageChange, Store};
 use mt_base::{LogPos, OpNo, PageNo, Refusal, TxnNo, edits_of};
 use mt_disk::{Device, MemDevice};
+use mt_frame::Record;
 use mt_log::{AreaPlace, Forced};
 use std::alloc::Global;
 use std::test::Fail;
@@ -30,6 +31,7 @@ fn area() -> AreaPlace
 fn formatted(alloc: Global) -> Result<Store<MemDevice>, Refusal>
     ensures kept { IfOk result (λ store. (opening : ℕ → List ℕ) × IsKept content MayLeave opening store) }
     ensures pages { IfOk result (λ store. pages store.pool ≡ 33) }
+    ensures appended { IfOk result (λ store. appended store.log ≡ []) }
     ensures unfinished { IfOk result (λ store. IsUnfinished 1 1 (appended store.log)) }
     ensures used { IfOk result (λ store. used store.log ≡ 5) }
     ensures area { IfOk result (λ store. area_size store.log ≡ 458752) }
@@ -105,6 +107,67 @@ fn four_steps<D: Device>(store: &mut Store<D>) -> [Result<Forced, Refusal>; 4]
         store.force_step(),
         store.force_step(),
     ]
+}
+
+/// What six steps of writing back answered.
+fn six_steps<D: Device>(store: &mut Store<D>) -> [Result<bool, Refusal>; 6]
+    requires kept { (opening : ℕ → List ℕ) × IsKept D.seen D.may_leave opening store.old }
+    ensures kept { (opening : ℕ → List ℕ) × IsKept D.seen D.may_leave opening store.new }
+    ensures pages { pages store.new.pool ≡ pages store.old.pool }
+{
+    [
+        store.write_back_step(),
+        store.write_back_step(),
+        store.write_back_step(),
+        store.write_back_step(),
+        store.write_back_step(),
+        store.write_back_step(),
+    ]
+}
+
+/// Puts a stamped page's bytes back, if it is in a frame and has an image.
+fn unstamp<D: Device>(store: &mut Store<D>, page: PageNo) -> bool
+    requires kept { (opening : ℕ → List ℕ) × IsKept D.seen D.may_leave opening store.old }
+    requires inside { page < pages store.old.pool }
+    ensures kept { (opening : ℕ → List ℕ) × IsKept D.seen D.may_leave opening store.new }
+{
+    if !store.pool.is_there(page) || store.pool.needs_image(page) {
+        return false;
+    }
+    store.restore(page, 7, &[0; 3]);
+    true
+}
+
+#[test]
+fn pages_are_written_back(rt: HostRuntime) -> Result<(), Fail> {
+    let mut store = formatted(rt.alloc())?;
+    let page = PageNo::new(3);
+    assert_eq!(rt; stamp(rt.alloc(), &mut store, page)?, Fetched::There);
+    // Four steps of a force, the page, and nothing.
+    let first = [Ok(true), Ok(true), Ok(true), Ok(true), Ok(true), Ok(false)];
+    assert_eq!(rt; six_steps(&mut store), first);
+    assert_eq!(rt; store.sync(), Ok(()));
+    assert!(rt; unstamp(&mut store, page));
+    let second = [
+        Ok(true),
+        Ok(false),
+        Ok(false),
+        Ok(false),
+        Ok(false),
+        Ok(false),
+    ];
+    assert_eq!(rt; six_steps(&mut store), second);
+    Ok(())
+}
+
+#[test]
+fn a_record_of_no_page_waits_for_a_force(rt: HostRuntime) -> Result<(), Fail> {
+    let mut store = formatted(rt.alloc())?;
+    let entry = Record::Commit { txn: TxnNo::new(1) };
+    assert_eq!(rt; store.append(entry), Ok(LogPos::new(1)));
+    let durable = Ok(Forced::Durable(LogPos::new(1)));
+    assert_eq!(rt; four_steps(&mut store), [MORE, MORE, MORE, durable]);
+    Ok(())
 }
 
 #[test]

@@ -81,12 +81,14 @@ impl<D: Device + Drop> Store<D> {
 impl<D: Device> Store<D> {
     ghost use Rattle.mt_pool.specs.Changes.{IsShort};
     ghost use Rattle.mt_pool.specs.Kept.{IsKept, Explains};
-    ghost use Rattle.mt_pool.specs.Writes.{change_records, due_image, IsUnfinished};
+    ghost use Rattle.mt_pool.specs.Writes.{change_records, redone, due_image, IsUnfinished};
     ghost use Rattle.mt_pool.specs.Views.{IsThere, IsFull, to_flush, view, pages, waits_for};
     ghost use Rattle.mt_pool.specs.declared.fetching.Fetched.TheVariants as fetched;
     ghost use Rattle.mt_pool.specs.declared.flushing.Flushed.TheVariants as flushed;
 
-    /// A step of the log's force, as [`Log::force_step`] makes it.
+    /// A step of the log's force, as [`Log::force_step`] makes it: at most one device call, and no memory. The only
+    /// refusal is [`Refusal::DeviceFailed`], where the device failed in this call or in an earlier force; what
+    /// is durable stays.
     pub fn force_step(&mut self) -> Result<Forced, Refusal>
         requires kept { (opening : ℕ → List ℕ) × IsKept D.seen D.may_leave opening self.old }
         ensures kept { (opening : ℕ → List ℕ) → IsKept D.seen D.may_leave opening self.old → IsKept D.seen D.may_leave opening self.new }
@@ -116,7 +118,9 @@ impl<D: Device> Store<D> {
         Ok(forced)
     }
 
-    /// Writes one page into its slot, as [`Pool::flush_step`] does, once all its records are durable.
+    /// Writes one page into its slot, as [`Pool::flush_step`] does, once all its records are durable: at most one
+    /// device call, and no memory. The only error is the device's; the pool is as before then, and the slot
+    /// may hold anything.
     pub fn flush_step(&mut self) -> Result<Flushed, DeviceFault>
         requires kept { (opening : ℕ → List ℕ) × IsKept D.seen D.may_leave opening self.old }
         ensures kept { (opening : ℕ → List ℕ) → IsKept D.seen D.may_leave opening self.old → IsKept D.seen D.may_leave opening self.new }
@@ -138,7 +142,8 @@ impl<D: Device> Store<D> {
         self.pool.flush_step(self.settled.get(), &mut self.device)
     }
 
-    /// Brings the page into a frame, as [`Pool::fetch`] does.
+    /// Brings the page into a frame, as [`Pool::fetch`] does. The only error is the device's, and all views stand
+    /// then.
     pub fn fetch(&mut self, page: PageNo) -> Result<Fetched, DeviceFault>
         requires kept { (opening : ℕ → List ℕ) × IsKept D.seen D.may_leave opening self.old }
         requires inside { page < pages self.old.pool }
@@ -157,7 +162,7 @@ impl<D: Device> Store<D> {
         self.pool.fetch(&mut self.device, page)
     }
 
-    /// Puts a page's bytes from before a change back without a record, as [`Pool::restore`] does.
+    /// Puts a page's bytes from before a change back without a record, as [`Pool::restore`] does. It cannot fail.
     pub fn restore(&mut self, page: PageNo, start: usize, before: &[u8])
         requires kept { (opening : ℕ → List ℕ) × IsKept D.seen D.may_leave opening self.old }
         requires there { IsThere self.old.pool page }
@@ -176,7 +181,8 @@ impl<D: Device> Store<D> {
         self.pool.restore(page, start, before);
     }
 
-    /// Appends a record that is of no page, as [`Log::append`] does.
+    /// Appends a record that is of no page, as [`Log::append`] does; those of pages come by [`Store::write`]. The
+    /// only refusal is [`Refusal::NoMemory`], and nothing is appended then.
     pub fn append(&mut self, entry: Record) -> Result<LogPos, Refusal>
         requires kept { (opening : ℕ → List ℕ) × IsKept D.seen D.may_leave opening self.old }
         requires grammar { IsRecord entry }
@@ -223,6 +229,9 @@ impl<D: Device> Store<D> {
         ensures others { (seen : List ℕ) (q : ℕ) → q ≢ change.now.page → view self.new.pool seen q ≡ view self.old.pool seen q }
         ensures appended { OnOk result (let page = view self.old.pool (D.seen self.old.device) change.now.page in appended self.new.log ≡ appended self.old.log
             ++ change_records txn op change.now.page (due_image self.old.pool change.now.page page) page (patched change.now.edits.items page) change.now.edits.items) }
+        // These records, made again over a page as it was, give it as it is.
+        ensures redone { OnOk result ((seen : List ℕ) (q : ℕ) → let page = view self.old.pool seen change.now.page in
+            view self.new.pool seen q ≡ redone q (change_records txn op change.now.page (due_image self.old.pool change.now.page page) page (patched change.now.edits.items page) change.now.edits.items) (view self.old.pool seen q)) }
         ensures waits { OnOk result (self.new.pool.waits.items ≡ set self.old.pool.waits.items change.now.page (length (appended self.new.log))) }
         // These records end neither a transaction nor an operation.
         ensures ends_none { (t o : ℕ) → IsUnfinished t o (appended self.old.log) → IsUnfinished t o (appended self.new.log) }
@@ -241,7 +250,7 @@ impl<D: Device> Store<D> {
         Ok(())
     }
 
-    /// Makes all writes so far last, as [`Device::sync`] does.
+    /// Makes all writes so far last, as [`Device::sync`] does. After an error a crash may leave no more than before.
     pub fn sync(&mut self) -> Result<(), DeviceFault>
         requires kept { (opening : ℕ → List ℕ) × IsKept D.seen D.may_leave opening self.old }
         ensures kept { (opening : ℕ → List ℕ) → IsKept D.seen D.may_leave opening self.old → IsKept D.seen D.may_leave opening self.new }

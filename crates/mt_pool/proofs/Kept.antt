@@ -1,5 +1,5 @@
 -- Steps of a log and a pool keep what they know together, and at each moment a crash leaves what explains the pages.
-use Rattle.std.proofs.Common.{◌≡◌, ◌≢◌, ◌⊎◌, inl, inr, ⊎_elim, ℕ, ◌+◌, ◌-◌, ◌*◌, ◌<◌, ◌≤◌, List, [], ◌∷◌, ◌++◌, length, get_or, take, map, refl, sym, ◌∙◌, ap, subst, arith, length-append, append_assoc, append-nil, false, true, Option, None, Some}
+use Rattle.std.proofs.Common.{◌≡◌, ◌⊎◌, inl, inr, ⊎_elim, ℕ, ◌+◌, ◌*◌, ◌<◌, ◌≤◌, List, [], ◌++◌, length, get_or, take, refl, sym, ◌∙◌, ap, subst, arith, length-append, append_assoc, append-nil, false, Option, None, Some}
 use Rattle.std.proofs.Math.Seq.{take-append_seam}
 use Rattle.std.proofs.lemmas.List.{map-append, length-map}
 use Rattle.mt_disk.specs.Disk.{Torn, Follows, Only, Elapses, LeavesOnly}
@@ -8,14 +8,14 @@ use Rattle.mt_frame.specs.declared.records.Record.{Record}
 use Rattle.mt_frame.specs.History.{some_record, is_of_page}
 use Rattle.mt_log.specs.Batch.{joined}
 use Rattle.mt_log.specs.Holds.{HoldsBatches}
-use Rattle.mt_log.specs.Sound.{IsSound, IsBeginning, HoldsBeginning}
-use Rattle.mt_log.specs.Words.{durable, in_flight, waiting, appended, area_start, area_end, area_size, has_failed, calls_left, stands_at, IsOn, IsStep, Moves}
+use Rattle.mt_log.specs.Sound.{IsSound, HoldsBeginning}
+use Rattle.mt_log.specs.Words.{durable, in_flight, waiting, appended, area_start, area_end, area_size, IsOn, IsStep, Moves}
 use Rattle.mt_log.specs.declared.log.Forced.{Forced}
 use Rattle.mt_log.specs.declared.log.Forced.TheVariants.{More, Durable, Idle as Nothing}
 use Rattle.mt_log.specs.declared.log.Log.{Log}
 use Rattle.mt_log.proofs.AtRest.{scans_coming}
 use Rattle.mt_log.proofs.Prefix.{beginning_found}
-use Rattle.mt_log.proofs.Elsewhere.{on_elsewhere, on_same}
+use Rattle.mt_log.proofs.Elsewhere.{on_elsewhere}
 use Rattle.mt_pool.specs.Images.{slot, IsSafe, GivesPages}
 use Rattle.mt_pool.specs.Views.{IsPool, Shows, IsTied, held, pages, view, waits_for}
 use Rattle.mt_pool.specs.declared.pool.Pool.{Pool}

@@ -1,6 +1,6 @@
 -- Records are appended behind the others, with the change of a page that they are of or without.
-use Rattle.std.proofs.Common.{◌≡◌, ◌≢◌, ◌⊎◌, inl, inr, ⊎_elim, ℕ, ◌+◌, ◌*◌, ◌<◌, ◌≤◌, List, [], ◌∷◌, ◌++◌, length, get_or, take, set, map, refl, sym, ◌∙◌, ap, subst, arith, length-append, append_assoc, append-nil, false, true, Bool, Option, None, Some, Result, Ok, Err, OnOk, OnErr}
-use Rattle.std.specs.Prelude.{◌||◌, ◌==◌}
+use Rattle.std.proofs.Common.{◌≡◌, ◌≢◌, inl, inr, ⊎_elim, ℕ, ◌+◌, ◌<◌, List, [], ◌∷◌, ◌++◌, length, get_or, take, set, refl, sym, ◌∙◌, ap, subst, arith, length-append, append_assoc, append-nil, false, true, Bool, Option, Result, Ok, Err, OnOk, OnErr}
+use Rattle.std.specs.Prelude.{◌||◌}
 use Rattle.std.proofs.Math.Seq.{take-length}
 use Rattle.std.proofs.lemmas.List.{map-append, length-map, take-append-le, get_or-set_same, get_or-set_other}
 use Rattle.std.proofs.lemmas.Bool.{cases_eq}
@@ -11,7 +11,7 @@ use Rattle.std.specs.List.{AllByRecursion}
 use Rattle.mt_frame.specs.History.{some_record, is_of_page, may_stand, MayFollow}
 use Rattle.mt_log.specs.Holds.{HasItsPage}
 use Rattle.mt_log.specs.Sound.{IsSound}
-use Rattle.mt_log.specs.Words.{durable, in_flight, waiting, appended, area_start, area_end, stands_at, IsOn}
+use Rattle.mt_log.specs.Words.{durable, in_flight, waiting, appended, area_start, stands_at}
 use Rattle.mt_log.specs.declared.log.Log.{Log}
 use Rattle.mt_log.proofs.Elsewhere.{on_same}
 use Rattle.mt_log.proofs.Prefix.{may_back, each_back}

@@ -1,6 +1,6 @@
 -- The records of a change of one page: its images, the grammar, and the rules.
-use Rattle.std.proofs.Common.{◌≡◌, ◌≢◌, ◌⊎◌, inl, inr, ⊎_elim, ℕ, suc, ◌+◌, ◌-◌, ◌*◌, ◌^◌, ◌<◌, ◌≤◌, List, [], ◌∷◌, ◌++◌, length, get_or, take, drop, map, refl, sym, ◌∙◌, ap, subst, arith, length-append, append_assoc, append-nil, length-drop, false, true, Bool, Option, None, Some}
-use Rattle.std.specs.Prelude.{◌||◌, ◌&&◌, ◌==◌, not, if◌then◌else◌, cond, is_some, All}
+use Rattle.std.proofs.Common.{◌≡◌, ◌≢◌, ◌⊎◌, inl, inr, ⊎_elim, ℕ, suc, ◌+◌, ◌-◌, ◌<◌, ◌≤◌, List, [], ◌∷◌, ◌++◌, length, get_or, take, drop, refl, sym, ◌∙◌, ap, subst, arith, append-nil, length-drop, false, true, Bool, Option, None, Some}
+use Rattle.std.specs.Prelude.{◌||◌, ◌&&◌, ◌==◌, not, if◌then◌else◌, cond, is_some}
 use Rattle.std.specs.List.{AllByRecursion}
 use Rattle.std.proofs.lemmas.Bool.{cases_eq, eqb-true, eq-eqb}
 use Rattle.mt_base.specs.Edits.{patched, log_size, IsShortest}
@@ -10,16 +10,16 @@ use Rattle.mt_base.proofs.Places.{part_length}
 use Rattle.mt_frame.specs.declared.records.Record.{Record}
 use Rattle.mt_frame.specs.declared.records.Record.TheVariants.{Page, OpEnd, OpDropped, Commit, AbortEnd}
 use Rattle.mt_frame.specs.Grammar.{IsRecord, IsTxn, IsOp, IsImage, IsPageRecord}
-use Rattle.mt_frame.specs.History.{some_record, is_of_page, ends_txn, ends_op, may_stand, MayFollow}
-use Rattle.mt_frame.specs.Lengths.{record_length, image_length}
+use Rattle.mt_frame.specs.History.{some_record, is_of_page, ends_txn, ends_op, MayFollow}
+use Rattle.mt_frame.specs.Lengths.{image_length}
 use Rattle.mt_log.specs.Holds.{HasItsPage}
 use Rattle.mt_pool.specs.Images.{has_image, page_in, slot}
 use Rattle.mt_pool.specs.Views.{IsPool, pages, IsThere, held, view, waits_for}
 use Rattle.mt_pool.specs.declared.pool.Pool.{Pool}
-use Rattle.mt_log.specs.Words.{durable, appended}
+use Rattle.mt_log.specs.Words.{appended}
 use Rattle.mt_pool.specs.Changes.{IsShort}
 use Rattle.mt_pool.specs.declared.changes.PageChange.{PageChange}
-use Rattle.mt_pool.specs.Kept.{carried_of, carried, IsKept}
+use Rattle.mt_pool.specs.Kept.{carried, IsKept}
 use Rattle.mt_pool.specs.declared.store.Store.{Store}
 use Rattle.mt_pool.specs.Writes.{range_record, change_records, due_image, records_size, IsUnfinished}
 use Rattle.std.proofs.lemmas.List.Elements.{recursion_from_All}

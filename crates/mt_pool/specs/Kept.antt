@@ -7,7 +7,7 @@ use Rattle.mt_log.specs.Batch.{joined}
 use Rattle.mt_log.specs.Holds.{HoldsBatches}
 use Rattle.mt_log.specs.Sound.{IsSound, IsBeginning}
 use Rattle.mt_log.specs.Words.{durable, appended, area_start, area_end, IsOn}
-use Rattle.mt_pool.specs.Images.{slot, IsSafe, GivesPages}
+use Rattle.mt_pool.specs.Images.{IsSafe, GivesPages}
 use Rattle.mt_pool.specs.Views.{IsPool, Shows, IsTied, pages, waits_for}
 use Rattle.mt_pool.specs.declared.store.Store.{Store}
 

@@ -1,4 +1,4 @@
-use Rattle.std.proofs.Common.{◌≡◌, ◌∙◌, ◌+◌, ◌++◌, ◌∷◌, [], ℕ, List, length, refl, sym, ap, subst, arith, length-append, append_assoc, append-nil, false}
+use Rattle.std.proofs.Common.{◌≡◌, ◌∙◌, ◌++◌, ◌∷◌, [], List, refl, sym, ap, subst, arith, append_assoc, append-nil, false}
 use Rattle.std.specs.List.{AllByRecursion}
 use Rattle.mt_frame.specs.Grammar.{IsRecord}
 use Rattle.mt_log.specs.Holds.{HasItsPage}

@@ -1,6 +1,5 @@
-use Rattle.std.proofs.Common.{◌≡◌, ◌<◌, ◌≤◌, ◌∙◌, ◌+◌, ◌*◌, inl, ℕ, List, length, sym, ap, subst, arith}
+use Rattle.std.proofs.Common.{◌∙◌, ◌+◌, ◌*◌, inl, ℕ, List, length, ap, arith}
 use Rattle.mt_pool.specs.Images.{slot}
-use Rattle.mt_pool.specs.Views.{pages}
 use Rattle.mt_pool.proofs.Safe.{cut_torn}
 use Rattle.mt_pool.proofs.Kept.{kept_begin, slot_stays}
 use Rattle.mt_pool.proofs.store.Store.begin.Goals as goal

@@ -1,4 +1,4 @@
-use Rattle.std.proofs.Common.{◌≡◌, ℕ, List, [], refl, sym, append-nil}
+use Rattle.std.proofs.Common.{[], refl, sym, append-nil}
 use Rattle.mt_log.specs.Words.{durable}
 use Rattle.mt_pool.proofs.Kept.{each_moment, kept_read}
 use Rattle.mt_pool.proofs.store.Store.fetch.Goals as goal

@@ -1,4 +1,4 @@
-use Rattle.std.proofs.Common.{◌≡◌, ℕ, List, [], ap, length, refl, sym, append-nil}
+use Rattle.std.proofs.Common.{[], ap, length, refl, sym, append-nil}
 use Rattle.mt_log.specs.Words.{durable}
 use Rattle.mt_pool.proofs.Kept.{each_moment, kept_flush}
 use Rattle.mt_pool.proofs.store.Store.flush_step.Goals as goal

@@ -1,4 +1,4 @@
-use Rattle.std.proofs.Common.{◌≡◌, ◌<◌, ◌∙◌, inl, ℕ, List, refl, sym, ap, subst, length}
+use Rattle.std.proofs.Common.{◌≡◌, ◌<◌, ◌∙◌, inl, ℕ, refl, sym, ap, subst, length}
 use Rattle.mt_disk.specs.Disk.{LeavesOnly}
 use Rattle.mt_log.specs.Words.{durable, IsStep}
 use Rattle.mt_log.specs.declared.log.Forced.{Forced}

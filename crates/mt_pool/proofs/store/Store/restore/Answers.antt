@@ -1,4 +1,3 @@
-use Rattle.std.proofs.Common.{ℕ, List}
 use Rattle.mt_pool.proofs.Kept.{no_call}
 use Rattle.mt_pool.proofs.store.Store.restore.Goals as goal
 

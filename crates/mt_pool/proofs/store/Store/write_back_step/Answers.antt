@@ -1,4 +1,4 @@
-use Rattle.std.proofs.Common.{ℕ, ap, Ok}
+use Rattle.std.proofs.Common.{ap, Ok}
 use Rattle.mt_pool.specs.declared.flushing.Flushed.{Flushed}
 use Rattle.mt_pool.proofs.Kept.{all_in_slots}
 use Rattle.mt_pool.proofs.store.Store.write_back_step.Goals as goal

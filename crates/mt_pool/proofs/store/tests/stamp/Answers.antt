@@ -1,4 +1,4 @@
-use Rattle.std.proofs.Common.{◌≡◌, ℕ, sym, subst}
+use Rattle.std.proofs.Common.{ℕ, sym, subst}
 use Rattle.mt_log.specs.Words.{appended}
 use Rattle.mt_log.specs.declared.log.Log.{Log}
 use Rattle.mt_pool.specs.Writes.{IsUnfinished}

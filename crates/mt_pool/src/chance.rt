@@ -3,8 +3,48 @@ ghost use Rattle.std.specs.Prelude.{◌≡◌, ◌<◌, ◌≤◌, ◌+◌, ℕ,
 
 use crate::Pool;
 
+/// What the hand came to in some of the frames.
+#[derive(Clone, Copy, Debug, PartialEq, Eq)]
+enum Passed {
+    /// This frame, whose page is not to be flushed, and was not used since the hand passed it. The hand
+    /// stands behind it.
+    Unused(usize),
+    /// None such; this is the last one whose page is not to be flushed.
+    Used(usize),
+    /// Frames with pages to be flushed alone.
+    Dirty,
+}
+
 impl Pool {
     ghost use Rattle.mt_pool.specs.Views.{IsPool, IsFull, frames};
+    ghost use Rattle.mt_pool.specs.declared.chance.Passed.TheVariants as passed;
+
+    /// The hand passes the frames from one to before another, up to the first that it can take.
+    fn pass(&mut self, from: usize, to: usize) -> Passed
+        requires pool { IsPool self.old }
+        requires inside { to ≤ frames self.old }
+        ensures unused { (f : ℕ) → result ≡ passed.Unused f → (f < frames self.old) × (get_or self.old.dirty.items f false ≡ false) }
+        ensures used { (f : ℕ) → result ≡ passed.Used f → (f < frames self.old) × (get_or self.old.dirty.items f false ≡ false) }
+        ensures none { result ≡ passed.Dirty → (f : ℕ) → from ≤ f → f < to → get_or self.old.dirty.items f false ≡ true }
+        ensures still { result ≡ passed.Dirty → self.new ≡ self.old }
+        ensures rest { (u : _) × (h : ℕ) × (self.new ≡ record self.old { used = u; hand = h }) × (length u.items ≡ frames self.old) × (h ≤ frames self.old) }
+    {
+        let mut clean = None;
+        for frame in from..to {
+            if !self.dirty[frame] {
+                if !self.used[frame] {
+                    self.hand = frame + 1;
+                    return Passed::Unused(frame);
+                }
+                self.used[frame] = false;
+                clean = Some(frame);
+            }
+        }
+        match clean {
+            Some(frame) => Passed::Used(frame),
+            None => Passed::Dirty,
+        }
+    }
 
     /// A frame without a page yet to be flushed: from the hand on the first that was not used since
     /// the hand passed it, else the last of them. `None` where there is none.
@@ -15,27 +55,16 @@ impl Pool {
         ensures rest { (u : _) × (h : ℕ) × (self.new ≡ record self.old { used = u; hand = h }) × (length u.items ≡ frames self.old) × (h ≤ frames self.old) }
     {
         let start = self.hand;
-        let mut clean = None;
-        for frame in start..self.dirty.len() {
-            if !self.dirty[frame] {
-                if !self.used[frame] {
-                    self.hand = frame + 1;
-                    return Some(frame);
-                }
-                self.used[frame] = false;
-                clean = Some(frame);
-            }
+        let end = self.dirty.len();
+        let behind = match self.pass(start, end) {
+            Passed::Unused(frame) => return Some(frame),
+            Passed::Used(frame) => Some(frame),
+            Passed::Dirty => None,
+        };
+        match self.pass(0, start) {
+            Passed::Unused(frame) => Some(frame),
+            Passed::Used(frame) => Some(frame),
+            Passed::Dirty => behind,
         }
-        for frame in 0..start {
-            if !self.dirty[frame] {
-                if !self.used[frame] {
-                    self.hand = frame + 1;
-                    return Some(frame);
-                }
-                self.used[frame] = false;
-                clean = Some(frame);
-            }
-        }
-        clean
     }
 }

@@ -42,12 +42,13 @@ impl Pool {
     {
         let mut any = false;
         for frame in 0..self.dirty.len() {
-            if self.dirty[frame] {
-                any = true;
-                if let Some(page) = self.page_of(frame) {
-                    if self.records_before(page) <= durable {
-                        return Found::Ready(frame, page);
-                    }
+            if !self.dirty[frame] {
+                continue;
+            }
+            any = true;
+            if let Some(page) = self.page_of(frame) {
+                if self.records_before(page) <= durable {
+                    return Found::Ready(frame, page);
                 }
             }
         }

@@ -1,0 +1,110 @@
+-- The records of a change, made again over the page as it was, give the page as it is.
+use Rattle.std.proofs.Common.{◌≡◌, ◌≢◌, ◌⊎◌, inl, inr, ⊎_elim, ℕ, ◌+◌, ◌-◌, ◌<◌, ◌≤◌, List, [], ◌∷◌, ◌++◌, length, get_or, take, drop, refl, sym, ◌∙◌, ap, arith, length-append, length-drop, length-take-le, get_or-take, get_or-drop, Option, None}
+use Rattle.std.specs.Prelude.{cond, ◌==◌}
+use Rattle.std.specs.List.{AllByRecursion}
+use Rattle.std.proofs.lemmas.List.{get_or-append_right, get_or_append_left}
+use Rattle.std.proofs.lemmas.Grind.{same_number_lists}
+use Rattle.std.proofs.lemmas.Bool.{cases_lt, eqb-true, eq-eqb}
+use Rattle.mt_base.specs.Edits.{splice, patched, IsShortest}
+use Rattle.mt_base.specs.Ranges.{part}
+use Rattle.mt_base.specs.declared.edits.Edit.{Edit}
+use Rattle.mt_base.proofs.Places.{part_length}
+use Rattle.mt_pool.specs.Writes.{change_records, redone}
+use Rattle.mt_pool.proofs.Safe.{bool_cases}
+
+-- ---- bytes put into a page
+
+pub record Put (at : ℕ) (bytes page : List ℕ) : Type 0 where
+  pub len : length (splice at bytes page) ≡ length page
+  pub here : (k : ℕ) → at ≤ k → k < at + length bytes → get_or (splice at bytes page) k 0 ≡ get_or bytes (k - at) 0
+  pub elsewhere : (k : ℕ) → (k < at) ⊎ (at + length bytes ≤ k) → get_or (splice at bytes page) k 0 ≡ get_or page k 0
+
+pub put : (at : ℕ) (bytes page : List ℕ) → at + length bytes ≤ length page → Put at bytes page
+put at bytes page le =
+    let front = length-take-le at page (omega arith) in
+    let back = length-drop (at + length bytes) page in
+    let a = length-append (take at page) (bytes ++ drop (at + length bytes) page) in
+    let b = length-append bytes (drop (at + length bytes) page) in
+    record {
+      len = omega arith;
+      here = λ k low high. get_or-append_right (take at page) (bytes ++ drop (at + length bytes) page) at k 0 (omega arith) low
+          ∙ get_or_append_left bytes (drop (at + length bytes) page) 0 (k - at) (omega arith);
+      elsewhere = λ k. ⊎_elim
+          (λ before. get_or_append_left (take at page) (bytes ++ drop (at + length bytes) page) 0 k (omega arith) ∙ get_or-take at page k 0 before)
+          (λ behind. get_or-append_right (take at page) (bytes ++ drop (at + length bytes) page) at k 0 (omega arith) (omega arith)
+          ∙ get_or-append_right bytes (drop (at + length bytes) page) (length bytes) (k - at) 0 refl (omega arith)
+          ∙ get_or-drop (at + length bytes) page (k - at - length bytes) 0
+          ∙ ap (λ (m : ℕ). get_or page m 0) (omega arith));
+    }
+
+-- ---- places in the ranges of edits
+
+-- one of the ranges has this place
+abbrev Covers : List Edit → ℕ → Type 0
+Covers [] k = ⊥
+Covers (e ∷ es) k = ((e.start ≤ k) × (k < e.start + length e.bytes)) ⊎ Covers es k
+
+in_range : (at n k : ℕ) → ((at ≤ k) × (k < at + n)) ⊎ ((k < at) ⊎ (at + n ≤ k))
+in_range at n k = ⊎_elim (λ (before : k < at). inr (inl before)) (λ (low : at ≤ k). ⊎_elim (λ (high : k < at + n). inl (low, high)) (λ (behind : at + n ≤ k). inr (inr behind)) (cases_lt k (at + n))) (cases_lt k at)
+
+covers : (es : List Edit) (k : ℕ) → Covers es k ⊎ (Covers es k → ⊥)
+covers [] k = inr (λ c. c)
+covers (e ∷ es) k = ⊎_elim (λ here. inl (inl here))
+    (λ out. ⊎_elim (λ c. inl (inr c)) (λ not. inr (⊎_elim (λ (here : (e.start ≤ k) × (k < e.start + length e.bytes)). ⊎_elim (λ (before : k < e.start). absurd (let low = here.0 in omega arith)) (λ (behind : e.start + length e.bytes ≤ k). absurd (let high = here.1 in omega arith)) out) not)) (covers es k))
+    (in_range e.start (length e.bytes) k)
+
+-- all ranges are within so many bytes
+abbrev AreWithin : ℕ → List Edit → Type 0
+AreWithin n es = AllByRecursion (λ e. e.start + length e.bytes ≤ n) es
+
+same_length : (es : List Edit) (n m : ℕ) → n ≡ m → AreWithin m es → AreWithin n es
+same_length [] n m is within = tt
+same_length (e ∷ es) n m is within = ((let w = within.0 in omega arith), same_length es n m is within.1)
+
+-- what no range has stays
+patched_outside : (es : List Edit) (page : List ℕ) → AreWithin (length page) es → (k : ℕ) → (Covers es k → ⊥) → get_or (patched es page) k 0 ≡ get_or page k 0
+patched_outside [] page within k not = refl
+patched_outside (e ∷ es) page within k not =
+    let p = put e.start e.bytes page within.0 in
+    patched_outside es (splice e.start e.bytes page) (same_length es (length (splice e.start e.bytes page)) (length page) p.len within.1) k (λ c. not (inr c))
+    ∙ p.elsewhere k (⊎_elim (λ here. absurd (not (inl here))) (λ out. out) (in_range e.start (length e.bytes) k))
+
+-- ---- the records made again
+
+module _ (txn op page : ℕ) (old new : List ℕ) where
+  remade : (image : Option (List ℕ)) (es : List Edit) (bytes : List ℕ) → length bytes ≡ length new → AreWithin (length new) es → ((k : ℕ) → (get_or bytes k 0 ≡ get_or new k 0) ⊎ Covers es k)
+      → redone page (change_records txn op page image old new es) bytes ≡ new
+  remade image [] bytes size within right = same_number_lists bytes new size (λ k lt. ⊎_elim (λ same. same) (λ c. absurd c) (right k))
+  remade image (e ∷ es) bytes size within right =
+      let n = length e.bytes in
+      let w = within.0 in
+      let text = part_length new e.start n w in
+      let p = put e.start (part new e.start n) bytes (omega (arith, text.0, size, w)) in
+      let mid = splice e.start (part new e.start n) bytes in
+      ap (λ b. redone page (change_records txn op page None old new es) (cond b mid bytes)) (eq-eqb page page refl)
+      ∙ remade None es mid (p.len ∙ size) within.1 (λ k. ⊎_elim
+      (λ (here : (e.start ≤ k) × (k < e.start + n)). inl (p.here k here.0 (let high = here.1 in omega (arith, text.0)) ∙ text.1 (k - e.start) (let high = here.1 in let low = here.0 in omega arith) ∙ ap (λ (m : ℕ). get_or new m 0) (let low = here.0 in omega arith)))
+      (λ (out : (k < e.start) ⊎ (e.start + n ≤ k)). ⊎_elim
+      (λ (same : get_or bytes k 0 ≡ get_or new k 0). inl (p.elsewhere k (⊎_elim (λ before. inl before) (λ behind. inr (omega (arith, text.0, behind))) out) ∙ same))
+      (⊎_elim (λ (here : (e.start ≤ k) × (k < e.start + n)). ⊎_elim (λ (before : k < e.start). absurd (let low = here.0 in omega arith)) (λ (behind : e.start + n ≤ k). absurd (let high = here.1 in omega arith)) out) (λ c. inr c))
+      (right k))
+      (in_range e.start n k))
+
+  ranges_within : (es : List Edit) → AllByRecursion (IsShortest old new) es → AreWithin (length old) es
+  ranges_within [] short = tt
+  ranges_within (e ∷ es) short = (short.0.within, ranges_within es short.1)
+
+  -- another page has none of these records
+  pub other_redone : (q : ℕ) → q ≢ page → (image : Option (List ℕ)) (es : List Edit) (bytes : List ℕ) → redone q (change_records txn op page image old new es) bytes ≡ bytes
+  other_redone q differ image [] bytes = refl
+  other_redone q differ image (e ∷ es) bytes =
+      ap (λ b. redone q (change_records txn op page None old new es) (cond b (splice e.start (part new e.start (length e.bytes)) bytes) bytes)) (⊎_elim (λ is. absurd (differ (sym (eqb-true page q is)))) (λ not. not) (bool_cases (page == q)))
+      ∙ other_redone q differ None es bytes
+
+pub own_redone : (txn op page : ℕ) (old : List ℕ) (image : Option (List ℕ)) (es : List Edit) → AllByRecursion (IsShortest old (patched es old)) es → length (patched es old) ≡ length old
+    → redone page (change_records txn op page image old (patched es old) es) old ≡ patched es old
+own_redone txn op page old image es short size =
+    let new = patched es old in
+    let within = ranges_within txn op page old new es short in
+    remade txn op page old new image es old (sym size) (same_length es (length new) (length old) size within)
+    (λ k. ⊎_elim (λ c. inr c) (λ not. inl (sym (patched_outside es old within k not))) (covers es k))

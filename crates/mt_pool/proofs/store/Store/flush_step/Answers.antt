@@ -1,0 +1,13 @@
+use Rattle.std.proofs.Common.{[], ap, length, refl, sym, append-nil}
+use Rattle.mt_log.specs.Words.{durable}
+use Rattle.mt_pool.proofs.Kept.{each_moment, kept_flush}
+use Rattle.mt_pool.proofs.store.Store.flush_step.Goals as goal
+
+pub returns-clause-kept : goal.returns-clause-kept
+returns-clause-kept g c = λ opening k. let f = c.flush_step.ensures in
+    kept_flush g.D.Device.seen g.D.Device.may_leave opening c.args.self.now k c.flush_step.new.self c.flush_step.new.device c.get.result c.get.ensures f.pool f.shows f.waits f.place (ap (λ v. length v.items) f.there) f.views f.crash
+
+pub returns-clause-moments : goal.returns-clause-moments
+returns-clause-moments g c = λ opening k. let f = c.flush_step.ensures in
+    each_moment g.D.Device.seen g.D.Device.may_leave g.D.Device.moment g.D.Device.left_since g.met.D.Device.only_now opening c.args.self.now _ k (returns-clause-kept g c opening k) refl refl f.place (ap (λ v. length v.items) f.there) refl
+    [] (sym (append-nil (durable c.args.self.now.log))) f.time

@@ -1,0 +1,51 @@
+-- What a log and a pool know together of their device.
+use Rattle.std.specs.Prelude.{◌<◌, ◌≡◌, ℕ, ◌+◌, ◌*◌, ◌≤◌, List, length, map, false, Option, None, Some}
+use Rattle.mt_frame.specs.declared.records.Record.{Record}
+use Rattle.mt_frame.specs.declared.records.Record.TheVariants.{Page, OpEnd, OpDropped, Commit, AbortEnd}
+use Rattle.mt_frame.specs.History.{some_record, is_of_page}
+use Rattle.mt_log.specs.Batch.{joined}
+use Rattle.mt_log.specs.Holds.{HoldsBatches}
+use Rattle.mt_log.specs.Sound.{IsSound, IsBeginning}
+use Rattle.mt_log.specs.Words.{durable, appended, area_start, area_end, IsOn}
+use Rattle.mt_pool.specs.Images.{IsSafe, GivesPages}
+use Rattle.mt_pool.specs.Views.{IsPool, Shows, IsTied, pages, waits_for}
+use Rattle.mt_pool.specs.declared.store.Store.{Store}
+
+-- the image of this page, if there is one
+abbrev pub imaged : ℕ → Option (List ℕ) → Option (ℕ × List ℕ)
+imaged page None = None
+imaged page (Some image) = Some (page, image)
+
+-- the image that a record carries, if any
+abbrev pub carried_of : Record → Option (ℕ × List ℕ)
+carried_of (Page txn op page image start old new) = imaged page image
+carried_of (OpEnd txn op undoes done) = None
+carried_of (OpDropped txn op) = None
+carried_of (Commit txn) = None
+carried_of (AbortEnd txn) = None
+
+-- the images that the records carry
+abbrev pub carried : List Record → List (Option (ℕ × List ℕ))
+carried records = map carried_of records
+
+-- What a crash left, c, explains the pages as at the opening: the log's area holds batches, and no more, whose records are a beginning of
+-- the appended ones with all durable ones, and each page is its first image in them or else what its slot has.
+pub record Explains {D : Type 0} (opening : ℕ → List ℕ) (s : Store D) (c : List ℕ) : Type 0 where
+  pub batches : List (List Record)
+  pub held : HoldsBatches c (area_start s.log) (area_end s.log) (pages s.pool) batches
+  pub beginning : IsBeginning s.log batches
+  pub gives : GivesPages s.pool.place (pages s.pool) opening (carried (joined batches)) c
+
+-- The log and the pool are on the device, the slots before the log's area; whatever a crash leaves, the pages are had as at the
+-- opening; and the pool knows of each page whether the log has a record of it, and the last one.
+pub record IsKept {D : Type 0} (seen : D → List ℕ) (may_leave : D → List ℕ → Type 0) (opening : ℕ → List ℕ) (s : Store D) : Type 0 where
+  pub on : IsOn seen may_leave s.log s.device
+  pub sound : IsSound (pages s.pool) s.log
+  pub apart : s.pool.place + 4096 * pages s.pool ≤ area_start s.log
+  pub few : pages s.pool ≤ 4000
+  pub frames : IsPool s.pool
+  pub shows : Shows s.pool (seen s.device)
+  pub settled : s.settled ≡ length (durable s.log)
+  pub safe : IsSafe s.pool.place (pages s.pool) opening (carried (appended s.log)) (length (durable s.log)) (may_leave s.device)
+  pub tied : IsTied s.pool (seen s.device) opening (carried (appended s.log))
+  pub unnamed : (p : ℕ) → p < pages s.pool → waits_for s.pool p ≡ 0 → some_record (is_of_page p) (appended s.log) ≡ false

@@ -1,0 +1,294 @@
+// A device, the log of its area and the pool of its pages, each of which keeps to the others' rules.
+ghost use Rattle.std.specs.Prelude.{◌≡◌, ◌≢◌, ◌⊎◌, ◌<◌, ◌≤◌, ◌+◌, ◌-◌, ◌*◌, ◌++◌, ◌∷◌, [], ℕ, List, length, take, drop, set, get_or, None, false, true, IsOk, IsErr, OnOk, OnErr, IfOk, IfErr, Ok};
+ghost use Rattle.mt_base.specs.Edits.{patched, log_size};
+ghost use Rattle.mt_base.specs.declared.refusal.Refusal.{Refusal};
+ghost use Rattle.mt_disk.specs.Disk.{Only, LeavesOnly, HasCause};
+ghost use Rattle.mt_frame.specs.Grammar.{IsRecord, IsOfPage, IsTxn, IsOp};
+ghost use Rattle.mt_frame.specs.History.{may_stand};
+ghost use Rattle.mt_frame.specs.Lengths.{record_length};
+ghost use Rattle.mt_log.specs.Words.{durable, waiting, appended, used, area_size, calls_left, has_failed, IsStep, Moves};
+ghost use Rattle.mt_log.specs.declared.log.Forced.{Forced};
+ghost use Rattle.mt_log.specs.declared.log.Forced.TheVariants as forced;
+ghost use Rattle.mt_pool.specs.Images.{slot};
+
+use crate::writing::append_all;
+use crate::{Fetched, Flushed, PageChange, Pool};
+use mt_base::{LogPos, OpNo, PageNo, Refusal, TxnNo};
+use mt_disk::{Device, DeviceFault};
+use mt_frame::Record;
+use mt_log::{AreaPlace, Forced, Log, begin_area};
+use std::alloc::Global;
+
+#[cfg(test)]
+mod tests;
+
+/// A device with the log of its ruling area and the pool of its pages.
+///
+/// Each call keeps what contracts call `IsKept`, for the pages as they were when the area began; and at
+/// every moment of the call whatever a crash leaves explains these pages: the area holds a beginning of the
+/// appended records with all durable ones, and a page is its first image in them, or else what its slot
+/// has.
+#[derive(Drop)]
+pub struct Store<D: Device> {
+    pub device: D,
+    pub log: Log,
+    pub pool: Pool,
+    /// The place of the last record that is durable, or 0.
+    pub settled: LogPos,
+}
+
+impl<D: Device + Drop> Store<D> {
+    ghost use Rattle.mt_pool.specs.Kept.{IsKept};
+    ghost use Rattle.mt_pool.specs.Views.{view, pages as pages_of, frames as frames_of};
+
+    /// A store over a device whose page slots begin at `place`, so many pages, in so many frames. What is on the
+    /// device is synced, and then the log's area begins anew without images, so the pages as they are now
+    /// are those to be had after a crash. Refusals are [`Refusal::NoMemory`] and [`Refusal::DeviceFailed`];
+    /// no slot is touched in any case.
+    pub fn begin(
+        alloc: Global,
+        device: D,
+        frames: usize,
+        pages: u16,
+        place: u64,
+        area: AreaPlace,
+    ) -> Result<Store<D>, Refusal>
+        requires few { pages ≤ 4000 }
+        requires apart { place + 4096 * pages ≤ area.start }
+        requires within { area.end ≤ length (D.seen device) }
+        ensures kept { IfOk result (λ store. IsKept D.seen D.may_leave (slot place (D.seen device)) store) }
+        ensures views { IfOk result (λ store. (q : ℕ) → q < pages → view store.pool (D.seen store.device) q ≡ slot place (D.seen device) q) }
+        ensures appended { IfOk result (λ store. appended store.log ≡ []) }
+        ensures used { IfOk result (λ store. used store.log ≡ 5) }
+        ensures area { IfOk result (λ store. area_size store.log ≡ area.end - area.start) }
+        ensures pages { IfOk result (λ store. pages_of store.pool ≡ pages) }
+        ensures frames { IfOk result (λ store. frames_of store.pool ≡ frames) }
+        ensures why { IfErr result (λ why. (why ≡ Refusal.NoMemory) ⊎ (why ≡ Refusal.DeviceFailed)) }
+    {
+        let mut device = device;
+        let pool = Pool::new(alloc, frames, pages, place)?;
+        device.sync()?;
+        let log = begin_area(alloc, &mut device, area)?;
+        Ok(Store {
+            device,
+            log,
+            pool,
+            settled: LogPos::new(0),
+        })
+    }
+}
+
+impl<D: Device> Store<D> {
+    ghost use Rattle.mt_pool.specs.Changes.{IsShort};
+    ghost use Rattle.mt_pool.specs.Kept.{IsKept, Explains};
+    ghost use Rattle.mt_pool.specs.Writes.{change_records, redone, due_image, IsUnfinished};
+    ghost use Rattle.mt_pool.specs.Views.{IsThere, IsFull, to_flush, view, pages, waits_for};
+    ghost use Rattle.mt_pool.specs.declared.fetching.Fetched.TheVariants as fetched;
+    ghost use Rattle.mt_pool.specs.declared.flushing.Flushed.TheVariants as flushed;
+
+    /// A step of the log's force, as [`Log::force_step`] makes it: at most one device call, and no memory. The only
+    /// refusal is [`Refusal::DeviceFailed`], where the device failed in this call or in an earlier force; what
+    /// is durable stays.
+    pub fn force_step(&mut self) -> Result<Forced, Refusal>
+        requires kept { (opening : ℕ → List ℕ) × IsKept D.seen D.may_leave opening self.old }
+        ensures kept { (opening : ℕ → List ℕ) → IsKept D.seen D.may_leave opening self.old → IsKept D.seen D.may_leave opening self.new }
+        ensures moments { (opening : ℕ → List ℕ) → IsKept D.seen D.may_leave opening self.old → LeavesOnly D.moment D.left_since self.old.device self.new.device (Explains opening self.old) }
+        ensures views { (q : ℕ) → q < pages self.old.pool → view self.new.pool (D.seen self.new.device) q ≡ view self.old.pool (D.seen self.old.device) q }
+        ensures pool { self.new.pool ≡ self.old.pool }
+        ensures appended { appended self.new.log ≡ appended self.old.log }
+        ensures step { IfOk result (λ forced. IsStep self.old.log forced self.new.log) }
+        ensures moves { Moves self.old.log self.new.log }
+        ensures used { used self.new.log ≤ used self.old.log }
+        ensures used_less { 0 < calls_left self.old.log → used self.new.log ≡ used self.old.log }
+        ensures used_shared { calls_left self.old.log ≡ 0 → has_failed self.old.log ≡ false → 0 < length (waiting self.old.log) → used self.new.log + 5 * length (waiting self.old.log) ≡ used self.old.log + 5 }
+        ensures area { area_size self.new.log ≡ area_size self.old.log }
+        ensures failed { has_failed self.old.log ≡ true → IsErr result }
+        ensures now_failed { IsErr result → has_failed self.new.log ≡ true }
+        ensures well { IsOk result → has_failed self.new.log ≡ false }
+        ensures cause { IsErr result → (D.faults self.old.device < D.faults self.new.device ⊎ (has_failed self.old.log ≡ true)) }
+        ensures quiet { IsOk result → D.faults self.new.device ≡ D.faults self.old.device }
+        // Idle tells that every record is durable.
+        ensures idle { result ≡ Ok forced.Idle → length (durable self.old.log) ≡ length (appended self.old.log) }
+        ensures only_device { IfErr result (λ why. why ≡ Refusal.DeviceFailed) }
+    {
+        let forced = self.log.force_step(&mut self.device)?;
+        if let Forced::Durable(place) = forced {
+            self.settled = place;
+        }
+        Ok(forced)
+    }
+
+    /// Writes one page into its slot, as [`Pool::flush_step`] does, once all its records are durable: at most one
+    /// device call, and no memory. The only error is the device's; the pool is as before then, and the slot
+    /// may hold anything.
+    pub fn flush_step(&mut self) -> Result<Flushed, DeviceFault>
+        requires kept { (opening : ℕ → List ℕ) × IsKept D.seen D.may_leave opening self.old }
+        ensures kept { (opening : ℕ → List ℕ) → IsKept D.seen D.may_leave opening self.old → IsKept D.seen D.may_leave opening self.new }
+        ensures moments { (opening : ℕ → List ℕ) → IsKept D.seen D.may_leave opening self.old → LeavesOnly D.moment D.left_since self.old.device self.new.device (Explains opening self.old) }
+        ensures views { (q : ℕ) → view self.new.pool (D.seen self.new.device) q ≡ view self.old.pool (D.seen self.old.device) q }
+        ensures log { self.new.log ≡ self.old.log }
+        ensures waits { self.new.pool.waits ≡ self.old.pool.waits }
+        ensures there { self.new.pool.of_page ≡ self.old.pool.of_page }
+        ensures page { (p : ℕ) → result ≡ Ok (flushed.Page p) → waits_for self.old.pool p ≤ length (durable self.old.log) }
+        ensures fewer { (p : ℕ) → result ≡ Ok (flushed.Page p) → to_flush self.new.pool + 1 ≡ to_flush self.old.pool }
+        ensures waiting { result ≡ Ok flushed.Force → self.new ≡ self.old }
+        ensures fault { IsErr result → self.new.pool ≡ self.old.pool }
+        ensures exact { ((f : ℕ) → get_or self.old.pool.dirty.items f false ≡ false) → result ≡ Ok flushed.Clean }
+        ensures nothing { result ≡ Ok flushed.Clean → (f : ℕ) → get_or self.new.pool.dirty.items f false ≡ false }
+        ensures cause { HasCause (D.faults self.old.device) (D.faults self.new.device) result }
+        // A force has something to do then.
+        ensures forced { result ≡ Ok flushed.Force → length (durable self.old.log) < length (appended self.old.log) }
+    {
+        self.pool.flush_step(self.settled.get(), &mut self.device)
+    }
+
+    /// Brings the page into a frame, as [`Pool::fetch`] does. The only error is the device's, and all views stand
+    /// then.
+    pub fn fetch(&mut self, page: PageNo) -> Result<Fetched, DeviceFault>
+        requires kept { (opening : ℕ → List ℕ) × IsKept D.seen D.may_leave opening self.old }
+        requires inside { page < pages self.old.pool }
+        ensures kept { (opening : ℕ → List ℕ) → IsKept D.seen D.may_leave opening self.old → IsKept D.seen D.may_leave opening self.new }
+        ensures moments { (opening : ℕ → List ℕ) → IsKept D.seen D.may_leave opening self.old → LeavesOnly D.moment D.left_since self.old.device self.new.device (Explains opening self.old) }
+        ensures views { (q : ℕ) → view self.new.pool (D.seen self.new.device) q ≡ view self.old.pool (D.seen self.old.device) q }
+        ensures there { result ≡ Ok fetched.There → IsThere self.new.pool page }
+        ensures full { result ≡ Ok fetched.Flush → IsFull self.old.pool }
+        ensures nothing { result ≡ Ok fetched.Flush → self.new ≡ self.old }
+        ensures exact { IsFull self.old.pool → get_or self.old.pool.of_page.items page None ≡ None → result ≡ Ok fetched.Flush }
+        ensures log { self.new.log ≡ self.old.log }
+        ensures pages { pages self.new.pool ≡ pages self.old.pool }
+        ensures waits { self.new.pool.waits ≡ self.old.pool.waits }
+        ensures cause { HasCause (D.faults self.old.device) (D.faults self.new.device) result }
+    {
+        self.pool.fetch(&mut self.device, page)
+    }
+
+    /// Puts a page's bytes from before a change back without a record, as [`Pool::restore`] does. It cannot fail.
+    pub fn restore(&mut self, page: PageNo, start: usize, before: &[u8])
+        requires kept { (opening : ℕ → List ℕ) × IsKept D.seen D.may_leave opening self.old }
+        requires there { IsThere self.old.pool page }
+        requires inside { page < pages self.old.pool }
+        requires range { start + length before.now ≤ 4096 }
+        requires logged { 0 < waits_for self.old.pool page }
+        ensures kept { (opening : ℕ → List ℕ) → IsKept D.seen D.may_leave opening self.old → IsKept D.seen D.may_leave opening self.new }
+        ensures moments { (opening : ℕ → List ℕ) → IsKept D.seen D.may_leave opening self.old → LeavesOnly D.moment D.left_since self.old.device self.new.device (Explains opening self.old) }
+        ensures view { (seen : List ℕ) → view self.new.pool seen page ≡ take start (view self.old.pool seen page) ++ before.now ++ drop (start + length before.now) (view self.old.pool seen page) }
+        ensures others { (seen : List ℕ) (q : ℕ) → q ≢ page → view self.new.pool seen q ≡ view self.old.pool seen q }
+        ensures there { self.new.pool.of_page ≡ self.old.pool.of_page }
+        ensures waits { self.new.pool.waits ≡ self.old.pool.waits }
+        ensures log { self.new.log ≡ self.old.log }
+        ensures device { self.new.device ≡ self.old.device }
+    {
+        self.pool.restore(page, start, before);
+    }
+
+    /// Appends a record that is of no page, as [`Log::append`] does; those of pages come by [`Store::write`]. The
+    /// only refusal is [`Refusal::NoMemory`], and nothing is appended then.
+    pub fn append(&mut self, entry: Record) -> Result<LogPos, Refusal>
+        requires kept { (opening : ℕ → List ℕ) × IsKept D.seen D.may_leave opening self.old }
+        requires grammar { IsRecord entry }
+        requires no_page { IsOfPage entry → ⊥ }
+        requires rules { may_stand false (appended self.old.log) entry ≡ true }
+        requires fits { used self.old.log + 5 + record_length entry < area_size self.old.log }
+        ensures kept { (opening : ℕ → List ℕ) → IsKept D.seen D.may_leave opening self.old → IsKept D.seen D.may_leave opening self.new }
+        ensures moments { (opening : ℕ → List ℕ) → IsKept D.seen D.may_leave opening self.old → LeavesOnly D.moment D.left_since self.old.device self.new.device (Explains opening self.old) }
+        ensures appended { OnOk result (appended self.new.log ≡ appended self.old.log ++ entry ∷ []) }
+        ensures place { IfOk result (λ place. place ≡ length (appended self.new.log)) }
+        ensures used { OnOk result (used self.new.log ≡ used self.old.log + 5 + record_length entry) }
+        ensures err_appended { OnErr result (appended self.new.log ≡ appended self.old.log) }
+        ensures err_used { OnErr result (used self.new.log ≡ used self.old.log) }
+        ensures area { area_size self.new.log ≡ area_size self.old.log }
+        ensures pool { self.new.pool ≡ self.old.pool }
+        ensures device { self.new.device ≡ self.old.device }
+        ensures only_memory { IfErr result (λ why. why ≡ Refusal.NoMemory) }
+    {
+        self.log.append(entry)
+    }
+
+    /// Writes a change of a page that is in a frame: first a log record for each of its ranges, with the
+    /// page's old bytes and its new ones, and in the first of them the page's image where the area has none
+    /// yet; then the bytes in the frame. The page waits for the last of these records.
+    ///
+    /// The only refusal is [`Refusal::NoMemory`], and nothing is appended or written then.
+    pub fn write(
+        &mut self,
+        alloc: Global,
+        txn: TxnNo,
+        op: OpNo,
+        change: &PageChange,
+    ) -> Result<(), Refusal>
+        requires kept { (opening : ℕ → List ℕ) × IsKept D.seen D.may_leave opening self.old }
+        requires there { IsThere self.old.pool change.now.page }
+        requires inside { change.now.page < pages self.old.pool }
+        requires short { IsShort (view self.old.pool (D.seen self.old.device) change.now.page) change.now }
+        requires numbers { IsTxn txn × IsOp op }
+        requires unfinished { IsUnfinished txn op (appended self.old.log) }
+        requires fits { used self.old.log + log_size change.now.edits.items + 4096 < area_size self.old.log }
+        ensures kept { (opening : ℕ → List ℕ) → IsKept D.seen D.may_leave opening self.old → IsKept D.seen D.may_leave opening self.new }
+        ensures moments { (opening : ℕ → List ℕ) → IsKept D.seen D.may_leave opening self.old → LeavesOnly D.moment D.left_since self.old.device self.new.device (Explains opening self.old) }
+        ensures view { OnOk result ((seen : List ℕ) → view self.new.pool seen change.now.page ≡ patched change.now.edits.items (view self.old.pool seen change.now.page)) }
+        ensures others { (seen : List ℕ) (q : ℕ) → q ≢ change.now.page → view self.new.pool seen q ≡ view self.old.pool seen q }
+        ensures appended { OnOk result (let page = view self.old.pool (D.seen self.old.device) change.now.page in appended self.new.log ≡ appended self.old.log
+            ++ change_records txn op change.now.page (due_image self.old.pool change.now.page page) page (patched change.now.edits.items page) change.now.edits.items) }
+        // These records, made again over a page as it was, give it as it is.
+        ensures redone { OnOk result ((seen : List ℕ) (q : ℕ) → let page = view self.old.pool seen change.now.page in
+            view self.new.pool seen q ≡ redone q (change_records txn op change.now.page (due_image self.old.pool change.now.page page) page (patched change.now.edits.items page) change.now.edits.items) (view self.old.pool seen q)) }
+        ensures waits { OnOk result (self.new.pool.waits.items ≡ set self.old.pool.waits.items change.now.page (length (appended self.new.log))) }
+        // These records end neither a transaction nor an operation.
+        ensures ends_none { (t o : ℕ) → IsUnfinished t o (appended self.old.log) → IsUnfinished t o (appended self.new.log) }
+        ensures used { OnOk result (used self.new.log ≤ used self.old.log + log_size change.now.edits.items + 4096) }
+        ensures err_appended { OnErr result (appended self.new.log ≡ appended self.old.log) }
+        ensures err_used { OnErr result (used self.new.log ≡ used self.old.log) }
+        ensures err_pool { OnErr result (self.new.pool ≡ self.old.pool) }
+        ensures there { self.new.pool.of_page ≡ self.old.pool.of_page }
+        ensures area { area_size self.new.log ≡ area_size self.old.log }
+        ensures device { self.new.device ≡ self.old.device }
+        ensures only_memory { IfErr result (λ why. why ≡ Refusal.NoMemory) }
+    {
+        let prepared = self.pool.prepare(alloc, txn, op, change)?;
+        let place = append_all(&mut self.log, prepared.records)?;
+        self.pool.change(change.page, 0, &prepared.bytes, place);
+        Ok(())
+    }
+
+    /// Makes all writes so far last, as [`Device::sync`] does. After an error a crash may leave no more than before.
+    pub fn sync(&mut self) -> Result<(), DeviceFault>
+        requires kept { (opening : ℕ → List ℕ) × IsKept D.seen D.may_leave opening self.old }
+        ensures kept { (opening : ℕ → List ℕ) → IsKept D.seen D.may_leave opening self.old → IsKept D.seen D.may_leave opening self.new }
+        ensures moments { (opening : ℕ → List ℕ) → IsKept D.seen D.may_leave opening self.old → LeavesOnly D.moment D.left_since self.old.device self.new.device (Explains opening self.old) }
+        ensures synced { OnOk result (Only (D.seen self.new.device) (D.may_leave self.new.device)) }
+        ensures seen { D.seen self.new.device ≡ D.seen self.old.device }
+        ensures log { self.new.log ≡ self.old.log }
+        ensures pool { self.new.pool ≡ self.old.pool }
+        ensures cause { HasCause (D.faults self.old.device) (D.faults self.new.device) result }
+    {
+        self.device.sync()
+    }
+
+    /// One device call more on the way to where every page is in its slot: a page is written in place, or
+    /// where each has to wait for its records the log is forced a step. `false` tells that nothing was left to
+    /// do. Then a [`Store::sync`] makes the slots last. The only refusal is [`Refusal::DeviceFailed`].
+    pub fn write_back_step(&mut self) -> Result<bool, Refusal>
+        requires kept { (opening : ℕ → List ℕ) × IsKept D.seen D.may_leave opening self.old }
+        ensures kept { (opening : ℕ → List ℕ) → IsKept D.seen D.may_leave opening self.old → IsKept D.seen D.may_leave opening self.new }
+        ensures moments { (opening : ℕ → List ℕ) → IsKept D.seen D.may_leave opening self.old → LeavesOnly D.moment D.left_since self.old.device self.new.device (Explains opening self.old) }
+        ensures views { (q : ℕ) → q < pages self.old.pool → view self.new.pool (D.seen self.new.device) q ≡ view self.old.pool (D.seen self.old.device) q }
+        ensures there { self.new.pool.of_page ≡ self.old.pool.of_page }
+        ensures waits { self.new.pool.waits ≡ self.old.pool.waits }
+        ensures used { used self.new.log ≤ used self.old.log }
+        ensures area { area_size self.new.log ≡ area_size self.old.log }
+        ensures done { result ≡ Ok false → (q : ℕ) → q < pages self.old.pool → slot self.new.pool.place (D.seen self.new.device) q ≡ view self.new.pool (D.seen self.new.device) q }
+        ensures more { result ≡ Ok true → (to_flush self.new.pool + 1 ≡ to_flush self.old.pool)
+            ⊎ ((length (durable self.old.log) < length (appended self.old.log)) × (forced : Forced) × IsStep self.old.log forced self.new.log) }
+        ensures appended { appended self.new.log ≡ appended self.old.log }
+        ensures only_device { IfErr result (λ why. why ≡ Refusal.DeviceFailed) }
+    {
+        match self.flush_step()? {
+            Flushed::Page(_) => Ok(true),
+            Flushed::Force => {
+                self.force_step()?;
+                Ok(true)
+            }
+            Flushed::Clean => Ok(false),
+        }
+    }
+}

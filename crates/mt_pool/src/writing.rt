@@ -1,0 +1,163 @@
+// A change of a page as records of the log.
+ghost use Rattle.std.specs.Prelude.{◌≡◌, ◌≤◌, ◌<◌, ◌+◌, ℕ, List, length, [], false, All, IfOk, IfErr, OnOk, OnErr};
+ghost use Rattle.std.specs.List.{AllByRecursion};
+ghost use Rattle.mt_base.specs.Edits.{patched};
+ghost use Rattle.mt_base.specs.declared.refusal.Refusal.{Refusal};
+ghost use Rattle.mt_frame.specs.Grammar.{IsRecord};
+ghost use Rattle.mt_frame.specs.History.{MayFollow};
+ghost use Rattle.mt_log.specs.Holds.{HasItsPage};
+ghost use Rattle.mt_log.specs.Sound.{IsSound};
+ghost use Rattle.mt_log.specs.Words.{waiting, appended, used, area_size};
+ghost use Rattle.mt_pool.specs.Writes.{range_record, change_records, records_size, IsLonger};
+
+use crate::{PageChange, Pool};
+use mt_base::limits::LARGEST_PAGE_RECORD;
+use mt_base::ranges::part_of;
+use mt_base::{Bytes, Edit, LogPos, OpNo, PageNo, Refusal, TxnNo};
+use mt_frame::Record;
+use mt_log::Log;
+use std::alloc::{AllocError, Global};
+use std::collections::VecDeque;
+
+/// Whose change it is, and of which page.
+#[derive(Clone, Copy, Debug)]
+pub(crate) struct Change {
+    pub(crate) txn: TxnNo,
+    pub(crate) op: OpNo,
+    pub(crate) page: PageNo,
+}
+
+/// Makes the edits in the page's bytes, in order.
+pub(crate) fn patch(page: &mut [u8; 4096], edits: &[Edit])
+    requires { All (λ e. e.start + length e.bytes ≤ 4096) edits.now }
+    ensures made { page.new ≡ patched edits.now page.old }
+    ensures size { length page.new ≡ 4096 }
+{
+    for edit in edits {
+        let start = usize::from(edit.start);
+        page[start..start + edit.bytes.len()].copy_from_slice(edit.bytes.as_slice());
+    }
+}
+
+/// The record of an edit's range.
+fn range_record(
+    alloc: Global,
+    change: &Change,
+    image: Option<Bytes>,
+    old: &[u8; 4096],
+    new: &[u8; 4096],
+    edit: &Edit,
+) -> Result<Record, AllocError>
+    requires { edit.now.start + length edit.now.bytes ≤ 4096 }
+    ensures { IfOk result (λ entry. entry ≡ range_record change.now.txn change.now.op change.now.page image old.now new.now edit.now) }
+{
+    let start = usize::from(edit.start);
+    let bytes = edit.bytes.len();
+    Ok(Record::Page {
+        txn: change.txn,
+        op: change.op,
+        page: change.page,
+        image,
+        start: edit.start,
+        old: Bytes::copy_of(alloc, part_of(old, start, bytes))?,
+        new: Bytes::copy_of(alloc, part_of(new, start, bytes))?,
+    })
+}
+
+/// A record for each edit, the first one with the image.
+pub(crate) fn records_of(
+    alloc: Global,
+    change: &Change,
+    image: Option<Bytes>,
+    old: &[u8; 4096],
+    new: &[u8; 4096],
+    edits: &[Edit],
+) -> Result<VecDeque<Record>, AllocError>
+    requires { All (λ e. e.start + length e.bytes ≤ 4096) edits.now }
+    ensures { IfOk result (λ records. records.items ≡ change_records change.now.txn change.now.op change.now.page image old.now new.now edits.now) }
+{
+    let mut image = image;
+    let mut records = VecDeque::new(alloc);
+    for edit in edits {
+        let entry = range_record(alloc, change, image.take(), old, new, edit)?;
+        records.push_back(entry)?;
+    }
+    Ok(records)
+}
+
+/// A change of a page that is about to be logged: its records, and the page's bytes behind it.
+#[derive(Drop)]
+pub(crate) struct Prepared {
+    pub(crate) records: VecDeque<Record>,
+    pub(crate) bytes: [u8; 4096],
+}
+
+impl Pool {
+    ghost use Rattle.mt_pool.specs.Views.{IsPool, IsThere, view, pages};
+    ghost use Rattle.mt_pool.specs.Writes.{due_image};
+
+    /// A copy of the page, in a frame, where the area has no image of it yet.
+    pub(crate) fn due_image(&self, alloc: Global, page: PageNo) -> Result<Option<Bytes>, AllocError>
+        requires pool { IsPool self.now }
+        requires there { IsThere self.now page }
+        requires inside { page < pages self.now }
+        ensures { (seen : List ℕ) → IfOk result (λ image. image ≡ due_image self.now page (view self.now seen page)) }
+    {
+        if self.needs_image(page) {
+            return Ok(Some(Bytes::copy_of(alloc, self.view(page))?));
+        }
+        Ok(None)
+    }
+
+    /// What is to be logged of a change of a page in a frame, and what the page will be.
+    pub(crate) fn prepare(
+        &self,
+        alloc: Global,
+        txn: TxnNo,
+        op: OpNo,
+        change: &PageChange,
+    ) -> Result<Prepared, AllocError>
+        requires pool { IsPool self.now }
+        requires there { IsThere self.now change.now.page }
+        requires inside { change.now.page < pages self.now }
+        requires within { All (λ e. e.start + length e.bytes ≤ 4096) change.now.edits.items }
+        ensures records { (seen : List ℕ) → IfOk result (λ p. let page = view self.now seen change.now.page in
+            p.records.items ≡ change_records txn op change.now.page (due_image self.now change.now.page page) page (patched change.now.edits.items page) change.now.edits.items) }
+        ensures bytes { (seen : List ℕ) → IfOk result (λ p. p.bytes ≡ patched change.now.edits.items (view self.now seen change.now.page)) }
+        ensures size { IfOk result (λ p. length p.bytes ≡ 4096) }
+    {
+        let page = change.page;
+        let old = *self.view(page);
+        let mut bytes = old;
+        patch(&mut bytes, &change.edits);
+        let image = self.due_image(alloc, page)?;
+        let of = Change { txn, op, page };
+        let records = records_of(alloc, &of, image, &old, &bytes, &change.edits)?;
+        Ok(Prepared { records, bytes })
+    }
+}
+
+/// Appends the records in order, all of them or none, and answers the place of the last one. The only
+/// refusal is [`Refusal::NoMemory`].
+pub(crate) fn append_all(log: &mut Log, records: VecDeque<Record>) -> Result<LogPos, Refusal>
+    requires some { 0 < length records.items }
+    requires grammar { AllByRecursion IsRecord records.items }
+    requires fits { used log.old + records_size records.items < area_size log.old }
+    requires short { records_size records.items ≤ 12317 }
+    ensures longer { OnOk result (IsLonger log.old log.new records.items) }
+    ensures used { OnOk result (used log.new ≡ used log.old + records_size records.items) }
+    ensures place { IfOk result (λ place. place ≡ length (appended log.new)) }
+    ensures sound { (pages : ℕ) → IsSound pages log.old → AllByRecursion (HasItsPage pages) records.items → MayFollow false (appended log.old) records.items → IsSound pages log.new }
+    ensures err_longer { OnErr result (IsLonger log.old log.new []) }
+    ensures err_used { OnErr result (used log.new ≡ used log.old) }
+    ensures area { area_size log.new ≡ area_size log.old }
+    ensures only_memory { IfErr result (λ why. why ≡ Refusal.NoMemory) }
+{
+    let mut records = records;
+    let mut place = LogPos::new(0);
+    log.reserve(LARGEST_PAGE_RECORD as usize)?;
+    while let Some(entry) = records.pop_front() {
+        place = log.append(entry)?;
+    }
+    Ok(place)
+}

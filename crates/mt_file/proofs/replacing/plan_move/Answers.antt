@@ -1,4 +1,4 @@
-use Rattle.std.proofs.Common.{◌≡◌, ◌≢◌, ℕ, List, Option, Some, None, refl, sym, ap, subst, ◌∙◌, inl, inr}
+use Rattle.std.proofs.Common.{[], ◌≡◌, ◌≢◌, ℕ, List, Option, Some, None, refl, sym, ap, subst, ◌∙◌, inl, inr}
 use Rattle.std.proofs.lemmas.Result.{IfOk-weaker}
 use Rattle.mt_pool.specs.declared.changes.PageChange.{PageChange}
 use Rattle.mt_pool.specs.Changes.{PageBytes, after, replaced, IsUntouched, AreShort}
@@ -63,7 +63,7 @@ returns-then-live-eq0-clause-replacement g c = λ pages r agrees file named is.
         inl here,
         subst (λ (q : ℕ). Moves pages (after plan.changes.list.items pages) p s q plan.name.slot row) (sym here) moves,
       ),
-      λ e. absurd (c.requires.other r held.live (ap (λ (k : Row). k.value) e)),
+      λ e. absurd {A = plan.changes.list.items ≡ []} (c.requires.other r held.live (ap (λ (k : Row). k.value) e)),
     )
 
 pub returns-then-eq-clause-replacement : goal.returns-then-eq-clause-replacement

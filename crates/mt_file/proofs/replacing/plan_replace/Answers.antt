@@ -1,4 +1,4 @@
-use Rattle.std.proofs.Common.{◌≡◌, ◌≢◌, ℕ, List, refl, sym, ap, subst, inl}
+use Rattle.std.proofs.Common.{[], ◌≡◌, ◌≢◌, ℕ, List, refl, sym, ap, subst, inl}
 use Rattle.std.specs.Option.{IsSome}
 use Rattle.mt_pool.specs.declared.changes.PageChange.{PageChange}
 use Rattle.mt_pool.specs.Changes.{after}
@@ -46,5 +46,5 @@ returns-then-replace-clause-replacement g c = λ pages r agrees file named is.
     let differ : r ≢ row = λ e. c.if-has_value.ensures.no r held.live (ap (λ (k : Row). k.value) e) in
     let made = noted_first c.new-changes.result.list.items c.note.new.self.list.items pages p old new c.new-changes.ensures (c.in_ok-note.ensures.noted pages) held.seen in (
       inl (refl, refl, stays_one pages (after c.note.new.self.list.items pages) p s old new r row file held c.replace.ensures.shaped (c.if-replace.ensures.done r held.live) made),
-      λ e. absurd (differ e),
+      λ e. absurd {A = c.note.new.self.list.items ≡ []} (differ e),
     )

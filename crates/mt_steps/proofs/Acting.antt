@@ -8,37 +8,36 @@ use Rattle.mt_space.specs.Kinds.{kind}
 use Rattle.mt_file.specs.File.{record_in, Touches, Adds, Drops, Stays as StaysThere}
 use Rattle.mt_file.proofs.Filed.{record_kind}
 use Rattle.mt_index.specs.Maps.{Map, alter}
-use Rattle.mt_index.specs.Pages.{AreMap, AreFormed}
+use Rattle.mt_index.specs.Pages.{AreMap, AreFormed, LeavesIndex}
 use Rattle.mt_index.specs.Answers.{Stays}
 use Rattle.mt_model.specs.Model.{Base, alter_row, inserted, updated, deleted}
 use Rattle.mt_steps.specs.Held.{HoldsRows, AreNamed, AreRows}
 use Rattle.mt_steps.proofs.Rows.{rows_put, names_put, none_lone, name_lone, none_held, alter_same}
-use Rattle.mt_steps.proofs.Apart.{StaysIndex, StaysFile, map_stays, formed_stays, records_stay, file_stays, within_stays, add_stays}
+use Rattle.mt_index.proofs.Witness.{index_stays, form_stays}
+use Rattle.mt_steps.proofs.Apart.{StaysFile, records_stay, file_stays, within_stays, add_stays}
 
 -- pages of different kinds are different ones
 pub apart_kinds : (pages : PageBytes) (p q a b : ℕ) → kind pages p ≡ a → kind pages q ≡ b → a ≢ b → p ≢ q
 apart_kinds pages p q a b is_a is_b ne e = ne (sym is_a ∙ ap (λ (n : ℕ). kind pages n) e ∙ is_b)
 
 -- a page that is no bucket's, before and after, changes its kind and bytes: the index stays
-pub touches_index : (total : ℕ) (pages mid : PageBytes) (m : Map) (p : ℕ) → AreMap total pages m → Touches pages mid p → (kind pages p ≡ 3) ⊎ (kind pages p ≡ 0) → p < total → kind mid p ≢ 2 → StaysIndex total pages mid
+pub touches_index : (total : ℕ) (pages mid : PageBytes) (m : Map) (p : ℕ) → AreMap total pages m → Touches pages mid p → (kind pages p ≡ 3) ⊎ (kind pages p ≡ 0) → p < total → kind mid p ≢ 2 → LeavesIndex total pages mid
 touches_index total pages mid m p a t old inside new = record {
-  directory = t.others 1 (not_fixed 1 a.directory_fixed) (omega arith);
-  space_fixed = t.kinds 0 (not_fixed 0 a.space_fixed) ∙ a.space_fixed;
-  directory_fixed = t.kinds 1 (not_fixed 1 a.directory_fixed) ∙ a.directory_fixed;
+  directory = t.others 1 (not_one 1 a.directory_fixed) (omega arith);
+  buckets = λ q is. (t.kinds q (not_bucket q is) ∙ is, t.others q (not_bucket q is) (λ z. let w : q ≡ 0 = z in let one : kind pages q ≡ 1 = ap (λ (n : ℕ). kind pages n) w ∙ a.space_fixed in absurd (let two : kind pages q ≡ 2 = is in omega (arith, one, two))));
+  no_more = λ q is. ⊎_elim
+    (λ (e : q ≡ p). absurd (new (ap (λ (n : ℕ). kind mid n) (sym e) ∙ is)))
+    (λ (ne : q ≢ p). sym (t.kinds q ne) ∙ is)
+    (cases_eq q p);
+  fixed = λ q one. t.kinds q (not_one q one) ∙ one;
   within = λ q some. ⊎_elim
-      (λ (e : q ≡ p). let same : q ≡ p = e in omega (arith, inside, same))
-      (λ (ne : q ≢ p). a.within q (λ z. some (t.kinds q ne ∙ z)))
-      (cases_eq q p);
-  kinds = λ q is. t.kinds q (not_bucket q is) ∙ is;
-  back = λ q is. ⊎_elim
-      (λ (e : q ≡ p). absurd (new (ap (λ (n : ℕ). kind mid n) (sym e) ∙ is)))
-      (λ (ne : q ≢ p). sym (t.kinds q ne) ∙ is)
-      (cases_eq q p);
-  bytes = λ q is. t.others q (not_bucket q is) (λ z. let w : q ≡ 0 = z in let one : kind pages q ≡ 1 = ap (λ (n : ℕ). kind pages n) w ∙ a.space_fixed in absurd (let two : kind pages q ≡ 2 = is in omega (arith, one, two)));
+    (λ (e : q ≡ p). let same : q ≡ p = e in omega (arith, inside, same))
+    (λ (ne : q ≢ p). a.within q (λ z. some (t.kinds q ne ∙ z)))
+    (cases_eq q p);
 }
   where
-    not_fixed : (q : ℕ) → kind pages q ≡ 1 → q ≢ p
-    not_fixed q one e = ⊎_elim
+    not_one : (q : ℕ) → kind pages q ≡ 1 → q ≢ p
+    not_one q one e = ⊎_elim
         (λ (three : kind pages p ≡ 3). apart_kinds pages q p 1 3 one three (omega arith) e)
         (λ (zero : kind pages p ≡ 0). apart_kinds pages q p 1 0 one zero (omega arith) e)
         old
@@ -154,8 +153,8 @@ updates_there relations total pages last m b n r k v w rows held is stood fits s
   record {
     file = stays.file;
     within = stays.within relations 1024 rows.within fits;
-    index = map_stays total pages last m index rows.index;
-    formed = formed_stays relations total pages last index rows.formed;
+    index = index_stays total pages last m rows.index index;
+    formed = form_stays relations total pages last rows.formed index;
     named = same_map (alter m r k (Some n)) m again (names_put pages last m n.page n.slot r k (Some v) (Some w) rows.named stood lone stays.puts);
   },
   rows_put pages last b n.page n.slot r k (Some v) (Some w) (updated w) held stood lone stays.puts (ap (updated w) (value_held pages m b n r k v held stood)),
@@ -170,15 +169,13 @@ updates_there relations total pages last m b n r k v w rows held is stood fits s
     not_here : (q : ℕ) → kind pages q ≢ 3 → q ≢ n.page
     not_here q ne e = ne (ap (λ (x : ℕ). kind pages x) e ∙ three)
 
-    index : StaysIndex total pages last
+    index : LeavesIndex total pages last
     index = record {
       directory = stays.others 1 (not_here 1 (λ z. let a : kind pages 1 ≡ 3 = z in let c = rows.index.directory_fixed in omega (arith, a, c)));
-      space_fixed = stays.kinds 0 ∙ rows.index.space_fixed;
-      directory_fixed = stays.kinds 1 ∙ rows.index.directory_fixed;
+      buckets = λ q two. (stays.kinds q ∙ two, stays.others q (not_here q (λ z. let a : kind pages q ≡ 3 = z in let c : kind pages q ≡ 2 = two in omega (arith, a, c))));
+      no_more = λ q two. sym (stays.kinds q) ∙ two;
+      fixed = λ q one. stays.kinds q ∙ one;
       within = λ q some. rows.index.within q (λ z. some (stays.kinds q ∙ z));
-      kinds = λ q two. stays.kinds q ∙ two;
-      back = λ q two. sym (stays.kinds q) ∙ two;
-      bytes = λ q two. stays.others q (not_here q (λ z. let a : kind pages q ≡ 3 = z in let c : kind pages q ≡ 2 = two in omega (arith, a, c)));
     }
 
     again : (q : ℕ) (l : List ℕ) → alter m r k (Some n) q l ≡ m q l

@@ -26,14 +26,14 @@ touches_index total pages mid m p a t old inside new = record {
   directory = t.others 1 (not_one 1 a.directory_fixed) (omega arith);
   buckets = λ q is. (t.kinds q (not_bucket q is) ∙ is, t.others q (not_bucket q is) (λ z. let w : q ≡ 0 = z in let one : kind pages q ≡ 1 = ap (λ (n : ℕ). kind pages n) w ∙ a.space_fixed in absurd (let two : kind pages q ≡ 2 = is in omega (arith, one, two))));
   no_more = λ q is. ⊎_elim
-    (λ (e : q ≡ p). absurd (new (ap (λ (n : ℕ). kind mid n) (sym e) ∙ is)))
-    (λ (ne : q ≢ p). sym (t.kinds q ne) ∙ is)
-    (cases_eq q p);
+      (λ (e : q ≡ p). absurd (new (ap (λ (n : ℕ). kind mid n) (sym e) ∙ is)))
+      (λ (ne : q ≢ p). sym (t.kinds q ne) ∙ is)
+      (cases_eq q p);
   fixed = λ q one. t.kinds q (not_one q one) ∙ one;
   within = λ q some. ⊎_elim
-    (λ (e : q ≡ p). let same : q ≡ p = e in omega (arith, inside, same))
-    (λ (ne : q ≢ p). a.within q (λ z. some (t.kinds q ne ∙ z)))
-    (cases_eq q p);
+      (λ (e : q ≡ p). let same : q ≡ p = e in omega (arith, inside, same))
+      (λ (ne : q ≢ p). a.within q (λ z. some (t.kinds q ne ∙ z)))
+      (cases_eq q p);
 }
   where
     not_one : (q : ℕ) → kind pages q ≡ 1 → q ≢ p

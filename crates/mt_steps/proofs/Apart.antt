@@ -1,20 +1,12 @@
 -- The record file where the index changes.
-use Rattle.std.proofs.Common.{◌≡◌, ◌≢◌, ⊎_elim, ℕ, ◌<◌, ◌≤◌, ◌%◌, ◌^◌, List, [], ◌∷◌, length, get_or, ap, sym, ◌∙◌, subst, arith}
+use Rattle.std.proofs.Common.{◌≡◌, ◌≢◌, ⊎_elim, ℕ, List, length, ap, sym, ◌∙◌, subst, arith}
 use Rattle.std.proofs.lemmas.Bool.{cases_eq}
-use Rattle.mt_bucket.specs.Hash.{hash}
-use Rattle.mt_bucket.specs.Entries.{look}
-use Rattle.mt_bucket.specs.Page.{IsBucket}
 use Rattle.mt_slots.specs.Page.{slot, IsShaped}
 use Rattle.mt_pool.specs.Changes.{PageBytes}
 use Rattle.mt_space.specs.Kinds.{kind}
 use Rattle.mt_file.specs.File.{record_in, IsFile, AreWithin}
 use Rattle.mt_file.proofs.Filed.{record_records, record_none}
-use Rattle.mt_index.specs.Maps.{Map, Each, Agree, Once}
-use Rattle.mt_index.specs.Index.{Node, named, Linked, IsTree, entries_of}
-use Rattle.mt_index.specs.Pages.{depth_in, pointers_from, node_of, state_of, AreMap, AreFormed, IsDirectory}
 use Rattle.mt_index.specs.Answers.{Stays}
-use Rattle.mt_index.proofs.Lists.{each_map}
-use Rattle.mt_index.proofs.Chains.{entries_stay, linked_stay}
 
 -- the map and the pages of records stay, whatever becomes of the others
 pub record StaysFile (pages pages2 : PageBytes) : Type 0 where

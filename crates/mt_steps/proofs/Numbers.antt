@@ -1,11 +1,16 @@
 -- A number in eight bytes of a page, written and read.
-use Rattle.std.proofs.Common.{◌≡◌, ◌<◌, ◌≤◌, ◌+◌, ◌^◌, ◌++◌, ◌⊎◌, ℕ, ℤ, List, length, sym, ◌∙◌, ap, arith, length-append}
+use Rattle.std.proofs.Common.{◌≡◌, ◌≢◌, ◌<◌, ◌≤◌, ◌+◌, ◌*◌, ◌+ℤ◌, ◌^◌, ◌++◌, ◌⊎◌, inl, inr, ⊎_elim, true, int_le, ℕ, ℤ, List, length, sym, ◌∙◌, ap, subst, arith, length-append}
 use Rattle.std.specs.Int.{w64, cast_signed, cast_unsigned}
+use Rattle.std.proofs.lemmas.Int.{ints}
 use Rattle.byteorder.specs.Endian.{big_number, big_bytes}
 use Rattle.byteorder.specs.Numbers.{big_number-reads_back, length-bytes_high_first}
 use Rattle.mt_base.specs.Ranges.{Has, Torn}
 use Rattle.mt_base.proofs.Places.{part_has, same_part, same_torn}
-use Rattle.mt_steps.specs.Counters.{i64_at}
+use Rattle.std.proofs.lemmas.Bool.{cases_eq, cases_lt, and_parts}
+use Rattle.mt_model.specs.declared.counters.Count.{Count}
+use Rattle.mt_model.specs.Model.{moved, stays}
+use Rattle.mt_model.specs.Tables.{IsLimited}
+use Rattle.mt_steps.specs.Counters.{i64_at, place_of, count_in, AreCounters}
 
 pub number_back : (page text rest : List ℕ) (at bits : ℕ) (z : ℤ) → bits ≡ cast_unsigned w64 z → bits < 2 ^ 64 → cast_signed w64 (cast_unsigned w64 z) ≡ z → text ≡ big_bytes 8 bits ++ rest → length rest ≡ 0 → Has page at text → i64_at page at ≡ z
 unfolding i64_at
@@ -19,3 +24,32 @@ number_back page text rest at bits z is small back text_is none has =
 pub number_stays : (old new : List ℕ) (at n p : ℕ) → Torn at n old new → (p + 8 ≤ at) ⊎ (at + n ≤ p) → i64_at new p ≡ i64_at old p
 unfolding i64_at
 number_stays old new at n p torn apart = ap (λ (x : List ℕ). cast_signed w64 (big_number 8 x)) (same_part p 8 old new torn.size (same_torn at n p 8 old new torn apart))
+
+-- a counters page whose one number has moved within its bounds
+pub counters_kept : (relations counters n : ℕ) (old new : List ℕ) (d : ℤ) → AreCounters relations counters old → Torn (place_of n + 16) 8 old new → count_in new n ≡ moved (count_in old n) d → stays (count_in old n) d ≡ true → AreCounters relations counters new
+counters_kept relations counters n old new d a torn here fits = record {
+  size = torn.size ∙ a.size;
+  relations_told = torn.below 0 (omega arith) ∙ a.relations_told;
+  counters_told = torn.below 1 (omega arith) ∙ a.counters_told;
+  zeros = λ i two eight. torn.below i (omega (arith, eight)) ∙ a.zeros i two eight;
+  few = a.few;
+  each = λ c lt. ⊎_elim
+      (λ (same : c ≡ n). subst (λ (k : ℕ). IsLimited (count_in new k)) (sym same) (subst IsLimited (sym here) (subst (λ (k : ℕ). IsLimited (moved (count_in old k) d)) same (moved_limited (count_in old c) d (a.each c lt) (ap (λ (k : ℕ). stays (count_in old k) d) same ∙ fits)))))
+      (λ (other : c ≢ n). subst IsLimited (sym (apart c other)) (a.each c lt))
+      (cases_eq c n);
+}
+  where
+    apart : (c : ℕ) → c ≢ n → count_in new c ≡ count_in old c
+    apart c other = λ i. record { low = one (place_of c) (ends (place_of c) (omega arith) (omega arith)) i; high = one (place_of c + 8) (ends (place_of c + 8) (omega arith) (omega arith)) i; number = one (place_of c + 16) (ends (place_of c + 16) (omega arith) (omega arith)) i }
+      where
+        one : (p : ℕ) → (p + 8 ≤ place_of n + 16) ⊎ (place_of n + 16 + 8 ≤ p) → i64_at new p ≡ i64_at old p
+        one p e = number_stays old new (place_of n + 16) 8 p torn e
+
+        ends : (p : ℕ) → 8 + 24 * c ≤ p → p ≤ 8 + 24 * c + 16 → (p + 8 ≤ place_of n + 16) ⊎ (place_of n + 16 + 8 ≤ p)
+        ends p low high = ⊎_elim
+            (λ (below : c < n). inl (omega (arith, below, low, high)))
+            (λ (above : n ≤ c). inr (let ne : n ≢ c = (λ e. other (sym e)) in omega (arith, above, ne, low, high)))
+            (cases_lt c n)
+
+    moved_limited : (k : Count) (e : ℤ) → IsLimited k → stays k e ≡ true → IsLimited (moved k e)
+    moved_limited k e l t = let p = and_parts (int_le k.low (k.number +ℤ e)) (int_le (k.number +ℤ e) k.high) t in let low = p.0 in let high = p.1 in (l.0, omega (arith, ints, low), omega (arith, ints, high), l.3)

@@ -3,9 +3,9 @@ use Rattle.std.specs.Prelude.{◌≡◌, ℕ, ℤ, ◌+◌, ◌*◌, ◌<◌, �
 use Rattle.std.specs.Int.{w64, cast_signed}
 use Rattle.std.proofs.Math.ListN.{get_or}
 use Rattle.byteorder.specs.Endian.{big_number}
-use Rattle.mt_base.specs.Limits.{IsCounter}
 use Rattle.mt_base.specs.Ranges.{part}
 use Rattle.mt_model.specs.declared.counters.Count.{Count}
+use Rattle.mt_model.specs.Tables.{IsLimited}
 
 -- the number in the eight bytes at a place, the highest one first, as two's complement
 unfoldable pub i64_at : List ℕ → ℕ → ℤ
@@ -25,4 +25,4 @@ pub record AreCounters (relations counters : ℕ) (page : List ℕ) : Type 0 whe
   pub counters_told : get_or page 1 0 ≡ counters
   pub zeros : (i : ℕ) → 2 ≤ i → i < 8 → get_or page i 0 ≡ 0
   pub few : counters ≤ 128
-  pub each : (c : ℕ) → c < counters → IsCounter (i64_at page (place_of c)) (i64_at page (place_of c + 8)) (i64_at page (place_of c + 16))
+  pub each : (c : ℕ) → c < counters → IsLimited (count_in page c)

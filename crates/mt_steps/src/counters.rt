@@ -1,6 +1,6 @@
 // The counters page, in place on its bytes: how many relations and counters the schema has, and of each
 // counter its two bounds and its number.
-ghost use Rattle.std.specs.Prelude.{◌≡◌, ◌+◌, ◌+ℤ◌, ◌*◌, ◌<◌, ◌≤◌, ℕ, length, MatchBool};
+ghost use Rattle.std.specs.Prelude.{◌≡◌, ◌+◌, ◌+ℤ◌, ◌*◌, ◌<◌, ◌≤◌, ℕ, length, get_or, MatchBool};
 ghost use Rattle.std.specs.Bool.{OnTrue, OnFalse};
 ghost use Rattle.mt_base.specs.Limits.{IsCounter, IsStep};
 ghost use Rattle.mt_base.specs.Ranges.{Torn};
@@ -10,6 +10,7 @@ ghost use Rattle.mt_steps.specs.Counters.{i64_at, place_of, count_in, AreCounter
 
 use byteorder::{BigEndian, ByteOrder};
 use mt_base::CtrNo;
+use mt_base::limits::{MAX_COUNTERS, counter_fits};
 use mt_base::ranges::{part_of, put};
 use mt_model::Count;
 
@@ -72,6 +73,7 @@ pub fn add(page: &mut [u8], number: CtrNo, step: i64) -> bool
     ensures done { OnTrue result (count_in page.new number ≡ moved (count_in page.old number) step) }
     ensures unchanged { OnFalse result (page.new ≡ page.old) }
     ensures rest { Torn (place_of number + 16) 8 page.old page.new }
+    ensures kept { (relations counters : ℕ) → AreCounters relations counters page.old → AreCounters relations counters page.new }
 {
     let count = counter(page, number);
     if !count.takes(step) {
@@ -79,5 +81,49 @@ pub fn add(page: &mut [u8], number: CtrNo, step: i64) -> bool
     }
     let at = HEAD_BYTES + COUNTER_BYTES * usize::from(number.get());
     put_number(page, at + 16, sum_of(&count, step));
+    true
+}
+
+/// Whether these 4,096 bytes are the counters page of a schema of so many relations and counters: it tells
+/// both numbers, has zeros behind them, and each counter's number lies in its bounds, which lie within
+/// 10^15 of zero. The bytes behind the last counter are open.
+pub fn check(page: &[u8], relations: u16, counters: u16) -> bool
+    requires whole { length page.now ≡ 4096 }
+    ensures { MatchBool result (AreCounters relations counters page.now) (AreCounters relations counters page.now → ⊥) }
+{
+    if counters > MAX_COUNTERS
+        || u16::from(page[0]) != relations
+        || u16::from(page[1]) != counters
+    {
+        return false;
+    }
+    has_zeros(page) && are_limited(page, counters)
+}
+
+// Whether the bytes behind the two numbers are zero.
+fn has_zeros(page: &[u8]) -> bool
+    requires whole { length page.now ≡ 4096 }
+    ensures { MatchBool result ((i : ℕ) → 2 ≤ i → i < 8 → get_or page.now i 0 ≡ 0) (((i : ℕ) → 2 ≤ i → i < 8 → get_or page.now i 0 ≡ 0) → ⊥) }
+{
+    for i in 2..HEAD_BYTES {
+        if page[i] != 0 {
+            return false;
+        }
+    }
+    true
+}
+
+// Whether the first counters lie within their bounds, and these within their limits.
+fn are_limited(page: &[u8], counters: u16) -> bool
+    requires whole { length page.now ≡ 4096 }
+    requires few { counters ≤ 128 }
+    ensures { MatchBool result ((c : ℕ) → c < counters → IsLimited (count_in page.now c)) (((c : ℕ) → c < counters → IsLimited (count_in page.now c)) → ⊥) }
+{
+    for c in 0..counters {
+        let count = counter(page, CtrNo::new(c));
+        if !counter_fits(count.low, count.high, count.number) {
+            return false;
+        }
+    }
     true
 }

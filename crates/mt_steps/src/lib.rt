@@ -8,8 +8,12 @@ mod counters;
 mod getting;
 
 pub use act::Act;
-pub use counters::{add, counter};
+pub use counters::{add, check, counter};
 pub use getting::get;
+
 mod draft;
 
 pub use draft::{Draft, first_missing, merged};
+
+#[cfg(test)]
+mod tests;

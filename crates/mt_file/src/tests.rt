@@ -7,10 +7,10 @@ ghost use Rattle.mt_file.specs.Copies.{copied, AreWhole};
 ghost use Rattle.mt_file.specs.File.{IsFile, record_in};
 
 use crate::{Found, Plan, Rooms, Step, fits, plan_put, plan_read, plan_remove, plan_replace};
-use mt_base::ranges::put;
+use mt_base::ranges::{put, u16_at};
 use mt_base::{Edit, PageNo, RecordName, RelNo};
 use mt_pool::{PageChange, Pages};
-use mt_slots::check;
+use mt_slots::{check, room};
 use std::alloc::{AllocError, Global};
 use std::test::Fail;
 
@@ -142,6 +142,16 @@ impl Copies {
         }
         let page = &self.pages[page];
         check(page, 64, 1024) && fits(page) >= bytes
+    }
+
+    // Whether the room of each page of records is what its head, its slots and its records leave.
+    fn sums_up(&self) -> bool {
+        for page in 0..self.pages.len() {
+            if self.kind_at(page) == 3 && !is_summed_up(&self.pages[page]) {
+                return false;
+            }
+        }
+        true
     }
 
     // How many pages are free.
@@ -280,6 +290,21 @@ fn a_page_is_found_by_what_fits(rt: HostRuntime) -> Result<(), Fail> {
     Ok(())
 }
 
+// Whether a page's head, its slots, its records and its room are the whole page.
+fn is_summed_up(page: &[u8; 4096]) -> bool {
+    if !check(page, 64, 1024) {
+        return false;
+    }
+    let slots = usize::from(u16_at(page, 0));
+    let mut bytes = 8 + 4 * slots + usize::from(room(page));
+    for slot in 0..slots {
+        if 12 + 4 * slot <= page.len() {
+            bytes = bytes.wrapping_add(usize::from(u16_at(page, 10 + 4 * slot)));
+        }
+    }
+    bytes == 4096
+}
+
 // A put, and a replacement of an earlier record, both of this length.
 fn turn(
     alloc: Global,
@@ -315,6 +340,7 @@ fn no_page_is_lost(rt: HostRuntime) -> Result<(), Fail> {
             &mut names,
             (seed / 65_536 % 1_025) as usize,
         )?;
+        assert!(rt; file.sums_up());
     }
     assert!(rt; file.is_file());
     for name in &names {

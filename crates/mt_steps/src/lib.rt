@@ -5,15 +5,13 @@
 
 mod act;
 mod counters;
+mod draft;
 mod getting;
 
 pub use act::Act;
 pub use counters::{add, check, counter};
-pub use getting::get;
-
-mod draft;
-
 pub use draft::{Draft, first_missing, merged};
+pub use getting::get;
 
 #[cfg(test)]
 mod tests;

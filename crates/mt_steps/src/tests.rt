@@ -2,6 +2,7 @@ ghost use Rattle.std.specs.Prelude.{◌≡◌, length};
 
 use crate::{add, check, counter};
 use mt_base::CtrNo;
+use std::test::Fail;
 
 // Of two relations and two counters: -5 to 10, now 6, and -10^15 to 10^15, now 0.
 fn two_counters() -> [u8; 4096]

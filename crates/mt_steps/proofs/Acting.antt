@@ -86,32 +86,24 @@ base_same pages b c same h = record {
 
 -- ---- an insert
 
-pub inserts : (relations total : ℕ) (pages mid last : PageBytes) (m : Map) (b : Base) (p s r : ℕ) (k v : List ℕ) → AreRows relations total pages m → HoldsRows pages b → m r k ≡ None
-    → Fits relations 1024 (record { relation = r; key = k; value = v }) → Adds pages mid p s (record { relation = r; key = k; value = v })
-    → AreMap total mid m → AreMap total last (alter m r k (Some (record { page = p; slot = s }))) → Stays total mid last → AreFormed relations total last
-    → AreRows relations total last (alter m r k (Some (record { page = p; slot = s }))) × HoldsRows last (alter_row b r k (inserted v))
-inserts relations total pages mid last m b p s r k v rows held none fits adds between map stays formed = (
-  record {
-    file = file_stays mid last kept adds.file;
-    within = within_stays relations 1024 mid last kept (adds.within relations 1024 rows.within fits);
-    index = map;
-    formed = formed;
-    named = named_same mid last (alter m r k (Some (record { page = p; slot = s }))) same (names_put pages mid m p s r k None (Some v) rows.named adds.free lone adds.puts);
-  },
-  rows_same mid last (alter_row b r k (inserted v)) same (rows_put pages mid b p s r k None (Some v) (inserted v) held adds.free lone adds.puts after),
-)
-  where
-    kept : StaysFile mid last
-    kept = add_stays total mid last between.space_fixed between.directory_fixed stays
+-- the pages that an insert leaves are as good as before
+pub inserts_good : (relations total : ℕ) (pages mid last : PageBytes) (m : Map) (p s r : ℕ) (k v : List ℕ) → AreRows relations total pages m → m r k ≡ None
+    → Fits relations 1024 (record { relation = r; key = k; value = v }) → Adds pages mid p s (record { relation = r; key = k; value = v }) → StaysFile mid last
+    → AreMap total last (alter m r k (Some (record { page = p; slot = s }))) → AreFormed relations total last → AreRows relations total last (alter m r k (Some (record { page = p; slot = s })))
+inserts_good relations total pages mid last m p s r k v rows none fits adds kept map formed = record {
+  file = file_stays mid last kept adds.file;
+  within = within_stays relations 1024 mid last kept (adds.within relations 1024 rows.within fits);
+  index = map;
+  formed = formed;
+  named = named_same mid last (alter m r k (Some (record { page = p; slot = s }))) (records_stay mid last kept) (names_put pages mid m p s r k None (Some v) rows.named adds.free (none_lone pages m p s r k rows.named none) adds.puts);
+}
 
-    same : (q t : ℕ) → record_in last q t ≡ record_in mid q t
-    same = records_stay mid last kept
-
-    lone : (q t : ℕ) (w : List ℕ) → (q ≢ p) ⊎ (t ≢ s) → record_in pages q t ≡ Some (record { relation = r; key = k; value = w }) → ⊥
-    lone = none_lone pages m p s r k rows.named none
-
-    after : inserted v (b.rows r k) ≡ Some v
-    after = ap (inserted v) (none_held pages m b r k rows.named held none)
+-- and hold the base with the row
+pub inserts_base : (relations total : ℕ) (pages mid last : PageBytes) (m : Map) (b : Base) (p s r : ℕ) (k v : List ℕ) → AreRows relations total pages m → HoldsRows pages b → m r k ≡ None
+    → Adds pages mid p s (record { relation = r; key = k; value = v }) → StaysFile mid last → HoldsRows last (alter_row b r k (inserted v))
+inserts_base relations total pages mid last m b p s r k v rows held none adds kept =
+    rows_same mid last (alter_row b r k (inserted v)) (records_stay mid last kept)
+    (rows_put pages mid b p s r k None (Some v) (inserted v) held adds.free (none_lone pages m p s r k rows.named none) adds.puts (ap (inserted v) (none_held pages m b r k rows.named held none)))
 
 -- ---- a delete
 

@@ -3,3 +3,4 @@ mod Apart
 mod Acting
 mod Numbers
 pub mod Drafting
+mod Entering

@@ -199,3 +199,15 @@ rows_twice b r k w v is q l = ⊎_elim
     go None e true f = absurd (cc)
     go (Some u) e true f = refl
     go o e false f = absurd (cc)
+
+-- an insert where there is a value
+pub inserted_again : (b : Base) (r : ℕ) (k w v : List ℕ) → b.rows r k ≡ Some v → (q : ℕ) (l : List ℕ) → (alter_row b r k (inserted w)).rows q l ≡ b.rows q l
+inserted_again b r k w v is q l = ⊎_elim
+    (λ (same : (r ≡ q) × (k ≡ l)). go (b.rows q l) (sym (λ i. b.rows (same.0 i) (same.1 i)) ∙ is) ((r == q) && bytes_eq k l))
+    (λ (other : ((r == q) && bytes_eq k l) ≡ false). ap (λ (t : Bool). cond t (inserted w (b.rows q l)) (b.rows q l)) other)
+    (key_cases r k q l)
+  where
+    go : (o : Option (List ℕ)) → o ≡ Some v → (t : Bool) → cond t (inserted w o) o ≡ o
+    go None e t = absurd (cc)
+    go (Some u) e true = refl
+    go (Some u) e false = refl

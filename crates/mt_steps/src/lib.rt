@@ -7,11 +7,13 @@ mod act;
 mod counters;
 mod draft;
 mod getting;
+mod inserting;
 
 pub use act::Act;
 pub use counters::{add, check, counter};
 pub use draft::{Draft, first_missing, merged};
 pub use getting::get;
+pub use inserting::insert;
 
 #[cfg(test)]
 mod tests;

@@ -2,24 +2,21 @@
 ghost use Rattle.std.specs.Prelude.{◌≡◌, ◌≤◌, ◌<◌, ℕ, List, Option, length, None, IfOk};
 ghost use Rattle.mt_base.specs.Limits.{IsKey, IsValue};
 ghost use Rattle.mt_slots.specs.Page.{Fits};
-ghost use Rattle.mt_pool.specs.Changes.{PageBytes, Agrees, after, AreShort};
+ghost use Rattle.mt_pool.specs.Changes.{after, AreShort};
 ghost use Rattle.mt_model.specs.declared.operations.Op.TheVariants.{Insert};
-ghost use Rattle.mt_model.specs.declared.operations.Reply.TheVariants.{Done};
 ghost use Rattle.mt_index.specs.Answers.{InMaps};
-ghost use Rattle.mt_steps.specs.Drafts.{AreAtHand, AreCopies, shown};
-ghost use Rattle.mt_steps.specs.Acts.{HasRoomy, InRoomy, IfLock, IfMade, IfFull, IfBroken, IsAct, IsPlaced};
+ghost use Rattle.mt_steps.specs.Drafts.{AreAtHand};
+ghost use Rattle.mt_steps.specs.Acts.{HasRoomy, InRoomy, IfLock, IfMade, IfBroken, IsAct, IsPlaced};
 
 use crate::act::Act;
-use crate::draft::{Draft, first_missing, merged};
+use crate::draft::first_missing;
+use crate::joining::{drafted, join, to_write};
 use mt_base::{Mode, PageNo, RelNo};
 use mt_file::{Plan, Step, plan_put};
 use mt_index::{Add, Find, plan_add, plan_find};
 use mt_model::Reply;
 use mt_pool::{Changes, Pages};
 use std::alloc::{AllocError, Global};
-
-// The directory.
-const DIRECTORY: u16 = 1;
 
 /// Plans to put a value under a key that has none: the record goes into the page `room`, which holds
 /// records, or into a new page where none is named, and its entry into the index, which splits a bucket at
@@ -84,11 +81,6 @@ fn insert_new<V: Pages>(
     add_entry(alloc, views, relation, key, &plan, split)
 }
 
-// A page of a bucket is to be written; the directory is read.
-fn to_write(page: PageNo, mode: Mode) -> Mode {
-    if page.get() == DIRECTORY { mode } else { Mode::Write }
-}
-
 // The entry of a record that has been put.
 fn add_entry<V: Pages>(
     alloc: Global,
@@ -114,46 +106,6 @@ fn add_entry<V: Pages>(
         Add::Need(page, mode) => Ok(Act::Lock(page, mode)),
         Add::Full => Ok(Act::Full),
         Add::Endless => Ok(Act::Broken),
-        Add::Changes(changes) => join(alloc, views, &plan.changes, &changes),
+        Add::Changes(changes) => join(alloc, views, &plan.changes, &changes, Reply::Done),
     }
-}
-
-// The pages as they will be once these changes are made.
-fn drafted<'a, V: Pages>(
-    alloc: Global,
-    views: &'a V,
-    changes: &Changes,
-) -> Result<Draft<'a, V>, AllocError>
-    requires sound { V.is_sound views.now }
-    requires there { AreAtHand (V.at_hand views.now) changes.now.list.items }
-    requires short { (pages : PageBytes) × Agrees (V.at_hand views.now) pages × AreShort changes.now.list.items pages }
-    ensures copies { IfOk result (λ d. AreCopies (V.at_hand views.now) d.copies.items) }
-    ensures views { IfOk result (λ d. d.views.now ≡ views.now) }
-    ensures none { IfOk result (λ d. (p : ℕ) → shown d.copies.items (V.at_hand views.now) p ≡ None → V.at_hand views.now p ≡ None) }
-    ensures agrees { IfOk result (λ d. (pages : PageBytes) → Agrees (V.at_hand views.now) pages → Agrees (shown d.copies.items (V.at_hand views.now)) (after changes.now.list.items pages)) }
-{
-    let mut draft = Draft::new(alloc, views);
-    draft.apply(changes)?;
-    Ok(draft)
-}
-
-// The changes of both plans, and that the insert is done.
-fn join<V: Pages>(
-    alloc: Global,
-    views: &V,
-    first: &Changes,
-    second: &Changes,
-) -> Result<Act, AllocError>
-    requires sound { V.is_sound views.now }
-    requires there { AreAtHand (V.at_hand views.now) first.now.list.items }
-    requires short { (pages : PageBytes) × Agrees (V.at_hand views.now) pages × AreShort first.now.list.items pages × AreShort second.now.list.items (after first.now.list.items pages) }
-    ensures lock { IfOk result (λ act. IfLock act (λ p mode. V.at_hand views.now p ≡ None)) }
-    ensures made { IfOk result (λ act. IfMade act (λ changes reply. (reply ≡ Done) × ((pages : PageBytes) → Agrees (V.at_hand views.now) pages → (after changes pages ≡ after second.now.list.items (after first.now.list.items pages)) × AreShort changes pages))) }
-    ensures broken { IfOk result (λ act. IfBroken act ⊥) }
-    ensures full { IfOk result (λ act. IfFull act ⊥) }
-{
-    if let Some(page) = first_missing(views, second) {
-        return Ok(Act::Lock(page, Mode::Write));
-    }
-    Ok(Act::Made(merged(alloc, views, first, second)?, Reply::Done))
 }

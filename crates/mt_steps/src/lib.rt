@@ -8,6 +8,7 @@ mod counters;
 mod draft;
 mod getting;
 mod inserting;
+mod joining;
 
 pub use act::Act;
 pub use counters::{add, check, counter};

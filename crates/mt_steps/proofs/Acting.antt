@@ -9,12 +9,11 @@ use Rattle.mt_file.specs.File.{record_in, Touches, Adds, Drops, Stays as StaysTh
 use Rattle.mt_file.proofs.Filed.{record_kind}
 use Rattle.mt_index.specs.Maps.{Map, alter}
 use Rattle.mt_index.specs.Pages.{AreMap, AreFormed, LeavesIndex}
-use Rattle.mt_index.specs.Answers.{Stays}
 use Rattle.mt_model.specs.Model.{Base, alter_row, inserted, updated, deleted}
 use Rattle.mt_steps.specs.Held.{HoldsRows, AreNamed, AreRows}
 use Rattle.mt_steps.proofs.Rows.{rows_put, names_put, none_lone, name_lone, none_held, alter_same}
 use Rattle.mt_index.proofs.Witness.{index_stays, form_stays}
-use Rattle.mt_steps.proofs.Apart.{StaysFile, records_stay, file_stays, within_stays, add_stays}
+use Rattle.mt_steps.proofs.Apart.{StaysFile, records_stay, file_stays, within_stays}
 
 -- pages of different kinds are different ones
 pub apart_kinds : (pages : PageBytes) (p q a b : ℕ) → kind pages p ≡ a → kind pages q ≡ b → a ≢ b → p ≢ q
@@ -107,29 +106,24 @@ inserts_base relations total pages mid last m b p s r k v rows held none adds ke
 
 -- ---- a delete
 
-pub deletes : (relations total : ℕ) (pages mid last : PageBytes) (m : Map) (b : Base) (n : RecordName) (r : ℕ) (k v : List ℕ) → AreRows relations total pages m → HoldsRows pages b → m r k ≡ Some n
-    → record_in pages n.page n.slot ≡ Some (record { relation = r; key = k; value = v }) → Drops pages mid n.page n.slot
-    → AreMap total mid m → AreMap total last (alter m r k None) → ((p : ℕ) → kind mid p ≢ 2 → last p ≡ mid p) → AreFormed relations total last
-    → AreRows relations total last (alter m r k None) × HoldsRows last (alter_row b r k deleted)
-deletes relations total pages mid last m b n r k v rows held is stood drops between map others formed = (
-  record {
-    file = file_stays mid last kept drops.file;
-    within = within_stays relations 1024 mid last kept (drops.within relations 1024 rows.within);
-    index = map;
-    formed = formed;
-    named = named_same mid last (alter m r k None) same (names_put pages mid m n.page n.slot r k (Some v) None rows.named stood lone drops.puts);
-  },
-  rows_same mid last (alter_row b r k deleted) same (rows_put pages mid b n.page n.slot r k (Some v) None deleted held stood lone drops.puts refl),
-)
-  where
-    kept : StaysFile mid last
-    kept = amends_file mid last between.space_fixed others
+-- the pages that a delete leaves are as good as before
+pub deletes_good : (relations total : ℕ) (pages mid last : PageBytes) (m : Map) (n : RecordName) (r : ℕ) (k v : List ℕ) → AreRows relations total pages m → m r k ≡ Some n
+    → record_in pages n.page n.slot ≡ Some (record { relation = r; key = k; value = v }) → Drops pages mid n.page n.slot → StaysFile mid last
+    → AreMap total last (alter m r k None) → AreFormed relations total last → AreRows relations total last (alter m r k None)
+deletes_good relations total pages mid last m n r k v rows is stood drops kept map formed = record {
+  file = file_stays mid last kept drops.file;
+  within = within_stays relations 1024 mid last kept (drops.within relations 1024 rows.within);
+  index = map;
+  formed = formed;
+  named = named_same mid last (alter m r k None) (records_stay mid last kept) (names_put pages mid m n.page n.slot r k (Some v) None rows.named stood (name_lone pages m r k n rows.named is) drops.puts);
+}
 
-    same : (q t : ℕ) → record_in last q t ≡ record_in mid q t
-    same = records_stay mid last kept
-
-    lone : (q t : ℕ) (w : List ℕ) → (q ≢ n.page) ⊎ (t ≢ n.slot) → record_in pages q t ≡ Some (record { relation = r; key = k; value = w }) → ⊥
-    lone = name_lone pages m r k n rows.named is
+-- and hold the base without the row
+pub deletes_base : (relations total : ℕ) (pages mid last : PageBytes) (m : Map) (b : Base) (n : RecordName) (r : ℕ) (k v : List ℕ) → AreRows relations total pages m → HoldsRows pages b → m r k ≡ Some n
+    → record_in pages n.page n.slot ≡ Some (record { relation = r; key = k; value = v }) → Drops pages mid n.page n.slot → StaysFile mid last → HoldsRows last (alter_row b r k deleted)
+deletes_base relations total pages mid last m b n r k v rows held is stood drops kept =
+    rows_same mid last (alter_row b r k deleted) (records_stay mid last kept)
+    (rows_put pages mid b n.page n.slot r k (Some v) None deleted held stood (name_lone pages m r k n rows.named is) drops.puts refl)
 
 -- ---- an update
 

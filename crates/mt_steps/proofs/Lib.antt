@@ -4,3 +4,4 @@ mod Acting
 mod Numbers
 pub mod Drafting
 mod Entering
+mod Leaving

@@ -211,3 +211,15 @@ inserted_again b r k w v is q l = ⊎_elim
     go None e t = absurd (cc)
     go (Some u) e true = refl
     go (Some u) e false = refl
+
+-- a delete where there is no value
+pub deleted_again : (b : Base) (r : ℕ) (k : List ℕ) → b.rows r k ≡ None → (q : ℕ) (l : List ℕ) → (alter_row b r k deleted).rows q l ≡ b.rows q l
+deleted_again b r k none q l = ⊎_elim
+    (λ (same : (r ≡ q) × (k ≡ l)). go (b.rows q l) (sym (λ i. b.rows (same.0 i) (same.1 i)) ∙ none) ((r == q) && bytes_eq k l))
+    (λ (other : ((r == q) && bytes_eq k l) ≡ false). ap (λ (t : Bool). cond t (deleted (b.rows q l)) (b.rows q l)) other)
+    (key_cases r k q l)
+  where
+    go : (o : Option (List ℕ)) → o ≡ None → (t : Bool) → cond t (deleted o) o ≡ o
+    go None e true = refl
+    go None e false = refl
+    go (Some u) e t = absurd (cc)

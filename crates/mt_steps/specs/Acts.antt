@@ -1,12 +1,12 @@
 -- What the plan of an operation answers.
-use Rattle.std.specs.Prelude.{◌≡◌, ◌⊎◌, ◌<◌, ℕ, List, Option}
+use Rattle.std.specs.Prelude.{◌≡◌, ◌⊎◌, ◌<◌, ℕ, List, Option, Some}
 use Rattle.mt_base.specs.declared.modes.Mode.{Mode}
 use Rattle.mt_base.specs.declared.numbers.RecordName.{RecordName}
 use Rattle.mt_slots.specs.Page.{Row}
 use Rattle.mt_pool.specs.declared.changes.PageChange.{PageChange}
 use Rattle.mt_pool.specs.Changes.{PageBytes, Agrees, after, AreShort}
 use Rattle.mt_space.specs.Kinds.{kind}
-use Rattle.mt_file.specs.File.{Adds}
+use Rattle.mt_file.specs.File.{record_in, Adds, Drops}
 use Rattle.mt_file.specs.Plans.{IsNamed}
 use Rattle.mt_index.specs.Maps.{Map}
 use Rattle.mt_model.specs.declared.operations.Op.{Op}
@@ -21,8 +21,8 @@ abbrev pub HasGood : (ℕ → Option (List ℕ)) → ℕ → ℕ → Type 0
 HasGood at_hand relations total = (pages : PageBytes) × Agrees at_hand pages × (m : Map) × AreRows relations total pages m
 
 -- it holds of all good pages that agree with what is at hand
-abbrev pub InGood : (ℕ → Option (List ℕ)) → ℕ → ℕ → (PageBytes → Type 0) → Type 0
-InGood at_hand relations total P = (pages : PageBytes) → Agrees at_hand pages → (m : Map) → AreRows relations total pages m → P pages
+abbrev pub InGood : (ℕ → Option (List ℕ)) → ℕ → ℕ → (PageBytes → Map → Type 0) → Type 0
+InGood at_hand relations total P = (pages : PageBytes) → Agrees at_hand pages → (m : Map) → AreRows relations total pages m → P pages m
 
 -- a page is asked for that is not at hand
 abbrev pub IfLock : Act → (ℕ → Mode → Type 0) → Type 0
@@ -63,4 +63,12 @@ pub record IsPlaced (total : ℕ) (pages : PageBytes) (changes : List PageChange
   pub adds : Adds pages (after changes pages) name.page name.slot row
   pub was : (kind pages name.page ≡ 3) ⊎ (kind pages name.page ≡ 0)
   pub inside : name.page < total
+  pub short : AreShort changes pages
+
+-- ---- a delete
+
+-- the record has been taken away
+pub record IsTaken (pages : PageBytes) (changes : List PageChange) (name : RecordName) (row : Row) : Type 0 where
+  pub stood : record_in pages name.page name.slot ≡ Some row
+  pub drops : Drops pages (after changes pages) name.page name.slot
   pub short : AreShort changes pages

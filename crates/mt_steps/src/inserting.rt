@@ -98,7 +98,7 @@ fn add_entry<V: Pages>(
     ensures lock { IfOk result (λ act. IfLock act (λ p mode. V.at_hand views.now p ≡ None)) }
     ensures made { (relations : ℕ) (room : Option ℕ) (value : List ℕ) → Fits relations 1024 (record { relation = relation; key = key.now; value = value }) → IfOk result (λ act. IfMade act (λ changes reply.
         InRoomy (V.at_hand views.now) room relations (V.total views.now) (λ pages m. m relation key.now ≡ None → IsPlaced (V.total views.now) pages plan.now.changes.list.items plan.now.name (record { relation = relation; key = key.now; value = value }) →
-            IsAct relations (V.total views.now) pages (after changes pages) (Insert relation key.now value) reply × AreShort changes pages))) }
+        IsAct relations (V.total views.now) pages (after changes pages) (Insert relation key.now value) reply × AreShort changes pages))) }
     ensures broken { IfOk result (λ act. IfBroken act ⊥) }
 {
     let draft = drafted(alloc, views, &plan.changes)?;

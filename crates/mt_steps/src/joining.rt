@@ -16,7 +16,11 @@ const DIRECTORY: u16 = 1;
 
 // A page of a bucket is to be written; the directory is read.
 pub(crate) fn to_write(page: PageNo, mode: Mode) -> Mode {
-    if page.get() == DIRECTORY { mode } else { Mode::Write }
+    if page.get() == DIRECTORY {
+        mode
+    } else {
+        Mode::Write
+    }
 }
 
 // The pages as they will be once these changes are made.

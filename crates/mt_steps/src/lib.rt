@@ -5,6 +5,7 @@
 
 mod act;
 mod counters;
+mod deleting;
 mod draft;
 mod getting;
 mod inserting;
@@ -12,6 +13,7 @@ mod joining;
 
 pub use act::Act;
 pub use counters::{add, check, counter};
+pub use deleting::delete;
 pub use draft::{Draft, first_missing, merged};
 pub use getting::get;
 pub use inserting::insert;

@@ -96,7 +96,7 @@ is_zero : (n : ℕ) → true ≡ (n == 0) → n ≡ 0
 is_zero n e = (Decides-eqb n 0).0 (sym e)
 
 -- the page is one of records, or a free one
-chosen : (room : Option ℕ) (relations total : ℕ) (pages : PageBytes) (m : Map) (p : ℕ) → AreRows relations total pages m → IsNamed room pages → IsChosen room total pages p → ((kind pages p ≡ 3) ⊎ (kind pages p ≡ 0)) × (p < total)
+pub chosen : (room : Option ℕ) (relations total : ℕ) (pages : PageBytes) (m : Map) (p : ℕ) → AreRows relations total pages m → IsNamed room pages → IsChosen room total pages p → ((kind pages p ≡ 3) ⊎ (kind pages p ≡ 0)) × (p < total)
 chosen (Some q) relations total pages m p rows named is =
     let three : kind pages p ≡ 3 = ap (λ (n : ℕ). kind pages n) is ∙ named q refl in
     (inl three, rows.index.within p (λ z. let w : kind pages p ≡ 0 = z in omega (arith, three, w)))

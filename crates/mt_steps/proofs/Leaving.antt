@@ -1,5 +1,6 @@
 -- A record that has been taken away, and its entry.
-use Rattle.std.proofs.Common.{◌≡◌, ◌≢◌, inl, ℕ, List, Option, None, Some, refl, ap, sym, ◌∙◌, subst, arith}
+use Rattle.std.proofs.Common.{◌≡◌, ◌≢◌, inl, ℕ, List, Option, None, Some, refl, ap, sym, ◌∙◌, subst, arith, ◌⊎◌, inr, ⊎_elim}
+use Rattle.std.proofs.lemmas.Bool.{cases_eq}
 use Rattle.mt_base.specs.declared.modes.Mode.{Mode}
 use Rattle.mt_base.specs.declared.numbers.RecordName.{RecordName}
 use Rattle.mt_slots.specs.Page.{Row}
@@ -39,17 +40,23 @@ amend_missing_is P a is told = subst (λ (x : Amend). AmendMissing x P) is told
 pub amend_endless_is : (P : Type 0) (a : Amend) → a ≡ amend.Endless → AmendEndless a P → P
 amend_endless_is P a is told = subst (λ (x : Amend). AmendEndless x P) is told
 
--- a page from which a record is taken is no bucket's then
-not_bucket : (pages mid : PageBytes) (p s : ℕ) → Drops pages mid p s → kind mid p ≢ 2
-not_bucket pages mid p s drops two =
-    let three : (t : ℕ) → t ≢ s → record_in pages p t ≢ None → ⊥ = λ t ne some. let a : kind mid p ≡ 3 = drops.more t ne some in let b : kind mid p ≡ 2 = two in omega (arith, a, b) in
-    let zero : kind mid p ≡ 0 = drops.last (λ t ne. none_of (record_in pages p t) (λ some. three t ne some)) in
-    let b : kind mid p ≡ 2 = two in
-    omega (arith, zero, b)
+-- a page from which a record is taken is one of records still, or a free one
+pub zero_or_three : (pages mid : PageBytes) (p s : ℕ) → Drops pages mid p s → (kind mid p ≡ 3) ⊎ (kind mid p ≡ 0)
+zero_or_three pages mid p s drops = ⊎_elim
+    (λ (three : kind mid p ≡ 3). inl three)
+    (λ (not_three : kind mid p ≢ 3). inr (drops.last (λ t ne. none_of (record_in pages p t) (λ some. not_three (drops.more t ne some)))))
+    (cases_eq (kind mid p) 3)
   where
     none_of : (o : Option Row) → (o ≢ None → ⊥) → o ≡ None
     none_of None h = refl
     none_of (Some r) h = absurd (h (λ e. cc))
+
+-- so no bucket's
+pub not_bucket : (pages mid : PageBytes) (p s : ℕ) → Drops pages mid p s → kind mid p ≢ 2
+not_bucket pages mid p s drops two = ⊎_elim
+    (λ (three : kind mid p ≡ 3). let b : kind mid p ≡ 2 = two in omega (arith, three, b))
+    (λ (zero : kind mid p ≡ 0). let b : kind mid p ≡ 2 = two in omega (arith, zero, b))
+    (zero_or_three pages mid p s drops)
 
 pub taken_leaves : (relations total : ℕ) (pages : PageBytes) (m : Map) (changes : List PageChange) (n : RecordName) (row : Row) → AreRows relations total pages m → IsTaken pages changes n row → LeavesIndex total pages (after changes pages)
 taken_leaves relations total pages m changes n row rows taken =

@@ -5,3 +5,4 @@ mod Numbers
 pub mod Drafting
 mod Entering
 mod Leaving
+mod Shifting

@@ -6,7 +6,7 @@ use Rattle.mt_slots.specs.Page.{Row}
 use Rattle.mt_pool.specs.declared.changes.PageChange.{PageChange}
 use Rattle.mt_pool.specs.Changes.{PageBytes, Agrees, after, AreShort}
 use Rattle.mt_space.specs.Kinds.{kind}
-use Rattle.mt_file.specs.File.{record_in, Adds, Drops}
+use Rattle.mt_file.specs.File.{record_in, Adds, Drops, Stays, Moves}
 use Rattle.mt_file.specs.Plans.{IsNamed}
 use Rattle.mt_index.specs.Maps.{Map}
 use Rattle.mt_model.specs.declared.operations.Op.{Op}
@@ -71,4 +71,19 @@ pub record IsPlaced (total : ℕ) (pages : PageBytes) (changes : List PageChange
 pub record IsTaken (pages : PageBytes) (changes : List PageChange) (name : RecordName) (row : Row) : Type 0 where
   pub stood : record_in pages name.page name.slot ≡ Some row
   pub drops : Drops pages (after changes pages) name.page name.slot
+  pub short : AreShort changes pages
+
+-- ---- an update
+
+-- the record has been replaced under its name
+pub record IsKept (pages : PageBytes) (changes : List PageChange) (name : RecordName) (old row : Row) : Type 0 where
+  pub stood : record_in pages name.page name.slot ≡ Some old
+  pub stays : Stays pages (after changes pages) name.page name.slot row
+  pub short : AreShort changes pages
+
+-- or has moved, within its page or to one of records or a free one
+pub record IsMoved (total : ℕ) (pages : PageBytes) (changes : List PageChange) (name to : RecordName) (old row : Row) : Type 0 where
+  pub stood : record_in pages name.page name.slot ≡ Some old
+  pub moves : Moves pages (after changes pages) name.page name.slot to.page to.slot row
+  pub was : (to.page ≡ name.page) ⊎ (((kind pages to.page ≡ 3) ⊎ (kind pages to.page ≡ 0)) × (to.page < total))
   pub short : AreShort changes pages

@@ -10,6 +10,7 @@ mod draft;
 mod getting;
 mod inserting;
 mod joining;
+mod updating;
 
 pub use act::Act;
 pub use counters::{add, check, counter};
@@ -17,6 +18,7 @@ pub use deleting::delete;
 pub use draft::{Draft, first_missing, merged};
 pub use getting::get;
 pub use inserting::insert;
+pub use updating::update;
 
 #[cfg(test)]
 mod tests;

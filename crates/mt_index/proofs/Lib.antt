@@ -27,3 +27,4 @@ pub mod Wiring
 pub mod Halving
 pub mod Composing
 pub mod Ruling
+pub mod Whole

@@ -1,6 +1,9 @@
--- Some pages in memory, as the tests have them: the map of the space, the directory, and pages 3 to 5.
-use Rattle.std.specs.Prelude.{ℕ, ◌≡◌, ◌==◌, Bool, true, false, cond, List, length, Option, Some, None}
-use Rattle.std.proofs.Common.{sym, ap, ◌∙◌}
+-- Some pages in memory, as the tests have them: the map of the space, the directory, and pages 3 to 5; and pages in a row.
+use Rattle.std.specs.Prelude.{ℕ, ◌≡◌, ◌==◌, ◌<◌, ◌≤◌, Bool, true, false, cond, List, [], length, Option, Some, None, slice_get}
+use Rattle.std.proofs.Common.{⊎_elim, sym, ap, ◌∙◌}
+use Rattle.std.proofs.lemmas.Bool.{cases_lt}
+use Rattle.std.proofs.lemmas.Option.{slice_get_past, get_or_from_slice_get}
+use Rattle.mt_index.specs.Checks as row
 
 abbrev pub copied : List ℕ → List ℕ → List ℕ → List ℕ → List ℕ → ℕ → Option (List ℕ)
 copied space directory third fourth fifth p =
@@ -24,3 +27,10 @@ copied_whole space directory third fourth fifth w p bytes is =
     one : (t : Bool) (a : List ℕ) (o : Option (List ℕ)) → length a ≡ 4096 → (o ≡ Some bytes → length bytes ≡ 4096) → cond t (Some a) o ≡ Some bytes → length bytes ≡ 4096
     one true a o long rest e = sym (ap length (same a e)) ∙ long
     one false a o long rest e = rest e
+
+-- of pages in a row, each that is at hand
+pub row_whole : (pages : List (List ℕ)) (p : ℕ) (bytes : List ℕ) → row.AreWhole pages → slice_get pages p ≡ Some bytes → length bytes ≡ 4096
+row_whole pages p bytes whole there = ⊎_elim
+    (λ (lt : p < length pages). sym (ap length (get_or_from_slice_get pages p bytes [] there)) ∙ whole.each p lt)
+    (λ (le : length pages ≤ p). let none : None ≡ Some bytes = sym (slice_get_past pages p le) ∙ there in cc)
+    (cases_lt p (length pages))

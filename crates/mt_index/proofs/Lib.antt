@@ -27,4 +27,3 @@ pub mod Wiring
 pub mod Halving
 pub mod Composing
 pub mod Ruling
-pub mod Whole

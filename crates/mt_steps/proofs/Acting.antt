@@ -1,20 +1,19 @@
 -- What the plans of the record file and of the index make of rows, both together.
-use Rattle.std.proofs.Common.{◌≡◌, ◌≢◌, ◌⊎◌, ⊎_elim, ℕ, ◌<◌, List, length, get_or, None, Some, refl, ap, sym, ◌∙◌, subst, arith}
+use Rattle.std.proofs.Common.{◌≡◌, ◌≢◌, ◌⊎◌, ⊎_elim, ℕ, ◌<◌, List, length, get_or, None, Some, refl, ap, sym, ◌∙◌, subst, arith, Bool, cond}
 use Rattle.std.proofs.lemmas.Bool.{cases_eq}
 use Rattle.mt_base.specs.declared.numbers.RecordName.{RecordName}
-use Rattle.mt_slots.specs.Page.{Fits}
+use Rattle.mt_slots.specs.Page.{Fits, Row}
 use Rattle.mt_pool.specs.Changes.{PageBytes}
 use Rattle.mt_space.specs.Kinds.{kind}
-use Rattle.mt_file.specs.File.{record_in, Touches, Adds, Drops, Stays as StaysThere}
+use Rattle.mt_file.specs.File.{record_in, Touches, Adds, Drops, Stays as StaysThere, Puts, Moves}
 use Rattle.mt_file.proofs.Filed.{record_kind}
 use Rattle.mt_index.specs.Maps.{Map, alter}
 use Rattle.mt_index.specs.Pages.{AreMap, AreFormed, LeavesIndex}
-use Rattle.mt_index.specs.Answers.{Stays}
 use Rattle.mt_model.specs.Model.{Base, alter_row, inserted, updated, deleted}
 use Rattle.mt_steps.specs.Held.{HoldsRows, AreNamed, AreRows}
-use Rattle.mt_steps.proofs.Rows.{rows_put, names_put, none_lone, name_lone, none_held, alter_same}
+use Rattle.mt_steps.proofs.Rows.{rows_put, names_put, none_lone, name_lone, none_held, alter_same, alter_twice, rows_twice, key_same, IsLone}
 use Rattle.mt_index.proofs.Witness.{index_stays, form_stays}
-use Rattle.mt_steps.proofs.Apart.{StaysFile, records_stay, file_stays, within_stays, add_stays}
+use Rattle.mt_steps.proofs.Apart.{StaysFile, records_stay, file_stays, within_stays}
 
 -- pages of different kinds are different ones
 pub apart_kinds : (pages : PageBytes) (p q a b : ℕ) → kind pages p ≡ a → kind pages q ≡ b → a ≢ b → p ≢ q
@@ -86,100 +85,120 @@ base_same pages b c same h = record {
 
 -- ---- an insert
 
-pub inserts : (relations total : ℕ) (pages mid last : PageBytes) (m : Map) (b : Base) (p s r : ℕ) (k v : List ℕ) → AreRows relations total pages m → HoldsRows pages b → m r k ≡ None
-    → Fits relations 1024 (record { relation = r; key = k; value = v }) → Adds pages mid p s (record { relation = r; key = k; value = v })
-    → AreMap total mid m → AreMap total last (alter m r k (Some (record { page = p; slot = s }))) → Stays total mid last → AreFormed relations total last
-    → AreRows relations total last (alter m r k (Some (record { page = p; slot = s }))) × HoldsRows last (alter_row b r k (inserted v))
-inserts relations total pages mid last m b p s r k v rows held none fits adds between map stays formed = (
-  record {
-    file = file_stays mid last kept adds.file;
-    within = within_stays relations 1024 mid last kept (adds.within relations 1024 rows.within fits);
-    index = map;
-    formed = formed;
-    named = named_same mid last (alter m r k (Some (record { page = p; slot = s }))) same (names_put pages mid m p s r k None (Some v) rows.named adds.free lone adds.puts);
-  },
-  rows_same mid last (alter_row b r k (inserted v)) same (rows_put pages mid b p s r k None (Some v) (inserted v) held adds.free lone adds.puts after),
-)
-  where
-    kept : StaysFile mid last
-    kept = add_stays total mid last between.space_fixed between.directory_fixed stays
+-- the pages that an insert leaves are as good as before
+pub inserts_good : (relations total : ℕ) (pages mid last : PageBytes) (m : Map) (p s r : ℕ) (k v : List ℕ) → AreRows relations total pages m → m r k ≡ None
+    → Fits relations 1024 (record { relation = r; key = k; value = v }) → Adds pages mid p s (record { relation = r; key = k; value = v }) → StaysFile mid last
+    → AreMap total last (alter m r k (Some (record { page = p; slot = s }))) → AreFormed relations total last → AreRows relations total last (alter m r k (Some (record { page = p; slot = s })))
+inserts_good relations total pages mid last m p s r k v rows none fits adds kept map formed = record {
+  file = file_stays mid last kept adds.file;
+  within = within_stays relations 1024 mid last kept (adds.within relations 1024 rows.within fits);
+  index = map;
+  formed = formed;
+  named = named_same mid last (alter m r k (Some (record { page = p; slot = s }))) (records_stay mid last kept) (names_put pages mid m p s r k None (Some v) rows.named adds.free (none_lone pages m p s r k rows.named none) adds.puts);
+}
 
-    same : (q t : ℕ) → record_in last q t ≡ record_in mid q t
-    same = records_stay mid last kept
-
-    lone : (q t : ℕ) (w : List ℕ) → (q ≢ p) ⊎ (t ≢ s) → record_in pages q t ≡ Some (record { relation = r; key = k; value = w }) → ⊥
-    lone = none_lone pages m p s r k rows.named none
-
-    after : inserted v (b.rows r k) ≡ Some v
-    after = ap (inserted v) (none_held pages m b r k rows.named held none)
+-- and hold the base with the row
+pub inserts_base : (relations total : ℕ) (pages mid last : PageBytes) (m : Map) (b : Base) (p s r : ℕ) (k v : List ℕ) → AreRows relations total pages m → HoldsRows pages b → m r k ≡ None
+    → Adds pages mid p s (record { relation = r; key = k; value = v }) → StaysFile mid last → HoldsRows last (alter_row b r k (inserted v))
+inserts_base relations total pages mid last m b p s r k v rows held none adds kept =
+    rows_same mid last (alter_row b r k (inserted v)) (records_stay mid last kept)
+    (rows_put pages mid b p s r k None (Some v) (inserted v) held adds.free (none_lone pages m p s r k rows.named none) adds.puts (ap (inserted v) (none_held pages m b r k rows.named held none)))
 
 -- ---- a delete
 
-pub deletes : (relations total : ℕ) (pages mid last : PageBytes) (m : Map) (b : Base) (n : RecordName) (r : ℕ) (k v : List ℕ) → AreRows relations total pages m → HoldsRows pages b → m r k ≡ Some n
-    → record_in pages n.page n.slot ≡ Some (record { relation = r; key = k; value = v }) → Drops pages mid n.page n.slot
-    → AreMap total mid m → AreMap total last (alter m r k None) → ((p : ℕ) → kind mid p ≢ 2 → last p ≡ mid p) → AreFormed relations total last
-    → AreRows relations total last (alter m r k None) × HoldsRows last (alter_row b r k deleted)
-deletes relations total pages mid last m b n r k v rows held is stood drops between map others formed = (
-  record {
-    file = file_stays mid last kept drops.file;
-    within = within_stays relations 1024 mid last kept (drops.within relations 1024 rows.within);
-    index = map;
-    formed = formed;
-    named = named_same mid last (alter m r k None) same (names_put pages mid m n.page n.slot r k (Some v) None rows.named stood lone drops.puts);
-  },
-  rows_same mid last (alter_row b r k deleted) same (rows_put pages mid b n.page n.slot r k (Some v) None deleted held stood lone drops.puts refl),
-)
-  where
-    kept : StaysFile mid last
-    kept = amends_file mid last between.space_fixed others
+-- the pages that a delete leaves are as good as before
+pub deletes_good : (relations total : ℕ) (pages mid last : PageBytes) (m : Map) (n : RecordName) (r : ℕ) (k v : List ℕ) → AreRows relations total pages m → m r k ≡ Some n
+    → record_in pages n.page n.slot ≡ Some (record { relation = r; key = k; value = v }) → Drops pages mid n.page n.slot → StaysFile mid last
+    → AreMap total last (alter m r k None) → AreFormed relations total last → AreRows relations total last (alter m r k None)
+deletes_good relations total pages mid last m n r k v rows is stood drops kept map formed = record {
+  file = file_stays mid last kept drops.file;
+  within = within_stays relations 1024 mid last kept (drops.within relations 1024 rows.within);
+  index = map;
+  formed = formed;
+  named = named_same mid last (alter m r k None) (records_stay mid last kept) (names_put pages mid m n.page n.slot r k (Some v) None rows.named stood (name_lone pages m r k n rows.named is) drops.puts);
+}
 
-    same : (q t : ℕ) → record_in last q t ≡ record_in mid q t
-    same = records_stay mid last kept
-
-    lone : (q t : ℕ) (w : List ℕ) → (q ≢ n.page) ⊎ (t ≢ n.slot) → record_in pages q t ≡ Some (record { relation = r; key = k; value = w }) → ⊥
-    lone = name_lone pages m r k n rows.named is
+-- and hold the base without the row
+pub deletes_base : (relations total : ℕ) (pages mid last : PageBytes) (m : Map) (b : Base) (n : RecordName) (r : ℕ) (k v : List ℕ) → AreRows relations total pages m → HoldsRows pages b → m r k ≡ Some n
+    → record_in pages n.page n.slot ≡ Some (record { relation = r; key = k; value = v }) → Drops pages mid n.page n.slot → StaysFile mid last → HoldsRows last (alter_row b r k deleted)
+deletes_base relations total pages mid last m b n r k v rows held is stood drops kept =
+    rows_same mid last (alter_row b r k deleted) (records_stay mid last kept)
+    (rows_put pages mid b n.page n.slot r k (Some v) None deleted held stood (name_lone pages m r k n rows.named is) drops.puts refl)
 
 -- ---- an update
 
 pub value_held : (pages : PageBytes) (m : Map) (b : Base) (n : RecordName) (r : ℕ) (k v : List ℕ) → HoldsRows pages b → record_in pages n.page n.slot ≡ Some (record { relation = r; key = k; value = v }) → b.rows r k ≡ Some v
 value_held pages m b n r k v held stood = held.there r k v (n.page, n.slot, stood)
 
--- the record stays under its name
-pub updates_there : (relations total : ℕ) (pages last : PageBytes) (m : Map) (b : Base) (n : RecordName) (r : ℕ) (k v w : List ℕ) → AreRows relations total pages m → HoldsRows pages b → m r k ≡ Some n
-    → record_in pages n.page n.slot ≡ Some (record { relation = r; key = k; value = v }) → Fits relations 1024 (record { relation = r; key = k; value = w })
-    → StaysThere pages last n.page n.slot (record { relation = r; key = k; value = w })
-    → AreRows relations total last m × HoldsRows last (alter_row b r k (updated w))
-updates_there relations total pages last m b n r k v w rows held is stood fits stays = (
-  record {
-    file = stays.file;
-    within = stays.within relations 1024 rows.within fits;
-    index = index_stays total pages last m rows.index index;
-    formed = form_stays relations total pages last rows.formed index;
-    named = same_map (alter m r k (Some n)) m again (names_put pages last m n.page n.slot r k (Some v) (Some w) rows.named stood lone stays.puts);
-  },
-  rows_put pages last b n.page n.slot r k (Some v) (Some w) (updated w) held stood lone stays.puts (ap (updated w) (value_held pages m b n r k v held stood)),
-)
+-- a change of one page of records leaves the index
+pub stays_index : (total : ℕ) (pages last : PageBytes) (m : Map) (p s : ℕ) (row : Row) → AreMap total pages m → kind pages p ≡ 3 → StaysThere pages last p s row → LeavesIndex total pages last
+stays_index total pages last m p s row a three stays = record {
+  directory = stays.others 1 (not_here 1 (λ z. let x : kind pages 1 ≡ 3 = z in let c = a.directory_fixed in omega (arith, x, c)));
+  buckets = λ q two. (stays.kinds q ∙ two, stays.others q (not_here q (λ z. let x : kind pages q ≡ 3 = z in let c : kind pages q ≡ 2 = two in omega (arith, x, c))));
+  no_more = λ q two. sym (stays.kinds q) ∙ two;
+  fixed = λ q one. stays.kinds q ∙ one;
+  within = λ q some. a.within q (λ z. some (stays.kinds q ∙ z));
+}
   where
-    three : kind pages n.page ≡ 3
-    three = record_kind pages n.page n.slot (record { relation = r; key = k; value = v }) stood
-
-    lone : (q t : ℕ) (u : List ℕ) → (q ≢ n.page) ⊎ (t ≢ n.slot) → record_in pages q t ≡ Some (record { relation = r; key = k; value = u }) → ⊥
-    lone = name_lone pages m r k n rows.named is
-
-    not_here : (q : ℕ) → kind pages q ≢ 3 → q ≢ n.page
+    not_here : (q : ℕ) → kind pages q ≢ 3 → q ≢ p
     not_here q ne e = ne (ap (λ (x : ℕ). kind pages x) e ∙ three)
 
-    index : LeavesIndex total pages last
-    index = record {
-      directory = stays.others 1 (not_here 1 (λ z. let a : kind pages 1 ≡ 3 = z in let c = rows.index.directory_fixed in omega (arith, a, c)));
-      buckets = λ q two. (stays.kinds q ∙ two, stays.others q (not_here q (λ z. let a : kind pages q ≡ 3 = z in let c : kind pages q ≡ 2 = two in omega (arith, a, c))));
-      no_more = λ q two. sym (stays.kinds q) ∙ two;
-      fixed = λ q one. stays.kinds q ∙ one;
-      within = λ q some. rows.index.within q (λ z. some (stays.kinds q ∙ z));
+-- what the names are, told otherwise
+pub same_map : (pages : PageBytes) (x y : Map) → ((q : ℕ) (l : List ℕ) → x q l ≡ y q l) → AreNamed pages x → AreNamed pages y
+same_map pages x y e a = subst (AreNamed pages) (λ i q l. e q l i) a
+
+-- the record stays under its name: the pages are as good as before
+pub updates_good : (relations total : ℕ) (pages last : PageBytes) (m : Map) (n : RecordName) (r : ℕ) (k v w : List ℕ) → AreRows relations total pages m → m r k ≡ Some n
+    → record_in pages n.page n.slot ≡ Some (record { relation = r; key = k; value = v }) → Fits relations 1024 (record { relation = r; key = k; value = w })
+    → StaysThere pages last n.page n.slot (record { relation = r; key = k; value = w }) → AreRows relations total last m
+updates_good relations total pages last m n r k v w rows is stood fits stays =
+    let leaves = stays_index total pages last m n.page n.slot (record { relation = r; key = k; value = w }) rows.index (record_kind pages n.page n.slot (record { relation = r; key = k; value = v }) stood) stays in
+    record {
+      file = stays.file;
+      within = stays.within relations 1024 rows.within fits;
+      index = index_stays total pages last m rows.index leaves;
+      formed = form_stays relations total pages last rows.formed leaves;
+      named = same_map last (alter m r k (Some n)) m (alter_same m r k n is) (names_put pages last m n.page n.slot r k (Some v) (Some w) rows.named stood (name_lone pages m r k n rows.named is) stays.puts);
     }
 
-    again : (q : ℕ) (l : List ℕ) → alter m r k (Some n) q l ≡ m q l
-    again q l = alter_same m r k n is q l
+-- and hold the base with the other value
+pub updates_base : (relations total : ℕ) (pages last : PageBytes) (m : Map) (b : Base) (n : RecordName) (r : ℕ) (k v w : List ℕ) → AreRows relations total pages m → HoldsRows pages b → m r k ≡ Some n
+    → record_in pages n.page n.slot ≡ Some (record { relation = r; key = k; value = v }) → StaysThere pages last n.page n.slot (record { relation = r; key = k; value = w }) → HoldsRows last (alter_row b r k (updated w))
+updates_base relations total pages last m b n r k v w rows held is stood stays =
+    rows_put pages last b n.page n.slot r k (Some v) (Some w) (updated w) held stood (name_lone pages m r k n rows.named is) stays.puts (ap (updated w) (value_held pages m b n r k v held stood))
 
-    same_map : (x y : Map) → ((q : ℕ) (l : List ℕ) → x q l ≡ y q l) → AreNamed last x → AreNamed last y
-    same_map x y e a = subst (AreNamed last) (λ i q l. e q l i) a
+-- the record moves: first it is taken away
+gone : (m : Map) (r : ℕ) (k : List ℕ) → alter m r k None r k ≡ None
+gone m r k = ap (λ (t : Bool). cond t None (m r k)) (key_same r k r k refl refl)
+
+lone_between : (pages between : PageBytes) (m : Map) (n : RecordName) (q t r : ℕ) (k v : List ℕ) → AreNamed pages m → m r k ≡ Some n → record_in pages n.page n.slot ≡ Some (record { relation = r; key = k; value = v })
+    → Puts pages between n.page n.slot None → IsLone between q t r k
+lone_between pages between m n q t r k v named is stood puts =
+    none_lone between (alter m r k None) q t r k (names_put pages between m n.page n.slot r k (Some v) None named stood (name_lone pages m r k n named is) puts) (gone m r k)
+
+pub moves_good : (relations total : ℕ) (pages mid last : PageBytes) (m : Map) (n to : RecordName) (r : ℕ) (k v w : List ℕ) → AreRows relations total pages m → m r k ≡ Some n
+    → record_in pages n.page n.slot ≡ Some (record { relation = r; key = k; value = v }) → Fits relations 1024 (record { relation = r; key = k; value = w })
+    → Moves pages mid n.page n.slot to.page to.slot (record { relation = r; key = k; value = w }) → StaysFile mid last
+    → AreMap total last (alter m r k (Some to)) → AreFormed relations total last → AreRows relations total last (alter m r k (Some to))
+moves_good relations total pages mid last m n to r k v w rows is stood fits moves kept map formed = record {
+  file = file_stays mid last kept moves.adds.file;
+  within = within_stays relations 1024 mid last kept (moves.adds.within relations 1024 (moves.drops.within relations 1024 rows.within) fits);
+  index = map;
+  formed = formed;
+  named = named_same mid last (alter m r k (Some to)) (records_stay mid last kept)
+      (same_map mid (alter (alter m r k None) r k (Some to)) (alter m r k (Some to)) (alter_twice m r k None (Some to))
+      (names_put moves.between mid (alter m r k None) to.page to.slot r k None (Some w)
+      (names_put pages moves.between m n.page n.slot r k (Some v) None rows.named stood (name_lone pages m r k n rows.named is) moves.drops.puts)
+      moves.adds.free (lone_between pages moves.between m n to.page to.slot r k v rows.named is stood moves.drops.puts) moves.adds.puts));
+}
+
+pub moves_base : (relations total : ℕ) (pages mid last : PageBytes) (m : Map) (b : Base) (n to : RecordName) (r : ℕ) (k v w : List ℕ) → AreRows relations total pages m → HoldsRows pages b → m r k ≡ Some n
+    → record_in pages n.page n.slot ≡ Some (record { relation = r; key = k; value = v }) → Moves pages mid n.page n.slot to.page to.slot (record { relation = r; key = k; value = w }) → StaysFile mid last
+    → HoldsRows last (alter_row b r k (updated w))
+moves_base relations total pages mid last m b n to r k v w rows held is stood moves kept =
+    rows_same mid last (alter_row b r k (updated w)) (records_stay mid last kept)
+    (base_same mid (alter_row (alter_row b r k deleted) r k (inserted w)) (alter_row b r k (updated w)) (rows_twice b r k w v (value_held pages m b n r k v held stood))
+    (rows_put moves.between mid (alter_row b r k deleted) to.page to.slot r k None (Some w) (inserted w)
+    (rows_put pages moves.between b n.page n.slot r k (Some v) None deleted held stood (name_lone pages m r k n rows.named is) moves.drops.puts refl)
+    moves.adds.free (lone_between pages moves.between m n to.page to.slot r k v rows.named is stood moves.drops.puts) moves.adds.puts
+    (ap (inserted w) (ap (λ (t : Bool). cond t (deleted (b.rows r k)) (b.rows r k)) (key_same r k r k refl refl)))))

@@ -3,3 +3,6 @@ mod Apart
 mod Acting
 mod Numbers
 pub mod Drafting
+mod Entering
+mod Leaving
+mod Shifting

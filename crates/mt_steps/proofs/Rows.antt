@@ -33,7 +33,7 @@ key_cases r k s l = go ((r == s) && bytes_eq k l) refl
     go true e = let p = and_parts (r == s) (bytes_eq k l) e in inl ((Decides-eqb r s).0 p.0, (bytes_decides k l).0 p.1)
     go false e = inr e
 
-key_same : (r : ℕ) (k : List ℕ) (s : ℕ) (l : List ℕ) → r ≡ s → k ≡ l → ((r == s) && bytes_eq k l) ≡ true
+pub key_same : (r : ℕ) (k : List ℕ) (s : ℕ) (l : List ℕ) → r ≡ s → k ≡ l → ((r == s) && bytes_eq k l) ≡ true
 key_same r k s l a b = and_from (r == s) (bytes_eq k l) ((Decides-eqb r s).1 a) ((bytes_decides k l).1 b)
 
 name_cases : (q t p s : ℕ) → ((q ≡ p) × (t ≡ s)) ⊎ ((q ≢ p) ⊎ (t ≢ s))
@@ -199,3 +199,39 @@ rows_twice b r k w v is q l = ⊎_elim
     go None e true f = absurd (cc)
     go (Some u) e true f = refl
     go o e false f = absurd (cc)
+
+-- an insert where there is a value
+pub inserted_again : (b : Base) (r : ℕ) (k w v : List ℕ) → b.rows r k ≡ Some v → (q : ℕ) (l : List ℕ) → (alter_row b r k (inserted w)).rows q l ≡ b.rows q l
+inserted_again b r k w v is q l = ⊎_elim
+    (λ (same : (r ≡ q) × (k ≡ l)). go (b.rows q l) (sym (λ i. b.rows (same.0 i) (same.1 i)) ∙ is) ((r == q) && bytes_eq k l))
+    (λ (other : ((r == q) && bytes_eq k l) ≡ false). ap (λ (t : Bool). cond t (inserted w (b.rows q l)) (b.rows q l)) other)
+    (key_cases r k q l)
+  where
+    go : (o : Option (List ℕ)) → o ≡ Some v → (t : Bool) → cond t (inserted w o) o ≡ o
+    go None e t = absurd (cc)
+    go (Some u) e true = refl
+    go (Some u) e false = refl
+
+-- a delete where there is no value
+pub deleted_again : (b : Base) (r : ℕ) (k : List ℕ) → b.rows r k ≡ None → (q : ℕ) (l : List ℕ) → (alter_row b r k deleted).rows q l ≡ b.rows q l
+deleted_again b r k none q l = ⊎_elim
+    (λ (same : (r ≡ q) × (k ≡ l)). go (b.rows q l) (sym (λ i. b.rows (same.0 i) (same.1 i)) ∙ none) ((r == q) && bytes_eq k l))
+    (λ (other : ((r == q) && bytes_eq k l) ≡ false). ap (λ (t : Bool). cond t (deleted (b.rows q l)) (b.rows q l)) other)
+    (key_cases r k q l)
+  where
+    go : (o : Option (List ℕ)) → o ≡ None → (t : Bool) → cond t (deleted o) o ≡ o
+    go None e true = refl
+    go None e false = refl
+    go (Some u) e t = absurd (cc)
+
+-- an update where there is no value
+pub updated_again : (b : Base) (r : ℕ) (k w : List ℕ) → b.rows r k ≡ None → (q : ℕ) (l : List ℕ) → (alter_row b r k (updated w)).rows q l ≡ b.rows q l
+updated_again b r k w none q l = ⊎_elim
+    (λ (same : (r ≡ q) × (k ≡ l)). go (b.rows q l) (sym (λ i. b.rows (same.0 i) (same.1 i)) ∙ none) ((r == q) && bytes_eq k l))
+    (λ (other : ((r == q) && bytes_eq k l) ≡ false). ap (λ (t : Bool). cond t (updated w (b.rows q l)) (b.rows q l)) other)
+    (key_cases r k q l)
+  where
+    go : (o : Option (List ℕ)) → o ≡ None → (t : Bool) → cond t (updated w o) o ≡ o
+    go None e true = refl
+    go None e false = refl
+    go (Some u) e t = absurd (cc)

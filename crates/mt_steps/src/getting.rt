@@ -24,7 +24,7 @@ pub fn get<V: Pages>(
     requires good { (relations : ℕ) × HasGood (V.at_hand views.now) relations (V.total views.now) }
     requires short { length key.now ≤ 64 }
     ensures lock { IfOk result (λ act. IfLock act (λ p mode. (V.at_hand views.now p ≡ None) × (mode ≡ Read))) }
-    ensures made { (relations : ℕ) → IfOk result (λ act. IfMade act (λ changes reply. (changes ≡ []) × InGood (V.at_hand views.now) relations (V.total views.now) (λ pages. IsAct relations (V.total views.now) pages pages (Get relation key.now) reply))) }
+    ensures made { (relations : ℕ) → IfOk result (λ act. IfMade act (λ changes reply. (changes ≡ []) × InGood (V.at_hand views.now) relations (V.total views.now) (λ pages m. IsAct relations (V.total views.now) pages pages (Get relation key.now) reply))) }
     ensures full { IfOk result (λ act. IfFull act ⊥) }
     ensures broken { IfOk result (λ act. IfBroken act ⊥) }
 {

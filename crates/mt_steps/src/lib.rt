@@ -5,13 +5,20 @@
 
 mod act;
 mod counters;
+mod deleting;
 mod draft;
 mod getting;
+mod inserting;
+mod joining;
+mod updating;
 
 pub use act::Act;
 pub use counters::{add, check, counter};
+pub use deleting::delete;
 pub use draft::{Draft, first_missing, merged};
 pub use getting::get;
+pub use inserting::insert;
+pub use updating::update;
 
 #[cfg(test)]
 mod tests;

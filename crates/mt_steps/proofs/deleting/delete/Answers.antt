@@ -1,0 +1,16 @@
+use Rattle.std.proofs.Common.{List, sym, subst}
+use Rattle.mt_pool.specs.declared.changes.PageChange.{PageChange}
+use Rattle.mt_pool.specs.Changes.{after, AreShort}
+use Rattle.mt_model.specs.declared.operations.Op.TheVariants.{Delete}
+use Rattle.mt_model.specs.declared.operations.Reply.TheVariants.{Missing}
+use Rattle.mt_steps.specs.Acts.{IsAct}
+use Rattle.mt_steps.proofs.Leaving.{missing_already}
+use Rattle.mt_steps.proofs.deleting.delete.Goals as goal
+
+pub returns-in-Missing-clause-made : goal.returns-in-Missing-clause-made
+returns-in-Missing-clause-made g c = λ relations pages agrees m rows.
+    subst (λ (l : List PageChange). IsAct relations (g.V.Pages.total c.args.views.now) pages (after l pages) (Delete c.args.relation c.args.key.now) Missing × AreShort l pages) (sym c.new.ensures)
+    (missing_already relations (g.V.Pages.total c.args.views.now) pages m c.args.relation c.args.key.now rows (c.in-Missing.ensures.missing pages agrees m rows.index), tt)
+
+pub returns-in-Endless-clause-broken : goal.returns-in-Endless-clause-broken
+returns-in-Endless-clause-broken g c = let good = c.requires.good.1 in c.in-Endless.ensures.endless good.0 good.1 good.2 good.3.index

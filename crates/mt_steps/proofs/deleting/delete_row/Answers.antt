@@ -1,0 +1,80 @@
+use Rattle.std.proofs.Common.{◌≡◌, ◌∙◌, ℕ, List, Option, None, Some, sym, ap}
+use Rattle.std.proofs.lemmas.Result.{IfOk-weaker}
+use Rattle.mt_slots.specs.Page.{Row}
+use Rattle.mt_file.proofs.Filed.{record_kind}
+use Rattle.mt_steps.proofs.Entering.{made_weaker}
+use Rattle.mt_steps.proofs.Rows.{row_of}
+use Rattle.mt_steps.proofs.Leaving.{removal_needs, removal_fits, removal_takes}
+use Rattle.mt_steps.proofs.deleting.delete_row.Goals as goal
+
+value_of : (k v : List ℕ) (x : Row) {r : ℕ} → Some (record { relation = r; key = k; value = v }) ≡ Some x → v ≡ x.value
+value_of k v x e = ap (λ (o : Option Row). elim o [ None ↦ v | Some y ↦ y.value ]) e
+
+no_row : (x : Row) → None ≡ Some x → ⊥
+no_row x e = cc
+
+pub plan_read-requires-clause-good : goal.plan_read-requires-clause-good
+plan_read-requires-clause-good g c =
+    let good = c.requires.good.1 in
+    let n = c.args.name.now in
+    let named = good.3.named.names c.args.relation c.args.key.now n (c.requires.named good.0 good.1 good.2 good.3.index) in
+    (good.0, good.1, good.3.file, record_kind good.0 n.page n.slot _ named.1)
+
+pub returns-in-Need-clause-lock : goal.returns-in-Need-clause-lock
+returns-in-Need-clause-lock g c =
+    let good = c.requires.good.1 in
+    let n = c.args.name.now in
+    let named = good.3.named.names c.args.relation c.args.key.now n (c.requires.named good.0 good.1 good.2 good.3.index) in
+    (c.in-Need.ensures good.0 good.1 good.3.file (record_kind good.0 n.page n.slot _ named.1)).0
+
+pub returns-in-Nothing-clause-broken : goal.returns-in-Nothing-clause-broken
+returns-in-Nothing-clause-broken g c =
+    let good = c.requires.good.1 in
+    let n = c.args.name.now in
+    let named = good.3.named.names c.args.relation c.args.key.now n (c.requires.named good.0 good.1 good.2 good.3.index) in
+    no_row _ (sym (c.in-Nothing.ensures good.0 good.1 good.3.file (record_kind good.0 n.page n.slot _ named.1)) ∙ named.1)
+
+pub plan_remove-requires-clause-good : goal.plan_remove-requires-clause-good
+plan_remove-requires-clause-good g c =
+    let good = c.requires.good.1 in
+    let named = good.3.named.names c.args.relation c.args.key.now c.args.name.now (c.requires.named good.0 good.1 good.2 good.3.index) in
+    (good.0, _, good.1, good.3.file, named.1)
+
+pub returns-in-Need-2-clause-lock : goal.returns-in-Need-2-clause-lock
+returns-in-Need-2-clause-lock g c =
+    let good = c.requires.good.1 in
+    let n = c.args.name.now in
+    let named = good.3.named.names c.args.relation c.args.key.now n (c.requires.named good.0 good.1 good.2 good.3.index) in
+    removal_needs (g.V.Pages.at_hand c.args.views.now) good.0 n.page n.slot c.in-Need-2.page c.in-Need-2.mode c.in_ok-page.field-0 c.in-Need-2.is (c.in_ok-page.ensures.removal good.0 _ good.1 good.3.file named.1)
+
+pub returns-in-Full-clause-broken : goal.returns-in-Full-clause-broken
+returns-in-Full-clause-broken g c =
+    let good = c.requires.good.1 in
+    let n = c.args.name.now in
+    let named = good.3.named.names c.args.relation c.args.key.now n (c.requires.named good.0 good.1 good.2 good.3.index) in
+    removal_fits (g.V.Pages.at_hand c.args.views.now) good.0 n.page n.slot c.in_ok-page.field-0 c.in-Full.is (c.in_ok-page.ensures.removal good.0 _ good.1 good.3.file named.1)
+
+pub drop_entry-requires-clause-good : goal.drop_entry-requires-clause-good
+drop_entry-requires-clause-good g c = (
+  c.requires.good.0,
+  c.requires.good.1,
+  λ pages agrees m rows.
+      let n = c.args.name.now in
+      let is = c.requires.named pages agrees m rows.index in
+      let named = rows.named.names c.args.relation c.args.key.now n is in
+      let told = c.in-Record.ensures pages agrees rows.file (record_kind pages n.page n.slot _ named.1) in
+      let stood = named.1 ∙ ap (λ (v : List ℕ). row_of c.args.relation c.args.key.now (Some v)) (value_of _ _ _ (sym named.1 ∙ told) ∙ sym c.in_ok-old-in-Record.ensures) in
+      (is, removal_takes (g.V.Pages.at_hand c.args.views.now) pages n _ c.in_ok-page.field-0 c.in-Done.plan c.in-Done.is (c.in_ok-page.ensures.removal pages _ agrees rows.file named.1) (c.in_ok-page.ensures.short pages _ agrees rows.file named.1) stood),
+)
+
+pub returns-clause-made : goal.returns-clause-made
+returns-clause-made g c = λ relations. IfOk-weaker c.drop_entry.result _ _
+    (λ act. made_weaker act _ _ (λ changes reply done pages agrees m rows.
+    let n = c.args.name.now in
+    let is = c.requires.named pages agrees m rows.index in
+    let named = rows.named.names c.args.relation c.args.key.now n is in
+    let told = c.in-Record.ensures pages agrees rows.file (record_kind pages n.page n.slot _ named.1) in
+    let stood = named.1 ∙ ap (λ (v : List ℕ). row_of c.args.relation c.args.key.now (Some v)) (value_of _ _ _ (sym named.1 ∙ told) ∙ sym c.in_ok-old-in-Record.ensures) in
+    done pages agrees m rows is
+    (removal_takes (g.V.Pages.at_hand c.args.views.now) pages n _ c.in_ok-page.field-0 c.in-Done.plan c.in-Done.is (c.in_ok-page.ensures.removal pages _ agrees rows.file named.1) (c.in_ok-page.ensures.short pages _ agrees rows.file named.1) stood)))
+    (c.drop_entry.ensures.made relations)

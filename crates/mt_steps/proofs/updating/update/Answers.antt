@@ -1,0 +1,16 @@
+use Rattle.std.proofs.Common.{List, sym, subst}
+use Rattle.mt_pool.specs.declared.changes.PageChange.{PageChange}
+use Rattle.mt_pool.specs.Changes.{after, AreShort}
+use Rattle.mt_model.specs.declared.operations.Op.TheVariants.{Update}
+use Rattle.mt_model.specs.declared.operations.Reply.TheVariants.{Missing}
+use Rattle.mt_steps.specs.Acts.{IsAct}
+use Rattle.mt_steps.proofs.Shifting.{update_misses}
+use Rattle.mt_steps.proofs.updating.update.Goals as goal
+
+pub returns-in-Missing-clause-made : goal.returns-in-Missing-clause-made
+returns-in-Missing-clause-made g c = λ relations fits pages agrees m rows named.
+    subst (λ (l : List PageChange). IsAct relations (g.V.Pages.total c.args.views.now) pages (after l pages) (Update c.args.relation c.args.key.now c.args.value.now) Missing × AreShort l pages) (sym c.new.ensures)
+    (update_misses relations (g.V.Pages.total c.args.views.now) pages m c.args.relation c.args.key.now c.args.value.now rows (c.in-Missing.ensures.missing pages agrees m rows.index), tt)
+
+pub returns-in-Endless-clause-broken : goal.returns-in-Endless-clause-broken
+returns-in-Endless-clause-broken g c = let good = c.requires.good.1 in c.in-Endless.ensures.endless good.0 good.1 good.2 good.3.index

@@ -1,0 +1,111 @@
+use Rattle.std.proofs.Common.{◌≡◌, ⊎_elim, ◌∙◌, ℕ, List, Option, None, Some, refl, sym, ap, subst}
+use Rattle.std.proofs.lemmas.Result.{IfOk-weaker}
+use Rattle.mt_base.specs.declared.numbers.RecordName.{RecordName}
+use Rattle.mt_slots.specs.Page.{Row}
+use Rattle.mt_pool.specs.Changes.{after, AreShort}
+use Rattle.mt_file.proofs.Filed.{record_kind}
+use Rattle.mt_model.specs.declared.operations.Op.TheVariants.{Update}
+use Rattle.mt_model.specs.declared.operations.Reply.TheVariants.{Was}
+use Rattle.mt_steps.specs.Acts.{IsAct, IsMoved}
+use Rattle.mt_steps.proofs.Entering.{made_weaker}
+use Rattle.mt_steps.proofs.Rows.{row_of}
+use Rattle.mt_steps.proofs.Shifting.{replacement_needs, replacement_is, kept_act, moved_here, has_moved}
+use Rattle.mt_steps.proofs.updating.update_row.Goals as goal
+
+value_of : (k v : List ℕ) (x : Row) {r : ℕ} → Some (record { relation = r; key = k; value = v }) ≡ Some x → v ≡ x.value
+value_of k v x e = ap (λ (o : Option Row). elim o [ None ↦ v | Some y ↦ y.value ]) e
+
+no_row : (x : Row) → None ≡ Some x → ⊥
+no_row x e = cc
+
+pub plan_read-requires-clause-good : goal.plan_read-requires-clause-good
+plan_read-requires-clause-good g c =
+    let good = c.requires.good.1 in
+    let n = c.args.name.now in
+    let named = good.3.named.names c.args.relation c.args.key.now n (c.requires.named good.0 good.1 good.2 good.3.index) in
+    (good.0, good.1, good.3.file, record_kind good.0 n.page n.slot _ named.1)
+
+pub returns-in-Need-clause-lock : goal.returns-in-Need-clause-lock
+returns-in-Need-clause-lock g c =
+    let good = c.requires.good.1 in
+    let n = c.args.name.now in
+    let named = good.3.named.names c.args.relation c.args.key.now n (c.requires.named good.0 good.1 good.2 good.3.index) in
+    (c.in-Need.ensures good.0 good.1 good.3.file (record_kind good.0 n.page n.slot _ named.1)).0
+
+pub returns-in-Nothing-clause-broken : goal.returns-in-Nothing-clause-broken
+returns-in-Nothing-clause-broken g c =
+    let good = c.requires.good.1 in
+    let n = c.args.name.now in
+    let named = good.3.named.names c.args.relation c.args.key.now n (c.requires.named good.0 good.1 good.2 good.3.index) in
+    no_row _ (sym (c.in-Nothing.ensures good.0 good.1 good.3.file (record_kind good.0 n.page n.slot _ named.1)) ∙ named.1)
+
+pub plan_replace-requires-clause-good : goal.plan_replace-requires-clause-good
+plan_replace-requires-clause-good g c =
+    let good = c.requires.good.1 in
+    let named = good.3.named.names c.args.relation c.args.key.now c.args.name.now (c.requires.named good.0 good.1 good.2 good.3.index) in
+    (good.0, _, good.1, good.3.file, good.4, named.1)
+
+pub returns-in-Need-2-clause-lock : goal.returns-in-Need-2-clause-lock
+returns-in-Need-2-clause-lock g c =
+    let good = c.requires.good.1 in
+    let n = c.args.name.now in
+    let named = good.3.named.names c.args.relation c.args.key.now n (c.requires.named good.0 good.1 good.2 good.3.index) in
+    replacement_needs (g.V.Pages.at_hand c.args.views.now) c.args.room (g.V.Pages.total c.args.views.now) good.0 n _ c.args.value.now c.in-Need-2.page c.in-Need-2.mode c.in_ok-page.field-0 c.in-Need-2.is (c.in_ok-page.ensures.replacement good.0 _ good.1 good.3.file good.4 named.1)
+
+pub returns-then-is_name-clause-made : goal.returns-then-is_name-clause-made
+returns-then-is_name-clause-made g c = λ relations fits pages agrees m rows roomy.
+    let n = c.args.name.now in
+    let total = g.V.Pages.total c.args.views.now in
+    let old = c.in_ok-old-in-Record.old in
+    let is = c.requires.named pages agrees m rows.index in
+    let named = rows.named.names c.args.relation c.args.key.now n is in
+    let told = c.in-Record.ensures pages agrees rows.file (record_kind pages n.page n.slot _ named.1) in
+    let stood = named.1 ∙ ap (λ (v : List ℕ). row_of c.args.relation c.args.key.now (Some v)) (value_of _ _ _ (sym named.1 ∙ told) ∙ sym c.in_ok-old-in-Record.ensures) in
+    let r : Row = record { relation = c.args.relation; key = c.args.key.now; value = old } in
+    let w : Row = record { relation = c.args.relation; key = c.args.key.now; value = c.args.value.now } in
+    let changes = c.in-Done.plan.changes.list.items in
+    ⊎_elim {C = IsAct relations total pages (after changes pages) (Update c.args.relation c.args.key.now c.args.value.now) (Was old) × AreShort changes pages}
+    (λ kept. (kept_act relations total pages m changes n c.args.relation c.args.key.now old c.args.value.now (Was old) rows is fits kept.1 refl, kept.1.short))
+    (λ moved.
+    let here : IsMoved total pages changes n n r w = subst (λ (to : RecordName). IsMoved total pages changes n to r w) c.if-is_name.ensures moved in
+    (moved_here relations total pages m changes n c.args.relation c.args.key.now old c.args.value.now (Was old) rows is fits here refl, here.short))
+    (replacement_is (g.V.Pages.at_hand c.args.views.now) c.args.room relations total pages m n r c.args.value.now c.in_ok-page.field-0 c.in-Done.plan c.in-Done.is rows roomy
+    (c.in_ok-page.ensures.replacement pages r agrees rows.file roomy stood) (c.in_ok-page.ensures.short pages r agrees rows.file roomy stood) stood)
+
+pub set_entry-requires-clause-good : goal.set_entry-requires-clause-good
+set_entry-requires-clause-good g c = (
+  c.requires.good.0,
+  c.args.room,
+  c.args.name.now,
+  c.args.value.now,
+  c.requires.good.1,
+  λ pages agrees m rows roomy.
+      let n = c.args.name.now in
+      let old = c.in_ok-old-in-Record.old in
+      let is = c.requires.named pages agrees m rows.index in
+      let named = rows.named.names c.args.relation c.args.key.now n is in
+      let told = c.in-Record.ensures pages agrees rows.file (record_kind pages n.page n.slot _ named.1) in
+      let stood = named.1 ∙ ap (λ (v : List ℕ). row_of c.args.relation c.args.key.now (Some v)) (value_of _ _ _ (sym named.1 ∙ told) ∙ sym c.in_ok-old-in-Record.ensures) in
+      let r : Row = record { relation = c.args.relation; key = c.args.key.now; value = old } in (
+        is,
+        has_moved (g.V.Pages.total c.args.views.now) pages c.in-Done.plan n r c.args.value.now c.if-is_name.ensures
+            (replacement_is (g.V.Pages.at_hand c.args.views.now) c.args.room c.requires.good.0 (g.V.Pages.total c.args.views.now) pages m n r c.args.value.now c.in_ok-page.field-0 c.in-Done.plan c.in-Done.is rows roomy
+            (c.in_ok-page.ensures.replacement pages r agrees rows.file roomy stood) (c.in_ok-page.ensures.short pages r agrees rows.file roomy stood) stood),
+      ),
+)
+
+pub returns-clause-made : goal.returns-clause-made
+returns-clause-made g c = λ relations fits. IfOk-weaker c.set_entry.result _ _
+    (λ act. made_weaker act _ _ (λ changes reply done pages agrees m rows roomy.
+    let n = c.args.name.now in
+    let old = c.in_ok-old-in-Record.old in
+    let is = c.requires.named pages agrees m rows.index in
+    let named = rows.named.names c.args.relation c.args.key.now n is in
+    let told = c.in-Record.ensures pages agrees rows.file (record_kind pages n.page n.slot _ named.1) in
+    let stood = named.1 ∙ ap (λ (v : List ℕ). row_of c.args.relation c.args.key.now (Some v)) (value_of _ _ _ (sym named.1 ∙ told) ∙ sym c.in_ok-old-in-Record.ensures) in
+    let r : Row = record { relation = c.args.relation; key = c.args.key.now; value = old } in
+    done pages agrees m rows roomy is
+    (has_moved (g.V.Pages.total c.args.views.now) pages c.in-Done.plan n r c.args.value.now c.if-is_name.ensures
+    (replacement_is (g.V.Pages.at_hand c.args.views.now) c.args.room relations (g.V.Pages.total c.args.views.now) pages m n r c.args.value.now c.in_ok-page.field-0 c.in-Done.plan c.in-Done.is rows roomy
+    (c.in_ok-page.ensures.replacement pages r agrees rows.file roomy stood) (c.in_ok-page.ensures.short pages r agrees rows.file roomy stood) stood))))
+    (c.set_entry.ensures.made relations c.args.room c.args.name.now c.args.value.now fits)

@@ -1,0 +1,107 @@
+// A row less.
+ghost use Rattle.std.specs.Prelude.{◌≡◌, ◌≤◌, ℕ, List, length, None, Some, IfOk};
+ghost use Rattle.mt_pool.specs.Changes.{after, AreShort};
+ghost use Rattle.mt_index.specs.Answers.{InMaps};
+ghost use Rattle.mt_model.specs.declared.operations.Op.TheVariants.{Delete};
+ghost use Rattle.mt_steps.specs.Drafts.{AreAtHand};
+ghost use Rattle.mt_steps.specs.Acts.{HasGood, InGood, IfLock, IfMade, IfFull, IfBroken, IsAct, IsTaken};
+
+use crate::act::Act;
+use crate::draft::first_missing;
+use crate::joining::{drafted, join, to_write};
+use mt_base::{Bytes, Mode, RecordName, RelNo};
+use mt_file::{Found, Step, plan_read, plan_remove};
+use mt_index::{Amend, Find, plan_drop, plan_find};
+use mt_model::Reply;
+use mt_pool::{Changes, Pages};
+use std::alloc::{AllocError, Global};
+
+/// Plans to take away the value under a key: its record, whose page is given back where it was the last there, and
+/// its entry in the index. Where the key has no value nothing changes. Pages that may change are needed for
+/// write, the directory for read.
+pub fn delete<V: Pages>(
+    alloc: Global,
+    views: &V,
+    relation: RelNo,
+    key: &[u8],
+) -> Result<Act, AllocError>
+    requires sound { V.is_sound views.now }
+    requires good { (relations : ℕ) × HasGood (V.at_hand views.now) relations (V.total views.now) }
+    requires short { length key.now ≤ 64 }
+    ensures lock { IfOk result (λ act. IfLock act (λ p mode. V.at_hand views.now p ≡ None)) }
+    ensures made { (relations : ℕ) → IfOk result (λ act. IfMade act (λ changes reply.
+        InGood (V.at_hand views.now) relations (V.total views.now) (λ pages m. IsAct relations (V.total views.now) pages (after changes pages) (Delete relation key.now) reply × AreShort changes pages))) }
+    ensures full { IfOk result (λ act. IfFull act ⊥) }
+    ensures broken { IfOk result (λ act. IfBroken act ⊥) }
+{
+    match plan_find(views, relation, key) {
+        Find::Need(page, mode) => Ok(Act::Lock(page, to_write(page, mode))),
+        Find::Missing => Ok(Act::Made(Changes::new(alloc), Reply::Missing)),
+        Find::Found(name) => delete_row(alloc, views, relation, key, &name),
+        Find::Endless => Ok(Act::Broken),
+    }
+}
+
+// The same, where the key has the record of this name.
+fn delete_row<V: Pages>(
+    alloc: Global,
+    views: &V,
+    relation: RelNo,
+    key: &[u8],
+    name: &RecordName,
+) -> Result<Act, AllocError>
+    requires sound { V.is_sound views.now }
+    requires good { (relations : ℕ) × HasGood (V.at_hand views.now) relations (V.total views.now) }
+    requires short { length key.now ≤ 64 }
+    requires named { InMaps (V.at_hand views.now) (V.total views.now) (λ pages m. m relation key.now ≡ Some name.now) }
+    ensures lock { IfOk result (λ act. IfLock act (λ p mode. V.at_hand views.now p ≡ None)) }
+    ensures made { (relations : ℕ) → IfOk result (λ act. IfMade act (λ changes reply.
+        InGood (V.at_hand views.now) relations (V.total views.now) (λ pages m. IsAct relations (V.total views.now) pages (after changes pages) (Delete relation key.now) reply × AreShort changes pages))) }
+    ensures full { IfOk result (λ act. IfFull act ⊥) }
+    ensures broken { IfOk result (λ act. IfBroken act ⊥) }
+{
+    let old = match plan_read(views, *name) {
+        Found::Need(page, _) => return Ok(Act::Lock(page, Mode::Write)),
+        Found::Record(row) => Bytes::copy_of(alloc, row.value)?,
+        Found::Nothing => return Ok(Act::Broken),
+    };
+    let plan = match plan_remove(alloc, views, *name)? {
+        Step::Need(page, mode) => return Ok(Act::Lock(page, mode)),
+        Step::Full => return Ok(Act::Broken),
+        Step::Done(plan) => plan,
+    };
+    if let Some(page) = first_missing(views, &plan.changes) {
+        return Ok(Act::Lock(page, Mode::Write));
+    }
+    drop_entry(alloc, views, relation, key, name, &plan.changes, old)
+}
+
+// The entry of a record that has been taken away.
+fn drop_entry<V: Pages>(
+    alloc: Global,
+    views: &V,
+    relation: RelNo,
+    key: &[u8],
+    name: &RecordName,
+    first: &Changes,
+    old: Bytes,
+) -> Result<Act, AllocError>
+    requires sound { V.is_sound views.now }
+    requires there { AreAtHand (V.at_hand views.now) first.now.list.items }
+    requires short { length key.now ≤ 64 }
+    requires good { (relations : ℕ) × HasGood (V.at_hand views.now) relations (V.total views.now) × InGood (V.at_hand views.now) relations (V.total views.now) (λ pages m. (m relation key.now ≡ Some name.now) × IsTaken pages first.now.list.items name.now (record { relation = relation; key = key.now; value = old })) }
+    ensures lock { IfOk result (λ act. IfLock act (λ p mode. V.at_hand views.now p ≡ None)) }
+    ensures made { (relations : ℕ) → IfOk result (λ act. IfMade act (λ changes reply.
+        InGood (V.at_hand views.now) relations (V.total views.now) (λ pages m. m relation key.now ≡ Some name.now → IsTaken pages first.now.list.items name.now (record { relation = relation; key = key.now; value = old }) →
+        IsAct relations (V.total views.now) pages (after changes pages) (Delete relation key.now) reply × AreShort changes pages))) }
+    ensures full { IfOk result (λ act. IfFull act ⊥) }
+    ensures broken { IfOk result (λ act. IfBroken act ⊥) }
+{
+    let draft = drafted(alloc, views, first)?;
+    match plan_drop(alloc, &draft, relation, key)? {
+        Amend::Need(page, mode) => Ok(Act::Lock(page, mode)),
+        Amend::Missing => Ok(Act::Broken),
+        Amend::Endless => Ok(Act::Broken),
+        Amend::Changes(second) => join(alloc, views, first, &second, Reply::Was(old)),
+    }
+}

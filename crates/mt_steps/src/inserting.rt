@@ -1,0 +1,111 @@
+// A row more.
+ghost use Rattle.std.specs.Prelude.{◌≡◌, ◌≤◌, ◌<◌, ℕ, List, Option, length, None, IfOk};
+ghost use Rattle.mt_base.specs.Limits.{IsKey, IsValue};
+ghost use Rattle.mt_slots.specs.Page.{Fits};
+ghost use Rattle.mt_pool.specs.Changes.{after, AreShort};
+ghost use Rattle.mt_model.specs.declared.operations.Op.TheVariants.{Insert};
+ghost use Rattle.mt_index.specs.Answers.{InMaps};
+ghost use Rattle.mt_steps.specs.Drafts.{AreAtHand};
+ghost use Rattle.mt_steps.specs.Acts.{HasRoomy, InRoomy, IfLock, IfMade, IfBroken, IsAct, IsPlaced};
+
+use crate::act::Act;
+use crate::draft::first_missing;
+use crate::joining::{drafted, join, to_write};
+use mt_base::{Mode, PageNo, RelNo};
+use mt_file::{Plan, Step, plan_put};
+use mt_index::{Add, Find, plan_add, plan_find};
+use mt_model::Reply;
+use mt_pool::{Changes, Pages};
+use std::alloc::{AllocError, Global};
+
+/// Plans to put a value under a key that has none: the record goes into the page `room`, which holds
+/// records, or into a new page where none is named, and its entry into the index, which splits a bucket at
+/// most where `split` is set. Where the key has a value nothing changes. Pages that may change are needed
+/// for write, the directory for read as long as no split is due.
+pub fn insert<V: Pages>(
+    alloc: Global,
+    views: &V,
+    room: Option<PageNo>,
+    relation: RelNo,
+    key: &[u8],
+    value: &[u8],
+    split: bool,
+) -> Result<Act, AllocError>
+    requires sound { V.is_sound views.now }
+    requires good { (relations : ℕ) × HasRoomy (V.at_hand views.now) room relations (V.total views.now) }
+    requires relation_fits { relation < 256 }
+    requires key_fits { IsKey key.now }
+    requires value_fits { IsValue value.now }
+    ensures lock { IfOk result (λ act. IfLock act (λ p mode. V.at_hand views.now p ≡ None)) }
+    ensures made { (relations : ℕ) → Fits relations 1024 (record { relation = relation; key = key.now; value = value.now }) → IfOk result (λ act. IfMade act (λ changes reply.
+        InRoomy (V.at_hand views.now) room relations (V.total views.now) (λ pages m. IsAct relations (V.total views.now) pages (after changes pages) (Insert relation key.now value.now) reply × AreShort changes pages))) }
+    ensures broken { IfOk result (λ act. IfBroken act ⊥) }
+{
+    match plan_find(views, relation, key) {
+        Find::Need(page, mode) => Ok(Act::Lock(page, to_write(page, mode))),
+        Find::Found(_) => Ok(Act::Made(Changes::new(alloc), Reply::Exists)),
+        Find::Missing => insert_new(alloc, views, room, relation, key, value, split),
+        Find::Endless => Ok(Act::Broken),
+    }
+}
+
+// The same of a key that has no value.
+fn insert_new<V: Pages>(
+    alloc: Global,
+    views: &V,
+    room: Option<PageNo>,
+    relation: RelNo,
+    key: &[u8],
+    value: &[u8],
+    split: bool,
+) -> Result<Act, AllocError>
+    requires sound { V.is_sound views.now }
+    requires good { (relations : ℕ) × HasRoomy (V.at_hand views.now) room relations (V.total views.now) }
+    requires relation_fits { relation < 256 }
+    requires key_fits { IsKey key.now }
+    requires value_fits { IsValue value.now }
+    requires missing { InMaps (V.at_hand views.now) (V.total views.now) (λ pages m. m relation key.now ≡ None) }
+    ensures lock { IfOk result (λ act. IfLock act (λ p mode. V.at_hand views.now p ≡ None)) }
+    ensures made { (relations : ℕ) → Fits relations 1024 (record { relation = relation; key = key.now; value = value.now }) → IfOk result (λ act. IfMade act (λ changes reply.
+        InRoomy (V.at_hand views.now) room relations (V.total views.now) (λ pages m. IsAct relations (V.total views.now) pages (after changes pages) (Insert relation key.now value.now) reply × AreShort changes pages))) }
+    ensures broken { IfOk result (λ act. IfBroken act ⊥) }
+{
+    let plan = match plan_put(alloc, views, room, relation, key, value)? {
+        Step::Need(page, mode) => return Ok(Act::Lock(page, mode)),
+        Step::Full => return Ok(Act::Full),
+        Step::Done(plan) => plan,
+    };
+    if let Some(page) = first_missing(views, &plan.changes) {
+        return Ok(Act::Lock(page, Mode::Write));
+    }
+    add_entry(alloc, views, relation, key, &plan, split)
+}
+
+// The entry of a record that has been put.
+fn add_entry<V: Pages>(
+    alloc: Global,
+    views: &V,
+    relation: RelNo,
+    key: &[u8],
+    plan: &Plan,
+    split: bool,
+) -> Result<Act, AllocError>
+    requires sound { V.is_sound views.now }
+    requires there { AreAtHand (V.at_hand views.now) plan.now.changes.list.items }
+    requires relation_fits { relation < 256 }
+    requires short { length key.now ≤ 64 }
+    requires good { (relations : ℕ) × (room : Option ℕ) × (value : List ℕ) × HasRoomy (V.at_hand views.now) room relations (V.total views.now) × InRoomy (V.at_hand views.now) room relations (V.total views.now) (λ pages m. IsPlaced (V.total views.now) pages plan.now.changes.list.items plan.now.name (record { relation = relation; key = key.now; value = value })) }
+    ensures lock { IfOk result (λ act. IfLock act (λ p mode. V.at_hand views.now p ≡ None)) }
+    ensures made { (relations : ℕ) (room : Option ℕ) (value : List ℕ) → Fits relations 1024 (record { relation = relation; key = key.now; value = value }) → IfOk result (λ act. IfMade act (λ changes reply.
+        InRoomy (V.at_hand views.now) room relations (V.total views.now) (λ pages m. m relation key.now ≡ None → IsPlaced (V.total views.now) pages plan.now.changes.list.items plan.now.name (record { relation = relation; key = key.now; value = value }) →
+        IsAct relations (V.total views.now) pages (after changes pages) (Insert relation key.now value) reply × AreShort changes pages))) }
+    ensures broken { IfOk result (λ act. IfBroken act ⊥) }
+{
+    let draft = drafted(alloc, views, &plan.changes)?;
+    match plan_add(alloc, &draft, relation, key, plan.name, split)? {
+        Add::Need(page, mode) => Ok(Act::Lock(page, mode)),
+        Add::Full => Ok(Act::Full),
+        Add::Endless => Ok(Act::Broken),
+        Add::Changes(changes) => join(alloc, views, &plan.changes, &changes, Reply::Done),
+    }
+}

@@ -1,0 +1,124 @@
+// Another value in a row.
+ghost use Rattle.std.specs.Prelude.{◌≡◌, ◌≢◌, ◌⊎◌, ◌≤◌, ℕ, List, Option, length, None, Some, IfOk, MatchBool};
+ghost use Rattle.mt_base.specs.Limits.{IsValue};
+ghost use Rattle.mt_base.specs.declared.numbers.RecordName.{RecordName};
+ghost use Rattle.mt_slots.specs.Page.{Fits};
+ghost use Rattle.mt_pool.specs.Changes.{after, AreShort};
+ghost use Rattle.mt_index.specs.Answers.{InMaps};
+ghost use Rattle.mt_model.specs.declared.operations.Op.TheVariants.{Update};
+ghost use Rattle.mt_steps.specs.Drafts.{AreAtHand};
+ghost use Rattle.mt_steps.specs.Acts.{HasRoomy, InRoomy, IfLock, IfMade, IfBroken, IsAct, IsMoved};
+
+use crate::act::Act;
+use crate::draft::first_missing;
+use crate::joining::{drafted, join};
+use mt_base::{Bytes, Mode, PageNo, RecordName, RelNo};
+use mt_file::{Found, Plan, Step, plan_read, plan_replace};
+use mt_index::{Amend, Find, plan_find, plan_set};
+use mt_model::Reply;
+use mt_pool::{Changes, Pages};
+use std::alloc::{AllocError, Global};
+
+/// Plans to replace the value under a key that has one. The record stays under its name where its page has
+/// room for it, and else moves into the page `room`, which holds records, or into a new page where none is named;
+/// then its entry names it anew. Where the key has no value nothing changes, nor where it has this one. The
+/// directory and the key's bucket are needed for read, and for write where the record moves; pages of records for
+/// write.
+pub fn update<V: Pages>(
+    alloc: Global,
+    views: &V,
+    room: Option<PageNo>,
+    relation: RelNo,
+    key: &[u8],
+    value: &[u8],
+) -> Result<Act, AllocError>
+    requires sound { V.is_sound views.now }
+    requires good { (relations : ℕ) × HasRoomy (V.at_hand views.now) room relations (V.total views.now) }
+    requires short { length key.now ≤ 64 }
+    requires value_fits { IsValue value.now }
+    ensures lock { IfOk result (λ act. IfLock act (λ p mode. V.at_hand views.now p ≡ None)) }
+    ensures made { (relations : ℕ) → Fits relations 1024 (record { relation = relation; key = key.now; value = value.now }) → IfOk result (λ act. IfMade act (λ changes reply.
+        InRoomy (V.at_hand views.now) room relations (V.total views.now) (λ pages m. IsAct relations (V.total views.now) pages (after changes pages) (Update relation key.now value.now) reply × AreShort changes pages))) }
+    ensures broken { IfOk result (λ act. IfBroken act ⊥) }
+{
+    match plan_find(views, relation, key) {
+        Find::Need(page, mode) => Ok(Act::Lock(page, mode)),
+        Find::Missing => Ok(Act::Made(Changes::new(alloc), Reply::Missing)),
+        Find::Found(name) => update_row(alloc, views, room, relation, key, value, &name),
+        Find::Endless => Ok(Act::Broken),
+    }
+}
+
+// The same, where the key has the record of this name.
+fn update_row<V: Pages>(
+    alloc: Global,
+    views: &V,
+    room: Option<PageNo>,
+    relation: RelNo,
+    key: &[u8],
+    value: &[u8],
+    name: &RecordName,
+) -> Result<Act, AllocError>
+    requires sound { V.is_sound views.now }
+    requires good { (relations : ℕ) × HasRoomy (V.at_hand views.now) room relations (V.total views.now) }
+    requires short { length key.now ≤ 64 }
+    requires value_fits { IsValue value.now }
+    requires named { InMaps (V.at_hand views.now) (V.total views.now) (λ pages m. m relation key.now ≡ Some name.now) }
+    ensures lock { IfOk result (λ act. IfLock act (λ p mode. V.at_hand views.now p ≡ None)) }
+    ensures made { (relations : ℕ) → Fits relations 1024 (record { relation = relation; key = key.now; value = value.now }) → IfOk result (λ act. IfMade act (λ changes reply.
+        InRoomy (V.at_hand views.now) room relations (V.total views.now) (λ pages m. IsAct relations (V.total views.now) pages (after changes pages) (Update relation key.now value.now) reply × AreShort changes pages))) }
+    ensures broken { IfOk result (λ act. IfBroken act ⊥) }
+{
+    let old = match plan_read(views, *name) {
+        Found::Need(page, _) => return Ok(Act::Lock(page, Mode::Write)),
+        Found::Record(row) => Bytes::copy_of(alloc, row.value)?,
+        Found::Nothing => return Ok(Act::Broken),
+    };
+    let plan = match plan_replace(alloc, views, *name, value, room)? {
+        Step::Need(page, mode) => return Ok(Act::Lock(page, mode)),
+        Step::Full => return Ok(Act::Full),
+        Step::Done(plan) => plan,
+    };
+    if is_name(&plan.name, name) {
+        return Ok(Act::Made(plan.changes, Reply::Was(old)));
+    }
+    if let Some(page) = first_missing(views, &plan.changes) {
+        return Ok(Act::Lock(page, Mode::Write));
+    }
+    set_entry(alloc, views, relation, key, &plan, old)
+}
+
+// Whether two names are the same.
+fn is_name(one: &RecordName, other: &RecordName) -> bool
+    ensures { MatchBool result (one.now ≡ other.now) ((one.now.page ≢ other.now.page) ⊎ (one.now.slot ≢ other.now.slot)) }
+{
+    one.page == other.page && one.slot == other.slot
+}
+
+// The entry of a record that has moved.
+fn set_entry<V: Pages>(
+    alloc: Global,
+    views: &V,
+    relation: RelNo,
+    key: &[u8],
+    plan: &Plan,
+    old: Bytes,
+) -> Result<Act, AllocError>
+    requires sound { V.is_sound views.now }
+    requires there { AreAtHand (V.at_hand views.now) plan.now.changes.list.items }
+    requires short { length key.now ≤ 64 }
+    requires good { (relations : ℕ) × (room : Option ℕ) × (name : RecordName) × (value : List ℕ) × HasRoomy (V.at_hand views.now) room relations (V.total views.now) × InRoomy (V.at_hand views.now) room relations (V.total views.now) (λ pages m. (m relation key.now ≡ Some name) × IsMoved (V.total views.now) pages plan.now.changes.list.items name plan.now.name (record { relation = relation; key = key.now; value = old }) (record { relation = relation; key = key.now; value = value })) }
+    ensures lock { IfOk result (λ act. IfLock act (λ p mode. V.at_hand views.now p ≡ None)) }
+    ensures made { (relations : ℕ) (room : Option ℕ) (name : RecordName) (value : List ℕ) → Fits relations 1024 (record { relation = relation; key = key.now; value = value }) → IfOk result (λ act. IfMade act (λ changes reply.
+        InRoomy (V.at_hand views.now) room relations (V.total views.now) (λ pages m. m relation key.now ≡ Some name → IsMoved (V.total views.now) pages plan.now.changes.list.items name plan.now.name (record { relation = relation; key = key.now; value = old }) (record { relation = relation; key = key.now; value = value }) →
+        IsAct relations (V.total views.now) pages (after changes pages) (Update relation key.now value) reply × AreShort changes pages))) }
+    ensures broken { IfOk result (λ act. IfBroken act ⊥) }
+{
+    let draft = drafted(alloc, views, &plan.changes)?;
+    match plan_set(alloc, &draft, relation, key, plan.name)? {
+        Amend::Need(page, mode) => Ok(Act::Lock(page, mode)),
+        Amend::Missing => Ok(Act::Broken),
+        Amend::Endless => Ok(Act::Broken),
+        Amend::Changes(second) => join(alloc, views, &plan.changes, &second, Reply::Was(old)),
+    }
+}

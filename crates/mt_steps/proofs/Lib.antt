@@ -6,3 +6,4 @@ pub mod Drafting
 mod Entering
 mod Leaving
 mod Shifting
+mod Counted

@@ -7,3 +7,4 @@ mod Entering
 mod Leaving
 mod Shifting
 mod Counted
+mod Adding

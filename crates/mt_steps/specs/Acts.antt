@@ -51,6 +51,10 @@ pub record IsAct (relations total : ℕ) (pages pages2 : PageBytes) (op : Op) (r
   pub good : AreRows relations total pages2 meaning
   pub counters : (counters : ℕ) → AreCounters relations counters (pages 2) → AreCounters relations counters (pages2 2)
 
+-- some pages agree with what is at hand, and have a counters page
+abbrev pub HasCounters : (ℕ → Option (List ℕ)) → ℕ → ℕ → Type 0
+HasCounters at_hand relations counters = (pages : PageBytes) × Agrees at_hand pages × AreCounters relations counters (pages 2)
+
 -- ---- an insert
 
 -- some good pages agree with what is at hand, in which the named page, if one is, holds records; and all such

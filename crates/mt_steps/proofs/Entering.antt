@@ -1,4 +1,5 @@
 -- A record that has been put, and its entry.
+use Rattle.mt_steps.proofs.Counted.{StaysCounters, counters_refl, counters_trans, touches_counters, add_counters, row_act}
 use Rattle.std.proofs.Common.{◌≡◌, ◌⊎◌, inl, inr, ℕ, ◌<◌, List, [], ◌∷◌, zero, suc, Option, None, Some, Bool, true, ◌==◌, length, refl, ap, sym, ◌∙◌, subst, arith}
 use Rattle.std.proofs.lemmas.Bool.Decides.{Decides-eqb}
 use Rattle.mt_base.specs.declared.numbers.RecordName.{RecordName}
@@ -61,12 +62,11 @@ made_weaker Broken P Q f told = told
 pub entered : (relations total : ℕ) (split : Bool) (pages last : PageBytes) (m : Map) (first : List PageChange) (name : RecordName) (r : ℕ) (k v : List ℕ) (reply : Reply) → AreRows relations total pages m → m r k ≡ None
     → Fits relations 1024 (record { relation = r; key = k; value = v }) → IsPlaced total pages first name (record { relation = r; key = k; value = v })
     → AreMap total last (alter m r k (Some name)) → Added split total (record { relation = r; key = k; name = name }) (after first pages) last → reply ≡ Done → IsAct relations total pages last (Insert r k v) reply
-entered relations total split pages last m first name r k v reply rows none fits placed map added is = record {
-  replies = λ b held. ap done_unless (none_held pages m b r k rows.named held none) ∙ sym is;
-  base = λ b held. inserts_base relations total pages mid last m b name.page name.slot r k v rows held none placed.adds kept;
-  meaning = alter m r k (Some name);
-  good = inserts_good relations total pages mid last m name.page name.slot r k v rows none fits placed.adds kept map formed;
-}
+entered relations total split pages last m first name r k v reply rows none fits placed map added is =
+    row_act relations total pages last (alter m r k (Some name)) (Insert r k v) reply counters (λ b. refl)
+    (λ b held. ap done_unless (none_held pages m b r k rows.named held none) ∙ sym is)
+    (λ b held. inserts_base relations total pages mid last m b name.page name.slot r k v rows held none placed.adds kept)
+    (inserts_good relations total pages mid last m name.page name.slot r k v rows none fits placed.adds kept map formed counters.fixed)
   where
     mid : PageBytes
     mid = after first pages
@@ -76,6 +76,12 @@ entered relations total split pages last m first name r k v reply rows none fits
 
     between : AreMap total mid m
     between = placed_map relations total pages m first name row rows placed
+
+    at_mid : StaysCounters pages mid
+    at_mid = touches_counters pages mid name.page rows.counters_fixed placed.was placed.adds.touches
+
+    counters : StaysCounters pages last
+    counters = counters_trans pages mid last at_mid (add_counters total mid last at_mid.fixed added.stays)
 
     kept : StaysFile mid last
     kept = add_stays total mid last between.space_fixed between.directory_fixed added.stays
@@ -113,12 +119,11 @@ placed_is at_hand room relations total pages m row answer plan is rows named put
 
 -- a key that has a value keeps it
 pub found_already : (relations total : ℕ) (pages : PageBytes) (m : Map) (n : RecordName) (r : ℕ) (k v : List ℕ) → AreRows relations total pages m → m r k ≡ Some n → IsAct relations total pages pages (Insert r k v) Exists
-found_already relations total pages m n r k v rows is = record {
-  replies = λ b held. ap done_unless (there b held);
-  base = λ b held. base_same pages b (alter_row b r k (inserted v)) (λ q l. sym (row_again b q l (there b held))) held;
-  meaning = m;
-  good = rows;
-}
+found_already relations total pages m n r k v rows is =
+    row_act relations total pages pages m (Insert r k v) Exists (counters_refl pages rows.counters_fixed) (λ b. refl)
+    (λ b held. ap done_unless (there b held))
+    (λ b held. base_same pages b (alter_row b r k (inserted v)) (λ q l. sym (row_again b q l (there b held))) held)
+    rows
   where
     named : (u : List ℕ) × (record_in pages n.page n.slot ≡ Some (record { relation = r; key = k; value = u }))
     named = rows.named.names r k n is

@@ -1,4 +1,5 @@
 -- A record that has been taken away, and its entry.
+use Rattle.mt_steps.proofs.Counted.{StaysCounters, counters_refl, counters_trans, touches_counters, amends_counters, row_act}
 use Rattle.std.proofs.Common.{◌≡◌, ◌≢◌, inl, ℕ, List, Option, None, Some, refl, ap, sym, ◌∙◌, subst, arith, ◌⊎◌, inr, ⊎_elim}
 use Rattle.std.proofs.lemmas.Bool.{cases_eq}
 use Rattle.mt_base.specs.declared.modes.Mode.{Mode}
@@ -73,24 +74,31 @@ taken_form relations total pages m changes n row rows taken = form_stays relatio
 pub left : (relations total : ℕ) (pages last : PageBytes) (m : Map) (first : List PageChange) (n : RecordName) (r : ℕ) (k v : List ℕ) (reply : Reply) → AreRows relations total pages m → m r k ≡ Some n
     → IsTaken pages first n (record { relation = r; key = k; value = v }) → AreMap total last (alter m r k None) → ((p : ℕ) → kind (after first pages) p ≢ 2 → last p ≡ after first pages p) → AreFormed relations total last
     → reply ≡ Was v → IsAct relations total pages last (Delete r k) reply
-left relations total pages last m first n r k v reply rows is taken map others formed told = record {
-  replies = λ b held. ap was (value_held pages m b n r k v held taken.stood) ∙ sym told;
-  base = λ b held. deletes_base relations total pages (after first pages) last m b n r k v rows held is taken.stood taken.drops kept;
-  meaning = alter m r k None;
-  good = deletes_good relations total pages (after first pages) last m n r k v rows is taken.stood taken.drops kept map formed;
-}
+left relations total pages last m first n r k v reply rows is taken map others formed told =
+    row_act relations total pages last (alter m r k None) (Delete r k) reply counters (λ b. refl)
+    (λ b held. ap was (value_held pages m b n r k v held taken.stood) ∙ sym told)
+    (λ b held. deletes_base relations total pages (after first pages) last m b n r k v rows held is taken.stood taken.drops kept)
+    (deletes_good relations total pages (after first pages) last m n r k v rows is taken.stood taken.drops kept map formed counters.fixed)
   where
+    space : kind (after first pages) 0 ≡ 1
+    space = (taken_map relations total pages m first n (record { relation = r; key = k; value = v }) rows taken).space_fixed
+
+    at_mid : StaysCounters pages (after first pages)
+    at_mid = touches_counters pages (after first pages) n.page rows.counters_fixed (inl (record_kind pages n.page n.slot (record { relation = r; key = k; value = v }) taken.stood)) taken.drops.touches
+
+    counters : StaysCounters pages last
+    counters = counters_trans pages (after first pages) last at_mid (amends_counters (after first pages) last space at_mid.fixed others)
+
     kept : StaysFile (after first pages) last
-    kept = amends_file (after first pages) last (taken_map relations total pages m first n (record { relation = r; key = k; value = v }) rows taken).space_fixed others
+    kept = amends_file (after first pages) last space others
 
 -- a key without a value stays so
 pub missing_already : (relations total : ℕ) (pages : PageBytes) (m : Map) (r : ℕ) (k : List ℕ) → AreRows relations total pages m → m r k ≡ None → IsAct relations total pages pages (Delete r k) Missing
-missing_already relations total pages m r k rows none = record {
-  replies = λ b held. ap was (none_held pages m b r k rows.named held none);
-  base = λ b held. base_same pages b (alter_row b r k deleted) (λ q l. sym (deleted_again b r k (none_held pages m b r k rows.named held none) q l)) held;
-  meaning = m;
-  good = rows;
-}
+missing_already relations total pages m r k rows none =
+    row_act relations total pages pages m (Delete r k) Missing (counters_refl pages rows.counters_fixed) (λ b. refl)
+    (λ b held. ap was (none_held pages m b r k rows.named held none))
+    (λ b held. base_same pages b (alter_row b r k deleted) (λ q l. sym (deleted_again b r k (none_held pages m b r k rows.named held none) q l)) held)
+    rows
 
 -- ---- a removal
 

@@ -6,3 +6,5 @@ pub mod Drafting
 mod Entering
 mod Leaving
 mod Shifting
+mod Counted
+mod Adding

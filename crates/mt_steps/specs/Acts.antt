@@ -1,4 +1,5 @@
 -- What the plan of an operation answers.
+use Rattle.mt_steps.specs.Counters.{AreCounters}
 use Rattle.std.specs.Prelude.{◌≡◌, ◌⊎◌, ◌<◌, ℕ, List, Option, Some}
 use Rattle.mt_base.specs.declared.modes.Mode.{Mode}
 use Rattle.mt_base.specs.declared.numbers.RecordName.{RecordName}
@@ -12,7 +13,7 @@ use Rattle.mt_index.specs.Maps.{Map}
 use Rattle.mt_model.specs.declared.operations.Op.{Op}
 use Rattle.mt_model.specs.declared.operations.Reply.{Reply}
 use Rattle.mt_model.specs.Model.{Base, reply_of, base_after}
-use Rattle.mt_steps.specs.Held.{HoldsRows, AreRows}
+use Rattle.mt_steps.specs.Held.{Holds, AreRows}
 use Rattle.mt_steps.specs.declared.act.Act.{Act}
 use Rattle.mt_steps.specs.declared.act.Act.TheVariants.{Lock, Made, Full, Broken}
 
@@ -44,10 +45,15 @@ IfBroken _ P = Unit {0}
 -- The changes are one act of the operation on these pages: whatever base they hold, the reply is the model's there,
 -- and once the changes are made the pages hold the base that the model leaves, and are as good as before.
 pub record IsAct (relations total : ℕ) (pages pages2 : PageBytes) (op : Op) (reply : Reply) : Type 0 where
-  pub replies : (b : Base) → HoldsRows pages b → reply_of b op ≡ reply
-  pub base : (b : Base) → HoldsRows pages b → HoldsRows pages2 (base_after b op)
+  pub replies : (b : Base) → Holds pages b → reply_of b op ≡ reply
+  pub base : (b : Base) → Holds pages b → Holds pages2 (base_after b op)
   pub meaning : Map
   pub good : AreRows relations total pages2 meaning
+  pub counters : (counters : ℕ) → AreCounters relations counters (pages 2) → AreCounters relations counters (pages2 2)
+
+-- some pages agree with what is at hand, and have a counters page
+abbrev pub HasCounters : (ℕ → Option (List ℕ)) → ℕ → ℕ → Type 0
+HasCounters at_hand relations counters = (pages : PageBytes) × Agrees at_hand pages × AreCounters relations counters (pages 2)
 
 -- ---- an insert
 

@@ -1,5 +1,7 @@
 -- What all pages together stand for.
-use Rattle.std.specs.Prelude.{◌≡◌, ℕ, List, Some}
+use Rattle.mt_steps.specs.Counters.{count_in}
+use Rattle.mt_space.specs.Kinds.{kind}
+use Rattle.std.specs.Prelude.{◌≡◌, ℕ, List, Some, ◌<◌}
 use Rattle.mt_base.specs.declared.numbers.RecordName.{RecordName}
 use Rattle.mt_slots.specs.Page.{Row}
 use Rattle.mt_pool.specs.Changes.{PageBytes}
@@ -17,6 +19,15 @@ pub record HoldsRows (pages : PageBytes) (b : Base) : Type 0 where
   pub found : (r : ℕ) (k v : List ℕ) → b.rows r k ≡ Some v → IsThere pages r k v
   pub there : (r : ℕ) (k v : List ℕ) → IsThere pages r k v → b.rows r k ≡ Some v
 
+-- the counters are those of page 2, as many as there can be
+abbrev pub HoldsCounts : PageBytes → Base → Type 0
+HoldsCounts pages b = (c : ℕ) → c < 128 → b.counts c ≡ count_in (pages 2) c
+
+-- The base that the pages hold.
+pub record Holds (pages : PageBytes) (b : Base) : Type 0 where
+  pub rows : HoldsRows pages b
+  pub counts : HoldsCounts pages b
+
 -- each entry of the index names a record of its relation and key, and each record has one
 pub record AreNamed (pages : PageBytes) (m : Map) : Type 0 where
   pub names : (r : ℕ) (k : List ℕ) (n : RecordName) → m r k ≡ Some n → (v : List ℕ) × (record_in pages n.page n.slot ≡ Some (record { relation = r; key = k; value = v }))
@@ -29,3 +40,4 @@ pub record AreRows (relations total : ℕ) (pages : PageBytes) (m : Map) : Type 
   pub index : AreMap total pages m
   pub formed : AreFormed relations total pages
   pub named : AreNamed pages m
+  pub counters_fixed : kind pages 2 ≡ 1

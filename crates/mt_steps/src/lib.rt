@@ -5,6 +5,7 @@
 
 mod act;
 mod counters;
+mod counting;
 mod deleting;
 mod draft;
 mod getting;
@@ -14,6 +15,7 @@ mod updating;
 
 pub use act::Act;
 pub use counters::{add, check, counter};
+pub use counting::{add_to, read_from};
 pub use deleting::delete;
 pub use draft::{Draft, first_missing, merged};
 pub use getting::get;

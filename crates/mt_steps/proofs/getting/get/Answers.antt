@@ -1,9 +1,11 @@
-use Rattle.std.proofs.Common.{◌≡◌, ◌∙◌, ⊎_elim, ℕ, List, Option, None, Some, sym, ap}
+use Rattle.std.proofs.Common.{◌≡◌, ◌∙◌, ⊎_elim, ℕ, List, Option, None, Some, refl, sym, ap}
 use Rattle.mt_slots.specs.Page.{Row}
 use Rattle.mt_file.proofs.Filed.{record_kind}
-use Rattle.mt_model.specs.declared.operations.Reply.TheVariants.{Found}
+use Rattle.mt_model.specs.declared.operations.Op.TheVariants.{Get}
+use Rattle.mt_model.specs.declared.operations.Reply.TheVariants.{Found, Missing}
 use Rattle.mt_model.specs.Model.{found}
 use Rattle.mt_steps.proofs.Rows.{none_held}
+use Rattle.mt_steps.proofs.Counted.{counters_refl, row_act}
 use Rattle.mt_steps.proofs.Acting.{value_held}
 use Rattle.mt_steps.proofs.getting.get.Goals as goal
 
@@ -22,12 +24,10 @@ returns-in-Need-clause-lock g c =
 pub returns-in-Missing-clause-made : goal.returns-in-Missing-clause-made
 returns-in-Missing-clause-made g c = λ relations. (
   c.new.ensures,
-  λ pages agrees m rows. record {
-    replies = λ b held. ap found (none_held pages m b c.args.relation c.args.key.now rows.named held (c.in-Missing.ensures.missing pages agrees m rows.index));
-    base = λ b held. held;
-    meaning = m;
-    good = rows;
-  },
+  λ pages agrees m rows.
+      row_act relations (g.V.Pages.total c.args.views.now) pages pages m (Get c.args.relation c.args.key.now) Missing (counters_refl pages rows.counters_fixed) (λ b. refl)
+      (λ b held. ap found (none_held pages m b c.args.relation c.args.key.now rows.named held (c.in-Missing.ensures.missing pages agrees m rows.index)))
+      (λ b held. held) rows,
 )
 
 pub returns-in-Endless-clause-broken : goal.returns-in-Endless-clause-broken
@@ -55,12 +55,9 @@ returns-in_ok-value-in-Record-clause-made g c = λ relations. (
       let named = rows.named.names c.args.relation c.args.key.now name is in
       let told = c.in-Record.ensures pages agrees rows.file (record_kind pages name.page name.slot _ named.1) in
       let same : named.0 ≡ c.in-Record.row.value.now = value_of _ _ _ (sym named.1 ∙ told) in
-      record {
-        replies = λ b held. ap found (value_held pages m b name c.args.relation c.args.key.now named.0 held named.1) ∙ ap Found (same ∙ sym c.in_ok-value-in-Record.ensures);
-        base = λ b held. held;
-        meaning = m;
-        good = rows;
-      },
+      row_act relations (g.V.Pages.total c.args.views.now) pages pages m (Get c.args.relation c.args.key.now) (Found c.in_ok-value-in-Record.value) (counters_refl pages rows.counters_fixed) (λ b. refl)
+      (λ b held. ap found (value_held pages m b name c.args.relation c.args.key.now named.0 held named.1) ∙ ap Found (same ∙ sym c.in_ok-value-in-Record.ensures))
+      (λ b held. held) rows,
 )
 
 pub returns-in-Nothing-clause-broken : goal.returns-in-Nothing-clause-broken

@@ -1,0 +1,41 @@
+use Rattle.std.proofs.Common.{◌≡◌, ◌∙◌, ◌+◌, ℕ, ℤ, List, true, false, sym, ap, subst}
+use Rattle.std.specs.Int.{w64}
+use Rattle.std.proofs.lemmas.Int.{to_z-of_z}
+use Rattle.mt_base.specs.Ranges.{Torn}
+use Rattle.mt_pool.specs.declared.changes.PageChange.{PageChange}
+use Rattle.mt_pool.specs.Changes.{PageBytes, after, replaced, IsUntouched, AreShort}
+use Rattle.mt_model.specs.declared.operations.Op.TheVariants.{Add}
+use Rattle.mt_model.specs.declared.operations.Reply.TheVariants.{Done, OutOfBounds}
+use Rattle.mt_model.specs.Model.{moved, stays}
+use Rattle.mt_steps.specs.Counters.{place_of, count_in, AreCounters}
+use Rattle.mt_steps.specs.Acts.{IsAct}
+use Rattle.mt_steps.proofs.Adding.{adds_done, adds_nothing}
+use Rattle.mt_steps.proofs.counting.add_to.Goals as goal
+
+pub returns-then-not-add-clause-made : goal.returns-then-not-add-clause-made
+returns-then-not-add-clause-made g c = λ relations pages agrees m rows counters there a.
+    let total = g.V.Pages.total c.args.views.now in
+    let at_two : pages 2 ≡ c.in-Some.old.now = agrees 2 c.in-Some.old.now (ap (λ (p : ℕ). g.V.Pages.at_hand c.args.views.now p) (sym c.new-page.ensures) ∙ c.in-Some.ensures.some) in
+    let leaves : stays (count_in (pages 2) c.args.number) c.args.step ≡ false = ap (λ (page : List ℕ). stays (count_in page c.args.number) c.args.step) at_two ∙ sym (c.add.ensures.told ∙ ap (λ (z : ℤ). stays (count_in c.in-Some.old.now c.args.number) z) (to_z-of_z w64 c.args.step c.ranges.step)) ∙ c.if-not-add.true in
+    subst (λ (l : List PageChange). IsAct relations total pages (after l pages) (Add c.args.number c.args.step) OutOfBounds × AreShort l pages) (sym c.new-changes.ensures)
+    (adds_nothing relations total pages m c.args.number counters c.args.step rows there a leaves, tt)
+
+pub returns-clause-made : goal.returns-clause-made
+returns-clause-made g c = λ relations pages agrees m rows counters there a.
+    let total = g.V.Pages.total c.args.views.now in
+    let p = c.new-page.result in
+    let new = c.add.new.page in
+    let list = c.new-changes.result.list.items in
+    let at_two : pages 2 ≡ c.in-Some.old.now = agrees 2 c.in-Some.old.now (ap (λ (q : ℕ). g.V.Pages.at_hand c.args.views.now q) (sym c.new-page.ensures) ∙ c.in-Some.ensures.some) in
+    let at_page : pages p ≡ c.in-Some.old.now = ap pages c.new-page.ensures ∙ at_two in
+    let fits : stays (count_in (pages 2) c.args.number) c.args.step ≡ true = ap (λ (page : List ℕ). stays (count_in page c.args.number) c.args.step) at_two ∙ sym (c.add.ensures.told ∙ ap (λ (z : ℤ). stays (count_in c.in-Some.old.now c.args.number) z) (to_z-of_z w64 c.args.step c.ranges.step)) ∙ c.if-not-add.false in
+    let noted = c.in_ok-note.ensures.noted pages (ap (λ (l : List PageChange). after l pages p) c.new-changes.ensures ∙ at_page) in
+    let made : after c.note.new.self.list.items pages ≡ replaced 2 new pages =
+    noted ∙ ap (λ (l : List PageChange). replaced p new (after l pages)) c.new-changes.ensures ∙ ap (λ (q : ℕ). replaced q new pages) c.new-page.ensures in
+    let short = c.in_ok-note.ensures.short pages at_page (subst (λ (l : List PageChange). IsUntouched l p) (sym c.new-changes.ensures) tt) (subst (λ (l : List PageChange). AreShort l pages) (sym c.new-changes.ensures) tt) in
+    let here = c.if-not-add.ensures.done ∙ ap (λ (z : ℤ). moved (count_in c.in-Some.old.now c.args.number) z) (to_z-of_z w64 c.args.step c.ranges.step) ∙ ap (λ (page : List ℕ). moved (count_in page c.args.number) c.args.step) (sym at_two) in
+    let torn : Torn (place_of c.args.number + 16) 8 (pages 2) new = subst (λ (page : List ℕ). Torn (place_of c.args.number + 16) 8 page new) (sym at_two) c.add.ensures.rest in (
+      subst (λ (last : PageBytes). IsAct relations total pages last (Add c.args.number c.args.step) Done) (sym made)
+          (adds_done relations total pages m c.args.number counters c.args.step new rows there a fits here torn (λ r n old. c.add.ensures.kept r n (subst (λ (page : List ℕ). AreCounters r n page) at_two old))),
+      short,
+    )

@@ -1,5 +1,5 @@
 -- What a plan of the record file answers.
-use Rattle.std.specs.Prelude.{◌≡◌, ◌≢◌, ◌⊎◌, ℕ, ◌+◌, ◌<◌, ◌≤◌, List, [], Option, Some, None, false}
+use Rattle.std.specs.Prelude.{◌≡◌, ◌≢◌, ◌⊎◌, ℕ, ◌+◌, ◌<◌, ◌≤◌, List, [], length, Option, Some, None, false}
 use Rattle.std.proofs.Math.ListN.{get_or}
 use Rattle.mt_base.specs.declared.modes.Mode.TheVariants.{Write, Read}
 use Rattle.mt_pool.specs.Changes.{PageBytes, after, IsUntouched, AreShort}
@@ -11,6 +11,7 @@ use Rattle.mt_file.specs.File.{record_in, IsFile, Adds, Drops, Stays, Moves}
 use Rattle.mt_file.specs.Rooms.{fits_of}
 use Rattle.mt_file.specs.declared.reading.Found.{Found}
 use Rattle.mt_file.specs.declared.reading.Found.TheVariants as found
+use Rattle.mt_file.specs.declared.step.Plan.{Plan}
 use Rattle.mt_file.specs.declared.step.Step.{Step}
 use Rattle.mt_file.specs.declared.step.Step.TheVariants.{Need, Done, Full}
 
@@ -68,6 +69,15 @@ abbrev pub IsShortPlan : PageBytes → Step → Type 0
 IsShortPlan pages (Need p mode) = Unit {0}
 IsShortPlan pages (Done plan) = AreShort plan.changes.list.items pages
 IsShortPlan pages Full = Unit {0}
+
+-- what holds of a plan that is made
+abbrev pub IfDone : Step → (Plan → Type 0) → Type 0
+IfDone (Done plan) P = P plan
+IfDone _ P = Unit {0}
+
+-- it changes at most so many pages
+abbrev pub IsFew : ℕ → Step → Type 0
+IsFew n step = IfDone step (λ plan. length plan.changes.list.items ≤ n)
 
 -- ---- a removal
 

@@ -1,11 +1,11 @@
 // A record more.
-ghost use Rattle.std.specs.Prelude.{◌≡◌, ◌≢◌, ◌<◌, ◌≤◌, ℕ, List, [], length, get_or, Option, Some, None, IfOk};
+ghost use Rattle.std.specs.Prelude.{◌≡◌, ◌≢◌, ◌<◌, ◌≤◌, ℕ, List, [], length, get_or, Option, Some, None, IfOk, IsSome, ◌+◌};
 ghost use Rattle.mt_base.specs.Limits.{IsKey, IsValue};
 ghost use Rattle.mt_pool.specs.Changes.{PageBytes, Agrees, after};
 ghost use Rattle.mt_slots.specs.Page.{Row, IsShaped, slot as held};
 ghost use Rattle.mt_space.specs.Kinds.{kind};
 ghost use Rattle.mt_file.specs.File.{IsFile};
-ghost use Rattle.mt_file.specs.Plans.{IsNamed, IsReady, IsApart, IsPut, IsShortPlan};
+ghost use Rattle.mt_file.specs.Plans.{IsNamed, IsReady, IsApart, IsPut, IsShortPlan, IfDone, IsFew};
 
 use crate::step::{Plan, Step};
 use mt_base::{Mode, PageNo, RecordName, RelNo};
@@ -39,6 +39,8 @@ pub fn plan_put<V: Pages>(
     requires value_fits { IsValue value.now }
     ensures put { IfOk result (λ step. (pages : PageBytes) → Agrees (V.at_hand views.now) pages → IsFile pages → IsNamed room pages → IsPut (V.at_hand views.now) room (V.total views.now) [] pages (record { relation = relation; key = key.now; value = value.now }) step) }
     ensures short { IfOk result (λ step. (pages : PageBytes) → Agrees (V.at_hand views.now) pages → IsFile pages → IsNamed room pages → IsShortPlan pages step) }
+    ensures few { IfOk result (IsFew (2)) }
+    ensures seen { IfOk result (λ step. IfDone step (λ plan. IsSome (V.at_hand views.now plan.name.page))) }
 {
     put(views, Changes::new(alloc), room, relation, key, value)
 }
@@ -59,6 +61,8 @@ pub(crate) fn put<V: Pages>(
     requires value_fits { length value.now ≤ 1024 }
     ensures put { IfOk result (λ step. (pages : PageBytes) → IsReady (V.at_hand views.now) room (after changes.list.items pages) → IsPut (V.at_hand views.now) room (V.total views.now) changes.list.items pages (record { relation = relation; key = key.now; value = value.now }) step) }
     ensures short { IfOk result (λ step. (pages : PageBytes) → IsReady (V.at_hand views.now) room (after changes.list.items pages) → IsApart room changes.list.items pages → IsShortPlan pages step) }
+    ensures few { IfOk result (IsFew (length changes.list.items + 2)) }
+    ensures seen { IfOk result (λ step. IfDone step (λ plan. IsSome (V.at_hand views.now plan.name.page))) }
 {
     match room {
         Some(page) => put_into(views, changes, page, relation, key, value),
@@ -82,6 +86,8 @@ fn put_into<V: Pages>(
     requires value_fits { length value.now ≤ 1024 }
     ensures put { IfOk result (λ step. (pages : PageBytes) → IsReady (V.at_hand views.now) (Some page) (after changes.list.items pages) → IsPut (V.at_hand views.now) (Some page) (V.total views.now) changes.list.items pages (record { relation = relation; key = key.now; value = value.now }) step) }
     ensures short { IfOk result (λ step. (pages : PageBytes) → IsReady (V.at_hand views.now) (Some page) (after changes.list.items pages) → IsApart (Some page) changes.list.items pages → IsShortPlan pages step) }
+    ensures few { IfOk result (IsFew (length changes.list.items + 2)) }
+    ensures seen { IfOk result (λ step. IfDone step (λ plan. IsSome (V.at_hand views.now plan.name.page))) }
 {
     let Some(old) = views.page(page) else {
         return Ok(Step::Need(page, Mode::Write));
@@ -111,6 +117,8 @@ fn put_new<V: Pages>(
     requires value_fits { length value.now ≤ 1024 }
     ensures put { IfOk result (λ step. (pages : PageBytes) → IsReady (V.at_hand views.now) None (after changes.list.items pages) → IsPut (V.at_hand views.now) None (V.total views.now) changes.list.items pages (record { relation = relation; key = key.now; value = value.now }) step) }
     ensures short { IfOk result (λ step. (pages : PageBytes) → IsReady (V.at_hand views.now) None (after changes.list.items pages) → IsApart None changes.list.items pages → IsShortPlan pages step) }
+    ensures few { IfOk result (IsFew (length changes.list.items + 2)) }
+    ensures seen { IfOk result (λ step. IfDone step (λ plan. IsSome (V.at_hand views.now plan.name.page))) }
 {
     let map_page = PageNo::new(MAP);
     let Some(map) = views.page(map_page) else {

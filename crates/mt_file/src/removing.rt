@@ -1,9 +1,9 @@
 // A record less.
-ghost use Rattle.std.specs.Prelude.{◌≡◌, ℕ, Some, IfOk};
+ghost use Rattle.std.specs.Prelude.{◌≡◌, ℕ, Some, IfOk, IsSome};
 ghost use Rattle.mt_pool.specs.Changes.{PageBytes, Agrees};
 ghost use Rattle.mt_slots.specs.Page.{Row};
 ghost use Rattle.mt_file.specs.File.{IsFile, record_in};
-ghost use Rattle.mt_file.specs.Plans.{IsRemoval, IsShortPlan};
+ghost use Rattle.mt_file.specs.Plans.{IsRemoval, IsShortPlan, IfDone, IsFew};
 
 use crate::putting::{MAP, with_kind};
 use crate::step::{Plan, Step};
@@ -23,6 +23,8 @@ pub fn plan_remove<V: Pages>(alloc: Global, views: &V, name: RecordName) -> Resu
     requires good { (pages : PageBytes) × (r : Row) × Agrees (V.at_hand views.now) pages × IsFile pages × (record_in pages name.page name.slot ≡ Some r) }
     ensures removal { IfOk result (λ step. (pages : PageBytes) (r : Row) → Agrees (V.at_hand views.now) pages → IsFile pages → record_in pages name.page name.slot ≡ Some r → IsRemoval (V.at_hand views.now) pages name.page name.slot step) }
     ensures short { IfOk result (λ step. (pages : PageBytes) (r : Row) → Agrees (V.at_hand views.now) pages → IsFile pages → record_in pages name.page name.slot ≡ Some r → IsShortPlan pages step) }
+    ensures few { IfOk result (IsFew 1) }
+    ensures seen { IfOk result (λ step. IfDone step (λ plan. IsSome (V.at_hand views.now name.page))) }
 {
     let Some(old) = views.page(name.page) else {
         return Ok(Step::Need(name.page, Mode::Write));

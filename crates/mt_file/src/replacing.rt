@@ -1,12 +1,12 @@
 // A record with another value.
-ghost use Rattle.std.specs.Prelude.{◌≡◌, ◌≢◌, ◌+◌, ◌<◌, ◌≤◌, ℕ, [], length, Some, IfOk, MatchBool};
+ghost use Rattle.std.specs.Prelude.{◌≡◌, ◌≢◌, ◌+◌, ◌<◌, ◌≤◌, ℕ, [], length, Some, IfOk, IsSome, MatchBool};
 ghost use Rattle.std.specs.Bool.{OnTrue, OnFalse};
 ghost use Rattle.mt_base.specs.Limits.{IsValue};
 ghost use Rattle.mt_pool.specs.Changes.{PageBytes, Agrees, after, AreShort};
 ghost use Rattle.mt_slots.specs.Page.{Row, IsShaped, slot as held, room_of, row_length};
 ghost use Rattle.mt_space.specs.Kinds.{kind};
 ghost use Rattle.mt_file.specs.File.{IsFile, record_in};
-ghost use Rattle.mt_file.specs.Plans.{IsNamed, IsReplacement, IsShortPlan, IsWhole};
+ghost use Rattle.mt_file.specs.Plans.{IsNamed, IsReplacement, IsShortPlan, IsWhole, IfDone, IsFew};
 
 use crate::putting::{page_of_one, put};
 use crate::step::{Plan, Step};
@@ -35,6 +35,8 @@ pub fn plan_replace<V: Pages>(
     requires value_fits { IsValue value.now }
     ensures replacement { IfOk result (λ step. (pages : PageBytes) (r : Row) → Agrees (V.at_hand views.now) pages → IsFile pages → IsNamed room pages → record_in pages name.page name.slot ≡ Some r → IsReplacement (V.at_hand views.now) room (V.total views.now) pages name.page name.slot r (record r { value = value.now }) step) }
     ensures short { IfOk result (λ step. (pages : PageBytes) (r : Row) → Agrees (V.at_hand views.now) pages → IsFile pages → IsNamed room pages → record_in pages name.page name.slot ≡ Some r → IsShortPlan pages step) }
+    ensures few { IfOk result (IsFew 3) }
+    ensures seen { IfOk result (λ step. IfDone step (λ plan. IsSome (V.at_hand views.now name.page) × IsSome (V.at_hand views.now plan.name.page))) }
 {
     let Some(old) = views.page(name.page) else {
         return Ok(Step::Need(name.page, Mode::Write));
@@ -81,6 +83,8 @@ fn plan_move<V: Pages>(
     requires other { (r : Row) → held old.now name.slot ≡ Some r → r.value ≢ value.now }
     ensures replacement { IfOk result (λ step. (pages : PageBytes) (r : Row) → Agrees (V.at_hand views.now) pages → IsFile pages → IsNamed room pages → record_in pages name.page name.slot ≡ Some r → IsReplacement (V.at_hand views.now) room (V.total views.now) pages name.page name.slot r (record r { value = value.now }) step) }
     ensures short { IfOk result (λ step. (pages : PageBytes) (r : Row) → Agrees (V.at_hand views.now) pages → IsFile pages → IsNamed room pages → record_in pages name.page name.slot ≡ Some r → IsShortPlan pages step) }
+    ensures few { IfOk result (IsFew 3) }
+    ensures seen { IfOk result (λ step. IfDone step (λ plan. IsSome (V.at_hand views.now name.page) × IsSome (V.at_hand views.now plan.name.page))) }
 {
     let RecordName { page, slot } = name;
     let Some(row) = get(old, slot) else {
@@ -117,6 +121,7 @@ fn write_whole(
     ensures page { IfOk result (λ plan. plan.name.page ≡ page) }
     ensures whole { IfOk result (λ plan. (pages : PageBytes) → pages page ≡ old.now → IsWhole pages (after plan.changes.list.items pages) page plan.name.slot (record { relation = relation; key = key.now; value = value.now })) }
     ensures short { IfOk result (λ plan. (pages : PageBytes) → pages page ≡ old.now → AreShort plan.changes.list.items pages) }
+    ensures few { IfOk result (λ plan. length plan.changes.list.items ≤ 1) }
 {
     let (new, slot) = page_of_one(relation, key, value);
     changes.note(page, old, &new)?;

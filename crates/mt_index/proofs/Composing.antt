@@ -53,6 +53,11 @@ pub put_pages : (t there : Bool) (e : Entry) (h h2 : Halves) → PutsInHalf t th
 put_pages true there e h h2 p = (ap (λ (x : Halves). x.bucket) p.up.1, ap (λ (x : Halves). x.fresh) p.up.1)
 put_pages false there e h h2 p = (ap (λ (x : Halves). x.bucket) p.low.1, ap (λ (x : Halves). x.fresh) p.low.1)
 
+-- and the map of the space is
+pub put_space : (t there : Bool) (e : Entry) (h h2 : Halves) → PutsInHalf t there e h h2 → h2.space ≡ h.space
+put_space true there e h h2 p = ap (λ (x : Halves). x.space) p.up.1
+put_space false there e h h2 p = ap (λ (x : Halves). x.space) p.low.1
+
 pub link_pages : (t : Bool) (q2 : ℕ) (h h2 : Halves) → Links t q2 h h2 → (h2.bucket ≡ h.bucket) × (h2.fresh ≡ h.fresh)
 link_pages true q2 h h2 l = (ap (λ (x : Halves). x.bucket) l.up.1, ap (λ (x : Halves). x.fresh) l.up.1)
 link_pages false q2 h h2 l = (ap (λ (x : Halves). x.bucket) l.low.1, ap (λ (x : Halves). x.fresh) l.low.1)

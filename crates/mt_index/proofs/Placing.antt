@@ -1,5 +1,6 @@
 -- An entry goes into a page with room, or into a page behind the last.
-use Rattle.std.proofs.Common.{◌≡◌, ◌≢◌, ℕ, ◌<◌, ◌≤◌, ◌^◌, Bool, true, false, List, [], ◌∷◌, ◌++◌, length, ap, sym, ◌∙◌, subst, arith, get_or, ◌⊎◌, inl, inr}
+use Rattle.std.proofs.Common.{◌≡◌, ◌≢◌, ℕ, ◌<◌, ◌≤◌, ◌^◌, Bool, true, false, List, [], ◌∷◌, ◌++◌, length, ap, sym, ◌∙◌, subst, arith, get_or, ◌⊎◌, inl, inr, ⊎_elim, refl, Option, Some}
+use Rattle.std.specs.Prelude.{IsSome}
 use Rattle.std.specs.Bool.{OnTrue, OnFalse}
 use Rattle.std.proofs.lemmas.Bool.{cases_eq}
 use Rattle.mt_bucket.specs.Entries.{Entry}
@@ -63,6 +64,17 @@ fresh_off total pages m q a is = (
   λ e. let k : kind pages 0 ≡ 0 = ap (kind pages) e ∙ is in let f = a.space_fixed in omega (arith, k, f),
   λ e. let k : kind pages 1 ≡ 0 = ap (kind pages) e ∙ is in let f = a.directory_fixed in omega (arith, k, f),
 )
+
+-- a page that is taken in the map is this one
+pub taken_is : (q p : ℕ) (old new : List ℕ) → TakesPage q old new → get_or old p 0 ≡ 0 → get_or new p 0 ≢ 0 → p ≡ q
+taken_is q p old new t free some = ⊎_elim
+    (λ (same : p ≡ q). same)
+    (λ (ne : p ≢ q). absurd (some (t.others p ne ∙ free)))
+    (cases_eq p q)
+
+-- a page with bytes is at hand
+pub seen_at : (at_hand : ℕ → Option (List ℕ)) (p q : ℕ) (bytes : List ℕ) → p ≡ q → at_hand q ≡ Some bytes → IsSome (at_hand p)
+seen_at at_hand p q bytes same is = subst (λ (o : Option (List ℕ)). IsSome o) (sym (ap at_hand same ∙ is)) refl
 
 pub chain_last : (total : ℕ) (pages pages2 : PageBytes) (m : Map) (e : Entry) (z q : ℕ) (alone : Bool) → AreMap total pages m → IsEnd e.key pages z alone → Chained total e z q pages pages2
     → Last e z q (state_of pages) (state_of pages2)

@@ -12,7 +12,7 @@ use Rattle.mt_index.specs.Index.{Node, named}
 use Rattle.mt_index.specs.Steps.{Walk}
 use Rattle.mt_index.specs.Rule.{MaySplit}
 use Rattle.mt_index.specs.Pages.{node_of, state_of, AreMap}
-use Rattle.mt_index.specs.Answers.{InMaps, IsEnd, Added, IsPlanned, IfAdded}
+use Rattle.mt_index.specs.Answers.{InMaps, IsEnd, Added, Adds, TakesSeen, IsPlanned, IfAdded}
 use Rattle.mt_index.specs.declared.answers.Add.{Add}
 use Rattle.mt_index.specs.declared.answers.Add.TheVariants as add
 use Rattle.mt_index.proofs.Keeping.{add_kept}
@@ -64,8 +64,25 @@ added_map split total e pages pages2 m a absent w = record {
 
 pub planned_map : (at_hand : ℕ → Option (List ℕ)) (total : ℕ) (split : Bool) (e : Entry) (r : Result Add AllocError) → IfOk r (IsPlanned at_hand total split e)
     → IfOk r (λ x. IfAdded x (λ changes. InMaps at_hand total (λ pages m. m e.relation e.key ≡ None → AreMap total (after changes pages) (alter m e.relation e.key (Some e.name)))))
-planned_map at_hand total split e (Ok (add.Changes changes)) p = λ pages agree m a absent. added_map split total e pages (after changes.list.items pages) m a absent (p pages agree m a).added
+planned_map at_hand total split e (Ok (add.Changes changes)) p = λ pages agree m a absent. added_map split total e pages (after changes.list.items pages) m a absent (p pages agree m a).0.added
 planned_map at_hand total split e (Ok (add.Need q mode)) p = tt
 planned_map at_hand total split e (Ok add.Full) p = tt
 planned_map at_hand total split e (Ok add.Endless) p = tt
 planned_map at_hand total split e (Err w) p = tt
+
+-- the changes themselves, and what they take
+pub planned_adds : (at_hand : ℕ → Option (List ℕ)) (total : ℕ) (split : Bool) (e : Entry) (r : Result Add AllocError) → IfOk r (IsPlanned at_hand total split e)
+    → IfOk r (λ x. IfAdded x (λ changes. InMaps at_hand total (λ pages m. Adds split total e pages changes)))
+planned_adds at_hand total split e (Ok (add.Changes changes)) p = λ pages agree m a. (p pages agree m a).0
+planned_adds at_hand total split e (Ok (add.Need q mode)) p = tt
+planned_adds at_hand total split e (Ok add.Full) p = tt
+planned_adds at_hand total split e (Ok add.Endless) p = tt
+planned_adds at_hand total split e (Err w) p = tt
+
+pub planned_seen : (at_hand : ℕ → Option (List ℕ)) (total : ℕ) (split : Bool) (e : Entry) (r : Result Add AllocError) → IfOk r (IsPlanned at_hand total split e)
+    → IfOk r (λ x. IfAdded x (λ changes. InMaps at_hand total (λ pages m. TakesSeen at_hand pages changes)))
+planned_seen at_hand total split e (Ok (add.Changes changes)) p = λ pages agree m a. (p pages agree m a).1
+planned_seen at_hand total split e (Ok (add.Need q mode)) p = tt
+planned_seen at_hand total split e (Ok add.Full) p = tt
+planned_seen at_hand total split e (Ok add.Endless) p = tt
+planned_seen at_hand total split e (Err w) p = tt

@@ -1,5 +1,5 @@
 -- What plans answer, over all pages that agree with those at hand.
-use Rattle.std.specs.Prelude.{ℕ, ◌≡◌, ◌≢◌, ◌<◌, ◌≤◌, ◌⊎◌, Bool, true, false, cond, List, length, Option, Some, None}
+use Rattle.std.specs.Prelude.{ℕ, ◌≡◌, ◌≢◌, ◌<◌, ◌≤◌, ◌⊎◌, Bool, true, false, cond, List, length, Option, Some, None, IsSome}
 use Rattle.mt_base.specs.declared.numbers.RecordName.{RecordName}
 use Rattle.mt_base.specs.declared.modes.Mode.{Mode}
 use Rattle.mt_base.specs.declared.modes.Mode.TheVariants.{Read, Write}
@@ -195,9 +195,13 @@ pub record Shortage (split : Bool) (total : ℕ) (e : Entry) (pages : PageBytes)
 abbrev pub IsInAdd : ℕ → PageBytes → ℕ → Mode → Type 0
 IsInAdd total pages p mode = IsInBucket Write pages p mode ⊎ (((p ≡ 0) ⊎ ((p ≡ 1) ⊎ ((kind pages p ≡ 0) × (p < total)))) × (mode ≡ Write))
 
+-- each page that is taken is at hand
+abbrev pub TakesSeen : (ℕ → Option (List ℕ)) → PageBytes → List PageChange → Type 0
+TakesSeen at_hand pages changes = (p : ℕ) → kind pages p ≡ 0 → kind (after changes pages) p ≢ 0 → IsSome (at_hand p)
+
 abbrev pub IsPlanned : (ℕ → Option (List ℕ)) → ℕ → Bool → Entry → Add → Type 0
 IsPlanned at_hand total split e (add.Need p mode) = Asks at_hand total (IsInAdd total) p mode
-IsPlanned at_hand total split e (add.Changes changes) = InMaps at_hand total (λ pages m. Adds split total e pages changes.list.items)
+IsPlanned at_hand total split e (add.Changes changes) = InMaps at_hand total (λ pages m. Adds split total e pages changes.list.items × TakesSeen at_hand pages changes.list.items)
 IsPlanned at_hand total split e add.Full = InMaps at_hand total (λ pages m. Shortage split total e pages)
 IsPlanned at_hand total split e add.Endless = InMaps at_hand total (λ pages m. ⊥)
 

@@ -3,7 +3,7 @@ ghost use Rattle.std.specs.Prelude.{◌≡◌, ◌≤◌, ◌<◌, length, Some,
 ghost use Rattle.mt_pool.specs.Changes.{after};
 ghost use Rattle.mt_index.specs.Maps.{alter};
 ghost use Rattle.mt_index.specs.Pages.{AreMap};
-ghost use Rattle.mt_index.specs.Answers.{InMaps, Asks, IsInAdd, Adds, Shortage, IsPlanned, AddNeeds, IfAdded, AddFull, AddEndless};
+ghost use Rattle.mt_index.specs.Answers.{InMaps, Asks, IsInAdd, Adds, TakesSeen, Shortage, IsPlanned, AddNeeds, IfAdded, AddFull, AddEndless};
 
 use crate::adding::{plan_chain, plan_put};
 use crate::answers::{Add, Spot};
@@ -42,6 +42,7 @@ pub fn plan_add<V: Pages>(
         Adds split (V.total views.now) (record { relation = relation; key = key.now; name = name }) pages changes))) }
     ensures map { IfOk result (λ add. IfAdded add (λ changes. InMaps (V.at_hand views.now) (V.total views.now) (λ pages m.
         m relation key.now ≡ None → AreMap (V.total views.now) (after changes pages) (alter m relation key.now (Some name))))) }
+    ensures seen { IfOk result (λ add. IfAdded add (λ changes. InMaps (V.at_hand views.now) (V.total views.now) (λ pages m. TakesSeen (V.at_hand views.now) pages changes))) }
     ensures full { IfOk result (λ add. AddFull add (InMaps (V.at_hand views.now) (V.total views.now) (λ pages m.
         Shortage split (V.total views.now) (record { relation = relation; key = key.now; name = name }) pages))) }
     ensures endless { IfOk result (λ add. AddEndless add (InMaps (V.at_hand views.now) (V.total views.now) (λ pages m. ⊥))) }

@@ -27,8 +27,9 @@ pub(crate) struct Change {
     pub(crate) page: PageNo,
 }
 
-/// Makes the edits in the page's bytes, in order.
-pub(crate) fn patch(page: &mut [u8; 4096], edits: &[Edit])
+/// Makes the edits in the page's bytes, in order. Each has to lie within the page, as it does in the changes
+/// that [`Changes::note`](crate::Changes::note) notes.
+pub fn patch(page: &mut [u8; 4096], edits: &[Edit])
     requires { All (λ e. e.start + length e.bytes ≤ 4096) edits.now }
     ensures made { page.new ≡ patched edits.now page.old }
     ensures size { length page.new ≡ 4096 }

@@ -1,7 +1,8 @@
 -- Operations on rows leave the counters page.
-use Rattle.std.proofs.Common.{◌≡◌, ◌≢◌, ◌⊎◌, ⊎_elim, ℕ, List, get_or, refl, ap, sym, ◌∙◌, subst, arith}
+use Rattle.std.proofs.Common.{◌≡◌, ◌≢◌, ◌⊎◌, ⊎_elim, ℕ, List, [], get_or, refl, ap, sym, ◌∙◌, subst, arith}
 use Rattle.mt_slots.specs.Page.{Row}
-use Rattle.mt_pool.specs.Changes.{PageBytes}
+use Rattle.mt_pool.specs.declared.changes.PageChange.{PageChange}
+use Rattle.mt_pool.specs.Changes.{PageBytes, after, AreShort}
 use Rattle.mt_space.specs.Kinds.{kind}
 use Rattle.mt_file.specs.File.{Touches, Stays as StaysThere}
 use Rattle.mt_index.specs.Maps.{Map}
@@ -62,3 +63,8 @@ row_act relations total pages pages2 m op reply stays counts replies base good =
   good = good;
   counters = λ counters a. subst (λ (page : List ℕ). AreCounters relations counters page) (sym stays.same) a;
 }
+
+-- an act that changes nothing
+pub nothing_changes : (relations total : ℕ) (pages : PageBytes) (changes : List PageChange) (op : Op) (reply : Reply) → changes ≡ [] → IsAct relations total pages pages op reply → IsAct relations total pages (after changes pages) op reply × AreShort changes pages
+nothing_changes relations total pages changes op reply none act =
+    subst (λ (l : List PageChange). IsAct relations total pages (after l pages) op reply × AreShort l pages) (sym none) (act, tt)

@@ -1,5 +1,5 @@
 -- Copies of pages that lie over others.
-use Rattle.std.proofs.Common.{◌≡◌, ◌≢◌, inl, inr, ℕ, zero, suc, add-one, ◌+◌, ◌<◌, ◌==◌, if◌then◌else◌, true, false, List, [], ◌∷◌, ◌++◌, ◌≤◌, length, get_or, set, take, drop, Option, Some, None, refl, sym, ◌∙◌, ap, subst, arith, take-append-drop}
+use Rattle.std.proofs.Common.{◌≡◌, ◌≢◌, inl, inr, ℕ, zero, suc, add-one, ◌+◌, ◌<◌, ◌==◌, if◌then◌else◌, true, false, List, [], ◌∷◌, ◌++◌, ◌≤◌, length, get_or, set, take, drop, Option, Some, None, refl, sym, ◌∙◌, ap, subst, arith, take-append-drop, length-append}
 use Rattle.std.specs.Prelude.{All, IsSome}
 use mathlib.Core.Path.{fun_ext}
 use Rattle.std.proofs.lemmas.Bool.{cases_eq}
@@ -241,6 +241,7 @@ pub record ComeTo (below : ℕ → Option (List ℕ)) (copies : List PageCopy) (
   pub made : (pages : PageBytes) → Agrees below pages → after changes pages ≡ drawn copies pages
   pub short : (pages : PageBytes) → Agrees below pages → AreShort changes pages
   pub same : (p : ℕ) → shown copies below p ≡ below p → IsUntouched changes p
+  pub few : length changes ≤ length copies
 
 -- one page's bytes were noted
 pub record IsNoted (p : ℕ) (old new : List ℕ) (was now : List PageChange) : Type 0 where
@@ -248,6 +249,7 @@ pub record IsNoted (p : ℕ) (old new : List ℕ) (was now : List PageChange) : 
   pub short : (pages : PageBytes) → pages p ≡ old → IsUntouched was p → AreShort was pages → AreShort now pages
   pub others : (q : ℕ) → q ≢ p → IsUntouched was q → IsUntouched now q
   pub same : new ≡ old → now ≡ was
+  pub count : length now ≤ length was + 1
 
 come_push : (below : ℕ → Option (List ℕ)) (done : List PageCopy) (c : PageCopy) (old : List ℕ) (was now : List PageChange) → copied done c.page ≡ None → below c.page ≡ Some old → IsNoted c.page old c.bytes was now → ComeTo below done was → ComeTo below (done ++ c ∷ []) now
 come_push below done c old was now none there note so =
@@ -268,6 +270,7 @@ come_push below done c old was now none there note so =
             let shown_is : shown (done ++ c ∷ []) below p ≡ shown done below p = ap (λ (o : Option (List ℕ)). or_below o (below p)) (keeps p ∙ test_no c.page p (Some c.bytes) (copied done p) other) in
             note.others p (λ e. other (sym e)) (so.same p (sym shown_is ∙ is))
       ];
+      few = let count = note.count in let few = so.few in omega (arith, count, few, length-append done (c ∷ []));
     }
 
 pub come_more : (below : ℕ → Option (List ℕ)) (copies : List PageCopy) (i : ℕ) (c : PageCopy) (old : List ℕ) (was now : List PageChange) → i < length copies → c ≡ get_or copies i c → AreCopies below copies → below c.page ≡ Some old → IsNoted c.page old c.bytes was now → ComeTo below (take i copies) was
@@ -276,6 +279,14 @@ come_more below copies i c old was now lt is sound there note so =
     let first : copied (take i copies) c.page ≡ None = ap (λ (x : PageCopy). copied (take i copies) x.page) is ∙ apart_before copies i c lt sound.apart in
     let next : take i copies ++ c ∷ [] ≡ take (i + 1) copies = ap (λ (x : PageCopy). take i copies ++ x ∷ []) is ∙ sym (take_more copies i c lt) in
     subst (λ (l : List PageCopy). ComeTo below l now) next (come_push below (take i copies) c old was now first there note so)
+
+-- a page that is not at hand has no copy
+pub none_shown : (below : ℕ → Option (List ℕ)) (copies : List PageCopy) (p : ℕ) → AreCopies below copies → below p ≡ None → shown copies below p ≡ below p
+none_shown below copies p sound none = either (copied copies p) (sound.there p)
+  where
+    either : (o : Option (List ℕ)) → ((b : List ℕ) → o ≡ Some b → IsSome (below p)) → or_below o (below p) ≡ below p
+    either None there = refl
+    either (Some b) there = let some = some_value (below p) (there b refl) in absurd (let both : Some some.0 ≡ None = sym some.1 ∙ none in cc)
 
 -- a page with a copy is at hand below
 pub below_there : (below : ℕ → Option (List ℕ)) (copies : List PageCopy) (i : ℕ) (c : PageCopy) → i < length copies → c ≡ get_or copies i c → AreCopies below copies → IsSome (below c.page)

@@ -7,7 +7,7 @@ use Rattle.mt_slots.specs.Page.{Row, Fits}
 use Rattle.mt_pool.specs.declared.changes.PageChange.{PageChange}
 use Rattle.mt_pool.specs.Changes.{PageBytes, after}
 use Rattle.mt_space.specs.Kinds.{kind}
-use Rattle.mt_space.specs.Rooms.{mapped}
+use Rattle.mt_space.specs.Rooms.{mapped, IsFirstFree}
 use Rattle.mt_space.proofs.Maps.{mapped_at}
 use Rattle.mt_file.specs.declared.step.Step.{Step}
 use Rattle.mt_file.specs.declared.step.Step.TheVariants as step
@@ -16,7 +16,7 @@ use Rattle.mt_file.specs.Plans.{IsPut, IsShortPlan, IsNamed, IsChosen}
 use Rattle.mt_pool.specs.declared.changes.Changes.{Changes}
 use Rattle.mt_index.specs.declared.answers.Add.{Add}
 use Rattle.mt_index.specs.declared.answers.Add.TheVariants as add
-use Rattle.mt_index.specs.Answers.{IfAdded, AddEndless, Added}
+use Rattle.mt_index.specs.Answers.{IfAdded, AddFull, AddEndless, Added}
 use Rattle.mt_index.specs.Maps.{Map, alter}
 use Rattle.mt_index.specs.Pages.{AreMap, AreFormed, LeavesIndex}
 use Rattle.mt_index.proofs.Witness.{index_stays, form_stays}
@@ -47,6 +47,9 @@ placed_form relations total pages m changes name row rows placed = form_stays re
 -- what is told of an answer that is known
 pub added_is : (P : List PageChange → Type 0) (a : Add) (changes : Changes) → a ≡ add.Changes changes → IfAdded a P → P changes.list.items
 added_is P a changes is told = subst (λ (x : Add). IfAdded x P) is told
+
+pub full_is : (P : Type 0) (a : Add) → a ≡ add.Full → AddFull a P → P
+full_is P a is told = subst (λ (x : Add). AddFull x P) is told
 
 pub endless_is : (P : Type 0) (a : Add) → a ≡ add.Endless → AddEndless a P → P
 endless_is P a is told = subst (λ (x : Add). AddEndless x P) is told
@@ -100,6 +103,10 @@ mapped_inside (k ∷ kinds) (suc total) (suc p) lt = let r = mapped_inside kinds
 
 is_zero : (n : ℕ) → true ≡ (n == 0) → n ≡ 0
 is_zero n e = (Decides-eqb n 0).0 (sym e)
+
+-- the free page of the smallest number is one of them
+pub first_inside : (total : ℕ) (pages : PageBytes) (p : ℕ) → IsFirstFree (mapped (pages 0) total) p → p < total
+first_inside total pages p first = (mapped_inside (pages 0) total p first.within).0
 
 -- the page is one of records, or a free one
 pub chosen : (room : Option ℕ) (relations total : ℕ) (pages : PageBytes) (m : Map) (p : ℕ) → AreRows relations total pages m → IsNamed room pages → IsChosen room total pages p → ((kind pages p ≡ 3) ⊎ (kind pages p ≡ 0)) × (p < total)

@@ -2,7 +2,6 @@
 use Rattle.mt_steps.proofs.Counted.{StaysCounters, counters_refl, counters_trans, touches_counters, amends_counters, row_act}
 use Rattle.std.proofs.Common.{◌≡◌, ◌≢◌, inl, ℕ, List, Option, None, Some, refl, ap, sym, ◌∙◌, subst, arith, ◌⊎◌, inr, ⊎_elim}
 use Rattle.std.proofs.lemmas.Bool.{cases_eq}
-use Rattle.mt_base.specs.declared.modes.Mode.{Mode}
 use Rattle.mt_base.specs.declared.numbers.RecordName.{RecordName}
 use Rattle.mt_slots.specs.Page.{Row}
 use Rattle.mt_pool.specs.declared.changes.PageChange.{PageChange}
@@ -101,9 +100,6 @@ missing_already relations total pages m r k rows none =
     rows
 
 -- ---- a removal
-
-pub removal_needs : (at_hand : ℕ → Option (List ℕ)) (pages : PageBytes) (p s q : ℕ) (mode : Mode) (answer : Step) → answer ≡ step.Need q mode → IsRemoval at_hand pages p s answer → at_hand q ≡ None
-removal_needs at_hand pages p s q mode answer is told = (subst (λ (x : Step). IsRemoval at_hand pages p s x) is told).0
 
 pub removal_fits : (at_hand : ℕ → Option (List ℕ)) (pages : PageBytes) (p s : ℕ) (answer : Step) → answer ≡ step.Full → IsRemoval at_hand pages p s answer → ⊥
 removal_fits at_hand pages p s answer is told = subst (λ (x : Step). IsRemoval at_hand pages p s x) is told

@@ -8,3 +8,10 @@ mod Leaving
 mod Shifting
 mod Counted
 mod Adding
+pub mod Picking
+pub mod Repeating
+pub mod Ranged
+pub mod Small
+mod Asking
+mod Promised
+mod Modest

@@ -2,7 +2,6 @@
 use Rattle.mt_steps.proofs.Counted.{StaysCounters, counters_refl, counters_trans, touches_counters, stays_counters, amends_counters, row_act}
 use Rattle.std.proofs.Common.{◌≡◌, ◌≢◌, ◌⊎◌, inl, inr, ⊎_elim, ℕ, ◌<◌, List, Option, None, Some, refl, ap, sym, ◌∙◌, subst, arith}
 use Rattle.std.proofs.lemmas.Bool.{cases_eq}
-use Rattle.mt_base.specs.declared.modes.Mode.{Mode}
 use Rattle.mt_base.specs.declared.numbers.RecordName.{RecordName}
 use Rattle.mt_slots.specs.Page.{Row, Fits, row_length}
 use Rattle.mt_pool.specs.declared.changes.PageChange.{PageChange}
@@ -148,9 +147,6 @@ update_misses relations total pages m r k w rows none =
 
 abbrev Replacement : (ℕ → Option (List ℕ)) → Option ℕ → ℕ → PageBytes → RecordName → Row → List ℕ → Step → Type 0
 Replacement at_hand room total pages n r w answer = IsReplacement at_hand room total pages n.page n.slot r (record r { value = w }) answer
-
-pub replacement_needs : (at_hand : ℕ → Option (List ℕ)) (room : Option ℕ) (total : ℕ) (pages : PageBytes) (n : RecordName) (r : Row) (w : List ℕ) (q : ℕ) (mode : Mode) (answer : Step) → answer ≡ step.Need q mode → Replacement at_hand room total pages n r w answer → at_hand q ≡ None
-replacement_needs at_hand room total pages n r w q mode answer is told = (subst (λ (x : Step). Replacement at_hand room total pages n r w x) is told).0
 
 -- what was replaced stays under its name, or has moved
 pub replacement_is : (at_hand : ℕ → Option (List ℕ)) (room : Option ℕ) (relations total : ℕ) (pages : PageBytes) (m : Map) (n : RecordName) (r : Row) (w : List ℕ) (answer : Step) (plan : Plan) → answer ≡ step.Done plan → AreRows relations total pages m → IsNamed room pages

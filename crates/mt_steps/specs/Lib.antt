@@ -2,3 +2,6 @@ pub mod Held
 pub mod Acts
 pub mod Counters
 pub mod Drafts
+pub mod Plans
+pub mod Repeated
+pub mod Logged

@@ -1,11 +1,14 @@
 // Operations on counters.
-ghost use Rattle.std.specs.Prelude.{◌≡◌, ◌<◌, ℕ, [], None, IfOk};
+ghost use Rattle.std.specs.Prelude.{◌≡◌, ◌<◌, ◌≤◌, ℕ, [], length, None, IfOk};
+ghost use Rattle.mt_steps.specs.Drafts.{AreAtHand};
 ghost use Rattle.mt_base.specs.Limits.{IsStep};
 ghost use Rattle.mt_base.specs.declared.modes.Mode.TheVariants.{Read as ToRead, Write as ToWrite};
 ghost use Rattle.mt_pool.specs.Changes.{after, AreShort};
 ghost use Rattle.mt_model.specs.declared.operations.Op.TheVariants.{Add, Read};
 ghost use Rattle.mt_steps.specs.Counters.{AreCounters};
+ghost use Rattle.mt_steps.specs.Plans.{IsModest};
 ghost use Rattle.mt_steps.specs.Acts.{HasCounters, InGood, IfLock, IfMade, IfFull, IfBroken, IsAct};
+ghost use Rattle.mt_steps.specs.Logged.{logged_of};
 
 use crate::act::Act;
 use crate::counters::{add, counter};
@@ -19,7 +22,7 @@ const COUNTERS: u16 = 2;
 
 /// Plans to add a step to a counter, where the sum lies in the counter's bounds; else nothing changes, which
 /// escrow rules out before. The counters page is needed for write.
-pub fn add_to<V: Pages>(
+pub(crate) fn add_to<V: Pages>(
     alloc: Global,
     views: &V,
     number: CtrNo,
@@ -28,10 +31,16 @@ pub fn add_to<V: Pages>(
     requires sound { V.is_sound views.now }
     requires good { (relations counters : ℕ) × (number < counters) × HasCounters (V.at_hand views.now) relations counters }
     requires step { IsStep step }
-    ensures lock { IfOk result (λ act. IfLock act (λ p mode. (V.at_hand views.now p ≡ None) × (mode ≡ ToWrite))) }
+    requires inside { 2 < V.total views.now }
+    ensures lock { IfOk result (λ act. IfLock act (λ p mode. (V.at_hand views.now p ≡ None) × (p < V.total views.now))) }
+    ensures mode { IfOk result (λ act. IfLock act (λ p mode. mode ≡ ToWrite)) }
     ensures made { (relations : ℕ) → IfOk result (λ act. IfMade act (λ changes reply.
         InGood (V.at_hand views.now) relations (V.total views.now) (λ pages m. (counters : ℕ) → number < counters → AreCounters relations counters (pages 2) →
         IsAct relations (V.total views.now) pages (after changes pages) (Add number step) reply × AreShort changes pages))) }
+    ensures there { IfOk result (λ act. IfMade act (λ changes reply. AreAtHand (V.at_hand views.now) changes)) }
+    ensures few { IfOk result (λ act. IfMade act (λ changes reply. length changes ≤ 8)) }
+    ensures idle { IfOk result (λ act. IfMade act (λ changes reply. logged_of (Add number step) reply ≡ None → changes ≡ [])) }
+    ensures modest { (relations : ℕ) → IfOk result (λ act. IfMade act (λ changes reply. InGood (V.at_hand views.now) relations (V.total views.now) (λ pages m. IsModest (V.at_hand views.now) (V.total views.now) 0 pages (after changes pages)))) }
     ensures full { IfOk result (λ act. IfFull act ⊥) }
     ensures broken { IfOk result (λ act. IfBroken act ⊥) }
 {
@@ -49,11 +58,15 @@ pub fn add_to<V: Pages>(
 }
 
 /// Plans to read a counter: the counters page is needed for read, and nothing changes.
-pub fn read_from<V: Pages>(alloc: Global, views: &V, number: CtrNo) -> Act
+pub(crate) fn read_from<V: Pages>(alloc: Global, views: &V, number: CtrNo) -> Act
     requires sound { V.is_sound views.now }
     requires there { number < 128 }
-    ensures lock { IfLock result (λ p mode. (V.at_hand views.now p ≡ None) × (mode ≡ ToRead)) }
-    ensures made { (relations : ℕ) → IfMade result (λ changes reply. (changes ≡ []) × InGood (V.at_hand views.now) relations (V.total views.now) (λ pages m. IsAct relations (V.total views.now) pages pages (Read number) reply)) }
+    requires inside { 2 < V.total views.now }
+    ensures lock { IfLock result (λ p mode. (V.at_hand views.now p ≡ None) × (p < V.total views.now)) }
+    ensures mode { IfLock result (λ p mode. mode ≡ ToRead) }
+    ensures made { (relations : ℕ) → IfMade result (λ changes reply. InGood (V.at_hand views.now) relations (V.total views.now) (λ pages m. IsAct relations (V.total views.now) pages (after changes pages) (Read number) reply × AreShort changes pages)) }
+    ensures quiet { IfMade result (λ changes reply. changes ≡ []) }
+    ensures idle { IfMade result (λ changes reply. logged_of (Read number) reply ≡ None → changes ≡ []) }
     ensures full { IfFull result ⊥ }
     ensures broken { IfBroken result ⊥ }
 {

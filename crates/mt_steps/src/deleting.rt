@@ -1,10 +1,12 @@
 // A row less.
-ghost use Rattle.std.specs.Prelude.{◌≡◌, ◌≤◌, ℕ, List, length, None, Some, IfOk};
+ghost use Rattle.std.specs.Prelude.{◌≡◌, ◌≤◌, ◌<◌, ℕ, [], List, length, None, Some, IfOk, IsSome};
 ghost use Rattle.mt_pool.specs.Changes.{after, AreShort};
 ghost use Rattle.mt_index.specs.Answers.{InMaps};
 ghost use Rattle.mt_model.specs.declared.operations.Op.TheVariants.{Delete};
 ghost use Rattle.mt_steps.specs.Drafts.{AreAtHand};
 ghost use Rattle.mt_steps.specs.Acts.{HasGood, InGood, IfLock, IfMade, IfFull, IfBroken, IsAct, IsTaken};
+ghost use Rattle.mt_steps.specs.Plans.{IsModest};
+ghost use Rattle.mt_steps.specs.Logged.{logged_of};
 
 use crate::act::Act;
 use crate::draft::first_missing;
@@ -19,7 +21,7 @@ use std::alloc::{AllocError, Global};
 /// Plans to take away the value under a key: its record, whose page is given back where it was the last there, and
 /// its entry in the index. Where the key has no value nothing changes. Pages that may change are needed for
 /// write, the directory for read.
-pub fn delete<V: Pages>(
+pub(crate) fn delete<V: Pages>(
     alloc: Global,
     views: &V,
     relation: RelNo,
@@ -28,10 +30,14 @@ pub fn delete<V: Pages>(
     requires sound { V.is_sound views.now }
     requires good { (relations : ℕ) × HasGood (V.at_hand views.now) relations (V.total views.now) }
     requires short { length key.now ≤ 64 }
-    ensures lock { IfOk result (λ act. IfLock act (λ p mode. V.at_hand views.now p ≡ None)) }
+    ensures lock { IfOk result (λ act. IfLock act (λ p mode. (V.at_hand views.now p ≡ None) × (p < V.total views.now))) }
     ensures made { (relations : ℕ) → IfOk result (λ act. IfMade act (λ changes reply.
         InGood (V.at_hand views.now) relations (V.total views.now) (λ pages m. IsAct relations (V.total views.now) pages (after changes pages) (Delete relation key.now) reply × AreShort changes pages))) }
+    ensures modest { (relations : ℕ) → IfOk result (λ act. IfMade act (λ changes reply. InGood (V.at_hand views.now) relations (V.total views.now) (λ pages m. IsModest (V.at_hand views.now) (V.total views.now) 0 pages (after changes pages)))) }
     ensures full { IfOk result (λ act. IfFull act ⊥) }
+    ensures there { IfOk result (λ act. IfMade act (λ changes reply. AreAtHand (V.at_hand views.now) changes)) }
+    ensures few { IfOk result (λ act. IfMade act (λ changes reply. length changes ≤ 8)) }
+    ensures idle { IfOk result (λ act. IfMade act (λ changes reply. logged_of (Delete relation key.now) reply ≡ None → changes ≡ [])) }
     ensures broken { IfOk result (λ act. IfBroken act ⊥) }
 {
     match plan_find(views, relation, key) {
@@ -54,10 +60,14 @@ fn delete_row<V: Pages>(
     requires good { (relations : ℕ) × HasGood (V.at_hand views.now) relations (V.total views.now) }
     requires short { length key.now ≤ 64 }
     requires named { InMaps (V.at_hand views.now) (V.total views.now) (λ pages m. m relation key.now ≡ Some name.now) }
-    ensures lock { IfOk result (λ act. IfLock act (λ p mode. V.at_hand views.now p ≡ None)) }
+    ensures lock { IfOk result (λ act. IfLock act (λ p mode. (V.at_hand views.now p ≡ None) × (p < V.total views.now))) }
     ensures made { (relations : ℕ) → IfOk result (λ act. IfMade act (λ changes reply.
         InGood (V.at_hand views.now) relations (V.total views.now) (λ pages m. IsAct relations (V.total views.now) pages (after changes pages) (Delete relation key.now) reply × AreShort changes pages))) }
+    ensures modest { (relations : ℕ) → IfOk result (λ act. IfMade act (λ changes reply. InGood (V.at_hand views.now) relations (V.total views.now) (λ pages m. IsModest (V.at_hand views.now) (V.total views.now) 0 pages (after changes pages)))) }
     ensures full { IfOk result (λ act. IfFull act ⊥) }
+    ensures there { IfOk result (λ act. IfMade act (λ changes reply. AreAtHand (V.at_hand views.now) changes)) }
+    ensures few { IfOk result (λ act. IfMade act (λ changes reply. length changes ≤ 8)) }
+    ensures idle { IfOk result (λ act. IfMade act (λ changes reply. logged_of (Delete relation key.now) reply ≡ None → changes ≡ [])) }
     ensures broken { IfOk result (λ act. IfBroken act ⊥) }
 {
     let old = match plan_read(views, *name) {
@@ -88,13 +98,19 @@ fn drop_entry<V: Pages>(
 ) -> Result<Act, AllocError>
     requires sound { V.is_sound views.now }
     requires there { AreAtHand (V.at_hand views.now) first.now.list.items }
+    requires few { length first.now.list.items ≤ 1 }
+    requires seen { IsSome (V.at_hand views.now name.now.page) }
     requires short { length key.now ≤ 64 }
     requires good { (relations : ℕ) × HasGood (V.at_hand views.now) relations (V.total views.now) × InGood (V.at_hand views.now) relations (V.total views.now) (λ pages m. (m relation key.now ≡ Some name.now) × IsTaken pages first.now.list.items name.now (record { relation = relation; key = key.now; value = old })) }
-    ensures lock { IfOk result (λ act. IfLock act (λ p mode. V.at_hand views.now p ≡ None)) }
+    ensures lock { IfOk result (λ act. IfLock act (λ p mode. (V.at_hand views.now p ≡ None) × (p < V.total views.now))) }
     ensures made { (relations : ℕ) → IfOk result (λ act. IfMade act (λ changes reply.
         InGood (V.at_hand views.now) relations (V.total views.now) (λ pages m. m relation key.now ≡ Some name.now → IsTaken pages first.now.list.items name.now (record { relation = relation; key = key.now; value = old }) →
         IsAct relations (V.total views.now) pages (after changes pages) (Delete relation key.now) reply × AreShort changes pages))) }
+    ensures modest { (relations : ℕ) → IfOk result (λ act. IfMade act (λ changes reply. InGood (V.at_hand views.now) relations (V.total views.now) (λ pages m. m relation key.now ≡ Some name.now → IsTaken pages first.now.list.items name.now (record { relation = relation; key = key.now; value = old }) → IsModest (V.at_hand views.now) (V.total views.now) 0 pages (after changes pages)))) }
     ensures full { IfOk result (λ act. IfFull act ⊥) }
+    ensures there { IfOk result (λ act. IfMade act (λ changes reply. AreAtHand (V.at_hand views.now) changes)) }
+    ensures few { IfOk result (λ act. IfMade act (λ changes reply. length changes ≤ 8)) }
+    ensures idle { IfOk result (λ act. IfMade act (λ changes reply. logged_of (Delete relation key.now) reply ≡ None → changes ≡ [])) }
     ensures broken { IfOk result (λ act. IfBroken act ⊥) }
 {
     let draft = drafted(alloc, views, first)?;

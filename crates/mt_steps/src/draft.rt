@@ -4,15 +4,15 @@ ghost use Rattle.mt_base.specs.Edits.{patched};
 ghost use Rattle.mt_pool.specs.Changes.{PageBytes, Agrees, IsUntouched, AreShort, after};
 ghost use Rattle.mt_steps.specs.Drafts.{copied, shown, drawn, AreApart, AreCopies, AreAtHand, IsCopyAt, Keeps};
 
-use mt_base::{Edit, PageNo};
-use mt_pool::{Changes, PageChange, Pages};
+use mt_base::PageNo;
+use mt_pool::{Changes, PageChange, Pages, patch};
 use std::alloc::{AllocError, Global};
 
 // A page's bytes as they will be.
 #[derive(Drop)]
-struct PageCopy {
-    page: PageNo,
-    bytes: [u8; 4096],
+pub struct PageCopy {
+    pub(crate) page: PageNo,
+    pub(crate) bytes: [u8; 4096],
 }
 
 /// Pages as they will be once some changes are made: copies of the pages that change, which lie over
@@ -49,6 +49,7 @@ impl<'a, V: Pages> Draft<'a, V> {
         ensures views { self.new.views.now ≡ self.old.views.now }
         ensures same_pages { (p : ℕ) → IsSome (shown self.new.copies.items (V.at_hand self.old.views.now) p) ↔ IsSome (V.at_hand self.old.views.now p) }
         ensures agrees { OnOk result ((pages : PageBytes) → Agrees (shown self.old.copies.items (V.at_hand self.old.views.now)) pages → Agrees (shown self.new.copies.items (V.at_hand self.old.views.now)) (after changes.now.list.items pages)) }
+        ensures few { OnOk result (length self.new.copies.items ≤ length self.old.copies.items + length changes.now.list.items) }
         ensures drawn { OnOk result ((pages : PageBytes) → Agrees (V.at_hand self.old.views.now) pages → drawn self.new.copies.items pages ≡ after changes.now.list.items (drawn self.old.copies.items pages)) }
     {
         for change in &changes.list {
@@ -65,6 +66,7 @@ impl<'a, V: Pages> Draft<'a, V> {
         requires fit { All (λ e. e.start + length e.bytes ≤ 4096) change.now.edits.items }
         ensures copies { AreCopies (V.at_hand self.old.views.now) self.new.copies.items }
         ensures views { self.new.views.now ≡ self.old.views.now }
+        ensures few { OnOk result (length self.new.copies.items ≤ length self.old.copies.items + 1) }
         ensures kept { OnOk result ((bytes : List ℕ) → shown self.old.copies.items (V.at_hand self.old.views.now) change.now.page ≡ Some bytes → Keeps change.now.page (patched change.now.edits.items bytes) self.old.copies.items self.new.copies.items) }
     {
         let mut bytes = match self.page(change.page) {
@@ -83,6 +85,8 @@ impl<'a, V: Pages> Draft<'a, V> {
         requires copies { AreCopies (V.at_hand self.now.views.now) self.now.copies.items }
         ensures made { IfOk result (λ changes. (pages : PageBytes) → Agrees (V.at_hand self.now.views.now) pages → after changes.list.items pages ≡ drawn self.now.copies.items pages) }
         ensures short { IfOk result (λ changes. (pages : PageBytes) → Agrees (V.at_hand self.now.views.now) pages → AreShort changes.list.items pages) }
+        ensures there { IfOk result (λ changes. AreAtHand (V.at_hand self.now.views.now) changes.list.items) }
+        ensures few { IfOk result (λ changes. length changes.list.items ≤ length self.now.copies.items) }
         ensures same { IfOk result (λ changes. (p : ℕ) → shown self.now.copies.items (V.at_hand self.now.views.now) p ≡ V.at_hand self.now.views.now p → IsUntouched changes.list.items p) }
     {
         let mut changes = Changes::new(*self.copies.allocator());
@@ -148,6 +152,8 @@ pub fn merged<V: Pages>(
     requires short { (pages : PageBytes) × Agrees (V.at_hand views.now) pages × AreShort first.now.list.items pages × AreShort second.now.list.items (after first.now.list.items pages) }
     ensures made { IfOk result (λ changes. (pages : PageBytes) → Agrees (V.at_hand views.now) pages → after changes.list.items pages ≡ after second.now.list.items (after first.now.list.items pages)) }
     ensures short { IfOk result (λ changes. (pages : PageBytes) → Agrees (V.at_hand views.now) pages → AreShort changes.list.items pages) }
+    ensures there { IfOk result (λ changes. AreAtHand (V.at_hand views.now) changes.list.items) }
+    ensures few { IfOk result (λ changes. length changes.list.items ≤ length first.now.list.items + length second.now.list.items) }
 {
     let mut draft = Draft::new(alloc, views);
     draft.apply(first)?;
@@ -156,7 +162,7 @@ pub fn merged<V: Pages>(
 }
 
 // The copy of a page, lent.
-fn copy_of(copies: &[PageCopy], page: PageNo) -> Option<&[u8; 4096]>
+pub(crate) fn copy_of(copies: &[PageCopy], page: PageNo) -> Option<&[u8; 4096]>
     ensures some { IfSome result (λ bytes. copied copies.now page ≡ Some bytes.now) }
     ensures none { IfNone result (copied copies.now page ≡ None) }
 {
@@ -183,6 +189,7 @@ fn place_of(copies: &[PageCopy], page: PageNo) -> Option<usize>
 fn keep(copies: &mut Vec<PageCopy>, page: PageNo, bytes: [u8; 4096]) -> Result<(), AllocError>
     ensures kept { OnOk result (Keeps page bytes copies.old.items copies.new.items) }
     ensures apart { AreApart copies.old.items → AreApart copies.new.items }
+    ensures few { OnOk result (length copies.new.items ≤ length copies.old.items + 1) }
     ensures unchanged { OnErr result (copies.new.items ≡ copies.old.items) }
 {
     match place_of(copies.as_slice(), page) {
@@ -190,17 +197,4 @@ fn keep(copies: &mut Vec<PageCopy>, page: PageNo, bytes: [u8; 4096]) -> Result<(
         None => copies.push(PageCopy { page, bytes })?,
     }
     Ok(())
-}
-
-// Puts the edits into a page, the first one first.
-fn patch(page: &mut [u8], edits: &[Edit])
-    requires whole { length page.old ≡ 4096 }
-    requires fit { All (λ e. e.start + length e.bytes ≤ 4096) edits.now }
-    ensures { page.new ≡ patched edits.now page.old }
-{
-    for edit in edits {
-        let start = usize::from(edit.start);
-        let bytes = edit.bytes.as_slice();
-        page[start..start + bytes.len()].copy_from_slice(bytes);
-    }
 }

@@ -1,8 +1,10 @@
 // A read of a row.
 ghost use Rattle.std.specs.Prelude.{◌≡◌, ◌≤◌, ◌<◌, [], ℕ, length, None, IfOk};
 ghost use Rattle.mt_base.specs.declared.modes.Mode.TheVariants.{Read};
+ghost use Rattle.mt_pool.specs.Changes.{after, AreShort};
 ghost use Rattle.mt_model.specs.declared.operations.Op.TheVariants.{Get};
 ghost use Rattle.mt_steps.specs.Acts.{HasGood, InGood, IfLock, IfMade, IfFull, IfBroken, IsAct};
+ghost use Rattle.mt_steps.specs.Logged.{logged_of};
 
 use crate::act::Act;
 use mt_base::{Bytes, RelNo};
@@ -14,7 +16,7 @@ use std::alloc::{AllocError, Global};
 
 /// Plans to read the value under a key: the directory, the key's bucket and the record's page are
 /// needed for read, and nothing changes.
-pub fn get<V: Pages>(
+pub(crate) fn get<V: Pages>(
     alloc: Global,
     views: &V,
     relation: RelNo,
@@ -23,8 +25,11 @@ pub fn get<V: Pages>(
     requires sound { V.is_sound views.now }
     requires good { (relations : ℕ) × HasGood (V.at_hand views.now) relations (V.total views.now) }
     requires short { length key.now ≤ 64 }
-    ensures lock { IfOk result (λ act. IfLock act (λ p mode. (V.at_hand views.now p ≡ None) × (mode ≡ Read))) }
-    ensures made { (relations : ℕ) → IfOk result (λ act. IfMade act (λ changes reply. (changes ≡ []) × InGood (V.at_hand views.now) relations (V.total views.now) (λ pages m. IsAct relations (V.total views.now) pages pages (Get relation key.now) reply))) }
+    ensures lock { IfOk result (λ act. IfLock act (λ p mode. (V.at_hand views.now p ≡ None) × (p < V.total views.now))) }
+    ensures mode { IfOk result (λ act. IfLock act (λ p mode. mode ≡ Read)) }
+    ensures made { (relations : ℕ) → IfOk result (λ act. IfMade act (λ changes reply. InGood (V.at_hand views.now) relations (V.total views.now) (λ pages m. IsAct relations (V.total views.now) pages (after changes pages) (Get relation key.now) reply × AreShort changes pages))) }
+    ensures quiet { IfOk result (λ act. IfMade act (λ changes reply. changes ≡ [])) }
+    ensures idle { IfOk result (λ act. IfMade act (λ changes reply. logged_of (Get relation key.now) reply ≡ None → changes ≡ [])) }
     ensures full { IfOk result (λ act. IfFull act ⊥) }
     ensures broken { IfOk result (λ act. IfBroken act ⊥) }
 {

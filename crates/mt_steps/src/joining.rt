@@ -1,6 +1,6 @@
 // Two plans of one operation, the second made over the changes of the first.
-ghost use Rattle.std.specs.Prelude.{◌≡◌, ℕ, None, IfOk};
-ghost use Rattle.mt_pool.specs.Changes.{PageBytes, Agrees, after, AreShort};
+ghost use Rattle.std.specs.Prelude.{◌≡◌, ◌+◌, ◌<◌, ◌≤◌, ℕ, length, None, IfOk};
+ghost use Rattle.mt_pool.specs.Changes.{PageBytes, Agrees, after, AreShort, IsUntouched};
 ghost use Rattle.mt_steps.specs.Drafts.{AreAtHand, AreCopies, shown};
 ghost use Rattle.mt_steps.specs.Acts.{IfLock, IfMade, IfFull, IfBroken};
 
@@ -52,9 +52,12 @@ pub(crate) fn join<V: Pages>(
 ) -> Result<Act, AllocError>
     requires sound { V.is_sound views.now }
     requires there { AreAtHand (V.at_hand views.now) first.now.list.items }
+    requires inside { (p : ℕ) → (IsUntouched second.now.list.items p → ⊥) → p < V.total views.now }
     requires short { (pages : PageBytes) × Agrees (V.at_hand views.now) pages × AreShort first.now.list.items pages × AreShort second.now.list.items (after first.now.list.items pages) }
-    ensures lock { IfOk result (λ act. IfLock act (λ p mode. V.at_hand views.now p ≡ None)) }
+    ensures lock { IfOk result (λ act. IfLock act (λ p mode. (V.at_hand views.now p ≡ None) × (p < V.total views.now))) }
     ensures made { IfOk result (λ act. IfMade act (λ changes told. (told ≡ reply) × ((pages : PageBytes) → Agrees (V.at_hand views.now) pages → (after changes pages ≡ after second.now.list.items (after first.now.list.items pages)) × AreShort changes pages))) }
+    ensures there { IfOk result (λ act. IfMade act (λ changes reply. AreAtHand (V.at_hand views.now) changes)) }
+    ensures few { IfOk result (λ act. IfMade act (λ changes told. length changes ≤ length first.now.list.items + length second.now.list.items)) }
     ensures broken { IfOk result (λ act. IfBroken act ⊥) }
     ensures full { IfOk result (λ act. IfFull act ⊥) }
 {

@@ -4,6 +4,7 @@
 #![tactic(auto)]
 
 mod act;
+mod copies;
 mod counters;
 mod counting;
 mod deleting;
@@ -11,16 +12,16 @@ mod draft;
 mod getting;
 mod inserting;
 mod joining;
+mod logging;
+mod planning;
 mod updating;
 
 pub use act::Act;
+pub use copies::Copies;
 pub use counters::{add, check, counter};
-pub use counting::{add_to, read_from};
-pub use deleting::delete;
 pub use draft::{Draft, first_missing, merged};
-pub use getting::get;
-pub use inserting::insert;
-pub use updating::update;
+pub use logging::{has_effect, logged};
+pub use planning::plan;
 
 #[cfg(test)]
 mod tests;

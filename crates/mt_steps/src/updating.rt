@@ -1,13 +1,15 @@
 // Another value in a row.
-ghost use Rattle.std.specs.Prelude.{◌≡◌, ◌≢◌, ◌⊎◌, ◌≤◌, ℕ, List, Option, length, None, Some, IfOk, MatchBool};
+ghost use Rattle.std.specs.Prelude.{◌≡◌, ◌≢◌, ◌⊎◌, ◌≤◌, ◌<◌, ℕ, [], List, Option, length, None, Some, IfOk, IsSome, MatchBool};
 ghost use Rattle.mt_base.specs.Limits.{IsValue};
 ghost use Rattle.mt_base.specs.declared.numbers.RecordName.{RecordName};
-ghost use Rattle.mt_slots.specs.Page.{Fits};
+ghost use Rattle.mt_slots.specs.Page.{Fits, row_length};
 ghost use Rattle.mt_pool.specs.Changes.{after, AreShort};
 ghost use Rattle.mt_index.specs.Answers.{InMaps};
 ghost use Rattle.mt_model.specs.declared.operations.Op.TheVariants.{Update};
 ghost use Rattle.mt_steps.specs.Drafts.{AreAtHand};
-ghost use Rattle.mt_steps.specs.Acts.{HasRoomy, InRoomy, IfLock, IfMade, IfBroken, IsAct, IsMoved};
+ghost use Rattle.mt_steps.specs.Acts.{HasRoomy, InRoomy, IfLock, IfMade, IfFull, IfBroken, IsAct, IsMoved};
+ghost use Rattle.mt_steps.specs.Plans.{free_pages, IsTight, IsModest};
+ghost use Rattle.mt_steps.specs.Logged.{logged_of};
 
 use crate::act::Act;
 use crate::draft::first_missing;
@@ -24,7 +26,7 @@ use std::alloc::{AllocError, Global};
 /// then its entry names it anew. Where the key has no value nothing changes, nor where it has this one. The
 /// directory and the key's bucket are needed for read, and for write where the record moves; pages of records for
 /// write.
-pub fn update<V: Pages>(
+pub(crate) fn update<V: Pages>(
     alloc: Global,
     views: &V,
     room: Option<PageNo>,
@@ -36,9 +38,14 @@ pub fn update<V: Pages>(
     requires good { (relations : ℕ) × HasRoomy (V.at_hand views.now) room relations (V.total views.now) }
     requires short { length key.now ≤ 64 }
     requires value_fits { IsValue value.now }
-    ensures lock { IfOk result (λ act. IfLock act (λ p mode. V.at_hand views.now p ≡ None)) }
+    ensures lock { IfOk result (λ act. IfLock act (λ p mode. (V.at_hand views.now p ≡ None) × (p < V.total views.now))) }
     ensures made { (relations : ℕ) → Fits relations 1024 (record { relation = relation; key = key.now; value = value.now }) → IfOk result (λ act. IfMade act (λ changes reply.
         InRoomy (V.at_hand views.now) room relations (V.total views.now) (λ pages m. IsAct relations (V.total views.now) pages (after changes pages) (Update relation key.now value.now) reply × AreShort changes pages))) }
+    ensures there { IfOk result (λ act. IfMade act (λ changes reply. AreAtHand (V.at_hand views.now) changes)) }
+    ensures few { IfOk result (λ act. IfMade act (λ changes reply. length changes ≤ 8)) }
+    ensures idle { IfOk result (λ act. IfMade act (λ changes reply. logged_of (Update relation key.now value.now) reply ≡ None → changes ≡ [])) }
+    ensures modest { (relations : ℕ) → IfOk result (λ act. IfMade act (λ changes reply. InRoomy (V.at_hand views.now) room relations (V.total views.now) (λ pages m. IsModest (V.at_hand views.now) (V.total views.now) 1 pages (after changes pages)))) }
+    ensures full { (relations : ℕ) → IfOk result (λ act. IfFull act (InRoomy (V.at_hand views.now) room relations (V.total views.now) (λ pages m. (free_pages (V.total views.now) pages < 1) ⊎ IsTight room pages (row_length (record { relation = relation; key = key.now; value = value.now }))))) }
     ensures broken { IfOk result (λ act. IfBroken act ⊥) }
 {
     match plan_find(views, relation, key) {
@@ -64,9 +71,14 @@ fn update_row<V: Pages>(
     requires short { length key.now ≤ 64 }
     requires value_fits { IsValue value.now }
     requires named { InMaps (V.at_hand views.now) (V.total views.now) (λ pages m. m relation key.now ≡ Some name.now) }
-    ensures lock { IfOk result (λ act. IfLock act (λ p mode. V.at_hand views.now p ≡ None)) }
+    ensures lock { IfOk result (λ act. IfLock act (λ p mode. (V.at_hand views.now p ≡ None) × (p < V.total views.now))) }
     ensures made { (relations : ℕ) → Fits relations 1024 (record { relation = relation; key = key.now; value = value.now }) → IfOk result (λ act. IfMade act (λ changes reply.
         InRoomy (V.at_hand views.now) room relations (V.total views.now) (λ pages m. IsAct relations (V.total views.now) pages (after changes pages) (Update relation key.now value.now) reply × AreShort changes pages))) }
+    ensures there { IfOk result (λ act. IfMade act (λ changes reply. AreAtHand (V.at_hand views.now) changes)) }
+    ensures few { IfOk result (λ act. IfMade act (λ changes reply. length changes ≤ 8)) }
+    ensures idle { IfOk result (λ act. IfMade act (λ changes reply. logged_of (Update relation key.now value.now) reply ≡ None → changes ≡ [])) }
+    ensures modest { (relations : ℕ) → IfOk result (λ act. IfMade act (λ changes reply. InRoomy (V.at_hand views.now) room relations (V.total views.now) (λ pages m. IsModest (V.at_hand views.now) (V.total views.now) 1 pages (after changes pages)))) }
+    ensures full { (relations : ℕ) → IfOk result (λ act. IfFull act (InRoomy (V.at_hand views.now) room relations (V.total views.now) (λ pages m. (free_pages (V.total views.now) pages < 1) ⊎ IsTight room pages (row_length (record { relation = relation; key = key.now; value = value.now }))))) }
     ensures broken { IfOk result (λ act. IfBroken act ⊥) }
 {
     let old = match plan_read(views, *name) {
@@ -79,11 +91,11 @@ fn update_row<V: Pages>(
         Step::Full => return Ok(Act::Full),
         Step::Done(plan) => plan,
     };
-    if is_name(&plan.name, name) {
-        return Ok(Act::Made(plan.changes, Reply::Was(old)));
-    }
     if let Some(page) = first_missing(views, &plan.changes) {
         return Ok(Act::Lock(page, Mode::Write));
+    }
+    if is_name(&plan.name, name) {
+        return Ok(Act::Made(plan.changes, Reply::Was(old)));
     }
     set_entry(alloc, views, relation, key, &plan, old)
 }
@@ -106,12 +118,19 @@ fn set_entry<V: Pages>(
 ) -> Result<Act, AllocError>
     requires sound { V.is_sound views.now }
     requires there { AreAtHand (V.at_hand views.now) plan.now.changes.list.items }
+    requires few { length plan.now.changes.list.items ≤ 3 }
+    requires seen { IsSome (V.at_hand views.now plan.now.name.page) }
     requires short { length key.now ≤ 64 }
     requires good { (relations : ℕ) × (room : Option ℕ) × (name : RecordName) × (value : List ℕ) × HasRoomy (V.at_hand views.now) room relations (V.total views.now) × InRoomy (V.at_hand views.now) room relations (V.total views.now) (λ pages m. (m relation key.now ≡ Some name) × IsMoved (V.total views.now) pages plan.now.changes.list.items name plan.now.name (record { relation = relation; key = key.now; value = old }) (record { relation = relation; key = key.now; value = value })) }
-    ensures lock { IfOk result (λ act. IfLock act (λ p mode. V.at_hand views.now p ≡ None)) }
+    ensures lock { IfOk result (λ act. IfLock act (λ p mode. (V.at_hand views.now p ≡ None) × (p < V.total views.now))) }
     ensures made { (relations : ℕ) (room : Option ℕ) (name : RecordName) (value : List ℕ) → Fits relations 1024 (record { relation = relation; key = key.now; value = value }) → IfOk result (λ act. IfMade act (λ changes reply.
         InRoomy (V.at_hand views.now) room relations (V.total views.now) (λ pages m. m relation key.now ≡ Some name → IsMoved (V.total views.now) pages plan.now.changes.list.items name plan.now.name (record { relation = relation; key = key.now; value = old }) (record { relation = relation; key = key.now; value = value }) →
         IsAct relations (V.total views.now) pages (after changes pages) (Update relation key.now value) reply × AreShort changes pages))) }
+    ensures there { IfOk result (λ act. IfMade act (λ changes reply. AreAtHand (V.at_hand views.now) changes)) }
+    ensures few { IfOk result (λ act. IfMade act (λ changes reply. length changes ≤ 8)) }
+    ensures idle { (value : List ℕ) → IfOk result (λ act. IfMade act (λ changes reply. logged_of (Update relation key.now value) reply ≡ None → changes ≡ [])) }
+    ensures modest { (relations : ℕ) (room : Option ℕ) (name : RecordName) (value : List ℕ) → IsSome (V.at_hand views.now name.page) → IfOk result (λ act. IfMade act (λ changes reply. InRoomy (V.at_hand views.now) room relations (V.total views.now) (λ pages m. IsMoved (V.total views.now) pages plan.now.changes.list.items name plan.now.name (record { relation = relation; key = key.now; value = old }) (record { relation = relation; key = key.now; value = value }) → IsModest (V.at_hand views.now) (V.total views.now) 1 pages (after changes pages)))) }
+    ensures full { IfOk result (λ act. IfFull act ⊥) }
     ensures broken { IfOk result (λ act. IfBroken act ⊥) }
 {
     let draft = drafted(alloc, views, &plan.changes)?;

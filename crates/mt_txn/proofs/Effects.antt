@@ -1,48 +1,24 @@
 -- What one operation does to the base, to the log's bytes and to a transaction's share of them.
-use Rattle.std.proofs.Common.{◌≡◌, ℕ, ◌≤◌, ◌+◌, ◌*◌, ◌∷◌, ◌++◌, [], Bool, true, false, cond, List, refl, sym, ap, arith, Option, Some, None, is_some, subst, ◌&&◌, ◌==◌, bytes_eq, IfSome, length, length-append}
+use Rattle.std.proofs.Common.{◌≡◌, ℕ, ◌+◌, ◌*◌, ◌∷◌, ◌++◌, [], Bool, true, false, cond, List, refl, sym, ap, arith, Option, Some, None, is_some, subst, ◌&&◌, ◌==◌, bytes_eq, length, length-append}
 use Rattle.std.specs.List.{All}
 use Rattle.std.proofs.lemmas.List.Sums.{sum_by_push}
 use Rattle.std.proofs.lemmas.List.Elements.{All-push}
 use Rattle.mt_base.specs.Limits.{IsValue}
-use Rattle.mt_frame.specs.Grammar.{IsOperation}
 use Rattle.mt_model.specs.declared.operations.Op.{Op}
 use Rattle.mt_model.specs.declared.operations.Op.TheVariants.{Get, Insert, Update, Delete, Add, Read}
 use Rattle.mt_model.specs.declared.operations.Reply.{Reply}
-use Rattle.mt_model.specs.declared.operations.Reply.TheVariants.{Done, Was, OutOfBounds}
-use Rattle.mt_model.specs.Model.{Base, IsWithin, reply_of, base_after, inverse_of, found, done_unless, was, inserted, updated, deleted}
-use Rattle.mt_txn.specs.Logged.{log_need_of, logged_of, HasSmallReply}
+use Rattle.mt_model.specs.declared.operations.Reply.TheVariants.{Done, Was}
+use Rattle.mt_model.specs.Model.{Base, IsWithin, base_after, inverse_of, inserted, updated, deleted}
+use Rattle.mt_steps.specs.Logged.{HasSmallReply, HasSmallValues}
+use Rattle.mt_txn.specs.Logged.{log_need_of}
 use Rattle.mt_txn.specs.Party.{Party}
 use Rattle.mt_txn.specs.Parties.{noted, calls_with}
 use Rattle.mt_txn.specs.declared.live.Running.{Running}
-use Rattle.mt_txn.specs.Sound.{IsParty, IsCallWithin, IsRunningWithin, HasSmallValues}
+use Rattle.mt_txn.specs.Sound.{IsParty, IsCallWithin, IsRunningWithin}
 use Rattle.mt_txn.specs.Effects.{Call, effects, running_need, unfinished}
 use Rattle.mt_txn.specs.Ends.{given_back_of}
 
 -- ---- values stay small
-
-small_found : (o : Option (List ℕ)) → ((v : List ℕ) → o ≡ Some v → IsValue v) → HasSmallReply (found o)
-small_found None small = tt
-small_found (Some v) small = small v refl
-
-small_done : (o : Option (List ℕ)) → HasSmallReply (done_unless o)
-small_done None = tt
-small_done (Some v) = tt
-
-small_was : (o : Option (List ℕ)) → ((v : List ℕ) → o ≡ Some v → IsValue v) → HasSmallReply (was o)
-small_was None small = tt
-small_was (Some v) small = small v refl
-
-small_added : (b : Bool) → HasSmallReply (cond b Done OutOfBounds)
-small_added true = tt
-small_added false = tt
-
-pub small_reply : (b : Base) (op : Op) → HasSmallValues b → HasSmallReply (reply_of b op)
-small_reply b (Get r k) small = small_found (b.rows r k) (small r k)
-small_reply b (Insert r k v) small = small_done (b.rows r k)
-small_reply b (Update r k v) small = small_was (b.rows r k) (small r k)
-small_reply b (Delete r k) small = small_was (b.rows r k) (small r k)
-small_reply b (Add c d) small = small_added _
-small_reply b (Read c) small = tt
 
 small_inserted : (here : Bool) (o : Option (List ℕ)) (v w : List ℕ) → IsValue v → ((u : List ℕ) → o ≡ Some u → IsValue u)
     → cond here (inserted v o) o ≡ Some w → IsValue w
@@ -68,16 +44,6 @@ small_after relations counters b (Update r k v) within small = λ s l w is. smal
 small_after relations counters b (Delete r k) within small = λ s l w is. small_deleted ((r == s) && bytes_eq k l) (b.rows s l) w (small s l) is
 small_after relations counters b (Add c d) within small = small
 small_after relations counters b (Read c) within small = small
-
--- ---- what is logged lies within the limits of the log
-
-pub logged_operation : (relations counters : ℕ) (op : Op) (reply : Reply) → relations ≤ 64 → counters ≤ 128
-    → IsWithin relations counters op → HasSmallReply reply → IfSome (logged_of op reply) IsOperation
-logged_operation relations counters (Insert r k v) Done few some within small = (omega (arith, within.0), within.1, within.2)
-logged_operation relations counters (Update r k v) (Was old) few some within small = (omega (arith, within.0), within.1, within.2, small)
-logged_operation relations counters (Delete r k) (Was old) few some within small = (omega (arith, within.0), within.1, small)
-logged_operation relations counters (Add c d) Done few some within small = (omega (arith, within.0), within.1)
-logged_operation relations counters _ _ few some within small = tt
 
 -- ---- shares of the log
 

@@ -9,14 +9,16 @@ use Rattle.mt_frame.specs.Grammar.{IsOperation}
 use Rattle.mt_frame.specs.Lengths.{operation_length}
 use Rattle.mt_model.specs.Model.{Base, reply_of}
 use Rattle.mt_model.specs.declared.operations.Reply.{Reply}
-use Rattle.mt_txn.specs.Logged.{logged_of, log_need_of, HasSmallReply}
+use Rattle.mt_steps.specs.Logged.{logged_of, HasSmallReply, HasSmallValues}
+use Rattle.mt_steps.proofs.Small.{small_reply, logged_operation}
+use Rattle.mt_txn.specs.Logged.{log_need_of}
 use Rattle.mt_txn.specs.Party.{Party}
 use Rattle.mt_txn.specs.declared.live.Running.{Running}
 use Rattle.mt_txn.specs.declared.live.Committing.{Committing}
-use Rattle.mt_txn.specs.Sound.{IsSound, IsParty, IsRunningWithin, HasSmallValues}
+use Rattle.mt_txn.specs.Sound.{IsSound, IsParty, IsRunningWithin}
 use Rattle.mt_txn.specs.Effects.{running_need}
 use Rattle.mt_txn.specs.Ends.{IsEnding, IsUnderWay, given_back_of, end_record}
-use Rattle.mt_txn.proofs.Effects.{small_reply, logged_operation, balance}
+use Rattle.mt_txn.proofs.Effects.{balance}
 use Rattle.mt_txn.proofs.Finishing.{same_item}
 
 length_fits : (d : LoggedOp) → IsOperation d → operation_length d ≤ 2119

@@ -11,7 +11,7 @@ use Rattle.mt_model.specs.declared.operations.Reply.{Reply}
 use Rattle.mt_model.specs.declared.operations.Reply.TheVariants.{Done, Was}
 use Rattle.mt_model.specs.Model.{inverse_of, IsWithin}
 use Rattle.mt_txn.specs.Aborts.{IsLastEffect}
-use Rattle.mt_txn.specs.Logged.{HasSmallReply}
+use Rattle.mt_steps.specs.Logged.{HasSmallReply}
 use Rattle.mt_txn.specs.Party.{Party}
 use Rattle.mt_txn.specs.Parties.{cut_at}
 use Rattle.mt_txn.specs.declared.live.Committing.{Committing}

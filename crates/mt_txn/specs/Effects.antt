@@ -1,8 +1,6 @@
 -- How much of the log an operation has to do with.
 use Rattle.std.specs.Prelude.{ℕ, List, Option, Some, None, is_some}
 use Rattle.std.specs.List.{count_by}
-use Rattle.mt_model.specs.declared.operations.Op.{Op}
-use Rattle.mt_model.specs.declared.operations.Reply.{Reply}
 use Rattle.mt_model.specs.Model.{inverse_of}
 use Rattle.mt_txn.specs.Logged.{log_need_of}
 use Rattle.mt_txn.specs.declared.live.Running.{Running}

@@ -13,7 +13,8 @@ use Rattle.mt_txn.specs.declared.answers.Stepped.TheVariants as stepped
 use Rattle.mt_model.specs.declared.operations.Op.{Op}
 use Rattle.mt_model.specs.declared.operations.Reply.{Reply}
 use Rattle.mt_model.specs.Model.{Base, reply_of, base_after}
-use Rattle.mt_txn.specs.Logged.{log_need_of, logged_of}
+use Rattle.mt_steps.specs.Logged.{logged_of}
+use Rattle.mt_txn.specs.Logged.{log_need_of}
 use Rattle.mt_txn.specs.Party.{Party}
 use Rattle.mt_txn.specs.Parties.{noted}
 use Rattle.mt_txn.specs.declared.live.Running.{Running}

@@ -6,13 +6,13 @@ use Rattle.std.proofs.lemmas.Int.{ints}
 use Rattle.std.specs.Coded.{le_prop}
 use Rattle.std.proofs.Math.Nat.{ℕ_set}
 use Rattle.std.proofs.Math.Dec.{T_prop}
-use Rattle.mt_base.specs.Limits.{IsValue, IsStep}
+use Rattle.mt_base.specs.Limits.{IsStep}
 use Rattle.mt_model.specs.declared.operations.Op.{Op}
 use Rattle.mt_model.specs.declared.operations.Op.TheVariants.{Get, Insert, Update, Delete, Add, Read}
 use Rattle.mt_model.specs.declared.operations.Reply.{Reply}
 use Rattle.mt_model.specs.declared.operations.Reply.TheVariants.{Found, Missing, Exists, Done, Was, Value, OutOfBounds}
-use Rattle.mt_model.specs.Model.{IsWithin, Base}
-use Rattle.mt_txn.specs.Logged.{HasSmallReply}
+use Rattle.mt_model.specs.Model.{IsWithin}
+use Rattle.mt_steps.specs.Logged.{HasSmallReply}
 use Rattle.mt_txn.specs.Effects.{Call, effects, running_need, unfinished}
 use Rattle.mt_txn.specs.Party.{Party}
 use Rattle.mt_txn.specs.declared.live.Running.{Running}
@@ -41,10 +41,6 @@ pub record IsParty (relations counters : ℕ) (l : Party) : Type 0 where
   pub few : length l.calls + unfinished l.running ≤ l.started
   pub running : IsRunningWithin relations counters l.running
   pub calls : All (IsCallWithin relations counters) l.calls
-
--- each value under a key is within the limits of values
-abbrev pub HasSmallValues : Base → Type 0
-HasSmallValues b = (r : ℕ) (k v : List ℕ) → b.rows r k ≡ Some v → IsValue v
 
 abbrev pub starts_left : Party → ℕ
 starts_left l = 256 - l.started

@@ -3,7 +3,8 @@ ghost use Rattle.std.specs.Vec.{vec_capacity};
 ghost use Rattle.mt_log.specs.Same.{IsOn-prop};
 ghost use Rattle.mt_log.specs.Words.{used, area_size, IsOn};
 ghost use Rattle.mt_model.specs.Views.{base_of, counters_of, relations_of};
-ghost use Rattle.mt_txn.specs.Sound.{IsSound, IsParty, AllParties-prop, HasSmallValues};
+ghost use Rattle.mt_txn.specs.Sound.{IsSound, IsParty, AllParties-prop};
+ghost use Rattle.mt_steps.specs.Logged.{HasSmallValues};
 
 use crate::live::{Committing, Live};
 use mt_base::TxnNo;

@@ -6,10 +6,11 @@ ghost use Rattle.mt_model.specs.Model.{inverse_of};
 ghost use Rattle.mt_model.specs.declared.operations.Op.{Op};
 ghost use Rattle.mt_model.specs.declared.operations.Reply.{Reply};
 
-use crate::logged::{has_effect, log_need};
+use crate::logged::log_need;
 use mt_base::limits::OPERATION_LOG_BYTES;
 use mt_base::{LogPos, OpNo, TxnNo};
 use mt_model::{Calls, Op, Reply};
+use mt_steps::has_effect;
 use std::alloc::AllocError;
 use std::marker::Model;
 

@@ -18,13 +18,14 @@ ghost use Rattle.mt_txn.specs.State.{state_of, place_in};
 use crate::answers::Stepped;
 use crate::kernel::Kernel;
 use crate::live::Live;
-use crate::logged::{log_need, logged};
+use crate::logged::log_need;
 use mt_base::limits::{LARGEST_OP_END, OPERATION_LOG_BYTES};
 use mt_base::{Refusal, TxnNo};
 use mt_disk::Device;
 use mt_frame::Record;
 use mt_log::Log;
 use mt_model::{Base, Reply};
+use mt_steps::logged;
 
 /// What the end of an operation comes to: its reply, the record of it, if it does anything, and the
 /// reserved bytes that it gives back.

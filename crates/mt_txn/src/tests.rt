@@ -1,6 +1,6 @@
 ghost use Rattle.std.specs.Prelude.{◌≤◌, length, IfOk};
 ghost use Rattle.mt_model.specs.Views.{base_of, counters_of, relations_of};
-ghost use Rattle.mt_txn.specs.Sound.{HasSmallValues};
+ghost use Rattle.mt_steps.specs.Logged.{HasSmallValues};
 
 use crate::{AbortStepped, Called, Kernel, KernelForced, Stepped};
 use mt_base::limits::device_bytes;

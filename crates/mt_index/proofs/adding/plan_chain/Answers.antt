@@ -5,12 +5,13 @@ use Rattle.mt_bucket.specs.Page.{depth_of, IsBucket}
 use Rattle.mt_space.specs.Kinds.{kind}
 use Rattle.mt_space.specs.Rooms.{mapped}
 use Rattle.mt_index.specs.Rule.{IsFull, Chained as ByChain}
+use Rattle.mt_index.specs.Answers.{Adds}
 use Rattle.mt_index.specs.Pages.{state_of}
 use Rattle.mt_index.proofs.Free.{Fresh, fresh, none_fresh}
 use Rattle.mt_index.proofs.Notes.{notes_none, notes_more}
 use Rattle.mt_index.proofs.Passing.{passed_kind}
 use Rattle.mt_index.proofs.OnePage.{no_bucket}
-use Rattle.mt_index.proofs.Placing.{Chained, fresh_off, chain_last, chain_smallest, chain_stays, chain_formed}
+use Rattle.mt_index.proofs.Placing.{Chained, fresh_off, taken_is, seen_at, chain_last, chain_smallest, chain_stays, chain_formed}
 use Rattle.mt_index.proofs.adding.plan_chain.Goals as goal
 
 pub returns-in_default-page : goal.returns-in_default-page
@@ -78,7 +79,7 @@ returns g c split no_split pages agree m a =
       entries = rw (n3.here.0, old) c.set_next.ensures.entries;
       others = λ n not_map not_new not_last. n3.others n (not_last, (not_new, (λ same. not_map (same ∙ zero_is), tt)));
     } in
-    record {
+    let planned : Adds split total e pages c.note-3.new.self.list.items = record {
       added = record {
         way = ByChain z q (no_split pages agree m a) (chain_smallest total pages q f) (chain_last total pages pages2 m e z q end.0 a end.1 w);
         stays = chain_stays total pages pages2 m e z q a two w;
@@ -88,4 +89,5 @@ returns g c split no_split pages agree m a =
       };
       few = let n = n3.few in omega arith;
       short = n3.short;
-    }
+    } in
+    (planned, λ p free some. seen_at (g.V.Pages.at_hand c.args.views.now) p q c.in-Some-page-2.spare.now (taken_is q p (pages 0) (pages2 0) w.taken free some) c.in-Some-page-2.ensures.some)

@@ -1,9 +1,10 @@
-use Rattle.std.proofs.Common.{◌≡◌, ◌<◌, inl, inr, refl, sym, subst, arith, length}
+use Rattle.std.proofs.Common.{ap, ◌∙◌, List, ℕ, get_or, ◌≡◌, ◌<◌, inl, inr, refl, sym, subst, arith, length}
 use Rattle.mt_pool.specs.Changes.{after}
 use Rattle.mt_bucket.specs.Entries.{Entry}
 use Rattle.mt_bucket.specs.Page.{entries, KeepsHead, IsBucket}
 use Rattle.mt_space.specs.Kinds.{kind}
 use Rattle.mt_index.specs.Rule.{IsFull, Here}
+use Rattle.mt_index.specs.Answers.{Adds}
 use Rattle.mt_index.specs.Pages.{state_of}
 use Rattle.mt_index.proofs.Passing.{passed_kind}
 use Rattle.mt_index.proofs.OnePage.{no_bucket, turns_formed}
@@ -27,7 +28,7 @@ returns g c split pages agree m a =
     let t = c.in_ok-change_of.ensures.turned pages is in
     let two : kind pages p ≡ 2 = passed_kind (IsFull (state_of pages)) total pages m c.args.key.now p h.steps a h.passed in
     let off = no_bucket total pages m p a two in
-    record {
+    let planned : Adds split total e pages c.in_ok-change_of.field-0.list.items = record {
       added = record {
         way = Here p (put_first total pages (after c.in_ok-change_of.field-0.list.items pages) m e p c.push.new.page a h t
             (subst (λ x. KeepsHead x c.push.new.page) (sym is) c.push.ensures.head)
@@ -38,4 +39,5 @@ returns g c split pages agree m a =
       };
       few = let one = c.in_ok-change_of.ensures.one in omega arith;
       short = c.in_ok-change_of.ensures.short pages is;
-    }
+    } in
+    (planned, λ n free some. absurd (some (ap (λ (map : List ℕ). get_or map n 0) (t.others 0 off.0) ∙ free)))

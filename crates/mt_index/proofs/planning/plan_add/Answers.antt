@@ -1,6 +1,14 @@
-use Rattle.mt_index.proofs.Ruling.{planned_map}
+use Rattle.mt_index.proofs.Ruling.{planned_map, planned_adds, planned_seen}
 use Rattle.mt_index.proofs.planning.plan_add.Goals as goal
 
 pub returns-clause-map : goal.returns-clause-map
 returns-clause-map g c =
     planned_map (g.V.Pages.at_hand c.args.views.now) (g.V.Pages.total c.args.views.now) c.args.split (record { relation = c.args.relation; key = c.args.key.now; name = c.args.name }) c.plan_by_rule.result c.plan_by_rule.ensures
+
+pub returns-clause-added : goal.returns-clause-added
+returns-clause-added g c =
+    planned_adds (g.V.Pages.at_hand c.args.views.now) (g.V.Pages.total c.args.views.now) c.args.split (record { relation = c.args.relation; key = c.args.key.now; name = c.args.name }) c.plan_by_rule.result c.plan_by_rule.ensures
+
+pub returns-clause-seen : goal.returns-clause-seen
+returns-clause-seen g c =
+    planned_seen (g.V.Pages.at_hand c.args.views.now) (g.V.Pages.total c.args.views.now) c.args.split (record { relation = c.args.relation; key = c.args.key.now; name = c.args.name }) c.plan_by_rule.result c.plan_by_rule.ensures

@@ -1,10 +1,14 @@
-use Rattle.std.proofs.Common.{◌≡◌, ◌≢◌, ◌+◌, ◌<◌, Bool, ℕ, inl, inr, refl, ap, sym, ◌∙◌, subst, arith, length, true, false, get_or}
+use Rattle.std.proofs.Common.{List, ⊎_elim, ◌≡◌, ◌≢◌, ◌+◌, ◌<◌, Bool, ℕ, inl, inr, refl, ap, sym, ◌∙◌, subst, arith, length, true, false, get_or}
 use Rattle.mt_bucket.specs.Entries.{Entry}
 use Rattle.mt_bucket.specs.Hash.{high, hash as hash_of}
 use Rattle.mt_bucket.specs.Page.{depth_of}
 use Rattle.mt_space.specs.Rooms.{mapped}
 use Rattle.mt_index.proofs.Free.{Fresh, fresh, none_fresh}
-use Rattle.mt_index.proofs.Composing.{unput, full_half, due_end, put_pages, link_pages, apart, put_added, second_off, second_free, link_added, split_short}
+use Rattle.mt_index.proofs.Composing.{unput, full_half, due_end, put_pages, put_space, link_pages, apart, put_added, second_off, second_free, link_added, split_short}
+use Rattle.std.proofs.lemmas.Bool.{cases_eq}
+use Rattle.mt_pool.specs.Changes.{after}
+use Rattle.mt_index.specs.Answers.{Adds}
+use Rattle.mt_index.proofs.Placing.{taken_is, seen_at}
 use Rattle.mt_index.specs.Halves.{AreHalves, PutsInHalf, Links, changed}
 use Rattle.mt_index.specs.declared.splitting.Halves.{Halves}
 use Rattle.mt_index.proofs.Notes.{notes_more}
@@ -54,11 +58,17 @@ returns-then-put g c pages agree m a =
     let on_q : c.put.new.self.fresh ≡ q = same.1 ∙ w.fresh in
     let n = c.in_ok-changes.ensures pages space directory (ap pages on_b ∙ old) (ap pages on_q ∙ spare)
     (rw (on_b, on_q) (apart total pages m e b q c.halve-halves.result a due.0 due.1 f w)) in
-    record {
+    let made = c.in_ok-changes.changes.list.items in
+    let map : after made pages 0 ≡ c.halve-halves.result.space = n.here.1.1.1.0 ∙ put_space t true e c.halve-halves.result c.put.new.self p in
+    let planned : Adds true total e pages made = record {
       added = put_added total pages m e b q c.halve-halves.result a due.0 due.1 f w t bit c.put.new.self p c.in_ok-changes.changes.list.items n;
       few = let four = n.few in omega arith;
       short = n.short;
-    }
+    } in (
+      planned,
+      λ x free some. seen_at (g.V.Pages.at_hand c.args.views.now) x q c.in-Some-page-2.spare.now
+          (taken_is q x (pages 0) c.halve-halves.result.space w.taken free (λ z. some (ap (λ (l : List ℕ). get_or l x 0) map ∙ z))) c.in-Some-page-2.ensures.some,
+    )
 
 pub returns-in_default-first_free-2 : goal.returns-in_default-first_free-2
 returns-in_default-first_free-2 g c pages agree m a =
@@ -137,11 +147,20 @@ returns g c pages agree m a =
     let n5 = notes_more (changed c.link.new.self) pages c.in_ok-changes-2.changes.list.items c.note.new.self.list.items q2 c.in-Some-page-3.blank.now c.overflow_page-page.result n
     (λ i. off.0 (i ∙ on_q), (λ i. off.1.0 (i ∙ on_b), (off.1.1.0, (off.1.1.1, tt)))) blank c.in_ok-note.ensures.noted c.in_ok-note.ensures.short c.in_ok-note.ensures.others c.in_ok-note.ensures.count in
     let level : depth_of (pages b) + 1 ≡ c.depth-2.result + 1 = ap (λ (x : ℕ). x + 1) (ap depth_of old ∙ sym c.depth-2.ensures) in
-    record {
+    let made = c.note.new.self.list.items in
+    let map : after made pages 0 ≡ c.link.new.self.space = n5.here.1.1.1.1.0 in
+    let planned : Adds true total e pages made = record {
       added = link_added total pages m e b q c.halve-halves.result a due.0 due.1 f w t bit c.link.new.self (full_half t e c.halve-halves.result c.put.new.self p) q2 s l c.overflow_page-page.result
           (rw level c.overflow_page-page.ensures.one)
           (λ relations shallow fits. c.overflow_page-page.ensures.bucket relations total (omega arith) fits.relation fits.some fits.place)
           c.note.new.self.list.items n5;
       few = let five = n5.few in omega arith;
       short = n5.short;
-    }
+    } in (
+      planned,
+      λ x free some. ⊎_elim
+          (λ (second : x ≡ q2). seen_at (g.V.Pages.at_hand c.args.views.now) x q2 c.in-Some-page-3.blank.now second c.in-Some-page-3.ensures.some)
+          (λ (other : x ≢ q2). seen_at (g.V.Pages.at_hand c.args.views.now) x q c.in-Some-page-2.spare.now
+          (taken_is q x (pages 0) h.space w.taken free (λ z. some (ap (λ (l : List ℕ). get_or l x 0) map ∙ l.taken.others x other ∙ z))) c.in-Some-page-2.ensures.some)
+          (cases_eq x q2),
+    )

@@ -1,4 +1,4 @@
-use Rattle.std.proofs.Common.{◌≡◌, ◌∙◌, ◌+◌, ℕ, ℤ, List, true, false, sym, ap, subst}
+use Rattle.std.proofs.Common.{arith, ◌≡◌, ◌∙◌, ◌+◌, ℕ, ℤ, List, None, Some, true, false, sym, ap, subst}
 use Rattle.std.specs.Int.{w64}
 use Rattle.std.proofs.lemmas.Int.{to_z-of_z}
 use Rattle.mt_base.specs.Ranges.{Torn}
@@ -9,8 +9,14 @@ use Rattle.mt_model.specs.declared.operations.Reply.TheVariants.{Done, OutOfBoun
 use Rattle.mt_model.specs.Model.{moved, stays}
 use Rattle.mt_steps.specs.Counters.{place_of, count_in, AreCounters}
 use Rattle.mt_steps.specs.Acts.{IsAct}
+use Rattle.mt_pool.proofs.Changing.{replaced_other}
+use Rattle.mt_steps.proofs.Modest.{modest_nothing, modest_same}
+use Rattle.mt_steps.proofs.Asking.{all_at_hand}
 use Rattle.mt_steps.proofs.Adding.{adds_done, adds_nothing}
 use Rattle.mt_steps.proofs.counting.add_to.Goals as goal
+
+none_some : (x : List ℕ) → None ≡ Some x → ⊥
+none_some x e = cc
 
 pub returns-then-not-add-clause-made : goal.returns-then-not-add-clause-made
 returns-then-not-add-clause-made g c = λ relations pages agrees m rows counters there a.
@@ -39,3 +45,25 @@ returns-clause-made g c = λ relations pages agrees m rows counters there a.
           (adds_done relations total pages m c.args.number counters c.args.step new rows there a fits here torn (λ r n old. c.add.ensures.kept r n (subst (λ (page : List ℕ). AreCounters r n page) at_two old))),
       short,
     )
+
+pub returns-clause-there : goal.returns-clause-there
+returns-clause-there g c =
+    let at_hand = g.V.Pages.at_hand c.args.views.now in
+    let p = c.new-page.result in
+    all_at_hand at_hand c.note.new.self.list.items (λ q none. c.in_ok-note.ensures.others q
+    (λ e. none_some c.in-Some.old.now (sym (ap at_hand (sym e) ∙ none) ∙ c.in-Some.ensures.some))
+    (subst (λ (l : List PageChange). IsUntouched l q) (sym c.new-changes.ensures) tt))
+
+pub returns-then-not-add-clause-modest : goal.returns-then-not-add-clause-modest
+returns-then-not-add-clause-modest g c = λ relations pages agrees m rows. modest_nothing (g.V.Pages.at_hand c.args.views.now) (g.V.Pages.total c.args.views.now) 0 pages c.new-changes.result.list.items c.new-changes.ensures
+
+pub returns-clause-modest : goal.returns-clause-modest
+returns-clause-modest g c = λ relations pages agrees m rows.
+    let p = c.new-page.result in
+    let list = c.new-changes.result.list.items in
+    let at_page : pages p ≡ c.in-Some.old.now = agrees p c.in-Some.old.now c.in-Some.ensures.some in
+    let empty : after list pages ≡ pages = ap (λ (l : List PageChange). after l pages) c.new-changes.ensures in
+    let noted = c.in_ok-note.ensures.noted pages (ap (λ (f : PageBytes). f p) empty ∙ at_page) in
+    let other : replaced p c.add.new.page pages 0 ≡ pages 0 = replaced_other p 0 c.add.new.page pages (let two = c.new-page.ensures in λ e. let zero : 0 ≡ p = e in omega (arith, two, zero)) in
+    modest_same (g.V.Pages.at_hand c.args.views.now) (g.V.Pages.total c.args.views.now) 0 pages (after c.note.new.self.list.items pages)
+    (ap (λ (f : PageBytes). f 0) (noted ∙ ap (replaced p c.add.new.page) empty) ∙ other)

@@ -3,6 +3,9 @@ use Rattle.mt_pool.specs.declared.changes.PageChange.{PageChange}
 use Rattle.mt_pool.specs.Changes.{after, AreShort}
 use Rattle.mt_model.specs.declared.operations.Op.TheVariants.{Delete}
 use Rattle.mt_model.specs.declared.operations.Reply.TheVariants.{Missing}
+use Rattle.mt_base.specs.declared.modes.Mode.TheVariants.{Read}
+use Rattle.mt_steps.proofs.Asking.{bucket_inside}
+use Rattle.mt_steps.proofs.Modest.{modest_nothing}
 use Rattle.mt_steps.specs.Acts.{IsAct}
 use Rattle.mt_steps.proofs.Leaving.{missing_already}
 use Rattle.mt_steps.proofs.deleting.delete.Goals as goal
@@ -14,3 +17,12 @@ returns-in-Missing-clause-made g c = λ relations pages agrees m rows.
 
 pub returns-in-Endless-clause-broken : goal.returns-in-Endless-clause-broken
 returns-in-Endless-clause-broken g c = let good = c.requires.good.1 in c.in-Endless.ensures.endless good.0 good.1 good.2 good.3.index
+
+pub returns-in-Need-clause-lock : goal.returns-in-Need-clause-lock
+returns-in-Need-clause-lock g c =
+    let good = c.requires.good.1 in
+    let asks = c.in-Need.ensures.need in
+    (asks.missing, bucket_inside (g.V.Pages.total c.args.views.now) good.0 good.2 Read c.in-Need.page c.in-Need.mode good.3.index (asks.role good.0 good.1 good.2 good.3.index))
+
+pub returns-in-Missing-clause-modest : goal.returns-in-Missing-clause-modest
+returns-in-Missing-clause-modest g c = λ relations pages agrees m rows. modest_nothing (g.V.Pages.at_hand c.args.views.now) (g.V.Pages.total c.args.views.now) 0 pages c.new.result.list.items c.new.ensures

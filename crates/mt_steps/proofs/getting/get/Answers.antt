@@ -1,11 +1,14 @@
-use Rattle.std.proofs.Common.{◌≡◌, ◌∙◌, ⊎_elim, ℕ, List, Option, None, Some, refl, sym, ap}
+use Rattle.std.proofs.Common.{arith, ◌≡◌, ◌∙◌, ⊎_elim, ℕ, List, Option, None, Some, refl, sym, ap}
+use Rattle.mt_base.specs.declared.modes.Mode.TheVariants.{Read}
+use Rattle.mt_space.specs.Kinds.{kind}
 use Rattle.mt_slots.specs.Page.{Row}
 use Rattle.mt_file.proofs.Filed.{record_kind}
 use Rattle.mt_model.specs.declared.operations.Op.TheVariants.{Get}
 use Rattle.mt_model.specs.declared.operations.Reply.TheVariants.{Found, Missing}
 use Rattle.mt_model.specs.Model.{found}
 use Rattle.mt_steps.proofs.Rows.{none_held}
-use Rattle.mt_steps.proofs.Counted.{counters_refl, row_act}
+use Rattle.mt_steps.proofs.Counted.{counters_refl, row_act, nothing_changes}
+use Rattle.mt_steps.proofs.Asking.{bucket_inside, kind_inside}
 use Rattle.mt_steps.proofs.Acting.{value_held}
 use Rattle.mt_steps.proofs.getting.get.Goals as goal
 
@@ -19,16 +22,17 @@ pub returns-in-Need-clause-lock : goal.returns-in-Need-clause-lock
 returns-in-Need-clause-lock g c =
     let good = c.requires.good.1 in
     let asks = c.in-Need.ensures.need in
-    (asks.missing, ⊎_elim (λ d. d.1) (λ b. b.1) (asks.role good.0 good.1 good.2 good.3.index))
+    (asks.missing, bucket_inside (g.V.Pages.total c.args.views.now) good.0 good.2 Read c.in-Need.page c.in-Need.mode good.3.index (asks.role good.0 good.1 good.2 good.3.index))
+
+pub returns-in-Need-clause-mode : goal.returns-in-Need-clause-mode
+returns-in-Need-clause-mode g c = let good = c.requires.good.1 in ⊎_elim (λ d. d.1) (λ b. b.1) (c.in-Need.ensures.need.role good.0 good.1 good.2 good.3.index)
 
 pub returns-in-Missing-clause-made : goal.returns-in-Missing-clause-made
-returns-in-Missing-clause-made g c = λ relations. (
-  c.new.ensures,
-  λ pages agrees m rows.
-      row_act relations (g.V.Pages.total c.args.views.now) pages pages m (Get c.args.relation c.args.key.now) Missing (counters_refl pages rows.counters_fixed) (λ b. refl)
-      (λ b held. ap found (none_held pages m b c.args.relation c.args.key.now rows.named held (c.in-Missing.ensures.missing pages agrees m rows.index)))
-      (λ b held. held) rows,
-)
+returns-in-Missing-clause-made g c = λ relations pages agrees m rows.
+    nothing_changes relations (g.V.Pages.total c.args.views.now) pages c.new.result.list.items _ _ c.new.ensures
+    (row_act relations (g.V.Pages.total c.args.views.now) pages pages m (Get c.args.relation c.args.key.now) Missing (counters_refl pages rows.counters_fixed) (λ b. refl)
+    (λ b held. ap found (none_held pages m b c.args.relation c.args.key.now rows.named held (c.in-Missing.ensures.missing pages agrees m rows.index)))
+    (λ b held. held) rows)
 
 pub returns-in-Endless-clause-broken : goal.returns-in-Endless-clause-broken
 returns-in-Endless-clause-broken g c = let good = c.requires.good.1 in c.in-Endless.ensures.endless good.0 good.1 good.2 good.3.index
@@ -44,21 +48,25 @@ returns-in-Need-plan_read-clause-lock g c =
     let good = c.requires.good.1 in
     let named = good.3.named.names c.args.relation c.args.key.now c.in-Found.name (c.in-Found.ensures.found good.0 good.1 good.2 good.3.index) in
     let told = c.in-Need-plan_read.ensures good.0 good.1 good.3.file (record_kind good.0 c.in-Found.name.page c.in-Found.name.slot _ named.1) in
-    (told.0, told.1)
+    (told.0, kind_inside (g.V.Pages.total c.args.views.now) good.0 good.2 c.in-Need-plan_read.page 3 good.3.index (ap (λ (p : ℕ). kind good.0 p) told.2 ∙ record_kind good.0 c.in-Found.name.page c.in-Found.name.slot _ named.1) (omega arith))
+
+pub returns-in-Need-plan_read-clause-mode : goal.returns-in-Need-plan_read-clause-mode
+returns-in-Need-plan_read-clause-mode g c =
+    let good = c.requires.good.1 in
+    let named = good.3.named.names c.args.relation c.args.key.now c.in-Found.name (c.in-Found.ensures.found good.0 good.1 good.2 good.3.index) in
+    (c.in-Need-plan_read.ensures good.0 good.1 good.3.file (record_kind good.0 c.in-Found.name.page c.in-Found.name.slot _ named.1)).1
 
 pub returns-in_ok-value-in-Record-clause-made : goal.returns-in_ok-value-in-Record-clause-made
-returns-in_ok-value-in-Record-clause-made g c = λ relations. (
-  c.new-in-Record.ensures,
-  λ pages agrees m rows.
-      let name = c.in-Found.name in
-      let is = c.in-Found.ensures.found pages agrees m rows.index in
-      let named = rows.named.names c.args.relation c.args.key.now name is in
-      let told = c.in-Record.ensures pages agrees rows.file (record_kind pages name.page name.slot _ named.1) in
-      let same : named.0 ≡ c.in-Record.row.value.now = value_of _ _ _ (sym named.1 ∙ told) in
-      row_act relations (g.V.Pages.total c.args.views.now) pages pages m (Get c.args.relation c.args.key.now) (Found c.in_ok-value-in-Record.value) (counters_refl pages rows.counters_fixed) (λ b. refl)
-      (λ b held. ap found (value_held pages m b name c.args.relation c.args.key.now named.0 held named.1) ∙ ap Found (same ∙ sym c.in_ok-value-in-Record.ensures))
-      (λ b held. held) rows,
-)
+returns-in_ok-value-in-Record-clause-made g c = λ relations pages agrees m rows.
+    let name = c.in-Found.name in
+    let is = c.in-Found.ensures.found pages agrees m rows.index in
+    let named = rows.named.names c.args.relation c.args.key.now name is in
+    let told = c.in-Record.ensures pages agrees rows.file (record_kind pages name.page name.slot _ named.1) in
+    let same : named.0 ≡ c.in-Record.row.value.now = value_of _ _ _ (sym named.1 ∙ told) in
+    nothing_changes relations (g.V.Pages.total c.args.views.now) pages c.new-in-Record.result.list.items _ _ c.new-in-Record.ensures
+    (row_act relations (g.V.Pages.total c.args.views.now) pages pages m (Get c.args.relation c.args.key.now) (Found c.in_ok-value-in-Record.value) (counters_refl pages rows.counters_fixed) (λ b. refl)
+    (λ b held. ap found (value_held pages m b name c.args.relation c.args.key.now named.0 held named.1) ∙ ap Found (same ∙ sym c.in_ok-value-in-Record.ensures))
+    (λ b held. held) rows)
 
 pub returns-in-Nothing-clause-broken : goal.returns-in-Nothing-clause-broken
 returns-in-Nothing-clause-broken g c =

@@ -1,14 +1,18 @@
-use Rattle.std.proofs.Common.{◌≡◌, None, Some, sym, subst}
+use Rattle.std.proofs.Common.{cond, ◌≡◌, arith, None, Some, sym, subst}
 use Rattle.mt_bucket.specs.Entries.{Entry}
 use Rattle.mt_pool.specs.Changes.{PageBytes, after}
 use Rattle.mt_index.specs.Maps.{alter}
 use Rattle.mt_index.specs.Pages.{AreMap}
-use Rattle.mt_index.specs.Answers.{InMaps, Adds}
+use Rattle.mt_index.specs.Answers.{InMaps, Adds, Asks, IsInAdd, TakesSeen, Shortage}
 use Rattle.std.proofs.lemmas.Result.{IfOk-weaker}
 use Rattle.mt_model.specs.declared.operations.Op.TheVariants.{Insert}
 use Rattle.mt_steps.specs.Acts.{IsAct}
+use Rattle.mt_steps.specs.Plans.{IsModest}
 use Rattle.mt_steps.specs.Drafts.{shown}
-use Rattle.mt_steps.proofs.Entering.{added_is, endless_is, placed_map, made_weaker, entered}
+use Rattle.mt_steps.proofs.Asking.{add_needs, add_inside, added_inside, named_differs, few_more}
+use Rattle.mt_steps.proofs.Drafting.{below_some}
+use Rattle.mt_steps.proofs.Modest.{placed_modest, added_modest, modest_trans, modest_more, insert_needs, shortage_few}
+use Rattle.mt_steps.proofs.Entering.{added_is, full_is, endless_is, placed_map, made_weaker, entered}
 use Rattle.mt_steps.proofs.inserting.add_entry.Goals as goal
 
 pub returns-in-Endless-clause-broken : goal.returns-in-Endless-clause-broken
@@ -54,3 +58,80 @@ returns-clause-made g c = λ relations room value fits. IfOk-weaker c.join.resul
       joined.1,
     )))
     c.join.ensures.made
+
+pub returns-in-Need-clause-lock : goal.returns-in-Need-clause-lock
+returns-in-Need-clause-lock g c =
+    let good = c.requires.good.3 in
+    let placed = c.requires.good.4 good.0 good.1 good.2 good.3 good.4 in
+    let first = c.args.plan.now.changes.list.items in
+    let total = g.V.Pages.total c.args.views.now in
+    let between = placed_map c.requires.good.0 total good.0 good.2 first c.args.plan.now.name _ good.3 placed in
+    let asks = subst (λ x. Asks (shown c.in_ok-draft.draft.copies.items (g.V.Pages.at_hand x)) (g.V.Pages.total x) (IsInAdd (g.V.Pages.total x)) c.in-Need.page c.in-Need.mode) c.in_ok-draft.ensures.views
+    (add_needs _ c.in_ok-page.field-0 c.in-Need.page c.in-Need.mode c.in-Need.is c.in_ok-page.ensures.need) in
+    (c.in_ok-draft.ensures.none c.in-Need.page asks.missing, add_inside total (after first good.0) good.2 c.in-Need.page c.in-Need.mode between (asks.role (after first good.0) (c.in_ok-draft.ensures.agrees good.0 good.1) good.2 between))
+
+pub join-requires-clause-inside : goal.join-requires-clause-inside
+join-requires-clause-inside g c = λ p named.
+    let good = c.requires.good.3 in
+    let placed = c.requires.good.4 good.0 good.1 good.2 good.3 good.4 in
+    let first = c.args.plan.now.changes.list.items in
+    let second = c.in-Changes.changes.list.items in
+    let total = g.V.Pages.total c.args.views.now in
+    let e : Entry = record { relation = c.args.relation; key = c.args.key.now; name = c.args.plan.now.name } in
+    let between = placed_map c.requires.good.0 total good.0 good.2 first c.args.plan.now.name _ good.3 placed in
+    let told = subst (λ x. InMaps (shown c.in_ok-draft.draft.copies.items (g.V.Pages.at_hand x)) (g.V.Pages.total x) (λ pages m. Adds c.args.split (g.V.Pages.total x) e pages second)) c.in_ok-draft.ensures.views
+    (added_is _ c.in_ok-page.field-0 c.in-Changes.changes c.in-Changes.is c.in_ok-page.ensures.added) in
+    let adds = told (after first good.0) (c.in_ok-draft.ensures.agrees good.0 good.1) good.2 between in
+    added_inside total (after first good.0) (after second (after first good.0)) good.2 p between adds.added.stays (named_differs second (after first good.0) p adds.short named)
+
+pub returns-clause-few : goal.returns-clause-few
+returns-clause-few g c = IfOk-weaker c.join.result _ _
+    (λ act. made_weaker act _ _ (λ changes reply few.
+    let good = c.requires.good.3 in
+    let placed = c.requires.good.4 good.0 good.1 good.2 good.3 good.4 in
+    let first = c.args.plan.now.changes.list.items in
+    let second = c.in-Changes.changes.list.items in
+    let total = g.V.Pages.total c.args.views.now in
+    let e : Entry = record { relation = c.args.relation; key = c.args.key.now; name = c.args.plan.now.name } in
+    let between = placed_map c.requires.good.0 total good.0 good.2 first c.args.plan.now.name _ good.3 placed in
+    let told = subst (λ x. InMaps (shown c.in_ok-draft.draft.copies.items (g.V.Pages.at_hand x)) (g.V.Pages.total x) (λ pages m. Adds c.args.split (g.V.Pages.total x) e pages second)) c.in_ok-draft.ensures.views
+    (added_is _ c.in_ok-page.field-0 c.in-Changes.changes c.in-Changes.is c.in_ok-page.ensures.added) in
+    let adds = told (after first good.0) (c.in_ok-draft.ensures.agrees good.0 good.1) good.2 between in
+    few_more _ _ _ 2 5 8 few c.requires.few adds.few (omega arith)))
+    c.join.ensures.few
+
+pub returns-clause-modest : goal.returns-clause-modest
+returns-clause-modest g c = λ relations room value. IfOk-weaker c.join.result _ _
+    (λ act. made_weaker act _ _ (λ changes reply told pages agrees m rows named placed.
+    let at_hand = g.V.Pages.at_hand c.args.views.now in
+    let first = c.args.plan.now.changes.list.items in
+    let second = c.in-Changes.changes.list.items in
+    let total = g.V.Pages.total c.args.views.now in
+    let mid = after first pages in
+    let last = after second mid in
+    let copies = c.in_ok-draft.draft.copies.items in
+    let e : Entry = record { relation = c.args.relation; key = c.args.key.now; name = c.args.plan.now.name } in
+    let between = placed_map relations total pages m first c.args.plan.now.name _ rows placed in
+    let draft_agrees = c.in_ok-draft.ensures.agrees pages agrees in
+    let adds = subst (λ x. InMaps (shown copies (g.V.Pages.at_hand x)) (g.V.Pages.total x) (λ pages m. Adds c.args.split (g.V.Pages.total x) e pages second)) c.in_ok-draft.ensures.views
+    (added_is _ c.in_ok-page.field-0 c.in-Changes.changes c.in-Changes.is c.in_ok-page.ensures.added) mid draft_agrees m between in
+    let seen = subst (λ x. InMaps (shown copies (g.V.Pages.at_hand x)) (g.V.Pages.total x) (λ pages m. TakesSeen (shown copies (g.V.Pages.at_hand x)) pages second)) c.in_ok-draft.ensures.views
+    (added_is _ c.in_ok-page.field-0 c.in-Changes.changes c.in-Changes.is c.in_ok-page.ensures.seen) mid draft_agrees m between in
+    subst (λ (p : PageBytes). IsModest at_hand total (cond c.args.split 3 2) pages p) (sym (told.1 pages agrees).0)
+    (modest_more at_hand total _ (cond c.args.split 3 2) pages last (insert_needs c.args.split) (modest_trans at_hand total 1 (cond c.args.split 2 1) pages mid last (placed_modest at_hand relations total pages m first c.args.plan.now.name _ rows c.requires.seen placed)
+    (added_modest at_hand c.args.split total e mid last (λ p free some. below_some copies at_hand p c.in_ok-draft.ensures.copies (seen p free some)) adds.added)))))
+    c.join.ensures.made
+
+pub returns-in-Full-clause-full : goal.returns-in-Full-clause-full
+returns-in-Full-clause-full g c = λ relations room value pages agrees m rows named placed.
+    let first = c.args.plan.now.changes.list.items in
+    let total = g.V.Pages.total c.args.views.now in
+    let mid = after first pages in
+    let copies = c.in_ok-draft.draft.copies.items in
+    let e : Entry = record { relation = c.args.relation; key = c.args.key.now; name = c.args.plan.now.name } in
+    let between = placed_map relations total pages m first c.args.plan.now.name _ rows placed in
+    let short = subst (λ x. InMaps (shown copies (g.V.Pages.at_hand x)) (g.V.Pages.total x) (λ pages m. Shortage c.args.split (g.V.Pages.total x) e pages)) c.in_ok-draft.ensures.views
+    (full_is _ c.in_ok-page.field-0 c.in-Full.is c.in_ok-page.ensures.full) mid (c.in_ok-draft.ensures.agrees pages agrees) m between in
+    let takes = (placed_modest (g.V.Pages.at_hand c.args.views.now) relations total pages m first c.args.plan.now.name _ rows c.requires.seen placed).takes in
+    let one = shortage_few c.args.split total e mid placed.adds.file.whole between.few short in
+    omega (arith, takes, one)

@@ -13,7 +13,7 @@ use Rattle.mt_pool.specs.Views.{view, pages}
 use Rattle.mt_pool.specs.Writes.{change_records, redone, due_image, records_size, IsLonger, IsUnfinished}
 use Rattle.mt_pool.proofs.Kept.{no_call}
 use Rattle.mt_pool.proofs.Logged.{kept_append, kept_write, longer_appended}
-use Rattle.mt_pool.proofs.Redone.{own_redone, other_redone}
+use Rattle.mt_pool.proofs.Redone.{shortest_within, own_redone, other_redone}
 use Rattle.mt_pool.proofs.Writes.{now_records, now_some, now_size, now_pages, now_may, changes_images, ends_nothing, other_pages, view_whole, view_any, all_other}
 use Rattle.mt_pool.proofs.store.Store.write.Goals as goal
 
@@ -117,16 +117,15 @@ returns-clause-ends_none g c = λ t o unfinished.
 
 pub returns-clause-redone : goal.returns-clause-redone
 returns-clause-redone g c = λ seen q.
-    let s = c.args.self.now in let r = c.requires in let p = c.in_ok-prepared.ensures in
+    let s = c.args.self.now in let r = c.requires in
     let page = c.args.change.now.page in
     let edits = c.args.change.now.edits.items in
     let v = view s.pool seen page in
     let here = view_any s.pool (g.D.Device.seen s.device) seen page r.there in
     let short = subst (λ (l : List ℕ). IsShort l c.args.change.now) here r.short in
-    let size = sym (ap length (p.bytes seen)) ∙ p.size in
     ⊎_elim
     (λ (same : q ≡ page). ap (view c.change.new.self seen) same ∙ returns-clause-view g c seen
-    ∙ sym (own_redone c.args.txn c.args.op page v (due_image s.pool page v) edits (recursion_from_All (IsShortest v (patched edits v)) edits short.ranges) (size ∙ sym (view_whole s.pool seen page r.kept.1.frames r.there)))
+    ∙ sym (own_redone c.args.txn c.args.op page v (due_image s.pool page v) edits (shortest_within v (patched edits v) edits (recursion_from_All (IsShortest v (patched edits v)) edits short.ranges)))
     ∙ ap (λ (x : ℕ). redone x (change_records c.args.txn c.args.op page (due_image s.pool page v) v (patched edits v) edits) (view s.pool seen x)) (sym same))
     (λ (differ : q ≢ page). c.change.ensures.others seen q differ ∙ sym (other_redone c.args.txn c.args.op page v (patched edits v) q differ (due_image s.pool page v) edits (view s.pool seen q)))
     (cases_eq q page)

@@ -1,5 +1,6 @@
-use Rattle.std.proofs.Common.{◌≡◌, ◌<◌, ◌∙◌, ℕ, length, List, Option, get_or, ap, subst, sym}
+use Rattle.std.proofs.Common.{◌≡◌, ◌<◌, ◌+◌, arith, ◌∙◌, ℕ, length, List, Option, get_or, ap, subst, sym}
 use Rattle.std.specs.Prelude.{IsSome}
+use Rattle.std.proofs.lemmas.List.{length-take}
 use Rattle.std.proofs.lemmas.List.Elements.{All-get_or}
 use Rattle.mt_pool.specs.declared.changes.PageChange.{PageChange}
 use Rattle.mt_pool.specs.Changes.{IsShort}
@@ -44,5 +45,13 @@ loop-change-preserved g c =
       views = c.in_ok-make.ensures.views ∙ so.views;
       sound = subst (λ (b : ℕ → Option (List ℕ)). AreCopies b new) at_hand c.in_ok-make.ensures.copies;
       agrees = λ pages agrees. agrees_more below old new list i x pages lt is there made (so.agrees pages agrees);
+      few = omega (arith, so.few, c.in_ok-make.ensures.few, length-take i list, length-take (i + 1) list, lt);
       drawn = λ pages agrees. drawn_more below old new list i x (drawn copies pages) pages lt is there made agrees (so.drawn pages agrees);
     }
+
+pub returns-clause-few : goal.returns-clause-few
+returns-clause-few g c =
+    let list = c.args.changes.now.list.items in
+    let value : c.deref-change-items.result.now ≡ list = c.deref-change-items.ensures.value in
+    let few = c.loop-change.invariant.few in
+    omega (arith, few, length-take c.loop-change.change-index list)

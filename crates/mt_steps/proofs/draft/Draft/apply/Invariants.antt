@@ -1,4 +1,4 @@
-use Rattle.std.proofs.Common.{◌≡◌, take}
+use Rattle.std.proofs.Common.{◌≡◌, ◌+◌, ◌≤◌, length, take}
 use Rattle.mt_pool.specs.Changes.{PageBytes, Agrees, after}
 use Rattle.mt_steps.specs.Drafts.{shown, drawn, AreCopies}
 use Rattle.mt_steps.proofs.draft.Draft.apply.Given as goal
@@ -11,5 +11,6 @@ invariant-loop-change g l =
       views : l.self.views.now ≡ l.fn.self.views.now;
       sound : AreCopies below l.self.copies.items;
       agrees : (pages : PageBytes) → Agrees (shown l.fn.self.copies.items below) pages → Agrees (shown l.self.copies.items below) (after done pages);
+      few : length l.self.copies.items ≤ length l.fn.self.copies.items + length done;
       drawn : (pages : PageBytes) → Agrees below pages → drawn l.self.copies.items pages ≡ after done (drawn l.fn.self.copies.items pages);
     }

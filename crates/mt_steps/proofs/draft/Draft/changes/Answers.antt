@@ -1,7 +1,9 @@
-use Rattle.std.proofs.Common.{◌≡◌, ◌<◌, ◌∙◌, length, get_or, List, Some, None, ap, subst, sym, take, ◌+◌}
+use Rattle.std.proofs.Common.{◌≡◌, ◌<◌, ◌∙◌, length, get_or, arith, List, Some, None, ap, subst, sym, take, ◌+◌}
+use Rattle.std.proofs.lemmas.List.{take_all, length-take}
 use Rattle.mt_pool.specs.declared.changes.Changes.{Changes}
 use Rattle.mt_steps.specs.declared.draft.PageCopy.{PageCopy}
-use Rattle.mt_steps.proofs.Drafting.{ComeTo, IsNoted, come_more, below_there, some_value}
+use Rattle.mt_steps.proofs.Drafting.{ComeTo, IsNoted, come_more, below_there, some_value, none_shown}
+use Rattle.mt_steps.proofs.Asking.{all_at_hand}
 use Rattle.mt_steps.proofs.draft.Draft.changes.Goals as goal
 use Rattle.mt_steps.proofs.draft.Draft.changes.Goals.{in-Some+in_ok-note, in_default}
 
@@ -23,6 +25,7 @@ loop-copy-preserved g c =
             short = e.short;
             others = e.others;
             same = λ same. ap (λ (all : Changes). all.list.items) (e.same same);
+            count = e.count;
           } in
           subst (λ (all : Changes). ComeTo below (take (i + 1) copies) all.list.items) (sym w.changes-is)
           (come_more below copies i x w.in-Some.old.now was w.note.new.self.list.items lt is c.requires.copies w.in-Some.ensures.some note c.loop-copy.invariant)
@@ -32,3 +35,18 @@ loop-copy-preserved g c =
           let both : Some some.0 ≡ None = sym some.1 ∙ none in
           absurd (cc)
     ]
+
+pub returns-clause-there : goal.returns-clause-there
+returns-clause-there g c =
+    let below = g.V.Pages.at_hand c.args.self.now.views.now in
+    let copies = c.args.self.now.copies.items in
+    let changes = c.loop-copy.changes.list.items in
+    let value : c.deref-copy-items.result.now ≡ copies = c.deref-copy-items.ensures.value in
+    let long = ap length value in
+    let whole : ComeTo below copies changes = subst (λ (l : List PageCopy). ComeTo below l changes) (take_all c.loop-copy.copy-index copies (omega (arith, long))) c.loop-copy.invariant in
+    all_at_hand below changes (λ p none. whole.same p (none_shown below copies p c.requires.copies none))
+
+pub returns-clause-few : goal.returns-clause-few
+returns-clause-few g c =
+    let few = c.loop-copy.invariant.few in
+    omega (arith, few, length-take c.loop-copy.copy-index c.args.self.now.copies.items)

@@ -9,12 +9,13 @@ use Rattle.mt_model.specs.Views.{base_of, counters_of, relations_of}
 use Rattle.mt_txn.specs.declared.live.Running.{Running}
 use Rattle.mt_txn.specs.declared.answers.Stepped.TheVariants.{Replied}
 use Rattle.std.proofs.Math.ListN.{set}
-use Rattle.mt_txn.specs.Logged.{HasSmallReply, logged_of}
+use Rattle.mt_steps.specs.Logged.{HasSmallReply, HasSmallValues, logged_of}
+use Rattle.mt_steps.proofs.Small.{small_reply}
 use Rattle.mt_txn.specs.Party.{Party}
 use Rattle.mt_txn.specs.Parties.{noted}
-use Rattle.mt_txn.specs.Sound.{IsParty, HasSmallValues, IsRunningWithin}
+use Rattle.mt_txn.specs.Sound.{IsParty, IsRunningWithin}
 use Rattle.mt_txn.specs.Ends.{given_back_of}
-use Rattle.mt_txn.proofs.Effects.{small_reply, small_after, noted_party}
+use Rattle.mt_txn.proofs.Effects.{small_after, noted_party}
 use Rattle.mt_txn.proofs.Finishing.{under_way, same_item, same_schema, same_party, finished_sound, bytes_of_end}
 use Rattle.mt_log.proofs.Elsewhere.{on_same}
 use Rattle.mt_txn.proofs.kernel.Kernel.finish.Goals as goal

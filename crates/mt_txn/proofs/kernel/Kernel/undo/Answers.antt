@@ -5,7 +5,8 @@ use Rattle.mt_model.specs.Model.{IsWithin}
 use Rattle.mt_model.specs.Views.{base_of, counters_of, relations_of}
 use Rattle.mt_txn.specs.Party.{Party}
 use Rattle.mt_txn.specs.Parties.{cut_at}
-use Rattle.mt_txn.specs.Sound.{IsParty, IsCallWithin, HasSmallValues}
+use Rattle.mt_steps.specs.Logged.{HasSmallValues}
+use Rattle.mt_txn.specs.Sound.{IsParty, IsCallWithin}
 use Rattle.mt_txn.proofs.Effects.{small_after}
 use Rattle.mt_txn.proofs.Finishing.{same_schema, same_party, same_item, item_at}
 use Rattle.mt_txn.proofs.Undoing.{inverse_within, cut_party, enough_for_one, enough_in_all, undone_sound}

@@ -1,0 +1,179 @@
+-- Which pages change their kind, and how many free ones are taken.
+use Rattle.std.proofs.Common.{◌≡◌, ◌≢◌, ◌⊎◌, inl, inr, ⊎_elim, ℕ, ◌≤◌, ◌+◌, Bool, true, false, cond, List, [], Option, None, Some, length, get_or, refl, ap, sym, ◌∙◌, arith}
+use Rattle.std.specs.Prelude.{IsSome}
+use Rattle.std.proofs.lemmas.Bool.{cases_eq, both_ways}
+use Rattle.mt_base.specs.declared.numbers.RecordName.{RecordName}
+use Rattle.mt_bucket.specs.Entries.{Entry}
+use Rattle.mt_slots.specs.Page.{Row}
+use Rattle.mt_pool.specs.declared.changes.PageChange.{PageChange}
+use Rattle.mt_pool.specs.Changes.{PageBytes, after}
+use Rattle.mt_space.specs.Kinds.{kind}
+use Rattle.mt_space.specs.Rooms.{mapped, free_in}
+use Rattle.mt_space.proofs.Counting.{none_free, none_mapped, one_mapped, free_stay, free_but_one, free_but_two}
+use Rattle.mt_file.specs.File.{IsFile, Touches}
+use Rattle.mt_file.specs.Plans.{IsTooFull}
+use Rattle.mt_file.proofs.Filed.{record_kind}
+use Rattle.mt_index.specs.Index.{State}
+use Rattle.mt_index.specs.Rule.{Way, Here, Chained, SplitHere, SplitChained}
+use Rattle.mt_index.specs.Maps.{Map}
+use Rattle.mt_index.specs.Pages.{state_of}
+use Rattle.mt_index.specs.Answers.{Added, Shortage}
+use Rattle.mt_steps.specs.Held.{AreRows}
+use Rattle.mt_steps.specs.Acts.{IsPlaced, IsTaken, IsKept, IsMoved}
+use Rattle.mt_steps.specs.Plans.{free_pages, IsTight, IsModest}
+
+-- ---- one step, and more
+
+-- the map stays
+pub modest_same : (at_hand : ℕ → Option (List ℕ)) (total n : ℕ) (pages pages2 : PageBytes) → pages2 0 ≡ pages 0 → IsModest at_hand total n pages pages2
+modest_same at_hand total n pages pages2 same = record {
+  kinds = λ p none. ap (λ (map : List ℕ). get_or map p 0) same;
+  takes = let free = ap (λ (map : List ℕ). free_in (mapped map total)) same in omega (arith, free);
+}
+
+pub modest_nothing : (at_hand : ℕ → Option (List ℕ)) (total n : ℕ) (pages : PageBytes) (changes : List PageChange) → changes ≡ [] → IsModest at_hand total n pages (after changes pages)
+modest_nothing at_hand total n pages changes none = modest_same at_hand total n pages (after changes pages) (ap (λ (l : List PageChange). after l pages 0) none)
+
+pub modest_trans : (at_hand : ℕ → Option (List ℕ)) (total n k : ℕ) (a b c : PageBytes) → IsModest at_hand total n a b → IsModest at_hand total k b c → IsModest at_hand total (n + k) a c
+modest_trans at_hand total n k a b c x y = record {
+  kinds = λ p none. y.kinds p none ∙ x.kinds p none;
+  takes = let first = x.takes in let second = y.takes in omega (arith, first, second);
+}
+
+pub modest_more : (at_hand : ℕ → Option (List ℕ)) (total n k : ℕ) (a b : PageBytes) → n ≤ k → IsModest at_hand total n a b → IsModest at_hand total k a b
+modest_more at_hand total n k a b le x = record { kinds = x.kinds; takes = let takes = x.takes in omega (arith, takes, le) }
+
+seen_none : (at_hand : ℕ → Option (List ℕ)) (p : ℕ) → IsSome (at_hand p) → at_hand p ≡ None → ⊥
+seen_none at_hand p some none = go (at_hand p) some none
+  where
+    go : (o : Option (List ℕ)) → IsSome o → o ≡ None → ⊥
+    go None some none = absurd (cc)
+    go (Some b) some none = cc
+
+apart : (at_hand : ℕ → Option (List ℕ)) (p q : ℕ) → IsSome (at_hand q) → at_hand p ≡ None → p ≢ q
+apart at_hand p q some none same = seen_none at_hand q some (ap at_hand (sym same) ∙ none)
+
+-- one page at hand changes its kind
+touches_modest : (at_hand : ℕ → Option (List ℕ)) (total : ℕ) (pages mid : PageBytes) (q : ℕ) → length (mid 0) ≡ length (pages 0) → Touches pages mid q → IsSome (at_hand q) → IsModest at_hand total 1 pages mid
+touches_modest at_hand total pages mid q size t some = record {
+  kinds = λ p none. t.kinds p (apart at_hand p q some none);
+  takes = free_but_one (pages 0) (mid 0) total q size (λ p ne free. t.kinds p ne ∙ free);
+}
+
+-- and it was not free
+drops_modest : (at_hand : ℕ → Option (List ℕ)) (total : ℕ) (pages mid : PageBytes) (q : ℕ) → length (mid 0) ≡ length (pages 0) → Touches pages mid q → kind pages q ≡ 3 → IsSome (at_hand q) → IsModest at_hand total 0 pages mid
+drops_modest at_hand total pages mid q size t three some = record {
+  kinds = λ p none. t.kinds p (apart at_hand p q some none);
+  takes = let fewer = free_stay (pages 0) (mid 0) total size (λ p free. t.kinds p (not_here p free) ∙ free) in omega (arith, fewer);
+}
+  where
+    not_here : (p : ℕ) → kind pages p ≡ 0 → p ≢ q
+    not_here p free same = let k : kind pages p ≡ kind pages q = ap (λ (x : ℕ). kind pages x) same in omega (arith, free, three, k)
+
+-- ---- records
+
+sizes : (pages mid : PageBytes) → IsFile pages → IsFile mid → length (mid 0) ≡ length (pages 0)
+sizes pages mid a b = b.whole ∙ sym a.whole
+
+pub placed_modest : (at_hand : ℕ → Option (List ℕ)) (relations total : ℕ) (pages : PageBytes) (m : Map) (changes : List PageChange) (name : RecordName) (row : Row) → AreRows relations total pages m → IsSome (at_hand name.page)
+    → IsPlaced total pages changes name row → IsModest at_hand total 1 pages (after changes pages)
+placed_modest at_hand relations total pages m changes name row rows seen placed =
+    touches_modest at_hand total pages (after changes pages) name.page (sizes pages (after changes pages) rows.file placed.adds.file) placed.adds.touches seen
+
+pub taken_modest : (at_hand : ℕ → Option (List ℕ)) (relations total : ℕ) (pages : PageBytes) (m : Map) (changes : List PageChange) (n : RecordName) (row : Row) → AreRows relations total pages m → IsSome (at_hand n.page)
+    → IsTaken pages changes n row → IsModest at_hand total 0 pages (after changes pages)
+taken_modest at_hand relations total pages m changes n row rows seen taken =
+    drops_modest at_hand total pages (after changes pages) n.page (sizes pages (after changes pages) rows.file taken.drops.file) taken.drops.touches (record_kind pages n.page n.slot row taken.stood) seen
+
+pub kept_modest : (at_hand : ℕ → Option (List ℕ)) (total : ℕ) (pages : PageBytes) (changes : List PageChange) (n : RecordName) (old row : Row) → kind pages 0 ≡ 1 → IsKept pages changes n old row → IsModest at_hand total 1 pages (after changes pages)
+kept_modest at_hand total pages changes n old row fixed kept =
+    let three = record_kind pages n.page n.slot old kept.stood in
+    modest_same at_hand total 1 pages (after changes pages) (kept.stays.others 0 (λ e. let k : kind pages 0 ≡ kind pages n.page = ap (λ (x : ℕ). kind pages x) e in omega (arith, fixed, three, k)))
+
+pub moved_modest : (at_hand : ℕ → Option (List ℕ)) (relations total : ℕ) (pages : PageBytes) (m : Map) (changes : List PageChange) (n to : RecordName) (old row : Row) → AreRows relations total pages m → IsSome (at_hand n.page) → IsSome (at_hand to.page)
+    → IsMoved total pages changes n to old row → IsModest at_hand total 1 pages (after changes pages)
+moved_modest at_hand relations total pages m changes n to old row rows from_seen to_seen moved =
+    let between = moved.moves.between in
+    let last = after changes pages in
+    let first = drops_modest at_hand total pages between n.page (sizes pages between rows.file moved.moves.drops.file) moved.moves.drops.touches (record_kind pages n.page n.slot old moved.stood) from_seen in
+    let second = touches_modest at_hand total between last to.page (sizes between last moved.moves.drops.file moved.moves.adds.file) moved.moves.adds.touches to_seen in
+    modest_more at_hand total (0 + 1) 1 pages last (omega arith) (modest_trans at_hand total 0 1 pages between last first second)
+
+-- ---- the index
+
+-- all pages but two keep their kind
+record AllButTwo (s t : State) : Type 0 where
+  one : ℕ
+  two : ℕ
+  others : (p : ℕ) → p ≢ one → p ≢ two → t.kind p ≡ s.kind p
+
+way_kinds : (split : Bool) (e : Entry) (s t : State) → Way split e s t → AllButTwo s t
+way_kinds split e s t (Here p first) = record { one = 0; two = 0; others = λ n a b. ap (λ (f : ℕ → ℕ). f n) first.puts.change.kind }
+way_kinds split e s t (Chained z q not_due small last) = record { one = q; two = q; others = λ n a b. last.puts.takes.others n a }
+way_kinds split e s t (SplitHere u q l p may due small halves first) = record {
+  one = q;
+  two = q;
+  others = λ n a b. ap (λ (f : ℕ → ℕ). f n) first.puts.change.kind ∙ ⊎_elim (λ (h : _). h.1.takes.others n a) (λ (h : _). h.1.takes.others n a) halves;
+}
+way_kinds split e s t (SplitChained u q l z q2 may due small halves small2 last) = record {
+  one = q;
+  two = q2;
+  others = λ n a b. last.puts.takes.others n b ∙ ⊎_elim (λ (h : _). h.1.takes.others n a) (λ (h : _). h.1.takes.others n a) halves;
+}
+
+-- all but one, where nothing splits
+record AllButOne (s t : State) : Type 0 where
+  one : ℕ
+  others : (p : ℕ) → p ≢ one → t.kind p ≡ s.kind p
+
+unsplit_kinds : (split : Bool) (e : Entry) (s t : State) → split ≡ false → Way split e s t → AllButOne s t
+unsplit_kinds split e s t whole (Here p first) = record { one = 0; others = λ n a. ap (λ (f : ℕ → ℕ). f n) first.puts.change.kind }
+unsplit_kinds split e s t whole (Chained z q not_due small last) = record { one = q; others = λ n a. last.puts.takes.others n a }
+unsplit_kinds split e s t whole (SplitHere u q l p may due small halves first) = absurd (both_ways split whole may)
+unsplit_kinds split e s t whole (SplitChained u q l z q2 may due small halves small2 last) = absurd (both_ways split whole may)
+
+added_takes : (split : Bool) (total : ℕ) (e : Entry) (mid last : PageBytes) → Added split total e mid last → free_pages total mid ≤ free_pages total last + cond split 2 1
+added_takes true total e mid last added =
+    let k = way_kinds true e (state_of mid) (state_of last) added.way in
+    free_but_two (mid 0) (last 0) total k.one k.two added.stays.size (λ p a b free. k.others p a b ∙ free)
+added_takes false total e mid last added =
+    let k = unsplit_kinds false e (state_of mid) (state_of last) refl added.way in
+    free_but_one (mid 0) (last 0) total k.one added.stays.size (λ p a free. k.others p a ∙ free)
+
+-- with the page of the record
+pub insert_needs : (split : Bool) → 1 + cond split 2 1 ≤ cond split 3 2
+insert_needs true = omega arith
+insert_needs false = omega arith
+
+pub added_modest : (at_hand : ℕ → Option (List ℕ)) (split : Bool) (total : ℕ) (e : Entry) (mid last : PageBytes) → ((p : ℕ) → kind mid p ≡ 0 → kind last p ≢ 0 → IsSome (at_hand p)) → Added split total e mid last → IsModest at_hand total (cond split 2 1) mid last
+added_modest at_hand split total e mid last seen added =
+    record {
+      kinds = λ p none. ⊎_elim
+          (λ (free : kind mid p ≡ 0). ⊎_elim
+          (λ (still : kind last p ≡ 0). still ∙ sym free)
+          (λ (some : kind last p ≢ 0). absurd (seen_none at_hand p (seen p free some) none))
+          (cases_eq (kind last p) 0))
+          (λ (some : kind mid p ≢ 0). added.stays.kinds p some)
+          (cases_eq (kind mid p) 0);
+      takes = added_takes split total e mid last added;
+    }
+
+pub amended_modest : (at_hand : ℕ → Option (List ℕ)) (total : ℕ) (mid last : PageBytes) → kind mid 0 ≡ 1 → ((p : ℕ) → kind mid p ≢ 2 → last p ≡ mid p) → IsModest at_hand total 0 mid last
+amended_modest at_hand total mid last space others = modest_same at_hand total 0 mid last (others 0 (λ two. let k : kind mid 0 ≡ 2 = two in omega (arith, space, k)))
+
+-- ---- too few pages
+
+-- no page is free, or the named one is too full
+pub too_full : (room : Option ℕ) (total bytes : ℕ) (pages : PageBytes) → IsTooFull room total pages bytes → (free_pages total pages ≡ 0) ⊎ IsTight room pages bytes
+too_full (Some q) total bytes pages full = inr (q, refl, full)
+too_full None total bytes pages full = inl (none_free (mapped (pages 0) total) (λ p lt. full p))
+
+-- the index finds one at most
+pub shortage_few : (split : Bool) (total : ℕ) (e : Entry) (pages : PageBytes) → length (pages 0) ≡ 4096 → total ≤ 4096 → Shortage split total e pages → free_pages total pages ≤ 1
+shortage_few split total e pages whole few short = ⊎_elim
+    (λ none. let zero = none_mapped (pages 0) total whole few none in omega (arith, zero))
+    (λ rest.
+    let one = rest.1.1.0.1 in
+    let within = one.within in
+    one_mapped (pages 0) total rest.1.1.0.0 whole few (omega (arith, within, few)) one.others)
+    short.free

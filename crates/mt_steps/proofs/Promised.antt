@@ -1,0 +1,170 @@
+-- An act on rows and counters is what a plan promises.
+use Rattle.std.proofs.Common.{◌≡◌, ◌<◌, ◌≤◌, ◌+◌, ◌⊎◌, Bool, true, false, cond, arith, ℕ, List, [], Result, Ok, Err, IfOk, Option, None, Some, refl, sym, ◌∙◌, ap, subst}
+use Rattle.mt_base.specs.declared.numbers.RecordName.{RecordName}
+use Rattle.mt_slots.specs.Page.{Row}
+use Rattle.mt_pool.specs.declared.changes.PageChange.{PageChange}
+use Rattle.mt_pool.specs.Changes.{PageBytes, after, AreShort}
+use Rattle.mt_file.specs.File.{record_in}
+use Rattle.mt_index.specs.Maps.{Map}
+use Rattle.mt_model.specs.declared.operations.Op.{Op}
+use Rattle.mt_model.specs.declared.operations.Reply.{Reply}
+use Rattle.mt_model.specs.Model.{Base}
+use Rattle.mt_steps.specs.Counters.{count_in, AreCounters}
+use Rattle.mt_steps.specs.Held.{Holds, IsThere, AreRows}
+use Rattle.mt_steps.specs.declared.act.Act.{Act}
+use Rattle.mt_steps.specs.declared.act.Act.TheVariants as act
+use Rattle.mt_steps.specs.Acts.{IfMade, IfFull, InGood, InRoomy, IsAct}
+use Rattle.mt_steps.specs.Logged.{HasSmallReply, HasSmallValues}
+use Rattle.mt_steps.specs.Plans.{IsGood, InPages, IsPlanned, IsModest, IsTight, free_pages, own_needs, record_bytes}
+use Rattle.mt_steps.proofs.Entering.{made_weaker}
+use Rattle.mt_steps.proofs.Modest.{modest_nothing, modest_more}
+use Rattle.mt_steps.proofs.Small.{small_reply}
+
+-- ---- the base that good pages hold
+
+value_in : Option Row → Option (List ℕ)
+value_in None = None
+value_in (Some row) = Some row.value
+
+row_named : PageBytes → Option RecordName → Option Row
+row_named pages None = None
+row_named pages (Some n) = record_in pages n.page n.slot
+
+base_in : PageBytes → Map → Base
+base_in pages m = record { rows = λ r k. value_in (row_named pages (m r k)); counts = λ c. count_in (pages 2) c }
+
+base_held : (relations total : ℕ) (pages : PageBytes) (m : Map) → AreRows relations total pages m → Holds pages (base_in pages m)
+unfolding base_in value_in row_named
+base_held relations total pages m rows = record {
+  rows = record {
+    found = λ r k v is. found r k v (m r k) refl is;
+    there = λ r k v at. ap (λ (o : Option RecordName). value_in (row_named pages o)) (rows.named.named at.0 at.1 (record { relation = r; key = k; value = v }) at.2) ∙ ap value_in at.2;
+  };
+  counts = λ c lt. refl;
+}
+  where
+    same : (v w : List ℕ) → Some v ≡ Some w → v ≡ w
+    same v w e = cc
+
+    found : (r : ℕ) (k v : List ℕ) (o : Option RecordName) → m r k ≡ o → value_in (row_named pages o) ≡ Some v → IsThere pages r k v
+    found r k v None at is = absurd (cc)
+    found r k v (Some n) at is =
+        let t = rows.named.names r k n at in
+        (n.page, n.slot, t.1 ∙ ap (λ (w : List ℕ). Some (record { relation = r; key = k; value = w })) (same t.0 v (sym (ap value_in t.1) ∙ is)))
+
+small_held : (relations total : ℕ) (pages : PageBytes) (m : Map) (b : Base) → AreRows relations total pages m → Holds pages b → HasSmallValues b
+small_held relations total pages m b rows held r k v is =
+    let t = held.rows.found r k v is in
+    (rows.within t.0 t.1 (record { relation = r; key = k; value = v }) t.2).value
+
+-- so no reply has a larger value than any may have
+pub act_small : (relations total : ℕ) (pages pages2 : PageBytes) (m : Map) (op : Op) (reply : Reply) → AreRows relations total pages m → IsAct relations total pages pages2 op reply → HasSmallReply reply
+act_small relations total pages pages2 m op reply rows act =
+    let b = base_in pages m in
+    let held = base_held relations total pages m rows in
+    subst HasSmallReply (act.replies b held) (small_reply b op (small_held relations total pages m b rows held))
+
+-- ---- what is promised
+
+pub planned : (relations counters total : ℕ) (at_hand : ℕ → Option (List ℕ)) (pages : PageBytes) (changes : List PageChange) (op : Op) (reply : Reply) → IsGood relations counters total pages → IsAct relations total pages (after changes pages) op reply → AreShort changes pages
+    → IsModest at_hand total (own_needs op) pages (after changes pages) → IsPlanned relations counters total at_hand pages changes op reply
+planned relations counters total at_hand pages changes op reply good act short modest = record {
+  replies = act.replies;
+  base = act.base;
+  good = record { meaning = act.meaning; rows = act.good; counts = act.counters counters good.counts };
+  short = short;
+  kinds = modest.kinds;
+  takes = modest.takes;
+  small = act_small relations total pages (after changes pages) good.meaning op reply good.rows act;
+}
+
+-- of an operation that may put a record, of another on rows, and of one on a counter
+abbrev Promises : ℕ → ℕ → ℕ → (ℕ → Option (List ℕ)) → Option ℕ → Op → Act → Type 0
+Promises relations counters total at_hand room op act = IfMade act (λ changes reply. InPages at_hand room relations counters total (λ pages. IsPlanned relations counters total at_hand pages changes op reply))
+
+made_both : (act : Act) (P Q R : List PageChange → Reply → Type 0) → ((changes : List PageChange) (reply : Reply) → P changes reply → Q changes reply → R changes reply) → IfMade act P → IfMade act Q → IfMade act R
+made_both (act.Lock p mode) P Q R f p_told q_told = tt
+made_both (act.Made changes reply) P Q R f p_told q_told = f changes.list.items reply p_told q_told
+made_both act.Full P Q R f p_told q_told = tt
+made_both act.Broken P Q R f p_told q_told = tt
+
+-- both of what is known of a result
+pub ok_both : {E : Type 0} (r : Result Act E) (P Q R : Act → Type 0) → ((act : Act) → P act → Q act → R act) → IfOk r P → IfOk r Q → IfOk r R
+ok_both (Ok act) P Q R f p_told q_told = f act p_told q_told
+ok_both (Err e) P Q R f p_told q_told = tt
+
+pub rows_planned : (relations counters total : ℕ) (at_hand : ℕ → Option (List ℕ)) (room : Option ℕ) (op op2 : Op) (act : Act) → op ≡ op2
+    → IfMade act (λ changes reply. InRoomy at_hand room relations total (λ pages m. IsAct relations total pages (after changes pages) op reply × AreShort changes pages))
+    → IfMade act (λ changes reply. InRoomy at_hand room relations total (λ pages m. IsModest at_hand total (own_needs op) pages (after changes pages))) → Promises relations counters total at_hand room op2 act
+rows_planned relations counters total at_hand room op op2 act same acts modest = subst (λ (o : Op). Promises relations counters total at_hand room o act) same
+    (made_both act _ _ _ (λ changes reply acts modest pages agrees good named.
+    let done = acts pages agrees good.meaning good.rows named in
+    planned relations counters total at_hand pages changes op reply good done.0 done.1 (modest pages agrees good.meaning good.rows named)) acts modest)
+
+pub good_planned : (relations counters total : ℕ) (at_hand : ℕ → Option (List ℕ)) (room : Option ℕ) (op op2 : Op) (act : Act) → op ≡ op2
+    → IfMade act (λ changes reply. InGood at_hand relations total (λ pages m. IsAct relations total pages (after changes pages) op reply × AreShort changes pages))
+    → IfMade act (λ changes reply. InGood at_hand relations total (λ pages m. IsModest at_hand total (own_needs op) pages (after changes pages))) → Promises relations counters total at_hand room op2 act
+good_planned relations counters total at_hand room op op2 act same acts modest =
+    rows_planned relations counters total at_hand room op op2 act same (made_weaker act _ _ (λ changes reply told pages agrees m rows named. told pages agrees m rows) acts) (made_weaker act _ _ (λ changes reply told pages agrees m rows named. told pages agrees m rows) modest)
+
+pub quiet_planned : (relations counters total : ℕ) (at_hand : ℕ → Option (List ℕ)) (room : Option ℕ) (op op2 : Op) (act : Act) → op ≡ op2
+    → IfMade act (λ changes reply. InGood at_hand relations total (λ pages m. IsAct relations total pages (after changes pages) op reply × AreShort changes pages)) → IfMade act (λ changes reply. changes ≡ []) → Promises relations counters total at_hand room op2 act
+quiet_planned relations counters total at_hand room op op2 act same acts quiet =
+    good_planned relations counters total at_hand room op op2 act same acts (made_weaker act _ _ (λ changes reply none pages agrees m rows. modest_nothing at_hand total (own_needs op) pages changes none) quiet)
+
+pub counts_planned : (relations counters total number : ℕ) (at_hand : ℕ → Option (List ℕ)) (room : Option ℕ) (op op2 : Op) (act : Act) → op ≡ op2 → number < counters
+    → IfMade act (λ changes reply. InGood at_hand relations total (λ pages m. (counters : ℕ) → number < counters → AreCounters relations counters (pages 2) → IsAct relations total pages (after changes pages) op reply × AreShort changes pages))
+    → IfMade act (λ changes reply. InGood at_hand relations total (λ pages m. IsModest at_hand total (own_needs op) pages (after changes pages)))
+    → Promises relations counters total at_hand room op2 act
+counts_planned relations counters total number at_hand room op op2 act same there acts modest = subst (λ (o : Op). Promises relations counters total at_hand room o act) same
+    (made_both act _ _ _ (λ changes reply acts modest pages agrees good named.
+    let done = acts pages agrees good.meaning good.rows counters there good.counts in
+    planned relations counters total at_hand pages changes op reply good done.0 done.1 (modest pages agrees good.meaning good.rows)) acts modest)
+
+-- ---- too little room
+
+pub full_weaker : (act : Act) (P Q : Type 0) → (P → Q) → IfFull act P → IfFull act Q
+full_weaker (act.Lock p mode) P Q f told = told
+full_weaker (act.Made changes reply) P Q f told = told
+full_weaker act.Full P Q f told = f told
+full_weaker act.Broken P Q f told = told
+
+pub rows_full : (relations counters total : ℕ) (at_hand : ℕ → Option (List ℕ)) (room : Option ℕ) (op op2 : Op) (act : Act) → op ≡ op2
+    → IfFull act (InRoomy at_hand room relations total (λ pages m. (free_pages total pages < own_needs op) ⊎ IsTight room pages (record_bytes op)))
+    → IfFull act (InPages at_hand room relations counters total (λ pages. (free_pages total pages < own_needs op2) ⊎ IsTight room pages (record_bytes op2)))
+rows_full relations counters total at_hand room op op2 act same told =
+    subst (λ (o : Op). IfFull act (InPages at_hand room relations counters total (λ pages. (free_pages total pages < own_needs o) ⊎ IsTight room pages (record_bytes o)))) same
+    (full_weaker act _ _ (λ full pages agrees good named. full pages agrees good.meaning good.rows named) told)
+
+pub never_full : (act : Act) (P : Type 0) → IfFull act ⊥ → IfFull act P
+never_full act P told = full_weaker act ⊥ P (λ no_. absurd no_) told
+
+-- ---- without a split
+
+-- a split takes a page more
+pub insert_modest : (split : Bool) (relations total : ℕ) (at_hand : ℕ → Option (List ℕ)) (room : Option ℕ) (act : Act)
+    → IfMade act (λ changes reply. InRoomy at_hand room relations total (λ pages m. IsModest at_hand total (cond split 3 2) pages (after changes pages)))
+    → IfMade act (λ changes reply. InRoomy at_hand room relations total (λ pages m. IsModest at_hand total 3 pages (after changes pages)))
+insert_modest split relations total at_hand room act told = made_weaker act _ _ (λ changes reply modest pages agrees m rows named.
+    modest_more at_hand total (cond split 3 2) 3 pages (after changes pages) (three split) (modest pages agrees m rows named)) told
+  where
+    three : (b : Bool) → cond b 3 2 ≤ 3
+    three true = omega arith
+    three false = omega arith
+
+abbrev TakesTwo : ℕ → ℕ → ℕ → (ℕ → Option (List ℕ)) → Option ℕ → Act → Type 0
+TakesTwo relations counters total at_hand room act = IfMade act (λ changes reply. InPages at_hand room relations counters total (λ pages. free_pages total pages ≤ free_pages total (after changes pages) + 2))
+
+pub rows_take : (relations counters total n : ℕ) (at_hand : ℕ → Option (List ℕ)) (room : Option ℕ) (act : Act) → n ≤ 2
+    → IfMade act (λ changes reply. InRoomy at_hand room relations total (λ pages m. IsModest at_hand total n pages (after changes pages))) → TakesTwo relations counters total at_hand room act
+rows_take relations counters total n at_hand room act le told = made_weaker act _ _ (λ changes reply modest pages agrees good named.
+    let takes = (modest pages agrees good.meaning good.rows named).takes in omega (arith, takes, le)) told
+
+pub good_take : (relations counters total : ℕ) (at_hand : ℕ → Option (List ℕ)) (room : Option ℕ) (act : Act)
+    → IfMade act (λ changes reply. InGood at_hand relations total (λ pages m. IsModest at_hand total 0 pages (after changes pages))) → TakesTwo relations counters total at_hand room act
+good_take relations counters total at_hand room act told = made_weaker act _ _ (λ changes reply modest pages agrees good named.
+    let takes = (modest pages agrees good.meaning good.rows).takes in omega (arith, takes)) told
+
+pub quiet_take : (relations counters total : ℕ) (at_hand : ℕ → Option (List ℕ)) (room : Option ℕ) (act : Act) → IfMade act (λ changes reply. changes ≡ []) → TakesTwo relations counters total at_hand room act
+quiet_take relations counters total at_hand room act told = made_weaker act _ _ (λ changes reply none pages agrees good named.
+    let takes = (modest_nothing at_hand total 0 pages changes none).takes in omega (arith, takes)) told

@@ -1,0 +1,72 @@
+-- What the plan of any operation promises.
+use Rattle.std.specs.Prelude.{◌≡◌, ℕ, ◌+◌, ◌<◌, ◌≤◌, List, Option, Some, None}
+use Rattle.mt_slots.specs.Page.{row_length}
+use Rattle.mt_pool.specs.Changes.{PageBytes, Agrees, after, AreShort}
+use Rattle.mt_pool.specs.declared.changes.PageChange.{PageChange}
+use Rattle.mt_space.specs.Kinds.{kind}
+use Rattle.mt_space.specs.Rooms.{mapped, free_in}
+use Rattle.mt_file.specs.Plans.{IsNamed}
+use Rattle.mt_file.specs.Rooms.{fits_of}
+use Rattle.mt_index.specs.Maps.{Map}
+use Rattle.mt_model.specs.declared.operations.Op.{Op}
+use Rattle.mt_model.specs.declared.operations.Op.TheVariants.{Get, Insert, Update, Read}
+use Rattle.mt_model.specs.declared.operations.Reply.{Reply}
+use Rattle.mt_model.specs.Model.{Base, reply_of, base_after}
+use Rattle.mt_steps.specs.Counters.{AreCounters}
+use Rattle.mt_steps.specs.Held.{Holds, AreRows}
+use Rattle.mt_steps.specs.Logged.{HasSmallReply}
+
+-- pages of a schema of so many relations, counters and pages that break no rule of their formats
+pub record IsGood (relations counters total : ℕ) (pages : PageBytes) : Type 0 where
+  pub meaning : Map
+  pub rows : AreRows relations total pages meaning
+  pub counts : AreCounters relations counters (pages 2)
+
+-- how many pages are free
+abbrev pub free_pages : ℕ → PageBytes → ℕ
+free_pages total pages = free_in (mapped (pages 0) total)
+
+-- an operation that only reads
+abbrev pub IsReading : Op → Type 0
+IsReading (Get r k) = Unit {0}
+IsReading (Read c) = Unit {0}
+IsReading _ = ⊥
+
+-- free pages that an operation may take for itself
+abbrev pub own_needs : Op → ℕ
+own_needs (Insert r k v) = 3
+own_needs (Update r k v) = 1
+own_needs _ = 0
+
+-- the bytes of the record that an operation puts
+abbrev pub record_bytes : Op → ℕ
+record_bytes (Insert r k v) = row_length (record { relation = r; key = k; value = v })
+record_bytes (Update r k v) = row_length (record { relation = r; key = k; value = v })
+record_bytes _ = 0
+
+-- the page that is named does not take so many bytes
+abbrev pub IsTight : Option ℕ → PageBytes → ℕ → Type 0
+IsTight room pages bytes = (p : ℕ) × (room ≡ Some p) × (fits_of (pages p) < bytes)
+
+-- some good pages agree with what is at hand, in which the named page, if one is, holds records; and all such
+abbrev pub HasPages : (ℕ → Option (List ℕ)) → Option ℕ → ℕ → ℕ → ℕ → Type 0
+HasPages at_hand room relations counters total = (pages : PageBytes) × Agrees at_hand pages × IsGood relations counters total pages × IsNamed room pages
+
+abbrev pub InPages : (ℕ → Option (List ℕ)) → Option ℕ → ℕ → ℕ → ℕ → (PageBytes → Type 0) → Type 0
+InPages at_hand room relations counters total P = (pages : PageBytes) → Agrees at_hand pages → IsGood relations counters total pages → IsNamed room pages → P pages
+
+-- a page that is not at hand keeps its kind, and at most so many free pages are taken
+pub record IsModest (at_hand : ℕ → Option (List ℕ)) (total needs : ℕ) (pages pages2 : PageBytes) : Type 0 where
+  pub kinds : (p : ℕ) → at_hand p ≡ None → kind pages2 p ≡ kind pages p
+  pub takes : free_pages total pages ≤ free_pages total pages2 + needs
+
+-- What an operation's changes do to pages on which they were planned: whatever base these hold, the reply is the
+-- model's there, and once the changes are made they hold the base that the model leaves, and are as good as before.
+pub record IsPlanned (relations counters total : ℕ) (at_hand : ℕ → Option (List ℕ)) (pages : PageBytes) (changes : List PageChange) (op : Op) (reply : Reply) : Type 0 where
+  pub replies : (b : Base) → Holds pages b → reply_of b op ≡ reply
+  pub base : (b : Base) → Holds pages b → Holds (after changes pages) (base_after b op)
+  pub good : IsGood relations counters total (after changes pages)
+  pub short : AreShort changes pages
+  pub kinds : (p : ℕ) → at_hand p ≡ None → kind (after changes pages) p ≡ kind pages p
+  pub takes : free_pages total pages ≤ free_pages total (after changes pages) + own_needs op
+  pub small : HasSmallReply reply

@@ -1,0 +1,79 @@
+// Pages of which only copies are at hand.
+ghost use Rattle.std.specs.Prelude.{◌≡◌, ◌<◌, ◌++◌, ◌∷◌, [], OnOk};
+ghost use Rattle.std.specs.Vec.{vec_len, vec_capacity};
+ghost use Rattle.mt_steps.specs.declared.draft.PageCopy.{PageCopy};
+
+use crate::draft::{PageCopy, copy_of};
+use mt_base::PageNo;
+use mt_pool::Pages;
+use std::alloc::{AllocError, Global};
+
+/// Copies of some of a device's pages, those that an operation has looked at: no other page is at hand.
+#[derive(Drop)]
+pub struct Copies {
+    total: u16,
+    list: Vec<PageCopy>,
+}
+
+impl Copies {
+    /// No copy yet, of a device of so many pages.
+    pub fn new(alloc: Global, total: u16) -> Copies
+        ensures total { result.total ≡ total }
+        ensures none { result.list.items ≡ [] }
+    {
+        Copies {
+            total,
+            list: Vec::new(alloc),
+        }
+    }
+
+    /// Makes room for one copy more. The only error is want of memory.
+    pub fn reserve(&mut self) -> Result<(), AllocError>
+        ensures total { self.new.total ≡ self.old.total }
+        ensures same { self.new.list.items ≡ self.old.list.items }
+        ensures room { OnOk result (vec_len self.new.list < vec_capacity self.new.list) }
+    {
+        self.list.reserve(1)
+    }
+
+    /// Puts a page's bytes behind the other copies, in the room that was made for them.
+    pub fn put(&mut self, page: PageNo, bytes: &[u8; 4096])
+        requires room { vec_len self.old.list < vec_capacity self.old.list }
+        ensures total { self.new.total ≡ self.old.total }
+        ensures put { self.new.list.items ≡ self.old.list.items ++ record { page = page; bytes = bytes.now } ∷ [] }
+    {
+        self.list.push_reserved(PageCopy {
+            page,
+            bytes: *bytes,
+        });
+    }
+
+    /// Forgets all copies.
+    pub fn clear(&mut self)
+        ensures total { self.new.total ≡ self.old.total }
+        ensures none { self.new.list.items ≡ [] }
+    {
+        self.list.clear();
+    }
+}
+
+impl Pages for Copies {
+    ghost use Rattle.std.specs.Prelude.{◌≡◌, ℕ, List, length, Some};
+    ghost use Rattle.mt_steps.specs.Drafts.{copied};
+
+    ghost is_sound = { λ copies. (p : ℕ) (bytes : List ℕ) → copied copies.list.items p ≡ Some bytes → length bytes ≡ 4096 };
+
+    ghost total = { λ copies. copies.total };
+
+    ghost at_hand = { λ copies. copied copies.list.items };
+
+    ghost whole = { λ copies sound. sound };
+
+    fn count(&self) -> u16 {
+        self.total
+    }
+
+    fn page(&self, page: PageNo) -> Option<&[u8; 4096]> {
+        copy_of(self.list.as_slice(), page)
+    }
+}

@@ -1,0 +1,67 @@
+// What is logged of an operation.
+ghost use Rattle.std.specs.Prelude.{◌≡◌, ◌≤◌, ℕ, IfOk, IfErr, IfSome, is_some};
+ghost use Rattle.mt_base.specs.declared.refusal.Refusal.{Refusal};
+ghost use Rattle.mt_frame.specs.Grammar.{IsOperation};
+ghost use Rattle.mt_model.specs.Model.{inverse_of, IsWithin};
+ghost use Rattle.mt_steps.specs.Logged.{logged_of, HasSmallReply};
+
+use mt_base::Refusal;
+use mt_frame::LoggedOp;
+use mt_model::{Op, Reply};
+
+/// Whether an operation that replied this did anything.
+pub fn has_effect(op: &Op, reply: &Reply) -> bool
+    ensures { result ≡ is_some (inverse_of op.now reply.now) }
+{
+    match (op, reply) {
+        (Op::Insert(_, _, _), Reply::Done) => true,
+        (Op::Update(_, _, _), Reply::Was(_)) => true,
+        (Op::Delete(_, _), Reply::Was(_)) => true,
+        (Op::Add(_, _), Reply::Done) => true,
+        _ => false,
+    }
+}
+
+/// What is logged of an operation that replied this: nothing where it did nothing.
+pub fn logged(op: &Op, reply: &Reply) -> Result<Option<LoggedOp>, Refusal>
+    ensures logged { IfOk result (λ done. done ≡ logged_of op.now reply.now) }
+    ensures operation { (relations counters : ℕ) → relations ≤ 64 → counters ≤ 128 → IsWithin relations counters op.now → HasSmallReply reply.now → IfOk result (λ done. IfSome done IsOperation) }
+    ensures only_memory { IfErr result (λ why. why ≡ Refusal.NoMemory) }
+{
+    match (op, reply) {
+        (Op::Insert(relation, key, value), Reply::Done) => {
+            let key = key.try_clone()?;
+            let value = value.try_clone()?;
+            Ok(Some(LoggedOp::Insert {
+                relation: *relation,
+                key,
+                value,
+            }))
+        }
+        (Op::Update(relation, key, value), Reply::Was(old)) => {
+            let key = key.try_clone()?;
+            let value = value.try_clone()?;
+            let old = old.try_clone()?;
+            Ok(Some(LoggedOp::Update {
+                relation: *relation,
+                key,
+                value,
+                old,
+            }))
+        }
+        (Op::Delete(relation, key), Reply::Was(old)) => {
+            let key = key.try_clone()?;
+            let old = old.try_clone()?;
+            Ok(Some(LoggedOp::Delete {
+                relation: *relation,
+                key,
+                old,
+            }))
+        }
+        (Op::Add(counter, step), Reply::Done) => Ok(Some(LoggedOp::Add {
+            counter: *counter,
+            step: *step,
+        })),
+        _ => Ok(None),
+    }
+}

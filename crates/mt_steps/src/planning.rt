@@ -1,0 +1,78 @@
+// Any operation.
+ghost use Rattle.std.specs.Prelude.{◌≡◌, ◌⊎◌, ◌<◌, ◌≤◌, ◌+◌, ℕ, [], length, None, false, IfOk};
+ghost use Rattle.mt_pool.specs.Changes.{after};
+ghost use Rattle.mt_base.specs.declared.modes.Mode.TheVariants.{Read as ToRead};
+ghost use Rattle.mt_model.specs.Model.{IsWithin};
+ghost use Rattle.mt_steps.specs.Drafts.{AreAtHand};
+ghost use Rattle.mt_steps.specs.Acts.{IfLock, IfMade, IfFull, IfBroken};
+ghost use Rattle.mt_steps.specs.Plans.{free_pages, own_needs, record_bytes, IsReading, IsTight, HasPages, InPages, IsPlanned};
+ghost use Rattle.mt_steps.specs.Logged.{logged_of};
+
+use crate::act::Act;
+use crate::counting::{add_to, read_from};
+use crate::deleting::delete;
+use crate::getting::get;
+use crate::inserting::insert;
+use crate::updating::update;
+use mt_base::PageNo;
+use mt_model::Op;
+use mt_pool::Pages;
+use std::alloc::{AllocError, Global};
+
+/// Plans an operation over the pages at hand: [`Act::Lock`] names a page that is not at hand and has to be locked
+/// and shown first; then the plan is made anew. [`Act::Made`] says what changes, in pages that are all at hand, and
+/// the operation's reply; an operation that only reads changes nothing, and asks for no page but for read; one that
+/// is not logged changes nothing. [`Act::Full`] says that the operation cannot be done without more free pages, or
+/// without another page for its record than `room`. Of pages that break no rule it is never told that they do
+/// ([`Act::Broken`]).
+///
+/// A record goes into the page `room`, which holds records, or into a new page where none is named. An insert splits
+/// a bucket of the index at most where `split` is set; where it is not, no operation takes more than two free pages.
+/// The only error is want of memory, and there is no plan then.
+pub fn plan<V: Pages>(
+    alloc: Global,
+    views: &V,
+    room: Option<PageNo>,
+    op: &Op,
+    split: bool,
+) -> Result<Act, AllocError>
+    requires sound { V.is_sound views.now }
+    requires good { (relations : ℕ) × (counters : ℕ) × HasPages (V.at_hand views.now) room relations counters (V.total views.now) × IsWithin relations counters op.now × (relations ≤ 64) }
+    ensures lock { IfOk result (λ act. IfLock act (λ p mode. (V.at_hand views.now p ≡ None) × (p < V.total views.now))) }
+    ensures mode { IsReading op.now → IfOk result (λ act. IfLock act (λ p mode. mode ≡ ToRead)) }
+    ensures made { (relations counters : ℕ) → relations ≤ 64 → IsWithin relations counters op.now → IfOk result (λ act. IfMade act (λ changes reply.
+        InPages (V.at_hand views.now) room relations counters (V.total views.now) (λ pages. IsPlanned relations counters (V.total views.now) (V.at_hand views.now) pages changes op.now reply))) }
+    ensures there { IfOk result (λ act. IfMade act (λ changes reply. AreAtHand (V.at_hand views.now) changes)) }
+    ensures few { IfOk result (λ act. IfMade act (λ changes reply. length changes ≤ 8)) }
+    ensures quiet { IsReading op.now → IfOk result (λ act. IfMade act (λ changes reply. changes ≡ [])) }
+    ensures idle { IfOk result (λ act. IfMade act (λ changes reply. logged_of op.now reply ≡ None → changes ≡ [])) }
+    ensures whole { split ≡ false → (relations counters : ℕ) → relations ≤ 64 → IsWithin relations counters op.now → IfOk result (λ act. IfMade act (λ changes reply.
+        InPages (V.at_hand views.now) room relations counters (V.total views.now) (λ pages. free_pages (V.total views.now) pages ≤ free_pages (V.total views.now) (after changes pages) + 2))) }
+    ensures full { (relations counters : ℕ) → relations ≤ 64 → IsWithin relations counters op.now → IfOk result (λ act. IfFull act (
+        InPages (V.at_hand views.now) room relations counters (V.total views.now) (λ pages. (free_pages (V.total views.now) pages < own_needs op.now) ⊎ IsTight room pages (record_bytes op.now)))) }
+    ensures broken { IfOk result (λ act. IfBroken act ⊥) }
+{
+    match op {
+        Op::Get(relation, key) => get(alloc, views, *relation, key.as_slice()),
+        Op::Insert(relation, key, value) => insert(
+            alloc,
+            views,
+            room,
+            *relation,
+            key.as_slice(),
+            value.as_slice(),
+            split,
+        ),
+        Op::Update(relation, key, value) => update(
+            alloc,
+            views,
+            room,
+            *relation,
+            key.as_slice(),
+            value.as_slice(),
+        ),
+        Op::Delete(relation, key) => delete(alloc, views, *relation, key.as_slice()),
+        Op::Add(counter, step) => add_to(alloc, views, *counter, *step),
+        Op::Read(counter) => Ok(read_from(alloc, views, *counter)),
+    }
+}

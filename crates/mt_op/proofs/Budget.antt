@@ -1,0 +1,41 @@
+-- Log bytes: what is kept for an operation is enough, and stays so.
+use Rattle.std.proofs.Common.{◌≡◌, ℕ, ◌+◌, ◌-◌, ◌*◌, ◌<◌, ◌≤◌, length, sym, ap, ◌∙◌, subst, if◌then◌else◌, arith}
+use Rattle.mt_log.specs.Words.{area_size}
+use Rattle.mt_log.specs.declared.log.Log.{Log}
+use Rattle.mt_model.specs.declared.operations.Op.{Op}
+use Rattle.mt_op.specs.World.{changes_in}
+use Rattle.mt_op.specs.Operations.{only_reads, end_bytes, needs, HasBudget}
+use Rattle.mt_op.specs.declared.scope.OpScope.{OpScope}
+use Rattle.mt_op.specs.declared.scope.Stage.{Stage}
+use Rattle.mt_op.specs.declared.scope.Stage.TheVariants.{Writing}
+
+-- an area has at most 64 MiB
+pub area_small : (log : Log) → area_size log ≤ 67108864
+unfolding area_size
+area_small log = let most = log.place.not_too_many in omega arith
+
+-- ---- an operation that writes
+
+-- 12,317 bytes for each page not yet written, and its end
+writing_needs : (s : OpScope) → s.stage ≡ Writing → HasBudget s → 12317 * (length (changes_in s) - s.written) + end_bytes s ≤ s.left
+writing_needs s stage k = subst (λ (g : Stage). needs s g ≤ s.left) stage k.enough
+
+-- a page more fits
+pub write_fits : (s : OpScope) (used area size : ℕ) → s.stage ≡ Writing → HasBudget s → s.written < length (changes_in s) → used + s.left < area → size ≤ 29 + 2 * 4096 → used + size + 4096 < area
+write_fits s used area size stage k more room short = let needed = writing_needs s stage k in omega arith
+
+-- it takes no more than is left
+pub write_within : (s : OpScope) (before used size : ℕ) → s.stage ≡ Writing → HasBudget s → s.written < length (changes_in s) → size ≤ 29 + 2 * 4096 → used ≤ before + size + 4096 → used ≤ s.left + before
+write_within s before used size stage k more short grown = let needed = writing_needs s stage k in omega arith
+
+-- once it is written, what is left is enough still
+pub write_left : (s t : OpScope) (before used size : ℕ) → s.stage ≡ Writing → HasBudget s → s.written < length (changes_in s) → size ≤ 29 + 2 * 4096 → used ≤ before + size + 4096
+    → t.op ≡ s.op → t.changes ≡ s.changes → t.stage ≡ Writing → t.written ≡ s.written + 1 → t.left ≡ s.left + before - used → HasBudget t
+write_left s t before used size stage k more short grown op changes is_writing written left = record {
+  enough = subst (λ (g : Stage). needs t g ≤ t.left) (sym is_writing)
+      (let needed = writing_needs s stage k in
+      let count : length (changes_in t) ≡ length (changes_in s) = ap (λ cs. length cs.list.items) changes in
+      let ending : end_bytes t ≡ end_bytes s = ap (λ (o : Op). if only_reads o then 0 else 2149) op in
+      let goal : 12317 * (length (changes_in t) - t.written) + end_bytes t ≤ t.left = omega arith in goal);
+  reads = λ is. ap (λ cs. cs.list.items) changes ∙ k.reads (sym (ap only_reads op) ∙ is);
+}

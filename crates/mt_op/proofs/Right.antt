@@ -1,0 +1,39 @@
+-- What holds of all operations together, kept where the pages held stay.
+use Rattle.std.proofs.Common.{◌≡◌, ◌<◌, ℕ, List, length, refl, sym, ◌∙◌, ap}
+use Rattle.mt_log.specs.Words.{appended}
+use Rattle.mt_pool.specs.declared.store.Store.{Store}
+use Rattle.mt_pool.specs.Changes.{PageBytes}
+use Rattle.mt_pool.specs.Kept.{IsKept}
+use Rattle.mt_pool.specs.Views.{view, pages}
+use Rattle.mt_op.specs.World.{held_in, IsWorld}
+use Rattle.mt_op.specs.Moves.{Rests}
+use Rattle.mt_op.specs.Operations.{world, IsRight}
+use Rattle.mt_op.specs.declared.operations.Operations.{Operations}
+use Rattle.mt_op.proofs.Staying.{world_rests, rests_held}
+
+pub right_held : {D : Type 0} (seen : D → List ℕ) (may_leave : D → List ℕ → Type 0) (opening : PageBytes) (relations counters : ℕ) (o n : Operations D)
+    → IsRight seen may_leave opening relations counters o → IsKept seen may_leave opening n.store → IsWorld relations counters (world seen opening n)
+    → held_in (world seen opening n) ≡ held_in (world seen opening o) → n.map ≡ o.map → n.rooms ≡ o.rooms → pages n.store.pool ≡ pages o.store.pool
+    → IsRight seen may_leave opening relations counters n
+right_held seen may_leave opening relations counters o n k kept sound held map rooms total = record {
+  kept = kept;
+  sound = sound;
+  map = map ∙ k.map ∙ ap (λ (h : PageBytes). h 0) (sym held);
+  rooms = ap (λ r. length r.0) rooms ∙ k.rooms ∙ sym total;
+}
+
+-- nothing but what is in frames has changed
+pub right_rests : {D : Type 0} (seen : D → List ℕ) (may_leave : D → List ℕ → Type 0) (opening : PageBytes) (relations counters : ℕ) (o n : Operations D)
+    → IsRight seen may_leave opening relations counters o → IsKept seen may_leave opening n.store → Rests (world seen opening o) (world seen opening n) → n.map ≡ o.map → n.rooms ≡ o.rooms
+    → IsRight seen may_leave opening relations counters n
+right_rests seen may_leave opening relations counters o n k kept m map rooms =
+    right_held seen may_leave opening relations counters o n k kept (world_rests relations counters (world seen opening o) (world seen opening n) m k.sound) (rests_held (world seen opening o) (world seen opening n) m) map rooms m.area.total
+
+-- the store with other frames
+abbrev pub with_store : {D : Type 0} → Operations D → Store D → Operations D
+with_store o s = record { store = s; locks = o.locks; rooms = o.rooms; map = o.map }
+
+pub store_rests : {D : Type 0} (seen : D → List ℕ) (opening : PageBytes) (o : Operations D) (s : Store D)
+    → s.log ≡ o.store.log → pages s.pool ≡ pages o.store.pool → ((q : ℕ) → q < pages o.store.pool → view s.pool (seen s.device) q ≡ view o.store.pool (seen o.store.device) q)
+    → Rests (world seen opening o) (world seen opening (with_store o s))
+store_rests seen opening o s log total views = record { area = record { opening = refl; total = total }; pages = views; records = ap appended log; locks = refl }

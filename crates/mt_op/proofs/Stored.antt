@@ -1,0 +1,104 @@
+-- The store moves below the operations: their worlds, and what is kept of them all.
+use Rattle.std.proofs.Common.{◌≡◌, ◌≢◌, inl, ℕ, ◌≤◌, ◌<◌, List, [], ◌∷◌, ◌++◌, length, refl, sym, ap, ◌∙◌, subst, arith}
+use Rattle.std.specs.Prelude.{Result, Ok, Err, OnOk, OnErr}
+use Rattle.std.proofs.lemmas.List.Elements.{All-nil}
+use Rattle.mt_frame.specs.declared.records.Record.{Record}
+use Rattle.mt_frame.specs.History.{txn_of}
+use Rattle.mt_log.specs.Words.{appended}
+use Rattle.mt_file.specs.declared.rooms.Rooms.{Rooms}
+use Rattle.mt_plock.specs.Holding.{AreTogether}
+use Rattle.mt_pool.specs.Changes.{PageBytes}
+use Rattle.mt_pool.specs.Kept.{IsKept, carried}
+use Rattle.mt_pool.specs.Views.{view, pages, waits_for}
+use Rattle.mt_pool.specs.declared.pool.Pool.{Pool}
+use Rattle.mt_pool.specs.declared.store.Store.{Store}
+use Rattle.mt_slots.specs.Page.{IsShaped}
+use Rattle.mt_space.specs.Kinds.{kind}
+use Rattle.mt_steps.specs.Plans.{IsGood}
+use Rattle.mt_steps.specs.Repeated.{held, logged}
+use Rattle.mt_op.specs.World.{World, held_in, IsCovered, IsWorld, IsUnderWay}
+use Rattle.mt_op.specs.Moves.{Rests, Notes, EndsTxn}
+use Rattle.mt_op.specs.Operations.{world, IsRight}
+use Rattle.mt_op.specs.declared.operations.Operations.{Operations}
+use Rattle.mt_op.specs.declared.scope.OpScope.{OpScope}
+use Rattle.mt_op.proofs.Staying.{world_of, rests_own}
+use Rattle.mt_op.proofs.Noting.{world_notes, notes_held, others_note}
+use Rattle.mt_op.proofs.Right.{right_held, right_rests, with_store}
+
+-- ---- a record is appended
+
+module _ {D : Type 0} (seen : D → List ℕ) (may_leave : D → List ℕ → Type 0) (opening : PageBytes) (relations counters : ℕ) (o : Operations D) (s : Store D) (r : Record)
+    (pool : s.pool ≡ o.store.pool) (device : s.device ≡ o.store.device) where
+  abbrev w : World
+  w = world seen opening o
+
+  abbrev z : World
+  z = world seen opening (with_store o s)
+
+  same_view : (p : ℕ) → z.present p ≡ w.present p
+  same_view p = λ i. view (pool i) (seen (device i)) p
+
+  notes : appended s.log ≡ appended o.store.log ++ r ∷ [] → Notes w z r
+  notes records = record { area = record { opening = refl; total = ap (λ (p : Pool). pages p) pool }; pages = λ p lt. same_view p; records = records; locks = refl }
+
+  rests : appended s.log ≡ appended o.store.log → Rests w z
+  rests records = record { area = record { opening = refl; total = ap (λ (p : Pool). pages p) pool }; pages = λ p lt. same_view p; records = records; locks = refl }
+
+  -- all operations are right behind it
+  pub right_appended : {A B : Type 0} (x : Result A B) → OnOk x (appended s.log ≡ appended o.store.log ++ r ∷ []) → OnErr x (appended s.log ≡ appended o.store.log) → EndsTxn (txn_of r) r
+      → IsRight seen may_leave opening relations counters o → IsKept seen may_leave opening s → IsRight seen may_leave opening relations counters (with_store o s)
+  right_appended (Ok a) ok err ends right kept =
+      right_held seen may_leave opening relations counters o (with_store o s) right kept (world_notes relations counters w z (txn_of r) r (notes ok) ends right.sound)
+      (notes_held relations counters w z (txn_of r) r (notes ok) ends) refl refl (ap (λ (p : Pool). pages p) pool)
+  right_appended (Err why) ok err ends right kept = right_rests seen may_leave opening relations counters o (with_store o s) right kept (rests err) refl refl
+
+  -- and those of other transactions under way
+  pub others_appended : {A B : Type 0} (x : Result A B) → OnOk x (appended s.log ≡ appended o.store.log ++ r ∷ []) → OnErr x (appended s.log ≡ appended o.store.log) → EndsTxn (txn_of r) r
+      → (u : OpScope) → IsUnderWay relations counters w u → u.txn ≢ txn_of r → IsUnderWay relations counters z u
+  others_appended (Ok a) ok err ends u k other = others_note relations counters w z (txn_of r) r (notes ok) ends u k other
+  others_appended (Err why) ok err ends u k other = rests_own relations counters w z u (rests err) k
+
+-- ---- the index of rooms says something else of a page
+
+pub right_noted : {D : Type 0} (seen : D → List ℕ) (may_leave : D → List ℕ → Type 0) (opening : PageBytes) (relations counters : ℕ) (o : Operations D) (rooms : Rooms)
+    → length rooms.0 ≡ length o.rooms.0 → IsRight seen may_leave opening relations counters o → IsRight seen may_leave opening relations counters (record o { rooms = rooms })
+right_noted seen may_leave opening relations counters o rooms same k = record { kept = k.kept; sound = k.sound; map = k.map; rooms = same ∙ k.rooms }
+
+-- ---- no record is in the log yet
+
+-- the pages held are those of the opening
+pub unlogged_held : (w : World) → w.records ≡ [] → held_in w ≡ w.opening
+unlogged_held w none = ap (λ (rs : List Record). held (logged w.opening rs)) none
+
+pub unlogged_world : (relations counters : ℕ) (w : World) → w.records ≡ [] → w.locks ≡ [] → ((p : ℕ) → p < w.total → w.present p ≡ w.opening p) → IsGood relations counters w.total w.opening → IsWorld relations counters w
+unlogged_world relations counters w none free same good =
+    world_of relations counters w w (record { pages = w.opening; unfinished = [] }) refl (ap (logged w.opening) none) (record { apart = λ o p. inl refl; leads = λ p. refl })
+    (λ p lt. inl (same p lt)) (All-nil (IsCovered w.locks)) (subst AreTogether (sym free) (λ i j d lt within. absurd (omega arith))) good
+
+module _ {D : Type 0} (seen : D → List ℕ) (may_leave : D → List ℕ → Type 0) (opening : PageBytes) where
+  -- and what shows are they
+  pub unlogged_shows : (s : Store D) → IsKept seen may_leave opening s → appended s.log ≡ [] → (p : ℕ) → p < pages s.pool → view s.pool (seen s.device) p ≡ opening p
+  unlogged_shows s kept none p inside =
+      let within : waits_for s.pool p ≤ length (carried (appended s.log)) = kept.tied.within p inside in
+      let no : length (carried (appended s.log)) ≡ 0 = ap (λ (rs : List Record). length (carried rs)) none in
+      (kept.tied.untouched p inside (omega arith)).1
+
+  -- a page of records that shows is well formed
+  pub unlogged_shaped : (relations counters : ℕ) (o : Operations D) → IsRight seen may_leave opening relations counters o → appended o.store.log ≡ [] → (p : ℕ) → p < pages o.store.pool → kind (held_in (world seen opening o)) p ≡ 3
+      → IsShaped (view o.store.pool (seen o.store.device) p)
+  unlogged_shaped relations counters o right none p inside records =
+      subst IsShaped (ap (λ (f : PageBytes). f p) (unlogged_held (world seen opening o) none) ∙ sym (unlogged_shows o.store right.kept none p inside)) (right.sound.good.rows.file.each p records)
+
+  -- all is right where none is under way
+  pub unlogged_right : (relations counters : ℕ) (o : Operations D) → IsKept seen may_leave opening o.store → appended o.store.log ≡ [] → o.locks ≡ [] → o.map ≡ view o.store.pool (seen o.store.device) 0 → length o.rooms.0 ≡ pages o.store.pool
+      → IsGood relations counters (pages o.store.pool) opening → IsRight seen may_leave opening relations counters o
+  unlogged_right relations counters o kept none free map rooms good =
+      let w = world seen opening o in
+      let fixed : kind opening 0 ≡ 1 = good.rows.index.space_fixed in
+      let shows = unlogged_shows o.store kept none in
+      record {
+        kept = kept;
+        sound = unlogged_world relations counters w none free shows good;
+        map = map ∙ shows 0 (good.rows.index.within 0 (λ free. let is : 1 ≡ 0 = sym fixed ∙ free in cc)) ∙ ap (λ (f : PageBytes). f 0) (sym (unlogged_held w none));
+        rooms = rooms;
+      }

@@ -1,0 +1,32 @@
+use Rattle.std.proofs.Common.{subst, ap, ◌∙◌}
+use Rattle.mt_plock.specs.declared.guards.Asked.{Asked}
+use Rattle.mt_plock.specs.Holding.{lock_of, IsAnswered}
+use Rattle.mt_plock.specs.Releasing.{locks_without}
+use Rattle.mt_op.proofs.operations.Operations.hold.Goals as goal
+
+pub returns-in-Again-clause-held : goal.returns-in-Again-clause-held
+returns-in-Again-clause-held g c = λ opening.
+    let lock = lock_of c.args.scope.now.number c.args.page c.args.mode in
+    let answer = subst (λ (a : Asked). IsAnswered lock c.args.self.now.locks a c.ask.new.self) c.in-Again.is c.in_ok-guard.ensures.answer in
+    let left = c.begin_again.ensures.leaves opening in
+    let anew = c.begin_again.ensures.anew in (
+      record {
+        area = record { opening = left.area.opening; total = left.area.total };
+        pages = left.pages;
+        records = left.records;
+        locks = left.locks ∙ ap (locks_without c.args.scope.now.number) answer.1;
+      },
+      record {
+        op = record { txn = anew.op.txn; number = anew.op.number; op = anew.op.op; undoes = anew.op.undoes; total = anew.op.total };
+        stage = anew.stage;
+        room = anew.room;
+        guards = anew.guards;
+        seen = anew.seen;
+        changes = anew.changes;
+        reply = anew.reply;
+        written = anew.written;
+        standing = anew.standing;
+        left = anew.left;
+      },
+      (c.args.page, c.args.mode, answer.0),
+    )

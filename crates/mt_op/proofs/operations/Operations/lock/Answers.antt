@@ -1,0 +1,27 @@
+use Rattle.std.proofs.Common.{inl, inr, ⊎_elim, ◌∙◌, ap}
+use Rattle.std.proofs.lemmas.Result.{err_from_is_err_and}
+use Rattle.std.proofs.Math.ListN.{get_or}
+use Rattle.mt_op.proofs.Staying.{rests_own}
+use Rattle.mt_op.proofs.Going.{rests_goes, stays_as, goes_on_behind, err_goes_on}
+use Rattle.mt_op.proofs.operations.Operations.lock.Goals as goal
+
+pub returns-in_err-bring-clause-goes : goal.returns-in_err-bring-clause-goes
+returns-in_err-bring-clause-goes g c = λ opening relations counters right k. let f = c.bring.ensures in let s = c.args.scope.now in
+    let p = err_from_is_err_and c.from_residual.result c.from_residual.ensures.1 in
+    (f.right opening relations counters right, err_goes_on relations counters _ _ s s c.from_residual.result p.0 p.1 (rests_goes relations counters _ _ s s (f.rests opening) c.requires.planning (stays_as s) k))
+
+pub returns-then-not-branch-clause-goes : goal.returns-then-not-branch-clause-goes
+returns-then-not-branch-clause-goes g c = λ opening relations counters right k. let f = c.bring.ensures in let s = c.args.scope.now in
+    (f.right opening relations counters right, rests_goes relations counters _ _ s s (f.rests opening) c.requires.planning (stays_as s) k)
+
+pub look-requires-clause-right : goal.look-requires-clause-right
+look-requires-clause-right g c = let (opening, relations, counters, right, k) = c.requires.right in let f = c.bring.ensures in
+    (opening, relations, counters, f.right opening relations counters right, rests_own relations counters _ _ c.args.scope.now (f.rests opening) k)
+
+pub look-requires-clause-led : goal.look-requires-clause-led
+look-requires-clause-led g c = ⊎_elim inl (λ led. inr (led.0, led.1, ap (λ m. get_or m c.args.page 0) c.bring.ensures.map ∙ led.2)) c.requires.led
+
+pub returns-clause-goes : goal.returns-clause-goes
+returns-clause-goes g c = λ opening relations counters right k. let f = c.bring.ensures in let s = c.args.scope.now in
+    let gone = c.look.ensures.goes opening relations counters (f.right opening relations counters right) (rests_own relations counters _ _ s (f.rests opening) k) in
+    (gone.0, goes_on_behind relations counters _ _ _ s c.look.new.scope c.look.result (f.rests opening) gone.1)

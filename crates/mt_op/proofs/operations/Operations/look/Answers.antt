@@ -1,0 +1,69 @@
+use Rattle.std.proofs.Common.{◌≡◌, ◌<◌, ℕ, List, [], ◌∷◌, ◌++◌, None, get_or, ⊎_elim, inl, inr, refl, sym, subst, ◌∙◌, ap}
+use Rattle.std.specs.Prelude.{Ok}
+use Rattle.std.proofs.lemmas.Result.{err_from_is_err_and}
+use Rattle.mt_pool.specs.Views.{IsThere, view}
+use Rattle.mt_pool.specs.declared.store.Store.{Store}
+use Rattle.mt_steps.specs.Drafts.{copied}
+use Rattle.mt_steps.specs.declared.draft.PageCopy.{PageCopy}
+use Rattle.mt_op.specs.World.{looked}
+use Rattle.mt_op.specs.declared.answers.Stepped.TheVariants as stepped
+use Rattle.mt_op.specs.Operations.{world}
+use Rattle.mt_op.specs.Holds.{IsHeld}
+use Rattle.mt_op.proofs.Asking.{asked_right}
+use Rattle.mt_op.proofs.Going.{rests_goes, rests_same, unlocked_goes_on, locks_goes, stays_roomy, goes_on_since, goes_since, planning_stays, err_goes_on, ok_same, there_whole}
+use Rattle.mt_op.proofs.operations.Operations.look.Goals as goal
+
+pub returns-in_err-reserve-clause-goes : goal.returns-in_err-reserve-clause-goes
+returns-in_err-reserve-clause-goes g c = λ opening relations counters right k. let s = c.args.scope.now in let f = c.reserve.ensures in let w = world g.D.Device.seen opening c.args.self.now in
+    let p = err_from_is_err_and c.from_residual.result c.from_residual.ensures.1 in
+    (right, err_goes_on relations counters w w s _ c.from_residual.result p.0 p.1 (rests_goes relations counters w w s _ (rests_same w) c.requires.planning (stays_roomy s c.reserve.new.self f.total f.same) k))
+
+pub view-requires-clause-there : goal.view-requires-clause-there
+view-requires-clause-there g c = subst (λ store. IsThere store.pool c.args.page) (sym c.hold.ensures.store) c.requires.there
+
+pub returns-in_err-other-clause-goes : goal.returns-in_err-other-clause-goes
+returns-in_err-other-clause-goes g c = λ opening relations counters right k.
+    let seen = g.D.Device.seen in let s = c.args.scope.now in let m = record s { seen = c.reserve.new.self } in let f = c.hold.ensures in
+    let w = world seen opening c.args.self.now in let z = world seen opening c.hold.new.self in
+    let stays = stays_roomy s c.reserve.new.self c.reserve.ensures.total c.reserve.ensures.same in
+    let km = planning_stays relations counters w s m c.requires.planning stays k in
+    let held = f.held opening in
+    let h = subst (IsHeld w z m c.hold.new.scope c.args.page c.args.mode) c.in_err-other.was held in
+    let p = err_from_is_err_and c.from_residual-in_err-other.result c.from_residual-in_err-other.ensures.1 in (
+      asked_right seen g.D.Device.may_leave opening relations counters c.args.self.now c.hold.new.self m c.hold.new.scope c.args.page c.args.mode c.hold.result right km c.requires.planning held f.store f.map f.rooms,
+      err_goes_on relations counters w z s c.hold.new.scope c.from_residual-in_err-other.result p.0 p.1 (goes_since relations counters w z s m c.hold.new.scope stays.plan.op (rests_goes relations counters w z m c.hold.new.scope h.0 c.requires.planning h.1 km)),
+    )
+
+pub returns-in-Went-clause-goes : goal.returns-in-Went-clause-goes
+returns-in-Went-clause-goes g c = λ opening relations counters right k.
+    let seen = g.D.Device.seen in let s = c.args.scope.now in let m = record s { seen = c.reserve.new.self } in let f = c.hold.ensures in
+    let w = world seen opening c.args.self.now in let z = world seen opening c.hold.new.self in
+    let stays = stays_roomy s c.reserve.new.self c.reserve.ensures.total c.reserve.ensures.same in
+    let km = planning_stays relations counters w s m c.requires.planning stays k in
+    let held = f.held opening in
+    let went : c.hold.result ≡ Ok stepped.Went = c.in_ok-other.was ∙ ap Ok c.in-Went.is in
+    let h = subst (IsHeld w z m c.hold.new.scope c.args.page c.args.mode) went held in
+    let u = record c.hold.new.scope { room = c.args.room; seen = c.put.new.self } in
+    let bytes : c.view.result.now ≡ w.present c.args.page = c.view.ensures (seen c.hold.new.self.store.device) ∙ ap (λ (x : Store g.row.D.Denot). view x.pool (seen x.device) c.args.page) f.store in
+    let new : looked m c.args.page ≡ None = ap (λ (cs : List PageCopy). copied cs c.args.page) c.reserve.ensures.same ∙ c.requires.new in (
+      asked_right seen g.D.Device.may_leave opening relations counters c.args.self.now c.hold.new.self m c.hold.new.scope c.args.page c.args.mode c.hold.result right km c.requires.planning held f.store f.map f.rooms,
+      goes_since relations counters w z s m u stays.plan.op (locks_goes relations counters w z m c.hold.new.scope u c.args.page c.args.mode h.0 c.requires.planning h.1
+          (record { txn = refl; number = refl; op = refl; undoes = refl; total = c.put.ensures.total }) refl refl
+          (c.put.ensures.put ∙ ap (λ (b : List ℕ). c.hold.new.scope.seen.list.items ++ record { page = c.args.page; bytes = b } ∷ []) bytes) refl refl
+          (⊎_elim inl (λ led. inr (led.0, led.1, ap (λ (m : List ℕ). get_or m c.args.page 0) (sym right.map) ∙ led.2)) c.requires.led)
+          (there_whole c.args.self.now.store.pool (seen c.args.self.now.store.device) c.args.page right.kept.frames c.requires.there)
+          new (subst (λ (n : ℕ). c.args.page < n) k.total c.requires.inside) right.sound km),
+    )
+
+pub returns-in_default-clause-goes : goal.returns-in_default-clause-goes
+returns-in_default-clause-goes g c = λ opening relations counters right k.
+    let seen = g.D.Device.seen in let s = c.args.scope.now in let m = record s { seen = c.reserve.new.self } in let f = c.hold.ensures in
+    let w = world seen opening c.args.self.now in let z = world seen opening c.hold.new.self in
+    let stays = stays_roomy s c.reserve.new.self c.reserve.ensures.total c.reserve.ensures.same in
+    let km = planning_stays relations counters w s m c.requires.planning stays k in
+    let held = f.held opening in (
+      asked_right seen g.D.Device.may_leave opening relations counters c.args.self.now c.hold.new.self m c.hold.new.scope c.args.page c.args.mode c.hold.result right km c.requires.planning held f.store f.map f.rooms,
+      goes_on_since relations counters w z s m c.hold.new.scope (Ok c.in_ok-other.other) stays.plan.op
+          (unlocked_goes_on relations counters w z m c.hold.new.scope c.args.page c.args.mode (Ok c.in_ok-other.other) (λ e. c.in_default.not-Went (ok_same c.in_ok-other.other stepped.Went (Ok c.in_ok-other.other) refl e))
+          (subst (IsHeld w z m c.hold.new.scope c.args.page c.args.mode) c.in_ok-other.was held) c.requires.planning km),
+    )

@@ -1,0 +1,55 @@
+use Rattle.std.proofs.Common.{◌≡◌, ◌<◌, ◌+◌, ◌∙◌, ℕ, List, None, Some, length, get_or, set, sym, ap, subst, length-set}
+use Rattle.std.specs.Prelude.{IsSome}
+use Rattle.std.proofs.lemmas.List.{get_or-set_other}
+use Rattle.mt_plock.specs.declared.guards.PageLock.{PageLock}
+use Rattle.mt_pool.specs.Changes.{after}
+use Rattle.mt_steps.proofs.Drafting.{some_is}
+use Rattle.mt_op.specs.World.{looked, changes_in}
+use Rattle.mt_op.specs.Room.{IsRoom}
+use Rattle.mt_op.specs.declared.operations.Operations.{Operations}
+use Rattle.mt_op.proofs.Noted.{AreNoted, noted_here, noted_none}
+use Rattle.mt_op.proofs.operations.Operations.note_looked.Goals as goal
+use Rattle.mt_op.proofs.operations.Operations.note_looked.Goals.{in-Some, in_default}
+
+pub loop-guard-preserved : goal.loop-guard-preserved
+loop-guard-preserved g c =
+    let s = c.args.scope.now in let i = c.loop-guard.guard-index in let d = c.guard-item.result in
+    let value = c.deref-guard-items.ensures.value in
+    let before = c.loop-guard.invariant in let old = c.loop-guard.self in
+    let lt = subst (λ (ls : List PageLock). i < length ls) value c.loop-guard-test.true in
+    let is : get_or s.guards.items i d ≡ d = sym (c.guard-item.is ∙ ap (λ (ls : List PageLock). get_or ls i d) value) in
+    let page : c.lock-page.result.page ≡ d.page = ap (λ (l : PageLock). l.page) c.lock-page.ensures in
+    elim c.match-page.branch [
+      | in-Some w ↦
+          let room = w.room_after-room.result in
+          let there : looked s c.lock-page.result.page ≡ Some w.in-Some.before.now = w.in-Some.ensures.some in
+          let some : IsSome (looked s c.lock-page.result.page) = some_is (looked s c.lock-page.result.page) w.in-Some.before.now there in
+          let inside : c.lock-page.result.page < length old.rooms.0 = subst (λ (n : ℕ). c.lock-page.result.page < n) (sym before.rooms) (c.requires.inside c.lock-page.result.page some) in
+          let rooms : c.match-page.self.rooms.0 ≡ set old.rooms.0 c.lock-page.result.page room = ap (λ (o : Operations g.row.D.Denot). o.rooms.0) w.self-is ∙ w.noted.ensures.fits in
+          record {
+            store = ap (λ (o : Operations g.row.D.Denot). o.store) w.self-is ∙ before.store;
+            locks = ap (λ (o : Operations g.row.D.Denot). o.locks) w.self-is ∙ before.locks;
+            map = ap (λ (o : Operations g.row.D.Denot). o.map) w.self-is ∙ before.map;
+            rooms = ap (λ (xs : List ℕ). length xs) rooms ∙ length-set _ _ _ ∙ before.rooms;
+            others = λ p none. ap (λ (xs : List ℕ). get_or xs p 0) rooms
+                ∙ get_or-set_other old.rooms.0 c.lock-page.result.page p room 0 (λ same. absurd (let never : None ≡ Some w.in-Some.before.now = sym none ∙ ap (looked s) same ∙ there in cc)) ∙ before.others p none;
+            noted = λ pages agrees short.
+                let bytes = agrees c.lock-page.result.page w.in-Some.before.now there in
+                subst (λ (xs : List ℕ). AreNoted s (i + 1) c.args.self.now.map xs pages) (sym (rooms ∙ ap (λ (p : ℕ). set old.rooms.0 p room) page))
+                (noted_here s c.args.self.now.map pages i d lt is old.rooms.0 (before.noted pages agrees short) room (subst (λ (p : ℕ). p < length old.rooms.0) page inside)
+                (subst (λ (p : ℕ). IsRoom (get_or c.args.self.now.map p 0) (after (changes_in s) pages p) room) page (record {
+                  records = λ kind. w.room_after-room.ensures.records pages bytes short (ap (λ (m : List ℕ). get_or m c.lock-page.result.page 0) before.map ∙ kind);
+                  others = λ kind. w.room_after-room.ensures.others (λ e. kind (ap (λ (m : List ℕ). get_or m c.lock-page.result.page 0) (sym before.map) ∙ e));
+                })));
+          }
+      | in_default w ↦
+          record {
+            store = ap (λ (o : Operations g.row.D.Denot). o.store) w.self-is ∙ before.store;
+            locks = ap (λ (o : Operations g.row.D.Denot). o.locks) w.self-is ∙ before.locks;
+            map = ap (λ (o : Operations g.row.D.Denot). o.map) w.self-is ∙ before.map;
+            rooms = ap (λ (o : Operations g.row.D.Denot). length o.rooms.0) w.self-is ∙ before.rooms;
+            others = λ p none. ap (λ (o : Operations g.row.D.Denot). get_or o.rooms.0 p 0) w.self-is ∙ before.others p none;
+            noted = λ pages agrees short. subst (λ (o : Operations g.row.D.Denot). AreNoted s (i + 1) c.args.self.now.map o.rooms.0 pages) (sym w.self-is)
+                (noted_none s c.args.self.now.map pages i d lt is old.rooms.0 (before.noted pages agrees short) (sym (ap (looked s) page) ∙ w.in_default.ensures.none));
+          }
+    ]

@@ -1,0 +1,5 @@
+pub mod World
+pub mod Moves
+pub mod Operations
+pub mod Holds
+pub mod Room

@@ -1,0 +1,116 @@
+-- The operations of one kernel over their store, and what each step does.
+use Rattle.std.specs.Prelude.{◌≡◌, ◌⊎◌, ◌≤◌, ◌-◌, ◌+◌, ◌*◌, ℕ, List, [], length, Bool, true, false, if◌then◌else◌, Option, Some, None, Result, Ok, Err}
+use Rattle.mt_base.specs.declared.refusal.Refusal.{Refusal}
+use Rattle.mt_base.specs.declared.refusal.Refusal.TheVariants as refusal
+use Rattle.mt_log.specs.Words.{appended}
+use Rattle.mt_model.specs.declared.operations.Op.{Op}
+use Rattle.mt_model.specs.declared.operations.Op.TheVariants.{Get, Insert, Update, Delete, Add, Read}
+use Rattle.mt_model.specs.declared.operations.Reply.{Reply}
+use Rattle.mt_model.specs.Model.{Base, reply_of, base_after}
+use Rattle.mt_pool.specs.Changes.{PageBytes}
+use Rattle.mt_pool.specs.Kept.{IsKept}
+use Rattle.mt_pool.specs.Views.{view, pages}
+use Rattle.mt_steps.specs.Held.{Holds}
+use Rattle.mt_op.specs.World.{World, held_in, IsWorld, IsUnderWay, IsOther, changes_in}
+use Rattle.mt_op.specs.Moves.{SameOp}
+use Rattle.mt_op.specs.Holds.{IsAwaited, IsBarred}
+use Rattle.mt_op.specs.declared.operations.Operations.{Operations}
+use Rattle.mt_op.specs.declared.scope.OpScope.{OpScope}
+use Rattle.mt_op.specs.declared.scope.Stage.{Stage}
+use Rattle.mt_op.specs.declared.scope.Stage.TheVariants.{Planning, Writing, Ready, Taking, Cleared}
+use Rattle.mt_op.specs.declared.answers.Stepped.{Stepped}
+use Rattle.mt_op.specs.declared.answers.Stepped.TheVariants as stepped
+
+-- page locks, records and present pages, over the pages as they were when the log's area began
+abbrev pub world : {D : Type 0} → (D → List ℕ) → PageBytes → Operations D → World
+world seen opening o = record {
+  locks = o.locks;
+  opening = opening;
+  records = appended o.store.log;
+  present = λ p. view o.store.pool (seen o.store.device) p;
+  total = pages o.store.pool;
+}
+
+-- The store keeps its rules, the world is right, and the map is that of the pages held.
+pub record IsRight {D : Type 0} (seen : D → List ℕ) (may_leave : D → List ℕ → Type 0) (opening : PageBytes) (relations counters : ℕ) (o : Operations D) : Type 0 where
+  pub kept : IsKept seen may_leave opening o.store
+  pub sound : IsWorld relations counters (world seen opening o)
+  pub map : o.map ≡ held_in (world seen opening o) 0
+  pub rooms : length o.rooms.0 ≡ pages o.store.pool
+
+-- ---- log bytes
+
+abbrev pub only_reads : Op → Bool
+only_reads (Get r k) = true
+only_reads (Insert r k v) = false
+only_reads (Update r k v) = false
+only_reads (Delete r k) = false
+only_reads (Add c d) = false
+only_reads (Read c) = true
+
+-- what an operation may still append: for each page not yet written 12,317 bytes at most, and its end
+abbrev pub end_bytes : OpScope → ℕ
+end_bytes s = if only_reads s.op then 0 else 2149
+
+abbrev pub needs : OpScope → Stage → ℕ
+needs s Planning = if only_reads s.op then 0 else 106496
+needs s Writing = 12317 * (length (changes_in s) - s.written) + end_bytes s
+needs s Ready = 0
+needs s Taking = 22
+needs s Cleared = 0
+
+pub record HasBudget (s : OpScope) : Type 0 where
+  pub enough : needs s s.stage ≤ s.left
+  pub reads : only_reads s.op ≡ true → changes_in s ≡ []
+
+-- ---- what a step does
+
+-- It ends nothing: the pages held stay.
+pub record Goes (relations counters : ℕ) (w z : World) (s t : OpScope) : Type 0 where
+  pub own : IsUnderWay relations counters z t
+  pub others : (u : OpScope) → IsUnderWay relations counters w u → IsOther s u → IsUnderWay relations counters z u
+  pub held : held_in z ≡ held_in w
+  pub same : SameOp s t
+
+-- The operation acts once on the base that the pages hold, whatever the others have half done, with this reply.
+pub record Acts (relations counters : ℕ) (w z : World) (s t : OpScope) (reply : Reply) : Type 0 where
+  pub own : IsUnderWay relations counters z t
+  pub others : (u : OpScope) → IsUnderWay relations counters w u → IsOther s u → IsUnderWay relations counters z u
+  pub replies : (b : Base) → Holds (held_in w) b → reply_of b s.op ≡ reply
+  pub base : (b : Base) → Holds (held_in w) b → Holds (held_in z) (base_after b s.op)
+  pub same : SameOp s t
+
+abbrev pub Steps : ℕ → ℕ → World → World → OpScope → OpScope → Result Stepped Refusal → Type 0
+Steps relations counters w z s t (Ok (stepped.Ready first second)) = Acts relations counters w z s t first × (second ≡ first)
+Steps relations counters w z s t (Ok stepped.Went) = Goes relations counters w z s t
+Steps relations counters w z s t (Ok (stepped.Wait holder)) = Goes relations counters w z s t × IsAwaited w s holder
+Steps relations counters w z s t (Ok stepped.Again) = Goes relations counters w z s t × IsBarred w s
+Steps relations counters w z s t (Ok stepped.Flush) = Goes relations counters w z s t
+Steps relations counters w z s t (Err why) = Goes relations counters w z s t
+
+-- a step that never ends the operation
+abbrev pub GoesOn : ℕ → ℕ → World → World → OpScope → OpScope → Result Stepped Refusal → Type 0
+GoesOn relations counters w z s t (Ok (stepped.Ready first second)) = ⊥
+GoesOn relations counters w z s t (Ok stepped.Went) = Goes relations counters w z s t
+GoesOn relations counters w z s t (Ok (stepped.Wait holder)) = Goes relations counters w z s t × IsAwaited w s holder
+GoesOn relations counters w z s t (Ok stepped.Again) = Goes relations counters w z s t × IsBarred w s
+GoesOn relations counters w z s t (Ok stepped.Flush) = Goes relations counters w z s t
+GoesOn relations counters w z s t (Err why) = Goes relations counters w z s t
+
+-- a step of an operation that plans; where it answers nothing the plan is made
+abbrev pub IsPlannedOn : ℕ → ℕ → World → World → OpScope → OpScope → Result (Option Stepped) Refusal → Type 0
+IsPlannedOn relations counters w z s t (Ok (Some answer)) = GoesOn relations counters w z s t (Ok answer)
+IsPlannedOn relations counters w z s t (Ok None) = Goes relations counters w z s t
+IsPlannedOn relations counters w z s t (Err why) = Goes relations counters w z s t
+
+-- as far as before, with the same log bytes kept for it
+pub record IsAsFar (s t : OpScope) : Type 0 where
+  pub op : t.op ≡ s.op
+  pub stage : t.stage ≡ s.stage
+  pub changes : t.changes ≡ s.changes
+  pub written : t.written ≡ s.written
+  pub left : t.left ≡ s.left
+
+-- a step is refused for want of memory, or where the device failed
+abbrev pub IsCause : Refusal → Type 0
+IsCause why = (why ≡ refusal.NoMemory) ⊎ (why ≡ refusal.DeviceFailed)

@@ -1,0 +1,171 @@
+// Page locks of an operation.
+ghost use Rattle.std.specs.Prelude.{◌≡◌, ◌⊎◌, ◌<◌, ℕ, List, get_or, Ok, true, false, Some, None, IsSome, IfErr};
+ghost use Rattle.mt_base.specs.declared.refusal.Refusal.{Refusal};
+ghost use Rattle.mt_pool.specs.Views.{IsThere, IsFull, pages};
+ghost use Rattle.mt_base.specs.declared.modes.Mode.TheVariants.{Write};
+ghost use Rattle.mt_disk.specs.Disk.{LeavesOnly};
+ghost use Rattle.mt_pool.specs.Kept.{IsKept, Explains};
+ghost use Rattle.mt_op.specs.World.{IsUnderWay, looked};
+ghost use Rattle.mt_op.specs.Operations.{IsRight, GoesOn, IsAsFar, IsCause};
+ghost use Rattle.mt_op.specs.declared.scope.Stage.TheVariants.{Planning};
+ghost use Rattle.mt_op.specs.declared.answers.Stepped.TheVariants as stepped;
+ghost use Rattle.mt_plock.specs.Releasing.{locks_of};
+ghost use Rattle.mt_pool.specs.Changes.{PageBytes};
+ghost use Rattle.mt_op.specs.Operations.{world};
+ghost use Rattle.mt_op.specs.Holds.{IsHeld, IsAnew};
+ghost use Rattle.mt_op.specs.Moves.{Leaves, Rests};
+
+use crate::answers::Stepped;
+use crate::operations::Operations;
+use crate::scope::OpScope;
+use mt_base::{Mode, PageNo, Refusal};
+use mt_disk::Device;
+use mt_plock::Asked;
+use mt_pool::Fetched;
+use std::mem::replace;
+
+impl<D: Device> Operations<D> {
+    // Brings a page into a frame; `false` where every frame holds a page that is yet to be flushed.
+    pub(crate) fn bring(&mut self, page: PageNo) -> Result<bool, Refusal>
+        requires kept { (opening : PageBytes) × IsKept D.seen D.may_leave opening self.old.store }
+        requires inside { page < pages self.old.store.pool }
+        ensures right { (opening : PageBytes) (relations counters : ℕ) → IsRight D.seen D.may_leave opening relations counters self.old → IsRight D.seen D.may_leave opening relations counters self.new }
+        ensures rests { (opening : PageBytes) → Rests (world D.seen opening self.old) (world D.seen opening self.new) }
+        ensures moments { (opening : PageBytes) → IsKept D.seen D.may_leave opening self.old.store → LeavesOnly D.moment D.left_since self.old.store.device self.new.store.device (Explains opening self.old.store) }
+        ensures there { result ≡ Ok true → IsThere self.new.store.pool page }
+        ensures full { result ≡ Ok false → IsFull self.old.store.pool × (self.new ≡ self.old) }
+        ensures log { self.new.store.log ≡ self.old.store.log }
+        ensures map { self.new.map ≡ self.old.map }
+        ensures waits { self.new.store.pool.waits ≡ self.old.store.pool.waits }
+        ensures why { IfErr result (λ why. why ≡ Refusal.DeviceFailed) }
+    {
+        match self.store.fetch(page) {
+            Ok(Fetched::There) => Ok(true),
+            Ok(Fetched::Flush) => Ok(false),
+            Err(_) => Err(Refusal::DeviceFailed),
+        }
+    }
+
+    // Asks for a page lock, with room for its guard made before. Where it is not to be had and a smaller
+    // operation holds one in the way, all locks are given back.
+    pub(crate) fn hold(
+        &mut self,
+        scope: &mut OpScope,
+        page: PageNo,
+        mode: Mode,
+    ) -> Result<Stepped, Refusal>
+        requires locks { locks_of scope.old.number self.old.locks ≡ scope.old.guards.items }
+        ensures held { (opening : PageBytes) → IsHeld (world D.seen opening self.old) (world D.seen opening self.new) scope.old scope.new page mode result }
+        ensures store { self.new.store ≡ self.old.store }
+        ensures map { self.new.map ≡ self.old.map }
+        ensures rooms { self.new.rooms ≡ self.old.rooms }
+        ensures same { IsAsFar scope.old scope.new }
+        ensures room { result ≡ Ok stepped.Went → scope.new.seen ≡ scope.old.seen }
+        ensures never { result ≡ Ok stepped.Flush → ⊥ }
+        ensures why { IfErr result IsCause }
+    {
+        scope.guards.reserve(1)?;
+        match self.locks.ask(scope.number, page, mode)? {
+            Asked::Granted(guard) => {
+                scope.guards.push_reserved(guard);
+                Ok(Stepped::Went)
+            }
+            Asked::Wait(holder) => Ok(Stepped::Wait(holder)),
+            Asked::Again => {
+                self.begin_again(scope);
+                Ok(Stepped::Again)
+            }
+        }
+    }
+
+    // Locks a page that the operation has not looked at, and copies it. From then on the operation is led to
+    // the page `room`, if that is another than before.
+    pub(crate) fn lock(
+        &mut self,
+        scope: &mut OpScope,
+        page: PageNo,
+        mode: Mode,
+        room: Option<PageNo>,
+    ) -> Result<Stepped, Refusal>
+        requires right { (opening : PageBytes) × (relations : ℕ) × (counters : ℕ) × IsRight D.seen D.may_leave opening relations counters self.old × IsUnderWay relations counters (world D.seen opening self.old) scope.old }
+        requires planning { scope.old.stage ≡ Planning }
+        requires new { looked scope.old page ≡ None }
+        requires inside { page < scope.old.seen.total }
+        requires led { (room ≡ scope.old.room) ⊎ ((room ≡ Some page) × (mode ≡ Write) × (get_or self.old.map page 0 ≡ 3)) }
+        ensures goes { (opening : PageBytes) (relations counters : ℕ) → IsRight D.seen D.may_leave opening relations counters self.old → IsUnderWay relations counters (world D.seen opening self.old) scope.old →
+            IsRight D.seen D.may_leave opening relations counters self.new × GoesOn relations counters (world D.seen opening self.old) (world D.seen opening self.new) scope.old scope.new result }
+        ensures moments { (opening : PageBytes) → IsKept D.seen D.may_leave opening self.old.store → LeavesOnly D.moment D.left_since self.old.store.device self.new.store.device (Explains opening self.old.store) }
+        ensures log { self.new.store.log ≡ self.old.store.log }
+        ensures same { IsAsFar scope.old scope.new }
+        ensures full { result ≡ Ok stepped.Flush → IsFull self.old.store.pool × (self.new ≡ self.old) }
+        ensures why { IfErr result IsCause }
+    {
+        if !self.bring(page)? {
+            return Ok(Stepped::Flush);
+        }
+        self.look(scope, page, mode, room)
+    }
+
+    // The same of a page that is in a frame.
+    fn look(
+        &mut self,
+        scope: &mut OpScope,
+        page: PageNo,
+        mode: Mode,
+        room: Option<PageNo>,
+    ) -> Result<Stepped, Refusal>
+        requires right { (opening : PageBytes) × (relations : ℕ) × (counters : ℕ) × IsRight D.seen D.may_leave opening relations counters self.old × IsUnderWay relations counters (world D.seen opening self.old) scope.old }
+        requires planning { scope.old.stage ≡ Planning }
+        requires new { looked scope.old page ≡ None }
+        requires inside { page < scope.old.seen.total }
+        requires led { (room ≡ scope.old.room) ⊎ ((room ≡ Some page) × (mode ≡ Write) × (get_or self.old.map page 0 ≡ 3)) }
+        requires there { IsThere self.old.store.pool page }
+        ensures goes { (opening : PageBytes) (relations counters : ℕ) → IsRight D.seen D.may_leave opening relations counters self.old → IsUnderWay relations counters (world D.seen opening self.old) scope.old →
+            IsRight D.seen D.may_leave opening relations counters self.new × GoesOn relations counters (world D.seen opening self.old) (world D.seen opening self.new) scope.old scope.new result }
+        ensures store { self.new.store ≡ self.old.store }
+        ensures same { IsAsFar scope.old scope.new }
+        ensures never { result ≡ Ok stepped.Flush → ⊥ }
+        ensures why { IfErr result IsCause }
+    {
+        scope.seen.reserve()?;
+        match self.hold(scope, page, mode)? {
+            Stepped::Went => {
+                scope.seen.put(page, self.store.pool.view(page));
+                scope.room = room;
+                Ok(Stepped::Went)
+            }
+            other => Ok(other),
+        }
+    }
+
+    // Locks a page that the operation has looked at, to write it.
+    pub(crate) fn upgrade(&mut self, scope: &mut OpScope, page: PageNo) -> Result<Stepped, Refusal>
+        requires right { (opening : PageBytes) × (relations : ℕ) × (counters : ℕ) × IsRight D.seen D.may_leave opening relations counters self.old × IsUnderWay relations counters (world D.seen opening self.old) scope.old }
+        requires planning { scope.old.stage ≡ Planning }
+        requires seen { IsSome (looked scope.old page) }
+        ensures goes { (opening : PageBytes) (relations counters : ℕ) → IsRight D.seen D.may_leave opening relations counters self.old → IsUnderWay relations counters (world D.seen opening self.old) scope.old →
+            IsRight D.seen D.may_leave opening relations counters self.new × GoesOn relations counters (world D.seen opening self.old) (world D.seen opening self.new) scope.old scope.new result }
+        ensures store { self.new.store ≡ self.old.store }
+        ensures same { IsAsFar scope.old scope.new }
+        ensures never { result ≡ Ok stepped.Flush → ⊥ }
+        ensures why { IfErr result IsCause }
+    {
+        self.hold(scope, page, Mode::Write)
+    }
+
+    // Gives all locks of an operation back, and forgets what it looked at.
+    fn begin_again(&mut self, scope: &mut OpScope)
+        requires locks { locks_of scope.old.number self.old.locks ≡ scope.old.guards.items }
+        ensures leaves { (opening : PageBytes) → Leaves (world D.seen opening self.old) (world D.seen opening self.new) scope.old }
+        ensures anew { IsAnew scope.old scope.new }
+        ensures store { self.new.store ≡ self.old.store }
+        ensures map { self.new.map ≡ self.old.map }
+        ensures rooms { self.new.rooms ≡ self.old.rooms }
+    {
+        let none = Vec::new(*scope.guards.allocator());
+        let guards = replace(&mut scope.guards, none);
+        self.locks.release_all(guards);
+        scope.seen.clear();
+        scope.room = None;
+    }
+}

@@ -1,0 +1,19 @@
+//! Operations as subtransactions (Weikum 1991): one operation from its start to its end over the pages of
+//! a store, page lock by page lock and page write by page write, or taken back.
+//!
+//! Whatever is half done, the pages held are good: the present ones with the old bytes of each unfinished
+//! operation's writes put back. The end of an operation is one act on the base that these pages hold, and
+//! every other step leaves them as they are.
+#![tactic(auto)]
+
+mod answers;
+mod holding;
+mod operations;
+mod planning;
+mod scope;
+mod stepping;
+mod undoing;
+
+pub use answers::{Stepped, TakenBack};
+pub use operations::Operations;
+pub use scope::{OpScope, Stage};

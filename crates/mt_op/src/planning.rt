@@ -1,0 +1,243 @@
+// The steps of an operation, from its first page lock to its end.
+ghost use Rattle.std.specs.Prelude.{◌≡◌, ◌⊎◌, ◌<◌, ◌≤◌, ◌+◌, ℕ, List, length, get_or, All, Contains, [], None, Some, Ok, true, MatchOption, IfErr, IfSome, IsTrue, ◌↔◌};
+ghost use Rattle.mt_steps.specs.Drafts.{AreAtHand};
+ghost use Rattle.mt_steps.specs.Logged.{logged_of};
+ghost use Rattle.mt_base.specs.declared.modes.Mode.TheVariants.{Write};
+ghost use Rattle.mt_disk.specs.Disk.{LeavesOnly};
+ghost use Rattle.mt_log.specs.Words.{used, area_size};
+ghost use Rattle.mt_plock.specs.Holding.{lock_of};
+ghost use Rattle.mt_pool.specs.Changes.{PageBytes, IsUntouched};
+ghost use Rattle.mt_pool.specs.Kept.{IsKept, Explains};
+ghost use Rattle.mt_pool.specs.Views.{IsFull};
+ghost use Rattle.mt_steps.specs.Plans.{own_needs, free_pages, InPages, IsPlanned};
+ghost use Rattle.mt_op.specs.World.{IsUnderWay, looked, held_in};
+ghost use Rattle.mt_op.specs.Operations.{world, IsRight, GoesOn, Steps, IsPlannedOn, HasBudget, only_reads, IsAsFar, IsCause};
+ghost use Rattle.mt_op.specs.declared.scope.Stage.TheVariants.{Planning, Writing};
+ghost use Rattle.mt_op.specs.declared.answers.Stepped.TheVariants as stepped;
+
+use crate::answers::Stepped;
+use crate::operations::Operations;
+use crate::scope::{OpScope, Stage};
+use mt_base::{Mode, OpNo, PageNo, Refusal};
+use mt_disk::Device;
+use mt_model::{Op, Reply};
+use mt_plock::{PageGuard, PageLock};
+use mt_pool::{Changes, Pages};
+use mt_steps::{Act, plan};
+use std::alloc::Global;
+
+// The page that says of each page what it holds, and what it says of one that holds records.
+const MAP: u16 = 0;
+
+const RECORDS: u8 = 3;
+
+impl<D: Device> Operations<D> {
+    /// Makes a step of an operation: it locks a page and looks at it, or writes a page with its log records, or
+    /// ends. All pages are locked and looked at before the first is written.
+    ///
+    /// [`Stepped::Wait`], [`Stepped::Flush`] and the refusals change nothing of pages, locks and log;
+    /// [`Stepped::Again`] gives the operation's locks back, so that it begins anew with its number. The
+    /// refusals are [`Refusal::NoMemory`] and [`Refusal::DeviceFailed`].
+    pub fn step(&mut self, alloc: Global, scope: &mut OpScope) -> Result<Stepped, Refusal>
+        requires right { (opening : PageBytes) × (relations : ℕ) × (counters : ℕ) × IsRight D.seen D.may_leave opening relations counters self.old × IsUnderWay relations counters (world D.seen opening self.old) scope.old
+            × (relations ≤ 64) × (counters ≤ 128) × (own_needs scope.old.op ≤ free_pages scope.old.seen.total (held_in (world D.seen opening self.old))) }
+        requires stage { (scope.old.stage ≡ Planning) ⊎ (scope.old.stage ≡ Writing) }
+        requires budget { HasBudget scope.old }
+        requires room { used self.old.store.log + scope.old.left < area_size self.old.store.log }
+        ensures steps { (opening : PageBytes) (relations counters : ℕ) → IsRight D.seen D.may_leave opening relations counters self.old → IsUnderWay relations counters (world D.seen opening self.old) scope.old → relations ≤ 64 → counters ≤ 128 →
+            IsRight D.seen D.may_leave opening relations counters self.new × Steps relations counters (world D.seen opening self.old) (world D.seen opening self.new) scope.old scope.new result }
+        ensures moments { (opening : PageBytes) → IsKept D.seen D.may_leave opening self.old.store → LeavesOnly D.moment D.left_since self.old.store.device self.new.store.device (Explains opening self.old.store) }
+        ensures log { used self.new.store.log + scope.new.left ≡ used self.old.store.log + scope.old.left }
+        ensures area { area_size self.new.store.log ≡ area_size self.old.store.log }
+        ensures budget { HasBudget scope.new }
+        ensures full { result ≡ Ok stepped.Flush → IsFull self.old.store.pool × (self.new ≡ self.old) }
+        // Where the plan is made, a page more is written then.
+        ensures went { scope.old.stage ≡ Writing → result ≡ Ok stepped.Went → scope.new.written ≡ scope.old.written + 1 }
+        ensures why { IfErr result IsCause }
+    {
+        if scope.stage == Stage::Writing {
+            return self.go_on(alloc, scope);
+        }
+        match self.plan_step(alloc, scope)? {
+            Some(stepped) => Ok(stepped),
+            None => self.go_on(alloc, scope),
+        }
+    }
+
+    // Writes the next page of the plan, or ends the operation.
+    fn go_on(&mut self, alloc: Global, scope: &mut OpScope) -> Result<Stepped, Refusal>
+        requires right { (opening : PageBytes) × (relations : ℕ) × (counters : ℕ) × IsRight D.seen D.may_leave opening relations counters self.old × IsUnderWay relations counters (world D.seen opening self.old) scope.old × (relations ≤ 64) × (counters ≤ 128) }
+        requires writing { scope.old.stage ≡ Writing }
+        requires budget { HasBudget scope.old }
+        requires room { used self.old.store.log + scope.old.left < area_size self.old.store.log }
+        ensures steps { (opening : PageBytes) (relations counters : ℕ) → IsRight D.seen D.may_leave opening relations counters self.old → IsUnderWay relations counters (world D.seen opening self.old) scope.old → relations ≤ 64 → counters ≤ 128 →
+            IsRight D.seen D.may_leave opening relations counters self.new × Steps relations counters (world D.seen opening self.old) (world D.seen opening self.new) scope.old scope.new result }
+        ensures moments { (opening : PageBytes) → IsKept D.seen D.may_leave opening self.old.store → LeavesOnly D.moment D.left_since self.old.store.device self.new.store.device (Explains opening self.old.store) }
+        ensures log { used self.new.store.log + scope.new.left ≡ used self.old.store.log + scope.old.left }
+        ensures area { area_size self.new.store.log ≡ area_size self.old.store.log }
+        ensures budget { HasBudget scope.new }
+        ensures full { result ≡ Ok stepped.Flush → IsFull self.old.store.pool × (self.new ≡ self.old) }
+        ensures went { result ≡ Ok stepped.Went → scope.new.written ≡ scope.old.written + 1 }
+        ensures why { IfErr result IsCause }
+    {
+        if scope.written < scope.changes.list.len() {
+            self.write_next(alloc, scope)
+        } else {
+            self.finish(scope)
+        }
+    }
+
+    // Plans over the pages that the operation has looked at: locks the one that is needed next, or keeps the
+    // plan where there is none.
+    fn plan_step(&mut self, alloc: Global, scope: &mut OpScope) -> Result<Option<Stepped>, Refusal>
+        requires right { (opening : PageBytes) × (relations : ℕ) × (counters : ℕ) × IsRight D.seen D.may_leave opening relations counters self.old × IsUnderWay relations counters (world D.seen opening self.old) scope.old
+            × (relations ≤ 64) × (own_needs scope.old.op ≤ free_pages scope.old.seen.total (held_in (world D.seen opening self.old))) }
+        requires planning { scope.old.stage ≡ Planning }
+        requires budget { HasBudget scope.old }
+        ensures goes { (opening : PageBytes) (relations counters : ℕ) → IsRight D.seen D.may_leave opening relations counters self.old → IsUnderWay relations counters (world D.seen opening self.old) scope.old → relations ≤ 64 →
+            IsRight D.seen D.may_leave opening relations counters self.new × IsPlannedOn relations counters (world D.seen opening self.old) (world D.seen opening self.new) scope.old scope.new result }
+        ensures moments { (opening : PageBytes) → IsKept D.seen D.may_leave opening self.old.store → LeavesOnly D.moment D.left_since self.old.store.device self.new.store.device (Explains opening self.old.store) }
+        ensures made { result ≡ Ok None → (self.new ≡ self.old) × (scope.new.stage ≡ Writing) }
+        ensures log { self.new.store.log ≡ self.old.store.log }
+        ensures left { scope.new.left ≡ scope.old.left }
+        ensures budget { HasBudget scope.new }
+        ensures full { result ≡ Ok (Some stepped.Flush) → IsFull self.old.store.pool × (self.new ≡ self.old) }
+        ensures why { IfErr result IsCause }
+    {
+        match plan(alloc, &scope.seen, scope.room, &scope.op, scope.split)? {
+            Act::Lock(page, mode) => {
+                let stepped = self.lock_next(scope, page, mode)?;
+                Ok(Some(stepped))
+            }
+            Act::Made(changes, reply) => self.keep_plan(scope, changes, reply),
+            // The page that it was led to does not take the record.
+            Act::Full => {
+                scope.room = None;
+                Ok(Some(Stepped::Went))
+            }
+            Act::Broken => unreachable!(),
+        }
+    }
+
+    // Locks the page that a plan needs. Where a new page is due for a record, a page with room comes first.
+    fn lock_next(
+        &mut self,
+        scope: &mut OpScope,
+        page: PageNo,
+        mode: Mode,
+    ) -> Result<Stepped, Refusal>
+        requires right { (opening : PageBytes) × (relations : ℕ) × (counters : ℕ) × IsRight D.seen D.may_leave opening relations counters self.old × IsUnderWay relations counters (world D.seen opening self.old) scope.old }
+        requires planning { scope.old.stage ≡ Planning }
+        requires new { looked scope.old page ≡ None }
+        requires inside { page < scope.old.seen.total }
+        ensures goes { (opening : PageBytes) (relations counters : ℕ) → IsRight D.seen D.may_leave opening relations counters self.old → IsUnderWay relations counters (world D.seen opening self.old) scope.old →
+            IsRight D.seen D.may_leave opening relations counters self.new × GoesOn relations counters (world D.seen opening self.old) (world D.seen opening self.new) scope.old scope.new result }
+        ensures moments { (opening : PageBytes) → IsKept D.seen D.may_leave opening self.old.store → LeavesOnly D.moment D.left_since self.old.store.device self.new.store.device (Explains opening self.old.store) }
+        ensures log { self.new.store.log ≡ self.old.store.log }
+        ensures same { IsAsFar scope.old scope.new }
+        ensures full { result ≡ Ok stepped.Flush → IsFull self.old.store.pool × (self.new ≡ self.old) }
+        ensures why { IfErr result IsCause }
+    {
+        if page.get() == MAP {
+            if let Some(room) = self.room_for(scope) {
+                return self.lock(scope, room, Mode::Write, Some(room));
+            }
+        }
+        self.lock(scope, page, mode, scope.room)
+    }
+
+    // A page of records with room for the operation's record, which nobody has locked.
+    fn room_for(&self, scope: &OpScope) -> Option<PageNo>
+        requires rooms { length self.now.rooms.0 ≡ scope.now.seen.total }
+        requires few { scope.now.seen.total ≤ 4000 }
+        requires whole { (p : ℕ) (bytes : List ℕ) → looked scope.now p ≡ Some bytes → length bytes ≡ 4096 }
+        ensures new { IfSome result (λ p. looked scope.now p ≡ None) }
+        ensures inside { IfSome result (λ p. p < scope.now.seen.total) }
+        ensures records { IfSome result (λ p. get_or self.now.map p 0 ≡ 3) }
+    {
+        let bytes = record_bytes(&scope.op)?;
+        let room = self.rooms.with_room(bytes)?;
+        if scope.room.is_none()
+            && self.map[usize::from(room.get())] == RECORDS
+            && self.locks.is_unlocked(room)
+            && scope.seen.page(room).is_none()
+        {
+            Some(room)
+        } else {
+            None
+        }
+    }
+
+    // Keeps the plan, once each page that changes is locked to be written.
+    fn keep_plan(
+        &mut self,
+        scope: &mut OpScope,
+        changes: Changes,
+        reply: Reply,
+    ) -> Result<Option<Stepped>, Refusal>
+        requires right { (opening : PageBytes) × (relations : ℕ) × (counters : ℕ) × IsRight D.seen D.may_leave opening relations counters self.old × IsUnderWay relations counters (world D.seen opening self.old) scope.old }
+        requires planning { scope.old.stage ≡ Planning }
+        requires there { AreAtHand (looked scope.old) changes.list.items }
+        requires few { length changes.list.items ≤ 8 }
+        requires quiet { logged_of scope.old.op reply ≡ None → changes.list.items ≡ [] }
+        requires reads { only_reads scope.old.op ≡ true → changes.list.items ≡ [] }
+        requires budget { HasBudget scope.old }
+        ensures goes { (opening : PageBytes) (relations counters : ℕ) → IsRight D.seen D.may_leave opening relations counters self.old → IsUnderWay relations counters (world D.seen opening self.old) scope.old →
+            InPages (looked scope.old) scope.old.room relations counters scope.old.seen.total (λ pages. IsPlanned relations counters scope.old.seen.total (looked scope.old) pages changes.list.items scope.old.op reply) →
+            IsRight D.seen D.may_leave opening relations counters self.new × IsPlannedOn relations counters (world D.seen opening self.old) (world D.seen opening self.new) scope.old scope.new result }
+        ensures store { self.new.store ≡ self.old.store }
+        ensures made { result ≡ Ok None → (self.new ≡ self.old) × (scope.new.stage ≡ Writing) }
+        ensures left { scope.new.left ≡ scope.old.left }
+        ensures budget { HasBudget scope.new }
+        ensures never { result ≡ Ok (Some stepped.Flush) → ⊥ }
+        ensures why { IfErr result IsCause }
+    {
+        if let Some(page) = first_unlocked(scope.number, &changes, scope.guards.as_slice()) {
+            let stepped = self.upgrade(scope, page)?;
+            return Ok(Some(stepped));
+        }
+        scope.changes = changes;
+        scope.reply = Some(reply);
+        scope.stage = Stage::Writing;
+        Ok(None)
+    }
+}
+
+// The first page of the changes that the operation has not locked to write.
+fn first_unlocked(op: OpNo, changes: &Changes, guards: &[PageGuard]) -> Option<PageNo>
+    ensures { MatchOption result
+        (All (λ c. Contains guards.now (lock_of op c.page Write)) changes.now.list.items)
+        (λ p. IsUntouched changes.now.list.items p → ⊥) }
+{
+    for change in &changes.list {
+        let lock = PageLock {
+            op,
+            page: change.page,
+            mode: Mode::Write,
+        };
+        if !holds(guards, &lock) {
+            return Some(change.page);
+        }
+    }
+    None
+}
+
+// Whether one of the guards is of this lock.
+fn holds(guards: &[PageGuard], lock: &PageLock) -> bool
+    ensures { IsTrue result ↔ Contains guards.now lock.now }
+{
+    guards.iter().any(|guard| guard.lock() == *lock)
+}
+
+// The bytes of the record that an operation puts, if it puts one.
+fn record_bytes(op: &Op) -> Option<u16>
+    ensures { IfSome result (λ bytes. 0 < bytes) }
+{
+    match op {
+        Op::Insert(_, key, value) | Op::Update(_, key, value) => {
+            let lengths = key.as_slice().len().saturating_add(value.as_slice().len());
+            u16::try_from(lengths.saturating_add(4)).ok()
+        }
+        _ => None,
+    }
+}

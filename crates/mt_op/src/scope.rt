@@ -1,0 +1,48 @@
+// An operation under way.
+use mt_base::{OpNo, PageNo, TxnNo};
+use mt_model::{Op, Reply};
+use mt_plock::PageGuard;
+use mt_pool::Changes;
+use mt_steps::Copies;
+
+/// How far an operation has come.
+#[derive(Clone, Copy, PartialEq, Eq, Debug)]
+pub enum Stage {
+    /// It locks pages and looks at them, and has written none.
+    Planning,
+    /// It knows what it changes, and writes one page after the other.
+    Writing,
+    /// Its end is in the log where one is due; it is to be ended.
+    Ready,
+    /// Some of the pages that it wrote are put back.
+    Taking,
+    /// Nothing of it is left but its locks; it is to be dropped out.
+    Cleared,
+}
+
+/// An operation under way, with its page locks and copies of the pages that it looked at.
+///
+/// It cannot be let go: it is spent by [`Operations::end`](crate::Operations::end) or
+/// [`Operations::drop_out`](crate::Operations::drop_out), or with everything else by
+/// [`Operations::into_device`](crate::Operations::into_device).
+pub struct OpScope {
+    pub(crate) txn: TxnNo,
+    pub(crate) number: OpNo,
+    pub(crate) op: Op,
+    // the operation that it takes back, or 0
+    pub(crate) undoes: u64,
+    pub(crate) split: bool,
+    // log bytes that are kept for it
+    pub(crate) left: u64,
+    // the page of records that it was led to, if any
+    pub(crate) room: Option<PageNo>,
+    pub(crate) guards: Vec<PageGuard>,
+    pub(crate) seen: Copies,
+    pub(crate) stage: Stage,
+    // what it changes, once it is planned
+    pub(crate) changes: Changes,
+    pub(crate) reply: Option<Reply>,
+    // how many of these changes are in the log, and how many still stand in the pages
+    pub(crate) written: usize,
+    pub(crate) standing: usize,
+}

@@ -1,0 +1,220 @@
+// Page writes of an operation, and its end.
+ghost use Rattle.std.specs.Prelude.{◌≡◌, ◌≢◌, ◌<◌, ◌≤◌, ◌+◌, ℕ, List, length, get_or, false, true, None, Some, IsSome, IfErr, OnErr, OnOk, Ok};
+ghost use Rattle.mt_frame.specs.Grammar.{IsTxn, IsOp, IsOperation};
+ghost use Rattle.mt_frame.specs.History.{may_stand};
+ghost use Rattle.mt_pool.specs.Views.{IsThere, IsFull};
+ghost use Rattle.mt_pool.specs.declared.changes.PageChange.{PageChange};
+ghost use Rattle.mt_disk.specs.Disk.{LeavesOnly};
+ghost use Rattle.mt_frame.specs.declared.records.Record.TheVariants.{OpEnd};
+ghost use Rattle.mt_log.specs.Words.{appended, used, area_size};
+ghost use Rattle.mt_file.specs.Rooms.{fits_of};
+ghost use Rattle.mt_pool.specs.Changes.{PageBytes, Agrees, after, AreShort};
+ghost use Rattle.mt_slots.specs.Page.{IsShaped};
+ghost use Rattle.mt_pool.specs.Kept.{IsKept, Explains};
+ghost use Rattle.mt_op.specs.World.{IsUnderWay, looked, changes_in};
+ghost use Rattle.mt_op.specs.Operations.{world, IsRight, Goes, GoesOn, Steps, HasBudget, IsCause};
+ghost use Rattle.mt_op.specs.declared.scope.Stage.TheVariants.{Writing, Ready};
+ghost use Rattle.mt_op.specs.Room.{HasRooms};
+ghost use Rattle.mt_op.specs.Moves.{Rests, Notes};
+ghost use Rattle.mt_op.specs.declared.answers.Stepped.TheVariants as stepped;
+
+use crate::answers::Stepped;
+use crate::operations::Operations;
+use crate::scope::{OpScope, Stage};
+use mt_base::{PageNo, Refusal};
+use mt_disk::Device;
+use mt_file::fits;
+use mt_frame::{LoggedOp, Record};
+use mt_pool::{Changes, Pages, patch};
+use mt_steps::logged;
+use std::alloc::Global;
+
+// The page that says of each page what it holds, and what it says of one that holds records.
+const MAP: u16 = 0;
+
+const RECORDS: u8 = 3;
+
+impl<D: Device> Operations<D> {
+    // Writes the next page of the plan, with its log records.
+    pub(crate) fn write_next(
+        &mut self,
+        alloc: Global,
+        scope: &mut OpScope,
+    ) -> Result<Stepped, Refusal>
+        requires right { (opening : PageBytes) × (relations : ℕ) × (counters : ℕ) × IsRight D.seen D.may_leave opening relations counters self.old × IsUnderWay relations counters (world D.seen opening self.old) scope.old }
+        requires writing { scope.old.stage ≡ Writing }
+        requires more { scope.old.written < length (changes_in scope.old) }
+        requires budget { HasBudget scope.old }
+        requires room { used self.old.store.log + scope.old.left < area_size self.old.store.log }
+        ensures goes { (opening : PageBytes) (relations counters : ℕ) → IsRight D.seen D.may_leave opening relations counters self.old → IsUnderWay relations counters (world D.seen opening self.old) scope.old →
+            IsRight D.seen D.may_leave opening relations counters self.new × GoesOn relations counters (world D.seen opening self.old) (world D.seen opening self.new) scope.old scope.new result }
+        ensures moments { (opening : PageBytes) → IsKept D.seen D.may_leave opening self.old.store → LeavesOnly D.moment D.left_since self.old.store.device self.new.store.device (Explains opening self.old.store) }
+        ensures log { used self.new.store.log + scope.new.left ≡ used self.old.store.log + scope.old.left }
+        ensures area { area_size self.new.store.log ≡ area_size self.old.store.log }
+        ensures budget { HasBudget scope.new }
+        ensures stage { scope.new.stage ≡ Writing }
+        ensures went { result ≡ Ok stepped.Went → scope.new.written ≡ scope.old.written + 1 }
+        ensures flush { result ≡ Ok stepped.Flush → scope.new ≡ scope.old }
+        ensures full { result ≡ Ok stepped.Flush → IsFull self.old.store.pool × (self.new ≡ self.old) }
+        ensures err { OnErr result (scope.new ≡ scope.old) }
+        ensures why { IfErr result IsCause }
+    {
+        let page = scope.changes.list[scope.written].page;
+        if !self.bring(page)? {
+            return Ok(Stepped::Flush);
+        }
+        self.write_there(alloc, scope)?;
+        Ok(Stepped::Went)
+    }
+
+    // The same of a page that is in a frame. Where memory is refused nothing has changed.
+    fn write_there(&mut self, alloc: Global, scope: &mut OpScope) -> Result<(), Refusal>
+        requires right { (opening : PageBytes) × (relations : ℕ) × (counters : ℕ) × IsRight D.seen D.may_leave opening relations counters self.old × IsUnderWay relations counters (world D.seen opening self.old) scope.old }
+        requires writing { scope.old.stage ≡ Writing }
+        requires more { scope.old.written < length (changes_in scope.old) }
+        requires there { (c : PageChange) → c ≡ get_or (changes_in scope.old) scope.old.written c → IsThere self.old.store.pool c.page }
+        requires budget { HasBudget scope.old }
+        requires room { used self.old.store.log + scope.old.left < area_size self.old.store.log }
+        ensures goes { (opening : PageBytes) (relations counters : ℕ) → IsRight D.seen D.may_leave opening relations counters self.old → IsUnderWay relations counters (world D.seen opening self.old) scope.old →
+            IsRight D.seen D.may_leave opening relations counters self.new × Goes relations counters (world D.seen opening self.old) (world D.seen opening self.new) scope.old scope.new }
+        ensures device { self.new.store.device ≡ self.old.store.device }
+        ensures log { used self.new.store.log + scope.new.left ≡ used self.old.store.log + scope.old.left }
+        ensures area { area_size self.new.store.log ≡ area_size self.old.store.log }
+        ensures budget { HasBudget scope.new }
+        ensures stage { scope.new.stage ≡ Writing }
+        ensures written { OnOk result (scope.new.written ≡ scope.old.written + 1) }
+        ensures err { OnErr result (scope.new ≡ scope.old) }
+        ensures why { IfErr result IsCause }
+    {
+        let before = self.store.log.used();
+        let change = &scope.changes.list[scope.written];
+        self.store.write(alloc, scope.txn, scope.number, change)?;
+        scope.left = scope.left + before - self.store.log.used();
+        scope.written += 1;
+        scope.standing += 1;
+        Ok(())
+    }
+
+    // Ends the operation: its end is appended where one is due, and with that it has acted on the base
+    // that the pages hold. Where memory is refused nothing has changed.
+    pub(crate) fn finish(&mut self, scope: &mut OpScope) -> Result<Stepped, Refusal>
+        requires right { (opening : PageBytes) × (relations : ℕ) × (counters : ℕ) × IsRight D.seen D.may_leave opening relations counters self.old × IsUnderWay relations counters (world D.seen opening self.old) scope.old × (relations ≤ 64) × (counters ≤ 128) }
+        requires writing { scope.old.stage ≡ Writing }
+        requires all { scope.old.written ≡ length (changes_in scope.old) }
+        requires budget { HasBudget scope.old }
+        requires room { used self.old.store.log + scope.old.left < area_size self.old.store.log }
+        ensures steps { (opening : PageBytes) (relations counters : ℕ) → IsRight D.seen D.may_leave opening relations counters self.old → IsUnderWay relations counters (world D.seen opening self.old) scope.old →
+            IsRight D.seen D.may_leave opening relations counters self.new × Steps relations counters (world D.seen opening self.old) (world D.seen opening self.new) scope.old scope.new result }
+        ensures device { self.new.store.device ≡ self.old.store.device }
+        ensures log { used self.new.store.log + scope.new.left ≡ used self.old.store.log + scope.old.left }
+        ensures area { area_size self.new.store.log ≡ area_size self.old.store.log }
+        ensures budget { HasBudget scope.new }
+        ensures ready { OnOk result (scope.new.stage ≡ Ready) }
+        ensures ended { (result ≡ Ok stepped.Went → ⊥) × (result ≡ Ok stepped.Flush → ⊥) }
+        ensures same { OnErr result (scope.new ≡ scope.old) }
+        ensures why { IfErr result IsCause }
+    {
+        let Some(reply) = &scope.reply else {
+            unreachable!()
+        };
+        let first = reply.try_clone()?;
+        let second = reply.try_clone()?;
+        if let Some(done) = logged(&scope.op, reply)? {
+            self.append_end(scope, done)?;
+        }
+        self.follow(&scope.changes);
+        self.note_looked(scope);
+        scope.stage = Stage::Ready;
+        Ok(Stepped::Ready(first, second))
+    }
+
+    // Appends the operation's end.
+    fn append_end(&mut self, scope: &mut OpScope, done: LoggedOp) -> Result<(), Refusal>
+        requires kept { (opening : PageBytes) × IsKept D.seen D.may_leave opening self.old.store }
+        requires numbers { IsTxn scope.old.txn × IsOp scope.old.number }
+        requires operation { IsOperation done }
+        requires rules { may_stand false (appended self.old.store.log) (OpEnd scope.old.txn scope.old.number scope.old.undoes done) ≡ true }
+        requires left { 2149 ≤ scope.old.left }
+        requires room { used self.old.store.log + scope.old.left < area_size self.old.store.log }
+        ensures kept { (opening : PageBytes) → IsKept D.seen D.may_leave opening self.old.store → IsKept D.seen D.may_leave opening self.new.store }
+        ensures notes { (opening : PageBytes) → OnOk result (Notes (world D.seen opening self.old) (world D.seen opening self.new) (OpEnd scope.old.txn scope.old.number scope.old.undoes done)) }
+        ensures rests { (opening : PageBytes) → OnErr result (Rests (world D.seen opening self.old) (world D.seen opening self.new)) }
+        ensures device { self.new.store.device ≡ self.old.store.device }
+        ensures pool { self.new.store.pool ≡ self.old.store.pool }
+        ensures map { self.new.map ≡ self.old.map }
+        ensures rooms { self.new.rooms ≡ self.old.rooms }
+        ensures locks { self.new.locks ≡ self.old.locks }
+        ensures log { used self.new.store.log + scope.new.left ≡ used self.old.store.log + scope.old.left }
+        ensures area { area_size self.new.store.log ≡ area_size self.old.store.log }
+        ensures scope { scope.new ≡ record scope.old { left = scope.new.left } }
+        ensures same { OnErr result (scope.new ≡ scope.old) }
+        ensures why { IfErr result IsCause }
+    {
+        let before_end = self.store.log.used();
+        self.store.append(Record::OpEnd {
+            txn: scope.txn,
+            op: scope.number,
+            undoes: scope.undoes,
+            done,
+        })?;
+        scope.left = scope.left + before_end - self.store.log.used();
+        Ok(())
+    }
+
+    // The map of the space follows the changes of an operation that has ended.
+    fn follow(&mut self, changes: &Changes)
+        requires short { (pages : PageBytes) × (pages 0 ≡ self.old.map) × AreShort changes.now.list.items pages × (length self.old.map ≡ 4096) }
+        ensures map { (pages : PageBytes) → pages 0 ≡ self.old.map → AreShort changes.now.list.items pages → self.new.map ≡ after changes.now.list.items pages 0 }
+        ensures store { self.new.store ≡ self.old.store }
+        ensures locks { self.new.locks ≡ self.old.locks }
+        ensures rooms { length self.new.rooms.0 ≡ length self.old.rooms.0 }
+    {
+        for change in &changes.list {
+            if change.page.get() == MAP {
+                patch(&mut self.map, change.edits.as_slice());
+            }
+        }
+    }
+
+    // Notes what the pages take that the operation looked at, once its changes are made.
+    fn note_looked(&mut self, scope: &OpScope)
+        requires pages { (pages : PageBytes) × Agrees (looked scope.now) pages × AreShort (changes_in scope.now) pages × ((p : ℕ) → get_or self.old.map p 0 ≡ 3 → IsShaped (after (changes_in scope.now) pages p)) }
+        requires whole { (p : ℕ) (bytes : List ℕ) → looked scope.now p ≡ Some bytes → length bytes ≡ 4096 }
+        requires inside { (p : ℕ) → IsSome (looked scope.now p) → p < length self.old.rooms.0 }
+        requires few { length self.old.rooms.0 ≤ 4096 }
+        ensures store { self.new.store ≡ self.old.store }
+        ensures locks { self.new.locks ≡ self.old.locks }
+        ensures map { self.new.map ≡ self.old.map }
+        ensures rooms { length self.new.rooms.0 ≡ length self.old.rooms.0 }
+        ensures noted { (pages : PageBytes) → Agrees (looked scope.now) pages → AreShort (changes_in scope.now) pages → HasRooms scope.now self.old.map self.new.rooms.0 pages }
+        ensures others { (p : ℕ) → looked scope.now p ≡ None → get_or self.new.rooms.0 p 0 ≡ get_or self.old.rooms.0 p 0 }
+    {
+        for guard in &scope.guards {
+            let page = guard.lock().page;
+            if let Some(before) = scope.seen.page(page) {
+                let room = self.room_after(&scope.changes, page, before);
+                self.rooms.noted(page, room);
+            }
+        }
+    }
+
+    // What a page takes once these changes are made: nothing where it does not hold records.
+    fn room_after(&self, changes: &Changes, page: PageNo, before: &[u8; 4096]) -> u16
+        requires inside { page < 4096 }
+        requires whole { length before.now ≡ 4096 }
+        requires pages { (pages : PageBytes) × (pages page ≡ before.now) × AreShort changes.now.list.items pages × (get_or self.now.map page 0 ≡ 3 → IsShaped (after changes.now.list.items pages page)) }
+        ensures records { (pages : PageBytes) → pages page ≡ before.now → AreShort changes.now.list.items pages → get_or self.now.map page 0 ≡ 3 → result ≡ fits_of (after changes.now.list.items pages page) }
+        ensures others { get_or self.now.map page 0 ≢ 3 → result ≡ 0 }
+    {
+        if self.map[usize::from(page.get())] != RECORDS {
+            return 0;
+        }
+        let mut bytes = *before;
+        for change in &changes.list {
+            if change.page == page {
+                patch(&mut bytes, change.edits.as_slice());
+            }
+        }
+        fits(&bytes)
+    }
+}

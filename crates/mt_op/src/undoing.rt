@@ -1,0 +1,198 @@
+// Taking an operation back, and the end of its locks.
+ghost use Rattle.std.specs.Prelude.{◌≡◌, ◌≢◌, ◌⊎◌, ◌<◌, ◌≤◌, ◌+◌, ◌-◌, ℕ, List, [], length, get_or, false, true, IfErr, OnErr, OnOk, Ok, Some, IsSome};
+ghost use Rattle.mt_plock.specs.Releasing.{locks_of, locks_without};
+ghost use Rattle.mt_pool.specs.Views.{IsThere, IsFull, waits_for, pages};
+ghost use Rattle.mt_pool.specs.declared.changes.PageChange.{PageChange};
+ghost use Rattle.mt_disk.specs.Disk.{LeavesOnly};
+ghost use Rattle.mt_frame.specs.Grammar.{IsRecord};
+ghost use Rattle.mt_frame.specs.History.{may_stand};
+ghost use Rattle.mt_frame.specs.declared.records.Record.TheVariants.{OpDropped};
+ghost use Rattle.mt_log.specs.Words.{appended, used, area_size};
+ghost use Rattle.mt_pool.specs.Changes.{PageBytes};
+ghost use Rattle.mt_pool.specs.Kept.{IsKept, Explains};
+ghost use Rattle.mt_op.specs.World.{IsUnderWay, changes_in, held_in, looked};
+ghost use Rattle.mt_op.specs.Moves.{Rests, Notes, Leaves, PutsBack};
+ghost use Rattle.mt_op.specs.Operations.{world, IsRight, Goes, HasBudget, IsCause};
+ghost use Rattle.mt_op.specs.declared.scope.Stage.TheVariants.{Planning, Writing, Ready, Taking, Cleared};
+ghost use Rattle.mt_op.specs.declared.answers.TakenBack.TheVariants as taken;
+
+use crate::answers::TakenBack;
+use crate::operations::Operations;
+use crate::scope::{OpScope, Stage};
+use mt_base::{PageNo, Refusal};
+use mt_disk::Device;
+use mt_frame::Record;
+use mt_pool::Pages;
+
+impl<D: Device> Operations<D> {
+    /// Takes the operation back a step: the page that it wrote last, of those that still stand, gets its bytes
+    /// from before the operation. Before the last of them is put back, the record is appended that tells
+    /// of the taking back; where nothing was written there is none. The pages held stay throughout.
+    ///
+    /// [`TakenBack::Flush`] and the refusals change nothing: [`Refusal::NoMemory`], where the record cannot be
+    /// appended, and [`Refusal::DeviceFailed`].
+    pub fn take_back(&mut self, scope: &mut OpScope) -> Result<TakenBack, Refusal>
+        requires right { (opening : PageBytes) × (relations : ℕ) × (counters : ℕ) × IsRight D.seen D.may_leave opening relations counters self.old × IsUnderWay relations counters (world D.seen opening self.old) scope.old }
+        requires stage { (scope.old.stage ≡ Planning) ⊎ ((scope.old.stage ≡ Writing) ⊎ (scope.old.stage ≡ Taking)) }
+        requires budget { HasBudget scope.old }
+        requires room { used self.old.store.log + scope.old.left < area_size self.old.store.log }
+        ensures goes { (opening : PageBytes) (relations counters : ℕ) → IsRight D.seen D.may_leave opening relations counters self.old → IsUnderWay relations counters (world D.seen opening self.old) scope.old →
+            IsRight D.seen D.may_leave opening relations counters self.new × Goes relations counters (world D.seen opening self.old) (world D.seen opening self.new) scope.old scope.new }
+        ensures moments { (opening : PageBytes) → IsKept D.seen D.may_leave opening self.old.store → LeavesOnly D.moment D.left_since self.old.store.device self.new.store.device (Explains opening self.old.store) }
+        ensures more { result ≡ Ok taken.More → (scope.new.stage ≡ Taking) × (scope.new.standing + 1 ≡ scope.old.standing) }
+        ensures clear { result ≡ Ok taken.Clear → (scope.new.stage ≡ Cleared) × (scope.old.standing ≤ 1) }
+        ensures log { used self.new.store.log + scope.new.left ≡ used self.old.store.log + scope.old.left }
+        ensures area { area_size self.new.store.log ≡ area_size self.old.store.log }
+        ensures budget { HasBudget scope.new }
+        ensures err { OnErr result (scope.new ≡ scope.old) }
+        ensures flush { result ≡ Ok taken.Flush → scope.new ≡ scope.old }
+        ensures full { result ≡ Ok taken.Flush → IsFull self.old.store.pool × (self.new ≡ self.old) }
+        ensures why { IfErr result IsCause }
+    {
+        if scope.standing == 0 {
+            scope.stage = Stage::Cleared;
+            return Ok(TakenBack::Clear);
+        }
+        let page = scope.changes.list[scope.standing - 1].page;
+        if !self.bring(page)? {
+            return Ok(TakenBack::Flush);
+        }
+        if scope.standing == 1 {
+            self.clear(scope, page)
+        } else {
+            self.put_back(scope, page);
+            scope.standing -= 1;
+            scope.stage = Stage::Taking;
+            Ok(TakenBack::More)
+        }
+    }
+
+    // Puts a page back as the operation looked at it. It is in a frame, and has a record.
+    fn put_back(&mut self, scope: &OpScope, page: PageNo)
+        requires kept { (opening : PageBytes) × IsKept D.seen D.may_leave opening self.old.store }
+        requires looked { IsSome (looked scope.now page) }
+        requires whole { (p : ℕ) (bytes : List ℕ) → looked scope.now p ≡ Some bytes → length bytes ≡ 4096 }
+        requires inside { page < pages self.old.store.pool }
+        requires there { IsThere self.old.store.pool page }
+        requires logged { 0 < waits_for self.old.store.pool page }
+        ensures kept { (opening : PageBytes) → IsKept D.seen D.may_leave opening self.old.store → IsKept D.seen D.may_leave opening self.new.store }
+        ensures back { (opening : PageBytes) (c : PageChange) → c.page ≡ page → PutsBack (world D.seen opening self.old) (world D.seen opening self.new) scope.now c [] }
+        ensures device { self.new.store.device ≡ self.old.store.device }
+        ensures log { self.new.store.log ≡ self.old.store.log }
+        ensures map { self.new.map ≡ self.old.map }
+        ensures rooms { self.new.rooms ≡ self.old.rooms }
+    {
+        match scope.seen.page(page) {
+            Some(before) => self.store.restore(page, 0, before),
+            None => unreachable!(),
+        }
+    }
+
+    // Appends the record that the operation was taken back. Where memory is refused nothing has changed.
+    fn append_dropped(&mut self, scope: &OpScope) -> Result<(), Refusal>
+        requires kept { (opening : PageBytes) × IsKept D.seen D.may_leave opening self.old.store }
+        requires grammar { IsRecord (OpDropped scope.now.txn scope.now.number) }
+        requires rules { may_stand false (appended self.old.store.log) (OpDropped scope.now.txn scope.now.number) ≡ true }
+        requires room { used self.old.store.log + 22 < area_size self.old.store.log }
+        ensures kept { (opening : PageBytes) → IsKept D.seen D.may_leave opening self.old.store → IsKept D.seen D.may_leave opening self.new.store }
+        ensures notes { (opening : PageBytes) → OnOk result (Notes (world D.seen opening self.old) (world D.seen opening self.new) (OpDropped scope.now.txn scope.now.number)) }
+        ensures rests { (opening : PageBytes) → OnErr result (Rests (world D.seen opening self.old) (world D.seen opening self.new)) }
+        ensures device { self.new.store.device ≡ self.old.store.device }
+        ensures pool { self.new.store.pool ≡ self.old.store.pool }
+        ensures map { self.new.map ≡ self.old.map }
+        ensures rooms { self.new.rooms ≡ self.old.rooms }
+        ensures used { OnOk result (used self.new.store.log ≡ used self.old.store.log + 22) }
+        ensures err_used { OnErr result (used self.new.store.log ≡ used self.old.store.log) }
+        ensures area { area_size self.new.store.log ≡ area_size self.old.store.log }
+        ensures why { IfErr result IsCause }
+    {
+        self.store.append(Record::OpDropped {
+            txn: scope.txn,
+            op: scope.number,
+        })?;
+        Ok(())
+    }
+
+    // Appends the record that the operation was taken back, and puts its last page back, which is in a frame.
+    fn clear(&mut self, scope: &mut OpScope, page: PageNo) -> Result<TakenBack, Refusal>
+        requires right { (opening : PageBytes) × (relations : ℕ) × (counters : ℕ) × IsRight D.seen D.may_leave opening relations counters self.old × IsUnderWay relations counters (world D.seen opening self.old) scope.old }
+        requires stage { (scope.old.stage ≡ Writing) ⊎ (scope.old.stage ≡ Taking) }
+        requires last { scope.old.standing ≡ 1 }
+        requires page { (c : PageChange) × (c ≡ get_or (changes_in scope.old) (scope.old.standing - 1) c) × (c.page ≡ page) }
+        requires there { IsThere self.old.store.pool page }
+        requires budget { HasBudget scope.old }
+        requires room { used self.old.store.log + scope.old.left < area_size self.old.store.log }
+        ensures goes { (opening : PageBytes) (relations counters : ℕ) → IsRight D.seen D.may_leave opening relations counters self.old → IsUnderWay relations counters (world D.seen opening self.old) scope.old →
+            IsRight D.seen D.may_leave opening relations counters self.new × Goes relations counters (world D.seen opening self.old) (world D.seen opening self.new) scope.old scope.new }
+        ensures device { self.new.store.device ≡ self.old.store.device }
+        ensures clear { OnOk result ((result ≡ Ok taken.Clear) × (scope.new.stage ≡ Cleared)) }
+        ensures log { used self.new.store.log + scope.new.left ≡ used self.old.store.log + scope.old.left }
+        ensures area { area_size self.new.store.log ≡ area_size self.old.store.log }
+        ensures budget { HasBudget scope.new }
+        ensures err { OnErr result (scope.new ≡ scope.old) }
+        ensures why { IfErr result IsCause }
+    {
+        let before = self.store.log.used();
+        self.append_dropped(scope)?;
+        self.put_back(scope, page);
+        scope.left = scope.left + before - self.store.log.used();
+        scope.standing = 0;
+        scope.stage = Stage::Cleared;
+        Ok(TakenBack::Clear)
+    }
+
+    /// Ends an operation that is ready: its locks are given back. It takes no memory.
+    pub fn end(&mut self, scope: OpScope)
+        requires ready { scope.stage ≡ Ready }
+        requires right { (opening : PageBytes) × (relations : ℕ) × (counters : ℕ) × IsRight D.seen D.may_leave opening relations counters self.old × IsUnderWay relations counters (world D.seen opening self.old) scope }
+        ensures right { (opening : PageBytes) (relations counters : ℕ) → IsRight D.seen D.may_leave opening relations counters self.old → IsUnderWay relations counters (world D.seen opening self.old) scope → IsRight D.seen D.may_leave opening relations counters self.new }
+        ensures held { (opening : PageBytes) → held_in (world D.seen opening self.new) ≡ held_in (world D.seen opening self.old) }
+        ensures others { (opening : PageBytes) (relations counters : ℕ) (u : OpScope) → IsUnderWay relations counters (world D.seen opening self.old) u → u.number ≢ scope.number → IsUnderWay relations counters (world D.seen opening self.new) u }
+        ensures locks { self.new.locks ≡ locks_without scope.number self.old.locks }
+        ensures store { self.new.store ≡ self.old.store }
+    {
+        self.release(scope); // its end is in the log
+    }
+
+    /// Drops an operation out that was taken back: its locks are given back, and nothing of it is left. It
+    /// takes no memory.
+    pub fn drop_out(&mut self, scope: OpScope)
+        requires cleared { scope.stage ≡ Cleared }
+        requires right { (opening : PageBytes) × (relations : ℕ) × (counters : ℕ) × IsRight D.seen D.may_leave opening relations counters self.old × IsUnderWay relations counters (world D.seen opening self.old) scope }
+        ensures right { (opening : PageBytes) (relations counters : ℕ) → IsRight D.seen D.may_leave opening relations counters self.old → IsUnderWay relations counters (world D.seen opening self.old) scope → IsRight D.seen D.may_leave opening relations counters self.new }
+        ensures held { (opening : PageBytes) → held_in (world D.seen opening self.new) ≡ held_in (world D.seen opening self.old) }
+        ensures others { (opening : PageBytes) (relations counters : ℕ) (u : OpScope) → IsUnderWay relations counters (world D.seen opening self.old) u → u.number ≢ scope.number → IsUnderWay relations counters (world D.seen opening self.new) u }
+        ensures locks { self.new.locks ≡ locks_without scope.number self.old.locks }
+        ensures store { self.new.store ≡ self.old.store }
+    {
+        self.release(scope); // nothing else of it is left
+    }
+
+    // Gives the operation's locks back, and spends it.
+    fn release(&mut self, scope: OpScope)
+        requires locks { locks_of scope.number self.old.locks ≡ scope.guards.items }
+        ensures leaves { (opening : PageBytes) → Leaves (world D.seen opening self.old) (world D.seen opening self.new) scope }
+        ensures locks { self.new.locks ≡ locks_without scope.number self.old.locks }
+        ensures store { self.new.store ≡ self.old.store }
+        ensures map { self.new.map ≡ self.old.map }
+        ensures rooms { self.new.rooms ≡ self.old.rooms }
+    {
+        let OpScope {
+            txn: _,
+            number: _,
+            op: _,
+            undoes: _,
+            split: _,
+            left: _,
+            room: _,
+            guards,
+            seen: _,
+            stage: _,
+            changes: _,
+            reply: _,
+            written: _,
+            standing: _,
+        } = scope;
+        self.locks.release_all(guards);
+    }
+}

@@ -43,11 +43,11 @@ pub record IsAnew (s t : OpScope) : Type 0 where
   pub standing : t.standing ≡ s.standing
   pub left : t.left ≡ s.left
 
--- The smallest operation that holds a lock in the way of one that it asks for; all such are larger than it.
+-- On some page and in some mode: the smallest operation that holds a lock in its way; all such are larger than it.
 abbrev pub IsAwaited : World → OpScope → ℕ → Type 0
 IsAwaited w s holder = (p : ℕ) × (mode : Mode) × IsLeastHolder (lock_of s.number p mode) w.locks holder × All (λ held. is_in_way (lock_of s.number p mode) held ≡ true → s.number < held.op) w.locks
 
--- A smaller operation holds a lock in the way.
+-- On some page and in some mode a smaller operation holds a lock in its way.
 abbrev pub IsBarred : World → OpScope → Type 0
 IsBarred w s = (p : ℕ) × (mode : Mode) × Any (λ held. (is_in_way (lock_of s.number p mode) held ≡ true) × (held.op < s.number)) w.locks
 

@@ -21,7 +21,7 @@ use Rattle.mt_op.specs.declared.answers.Stepped.{Stepped}
 use Rattle.mt_op.specs.declared.answers.Stepped.TheVariants as stepped
 use Rattle.mt_op.specs.declared.scope.OpScope.{OpScope}
 use Rattle.mt_op.specs.declared.scope.Stage.TheVariants.{Planning, Writing}
-use Rattle.mt_op.proofs.Going.{planning_of, awaited_of, barred_of}
+use Rattle.mt_op.proofs.Going.{planning_of, awaited_of, barred_of, left_of}
 use Rattle.mt_op.proofs.Planned.{some_or_none, not_at_hand}
 use Rattle.mt_op.proofs.Writing.{plans}
 
@@ -79,7 +79,7 @@ module _ (relations counters : ℕ) where
   steps_then w m z s t u (Ok (stepped.Ready first second)) locks f g = (acts_then w m z s t u first f g.0, g.1)
   steps_then w m z s t u (Ok stepped.Went) locks f g = goes_then w m z s t u f g
   steps_then w m z s t u (Ok (stepped.Wait holder)) locks f g = (goes_then w m z s t u f g.0, awaited_of m w t s holder locks f.same.number g.1)
-  steps_then w m z s t u (Ok stepped.Again) locks f g = (goes_then w m z s t u f g.0, barred_of m w t s locks f.same.number g.1)
+  steps_then w m z s t u (Ok stepped.Again) locks f g = (goes_then w m z s t u f g.0, barred_of m w t s locks f.same.number g.1, left_of m w z t s u locks f.same.number g.2)
   steps_then w m z s t u (Ok stepped.Flush) locks f g = goes_then w m z s t u f g
   steps_then w m z s t u (Err why) locks f g = goes_then w m z s t u f g
 

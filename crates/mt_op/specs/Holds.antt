@@ -3,6 +3,7 @@ use Rattle.std.specs.Prelude.{◌≡◌, ◌<◌, ◌++◌, ◌∷◌, [], ℕ, 
 use Rattle.mt_base.specs.declared.modes.Mode.{Mode}
 use Rattle.mt_base.specs.declared.refusal.Refusal.{Refusal}
 use Rattle.mt_plock.specs.Holding.{lock_of, is_in_way, IsLeastHolder}
+use Rattle.mt_plock.specs.Releasing.{locks_without}
 use Rattle.mt_op.specs.World.{World}
 use Rattle.mt_op.specs.Moves.{SameOp, SamePlan, Locks, Rests, Leaves}
 use Rattle.mt_op.specs.declared.scope.OpScope.{OpScope}
@@ -50,6 +51,10 @@ IsAwaited w s holder = (p : ℕ) × (mode : Mode) × IsLeastHolder (lock_of s.nu
 -- On some page and in some mode a smaller operation holds a lock in its way.
 abbrev pub IsBarred : World → OpScope → Type 0
 IsBarred w s = (p : ℕ) × (mode : Mode) × Any (λ held. (is_in_way (lock_of s.number p mode) held ≡ true) × (held.op < s.number)) w.locks
+
+-- All its locks are given back, and no other's.
+abbrev pub HasLeft : World → World → OpScope → OpScope → Type 0
+HasLeft w z s t = (z.locks ≡ locks_without s.number w.locks) × (t.guards.items ≡ [])
 
 abbrev pub IsHeld : World → World → OpScope → OpScope → ℕ → Mode → Result Stepped Refusal → Type 0
 IsHeld w z s t p mode (Ok stepped.Went) = Locks w z (lock_of s.number p mode) × Holds s t p mode

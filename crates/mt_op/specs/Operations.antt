@@ -13,7 +13,7 @@ use Rattle.mt_pool.specs.Views.{view, pages}
 use Rattle.mt_steps.specs.Held.{Holds}
 use Rattle.mt_op.specs.World.{World, held_in, IsWorld, IsUnderWay, IsOther, changes_in}
 use Rattle.mt_op.specs.Moves.{SameOp}
-use Rattle.mt_op.specs.Holds.{IsAwaited, IsBarred}
+use Rattle.mt_op.specs.Holds.{IsAwaited, IsBarred, HasLeft}
 use Rattle.mt_op.specs.declared.operations.Operations.{Operations}
 use Rattle.mt_op.specs.declared.scope.OpScope.{OpScope}
 use Rattle.mt_op.specs.declared.scope.Stage.{Stage}
@@ -84,7 +84,7 @@ abbrev pub Steps : ℕ → ℕ → World → World → OpScope → OpScope → R
 Steps relations counters w z s t (Ok (stepped.Ready first second)) = Acts relations counters w z s t first × (second ≡ first)
 Steps relations counters w z s t (Ok stepped.Went) = Goes relations counters w z s t
 Steps relations counters w z s t (Ok (stepped.Wait holder)) = Goes relations counters w z s t × IsAwaited w s holder
-Steps relations counters w z s t (Ok stepped.Again) = Goes relations counters w z s t × IsBarred w s
+Steps relations counters w z s t (Ok stepped.Again) = Goes relations counters w z s t × IsBarred w s × HasLeft w z s t
 Steps relations counters w z s t (Ok stepped.Flush) = Goes relations counters w z s t
 Steps relations counters w z s t (Err why) = Goes relations counters w z s t
 
@@ -93,7 +93,7 @@ abbrev pub GoesOn : ℕ → ℕ → World → World → OpScope → OpScope → 
 GoesOn relations counters w z s t (Ok (stepped.Ready first second)) = ⊥
 GoesOn relations counters w z s t (Ok stepped.Went) = Goes relations counters w z s t
 GoesOn relations counters w z s t (Ok (stepped.Wait holder)) = Goes relations counters w z s t × IsAwaited w s holder
-GoesOn relations counters w z s t (Ok stepped.Again) = Goes relations counters w z s t × IsBarred w s
+GoesOn relations counters w z s t (Ok stepped.Again) = Goes relations counters w z s t × IsBarred w s × HasLeft w z s t
 GoesOn relations counters w z s t (Ok stepped.Flush) = Goes relations counters w z s t
 GoesOn relations counters w z s t (Err why) = Goes relations counters w z s t
 

@@ -106,6 +106,20 @@ impl Space {
         self.free += 1;
     }
 
+    /// Makes the pages free that are free by a map, a byte for each page, and no other. What is reserved stays
+    /// reserved: so many pages are free by the map. It takes no memory.
+    pub fn follow(&mut self, map: &[u8])
+        requires map { length map.now ≡ 4096 }
+        requires room { reserved_of self.old ≤ free_in (mapped map.now (length self.old.0)) }
+        ensures free { self.new.0 ≡ mapped map.now (length self.old.0) }
+        ensures reserved { reserved_of self.new ≡ reserved_of self.old }
+    {
+        let kinds = &map[..self.pages.len()];
+        note_free(self.pages.as_mut_slice(), kinds);
+        self.free = count_free(self.pages.as_slice());
+        note_groups(self.groups.as_mut_slice(), self.pages.as_slice());
+    }
+
     /// Whether a page of the device is free.
     pub fn is_free(&self, page: PageNo) -> bool
         requires { page < length self.now.0 }
@@ -139,6 +153,30 @@ fn freedom(alloc: Global, kinds: &[u8]) -> Result<Vec<bool>, AllocError>
         pages.push(*kind == 0)?;
     }
     Ok(pages)
+}
+
+// Notes of each page whether its kind is that of a free one.
+fn note_free(pages: &mut [bool], kinds: &[u8])
+    requires { length kinds.now ≡ length pages.old }
+    ensures { pages.new ≡ map (λ kind. kind == 0) kinds.now }
+{
+    for page in 0..pages.len() {
+        pages[page] = kinds[page] == 0;
+    }
+}
+
+// Notes of each group whether one of its pages is free.
+fn note_groups(groups: &mut [bool], pages: &[bool])
+    requires few { length pages.now ≤ 4000 }
+    requires few_groups { length groups.old ≤ 64 }
+    requires grouped { length pages.now ≤ 64 * length groups.old }
+    ensures size { length groups.new ≡ length groups.old }
+    ensures covered { (group : ℕ) → get_or groups.new group false ≡ false → HasNone pages.now group }
+{
+    for group in 0..groups.len() {
+        let more = first_in(pages, group).is_some();
+        groups[group] = more;
+    }
 }
 
 // How many pages are free.

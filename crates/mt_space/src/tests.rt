@@ -25,6 +25,12 @@ fn pages_are_reserved_and_taken(rt: HostRuntime) -> Result<(), Fail> {
     assert_eq!(rt; space.take().get(), 4);
     space.give_back(9);
     assert_eq!(rt; space.reserved(), 0);
+
+    map[4] = 3;
+    space.follow(&map);
+    assert_eq!(rt; space.free(), 11);
+    space.claim(1)?;
+    assert_eq!(rt; space.take().get(), 5);
     Ok(())
 }
 

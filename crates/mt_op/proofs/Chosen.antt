@@ -1,5 +1,5 @@
 -- An operation whose plan is made, and the answers on the way there.
-use Rattle.std.proofs.Common.{◌≡◌, ◌≤◌, ⊎_elim, ℕ, List, [], length, refl, sym, subst, ◌∙◌, ap, Option, Some, None}
+use Rattle.std.proofs.Common.{◌≡◌, ◌≤◌, ⊎_elim, ℕ, List, [], ◌++◌, length, refl, sym, subst, ◌∙◌, ap, Option, Some, None}
 use Rattle.std.specs.Prelude.{All, Contains, IsSome, Result, Ok, Err}
 use Rattle.mt_base.specs.declared.modes.Mode.TheVariants.{Write}
 use Rattle.mt_base.specs.declared.refusal.Refusal.{Refusal}
@@ -16,7 +16,8 @@ use Rattle.mt_steps.specs.Logged.{logged_of}
 use Rattle.mt_steps.specs.Plans.{InPages, IsPlanned}
 use Rattle.mt_op.specs.World.{World, held_in, looked, IsWorld, IsUnderWay, IsOther}
 use Rattle.mt_op.specs.Moves.{SameOp}
-use Rattle.mt_op.specs.Operations.{Goes, Acts, GoesOn, Steps, IsPlannedOn}
+use Rattle.mt_op.specs.Operations.{Goes, Acts, GoesOn, Steps, GivesBack, IsPlannedOn}
+use Rattle.mt_op.specs.Records.{end_with}
 use Rattle.mt_op.specs.declared.answers.Stepped.{Stepped}
 use Rattle.mt_op.specs.declared.answers.Stepped.TheVariants as stepped
 use Rattle.mt_op.specs.declared.scope.OpScope.{OpScope}
@@ -30,7 +31,7 @@ pub touched_seen : (at_hand : ℕ → Option (List ℕ)) (cs : List PageChange) 
 touched_seen at_hand cs p there touched = ⊎_elim (λ some. some) (λ none. absurd (touched (not_at_hand at_hand cs p there none))) (some_or_none (at_hand p))
 
 then_same : (s t u : OpScope) → SameOp s t → SameOp t u → SameOp s u
-then_same s t u f g = record { txn = g.txn ∙ f.txn; number = g.number ∙ f.number; op = g.op ∙ f.op; undoes = g.undoes ∙ f.undoes; total = g.total ∙ f.total }
+then_same s t u f g = record { txn = g.txn ∙ f.txn; number = g.number ∙ f.number; op = g.op ∙ f.op; undoes = g.undoes ∙ f.undoes; split = g.split ∙ f.split; total = g.total ∙ f.total }
 
 same_other : (s t v : OpScope) → SameOp s t → IsOther s v → IsOther t v
 same_other s t v op other = record { number = λ e. other.number (e ∙ op.number); txn = λ e. other.txn (e ∙ op.txn) }
@@ -43,12 +44,12 @@ module _ (relations counters : ℕ) where
   pub keeps_plan : (w : World) (s : OpScope) (changes : Changes) (reply : Reply) → IsWorld relations counters w → IsUnderWay relations counters w s → s.stage ≡ Planning
       → AreAtHand (looked s) changes.list.items → length changes.list.items ≤ 8 → (logged_of s.op reply ≡ None → changes.list.items ≡ [])
       → All (λ (c : PageChange). Contains s.guards.items (lock_of s.number c.page Write)) changes.list.items
-      → InPages (looked s) s.room relations counters s.seen.total (λ pages. IsPlanned relations counters s.seen.total (looked s) pages changes.list.items s.op reply)
+      → InPages (looked s) s.room relations counters s.seen.total (λ pages. IsPlanned relations counters s.seen.total (looked s) pages changes.list.items s.op s.split reply)
       → Goes relations counters w w s (record s { changes = changes; reply = Some reply; stage = Writing })
   keeps_plan w s changes reply h k planning there few quiet locked planned =
       let t : OpScope = record s { changes = changes; reply = Some reply; stage = Writing } in
       let at = planning_of relations counters w s planning k in
-      let op : SameOp s t = record { txn = refl; number = refl; op = refl; undoes = refl; total = refl } in
+      let op : SameOp s t = record { txn = refl; number = refl; op = refl; undoes = refl; split = refl; total = refl } in
       record {
         own = plans relations counters w s t h k planning op refl refl refl
             (record { reply = reply; replies = refl; planned = planned; there = there; quiet = quiet; few = few; locked = locked }) refl at.none_written at.none_standing;
@@ -66,22 +67,23 @@ module _ (relations counters : ℕ) where
     same = then_same s t u f.same g.same;
   }
 
-  acts_then : (w m z : World) (s t u : OpScope) (reply : Reply) → Goes relations counters w m s t → Acts relations counters m z t u reply → Acts relations counters w z s u reply
-  acts_then w m z s t u reply f g = record {
+  acts_then : (w m z : World) (s t u : OpScope) (reply : Reply) → m.records ≡ w.records → Goes relations counters w m s t → Acts relations counters m z t u reply → Acts relations counters w z s u reply
+  acts_then w m z s t u reply records f g = record {
     own = g.own;
     others = λ v kv other. g.others v (f.others v kv other) (same_other s t v f.same other);
     replies = λ b holds. ap (reply_of b) (sym f.same.op) ∙ g.replies b (subst (λ (h : PageBytes). Holds h b) (sym f.held) holds);
     base = λ b holds. subst (λ (o : Op). Holds (held_in z) (base_after b o)) f.same.op (g.base b (subst (λ (h : PageBytes). Holds h b) (sym f.held) holds));
+    ended = g.ended ∙ (λ i. records i ++ end_with (f.same.txn i) (f.same.number i) (f.same.undoes i) (logged_of (f.same.op i) reply));
     same = then_same s t u f.same g.same;
   }
 
-  pub steps_then : (w m z : World) (s t u : OpScope) (r : Result Stepped Refusal) → m.locks ≡ w.locks → Goes relations counters w m s t → Steps relations counters m z t u r → Steps relations counters w z s u r
-  steps_then w m z s t u (Ok (stepped.Ready first second)) locks f g = (acts_then w m z s t u first f g.0, g.1)
-  steps_then w m z s t u (Ok stepped.Went) locks f g = goes_then w m z s t u f g
-  steps_then w m z s t u (Ok (stepped.Wait holder)) locks f g = (goes_then w m z s t u f g.0, awaited_of m w t s holder locks f.same.number g.1)
-  steps_then w m z s t u (Ok stepped.Again) locks f g = (goes_then w m z s t u f g.0, barred_of m w t s locks f.same.number g.1, left_of m w z t s u locks f.same.number g.2)
-  steps_then w m z s t u (Ok stepped.Flush) locks f g = goes_then w m z s t u f g
-  steps_then w m z s t u (Err why) locks f g = goes_then w m z s t u f g
+  pub steps_then : (w m z : World) (s t u : OpScope) (r : Result Stepped Refusal) → m.locks ≡ w.locks → m.records ≡ w.records → Goes relations counters w m s t → Steps relations counters m z t u r → Steps relations counters w z s u r
+  steps_then w m z s t u (Ok (stepped.Ready first second)) locks records f g = (acts_then w m z s t u first records f g.0, g.1)
+  steps_then w m z s t u (Ok stepped.Went) locks records f g = goes_then w m z s t u f g
+  steps_then w m z s t u (Ok (stepped.Wait holder)) locks records f g = (goes_then w m z s t u f g.0, awaited_of m w t s holder locks f.same.number g.1)
+  steps_then w m z s t u (Ok stepped.Again) locks records f g = (goes_then w m z s t u f g.0, barred_of m w t s locks f.same.number g.1, left_of m w z t s u locks f.same.number g.2)
+  steps_then w m z s t u (Ok stepped.Flush) locks records f g = goes_then w m z s t u f g
+  steps_then w m z s t u (Err why) locks records f g = goes_then w m z s t u f g
 
   pub on_steps : (w z : World) (s t : OpScope) (r : Result Stepped Refusal) → GoesOn relations counters w z s t r → Steps relations counters w z s t r
   on_steps w z s t (Ok (stepped.Ready first second)) g = absurd g
@@ -90,6 +92,15 @@ module _ (relations counters : ℕ) where
   on_steps w z s t (Ok stepped.Again) g = g
   on_steps w z s t (Ok stepped.Flush) g = g
   on_steps w z s t (Err why) g = g
+
+  -- an operation that goes on keeps its claim
+  pub on_keeps : (w z : World) (s t : OpScope) (r : Result Stepped Refusal) (claim before now : ℕ) → GoesOn relations counters w z s t r → now ≡ before → GivesBack claim before now r
+  on_keeps w z s t (Ok (stepped.Ready first second)) claim before now g same = absurd g
+  on_keeps w z s t (Ok stepped.Went) claim before now g same = same
+  on_keeps w z s t (Ok (stepped.Wait holder)) claim before now g same = same
+  on_keeps w z s t (Ok stepped.Again) claim before now g same = same
+  on_keeps w z s t (Ok stepped.Flush) claim before now g same = same
+  on_keeps w z s t (Err why) claim before now g same = same
 
   pub err_steps : (w z : World) (s t : OpScope) (r : Result Stepped Refusal) (why : Refusal) → r ≡ Err why → Goes relations counters w z s t → Steps relations counters w z s t r
   err_steps w z s t r why is g = subst (Steps relations counters w z s t) (sym is) g

@@ -53,7 +53,7 @@ module _ (relations counters : ℕ) (w z : World) (s : OpScope) (done : LoggedOp
   now : IsWriting relations counters w s
   now = subst (IsAt relations counters w s) stage k.at
 
-  planned : IsPlanned relations counters w.total (looked s) (held_in w) (changes_in s) s.op now.plan.reply
+  planned : IsPlanned relations counters w.total (looked s) (held_in w) (changes_in s) s.op s.split now.plan.reply
   planned = planned_held relations counters w s now.plan h k now.sees
 
   more : repeated_in z ≡ finished (repeated_in w) s.number
@@ -92,9 +92,9 @@ module _ (relations counters : ℕ) (w z : World) (s : OpScope) (done : LoggedOp
           (seen_or_not (looked s p))
 
   pub ends : (reply : Reply) → s.reply ≡ Some reply
-      → IsWorld relations counters z × (held_in z ≡ after (changes_in s) (held_in w)) × IsPlanned relations counters w.total (looked s) (held_in w) (changes_in s) s.op reply
+      → IsWorld relations counters z × (held_in z ≡ after (changes_in s) (held_in w)) × IsPlanned relations counters w.total (looked s) (held_in w) (changes_in s) s.op s.split reply
   ends reply is =
-      (world_ends, ends_held, subst (IsPlanned relations counters w.total (looked s) (held_in w) (changes_in s) s.op) (reply_is s.reply now.plan.reply reply now.plan.replies is) planned)
+      (world_ends, ends_held, subst (IsPlanned relations counters w.total (looked s) (held_in w) (changes_in s) s.op s.split) (reply_is s.reply now.plan.reply reply now.plan.replies is) planned)
 
   pub others_end : (u : OpScope) → IsUnderWay relations counters w u → IsOther s u → IsUnderWay relations counters z u
   others_end u ku other = way_stays relations counters w z u (record {
@@ -134,11 +134,11 @@ module _ (relations counters : ℕ) (w : World) (s : OpScope) (h : IsWorld relat
       let unwritten : s.written ≡ 0 = omega arith in
       writing.done ∙ ap (λ (n : ℕ). changes_of s.number (take n (changes_in s)) (looked_bytes s)) unwritten
 
-  pub ends_quietly : (reply : Reply) → s.reply ≡ Some reply → HasNothing w s × IsPlanned relations counters w.total (looked s) (held_in w) [] s.op reply
+  pub ends_quietly : (reply : Reply) → s.reply ≡ Some reply → HasNothing w s × IsPlanned relations counters w.total (looked s) (held_in w) [] s.op s.split reply
   ends_quietly reply is = (
     has_nothing,
-    subst (λ (cs : List PageChange). IsPlanned relations counters w.total (looked s) (held_in w) cs s.op reply) none
-        (subst (IsPlanned relations counters w.total (looked s) (held_in w) (changes_in s) s.op) (reply_is s.reply writing.plan.reply reply writing.plan.replies is)
+    subst (λ (cs : List PageChange). IsPlanned relations counters w.total (looked s) (held_in w) cs s.op s.split reply) none
+        (subst (IsPlanned relations counters w.total (looked s) (held_in w) (changes_in s) s.op s.split) (reply_is s.reply writing.plan.reply reply writing.plan.replies is)
         (planned_held relations counters w s writing.plan h k writing.sees)),
   )
 

@@ -1,7 +1,8 @@
 -- An operation has ended, and the map follows: what is kept of all operations, and how it acted on the base.
-use Rattle.std.proofs.Common.{◌≡◌, ◌<◌, ◌≤◌, ℕ, List, [], true, false, ◌==◌, Some, None, length, get_or, refl, sym, ap, ◌∙◌, subst, arith}
+use Rattle.std.proofs.Common.{◌≡◌, ◌<◌, ◌≤◌, ◌+◌, ℕ, Bool, List, [], ◌++◌, true, false, ◌==◌, Option, Some, None, length, take, get_or, refl, sym, ap, ◌∙◌, subst, arith}
 use Rattle.std.specs.Prelude.{IsSome}
 use Rattle.std.proofs.lemmas.Bool.{ne_eqb}
+use Rattle.std.proofs.lemmas.List.{append-nil, length-map, length-take-le}
 use Rattle.mt_frame.specs.Grammar.{IsTxn}
 use Rattle.mt_frame.specs.History.{may_stand}
 use Rattle.mt_frame.specs.declared.records.LoggedOp.{LoggedOp}
@@ -18,13 +19,16 @@ use Rattle.mt_slots.specs.Page.{IsShaped}
 use Rattle.mt_steps.specs.Drafts.{copied}
 use Rattle.mt_steps.specs.Held.{Holds}
 use Rattle.mt_steps.specs.Logged.{logged_of}
-use Rattle.mt_steps.specs.Plans.{IsPlanned}
+use Rattle.mt_space.specs.Rooms.{mapped, free_in, free_of, reserved_of}
+use Rattle.mt_steps.specs.Plans.{IsPlanned, free_pages, own_needs}
 use Rattle.mt_steps.specs.declared.copies.Copies.{Copies}
 use Rattle.mt_op.specs.World.{World, held_in, looked, changes_in, IsWorld, IsOpen, IsWriting, IsAt, IsUnderWay, IsOther}
 use Rattle.mt_op.specs.Moves.{Notes, SameOp}
 use Rattle.mt_op.specs.Operations.{world, IsRight, Acts}
+use Rattle.mt_op.specs.Records.{end_with, end_of}
 use Rattle.mt_op.specs.declared.operations.Operations.{Operations}
 use Rattle.mt_op.specs.declared.scope.OpScope.{OpScope}
+use Rattle.mt_op.specs.declared.space_map.SpaceMap.{SpaceMap}
 use Rattle.mt_op.specs.declared.scope.Stage.TheVariants.{Writing, Ready}
 use Rattle.mt_op.proofs.Ending.{ends, others_end, own_ends, own_ends_quietly}
 use Rattle.mt_op.proofs.Writing.{planned_held}
@@ -46,8 +50,8 @@ module _ (relations counters : ℕ) (w : World) (s : OpScope) (reply : Reply) (h
       only a b e = cc
 
   -- the plan with the reply that is at hand
-  pub planned_reply : IsPlanned relations counters w.total (looked s) (held_in w) (changes_in s) s.op reply
-  planned_reply = subst (IsPlanned relations counters w.total (looked s) (held_in w) (changes_in s) s.op) same_reply (planned_held relations counters w s now.plan h k now.sees)
+  pub planned_reply : IsPlanned relations counters w.total (looked s) (held_in w) (changes_in s) s.op s.split reply
+  planned_reply = subst (IsPlanned relations counters w.total (looked s) (held_in w) (changes_in s) s.op s.split) same_reply (planned_held relations counters w s now.plan h k now.sees)
 
   pub nothing_changes : logged_of s.op reply ≡ None → changes_in s ≡ []
   nothing_changes none = now.plan.quiet (ap (logged_of s.op) same_reply ∙ none)
@@ -56,34 +60,82 @@ module _ (relations counters : ℕ) (w : World) (s : OpScope) (reply : Reply) (h
   open_still = now.unended
 
 -- the pages held take its changes
-acts : (relations counters : ℕ) (w z : World) (s t : OpScope) (reply : Reply) → IsPlanned relations counters w.total (looked s) (held_in w) (changes_in s) s.op reply → held_in z ≡ after (changes_in s) (held_in w)
-    → IsUnderWay relations counters z t → ((u : OpScope) → IsUnderWay relations counters w u → IsOther s u → IsUnderWay relations counters z u) → SameOp s t → Acts relations counters w z s t reply
-acts relations counters w z s t reply plan held own others same = record {
+acts : (relations counters : ℕ) (w z : World) (s t : OpScope) (reply : Reply) → IsPlanned relations counters w.total (looked s) (held_in w) (changes_in s) s.op s.split reply → held_in z ≡ after (changes_in s) (held_in w)
+    → IsUnderWay relations counters z t → ((u : OpScope) → IsUnderWay relations counters w u → IsOther s u → IsUnderWay relations counters z u) → z.records ≡ w.records ++ end_of s reply → SameOp s t → Acts relations counters w z s t reply
+acts relations counters w z s t reply plan held own others ended same = record {
   own = own;
   others = others;
   replies = plan.replies;
   base = λ b holds. subst (λ (f : PageBytes). Holds f (base_after b s.op)) (sym held) (plan.base b holds);
+  ended = ended;
   same = same;
 }
 
 -- ---- the map follows
 
+-- a map of enough pages says of each whether it is free
+mapped_size : (kinds : List ℕ) (total : ℕ) → total ≤ length kinds → length (mapped kinds total) ≡ total
+mapped_size kinds total within = length-map (take total kinds) (λ (kind : ℕ). kind == 0) ∙ length-take-le total kinds within
+
 module _ {D : Type 0} (seen : D → List ℕ) (may_leave : D → List ℕ → Type 0) (opening : PageBytes) (relations counters : ℕ) (o : Operations D) (s : OpScope) (reply : Reply)
     (right : IsRight seen may_leave opening relations counters o) (k : IsUnderWay relations counters (world seen opening o) s) (stage : s.stage ≡ Writing) (is : s.reply ≡ Some reply)
-    (map : List ℕ) (m : OpScope) (map_same : map ≡ o.map) (changes : m.changes ≡ s.changes) where
-  short_still : AreShort (changes_in m) (held_in (world seen opening o))
-  short_still =
-      subst (λ (cs : Changes). AreShort cs.list.items (held_in (world seen opening o))) (sym changes)
-      (planned_reply relations counters (world seen opening o) s reply right.sound k stage is).short
+    (map : SpaceMap) (m : OpScope) (map_same : map ≡ o.map) (changes : m.changes ≡ s.changes) where
+  abbrev held_now : PageBytes
+  held_now = held_in (world seen opening o)
 
-  -- the changes fit the map that is held
-  pub follow_asks : (f : PageBytes) × (f 0 ≡ map) × AreShort (changes_in m) f × (length map ≡ 4096)
-  follow_asks = (held_in (world seen opening o), sym (map_same ∙ right.map), short_still, ap (λ (bytes : List ℕ). length bytes) (map_same ∙ right.map) ∙ right.sound.good.rows.file.whole)
+  plan_now : IsPlanned relations counters (pages o.store.pool) (looked s) held_now (changes_in s) s.op s.split reply
+  plan_now = planned_reply relations counters (world seen opening o) s reply right.sound k stage is
 
-  -- and make it the map to be held
-  pub follow_gives : (new : List ℕ) → ((f : PageBytes) → f 0 ≡ map → AreShort (changes_in m) f → new ≡ after (changes_in m) f 0) → new ≡ after (changes_in s) (held_in (world seen opening o)) 0
-  follow_gives new follows =
-      follows (held_in (world seen opening o)) (sym (map_same ∙ right.map)) short_still ∙ ap (λ (cs : Changes). after cs.list.items (held_in (world seen opening o)) 0) changes
+  short_still : AreShort (changes_in m) held_now
+  short_still = subst (λ (cs : Changes). AreShort cs.list.items held_now) (sym changes) plan_now.short
+
+  kinds_held : map.kinds ≡ held_now 0
+  kinds_held = ap (λ (x : SpaceMap). x.kinds) map_same ∙ right.map
+
+  whole : length map.kinds ≡ 4096
+  whole = ap (λ (bytes : List ℕ). length bytes) kinds_held ∙ right.sound.good.rows.file.whole
+
+  size_held : length o.map.space.0 ≡ pages o.store.pool
+  size_held =
+      let few = right.kept.few in
+      let bytes : length (held_now 0) ≡ 4096 = right.sound.good.rows.file.whole in
+      ap (λ (free : List Bool). length free) right.space ∙ mapped_size (held_now 0) (pages o.store.pool) (omega (arith, few, bytes))
+
+  size : length map.space.0 ≡ pages o.store.pool
+  size = ap (λ (x : SpaceMap). length x.space.0) map_same ∙ size_held
+
+  -- an operation takes no more free pages than it has claimed
+  room_held : reserved_of o.map.space ≤ free_in (mapped (after (changes_in s) held_now 0) (length o.map.space.0)) + own_needs s.op s.split
+  room_held =
+      let claims = right.claims in
+      let takes = plan_now.takes in
+      let before : free_of o.map.space ≡ free_pages (pages o.store.pool) held_now = ap free_in right.space in
+      let behind : free_in (mapped (after (changes_in s) held_now 0) (length o.map.space.0)) ≡ free_pages (pages o.store.pool) (after (changes_in s) held_now) = ap (λ (n : ℕ). free_in (mapped (after (changes_in s) held_now 0) n)) size_held in
+      omega (arith, claims, takes, before, behind)
+
+  room : (claim : ℕ) → claim ≡ own_needs s.op s.split → reserved_of map.space ≤ free_in (mapped (after (changes_in m) held_now 0) (length map.space.0)) + claim
+  room claim own = subst (λ (X : Type 0). X)
+      (λ i. reserved_of (sym map_same i).space ≤ free_in (mapped (after (sym changes i).list.items held_now 0) (length (sym map_same i).space.0)) + sym own i) room_held
+
+  -- the changes fit the map that is held, and leave enough pages free
+  pub settle_asks : (claim : ℕ) → claim ≡ own_needs s.op s.split
+      → (f : PageBytes) × (f 0 ≡ map.kinds) × AreShort (changes_in m) f × (length map.kinds ≡ 4096) × (reserved_of map.space ≤ free_in (mapped (after (changes_in m) f 0) (length map.space.0)) + claim)
+  settle_asks claim own = (held_now, sym kinds_held, short_still, whole, room claim own)
+
+  -- what the operation claimed is claimed still
+  pub settle_claimed : (claim : ℕ) → claim ≡ own_needs s.op s.split → own_needs s.op s.split ≤ reserved_of o.map.space → claim ≤ reserved_of map.space
+  settle_claimed claim own enough = let same = ap (λ (x : SpaceMap). reserved_of x.space) map_same in omega (arith, own, enough, same)
+
+  -- and its free pages are those that it has as such
+  pub settle_mapped : map.space.0 ≡ mapped map.kinds (length map.space.0)
+  settle_mapped = ap (λ (x : SpaceMap). x.space.0) map_same ∙ right.space ∙ (λ i. mapped (sym kinds_held i) (sym size i))
+
+  -- the changes make it the map to be held
+  pub settle_gives : (new : List ℕ) → ((f : PageBytes) → f 0 ≡ map.kinds → AreShort (changes_in m) f → new ≡ after (changes_in m) f 0) → new ≡ after (changes_in s) held_now 0
+  settle_gives new follows = follows held_now (sym kinds_held) short_still ∙ ap (λ (cs : Changes). after cs.list.items held_now 0) changes
+
+  pub settle_frees : (free : List Bool) (new : List ℕ) → free ≡ mapped new (length map.space.0) → free ≡ mapped new (pages o.store.pool)
+  settle_frees free new is = is ∙ ap (λ (n : ℕ). mapped new n) size
 
 -- ---- the index of rooms follows
 
@@ -121,7 +173,7 @@ module _ {D : Type 0} (seen : D → List ℕ) (may_leave : D → List ℕ → Ty
   abbrev w : World
   w = world seen opening o
 
-  planned : IsPlanned relations counters w.total (looked s) (held_in w) (changes_in s) s.op reply
+  planned : IsPlanned relations counters w.total (looked s) (held_in w) (changes_in s) s.op s.split reply
   planned = planned_reply relations counters w s reply right.sound k stage is
 
   same : SameOp s t
@@ -130,6 +182,7 @@ module _ {D : Type 0} (seen : D → List ℕ) (may_leave : D → List ℕ → Ty
     number = ap (λ (x : OpScope). x.number) moves;
     op = ap (λ (x : OpScope). x.op) moves;
     undoes = ap (λ (x : OpScope). x.undoes) moves;
+    split = ap (λ (x : OpScope). x.split) moves;
     total = ap (λ (x : OpScope). x.seen.total) moves;
   }
 
@@ -143,38 +196,50 @@ module _ {D : Type 0} (seen : D → List ℕ) (may_leave : D → List ℕ → Ty
   ready = ap (λ (x : OpScope). x.stage) moves
 
   -- its end was noted
-  pub finished : (done : LoggedOp) (m n : Operations D) → s.written ≡ length (changes_in s) → Notes w (world seen opening m) (OpEnd s.txn s.number s.undoes done) → IsKept seen may_leave opening m.store
-      → n.store ≡ m.store → n.locks ≡ m.locks → n.map ≡ after (changes_in s) (held_in w) 0 → length n.rooms.0 ≡ length o.rooms.0
+  pub finished : (done : LoggedOp) (m n : Operations D) → logged_of s.op reply ≡ Some done → s.written ≡ length (changes_in s) → Notes w (world seen opening m) (OpEnd s.txn s.number s.undoes done) → IsKept seen may_leave opening m.store
+      → n.store ≡ m.store → n.locks ≡ m.locks → n.map.kinds ≡ after (changes_in s) (held_in w) 0 → n.map.space.0 ≡ mapped n.map.kinds (pages o.store.pool) → reserved_of n.map.space ≤ free_of n.map.space
+      → length n.rooms.0 ≡ length o.rooms.0
       → IsRight seen may_leave opening relations counters n × Acts relations counters w (world seen opening n) s t reply
-  finished done m n all noted kept store locks map rooms =
+  finished done m n due all noted kept store locks map space claims rooms =
       let z = world seen opening m in
       let moved : world seen opening n ≡ z = λ i. world seen opening (record { store = store i; locks = locks i; rooms = m.rooms; map = m.map }) in
-      let e = ends relations counters w z s done noted right.sound k stage all reply is in (
+      let e = ends relations counters w z s done noted right.sound k stage all reply is in
+      let total : pages o.store.pool ≡ pages n.store.pool = sym noted.area.total ∙ sym (ap (λ (x : Store D). pages x.pool) store) in
+      let kinds : n.map.kinds ≡ held_in (world seen opening n) 0 = map ∙ sym (ap (λ (x : World). held_in x 0) moved ∙ ap (λ (f : PageBytes). f 0) e.1) in (
         record {
           kept = subst (λ (x : Store D). IsKept seen may_leave opening x) (sym store) kept;
           sound = subst (IsWorld relations counters) (sym moved) e.0;
-          map = map ∙ sym (ap (λ (x : World). held_in x 0) moved ∙ ap (λ (f : PageBytes). f 0) e.1);
-          rooms = rooms ∙ right.rooms ∙ sym noted.area.total ∙ sym (ap (λ (x : Store D). pages x.pool) store);
+          map = kinds;
+          space = space ∙ (λ i. mapped (kinds i) (total i));
+          claims = claims;
+          rooms = rooms ∙ right.rooms ∙ total;
         },
         acts relations counters w (world seen opening n) s t reply planned (ap held_in moved ∙ e.1)
             (subst (λ (x : World). IsUnderWay relations counters x t) (sym moved) (own_ends relations counters w z s done noted right.sound k stage all t same guards copies ready))
-            (λ u ku other. subst (λ (x : World). IsUnderWay relations counters x u) (sym moved) (others_end relations counters w z s done noted right.sound k stage all u ku other)) same,
+            (λ u ku other. subst (λ (x : World). IsUnderWay relations counters x u) (sym moved) (others_end relations counters w z s done noted right.sound k stage all u ku other))
+            (ap (λ (x : World). x.records) moved ∙ noted.records ∙ ap (λ (d : Option LoggedOp). w.records ++ end_with s.txn s.number s.undoes d) (sym due)) same,
       )
 
   -- nothing of it is logged
-  pub finished_quietly : (n : Operations D) → logged_of s.op reply ≡ None → n.store ≡ o.store → n.locks ≡ o.locks → n.map ≡ after (changes_in s) (held_in w) 0 → length n.rooms.0 ≡ length o.rooms.0
+  pub finished_quietly : (n : Operations D) → logged_of s.op reply ≡ None → n.store ≡ o.store → n.locks ≡ o.locks → n.map.kinds ≡ after (changes_in s) (held_in w) 0
+      → n.map.space.0 ≡ mapped n.map.kinds (pages o.store.pool) → reserved_of n.map.space ≤ free_of n.map.space → length n.rooms.0 ≡ length o.rooms.0
       → IsRight seen may_leave opening relations counters n × Acts relations counters w (world seen opening n) s t reply
-  finished_quietly n quiet store locks map rooms =
+  finished_quietly n quiet store locks map space claims rooms =
       let moved : world seen opening n ≡ w = λ i. world seen opening (record { store = store i; locks = locks i; rooms = o.rooms; map = o.map }) in
       let none = nothing_changes relations counters w s reply right.sound k stage is quiet in
-      let held : after (changes_in s) (held_in w) ≡ held_in w = ap (λ (cs : List PageChange). after cs (held_in w)) none in (
+      let held : after (changes_in s) (held_in w) ≡ held_in w = ap (λ (cs : List PageChange). after cs (held_in w)) none in
+      let total : pages o.store.pool ≡ pages n.store.pool = sym (ap (λ (x : Store D). pages x.pool) store) in
+      let kinds : n.map.kinds ≡ held_in (world seen opening n) 0 = map ∙ ap (λ (f : PageBytes). f 0) held ∙ sym (ap (λ (x : World). held_in x 0) moved) in (
         record {
           kept = subst (λ (x : Store D). IsKept seen may_leave opening x) (sym store) right.kept;
           sound = subst (IsWorld relations counters) (sym moved) right.sound;
-          map = map ∙ ap (λ (f : PageBytes). f 0) held ∙ sym (ap (λ (x : World). held_in x 0) moved);
-          rooms = rooms ∙ right.rooms ∙ sym (ap (λ (x : Store D). pages x.pool) store);
+          map = kinds;
+          space = space ∙ (λ i. mapped (kinds i) (total i));
+          claims = claims;
+          rooms = rooms ∙ right.rooms ∙ total;
         },
         acts relations counters w (world seen opening n) s t reply planned (ap held_in moved ∙ sym held)
             (subst (λ (x : World). IsUnderWay relations counters x t) (sym moved) (own_ends_quietly relations counters w s right.sound k stage none t same guards copies ready))
-            (λ u ku other. subst (λ (x : World). IsUnderWay relations counters x u) (sym moved) ku) same,
+            (λ u ku other. subst (λ (x : World). IsUnderWay relations counters x u) (sym moved) ku)
+            (ap (λ (x : World). x.records) moved ∙ sym (append-nil w.records) ∙ ap (λ (d : Option LoggedOp). w.records ++ end_with s.txn s.number s.undoes d) (sym quiet)) same,
       )

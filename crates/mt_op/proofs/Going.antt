@@ -75,7 +75,7 @@ module _ (relations counters : ℕ) where
   gains : (w : World) (s t z : OpScope) (p : ℕ) (mode : Mode) (copies : List PageCopy) → s.stage ≡ Planning → Holds s t p mode → SameOp t z → z.stage ≡ t.stage → z.guards.items ≡ t.guards.items
       → z.seen.list.items ≡ s.seen.list.items ++ copies → z.written ≡ t.written → z.standing ≡ t.standing → IsLed w (lock_of s.number p mode) s z → Gains w s z (lock_of s.number p mode) copies
   gains w s t z p mode copies planning h op stage guards seen written standing led = record {
-    op = record { txn = op.txn ∙ h.op.txn; number = op.number ∙ h.op.number; op = op.op ∙ h.op.op; undoes = op.undoes ∙ h.op.undoes; total = op.total ∙ h.op.total };
+    op = record { txn = op.txn ∙ h.op.txn; number = op.number ∙ h.op.number; op = op.op ∙ h.op.op; undoes = op.undoes ∙ h.op.undoes; split = op.split ∙ h.op.split; total = op.total ∙ h.op.total };
     planning = planning;
     stage = stage ∙ h.stage ∙ planning;
     own = refl;
@@ -100,7 +100,7 @@ module _ (relations counters : ℕ) where
 
   upgrades_goes : (w z : World) (s t : OpScope) (p : ℕ) (mode : Mode) → Locks w z (lock_of s.number p mode) → s.stage ≡ Planning → Holds s t p mode → IsSome (looked s p) → IsUnderWay relations counters w s → Goes relations counters w z s t
   upgrades_goes w z s t p mode m planning h some k =
-      let g = gains w s t t p mode [] planning h (record { txn = refl; number = refl; op = refl; undoes = refl; total = refl }) refl refl (h.seen ∙ sym (append-nil s.seen.list.items)) refl refl (inl h.room) in
+      let g = gains w s t t p mode [] planning h (record { txn = refl; number = refl; op = refl; undoes = refl; split = refl; total = refl }) refl refl (h.seen ∙ sym (append-nil s.seen.list.items)) refl refl (inl h.room) in
       record {
         own = own_upgrades relations counters w z (lock_of s.number p mode) m s t k g some;
         others = λ v kv other. others_lock relations counters w z (lock_of s.number p mode) m v kv other.number;
@@ -161,7 +161,7 @@ module _ (relations counters : ℕ) where
     own = g.own;
     others = λ u ku other. g.others u ku (record { number = λ e. other.number (e ∙ op.number); txn = λ e. other.txn (e ∙ op.txn) });
     held = g.held;
-    same = record { txn = g.same.txn ∙ op.txn; number = g.same.number ∙ op.number; op = g.same.op ∙ op.op; undoes = g.same.undoes ∙ op.undoes; total = g.same.total ∙ op.total };
+    same = record { txn = g.same.txn ∙ op.txn; number = g.same.number ∙ op.number; op = g.same.op ∙ op.op; undoes = g.same.undoes ∙ op.undoes; split = g.same.split ∙ op.split; total = g.same.total ∙ op.total };
   }
 
   pub goes_on_since : (w z : World) (s m t : OpScope) (r : Result Stepped Refusal) → SameOp s m → GoesOn relations counters w z m t r → GoesOn relations counters w z s t r
@@ -173,7 +173,7 @@ module _ (relations counters : ℕ) where
   goes_on_since w z s m t (Err why) op g = goes_since w z s m t op g
 
 pub same_op : (s : OpScope) → SameOp s s
-same_op s = record { txn = refl; number = refl; op = refl; undoes = refl; total = refl }
+same_op s = record { txn = refl; number = refl; op = refl; undoes = refl; split = refl; total = refl }
 
 pub same_plan : (s : OpScope) → SamePlan s s
 same_plan s = record { op = same_op s; room = refl; guards = refl; seen = refl; changes = refl; reply = refl }
@@ -184,7 +184,7 @@ stays_as s = record { plan = same_plan s; stage = refl; written = refl; standing
 -- its copies are the same, with room for one more
 pub stays_roomy : (s : OpScope) (seen : Copies) → seen.total ≡ s.seen.total → seen.list.items ≡ s.seen.list.items → Stays s (record s { seen = seen })
 stays_roomy s seen total items = record {
-  plan = record { op = record { txn = refl; number = refl; op = refl; undoes = refl; total = total }; room = refl; guards = refl; seen = items; changes = refl; reply = refl };
+  plan = record { op = record { txn = refl; number = refl; op = refl; undoes = refl; split = refl; total = total }; room = refl; guards = refl; seen = items; changes = refl; reply = refl };
   stage = refl;
   written = refl;
   standing = refl;

@@ -19,3 +19,8 @@ pub mod Following
 pub mod Finished
 pub mod Stored
 pub mod Noted
+pub mod Driving
+pub mod Opened
+pub mod Work
+pub mod Keeping
+pub mod Faulting

@@ -1,14 +1,16 @@
 -- What holds of all operations together, kept where the pages held stay.
-use Rattle.std.proofs.Common.{◌≡◌, ◌<◌, ℕ, List, length, refl, sym, ◌∙◌, ap}
+use Rattle.std.proofs.Common.{◌≡◌, ◌<◌, ◌≤◌, ℕ, List, length, refl, sym, ◌∙◌, ap, subst}
 use Rattle.mt_log.specs.Words.{appended}
 use Rattle.mt_pool.specs.declared.store.Store.{Store}
 use Rattle.mt_pool.specs.Changes.{PageBytes}
 use Rattle.mt_pool.specs.Kept.{IsKept}
 use Rattle.mt_pool.specs.Views.{view, pages}
+use Rattle.mt_space.specs.Rooms.{mapped, free_of, reserved_of}
 use Rattle.mt_op.specs.World.{held_in, IsWorld}
 use Rattle.mt_op.specs.Moves.{Rests}
 use Rattle.mt_op.specs.Operations.{world, IsRight}
 use Rattle.mt_op.specs.declared.operations.Operations.{Operations}
+use Rattle.mt_op.specs.declared.space_map.SpaceMap.{SpaceMap}
 use Rattle.mt_op.proofs.Staying.{world_rests, rests_held}
 
 pub right_held : {D : Type 0} (seen : D → List ℕ) (may_leave : D → List ℕ → Type 0) (opening : PageBytes) (relations counters : ℕ) (o n : Operations D)
@@ -18,7 +20,9 @@ pub right_held : {D : Type 0} (seen : D → List ℕ) (may_leave : D → List �
 right_held seen may_leave opening relations counters o n k kept sound held map rooms total = record {
   kept = kept;
   sound = sound;
-  map = map ∙ k.map ∙ ap (λ (h : PageBytes). h 0) (sym held);
+  map = ap (λ (m : SpaceMap). m.kinds) map ∙ k.map ∙ ap (λ (h : PageBytes). h 0) (sym held);
+  space = ap (λ (m : SpaceMap). m.space.0) map ∙ k.space ∙ (λ i. mapped (sym held i 0) (sym total i));
+  claims = subst (λ (m : SpaceMap). reserved_of m.space ≤ free_of m.space) (sym map) k.claims;
   rooms = ap (λ r. length r.0) rooms ∙ k.rooms ∙ sym total;
 }
 

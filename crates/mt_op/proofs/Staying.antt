@@ -204,15 +204,15 @@ open_same z s t op k = record {
 
 module _ (relations counters : ℕ) where
   -- what these changes do to whatever good pages agree with these copies
-  abbrev Plans : ℕ → List PageCopy → Option ℕ → List PageChange → Op → Reply → Type 0
-  Plans total copies room changes op reply =
-      (pages : PageBytes) → Agrees (copied copies) pages → IsGood relations counters total pages → IsNamed room pages → IsPlanned relations counters total (copied copies) pages changes op reply
+  abbrev Plans : ℕ → List PageCopy → Option ℕ → List PageChange → Op → Bool → Reply → Type 0
+  Plans total copies room changes op split reply =
+      (pages : PageBytes) → Agrees (copied copies) pages → IsGood relations counters total pages → IsNamed room pages → IsPlanned relations counters total (copied copies) pages changes op split reply
 
   pub plan_same : (s t : OpScope) → SamePlan s t → HasPlan relations counters s → HasPlan relations counters t
   plan_same s t same k = record {
     reply = k.reply;
     replies = same.reply ∙ k.replies;
-    planned = subst (λ (X : Type 0). X) (λ i. Plans (sym same.op.total i) (sym same.seen i) (sym same.room i) (sym same.changes i) (sym same.op.op i) k.reply) k.planned;
+    planned = subst (λ (X : Type 0). X) (λ i. Plans (sym same.op.total i) (sym same.seen i) (sym same.room i) (sym same.changes i) (sym same.op.op i) (sym same.op.split i) k.reply) k.planned;
     there = subst (λ (X : Type 0). X) (λ i. AreAtHand (copied (sym same.seen i)) (sym same.changes i)) k.there;
     quiet = subst (λ (X : Type 0). X) (λ i. logged_of (sym same.op.op i) k.reply ≡ None → sym same.changes i ≡ []) k.quiet;
     few = subst (λ (cs : List PageChange). length cs ≤ 8) (sym same.changes) k.few;

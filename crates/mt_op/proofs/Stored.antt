@@ -14,11 +14,12 @@ use Rattle.mt_pool.specs.declared.pool.Pool.{Pool}
 use Rattle.mt_pool.specs.declared.store.Store.{Store}
 use Rattle.mt_slots.specs.Page.{IsShaped}
 use Rattle.mt_space.specs.Kinds.{kind}
+use Rattle.mt_space.specs.Rooms.{mapped, reserved_of}
 use Rattle.mt_steps.specs.Plans.{IsGood}
 use Rattle.mt_steps.specs.Repeated.{held, logged}
 use Rattle.mt_op.specs.World.{World, held_in, IsCovered, IsWorld, IsUnderWay}
 use Rattle.mt_op.specs.Moves.{Rests, Notes, EndsTxn}
-use Rattle.mt_op.specs.Operations.{world, IsRight}
+use Rattle.mt_op.specs.Operations.{world, IsRight, claimed}
 use Rattle.mt_op.specs.declared.operations.Operations.{Operations}
 use Rattle.mt_op.specs.declared.scope.OpScope.{OpScope}
 use Rattle.mt_op.proofs.Staying.{world_of, rests_own}
@@ -62,7 +63,7 @@ module _ {D : Type 0} (seen : D → List ℕ) (may_leave : D → List ℕ → Ty
 
 pub right_noted : {D : Type 0} (seen : D → List ℕ) (may_leave : D → List ℕ → Type 0) (opening : PageBytes) (relations counters : ℕ) (o : Operations D) (rooms : Rooms)
     → length rooms.0 ≡ length o.rooms.0 → IsRight seen may_leave opening relations counters o → IsRight seen may_leave opening relations counters (record o { rooms = rooms })
-right_noted seen may_leave opening relations counters o rooms same k = record { kept = k.kept; sound = k.sound; map = k.map; rooms = same ∙ k.rooms }
+right_noted seen may_leave opening relations counters o rooms same k = record { kept = k.kept; sound = k.sound; map = k.map; space = k.space; claims = k.claims; rooms = same ∙ k.rooms }
 
 -- ---- no record is in the log yet
 
@@ -89,16 +90,27 @@ module _ {D : Type 0} (seen : D → List ℕ) (may_leave : D → List ℕ → Ty
   unlogged_shaped relations counters o right none p inside records =
       subst IsShaped (ap (λ (f : PageBytes). f p) (unlogged_held (world seen opening o) none) ∙ sym (unlogged_shows o.store right.kept none p inside)) (right.sound.good.rows.file.each p records)
 
-  -- all is right where none is under way
-  pub unlogged_right : (relations counters : ℕ) (o : Operations D) → IsKept seen may_leave opening o.store → appended o.store.log ≡ [] → o.locks ≡ [] → o.map ≡ view o.store.pool (seen o.store.device) 0 → length o.rooms.0 ≡ pages o.store.pool
-      → IsGood relations counters (pages o.store.pool) opening → IsRight seen may_leave opening relations counters o
-  unlogged_right relations counters o kept none free map rooms good =
-      let w = world seen opening o in
+  -- the map that shows is that of the opening, and whole
+  pub unlogged_map : (relations counters : ℕ) (s : Store D) → IsKept seen may_leave opening s → appended s.log ≡ [] → IsGood relations counters (pages s.pool) opening → view s.pool (seen s.device) 0 ≡ opening 0
+  unlogged_map relations counters s kept none good =
       let fixed : kind opening 0 ≡ 1 = good.rows.index.space_fixed in
+      unlogged_shows s kept none 0 (good.rows.index.within 0 (λ free. let is : 1 ≡ 0 = sym fixed ∙ free in cc))
+
+  pub unlogged_whole : (relations counters : ℕ) (s : Store D) → IsKept seen may_leave opening s → appended s.log ≡ [] → IsGood relations counters (pages s.pool) opening → length (view s.pool (seen s.device) 0) ≡ 4096
+  unlogged_whole relations counters s kept none good = ap (λ (bytes : List ℕ). length bytes) (unlogged_map relations counters s kept none good) ∙ good.rows.file.whole
+
+  -- all is right where none is under way
+  pub unlogged_right : (relations counters : ℕ) (o : Operations D) → IsKept seen may_leave opening o.store → appended o.store.log ≡ [] → o.locks ≡ [] → o.map.kinds ≡ view o.store.pool (seen o.store.device) 0 → o.map.space.0 ≡ mapped o.map.kinds (pages o.store.pool) → claimed o ≡ 0 → length o.rooms.0 ≡ pages o.store.pool
+      → IsGood relations counters (pages o.store.pool) opening → IsRight seen may_leave opening relations counters o
+  unlogged_right relations counters o kept none free map space unclaimed rooms good =
+      let w = world seen opening o in
       let shows = unlogged_shows o.store kept none in
+      let kinds : o.map.kinds ≡ held_in w 0 = map ∙ unlogged_map relations counters o.store kept none good ∙ ap (λ (f : PageBytes). f 0) (sym (unlogged_held w none)) in
       record {
         kept = kept;
         sound = unlogged_world relations counters w none free shows good;
-        map = map ∙ shows 0 (good.rows.index.within 0 (λ free. let is : 1 ≡ 0 = sym fixed ∙ free in cc)) ∙ ap (λ (f : PageBytes). f 0) (sym (unlogged_held w none));
+        map = kinds;
+        space = space ∙ ap (λ (bytes : List ℕ). mapped bytes (pages o.store.pool)) kinds;
+        claims = let zero : reserved_of o.map.space ≡ 0 = unclaimed in omega (arith, zero);
         rooms = rooms;
       }

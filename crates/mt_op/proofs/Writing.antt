@@ -72,9 +72,9 @@ pub record IsNext (w : World) (s : OpScope) (c : PageChange) : Type 0 where
 module _ (relations counters : ℕ) where
   -- the pages held have what it planned on
   pub planned_held : (w : World) (s : OpScope) (plan : HasPlan relations counters s) → IsWorld relations counters w → IsUnderWay relations counters w s → Sees w s
-      → IsPlanned relations counters w.total (looked s) (held_in w) (changes_in s) s.op plan.reply
+      → IsPlanned relations counters w.total (looked s) (held_in w) (changes_in s) s.op s.split plan.reply
   planned_held w s plan h k sees =
-      subst (λ (n : ℕ). IsPlanned relations counters n (looked s) (held_in w) (changes_in s) s.op plan.reply) k.total
+      subst (λ (n : ℕ). IsPlanned relations counters n (looked s) (held_in w) (changes_in s) s.op s.split plan.reply) k.total
       (plan.planned (held_in w) sees.saw (subst (λ (n : ℕ). IsGood relations counters n (held_in w)) (sym k.total) h.good) (λ p is. (sees.named p is).2))
 
   pub next_of : (w : World) (s : OpScope) (c : PageChange) → IsWorld relations counters w → IsUnderWay relations counters w s → s.stage ≡ Writing → s.written < length (changes_in s) → c ≡ get_or (changes_in s) s.written c → IsNext w s c
@@ -94,7 +94,7 @@ module _ (relations counters : ℕ) where
       now : IsWriting relations counters w s
       now = subst (IsAt relations counters w s) stage k.at
 
-      planned : IsPlanned relations counters w.total (looked s) (held_in w) (changes_in s) s.op now.plan.reply
+      planned : IsPlanned relations counters w.total (looked s) (held_in w) (changes_in s) s.op s.split now.plan.reply
       planned = planned_held w s now.plan h k now.sees
 
       some : IsSome (looked s c.page)

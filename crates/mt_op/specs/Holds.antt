@@ -1,8 +1,9 @@
 -- What asking for a page lock does to an operation.
-use Rattle.std.specs.Prelude.{◌≡◌, ◌<◌, ◌++◌, ◌∷◌, [], ℕ, None, Result, Ok, Err, All, Any, true}
+use Rattle.std.specs.Prelude.{◌≡◌, ◌⊎◌, ◌<◌, ◌++◌, ◌∷◌, [], ℕ, List, Option, None, Some, Result, Ok, Err, All, Any, true}
 use Rattle.mt_base.specs.declared.modes.Mode.{Mode}
 use Rattle.mt_base.specs.declared.refusal.Refusal.{Refusal}
 use Rattle.mt_plock.specs.Holding.{lock_of, is_in_way, IsLeastHolder}
+use Rattle.mt_plock.specs.declared.guards.PageLock.{PageLock}
 use Rattle.mt_plock.specs.Releasing.{locks_without}
 use Rattle.mt_op.specs.World.{World}
 use Rattle.mt_op.specs.Moves.{SameOp, SamePlan, Locks, Rests, Leaves}
@@ -63,3 +64,24 @@ IsHeld w z s t p mode (Ok stepped.Again) = Leaves w z s × IsAnew s t × IsBarre
 IsHeld w z s t p mode (Ok stepped.Flush) = ⊥
 IsHeld w z s t p mode (Ok (stepped.Ready first second)) = ⊥
 IsHeld w z s t p mode (Err why) = Rests w z × Stays s t
+
+-- ---- the locks of all
+
+-- they stay, or there is one of this operation more
+abbrev pub HasMore : ℕ → List PageLock → List PageLock → Type 0
+HasMore op old new = (new ≡ old) ⊎ ((lock : PageLock) × (lock.op ≡ op) × (new ≡ old ++ lock ∷ []))
+
+-- They stay where the operation waits, is refused or ends. What goes where it begins anew is said by HasLeft.
+abbrev pub KeepsLocks : ℕ → List PageLock → List PageLock → Result Stepped Refusal → Type 0
+KeepsLocks op old new (Ok stepped.Went) = HasMore op old new
+KeepsLocks op old new (Ok (stepped.Wait holder)) = new ≡ old
+KeepsLocks op old new (Ok stepped.Again) = Unit {0}
+KeepsLocks op old new (Ok stepped.Flush) = new ≡ old
+KeepsLocks op old new (Ok (stepped.Ready first second)) = new ≡ old
+KeepsLocks op old new (Err why) = new ≡ old
+
+-- the same of a step that plans; where it answers nothing the plan is made
+abbrev pub KeepsLocksOn : ℕ → List PageLock → List PageLock → Result (Option Stepped) Refusal → Type 0
+KeepsLocksOn op old new (Ok (Some answer)) = KeepsLocks op old new (Ok answer)
+KeepsLocksOn op old new (Ok None) = new ≡ old
+KeepsLocksOn op old new (Err why) = new ≡ old

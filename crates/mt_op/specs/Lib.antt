@@ -1,5 +1,9 @@
 pub mod World
+pub mod Faults
 pub mod Moves
+pub mod Records
 pub mod Operations
 pub mod Holds
 pub mod Room
+pub mod Driven
+pub mod Work

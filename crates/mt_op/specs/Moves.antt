@@ -82,6 +82,7 @@ pub record SameOp (s z : OpScope) : Type 0 where
   pub number : z.number ≡ s.number
   pub op : z.op ≡ s.op
   pub undoes : z.undoes ≡ s.undoes
+  pub split : z.split ≡ s.split
   pub total : z.seen.total ≡ s.seen.total
 
 -- its plan and its locks stay too

@@ -1,5 +1,5 @@
 -- The operations of one kernel over their store, and what each step does.
-use Rattle.std.specs.Prelude.{◌≡◌, ◌⊎◌, ◌≤◌, ◌-◌, ◌+◌, ◌*◌, ℕ, List, [], length, Bool, true, false, if◌then◌else◌, Option, Some, None, Result, Ok, Err}
+use Rattle.std.specs.Prelude.{◌≡◌, ◌⊎◌, ◌≤◌, ◌-◌, ◌+◌, ◌*◌, ◌++◌, ℕ, List, [], length, Bool, true, false, if◌then◌else◌, Option, Some, None, Result, Ok, Err}
 use Rattle.mt_base.specs.declared.refusal.Refusal.{Refusal}
 use Rattle.mt_base.specs.declared.refusal.Refusal.TheVariants as refusal
 use Rattle.mt_log.specs.Words.{appended}
@@ -10,10 +10,12 @@ use Rattle.mt_model.specs.Model.{Base, reply_of, base_after}
 use Rattle.mt_pool.specs.Changes.{PageBytes}
 use Rattle.mt_pool.specs.Kept.{IsKept}
 use Rattle.mt_pool.specs.Views.{view, pages}
+use Rattle.mt_space.specs.Rooms.{mapped, free_of, reserved_of}
 use Rattle.mt_steps.specs.Held.{Holds}
 use Rattle.mt_op.specs.World.{World, held_in, IsWorld, IsUnderWay, IsOther, changes_in}
 use Rattle.mt_op.specs.Moves.{SameOp}
 use Rattle.mt_op.specs.Holds.{IsAwaited, IsBarred, HasLeft}
+use Rattle.mt_op.specs.Records.{end_of}
 use Rattle.mt_op.specs.declared.operations.Operations.{Operations}
 use Rattle.mt_op.specs.declared.scope.OpScope.{OpScope}
 use Rattle.mt_op.specs.declared.scope.Stage.{Stage}
@@ -31,15 +33,23 @@ world seen opening o = record {
   total = pages o.store.pool;
 }
 
--- The store keeps its rules, the world is right, and the map is that of the pages held.
+-- how many free pages are claimed
+abbrev pub claimed : {D : Type 0} → Operations D → ℕ
+claimed o = reserved_of o.map.space
+
+-- The store keeps its rules, the world is right, the map and the free pages are those of the pages held, and no more
+-- of these are claimed than there are.
 pub record IsRight {D : Type 0} (seen : D → List ℕ) (may_leave : D → List ℕ → Type 0) (opening : PageBytes) (relations counters : ℕ) (o : Operations D) : Type 0 where
   pub kept : IsKept seen may_leave opening o.store
   pub sound : IsWorld relations counters (world seen opening o)
-  pub map : o.map ≡ held_in (world seen opening o) 0
+  pub map : o.map.kinds ≡ held_in (world seen opening o) 0
+  pub space : o.map.space.0 ≡ mapped (held_in (world seen opening o) 0) (pages o.store.pool)
+  pub claims : reserved_of o.map.space ≤ free_of o.map.space
   pub rooms : length o.rooms.0 ≡ pages o.store.pool
 
 -- ---- log bytes
 
+-- what IsReading says, as a test, since the bytes that are kept are chosen by it
 abbrev pub only_reads : Op → Bool
 only_reads (Get r k) = true
 only_reads (Insert r k v) = false
@@ -72,12 +82,14 @@ pub record Goes (relations counters : ℕ) (w z : World) (s t : OpScope) : Type 
   pub held : held_in z ≡ held_in w
   pub same : SameOp s t
 
--- The operation acts once on the base that the pages hold, whatever the others have half done, with this reply.
+-- The operation acts once on the base that the pages hold, whatever the others have half done, with this reply; and
+-- nothing but its end is appended.
 pub record Acts (relations counters : ℕ) (w z : World) (s t : OpScope) (reply : Reply) : Type 0 where
   pub own : IsUnderWay relations counters z t
   pub others : (u : OpScope) → IsUnderWay relations counters w u → IsOther s u → IsUnderWay relations counters z u
   pub replies : (b : Base) → Holds (held_in w) b → reply_of b s.op ≡ reply
   pub base : (b : Base) → Holds (held_in w) b → Holds (held_in z) (base_after b s.op)
+  pub ended : z.records ≡ w.records ++ end_of s reply
   pub same : SameOp s t
 
 abbrev pub Steps : ℕ → ℕ → World → World → OpScope → OpScope → Result Stepped Refusal → Type 0
@@ -87,6 +99,15 @@ Steps relations counters w z s t (Ok (stepped.Wait holder)) = Goes relations cou
 Steps relations counters w z s t (Ok stepped.Again) = Goes relations counters w z s t × IsBarred w s × HasLeft w z s t
 Steps relations counters w z s t (Ok stepped.Flush) = Goes relations counters w z s t
 Steps relations counters w z s t (Err why) = Goes relations counters w z s t
+
+-- an operation that has ended has given its claim back, of so many pages; before that the claims stay
+abbrev pub GivesBack : ℕ → ℕ → ℕ → Result Stepped Refusal → Type 0
+GivesBack claim before after (Ok (stepped.Ready first second)) = after + claim ≡ before
+GivesBack claim before after (Ok stepped.Went) = after ≡ before
+GivesBack claim before after (Ok (stepped.Wait holder)) = after ≡ before
+GivesBack claim before after (Ok stepped.Again) = after ≡ before
+GivesBack claim before after (Ok stepped.Flush) = after ≡ before
+GivesBack claim before after (Err why) = after ≡ before
 
 -- a step that never ends the operation
 abbrev pub GoesOn : ℕ → ℕ → World → World → OpScope → OpScope → Result Stepped Refusal → Type 0

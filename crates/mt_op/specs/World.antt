@@ -80,7 +80,7 @@ HasWritten w s = by s.number (unfinished_in w) ≡ changes_of s.number (take s.w
 pub record HasPlan (relations counters : ℕ) (s : OpScope) : Type 0 where
   pub reply : Reply
   pub replies : s.reply ≡ Some reply
-  pub planned : (pages : PageBytes) → Agrees (looked s) pages → IsGood relations counters s.seen.total pages → IsNamed s.room pages → IsPlanned relations counters s.seen.total (looked s) pages (changes_in s) s.op reply
+  pub planned : (pages : PageBytes) → Agrees (looked s) pages → IsGood relations counters s.seen.total pages → IsNamed s.room pages → IsPlanned relations counters s.seen.total (looked s) pages (changes_in s) s.op s.split reply
   pub there : AreAtHand (looked s) (changes_in s)
   pub quiet : logged_of s.op reply ≡ None → changes_in s ≡ []
   pub few : length (changes_in s) ≤ 8

@@ -1,9 +1,9 @@
 // Page locks of an operation.
-ghost use Rattle.std.specs.Prelude.{◌≡◌, ◌⊎◌, ◌<◌, ℕ, List, get_or, Ok, true, false, Some, None, IsSome, IfErr};
+ghost use Rattle.std.specs.Prelude.{◌≡◌, ◌⊎◌, ◌<◌, ℕ, List, get_or, Ok, true, false, Some, None, IsSome, IfErr, Contains};
 ghost use Rattle.mt_base.specs.declared.refusal.Refusal.{Refusal};
 ghost use Rattle.mt_pool.specs.Views.{IsThere, IsFull, pages};
 ghost use Rattle.mt_base.specs.declared.modes.Mode.TheVariants.{Write};
-ghost use Rattle.mt_disk.specs.Disk.{LeavesOnly};
+ghost use Rattle.mt_disk.specs.Disk.{LeavesOnly, HasCause};
 ghost use Rattle.mt_pool.specs.Kept.{IsKept, Explains};
 ghost use Rattle.mt_op.specs.World.{IsUnderWay, looked};
 ghost use Rattle.mt_op.specs.Operations.{IsRight, GoesOn, IsAsFar, IsCause};
@@ -12,8 +12,11 @@ ghost use Rattle.mt_op.specs.declared.answers.Stepped.TheVariants as stepped;
 ghost use Rattle.mt_plock.specs.Releasing.{locks_of};
 ghost use Rattle.mt_pool.specs.Changes.{PageBytes};
 ghost use Rattle.mt_op.specs.Operations.{world};
-ghost use Rattle.mt_op.specs.Holds.{IsHeld, IsAnew};
+ghost use Rattle.mt_op.specs.Holds.{IsHeld, IsAnew, KeepsLocks};
 ghost use Rattle.mt_op.specs.Moves.{Leaves, Rests};
+ghost use Rattle.mt_op.specs.Work.{Works};
+ghost use Rattle.mt_op.specs.Faults.{TellsFaults};
+ghost use Rattle.mt_plock.specs.Holding.{lock_of};
 
 use crate::answers::Stepped;
 use crate::operations::Operations;
@@ -38,6 +41,7 @@ impl<D: Device> Operations<D> {
         ensures map { self.new.map ≡ self.old.map }
         ensures waits { self.new.store.pool.waits ≡ self.old.store.pool.waits }
         ensures why { IfErr result (λ why. why ≡ Refusal.DeviceFailed) }
+        ensures cause { HasCause (D.faults self.old.store.device) (D.faults self.new.store.device) result }
     {
         match self.store.fetch(page) {
             Ok(Fetched::There) => Ok(true),
@@ -63,6 +67,7 @@ impl<D: Device> Operations<D> {
         ensures room { result ≡ Ok stepped.Went → scope.new.seen ≡ scope.old.seen }
         ensures never { result ≡ Ok stepped.Flush → ⊥ }
         ensures why { IfErr result IsCause }
+        ensures memory { IfErr result (λ why. why ≡ Refusal.NoMemory) }
     {
         scope.guards.reserve(1)?;
         match self.locks.ask(scope.number, page, mode)? {
@@ -91,14 +96,18 @@ impl<D: Device> Operations<D> {
         requires planning { scope.old.stage ≡ Planning }
         requires new { looked scope.old page ≡ None }
         requires inside { page < scope.old.seen.total }
-        requires led { (room ≡ scope.old.room) ⊎ ((room ≡ Some page) × (mode ≡ Write) × (get_or self.old.map page 0 ≡ 3)) }
+        requires led { (room ≡ scope.old.room) ⊎ ((room ≡ Some page) × (mode ≡ Write) × (get_or self.old.map.kinds page 0 ≡ 3)) }
         ensures goes { (opening : PageBytes) (relations counters : ℕ) → IsRight D.seen D.may_leave opening relations counters self.old → IsUnderWay relations counters (world D.seen opening self.old) scope.old →
             IsRight D.seen D.may_leave opening relations counters self.new × GoesOn relations counters (world D.seen opening self.old) (world D.seen opening self.new) scope.old scope.new result }
         ensures moments { (opening : PageBytes) → IsKept D.seen D.may_leave opening self.old.store → LeavesOnly D.moment D.left_since self.old.store.device self.new.store.device (Explains opening self.old.store) }
         ensures log { self.new.store.log ≡ self.old.store.log }
+        ensures map { self.new.map ≡ self.old.map }
         ensures same { IsAsFar scope.old scope.new }
         ensures full { result ≡ Ok stepped.Flush → IsFull self.old.store.pool × (self.new ≡ self.old) }
+        ensures work { Works scope.old scope.new result }
+        ensures locks { KeepsLocks scope.old.number self.old.locks self.new.locks result }
         ensures why { IfErr result IsCause }
+        ensures faults { TellsFaults (D.faults self.old.store.device) (D.faults self.new.store.device) result }
     {
         if !self.bring(page)? {
             return Ok(Stepped::Flush);
@@ -118,14 +127,18 @@ impl<D: Device> Operations<D> {
         requires planning { scope.old.stage ≡ Planning }
         requires new { looked scope.old page ≡ None }
         requires inside { page < scope.old.seen.total }
-        requires led { (room ≡ scope.old.room) ⊎ ((room ≡ Some page) × (mode ≡ Write) × (get_or self.old.map page 0 ≡ 3)) }
+        requires led { (room ≡ scope.old.room) ⊎ ((room ≡ Some page) × (mode ≡ Write) × (get_or self.old.map.kinds page 0 ≡ 3)) }
         requires there { IsThere self.old.store.pool page }
         ensures goes { (opening : PageBytes) (relations counters : ℕ) → IsRight D.seen D.may_leave opening relations counters self.old → IsUnderWay relations counters (world D.seen opening self.old) scope.old →
             IsRight D.seen D.may_leave opening relations counters self.new × GoesOn relations counters (world D.seen opening self.old) (world D.seen opening self.new) scope.old scope.new result }
         ensures store { self.new.store ≡ self.old.store }
+        ensures map { self.new.map ≡ self.old.map }
         ensures same { IsAsFar scope.old scope.new }
         ensures never { result ≡ Ok stepped.Flush → ⊥ }
+        ensures work { Works scope.old scope.new result }
+        ensures locks { KeepsLocks scope.old.number self.old.locks self.new.locks result }
         ensures why { IfErr result IsCause }
+        ensures memory { IfErr result (λ why. why ≡ Refusal.NoMemory) }
     {
         scope.seen.reserve()?;
         match self.hold(scope, page, mode)? {
@@ -143,12 +156,17 @@ impl<D: Device> Operations<D> {
         requires right { (opening : PageBytes) × (relations : ℕ) × (counters : ℕ) × IsRight D.seen D.may_leave opening relations counters self.old × IsUnderWay relations counters (world D.seen opening self.old) scope.old }
         requires planning { scope.old.stage ≡ Planning }
         requires seen { IsSome (looked scope.old page) }
+        requires unlocked { Contains scope.old.guards.items (lock_of scope.old.number page Write) → ⊥ }
         ensures goes { (opening : PageBytes) (relations counters : ℕ) → IsRight D.seen D.may_leave opening relations counters self.old → IsUnderWay relations counters (world D.seen opening self.old) scope.old →
             IsRight D.seen D.may_leave opening relations counters self.new × GoesOn relations counters (world D.seen opening self.old) (world D.seen opening self.new) scope.old scope.new result }
         ensures store { self.new.store ≡ self.old.store }
+        ensures map { self.new.map ≡ self.old.map }
         ensures same { IsAsFar scope.old scope.new }
         ensures never { result ≡ Ok stepped.Flush → ⊥ }
+        ensures work { Works scope.old scope.new result }
+        ensures locks { KeepsLocks scope.old.number self.old.locks self.new.locks result }
         ensures why { IfErr result IsCause }
+        ensures memory { IfErr result (λ why. why ≡ Refusal.NoMemory) }
     {
         self.hold(scope, page, Mode::Write)
     }

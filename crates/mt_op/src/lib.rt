@@ -11,9 +11,13 @@ mod holding;
 mod operations;
 mod planning;
 mod scope;
+mod space_map;
 mod stepping;
 mod undoing;
 
 pub use answers::{Stepped, TakenBack};
 pub use operations::Operations;
 pub use scope::{OpScope, Stage};
+
+#[cfg(test)]
+mod tests;

@@ -1,23 +1,25 @@
 // The operations of one kernel over their pages.
-ghost use Rattle.std.specs.Prelude.{◌≡◌, ◌≢◌, ◌<◌, ◌≤◌, ◌+◌, [], ℕ, length, false, true, Ok, if◌then◌else◌, IfOk, IfErr, OnOk, OnErr};
+ghost use Rattle.std.specs.Prelude.{◌≡◌, ◌≢◌, ◌⊎◌, ◌<◌, ◌≤◌, ◌+◌, ◌*◌, [], ℕ, length, false, true, Ok, if◌then◌else◌, IsOk, IsErr, IfOk, IfErr, OnOk, OnErr};
 ghost use Rattle.mt_disk.specs.Disk.{LeavesOnly, HasCause};
 ghost use Rattle.mt_frame.specs.Grammar.{IsTxn, IsOp, IsRecord};
 ghost use Rattle.mt_frame.specs.History.{may_stand, txn_of};
 ghost use Rattle.mt_frame.specs.Lengths.{record_length};
-ghost use Rattle.mt_log.specs.Words.{appended, durable, used, area_size, IsStep};
+ghost use Rattle.mt_log.specs.Words.{appended, durable, used, area_size, has_failed, IsStep};
 ghost use Rattle.mt_model.specs.Model.{IsWithin};
 ghost use Rattle.mt_pool.specs.Changes.{PageBytes};
 ghost use Rattle.mt_pool.specs.Kept.{IsKept, Explains};
 ghost use Rattle.mt_pool.specs.Views.{IsPool, IsFull, pages, to_flush, waits_for};
 ghost use Rattle.mt_pool.specs.declared.flushing.Flushed.TheVariants as flushed;
-ghost use Rattle.mt_steps.specs.Plans.{IsGood};
-ghost use Rattle.mt_op.specs.World.{IsUnderWay, IsFresh};
+ghost use Rattle.mt_steps.specs.Plans.{IsGood, free_pages};
+ghost use Rattle.mt_op.specs.World.{IsUnderWay, IsFresh, held_in};
 ghost use Rattle.mt_op.specs.Moves.{Rests, Notes, EndsTxn};
-ghost use Rattle.mt_op.specs.Operations.{world, IsRight, HasBudget, only_reads, IsCause};
+ghost use Rattle.mt_op.specs.Operations.{world, IsRight, HasBudget, only_reads, IsCause, claimed};
+ghost use Rattle.mt_op.specs.Work.{work_of};
 ghost use Rattle.mt_op.specs.declared.scope.OpScope.{OpScope};
 ghost use Rattle.mt_op.specs.declared.scope.Stage.TheVariants.{Planning};
 
 use crate::scope::{OpScope, Stage};
+use crate::space_map::{MAP, RECORDS, SpaceMap};
 use mt_base::limits::OPERATION_LOG_BYTES;
 use mt_base::{LogPos, OpNo, PageNo, Refusal, TxnNo};
 use mt_disk::{Device, DeviceFault};
@@ -30,19 +32,14 @@ use mt_pool::{Changes, Fetched, Flushed, Pages, Pool, Store};
 use mt_steps::Copies;
 use std::alloc::Global;
 
-// The page that says of each page what it holds, and what it says of one that holds records.
-const MAP: u16 = 0;
-
-const RECORDS: u8 = 3;
-
 /// The store of one kernel, with the page locks of its operations, what each page of records takes, and the
-/// map of the space as it is held.
+/// map of the space as it is held, with the claims on its free pages.
 #[derive(Drop)]
 pub struct Operations<D: Device> {
     pub(crate) store: Store<D>,
     pub(crate) locks: PageLocks,
     pub(crate) rooms: Rooms,
-    pub(crate) map: [u8; 4096],
+    pub(crate) map: SpaceMap,
 }
 
 impl<D: Device + Drop> Operations<D> {
@@ -55,15 +52,17 @@ impl<D: Device + Drop> Operations<D> {
         requires free { IsFull store.pool → ⊥ }
         ensures right { (opening : PageBytes) (relations counters : ℕ) → IsKept D.seen D.may_leave opening store → IsGood relations counters (pages store.pool) opening → IfOk result (IsRight D.seen D.may_leave opening relations counters) }
         ensures locks { IfOk result (λ operations. operations.locks ≡ []) }
+        ensures claimed { IfOk result (λ operations. claimed operations ≡ 0) }
         ensures log { IfOk result (λ operations. operations.store.log ≡ store.log) }
         ensures pages { IfOk result (λ operations. pages operations.store.pool ≡ pages store.pool) }
         ensures why { IfErr result IsCause }
+        ensures quiet { IfOk result (λ operations. D.faults operations.store.device ≡ D.faults store.device) }
     {
         let mut store = store;
         let count = store.pool.count();
         let rooms = Rooms::of(alloc, count)?;
         let map = match store.fetch(PageNo::new(MAP)) {
-            Ok(Fetched::There) => *store.pool.view(PageNo::new(MAP)),
+            Ok(Fetched::There) => SpaceMap::of(alloc, store.pool.view(PageNo::new(MAP)), count)?,
             Ok(Fetched::Flush) => unreachable!(),
             Err(_) => return Err(Refusal::DeviceFailed),
         };
@@ -120,6 +119,7 @@ impl<D: Device> Operations<D> {
         ensures named { IfOk result (λ s. (s.txn ≡ txn) × (s.number ≡ number) × (s.op ≡ op) × (s.undoes ≡ undoes) × (s.split ≡ split)) }
         ensures planning { IfOk result (λ s. (s.stage ≡ Planning) × (s.seen.total ≡ pages self.now.store.pool)) }
         ensures budget { IfOk result HasBudget }
+        ensures work { IfOk result (λ s. work_of s ≡ 2 * pages self.now.store.pool + 9) }
         ensures left { IfOk result (λ s. s.left ≡ (if only_reads op then 0 else 106496)) }
         ensures why { IfErr result (λ why. why ≡ Refusal.NoMemory) }
     {
@@ -160,6 +160,37 @@ impl<D: Device> Operations<D> {
         &self.store.pool
     }
 
+    /// Claims so many free pages, for operations and their inverses. Refused with 10 exactly where fewer of the pages
+    /// held are free and not claimed; nothing has changed then. It takes no memory.
+    pub fn claim(&mut self, count: u16) -> Result<(), Refusal>
+        ensures right { (opening : PageBytes) (relations counters : ℕ) → IsRight D.seen D.may_leave opening relations counters self.old → IsRight D.seen D.may_leave opening relations counters self.new }
+        ensures claimed { OnOk result (claimed self.new ≡ claimed self.old + count) }
+        ensures fits { (opening : PageBytes) (relations counters : ℕ) → IsRight D.seen D.may_leave opening relations counters self.old →
+            OnOk result (claimed self.old + count ≤ free_pages (pages self.old.store.pool) (held_in (world D.seen opening self.old))) }
+        ensures refused { IfErr result (λ why. why ≡ Refusal.NoRoom) }
+        ensures cause { (opening : PageBytes) (relations counters : ℕ) → IsRight D.seen D.may_leave opening relations counters self.old →
+            OnErr result (free_pages (pages self.old.store.pool) (held_in (world D.seen opening self.old)) < claimed self.old + count) }
+        ensures err { OnErr result (self.new ≡ self.old) }
+        ensures rests { (opening : PageBytes) → Rests (world D.seen opening self.old) (world D.seen opening self.new) }
+        ensures store { self.new.store ≡ self.old.store }
+        ensures locks { self.new.locks ≡ self.old.locks }
+    {
+        self.map.space.claim(count)
+    }
+
+    /// Gives so many claims back. An operation that ends gives its own back itself; those of one that is dropped out,
+    /// and those for inverses that are not needed any more, are given back here.
+    pub fn give_back(&mut self, count: u16)
+        requires { count ≤ claimed self.old }
+        ensures right { (opening : PageBytes) (relations counters : ℕ) → IsRight D.seen D.may_leave opening relations counters self.old → IsRight D.seen D.may_leave opening relations counters self.new }
+        ensures claimed { claimed self.new + count ≡ claimed self.old }
+        ensures rests { (opening : PageBytes) → Rests (world D.seen opening self.old) (world D.seen opening self.new) }
+        ensures store { self.new.store ≡ self.old.store }
+        ensures locks { self.new.locks ≡ self.old.locks }
+    {
+        self.map.space.give_back(count);
+    }
+
     /// Appends the end of a transaction that has no operation under way: its commit, or the end of its abort.
     /// The only refusal is [`Refusal::NoMemory`], and nothing is appended then.
     pub fn append(&mut self, entry: Record) -> Result<LogPos, Refusal>
@@ -174,6 +205,7 @@ impl<D: Device> Operations<D> {
         ensures others { (opening : PageBytes) (relations counters : ℕ) (u : OpScope) → IsUnderWay relations counters (world D.seen opening self.old) u → u.txn ≢ txn_of entry → IsUnderWay relations counters (world D.seen opening self.new) u }
         ensures place { IfOk result (λ place. place ≡ length (appended self.new.store.log)) }
         ensures used { OnOk result (used self.new.store.log ≡ used self.old.store.log + 5 + record_length entry) }
+        ensures claimed { claimed self.new ≡ claimed self.old }
         ensures device { self.new.store.device ≡ self.old.store.device }
         ensures why { IfErr result (λ why. why ≡ Refusal.NoMemory) }
     {
@@ -181,16 +213,19 @@ impl<D: Device> Operations<D> {
     }
 
     /// A step of the log's force, as [`Store::force_step`] makes it: pages, locks and operations stay. The only
-    /// refusal is [`Refusal::DeviceFailed`].
+    /// refusal is [`Refusal::DeviceFailed`], where the device failed in this call or the log has failed before.
     pub fn force_step(&mut self) -> Result<Forced, Refusal>
         requires kept { (opening : PageBytes) × IsKept D.seen D.may_leave opening self.old.store }
         ensures right { (opening : PageBytes) (relations counters : ℕ) → IsRight D.seen D.may_leave opening relations counters self.old → IsRight D.seen D.may_leave opening relations counters self.new }
         ensures rests { (opening : PageBytes) → Rests (world D.seen opening self.old) (world D.seen opening self.new) }
         ensures moments { (opening : PageBytes) → IsKept D.seen D.may_leave opening self.old.store → LeavesOnly D.moment D.left_since self.old.store.device self.new.store.device (Explains opening self.old.store) }
+        ensures claimed { claimed self.new ≡ claimed self.old }
         ensures step { IfOk result (λ forced. IsStep self.old.store.log forced self.new.store.log) }
         ensures used { used self.new.store.log ≤ used self.old.store.log }
         ensures area { area_size self.new.store.log ≡ area_size self.old.store.log }
         ensures why { IfErr result (λ why. why ≡ Refusal.DeviceFailed) }
+        ensures cause { IsErr result → (D.faults self.old.store.device < D.faults self.new.store.device ⊎ (has_failed self.old.store.log ≡ true)) }
+        ensures quiet { IsOk result → D.faults self.new.store.device ≡ D.faults self.old.store.device }
     {
         self.store.force_step()
     }
@@ -202,6 +237,7 @@ impl<D: Device> Operations<D> {
         ensures right { (opening : PageBytes) (relations counters : ℕ) → IsRight D.seen D.may_leave opening relations counters self.old → IsRight D.seen D.may_leave opening relations counters self.new }
         ensures rests { (opening : PageBytes) → Rests (world D.seen opening self.old) (world D.seen opening self.new) }
         ensures moments { (opening : PageBytes) → IsKept D.seen D.may_leave opening self.old.store → LeavesOnly D.moment D.left_since self.old.store.device self.new.store.device (Explains opening self.old.store) }
+        ensures claimed { claimed self.new ≡ claimed self.old }
         ensures log { self.new.store.log ≡ self.old.store.log }
         ensures fewer { (p : ℕ) → result ≡ Ok (flushed.Page p) → to_flush self.new.store.pool + 1 ≡ to_flush self.old.store.pool }
         ensures forced { result ≡ Ok flushed.Force → length (durable self.old.store.log) < length (appended self.old.store.log) }
@@ -216,13 +252,15 @@ impl<D: Device> Operations<D> {
         requires all { count ≡ pages self.old.store.pool }
         ensures right { (opening : PageBytes) (relations counters : ℕ) → IsRight D.seen D.may_leave opening relations counters self.old → IsRight D.seen D.may_leave opening relations counters self.new }
         ensures locks { self.new.locks ≡ self.old.locks }
+        ensures map { self.new.map ≡ self.old.map }
         ensures log { self.new.store.log ≡ self.old.store.log }
         ensures pages { pages self.new.store.pool ≡ pages self.old.store.pool }
         ensures why { IfErr result (λ why. why ≡ Refusal.DeviceFailed) }
+        ensures cause { HasCause (D.faults self.old.store.device) (D.faults self.new.store.device) result }
     {
         for number in 0..count {
             let page = PageNo::new(number);
-            if self.map[usize::from(number)] == RECORDS && self.bring(page)? {
+            if self.map.kinds[usize::from(number)] == RECORDS && self.bring(page)? {
                 let room = fits(self.store.pool.view(page));
                 self.rooms.noted(page, room);
             }

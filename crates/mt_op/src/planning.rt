@@ -4,20 +4,25 @@ ghost use Rattle.mt_steps.specs.Drafts.{AreAtHand};
 ghost use Rattle.mt_steps.specs.Logged.{logged_of};
 ghost use Rattle.mt_base.specs.declared.modes.Mode.TheVariants.{Write};
 ghost use Rattle.mt_disk.specs.Disk.{LeavesOnly};
-ghost use Rattle.mt_log.specs.Words.{used, area_size};
+ghost use Rattle.mt_log.specs.Words.{appended, used, area_size};
 ghost use Rattle.mt_plock.specs.Holding.{lock_of};
 ghost use Rattle.mt_pool.specs.Changes.{PageBytes, IsUntouched};
 ghost use Rattle.mt_pool.specs.Kept.{IsKept, Explains};
 ghost use Rattle.mt_pool.specs.Views.{IsFull};
 ghost use Rattle.mt_steps.specs.Plans.{own_needs, free_pages, InPages, IsPlanned};
 ghost use Rattle.mt_op.specs.World.{IsUnderWay, looked, held_in};
-ghost use Rattle.mt_op.specs.Operations.{world, IsRight, GoesOn, Steps, IsPlannedOn, HasBudget, only_reads, IsAsFar, IsCause};
+ghost use Rattle.mt_op.specs.Operations.{world, IsRight, GoesOn, Steps, GivesBack, IsPlannedOn, HasBudget, only_reads, IsAsFar, IsCause, claimed};
+ghost use Rattle.mt_op.specs.Holds.{KeepsLocks, KeepsLocksOn};
+ghost use Rattle.mt_op.specs.Records.{KeepsRecords};
+ghost use Rattle.mt_op.specs.Work.{Works, WorksOn, ComesTo};
+ghost use Rattle.mt_op.specs.Faults.{TellsFaults};
 ghost use Rattle.mt_op.specs.declared.scope.Stage.TheVariants.{Planning, Writing};
 ghost use Rattle.mt_op.specs.declared.answers.Stepped.TheVariants as stepped;
 
 use crate::answers::Stepped;
 use crate::operations::Operations;
 use crate::scope::{OpScope, Stage};
+use crate::space_map::{MAP, RECORDS};
 use mt_base::{Mode, OpNo, PageNo, Refusal};
 use mt_disk::Device;
 use mt_model::{Op, Reply};
@@ -26,21 +31,22 @@ use mt_pool::{Changes, Pages};
 use mt_steps::{Act, plan};
 use std::alloc::Global;
 
-// The page that says of each page what it holds, and what it says of one that holds records.
-const MAP: u16 = 0;
-
-const RECORDS: u8 = 3;
-
 impl<D: Device> Operations<D> {
     /// Makes a step of an operation: it locks a page and looks at it, or writes a page with its log records, or
     /// ends. All pages are locked and looked at before the first is written.
     ///
     /// [`Stepped::Wait`], [`Stepped::Flush`] and the refusals change nothing of pages, locks and log;
-    /// [`Stepped::Again`] gives the operation's locks back, so that it begins anew with its number. The
-    /// refusals are [`Refusal::NoMemory`] and [`Refusal::DeviceFailed`].
+    /// [`Stepped::Again`] gives the operation's locks back, so that it begins anew with its number. As many free pages
+    /// as the operation may take are to be claimed for it; with its end it has given them back. The
+    /// refusals are [`Refusal::NoMemory`] and, exactly where the device failed in this call, [`Refusal::DeviceFailed`].
+    ///
+    /// How many steps: over `n` pages an operation that nobody is in the way of is ready after at most `2 n + 9`
+    /// of them. A step that answers [`Stepped::Went`] leaves less to do, [`Stepped::Again`] adds at most `2 n`
+    /// steps, and nothing else adds any.
     pub fn step(&mut self, alloc: Global, scope: &mut OpScope) -> Result<Stepped, Refusal>
         requires right { (opening : PageBytes) × (relations : ℕ) × (counters : ℕ) × IsRight D.seen D.may_leave opening relations counters self.old × IsUnderWay relations counters (world D.seen opening self.old) scope.old
-            × (relations ≤ 64) × (counters ≤ 128) × (own_needs scope.old.op ≤ free_pages scope.old.seen.total (held_in (world D.seen opening self.old))) }
+            × (relations ≤ 64) × (counters ≤ 128) }
+        requires claims { own_needs scope.old.op scope.old.split ≤ claimed self.old }
         requires stage { (scope.old.stage ≡ Planning) ⊎ (scope.old.stage ≡ Writing) }
         requires budget { HasBudget scope.old }
         requires room { used self.old.store.log + scope.old.left < area_size self.old.store.log }
@@ -50,10 +56,17 @@ impl<D: Device> Operations<D> {
         ensures log { used self.new.store.log + scope.new.left ≡ used self.old.store.log + scope.old.left }
         ensures area { area_size self.new.store.log ≡ area_size self.old.store.log }
         ensures budget { HasBudget scope.new }
+        ensures claims { GivesBack (own_needs scope.old.op scope.old.split) (claimed self.old) (claimed self.new) result }
         ensures full { result ≡ Ok stepped.Flush → IsFull self.old.store.pool × (self.new ≡ self.old) }
+        ensures stage { ComesTo scope.new.stage result }
+        ensures work { Works scope.old scope.new result }
+        ensures records { KeepsRecords scope.new (appended self.old.store.log) (appended self.new.store.log) result }
+        ensures locks { KeepsLocks scope.old.number self.old.locks self.new.locks result }
+        ensures writing { scope.old.stage ≡ Writing → self.new.locks ≡ self.old.locks }
         // Where the plan is made, a page more is written then.
         ensures went { scope.old.stage ≡ Writing → result ≡ Ok stepped.Went → scope.new.written ≡ scope.old.written + 1 }
         ensures why { IfErr result IsCause }
+        ensures faults { TellsFaults (D.faults self.old.store.device) (D.faults self.new.store.device) result }
     {
         if scope.stage == Stage::Writing {
             return self.go_on(alloc, scope);
@@ -67,6 +80,7 @@ impl<D: Device> Operations<D> {
     // Writes the next page of the plan, or ends the operation.
     fn go_on(&mut self, alloc: Global, scope: &mut OpScope) -> Result<Stepped, Refusal>
         requires right { (opening : PageBytes) × (relations : ℕ) × (counters : ℕ) × IsRight D.seen D.may_leave opening relations counters self.old × IsUnderWay relations counters (world D.seen opening self.old) scope.old × (relations ≤ 64) × (counters ≤ 128) }
+        requires claims { own_needs scope.old.op scope.old.split ≤ claimed self.old }
         requires writing { scope.old.stage ≡ Writing }
         requires budget { HasBudget scope.old }
         requires room { used self.old.store.log + scope.old.left < area_size self.old.store.log }
@@ -76,9 +90,15 @@ impl<D: Device> Operations<D> {
         ensures log { used self.new.store.log + scope.new.left ≡ used self.old.store.log + scope.old.left }
         ensures area { area_size self.new.store.log ≡ area_size self.old.store.log }
         ensures budget { HasBudget scope.new }
+        ensures claims { GivesBack (own_needs scope.old.op scope.old.split) (claimed self.old) (claimed self.new) result }
         ensures full { result ≡ Ok stepped.Flush → IsFull self.old.store.pool × (self.new ≡ self.old) }
         ensures went { result ≡ Ok stepped.Went → scope.new.written ≡ scope.old.written + 1 }
+        ensures stage { ComesTo scope.new.stage result }
+        ensures work { Works scope.old scope.new result }
+        ensures records { KeepsRecords scope.new (appended self.old.store.log) (appended self.new.store.log) result }
+        ensures locks { self.new.locks ≡ self.old.locks }
         ensures why { IfErr result IsCause }
+        ensures faults { TellsFaults (D.faults self.old.store.device) (D.faults self.new.store.device) result }
     {
         if scope.written < scope.changes.list.len() {
             self.write_next(alloc, scope)
@@ -91,7 +111,7 @@ impl<D: Device> Operations<D> {
     // plan where there is none.
     fn plan_step(&mut self, alloc: Global, scope: &mut OpScope) -> Result<Option<Stepped>, Refusal>
         requires right { (opening : PageBytes) × (relations : ℕ) × (counters : ℕ) × IsRight D.seen D.may_leave opening relations counters self.old × IsUnderWay relations counters (world D.seen opening self.old) scope.old
-            × (relations ≤ 64) × (own_needs scope.old.op ≤ free_pages scope.old.seen.total (held_in (world D.seen opening self.old))) }
+            × (relations ≤ 64) × (own_needs scope.old.op scope.old.split ≤ free_pages scope.old.seen.total (held_in (world D.seen opening self.old))) }
         requires planning { scope.old.stage ≡ Planning }
         requires budget { HasBudget scope.old }
         ensures goes { (opening : PageBytes) (relations counters : ℕ) → IsRight D.seen D.may_leave opening relations counters self.old → IsUnderWay relations counters (world D.seen opening self.old) scope.old → relations ≤ 64 →
@@ -99,10 +119,15 @@ impl<D: Device> Operations<D> {
         ensures moments { (opening : PageBytes) → IsKept D.seen D.may_leave opening self.old.store → LeavesOnly D.moment D.left_since self.old.store.device self.new.store.device (Explains opening self.old.store) }
         ensures made { result ≡ Ok None → (self.new ≡ self.old) × (scope.new.stage ≡ Writing) }
         ensures log { self.new.store.log ≡ self.old.store.log }
+        ensures map { self.new.map ≡ self.old.map }
         ensures left { scope.new.left ≡ scope.old.left }
         ensures budget { HasBudget scope.new }
         ensures full { result ≡ Ok (Some stepped.Flush) → IsFull self.old.store.pool × (self.new ≡ self.old) }
+        ensures stage { (result ≡ Ok None → ⊥) → scope.new.stage ≡ Planning }
+        ensures work { WorksOn scope.old scope.new result }
+        ensures locks { KeepsLocksOn scope.old.number self.old.locks self.new.locks result }
         ensures why { IfErr result IsCause }
+        ensures faults { TellsFaults (D.faults self.old.store.device) (D.faults self.new.store.device) result }
     {
         match plan(alloc, &scope.seen, scope.room, &scope.op, scope.split)? {
             Act::Lock(page, mode) => {
@@ -134,9 +159,13 @@ impl<D: Device> Operations<D> {
             IsRight D.seen D.may_leave opening relations counters self.new × GoesOn relations counters (world D.seen opening self.old) (world D.seen opening self.new) scope.old scope.new result }
         ensures moments { (opening : PageBytes) → IsKept D.seen D.may_leave opening self.old.store → LeavesOnly D.moment D.left_since self.old.store.device self.new.store.device (Explains opening self.old.store) }
         ensures log { self.new.store.log ≡ self.old.store.log }
+        ensures map { self.new.map ≡ self.old.map }
         ensures same { IsAsFar scope.old scope.new }
         ensures full { result ≡ Ok stepped.Flush → IsFull self.old.store.pool × (self.new ≡ self.old) }
+        ensures work { Works scope.old scope.new result }
+        ensures locks { KeepsLocks scope.old.number self.old.locks self.new.locks result }
         ensures why { IfErr result IsCause }
+        ensures faults { TellsFaults (D.faults self.old.store.device) (D.faults self.new.store.device) result }
     {
         if page.get() == MAP {
             if let Some(room) = self.room_for(scope) {
@@ -153,12 +182,12 @@ impl<D: Device> Operations<D> {
         requires whole { (p : ℕ) (bytes : List ℕ) → looked scope.now p ≡ Some bytes → length bytes ≡ 4096 }
         ensures new { IfSome result (λ p. looked scope.now p ≡ None) }
         ensures inside { IfSome result (λ p. p < scope.now.seen.total) }
-        ensures records { IfSome result (λ p. get_or self.now.map p 0 ≡ 3) }
+        ensures records { IfSome result (λ p. get_or self.now.map.kinds p 0 ≡ 3) }
     {
         let bytes = record_bytes(&scope.op)?;
         let room = self.rooms.with_room(bytes)?;
         if scope.room.is_none()
-            && self.map[usize::from(room.get())] == RECORDS
+            && self.map.kinds[usize::from(room.get())] == RECORDS
             && self.locks.is_unlocked(room)
             && scope.seen.page(room).is_none()
         {
@@ -183,14 +212,19 @@ impl<D: Device> Operations<D> {
         requires reads { only_reads scope.old.op ≡ true → changes.list.items ≡ [] }
         requires budget { HasBudget scope.old }
         ensures goes { (opening : PageBytes) (relations counters : ℕ) → IsRight D.seen D.may_leave opening relations counters self.old → IsUnderWay relations counters (world D.seen opening self.old) scope.old →
-            InPages (looked scope.old) scope.old.room relations counters scope.old.seen.total (λ pages. IsPlanned relations counters scope.old.seen.total (looked scope.old) pages changes.list.items scope.old.op reply) →
+            InPages (looked scope.old) scope.old.room relations counters scope.old.seen.total (λ pages. IsPlanned relations counters scope.old.seen.total (looked scope.old) pages changes.list.items scope.old.op scope.old.split reply) →
             IsRight D.seen D.may_leave opening relations counters self.new × IsPlannedOn relations counters (world D.seen opening self.old) (world D.seen opening self.new) scope.old scope.new result }
         ensures store { self.new.store ≡ self.old.store }
+        ensures map { self.new.map ≡ self.old.map }
         ensures made { result ≡ Ok None → (self.new ≡ self.old) × (scope.new.stage ≡ Writing) }
         ensures left { scope.new.left ≡ scope.old.left }
         ensures budget { HasBudget scope.new }
         ensures never { result ≡ Ok (Some stepped.Flush) → ⊥ }
+        ensures stage { (result ≡ Ok None → ⊥) → scope.new.stage ≡ Planning }
+        ensures work { WorksOn scope.old scope.new result }
+        ensures locks { KeepsLocksOn scope.old.number self.old.locks self.new.locks result }
         ensures why { IfErr result IsCause }
+        ensures memory { IfErr result (λ why. why ≡ Refusal.NoMemory) }
     {
         if let Some(page) = first_unlocked(scope.number, &changes, scope.guards.as_slice()) {
             let stepped = self.upgrade(scope, page)?;
@@ -207,7 +241,7 @@ impl<D: Device> Operations<D> {
 fn first_unlocked(op: OpNo, changes: &Changes, guards: &[PageGuard]) -> Option<PageNo>
     ensures { MatchOption result
         (All (λ c. Contains guards.now (lock_of op c.page Write)) changes.now.list.items)
-        (λ p. IsUntouched changes.now.list.items p → ⊥) }
+        (λ p. (IsUntouched changes.now.list.items p → ⊥) × (Contains guards.now (lock_of op p Write) → ⊥)) }
 {
     for change in &changes.list {
         let lock = PageLock {

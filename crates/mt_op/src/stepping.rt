@@ -10,29 +10,29 @@ ghost use Rattle.mt_log.specs.Words.{appended, used, area_size};
 ghost use Rattle.mt_file.specs.Rooms.{fits_of};
 ghost use Rattle.mt_pool.specs.Changes.{PageBytes, Agrees, after, AreShort};
 ghost use Rattle.mt_slots.specs.Page.{IsShaped};
+ghost use Rattle.mt_steps.specs.Plans.{own_needs};
 ghost use Rattle.mt_pool.specs.Kept.{IsKept, Explains};
 ghost use Rattle.mt_op.specs.World.{IsUnderWay, looked, changes_in};
-ghost use Rattle.mt_op.specs.Operations.{world, IsRight, Goes, GoesOn, Steps, HasBudget, IsCause};
+ghost use Rattle.mt_op.specs.Operations.{world, IsRight, Goes, GoesOn, Steps, GivesBack, HasBudget, IsCause, claimed};
 ghost use Rattle.mt_op.specs.declared.scope.Stage.TheVariants.{Writing, Ready};
+ghost use Rattle.mt_op.specs.Records.{HasPageMore, KeepsRecords};
 ghost use Rattle.mt_op.specs.Room.{HasRooms};
 ghost use Rattle.mt_op.specs.Moves.{Rests, Notes};
+ghost use Rattle.mt_op.specs.Work.{Works, ComesTo};
+ghost use Rattle.mt_op.specs.Faults.{TellsFaults};
 ghost use Rattle.mt_op.specs.declared.answers.Stepped.TheVariants as stepped;
 
 use crate::answers::Stepped;
 use crate::operations::Operations;
 use crate::scope::{OpScope, Stage};
+use crate::space_map::RECORDS;
 use mt_base::{PageNo, Refusal};
 use mt_disk::Device;
 use mt_file::fits;
 use mt_frame::{LoggedOp, Record};
 use mt_pool::{Changes, Pages, patch};
-use mt_steps::logged;
+use mt_steps::{logged, pages_for};
 use std::alloc::Global;
-
-// The page that says of each page what it holds, and what it says of one that holds records.
-const MAP: u16 = 0;
-
-const RECORDS: u8 = 3;
 
 impl<D: Device> Operations<D> {
     // Writes the next page of the plan, with its log records.
@@ -51,13 +51,18 @@ impl<D: Device> Operations<D> {
         ensures moments { (opening : PageBytes) → IsKept D.seen D.may_leave opening self.old.store → LeavesOnly D.moment D.left_since self.old.store.device self.new.store.device (Explains opening self.old.store) }
         ensures log { used self.new.store.log + scope.new.left ≡ used self.old.store.log + scope.old.left }
         ensures area { area_size self.new.store.log ≡ area_size self.old.store.log }
+        ensures map { self.new.map ≡ self.old.map }
         ensures budget { HasBudget scope.new }
         ensures stage { scope.new.stage ≡ Writing }
         ensures went { result ≡ Ok stepped.Went → scope.new.written ≡ scope.old.written + 1 }
+        ensures work { Works scope.old scope.new result }
+        ensures records { KeepsRecords scope.new (appended self.old.store.log) (appended self.new.store.log) result }
+        ensures locks { self.new.locks ≡ self.old.locks }
         ensures flush { result ≡ Ok stepped.Flush → scope.new ≡ scope.old }
         ensures full { result ≡ Ok stepped.Flush → IsFull self.old.store.pool × (self.new ≡ self.old) }
         ensures err { OnErr result (scope.new ≡ scope.old) }
         ensures why { IfErr result IsCause }
+        ensures faults { TellsFaults (D.faults self.old.store.device) (D.faults self.new.store.device) result }
     {
         let page = scope.changes.list[scope.written].page;
         if !self.bring(page)? {
@@ -80,11 +85,17 @@ impl<D: Device> Operations<D> {
         ensures device { self.new.store.device ≡ self.old.store.device }
         ensures log { used self.new.store.log + scope.new.left ≡ used self.old.store.log + scope.old.left }
         ensures area { area_size self.new.store.log ≡ area_size self.old.store.log }
+        ensures map { self.new.map ≡ self.old.map }
         ensures budget { HasBudget scope.new }
         ensures stage { scope.new.stage ≡ Writing }
         ensures written { OnOk result (scope.new.written ≡ scope.old.written + 1) }
+        ensures changes { scope.new.changes ≡ scope.old.changes }
+        ensures records { OnOk result (HasPageMore scope.new (appended self.old.store.log) (appended self.new.store.log)) }
+        ensures err_records { OnErr result (appended self.new.store.log ≡ appended self.old.store.log) }
+        ensures locks { self.new.locks ≡ self.old.locks }
         ensures err { OnErr result (scope.new ≡ scope.old) }
         ensures why { IfErr result IsCause }
+        ensures memory { IfErr result (λ why. why ≡ Refusal.NoMemory) }
     {
         let before = self.store.log.used();
         let change = &scope.changes.list[scope.written];
@@ -96,9 +107,10 @@ impl<D: Device> Operations<D> {
     }
 
     // Ends the operation: its end is appended where one is due, and with that it has acted on the base
-    // that the pages hold. Where memory is refused nothing has changed.
+    // that the pages hold; its claim on free pages is given back. Where memory is refused nothing has changed.
     pub(crate) fn finish(&mut self, scope: &mut OpScope) -> Result<Stepped, Refusal>
         requires right { (opening : PageBytes) × (relations : ℕ) × (counters : ℕ) × IsRight D.seen D.may_leave opening relations counters self.old × IsUnderWay relations counters (world D.seen opening self.old) scope.old × (relations ≤ 64) × (counters ≤ 128) }
+        requires claims { own_needs scope.old.op scope.old.split ≤ claimed self.old }
         requires writing { scope.old.stage ≡ Writing }
         requires all { scope.old.written ≡ length (changes_in scope.old) }
         requires budget { HasBudget scope.old }
@@ -108,11 +120,16 @@ impl<D: Device> Operations<D> {
         ensures device { self.new.store.device ≡ self.old.store.device }
         ensures log { used self.new.store.log + scope.new.left ≡ used self.old.store.log + scope.old.left }
         ensures area { area_size self.new.store.log ≡ area_size self.old.store.log }
+        ensures claims { GivesBack (own_needs scope.old.op scope.old.split) (claimed self.old) (claimed self.new) result }
         ensures budget { HasBudget scope.new }
         ensures ready { OnOk result (scope.new.stage ≡ Ready) }
+        ensures records { KeepsRecords scope.new (appended self.old.store.log) (appended self.new.store.log) result }
+        ensures locks { self.new.locks ≡ self.old.locks }
+        ensures stage { ComesTo scope.new.stage result }
         ensures ended { (result ≡ Ok stepped.Went → ⊥) × (result ≡ Ok stepped.Flush → ⊥) }
         ensures same { OnErr result (scope.new ≡ scope.old) }
         ensures why { IfErr result IsCause }
+        ensures memory { IfErr result (λ why. why ≡ Refusal.NoMemory) }
     {
         let Some(reply) = &scope.reply else {
             unreachable!()
@@ -122,7 +139,8 @@ impl<D: Device> Operations<D> {
         if let Some(done) = logged(&scope.op, reply)? {
             self.append_end(scope, done)?;
         }
-        self.follow(&scope.changes);
+        let claim = pages_for(&scope.op, scope.split);
+        self.map.settle(&scope.changes, claim);
         self.note_looked(scope);
         scope.stage = Stage::Ready;
         Ok(Stepped::Ready(first, second))
@@ -149,6 +167,7 @@ impl<D: Device> Operations<D> {
         ensures scope { scope.new ≡ record scope.old { left = scope.new.left } }
         ensures same { OnErr result (scope.new ≡ scope.old) }
         ensures why { IfErr result IsCause }
+        ensures memory { IfErr result (λ why. why ≡ Refusal.NoMemory) }
     {
         let before_end = self.store.log.used();
         self.store.append(Record::OpEnd {
@@ -161,24 +180,9 @@ impl<D: Device> Operations<D> {
         Ok(())
     }
 
-    // The map of the space follows the changes of an operation that has ended.
-    fn follow(&mut self, changes: &Changes)
-        requires short { (pages : PageBytes) × (pages 0 ≡ self.old.map) × AreShort changes.now.list.items pages × (length self.old.map ≡ 4096) }
-        ensures map { (pages : PageBytes) → pages 0 ≡ self.old.map → AreShort changes.now.list.items pages → self.new.map ≡ after changes.now.list.items pages 0 }
-        ensures store { self.new.store ≡ self.old.store }
-        ensures locks { self.new.locks ≡ self.old.locks }
-        ensures rooms { length self.new.rooms.0 ≡ length self.old.rooms.0 }
-    {
-        for change in &changes.list {
-            if change.page.get() == MAP {
-                patch(&mut self.map, change.edits.as_slice());
-            }
-        }
-    }
-
     // Notes what the pages take that the operation looked at, once its changes are made.
     fn note_looked(&mut self, scope: &OpScope)
-        requires pages { (pages : PageBytes) × Agrees (looked scope.now) pages × AreShort (changes_in scope.now) pages × ((p : ℕ) → get_or self.old.map p 0 ≡ 3 → IsShaped (after (changes_in scope.now) pages p)) }
+        requires pages { (pages : PageBytes) × Agrees (looked scope.now) pages × AreShort (changes_in scope.now) pages × ((p : ℕ) → get_or self.old.map.kinds p 0 ≡ 3 → IsShaped (after (changes_in scope.now) pages p)) }
         requires whole { (p : ℕ) (bytes : List ℕ) → looked scope.now p ≡ Some bytes → length bytes ≡ 4096 }
         requires inside { (p : ℕ) → IsSome (looked scope.now p) → p < length self.old.rooms.0 }
         requires few { length self.old.rooms.0 ≤ 4096 }
@@ -186,7 +190,7 @@ impl<D: Device> Operations<D> {
         ensures locks { self.new.locks ≡ self.old.locks }
         ensures map { self.new.map ≡ self.old.map }
         ensures rooms { length self.new.rooms.0 ≡ length self.old.rooms.0 }
-        ensures noted { (pages : PageBytes) → Agrees (looked scope.now) pages → AreShort (changes_in scope.now) pages → HasRooms scope.now self.old.map self.new.rooms.0 pages }
+        ensures noted { (pages : PageBytes) → Agrees (looked scope.now) pages → AreShort (changes_in scope.now) pages → HasRooms scope.now self.old.map.kinds self.new.rooms.0 pages }
         ensures others { (p : ℕ) → looked scope.now p ≡ None → get_or self.new.rooms.0 p 0 ≡ get_or self.old.rooms.0 p 0 }
     {
         for guard in &scope.guards {
@@ -202,11 +206,11 @@ impl<D: Device> Operations<D> {
     fn room_after(&self, changes: &Changes, page: PageNo, before: &[u8; 4096]) -> u16
         requires inside { page < 4096 }
         requires whole { length before.now ≡ 4096 }
-        requires pages { (pages : PageBytes) × (pages page ≡ before.now) × AreShort changes.now.list.items pages × (get_or self.now.map page 0 ≡ 3 → IsShaped (after changes.now.list.items pages page)) }
-        ensures records { (pages : PageBytes) → pages page ≡ before.now → AreShort changes.now.list.items pages → get_or self.now.map page 0 ≡ 3 → result ≡ fits_of (after changes.now.list.items pages page) }
-        ensures others { get_or self.now.map page 0 ≢ 3 → result ≡ 0 }
+        requires pages { (pages : PageBytes) × (pages page ≡ before.now) × AreShort changes.now.list.items pages × (get_or self.now.map.kinds page 0 ≡ 3 → IsShaped (after changes.now.list.items pages page)) }
+        ensures records { (pages : PageBytes) → pages page ≡ before.now → AreShort changes.now.list.items pages → get_or self.now.map.kinds page 0 ≡ 3 → result ≡ fits_of (after changes.now.list.items pages page) }
+        ensures others { get_or self.now.map.kinds page 0 ≢ 3 → result ≡ 0 }
     {
-        if self.map[usize::from(page.get())] != RECORDS {
+        if self.map.kinds[usize::from(page.get())] != RECORDS {
             return 0;
         }
         let mut bytes = *before;

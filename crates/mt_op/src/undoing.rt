@@ -12,8 +12,9 @@ ghost use Rattle.mt_pool.specs.Changes.{PageBytes};
 ghost use Rattle.mt_pool.specs.Kept.{IsKept, Explains};
 ghost use Rattle.mt_op.specs.World.{IsUnderWay, changes_in, held_in, looked};
 ghost use Rattle.mt_op.specs.Moves.{Rests, Notes, Leaves, PutsBack};
-ghost use Rattle.mt_op.specs.Operations.{world, IsRight, Goes, HasBudget, IsCause};
+ghost use Rattle.mt_op.specs.Operations.{world, IsRight, Goes, HasBudget, IsCause, claimed};
 ghost use Rattle.mt_op.specs.declared.scope.Stage.TheVariants.{Planning, Writing, Ready, Taking, Cleared};
+ghost use Rattle.mt_op.specs.Faults.{TellsFaults};
 ghost use Rattle.mt_op.specs.declared.answers.TakenBack.TheVariants as taken;
 
 use crate::answers::TakenBack;
@@ -27,10 +28,13 @@ use mt_pool::Pages;
 impl<D: Device> Operations<D> {
     /// Takes the operation back a step: the page that it wrote last, of those that still stand, gets its bytes
     /// from before the operation. Before the last of them is put back, the record is appended that tells
-    /// of the taking back; where nothing was written there is none. The pages held stay throughout.
+    /// of the taking back; where nothing was written there is none. The pages held stay throughout, and so do the
+    /// claims on free pages: [`Operations::give_back`] gives those of the operation back.
+    ///
+    /// How many steps: each that answers [`TakenBack::More`] leaves a page less that stands, of eight at most.
     ///
     /// [`TakenBack::Flush`] and the refusals change nothing: [`Refusal::NoMemory`], where the record cannot be
-    /// appended, and [`Refusal::DeviceFailed`].
+    /// appended, and, exactly where the device failed in this call, [`Refusal::DeviceFailed`].
     pub fn take_back(&mut self, scope: &mut OpScope) -> Result<TakenBack, Refusal>
         requires right { (opening : PageBytes) × (relations : ℕ) × (counters : ℕ) × IsRight D.seen D.may_leave opening relations counters self.old × IsUnderWay relations counters (world D.seen opening self.old) scope.old }
         requires stage { (scope.old.stage ≡ Planning) ⊎ ((scope.old.stage ≡ Writing) ⊎ (scope.old.stage ≡ Taking)) }
@@ -41,13 +45,16 @@ impl<D: Device> Operations<D> {
         ensures moments { (opening : PageBytes) → IsKept D.seen D.may_leave opening self.old.store → LeavesOnly D.moment D.left_since self.old.store.device self.new.store.device (Explains opening self.old.store) }
         ensures more { result ≡ Ok taken.More → (scope.new.stage ≡ Taking) × (scope.new.standing + 1 ≡ scope.old.standing) }
         ensures clear { result ≡ Ok taken.Clear → (scope.new.stage ≡ Cleared) × (scope.old.standing ≤ 1) }
+        ensures few { scope.old.standing ≤ 8 }
         ensures log { used self.new.store.log + scope.new.left ≡ used self.old.store.log + scope.old.left }
         ensures area { area_size self.new.store.log ≡ area_size self.old.store.log }
+        ensures claimed { claimed self.new ≡ claimed self.old }
         ensures budget { HasBudget scope.new }
         ensures err { OnErr result (scope.new ≡ scope.old) }
         ensures flush { result ≡ Ok taken.Flush → scope.new ≡ scope.old }
         ensures full { result ≡ Ok taken.Flush → IsFull self.old.store.pool × (self.new ≡ self.old) }
         ensures why { IfErr result IsCause }
+        ensures faults { TellsFaults (D.faults self.old.store.device) (D.faults self.new.store.device) result }
     {
         if scope.standing == 0 {
             scope.stage = Stage::Cleared;
@@ -105,6 +112,7 @@ impl<D: Device> Operations<D> {
         ensures err_used { OnErr result (used self.new.store.log ≡ used self.old.store.log) }
         ensures area { area_size self.new.store.log ≡ area_size self.old.store.log }
         ensures why { IfErr result IsCause }
+        ensures memory { IfErr result (λ why. why ≡ Refusal.NoMemory) }
     {
         self.store.append(Record::OpDropped {
             txn: scope.txn,
@@ -128,9 +136,11 @@ impl<D: Device> Operations<D> {
         ensures clear { OnOk result ((result ≡ Ok taken.Clear) × (scope.new.stage ≡ Cleared)) }
         ensures log { used self.new.store.log + scope.new.left ≡ used self.old.store.log + scope.old.left }
         ensures area { area_size self.new.store.log ≡ area_size self.old.store.log }
+        ensures map { self.new.map ≡ self.old.map }
         ensures budget { HasBudget scope.new }
         ensures err { OnErr result (scope.new ≡ scope.old) }
         ensures why { IfErr result IsCause }
+        ensures memory { IfErr result (λ why. why ≡ Refusal.NoMemory) }
     {
         let before = self.store.log.used();
         self.append_dropped(scope)?;
@@ -150,6 +160,7 @@ impl<D: Device> Operations<D> {
         ensures others { (opening : PageBytes) (relations counters : ℕ) (u : OpScope) → IsUnderWay relations counters (world D.seen opening self.old) u → u.number ≢ scope.number → IsUnderWay relations counters (world D.seen opening self.new) u }
         ensures locks { self.new.locks ≡ locks_without scope.number self.old.locks }
         ensures store { self.new.store ≡ self.old.store }
+        ensures claimed { claimed self.new ≡ claimed self.old }
     {
         self.release(scope); // its end is in the log
     }
@@ -164,6 +175,7 @@ impl<D: Device> Operations<D> {
         ensures others { (opening : PageBytes) (relations counters : ℕ) (u : OpScope) → IsUnderWay relations counters (world D.seen opening self.old) u → u.number ≢ scope.number → IsUnderWay relations counters (world D.seen opening self.new) u }
         ensures locks { self.new.locks ≡ locks_without scope.number self.old.locks }
         ensures store { self.new.store ≡ self.old.store }
+        ensures claimed { claimed self.new ≡ claimed self.old }
     {
         self.release(scope); // nothing else of it is left
     }

@@ -15,3 +15,4 @@ pub mod Small
 mod Asking
 mod Promised
 mod Modest
+pub mod Formatting

@@ -1,5 +1,5 @@
 -- Which pages change their kind, and how many free ones are taken.
-use Rattle.std.proofs.Common.{◌≡◌, ◌≢◌, ◌⊎◌, inl, inr, ⊎_elim, ℕ, ◌≤◌, ◌+◌, Bool, true, false, cond, List, [], Option, None, Some, length, get_or, refl, ap, sym, ◌∙◌, arith}
+use Rattle.std.proofs.Common.{◌≡◌, ◌≢◌, ◌⊎◌, inl, inr, ⊎_elim, ℕ, ◌≤◌, ◌<◌, ◌+◌, Bool, true, false, cond, List, [], Option, None, Some, length, get_or, refl, ap, sym, ◌∙◌, arith}
 use Rattle.std.specs.Prelude.{IsSome}
 use Rattle.std.proofs.lemmas.Bool.{cases_eq, both_ways}
 use Rattle.mt_base.specs.declared.numbers.RecordName.{RecordName}
@@ -168,12 +168,18 @@ pub too_full : (room : Option ℕ) (total bytes : ℕ) (pages : PageBytes) → I
 too_full (Some q) total bytes pages full = inr (q, refl, full)
 too_full None total bytes pages full = inl (none_free (mapped (pages 0) total) (λ p lt. full p))
 
--- the index finds one at most
-pub shortage_few : (split : Bool) (total : ℕ) (e : Entry) (pages : PageBytes) → length (pages 0) ≡ 4096 → total ≤ 4096 → Shortage split total e pages → free_pages total pages ≤ 1
+-- the index finds none, or one at most where it may split
+pub shortage_few : (split : Bool) (total : ℕ) (e : Entry) (pages : PageBytes) → length (pages 0) ≡ 4096 → total ≤ 4096 → Shortage split total e pages → free_pages total pages < cond split 2 1
 shortage_few split total e pages whole few short = ⊎_elim
-    (λ none. let zero = none_mapped (pages 0) total whole few none in omega (arith, zero))
+    (λ none. let zero = none_mapped (pages 0) total whole few none in let some = some_free split in omega (arith, zero, some))
     (λ rest.
     let one = rest.1.1.0.1 in
     let within = one.within in
-    one_mapped (pages 0) total rest.1.1.0.0 whole few (omega (arith, within, few)) one.others)
+    let most = one_mapped (pages 0) total rest.1.1.0.0 whole few (omega (arith, within, few)) one.others in
+    let two : cond {A = ℕ} split 2 1 ≡ 2 = ap (λ (b : Bool). cond {A = ℕ} b 2 1) rest.0 in
+    omega (arith, most, two))
     short.free
+  where
+    some_free : (b : Bool) → 0 < cond b 2 1
+    some_free true = omega arith
+    some_free false = omega arith

@@ -1,5 +1,5 @@
 -- An act on rows and counters is what a plan promises.
-use Rattle.std.proofs.Common.{◌≡◌, ◌<◌, ◌≤◌, ◌+◌, ◌⊎◌, Bool, true, false, cond, arith, ℕ, List, [], Result, Ok, Err, IfOk, Option, None, Some, refl, sym, ◌∙◌, ap, subst}
+use Rattle.std.proofs.Common.{◌≡◌, ◌<◌, ◌⊎◌, Bool, ℕ, List, [], Result, Ok, Err, IfOk, Option, None, Some, refl, sym, ◌∙◌, ap, subst}
 use Rattle.mt_base.specs.declared.numbers.RecordName.{RecordName}
 use Rattle.mt_slots.specs.Page.{Row}
 use Rattle.mt_pool.specs.declared.changes.PageChange.{PageChange}
@@ -17,7 +17,7 @@ use Rattle.mt_steps.specs.Acts.{IfMade, IfFull, InGood, InRoomy, IsAct}
 use Rattle.mt_steps.specs.Logged.{HasSmallReply, HasSmallValues}
 use Rattle.mt_steps.specs.Plans.{IsGood, InPages, IsPlanned, IsModest, IsTight, free_pages, own_needs, record_bytes}
 use Rattle.mt_steps.proofs.Entering.{made_weaker}
-use Rattle.mt_steps.proofs.Modest.{modest_nothing, modest_more}
+use Rattle.mt_steps.proofs.Modest.{modest_nothing}
 use Rattle.mt_steps.proofs.Small.{small_reply}
 
 -- ---- the base that good pages hold
@@ -66,9 +66,9 @@ act_small relations total pages pages2 m op reply rows act =
 
 -- ---- what is promised
 
-pub planned : (relations counters total : ℕ) (at_hand : ℕ → Option (List ℕ)) (pages : PageBytes) (changes : List PageChange) (op : Op) (reply : Reply) → IsGood relations counters total pages → IsAct relations total pages (after changes pages) op reply → AreShort changes pages
-    → IsModest at_hand total (own_needs op) pages (after changes pages) → IsPlanned relations counters total at_hand pages changes op reply
-planned relations counters total at_hand pages changes op reply good act short modest = record {
+pub planned : (relations counters total : ℕ) (at_hand : ℕ → Option (List ℕ)) (pages : PageBytes) (changes : List PageChange) (op : Op) (split : Bool) (reply : Reply) → IsGood relations counters total pages → IsAct relations total pages (after changes pages) op reply → AreShort changes pages
+    → IsModest at_hand total (own_needs op split) pages (after changes pages) → IsPlanned relations counters total at_hand pages changes op split reply
+planned relations counters total at_hand pages changes op split reply good act short modest = record {
   replies = act.replies;
   base = act.base;
   good = record { meaning = act.meaning; rows = act.good; counts = act.counters counters good.counts };
@@ -79,8 +79,8 @@ planned relations counters total at_hand pages changes op reply good act short m
 }
 
 -- of an operation that may put a record, of another on rows, and of one on a counter
-abbrev Promises : ℕ → ℕ → ℕ → (ℕ → Option (List ℕ)) → Option ℕ → Op → Act → Type 0
-Promises relations counters total at_hand room op act = IfMade act (λ changes reply. InPages at_hand room relations counters total (λ pages. IsPlanned relations counters total at_hand pages changes op reply))
+abbrev Promises : Bool → ℕ → ℕ → ℕ → (ℕ → Option (List ℕ)) → Option ℕ → Op → Act → Type 0
+Promises split relations counters total at_hand room op act = IfMade act (λ changes reply. InPages at_hand room relations counters total (λ pages. IsPlanned relations counters total at_hand pages changes op split reply))
 
 made_both : (act : Act) (P Q R : List PageChange → Reply → Type 0) → ((changes : List PageChange) (reply : Reply) → P changes reply → Q changes reply → R changes reply) → IfMade act P → IfMade act Q → IfMade act R
 made_both (act.Lock p mode) P Q R f p_told q_told = tt
@@ -93,33 +93,33 @@ pub ok_both : {E : Type 0} (r : Result Act E) (P Q R : Act → Type 0) → ((act
 ok_both (Ok act) P Q R f p_told q_told = f act p_told q_told
 ok_both (Err e) P Q R f p_told q_told = tt
 
-pub rows_planned : (relations counters total : ℕ) (at_hand : ℕ → Option (List ℕ)) (room : Option ℕ) (op op2 : Op) (act : Act) → op ≡ op2
+pub rows_planned : (split : Bool) (relations counters total : ℕ) (at_hand : ℕ → Option (List ℕ)) (room : Option ℕ) (op op2 : Op) (act : Act) → op ≡ op2
     → IfMade act (λ changes reply. InRoomy at_hand room relations total (λ pages m. IsAct relations total pages (after changes pages) op reply × AreShort changes pages))
-    → IfMade act (λ changes reply. InRoomy at_hand room relations total (λ pages m. IsModest at_hand total (own_needs op) pages (after changes pages))) → Promises relations counters total at_hand room op2 act
-rows_planned relations counters total at_hand room op op2 act same acts modest = subst (λ (o : Op). Promises relations counters total at_hand room o act) same
+    → IfMade act (λ changes reply. InRoomy at_hand room relations total (λ pages m. IsModest at_hand total (own_needs op split) pages (after changes pages))) → Promises split relations counters total at_hand room op2 act
+rows_planned split relations counters total at_hand room op op2 act same acts modest = subst (λ (o : Op). Promises split relations counters total at_hand room o act) same
     (made_both act _ _ _ (λ changes reply acts modest pages agrees good named.
     let done = acts pages agrees good.meaning good.rows named in
-    planned relations counters total at_hand pages changes op reply good done.0 done.1 (modest pages agrees good.meaning good.rows named)) acts modest)
+    planned relations counters total at_hand pages changes op split reply good done.0 done.1 (modest pages agrees good.meaning good.rows named)) acts modest)
 
-pub good_planned : (relations counters total : ℕ) (at_hand : ℕ → Option (List ℕ)) (room : Option ℕ) (op op2 : Op) (act : Act) → op ≡ op2
+pub good_planned : (split : Bool) (relations counters total : ℕ) (at_hand : ℕ → Option (List ℕ)) (room : Option ℕ) (op op2 : Op) (act : Act) → op ≡ op2
     → IfMade act (λ changes reply. InGood at_hand relations total (λ pages m. IsAct relations total pages (after changes pages) op reply × AreShort changes pages))
-    → IfMade act (λ changes reply. InGood at_hand relations total (λ pages m. IsModest at_hand total (own_needs op) pages (after changes pages))) → Promises relations counters total at_hand room op2 act
-good_planned relations counters total at_hand room op op2 act same acts modest =
-    rows_planned relations counters total at_hand room op op2 act same (made_weaker act _ _ (λ changes reply told pages agrees m rows named. told pages agrees m rows) acts) (made_weaker act _ _ (λ changes reply told pages agrees m rows named. told pages agrees m rows) modest)
+    → IfMade act (λ changes reply. InGood at_hand relations total (λ pages m. IsModest at_hand total (own_needs op split) pages (after changes pages))) → Promises split relations counters total at_hand room op2 act
+good_planned split relations counters total at_hand room op op2 act same acts modest =
+    rows_planned split relations counters total at_hand room op op2 act same (made_weaker act _ _ (λ changes reply told pages agrees m rows named. told pages agrees m rows) acts) (made_weaker act _ _ (λ changes reply told pages agrees m rows named. told pages agrees m rows) modest)
 
-pub quiet_planned : (relations counters total : ℕ) (at_hand : ℕ → Option (List ℕ)) (room : Option ℕ) (op op2 : Op) (act : Act) → op ≡ op2
-    → IfMade act (λ changes reply. InGood at_hand relations total (λ pages m. IsAct relations total pages (after changes pages) op reply × AreShort changes pages)) → IfMade act (λ changes reply. changes ≡ []) → Promises relations counters total at_hand room op2 act
-quiet_planned relations counters total at_hand room op op2 act same acts quiet =
-    good_planned relations counters total at_hand room op op2 act same acts (made_weaker act _ _ (λ changes reply none pages agrees m rows. modest_nothing at_hand total (own_needs op) pages changes none) quiet)
+pub quiet_planned : (split : Bool) (relations counters total : ℕ) (at_hand : ℕ → Option (List ℕ)) (room : Option ℕ) (op op2 : Op) (act : Act) → op ≡ op2
+    → IfMade act (λ changes reply. InGood at_hand relations total (λ pages m. IsAct relations total pages (after changes pages) op reply × AreShort changes pages)) → IfMade act (λ changes reply. changes ≡ []) → Promises split relations counters total at_hand room op2 act
+quiet_planned split relations counters total at_hand room op op2 act same acts quiet =
+    good_planned split relations counters total at_hand room op op2 act same acts (made_weaker act _ _ (λ changes reply none pages agrees m rows. modest_nothing at_hand total (own_needs op split) pages changes none) quiet)
 
-pub counts_planned : (relations counters total number : ℕ) (at_hand : ℕ → Option (List ℕ)) (room : Option ℕ) (op op2 : Op) (act : Act) → op ≡ op2 → number < counters
+pub counts_planned : (split : Bool) (relations counters total number : ℕ) (at_hand : ℕ → Option (List ℕ)) (room : Option ℕ) (op op2 : Op) (act : Act) → op ≡ op2 → number < counters
     → IfMade act (λ changes reply. InGood at_hand relations total (λ pages m. (counters : ℕ) → number < counters → AreCounters relations counters (pages 2) → IsAct relations total pages (after changes pages) op reply × AreShort changes pages))
-    → IfMade act (λ changes reply. InGood at_hand relations total (λ pages m. IsModest at_hand total (own_needs op) pages (after changes pages)))
-    → Promises relations counters total at_hand room op2 act
-counts_planned relations counters total number at_hand room op op2 act same there acts modest = subst (λ (o : Op). Promises relations counters total at_hand room o act) same
+    → IfMade act (λ changes reply. InGood at_hand relations total (λ pages m. IsModest at_hand total (own_needs op split) pages (after changes pages)))
+    → Promises split relations counters total at_hand room op2 act
+counts_planned split relations counters total number at_hand room op op2 act same there acts modest = subst (λ (o : Op). Promises split relations counters total at_hand room o act) same
     (made_both act _ _ _ (λ changes reply acts modest pages agrees good named.
     let done = acts pages agrees good.meaning good.rows counters there good.counts in
-    planned relations counters total at_hand pages changes op reply good done.0 done.1 (modest pages agrees good.meaning good.rows)) acts modest)
+    planned relations counters total at_hand pages changes op split reply good done.0 done.1 (modest pages agrees good.meaning good.rows)) acts modest)
 
 -- ---- too little room
 
@@ -129,42 +129,12 @@ full_weaker (act.Made changes reply) P Q f told = told
 full_weaker act.Full P Q f told = f told
 full_weaker act.Broken P Q f told = told
 
-pub rows_full : (relations counters total : ℕ) (at_hand : ℕ → Option (List ℕ)) (room : Option ℕ) (op op2 : Op) (act : Act) → op ≡ op2
-    → IfFull act (InRoomy at_hand room relations total (λ pages m. (free_pages total pages < own_needs op) ⊎ IsTight room pages (record_bytes op)))
-    → IfFull act (InPages at_hand room relations counters total (λ pages. (free_pages total pages < own_needs op2) ⊎ IsTight room pages (record_bytes op2)))
-rows_full relations counters total at_hand room op op2 act same told =
-    subst (λ (o : Op). IfFull act (InPages at_hand room relations counters total (λ pages. (free_pages total pages < own_needs o) ⊎ IsTight room pages (record_bytes o)))) same
+pub rows_full : (split : Bool) (relations counters total : ℕ) (at_hand : ℕ → Option (List ℕ)) (room : Option ℕ) (op op2 : Op) (act : Act) → op ≡ op2
+    → IfFull act (InRoomy at_hand room relations total (λ pages m. (free_pages total pages < own_needs op split) ⊎ IsTight room pages (record_bytes op)))
+    → IfFull act (InPages at_hand room relations counters total (λ pages. (free_pages total pages < own_needs op2 split) ⊎ IsTight room pages (record_bytes op2)))
+rows_full split relations counters total at_hand room op op2 act same told =
+    subst (λ (o : Op). IfFull act (InPages at_hand room relations counters total (λ pages. (free_pages total pages < own_needs o split) ⊎ IsTight room pages (record_bytes o)))) same
     (full_weaker act _ _ (λ full pages agrees good named. full pages agrees good.meaning good.rows named) told)
 
 pub never_full : (act : Act) (P : Type 0) → IfFull act ⊥ → IfFull act P
 never_full act P told = full_weaker act ⊥ P (λ no_. absurd no_) told
-
--- ---- without a split
-
--- a split takes a page more
-pub insert_modest : (split : Bool) (relations total : ℕ) (at_hand : ℕ → Option (List ℕ)) (room : Option ℕ) (act : Act)
-    → IfMade act (λ changes reply. InRoomy at_hand room relations total (λ pages m. IsModest at_hand total (cond split 3 2) pages (after changes pages)))
-    → IfMade act (λ changes reply. InRoomy at_hand room relations total (λ pages m. IsModest at_hand total 3 pages (after changes pages)))
-insert_modest split relations total at_hand room act told = made_weaker act _ _ (λ changes reply modest pages agrees m rows named.
-    modest_more at_hand total (cond split 3 2) 3 pages (after changes pages) (three split) (modest pages agrees m rows named)) told
-  where
-    three : (b : Bool) → cond b 3 2 ≤ 3
-    three true = omega arith
-    three false = omega arith
-
-abbrev TakesTwo : ℕ → ℕ → ℕ → (ℕ → Option (List ℕ)) → Option ℕ → Act → Type 0
-TakesTwo relations counters total at_hand room act = IfMade act (λ changes reply. InPages at_hand room relations counters total (λ pages. free_pages total pages ≤ free_pages total (after changes pages) + 2))
-
-pub rows_take : (relations counters total n : ℕ) (at_hand : ℕ → Option (List ℕ)) (room : Option ℕ) (act : Act) → n ≤ 2
-    → IfMade act (λ changes reply. InRoomy at_hand room relations total (λ pages m. IsModest at_hand total n pages (after changes pages))) → TakesTwo relations counters total at_hand room act
-rows_take relations counters total n at_hand room act le told = made_weaker act _ _ (λ changes reply modest pages agrees good named.
-    let takes = (modest pages agrees good.meaning good.rows named).takes in omega (arith, takes, le)) told
-
-pub good_take : (relations counters total : ℕ) (at_hand : ℕ → Option (List ℕ)) (room : Option ℕ) (act : Act)
-    → IfMade act (λ changes reply. InGood at_hand relations total (λ pages m. IsModest at_hand total 0 pages (after changes pages))) → TakesTwo relations counters total at_hand room act
-good_take relations counters total at_hand room act told = made_weaker act _ _ (λ changes reply modest pages agrees good named.
-    let takes = (modest pages agrees good.meaning good.rows).takes in omega (arith, takes)) told
-
-pub quiet_take : (relations counters total : ℕ) (at_hand : ℕ → Option (List ℕ)) (room : Option ℕ) (act : Act) → IfMade act (λ changes reply. changes ≡ []) → TakesTwo relations counters total at_hand room act
-quiet_take relations counters total at_hand room act told = made_weaker act _ _ (λ changes reply none pages agrees good named.
-    let takes = (modest_nothing at_hand total 0 pages changes none).takes in omega (arith, takes)) told

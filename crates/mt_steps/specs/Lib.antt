@@ -5,3 +5,4 @@ pub mod Drafts
 pub mod Plans
 pub mod Repeated
 pub mod Logged
+pub mod Formatted

@@ -1,5 +1,5 @@
 -- What the plan of any operation promises.
-use Rattle.std.specs.Prelude.{◌≡◌, ℕ, ◌+◌, ◌<◌, ◌≤◌, List, Option, Some, None}
+use Rattle.std.specs.Prelude.{◌≡◌, ℕ, ◌+◌, ◌<◌, ◌≤◌, Bool, cond, List, Option, Some, None}
 use Rattle.mt_slots.specs.Page.{row_length}
 use Rattle.mt_pool.specs.Changes.{PageBytes, Agrees, after, AreShort}
 use Rattle.mt_pool.specs.declared.changes.PageChange.{PageChange}
@@ -32,11 +32,11 @@ IsReading (Get r k) = Unit {0}
 IsReading (Read c) = Unit {0}
 IsReading _ = ⊥
 
--- free pages that an operation may take for itself
-abbrev pub own_needs : Op → ℕ
-own_needs (Insert r k v) = 3
-own_needs (Update r k v) = 1
-own_needs _ = 0
+-- free pages that an operation may take for itself, where an insert may split a bucket or may not
+abbrev pub own_needs : Op → Bool → ℕ
+own_needs (Insert r k v) split = cond split 3 2
+own_needs (Update r k v) split = 1
+own_needs _ split = 0
 
 -- the bytes of the record that an operation puts
 abbrev pub record_bytes : Op → ℕ
@@ -62,11 +62,11 @@ pub record IsModest (at_hand : ℕ → Option (List ℕ)) (total needs : ℕ) (p
 
 -- What an operation's changes do to pages on which they were planned: whatever base these hold, the reply is the
 -- model's there, and once the changes are made they hold the base that the model leaves, and are as good as before.
-pub record IsPlanned (relations counters total : ℕ) (at_hand : ℕ → Option (List ℕ)) (pages : PageBytes) (changes : List PageChange) (op : Op) (reply : Reply) : Type 0 where
+pub record IsPlanned (relations counters total : ℕ) (at_hand : ℕ → Option (List ℕ)) (pages : PageBytes) (changes : List PageChange) (op : Op) (split : Bool) (reply : Reply) : Type 0 where
   pub replies : (b : Base) → Holds pages b → reply_of b op ≡ reply
   pub base : (b : Base) → Holds pages b → Holds (after changes pages) (base_after b op)
   pub good : IsGood relations counters total (after changes pages)
   pub short : AreShort changes pages
   pub kinds : (p : ℕ) → at_hand p ≡ None → kind (after changes pages) p ≡ kind pages p
-  pub takes : free_pages total pages ≤ free_pages total (after changes pages) + own_needs op
+  pub takes : free_pages total pages ≤ free_pages total (after changes pages) + own_needs op split
   pub small : HasSmallReply reply

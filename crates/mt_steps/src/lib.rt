@@ -12,6 +12,7 @@ mod draft;
 mod getting;
 mod inserting;
 mod joining;
+mod laws;
 mod logging;
 mod planning;
 mod updating;
@@ -20,8 +21,9 @@ pub use act::Act;
 pub use copies::Copies;
 pub use counters::{add, check, counter};
 pub use draft::{Draft, first_missing, merged};
+pub use laws::formatted_pages_are_good;
 pub use logging::{has_effect, logged};
-pub use planning::plan;
+pub use planning::{pages_for, plan};
 
 #[cfg(test)]
 mod tests;

@@ -1,6 +1,5 @@
 // Any operation.
-ghost use Rattle.std.specs.Prelude.{◌≡◌, ◌⊎◌, ◌<◌, ◌≤◌, ◌+◌, ℕ, [], length, None, false, IfOk};
-ghost use Rattle.mt_pool.specs.Changes.{after};
+ghost use Rattle.std.specs.Prelude.{◌≡◌, ◌⊎◌, ◌<◌, ◌≤◌, ℕ, [], length, None, IfOk};
 ghost use Rattle.mt_base.specs.declared.modes.Mode.TheVariants.{Read as ToRead};
 ghost use Rattle.mt_model.specs.Model.{IsWithin};
 ghost use Rattle.mt_steps.specs.Drafts.{AreAtHand};
@@ -15,6 +14,7 @@ use crate::getting::get;
 use crate::inserting::insert;
 use crate::updating::update;
 use mt_base::PageNo;
+use mt_base::limits::{INSERT_PAGES, UNSPLIT_INSERT_PAGES, UPDATE_PAGES};
 use mt_model::Op;
 use mt_pool::Pages;
 use std::alloc::{AllocError, Global};
@@ -27,7 +27,7 @@ use std::alloc::{AllocError, Global};
 /// ([`Act::Broken`]).
 ///
 /// A record goes into the page `room`, which holds records, or into a new page where none is named. An insert splits
-/// a bucket of the index at most where `split` is set; where it is not, no operation takes more than two free pages.
+/// a bucket of the index at most where `split` is set. No operation takes more free pages than [`pages_for`] says of it.
 /// The only error is want of memory, and there is no plan then.
 pub fn plan<V: Pages>(
     alloc: Global,
@@ -41,15 +41,13 @@ pub fn plan<V: Pages>(
     ensures lock { IfOk result (λ act. IfLock act (λ p mode. (V.at_hand views.now p ≡ None) × (p < V.total views.now))) }
     ensures mode { IsReading op.now → IfOk result (λ act. IfLock act (λ p mode. mode ≡ ToRead)) }
     ensures made { (relations counters : ℕ) → relations ≤ 64 → IsWithin relations counters op.now → IfOk result (λ act. IfMade act (λ changes reply.
-        InPages (V.at_hand views.now) room relations counters (V.total views.now) (λ pages. IsPlanned relations counters (V.total views.now) (V.at_hand views.now) pages changes op.now reply))) }
+        InPages (V.at_hand views.now) room relations counters (V.total views.now) (λ pages. IsPlanned relations counters (V.total views.now) (V.at_hand views.now) pages changes op.now split reply))) }
     ensures there { IfOk result (λ act. IfMade act (λ changes reply. AreAtHand (V.at_hand views.now) changes)) }
     ensures few { IfOk result (λ act. IfMade act (λ changes reply. length changes ≤ 8)) }
     ensures quiet { IsReading op.now → IfOk result (λ act. IfMade act (λ changes reply. changes ≡ [])) }
     ensures idle { IfOk result (λ act. IfMade act (λ changes reply. logged_of op.now reply ≡ None → changes ≡ [])) }
-    ensures whole { split ≡ false → (relations counters : ℕ) → relations ≤ 64 → IsWithin relations counters op.now → IfOk result (λ act. IfMade act (λ changes reply.
-        InPages (V.at_hand views.now) room relations counters (V.total views.now) (λ pages. free_pages (V.total views.now) pages ≤ free_pages (V.total views.now) (after changes pages) + 2))) }
     ensures full { (relations counters : ℕ) → relations ≤ 64 → IsWithin relations counters op.now → IfOk result (λ act. IfFull act (
-        InPages (V.at_hand views.now) room relations counters (V.total views.now) (λ pages. (free_pages (V.total views.now) pages < own_needs op.now) ⊎ IsTight room pages (record_bytes op.now)))) }
+        InPages (V.at_hand views.now) room relations counters (V.total views.now) (λ pages. (free_pages (V.total views.now) pages < own_needs op.now split) ⊎ IsTight room pages (record_bytes op.now)))) }
     ensures broken { IfOk result (λ act. IfBroken act ⊥) }
 {
     match op {
@@ -74,5 +72,18 @@ pub fn plan<V: Pages>(
         Op::Delete(relation, key) => delete(alloc, views, *relation, key.as_slice()),
         Op::Add(counter, step) => add_to(alloc, views, *counter, *step),
         Op::Read(counter) => Ok(read_from(alloc, views, *counter)),
+    }
+}
+
+/// How many free pages an operation may take for itself. An insert takes one more where it may split a bucket of the
+/// index.
+pub fn pages_for(op: &Op, split: bool) -> u16
+    ensures { result ≡ own_needs op.now split }
+{
+    match op {
+        Op::Insert(_, _, _) if split => INSERT_PAGES,
+        Op::Insert(_, _, _) => UNSPLIT_INSERT_PAGES,
+        Op::Update(_, _, _) => UPDATE_PAGES,
+        _ => 0,
     }
 }

@@ -134,4 +134,5 @@ returns-in-Full-clause-full g c = λ relations room value pages agrees m rows na
     (full_is _ c.in_ok-page.field-0 c.in-Full.is c.in_ok-page.ensures.full) mid (c.in_ok-draft.ensures.agrees pages agrees) m between in
     let takes = (placed_modest (g.V.Pages.at_hand c.args.views.now) relations total pages m first c.args.plan.now.name _ rows c.requires.seen placed).takes in
     let one = shortage_few c.args.split total e mid placed.adds.file.whole between.few short in
-    omega (arith, takes, one)
+    let needs = insert_needs c.args.split in
+    omega (arith, takes, one, needs)

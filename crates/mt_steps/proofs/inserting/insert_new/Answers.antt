@@ -5,7 +5,7 @@ use Rattle.mt_file.specs.declared.step.Step.{Step}
 use Rattle.mt_file.specs.Plans.{IsPut}
 use Rattle.mt_steps.proofs.Asking.{put_needs, placed_inside}
 use Rattle.mt_steps.proofs.Entering.{placed_is, made_weaker}
-use Rattle.mt_steps.proofs.Modest.{too_full}
+use Rattle.mt_steps.proofs.Modest.{insert_needs, too_full}
 use Rattle.mt_steps.proofs.Promised.{full_weaker}
 use Rattle.mt_steps.proofs.inserting.insert_new.Goals as goal
 
@@ -46,7 +46,7 @@ returns-in-Full-clause-full g c = λ relations pages agrees m rows named.
     let total = g.V.Pages.total c.args.views.now in
     let row : Row = record { relation = c.args.relation; key = c.args.key.now; value = c.args.value.now } in
     let told = subst (λ (x : Step). IsPut (g.V.Pages.at_hand c.args.views.now) c.args.room total [] pages row x) c.in-Full.is (c.in_ok-page.ensures.put pages agrees rows.file named) in
-    ⊎_elim (λ none. inl (omega (arith, none))) (λ tight. inr tight) (too_full c.args.room total _ pages told)
+    ⊎_elim (λ none. let needs = insert_needs c.args.split in inl (omega (arith, none, needs))) (λ tight. inr tight) (too_full c.args.room total _ pages told)
 
 pub returns-clause-modest : goal.returns-clause-modest
 returns-clause-modest g c = λ relations. IfOk-weaker c.add_entry.result _ _

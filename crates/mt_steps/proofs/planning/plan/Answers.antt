@@ -1,16 +1,16 @@
-use Rattle.std.proofs.Common.{Bool, ℕ, cond, arith, ◌≡◌, ◌∙◌, sym, ap, subst, rules, to_z, of_z, to_z-of_z, SFits, w64}
+use Rattle.std.proofs.Common.{◌≡◌, ◌∙◌, sym, ap, subst, rules, to_z, of_z, to_z-of_z, SFits, w64}
 use Rattle.std.proofs.lemmas.Result.{IfOk-weaker}
 use Rattle.mt_model.specs.declared.operations.Op.{Op}
 use Rattle.mt_model.specs.declared.operations.Op.TheVariants.{Get, Insert, Update, Delete, Add, Read}
 use Rattle.mt_model.specs.Model.{IsWithin}
-use Rattle.mt_steps.proofs.Promised.{ok_both, rows_planned, good_planned, quiet_planned, counts_planned, rows_full, never_full, insert_modest, rows_take, good_take, quiet_take}
+use Rattle.mt_steps.proofs.Promised.{ok_both, rows_planned, good_planned, quiet_planned, counts_planned, rows_full, never_full}
 use Rattle.mt_steps.proofs.planning.plan.Goals as goal
 
 pub returns-in-Get-clause-made : goal.returns-in-Get-clause-made
 returns-in-Get-clause-made g c = λ relations counters few within.
     let is : Get c.in-Get.relation c.as_slice.result.now ≡ c.args.op.now = ap (Get c.in-Get.relation) c.as_slice.ensures ∙ sym c.in-Get.is in
     ok_both c.get.result _ _ _
-    (λ act. quiet_planned relations counters (g.V.Pages.total c.args.views.now) (g.V.Pages.at_hand c.args.views.now) c.args.room (Get c.in-Get.relation c.as_slice.result.now) c.args.op.now act is)
+    (λ act. quiet_planned c.args.split relations counters (g.V.Pages.total c.args.views.now) (g.V.Pages.at_hand c.args.views.now) c.args.room (Get c.in-Get.relation c.as_slice.result.now) c.args.op.now act is)
     (c.get.ensures.made relations) c.get.ensures.quiet
 
 pub returns-in-Insert-clause-made : goal.returns-in-Insert-clause-made
@@ -19,8 +19,8 @@ returns-in-Insert-clause-made g c = λ relations counters few within.
     (λ i. Insert c.in-Insert.relation (c.as_slice-in-Insert.ensures i) (c.as_slice-in-Insert-2.ensures i)) ∙ sym c.in-Insert.is in
     let inside = subst (λ (o : Op). IsWithin relations counters o) (sym is) within in
     ok_both c.insert.result _ _ _
-    (λ act. rows_planned relations counters (g.V.Pages.total c.args.views.now) (g.V.Pages.at_hand c.args.views.now) c.args.room (Insert c.in-Insert.relation c.as_slice-in-Insert.result.now c.as_slice-in-Insert-2.result.now) c.args.op.now act is)
-    (c.insert.ensures.made relations (record { relation = inside.0; key = inside.1; value = inside.2 })) (IfOk-weaker c.insert.result _ _ (λ act. insert_modest c.args.split relations (g.V.Pages.total c.args.views.now) (g.V.Pages.at_hand c.args.views.now) c.args.room act) (c.insert.ensures.modest relations))
+    (λ act. rows_planned c.args.split relations counters (g.V.Pages.total c.args.views.now) (g.V.Pages.at_hand c.args.views.now) c.args.room (Insert c.in-Insert.relation c.as_slice-in-Insert.result.now c.as_slice-in-Insert-2.result.now) c.args.op.now act is)
+    (c.insert.ensures.made relations (record { relation = inside.0; key = inside.1; value = inside.2 })) (c.insert.ensures.modest relations)
 
 pub returns-in-Update-clause-made : goal.returns-in-Update-clause-made
 returns-in-Update-clause-made g c = λ relations counters few within.
@@ -28,14 +28,14 @@ returns-in-Update-clause-made g c = λ relations counters few within.
     (λ i. Update c.in-Update.relation (c.as_slice-in-Update.ensures i) (c.as_slice-in-Update-2.ensures i)) ∙ sym c.in-Update.is in
     let inside = subst (λ (o : Op). IsWithin relations counters o) (sym is) within in
     ok_both c.update.result _ _ _
-    (λ act. rows_planned relations counters (g.V.Pages.total c.args.views.now) (g.V.Pages.at_hand c.args.views.now) c.args.room (Update c.in-Update.relation c.as_slice-in-Update.result.now c.as_slice-in-Update-2.result.now) c.args.op.now act is)
+    (λ act. rows_planned c.args.split relations counters (g.V.Pages.total c.args.views.now) (g.V.Pages.at_hand c.args.views.now) c.args.room (Update c.in-Update.relation c.as_slice-in-Update.result.now c.as_slice-in-Update-2.result.now) c.args.op.now act is)
     (c.update.ensures.made relations (record { relation = inside.0; key = inside.1; value = inside.2 })) (c.update.ensures.modest relations)
 
 pub returns-in-Delete-clause-made : goal.returns-in-Delete-clause-made
 returns-in-Delete-clause-made g c = λ relations counters few within.
     let is : Delete c.in-Delete.relation c.as_slice-in-Delete.result.now ≡ c.args.op.now = ap (Delete c.in-Delete.relation) c.as_slice-in-Delete.ensures ∙ sym c.in-Delete.is in
     ok_both c.delete.result _ _ _
-    (λ act. good_planned relations counters (g.V.Pages.total c.args.views.now) (g.V.Pages.at_hand c.args.views.now) c.args.room (Delete c.in-Delete.relation c.as_slice-in-Delete.result.now) c.args.op.now act is)
+    (λ act. good_planned c.args.split relations counters (g.V.Pages.total c.args.views.now) (g.V.Pages.at_hand c.args.views.now) c.args.room (Delete c.in-Delete.relation c.as_slice-in-Delete.result.now) c.args.op.now act is)
     (c.delete.ensures.made relations) (c.delete.ensures.modest relations)
 
 pub returns-in-Add-clause-made : goal.returns-in-Add-clause-made
@@ -44,19 +44,19 @@ returns-in-Add-clause-made g c = λ relations counters few within.
     let is : Add c.in-Add.counter (to_z w64 (of_z w64 c.in-Add.step)) ≡ c.args.op.now = ap (Add c.in-Add.counter) (to_z-of_z f) ∙ sym c.in-Add.is in
     let inside = subst (λ (o : Op). IsWithin relations counters o) c.in-Add.is within in
     ok_both c.add_to.result _ _ _
-    (λ act. counts_planned relations counters (g.V.Pages.total c.args.views.now) c.in-Add.counter (g.V.Pages.at_hand c.args.views.now) c.args.room (Add c.in-Add.counter (to_z w64 (of_z w64 c.in-Add.step))) c.args.op.now act is inside.0)
+    (λ act. counts_planned c.args.split relations counters (g.V.Pages.total c.args.views.now) c.in-Add.counter (g.V.Pages.at_hand c.args.views.now) c.args.room (Add c.in-Add.counter (to_z w64 (of_z w64 c.in-Add.step))) c.args.op.now act is inside.0)
     (c.add_to.ensures.made relations) (c.add_to.ensures.modest relations)
 
 pub returns-in-Read-clause-made : goal.returns-in-Read-clause-made
 returns-in-Read-clause-made g c = λ relations counters few within.
-    quiet_planned relations counters (g.V.Pages.total c.args.views.now) (g.V.Pages.at_hand c.args.views.now) c.args.room (Read c.in-Read.counter) c.args.op.now c.read_from.result (sym c.in-Read.is) (c.read_from.ensures.made relations) c.read_from.ensures.quiet
+    quiet_planned c.args.split relations counters (g.V.Pages.total c.args.views.now) (g.V.Pages.at_hand c.args.views.now) c.args.room (Read c.in-Read.counter) c.args.op.now c.read_from.result (sym c.in-Read.is) (c.read_from.ensures.made relations) c.read_from.ensures.quiet
 
 pub returns-in-Insert-clause-full : goal.returns-in-Insert-clause-full
 returns-in-Insert-clause-full g c = λ relations counters few within.
     let is : Insert c.in-Insert.relation c.as_slice-in-Insert.result.now c.as_slice-in-Insert-2.result.now ≡ c.args.op.now =
     (λ i. Insert c.in-Insert.relation (c.as_slice-in-Insert.ensures i) (c.as_slice-in-Insert-2.ensures i)) ∙ sym c.in-Insert.is in
     IfOk-weaker c.insert.result _ _
-    (λ act. rows_full relations counters (g.V.Pages.total c.args.views.now) (g.V.Pages.at_hand c.args.views.now) c.args.room (Insert c.in-Insert.relation c.as_slice-in-Insert.result.now c.as_slice-in-Insert-2.result.now) c.args.op.now act is)
+    (λ act. rows_full c.args.split relations counters (g.V.Pages.total c.args.views.now) (g.V.Pages.at_hand c.args.views.now) c.args.room (Insert c.in-Insert.relation c.as_slice-in-Insert.result.now c.as_slice-in-Insert-2.result.now) c.args.op.now act is)
     (c.insert.ensures.full relations)
 
 pub returns-in-Update-clause-full : goal.returns-in-Update-clause-full
@@ -64,7 +64,7 @@ returns-in-Update-clause-full g c = λ relations counters few within.
     let is : Update c.in-Update.relation c.as_slice-in-Update.result.now c.as_slice-in-Update-2.result.now ≡ c.args.op.now =
     (λ i. Update c.in-Update.relation (c.as_slice-in-Update.ensures i) (c.as_slice-in-Update-2.ensures i)) ∙ sym c.in-Update.is in
     IfOk-weaker c.update.result _ _
-    (λ act. rows_full relations counters (g.V.Pages.total c.args.views.now) (g.V.Pages.at_hand c.args.views.now) c.args.room (Update c.in-Update.relation c.as_slice-in-Update.result.now c.as_slice-in-Update-2.result.now) c.args.op.now act is)
+    (λ act. rows_full c.args.split relations counters (g.V.Pages.total c.args.views.now) (g.V.Pages.at_hand c.args.views.now) c.args.room (Update c.in-Update.relation c.as_slice-in-Update.result.now c.as_slice-in-Update-2.result.now) c.args.op.now act is)
     (c.update.ensures.full relations)
 
 pub returns-in-Get-clause-full : goal.returns-in-Get-clause-full
@@ -78,23 +78,3 @@ returns-in-Add-clause-full g c = λ relations counters few within. IfOk-weaker c
 
 pub returns-in-Read-clause-full : goal.returns-in-Read-clause-full
 returns-in-Read-clause-full g c = λ relations counters few within. never_full c.read_from.result _ c.read_from.ensures.full
-
-pub returns-in-Get-clause-whole : goal.returns-in-Get-clause-whole
-returns-in-Get-clause-whole g c = λ unsplit relations counters few within. IfOk-weaker c.get.result _ _ (λ act. quiet_take relations counters (g.V.Pages.total c.args.views.now) (g.V.Pages.at_hand c.args.views.now) c.args.room act) c.get.ensures.quiet
-
-pub returns-in-Read-clause-whole : goal.returns-in-Read-clause-whole
-returns-in-Read-clause-whole g c = λ unsplit relations counters few within. quiet_take relations counters (g.V.Pages.total c.args.views.now) (g.V.Pages.at_hand c.args.views.now) c.args.room c.read_from.result c.read_from.ensures.quiet
-
-pub returns-in-Delete-clause-whole : goal.returns-in-Delete-clause-whole
-returns-in-Delete-clause-whole g c = λ unsplit relations counters few within. IfOk-weaker c.delete.result _ _ (λ act. good_take relations counters (g.V.Pages.total c.args.views.now) (g.V.Pages.at_hand c.args.views.now) c.args.room act) (c.delete.ensures.modest relations)
-
-pub returns-in-Add-clause-whole : goal.returns-in-Add-clause-whole
-returns-in-Add-clause-whole g c = λ unsplit relations counters few within. IfOk-weaker c.add_to.result _ _ (λ act. good_take relations counters (g.V.Pages.total c.args.views.now) (g.V.Pages.at_hand c.args.views.now) c.args.room act) (c.add_to.ensures.modest relations)
-
-pub returns-in-Update-clause-whole : goal.returns-in-Update-clause-whole
-returns-in-Update-clause-whole g c = λ unsplit relations counters few within. IfOk-weaker c.update.result _ _ (λ act. rows_take relations counters (g.V.Pages.total c.args.views.now) 1 (g.V.Pages.at_hand c.args.views.now) c.args.room act (omega arith)) (c.update.ensures.modest relations)
-
-pub returns-in-Insert-clause-whole : goal.returns-in-Insert-clause-whole
-returns-in-Insert-clause-whole g c = λ unsplit relations counters few within.
-    let two : cond {A = ℕ} c.args.split 3 2 ≡ 2 = ap (λ (b : Bool). cond {A = ℕ} b 3 2) unsplit in
-    IfOk-weaker c.insert.result _ _ (λ act. rows_take relations counters (g.V.Pages.total c.args.views.now) (cond c.args.split 3 2) (g.V.Pages.at_hand c.args.views.now) c.args.room act (omega (arith, two))) (c.insert.ensures.modest relations)

@@ -34,4 +34,4 @@ returns-clause-goes g c = λ opening relations counters right k.
     let back = notes_back (world seen opening o) (world seen opening m) (world seen opening n) s change (OpDropped s.txn s.number) (c.in_ok-append_dropped.ensures.notes opening) (b.back opening change same) in
     last_goes seen g.D.Device.may_leave opening relations counters o n s change right k c.requires.stage is (b.kept opening (f.kept opening right.kept)) (b.map ∙ f.map) (b.rooms ∙ f.rooms)
     (record s { left = s.left + c.used-before.result - c.used.result; stage = Cleared; standing = 0 }) back c.requires.last
-    (record { op = record { txn = refl; number = refl; op = refl; undoes = refl; total = refl }; room = refl; guards = refl; seen = refl; changes = refl; reply = refl }) refl
+    (record { op = record { txn = refl; number = refl; op = refl; undoes = refl; split = refl; total = refl }; room = refl; guards = refl; seen = refl; changes = refl; reply = refl }) refl

@@ -17,7 +17,7 @@ returns-in-Again-clause-held g c = λ opening.
         locks = left.locks ∙ ap (locks_without c.args.scope.now.number) answer.1;
       },
       record {
-        op = record { txn = anew.op.txn; number = anew.op.number; op = anew.op.op; undoes = anew.op.undoes; total = anew.op.total };
+        op = record { txn = anew.op.txn; number = anew.op.number; op = anew.op.op; undoes = anew.op.undoes; split = anew.op.split; total = anew.op.total };
         stage = anew.stage;
         room = anew.room;
         guards = anew.guards;

@@ -4,32 +4,39 @@ use Rattle.std.specs.Prelude.{Ok}
 use Rattle.mt_log.specs.Words.{appended}
 use Rattle.mt_log.specs.declared.log.Log.{Log}
 use Rattle.mt_pool.specs.Views.{IsThere, view}
+use Rattle.mt_space.specs.Rooms.{mapped}
 use Rattle.mt_steps.specs.Plans.{IsGood}
-use Rattle.mt_op.proofs.Stored.{unlogged_right}
+use Rattle.mt_op.proofs.Stored.{unlogged_right, unlogged_whole}
 use Rattle.mt_op.proofs.operations.Operations.new.Goals as goal
 
 pub view-requires-clause-there : goal.view-requires-clause-there
 view-requires-clause-there g c =
     subst (λ (p : ℕ). IsThere c.fetch.new.self.pool p) (c.new.ensures ∙ sym c.new-in-Ok-There.ensures) (c.fetch.ensures.there (c.in-Ok-There.is ∙ ap Ok c.in-Ok-There.field-0-is))
 
-pub note_rooms-requires-clause-right : goal.note_rooms-requires-clause-right
-note_rooms-requires-clause-right g c = let (opening, relations, counters, kept, good) = c.requires.good in let f = c.fetch.ensures in let seen = g.D.Device.seen in
+pub of-requires-in-Ok-There-clause-whole : goal.of-requires-in-Ok-There-clause-whole
+of-requires-in-Ok-There-clause-whole g c = let (opening, relations, counters, kept, good) = c.requires.good in let f = c.fetch.ensures in let seen = g.D.Device.seen in
     let none = ap (λ (log : Log). appended log) f.log ∙ c.requires.idle in
-    let map = c.view.ensures (seen c.fetch.new.self.device) ∙ ap (λ (p : ℕ). view c.fetch.new.self.pool (seen c.fetch.new.self.device) p) c.new-in-Ok-There.ensures in
-    let rooms = ap (λ (xs : List ℕ). length xs) c.in_ok-rooms.ensures.fits ∙ length-replicate _ _ ∙ c.count-count.ensures ∙ sym f.pages in (
-      opening,
-      relations,
-      counters,
-      unlogged_right seen g.D.Device.may_leave opening relations counters (record { store = c.fetch.new.self; locks = c.new-2.result; rooms = c.in_ok-rooms.rooms; map = c.view.result.now }) (f.kept opening kept) none c.new-2.ensures map rooms
-          (subst (λ (n : ℕ). IsGood relations counters n opening) (sym f.pages) good),
-      none,
-    )
+    ap (λ (bytes : List ℕ). length bytes) (c.view.ensures (seen c.fetch.new.self.device) ∙ ap (λ (p : ℕ). view c.fetch.new.self.pool (seen c.fetch.new.self.device) p) c.new-in-Ok-There.ensures)
+    ∙ unlogged_whole seen g.D.Device.may_leave opening relations counters c.fetch.new.self (f.kept opening kept) none (subst (λ (n : ℕ). IsGood relations counters n opening) (sym f.pages) good)
+
+pub note_rooms-requires-clause-right : goal.note_rooms-requires-clause-right
+note_rooms-requires-clause-right g c = let (opening, relations, counters, kept, good) = c.requires.good in let f = c.fetch.ensures in let e = c.in_ok-map-in-Ok-There.ensures in let seen = g.D.Device.seen in
+    let none = ap (λ (log : Log). appended log) f.log ∙ c.requires.idle in
+    let map = e.kinds ∙ c.view.ensures (seen c.fetch.new.self.device) ∙ ap (λ (p : ℕ). view c.fetch.new.self.pool (seen c.fetch.new.self.device) p) c.new-in-Ok-There.ensures in
+    let count = c.count-count.ensures ∙ sym f.pages in
+    let space = e.free ∙ (λ i. mapped (sym e.kinds i) (count i)) in
+    let rooms = ap (λ (xs : List ℕ). length xs) c.in_ok-rooms.ensures.fits ∙ length-replicate _ _ ∙ count in
+    let right = unlogged_right seen g.D.Device.may_leave opening relations counters (record { store = c.fetch.new.self; locks = c.new-2.result; rooms = c.in_ok-rooms.rooms; map = c.in_ok-map-in-Ok-There.map }) (f.kept opening kept) none c.new-2.ensures map space e.none rooms
+    (subst (λ (n : ℕ). IsGood relations counters n opening) (sym f.pages) good) in
+    (opening, relations, counters, right, none)
 
 pub returns-clause-right : goal.returns-clause-right
-returns-clause-right g c = λ opening relations counters kept good. let f = c.fetch.ensures in let seen = g.D.Device.seen in
+returns-clause-right g c = λ opening relations counters kept good. let f = c.fetch.ensures in let e = c.in_ok-map-in-Ok-There.ensures in let seen = g.D.Device.seen in
     let none = ap (λ (log : Log). appended log) f.log ∙ c.requires.idle in
-    let map = c.view.ensures (seen c.fetch.new.self.device) ∙ ap (λ (p : ℕ). view c.fetch.new.self.pool (seen c.fetch.new.self.device) p) c.new-in-Ok-There.ensures in
-    let rooms = ap (λ (xs : List ℕ). length xs) c.in_ok-rooms.ensures.fits ∙ length-replicate _ _ ∙ c.count-count.ensures ∙ sym f.pages in
+    let map = e.kinds ∙ c.view.ensures (seen c.fetch.new.self.device) ∙ ap (λ (p : ℕ). view c.fetch.new.self.pool (seen c.fetch.new.self.device) p) c.new-in-Ok-There.ensures in
+    let count = c.count-count.ensures ∙ sym f.pages in
+    let space = e.free ∙ (λ i. mapped (sym e.kinds i) (count i)) in
+    let rooms = ap (λ (xs : List ℕ). length xs) c.in_ok-rooms.ensures.fits ∙ length-replicate _ _ ∙ count in
     c.note_rooms.ensures.right opening relations counters
-    (unlogged_right seen g.D.Device.may_leave opening relations counters (record { store = c.fetch.new.self; locks = c.new-2.result; rooms = c.in_ok-rooms.rooms; map = c.view.result.now }) (f.kept opening kept) none c.new-2.ensures map rooms
+    (unlogged_right seen g.D.Device.may_leave opening relations counters (record { store = c.fetch.new.self; locks = c.new-2.result; rooms = c.in_ok-rooms.rooms; map = c.in_ok-map-in-Ok-There.map }) (f.kept opening kept) none c.new-2.ensures map space e.none rooms
     (subst (λ (n : ℕ). IsGood relations counters n opening) (sym f.pages) good))

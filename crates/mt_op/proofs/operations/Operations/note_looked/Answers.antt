@@ -7,6 +7,7 @@ use Rattle.mt_steps.proofs.Drafting.{some_is}
 use Rattle.mt_op.specs.World.{looked, changes_in}
 use Rattle.mt_op.specs.Room.{IsRoom}
 use Rattle.mt_op.specs.declared.operations.Operations.{Operations}
+use Rattle.mt_op.specs.declared.space_map.SpaceMap.{SpaceMap}
 use Rattle.mt_op.proofs.Noted.{AreNoted, noted_here, noted_none}
 use Rattle.mt_op.proofs.operations.Operations.note_looked.Goals as goal
 use Rattle.mt_op.proofs.operations.Operations.note_looked.Goals.{in-Some, in_default}
@@ -35,11 +36,11 @@ loop-guard-preserved g c =
                 ∙ get_or-set_other old.rooms.0 c.lock-page.result.page p room 0 (λ same. absurd (let never : None ≡ Some w.in-Some.before.now = sym none ∙ ap (looked s) same ∙ there in cc)) ∙ before.others p none;
             noted = λ pages agrees short.
                 let bytes = agrees c.lock-page.result.page w.in-Some.before.now there in
-                subst (λ (xs : List ℕ). AreNoted s (i + 1) c.args.self.now.map xs pages) (sym (rooms ∙ ap (λ (p : ℕ). set old.rooms.0 p room) page))
-                (noted_here s c.args.self.now.map pages i d lt is old.rooms.0 (before.noted pages agrees short) room (subst (λ (p : ℕ). p < length old.rooms.0) page inside)
-                (subst (λ (p : ℕ). IsRoom (get_or c.args.self.now.map p 0) (after (changes_in s) pages p) room) page (record {
-                  records = λ kind. w.room_after-room.ensures.records pages bytes short (ap (λ (m : List ℕ). get_or m c.lock-page.result.page 0) before.map ∙ kind);
-                  others = λ kind. w.room_after-room.ensures.others (λ e. kind (ap (λ (m : List ℕ). get_or m c.lock-page.result.page 0) (sym before.map) ∙ e));
+                subst (λ (xs : List ℕ). AreNoted s (i + 1) c.args.self.now.map.kinds xs pages) (sym (rooms ∙ ap (λ (p : ℕ). set old.rooms.0 p room) page))
+                (noted_here s c.args.self.now.map.kinds pages i d lt is old.rooms.0 (before.noted pages agrees short) room (subst (λ (p : ℕ). p < length old.rooms.0) page inside)
+                (subst (λ (p : ℕ). IsRoom (get_or c.args.self.now.map.kinds p 0) (after (changes_in s) pages p) room) page (record {
+                  records = λ kind. w.room_after-room.ensures.records pages bytes short (ap (λ (m : SpaceMap). get_or m.kinds c.lock-page.result.page 0) before.map ∙ kind);
+                  others = λ kind. w.room_after-room.ensures.others (λ e. kind (ap (λ (m : SpaceMap). get_or m.kinds c.lock-page.result.page 0) (sym before.map) ∙ e));
                 })));
           }
       | in_default w ↦
@@ -49,7 +50,7 @@ loop-guard-preserved g c =
             map = ap (λ (o : Operations g.row.D.Denot). o.map) w.self-is ∙ before.map;
             rooms = ap (λ (o : Operations g.row.D.Denot). length o.rooms.0) w.self-is ∙ before.rooms;
             others = λ p none. ap (λ (o : Operations g.row.D.Denot). get_or o.rooms.0 p 0) w.self-is ∙ before.others p none;
-            noted = λ pages agrees short. subst (λ (o : Operations g.row.D.Denot). AreNoted s (i + 1) c.args.self.now.map o.rooms.0 pages) (sym w.self-is)
-                (noted_none s c.args.self.now.map pages i d lt is old.rooms.0 (before.noted pages agrees short) (sym (ap (looked s) page) ∙ w.in_default.ensures.none));
+            noted = λ pages agrees short. subst (λ (o : Operations g.row.D.Denot). AreNoted s (i + 1) c.args.self.now.map.kinds o.rooms.0 pages) (sym w.self-is)
+                (noted_none s c.args.self.now.map.kinds pages i d lt is old.rooms.0 (before.noted pages agrees short) (sym (ap (looked s) page) ∙ w.in_default.ensures.none));
           }
     ]

@@ -1,4 +1,6 @@
-use Rattle.std.proofs.Common.{◌-◌, refl, sym, subst, arith}
+use Rattle.std.proofs.lemmas.Result.{err_from_is_err_and}
+use Rattle.std.specs.Prelude.{Err}
+use Rattle.std.proofs.Common.{◌-◌, refl, sym, subst, arith, ◌∙◌, ap}
 use Rattle.mt_disk.specs.Disk.{LeavesOnly}
 use Rattle.mt_pool.specs.Kept.{Explains}
 use Rattle.mt_pool.proofs.Kept.{no_call}
@@ -8,6 +10,7 @@ use Rattle.mt_op.specs.declared.scope.Stage.TheVariants.{Taking}
 use Rattle.mt_op.proofs.Going.{goes_behind}
 use Rattle.mt_op.proofs.Restored.{returnable_now, enough_back, some_stand, back_goes}
 use Rattle.mt_op.proofs.Written.{rests_goes_as}
+use Rattle.mt_op.proofs.Faulting.{no_fault, no_fault_ok, told_behind, fault_told, unfailed}
 use Rattle.mt_op.proofs.operations.Operations.take_back.Goals as goal
 
 pub returns-then-scope-eq0-clause-moments : goal.returns-then-scope-eq0-clause-moments
@@ -57,7 +60,7 @@ returns-else-scope-eq1-clause-goes g c = λ opening relations counters right k.
     let gone = back_goes seen g.D.Device.may_leave opening relations counters c.bring.new.self c.put_back.new.self s c.index.result.now brought (rests_own relations counters w m s (f.rests opening) k)
     (some_stand relations counters w s k c.requires.stage zero_not) c.index.ensures (b.kept opening brought.kept) b.map b.rooms
     (record s { stage = Taking; standing = s.standing - 1 }) (b.back opening c.index.result.now refl) (omega arith)
-    (record { op = record { txn = refl; number = refl; op = refl; undoes = refl; total = refl }; room = refl; guards = refl; seen = refl; changes = refl; reply = refl }) refl refl (omega arith) in
+    (record { op = record { txn = refl; number = refl; op = refl; undoes = refl; split = refl; total = refl }; room = refl; guards = refl; seen = refl; changes = refl; reply = refl }) refl refl (omega arith) in
     (gone.0, goes_behind relations counters w m (world seen opening c.put_back.new.self) s _ (f.rests opening) gone.1)
 
 pub returns-else-scope-eq1-clause-moments : goal.returns-else-scope-eq1-clause-moments
@@ -70,3 +73,21 @@ returns-else-scope-eq1-clause-budget g c = let (opening, relations, counters, ri
       enough = enough_back relations counters (world g.D.Device.seen opening c.args.self.now) c.args.scope.now k c.requires.stage c.if-scope-eq0.false c.requires.budget;
       reads = c.requires.budget.reads;
     }
+
+pub returns-then-scope-eq0-clause-faults : goal.returns-then-scope-eq0-clause-faults
+returns-then-scope-eq0-clause-faults g c = no_fault_ok _ _ _ refl
+
+pub returns-in_err-bring-clause-faults : goal.returns-in_err-bring-clause-faults
+returns-in_err-bring-clause-faults g c = let p = err_from_is_err_and c.from_residual.result c.from_residual.ensures.1 in
+    fault_told _ _ c.bring.result _ c.from_residual.result c.bring.ensures.cause c.in_err-bring.was (p.1 ∙ ap Err (p.2 ∙ c.in_err-bring.ensures.why))
+
+pub returns-then-not-branch-clause-faults : goal.returns-then-not-branch-clause-faults
+returns-then-not-branch-clause-faults g c = no_fault_ok _ _ _ (unfailed _ _ c.bring.result _ c.bring.ensures.cause c.in_ok-bring.was)
+
+pub returns-then-scope-eq1-clause-faults : goal.returns-then-scope-eq1-clause-faults
+returns-then-scope-eq1-clause-faults g c =
+    told_behind _ _ _ c.clear.result (unfailed _ _ c.bring.result _ c.bring.ensures.cause c.in_ok-bring.was)
+    (no_fault _ _ c.clear.result c.clear.ensures.memory (ap g.D.Device.faults c.clear.ensures.device))
+
+pub returns-else-scope-eq1-clause-faults : goal.returns-else-scope-eq1-clause-faults
+returns-else-scope-eq1-clause-faults g c = no_fault_ok _ _ _ (ap g.D.Device.faults c.put_back.ensures.device ∙ unfailed _ _ c.bring.result _ c.bring.ensures.cause c.in_ok-bring.was)

@@ -1,16 +1,21 @@
 use Rattle.std.proofs.Common.{◌∙◌, sym, subst, ap}
-use Rattle.std.specs.Prelude.{Ok}
+use Rattle.std.specs.Prelude.{Ok, Err}
 use Rattle.std.proofs.lemmas.List.{get_or_default}
 use Rattle.std.proofs.lemmas.Result.{err_from_is_err_and}
 use Rattle.mt_disk.specs.Disk.{LeavesOnly}
+use Rattle.mt_log.specs.Words.{appended}
+use Rattle.mt_log.specs.declared.log.Log.{Log}
 use Rattle.mt_pool.specs.Kept.{Explains}
 use Rattle.mt_pool.specs.Views.{IsThere}
 use Rattle.mt_pool.specs.declared.changes.PageChange.{PageChange}
 use Rattle.mt_op.specs.World.{changes_in}
+use Rattle.mt_op.specs.Records.{HasPageMore}
 use Rattle.mt_op.specs.declared.answers.Stepped.TheVariants as stepped
 use Rattle.mt_op.proofs.Staying.{rests_own}
 use Rattle.mt_op.proofs.Going.{err_goes_on, goes_on_behind}
 use Rattle.mt_op.proofs.Written.{rests_goes_as}
+use Rattle.mt_op.proofs.Work.{writing_work}
+use Rattle.mt_op.proofs.Faulting.{no_fault, no_fault_ok, told_err, told_behind, fault_told, unfailed}
 use Rattle.mt_op.proofs.operations.Operations.write_next.Goals as goal
 
 pub returns-in_err-bring-clause-goes : goal.returns-in_err-bring-clause-goes
@@ -49,3 +54,39 @@ returns-clause-goes g c = λ opening relations counters right k. let f = c.bring
 pub returns-clause-moments : goal.returns-clause-moments
 returns-clause-moments g c = λ opening kept. let o = c.args.self.now.store in
     subst (λ (d : _). LeavesOnly g.D.Device.moment g.D.Device.left_since o.device d (Explains opening o)) (sym c.write_there.ensures.device) (c.bring.ensures.moments opening kept)
+
+pub returns-clause-work : goal.returns-clause-work
+returns-clause-work g c = writing_work c.args.scope.now c.write_there.new.scope c.requires.writing c.write_there.ensures.stage c.write_there.ensures.changes c.in_ok-write_there.ensures.written c.requires.more
+
+pub returns-in_err-bring-clause-locks : goal.returns-in_err-bring-clause-locks
+returns-in_err-bring-clause-locks g c = (c.bring.ensures.rests c.requires.right.0).locks
+
+pub returns-then-not-branch-clause-locks : goal.returns-then-not-branch-clause-locks
+returns-then-not-branch-clause-locks g c = (c.bring.ensures.rests c.requires.right.0).locks
+
+pub returns-in_err-write_there-clause-locks : goal.returns-in_err-write_there-clause-locks
+returns-in_err-write_there-clause-locks g c = c.write_there.ensures.locks ∙ (c.bring.ensures.rests c.requires.right.0).locks
+
+pub returns-clause-locks : goal.returns-clause-locks
+returns-clause-locks g c = c.write_there.ensures.locks ∙ (c.bring.ensures.rests c.requires.right.0).locks
+
+pub returns-clause-records : goal.returns-clause-records
+returns-clause-records g c =
+    subst (λ (log : Log). HasPageMore c.write_there.new.scope (appended log) (appended c.write_there.new.self.store.log)) c.bring.ensures.log c.in_ok-write_there.ensures.records
+
+pub returns-in_err-bring-clause-faults : goal.returns-in_err-bring-clause-faults
+returns-in_err-bring-clause-faults g c = let p = err_from_is_err_and c.from_residual.result c.from_residual.ensures.1 in
+    fault_told _ _ c.bring.result _ c.from_residual.result c.bring.ensures.cause c.in_err-bring.was (p.1 ∙ ap Err (p.2 ∙ c.in_err-bring.ensures.why))
+
+pub returns-then-not-branch-clause-faults : goal.returns-then-not-branch-clause-faults
+returns-then-not-branch-clause-faults g c = no_fault_ok _ _ _ (unfailed _ _ c.bring.result _ c.bring.ensures.cause c.in_ok-bring.was)
+
+pub returns-in_err-write_there-clause-faults : goal.returns-in_err-write_there-clause-faults
+returns-in_err-write_there-clause-faults g c =
+    let p = err_from_is_err_and c.from_residual-in_err-write_there.result c.from_residual-in_err-write_there.ensures.1 in
+    told_behind _ _ _ c.from_residual-in_err-write_there.result (unfailed _ _ c.bring.result _ c.bring.ensures.cause c.in_ok-bring.was)
+    (told_err _ _ c.write_there.result c.from_residual-in_err-write_there.result _ c.in_err-write_there.was (p.1 ∙ ap Err p.2)
+    (no_fault _ _ c.write_there.result c.write_there.ensures.memory (ap g.D.Device.faults c.write_there.ensures.device)))
+
+pub returns-clause-faults : goal.returns-clause-faults
+returns-clause-faults g c = no_fault_ok _ _ _ (ap g.D.Device.faults c.write_there.ensures.device ∙ unfailed _ _ c.bring.result _ c.bring.ensures.cause c.in_ok-bring.was)

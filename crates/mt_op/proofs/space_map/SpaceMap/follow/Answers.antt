@@ -2,13 +2,13 @@ use Rattle.std.proofs.Common.{◌≡◌, ◌<◌, ◌≤◌, ◌+◌, ℕ, List,
 use Rattle.mt_base.specs.Edits.{patched}
 use Rattle.mt_base.specs.declared.edits.Edit.{Edit}
 use Rattle.mt_pool.specs.declared.changes.PageChange.{PageChange}
-use Rattle.mt_op.specs.declared.operations.Operations.{Operations}
+use Rattle.mt_op.specs.declared.space_map.SpaceMap.{SpaceMap}
 use Rattle.mt_op.proofs.Following.{after_here, after_other, edits_within}
-use Rattle.mt_op.proofs.operations.Operations.follow.Goals as goal
-use Rattle.mt_op.proofs.operations.Operations.follow.Goals.{then-get-eq-MAP, else-get-eq-MAP}
+use Rattle.mt_op.proofs.space_map.SpaceMap.follow.Goals as goal
+use Rattle.mt_op.proofs.space_map.SpaceMap.follow.Goals.{then-get-eq-MAP, else-get-eq-MAP}
 
 pub patch-requires : goal.patch-requires
-patch-requires g c =
+patch-requires c =
     let (pages, map, short, whole) = c.requires.short in
     let same = c.deref-change-items.ensures.value in
     let cs = c.args.changes.now.list.items in
@@ -20,7 +20,7 @@ patch-requires g c =
     (edits_within cs c.loop-change.change-index d pages lt is short (ap (λ (p : ℕ). length (pages p)) here ∙ ap (λ (bytes : List ℕ). length bytes) map ∙ whole))
 
 pub loop-change-preserved : goal.loop-change-preserved
-loop-change-preserved g c =
+loop-change-preserved c =
     let same = c.deref-change-items.ensures.value in
     let cs = c.args.changes.now.list.items in
     let d = c.change-item.result in
@@ -31,22 +31,20 @@ loop-change-preserved g c =
     elim c.if-get-eq-MAP.branch [
       | then-get-eq-MAP w ↦
           let here : 0 ≡ d.page = sym w.if-get-eq-MAP.true ∙ c.get.ensures in
-          let map = ap (λ (o : Operations g.row.D.Denot). o.map) w.self-is in
+          let kinds = ap (λ (m : SpaceMap). m.kinds) w.self-is in
           record {
-            whole = ap (λ (bytes : List ℕ). length bytes) map ∙ w.patch.ensures.size;
-            map = λ pages opened short. map ∙ w.patch.ensures.made ∙ (λ j. patched (w.as_slice.ensures.value j) (before.map pages opened short j)) ∙ sym (after_here cs i d pages lt is 0 here);
-            store = ap (λ (o : Operations g.row.D.Denot). o.store) w.self-is ∙ before.store;
-            locks = ap (λ (o : Operations g.row.D.Denot). o.locks) w.self-is ∙ before.locks;
-            rooms = ap (λ (o : Operations g.row.D.Denot). o.rooms) w.self-is ∙ before.rooms;
+            whole = ap (λ (bytes : List ℕ). length bytes) kinds ∙ w.patch.ensures.size;
+            kinds = λ pages opened short. kinds ∙ w.patch.ensures.made ∙ (λ j. patched (w.as_slice.ensures.value j) (before.kinds pages opened short j)) ∙ sym (after_here cs i d pages lt is 0 here);
+            none = λ no_. let yes = w.followed-is in cc;
+            space = ap (λ (m : SpaceMap). m.space) w.self-is ∙ before.space;
           }
       | else-get-eq-MAP w ↦
           let other : 0 ≡ d.page → ⊥ = λ e. w.if-get-eq-MAP.false (c.get.ensures ∙ sym e) in
-          let map = ap (λ (o : Operations g.row.D.Denot). o.map) w.self-is in
+          let kinds = ap (λ (m : SpaceMap). m.kinds) w.self-is in
           record {
-            whole = ap (λ (bytes : List ℕ). length bytes) map ∙ before.whole;
-            map = λ pages opened short. map ∙ before.map pages opened short ∙ sym (after_other cs i d pages lt is 0 other);
-            store = ap (λ (o : Operations g.row.D.Denot). o.store) w.self-is ∙ before.store;
-            locks = ap (λ (o : Operations g.row.D.Denot). o.locks) w.self-is ∙ before.locks;
-            rooms = ap (λ (o : Operations g.row.D.Denot). o.rooms) w.self-is ∙ before.rooms;
+            whole = ap (λ (bytes : List ℕ). length bytes) kinds ∙ before.whole;
+            kinds = λ pages opened short. kinds ∙ before.kinds pages opened short ∙ sym (after_other cs i d pages lt is 0 other);
+            none = λ no_. kinds ∙ before.none (sym w.followed-is ∙ no_);
+            space = ap (λ (m : SpaceMap). m.space) w.self-is ∙ before.space;
           }
     ]

@@ -1,0 +1,38 @@
+-- What a step of an operation appends to the log.
+use Rattle.std.specs.Prelude.{◌≡◌, ◌⊎◌, ◌++◌, ◌∷◌, [], ℕ, List, Contains, Option, None, Some, Result, Ok, Err}
+use Rattle.mt_base.specs.Edits.{patched}
+use Rattle.mt_base.specs.declared.refusal.Refusal.{Refusal}
+use Rattle.mt_frame.specs.declared.records.Record.{Record}
+use Rattle.mt_frame.specs.declared.records.Record.TheVariants.{OpEnd}
+use Rattle.mt_frame.specs.declared.records.LoggedOp.{LoggedOp}
+use Rattle.mt_model.specs.declared.operations.Reply.{Reply}
+use Rattle.mt_pool.specs.Writes.{change_records}
+use Rattle.mt_pool.specs.declared.changes.PageChange.{PageChange}
+use Rattle.mt_steps.specs.Logged.{logged_of}
+use Rattle.mt_op.specs.World.{changes_in}
+use Rattle.mt_op.specs.declared.answers.Stepped.{Stepped}
+use Rattle.mt_op.specs.declared.answers.Stepped.TheVariants as stepped
+use Rattle.mt_op.specs.declared.scope.OpScope.{OpScope}
+
+-- the record that an operation ends with, where it did anything
+abbrev pub end_with : ℕ → ℕ → ℕ → Option LoggedOp → List Record
+end_with txn number undoes None = []
+end_with txn number undoes (Some done) = OpEnd txn number undoes done ∷ []
+
+abbrev pub end_of : OpScope → Reply → List Record
+end_of s reply = end_with s.txn s.number s.undoes (logged_of s.op reply)
+
+-- nothing more, or the records of one of its changes over some bytes of the page
+abbrev pub HasPageMore : OpScope → List Record → List Record → Type 0
+HasPageMore s old new = (new ≡ old) ⊎ ((c : PageChange) × (image : Option (List ℕ)) × (bytes : List ℕ) × Contains (changes_in s) c
+    × (new ≡ old ++ change_records s.txn s.number c.page image bytes (patched c.edits.items bytes) c.edits.items))
+
+-- The records stay where the operation waits, begins anew or is refused; a step that goes on may append those of a
+-- page. What is appended where it has ended is said by Acts.
+abbrev pub KeepsRecords : OpScope → List Record → List Record → Result Stepped Refusal → Type 0
+KeepsRecords s old new (Ok stepped.Went) = HasPageMore s old new
+KeepsRecords s old new (Ok (stepped.Wait holder)) = new ≡ old
+KeepsRecords s old new (Ok stepped.Again) = new ≡ old
+KeepsRecords s old new (Ok stepped.Flush) = new ≡ old
+KeepsRecords s old new (Ok (stepped.Ready first second)) = Unit {0}
+KeepsRecords s old new (Err why) = new ≡ old

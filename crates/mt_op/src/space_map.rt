@@ -1,0 +1,72 @@
+// The map of the space as the pages held have it.
+ghost use Rattle.std.specs.Prelude.{◌≡◌, ◌≤◌, ◌+◌, ℕ, length, false, IfOk};
+ghost use Rattle.mt_pool.specs.Changes.{PageBytes, after, AreShort};
+ghost use Rattle.mt_space.specs.Rooms.{mapped, free_in, free_of, reserved_of};
+
+use mt_pool::{Changes, patch};
+use mt_space::Space;
+use std::alloc::{AllocError, Global};
+
+// The page that says of each page what it holds, and what it says of one that holds records.
+pub(crate) const MAP: u16 = 0;
+
+pub(crate) const RECORDS: u8 = 3;
+
+/// The map of the space as it is held, a byte for each page, and the free pages by it, with the claims on them.
+#[derive(Drop)]
+pub(crate) struct SpaceMap {
+    pub(crate) kinds: [u8; 4096],
+    pub(crate) space: Space,
+}
+
+impl SpaceMap {
+    // The map of so many pages, none of which is claimed.
+    pub(crate) fn of(alloc: Global, kinds: &[u8; 4096], count: u16) -> Result<SpaceMap, AllocError>
+        requires whole { length kinds.now ≡ 4096 }
+        requires few { count ≤ 4000 }
+        ensures kinds { IfOk result (λ map. map.kinds ≡ kinds.now) }
+        ensures free { IfOk result (λ map. map.space.0 ≡ mapped kinds.now count) }
+        ensures none { IfOk result (λ map. reserved_of map.space ≡ 0) }
+    {
+        Ok(SpaceMap {
+            kinds: *kinds,
+            space: Space::of(alloc, kinds, count)?,
+        })
+    }
+
+    // Gives the claim of an operation back that has ended, and follows its changes: of the pages that were claimed it
+    // has taken no more than its own.
+    pub(crate) fn settle(&mut self, changes: &Changes, claim: u16)
+        requires short { (pages : PageBytes) × (pages 0 ≡ self.old.kinds) × AreShort changes.now.list.items pages × (length self.old.kinds ≡ 4096)
+            × (reserved_of self.old.space ≤ free_in (mapped (after changes.now.list.items pages 0) (length self.old.space.0)) + claim) }
+        requires claimed { claim ≤ reserved_of self.old.space }
+        requires mapped { self.old.space.0 ≡ mapped self.old.kinds (length self.old.space.0) }
+        ensures kinds { (pages : PageBytes) → pages 0 ≡ self.old.kinds → AreShort changes.now.list.items pages → self.new.kinds ≡ after changes.now.list.items pages 0 }
+        ensures free { self.new.space.0 ≡ mapped self.new.kinds (length self.old.space.0) }
+        ensures claims { reserved_of self.new.space + claim ≡ reserved_of self.old.space }
+        ensures room { reserved_of self.new.space ≤ free_of self.new.space }
+    {
+        self.space.give_back(claim);
+        if self.follow(changes) {
+            self.space.follow(&self.kinds);
+        }
+    }
+
+    // Makes the changes that are of the map; `false` where none is.
+    fn follow(&mut self, changes: &Changes) -> bool
+        requires short { (pages : PageBytes) × (pages 0 ≡ self.old.kinds) × AreShort changes.now.list.items pages × (length self.old.kinds ≡ 4096) }
+        ensures kinds { (pages : PageBytes) → pages 0 ≡ self.old.kinds → AreShort changes.now.list.items pages → self.new.kinds ≡ after changes.now.list.items pages 0 }
+        ensures whole { length self.new.kinds ≡ 4096 }
+        ensures none { result ≡ false → self.new.kinds ≡ self.old.kinds }
+        ensures space { self.new.space ≡ self.old.space }
+    {
+        let mut followed = false;
+        for change in &changes.list {
+            if change.page.get() == MAP {
+                patch(&mut self.kinds, change.edits.as_slice());
+                followed = true;
+            }
+        }
+        followed
+    }
+}

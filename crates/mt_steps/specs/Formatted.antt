@@ -1,0 +1,23 @@
+-- Pages as a device is formatted with them.
+use Rattle.std.specs.Prelude.{◌≡◌, ◌≢◌, ℕ, length, None}
+use Rattle.mt_bucket.specs.Page.{IsBucket}
+use Rattle.mt_pool.specs.Changes.{PageBytes}
+use Rattle.mt_space.specs.Kinds.{kind}
+use Rattle.mt_index.specs.Pages.{IsDirectory, IsEmpty}
+use Rattle.mt_model.specs.Model.{Base}
+use Rattle.mt_steps.specs.Counters.{count_in, AreCounters}
+
+-- an index without entries, no page of records, and the counters on page 2
+pub record IsFormatted (relations counters total : ℕ) (pages : PageBytes) : Type 0 where
+  pub map : length (pages 0) ≡ 4096
+  pub index : IsEmpty total pages
+  pub directory : IsDirectory (pages 1)
+  pub bucket : IsBucket relations total (pages 3)
+  pub one_bucket : (p : ℕ) → kind pages p ≡ 2 → p ≡ 3
+  pub no_records : (p : ℕ) → kind pages p ≢ 3
+  pub counters_fixed : kind pages 2 ≡ 1
+  pub counts : AreCounters relations counters (pages 2)
+
+-- the base without rows, with the counters of page 2
+abbrev pub first_base : PageBytes → Base
+first_base pages = record { rows = λ r k. None; counts = count_in (pages 2) }

@@ -1,4 +1,8 @@
 //! The program `mtk`: scripts of transactions, and the command line.
+//!
+//! A script is read whole, line by line, before any of it runs; it then runs alone on a kernel, and each of
+//! its lines is answered by a line of the transcript. A refusal is an answer, and the script goes on. Files
+//! and streams are passed in, so all but `main` runs in tests too.
 #![tactic(auto)]
 
 mod answers;

@@ -1,8 +1,8 @@
 //! The operation that takes back what another did (Weikum 1991): an abort does not put old pages back, it
 //! makes the inverses of its operations, the last one first.
 //!
-//! An inverse is chosen by the operation and its reply alone, so a restart finds it from the log. What it
-//! leads to is a law of the model, `inverses_take_back` of `mt_model`.
+//! An inverse is chosen by the operation and its reply alone, so nothing else is kept for it. What it leads
+//! to is a law of the model, `inverses_take_back` of `mt_model`.
 #![tactic(auto)]
 
 ghost use Rattle.std.specs.Prelude.{◌≡◌, IfOk, IfErr};

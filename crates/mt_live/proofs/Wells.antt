@@ -186,32 +186,32 @@ place_left begun ms os used capacity t i m w first is h =
     let room = w.room in
     omega (arith, sums, mine, room)
 
-noted_calls : (ms : List Member) (t i : ℕ) (m y : Member) (c : Call) → IsFirst ms t i → m ≡ get_or ms i m → y ≡ with_call m c → y.calls ≡ calls_of ms t ++ c ∷ []
-noted_calls ms t i m y c first is now = ap (λ (x : Member). x.calls) now ∙ ap (λ cs. cs ++ c ∷ []) (sym (its_calls ms t i m first is))
+noted_calls : (ms : List Member) (t i : ℕ) (m y : Member) (o : ℕ) (c : Call) → IsFirst ms t i → m ≡ get_or ms i m → y ≡ with_call m o c → y.calls ≡ calls_of ms t ++ c ∷ []
+noted_calls ms t i m y o c first is now = ap (λ (x : Member). x.calls) now ∙ ap (λ cs. cs ++ c ∷ []) (sym (its_calls ms t i m first is))
 
 noted_at : (ms : List Member) (t i : ℕ) (l : Member) (index : ℕ) → IsFirst ms t i → l ≡ get_or ms i l → index ≡ length l.calls → index ≡ length (calls_of ms t)
 noted_at ms t i l index first is at' = at' ∙ ap length (sym (its_calls ms t i l first is))
 
-pub noted_well : (begun : ℕ) (ms : List Member) (os : List Place) (used capacity t i : ℕ) (m y l : Member) (c : Call) (index : ℕ) (os' : List Place) (used' capacity' : ℕ) → IsWell begun ms os used capacity
-    → IsFirst ms t i → m ≡ get_or ms i m → y ≡ with_call m c → l ≡ get_or ms i l → index ≡ length l.calls → m.has_room ≡ true
+pub noted_well : (begun : ℕ) (ms : List Member) (os : List Place) (used capacity t i : ℕ) (m y l : Member) (o : ℕ) (c : Call) (index : ℕ) (os' : List Place) (used' capacity' : ℕ) → IsWell begun ms os used capacity
+    → IsFirst ms t i → m ≡ get_or ms i m → y ≡ with_call m o c → l ≡ get_or ms i l → index ≡ length l.calls → m.has_room ≡ true
     → os' ≡ os ++ record { txn = t; index = index } ∷ [] → used' ≡ used + 1 → capacity' ≡ capacity → IsWell begun (set ms i y) os' used' capacity'
-noted_well begun ms os used capacity t i m y l c index os' used' capacity' w first is now lis at' h more longer same =
+noted_well begun ms os used capacity t i m y l o c index os' used' capacity' w first is now lis at' h more longer same =
     let place = noted_at ms t i l index first lis at' in
     let mine = one_room m h in
     let none : rooms y ≡ 0 = ap rooms now in
     let room = w.room in
     well_set begun ms os used capacity t i m y os' used' capacity' w first is (ap (λ (x : Member). x.number) now ∙ its_number ms t i m first is)
     (λ u. ap (numbers u) (more ∙ ap (λ (n : ℕ). os ++ record { txn = t; index = n } ∷ []) place) ∙ (placed_noted (calls_of ms) t c os w.placed u
-    ∙ ap (λ cs. count_from 0 (length (put (calls_of ms) t cs u))) (sym (noted_calls ms t i m y c first is now))))
+    ∙ ap (λ cs. count_from 0 (length (put (calls_of ms) t cs u))) (sym (noted_calls ms t i m y o c first is now))))
     (λ sums. omega (arith, sums, mine, none, room, longer, same))
 
-pub noted_standing : (begun : ℕ) (ms : List Member) (os : List Place) (used capacity t i : ℕ) (m y l : Member) (c : Call) (index : ℕ) (os' : List Place) → IsWell begun ms os used capacity
-    → IsFirst ms t i → m ≡ get_or ms i m → y ≡ with_call m c → l ≡ get_or ms i l → index ≡ length l.calls
+pub noted_standing : (begun : ℕ) (ms : List Member) (os : List Place) (used capacity t i : ℕ) (m y l : Member) (o : ℕ) (c : Call) (index : ℕ) (os' : List Place) → IsWell begun ms os used capacity
+    → IsFirst ms t i → m ≡ get_or ms i m → y ≡ with_call m o c → l ≡ get_or ms i l → index ≡ length l.calls
     → os' ≡ os ++ record { txn = t; index = index } ∷ [] → standing_by (calls_of (set ms i y)) os' ≡ standing_by (calls_of ms) os ++ entry_by t c ∷ []
-noted_standing begun ms os used capacity t i m y l c index os' w first is now lis at' more =
+noted_standing begun ms os used capacity t i m y l o c index os' w first is now lis at' more =
     let place = noted_at ms t i l index first lis at' in
     ap (λ f. standing_by f os') (calls_set ms t i y first (ap (λ (x : Member). x.number) now ∙ its_number ms t i m first is)
-    ∙ ap (put (calls_of ms) t) (noted_calls ms t i m y c first is now))
+    ∙ ap (put (calls_of ms) t) (noted_calls ms t i m y o c first is now))
     ∙ (ap (standing_by (put (calls_of ms) t (calls_of ms t ++ c ∷ []))) (more ∙ ap (λ (n : ℕ). os ++ record { txn = t; index = n } ∷ []) place)
     ∙ standing_noted (calls_of ms) t c os (w.placed t))
 
@@ -266,7 +266,7 @@ undone_standing begun ms os used capacity t i m l y k os' w first is lis last no
     ap (λ f. standing_by f os') (calls_set ms t i y first (ap (λ (x : Member). x.number) now ∙ its_number ms t i m first is) ∙ ap (put (calls_of ms) t) cut)
     ∙ (ap (standing_by (put (calls_of ms) t (take k (calls_of ms t)))) less ∙ sym u.cut)
 
-same_two : (ms : List Member) (t i : ℕ) (m l : Member) → IsFirst ms t i → m ≡ get_or ms i m → l ≡ get_or ms i l → m ≡ l
+pub same_two : (ms : List Member) (t i : ℕ) (m l : Member) → IsFirst ms t i → m ≡ get_or ms i m → l ≡ get_or ms i l → m ≡ l
 same_two ms t i m l first is lis = let e : Some m ≡ Some l = sym (is_there ms t i m first is) ∙ is_there ms t i l first lis in cc
 
 pub undone_member : (ms : List Member) (t i : ℕ) (m l y : Member) (k : ℕ) → IsFirst ms t i → m ≡ get_or ms i m → l ≡ get_or ms i l → last_place l.calls ≡ Some k → y ≡ cut_at m k → IsChanged ms (set ms i y) t taken_back

@@ -116,4 +116,4 @@ goes = (
 )
 
 pub takes_place : RunTakesPlace
-takes_place = (λ c. record { not_under = omega (arith, ints); not_over = omega (arith, ints) }, goes, refl, refl, refl)
+takes_place = (λ c. record { not_under = omega (arith, ints); not_over = omega (arith, ints) }, goes, refl, refl, refl, refl, refl)

@@ -41,10 +41,11 @@ states =
 abbrev pub last : State
 last = last_state (start opening) states
 
--- the run meets each event's conditions. At its end the book has the insert, nothing stands, and the
--- counter is at 5 again
+-- the run meets each event's conditions. At its end the book has the insert, nothing stands, neither
+-- transaction lives, and the counter is at 5 again
 abbrev pub RunTakesPlace : Type 0
 RunTakesPlace =
     IsBase opening × AllGo opening (start opening) states
     × (last.book ≡ record { session = 7; calls = (insert, Done) ∷ [] } ∷ []) × (last.standing ≡ [])
+    × (last.sessions 1 ≡ None) × (last.sessions 2 ≡ None)
     × ((last.base.counts 0).number ≡ pos 5)

@@ -1,16 +1,17 @@
 ghost use Rattle.std.specs.Prelude.{ℕ, [], ◌∷◌, ◌++◌, ◌≡◌, ◌==◌, ◌<◌, ◌+◌, ◌^◌, true, false, None, Some, IfOk, IfErr, OnOk, OnErr, MatchOption, length};
 ghost use Rattle.std.specs.List.{position};
-ghost use Rattle.std.specs.Option.{option_copied, option_map};
+ghost use Rattle.std.specs.Option.{option_map};
 ghost use Rattle.mt_base.specs.declared.refusal.Refusal.{Refusal};
+ghost use Rattle.mt_model.specs.History.{Call};
 ghost use Rattle.mt_live.specs.Entries.{Entry, calls, kept};
 ghost use Rattle.mt_live.specs.Undoing.{only, others, last_effect, cut_back};
 ghost use Rattle.mt_live.specs.Machine.{put};
-ghost use Rattle.mt_live.specs.Members.{Member, fresh, with_room, with_call, with_state, taken_back, committed_of};
+ghost use Rattle.mt_live.specs.Members.{Member, fresh, with_room, with_call, with_state, taken_back, committed_of, last_operation};
 ghost use Rattle.mt_live.specs.Lives.{member_of, is_member, has_room, IsFirst, IsChanged};
 
 use crate::places::{Place, cut_from, take_out};
 use crate::transactions::{Transaction, TxnState};
-use mt_base::{Refusal, TxnNo};
+use mt_base::{OpNo, Refusal, TxnNo};
 use mt_model::{Committed, Op, Reply};
 use std::alloc::Global;
 use std::marker::Model;
@@ -107,6 +108,15 @@ impl Live {
         self.transactions.len()
     }
 
+    /// How many operations of a live transaction have ended and stand.
+    pub fn count_ended(&self, txn: TxnNo) -> usize
+        requires { is_member self.now.members txn ≡ true }
+        ensures { Some result ≡ option_map (λ m. length m.calls) (member_of self.now.members txn) }
+    {
+        let at = place_in(&self.transactions, txn);
+        self.transactions[at].len()
+    }
+
     /// The state of a transaction, if it lives.
     pub fn state(&self, txn: TxnNo) -> Option<TxnState>
         ensures { result ≡ option_map (λ m. m.state) (member_of self.now.members txn) }
@@ -145,31 +155,33 @@ impl Live {
         Ok(())
     }
 
-    /// An operation of a live transaction has ended with this reply: it stands behind all others. It
-    /// takes the room that [`Live::room`] made, and no memory.
-    pub fn note(&mut self, txn: TxnNo, op: Op, reply: Reply)
+    /// The operation of this number, of a live transaction, has ended with this reply: it stands behind all
+    /// others. It takes the room that [`Live::room`] made, and no memory.
+    pub fn note(&mut self, txn: TxnNo, operation: OpNo, op: Op, reply: Reply)
         requires { has_room (member_of self.old.members txn) ≡ true }
         ensures standing { self.new.standing
             ≡ self.old.standing ++ record { txn = txn; op = op; reply = reply } ∷ [] }
-        ensures member { IsChanged self.old.members self.new.members txn (λ m. with_call m (op, reply)) }
+        ensures member { IsChanged self.old.members self.new.members txn (λ m. with_call m operation (op, reply)) }
         ensures count { length self.new.members ≡ length self.old.members }
         ensures begun { self.new.begun ≡ self.old.begun }
     {
         let place = place_in(&self.transactions, txn);
         let index = self.transactions[place].len();
-        self.transactions[place].note(op, reply);
+        self.transactions[place].note(operation, op, reply);
         self.order.push_reserved(Place { txn, index });
     }
 
-    /// The last operation that stands of a transaction and did something, with its reply: its inverse
-    /// is the next to run in an abort.
-    pub fn last_to_undo(&self, txn: TxnNo) -> Option<&(Op, Reply)>
-        ensures { option_copied result
+    /// The last operation that stands of a transaction and did something: its number, itself and its reply. Its
+    /// inverse is the next to run in an abort, and is logged as one that takes back this number.
+    pub fn last_to_undo(&self, txn: TxnNo) -> Option<(OpNo, &Op, &Reply)>
+        ensures last { option_map {U = Call} (λ r. (r.1.now, r.2.now)) result
             ≡ option_map (λ e. (e.op, e.reply)) (last_effect txn self.now.standing) }
+        ensures number { option_map (λ r. r.0) result ≡ last_operation (member_of self.now.members txn) }
     {
         let place = place_of(&self.transactions, txn)?;
         let at = self.transactions[place].last_place()?;
-        Some(self.transactions[place].call(at))
+        let (op, reply) = self.transactions[place].call(at);
+        Some((self.transactions[place].operation(at), op, reply))
     }
 
     /// The inverse of [`Live::last_to_undo`] has ended: neither that operation stands any more, nor the

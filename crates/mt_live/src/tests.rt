@@ -2,7 +2,7 @@ ghost use Rattle.std.specs.Prelude.{ℕ, ◌≡◌, true, IfOk};
 ghost use Rattle.mt_live.specs.Lives.{is_member};
 
 use crate::{Live, TxnState};
-use mt_base::{Bytes, CtrNo, Refusal, RelNo, TxnNo};
+use mt_base::{Bytes, CtrNo, OpNo, Refusal, RelNo, TxnNo};
 use mt_model::{Op, Reply};
 use std::alloc::Global;
 use std::process::Abort;
@@ -19,13 +19,13 @@ fn two_live(alloc: Global) -> Result<(Live, TxnNo, TxnNo), Refusal>
     Ok((live, first, second))
 }
 
-/// An operation ends in the room that is made for it.
-fn ends(live: &mut Live, txn: TxnNo, op: Op, reply: Reply) -> Result<(), Refusal>
+/// The operation of a number ends in the room that is made for it.
+fn ends(live: &mut Live, txn: TxnNo, operation: u64, op: Op, reply: Reply) -> Result<(), Refusal>
     requires { is_member live.old.members txn ≡ true }
     ensures { (u : ℕ) → is_member live.new.members u ≡ is_member live.old.members u }
 {
     live.room(txn)?;
-    live.note(txn, op, reply);
+    live.note(txn, OpNo::new(operation), op, reply);
     Ok(())
 }
 
@@ -37,7 +37,7 @@ fn goes_back(live: &mut Live, txn: TxnNo)
     live.undone(txn);
 }
 
-/// The row under a key is inserted, and read.
+/// The row under a key is inserted by operation 4, and read by operation 5.
 fn inserts_and_reads(live: &mut Live, txn: TxnNo, alloc: Global) -> Result<(), Refusal>
     requires { is_member live.old.members txn ≡ true }
     ensures { (u : ℕ) → is_member live.new.members u ≡ is_member live.old.members u }
@@ -46,16 +46,22 @@ fn inserts_and_reads(live: &mut Live, txn: TxnNo, alloc: Global) -> Result<(), R
     let key = Bytes::copy_of(alloc, b"k")?;
     let value = Bytes::copy_of(alloc, b"v")?;
     let insert = Op::Insert(relation, key.try_clone()?, value.try_clone()?);
-    ends(live, txn, insert, Reply::Done)?;
-    ends(live, txn, Op::Get(relation, key), Reply::Found(value))
+    ends(live, txn, 4, insert, Reply::Done)?;
+    ends(live, txn, 5, Op::Get(relation, key), Reply::Found(value))
 }
 
 #[test]
 fn transactions_interleave(rt: HostRuntime) -> Result<(), Fail> {
     let (mut live, first, second) = two_live(rt.alloc())?;
-    ends(&mut live, second, Op::Add(CtrNo::new(0), 2), Reply::Done)?;
+    ends(&mut live, second, 1, Op::Add(CtrNo::new(0), 2), Reply::Done)?;
     inserts_and_reads(&mut live, first, rt.alloc())?;
-    ends(&mut live, second, Op::Read(CtrNo::new(0)), Reply::Value(2))?;
+    ends(
+        &mut live,
+        second,
+        6,
+        Op::Read(CtrNo::new(0)),
+        Reply::Value(2),
+    )?;
     assert_eq!(rt; live.count(), 2);
 
     let done = live.leave(first);
@@ -75,14 +81,17 @@ fn an_abort_is_half_done(rt: HostRuntime) -> Result<(), Fail> {
     let (mut live, first, second) = two_live(rt.alloc())?;
     assert_eq!(rt; first.get(), 1);
     inserts_and_reads(&mut live, second, rt.alloc())?;
-    ends(&mut live, second, Op::Add(CtrNo::new(0), 2), Reply::Done)?;
+    ends(&mut live, second, 7, Op::Add(CtrNo::new(0), 2), Reply::Done)?;
     live.set_state(second, TxnState::Aborting);
-    let added = matches!(live.last_to_undo(second), Some((Op::Add(_, _), _)));
+    let added =
+        matches!(live.last_to_undo(second), Some((number, Op::Add(_, _), _)) if number == OpNo::new(7));
     assert!(rt; added);
 
     goes_back(&mut live, second);
-    let inserted = matches!(live.last_to_undo(second), Some((Op::Insert(_, _, _), _)));
+    let inserted =
+        matches!(live.last_to_undo(second), Some((number, Op::Insert(_, _, _), _)) if number == OpNo::new(4));
     assert!(rt; inserted);
+    assert_eq!(rt; live.count_ended(second), 2);
     assert_eq!(rt; live.state(second), Some(TxnState::Aborting));
     goes_back(&mut live, second);
     assert!(rt; live.last_to_undo(second).is_none());

@@ -1,8 +1,8 @@
-ghost use Rattle.std.specs.Prelude.{◌≡◌, ◌<◌, IfSome, IfNone, OnOk, OnErr, is_some, length, true, slice_index_or};
+ghost use Rattle.std.specs.Prelude.{ℕ, ◌≡◌, ◌<◌, IfSome, IfNone, OnOk, OnErr, is_some, length, true, slice_index_or};
 ghost use Rattle.mt_model.specs.Model.{inverse_of};
 ghost use Rattle.mt_live.specs.Members.{fresh, with_room, with_call, with_state, cut_at, committed_of, last_place};
 
-use mt_base::TxnNo;
+use mt_base::{OpNo, TxnNo};
 use mt_model::{Calls, Committed, Op, Reply};
 use std::alloc::{AllocError, Global};
 use std::marker::Model;
@@ -26,14 +26,15 @@ pub struct Transaction {
     state: TxnState,
     // what stands of its operations with their replies, in the order of their ends
     calls: Vec<(Op, Reply)>,
+    // the number of each one's operation
+    operations: Vec<OpNo>,
     // there is room for one more call
     has_room: bool,
 }
 
 impl Model for Transaction {
-    ghost use Rattle.std.specs.Prelude.{◌≡◌, ◌<◌, true};
     ghost use Rattle.std.specs.Vec.{vec_len, vec_capacity};
-    ghost use Rattle.mt_live.specs.Members.{Member};
+    ghost use Rattle.mt_live.specs.Members.{Member, HasRoomFor};
 
     ghost Value = { Member };
 
@@ -42,10 +43,12 @@ impl Model for Transaction {
       session = t.session;
       state = t.state;
       calls = t.calls.items;
+      operations = t.operations.items;
       has_room = t.has_room;
     } };
 
-    ghost invariant = { λ t. t.has_room ≡ true → vec_len t.calls < vec_capacity t.calls };
+    ghost invariant = { λ t.
+        HasRoomFor t.has_room (vec_len t.calls) (vec_capacity t.calls) (vec_len t.operations) (vec_capacity t.operations) };
 }
 
 // Whether an operation with this reply did something, so that it has an inverse.
@@ -85,6 +88,7 @@ impl Transaction {
             session,
             state: TxnState::Open,
             calls: Vec::new(alloc),
+            operations: Vec::new(alloc),
             has_room: false,
         }
     }
@@ -116,16 +120,18 @@ impl Transaction {
         ensures err { OnErr result (self.new ≡ self.old) }
     {
         self.calls.reserve(1)?;
+        self.operations.reserve(1)?;
         self.has_room = true;
         Ok(())
     }
 
     /// Puts a call behind the others, in the room that was made for it.
-    pub fn note(&mut self, op: Op, reply: Reply)
+    pub fn note(&mut self, operation: OpNo, op: Op, reply: Reply)
         requires { self.old.has_room ≡ true }
-        ensures { self.new ≡ with_call self.old (op, reply) }
+        ensures { self.new ≡ with_call self.old operation (op, reply) }
     {
         self.calls.push_reserved((op, reply));
+        self.operations.push_reserved(operation);
         self.has_room = false;
     }
 
@@ -144,6 +150,14 @@ impl Transaction {
         &self.calls[at]
     }
 
+    /// The number of the operation that the call of this number was.
+    pub fn operation(&self, at: usize) -> OpNo
+        requires { at < length self.now.calls }
+        ensures { (d : ℕ) → result ≡ slice_index_or self.now.operations at d }
+    {
+        self.operations[at]
+    }
+
     /// The number of the last call that did something.
     pub fn last_place(&self) -> Option<usize>
         ensures place { result ≡ last_place self.now.calls }
@@ -157,6 +171,7 @@ impl Transaction {
         ensures { self.new ≡ cut_at self.old at }
     {
         self.calls.truncate(at);
+        self.operations.truncate(at);
     }
 
     /// The transaction with its calls, as one that committed. It takes no memory.

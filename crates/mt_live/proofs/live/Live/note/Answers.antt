@@ -32,7 +32,7 @@ invariant_of-self c =
     let first : IsFirst ms c.args.txn i = subst (λ xs. IsFirst xs c.args.txn i) c.deref.ensures.value c.place_in-place.ensures in
     let is = c.index_mut.ensures.value in
     let lis = c.index.ensures in
-    noted_well _ ms _ _ _ c.args.txn i m c.note.new.self l (c.args.op, c.args.reply) c.len-index.result _ _ _ c.self.invariant first is c.note.ensures lis c.len-index.ensures
+    noted_well _ ms _ _ _ c.args.txn i m c.note.new.self l c.args.operation (c.args.op, c.args.reply) c.len-index.result _ _ _ c.self.invariant first is c.note.ensures lis c.len-index.ensures
     (room_there ms c.args.txn i m first is (subst (λ (l : Lives). has_room (member_of l.members c.args.txn) ≡ true) (sym c.self.view_is) c.requires))
     c.push_reserved.ensures.items c.push_reserved.ensures.len c.push_reserved.ensures.capacity
 
@@ -45,7 +45,7 @@ returns-clause-standing c =
     let first : IsFirst ms c.args.txn i = subst (λ xs. IsFirst xs c.args.txn i) c.deref.ensures.value c.place_in-place.ensures in
     let is = c.index_mut.ensures.value in
     let lis = c.index.ensures in
-    noted_standing _ ms _ _ _ c.args.txn i m c.note.new.self l (c.args.op, c.args.reply) c.len-index.result _ c.self.invariant first is c.note.ensures lis c.len-index.ensures c.push_reserved.ensures.items
+    noted_standing _ ms _ _ _ c.args.txn i m c.note.new.self l c.args.operation (c.args.op, c.args.reply) c.len-index.result _ c.self.invariant first is c.note.ensures lis c.len-index.ensures c.push_reserved.ensures.items
     ∙ ap (λ (l : Lives). l.standing ++ record { txn = c.args.txn; op = c.args.op; reply = c.args.reply } ∷ []) c.self.view_is
 
 pub returns-clause-member : goal.returns-clause-member
@@ -56,6 +56,6 @@ returns-clause-member c =
     let first : IsFirst ms c.args.txn i = subst (λ xs. IsFirst xs c.args.txn i) c.deref.ensures.value c.place_in-place.ensures in
     let is = c.index_mut.ensures.value in
     let y = c.note.new.self in
-    subst (λ (l : Lives). IsChanged l.members (set ms i y) c.args.txn (λ x. with_call x (c.args.op, c.args.reply))) c.self.view_is
-    (changed ms c.args.txn i m y (λ x. with_call x (c.args.op, c.args.reply)) first is c.note.ensures
+    subst (λ (l : Lives). IsChanged l.members (set ms i y) c.args.txn (λ x. with_call x c.args.operation (c.args.op, c.args.reply))) c.self.view_is
+    (changed ms c.args.txn i m y (λ x. with_call x c.args.operation (c.args.op, c.args.reply)) first is c.note.ensures
     (ap (λ (x : Member). x.number) c.note.ensures ∙ its_number ms c.args.txn i m first is))

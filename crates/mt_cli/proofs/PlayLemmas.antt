@@ -1,5 +1,5 @@
 -- What a kernel answers to a script that runs alone is what the model does.
-use Rattle.std.proofs.Common.{◌≡◌, ◌≤◌, ◌<◌, ◌+◌, ◌⊎◌, inl, inr, suc, zero, ℕ, Bool, true, false, cond, not, List, [], ◌∷◌, ◌++◌, Option, Some, None, length, map, take, drop, get_or, refl, ap, ap₂, sym, subst, ◌∙◌, arith, append-nil, Contains, length-append}
+use Rattle.std.proofs.Common.{◌≡◌, ◌≤◌, ◌<◌, ◌+◌, ◌⊎◌, inl, inr, suc, zero, ℕ, Bool, true, false, cond, List, [], ◌∷◌, ◌++◌, Option, Some, None, length, map, take, drop, get_or, refl, ap, ap₂, sym, subst, ◌∙◌, arith, append-nil, Contains, length-append}
 use Rattle.std.proofs.Math.ListN.{set}
 use Rattle.std.specs.List.{remove}
 use Rattle.std.proofs.lemmas.List.{map-append}
@@ -18,15 +18,15 @@ use Rattle.mt_txn.specs.declared.answers.KernelForced.TheVariants as forced
 use Rattle.mt_txn.specs.declared.answers.AbortStepped.TheVariants as stepped
 use Rattle.mt_txn.specs.State.{State, lives, IsBegun, HasCalled}
 use Rattle.mt_txn.specs.Ends.{HasEnded, given_back_of}
-use Rattle.mt_txn.specs.Commits.{HasBegunCommit, IsForced, IsSettled, durable_count}
-use Rattle.mt_txn.specs.Aborts.{IsThere, HasBegunAbort, HasGivenUp, HasUndone, HasLeft, IsAbortStepped}
+use Rattle.mt_txn.specs.Commits.{HasBegunCommit, IsForced, durable_count}
+use Rattle.mt_txn.specs.Aborts.{HasGivenUp, HasUndone, IsAbortStepped}
 use Rattle.mt_txn.specs.Kept.{commits, standing, IsKept, IsSingle}
 use Rattle.mt_txn.proofs.Keeping.{same_keeps, begun_keeps, called_keeps, ended_keeps, committing_keeps, settled_keeps, aborting_keeps, abort_keeps, alone_at}
 use Rattle.mt_cli.specs.declared.lines.Line.{Line}
 use Rattle.mt_cli.specs.declared.lines.Line.TheVariants as line
 use Rattle.mt_cli.specs.declared.answers.Answer.{Answer}
 use Rattle.mt_cli.specs.declared.answers.Answer.TheVariants.{Begun, Replied, Committed as CommittedAt, Aborted, Refused}
-use Rattle.mt_cli.specs.Runs.{Forces, unforced, force_more, Names, HasMadeDurable, Undoes, standing as no_step, undo_more, HasUndoneAll, IsAborted, IsAnswered, IsAnsweredOutside, IsAnsweredWithin, IsCommitAnswered, Runs, starts, goes_on, Closes, open_after}
+use Rattle.mt_cli.specs.Runs.{Forces, unforced, force_more, Names, HasMadeDurable, Undoes, standing as no_step, undo_more, IsAborted, IsAnswered, IsAnsweredOutside, IsAnsweredWithin, Runs, starts, goes_on, Closes, open_after}
 use Rattle.mt_cli.specs.Plays.{Play, answer_at, after_at, model_answers, model_after, is_refused, heard, lines_heard, answers_heard, play_of, IsModelRun}
 
 -- ---- the kernel beside the model
@@ -81,10 +81,11 @@ call_played b session m n z p t op reply calls played opened called ended =
     let first = opened.0 in
     let to = called.live in
     let l = to.1 in
-    let w : Party = with_running l to.2 op in
-    let one = alone_at m.live to.0 l (few m first opened.1) to.4 to.5 in
+    let number = m.operations + 1 in
+    let w : Party = with_running l number op in
+    let one = alone_at m.live to.0 l (few m first opened.1) to.3 to.4 in
     let same : l ≡ first = (let e : l ∷ [] ≡ first ∷ [] = sym one.live ∙ opened.1 in cc) in
-    let now : n.live ≡ w ∷ [] = to.6 ∙ (ap (λ ls. set ls to.0 w) one.live ∙ ap (λ k. set (l ∷ []) k w) one.place) in
+    let now : n.live ≡ w ∷ [] = to.5 ∙ (ap (λ ls. set ls to.0 w) one.live ∙ ap (λ k. set (l ∷ []) k w) one.place) in
     let last = ended.ended in
     let k = last.1 in
     let r = last.2 in
@@ -92,7 +93,7 @@ call_played b session m n z p t op reply calls played opened called ended =
     let finished = last.6 in
     let two = alone_at n.live last.0 k (few n w now) way.within way.there in
     let runs : k ≡ w = (let e : k ∷ [] ≡ w ∷ [] = sym two.live ∙ now in cc) in
-    let its : r.op ≡ op = (let e : Some r ≡ Some (record { number = to.2; op = op }) = sym way.running ∙ ap (λ (y : Party). y.running) runs in let f : r ≡ record { number = to.2; op = op } = cc in ap (λ (y : Running). y.op) f) in
+    let its : r.op ≡ op = (let e : Some r ≡ Some (record { number = number; op = op }) = sym way.running ∙ ap (λ (y : Party). y.running) runs in let f : r ≡ record { number = number; op = op } = cc in ap (λ (y : Running). y.op) f) in
     let d : Party = noted k reply (given_back_of r.op reply) in
     let ends : z.live ≡ d ∷ [] = finished.live ∙ (ap (λ ls. set ls last.0 d) two.live ∙ ap (λ j. set (k ∷ []) j d) two.place) in
     let held : n.held ≡ run p.base calls = ap (λ (x : State). x.held) called.rest ∙ held_is b m p calls played.kept played.committing played.book played.base (one_stands m first calls opened.1 opened.3) in
@@ -149,8 +150,8 @@ settled_where book c m z k left more (inr w) =
 
 forced_waits : (b : Base) (book : List Committed) (c : Committing) (m z : State) (f : KernelForced) → IsForced m f z → Waits b book c m → Waits b book c z
 forced_waits b book c m z forced.More did waits =
-    same_waits b book c m z (ap (λ (x : State). x.live) did.1) (ap (λ (x : State). x.held) did.1) (ap (λ (x : State). x.committing) did.1) (ap (λ (x : State). x.book) did.1) waits
-forced_waits b book c m z forced.Idle did waits = subst (Waits b book c) (sym did) waits
+    same_waits b book c m z (ap (λ (x : State). x.live) did.rest) (ap (λ (x : State). x.held) did.rest) (ap (λ (x : State). x.committing) did.rest) (ap (λ (x : State). x.book) did.rest) waits
+forced_waits b book c m z forced.Idle did waits = subst (Waits b book c) (sym did.0) waits
 forced_waits b book c m z (forced.Durable names) did waits =
     let live = ap (λ (x : State). x.live) did.rest in
     let k = durable_count m.committing z.durable in
@@ -189,14 +190,15 @@ commit_played b session m n z p t calls played opened begun durable =
     let first = opened.0 in
     let to = begun.moved in
     let l = to.1 in
-    let c : Committing = committing_of l n.appended in
+    let place = length n.appended in
+    let c : Committing = committing_of l place in
     let d : Committed = record { session = session; calls = calls } in
     let one = alone_at m.live to.0 l (few m first opened.1) to.3 to.4 in
     let same : l ≡ first = (let e : l ∷ [] ≡ first ∷ [] = sym one.live ∙ opened.1 in cc) in
     let gone : n.live ≡ [] = to.5 ∙ (ap (λ ls. remove ls to.0) one.live ∙ ap (λ k. remove (l ∷ []) k) one.place) in
     let same_book = ap (λ (x : State). x.book) begun.rest in
     let waits : Waits b p.book c n = record {
-      kept = committing_keeps m n to.0 l n.appended to.3 to.4 to.5 to.6 same_book (ap (λ (x : State). x.held) begun.rest) (few m first opened.1) b played.kept;
+      kept = committing_keeps m n to.0 l place to.3 to.4 to.5 to.6 same_book (ap (λ (x : State). x.held) begun.rest) (few m first opened.1) b played.kept;
       nobody = gone;
       where_is = inl (to.6 ∙ ap (λ cs. cs ++ c ∷ []) played.committing, same_book ∙ played.book);
     } in
@@ -407,7 +409,7 @@ line_modelled b session p lines as' m z was live line answer before is = record 
 modelled : (b : Base) (session : ℕ) (s : State) (p : Play) (lines : List Line) (as' : List Answer) (m : State) (live : Option ℕ) → IsPlayed b session s None p → Runs session s lines as' m live
     → IsModelled b session p lines as' m live
 modelled b session s p _ _ _ _ start starts = record { lengths = refl; told = refl; played = start }
-modelled b session s p _ _ _ _ start (goes_on lines as' m z was live line answer before is) =
+modelled b session s p _ _ _ _ start (goes_on lines as' m z was live line answer before is well) =
     line_modelled b session p lines as' m z was live line answer (modelled b session s p lines as' m was start before) is
 
 -- the kernel beside the model that throws away what is open

@@ -27,9 +27,9 @@ pub line_more : (session : ℕ) (s m z : State) (lines : List Line) (i : ℕ) (l
 line_more session s m z lines i line was live a b c lt is ran told =
     let r = ran.run in
     let t = told.told in
-    let next = goes_on (take i lines) r.0 m z was live line t.0 r.1 t.1 in
+    let next = goes_on (take i lines) r.0 m z was live line t.0 r.1 t.1 t.2 in
     let all : take i lines ++ line ∷ [] ≡ take (suc i) lines = ap (λ x. take i lines ++ x ∷ []) is ∙ sym (take-suc lines i line lt) in
-    let text = Appends-trans a b c (transcript_text r.0) (line_of t.0) r.2 t.2 in
+    let text = Appends-trans a b c (transcript_text r.0) (line_of t.0) r.2 t.3 in
     record {
       run = (
         r.0 ++ t.0 ∷ [],

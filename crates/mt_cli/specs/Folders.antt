@@ -8,6 +8,6 @@ abbrev pub file_of : List ℕ → List (List ℕ × List ℕ) → Option (List �
 file_of name [] = None
 file_of name (f ∷ fs) = cond (bytes_eq f.0 name) (Some f.1) (file_of name fs)
 
--- why a file is not read: it is not there or cannot be read, or memory was wanting
-abbrev pub IsFileRefusal : Refusal → Type 0
-IsFileRefusal why = (why ≡ refusal.DeviceFailed) ⊎ (why ≡ refusal.NoMemory)
+-- why a file is not read: its bytes are not known to be there, or memory was wanting
+abbrev pub IsFileRefusal : Option (List ℕ) → Refusal → Type 0
+IsFileRefusal held why = ((why ≡ refusal.DeviceFailed) × (held ≡ None)) ⊎ (why ≡ refusal.NoMemory)

@@ -1,5 +1,5 @@
 -- What the program's commands do.
-use Rattle.std.specs.Prelude.{ℕ, ℤ, pos, ◌≡◌, ◌⊎◌, List, [], ◌∷◌, ◌++◌, length, Option, Some, None, IfSome, option_map, string_bytes, codes}
+use Rattle.std.specs.Prelude.{ℕ, pos, ◌≡◌, ◌⊎◌, List, [], ◌∷◌, length, Option, Some, None, IfSome, option_map, string_bytes, codes}
 use Rattle.std.specs.Io.KnownBytes.{Appends, Keeps}
 use Rattle.mt_base.specs.declared.refusal.Refusal.{Refusal}
 use Rattle.mt_base.specs.declared.refusal.Refusal.TheVariants as refusal
@@ -14,10 +14,12 @@ use Rattle.mt_cli.specs.declared.command.Command.{Command}
 use Rattle.mt_cli.specs.declared.command.Command.TheVariants.{Try, Show}
 use Rattle.mt_cli.specs.declared.perform.Fault.{Fault}
 use Rattle.mt_cli.specs.declared.perform.Fault.TheVariants.{Output, Refused}
+use Rattle.mt_cli.specs.declared.running.RunFault.{RunFault}
+use Rattle.mt_cli.specs.declared.running.RunFault.TheVariants as run
 use Rattle.mt_cli.specs.Answers.{AppendsFront}
 use Rattle.mt_cli.specs.CommandLines.{IsCommandOf}
 use Rattle.mt_cli.specs.Scripts.{IsScript, IsRefusedFor}
-use Rattle.mt_cli.specs.Runs.{HasRun, line_of}
+use Rattle.mt_cli.specs.Runs.{HasRun, IsCutRun, line_of}
 
 -- two relations without rows, and one counter from 0 to 10 that starts at 5
 pub record IsFirstBase (base : code.Base) : Type 0 where
@@ -68,3 +70,42 @@ fault_line (Refused why) = line_of (RefusedLine why)
 -- such a line was written, or a beginning of it
 abbrev pub IsTold : Option (List ℕ) → Option (List ℕ) → Type 0
 IsTold was now = (fault : Fault) × AppendsFront was now (fault_line fault)
+
+-- ---- a command that was not done
+
+-- why the kernel of `try` is not made: memory was wanting, or its device failed
+abbrev pub IsUnmade : Refusal → Type 0
+IsUnmade why = (why ≡ refusal.NoMemory) ⊎ (why ≡ refusal.DeviceFailed)
+
+-- how a run ended is how its command does
+abbrev pub fault_of : RunFault → Fault
+fault_of run.Output = Output
+fault_of (run.Refused why) = Refused why
+
+-- why these lines did not run to their end: nothing is written where no kernel is made, and else the
+-- run was cut short
+pub data IsCutTrial (lines : List Line) (was now : Option (List ℕ)) : Fault → Type 0 where
+  unmade : (why : Refusal) → IsUnmade why → Keeps was now → IsCutTrial lines was now (Refused why)
+  cut : (s z : State) (why : RunFault) (fault : Fault) → IsFirst s → IsCutRun 1 s lines was now z why → fault ≡ fault_of why → IsCutTrial lines was now fault
+
+-- why a script of these bytes was not run to its end: nothing is written where it is not read
+pub data IsUntried (bytes was now : Option (List ℕ)) : Fault → Type 0 where
+  unread : (why : Refusal) → IsUnread bytes why → Keeps was now → IsUntried bytes was now (Refused why)
+  untried : (lines : List Line) (fault : Fault) → IfSome bytes (λ bs. IsScript bs lines) → IsCutTrial lines was now fault → IsUntried bytes was now fault
+
+-- what a command that ended with this fault left on the output
+abbrev pub IsUndone : Command → Option (List ℕ) → Option (List ℕ) → Option (List ℕ) → Fault → Type 0
+IsUndone (Try script) bytes was now fault = IsUntried bytes was now fault
+IsUndone (Show text) bytes was now fault = (fault ≡ Output) × AppendsFront was now (string_bytes text)
+
+-- A command ended with a fault, or it was done and the output could not be flushed. The error output has a
+-- line that tells of it, or a beginning of that line.
+pub record IsGivenUp (command : Command) (bytes was now old new : Option (List ℕ)) : Type 0 where
+  pub given_up : (fault : Fault) × (mid : Option (List ℕ)) × (IsUndone command bytes was mid fault ⊎ (IsDone command bytes was mid × (fault ≡ Output)))
+      × Keeps mid now × AppendsFront old new (fault_line fault)
+
+-- and so did the command that words name, or memory was wanting to read them
+abbrev pub IsWordsGivenUp : List (List ℕ) → (List ℕ → Option (List ℕ)) → Option (List ℕ) → Option (List ℕ) → Option (List ℕ) → Option (List ℕ) → Option (List ℕ) → Type 0
+IsWordsGivenUp words known input was now old new =
+    ((command : Command) × IsCommandOf words command × IsGivenUp command (script_source known command input) was now old new)
+    ⊎ (Keeps was now × AppendsFront old new (fault_line (Refused refusal.NoMemory)))

@@ -8,7 +8,7 @@ use Rattle.mt_model.specs.Model.{Base}
 use Rattle.mt_txn.specs.Kept.{IsKept}
 use Rattle.mt_txn.specs.State.{State, lives, begin_cause, call_cause, open_cause, IsBegun, HasCalled}
 use Rattle.mt_txn.specs.Ends.{HasEnded}
-use Rattle.mt_txn.specs.Commits.{commit_cause, HasBegunCommit, IsForced}
+use Rattle.mt_txn.specs.Commits.{commit_cause, HasBegunCommit, IsForced, HasFailed}
 use Rattle.mt_txn.specs.Aborts.{HasBegunAbort, IsAbortStepped}
 use Rattle.mt_txn.specs.declared.answers.KernelForced.{KernelForced}
 use Rattle.mt_txn.specs.declared.answers.KernelForced.TheVariants as forced
@@ -100,11 +100,12 @@ IsAnswered session s (Some t) line answer z live = IsAnsweredWithin s t line ans
 
 -- ---- lines
 
--- the kernel answered lines so, one after the other, beginning with no transaction open
+-- the kernel answered lines so, one after the other, beginning with no transaction open; none of the
+-- answers is that the device failed
 pub data Runs (session : ℕ) (s : State) : List Line → List Answer → State → Option ℕ → Type 0 where
   starts : Runs session s [] [] s None
   goes_on : (lines : List Line) (answers : List Answer) (m z : State) (was live : Option ℕ) (line : Line) (answer : Answer)
-      → Runs session s lines answers m was → IsAnswered session m was line answer z live
+      → Runs session s lines answers m was → IsAnswered session m was line answer z live → answer ≢ Refused refusal.DeviceFailed
       → Runs session s (lines ++ line ∷ []) (answers ++ answer ∷ []) z live
 
 -- a transaction that is open at the script's end is aborted, with a line of its own
@@ -129,31 +130,76 @@ Leaves m (Some t) z = IsAborted m t z
 abbrev pub line_of : Answer → List ℕ
 line_of answer = answer_text answer ++ 10 ∷ []
 
--- how a run ends whose writer failed: what was open is aborted, or a step of that was refused
+-- a force step was refused: nothing has changed, or the device has failed
+abbrev pub IsForceRefused : State → State → Type 0
+IsForceRefused s z = (z ≡ s) ⊎ HasFailed s z
+
+-- force steps that were given up
+abbrev pub IsForceHalted : State → State → Type 0
+IsForceHalted s z = (m : State) × Forces s m × IsForceRefused m z
+
+-- the commit of t was begun, and given up after some force steps
+abbrev pub IsCommitHalted : State → ℕ → State → Type 0
+IsCommitHalted s t z = (m : State) × HasBegunCommit s t m × IsForceHalted m z
+
+-- the abort of t was begun, and given up after some steps
+abbrev pub IsUndoHalted : State → ℕ → State → Type 0
+IsUndoHalted s t z = (m : State) × HasBegunAbort s t m × Undoes t m z
+
+-- or it was refused at once, for this cause
+abbrev pub IsAbortHalted : State → ℕ → Refusal → State → Type 0
+IsAbortHalted s t why z = ((open_cause s t ≡ Some why) × (z ≡ s)) ⊎ IsUndoHalted s t z
+
+-- what a line left that was given up within the transaction t: what it asks for is begun, and stands
+-- where its last step left it
+abbrev pub IsHaltedWithin : State → ℕ → Line → State → Type 0
+IsHaltedWithin s t Begin z = ⊥
+IsHaltedWithin s t (Call op) z = HasCalled s t op z
+IsHaltedWithin s t Commit z = IsCommitHalted s t z
+IsHaltedWithin s t Abort z = IsUndoHalted s t z
+
+-- no line is given up while no transaction is open
+abbrev pub IsHalted : State → Option ℕ → Line → State → Type 0
+IsHalted s None line z = ⊥
+IsHalted s (Some t) line z = IsHaltedWithin s t line z
+
+-- how a run ends whose writer failed: what was open is aborted, or that was refused
 abbrev pub IsLeft : State → Option ℕ → State → RunFault → Type 0
 IsLeft m live z fault.Output = Leaves m live z
-IsLeft m live z (fault.Refused why) = Unit {0}
+IsLeft m None z (fault.Refused why) = ⊥
+IsLeft m (Some t) z (fault.Refused why) = IsAbortHalted m t why z
 
--- how a run ends that was refused: that the device failed is written, or a beginning of that, or
--- nothing where it was refused otherwise
+-- that the device failed is written, or a beginning of that
+abbrev pub IsFailureTold : Option (List ℕ) → Option (List ℕ) → RunFault → Type 0
+IsFailureTold old new fault.Output = AppendsFront old new (line_of (Refused refusal.DeviceFailed))
+IsFailureTold old new (fault.Refused why) = (why ≡ refusal.DeviceFailed) × Appends old new (line_of (Refused refusal.DeviceFailed))
+
+-- nothing is written of another refusal
+abbrev pub IsUntold : Option (List ℕ) → Option (List ℕ) → RunFault → Type 0
+IsUntold old new fault.Output = ⊥
+IsUntold old new (fault.Refused why) = (why ≢ refusal.DeviceFailed) × Appends old new []
+
+-- how a run ends that was given up
 abbrev pub IsStopped : Option (List ℕ) → Option (List ℕ) → RunFault → Type 0
-IsStopped old new fault.Output = AppendsFront old new (line_of (Refused refusal.DeviceFailed))
-IsStopped old new (fault.Refused why) = ((why ≡ refusal.DeviceFailed) × Appends old new (line_of (Refused refusal.DeviceFailed))) ⊎ Appends old new []
+IsStopped old new why = IsFailureTold old new why ⊎ IsUntold old new why
 
--- a run ended at a line so: a beginning of the answer was written, or none was given
+-- a run ended at a line so: a beginning of the answer was written, or the answer was that the device
+-- failed, or the line was given up
 pub data IsCut (session : ℕ) (s : State) (was : Option ℕ) (line : Line) (old new : Option (List ℕ)) (z : State) : RunFault → Type 0 where
   unheard : (answer : Answer) (m : State) (live : Option ℕ) (why : RunFault) → IsAnswered session s was line answer m live → AppendsFront old new (line_of answer) → IsLeft m live z why
       → IsCut session s was line old new z why
-  stopped : (why : RunFault) → IsStopped old new why → IsCut session s was line old new z why
+  failed : (live : Option ℕ) (why : RunFault) → IsAnswered session s was line (Refused refusal.DeviceFailed) z live → IsFailureTold old new why
+      → IsCut session s was line old new z why
+  halted : (why : RunFault) → IsHalted s was line z → IsStopped old new why → IsCut session s was line old new z why
 
 -- why a run ended while the transaction that was open at the script's end was aborted
-abbrev pub IsCutAtEnd : State → ℕ → Option (List ℕ) → Option (List ℕ) → State → RunFault → Type 0
-IsCutAtEnd s t old new z fault.Output = IsAborted s t z × AppendsFront old new (line_of Aborted)
-IsCutAtEnd s t old new z (fault.Refused why) = Appends old new []
+pub data IsCutAtEnd (s : State) (t : ℕ) (old new : Option (List ℕ)) (z : State) : RunFault → Type 0 where
+  unheard_end : IsAborted s t z → AppendsFront old new (line_of Aborted) → IsCutAtEnd s t old new z fault.Output
+  halted_end : (refused : Refusal) (why : RunFault) → IsAbortHalted s t refused z → IsStopped old new why → IsCutAtEnd s t old new z why
 
--- a line's answer was written
+-- a line's answer was written, and the device had not failed
 pub record IsTold (session : ℕ) (s : State) (was : Option ℕ) (line : Line) (old new : Option (List ℕ)) (z : State) (live : Option ℕ) : Type 0 where
-  pub told : (answer : Answer) × IsAnswered session s was line answer z live × Appends old new (line_of answer)
+  pub told : (answer : Answer) × IsAnswered session s was line answer z live × (answer ≢ Refused refusal.DeviceFailed) × Appends old new (line_of answer)
 
 -- the transaction that was open at the script's end is aborted, and that was written
 pub record IsEnded (s : State) (t : ℕ) (old new : Option (List ℕ)) (z : State) : Type 0 where

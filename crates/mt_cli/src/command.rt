@@ -1,7 +1,7 @@
 // The command line, read by `clap`.
 ghost use Rattle.std.specs.Prelude.{◌≡◌, List, IfOk, IfErr, map, option_map, string_bytes};
 ghost use Rattle.clap.specs.Words.{Text, app_of, subcommand_rows_of};
-ghost use Rattle.mt_cli.specs.CommandLines.{program, script_in, IsCommandOf, IsFaultAt, IsFaultOf};
+ghost use Rattle.mt_cli.specs.CommandLines.{bare, program, script_in, IsCommandOf, IsFaultAt, IsFaultOf};
 
 use clap::error::ErrorKind;
 use clap::{Arg, ArgMatches, Command as Parser};
@@ -41,6 +41,18 @@ impl From<AllocError> for CliFault {
     }
 }
 
+/// `mtk` without its commands.
+fn bare<'a>(alloc: Global) -> Parser<'a>
+    ensures { app_of result ≡ bare }
+{
+    Parser::new(alloc, "mtk")
+        .version("0.1.0")
+        .about("A multilevel transaction kernel with escrow counters")
+        .after_help(EXAMPLES)
+        .no_binary_name(true)
+        .subcommand_required(true)
+}
+
 /// The program's command line.
 fn parser<'a>(alloc: Global) -> Result<Parser<'a>, AllocError>
     ensures { IfOk result (λ parser. app_of parser ≡ program) }
@@ -51,13 +63,7 @@ fn parser<'a>(alloc: Global) -> Result<Parser<'a>, AllocError>
     let trial = Parser::new(alloc, "try")
         .about("Run one script over a device in memory and print its transcript")
         .arg(script)?;
-    Parser::new(alloc, "mtk")
-        .version("0.1.0")
-        .about("A multilevel transaction kernel with escrow counters")
-        .after_help(EXAMPLES)
-        .no_binary_name(true)
-        .subcommand_required(true)
-        .subcommand(trial)
+    bare(alloc).subcommand(trial)
 }
 
 const EXAMPLES: &str =

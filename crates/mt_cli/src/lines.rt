@@ -99,7 +99,7 @@ fn negated(size: u64) -> Option<i64>
         return None;
     }
     match i64::try_from(size - 1) {
-        Ok(less_one) => Some(-less_one - 1),
+        Ok(less_one) => Some(-1 - less_one),
         Err(_) => None,
     }
 }

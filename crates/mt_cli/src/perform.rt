@@ -1,13 +1,14 @@
 // The commands, done.
-ghost use Rattle.std.specs.Prelude.{◌≡◌, ◌≢◌, ◌≤◌, ℕ, List, Some, IfOk, IfErr, IfSome, IsOk, OnOk, length, map, option_map, false};
+ghost use Rattle.std.specs.Prelude.{◌≡◌, ◌≢◌, ◌≤◌, ℕ, List, Some, IfOk, IfErr, IfSome, IsOk, MatchResult, OnOk, OnErr, length, map, option_map};
 ghost use Rattle.mt_base.specs.Limits.{IsValue};
 ghost use Rattle.mt_disk.specs.Memory.{content};
 ghost use Rattle.mt_model.specs.Views.{base_of, relations_of, counters_of};
 ghost use Rattle.mt_txn.specs.State.{state_of};
 ghost use Rattle.mt_cli.specs.Answers.{AppendsFront};
 ghost use Rattle.mt_cli.specs.Scripts.{IsScript};
-ghost use Rattle.mt_cli.specs.CommandLines.{fits};
-ghost use Rattle.mt_cli.specs.Performs.{IsFirstBase, IsFirst, HasTried, IsTried, IsUnread, IsDone, IsWordsDone, IsTold, source_of, script_source, fault_line};
+ghost use Rattle.mt_cli.specs.CommandLines.{IsMistaken};
+ghost use Rattle.mt_cli.specs.declared.perform.Fault.{Fault};
+ghost use Rattle.mt_cli.specs.Performs.{IsFirstBase, IsFirst, HasTried, IsTried, IsUnread, IsUnmade, IsCutTrial, IsUntried, IsDone, IsWordsDone, IsGivenUp, IsWordsGivenUp, IsTold, source_of, script_source, fault_line};
 ghost use Rattle.std.specs.Io.KnownBytes.{Appends, Keeps};
 
 use crate::answers::{Answer, put, write_answer};
@@ -103,13 +104,15 @@ fn first_base(alloc: Global) -> Result<Base, Refusal>
     ensures relations { IfOk result (λ base. relations_of base ≤ 64) }
     ensures counters { IfOk result (λ base. length (counters_of base) ≤ 128) }
     ensures first { IfOk result IsFirstBase }
+    ensures unmade { IfErr result IsUnmade }
 {
     Ok(Base::new(alloc, RELATIONS, &COUNTERS)?)
 }
 
 /// A device in memory of the size that `try` runs on, all of its bytes 0.
 pub(crate) fn first_device(alloc: Global) -> Result<MemDevice, Refusal>
-    ensures { IfOk result (λ device. length (content device) ≡ 8658944) }
+    ensures size { IfOk result (λ device. length (content device) ≡ 8658944) }
+    ensures unmade { IfErr result IsUnmade }
 {
     let len = device_bytes(PAGES, AREA_MIB) as usize;
     let bytes = vec![in alloc; 0u8; len]?;
@@ -122,7 +125,8 @@ pub(crate) fn kernel_over<D: Device + Drop>(
     mut device: D,
 ) -> Result<Kernel<D>, Refusal>
     requires { 8658944 ≤ length (D.seen device) }
-    ensures { IfOk result (λ kernel. IsFirst (state_of kernel)) }
+    ensures first { IfOk result (λ kernel. IsFirst (state_of kernel)) }
+    ensures unmade { IfErr result IsUnmade }
 {
     let base = first_base(alloc)?;
     let place = AreaPlace::of(PAGES, AREA_MIB, false);
@@ -132,7 +136,8 @@ pub(crate) fn kernel_over<D: Device + Drop>(
 
 /// The kernel that `try` runs on: over a device in memory, with nothing committed.
 fn first_kernel(alloc: Global) -> Result<Kernel<MemDevice>, Refusal>
-    ensures { IfOk result (λ kernel. IsFirst (state_of kernel)) }
+    ensures first { IfOk result (λ kernel. IsFirst (state_of kernel)) }
+    ensures unmade { IfErr result IsUnmade }
 {
     let device = first_device(alloc)?;
     kernel_over(alloc, device)
@@ -140,7 +145,8 @@ fn first_kernel(alloc: Global) -> Result<Kernel<MemDevice>, Refusal>
 
 /// Runs a script over a device in memory, and writes its transcript.
 fn try_script<O: Write>(alloc: Global, script: &Script, out: &mut O) -> Result<(), Fault>
-    ensures { OnOk result (HasTried script.now.lines.items (O.contents out.old) (O.contents out.new)) }
+    ensures tried { OnOk result (HasTried script.now.lines.items (O.contents out.old) (O.contents out.new)) }
+    ensures cut { IfErr result (IsCutTrial script.now.lines.items (O.contents out.old) (O.contents out.new)) }
 {
     let mut kernel = match first_kernel(alloc) {
         Ok(kernel) => kernel,
@@ -163,7 +169,8 @@ fn perform_try<F: Folder, I: Read, O: Write>(
     input: &mut I,
     out: &mut O,
 ) -> Result<(), Fault>
-    ensures { OnOk result (IsTried (source_of (F.known folder.old) (option_map (λ n. n.now) name.entry) (I.remaining input.old)) (O.contents out.old) (O.contents out.new)) }
+    ensures tried { OnOk result (IsTried (source_of (F.known folder.old) (option_map (λ n. n.now) name.entry) (I.remaining input.old)) (O.contents out.old) (O.contents out.new)) }
+    ensures untried { IfErr result (IsUntried (source_of (F.known folder.old) (option_map (λ n. n.now) name.entry) (I.remaining input.old)) (O.contents out.old) (O.contents out.new)) }
 {
     match script_of(alloc, folder, name, input) {
         Ok(script) => try_script(alloc, &script, out),
@@ -173,8 +180,12 @@ fn perform_try<F: Folder, I: Read, O: Write>(
 
 /// Flushes the output after a command, and answers the status.
 fn finish<O: Write, E: Write>(done: Result<(), Fault>, out: &mut O, err: &mut E) -> u8
-    ensures done { result ≡ 0 → IsOk done × Keeps (O.contents out.old) (O.contents out.new) × (err.new ≡ err.old) }
-    ensures told { result ≢ 0 → (result ≡ 1) × IsTold (E.contents err.old) (E.contents err.new) }
+    ensures kept { Keeps (O.contents out.old) (O.contents out.new) }
+    ensures done { result ≡ 0 → IsOk done × (err.new ≡ err.old) }
+    ensures status { result ≢ 0 → result ≡ 1 }
+    ensures told { result ≢ 0 → MatchResult done
+        (λ _. AppendsFront (E.contents err.old) (E.contents err.new) (fault_line Fault.Output))
+        (λ fault. AppendsFront (E.contents err.old) (E.contents err.new) (fault_line fault)) }
 {
     let flushed = out.flush();
     let fault = match done {
@@ -188,7 +199,9 @@ fn finish<O: Write, E: Write>(done: Result<(), Fault>, out: &mut O, err: &mut E)
 
 /// Writes the help or the version.
 fn show<O: Write>(text: &str, out: &mut O) -> Result<(), Fault>
-    ensures { OnOk result (Appends (O.contents out.old) (O.contents out.new) text.now) }
+    ensures shown { OnOk result (Appends (O.contents out.old) (O.contents out.new) text.now) }
+    ensures front { OnErr result (AppendsFront (O.contents out.old) (O.contents out.new) text.now) }
+    ensures fault { IfErr result (λ fault. fault ≡ Fault.Output) }
 {
     match put(out, text.as_bytes()) {
         Ok(()) => Ok(()),
@@ -213,6 +226,7 @@ pub fn perform<F: Folder, I: Read, O: Write, E: Write>(
 ) -> u8
     ensures done { result ≡ 0 → IsDone command.now (script_source (F.known folder.old) command.now (I.remaining input.old)) (O.contents out.old) (O.contents out.new) × (err.new ≡ err.old) }
     ensures told { result ≢ 0 → (result ≡ 1) × IsTold (E.contents err.old) (E.contents err.new) }
+    ensures given_up { result ≢ 0 → IsGivenUp command.now (script_source (F.known folder.old) command.now (I.remaining input.old)) (O.contents out.old) (O.contents out.new) (E.contents err.old) (E.contents err.new) }
 {
     let done = match command {
         Command::Try { script: Some(name) } => {
@@ -237,7 +251,8 @@ pub fn perform_words<F: Folder, I: Read, O: Write, E: Write>(
     ensures status { result ≤ 2 }
     ensures done { result ≡ 0 → IsWordsDone (map (λ word. word.now) words.now) (F.known folder.old) (I.remaining input.old) (O.contents out.old) (O.contents out.new) }
     ensures told { result ≡ 1 → IsTold (E.contents err.old) (E.contents err.new) }
-    ensures misused { result ≡ 2 → fits (map (λ word. word.now) words.now) ≡ false }
+    ensures given_up { result ≡ 1 → IsWordsGivenUp (map (λ word. word.now) words.now) (F.known folder.old) (I.remaining input.old) (O.contents out.old) (O.contents out.new) (E.contents err.old) (E.contents err.new) }
+    ensures misused { result ≡ 2 → IsMistaken (map (λ word. word.now) words.now) × (out.new ≡ out.old) }
 {
     match command_of(alloc, words) {
         Ok(command) => perform(alloc, &command, folder, input, out, err),

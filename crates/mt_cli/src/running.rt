@@ -1,10 +1,12 @@
 // A script, run by itself on a kernel.
-ghost use Rattle.std.specs.Prelude.{◌≡◌, IfOk, IfErr, OnOk, OnErr};
-ghost use Rattle.mt_txn.specs.State.{state_of};
+ghost use Rattle.std.specs.Prelude.{◌≡◌, ◌↔◌, IsTrue, IfOk, IfErr, OnOk, OnErr};
+ghost use Rattle.mt_base.specs.declared.refusal.Refusal.{Refusal};
+ghost use Rattle.mt_txn.specs.State.{state_of, HasCalled};
 ghost use Rattle.mt_txn.specs.Ends.{HasEnded, IsStepped};
 ghost use Rattle.mt_txn.specs.Commits.{IsForced};
 ghost use Rattle.mt_txn.specs.Aborts.{IsAbortStepped};
-ghost use Rattle.mt_cli.specs.Runs.{IsCallAnswered, HasMadeDurable, IsCommitAnswered, HasUndoneAll, IsAborted, IsAbortAnswered, IsAnsweredOutside, IsAnsweredWithin, IsAnswered, IsLeft, IsStopped, IsTold, IsEnded, IsCut, IsCutAtEnd, IsCutRun, HasRunLines, HasRun, open_after};
+ghost use Rattle.mt_cli.specs.declared.answers.Answer.{Answer};
+ghost use Rattle.mt_cli.specs.Runs.{IsCallAnswered, HasMadeDurable, IsCommitAnswered, Undoes, HasUndoneAll, IsAborted, IsAbortAnswered, IsAnsweredOutside, IsAnsweredWithin, IsAnswered, IsForceRefused, IsForceHalted, IsCommitHalted, IsUndoHalted, IsAbortHalted, IsHaltedWithin, IsHalted, IsLeft, IsFailureTold, IsStopped, IsTold, IsEnded, IsCut, IsCutAtEnd, IsCutRun, HasRunLines, HasRun, open_after};
 
 use crate::answers::{Answer, write_answer};
 use crate::lines::Line;
@@ -52,7 +54,8 @@ fn ask_step<D: Device>(kernel: &mut Kernel<D>, txn: TxnNo) -> Result<Stepped, Re
 
 /// A force step, asked for again where it finds no memory.
 fn ask_force<D: Device>(kernel: &mut Kernel<D>) -> Result<KernelForced, Refusal>
-    ensures { IfOk result (λ forced. IsForced (state_of kernel.old) forced (state_of kernel.new)) }
+    ensures forced { IfOk result (λ forced. IsForced (state_of kernel.old) forced (state_of kernel.new)) }
+    ensures err { OnErr result (IsForceRefused (state_of kernel.old) (state_of kernel.new)) }
 {
     for _ in 0..ASKED_AGAIN {
         match kernel.force_step() {
@@ -65,7 +68,8 @@ fn ask_force<D: Device>(kernel: &mut Kernel<D>) -> Result<KernelForced, Refusal>
 
 /// A step of an abort, asked for again where it finds no memory.
 fn ask_abort<D: Device>(kernel: &mut Kernel<D>, txn: TxnNo) -> Result<AbortStepped, Refusal>
-    ensures { IfOk result (λ stepped. IsAbortStepped (state_of kernel.old) txn stepped (state_of kernel.new)) }
+    ensures stepped { IfOk result (λ stepped. IsAbortStepped (state_of kernel.old) txn stepped (state_of kernel.new)) }
+    ensures err { OnErr result (state_of kernel.new ≡ state_of kernel.old) }
 {
     for _ in 0..ASKED_AGAIN {
         match kernel.abort_step(txn) {
@@ -79,7 +83,8 @@ fn ask_abort<D: Device>(kernel: &mut Kernel<D>, txn: TxnNo) -> Result<AbortStepp
 /// Takes an operation that was begun to its reply. Refused by `NoMemory` and `DeviceFailed`, and by
 /// `Busy` where a lock was in the way, which in a run alone none is.
 fn step_to_reply<D: Device>(kernel: &mut Kernel<D>, txn: TxnNo) -> Result<Reply, Refusal>
-    ensures { IfOk result (λ reply. HasEnded (state_of kernel.old) txn reply (state_of kernel.new)) }
+    ensures ended { IfOk result (λ reply. HasEnded (state_of kernel.old) txn reply (state_of kernel.new)) }
+    ensures err { OnErr result (state_of kernel.new ≡ state_of kernel.old) }
 {
     for _ in 0..MOST_STEPS {
         match ask_step(kernel, txn)? {
@@ -96,7 +101,8 @@ fn step_to_reply<D: Device>(kernel: &mut Kernel<D>, txn: TxnNo) -> Result<Reply,
 
 /// Makes one operation in a transaction.
 fn call<D: Device>(kernel: &mut Kernel<D>, txn: TxnNo, op: &Op) -> Result<Answer, Refusal>
-    ensures { IfOk result (λ answer. IsCallAnswered (state_of kernel.old) txn op.now answer (state_of kernel.new)) }
+    ensures answered { IfOk result (λ answer. IsCallAnswered (state_of kernel.old) txn op.now answer (state_of kernel.new)) }
+    ensures err { OnErr result (HasCalled (state_of kernel.old) txn op.now (state_of kernel.new)) }
 {
     let Ok(copy) = op.try_clone() else {
         return Ok(Answer::Refused(Refusal::NoMemory));
@@ -113,7 +119,8 @@ fn call<D: Device>(kernel: &mut Kernel<D>, txn: TxnNo, op: &Op) -> Result<Answer
 
 /// Makes force steps until a commit is durable.
 fn force_commit<D: Device>(kernel: &mut Kernel<D>, txn: TxnNo) -> Result<(), Refusal>
-    ensures { OnOk result (HasMadeDurable (state_of kernel.old) txn (state_of kernel.new)) }
+    ensures durable { OnOk result (HasMadeDurable (state_of kernel.old) txn (state_of kernel.new)) }
+    ensures err { OnErr result (IsForceHalted (state_of kernel.old) (state_of kernel.new)) }
 {
     for _ in 0..MOST_STEPS {
         match ask_force(kernel)? {
@@ -131,7 +138,8 @@ fn force_commit<D: Device>(kernel: &mut Kernel<D>, txn: TxnNo) -> Result<(), Ref
 
 /// Commits a transaction.
 fn commit<D: Device>(kernel: &mut Kernel<D>, txn: TxnNo) -> Result<Answer, Refusal>
-    ensures { IfOk result (λ answer. IsCommitAnswered (state_of kernel.old) txn answer (state_of kernel.new)) }
+    ensures answered { IfOk result (λ answer. IsCommitAnswered (state_of kernel.old) txn answer (state_of kernel.new)) }
+    ensures err { OnErr result (IsCommitHalted (state_of kernel.old) txn (state_of kernel.new)) }
 {
     match kernel.commit_begin(txn) {
         Ok(place) => {
@@ -144,7 +152,8 @@ fn commit<D: Device>(kernel: &mut Kernel<D>, txn: TxnNo) -> Result<Answer, Refus
 
 /// Takes an abort that was begun to its end.
 fn undo<D: Device>(kernel: &mut Kernel<D>, txn: TxnNo) -> Result<(), Refusal>
-    ensures { OnOk result (HasUndoneAll (state_of kernel.old) txn (state_of kernel.new)) }
+    ensures undone { OnOk result (HasUndoneAll (state_of kernel.old) txn (state_of kernel.new)) }
+    ensures err { OnErr result (Undoes txn (state_of kernel.old) (state_of kernel.new)) }
 {
     for _ in 0..MOST_STEPS {
         match ask_abort(kernel, txn)? {
@@ -160,7 +169,8 @@ fn undo<D: Device>(kernel: &mut Kernel<D>, txn: TxnNo) -> Result<(), Refusal>
 
 /// Aborts a transaction, where a line asks for it.
 fn abort<D: Device>(kernel: &mut Kernel<D>, txn: TxnNo) -> Result<Answer, Refusal>
-    ensures { IfOk result (λ answer. IsAbortAnswered (state_of kernel.old) txn answer (state_of kernel.new)) }
+    ensures answered { IfOk result (λ answer. IsAbortAnswered (state_of kernel.old) txn answer (state_of kernel.new)) }
+    ensures err { OnErr result (IsUndoHalted (state_of kernel.old) txn (state_of kernel.new)) }
 {
     match kernel.abort_begin(txn) {
         Ok(()) => {
@@ -173,7 +183,8 @@ fn abort<D: Device>(kernel: &mut Kernel<D>, txn: TxnNo) -> Result<Answer, Refusa
 
 /// Aborts the transaction that is open, where the run ends.
 fn end_open<D: Device>(kernel: &mut Kernel<D>, txn: TxnNo) -> Result<(), Refusal>
-    ensures { OnOk result (IsAborted (state_of kernel.old) txn (state_of kernel.new)) }
+    ensures aborted { OnOk result (IsAborted (state_of kernel.old) txn (state_of kernel.new)) }
+    ensures err { IfErr result (λ why. IsAbortHalted (state_of kernel.old) txn why (state_of kernel.new)) }
 {
     kernel.abort_begin(txn)?;
     undo(kernel, txn)
@@ -202,7 +213,8 @@ fn answer_within<D: Device>(
     txn: TxnNo,
     line: &Line,
 ) -> Result<Answer, Refusal>
-    ensures { IfOk result (λ answer. IsAnsweredWithin (state_of kernel.old) txn line.now answer (state_of kernel.new)) }
+    ensures answered { IfOk result (λ answer. IsAnsweredWithin (state_of kernel.old) txn line.now answer (state_of kernel.new)) }
+    ensures err { OnErr result (IsHaltedWithin (state_of kernel.old) txn line.now (state_of kernel.new)) }
 {
     match line {
         Line::Begin => Ok(Answer::Refused(Refusal::Busy)),
@@ -229,7 +241,8 @@ fn answer<D: Device>(
     live: Option<TxnNo>,
     line: &Line,
 ) -> Result<(Answer, Option<TxnNo>), Refusal>
-    ensures { IfOk result (λ told. IsAnswered session (state_of kernel.old) live line.now told.0 (state_of kernel.new) told.1) }
+    ensures answered { IfOk result (λ told. IsAnswered session (state_of kernel.old) live line.now told.0 (state_of kernel.new) told.1) }
+    ensures err { OnErr result (IsHalted (state_of kernel.old) live line.now (state_of kernel.new)) }
 {
     match live {
         None => Ok(answer_outside(kernel, session, line)),
@@ -256,7 +269,7 @@ fn end_unheard<D: Device>(kernel: &mut Kernel<D>, live: Option<TxnNo>) -> RunFau
 
 /// Writes that the device failed, and answers how the run ends.
 fn end_failed<W: Write>(writer: &mut W) -> RunFault
-    ensures { IsStopped (W.contents writer.old) (W.contents writer.new) result }
+    ensures { IsFailureTold (W.contents writer.old) (W.contents writer.new) result }
 {
     match write_answer(writer, &Answer::Refused(Refusal::DeviceFailed)) {
         Ok(()) => RunFault::Refused(Refusal::DeviceFailed),
@@ -275,7 +288,9 @@ fn end_refused<W: Write>(writer: &mut W, refusal: Refusal) -> RunFault
 }
 
 /// Whether the answer is that the device failed.
-fn is_failure(answer: &Answer) -> bool {
+fn is_failure(answer: &Answer) -> bool
+    ensures { IsTrue result ↔ (answer.now ≡ Answer.Refused Refusal.DeviceFailed) }
+{
     matches!(answer, Answer::Refused(Refusal::DeviceFailed))
 }
 
@@ -313,7 +328,7 @@ fn end_live<D: Device, W: Write>(
     ensures cut { IfErr result (IsCutAtEnd (state_of kernel.old) txn (W.contents writer.old) (W.contents writer.new) (state_of kernel.new)) }
 {
     if let Err(refusal) = end_open(kernel, txn) {
-        return Err(RunFault::Refused(refusal));
+        return Err(end_refused(writer, refusal));
     }
     match write_answer(writer, &Answer::Aborted) {
         Ok(()) => Ok(()),

@@ -1,9 +1,10 @@
 use crate::folder::MemFolder;
 use crate::perform::{first_device, kernel_over, perform_words};
-use crate::reader::{ScriptFault, read_script};
+use crate::reader::{Script, ScriptFault, read_script};
 use crate::running::{RunFault, run_alone};
 use mt_base::Refusal;
 use mt_disk::FaultDevice;
+use std::alloc::Global;
 use std::io::{self, ErrorKind, Read, Write};
 use std::process::Abort;
 use std::test::Fail;
@@ -28,6 +29,14 @@ fn run(rt: &(impl Abort + AllocGlobal), words: &[&str], script: &[u8]) -> Result
     Ok(Ran { status, out, err })
 }
 
+/// That a run left this. It borrows what it looks at, and so do the others of its kind: a test that ends at
+/// an assertion would have to drop all that it owns there.
+fn expect_ran(rt: &(impl Abort + AllocGlobal), ran: &Ran, status: u8, out: &[u8], err: &[u8]) {
+    assert_eq!(rt; ran.out.as_slice(), out);
+    assert_eq!(rt; ran.err.as_slice(), err);
+    assert_eq!(rt; ran.status, status);
+}
+
 /// The transcript of a script that is run.
 fn expect_transcript(
     rt: &(impl Abort + AllocGlobal),
@@ -35,9 +44,7 @@ fn expect_transcript(
     transcript: &[u8],
 ) -> Result<(), Fail> {
     let ran = run(rt, &["try", "s"], script)?;
-    assert_eq!(rt; ran.out.as_slice(), transcript);
-    assert_eq!(rt; ran.err.as_slice(), b"".as_slice());
-    assert_eq!(rt; ran.status, 0);
+    expect_ran(rt, &ran, 0, transcript, b"");
     Ok(())
 }
 
@@ -48,9 +55,7 @@ fn expect_bad_line(
     told: &[u8],
 ) -> Result<(), Fail> {
     let ran = run(rt, &["try", "s"], script)?;
-    assert_eq!(rt; ran.out.as_slice(), b"".as_slice());
-    assert_eq!(rt; ran.err.as_slice(), told);
-    assert_eq!(rt; ran.status, 1);
+    expect_ran(rt, &ran, 1, b"", told);
     Ok(())
 }
 
@@ -140,33 +145,34 @@ fn keys_and_lines_have_their_lengths(rt: HostRuntime) -> Result<(), Fail> {
     expect_bad_line(&rt, over.as_slice(), b"refused 18 BadLine 2\n")
 }
 
+/// That the help was shown, whatever its text.
+fn expect_shown(rt: &(impl Abort + AllocGlobal), ran: &Ran) {
+    assert_eq!(rt; ran.status, 0);
+    assert_eq!(rt; ran.err.as_slice(), b"".as_slice());
+}
+
+/// That the words were told to be wrong.
+fn expect_misused(rt: &(impl Abort + AllocGlobal), ran: &Ran) {
+    assert_eq!(rt; ran.status, 2);
+    assert_eq!(rt; ran.out.as_slice(), b"".as_slice());
+    assert!(rt; !ran.err.is_empty());
+}
+
 #[test]
 fn command_lines_have_their_statuses(rt: HostRuntime) -> Result<(), Fail> {
     let read = run(&rt, &["try"], b"")?;
-    assert_eq!(rt;
-        read.out.as_slice(),
-        b"begun\ndone\nvalue 6\ncommitted 1\n".as_slice()
-    );
-    assert_eq!(rt; read.status, 0);
+    expect_ran(&rt, &read, 0, b"begun\ndone\nvalue 6\ncommitted 1\n", b"");
     let absent = run(&rt, &["try", "t"], b"")?;
-    assert_eq!(rt;
-        absent.err.as_slice(),
-        b"refused 2 DeviceFailed\n".as_slice()
-    );
-    assert_eq!(rt; absent.status, 1);
+    expect_ran(&rt, &absent, 1, b"", b"refused 2 DeviceFailed\n");
     let version = run(&rt, &["--version"], b"")?;
-    assert_eq!(rt; version.out.as_slice(), b"mtk 0.1.0\n".as_slice());
-    assert_eq!(rt; version.status, 0);
+    expect_ran(&rt, &version, 0, b"mtk 0.1.0\n", b"");
     for words in [["try", "--help"], ["try", "-h"], ["help", "try"]] {
         let help = run(&rt, &words, b"")?;
-        assert_eq!(rt; help.status, 0);
-        assert_eq!(rt; help.err.as_slice(), b"".as_slice());
+        expect_shown(&rt, &help);
     }
     for words in [["try", "--fast"], ["fly", "s"]] {
         let fault = run(&rt, &words, b"")?;
-        assert_eq!(rt; fault.status, 2);
-        assert_eq!(rt; fault.out.as_slice(), b"".as_slice());
-        assert!(rt; !fault.err.is_empty());
+        expect_misused(&rt, &fault);
     }
     Ok(())
 }
@@ -195,13 +201,12 @@ fn a_failing_reader_is_refusal_2(rt: HostRuntime) -> Result<(), Fail> {
     let mut input = Broken { rest: b"begin\n" };
     let words = ["try"];
     let status = perform_words(alloc, &words, &mut folder, &mut input, &mut out, &mut err);
-    assert_eq!(rt; status, 1);
-    assert_eq!(rt; out.as_slice(), b"".as_slice());
-    assert_eq!(rt; err.as_slice(), b"refused 2 DeviceFailed\n".as_slice());
+    let ran = Ran { status, out, err };
+    expect_ran(&rt, &ran, 1, b"", b"refused 2 DeviceFailed\n");
     Ok(())
 }
 
-/// A writer that has room for so many bytes and then fails.
+/// A writer that has room for so many bytes and then fails; nor is it flushed once it is full.
 #[derive(Drop)]
 struct Narrow {
     room: usize,
@@ -219,33 +224,82 @@ impl Write for Narrow {
     }
 
     fn flush(&mut self) -> io::Result<()> {
+        if self.room == 0 {
+            return Err(io::Error::from(ErrorKind::Other));
+        }
         Ok(())
     }
 }
 
-#[test]
-fn a_failing_writer_has_a_beginning_of_the_transcript(rt: HostRuntime) -> Result<(), Fail> {
+/// A script that is run over a writer with this room, and what it left.
+fn run_narrow(rt: &(impl Abort + AllocGlobal), room: usize, mut script: &[u8]) -> Ran {
     let alloc = rt.alloc();
+    let mut folder = MemFolder::new(alloc);
+    let taken = Vec::new(alloc);
+    let mut out = Narrow { room, taken };
+    let mut err = Vec::new(alloc);
+    let words = ["try"];
+    let status = perform_words(alloc, &words, &mut folder, &mut script, &mut out, &mut err);
+    let Narrow { room: _, taken } = out;
+    Ran {
+        status,
+        out: taken,
+        err,
+    }
+}
+
+#[test]
+fn a_failing_writer_has_a_beginning_of_the_transcript(rt: HostRuntime) {
     let transcript = b"begun\ndone\ncommitted 1\nbegun\ndone\naborted\n".as_slice();
     let script = b"begin\ninsert 0 a x\ncommit\nbegin\ninsert 0 b y\n".as_slice();
-    for room in [0, 8, transcript.len() - 1] {
-        let mut folder = MemFolder::new(alloc);
-        let mut out = Narrow {
-            room,
-            taken: Vec::new(alloc),
-        };
-        let mut err = Vec::new(alloc);
-        let mut input = script;
-        let words = ["try"];
-        let status = perform_words(alloc, &words, &mut folder, &mut input, &mut out, &mut err);
-        assert_eq!(rt; status, 1);
-        assert_eq!(rt; out.taken.as_slice(), &transcript[..room]);
-        assert_eq!(rt;
-            err.as_slice(),
-            b"the output cannot be written\n".as_slice()
-        );
+    for room in [0, 8, transcript.len() - 1, transcript.len()] {
+        let ran = run_narrow(&rt, room, script);
+        let told = b"the output cannot be written\n";
+        expect_ran(&rt, &ran, 1, &transcript[..room], told);
     }
-    Ok(())
+}
+
+/// What two scripts left that were run one after the other, the first over a writer with little room.
+#[derive(Drop)]
+struct Both {
+    unheard: Result<(), RunFault>,
+    front: Vec<u8>,
+    heard: Result<(), RunFault>,
+    out: Vec<u8>,
+}
+
+/// Runs both on one kernel.
+fn run_both(
+    rt: &(impl Abort + AllocGlobal),
+    first: &Script,
+    second: &Script,
+) -> Result<Both, Fail> {
+    let alloc = rt.alloc();
+    let mut kernel = kernel_over(alloc, first_device(alloc)?)?;
+    let taken = Vec::new(alloc);
+    let mut narrow = Narrow { room: 12, taken };
+    let unheard = run_alone(&mut kernel, 1, first, &mut narrow);
+    let mut out = Vec::new(alloc);
+    let heard = run_alone(&mut kernel, 1, second, &mut out);
+    let _device = kernel.into_device();
+    let Narrow { room: _, taken } = narrow;
+    Ok(Both {
+        unheard,
+        front: taken,
+        heard,
+        out,
+    })
+}
+
+/// That the first was cut short, and the second met nothing of it.
+fn expect_unheard(rt: &(impl Abort + AllocGlobal), both: &Both) {
+    assert!(rt; matches!(both.unheard, Err(RunFault::Output)));
+    assert_eq!(rt; both.front.as_slice(), b"begun\ndone\nd".as_slice());
+    assert!(rt; both.heard.is_ok());
+    assert_eq!(rt;
+        both.out.as_slice(),
+        b"begun\nmissing\ncommitted 1\n".as_slice()
+    );
 }
 
 #[test]
@@ -255,75 +309,92 @@ fn a_transaction_that_nobody_hears_is_aborted(rt: HostRuntime) -> Result<(), Fai
     let mut second = b"begin\nget 0 a\ncommit\n".as_slice();
     let first = read_script(alloc, &mut first)?;
     let second = read_script(alloc, &mut second)?;
-    let mut kernel = kernel_over(alloc, first_device(alloc)?)?;
-    let mut narrow = Narrow {
-        room: 12,
-        taken: Vec::new(alloc),
-    };
-    let unheard = run_alone(&mut kernel, 1, &first, &mut narrow);
-    let mut out = Vec::new(alloc);
-    let heard = run_alone(&mut kernel, 1, &second, &mut out);
-    let _device = kernel.into_device();
-    assert!(rt; matches!(unheard, Err(RunFault::Output)));
-    assert_eq!(rt; narrow.taken.as_slice(), b"begun\ndone\nd".as_slice());
-    assert!(rt; heard.is_ok());
-    assert_eq!(rt; out.as_slice(), b"begun\nmissing\ncommitted 1\n".as_slice());
+    let both = run_both(&rt, &first, &second)?;
+    expect_unheard(&rt, &both);
     Ok(())
 }
 
-/// Runs one insert and its commit over a device that fails at a call, and answers how the run ended
-/// and what was written.
+/// How a run ended, and what was written.
+#[derive(Drop)]
+struct Failing {
+    ran: Result<(), RunFault>,
+    out: Vec<u8>,
+}
+
+/// Runs a script over a device that fails at a call.
 fn run_failing(
     rt: &(impl Abort + AllocGlobal),
+    script: &Script,
     call: u64,
-) -> Result<(Result<(), RunFault>, Vec<u8>), Fail> {
+) -> Result<Failing, Fail> {
     let alloc = rt.alloc();
-    let mut bytes = b"begin\ninsert 0 a x\ncommit\n".as_slice();
-    let script = read_script(alloc, &mut bytes)?;
     let device = FaultDevice::new(first_device(alloc)?, call);
     let mut kernel = kernel_over(alloc, device)?;
     let mut out = Vec::new(alloc);
-    let ran = run_alone(&mut kernel, 1, &script, &mut out);
+    let ran = run_alone(&mut kernel, 1, script, &mut out);
     let _device = kernel.into_device();
-    Ok((ran, out))
+    Ok(Failing { ran, out })
+}
+
+/// That the device's failure ended the run, and is the last line.
+fn expect_failed(rt: &(impl Abort + AllocGlobal), failing: &Failing) {
+    assert!(rt; matches!(failing.ran, Err(RunFault::Refused(Refusal::DeviceFailed))));
+    assert_eq!(rt;
+        failing.out.as_slice(),
+        b"begun\ndone\nrefused 2 DeviceFailed\n".as_slice()
+    );
+}
+
+/// That the run ended well.
+fn expect_committed(rt: &(impl Abort + AllocGlobal), failing: &Failing) {
+    assert!(rt; failing.ran.is_ok());
+    assert_eq!(rt;
+        failing.out.as_slice(),
+        b"begun\ndone\ncommitted 1\n".as_slice()
+    );
 }
 
 #[test]
 fn a_failing_device_ends_the_run(rt: HostRuntime) -> Result<(), Fail> {
+    let mut bytes = b"begin\ninsert 0 a x\ncommit\n".as_slice();
+    let script = read_script(rt.alloc(), &mut bytes)?;
     // six calls begin the area, four more make the commit durable
     for call in 7..11 {
-        let (ran, out) = run_failing(&rt, call)?;
-        assert!(rt; matches!(ran, Err(RunFault::Refused(Refusal::DeviceFailed))));
-        assert_eq!(rt;
-            out.as_slice(),
-            b"begun\ndone\nrefused 2 DeviceFailed\n".as_slice()
-        );
+        let failing = run_failing(&rt, &script, call)?;
+        expect_failed(&rt, &failing);
     }
-    let (ran, out) = run_failing(&rt, 11)?;
-    assert!(rt; ran.is_ok());
-    assert_eq!(rt; out.as_slice(), b"begun\ndone\ncommitted 1\n".as_slice());
+    let well = run_failing(&rt, &script, 11)?;
+    expect_committed(&rt, &well);
     Ok(())
+}
+
+/// How many lines a script of these bytes has.
+fn count_lines(alloc: Global, mut bytes: &[u8]) -> Result<usize, ScriptFault> {
+    let script = read_script(alloc, &mut bytes)?;
+    Ok(script.lines().len())
+}
+
+/// That these bytes are a script of as many lines as there can be.
+fn expect_full(rt: &(impl Abort + AllocGlobal), bytes: &[u8]) {
+    let count = count_lines(rt.alloc(), bytes);
+    assert!(rt; matches!(count, Ok(100_000)));
+}
+
+/// That these bytes have one line more.
+fn expect_overfull(rt: &(impl Abort + AllocGlobal), bytes: &[u8]) {
+    let count = count_lines(rt.alloc(), bytes);
+    assert!(rt; matches!(count, Err(ScriptFault::Refused(Refusal::BadLine(100_001)))));
 }
 
 #[test]
 fn a_script_has_100_000_lines(rt: HostRuntime) -> Result<(), Fail> {
-    let alloc = rt.alloc();
-    let mut bytes = Vec::new(alloc);
+    let mut bytes = Vec::new(rt.alloc());
     for _ in 0..100_000 {
         bytes.extend_from_slice(b"abort\n")?;
     }
-    let mut whole = bytes.as_slice();
-    let script = read_script(alloc, &mut whole)?;
-    assert_eq!(rt; script.lines().len(), 100_000);
+    expect_full(&rt, bytes.as_slice());
     bytes.extend_from_slice(b"abort\n")?;
-    let mut over = bytes.as_slice();
-    let refused = read_script(alloc, &mut over);
-    assert!(rt;
-        matches!(
-            refused,
-            Err(ScriptFault::Refused(Refusal::BadLine(100_001)))
-        )
-    );
+    expect_overfull(&rt, bytes.as_slice());
     Ok(())
 }
 

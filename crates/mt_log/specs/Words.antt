@@ -81,7 +81,7 @@ stands_at log = (log.place.start, log.place.end, log.next, map (λ batch. batch.
 
 -- what a step that gave this answer did
 abbrev pub IsStep : Log → Forced → Log → Type 0
-IsStep old Nothing new = (calls_left old ≡ 0) × (waiting old ≡ []) × (durable new ≡ durable old) × (in_flight new ≡ []) × (waiting new ≡ []) × (used new ≡ used old)
+IsStep old Nothing new = (calls_left old ≡ 0) × (waiting old ≡ []) × (durable new ≡ durable old) × (in_flight new ≡ []) × (waiting new ≡ []) × (used new ≡ used old) × (calls_left new ≡ 0)
 IsStep old More new = (durable new ≡ durable old) × (calls_left old ≡ 0 → (in_flight new ≡ waiting old) × (waiting new ≡ []) × (calls_left new ≡ 3))
     × (0 < calls_left old → (in_flight new ≡ in_flight old) × (waiting new ≡ waiting old) × (calls_left new + 1 ≡ calls_left old) × (0 < calls_left new) × (used new ≡ used old))
 IsStep old (Durable pos) new = (calls_left old ≡ 1) × (calls_left new ≡ 0) × (durable new ≡ durable old ++ in_flight old) × (in_flight new ≡ []) × (waiting new ≡ waiting old) × (used new ≡ used old) × (pos ≡ length (durable new))

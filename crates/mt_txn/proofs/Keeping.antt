@@ -71,7 +71,7 @@ pub called_keeps : (s : State) (t : ℕ) (op : Op) (z : State) → HasCalled s t
 called_keeps s t op z called =
     let to = called.live in
     same_keeps s z (ap commits called.rest)
-    (ap standing to.6 ∙ standing-set s.live to.0 to.1 (with_running to.1 to.2 op) to.4 to.5 refl)
+    (ap standing to.5 ∙ standing-set s.live to.0 to.1 (with_running to.1 (s.operations + 1) op) to.3 to.4 refl)
     (ap (λ (x : State). x.held) called.rest)
 
 -- ---- an operation's end

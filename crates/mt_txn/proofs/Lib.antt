@@ -3,6 +3,7 @@ pub mod Effects
 pub mod Finishing
 pub mod Endings
 pub mod Leaving
+pub mod Logging
 pub mod Settled
 pub mod Undoing
 pub mod Bounds

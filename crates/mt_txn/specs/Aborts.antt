@@ -1,7 +1,8 @@
 -- What an abort does.
-use Rattle.std.specs.Prelude.{ℕ, ◌≡◌, ◌<◌, ◌+◌, ◌⊎◌, List, length, Option, Some, None, if◌then◌else◌, slice_set, slice_index_or, remove, take, IsSome}
+use Rattle.std.specs.Prelude.{ℕ, ◌≡◌, ◌<◌, ◌+◌, ◌⊎◌, ◌++◌, ◌∷◌, [], List, length, Option, Some, None, if◌then◌else◌, slice_set, slice_index_or, remove, take, IsSome}
 use Rattle.mt_base.specs.declared.refusal.Refusal.{Refusal}
 use Rattle.mt_base.specs.declared.refusal.Refusal.TheVariants as refusal
+use Rattle.mt_frame.specs.declared.records.Record.TheVariants.{AbortEnd}
 use Rattle.mt_model.specs.declared.operations.Op.{Op}
 use Rattle.mt_model.specs.Model.{inverse_of, base_after}
 use Rattle.mt_txn.specs.declared.answers.AbortStepped.{AbortStepped}
@@ -59,7 +60,7 @@ pub record HasLeft (s : State) (i : ℕ) (l : Party) (z : State) : Type 0 where
   pub idle : l.running ≡ None
   pub nothing_left : effects l.calls ≡ 0
   pub live : z.live ≡ remove s.live i
-  pub appended : z.appended ≡ s.appended + 1
+  pub appended : z.appended ≡ s.appended ++ AbortEnd l.number ∷ []
   pub used : z.used ≡ s.used + 14
   pub reserved : z.reserved + l.reserved ≡ s.reserved
   pub rest : z ≡ record s { live = z.live; appended = z.appended; used = z.used; reserved = z.reserved }

@@ -1,5 +1,5 @@
 -- What an operation's end does.
-use Rattle.std.specs.Prelude.{ℕ, ◌≡◌, ◌<◌, ◌+◌, cond, List, length, Option, Some, None, is_some, IsSome, IfSome, ◌≤◌, slice_set, slice_index_or}
+use Rattle.std.specs.Prelude.{ℕ, ◌≡◌, ◌<◌, ◌+◌, ◌++◌, cond, List, length, Option, Some, None, is_some, option_to_list, IsSome, IfSome, ◌≤◌, slice_set, slice_index_or}
 use Rattle.std.specs.Option.{option_map, option_map_or}
 use Rattle.mt_base.specs.declared.refusal.Refusal.{Refusal}
 use Rattle.mt_base.specs.declared.refusal.Refusal.TheVariants as refusal
@@ -41,10 +41,12 @@ idle_cause (Some l) = unless (is_some l.running) refusal.Stranger
 abbrev pub step_cause : State → ℕ → Option Refusal
 step_cause s t = first_of (open_cause s t) (idle_cause (live_at s t))
 
--- the operation under way at a place has acted once on the held base, and ended; all else is as before
+-- the operation under way at a place has acted once on the held base, and ended, with a record of it where it
+-- did anything; all else is as before
 pub record IsFinished (s : State) (i : ℕ) (l : Party) (r : Running) (reply : Reply) (z : State) : Type 0 where
   pub held : z.held ≡ base_after s.held r.op
   pub live : z.live ≡ slice_set s.live i (noted l reply (given_back_of r.op reply))
+  pub appended : z.appended ≡ s.appended ++ option_to_list (end_record l.number r.number r.op reply)
   pub used : z.used ≡ s.used + end_bytes r.op reply
   pub reserved : z.reserved + given_back_of r.op reply ≡ s.reserved
   pub rest : z ≡ record s { held = z.held; live = z.live; appended = z.appended; used = z.used; reserved = z.reserved }

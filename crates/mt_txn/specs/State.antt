@@ -4,7 +4,8 @@ use Rattle.mt_base.specs.Limits.{IsKey, IsValue, IsStep}
 use Rattle.mt_base.specs.declared.refusal.Refusal.{Refusal}
 use Rattle.mt_base.specs.declared.refusal.Refusal.TheVariants as refusal
 use Rattle.mt_disk.specs.declared.device.Device.{Ghosts}
-use Rattle.mt_log.specs.Words.{used, area_size, has_failed, appended, durable}
+use Rattle.mt_frame.specs.declared.records.Record.{Record}
+use Rattle.mt_log.specs.Words.{used, area_size, has_failed, appended, durable, in_flight, calls_left}
 use Rattle.mt_log.specs.declared.log.Log.{Log}
 use Rattle.mt_model.specs.declared.history.Committed.{Committed}
 use Rattle.mt_model.specs.declared.tables.Base as code
@@ -29,10 +30,15 @@ pub record State : Type 0 where
   pub book : List Committed
   pub committing : List Committing
   pub live : List Party
+  -- how many transactions were begun, and how many operations were called
   pub begun : ℕ
-  -- records of the log: how many were appended, and how many of them are durable
-  pub appended : ℕ
+  pub operations : ℕ
+  -- the log's records, how many of them are in a batch, and how many are durable
+  pub appended : List Record
+  pub batched : ℕ
   pub durable : ℕ
+  -- device calls until the batch that is being forced is durable, or 0
+  pub force_left : ℕ
   -- bytes of the log's area
   pub used : ℕ
   pub reserved : ℕ
@@ -48,8 +54,11 @@ state_of k = record {
   committing = k.committing.items;
   live = k.live.items;
   begun = k.begun;
-  appended = length (appended k.log);
+  operations = k.operations;
+  appended = appended k.log;
+  batched = length (durable k.log) + length (in_flight k.log);
   durable = length (durable k.log);
+  force_left = calls_left k.log;
   used = used k.log;
   reserved = k.reserved;
   area = area_size k.log;
@@ -66,8 +75,11 @@ fresh_state base log = record {
   committing = [];
   live = [];
   begun = 0;
-  appended = length (appended log);
+  operations = 0;
+  appended = appended log;
+  batched = length (durable log) + length (in_flight log);
   durable = length (durable log);
+  force_left = calls_left log;
   used = used log;
   reserved = 0;
   area = area_size log;
@@ -212,8 +224,10 @@ call_cause s t op =
 
 -- ---- what the calls do
 
--- the operation of the open transaction t is under way, and all else is as before
+-- the operation of the open transaction t is under way, with the next number, and all else is as before
 pub record HasCalled (s : State) (t : ℕ) (op : Op) (z : State) : Type 0 where
-  pub live : (i : ℕ) × (l : Party) × (number : ℕ) × (place_in s.live t ≡ Some i) × (i < length s.live) × (l ≡ slice_index_or s.live i l) × (z.live ≡ slice_set s.live i (with_running l number op))
+  pub live : (i : ℕ) × (l : Party) × (place_in s.live t ≡ Some i) × (i < length s.live) × (l ≡ slice_index_or s.live i l)
+      × (z.live ≡ slice_set s.live i (with_running l (s.operations + 1) op))
+  pub operations : z.operations ≡ s.operations + 1
   pub reserved : z.reserved ≡ s.reserved + log_need_of op
-  pub rest : z ≡ record s { live = z.live; reserved = z.reserved }
+  pub rest : z ≡ record s { live = z.live; operations = z.operations; reserved = z.reserved }

@@ -48,6 +48,7 @@ impl<D: Device> Kernel<D> {
         ensures kept { OnOk result (Keeps (state_of self.old) (state_of self.new)) }
         ensures undo { OnOk result (KeepsUndo Whoever (state_of self.old) (state_of self.new)) }
         ensures work { OnOk result (work_left (state_of self.new) txn ≤ 256) }
+        ensures device { self.new.device ≡ self.old.device }
         ensures err { OnErr result (state_of self.new ≡ state_of self.old) }
     {
         let place = self.open_place(txn)?;
@@ -78,7 +79,8 @@ impl<D: Device> Kernel<D> {
     fn give_up(&mut self, place: usize)
         requires within { place < length self.old.live.items }
         requires runs { (l : Party) → l ≡ slice_index_or self.old.live.items place l → IsSome l.running }
-        ensures { (l : Party) → l ≡ slice_index_or self.old.live.items place l → HasGivenUp (state_of self.old) place l (state_of self.new) }
+        ensures device { self.new.device ≡ self.old.device }
+        ensures given_up { (l : Party) → l ≡ slice_index_or self.old.live.items place l → HasGivenUp (state_of self.old) place l (state_of self.new) }
     {
         let given_back = self.live[place].give_up();
         self.reserved -= given_back;
@@ -90,6 +92,7 @@ impl<D: Device> Kernel<D> {
         requires idle { (l : Party) → l ≡ slice_index_or self.old.live.items place l → l.running ≡ None }
         requires call { (l : Party) → l ≡ slice_index_or self.old.live.items place l → IsLastEffect l at }
         ensures undone { OnOk result ((l : Party) → l ≡ slice_index_or self.old.live.items place l → HasUndone (state_of self.old) place l (state_of self.new)) }
+        ensures device { self.new.device ≡ self.old.device }
         ensures err { OnErr result (state_of self.new ≡ state_of self.old) }
         ensures only_memory { IfErr result (λ why. why ≡ Refusal.NoMemory) }
     {
@@ -106,6 +109,7 @@ impl<D: Device> Kernel<D> {
         requires idle { (l : Party) → l ≡ slice_index_or self.old.live.items place l → l.running ≡ None }
         requires nothing { (l : Party) → l ≡ slice_index_or self.old.live.items place l → effects l.calls ≡ 0 }
         ensures left { OnOk result ((l : Party) → l ≡ slice_index_or self.old.live.items place l → HasLeft (state_of self.old) place l (state_of self.new)) }
+        ensures device { self.new.device ≡ self.old.device }
         ensures err { OnErr result (state_of self.new ≡ state_of self.old) }
         ensures only_memory { IfErr result (λ why. why ≡ Refusal.NoMemory) }
     {
@@ -129,6 +133,7 @@ impl<D: Device> Kernel<D> {
         ensures undo { IfOk result (λ stepped. KeepsAbortUndo (state_of self.old) txn stepped (state_of self.new)) }
         ensures work { IfOk result (λ stepped. LowersAbortWork stepped (work_left (state_of self.old) txn) (work_left (state_of self.new) txn)) }
         ensures kept { OnOk result (IsSingle (state_of self.old) → Keeps (state_of self.old) (state_of self.new)) }
+        ensures device { self.new.device ≡ self.old.device }
         ensures err { OnErr result (state_of self.new ≡ state_of self.old) }
     {
         let place = self.aborting_place(txn)?;

@@ -170,8 +170,9 @@ impl<D: Device> Kernel<D> {
         Ok(place)
     }
 
-    /// Calls an operation in an open transaction; [`Kernel::step`] brings it to its end. It reserves
-    /// the log bytes of the operation and of its inverse.
+    /// Calls an operation in an open transaction; [`Kernel::step`] brings it to its end. Operations are
+    /// numbered in the order of their calls, from 1. It reserves the log bytes of the operation and of its
+    /// inverse.
     ///
     /// Refused, in this order: 2 where the device has failed, 15 where the transaction is not open, 16
     /// where an operation of it is unfinished, 17 where it has started 256, 6 or 7 where the relation
@@ -186,6 +187,7 @@ impl<D: Device> Kernel<D> {
         ensures kept { OnOk result (Keeps (state_of self.old) (state_of self.new)) }
         ensures undo { OnOk result (KeepsUndo Whoever (state_of self.old) (state_of self.new)) }
         ensures work { OnOk result (work_left (state_of self.new) txn ≡ 1) }
+        ensures device { self.new.device ≡ self.old.device }
         ensures err { OnErr result (state_of self.new ≡ state_of self.old) }
     {
         let place = self.place_for_call(txn, &op)?;

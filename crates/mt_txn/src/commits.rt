@@ -93,6 +93,7 @@ impl<D: Device> Kernel<D> {
         ensures begun { OnOk result (HasBegunCommit (state_of self.old) txn (state_of self.new)) }
         ensures kept { OnOk result (IsSingle (state_of self.old) → Keeps (state_of self.old) (state_of self.new)) }
         ensures undo { OnOk result (KeepsUndo (OtherThan txn) (state_of self.old) (state_of self.new)) }
+        ensures device { self.new.device ≡ self.old.device }
         ensures err { OnErr result (state_of self.new ≡ state_of self.old) }
     {
         let place = self.idle_place(txn)?;
@@ -109,7 +110,8 @@ impl<D: Device> Kernel<D> {
 
     /// Makes one step of a force, with one call of the device: what was appended before its first step
     /// becomes durable with its last, which answers the transactions whose commits are durable now. They
-    /// are in the book then, in the order of their commits, and live no more.
+    /// are in the book then, in the order of their commits, and live no more. A force has four steps, and
+    /// none is made where all that was appended is durable.
     ///
     /// Refused, in this order: 2 where the device fails in this call or has failed, 1 for want of memory. After 1
     /// nothing has changed, and the device was not called. After 2 the transactions, the book and the base are

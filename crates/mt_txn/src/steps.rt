@@ -1,8 +1,8 @@
-ghost use Rattle.std.specs.Prelude.{◌≡◌, ◌≢◌, ◌<◌, ◌≤◌, ◌+◌, length, IfOk, IfErr, IfSome, OnOk, OnErr, IsSome, None, Some, slice_index_or};
+ghost use Rattle.std.specs.Prelude.{◌≡◌, ◌≢◌, ◌<◌, ◌≤◌, ◌+◌, ◌++◌, length, option_to_list, IfOk, IfErr, IfSome, OnOk, OnErr, IsSome, None, Some, slice_index_or};
 ghost use Rattle.mt_base.specs.declared.refusal.Refusal.{Refusal};
 ghost use Rattle.mt_frame.specs.Lengths.{record_length};
 ghost use Rattle.mt_frame.specs.Grammar.{IsRecord};
-ghost use Rattle.mt_log.specs.Words.{room, used, area_size, stands_at, durable, has_failed};
+ghost use Rattle.mt_log.specs.Words.{room, used, area_size, stands_at, appended, durable, in_flight, calls_left, has_failed};
 ghost use Rattle.std.specs.Option.{option_map_or};
 ghost use Rattle.mt_txn.specs.Sound.{IsRunningWithin};
 ghost use Rattle.mt_model.specs.Model.{reply_of, base_after};
@@ -60,7 +60,10 @@ fn append_end(log: &mut Log, entry: Option<Record>)
     requires fits { IsSome entry → used log.old + 2149 < area_size log.old }
     requires room { 2144 ≤ room log.old }
     ensures used { used log.new ≡ used log.old + option_map_or (λ e. 5 + record_length e) entry 0 }
+    ensures appended { appended log.new ≡ appended log.old ++ option_to_list entry }
+    ensures batch { in_flight log.new ≡ in_flight log.old }
     ensures durable { durable log.new ≡ durable log.old }
+    ensures calls { calls_left log.new ≡ calls_left log.old }
     ensures area { area_size log.new ≡ area_size log.old }
     ensures stands { stands_at log.new ≡ stands_at log.old }
     ensures failed { has_failed log.new ≡ has_failed log.old }
@@ -128,6 +131,7 @@ impl<D: Device> Kernel<D> {
         requires room { 2144 ≤ room self.old.log }
         ensures ended { OnOk result ((l : Party) (r : Running) → IsUnderWay self.old.live.items place l r → IsFinished (state_of self.old) place l r ending.reply (state_of self.new)) }
         ensures answer { IfOk result (λ stepped. stepped ≡ Stepped.Replied ending.reply) }
+        ensures device { self.new.device ≡ self.old.device }
         ensures err { OnErr result (state_of self.new ≡ state_of self.old) }
         ensures only_memory { IfErr result (λ why. why ≡ Refusal.NoMemory) }
     {
@@ -151,6 +155,7 @@ impl<D: Device> Kernel<D> {
         ensures undo { OnOk result (KeepsUndo (IsApart (state_of self.old) txn) (state_of self.old) (state_of self.new)) }
         ensures work { IfOk result (λ stepped. LowersWork stepped (work_left (state_of self.old) txn) (work_left (state_of self.new) txn)) }
         ensures kept { OnOk result (IsSingle (state_of self.old) → Keeps (state_of self.old) (state_of self.new)) }
+        ensures device { self.new.device ≡ self.old.device }
         ensures err { OnErr result (state_of self.new ≡ state_of self.old) }
     {
         let place = self.running_place(txn)?;

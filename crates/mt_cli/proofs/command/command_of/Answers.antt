@@ -1,12 +1,21 @@
-use Rattle.std.proofs.Common.{rules, ◌≡◌, ◌∙◌, refl, ap, sym, Bool, true, List, ℕ, map, option_map, Option, Some, None}
-use Rattle.clap.specs.Words.{App, Text, Row, is_simple, takes, subcommand_of, subcommand_rows_of, kind_of}
+use Rattle.std.proofs.Common.{◌≡◌, ◌∙◌, refl, ap, subst, true, List, map}
+use Rattle.clap.specs.Words.{App, Text, is_simple, is_simple_and_free, takes, subcommand_of, fault_of, HasKind}
+use Rattle.clap.specs.declared.error.Error.{Error}
 use Rattle.clap.proofs.OnLiterals.{clap_on_literals}
-use Rattle.mt_cli.specs.CommandLines.{program, fits, script_in, IsFaultAt}
+use Rattle.mt_cli.specs.CommandLines.{program, fits, faults, script_in}
 use Rattle.mt_cli.proofs.command.command_of.Goals as goal
 
 program_is_simple : is_simple program ≡ true
 unfolding clap_on_literals
 program_is_simple = refl
+
+program_is_free : is_simple_and_free program ≡ true
+unfolding clap_on_literals
+program_is_free = refl
+
+has_fault : (app : App) (words : List Text) (error : Error) → app ≡ program → (is_simple_and_free app ≡ true → HasKind (fault_of app words) error) → HasKind (faults words) error
+unfolding faults
+has_fault app words error is has = subst (λ (a : App). HasKind (fault_of a words) error) is (has (ap is_simple_and_free is ∙ program_is_free))
 
 at_fault : (app : App) (words : List Text) → app ≡ program → fits words ≡ true → takes app words ≡ true
 unfolding fits
@@ -19,8 +28,14 @@ returns-in_ok-script-in-Ok-clause-command c =
 
 pub returns-in-Err-clause-command : goal.returns-in-Err-clause-command
 returns-in-Err-clause-command c =
-    c.shown.ensures.command (map (λ word. word.now) c.args.words.now) (λ fit. c.in-Err.ensures.passes (at_fault _ _ c.in_ok-parser.ensures fit))
+    c.shown.ensures.command (map (λ word. word.now) c.args.words.now) (record {
+      passes = λ fit. c.in-Err.ensures.passes (at_fault _ _ c.in_ok-parser.ensures fit);
+      kind = has_fault _ _ c.in-Err.error c.in_ok-parser.ensures c.in-Err.ensures.kinds;
+    })
 
 pub returns-in-Err-clause-fault : goal.returns-in-Err-clause-fault
 returns-in-Err-clause-fault c =
-    c.shown.ensures.fault (map (λ word. word.now) c.args.words.now) (λ fit. c.in-Err.ensures.passes (at_fault _ _ c.in_ok-parser.ensures fit))
+    c.shown.ensures.fault (map (λ word. word.now) c.args.words.now) (record {
+      passes = λ fit. c.in-Err.ensures.passes (at_fault _ _ c.in_ok-parser.ensures fit);
+      kind = has_fault _ _ c.in-Err.error c.in_ok-parser.ensures c.in-Err.ensures.kinds;
+    })

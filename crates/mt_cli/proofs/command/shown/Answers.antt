@@ -1,14 +1,19 @@
-use Rattle.std.proofs.Common.{rules, ◌≡◌, ◌≢◌, Bool, true, false, refl}
+use Rattle.std.proofs.Common.{rules, ◌≡◌, ◌≢◌, ◌⊎◌, inl, inr, Bool, true, false, refl}
 use Rattle.std.proofs.lemmas.Result.{err_from_is_err_and}
-use Rattle.clap.specs.Words.{kind_of}
+use Rattle.clap.specs.Words.{kind_of, IsAmong, Kinds}
 use Rattle.clap.specs.declared.error.kind.ErrorKind.{ErrorKind}
 use Rattle.clap.specs.declared.error.kind.ErrorKind.TheVariants.{OutOfMemory}
-use Rattle.mt_cli.specs.CommandLines.{fits, IsFaultAt}
+use Rattle.mt_cli.specs.CommandLines.{fits, faults}
 use Rattle.mt_cli.proofs.command.shown.Goals as goal
 
 no_command : (kind : ErrorKind) (t : Bool) → (t ≡ true → kind ≡ OutOfMemory) → kind ≢ OutOfMemory → t ≡ false
 no_command kind false fault other = refl
 no_command kind true fault other = absurd (other (fault refl))
+
+-- of the kinds that an error may have, one that is not want of memory
+among : (kind : ErrorKind) (kinds : Kinds) → (kind ≡ OutOfMemory) ⊎ IsAmong kind kinds → kind ≢ OutOfMemory → IsAmong kind kinds
+among kind kinds (inl is) other = absurd (other is)
+among kind kinds (inr is) other = is
 
 pub returns-in_err-text-clause-fault : goal.returns-in_err-text-clause-fault
 returns-in_err-text-clause-fault c = λ words at.
@@ -16,7 +21,11 @@ returns-in_err-text-clause-fault c = λ words at.
     rw (p.1, p.2) refl
 
 pub returns-then-use_stderr-clause-fault : goal.returns-then-use_stderr-clause-fault
-returns-then-use_stderr-clause-fault c = λ words at. no_command (kind_of c.args.error.now) (fits words) at (λ e. search rules)
+returns-then-use_stderr-clause-fault c = λ words at.
+    let other : kind_of c.args.error.now ≢ OutOfMemory = λ e. search rules in
+    (no_command (kind_of c.args.error.now) (fits words) at.passes other, kind_of c.args.error.now, among _ (faults words) at.kind other, search rules)
 
 pub returns-else-use_stderr-clause-command : goal.returns-else-use_stderr-clause-command
-returns-else-use_stderr-clause-command c = λ words at. no_command (kind_of c.args.error.now) (fits words) at (λ e. search rules)
+returns-else-use_stderr-clause-command c = λ words at.
+    let other : kind_of c.args.error.now ≢ OutOfMemory = λ e. search rules in
+    (no_command (kind_of c.args.error.now) (fits words) at.passes other, kind_of c.args.error.now, among _ (faults words) at.kind other, search rules)

@@ -5,4 +5,4 @@ pub loop-init : goal.loop-init
 loop-init g c = standing
 
 pub loop-preserved : goal.loop-preserved
-loop-preserved g c = undo_more _ _ c.loop.invariant (rw c.in-More.is at c.in_ok-ask_abort.ensures)
+loop-preserved g c = undo_more _ _ c.loop.invariant (rw c.in-More.is at c.in_ok-ask_abort.ensures.stepped)

@@ -1,5 +1,6 @@
-use Rattle.std.proofs.Common.{◌≡◌, ◌∙◌, ◌<◌, ◌∷◌, [], ℕ, suc, Bool, true, false, cond, List, Option, Some, None, bytes_eq, drop, get_or, length, IfSome, refl, ap, ap₂, sym, subst, arith, add-one, rules}
+use Rattle.std.proofs.Common.{◌≡◌, ◌∙◌, ◌<◌, ◌∷◌, [], ℕ, suc, Bool, true, false, cond, List, Option, Some, bytes_eq, drop, get_or, length, IfSome, refl, ap, ap₂, sym, subst, arith, add-one, inl}
 use Rattle.std.proofs.Math.Seq.{drop-cons}
+use Rattle.std.proofs.lemmas.List.{drop_all}
 use Rattle.mt_cli.specs.Folders.{file_of}
 use Rattle.mt_cli.proofs.folder.MemFolderFolder.script.Goals as goal
 
@@ -28,3 +29,9 @@ returns-then-eq-clause-held c =
     let is = at_place c.args.name.now files c.loop-own.own-index c.loop-own-item.result lt c.loop-own-item.is c.loop-own.invariant
     ∙ ap (λ (t : Bool). cond t (Some c.loop-own-item.result.1) (file_of c.args.name.now (drop (suc c.loop-own.own-index) files))) this in
     subst (λ (o : Option (List ℕ)). IfSome o (λ held. c.into_vec.result.items ≡ held)) (sym (ap (file_of c.args.name.now) (sym c.deref-own-items.ensures.value) ∙ is)) (c.into_vec.ensures ∙ c.in_ok-copy.ensures)
+
+pub returns-clause-refused : goal.returns-clause-refused
+returns-clause-refused c =
+    let files = c.deref-own-items.result.now in
+    let all : drop c.loop-own.own-index files ≡ [] = drop_all c.loop-own.own-index files (omega arith) in
+    inl (refl, ap (file_of c.args.name.now) (sym c.deref-own-items.ensures.value) ∙ c.loop-own.invariant ∙ ap (file_of c.args.name.now) all)

@@ -1,5 +1,8 @@
-use Rattle.std.proofs.Common.{◌≡◌, ◌+◌, arith, length, subst, sym, ap, length-append, ◌∷◌, [], ◌++◌, ◌∙◌, refl}
+use Rattle.std.proofs.Common.{ℕ, ◌≡◌, ◌+◌, arith, length, subst, sym, ap, length-append, ◌∷◌, [], ◌++◌, ◌∙◌, refl}
 use Rattle.mt_model.specs.Views.{counters_of, relations_of}
+use Rattle.mt_frame.specs.declared.records.Record.TheVariants.{Commit}
+use Rattle.mt_log.specs.Words.{appended}
+use Rattle.mt_txn.specs.Party.{Party}
 use Rattle.mt_txn.specs.declared.live.Committing.{Committing}
 use Rattle.mt_txn.specs.Parties.{committing_of}
 use Rattle.mt_txn.specs.Sound.{IsParty}
@@ -9,6 +12,9 @@ use Rattle.mt_txn.proofs.Keeping.{committing_keeps}
 use Rattle.mt_txn.specs.State.{state_of}
 use Rattle.mt_txn.proofs.Places.{placed}
 use Rattle.mt_txn.proofs.Undone.{gone_undo}
+use Rattle.mt_txn.proofs.Finishing.{same_item}
+use Rattle.mt_txn.proofs.Logging.{one_more}
+use Rattle.mt_txn.proofs.Undoing.{enough_in_all}
 use Rattle.mt_txn.proofs.kernel.Kernel.commit_begin.Goals as goal
 
 pub invariant_of-self-2 : goal.invariant_of-self-2
@@ -61,3 +67,34 @@ returns-clause-undo g c =
     let l = c.remove-live.result in
     gone_undo (state_of was) (record (state_of was) { live = c.remove-live.new.self.items }) c.args.txn place l
     (placed was.live.items c.args.txn place l c.in_ok-place.ensures.place c.in_ok-place.ensures.within c.remove-live.ensures.value) c.remove-live.ensures.items refl
+
+pub returns-clause-begun : goal.returns-clause-begun
+returns-clause-begun g c =
+    let was = c.args.self.now in
+    let place = c.in_ok-place.place in
+    let within = c.in_ok-place.ensures.within in
+    let l = c.remove-live.result in
+    let at = placed was.live.items c.args.txn place l c.in_ok-place.ensures.place within c.remove-live.ensures.value in
+    let same : c.index.result.now ≡ l = same_item was.live.items place c.index.result.now l within c.index.ensures c.remove-live.ensures.value in
+    let party : IsParty (relations_of was.base) (length (counters_of was.base)) l =
+    subst (IsParty (relations_of was.base) (length (counters_of was.base))) (sym c.remove-live.ensures.value) (was.parties place l within) in
+    let logged = c.append.ensures in
+    let last = one_more _ _ _ _ _ _ _ logged.durable logged.in_flight c.in_ok-at.ensures.waiting in
+    let begun : c.push_reserved.new.self.items ≡ was.committing.items ++ committing_of l c.in_ok-at.at ∷ [] =
+    c.push_reserved.ensures.items ∙ (ap (λ ds. ds ++ c.into_committing.result ∷ []) c.reserve.ensures.items
+    ∙ ap (λ (d : Committing). was.committing.items ++ d ∷ []) c.into_committing.ensures) in
+    record {
+      moved = (
+        place,
+        l,
+        c.in_ok-place.ensures.place,
+        within,
+        c.remove-live.ensures.value,
+        c.remove-live.ensures.items,
+        begun ∙ ap (λ n. was.committing.items ++ committing_of l n ∷ []) c.in_ok-at.ensures.place,
+      );
+      appended = last ∙ ap (λ (n : ℕ). appended was.log ++ Commit n ∷ []) (ap (λ (x : Party). x.number) (c.behind-self.view_is ∙ same) ∙ at.number);
+      used = omega (arith, c.in_ok-at.ensures.used);
+      reserved = omega (arith, party.reserved, enough_in_all _ _ _ _ _ _ 14 was.live.items was.committing.items place l was.sound within c.remove-live.ensures.value (omega (arith, party.reserved)));
+      rest = rw (logged.durable, logged.in_flight, logged.area, logged.calls, logged.failed, c.reserve-2.ensures.items);
+    }

@@ -1,9 +1,10 @@
-use Rattle.std.proofs.Common.{ℕ, ◌≡◌, ◌+◌, ◌≤◌, arith, length, subst, sym, IfSome, Some, ◌∙◌, ap, Option}
+use Rattle.std.proofs.Common.{ℕ, ◌≡◌, ◌+◌, ◌≤◌, arith, length, subst, sym, IfSome, Some, ◌∙◌, ◌++◌, ap, Option}
+use Rattle.std.specs.Prelude.{option_to_list}
 use Rattle.std.specs.Option.{option_map_or}
 use Rattle.std.proofs.lemmas.List.Elements.{All-set}
 use Rattle.mt_frame.specs.declared.records.Record.{Record}
 use Rattle.mt_frame.specs.Lengths.{record_length, operation_length}
-use Rattle.mt_log.specs.Words.{used}
+use Rattle.mt_log.specs.Words.{used, appended}
 use Rattle.mt_model.specs.Model.{reply_of, base_after}
 use Rattle.mt_model.specs.Views.{base_of, counters_of, relations_of}
 use Rattle.mt_txn.specs.declared.live.Running.{Running}
@@ -76,9 +77,10 @@ returns-clause-ended g c = λ l r way.
     record {
       held = acted;
       live = ap (λ (x : Party). set was.live.items c.args.place x) new;
+      appended = c.append_end.ensures.appended ∙ ap (λ (o : Option Record). appended was.log ++ option_to_list o) end.1;
       used = c.append_end.ensures.used ∙ ap (λ (k : ℕ). used was.log + k) bytes;
       reserved = omega (arith, end.2, c.requires.ending.reserved_more);
-      rest = rw (c.act_on.ensures.relations, c.act_on.ensures.counters, c.append_end.ensures.area, c.append_end.ensures.failed, c.append_end.ensures.durable);
+      rest = rw (c.act_on.ensures.relations, c.act_on.ensures.counters, c.append_end.ensures.area, c.append_end.ensures.failed, c.append_end.ensures.durable, c.append_end.ensures.batch, c.append_end.ensures.calls);
     }
 
 pub returns-clause-answer : goal.returns-clause-answer

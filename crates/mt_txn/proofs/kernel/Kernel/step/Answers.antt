@@ -1,4 +1,4 @@
-use Rattle.std.proofs.Common.{◌++◌, length, subst}
+use Rattle.std.proofs.Common.{◌++◌, ◌+◌, length, subst}
 use Rattle.mt_txn.specs.declared.answers.Stepped.TheVariants.{Replied}
 use Rattle.mt_txn.specs.Ends.{IsFinished, IsStepped}
 use Rattle.mt_txn.specs.State.{State, state_of}
@@ -28,7 +28,7 @@ returns-clause-ended g c =
         c.in_ok-place.ensures.place,
         way.1,
         said.0,
-        subst (λ (s : State). IsFinished s place item.0 way.0 ending.reply (state_of c.finish.new.self)) (λ i. record (state_of was) { appended = length (same.durable i ++ (same.in_flight i ++ same.waiting i)); durable = length (same.durable i); used = same.used i; area = same.area i; failed = same.failed i }) (ends item.0 way.0 way.1),
+        subst (λ (s : State). IsFinished s place item.0 way.0 ending.reply (state_of c.finish.new.self)) (λ i. record (state_of was) { appended = same.durable i ++ (same.in_flight i ++ same.waiting i); batched = length (same.durable i) + length (same.in_flight i); durable = length (same.durable i); force_left = same.calls i; used = same.used i; area = same.area i; failed = same.failed i }) (ends item.0 way.0 way.1),
       );
     })
 
@@ -43,7 +43,7 @@ returns-clause-kept g c =
     let said = c.in_ok-ending.ensures.ending.at_l item.0 way.0 way.1 in
     ok_gives c.finish.result _ _ c.finish.ensures.ended
     (λ ends. ended_keeps (state_of was) place item.0 way.0 reply (state_of c.finish.new.self) way.1 said.0
-    (subst (λ (s : State). IsFinished s place item.0 way.0 reply (state_of c.finish.new.self)) (λ i. record (state_of was) { appended = length (same.durable i ++ (same.in_flight i ++ same.waiting i)); durable = length (same.durable i); used = same.used i; area = same.area i; failed = same.failed i }) (ends item.0 way.0 way.1)))
+    (subst (λ (s : State). IsFinished s place item.0 way.0 reply (state_of c.finish.new.self)) (λ i. record (state_of was) { appended = same.durable i ++ (same.in_flight i ++ same.waiting i); batched = length (same.durable i) + length (same.in_flight i); durable = length (same.durable i); force_left = same.calls i; used = same.used i; area = same.area i; failed = same.failed i }) (ends item.0 way.0 way.1)))
 
 pub invariant_of-self : goal.invariant_of-self
 invariant_of-self g c =

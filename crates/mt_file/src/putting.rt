@@ -12,13 +12,8 @@ use mt_base::{Mode, PageNo, RecordName, RelNo};
 use mt_pool::{Changes, Pages};
 use mt_slots::{empty, insert};
 use mt_space::first_free;
+use mt_space::pages::{MAP, RECORDS};
 use std::alloc::{AllocError, Global};
-
-/// The page that says of each page what it holds.
-pub(crate) const MAP: u16 = 0;
-
-/// What it says of a page that holds records.
-pub(crate) const RECORDS: u8 = 3;
 
 /// Plans to put a record into the page `room`, which holds records; into a new page, the smallest free one,
 /// where no page is named. One record more stands under a name that held nothing, and no other changes.

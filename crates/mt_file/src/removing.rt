@@ -5,15 +5,13 @@ ghost use Rattle.mt_slots.specs.Page.{Row};
 ghost use Rattle.mt_file.specs.File.{IsFile, record_in};
 ghost use Rattle.mt_file.specs.Plans.{IsRemoval, IsShortPlan, IfDone, IsFew};
 
-use crate::putting::{MAP, with_kind};
+use crate::putting::with_kind;
 use crate::step::{Plan, Step};
 use mt_base::{Mode, PageNo, RecordName};
 use mt_pool::{Changes, Pages};
 use mt_slots::{live, remove};
+use mt_space::pages::{FREE, MAP};
 use std::alloc::{AllocError, Global};
-
-// What the map says of a free page.
-const FREE: u8 = 0;
 
 /// Plans to take away the record under a name. That name holds nothing then, and no other changes. Where it
 /// was the last record of its page, the page is given back: its kind is that of a free page, and its own

@@ -7,17 +7,14 @@ ghost use Rattle.mt_index.specs.Answers.{InMaps, HasRoom, IsEnd, IsPlanned};
 
 use crate::answers::Add;
 use crate::noting::change_of;
-use crate::walking::SPACE;
 use mt_base::limits::PAGE_BYTES;
 use mt_base::ranges::put;
 use mt_base::{Mode, PageNo, RecordName, RelNo};
 use mt_bucket::{depth, empty, push, set_next};
 use mt_pool::{Changes, Pages};
 use mt_space::first_free;
+use mt_space::pages::{BUCKET, MAP};
 use std::alloc::{AllocError, Global};
-
-// The kind of a bucket's page in the map of the space.
-pub(crate) const BUCKET: u8 = 2;
 
 // Puts the entry into a page of its bucket with room.
 pub(crate) fn plan_put<V: Pages>(
@@ -58,8 +55,8 @@ pub(crate) fn plan_chain<V: Pages>(
     ensures { (split : Bool) → InMaps (V.at_hand views.now) (V.total views.now) (λ pages m. split ≡ true → MaySplit key.now (state_of pages) → ⊥)
         → IfOk result (IsPlanned (V.at_hand views.now) (V.total views.now) split (record { relation = relation; key = key.now; name = name })) }
 {
-    let Some(space) = views.page(PageNo::new(SPACE)) else {
-        return Ok(Add::Need(PageNo::new(SPACE), Mode::Write));
+    let Some(space) = views.page(PageNo::new(MAP)) else {
+        return Ok(Add::Need(PageNo::new(MAP), Mode::Write));
     };
     let Some(old) = views.page(last) else {
         return Ok(Add::Need(last, Mode::Write));
@@ -75,7 +72,7 @@ pub(crate) fn plan_chain<V: Pages>(
     let mut end = *old;
     set_next(&mut end, fresh);
     let mut changes = Changes::new(alloc);
-    changes.note(PageNo::new(SPACE), space, &taken)?;
+    changes.note(PageNo::new(MAP), space, &taken)?;
     changes.note(fresh, spare, &new)?;
     changes.note(last, old, &end)?;
     Ok(Add::Changes(changes))

@@ -5,8 +5,8 @@ ghost use Rattle.mt_index.specs.Checks.{AreWhole, bytes_of, AreKinds, ArePointer
 
 use crate::directory::{depth, pointer_of};
 use crate::reading::{is_bucket, page_at};
-use crate::walking::DIRECTORY;
 use mt_base::PageNo;
+use mt_space::pages::DIRECTORY;
 
 // Marks each page of a bucket with the bucket's first page. Answers a page of two chains, or one that
 // is no bucket's.

@@ -5,8 +5,8 @@ ghost use Rattle.mt_index.specs.Checks.{AreWhole, bytes_of, AreKinds, IsPattern,
 
 use crate::directory::{depth, pointer_of};
 use crate::reading::{is_bucket, page_at};
-use crate::walking::DIRECTORY;
 use mt_base::PageNo;
+use mt_space::pages::DIRECTORY;
 
 // Whether each pointer is right.
 pub(crate) fn are_pointers(pages: &[[u8; 4096]]) -> bool

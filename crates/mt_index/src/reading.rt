@@ -5,21 +5,14 @@ ghost use Rattle.mt_space.specs.Kinds.{kind};
 ghost use Rattle.mt_index.specs.Pages.{IsDirectory};
 ghost use Rattle.mt_index.specs.Checks.{AreWhole, bytes_of, IsSound, AreKinds, AreBuckets, ArePointers};
 
-use crate::adding::BUCKET;
 use crate::checking::{are_zero, check_directory};
 use crate::marking::mark_buckets;
 use crate::pointing::are_pointers;
 use crate::settling::first_unsettled;
-use crate::walking::DIRECTORY;
 use mt_base::PageNo;
 use mt_base::limits::PAGE_BYTES;
+use mt_space::pages::{BUCKET, DIRECTORY, FIXED, MAP};
 use std::alloc::{AllocError, Global};
-
-// The page that has the kind of each page.
-const SPACE_MAP: u16 = 0;
-
-// The kind of a fixed page there.
-const FIXED: u8 = 1;
 
 /// Reads any pages, all of a device of a schema of so many relations: `None` where they are an index, each
 /// byte of the directory and of the bucket pages as it has to be, and else a page at which they are not.
@@ -35,7 +28,7 @@ pub fn check(
     ensures { IfOk result (λ broken. MatchOption broken (IsSound relations (length pages.now) (bytes_of pages.now)) (λ p. IsSound relations (length pages.now) (bytes_of pages.now) → ⊥)) }
 {
     if !are_kinds(pages) {
-        return Ok(Some(PageNo::new(SPACE_MAP)));
+        return Ok(Some(PageNo::new(MAP)));
     }
     if !check_directory(page_at(pages, PageNo::new(DIRECTORY))) {
         return Ok(Some(PageNo::new(DIRECTORY)));
@@ -85,7 +78,7 @@ pub(crate) fn is_bucket(pages: &[[u8; 4096]], page: PageNo) -> bool
     ensures { MatchBool result ((kind (bytes_of pages.now) page ≡ 2) × (page < length pages.now)) (kind (bytes_of pages.now) page ≡ 2 → ⊥) }
 {
     let number = usize::from(page.get());
-    number < pages.len() && page_at(pages, PageNo::new(SPACE_MAP))[number] == BUCKET
+    number < pages.len() && page_at(pages, PageNo::new(MAP))[number] == BUCKET
 }
 
 // Whether the space map has the fixed pages, and nothing past the last page.
@@ -93,7 +86,7 @@ fn are_kinds(pages: &[[u8; 4096]]) -> bool
     requires whole { AreWhole pages.now }
     ensures { MatchBool result (AreKinds (length pages.now) (bytes_of pages.now)) (AreKinds (length pages.now) (bytes_of pages.now) → ⊥) }
 {
-    let map = page_at(pages, PageNo::new(SPACE_MAP));
+    let map = page_at(pages, PageNo::new(MAP));
     map[0] == FIXED && map[1] == FIXED && are_zero(map, pages.len(), PAGE_BYTES)
 }
 

@@ -7,9 +7,9 @@ ghost use Rattle.mt_index.specs.Checks.{AreWhole, bytes_of, AreKinds, AreBuckets
 
 use crate::directory::pointer;
 use crate::reading::{is_bucket, page_at};
-use crate::walking::DIRECTORY;
 use mt_base::{PageNo, RelNo};
 use mt_bucket::{count, entry, find, hash, next, place_of};
+use mt_space::pages::DIRECTORY;
 
 // The first bucket page that is in no bucket, or has an entry that is in a wrong one or twice there.
 pub(crate) fn first_unsettled(pages: &[[u8; 4096]], homes: &[u16]) -> Option<PageNo>

@@ -13,12 +13,12 @@ ghost use Rattle.mt_index.specs.Halves.{changed, AreHalves, Apart, PutsInHalf, L
 use crate::adding::{overflow_page, taken_from};
 use crate::answers::Add;
 use crate::directory::rewired;
-use crate::walking::{DIRECTORY, SPACE};
 use mt_base::limits::PAGE_BYTES;
 use mt_base::{Mode, PageNo, RecordName, RelNo};
 use mt_bucket::{depth, empty, has_bit, hash, partition, push, set_depth, set_next};
 use mt_pool::{Changes, Pages};
 use mt_space::first_free;
+use mt_space::pages::{DIRECTORY, MAP};
 use std::alloc::{AllocError, Global};
 
 // The pages that a split changes, once it is made.
@@ -87,7 +87,7 @@ impl Halves {
             → Apart self.now.bucket self.now.fresh → Notes (changed self.now) pages changes.list.items) }
     {
         let mut changes = Changes::new(alloc);
-        changes.note(PageNo::new(SPACE), space, &self.space)?;
+        changes.note(PageNo::new(MAP), space, &self.space)?;
         changes.note(PageNo::new(DIRECTORY), directory, &self.directory)?;
         changes.note(self.bucket, old, &self.low)?;
         changes.note(self.fresh, spare, &self.up)?;
@@ -137,8 +137,8 @@ pub(crate) fn plan_split<V: Pages>(
     requires due { InMaps (V.at_hand views.now) (V.total views.now) (λ pages m. MaySplit key.now (state_of pages) × (named (state_of pages) (hash_of key.now) ≡ bucket)) }
     ensures { IfOk result (IsPlanned (V.at_hand views.now) (V.total views.now) true (record { relation = relation; key = key.now; name = name })) }
 {
-    let Some(space) = views.page(PageNo::new(SPACE)) else {
-        return Ok(Add::Need(PageNo::new(SPACE), Mode::Write));
+    let Some(space) = views.page(PageNo::new(MAP)) else {
+        return Ok(Add::Need(PageNo::new(MAP), Mode::Write));
     };
     let Some(directory) = views.page(PageNo::new(DIRECTORY)) else {
         return Ok(Add::Need(PageNo::new(DIRECTORY), Mode::Write));

@@ -8,12 +8,7 @@ use crate::directory::pointer;
 use mt_base::{Mode, PageNo, RelNo};
 use mt_bucket::{MAX_ENTRIES, count, find, hash, next};
 use mt_pool::Pages;
-
-// The directory.
-pub(crate) const DIRECTORY: u16 = 1;
-
-// The map of the space.
-pub(crate) const SPACE: u16 = 0;
+use mt_space::pages::DIRECTORY;
 
 // The page of the key's bucket with an entry of the key. The bucket's pages are needed in this mode.
 pub(crate) fn holder_of<V: Pages>(views: &V, relation: RelNo, key: &[u8], mode: Mode) -> Held

@@ -7,6 +7,7 @@
 #![tactic(auto)]
 
 mod map;
+pub mod pages;
 mod space;
 
 pub use map::first_free;

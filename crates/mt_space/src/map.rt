@@ -2,6 +2,7 @@
 ghost use Rattle.std.specs.Prelude.{◌≡◌, ℕ, length, get_or, false, IfSome, IfNone};
 ghost use Rattle.mt_space.specs.Rooms.{mapped, IsFirstFree};
 
+use crate::pages::FREE;
 use mt_base::PageNo;
 
 // Bytes of the map, one for each page.
@@ -14,7 +15,7 @@ pub fn first_free(map: &[u8], pages: u16) -> Option<PageNo>
     ensures none { IfNone result ((p : ℕ) → get_or (mapped map.now pages) p false ≡ false) }
 {
     for page in 0..pages.min(MAP_BYTES) {
-        if map[usize::from(page)] == 0 {
+        if map[usize::from(page)] == FREE {
             return Some(PageNo::new(page));
         }
     }

@@ -2,6 +2,7 @@ ghost use Rattle.std.specs.Prelude.{◌≡◌, ◌==◌, map, ◌≤◌, ◌<◌
 ghost use Rattle.mt_base.specs.declared.refusal.Refusal.{Refusal};
 ghost use Rattle.mt_space.specs.Rooms.{is_free, free_in, reserved_of, free_of, mapped, IsFirstFree, HasNone, IsFirstIn};
 
+use crate::pages::FREE;
 use mt_base::{PageNo, Refusal};
 use std::alloc::{AllocError, Global};
 use std::marker::Model;
@@ -150,7 +151,7 @@ fn freedom(alloc: Global, kinds: &[u8]) -> Result<Vec<bool>, AllocError>
 {
     let mut pages = Vec::with_capacity(alloc, kinds.len())?;
     for kind in kinds {
-        pages.push(*kind == 0)?;
+        pages.push(*kind == FREE)?;
     }
     Ok(pages)
 }
@@ -161,7 +162,7 @@ fn note_free(pages: &mut [bool], kinds: &[u8])
     ensures { pages.new ≡ map (λ kind. kind == 0) kinds.now }
 {
     for page in 0..pages.len() {
-        pages[page] = kinds[page] == 0;
+        pages[page] = kinds[page] == FREE;
     }
 }
 

@@ -11,8 +11,8 @@ is_zero n is = grind (arith, nat_tests)
 not_zero : (n : ℕ) → n ≢ 0 → (n == 0) ≡ false
 not_zero n ne = grind (arith, nat_tests)
 
-pub returns-then-map-from-eq0-clause-first : goal.returns-then-map-from-eq0-clause-first
-returns-then-map-from-eq0-clause-first c =
+pub returns-then-map-from-eq-FREE-clause-first : goal.returns-then-map-from-eq-FREE-clause-first
+returns-then-map-from-eq-FREE-clause-first c =
     let map = c.args.map.now in
     let p = c.loop-page.page in
     let end = c.min-page-end.ensures in
@@ -20,7 +20,7 @@ returns-then-map-from-eq0-clause-first c =
     let whole = c.requires.map in
     let few : p < c.args.pages = omega arith in
     let lt : p < length map = omega arith in
-    let zero : get_or map p 0 ≡ 0 = ap (λ (i : ℕ). get_or map i 0) (sym c.from.ensures) ∙ c.if-map-from-eq0.true in
+    let zero : get_or map p 0 ≡ 0 = ap (λ (i : ℕ). get_or map i 0) (sym c.from.ensures) ∙ c.if-map-from-eq-FREE.true in
     subst (λ (q : ℕ). IsFirstFree (mapped map c.args.pages) q) (sym c.new.ensures) (record {
       within = mapped_length map c.args.pages p few lt;
       free = mapped_at map c.args.pages p few lt ∙ is_zero (get_or map p 0) zero;
@@ -36,7 +36,7 @@ loop-page-preserved c = λ q below.
     let whole = c.requires.map in
     let few : p < c.args.pages = omega arith in
     let lt : p < length map = omega arith in
-    let some : get_or map p 0 ≢ 0 = λ is. c.if-map-from-eq0.false (ap (λ (i : ℕ). get_or map i 0) c.from.ensures ∙ is) in
+    let some : get_or map p 0 ≢ 0 = λ is. c.if-map-from-eq-FREE.false (ap (λ (i : ℕ). get_or map i 0) c.from.ensures ∙ is) in
     ⊎_elim
     (λ (same : q ≡ p). ap (λ (i : ℕ). get_or (mapped map c.args.pages) i false) same ∙ mapped_at map c.args.pages p few lt ∙ not_zero (get_or map p 0) some)
     (λ (other : q ≢ p). c.loop-page.invariant q (omega arith))

@@ -28,6 +28,26 @@ fn number_at(page: &[u8], at: usize) -> i64
     BigEndian::read_i64(part_of(page, at, 8))
 }
 
+/// How many relations and counters a schema has.
+#[derive(Clone, Copy, PartialEq, Eq, Debug)]
+pub struct SchemaSizes {
+    pub relations: u16,
+    pub counters: u16,
+}
+
+/// The sizes that the page tells.
+pub fn sizes(page: &[u8]) -> SchemaSizes
+    requires whole { length page.now ≡ 4096 }
+    ensures relations { result.relations ≡ get_or page.now 0 0 }
+    ensures counters { result.counters ≡ get_or page.now 1 0 }
+    ensures schema { (relations counters : ℕ) → AreCounters relations counters page.now → (result.relations ≡ relations) × (result.counters ≡ counters) }
+{
+    SchemaSizes {
+        relations: u16::from(page[0]),
+        counters: u16::from(page[1]),
+    }
+}
+
 /// A counter of the page.
 pub fn counter(page: &[u8], counter: CtrNo) -> Count
     requires whole { length page.now ≡ 4096 }
@@ -91,10 +111,8 @@ pub fn check(page: &[u8], relations: u16, counters: u16) -> bool
     requires whole { length page.now ≡ 4096 }
     ensures { MatchBool result (AreCounters relations counters page.now) (AreCounters relations counters page.now → ⊥) }
 {
-    if counters > MAX_COUNTERS
-        || u16::from(page[0]) != relations
-        || u16::from(page[1]) != counters
-    {
+    let told = sizes(page);
+    if counters > MAX_COUNTERS || told.relations != relations || told.counters != counters {
         return false;
     }
     has_zeros(page) && are_limited(page, counters)

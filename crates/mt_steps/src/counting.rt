@@ -15,10 +15,8 @@ use crate::counters::{add, counter};
 use mt_base::{CtrNo, Mode, PageNo};
 use mt_model::Reply;
 use mt_pool::{Changes, Pages};
+use mt_space::pages::COUNTERS;
 use std::alloc::{AllocError, Global};
-
-// The page of the counters.
-const COUNTERS: u16 = 2;
 
 /// Plans to add a step to a counter, where the sum lies in the counter's bounds; else nothing changes, which
 /// escrow rules out before. The counters page is needed for write.

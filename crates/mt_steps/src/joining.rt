@@ -9,10 +9,8 @@ use crate::draft::{Draft, first_missing, merged};
 use mt_base::{Mode, PageNo};
 use mt_model::Reply;
 use mt_pool::{Changes, Pages};
+use mt_space::pages::DIRECTORY;
 use std::alloc::{AllocError, Global};
-
-// The directory.
-const DIRECTORY: u16 = 1;
 
 // A page of a bucket is to be written; the directory is read.
 pub(crate) fn to_write(page: PageNo, mode: Mode) -> Mode {

@@ -19,7 +19,7 @@ mod updating;
 
 pub use act::Act;
 pub use copies::Copies;
-pub use counters::{add, check, counter};
+pub use counters::{SchemaSizes, add, check, counter, sizes};
 pub use draft::{Draft, first_missing, merged};
 pub use laws::formatted_pages_are_good;
 pub use logging::{has_effect, logged};

@@ -71,6 +71,7 @@ module _ (relations counters : ℕ) where
   acts_then w m z s t u reply records f g = record {
     own = g.own;
     others = λ v kv other. g.others v (f.others v kv other) (same_other s t v f.same other);
+    small = g.small;
     replies = λ b holds. ap (reply_of b) (sym f.same.op) ∙ g.replies b (subst (λ (h : PageBytes). Holds h b) (sym f.held) holds);
     base = λ b holds. subst (λ (o : Op). Holds (held_in z) (base_after b o)) f.same.op (g.base b (subst (λ (h : PageBytes). Holds h b) (sym f.held) holds));
     ended = g.ended ∙ (λ i. records i ++ end_with (f.same.txn i) (f.same.number i) (f.same.undoes i) (logged_of (f.same.op i) reply));

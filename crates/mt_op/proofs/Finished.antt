@@ -66,6 +66,7 @@ acts relations counters w z s t reply plan held own others ended same = record {
   own = own;
   others = others;
   replies = plan.replies;
+  small = plan.small;
   base = λ b holds. subst (λ (f : PageBytes). Holds f (base_after b s.op)) (sym held) (plan.base b holds);
   ended = ended;
   same = same;

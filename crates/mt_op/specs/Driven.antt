@@ -44,6 +44,12 @@ pub record IsBusy {D : Type 0} (seen : D → List ℕ) (may_leave : D → List �
   pub budget : HasBudget s
   pub room : used o.store.log + s.left < area_size o.store.log
 
+-- one of several that are under way, over pages that were as these when the log's area began
+pub record IsAmong {D : Type 0} (seen : D → List ℕ) (may_leave : D → List ℕ → Type 0) (opening : PageBytes) (o : Operations D) (s : OpScope) : Type 0 where
+  pub right : IsRight seen may_leave opening 2 2 o
+  pub under : IsUnderWay 2 2 (world seen opening o) s
+  pub budget : HasBudget s
+
 -- ---- how it begins
 
 -- pages 0 to 2 are fixed, page 3 is a bucket, and the others are free

@@ -1,9 +1,9 @@
 -- What a step of an operation appends to the log.
-use Rattle.std.specs.Prelude.{◌≡◌, ◌⊎◌, ◌++◌, ◌∷◌, [], ℕ, List, Contains, Option, None, Some, Result, Ok, Err}
+use Rattle.std.specs.Prelude.{◌≡◌, ◌⊎◌, ◌++◌, ◌∷◌, [], ℕ, zero, suc, List, Contains, Option, None, Some, Result, Ok, Err}
 use Rattle.mt_base.specs.Edits.{patched}
 use Rattle.mt_base.specs.declared.refusal.Refusal.{Refusal}
 use Rattle.mt_frame.specs.declared.records.Record.{Record}
-use Rattle.mt_frame.specs.declared.records.Record.TheVariants.{OpEnd}
+use Rattle.mt_frame.specs.declared.records.Record.TheVariants.{OpEnd, OpDropped}
 use Rattle.mt_frame.specs.declared.records.LoggedOp.{LoggedOp}
 use Rattle.mt_model.specs.declared.operations.Reply.{Reply}
 use Rattle.mt_pool.specs.Writes.{change_records}
@@ -12,6 +12,8 @@ use Rattle.mt_steps.specs.Logged.{logged_of}
 use Rattle.mt_op.specs.World.{changes_in}
 use Rattle.mt_op.specs.declared.answers.Stepped.{Stepped}
 use Rattle.mt_op.specs.declared.answers.Stepped.TheVariants as stepped
+use Rattle.mt_op.specs.declared.answers.TakenBack.{TakenBack}
+use Rattle.mt_op.specs.declared.answers.TakenBack.TheVariants as taken
 use Rattle.mt_op.specs.declared.scope.OpScope.{OpScope}
 
 -- the record that an operation ends with, where it did anything
@@ -36,3 +38,17 @@ KeepsRecords s old new (Ok stepped.Again) = new ≡ old
 KeepsRecords s old new (Ok stepped.Flush) = new ≡ old
 KeepsRecords s old new (Ok (stepped.Ready first second)) = Unit {0}
 KeepsRecords s old new (Err why) = new ≡ old
+
+-- ---- a step of a taking back
+
+-- the record that tells of the taking back, where any page still stands
+abbrev pub dropped_with : ℕ → ℕ → ℕ → List Record
+dropped_with txn number zero = []
+dropped_with txn number (suc standing) = OpDropped txn number ∷ []
+
+-- Nothing is appended but that record, with the last page.
+abbrev pub TellsDropped : OpScope → List Record → List Record → Result TakenBack Refusal → Type 0
+TellsDropped s old new (Ok taken.Clear) = new ≡ old ++ dropped_with s.txn s.number s.standing
+TellsDropped s old new (Ok taken.More) = new ≡ old
+TellsDropped s old new (Ok taken.Flush) = new ≡ old
+TellsDropped s old new (Err why) = new ≡ old

@@ -38,6 +38,7 @@ impl<D: Device> Operations<D> {
         ensures there { result ≡ Ok true → IsThere self.new.store.pool page }
         ensures full { result ≡ Ok false → IsFull self.old.store.pool × (self.new ≡ self.old) }
         ensures log { self.new.store.log ≡ self.old.store.log }
+        ensures locks { self.new.locks ≡ self.old.locks }
         ensures map { self.new.map ≡ self.old.map }
         ensures waits { self.new.store.pool.waits ≡ self.old.store.pool.waits }
         ensures why { IfErr result (λ why. why ≡ Refusal.DeviceFailed) }

@@ -1,5 +1,5 @@
 // The operations of one kernel over their pages.
-ghost use Rattle.std.specs.Prelude.{◌≡◌, ◌≢◌, ◌⊎◌, ◌<◌, ◌≤◌, ◌+◌, ◌*◌, [], ℕ, length, false, true, Ok, if◌then◌else◌, IsOk, IsErr, IfOk, IfErr, OnOk, OnErr};
+ghost use Rattle.std.specs.Prelude.{◌≡◌, ◌≢◌, ◌⊎◌, ◌<◌, ◌≤◌, ◌+◌, ◌*◌, [], ℕ, length, get_or, false, true, Ok, if◌then◌else◌, IsOk, IsErr, IfOk, IfErr, OnOk, OnErr};
 ghost use Rattle.mt_disk.specs.Disk.{LeavesOnly, HasCause};
 ghost use Rattle.mt_frame.specs.Grammar.{IsTxn, IsOp, IsRecord};
 ghost use Rattle.mt_frame.specs.History.{may_stand, txn_of};
@@ -19,7 +19,7 @@ ghost use Rattle.mt_op.specs.declared.scope.OpScope.{OpScope};
 ghost use Rattle.mt_op.specs.declared.scope.Stage.TheVariants.{Planning};
 
 use crate::scope::{OpScope, Stage};
-use crate::space_map::{MAP, RECORDS, SpaceMap};
+use crate::space_map::SpaceMap;
 use mt_base::limits::OPERATION_LOG_BYTES;
 use mt_base::{LogPos, OpNo, PageNo, Refusal, TxnNo};
 use mt_disk::{Device, DeviceFault};
@@ -29,6 +29,7 @@ use mt_log::{Forced, Log};
 use mt_model::Op;
 use mt_plock::PageLocks;
 use mt_pool::{Changes, Fetched, Flushed, Pages, Pool, Store};
+use mt_space::pages::{MAP, RECORDS};
 use mt_steps::Copies;
 use std::alloc::Global;
 
@@ -241,6 +242,8 @@ impl<D: Device> Operations<D> {
         ensures log { self.new.store.log ≡ self.old.store.log }
         ensures fewer { (p : ℕ) → result ≡ Ok (flushed.Page p) → to_flush self.new.store.pool + 1 ≡ to_flush self.old.store.pool }
         ensures forced { result ≡ Ok flushed.Force → length (durable self.old.store.log) < length (appended self.old.store.log) }
+        ensures exact { ((f : ℕ) → get_or self.old.store.pool.dirty.items f false ≡ false) → result ≡ Ok flushed.Clean }
+        ensures nothing { result ≡ Ok flushed.Clean → (f : ℕ) → get_or self.new.store.pool.dirty.items f false ≡ false }
         ensures cause { HasCause (D.faults self.old.store.device) (D.faults self.new.store.device) result }
     {
         self.store.flush_step()

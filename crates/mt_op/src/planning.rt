@@ -1,5 +1,5 @@
 // The steps of an operation, from its first page lock to its end.
-ghost use Rattle.std.specs.Prelude.{◌≡◌, ◌⊎◌, ◌<◌, ◌≤◌, ◌+◌, ℕ, List, length, get_or, All, Contains, [], None, Some, Ok, true, MatchOption, IfErr, IfSome, IsTrue, ◌↔◌};
+ghost use Rattle.std.specs.Prelude.{◌≡◌, ◌≢◌, ◌⊎◌, ◌<◌, ◌≤◌, ◌+◌, ℕ, List, length, get_or, All, Contains, [], None, Some, Ok, true, MatchOption, IfErr, IfSome, IsTrue, ◌↔◌};
 ghost use Rattle.mt_steps.specs.Drafts.{AreAtHand};
 ghost use Rattle.mt_steps.specs.Logged.{logged_of};
 ghost use Rattle.mt_base.specs.declared.modes.Mode.TheVariants.{Write};
@@ -9,7 +9,7 @@ ghost use Rattle.mt_plock.specs.Holding.{lock_of};
 ghost use Rattle.mt_pool.specs.Changes.{PageBytes, IsUntouched};
 ghost use Rattle.mt_pool.specs.Kept.{IsKept, Explains};
 ghost use Rattle.mt_pool.specs.Views.{IsFull};
-ghost use Rattle.mt_steps.specs.Plans.{own_needs, free_pages, InPages, IsPlanned};
+ghost use Rattle.mt_steps.specs.Plans.{own_needs, free_pages, record_bytes as bytes_put, InPages, IsPlanned};
 ghost use Rattle.mt_op.specs.World.{IsUnderWay, looked, held_in};
 ghost use Rattle.mt_op.specs.Operations.{world, IsRight, GoesOn, Steps, GivesBack, IsPlannedOn, HasBudget, only_reads, IsAsFar, IsCause, claimed};
 ghost use Rattle.mt_op.specs.Holds.{KeepsLocks, KeepsLocksOn};
@@ -22,12 +22,12 @@ ghost use Rattle.mt_op.specs.declared.answers.Stepped.TheVariants as stepped;
 use crate::answers::Stepped;
 use crate::operations::Operations;
 use crate::scope::{OpScope, Stage};
-use crate::space_map::{MAP, RECORDS};
 use mt_base::{Mode, OpNo, PageNo, Refusal};
 use mt_disk::Device;
 use mt_model::{Op, Reply};
 use mt_plock::{PageGuard, PageLock};
 use mt_pool::{Changes, Pages};
+use mt_space::pages::{MAP, RECORDS};
 use mt_steps::{Act, plan};
 use std::alloc::Global;
 
@@ -183,6 +183,8 @@ impl<D: Device> Operations<D> {
         ensures new { IfSome result (λ p. looked scope.now p ≡ None) }
         ensures inside { IfSome result (λ p. p < scope.now.seen.total) }
         ensures records { IfSome result (λ p. get_or self.now.map.kinds p 0 ≡ 3) }
+        ensures unlocked { IfSome result (λ p. All (λ l. l.page ≢ p) self.now.locks) }
+        ensures roomy { IfSome result (λ p. bytes_put scope.now.op ≤ get_or self.now.rooms.0 p 0) }
     {
         let bytes = record_bytes(&scope.op)?;
         let room = self.rooms.with_room(bytes)?;
@@ -265,7 +267,8 @@ fn holds(guards: &[PageGuard], lock: &PageLock) -> bool
 
 // The bytes of the record that an operation puts, if it puts one.
 fn record_bytes(op: &Op) -> Option<u16>
-    ensures { IfSome result (λ bytes. 0 < bytes) }
+    ensures some { IfSome result (λ bytes. 0 < bytes) }
+    ensures exact { IfSome result (λ bytes. bytes ≡ bytes_put op.now) }
 {
     match op {
         Op::Insert(_, key, value) | Op::Update(_, key, value) => {

@@ -1,4 +1,6 @@
 // An operation under way.
+ghost use Rattle.std.specs.Prelude.{◌≡◌};
+
 use mt_base::{OpNo, PageNo, TxnNo};
 use mt_model::{Op, Reply};
 use mt_plock::PageGuard;
@@ -45,4 +47,48 @@ pub struct OpScope {
     // how many of these changes are in the log, and how many still stand in the pages
     pub(crate) written: usize,
     pub(crate) standing: usize,
+}
+
+impl OpScope {
+    /// Its transaction.
+    pub fn txn(&self) -> TxnNo
+        ensures { result ≡ self.now.txn }
+    {
+        self.txn
+    }
+
+    /// Its number, by which a [`Stepped::Wait`](crate::Stepped::Wait) names it.
+    pub fn number(&self) -> OpNo
+        ensures { result ≡ self.now.number }
+    {
+        self.number
+    }
+
+    /// The operation.
+    pub fn op(&self) -> &Op
+        ensures { result.now ≡ self.now.op }
+    {
+        &self.op
+    }
+
+    /// The number of the operation that it takes back, or 0.
+    pub fn undoes(&self) -> u64
+        ensures { result ≡ self.now.undoes }
+    {
+        self.undoes
+    }
+
+    /// How far it has come.
+    pub fn stage(&self) -> Stage
+        ensures { result ≡ self.now.stage }
+    {
+        self.stage
+    }
+
+    /// The log bytes that are still kept for it. Once it has ended, or was taken back, they are free for others.
+    pub fn left(&self) -> u64
+        ensures { result ≡ self.now.left }
+    {
+        self.left
+    }
 }

@@ -5,12 +5,8 @@ ghost use Rattle.mt_space.specs.Rooms.{mapped, free_in, free_of, reserved_of};
 
 use mt_pool::{Changes, patch};
 use mt_space::Space;
+use mt_space::pages::MAP;
 use std::alloc::{AllocError, Global};
-
-// The page that says of each page what it holds, and what it says of one that holds records.
-pub(crate) const MAP: u16 = 0;
-
-pub(crate) const RECORDS: u8 = 3;
 
 /// The map of the space as it is held, a byte for each page, and the free pages by it, with the claims on them.
 #[derive(Drop)]

@@ -25,12 +25,12 @@ ghost use Rattle.mt_op.specs.declared.answers.Stepped.TheVariants as stepped;
 use crate::answers::Stepped;
 use crate::operations::Operations;
 use crate::scope::{OpScope, Stage};
-use crate::space_map::RECORDS;
 use mt_base::{PageNo, Refusal};
 use mt_disk::Device;
 use mt_file::fits;
 use mt_frame::{LoggedOp, Record};
 use mt_pool::{Changes, Pages, patch};
+use mt_space::pages::RECORDS;
 use mt_steps::{logged, pages_for};
 use std::alloc::Global;
 
@@ -126,6 +126,7 @@ impl<D: Device> Operations<D> {
         ensures records { KeepsRecords scope.new (appended self.old.store.log) (appended self.new.store.log) result }
         ensures locks { self.new.locks ≡ self.old.locks }
         ensures stage { ComesTo scope.new.stage result }
+        ensures rooms { OnOk result ((pages : PageBytes) → Agrees (looked scope.new) pages → AreShort (changes_in scope.new) pages → HasRooms scope.new self.new.map.kinds self.new.rooms.0 pages) }
         ensures ended { (result ≡ Ok stepped.Went → ⊥) × (result ≡ Ok stepped.Flush → ⊥) }
         ensures same { OnErr result (scope.new ≡ scope.old) }
         ensures why { IfErr result IsCause }

@@ -6,6 +6,7 @@ ghost use Rattle.mt_op.specs.Driven.{IsIdle};
 
 mod driving;
 mod format;
+mod interleaving;
 mod random;
 mod taking;
 

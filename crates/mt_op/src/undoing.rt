@@ -1,5 +1,5 @@
 // Taking an operation back, and the end of its locks.
-ghost use Rattle.std.specs.Prelude.{◌≡◌, ◌≢◌, ◌⊎◌, ◌<◌, ◌≤◌, ◌+◌, ◌-◌, ℕ, List, [], length, get_or, false, true, IfErr, OnErr, OnOk, Ok, Some, IsSome};
+ghost use Rattle.std.specs.Prelude.{◌≡◌, ◌≢◌, ◌⊎◌, ◌<◌, ◌≤◌, ◌+◌, ◌-◌, ◌++◌, ◌∷◌, ℕ, List, [], length, get_or, false, true, IfErr, OnErr, OnOk, Ok, Some, IsSome};
 ghost use Rattle.mt_plock.specs.Releasing.{locks_of, locks_without};
 ghost use Rattle.mt_pool.specs.Views.{IsThere, IsFull, waits_for, pages};
 ghost use Rattle.mt_pool.specs.declared.changes.PageChange.{PageChange};
@@ -15,6 +15,7 @@ ghost use Rattle.mt_op.specs.Moves.{Rests, Notes, Leaves, PutsBack};
 ghost use Rattle.mt_op.specs.Operations.{world, IsRight, Goes, HasBudget, IsCause, claimed};
 ghost use Rattle.mt_op.specs.declared.scope.Stage.TheVariants.{Planning, Writing, Ready, Taking, Cleared};
 ghost use Rattle.mt_op.specs.Faults.{TellsFaults};
+ghost use Rattle.mt_op.specs.Records.{TellsDropped};
 ghost use Rattle.mt_op.specs.declared.answers.TakenBack.TheVariants as taken;
 
 use crate::answers::TakenBack;
@@ -49,6 +50,8 @@ impl<D: Device> Operations<D> {
         ensures log { used self.new.store.log + scope.new.left ≡ used self.old.store.log + scope.old.left }
         ensures area { area_size self.new.store.log ≡ area_size self.old.store.log }
         ensures claimed { claimed self.new ≡ claimed self.old }
+        ensures records { TellsDropped scope.old (appended self.old.store.log) (appended self.new.store.log) result }
+        ensures locks { self.new.locks ≡ self.old.locks }
         ensures budget { HasBudget scope.new }
         ensures err { OnErr result (scope.new ≡ scope.old) }
         ensures flush { result ≡ Ok taken.Flush → scope.new ≡ scope.old }
@@ -86,6 +89,7 @@ impl<D: Device> Operations<D> {
         ensures back { (opening : PageBytes) (c : PageChange) → c.page ≡ page → PutsBack (world D.seen opening self.old) (world D.seen opening self.new) scope.now c [] }
         ensures device { self.new.store.device ≡ self.old.store.device }
         ensures log { self.new.store.log ≡ self.old.store.log }
+        ensures locks { self.new.locks ≡ self.old.locks }
         ensures map { self.new.map ≡ self.old.map }
         ensures rooms { self.new.rooms ≡ self.old.rooms }
     {
@@ -106,6 +110,7 @@ impl<D: Device> Operations<D> {
         ensures rests { (opening : PageBytes) → OnErr result (Rests (world D.seen opening self.old) (world D.seen opening self.new)) }
         ensures device { self.new.store.device ≡ self.old.store.device }
         ensures pool { self.new.store.pool ≡ self.old.store.pool }
+        ensures locks { self.new.locks ≡ self.old.locks }
         ensures map { self.new.map ≡ self.old.map }
         ensures rooms { self.new.rooms ≡ self.old.rooms }
         ensures used { OnOk result (used self.new.store.log ≡ used self.old.store.log + 22) }
@@ -134,6 +139,9 @@ impl<D: Device> Operations<D> {
             IsRight D.seen D.may_leave opening relations counters self.new × Goes relations counters (world D.seen opening self.old) (world D.seen opening self.new) scope.old scope.new }
         ensures device { self.new.store.device ≡ self.old.store.device }
         ensures clear { OnOk result ((result ≡ Ok taken.Clear) × (scope.new.stage ≡ Cleared)) }
+        ensures records { OnOk result (appended self.new.store.log ≡ appended self.old.store.log ++ OpDropped scope.old.txn scope.old.number ∷ []) }
+        ensures err_records { OnErr result (appended self.new.store.log ≡ appended self.old.store.log) }
+        ensures locks { self.new.locks ≡ self.old.locks }
         ensures log { used self.new.store.log + scope.new.left ≡ used self.old.store.log + scope.old.left }
         ensures area { area_size self.new.store.log ≡ area_size self.old.store.log }
         ensures map { self.new.map ≡ self.old.map }

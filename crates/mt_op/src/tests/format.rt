@@ -43,7 +43,8 @@ fn format(bytes: &mut [u8])
     put_counter(bytes, 16_416, COUNTERS[1]);
 }
 
-fn put_counter(bytes: &mut [u8], at: usize, counter: (i64, i64, i64))
+/// Puts a counter's bounds and number at a place.
+pub fn put_counter(bytes: &mut [u8], at: usize, counter: (i64, i64, i64))
     requires { at + 24 ≤ length bytes.old }
     ensures { length bytes.new ≡ length bytes.old }
 {

@@ -1,4 +1,6 @@
-use Rattle.std.proofs.Common.{◌<◌, ◌+◌, ◌-◌, ℕ, refl, sym, ◌∙◌, subst, arith}
+use Rattle.std.proofs.Common.{◌≡◌, ◌<◌, ◌+◌, ◌-◌, ◌++◌, ◌∷◌, [], ℕ, OnErr, refl, sym, ap, ◌∙◌, subst, arith}
+use Rattle.std.proofs.lemmas.Result.{err_from_is_err_and}
+use Rattle.mt_log.specs.Words.{appended}
 use Rattle.mt_frame.specs.declared.records.Record.TheVariants.{OpDropped}
 use Rattle.mt_pool.specs.Views.{waits_for}
 use Rattle.mt_pool.specs.declared.pool.Pool.{Pool}
@@ -35,3 +37,12 @@ returns-clause-goes g c = λ opening relations counters right k.
     last_goes seen g.D.Device.may_leave opening relations counters o n s change right k c.requires.stage is (b.kept opening (f.kept opening right.kept)) (b.map ∙ f.map) (b.rooms ∙ f.rooms)
     (record s { left = s.left + c.used-before.result - c.used.result; stage = Cleared; standing = 0 }) back c.requires.last
     (record { op = record { txn = refl; number = refl; op = refl; undoes = refl; split = refl; total = refl }; room = refl; guards = refl; seen = refl; changes = refl; reply = refl }) refl
+
+pub returns-in_err-append_dropped-clause-err_records : goal.returns-in_err-append_dropped-clause-err_records
+returns-in_err-append_dropped-clause-err_records g c =
+    let p = err_from_is_err_and c.from_residual.result c.from_residual.ensures.1 in
+    subst (λ r. OnErr r (appended c.append_dropped.new.self.store.log ≡ appended c.args.self.now.store.log)) (sym p.1)
+    (c.in_err-append_dropped.ensures.rests (λ n. [])).records
+
+pub returns-clause-records : goal.returns-clause-records
+returns-clause-records g c = ap appended c.put_back.ensures.log ∙ (c.in_ok-append_dropped.ensures.notes (λ n. [])).records

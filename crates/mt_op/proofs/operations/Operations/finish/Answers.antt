@@ -9,6 +9,7 @@ use Rattle.mt_space.specs.Rooms.{mapped, free_of, reserved_of}
 use Rattle.mt_steps.specs.Logged.{logged_of}
 use Rattle.mt_steps.specs.Plans.{own_needs}
 use Rattle.mt_op.specs.Operations.{world, Goes, Steps}
+use Rattle.mt_op.specs.Room.{HasRooms}
 use Rattle.mt_op.specs.declared.operations.Operations.{Operations}
 use Rattle.mt_op.specs.declared.scope.OpScope.{OpScope}
 use Rattle.mt_op.specs.declared.space_map.SpaceMap.{SpaceMap}
@@ -179,3 +180,7 @@ returns-clause-locks g c =
 
 pub returns-in_err-append_end-clause-records : goal.returns-in_err-append_end-clause-records
 returns-in_err-append_end-clause-records g c = same_records c.append_end.new.scope _ _ c.from_residual-in_err-append_end.result (c.in_err-append_end.ensures.rests c.requires.right.0).records
+
+pub returns-clause-rooms : goal.returns-clause-rooms
+returns-clause-rooms g c = λ pages agrees short. let n = c.note_looked.ensures in
+    subst (λ (x : SpaceMap). HasRooms c.match-branch-4.scope x.kinds c.note_looked.new.self.rooms.0 pages) (sym n.map) (n.noted pages agrees short)

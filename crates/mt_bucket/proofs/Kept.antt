@@ -1,8 +1,8 @@
 -- What is written into a bucket page leaves it one.
-use Rattle.std.proofs.Common.{◌≡◌, ℕ, ◌+◌, ◌-◌, ◌*◌, ◌<◌, ◌≤◌, List, length, get_or, min, refl, ap, ap₂, sym, ◌∙◌, subst, arith, ◌⊎◌, inl, inr, ⊎_elim}
+use Rattle.std.proofs.Common.{◌≡◌, ℕ, ◌+◌, ◌*◌, ◌<◌, ◌≤◌, List, length, get_or, ap, ap₂, sym, ◌∙◌, subst, arith, ⊎_elim}
 use Rattle.std.proofs.lemmas.Bool.{cases_lt}
 use Rattle.mt_base.specs.Ranges.{u16_at, Torn}
-use Rattle.mt_bucket.specs.Page.{cell, count_of, depth_of, next_of, KeepsHead, IsCell, IsBucket, KeepsBucket, TakesCell}
+use Rattle.mt_bucket.specs.Page.{cell, count_of, KeepsHead, IsCell, IsBucket, KeepsBucket, TakesCell}
 use Rattle.mt_bucket.specs.Steps.{OneMore, Closed}
 use Rattle.mt_bucket.proofs.Cells.{get_cell}
 

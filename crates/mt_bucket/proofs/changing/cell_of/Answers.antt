@@ -1,6 +1,5 @@
-use Rattle.std.proofs.Common.{◌≡◌, ◌∙◌, ap, ℕ, get_or, length, inl, inr, arith, rules}
+use Rattle.std.proofs.Common.{◌∙◌, inl, arith, rules}
 use Rattle.std.proofs.lemmas.List.{get_or-replicate}
-use Rattle.mt_base.specs.Ranges.{Has, Torn}
 use Rattle.mt_base.proofs.Places.{has_torn}
 use Rattle.mt_bucket.proofs.Cells.{entry_is}
 use Rattle.mt_bucket.proofs.Kept.{cell_written}

@@ -1,5 +1,5 @@
 -- The parts of a cell.
-use Rattle.std.proofs.Common.{◌+◌, ◌*◌, ◌≤◌, ℕ, List, take, drop, get_or, sym, ◌∙◌, ap, arith}
+use Rattle.std.proofs.Common.{◌+◌, ◌*◌, ℕ, List, take, drop, get_or, sym, ◌∙◌, ap, arith}
 use Rattle.mt_bucket.proofs.Cells.{get_cell, key_cell}
 use Rattle.mt_bucket.specs.Page.{cell}
 use Rattle.mt_bucket.proofs.finding.entry.Goals as goal

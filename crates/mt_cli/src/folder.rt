@@ -18,7 +18,7 @@ pub trait Folder {
     /// there is no such file or it cannot be read.
     fn script(&mut self, name: &str) -> Result<Vec<u8>, Refusal>
         ensures held { IfOk result (λ bytes. IfSome (known self.old name.now) (λ held. bytes.items ≡ held)) }
-        ensures refused { IfErr result (IsFileRefusal (known self.old name.now)) };
+        ensures why { IfErr result (IsFileRefusal (known self.old name.now)) };
 }
 
 /// A folder in memory, for tests: scripts by name.

@@ -41,7 +41,7 @@ impl Escrow {
         requires { AreLimited counters.now }
         ensures escrow { IfOk result (λ escrow.
             escrow ≡ record { committed = counters.now; pending = [] }) }
-        ensures refused { IfErr result (λ refusal. refusal ≡ Refusal.NoMemory) }
+        ensures only_memory { IfErr result (λ why. why ≡ Refusal.NoMemory) }
     {
         let mut rooms = Vec::with_capacity(alloc, counters.len())?;
         for count in counters {
@@ -63,9 +63,9 @@ impl Escrow {
         requires step { IsStep step }
         ensures granted { OnOk result (self.new ≡ with_add (add_of txn counter step) self.old) }
         ensures admitted { OnOk result (CanStand self.old (add_of txn counter step)) }
-        ensures refused { IfErr result (λ refusal.
-            (refusal ≡ Refusal.NoMemory)
-            ⊎ ((refusal ≡ Refusal.Escrow) × ¬ CanStand self.old (add_of txn counter step))) }
+        ensures cause { IfErr result (λ why.
+            (why ≡ Refusal.NoMemory)
+            ⊎ ((why ≡ Refusal.Escrow) × ¬ CanStand self.old (add_of txn counter step))) }
         ensures kept { OnErr result (self.new ≡ self.old) }
     {
         self.pending.reserve(1)?;

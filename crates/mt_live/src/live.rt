@@ -90,7 +90,7 @@ impl Live {
             member_of self.new.members u ≡ put (member_of self.old.members) txn (Some (fresh txn session)) u) }
         ensures count { OnOk result (length self.new.members ≡ length self.old.members + 1) }
         ensures standing { OnOk result (self.new.standing ≡ self.old.standing) }
-        ensures cause { IfErr result (λ why. why ≡ Refusal.NoMemory) }
+        ensures only_memory { IfErr result (λ why. why ≡ Refusal.NoMemory) }
         ensures err { OnErr result (self.new ≡ self.old) }
     {
         let number = TxnNo::new(self.begun + 1);
@@ -146,7 +146,7 @@ impl Live {
         ensures count { OnOk result (length self.new.members ≡ length self.old.members) }
         ensures begun { OnOk result (self.new.begun ≡ self.old.begun) }
         ensures standing { OnOk result (self.new.standing ≡ self.old.standing) }
-        ensures cause { IfErr result (λ why. why ≡ Refusal.NoMemory) }
+        ensures only_memory { IfErr result (λ why. why ≡ Refusal.NoMemory) }
         ensures err { OnErr result (self.new ≡ self.old) }
     {
         self.order.reserve(self.transactions.len())?;

@@ -97,7 +97,7 @@ impl Base {
         requires { IsWithin (relations_of self.old) (length (counters_of self.old)) op.now }
         ensures reply { IfOk result (λ reply. reply ≡ reply_of (base_of self.old) op.now) }
         ensures base { OnOk result (base_of self.new ≡ base_after (base_of self.old) op.now) }
-        ensures refused { IfErr result (λ refusal. refusal ≡ Refusal.NoMemory) }
+        ensures only_memory { IfErr result (λ why. why ≡ Refusal.NoMemory) }
         ensures kept { OnErr result (self.new ≡ self.old) }
         ensures relations { relations_of self.new ≡ relations_of self.old }
         ensures counters { length (counters_of self.new) ≡ length (counters_of self.old) }
@@ -117,7 +117,7 @@ impl Base {
     pub fn answer(&self, op: &Op) -> Result<Reply, Refusal>
         requires { IsWithin (relations_of self.now) (length (counters_of self.now)) op.now }
         ensures reply { IfOk result (λ reply. reply ≡ reply_of (base_of self.now) op.now) }
-        ensures refused { IfErr result (λ refusal. refusal ≡ Refusal.NoMemory) }
+        ensures only_memory { IfErr result (λ why. why ≡ Refusal.NoMemory) }
     {
         match op {
             Op::Get(relation, key) => self.get(*relation, key),
@@ -178,7 +178,7 @@ impl Base {
     fn get(&self, relation: RelNo, key: &Bytes) -> Result<Reply, Refusal>
         ensures reply { IfOk result (λ reply.
             reply ≡ reply_of (base_of self.now) (Op.Get relation key.now)) }
-        ensures refused { IfErr result (λ refusal. refusal ≡ Refusal.NoMemory) }
+        ensures only_memory { IfErr result (λ why. why ≡ Refusal.NoMemory) }
     {
         match self.rows.get(relation, key) {
             Some(value) => Ok(Reply::Found(value.try_clone()?)),
@@ -193,7 +193,7 @@ impl Base {
         ensures base { OnOk result
             (base_of self.new
             ≡ base_after (base_of self.old) (Op.Insert relation key.now value.now)) }
-        ensures refused { IfErr result (λ refusal. refusal ≡ Refusal.NoMemory) }
+        ensures only_memory { IfErr result (λ why. why ≡ Refusal.NoMemory) }
         ensures kept { OnErr result (self.new ≡ self.old) }
         ensures relations { relations_of self.new ≡ relations_of self.old }
         ensures counters { counters_of self.new ≡ counters_of self.old }
@@ -212,7 +212,7 @@ impl Base {
         ensures base { OnOk result
             (base_of self.new
             ≡ base_after (base_of self.old) (Op.Update relation key.now value.now)) }
-        ensures refused { IfErr result (λ refusal. refusal ≡ Refusal.NoMemory) }
+        ensures only_memory { IfErr result (λ why. why ≡ Refusal.NoMemory) }
         ensures kept { OnErr result (self.new ≡ self.old) }
         ensures relations { relations_of self.new ≡ relations_of self.old }
         ensures counters { counters_of self.new ≡ counters_of self.old }

@@ -41,7 +41,7 @@ impl<D: Device> Operations<D> {
         ensures locks { self.new.locks ≡ self.old.locks }
         ensures map { self.new.map ≡ self.old.map }
         ensures waits { self.new.store.pool.waits ≡ self.old.store.pool.waits }
-        ensures why { IfErr result (λ why. why ≡ Refusal.DeviceFailed) }
+        ensures only_device { IfErr result (λ why. why ≡ Refusal.DeviceFailed) }
         ensures cause { HasCause (D.faults self.old.store.device) (D.faults self.new.store.device) result }
     {
         match self.store.fetch(page) {
@@ -67,8 +67,7 @@ impl<D: Device> Operations<D> {
         ensures same { IsAsFar scope.old scope.new }
         ensures room { result ≡ Ok stepped.Went → scope.new.seen ≡ scope.old.seen }
         ensures never { result ≡ Ok stepped.Flush → ⊥ }
-        ensures why { IfErr result IsCause }
-        ensures memory { IfErr result (λ why. why ≡ Refusal.NoMemory) }
+        ensures only_memory { IfErr result (λ why. why ≡ Refusal.NoMemory) }
     {
         scope.guards.reserve(1)?;
         match self.locks.ask(scope.number, page, mode)? {
@@ -138,8 +137,7 @@ impl<D: Device> Operations<D> {
         ensures never { result ≡ Ok stepped.Flush → ⊥ }
         ensures work { Works scope.old scope.new result }
         ensures locks { KeepsLocks scope.old.number self.old.locks self.new.locks result }
-        ensures why { IfErr result IsCause }
-        ensures memory { IfErr result (λ why. why ≡ Refusal.NoMemory) }
+        ensures only_memory { IfErr result (λ why. why ≡ Refusal.NoMemory) }
     {
         scope.seen.reserve()?;
         match self.hold(scope, page, mode)? {
@@ -166,8 +164,7 @@ impl<D: Device> Operations<D> {
         ensures never { result ≡ Ok stepped.Flush → ⊥ }
         ensures work { Works scope.old scope.new result }
         ensures locks { KeepsLocks scope.old.number self.old.locks self.new.locks result }
-        ensures why { IfErr result IsCause }
-        ensures memory { IfErr result (λ why. why ≡ Refusal.NoMemory) }
+        ensures only_memory { IfErr result (λ why. why ≡ Refusal.NoMemory) }
     {
         self.hold(scope, page, Mode::Write)
     }

@@ -122,7 +122,7 @@ impl<D: Device> Operations<D> {
         ensures budget { IfOk result HasBudget }
         ensures work { IfOk result (λ s. work_of s ≡ 2 * pages self.now.store.pool + 9) }
         ensures left { IfOk result (λ s. s.left ≡ (if only_reads op then 0 else 106496)) }
-        ensures why { IfErr result (λ why. why ≡ Refusal.NoMemory) }
+        ensures only_memory { IfErr result (λ why. why ≡ Refusal.NoMemory) }
     {
         let left = if reads_only(&op) {
             0
@@ -168,7 +168,7 @@ impl<D: Device> Operations<D> {
         ensures claimed { OnOk result (claimed self.new ≡ claimed self.old + count) }
         ensures fits { (opening : PageBytes) (relations counters : ℕ) → IsRight D.seen D.may_leave opening relations counters self.old →
             OnOk result (claimed self.old + count ≤ free_pages (pages self.old.store.pool) (held_in (world D.seen opening self.old))) }
-        ensures refused { IfErr result (λ why. why ≡ Refusal.NoRoom) }
+        ensures why { IfErr result (λ why. why ≡ Refusal.NoRoom) }
         ensures cause { (opening : PageBytes) (relations counters : ℕ) → IsRight D.seen D.may_leave opening relations counters self.old →
             OnErr result (free_pages (pages self.old.store.pool) (held_in (world D.seen opening self.old)) < claimed self.old + count) }
         ensures err { OnErr result (self.new ≡ self.old) }
@@ -208,7 +208,7 @@ impl<D: Device> Operations<D> {
         ensures used { OnOk result (used self.new.store.log ≡ used self.old.store.log + 5 + record_length entry) }
         ensures claimed { claimed self.new ≡ claimed self.old }
         ensures device { self.new.store.device ≡ self.old.store.device }
-        ensures why { IfErr result (λ why. why ≡ Refusal.NoMemory) }
+        ensures only_memory { IfErr result (λ why. why ≡ Refusal.NoMemory) }
     {
         self.store.append(entry)
     }
@@ -224,7 +224,7 @@ impl<D: Device> Operations<D> {
         ensures step { IfOk result (λ forced. IsStep self.old.store.log forced self.new.store.log) }
         ensures used { used self.new.store.log ≤ used self.old.store.log }
         ensures area { area_size self.new.store.log ≡ area_size self.old.store.log }
-        ensures why { IfErr result (λ why. why ≡ Refusal.DeviceFailed) }
+        ensures only_device { IfErr result (λ why. why ≡ Refusal.DeviceFailed) }
         ensures cause { IsErr result → (D.faults self.old.store.device < D.faults self.new.store.device ⊎ (has_failed self.old.store.log ≡ true)) }
         ensures quiet { IsOk result → D.faults self.new.store.device ≡ D.faults self.old.store.device }
     {
@@ -258,7 +258,7 @@ impl<D: Device> Operations<D> {
         ensures map { self.new.map ≡ self.old.map }
         ensures log { self.new.store.log ≡ self.old.store.log }
         ensures pages { pages self.new.store.pool ≡ pages self.old.store.pool }
-        ensures why { IfErr result (λ why. why ≡ Refusal.DeviceFailed) }
+        ensures only_device { IfErr result (λ why. why ≡ Refusal.DeviceFailed) }
         ensures cause { HasCause (D.faults self.old.store.device) (D.faults self.new.store.device) result }
     {
         for number in 0..count {

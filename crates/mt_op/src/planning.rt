@@ -225,8 +225,7 @@ impl<D: Device> Operations<D> {
         ensures stage { (result ≡ Ok None → ⊥) → scope.new.stage ≡ Planning }
         ensures work { WorksOn scope.old scope.new result }
         ensures locks { KeepsLocksOn scope.old.number self.old.locks self.new.locks result }
-        ensures why { IfErr result IsCause }
-        ensures memory { IfErr result (λ why. why ≡ Refusal.NoMemory) }
+        ensures only_memory { IfErr result (λ why. why ≡ Refusal.NoMemory) }
     {
         if let Some(page) = first_unlocked(scope.number, &changes, scope.guards.as_slice()) {
             let stepped = self.upgrade(scope, page)?;

@@ -94,8 +94,7 @@ impl<D: Device> Operations<D> {
         ensures err_records { OnErr result (appended self.new.store.log ≡ appended self.old.store.log) }
         ensures locks { self.new.locks ≡ self.old.locks }
         ensures err { OnErr result (scope.new ≡ scope.old) }
-        ensures why { IfErr result IsCause }
-        ensures memory { IfErr result (λ why. why ≡ Refusal.NoMemory) }
+        ensures only_memory { IfErr result (λ why. why ≡ Refusal.NoMemory) }
     {
         let before = self.store.log.used();
         let change = &scope.changes.list[scope.written];
@@ -129,8 +128,7 @@ impl<D: Device> Operations<D> {
         ensures rooms { OnOk result ((pages : PageBytes) → Agrees (looked scope.new) pages → AreShort (changes_in scope.new) pages → HasRooms scope.new self.new.map.kinds self.new.rooms.0 pages) }
         ensures ended { (result ≡ Ok stepped.Went → ⊥) × (result ≡ Ok stepped.Flush → ⊥) }
         ensures same { OnErr result (scope.new ≡ scope.old) }
-        ensures why { IfErr result IsCause }
-        ensures memory { IfErr result (λ why. why ≡ Refusal.NoMemory) }
+        ensures only_memory { IfErr result (λ why. why ≡ Refusal.NoMemory) }
     {
         let Some(reply) = &scope.reply else {
             unreachable!()
@@ -167,8 +165,7 @@ impl<D: Device> Operations<D> {
         ensures area { area_size self.new.store.log ≡ area_size self.old.store.log }
         ensures scope { scope.new ≡ record scope.old { left = scope.new.left } }
         ensures same { OnErr result (scope.new ≡ scope.old) }
-        ensures why { IfErr result IsCause }
-        ensures memory { IfErr result (λ why. why ≡ Refusal.NoMemory) }
+        ensures only_memory { IfErr result (λ why. why ≡ Refusal.NoMemory) }
     {
         let before_end = self.store.log.used();
         self.store.append(Record::OpEnd {

@@ -116,8 +116,7 @@ impl<D: Device> Operations<D> {
         ensures used { OnOk result (used self.new.store.log ≡ used self.old.store.log + 22) }
         ensures err_used { OnErr result (used self.new.store.log ≡ used self.old.store.log) }
         ensures area { area_size self.new.store.log ≡ area_size self.old.store.log }
-        ensures why { IfErr result IsCause }
-        ensures memory { IfErr result (λ why. why ≡ Refusal.NoMemory) }
+        ensures only_memory { IfErr result (λ why. why ≡ Refusal.NoMemory) }
     {
         self.store.append(Record::OpDropped {
             txn: scope.txn,
@@ -147,8 +146,7 @@ impl<D: Device> Operations<D> {
         ensures map { self.new.map ≡ self.old.map }
         ensures budget { HasBudget scope.new }
         ensures err { OnErr result (scope.new ≡ scope.old) }
-        ensures why { IfErr result IsCause }
-        ensures memory { IfErr result (λ why. why ≡ Refusal.NoMemory) }
+        ensures only_memory { IfErr result (λ why. why ≡ Refusal.NoMemory) }
     {
         let before = self.store.log.used();
         self.append_dropped(scope)?;

@@ -99,7 +99,7 @@ impl PageLocks {
     pub fn ask(&mut self, op: OpNo, page: PageNo, mode: Mode) -> Result<Asked, Refusal>
         ensures answer { IfOk result (λ asked.
             IsAnswered (lock_of op page mode) self.old asked self.new) }
-        ensures refused { IfErr result (λ refusal. refusal ≡ Refusal.NoMemory) }
+        ensures only_memory { IfErr result (λ why. why ≡ Refusal.NoMemory) }
         ensures kept { OnErr result (self.new ≡ self.old) }
     {
         let lock = PageLock { op, page, mode };

@@ -70,7 +70,7 @@ impl LockTable {
     /// It takes time in proportion to the holders of the object.
     pub fn ask(&mut self, txn: TxnNo, object: Object, mode: LockMode) -> Result<Asked, Refusal>
         ensures asked { IfOk result (λ asked. IsAsked (held_of self.old) txn object mode asked (held_of self.new)) }
-        ensures refused { IfErr result (λ why. IsRefused (held_of self.old) txn object mode why) }
+        ensures cause { IfErr result (λ why. IsRefused (held_of self.old) txn object mode why) }
         ensures err { OnErr result (held_of self.new ≡ held_of self.old) }
         ensures together { AreTogether (held_of self.new) }
     {

@@ -56,7 +56,7 @@ impl Space {
         ensures free { self.new.0 ≡ self.old.0 }
         ensures claimed { OnOk result (reserved_of self.new ≡ reserved_of self.old + pages) }
         ensures fits { OnOk result (reserved_of self.old + pages ≤ free_of self.old) }
-        ensures refused { IfErr result (λ why. why ≡ Refusal.NoRoom) }
+        ensures why { IfErr result (λ why. why ≡ Refusal.NoRoom) }
         ensures cause { OnErr result (free_of self.old < reserved_of self.old + pages) }
         ensures err { OnErr result (self.new ≡ self.old) }
     {

@@ -30,8 +30,8 @@ returns-then-eq-clause-held c =
     ∙ ap (λ (t : Bool). cond t (Some c.loop-own-item.result.1) (file_of c.args.name.now (drop (suc c.loop-own.own-index) files))) this in
     subst (λ (o : Option (List ℕ)). IfSome o (λ held. c.into_vec.result.items ≡ held)) (sym (ap (file_of c.args.name.now) (sym c.deref-own-items.ensures.value) ∙ is)) (c.into_vec.ensures ∙ c.in_ok-copy.ensures)
 
-pub returns-clause-refused : goal.returns-clause-refused
-returns-clause-refused c =
+pub returns-clause-why : goal.returns-clause-why
+returns-clause-why c =
     let files = c.deref-own-items.result.now in
     let all : drop c.loop-own.own-index files ≡ [] = drop_all c.loop-own.own-index files (omega arith) in
     inl (refl, ap (file_of c.args.name.now) (sym c.deref-own-items.ensures.value) ∙ c.loop-own.invariant ∙ ap (file_of c.args.name.now) all)

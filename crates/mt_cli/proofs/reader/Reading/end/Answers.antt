@@ -4,8 +4,8 @@ use Rattle.mt_cli.specs.Scripts.{IsRefusedFor}
 use Rattle.mt_cli.proofs.ScriptLemmas.{unended}
 use Rattle.mt_cli.proofs.reader.Reading.end.Goals as goal
 
-pub returns-then-not-is_empty-clause-refused : goal.returns-then-not-is_empty-clause-refused
-returns-then-not-is_empty-clause-refused c = λ bytes g.
+pub returns-then-not-is_empty-clause-cause : goal.returns-then-not-is_empty-clause-cause
+returns-then-not-is_empty-clause-cause c = λ bytes g.
     let lines = c.args.self.lines.items in
     let line = c.args.self.line.items in
     let few : length lines ≤ 100000 = search rules in

@@ -5,15 +5,15 @@ use Rattle.mt_cli.specs.Scripts.{IsRefusedFor}
 use Rattle.mt_cli.proofs.ScriptLemmas.{too_many, bad_line}
 use Rattle.mt_cli.proofs.reader.Reading.end_line.Goals as goal
 
-pub returns-then-len-ge-MAX_LINES-clause-refused : goal.returns-then-len-ge-MAX_LINES-clause-refused
-returns-then-len-ge-MAX_LINES-clause-refused c = λ front more g.
+pub returns-then-len-ge-MAX_LINES-clause-cause : goal.returns-then-len-ge-MAX_LINES-clause-cause
+returns-then-len-ge-MAX_LINES-clause-cause c = λ front more g.
     let lines = c.args.self.now.lines.items in
     let line = c.args.self.now.line.items in
     let full : length lines ≡ 100000 = search rules in
     subst (IsRefusedFor (front ++ 10 ∷ more)) (sym c.bad_line.ensures) (too_many front more lines line 10 full g)
 
-pub returns-in_default-clause-refused : goal.returns-in_default-clause-refused
-returns-in_default-clause-refused c = λ front more g.
+pub returns-in_default-clause-cause : goal.returns-in_default-clause-cause
+returns-in_default-clause-cause c = λ front more g.
     let lines = c.args.self.now.lines.items in
     let line = c.args.self.now.line.items in
     let few : length lines ≤ 100000 = search rules in

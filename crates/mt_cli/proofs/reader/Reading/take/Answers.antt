@@ -4,8 +4,8 @@ use Rattle.mt_cli.proofs.ScriptLemmas.{too_many, too_long}
 use Rattle.mt_cli.proofs.reader.Reading.take.Goals as goal
 use Rattle.mt_cli.proofs.reader.Reading.take.Goals.{else-len-lt-MAX_LINES-via-then-len-lt-MAX_LINES+else-len-lt-MAX_LINE_BYTES, else-len-lt-MAX_LINES-via-else-len-lt-MAX_LINES}
 
-pub returns-else-len-lt-MAX_LINES-clause-refused : goal.returns-else-len-lt-MAX_LINES-clause-refused
-returns-else-len-lt-MAX_LINES-clause-refused c = λ front more g.
+pub returns-else-len-lt-MAX_LINES-clause-cause : goal.returns-else-len-lt-MAX_LINES-clause-cause
+returns-else-len-lt-MAX_LINES-clause-cause c = λ front more g.
     let lines = c.args.self.now.lines.items in
     let line = c.args.self.now.line.items in
     let few : length lines ≤ 100000 = omega (arith, c.args.self.now.lines_fit, c.args.self.now.lines.ok.0) in

@@ -24,10 +24,10 @@ returns-clause-taken c = λ front g.
     let e2 : front ++ c.args.bytes.now ≡ front ++ take c.loop-byte.byte-index c.args.bytes.now = ap (λ x. front ++ x) (sym e) in
     rw e2 s
 
-pub returns-in_err-take-clause-refused : goal.returns-in_err-take-clause-refused
-returns-in_err-take-clause-refused c = let p = err_from_is_err_and c.from_residual.result c.from_residual.ensures.1 in rw (p.1, p.2) (λ front more g.
+pub returns-in_err-take-clause-cause : goal.returns-in_err-take-clause-cause
+returns-in_err-take-clause-cause c = let p = err_from_is_err_and c.from_residual.result c.from_residual.ensures.1 in rw (p.1, p.2) (λ front more g.
     let bytes = c.args.bytes.now in
     let i = c.loop-byte.byte-index in
     let lt : i < length bytes = omega arith in
-    let why = c.in_err-take.ensures.refused (front ++ take i bytes) (drop (suc i) bytes ++ more) (c.loop-byte.invariant front g) in
+    let why = c.in_err-take.ensures.cause (front ++ take i bytes) (drop (suc i) bytes ++ more) (c.loop-byte.invariant front g) in
     subst (λ t. IsRefusedFor t c.in_err-take.field-0.0) (bytes_about front bytes more i lt) why)

@@ -42,8 +42,8 @@ fits-requires c =
     subst (λ r. IsModest r) (sym room)
     (modest_held c.args.step (room_at rooms c.args.counter) (steps_at c.args.counter adds) c.requires.step (c.self.invariant.each c.args.counter))
 
-pub returns-then-not-fits-clause-refused : goal.returns-then-not-fits-clause-refused
-returns-then-not-fits-clause-refused c =
+pub returns-then-not-fits-clause-cause : goal.returns-then-not-fits-clause-cause
+returns-then-not-fits-clause-cause c =
     let rooms = c.self.inside.rooms.items in
     let adds = c.self.inside.pending.items in
     let seen : c.args.counter < length (map count_of rooms) =

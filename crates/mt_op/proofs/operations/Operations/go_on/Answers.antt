@@ -28,4 +28,4 @@ returns-then-scope-len-clause-stage g c = let (opening, relations, counters, rig
     comes_on relations counters _ _ _ c.write_next.new.scope c.write_next.result (c.write_next.ensures.goes opening relations counters right k).1 (inr c.write_next.ensures.stage)
 
 pub returns-else-scope-len-clause-faults : goal.returns-else-scope-len-clause-faults
-returns-else-scope-len-clause-faults g c = no_fault _ _ c.finish.result c.finish.ensures.memory (ap g.D.Device.faults c.finish.ensures.device)
+returns-else-scope-len-clause-faults g c = no_fault _ _ c.finish.result c.finish.ensures.only_memory (ap g.D.Device.faults c.finish.ensures.device)

@@ -44,7 +44,7 @@ returns-clause-locks g c =
 
 pub returns-in_err-bring-clause-faults : goal.returns-in_err-bring-clause-faults
 returns-in_err-bring-clause-faults g c = let p = err_from_is_err_and c.from_residual.result c.from_residual.ensures.1 in
-    fault_told _ _ c.bring.result _ c.from_residual.result c.bring.ensures.cause c.in_err-bring.was (p.1 ∙ ap Err (p.2 ∙ c.in_err-bring.ensures.why))
+    fault_told _ _ c.bring.result _ c.from_residual.result c.bring.ensures.cause c.in_err-bring.was (p.1 ∙ ap Err (p.2 ∙ c.in_err-bring.ensures.only_device))
 
 pub returns-then-not-branch-clause-faults : goal.returns-then-not-branch-clause-faults
 returns-then-not-branch-clause-faults g c = no_fault_ok _ _ _ (unfailed _ _ c.bring.result _ c.bring.ensures.cause c.in_ok-bring.was)
@@ -52,4 +52,4 @@ returns-then-not-branch-clause-faults g c = no_fault_ok _ _ _ (unfailed _ _ c.br
 pub returns-clause-faults : goal.returns-clause-faults
 returns-clause-faults g c =
     told_behind _ _ _ c.look.result (unfailed _ _ c.bring.result _ c.bring.ensures.cause c.in_ok-bring.was)
-    (no_fault _ _ c.look.result c.look.ensures.memory (ap (λ (s : Store g.row.D.Denot). g.D.Device.faults s.device) c.look.ensures.store))
+    (no_fault _ _ c.look.result c.look.ensures.only_memory (ap (λ (s : Store g.row.D.Denot). g.D.Device.faults s.device) c.look.ensures.store))

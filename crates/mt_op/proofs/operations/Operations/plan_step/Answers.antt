@@ -82,7 +82,7 @@ pub returns-in_ok-stepped-in-Lock-clause-faults : goal.returns-in_ok-stepped-in-
 returns-in_ok-stepped-in-Lock-clause-faults g c = told_ok _ _ c.lock_next.result _ _ c.in_ok-stepped-in-Lock.was c.lock_next.ensures.faults
 
 pub returns-in-Made-clause-faults : goal.returns-in-Made-clause-faults
-returns-in-Made-clause-faults g c = no_fault _ _ c.keep_plan.result c.keep_plan.ensures.memory (ap (λ (s : Store g.row.D.Denot). g.D.Device.faults s.device) c.keep_plan.ensures.store)
+returns-in-Made-clause-faults g c = no_fault _ _ c.keep_plan.result c.keep_plan.ensures.only_memory (ap (λ (s : Store g.row.D.Denot). g.D.Device.faults s.device) c.keep_plan.ensures.store)
 
 pub returns-in-Full-clause-faults : goal.returns-in-Full-clause-faults
 returns-in-Full-clause-faults g c = no_fault_ok _ _ _ refl

@@ -79,7 +79,7 @@ returns-then-scope-eq0-clause-faults g c = no_fault_ok _ _ _ refl
 
 pub returns-in_err-bring-clause-faults : goal.returns-in_err-bring-clause-faults
 returns-in_err-bring-clause-faults g c = let p = err_from_is_err_and c.from_residual.result c.from_residual.ensures.1 in
-    fault_told _ _ c.bring.result _ c.from_residual.result c.bring.ensures.cause c.in_err-bring.was (p.1 ∙ ap Err (p.2 ∙ c.in_err-bring.ensures.why))
+    fault_told _ _ c.bring.result _ c.from_residual.result c.bring.ensures.cause c.in_err-bring.was (p.1 ∙ ap Err (p.2 ∙ c.in_err-bring.ensures.only_device))
 
 pub returns-then-not-branch-clause-faults : goal.returns-then-not-branch-clause-faults
 returns-then-not-branch-clause-faults g c = no_fault_ok _ _ _ (unfailed _ _ c.bring.result _ c.bring.ensures.cause c.in_ok-bring.was)
@@ -87,7 +87,7 @@ returns-then-not-branch-clause-faults g c = no_fault_ok _ _ _ (unfailed _ _ c.br
 pub returns-then-scope-eq1-clause-faults : goal.returns-then-scope-eq1-clause-faults
 returns-then-scope-eq1-clause-faults g c =
     told_behind _ _ _ c.clear.result (unfailed _ _ c.bring.result _ c.bring.ensures.cause c.in_ok-bring.was)
-    (no_fault _ _ c.clear.result c.clear.ensures.memory (ap g.D.Device.faults c.clear.ensures.device))
+    (no_fault _ _ c.clear.result c.clear.ensures.only_memory (ap g.D.Device.faults c.clear.ensures.device))
 
 pub returns-else-scope-eq1-clause-faults : goal.returns-else-scope-eq1-clause-faults
 returns-else-scope-eq1-clause-faults g c = no_fault_ok _ _ _ (ap g.D.Device.faults c.put_back.ensures.device ∙ unfailed _ _ c.bring.result _ c.bring.ensures.cause c.in_ok-bring.was)

@@ -76,7 +76,7 @@ returns-clause-records g c =
 
 pub returns-in_err-bring-clause-faults : goal.returns-in_err-bring-clause-faults
 returns-in_err-bring-clause-faults g c = let p = err_from_is_err_and c.from_residual.result c.from_residual.ensures.1 in
-    fault_told _ _ c.bring.result _ c.from_residual.result c.bring.ensures.cause c.in_err-bring.was (p.1 ∙ ap Err (p.2 ∙ c.in_err-bring.ensures.why))
+    fault_told _ _ c.bring.result _ c.from_residual.result c.bring.ensures.cause c.in_err-bring.was (p.1 ∙ ap Err (p.2 ∙ c.in_err-bring.ensures.only_device))
 
 pub returns-then-not-branch-clause-faults : goal.returns-then-not-branch-clause-faults
 returns-then-not-branch-clause-faults g c = no_fault_ok _ _ _ (unfailed _ _ c.bring.result _ c.bring.ensures.cause c.in_ok-bring.was)
@@ -86,7 +86,7 @@ returns-in_err-write_there-clause-faults g c =
     let p = err_from_is_err_and c.from_residual-in_err-write_there.result c.from_residual-in_err-write_there.ensures.1 in
     told_behind _ _ _ c.from_residual-in_err-write_there.result (unfailed _ _ c.bring.result _ c.bring.ensures.cause c.in_ok-bring.was)
     (told_err _ _ c.write_there.result c.from_residual-in_err-write_there.result _ c.in_err-write_there.was (p.1 ∙ ap Err p.2)
-    (no_fault _ _ c.write_there.result c.write_there.ensures.memory (ap g.D.Device.faults c.write_there.ensures.device)))
+    (no_fault _ _ c.write_there.result c.write_there.ensures.only_memory (ap g.D.Device.faults c.write_there.ensures.device)))
 
 pub returns-clause-faults : goal.returns-clause-faults
 returns-clause-faults g c = no_fault_ok _ _ _ (ap g.D.Device.faults c.write_there.ensures.device ∙ unfailed _ _ c.bring.result _ c.bring.ensures.cause c.in_ok-bring.was)

@@ -7,8 +7,8 @@ use Rattle.mt_slock.proofs.table.LockTable.ask.Goals as goal
 pub grant-requires : goal.grant-requires
 grant-requires c = subst (λ t. IsFree (held_of t) c.args.txn c.args.object c.args.mode) c.self.view_is c.in-None.ensures
 
-pub returns-in_err-grant-in-None-clause-refused : goal.returns-in_err-grant-in-None-clause-refused
-returns-in_err-grant-in-None-clause-refused c =
+pub returns-in_err-grant-in-None-clause-cause : goal.returns-in_err-grant-in-None-clause-cause
+returns-in_err-grant-in-None-clause-cause c =
     let p = err_from_is_err_and c.from_residual.result c.from_residual.ensures.1 in
     let free = subst (λ t. IsFree (held_of t) c.args.txn c.args.object c.args.mode) c.self.view_is c.in-None.ensures in
     rw (p.1, p.2) (free, c.in_err-grant-in-None.ensures.new)

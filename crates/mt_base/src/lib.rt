@@ -18,6 +18,3 @@ pub use history::History;
 pub use modes::{LockMode, Mode};
 pub use numbers::{CtrNo, LogPos, OpNo, PageNo, RecordName, RelNo, TxnNo};
 pub use refusal::Refusal;
-
-#[cfg(test)]
-mod tests;

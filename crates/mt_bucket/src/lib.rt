@@ -17,6 +17,3 @@ pub use checking::check;
 pub use finding::{EntryView, entry, find, place_of};
 pub use hashing::{has_bit, hash};
 pub use heads::{MAX_ENTRIES, count, depth, empty, next, set_depth, set_next};
-
-#[cfg(test)]
-mod tests;

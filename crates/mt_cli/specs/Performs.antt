@@ -8,18 +8,18 @@ use Rattle.mt_model.specs.declared.tables.Base as code
 use Rattle.mt_model.specs.Views.{relations_of, rows_of, counters_of}
 use Rattle.mt_txn.specs.State.{State, fresh_state}
 use Rattle.mt_txn.specs.Kept.{IsKept}
-use Rattle.mt_cli.specs.declared.lines.Line.{Line}
-use Rattle.mt_cli.specs.declared.answers.Answer.TheVariants.{Refused as RefusedLine}
+use Rattle.mt_server.specs.declared.lines.Line.{Line}
+use Rattle.mt_server.specs.declared.answers.Answer.TheVariants.{Refused as RefusedLine}
 use Rattle.mt_cli.specs.declared.command.Command.{Command}
 use Rattle.mt_cli.specs.declared.command.Command.TheVariants.{Try, Show}
-use Rattle.mt_cli.specs.declared.perform.Fault.{Fault}
-use Rattle.mt_cli.specs.declared.perform.Fault.TheVariants.{Output, Refused}
-use Rattle.mt_cli.specs.declared.running.RunFault.{RunFault}
-use Rattle.mt_cli.specs.declared.running.RunFault.TheVariants as run
-use Rattle.mt_cli.specs.Answers.{AppendsFront}
+use Rattle.mt_cli.specs.declared.performing.Fault.{Fault}
+use Rattle.mt_cli.specs.declared.performing.Fault.TheVariants.{Output, Refused}
+use Rattle.mt_server.specs.declared.running.RunFault.{RunFault}
+use Rattle.mt_server.specs.declared.running.RunFault.TheVariants as run
+use Rattle.mt_server.specs.Answers.{AppendsFront}
 use Rattle.mt_cli.specs.CommandLines.{IsCommandOf}
-use Rattle.mt_cli.specs.Scripts.{IsScript, IsRefusedFor}
-use Rattle.mt_cli.specs.Runs.{HasRun, IsCutRun, line_of}
+use Rattle.mt_server.specs.Scripts.{IsScript, IsRefusedFor}
+use Rattle.mt_server.specs.Runs.{HasRun, IsCutRun, line_of}
 
 -- two relations without rows, and one counter from 0 to 10 that starts at 5
 pub record IsFirstBase (base : code.Base) : Type 0 where

@@ -34,7 +34,8 @@ impl<D: Device> FaultDevice<D> {
     pub fn into_inner(self) -> D
         ensures { result ≡ below self }
     {
-        self.device
+        let FaultDevice { device, .. } = self;
+        device
     }
 
     /// Counts a call, and answers whether it goes through.

@@ -14,6 +14,3 @@ pub use device::{Device, DeviceFault};
 pub use fault::FaultDevice;
 pub use file::FileDevice;
 pub use memory::MemDevice;
-
-#[cfg(test)]
-mod tests;

@@ -9,7 +9,5 @@
 mod accounts;
 mod arithmetic;
 mod rooms;
-#[cfg(test)]
-mod tests;
 
 pub use accounts::Escrow;

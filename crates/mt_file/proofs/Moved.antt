@@ -4,9 +4,9 @@ use Rattle.std.proofs.lemmas.Bool.{false≢true}
 use Rattle.std.specs.Option.{option_eq}
 use Rattle.std.proofs.lemmas.Bool.Decides.{nat_tests}
 use Rattle.std.proofs.lemmas.List.{get_or-set_same, get_or-set_other}
-use Rattle.mt_pool.specs.declared.changes.PageChange.{PageChange}
-use Rattle.mt_pool.specs.Changes.{PageBytes, Agrees, replaced, after, IsUntouched, AreShort}
-use Rattle.mt_pool.proofs.Changing.{replaced_here, replaced_other}
+use Rattle.mt_space.specs.declared.changes.PageChange.{PageChange}
+use Rattle.mt_space.specs.Changes.{PageBytes, Agrees, replaced, after, IsUntouched, AreShort}
+use Rattle.mt_space.proofs.Changing.{replaced_here, replaced_other}
 use Rattle.mt_slots.specs.Page.{Row, slot, count, live_slots, IsShaped, Sets, row_length, room_of}
 use Rattle.mt_space.specs.Kinds.{kind}
 use Rattle.mt_space.specs.Rooms.{mapped, IsFirstFree}

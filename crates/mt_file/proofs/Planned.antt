@@ -3,9 +3,9 @@ use Rattle.std.proofs.Common.{◌≡◌, ◌≢◌, inl, inr, ⊎_elim, ℕ, ◌
 use Rattle.std.proofs.lemmas.Bool.{cases_lt}
 use Rattle.std.proofs.lemmas.Bool.Decides.{nat_tests}
 use Rattle.std.proofs.lemmas.List.{get_or_past}
-use Rattle.mt_pool.specs.declared.changes.PageChange.{PageChange}
-use Rattle.mt_pool.specs.Changes.{PageBytes, Agrees, replaced, after, IsUntouched}
-use Rattle.mt_pool.proofs.Changing.{replaced_other, after_untouched}
+use Rattle.mt_space.specs.declared.changes.PageChange.{PageChange}
+use Rattle.mt_space.specs.Changes.{PageBytes, Agrees, replaced, after, IsUntouched}
+use Rattle.mt_space.proofs.Changing.{replaced_other, after_untouched}
 use Rattle.mt_slots.specs.Page.{Row, slot, count, live_slots, IsShaped, Sets, Inserted, IsFull, row_length}
 use Rattle.mt_space.specs.Kinds.{kind}
 use Rattle.mt_space.specs.Rooms.{mapped, IsFirstFree}

@@ -3,7 +3,7 @@ use Rattle.std.specs.Prelude.{◌≡◌, ℕ, ◌<◌, ◌≤◌, List, [], leng
 use Rattle.std.proofs.Common.{⊎_elim, get_or, sym, ap, ◌∙◌}
 use Rattle.std.proofs.lemmas.Bool.{cases_lt}
 use Rattle.std.proofs.lemmas.Option.{slice_get_past, get_or_from_slice_get}
-use Rattle.mt_pool.specs.Changes.{PageBytes, Agrees}
+use Rattle.mt_space.specs.Changes.{PageBytes, Agrees}
 
 -- the bytes of each page; none past the last one
 abbrev pub copied : List (List ℕ) → PageBytes

@@ -1,7 +1,7 @@
 -- The records of all pages, by their names.
 use Rattle.std.specs.Prelude.{◌≡◌, ◌≢◌, ◌⊎◌, ℕ, ◌==◌, if◌then◌else◌, length, Option, Some, None}
 use Rattle.mt_slots.specs.Page.{Row, slot, IsShaped, Fits}
-use Rattle.mt_pool.specs.Changes.{PageBytes}
+use Rattle.mt_space.specs.Changes.{PageBytes}
 use Rattle.mt_space.specs.Kinds.{kind}
 
 -- what stands under the name of a record: a page and a slot

@@ -2,8 +2,8 @@
 use Rattle.std.specs.Prelude.{◌≡◌, ◌≢◌, ◌⊎◌, ℕ, ◌+◌, ◌<◌, ◌≤◌, List, [], length, Option, Some, None, false}
 use Rattle.std.proofs.Math.ListN.{get_or}
 use Rattle.mt_base.specs.declared.modes.Mode.TheVariants.{Write, Read}
-use Rattle.mt_pool.specs.Changes.{PageBytes, after, IsUntouched, AreShort}
-use Rattle.mt_pool.specs.declared.changes.PageChange.{PageChange}
+use Rattle.mt_space.specs.Changes.{PageBytes, after, IsUntouched, AreShort}
+use Rattle.mt_space.specs.declared.changes.PageChange.{PageChange}
 use Rattle.mt_slots.specs.Page.{Row, slot, IsShaped, row_length, room_of}
 use Rattle.mt_space.specs.Kinds.{kind}
 use Rattle.mt_space.specs.Rooms.{mapped, IsFirstFree}

@@ -1,7 +1,7 @@
 -- What each page of records takes.
 use Rattle.std.specs.Prelude.{◌≡◌, ◌≢◌, ℕ, ◌+◌, ◌-◌, ◌*◌, ◌<◌, ◌≤◌, max, Bool, false, List, length, ◌==◌, if◌then◌else◌}
 use Rattle.std.proofs.Math.ListN.{get_or}
-use Rattle.mt_pool.specs.Changes.{PageBytes}
+use Rattle.mt_space.specs.Changes.{PageBytes}
 use Rattle.mt_slots.specs.Page.{count, live_slots, room_of}
 use Rattle.mt_space.specs.Kinds.{kind}
 

@@ -19,6 +19,3 @@ pub use removing::plan_remove;
 pub use replacing::plan_replace;
 pub use rooms::{Rooms, fits};
 pub use step::{Plan, Step};
-
-#[cfg(test)]
-mod tests;

@@ -1,7 +1,7 @@
 // A record more.
 ghost use Rattle.std.specs.Prelude.{◌≡◌, ◌≢◌, ◌<◌, ◌≤◌, ℕ, List, [], length, get_or, Option, Some, None, IfOk, IsSome, ◌+◌};
 ghost use Rattle.mt_base.specs.Limits.{IsKey, IsValue};
-ghost use Rattle.mt_pool.specs.Changes.{PageBytes, Agrees, after};
+ghost use Rattle.mt_space.specs.Changes.{PageBytes, Agrees, after};
 ghost use Rattle.mt_slots.specs.Page.{Row, IsShaped, slot as held};
 ghost use Rattle.mt_space.specs.Kinds.{kind};
 ghost use Rattle.mt_file.specs.File.{IsFile};
@@ -9,10 +9,9 @@ ghost use Rattle.mt_file.specs.Plans.{IsNamed, IsReady, IsApart, IsPut, IsShortP
 
 use crate::step::{Plan, Step};
 use mt_base::{Mode, PageNo, RecordName, RelNo};
-use mt_pool::{Changes, Pages};
 use mt_slots::{empty, insert};
-use mt_space::first_free;
 use mt_space::pages::{MAP, RECORDS};
+use mt_space::{Changes, Pages, first_free};
 use std::alloc::{AllocError, Global};
 
 /// Plans to put a record into the page `room`, which holds records; into a new page, the smallest free one,

@@ -1,13 +1,13 @@
 // The record under a name.
 ghost use Rattle.std.specs.Prelude.{◌≡◌, ℕ};
-ghost use Rattle.mt_pool.specs.Changes.{PageBytes, Agrees};
+ghost use Rattle.mt_space.specs.Changes.{PageBytes, Agrees};
 ghost use Rattle.mt_space.specs.Kinds.{kind};
 ghost use Rattle.mt_file.specs.File.{IsFile};
 ghost use Rattle.mt_file.specs.Plans.{IsFound};
 
 use mt_base::{Mode, PageNo, RecordName};
-use mt_pool::Pages;
 use mt_slots::{RecordView, get};
+use mt_space::Pages;
 
 /// What a reading of a name finds.
 #[derive(Clone, Copy, Debug)]

@@ -1,6 +1,6 @@
 // A record less.
 ghost use Rattle.std.specs.Prelude.{◌≡◌, ℕ, Some, IfOk, IsSome};
-ghost use Rattle.mt_pool.specs.Changes.{PageBytes, Agrees};
+ghost use Rattle.mt_space.specs.Changes.{PageBytes, Agrees};
 ghost use Rattle.mt_slots.specs.Page.{Row};
 ghost use Rattle.mt_file.specs.File.{IsFile, record_in};
 ghost use Rattle.mt_file.specs.Plans.{IsRemoval, IsShortPlan, IfDone, IsFew};
@@ -8,9 +8,9 @@ ghost use Rattle.mt_file.specs.Plans.{IsRemoval, IsShortPlan, IfDone, IsFew};
 use crate::putting::with_kind;
 use crate::step::{Plan, Step};
 use mt_base::{Mode, PageNo, RecordName};
-use mt_pool::{Changes, Pages};
 use mt_slots::{live, remove};
 use mt_space::pages::{FREE, MAP};
+use mt_space::{Changes, Pages};
 use std::alloc::{AllocError, Global};
 
 /// Plans to take away the record under a name. That name holds nothing then, and no other changes. Where it

@@ -2,7 +2,7 @@
 ghost use Rattle.std.specs.Prelude.{◌≡◌, ◌≢◌, ◌+◌, ◌<◌, ◌≤◌, ℕ, [], length, Some, IfOk, IsSome, MatchBool};
 ghost use Rattle.std.specs.Bool.{OnTrue, OnFalse};
 ghost use Rattle.mt_base.specs.Limits.{IsValue};
-ghost use Rattle.mt_pool.specs.Changes.{PageBytes, Agrees, after, AreShort};
+ghost use Rattle.mt_space.specs.Changes.{PageBytes, Agrees, after, AreShort};
 ghost use Rattle.mt_slots.specs.Page.{Row, IsShaped, slot as held, room_of, row_length};
 ghost use Rattle.mt_space.specs.Kinds.{kind};
 ghost use Rattle.mt_file.specs.File.{IsFile, record_in};
@@ -11,8 +11,8 @@ ghost use Rattle.mt_file.specs.Plans.{IsNamed, IsReplacement, IsShortPlan, IsWho
 use crate::putting::{page_of_one, put};
 use crate::step::{Plan, Step};
 use mt_base::{Mode, PageNo, RecordName, RelNo};
-use mt_pool::{Changes, Pages};
 use mt_slots::{get, live, remove, replace};
+use mt_space::{Changes, Pages};
 use std::alloc::{AllocError, Global};
 
 /// Plans to give the record under a name another value. It stays under its name where its page has room

@@ -1,7 +1,7 @@
 // Which page of records takes a record of so many bytes.
 ghost use Rattle.std.specs.Prelude.{◌≡◌, ◌≢◌, ◌+◌, ◌*◌, ◌<◌, ◌≤◌, ℕ, length, get_or, replicate, max, IfOk, IfSome, IfNone, slice_set, true, false};
 ghost use Rattle.mt_slots.specs.Page.{IsShaped};
-ghost use Rattle.mt_pool.specs.Changes.{PageBytes};
+ghost use Rattle.mt_space.specs.Changes.{PageBytes};
 ghost use Rattle.mt_space.specs.Kinds.{kind};
 ghost use Rattle.mt_file.specs.File.{Touches};
 ghost use Rattle.mt_file.specs.Rooms.{fits_of, fits_at, is_held, Takes, AreRooms, IsMax, IsTreeBut};

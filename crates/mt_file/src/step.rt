@@ -1,6 +1,6 @@
 // What a plan of the record file answers.
 use mt_base::{Mode, PageNo, RecordName};
-use mt_pool::Changes;
+use mt_space::Changes;
 
 /// What changes in which pages, and the name of the record that it is about: where it was put, or where
 /// it was taken from.

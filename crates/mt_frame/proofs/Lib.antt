@@ -5,3 +5,4 @@ pub mod RecordLaws
 pub mod Rows
 pub mod SlotLaws
 pub mod RuleLaws
+pub mod Redone

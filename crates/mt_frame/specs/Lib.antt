@@ -6,3 +6,4 @@ pub mod History
 pub mod Known
 pub mod Codec
 pub mod Readers
+pub mod PageRecords

@@ -9,8 +9,6 @@ mod laws;
 mod reading;
 mod records;
 mod slots;
-#[cfg(test)]
-mod tests;
 mod writing;
 
 pub use area_rules::AreaRules;

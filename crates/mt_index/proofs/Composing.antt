@@ -4,9 +4,9 @@ use Rattle.std.proofs.lemmas.Bool.{cases_eq}
 use Rattle.mt_bucket.specs.Entries.{Entry}
 use Rattle.mt_bucket.specs.Hash.{hash, high}
 use Rattle.mt_bucket.specs.Page.{depth_of, next_of, count_of, entries, IsBucket}
-use Rattle.mt_pool.specs.declared.changes.PageChange.{PageChange}
-use Rattle.mt_pool.specs.Changes.{PageBytes, replaced, after}
-use Rattle.mt_pool.proofs.Changing.{replaced_here, replaced_other}
+use Rattle.mt_space.specs.declared.changes.PageChange.{PageChange}
+use Rattle.mt_space.specs.Changes.{PageBytes, replaced, after}
+use Rattle.mt_space.proofs.Changing.{replaced_here, replaced_other}
 use Rattle.mt_space.specs.Kinds.{kind}
 use Rattle.mt_index.specs.Maps.{Map}
 use Rattle.mt_index.specs.Index.{named, kept_low, kept_high}

@@ -1,8 +1,8 @@
 -- Changes of several pages, each noted once.
 use Rattle.std.proofs.Common.{◌≡◌, ◌≢◌, ℕ, ◌+◌, ◌≤◌, List, [], ◌∷◌, length, refl, sym, ◌∙◌, subst, arith}
-use Rattle.mt_pool.specs.declared.changes.PageChange.{PageChange}
-use Rattle.mt_pool.specs.Changes.{PageBytes, replaced, after, IsUntouched, AreShort}
-use Rattle.mt_pool.proofs.Changing.{after_untouched}
+use Rattle.mt_space.specs.declared.changes.PageChange.{PageChange}
+use Rattle.mt_space.specs.Changes.{PageBytes, replaced, after, IsUntouched, AreShort}
+use Rattle.mt_space.proofs.Changing.{after_untouched}
 use Rattle.mt_index.specs.Maps.{Each}
 use Rattle.mt_index.specs.Pages.{Turns}
 use Rattle.mt_index.specs.Halves.{Notes}

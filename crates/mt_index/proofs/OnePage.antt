@@ -8,12 +8,12 @@ use Rattle.mt_bucket.specs.Page.{depth_of, next_of, entries, KeepsHead, IsBucket
 use Rattle.mt_index.specs.Maps.{Map, alter}
 use Rattle.mt_index.specs.Index.{IsIndex}
 use Rattle.mt_index.specs.Steps.{OnChain, OnePage}
-use Rattle.mt_pool.specs.Changes.{PageBytes}
+use Rattle.mt_space.specs.Changes.{PageBytes}
 use Rattle.mt_space.specs.Kinds.{kind}
 use Rattle.mt_index.specs.Pages.{depth_in, pointers_from, node_of, state_of, AreMap, IsDirectory, AreFormed, Turns}
 use Rattle.mt_index.specs.Answers.{Lacks, Holds}
-use Rattle.mt_pool.specs.Changes.{replaced}
-use Rattle.mt_pool.proofs.Changing.{replaced_here, replaced_other}
+use Rattle.mt_space.specs.Changes.{replaced}
+use Rattle.mt_space.proofs.Changing.{replaced_here, replaced_other}
 use Rattle.mt_index.proofs.Lists.{at_parts}
 use Rattle.mt_index.proofs.Keeping.{drop_kept, set_kept}
 use Rattle.mt_index.proofs.Passing.{passed_kind, passed_on}

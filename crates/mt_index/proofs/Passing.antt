@@ -9,7 +9,7 @@ use Rattle.mt_bucket.specs.Page.{next_of, entries, entries_from, count_of}
 use Rattle.mt_index.specs.Maps.{Map, Each}
 use Rattle.mt_index.specs.Index.{named}
 use Rattle.mt_index.specs.Steps.{Walk, OnChain}
-use Rattle.mt_pool.specs.Changes.{PageBytes}
+use Rattle.mt_space.specs.Changes.{PageBytes}
 use Rattle.mt_space.specs.Kinds.{kind}
 use Rattle.mt_index.specs.Pages.{depth_in, pointer_at, node_of, state_of, AreMap, Passed}
 use Rattle.mt_index.specs.Answers.{Lacks, Holds}

@@ -3,7 +3,7 @@ use Rattle.std.proofs.Common.{◌≡◌, ℕ, zero, suc, ◌+◌, ◌*◌, ◌<�
 use Rattle.std.proofs.lemmas.Nat.{pow_pos, mod_below, one_shl, pow_below}
 use Rattle.mt_base.specs.Ranges.{u16_at}
 use Rattle.mt_index.specs.Index.{named}
-use Rattle.mt_pool.specs.Changes.{PageBytes}
+use Rattle.mt_space.specs.Changes.{PageBytes}
 use Rattle.mt_index.specs.Pages.{depth_in, pointer_at, pointers_from, state_of}
 
 pub get_pointer : (c : List ℕ) (at n i : ℕ) → i < n → get_or (pointers_from c at n) i 0 ≡ u16_at c (at + 2 * i)

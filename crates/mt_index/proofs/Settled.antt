@@ -2,7 +2,7 @@
 use Rattle.std.proofs.Common.{◌≡◌, ◌≢◌, ℕ, ◌+◌, ◌<◌, ◌≤◌, List, [], ◌∷◌, length, None, ap, sym, ◌∙◌, subst, arith, ◌⊎◌, inl, inr}
 use Rattle.mt_bucket.specs.Entries.{look}
 use Rattle.mt_bucket.specs.Page.{next_of, entries}
-use Rattle.mt_pool.specs.Changes.{PageBytes}
+use Rattle.mt_space.specs.Changes.{PageBytes}
 use Rattle.mt_index.specs.Maps.{Each}
 use Rattle.mt_index.specs.Index.{Linked}
 use Rattle.mt_index.specs.Pages.{node_of}

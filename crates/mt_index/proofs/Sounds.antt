@@ -4,7 +4,7 @@ use Rattle.std.proofs.lemmas.Nat.{mod_low, mod_below, pow_pos}
 use Rattle.mt_bucket.specs.Entries.{look}
 use Rattle.mt_bucket.specs.Hash.{hash}
 use Rattle.mt_bucket.specs.Page.{depth_of, next_of, count_of, entries}
-use Rattle.mt_pool.specs.Changes.{PageBytes}
+use Rattle.mt_space.specs.Changes.{PageBytes}
 use Rattle.mt_space.specs.Kinds.{kind}
 use Rattle.mt_index.specs.Maps.{Each, Once}
 use Rattle.mt_index.specs.Index.{Node, State, named, Linked, IsTree, entries_of}

@@ -7,12 +7,12 @@ use Rattle.mt_bucket.specs.Entries.{Entry, look}
 use Rattle.mt_bucket.specs.Hash.{hash, high}
 use Rattle.mt_bucket.specs.Page.{depth_of, entries, next_of}
 use Rattle.mt_index.specs.Maps.{Map, alter}
-use Rattle.mt_pool.specs.declared.changes.PageChange.{PageChange}
+use Rattle.mt_space.specs.declared.changes.PageChange.{PageChange}
 use Rattle.mt_index.specs.declared.answers.Amend.{Amend}
 use Rattle.mt_index.specs.declared.answers.Amend.TheVariants as amend
 use Rattle.mt_index.specs.Index.{kept_low, kept_high}
 use Rattle.mt_index.specs.Rule.{IsFull, MaySplit, Way}
-use Rattle.mt_pool.specs.Changes.{PageBytes, Agrees, after, AreShort}
+use Rattle.mt_space.specs.Changes.{PageBytes, Agrees, after, AreShort}
 use Rattle.mt_space.specs.Kinds.{kind}
 use Rattle.mt_index.specs.Pages.{state_of, AreMap, Passed, AreFormed}
 use Rattle.mt_index.specs.declared.answers.Find.{Find}

@@ -3,8 +3,8 @@ use Rattle.std.specs.Prelude.{ℕ, ◌≡◌, ◌≢◌, ◌≤◌, ◌<◌, Boo
 use Rattle.std.specs.Bool.{OnTrue, OnFalse}
 use Rattle.mt_bucket.specs.Entries.{Entry}
 use Rattle.mt_bucket.specs.Page.{depth_of, next_of, count_of, entries, KeepsHead, IsBucket}
-use Rattle.mt_pool.specs.declared.changes.PageChange.{PageChange}
-use Rattle.mt_pool.specs.Changes.{PageBytes, after, IsUntouched, AreShort}
+use Rattle.mt_space.specs.declared.changes.PageChange.{PageChange}
+use Rattle.mt_space.specs.Changes.{PageBytes, after, IsUntouched, AreShort}
 use Rattle.mt_index.specs.Maps.{Each}
 use Rattle.mt_index.specs.Pages.{TakesPage, Rewired, Parted}
 use Rattle.mt_index.specs.declared.splitting.Halves.{Halves}

@@ -8,3 +8,4 @@ pub mod Answers
 pub mod Checks
 pub mod Halves
 pub mod Copies
+pub mod Laws

@@ -5,7 +5,7 @@ use Rattle.mt_base.specs.Ranges.{u16_at, Torn}
 use Rattle.mt_bucket.specs.Entries.{Entry}
 use Rattle.mt_bucket.specs.Hash.{hash, high}
 use Rattle.mt_bucket.specs.Page.{depth_of, next_of, entries, IsBucket}
-use Rattle.mt_pool.specs.Changes.{PageBytes}
+use Rattle.mt_space.specs.Changes.{PageBytes}
 use Rattle.mt_space.specs.Kinds.{kind}
 use Rattle.mt_index.specs.Maps.{Map, Each}
 use Rattle.mt_index.specs.Index.{Node, State, named, IsIndex, kept_low, kept_high}

@@ -11,9 +11,8 @@ use mt_base::limits::PAGE_BYTES;
 use mt_base::ranges::put;
 use mt_base::{Mode, PageNo, RecordName, RelNo};
 use mt_bucket::{depth, empty, push, set_next};
-use mt_pool::{Changes, Pages};
-use mt_space::first_free;
 use mt_space::pages::{BUCKET, MAP};
+use mt_space::{Changes, Pages, first_free};
 use std::alloc::{AllocError, Global};
 
 // Puts the entry into a page of its bucket with room.

@@ -1,7 +1,7 @@
 // Changes of an entry that is there.
 ghost use Rattle.std.specs.Prelude.{◌≡◌, ◌≤◌, ◌<◌, ℕ, length, Some, None, IfOk};
 ghost use Rattle.mt_base.specs.declared.modes.Mode.TheVariants.{Write};
-ghost use Rattle.mt_pool.specs.Changes.{after};
+ghost use Rattle.mt_space.specs.Changes.{after};
 ghost use Rattle.mt_index.specs.Pages.{AreFormed};
 ghost use Rattle.mt_index.specs.Answers.{InMaps, IsInBucket, Asks, AmendNeeds, IfAmended, AmendMissing, AmendEndless, Amends};
 
@@ -10,7 +10,7 @@ use crate::noting::change_of;
 use crate::walking::holder_of;
 use mt_base::{Mode, RecordName, RelNo};
 use mt_bucket::{remove, set};
-use mt_pool::Pages;
+use mt_space::Pages;
 use std::alloc::{AllocError, Global};
 
 /// The changes that give the record under a relation and a key another name: of one page of its bucket, by

@@ -1,6 +1,6 @@
 // What plans answer.
 use mt_base::{Mode, PageNo, RecordName};
-use mt_pool::Changes;
+use mt_space::Changes;
 
 /// What a find answers.
 #[derive(Clone, Copy, Debug)]

@@ -5,7 +5,7 @@ ghost use Rattle.mt_index.specs.Answers.{InMaps, IsInBucket, Asks, FindNeeds, If
 use crate::answers::{Find, Held};
 use crate::walking::holder_of;
 use mt_base::{Mode, RelNo};
-use mt_pool::Pages;
+use mt_space::Pages;
 
 /// The name of the record under a relation and a key, or that there is none, by the pages at hand. The
 /// directory and then pages of the key's bucket are needed for read. In pages that are an index it never

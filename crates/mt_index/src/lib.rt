@@ -32,6 +32,3 @@ pub use laws::{
 };
 pub use planning::plan_add;
 pub use reading::check;
-
-#[cfg(test)]
-mod tests;

@@ -1,9 +1,9 @@
 ghost use Rattle.std.specs.Prelude.{◌≡◌, ◌≤◌, ℕ, length, IfOk};
-ghost use Rattle.mt_pool.specs.Changes.{PageBytes, after, AreShort};
+ghost use Rattle.mt_space.specs.Changes.{PageBytes, after, AreShort};
 ghost use Rattle.mt_index.specs.Pages.{Turns};
 
 use mt_base::PageNo;
-use mt_pool::Changes;
+use mt_space::Changes;
 use std::alloc::{AllocError, Global};
 
 // The change of one page.

@@ -1,6 +1,6 @@
 // The way that an add goes.
 ghost use Rattle.std.specs.Prelude.{◌≡◌, ◌≤◌, ◌<◌, length, Some, None, IfOk};
-ghost use Rattle.mt_pool.specs.Changes.{after};
+ghost use Rattle.mt_space.specs.Changes.{after};
 ghost use Rattle.mt_index.specs.Maps.{alter};
 ghost use Rattle.mt_index.specs.Pages.{AreMap};
 ghost use Rattle.mt_index.specs.Answers.{InMaps, Asks, IsInAdd, Adds, TakesSeen, Shortage, IsPlanned, AddNeeds, IfAdded, AddFull, AddEndless};
@@ -12,7 +12,7 @@ use crate::splitting::plan_split;
 use crate::walking::room_in;
 use mt_base::{Mode, RecordName, RelNo};
 use mt_bucket::depth;
-use mt_pool::Pages;
+use mt_space::Pages;
 use std::alloc::{AllocError, Global};
 
 /// The changes that add the entry of a relation and a key that have none: the first page of the key's

@@ -3,7 +3,7 @@ ghost use Rattle.std.specs.Prelude.{ℕ, ◌≡◌, ◌≢◌, ◌≤◌, ◌<�
 ghost use Rattle.std.specs.Bool.{OnTrue, OnFalse};
 ghost use Rattle.mt_bucket.specs.Hash.{hash as hash_of};
 ghost use Rattle.mt_bucket.specs.Page.{depth_of, count_of, entries, KeepsHead, IsBucket};
-ghost use Rattle.mt_pool.specs.Changes.{PageBytes};
+ghost use Rattle.mt_space.specs.Changes.{PageBytes};
 ghost use Rattle.mt_index.specs.Index.{named};
 ghost use Rattle.mt_index.specs.Rule.{MaySplit};
 ghost use Rattle.mt_index.specs.Pages.{state_of, TakesPage, Rewired, Parted};
@@ -16,9 +16,8 @@ use crate::directory::rewired;
 use mt_base::limits::PAGE_BYTES;
 use mt_base::{Mode, PageNo, RecordName, RelNo};
 use mt_bucket::{depth, empty, has_bit, hash, partition, push, set_depth, set_next};
-use mt_pool::{Changes, Pages};
-use mt_space::first_free;
 use mt_space::pages::{DIRECTORY, MAP};
+use mt_space::{Changes, Pages, first_free};
 use std::alloc::{AllocError, Global};
 
 // The pages that a split changes, once it is made.

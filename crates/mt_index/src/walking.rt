@@ -7,7 +7,7 @@ use crate::answers::{Held, Spot};
 use crate::directory::pointer;
 use mt_base::{Mode, PageNo, RelNo};
 use mt_bucket::{MAX_ENTRIES, count, find, hash, next};
-use mt_pool::Pages;
+use mt_space::Pages;
 use mt_space::pages::DIRECTORY;
 
 // The page of the key's bucket with an entry of the key. The bucket's pages are needed in this mode.

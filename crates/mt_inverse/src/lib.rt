@@ -41,6 +41,3 @@ pub fn inverse_of(op: &Op, reply: &Reply) -> Result<Option<Op>, Refusal>
         _ => Ok(None),
     }
 }
-
-#[cfg(test)]
-mod tests;

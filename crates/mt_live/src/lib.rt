@@ -8,8 +8,6 @@ pub mod laws;
 mod live;
 pub mod mistakes;
 mod places;
-#[cfg(test)]
-mod tests;
 mod transactions;
 
 pub use live::Live;

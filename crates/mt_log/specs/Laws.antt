@@ -1,7 +1,13 @@
--- An area is read in one way.
+-- The laws of a log: what a crash leaves of it, and that an area is read in one way.
 use Rattle.std.specs.Prelude.{◌<◌, ◌≡◌, ℕ, ◌+◌, ◌^◌, List}
 use Rattle.mt_frame.specs.declared.records.Record.{Record}
+use Rattle.mt_log.specs.declared.log.Log.{Log}
 use Rattle.mt_log.specs.Holds.{HoldsBatches, BreaksAt}
+use Rattle.mt_log.specs.Sound.{IsSound, HoldsBeginning}
+
+-- while the appended records break no rule, each content that may be left holds a beginning of them with all durable ones
+abbrev pub LeavesBeginning : Log → (List ℕ → Type 0) → Type 0
+LeavesBeginning log may_leave = (pages : ℕ) (c : List ℕ) → IsSound pages log → may_leave c → HoldsBeginning pages log c
 
 -- it holds one row of batches
 abbrev pub OneRow : Type 0

@@ -1,7 +1,5 @@
 // The laws of the log, each the contract of a function with nothing to do.
-ghost use Rattle.std.specs.Prelude.{ℕ, List};
-ghost use Rattle.mt_log.specs.Laws.{OneRow, NotBoth, OneFirstPlace};
-ghost use Rattle.mt_log.specs.Sound.{IsSound, HoldsBeginning};
+ghost use Rattle.mt_log.specs.Laws.{LeavesBeginning, OneRow, NotBoth, OneFirstPlace};
 ghost use Rattle.mt_log.specs.Words.{IsOn};
 
 use crate::log::Log;
@@ -11,7 +9,7 @@ use mt_disk::Device;
 /// an area whose records are a beginning of them with all durable ones.
 pub fn a_crash_leaves_a_beginning<D: Device>(log: &Log, device: &D)
     requires on { IsOn D.seen D.may_leave log.now device.now }
-    ensures { (pages : ℕ) (c : List ℕ) → IsSound pages log.now → D.may_leave device.now c → HoldsBeginning pages log.now c }
+    ensures { LeavesBeginning log.now (D.may_leave device.now) }
 {
     let _ = log;
     let _ = device;

@@ -12,8 +12,6 @@ mod log;
 mod reading;
 mod scanning;
 mod stage;
-#[cfg(test)]
-mod tests;
 
 pub use area::AreaPlace;
 pub use batch::Batch;

@@ -52,6 +52,3 @@ pub fn scan<D: Device>(
     }
     Ok(reading.found)
 }
-
-#[cfg(test)]
-mod tests;

@@ -14,6 +14,3 @@ mod view;
 pub use rule::Law;
 pub use seats::{End, Seat, new};
 pub use view::{About, Entry, View};
-
-#[cfg(test)]
-mod tests;

@@ -15,8 +15,6 @@ mod operations;
 mod pending;
 mod rows;
 mod tables;
-#[cfg(test)]
-mod tests;
 
 pub use counters::Count;
 pub use history::{Calls, Committed};

@@ -3,7 +3,7 @@ use Rattle.std.proofs.Common.{◌≡◌, ℕ, List, sym, subst, ap}
 use Rattle.std.specs.Prelude.{Result}
 use Rattle.mt_base.specs.declared.modes.Mode.{Mode}
 use Rattle.mt_base.specs.declared.refusal.Refusal.{Refusal}
-use Rattle.mt_pool.specs.Changes.{PageBytes}
+use Rattle.mt_space.specs.Changes.{PageBytes}
 use Rattle.mt_pool.specs.Kept.{IsKept}
 use Rattle.mt_pool.specs.Views.{pages}
 use Rattle.mt_pool.specs.declared.store.Store.{Store}

@@ -7,7 +7,7 @@ use Rattle.mt_op.specs.World.{changes_in}
 use Rattle.mt_op.specs.Operations.{only_reads, end_bytes, needs, HasBudget}
 use Rattle.mt_op.specs.declared.scope.OpScope.{OpScope}
 use Rattle.mt_op.specs.declared.scope.Stage.{Stage}
-use Rattle.mt_op.specs.declared.scope.Stage.TheVariants.{Writing}
+use Rattle.mt_op.specs.declared.scope.Stage.TheVariants.{Writing, Ready}
 
 -- an area has at most 64 MiB
 pub area_small : (log : Log) → area_size log ≤ 67108864
@@ -39,3 +39,7 @@ write_left s t before used size stage k more short grown op changes is_writing w
       let goal : 12317 * (length (changes_in t) - t.written) + end_bytes t ≤ t.left = omega arith in goal);
   reads = λ is. ap (λ cs. cs.list.items) changes ∙ k.reads (sym (ap only_reads op) ∙ is);
 }
+
+-- one that has ended needs none
+pub ended_budget : (s t : OpScope) (left : ℕ) → t ≡ record s { left = left; stage = Ready } → HasBudget s → HasBudget t
+ended_budget s t left is k = subst HasBudget (sym is) (record { enough = omega arith; reads = k.reads })

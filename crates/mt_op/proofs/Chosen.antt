@@ -7,9 +7,9 @@ use Rattle.mt_model.specs.declared.operations.Op.{Op}
 use Rattle.mt_model.specs.declared.operations.Reply.{Reply}
 use Rattle.mt_model.specs.Model.{reply_of, base_after}
 use Rattle.mt_plock.specs.Holding.{lock_of}
-use Rattle.mt_pool.specs.Changes.{PageBytes, IsUntouched}
-use Rattle.mt_pool.specs.declared.changes.Changes.{Changes}
-use Rattle.mt_pool.specs.declared.changes.PageChange.{PageChange}
+use Rattle.mt_space.specs.Changes.{PageBytes, IsUntouched}
+use Rattle.mt_space.specs.declared.changes.Changes.{Changes}
+use Rattle.mt_space.specs.declared.changes.PageChange.{PageChange}
 use Rattle.mt_steps.specs.Drafts.{AreAtHand}
 use Rattle.mt_steps.specs.Held.{Holds}
 use Rattle.mt_steps.specs.Logged.{logged_of}
@@ -102,6 +102,3 @@ module _ (relations counters : ℕ) where
   on_keeps w z s t (Ok stepped.Again) claim before now g same = same
   on_keeps w z s t (Ok stepped.Flush) claim before now g same = same
   on_keeps w z s t (Err why) claim before now g same = same
-
-  pub err_steps : (w z : World) (s t : OpScope) (r : Result Stepped Refusal) (why : Refusal) → r ≡ Err why → Goes relations counters w z s t → Steps relations counters w z s t r
-  err_steps w z s t r why is g = subst (Steps relations counters w z s t) (sym is) g

@@ -10,19 +10,18 @@ use Rattle.mt_model.specs.Model.{IsWithin}
 use Rattle.mt_model.specs.declared.operations.Op.{Op}
 use Rattle.mt_model.specs.declared.operations.Reply.{Reply}
 use Rattle.mt_plock.specs.Releasing.{locks_of}
-use Rattle.mt_pool.specs.Changes.{PageBytes}
-use Rattle.mt_steps.specs.Plans.{own_needs}
+use Rattle.mt_space.specs.Changes.{PageBytes}
 use Rattle.mt_pool.specs.Views.{view, pages}
-use Rattle.mt_op.specs.World.{World, IsFresh, IsUnderWay, IsOther, IsAt, IsPlanning, held_in, looked}
+use Rattle.mt_op.specs.World.{World, IsFresh, IsUnderWay, IsOther, IsAt, IsPlanning, looked}
 use Rattle.mt_op.specs.Moves.{SameOp, Rests}
 use Rattle.mt_op.specs.Operations.{world, IsRight, HasBudget, Goes, Steps, GivesBack, only_reads, claimed}
-use Rattle.mt_op.specs.Driven.{IsIdle, IsBlank, renumbered, IsBusy, HasClaim}
+use Rattle.mt_op.specs.Driven.{IsIdle, IsBlank, renumbered, IsBusy}
 use Rattle.mt_op.specs.declared.operations.Operations.{Operations}
 use Rattle.mt_op.specs.declared.scope.OpScope.{OpScope}
 use Rattle.mt_op.specs.declared.scope.Stage.TheVariants.{Planning}
 use Rattle.mt_op.specs.declared.answers.Stepped.{Stepped}
 use Rattle.mt_op.specs.declared.answers.Stepped.TheVariants as stepped
-use Rattle.mt_op.proofs.Staying.{rests_own, rests_held}
+use Rattle.mt_op.proofs.Staying.{rests_own}
 
 -- ---- a blank operation
 

@@ -11,9 +11,9 @@ use Rattle.mt_model.specs.declared.operations.Reply.{Reply}
 use Rattle.mt_plock.specs.declared.guards.PageLock.{PageLock}
 use Rattle.mt_plock.specs.Holding.{lock_of, AreTogether}
 use Rattle.mt_plock.specs.Releasing.{locks_of}
-use Rattle.mt_pool.specs.Changes.{PageBytes, after, IsUntouched}
-use Rattle.mt_pool.specs.declared.changes.PageChange.{PageChange}
-use Rattle.mt_pool.proofs.Changing.{after_untouched}
+use Rattle.mt_space.specs.Changes.{PageBytes, after, IsUntouched}
+use Rattle.mt_space.specs.declared.changes.PageChange.{PageChange}
+use Rattle.mt_space.proofs.Changing.{after_untouched}
 use Rattle.mt_space.specs.Kinds.{kind}
 use Rattle.mt_steps.specs.Plans.{IsGood, IsPlanned}
 use Rattle.mt_steps.specs.Repeated.{Repeated, Change, held, by, redo, finished, changes_of}

@@ -1,5 +1,5 @@
 -- Faults of the device, and the refusal that tells of them.
-use Rattle.std.proofs.Common.{◌≡◌, ℕ, sym, ap, ◌∙◌, subst, arith}
+use Rattle.std.proofs.Common.{◌≡◌, ℕ, ap, ◌∙◌, subst, arith}
 use Rattle.std.specs.Prelude.{◌<◌, Result, Ok, Err, IsOk, IsErr, IfErr, is_ok, is_err}
 use Rattle.mt_base.specs.declared.refusal.Refusal.{Refusal}
 use Rattle.mt_base.specs.declared.refusal.Refusal.TheVariants as refusal
@@ -17,9 +17,6 @@ no_fault before now r only same = record { later = omega arith; failed = λ is. 
 -- and nor where something is answered
 pub no_fault_ok : {T : Type 0} (before now : ℕ) (x : T) → now ≡ before → TellsFaults before now (Ok x)
 no_fault_ok before now x same = record { later = omega arith; failed = λ is. absurd cc; quiet = λ other. same }
-
-pub no_fault_err : {T : Type 0} (before now : ℕ) (r : Result T Refusal) (why : Refusal) → r ≡ Err why → why ≡ refusal.NoMemory → now ≡ before → TellsFaults before now r
-no_fault_err before now r why is memory same = no_fault before now r (subst (λ (q : Result _ Refusal). IfErr q (λ why. why ≡ refusal.NoMemory)) (sym is) memory) same
 
 -- an answer tells what the one that it was made of told
 pub told_ok : {T U : Type 0} (before now : ℕ) (r : Result T Refusal) (x : T) (y : U) → r ≡ Ok x → TellsFaults before now r → TellsFaults before now (Ok y)

@@ -9,11 +9,11 @@ use Rattle.mt_frame.specs.declared.records.LoggedOp.{LoggedOp}
 use Rattle.mt_frame.specs.declared.records.Record.TheVariants.{OpEnd}
 use Rattle.mt_model.specs.Model.{base_after}
 use Rattle.mt_model.specs.declared.operations.Reply.{Reply}
-use Rattle.mt_pool.specs.Changes.{PageBytes, Agrees, after, AreShort}
+use Rattle.mt_space.specs.Changes.{PageBytes, Agrees, after, AreShort}
 use Rattle.mt_pool.specs.Kept.{IsKept}
 use Rattle.mt_pool.specs.Views.{pages}
-use Rattle.mt_pool.specs.declared.changes.Changes.{Changes}
-use Rattle.mt_pool.specs.declared.changes.PageChange.{PageChange}
+use Rattle.mt_space.specs.declared.changes.Changes.{Changes}
+use Rattle.mt_space.specs.declared.changes.PageChange.{PageChange}
 use Rattle.mt_pool.specs.declared.store.Store.{Store}
 use Rattle.mt_slots.specs.Page.{IsShaped}
 use Rattle.mt_steps.specs.Drafts.{copied}
@@ -38,6 +38,10 @@ pub end_stands : (w : World) (s : OpScope) (done : LoggedOp) → IsTxn s.txn →
 end_stands w s done txn k =
     let named : (s.txn == 0) ≡ false = ne_eqb s.txn 0 (λ e. let some = txn.0 in omega arith) in
     rw (named, k.unfinished.transaction, k.due done) refl
+
+-- it has a reply
+pub has_reply : (relations counters : ℕ) (w : World) (s : OpScope) → IsUnderWay relations counters w s → s.stage ≡ Writing → IsSome s.reply
+has_reply relations counters w s k stage = let at : IsWriting relations counters w s = subst (IsAt relations counters w s) stage k.at in rw at.plan.replies refl
 
 module _ (relations counters : ℕ) (w : World) (s : OpScope) (reply : Reply) (h : IsWorld relations counters w) (k : IsUnderWay relations counters w s) (stage : s.stage ≡ Writing) (is : s.reply ≡ Some reply) where
   now : IsWriting relations counters w s

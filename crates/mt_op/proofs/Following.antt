@@ -4,9 +4,9 @@ use Rattle.std.proofs.lemmas.List.{take_more}
 use Rattle.std.proofs.lemmas.List.Elements.{All-weaker}
 use Rattle.mt_base.specs.Edits.{patched, IsShortest}
 use Rattle.mt_base.specs.declared.edits.Edit.{Edit}
-use Rattle.mt_pool.specs.Changes.{PageBytes, after, IsShort, AreShort}
-use Rattle.mt_pool.specs.declared.changes.PageChange.{PageChange}
-use Rattle.mt_pool.proofs.Changing.{replaced_here, replaced_other, after_push}
+use Rattle.mt_space.specs.Changes.{PageBytes, after, IsShort, AreShort}
+use Rattle.mt_space.specs.declared.changes.PageChange.{PageChange}
+use Rattle.mt_space.proofs.Changing.{replaced_here, replaced_other, after_push}
 use Rattle.mt_steps.proofs.Drafting.{short_at}
 
 module _ (cs : List PageChange) (i : ℕ) (c : PageChange) (pages : PageBytes) (lt : i < length cs) (is : c ≡ get_or cs i c) where

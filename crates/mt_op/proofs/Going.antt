@@ -14,7 +14,7 @@ use Rattle.mt_steps.specs.declared.draft.PageCopy.{PageCopy}
 use Rattle.mt_plock.specs.Releasing.{locks_without}
 use Rattle.mt_op.specs.World.{World, held_in, unfinished_in, looked, HasNothing, IsWorld, IsUnderWay, IsAt, IsPlanning}
 use Rattle.mt_steps.specs.declared.copies.Copies.{Copies}
-use Rattle.mt_op.specs.Moves.{SameOp, SamePlan, Rests, Locks, Leaves, Gains, IsLed}
+use Rattle.mt_op.specs.Moves.{SameOp, Rests, Locks, Leaves, Gains, IsLed}
 use Rattle.mt_op.specs.Holds.{Stays, Holds, IsAnew, IsAwaited, IsBarred, IsHeld, HasLeft}
 use Rattle.mt_op.specs.Operations.{Goes, GoesOn}
 use Rattle.mt_op.specs.declared.scope.OpScope.{OpScope}
@@ -174,12 +174,6 @@ module _ (relations counters : ℕ) where
 
 pub same_op : (s : OpScope) → SameOp s s
 same_op s = record { txn = refl; number = refl; op = refl; undoes = refl; split = refl; total = refl }
-
-pub same_plan : (s : OpScope) → SamePlan s s
-same_plan s = record { op = same_op s; room = refl; guards = refl; seen = refl; changes = refl; reply = refl }
-
-pub stays_as : (s : OpScope) → Stays s s
-stays_as s = record { plan = same_plan s; stage = refl; written = refl; standing = refl; left = refl }
 
 -- its copies are the same, with room for one more
 pub stays_roomy : (s : OpScope) (seen : Copies) → seen.total ≡ s.seen.total → seen.list.items ≡ s.seen.list.items → Stays s (record s { seen = seen })

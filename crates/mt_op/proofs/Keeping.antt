@@ -29,9 +29,6 @@ same_keeps op old new (Ok stepped.Flush) same = same
 same_keeps op old new (Ok (stepped.Ready first second)) same = same
 same_keeps op old new (Err why) same = same
 
-pub err_keeps : (op : ℕ) (old new : List PageLock) (r : Result Stepped Refusal) (why : Refusal) → r ≡ Err why → new ≡ old → KeepsLocks op old new r
-err_keeps op old new r why is same = subst (KeepsLocks op old new) (sym is) same
-
 pub err_keeps_on : (op : ℕ) (old new : List PageLock) (r : Result (Option Stepped) Refusal) (why : Refusal) → r ≡ Err why → new ≡ old → KeepsLocksOn op old new r
 err_keeps_on op old new r why is same = subst (KeepsLocksOn op old new) (sym is) same
 

@@ -24,3 +24,6 @@ pub mod Opened
 pub mod Work
 pub mod Keeping
 pub mod Faulting
+pub mod Ahead
+pub mod Back
+pub mod Choosing

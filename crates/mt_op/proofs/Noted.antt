@@ -4,7 +4,7 @@ use Rattle.std.specs.Prelude.{IsSome, is_some}
 use Rattle.std.proofs.lemmas.Bool.{cases_eq}
 use Rattle.std.proofs.lemmas.List.{get_or-set_same, get_or-set_other, get_or_default}
 use Rattle.mt_plock.specs.declared.guards.PageLock.{PageLock}
-use Rattle.mt_pool.specs.Changes.{PageBytes, after}
+use Rattle.mt_space.specs.Changes.{PageBytes, after}
 use Rattle.mt_op.specs.World.{looked, changes_in}
 use Rattle.mt_op.specs.Room.{IsRoom, HasRooms}
 use Rattle.mt_op.specs.declared.scope.OpScope.{OpScope}

@@ -1,16 +1,14 @@
 -- A formatted device, and operations over it.
-use Rattle.std.proofs.Common.{◌≡◌, ◌≢◌, ◌<◌, ◌≤◌, ◌⊎◌, inl, inr, ℕ, zero, suc, List, [], length, get_or, true, refl, sym, ◌∙◌, ap, subst, arith}
+use Rattle.std.proofs.Common.{◌≡◌, ◌≢◌, ◌<◌, ◌≤◌, inl, inr, ℕ, zero, suc, List, [], length, get_or, true, refl, ◌∙◌, ap, arith}
 use Rattle.std.proofs.lemmas.Bool.{cases_lt}
 use Rattle.std.proofs.lemmas.List.{get_or_past}
-use Rattle.mt_bucket.specs.Entries.{Entry}
-use Rattle.mt_bucket.specs.Page.{entries, entries_from}
+use Rattle.mt_bucket.specs.Page.{entries_from}
 use Rattle.mt_log.specs.Words.{appended}
-use Rattle.mt_pool.specs.Changes.{PageBytes}
+use Rattle.mt_space.specs.Changes.{PageBytes}
 use Rattle.mt_pool.specs.Kept.{IsKept, carried}
 use Rattle.mt_pool.specs.Views.{IsFull, frames}
 use Rattle.mt_pool.specs.declared.store.Store.{Store}
 use Rattle.mt_frame.specs.declared.records.Record.{Record}
-use Rattle.mt_space.specs.Kinds.{kind}
 use Rattle.mt_steps.specs.Counters.{AreCounters}
 use Rattle.mt_steps.specs.Formatted.{IsFormatted}
 use Rattle.mt_base.specs.declared.refusal.Refusal.{Refusal}

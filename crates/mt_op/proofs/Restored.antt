@@ -7,24 +7,23 @@ use Rattle.std.proofs.lemmas.List.Elements.{All-get_or}
 use Rattle.mt_frame.specs.declared.records.Record.{Record}
 use Rattle.mt_frame.specs.declared.records.Record.TheVariants.{OpDropped}
 use Rattle.mt_frame.specs.History.{some_record, is_of_page}
-use Rattle.mt_pool.specs.Changes.{PageBytes}
+use Rattle.mt_space.specs.Changes.{PageBytes}
 use Rattle.mt_pool.specs.Kept.{IsKept}
 use Rattle.mt_pool.specs.Views.{pages, waits_for}
-use Rattle.mt_pool.specs.declared.changes.PageChange.{PageChange}
+use Rattle.mt_space.specs.declared.changes.PageChange.{PageChange}
 use Rattle.mt_pool.specs.declared.store.Store.{Store}
-use Rattle.mt_op.specs.World.{World, looked, changes_in, HasNothing, IsPlanning, IsAt, IsUnderWay}
-use Rattle.mt_op.specs.Moves.{SamePlan, Rests, Notes, PutsBack, Leaves}
+use Rattle.mt_op.specs.World.{World, looked, changes_in, HasNothing, IsPlanning, IsWriting, IsTaking, IsAt, IsUnderWay}
+use Rattle.mt_op.specs.Moves.{SameOp, SamePlan, Notes, PutsBack, Leaves}
 use Rattle.mt_op.specs.Operations.{world, IsRight, Goes, HasBudget, needs, end_bytes, only_reads}
 use Rattle.mt_op.specs.declared.operations.Operations.{Operations}
 use Rattle.mt_op.specs.declared.scope.OpScope.{OpScope}
 use Rattle.mt_op.specs.declared.scope.Stage.{Stage}
 use Rattle.mt_op.specs.declared.scope.Stage.TheVariants.{Planning, Writing, Taking, Cleared}
-use Rattle.mt_op.proofs.Staying.{rests_own}
 use Rattle.mt_op.proofs.Right.{right_held}
 use Rattle.mt_op.proofs.Leaving.{world_leaves, leaves_held}
 use Rattle.mt_op.proofs.Planned.{HasChanged, has_changed}
 use Rattle.mt_op.proofs.Recorded.{has_record}
-use Rattle.mt_op.proofs.Taking.{puts_back, puts_back_held, others_put_back, own_puts_back, clears, clears_held, others_clear, own_clears}
+use Rattle.mt_op.proofs.Taking.{clears_at_once, own_clears_at_once, puts_back, puts_back_held, others_put_back, own_puts_back, clears, clears_held, others_clear, own_clears}
 
 -- it stands among the first so many
 among : (cs : List PageChange) (n i : ℕ) (c : PageChange) → i < n → i < length cs → c ≡ get_or cs i c → Contains (take n cs) c
@@ -46,11 +45,14 @@ enough_left s b (inl writing) some = elim (cases_Bool (only_reads s.op)) [
 ]
 enough_left s b (inr taking) some = subst (λ (stage : Stage). needs s stage ≤ s.left) taking b.enough
 
-pub enough_back : (relations counters : ℕ) (w : World) (s : OpScope) → IsUnderWay relations counters w s → (s.stage ≡ Planning) ⊎ ((s.stage ≡ Writing) ⊎ (s.stage ≡ Taking)) → s.standing ≢ 0 → HasBudget s → 22 ≤ s.left
-enough_back relations counters w s k stage some budget =
-    let now = some_stand relations counters w s k stage some in
-    let at : HasChanged relations counters w s = has_changed relations counters w s k now in
-    enough_left s budget now (let all = at.some in let fewer = at.fewer_stand in omega arith)
+-- and where some still stand
+pub left_to_drop : (relations counters : ℕ) (w : World) (s : OpScope) → IsUnderWay relations counters w s → (s.stage ≡ Writing) ⊎ (s.stage ≡ Taking) → 0 < s.standing → HasBudget s → 22 ≤ s.left
+left_to_drop relations counters w s k stage some budget =
+    let at : HasChanged relations counters w s = has_changed relations counters w s k stage in
+    enough_left s budget stage (let all = at.some in let fewer = at.fewer_stand in omega arith)
+
+pub kept_to_drop : (relations counters : ℕ) (w : World) (s : OpScope) → IsUnderWay relations counters w s → (s.stage ≡ Writing) ⊎ (s.stage ≡ Taking) → s.standing ≡ 1 → HasBudget s → 22 ≤ s.left
+kept_to_drop relations counters w s k stage last budget = left_to_drop relations counters w s k stage (omega arith) budget
 
 -- ---- worlds
 
@@ -102,13 +104,6 @@ returnable seen may_leave opening relations counters o s c right k stage one is 
     recorded : some_record (is_of_page c.page) w.records ≡ true
     recorded = has_record relations counters w s right.sound k stage c (among (changes_in s) s.written (s.standing - 1) c below place is)
 
--- the same, once it is in a frame
-pub returnable_now : {D : Type 0} (seen : D → List ℕ) (may_leave : D → List ℕ → Type 0) (opening : PageBytes) (relations counters : ℕ) (o n : Operations D) (s : OpScope) (c : PageChange) → IsRight seen may_leave opening relations counters n
-    → Rests (world seen opening o) (world seen opening n) → IsUnderWay relations counters (world seen opening o) s → (s.stage ≡ Planning) ⊎ ((s.stage ≡ Writing) ⊎ (s.stage ≡ Taking)) → s.standing ≢ 0 → c ≡ get_or (changes_in s) (s.standing - 1) c
-    → IsReturnable n s c.page
-returnable_now seen may_leave opening relations counters o n s c right rests k stage some is =
-    returnable seen may_leave opening relations counters n s c right (rests_own relations counters (world seen opening o) (world seen opening n) s rests k) (some_stand relations counters (world seen opening o) s k stage some) (omega arith) is
-
 module _ {D : Type 0} (seen : D → List ℕ) (may_leave : D → List ℕ → Type 0) (opening : PageBytes) (relations counters : ℕ) (o n : Operations D) (s : OpScope) (c : PageChange)
     (right : IsRight seen may_leave opening relations counters o) (k : IsUnderWay relations counters (world seen opening o) s) (stage : (s.stage ≡ Writing) ⊎ (s.stage ≡ Taking))
     (is : c ≡ get_or (changes_in s) (s.standing - 1) c) (kept : IsKept seen may_leave opening n.store) (map : n.map ≡ o.map) (rooms : n.rooms ≡ o.rooms) where
@@ -147,3 +142,37 @@ leaves_right {D = D} seen may_leave opening relations counters o n s right nothi
     let w = world seen opening o in let z = world seen opening n in
     right_held seen may_leave opening relations counters o n right (subst (λ (x : Store D). IsKept seen may_leave opening x) (sym store) right.kept)
     (world_leaves relations counters w z s m right.sound nothing) (leaves_held w z s m) map rooms m.area.total
+
+module _ (relations counters : ℕ) (w : World) (s : OpScope) (k : IsUnderWay relations counters w s) (stage : (s.stage ≡ Planning) ⊎ ((s.stage ≡ Writing) ⊎ (s.stage ≡ Taking))) where
+  -- no more stand than an operation changes
+  pub few_stand : s.standing ≤ 8
+  few_stand = elim stage [
+    | inl planning ↦ let at : IsPlanning w s = subst (IsAt relations counters w s) planning k.at in let none = at.none_standing in omega arith
+    | inr now ↦ let at : HasChanged relations counters w s = has_changed relations counters w s k now in let all = at.some in let fewer = at.fewer_stand in let few = at.plan.few in omega arith
+  ]
+
+  -- it has logged nothing that stands
+  nothing_stands : s.standing ≡ 0 → HasNothing w s
+  nothing_stands none = elim stage [
+    | inl planning ↦ clears_at_once relations counters w s k (inl planning)
+    | inr now ↦ unwritten now
+  ]
+    where
+      unwritten : (s.stage ≡ Writing) ⊎ (s.stage ≡ Taking) → HasNothing w s
+      unwritten (inl writing) =
+          let at : IsWriting relations counters w s = subst (IsAt relations counters w s) writing k.at in
+          clears_at_once relations counters w s k (inr (writing, sym at.all_stand ∙ none))
+      unwritten (inr taking) =
+          let at : IsTaking relations counters w s = subst (IsAt relations counters w s) taking k.at in
+          absurd (let one = at.one_stands in omega arith)
+
+  -- so nothing is to be put back
+  pub clears_goes : s.standing ≡ 0 → Goes relations counters w w s (record s { stage = Cleared })
+  clears_goes none =
+      let op : SameOp s (record s { stage = Cleared }) = record { txn = refl; number = refl; op = refl; undoes = refl; split = refl; total = refl } in
+      record {
+        own = own_clears_at_once relations counters w s k (record s { stage = Cleared }) (nothing_stands none) op refl refl refl;
+        others = λ u ku other. ku;
+        held = refl;
+        same = op;
+      }

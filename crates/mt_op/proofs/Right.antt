@@ -2,7 +2,7 @@
 use Rattle.std.proofs.Common.{◌≡◌, ◌<◌, ◌≤◌, ℕ, List, length, refl, sym, ◌∙◌, ap, subst}
 use Rattle.mt_log.specs.Words.{appended}
 use Rattle.mt_pool.specs.declared.store.Store.{Store}
-use Rattle.mt_pool.specs.Changes.{PageBytes}
+use Rattle.mt_space.specs.Changes.{PageBytes}
 use Rattle.mt_pool.specs.Kept.{IsKept}
 use Rattle.mt_pool.specs.Views.{view, pages}
 use Rattle.mt_space.specs.Rooms.{mapped, free_of, reserved_of}

@@ -11,8 +11,8 @@ use Rattle.mt_model.specs.declared.operations.Reply.{Reply}
 use Rattle.mt_plock.specs.declared.guards.PageLock.{PageLock}
 use Rattle.mt_plock.specs.Holding.{lock_of, AreTogether}
 use Rattle.mt_plock.specs.Releasing.{locks_of}
-use Rattle.mt_pool.specs.Changes.{PageBytes, Agrees}
-use Rattle.mt_pool.specs.declared.changes.PageChange.{PageChange}
+use Rattle.mt_space.specs.Changes.{PageBytes, Agrees}
+use Rattle.mt_space.specs.declared.changes.PageChange.{PageChange}
 use Rattle.mt_space.specs.Kinds.{kind}
 use Rattle.mt_file.specs.Plans.{IsNamed}
 use Rattle.mt_steps.specs.Drafts.{copied, AreAtHand}

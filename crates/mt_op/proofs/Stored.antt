@@ -7,7 +7,7 @@ use Rattle.mt_frame.specs.History.{txn_of}
 use Rattle.mt_log.specs.Words.{appended}
 use Rattle.mt_file.specs.declared.rooms.Rooms.{Rooms}
 use Rattle.mt_plock.specs.Holding.{AreTogether}
-use Rattle.mt_pool.specs.Changes.{PageBytes}
+use Rattle.mt_space.specs.Changes.{PageBytes}
 use Rattle.mt_pool.specs.Kept.{IsKept, carried}
 use Rattle.mt_pool.specs.Views.{view, pages, waits_for}
 use Rattle.mt_pool.specs.declared.pool.Pool.{Pool}

@@ -1,6 +1,6 @@
 -- What is left to be done of an operation, from one step to the next.
 use Rattle.std.proofs.Common.{◌≡◌, ◌⊎◌, inl, inr, ◌<◌, ◌≤◌, ◌+◌, ◌-◌, ◌*◌, ◌==◌, ◌&&◌, ◌||◌, ℕ, zero, suc, List, [], ◌∷◌, ◌++◌, length, Bool, true, false, Option, Some, None, refl, sym, ◌∙◌, ap, subst, append-nil, arith}
-use Rattle.std.specs.Prelude.{All, Contains, Result, Ok, Err, OnOk, OnErr, is_some, IsSome, if◌then◌else◌}
+use Rattle.std.specs.Prelude.{All, Contains, Result, Ok, Err, is_some, IsSome, if◌then◌else◌}
 use Rattle.std.proofs.lemmas.Bool.{cases_eq, cases_Bool, eqb-true, eq-eqb, and_parts}
 use Rattle.std.proofs.lemmas.List.Folds.{list_any-append, Any-from_list_any}
 use Rattle.std.proofs.lemmas.List.Elements.{All-weaker, filter_passes}
@@ -10,7 +10,7 @@ use Rattle.mt_base.specs.declared.refusal.Refusal.{Refusal}
 use Rattle.mt_plock.specs.Holding.{lock_of}
 use Rattle.mt_plock.specs.Releasing.{locks_of}
 use Rattle.mt_plock.specs.declared.guards.PageLock.{PageLock}
-use Rattle.mt_pool.specs.declared.changes.Changes.{Changes}
+use Rattle.mt_space.specs.declared.changes.Changes.{Changes}
 use Rattle.mt_steps.specs.Drafts.{copied, or_below}
 use Rattle.mt_steps.specs.declared.draft.PageCopy.{PageCopy}
 use Rattle.mt_steps.proofs.Drafting.{copied_append, some_value, test_yes}
@@ -22,7 +22,7 @@ use Rattle.mt_op.specs.Work.{IsGoing, ComesTo, sum_below, writes, is_written, st
 use Rattle.mt_op.specs.declared.answers.Stepped.{Stepped}
 use Rattle.mt_op.specs.declared.answers.Stepped.TheVariants as stepped
 use Rattle.mt_op.specs.declared.scope.OpScope.{OpScope}
-use Rattle.mt_op.specs.declared.scope.Stage.TheVariants.{Planning, Writing, Ready}
+use Rattle.mt_op.specs.declared.scope.Stage.TheVariants.{Planning, Writing}
 use Rattle.mt_op.proofs.Going.{planning_of}
 
 -- ---- sums
@@ -263,15 +263,6 @@ upgrade_works relations counters w z s t p r held planning some none k = answere
     answered (Ok (stepped.Ready first second)) h = absurd h
     answered (Err why) h = let e = stays_work s t planning h.1 in omega arith
 
--- its end leaves nothing
-pub ended_works : (s t : OpScope) (r : Result Stepped Refusal) → OnOk r (t.stage ≡ Ready) → OnErr r (t ≡ s) → (r ≡ Ok stepped.Went → ⊥) → Works s t r
-ended_works s t (Ok stepped.Went) ready same not = absurd (not refl)
-ended_works s t (Ok (stepped.Wait holder)) ready same not = let e : work_of t ≡ 0 = ap (work_at t) ready in omega arith
-ended_works s t (Ok stepped.Again) ready same not = let e : work_of t ≡ 0 = ap (work_at t) ready in omega arith
-ended_works s t (Ok stepped.Flush) ready same not = let e : work_of t ≡ 0 = ap (work_at t) ready in omega arith
-ended_works s t (Ok (stepped.Ready first second)) ready same not = ap (work_at t) ready
-ended_works s t (Err why) ready same not = let e = ap work_of same in omega arith
-
 -- ---- the stage behind a step
 
 pub comes_on : (relations counters : ℕ) (w z : World) (s t : OpScope) (r : Result Stepped Refusal) → GoesOn relations counters w z s t r → IsGoing t.stage → ComesTo t.stage r
@@ -281,13 +272,3 @@ comes_on relations counters w z s t (Ok (stepped.Wait holder)) goes to = to
 comes_on relations counters w z s t (Ok stepped.Again) goes to = to
 comes_on relations counters w z s t (Ok stepped.Flush) goes to = to
 comes_on relations counters w z s t (Err why) goes to = to
-
-pub err_comes : (t : OpScope) (r : Result Stepped Refusal) (why : Refusal) → r ≡ Err why → IsGoing t.stage → ComesTo t.stage r
-err_comes t r why is to = subst (ComesTo t.stage) (sym is) to
-
--- an answer is not nothing, and nor is a refusal
-pub some_answers : (r : Result (Option Stepped) Refusal) (a : Stepped) → r ≡ Ok (Some a) → r ≡ Ok None → ⊥
-some_answers r a is none = absurd cc
-
-pub err_answers : (r : Result (Option Stepped) Refusal) (why : Refusal) → r ≡ Err why → r ≡ Ok None → ⊥
-err_answers r why is none = absurd cc

@@ -2,11 +2,12 @@
 use Rattle.std.proofs.Common.{◌≡◌, ◌≢◌, ◌<◌, ◌+◌, ℕ, List, ◌++◌, length, get_or, refl, ap, ◌∙◌}
 use Rattle.mt_base.specs.Edits.{patched}
 use Rattle.mt_log.specs.Words.{appended}
-use Rattle.mt_pool.specs.Changes.{PageBytes, IsShort}
+use Rattle.mt_space.specs.Changes.{PageBytes, IsShort}
 use Rattle.mt_pool.specs.Kept.{IsKept}
 use Rattle.mt_pool.specs.Views.{view, pages}
-use Rattle.mt_pool.specs.Writes.{change_records, due_image}
-use Rattle.mt_pool.specs.declared.changes.PageChange.{PageChange}
+use Rattle.mt_frame.specs.PageRecords.{change_records}
+use Rattle.mt_pool.specs.Writes.{due_image}
+use Rattle.mt_space.specs.declared.changes.PageChange.{PageChange}
 use Rattle.mt_pool.specs.declared.store.Store.{Store}
 use Rattle.mt_op.specs.World.{World, IsWorld, IsUnderWay, changes_in}
 use Rattle.mt_op.specs.Moves.{Rests, Writes, SamePlan}

@@ -3,7 +3,7 @@ use Rattle.std.specs.Prelude.{◌≡◌, ◌<◌, ◌≤◌, ◌+◌, ◌^◌, �
 use Rattle.mt_bucket.specs.Page.{depth_of, next_of, count_of, IsBucket}
 use Rattle.mt_index.specs.Pages.{AreZero, IsDirectory, depth_in, pointer_at}
 use Rattle.mt_log.specs.Words.{used, area_size}
-use Rattle.mt_pool.specs.Changes.{PageBytes}
+use Rattle.mt_space.specs.Changes.{PageBytes}
 use Rattle.mt_steps.specs.Plans.{own_needs}
 use Rattle.mt_op.specs.World.{IsFresh, IsUnderWay, looked}
 use Rattle.mt_op.specs.Operations.{world, IsRight, HasBudget, claimed}

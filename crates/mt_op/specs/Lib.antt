@@ -7,3 +7,4 @@ pub mod Holds
 pub mod Room
 pub mod Driven
 pub mod Work
+pub mod Stepping

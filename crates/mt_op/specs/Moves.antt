@@ -7,8 +7,8 @@ use Rattle.mt_frame.specs.declared.records.Record.TheVariants.{Commit, AbortEnd}
 use Rattle.mt_plock.specs.declared.guards.PageLock.{PageLock}
 use Rattle.mt_plock.specs.Holding.{is_in_way}
 use Rattle.mt_plock.specs.Releasing.{locks_without}
-use Rattle.mt_pool.specs.Writes.{change_records}
-use Rattle.mt_pool.specs.declared.changes.PageChange.{PageChange}
+use Rattle.mt_frame.specs.PageRecords.{change_records}
+use Rattle.mt_space.specs.declared.changes.PageChange.{PageChange}
 use Rattle.mt_space.specs.Kinds.{kind}
 use Rattle.mt_steps.specs.declared.draft.PageCopy.{PageCopy}
 use Rattle.mt_op.specs.World.{World, held_in, looked_bytes, changes_in}

@@ -7,7 +7,7 @@ use Rattle.mt_model.specs.declared.operations.Op.{Op}
 use Rattle.mt_model.specs.declared.operations.Op.TheVariants.{Get, Insert, Update, Delete, Add, Read}
 use Rattle.mt_model.specs.declared.operations.Reply.{Reply}
 use Rattle.mt_model.specs.Model.{Base, reply_of, base_after}
-use Rattle.mt_pool.specs.Changes.{PageBytes}
+use Rattle.mt_space.specs.Changes.{PageBytes}
 use Rattle.mt_pool.specs.Kept.{IsKept}
 use Rattle.mt_pool.specs.Views.{view, pages}
 use Rattle.mt_space.specs.Rooms.{mapped, free_of, reserved_of}

@@ -6,8 +6,8 @@ use Rattle.mt_frame.specs.declared.records.Record.{Record}
 use Rattle.mt_frame.specs.declared.records.Record.TheVariants.{OpEnd, OpDropped}
 use Rattle.mt_frame.specs.declared.records.LoggedOp.{LoggedOp}
 use Rattle.mt_model.specs.declared.operations.Reply.{Reply}
-use Rattle.mt_pool.specs.Writes.{change_records}
-use Rattle.mt_pool.specs.declared.changes.PageChange.{PageChange}
+use Rattle.mt_frame.specs.PageRecords.{change_records}
+use Rattle.mt_space.specs.declared.changes.PageChange.{PageChange}
 use Rattle.mt_steps.specs.Logged.{logged_of}
 use Rattle.mt_op.specs.World.{changes_in}
 use Rattle.mt_op.specs.declared.answers.Stepped.{Stepped}

@@ -1,7 +1,7 @@
 -- What the index of rooms says of the pages that an operation looked at.
 use Rattle.std.specs.Prelude.{◌≡◌, ◌≢◌, ℕ, List, Any, get_or, IsSome}
 use Rattle.mt_file.specs.Rooms.{fits_of}
-use Rattle.mt_pool.specs.Changes.{PageBytes, after}
+use Rattle.mt_space.specs.Changes.{PageBytes, after}
 use Rattle.mt_op.specs.World.{looked, changes_in}
 use Rattle.mt_op.specs.declared.scope.OpScope.{OpScope}
 

@@ -1,21 +1,21 @@
 // Page locks of an operation.
-ghost use Rattle.std.specs.Prelude.{◌≡◌, ◌⊎◌, ◌<◌, ℕ, List, get_or, Ok, true, false, Some, None, IsSome, IfErr, Contains};
+ghost use Rattle.std.specs.Prelude.{◌≡◌, ◌⊎◌, ◌<◌, ℕ, get_or, Ok, true, false, Some, None, IsSome, IfErr, Contains};
 ghost use Rattle.mt_base.specs.declared.refusal.Refusal.{Refusal};
 ghost use Rattle.mt_pool.specs.Views.{IsThere, IsFull, pages};
 ghost use Rattle.mt_base.specs.declared.modes.Mode.TheVariants.{Write};
 ghost use Rattle.mt_disk.specs.Disk.{LeavesOnly, HasCause};
 ghost use Rattle.mt_pool.specs.Kept.{IsKept, Explains};
 ghost use Rattle.mt_op.specs.World.{IsUnderWay, looked};
-ghost use Rattle.mt_op.specs.Operations.{IsRight, GoesOn, IsAsFar, IsCause};
+ghost use Rattle.mt_op.specs.Operations.{IsRight, GoesOn, IsAsFar};
 ghost use Rattle.mt_op.specs.declared.scope.Stage.TheVariants.{Planning};
 ghost use Rattle.mt_op.specs.declared.answers.Stepped.TheVariants as stepped;
 ghost use Rattle.mt_plock.specs.Releasing.{locks_of};
-ghost use Rattle.mt_pool.specs.Changes.{PageBytes};
+ghost use Rattle.mt_space.specs.Changes.{PageBytes};
 ghost use Rattle.mt_op.specs.Operations.{world};
 ghost use Rattle.mt_op.specs.Holds.{IsHeld, IsAnew, KeepsLocks};
 ghost use Rattle.mt_op.specs.Moves.{Leaves, Rests};
+ghost use Rattle.mt_op.specs.Stepping.{LocksPage};
 ghost use Rattle.mt_op.specs.Work.{Works};
-ghost use Rattle.mt_op.specs.Faults.{TellsFaults};
 ghost use Rattle.mt_plock.specs.Holding.{lock_of};
 
 use crate::answers::Stepped;
@@ -97,17 +97,7 @@ impl<D: Device> Operations<D> {
         requires new { looked scope.old page ≡ None }
         requires inside { page < scope.old.seen.total }
         requires led { (room ≡ scope.old.room) ⊎ ((room ≡ Some page) × (mode ≡ Write) × (get_or self.old.map.kinds page 0 ≡ 3)) }
-        ensures goes { (opening : PageBytes) (relations counters : ℕ) → IsRight D.seen D.may_leave opening relations counters self.old → IsUnderWay relations counters (world D.seen opening self.old) scope.old →
-            IsRight D.seen D.may_leave opening relations counters self.new × GoesOn relations counters (world D.seen opening self.old) (world D.seen opening self.new) scope.old scope.new result }
-        ensures moments { (opening : PageBytes) → IsKept D.seen D.may_leave opening self.old.store → LeavesOnly D.moment D.left_since self.old.store.device self.new.store.device (Explains opening self.old.store) }
-        ensures log { self.new.store.log ≡ self.old.store.log }
-        ensures map { self.new.map ≡ self.old.map }
-        ensures same { IsAsFar scope.old scope.new }
-        ensures full { result ≡ Ok stepped.Flush → IsFull self.old.store.pool × (self.new ≡ self.old) }
-        ensures work { Works scope.old scope.new result }
-        ensures locks { KeepsLocks scope.old.number self.old.locks self.new.locks result }
-        ensures why { IfErr result IsCause }
-        ensures faults { TellsFaults (D.faults self.old.store.device) (D.faults self.new.store.device) result }
+        ensures { LocksPage D.seen D.may_leave D.moment D.left_since D.faults self.old self.new scope.old scope.new result }
     {
         if !self.bring(page)? {
             return Ok(Stepped::Flush);

@@ -18,6 +18,3 @@ mod undoing;
 pub use answers::{Stepped, TakenBack};
 pub use operations::Operations;
 pub use scope::{OpScope, Stage};
-
-#[cfg(test)]
-mod tests;

@@ -6,13 +6,14 @@ ghost use Rattle.mt_base.specs.declared.modes.Mode.TheVariants.{Write};
 ghost use Rattle.mt_disk.specs.Disk.{LeavesOnly};
 ghost use Rattle.mt_log.specs.Words.{appended, used, area_size};
 ghost use Rattle.mt_plock.specs.Holding.{lock_of};
-ghost use Rattle.mt_pool.specs.Changes.{PageBytes, IsUntouched};
+ghost use Rattle.mt_space.specs.Changes.{PageBytes, IsUntouched};
 ghost use Rattle.mt_pool.specs.Kept.{IsKept, Explains};
 ghost use Rattle.mt_pool.specs.Views.{IsFull};
 ghost use Rattle.mt_steps.specs.Plans.{own_needs, free_pages, record_bytes as bytes_put, InPages, IsPlanned};
 ghost use Rattle.mt_op.specs.World.{IsUnderWay, looked, held_in};
-ghost use Rattle.mt_op.specs.Operations.{world, IsRight, GoesOn, Steps, GivesBack, IsPlannedOn, HasBudget, only_reads, IsAsFar, IsCause, claimed};
+ghost use Rattle.mt_op.specs.Operations.{world, IsRight, Steps, GivesBack, IsPlannedOn, HasBudget, only_reads, IsCause, claimed};
 ghost use Rattle.mt_op.specs.Holds.{KeepsLocks, KeepsLocksOn};
+ghost use Rattle.mt_op.specs.Stepping.{GoesAhead, LocksPage, PlansOn};
 ghost use Rattle.mt_op.specs.Records.{KeepsRecords};
 ghost use Rattle.mt_op.specs.Work.{Works, WorksOn, ComesTo};
 ghost use Rattle.mt_op.specs.Faults.{TellsFaults};
@@ -26,8 +27,8 @@ use mt_base::{Mode, OpNo, PageNo, Refusal};
 use mt_disk::Device;
 use mt_model::{Op, Reply};
 use mt_plock::{PageGuard, PageLock};
-use mt_pool::{Changes, Pages};
 use mt_space::pages::{MAP, RECORDS};
+use mt_space::{Changes, Pages};
 use mt_steps::{Act, plan};
 use std::alloc::Global;
 
@@ -84,21 +85,7 @@ impl<D: Device> Operations<D> {
         requires writing { scope.old.stage ≡ Writing }
         requires budget { HasBudget scope.old }
         requires room { used self.old.store.log + scope.old.left < area_size self.old.store.log }
-        ensures steps { (opening : PageBytes) (relations counters : ℕ) → IsRight D.seen D.may_leave opening relations counters self.old → IsUnderWay relations counters (world D.seen opening self.old) scope.old → relations ≤ 64 → counters ≤ 128 →
-            IsRight D.seen D.may_leave opening relations counters self.new × Steps relations counters (world D.seen opening self.old) (world D.seen opening self.new) scope.old scope.new result }
-        ensures moments { (opening : PageBytes) → IsKept D.seen D.may_leave opening self.old.store → LeavesOnly D.moment D.left_since self.old.store.device self.new.store.device (Explains opening self.old.store) }
-        ensures log { used self.new.store.log + scope.new.left ≡ used self.old.store.log + scope.old.left }
-        ensures area { area_size self.new.store.log ≡ area_size self.old.store.log }
-        ensures budget { HasBudget scope.new }
-        ensures claims { GivesBack (own_needs scope.old.op scope.old.split) (claimed self.old) (claimed self.new) result }
-        ensures full { result ≡ Ok stepped.Flush → IsFull self.old.store.pool × (self.new ≡ self.old) }
-        ensures went { result ≡ Ok stepped.Went → scope.new.written ≡ scope.old.written + 1 }
-        ensures stage { ComesTo scope.new.stage result }
-        ensures work { Works scope.old scope.new result }
-        ensures records { KeepsRecords scope.new (appended self.old.store.log) (appended self.new.store.log) result }
-        ensures locks { self.new.locks ≡ self.old.locks }
-        ensures why { IfErr result IsCause }
-        ensures faults { TellsFaults (D.faults self.old.store.device) (D.faults self.new.store.device) result }
+        ensures { GoesAhead D.seen D.may_leave D.moment D.left_since D.faults self.old self.new scope.old scope.new result }
     {
         if scope.written < scope.changes.list.len() {
             self.write_next(alloc, scope)
@@ -114,20 +101,7 @@ impl<D: Device> Operations<D> {
             × (relations ≤ 64) × (own_needs scope.old.op scope.old.split ≤ free_pages scope.old.seen.total (held_in (world D.seen opening self.old))) }
         requires planning { scope.old.stage ≡ Planning }
         requires budget { HasBudget scope.old }
-        ensures goes { (opening : PageBytes) (relations counters : ℕ) → IsRight D.seen D.may_leave opening relations counters self.old → IsUnderWay relations counters (world D.seen opening self.old) scope.old → relations ≤ 64 →
-            IsRight D.seen D.may_leave opening relations counters self.new × IsPlannedOn relations counters (world D.seen opening self.old) (world D.seen opening self.new) scope.old scope.new result }
-        ensures moments { (opening : PageBytes) → IsKept D.seen D.may_leave opening self.old.store → LeavesOnly D.moment D.left_since self.old.store.device self.new.store.device (Explains opening self.old.store) }
-        ensures made { result ≡ Ok None → (self.new ≡ self.old) × (scope.new.stage ≡ Writing) }
-        ensures log { self.new.store.log ≡ self.old.store.log }
-        ensures map { self.new.map ≡ self.old.map }
-        ensures left { scope.new.left ≡ scope.old.left }
-        ensures budget { HasBudget scope.new }
-        ensures full { result ≡ Ok (Some stepped.Flush) → IsFull self.old.store.pool × (self.new ≡ self.old) }
-        ensures stage { (result ≡ Ok None → ⊥) → scope.new.stage ≡ Planning }
-        ensures work { WorksOn scope.old scope.new result }
-        ensures locks { KeepsLocksOn scope.old.number self.old.locks self.new.locks result }
-        ensures why { IfErr result IsCause }
-        ensures faults { TellsFaults (D.faults self.old.store.device) (D.faults self.new.store.device) result }
+        ensures { PlansOn D.seen D.may_leave D.moment D.left_since D.faults self.old self.new scope.old scope.new result }
     {
         match plan(alloc, &scope.seen, scope.room, &scope.op, scope.split)? {
             Act::Lock(page, mode) => {
@@ -155,17 +129,7 @@ impl<D: Device> Operations<D> {
         requires planning { scope.old.stage ≡ Planning }
         requires new { looked scope.old page ≡ None }
         requires inside { page < scope.old.seen.total }
-        ensures goes { (opening : PageBytes) (relations counters : ℕ) → IsRight D.seen D.may_leave opening relations counters self.old → IsUnderWay relations counters (world D.seen opening self.old) scope.old →
-            IsRight D.seen D.may_leave opening relations counters self.new × GoesOn relations counters (world D.seen opening self.old) (world D.seen opening self.new) scope.old scope.new result }
-        ensures moments { (opening : PageBytes) → IsKept D.seen D.may_leave opening self.old.store → LeavesOnly D.moment D.left_since self.old.store.device self.new.store.device (Explains opening self.old.store) }
-        ensures log { self.new.store.log ≡ self.old.store.log }
-        ensures map { self.new.map ≡ self.old.map }
-        ensures same { IsAsFar scope.old scope.new }
-        ensures full { result ≡ Ok stepped.Flush → IsFull self.old.store.pool × (self.new ≡ self.old) }
-        ensures work { Works scope.old scope.new result }
-        ensures locks { KeepsLocks scope.old.number self.old.locks self.new.locks result }
-        ensures why { IfErr result IsCause }
-        ensures faults { TellsFaults (D.faults self.old.store.device) (D.faults self.new.store.device) result }
+        ensures { LocksPage D.seen D.may_leave D.moment D.left_since D.faults self.old self.new scope.old scope.new result }
     {
         if page.get() == MAP {
             if let Some(room) = self.room_for(scope) {

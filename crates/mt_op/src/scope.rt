@@ -4,7 +4,7 @@ ghost use Rattle.std.specs.Prelude.{◌≡◌};
 use mt_base::{OpNo, PageNo, TxnNo};
 use mt_model::{Op, Reply};
 use mt_plock::PageGuard;
-use mt_pool::Changes;
+use mt_space::Changes;
 use mt_steps::Copies;
 
 /// How far an operation has come.

@@ -1,11 +1,10 @@
 // The map of the space as the pages held have it.
 ghost use Rattle.std.specs.Prelude.{◌≡◌, ◌≤◌, ◌+◌, ℕ, length, false, IfOk};
-ghost use Rattle.mt_pool.specs.Changes.{PageBytes, after, AreShort};
+ghost use Rattle.mt_space.specs.Changes.{PageBytes, after, AreShort};
 ghost use Rattle.mt_space.specs.Rooms.{mapped, free_in, free_of, reserved_of};
 
-use mt_pool::{Changes, patch};
-use mt_space::Space;
 use mt_space::pages::MAP;
+use mt_space::{Changes, Space, patch};
 use std::alloc::{AllocError, Global};
 
 /// The map of the space as it is held, a byte for each page, and the free pages by it, with the claims on them.

@@ -1,25 +1,24 @@
 // Page writes of an operation, and its end.
-ghost use Rattle.std.specs.Prelude.{◌≡◌, ◌≢◌, ◌<◌, ◌≤◌, ◌+◌, ℕ, List, length, get_or, false, true, None, Some, IsSome, IfErr, OnErr, OnOk, Ok};
+ghost use Rattle.std.specs.Prelude.{◌≡◌, ◌≢◌, ◌<◌, ◌≤◌, ◌+◌, ℕ, List, length, get_or, false, true, None, Some, IsSome, IfErr, IfOk, IfSome, OnErr, OnOk, Ok};
 ghost use Rattle.mt_frame.specs.Grammar.{IsTxn, IsOp, IsOperation};
 ghost use Rattle.mt_frame.specs.History.{may_stand};
-ghost use Rattle.mt_pool.specs.Views.{IsThere, IsFull};
-ghost use Rattle.mt_pool.specs.declared.changes.PageChange.{PageChange};
-ghost use Rattle.mt_disk.specs.Disk.{LeavesOnly};
+ghost use Rattle.mt_pool.specs.Views.{IsThere};
+ghost use Rattle.mt_space.specs.declared.changes.PageChange.{PageChange};
 ghost use Rattle.mt_frame.specs.declared.records.Record.TheVariants.{OpEnd};
 ghost use Rattle.mt_log.specs.Words.{appended, used, area_size};
 ghost use Rattle.mt_file.specs.Rooms.{fits_of};
-ghost use Rattle.mt_pool.specs.Changes.{PageBytes, Agrees, after, AreShort};
+ghost use Rattle.mt_space.specs.Changes.{PageBytes, Agrees, after, AreShort};
 ghost use Rattle.mt_slots.specs.Page.{IsShaped};
+ghost use Rattle.mt_model.specs.Model.{IsWithin};
+ghost use Rattle.mt_steps.specs.Logged.{logged_of, HasSmallReply};
 ghost use Rattle.mt_steps.specs.Plans.{own_needs};
-ghost use Rattle.mt_pool.specs.Kept.{IsKept, Explains};
+ghost use Rattle.mt_pool.specs.Kept.{IsKept};
 ghost use Rattle.mt_op.specs.World.{IsUnderWay, looked, changes_in};
-ghost use Rattle.mt_op.specs.Operations.{world, IsRight, Goes, GoesOn, Steps, GivesBack, HasBudget, IsCause, claimed};
+ghost use Rattle.mt_op.specs.Operations.{world, IsRight, HasBudget, claimed};
+ghost use Rattle.mt_op.specs.Stepping.{GoesAhead};
 ghost use Rattle.mt_op.specs.declared.scope.Stage.TheVariants.{Writing, Ready};
-ghost use Rattle.mt_op.specs.Records.{HasPageMore, KeepsRecords};
 ghost use Rattle.mt_op.specs.Room.{HasRooms};
 ghost use Rattle.mt_op.specs.Moves.{Rests, Notes};
-ghost use Rattle.mt_op.specs.Work.{Works, ComesTo};
-ghost use Rattle.mt_op.specs.Faults.{TellsFaults};
 ghost use Rattle.mt_op.specs.declared.answers.Stepped.TheVariants as stepped;
 
 use crate::answers::Stepped;
@@ -29,8 +28,9 @@ use mt_base::{PageNo, Refusal};
 use mt_disk::Device;
 use mt_file::fits;
 use mt_frame::{LoggedOp, Record};
-use mt_pool::{Changes, Pages, patch};
+use mt_model::Reply;
 use mt_space::pages::RECORDS;
+use mt_space::{Changes, Pages, patch};
 use mt_steps::{logged, pages_for};
 use std::alloc::Global;
 
@@ -46,54 +46,31 @@ impl<D: Device> Operations<D> {
         requires more { scope.old.written < length (changes_in scope.old) }
         requires budget { HasBudget scope.old }
         requires room { used self.old.store.log + scope.old.left < area_size self.old.store.log }
-        ensures goes { (opening : PageBytes) (relations counters : ℕ) → IsRight D.seen D.may_leave opening relations counters self.old → IsUnderWay relations counters (world D.seen opening self.old) scope.old →
-            IsRight D.seen D.may_leave opening relations counters self.new × GoesOn relations counters (world D.seen opening self.old) (world D.seen opening self.new) scope.old scope.new result }
-        ensures moments { (opening : PageBytes) → IsKept D.seen D.may_leave opening self.old.store → LeavesOnly D.moment D.left_since self.old.store.device self.new.store.device (Explains opening self.old.store) }
-        ensures log { used self.new.store.log + scope.new.left ≡ used self.old.store.log + scope.old.left }
-        ensures area { area_size self.new.store.log ≡ area_size self.old.store.log }
+        ensures ahead { GoesAhead D.seen D.may_leave D.moment D.left_since D.faults self.old self.new scope.old scope.new result }
         ensures map { self.new.map ≡ self.old.map }
-        ensures budget { HasBudget scope.new }
         ensures stage { scope.new.stage ≡ Writing }
-        ensures went { result ≡ Ok stepped.Went → scope.new.written ≡ scope.old.written + 1 }
-        ensures work { Works scope.old scope.new result }
-        ensures records { KeepsRecords scope.new (appended self.old.store.log) (appended self.new.store.log) result }
-        ensures locks { self.new.locks ≡ self.old.locks }
-        ensures flush { result ≡ Ok stepped.Flush → scope.new ≡ scope.old }
-        ensures full { result ≡ Ok stepped.Flush → IsFull self.old.store.pool × (self.new ≡ self.old) }
-        ensures err { OnErr result (scope.new ≡ scope.old) }
-        ensures why { IfErr result IsCause }
-        ensures faults { TellsFaults (D.faults self.old.store.device) (D.faults self.new.store.device) result }
     {
         let page = scope.changes.list[scope.written].page;
         if !self.bring(page)? {
             return Ok(Stepped::Flush);
         }
-        self.write_there(alloc, scope)?;
-        Ok(Stepped::Went)
+        self.write_there(alloc, scope)
     }
 
     // The same of a page that is in a frame. Where memory is refused nothing has changed.
-    fn write_there(&mut self, alloc: Global, scope: &mut OpScope) -> Result<(), Refusal>
+    fn write_there(&mut self, alloc: Global, scope: &mut OpScope) -> Result<Stepped, Refusal>
         requires right { (opening : PageBytes) × (relations : ℕ) × (counters : ℕ) × IsRight D.seen D.may_leave opening relations counters self.old × IsUnderWay relations counters (world D.seen opening self.old) scope.old }
         requires writing { scope.old.stage ≡ Writing }
         requires more { scope.old.written < length (changes_in scope.old) }
         requires there { (c : PageChange) → c ≡ get_or (changes_in scope.old) scope.old.written c → IsThere self.old.store.pool c.page }
         requires budget { HasBudget scope.old }
         requires room { used self.old.store.log + scope.old.left < area_size self.old.store.log }
-        ensures goes { (opening : PageBytes) (relations counters : ℕ) → IsRight D.seen D.may_leave opening relations counters self.old → IsUnderWay relations counters (world D.seen opening self.old) scope.old →
-            IsRight D.seen D.may_leave opening relations counters self.new × Goes relations counters (world D.seen opening self.old) (world D.seen opening self.new) scope.old scope.new }
+        ensures ahead { GoesAhead D.seen D.may_leave D.moment D.left_since D.faults self.old self.new scope.old scope.new result }
         ensures device { self.new.store.device ≡ self.old.store.device }
-        ensures log { used self.new.store.log + scope.new.left ≡ used self.old.store.log + scope.old.left }
-        ensures area { area_size self.new.store.log ≡ area_size self.old.store.log }
         ensures map { self.new.map ≡ self.old.map }
-        ensures budget { HasBudget scope.new }
         ensures stage { scope.new.stage ≡ Writing }
-        ensures written { OnOk result (scope.new.written ≡ scope.old.written + 1) }
         ensures changes { scope.new.changes ≡ scope.old.changes }
-        ensures records { OnOk result (HasPageMore scope.new (appended self.old.store.log) (appended self.new.store.log)) }
-        ensures err_records { OnErr result (appended self.new.store.log ≡ appended self.old.store.log) }
-        ensures locks { self.new.locks ≡ self.old.locks }
-        ensures err { OnErr result (scope.new ≡ scope.old) }
+        ensures never { result ≡ Ok stepped.Flush → ⊥ }
         ensures only_memory { IfErr result (λ why. why ≡ Refusal.NoMemory) }
     {
         let before = self.store.log.used();
@@ -102,7 +79,7 @@ impl<D: Device> Operations<D> {
         scope.left = scope.left + before - self.store.log.used();
         scope.written += 1;
         scope.standing += 1;
-        Ok(())
+        Ok(Stepped::Went)
     }
 
     // Ends the operation: its end is appended where one is due, and with that it has acted on the base
@@ -114,28 +91,15 @@ impl<D: Device> Operations<D> {
         requires all { scope.old.written ≡ length (changes_in scope.old) }
         requires budget { HasBudget scope.old }
         requires room { used self.old.store.log + scope.old.left < area_size self.old.store.log }
-        ensures steps { (opening : PageBytes) (relations counters : ℕ) → IsRight D.seen D.may_leave opening relations counters self.old → IsUnderWay relations counters (world D.seen opening self.old) scope.old →
-            IsRight D.seen D.may_leave opening relations counters self.new × Steps relations counters (world D.seen opening self.old) (world D.seen opening self.new) scope.old scope.new result }
+        ensures ahead { GoesAhead D.seen D.may_leave D.moment D.left_since D.faults self.old self.new scope.old scope.new result }
         ensures device { self.new.store.device ≡ self.old.store.device }
-        ensures log { used self.new.store.log + scope.new.left ≡ used self.old.store.log + scope.old.left }
-        ensures area { area_size self.new.store.log ≡ area_size self.old.store.log }
-        ensures claims { GivesBack (own_needs scope.old.op scope.old.split) (claimed self.old) (claimed self.new) result }
-        ensures budget { HasBudget scope.new }
         ensures ready { OnOk result (scope.new.stage ≡ Ready) }
-        ensures records { KeepsRecords scope.new (appended self.old.store.log) (appended self.new.store.log) result }
-        ensures locks { self.new.locks ≡ self.old.locks }
-        ensures stage { ComesTo scope.new.stage result }
         ensures rooms { OnOk result ((pages : PageBytes) → Agrees (looked scope.new) pages → AreShort (changes_in scope.new) pages → HasRooms scope.new self.new.map.kinds self.new.rooms.0 pages) }
         ensures ended { (result ≡ Ok stepped.Went → ⊥) × (result ≡ Ok stepped.Flush → ⊥) }
-        ensures same { OnErr result (scope.new ≡ scope.old) }
         ensures only_memory { IfErr result (λ why. why ≡ Refusal.NoMemory) }
     {
-        let Some(reply) = &scope.reply else {
-            unreachable!()
-        };
-        let first = reply.try_clone()?;
-        let second = reply.try_clone()?;
-        if let Some(done) = logged(&scope.op, reply)? {
+        let (first, second, done) = told(scope)?;
+        if let Some(done) = done {
             self.append_end(scope, done)?;
         }
         let claim = pages_for(&scope.op, scope.split);
@@ -219,4 +183,22 @@ impl<D: Device> Operations<D> {
         }
         fits(&bytes)
     }
+}
+
+// The reply of an operation, twice, and what its end logs of it.
+fn told(scope: &OpScope) -> Result<(Reply, Reply, Option<LoggedOp>), Refusal>
+    requires { IsSome scope.now.reply }
+    ensures reply { IfOk result (λ told. scope.now.reply ≡ Some told.0) }
+    ensures twice { IfOk result (λ told. told.1 ≡ told.0) }
+    ensures logged { IfOk result (λ told. told.2 ≡ logged_of scope.now.op told.0) }
+    ensures operation { (relations counters : ℕ) → relations ≤ 64 → counters ≤ 128 → IsWithin relations counters scope.now.op → IfOk result (λ told. HasSmallReply told.0 → IfSome told.2 IsOperation) }
+    ensures only_memory { IfErr result (λ why. why ≡ Refusal.NoMemory) }
+{
+    let Some(reply) = &scope.reply else {
+        unreachable!()
+    };
+    let first = reply.try_clone()?;
+    let second = reply.try_clone()?;
+    let done = logged(&scope.op, reply)?;
+    Ok((first, second, done))
 }

@@ -1,14 +1,14 @@
 // Taking an operation back, and the end of its locks.
-ghost use Rattle.std.specs.Prelude.{◌≡◌, ◌≢◌, ◌⊎◌, ◌<◌, ◌≤◌, ◌+◌, ◌-◌, ◌++◌, ◌∷◌, ℕ, List, [], length, get_or, false, true, IfErr, OnErr, OnOk, Ok, Some, IsSome};
+ghost use Rattle.std.specs.Prelude.{◌≡◌, ◌≢◌, ◌⊎◌, ◌<◌, ◌≤◌, ◌+◌, ◌-◌, ℕ, List, [], length, get_or, false, true, IfErr, OnErr, OnOk, Ok, Some, IsSome};
 ghost use Rattle.mt_plock.specs.Releasing.{locks_of, locks_without};
 ghost use Rattle.mt_pool.specs.Views.{IsThere, IsFull, waits_for, pages};
-ghost use Rattle.mt_pool.specs.declared.changes.PageChange.{PageChange};
+ghost use Rattle.mt_space.specs.declared.changes.PageChange.{PageChange};
 ghost use Rattle.mt_disk.specs.Disk.{LeavesOnly};
 ghost use Rattle.mt_frame.specs.Grammar.{IsRecord};
 ghost use Rattle.mt_frame.specs.History.{may_stand};
 ghost use Rattle.mt_frame.specs.declared.records.Record.TheVariants.{OpDropped};
 ghost use Rattle.mt_log.specs.Words.{appended, used, area_size};
-ghost use Rattle.mt_pool.specs.Changes.{PageBytes};
+ghost use Rattle.mt_space.specs.Changes.{PageBytes};
 ghost use Rattle.mt_pool.specs.Kept.{IsKept, Explains};
 ghost use Rattle.mt_op.specs.World.{IsUnderWay, changes_in, held_in, looked};
 ghost use Rattle.mt_op.specs.Moves.{Rests, Notes, Leaves, PutsBack};
@@ -16,6 +16,7 @@ ghost use Rattle.mt_op.specs.Operations.{world, IsRight, Goes, HasBudget, IsCaus
 ghost use Rattle.mt_op.specs.declared.scope.Stage.TheVariants.{Planning, Writing, Ready, Taking, Cleared};
 ghost use Rattle.mt_op.specs.Faults.{TellsFaults};
 ghost use Rattle.mt_op.specs.Records.{TellsDropped};
+ghost use Rattle.mt_op.specs.Stepping.{PutsOneBack};
 ghost use Rattle.mt_op.specs.declared.answers.TakenBack.TheVariants as taken;
 
 use crate::answers::TakenBack;
@@ -24,7 +25,7 @@ use crate::scope::{OpScope, Stage};
 use mt_base::{PageNo, Refusal};
 use mt_disk::Device;
 use mt_frame::Record;
-use mt_pool::Pages;
+use mt_space::Pages;
 
 impl<D: Device> Operations<D> {
     /// Takes the operation back a step: the page that it wrote last, of those that still stand, gets its bytes
@@ -67,14 +68,27 @@ impl<D: Device> Operations<D> {
         if !self.bring(page)? {
             return Ok(TakenBack::Flush);
         }
+        self.put_last_back(scope, page)
+    }
+
+    // Puts the last page back that still stands, which is in a frame.
+    fn put_last_back(&mut self, scope: &mut OpScope, page: PageNo) -> Result<TakenBack, Refusal>
+        requires right { (opening : PageBytes) × (relations : ℕ) × (counters : ℕ) × IsRight D.seen D.may_leave opening relations counters self.old × IsUnderWay relations counters (world D.seen opening self.old) scope.old }
+        requires stage { (scope.old.stage ≡ Writing) ⊎ (scope.old.stage ≡ Taking) }
+        requires some { 0 < scope.old.standing }
+        requires page { (c : PageChange) × (c ≡ get_or (changes_in scope.old) (scope.old.standing - 1) c) × (c.page ≡ page) }
+        requires there { IsThere self.old.store.pool page }
+        requires budget { HasBudget scope.old }
+        requires room { used self.old.store.log + scope.old.left < area_size self.old.store.log }
+        ensures { PutsOneBack D.seen D.may_leave self.old self.new scope.old scope.new result }
+    {
         if scope.standing == 1 {
-            self.clear(scope, page)
-        } else {
-            self.put_back(scope, page);
-            scope.standing -= 1;
-            scope.stage = Stage::Taking;
-            Ok(TakenBack::More)
+            return self.clear(scope, page);
         }
+        self.put_back(scope, page);
+        scope.standing -= 1;
+        scope.stage = Stage::Taking;
+        Ok(TakenBack::More)
     }
 
     // Puts a page back as the operation looked at it. It is in a frame, and has a record.
@@ -134,19 +148,8 @@ impl<D: Device> Operations<D> {
         requires there { IsThere self.old.store.pool page }
         requires budget { HasBudget scope.old }
         requires room { used self.old.store.log + scope.old.left < area_size self.old.store.log }
-        ensures goes { (opening : PageBytes) (relations counters : ℕ) → IsRight D.seen D.may_leave opening relations counters self.old → IsUnderWay relations counters (world D.seen opening self.old) scope.old →
-            IsRight D.seen D.may_leave opening relations counters self.new × Goes relations counters (world D.seen opening self.old) (world D.seen opening self.new) scope.old scope.new }
-        ensures device { self.new.store.device ≡ self.old.store.device }
-        ensures clear { OnOk result ((result ≡ Ok taken.Clear) × (scope.new.stage ≡ Cleared)) }
-        ensures records { OnOk result (appended self.new.store.log ≡ appended self.old.store.log ++ OpDropped scope.old.txn scope.old.number ∷ []) }
-        ensures err_records { OnErr result (appended self.new.store.log ≡ appended self.old.store.log) }
-        ensures locks { self.new.locks ≡ self.old.locks }
-        ensures log { used self.new.store.log + scope.new.left ≡ used self.old.store.log + scope.old.left }
-        ensures area { area_size self.new.store.log ≡ area_size self.old.store.log }
-        ensures map { self.new.map ≡ self.old.map }
-        ensures budget { HasBudget scope.new }
-        ensures err { OnErr result (scope.new ≡ scope.old) }
-        ensures only_memory { IfErr result (λ why. why ≡ Refusal.NoMemory) }
+        ensures cleared { OnOk result (result ≡ Ok taken.Clear) }
+        ensures back { PutsOneBack D.seen D.may_leave self.old self.new scope.old scope.new result }
     {
         let before = self.store.log.used();
         self.append_dropped(scope)?;

@@ -9,8 +9,6 @@
 
 mod guards;
 mod table;
-#[cfg(test)]
-mod tests;
 
 pub use guards::{Asked, PageGuard, PageLock};
 pub use table::PageLocks;

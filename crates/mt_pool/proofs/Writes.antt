@@ -17,11 +17,12 @@ use Rattle.mt_pool.specs.Images.{has_image, page_in, slot}
 use Rattle.mt_pool.specs.Views.{IsPool, pages, IsThere, held, view, waits_for}
 use Rattle.mt_pool.specs.declared.pool.Pool.{Pool}
 use Rattle.mt_log.specs.Words.{appended}
-use Rattle.mt_pool.specs.Changes.{IsShort}
-use Rattle.mt_pool.specs.declared.changes.PageChange.{PageChange}
+use Rattle.mt_space.specs.Changes.{IsShort}
+use Rattle.mt_space.specs.declared.changes.PageChange.{PageChange}
 use Rattle.mt_pool.specs.Kept.{carried, IsKept}
 use Rattle.mt_pool.specs.declared.store.Store.{Store}
-use Rattle.mt_pool.specs.Writes.{range_record, change_records, due_image, records_size, IsUnfinished}
+use Rattle.mt_frame.specs.PageRecords.{range_record, change_records}
+use Rattle.mt_pool.specs.Writes.{due_image, records_size, IsUnfinished}
 use Rattle.std.proofs.lemmas.List.Elements.{recursion_from_All}
 use Rattle.mt_pool.proofs.Safe.{bool_cases, has_all}
 use Rattle.mt_pool.proofs.Logged.{AreImagesFirst, no_records}

@@ -12,15 +12,13 @@ ghost use Rattle.mt_log.specs.declared.log.Forced.TheVariants as forced;
 ghost use Rattle.mt_pool.specs.Images.{slot};
 
 use crate::writing::append_all;
-use crate::{Fetched, Flushed, PageChange, Pool};
+use crate::{Fetched, Flushed, Pool};
 use mt_base::{LogPos, OpNo, PageNo, Refusal, TxnNo};
 use mt_disk::{Device, DeviceFault};
 use mt_frame::Record;
 use mt_log::{AreaPlace, Forced, Log, begin_area};
+use mt_space::PageChange;
 use std::alloc::Global;
-
-#[cfg(test)]
-mod tests;
 
 /// A device with the log of its ruling area and the pool of its pages.
 ///
@@ -79,9 +77,10 @@ impl<D: Device + Drop> Store<D> {
 }
 
 impl<D: Device> Store<D> {
-    ghost use Rattle.mt_pool.specs.Changes.{IsShort};
+    ghost use Rattle.mt_space.specs.Changes.{IsShort};
     ghost use Rattle.mt_pool.specs.Kept.{IsKept, Explains};
-    ghost use Rattle.mt_pool.specs.Writes.{change_records, redone, due_image, IsUnfinished};
+    ghost use Rattle.mt_frame.specs.PageRecords.{change_records, redone};
+    ghost use Rattle.mt_pool.specs.Writes.{due_image, IsUnfinished};
     ghost use Rattle.mt_pool.specs.Views.{IsThere, IsFull, to_flush, view, pages, waits_for};
     ghost use Rattle.mt_pool.specs.declared.fetching.Fetched.TheVariants as fetched;
     ghost use Rattle.mt_pool.specs.declared.flushing.Flushed.TheVariants as flushed;

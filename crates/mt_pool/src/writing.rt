@@ -8,14 +8,16 @@ ghost use Rattle.mt_frame.specs.History.{MayFollow};
 ghost use Rattle.mt_log.specs.Holds.{HasItsPage};
 ghost use Rattle.mt_log.specs.Sound.{IsSound};
 ghost use Rattle.mt_log.specs.Words.{waiting, appended, used, area_size};
-ghost use Rattle.mt_pool.specs.Writes.{range_record, change_records, records_size, IsLonger};
+ghost use Rattle.mt_frame.specs.PageRecords.{range_record, change_records};
+ghost use Rattle.mt_pool.specs.Writes.{records_size, IsLonger};
 
-use crate::{PageChange, Pool};
+use crate::Pool;
 use mt_base::limits::LARGEST_PAGE_RECORD;
 use mt_base::ranges::part_of;
 use mt_base::{Bytes, Edit, LogPos, OpNo, PageNo, Refusal, TxnNo};
 use mt_frame::Record;
 use mt_log::Log;
+use mt_space::{PageChange, patch};
 use std::alloc::{AllocError, Global};
 use std::collections::VecDeque;
 
@@ -25,19 +27,6 @@ pub(crate) struct Change {
     pub(crate) txn: TxnNo,
     pub(crate) op: OpNo,
     pub(crate) page: PageNo,
-}
-
-/// Makes the edits in the page's bytes, in order. Each has to lie within the page, as it does in the changes
-/// that [`Changes::note`](crate::Changes::note) notes.
-pub fn patch(page: &mut [u8; 4096], edits: &[Edit])
-    requires { All (λ e. e.start + length e.bytes ≤ 4096) edits.now }
-    ensures made { page.new ≡ patched edits.now page.old }
-    ensures size { length page.new ≡ 4096 }
-{
-    for edit in edits {
-        let start = usize::from(edit.start);
-        page[start..start + edit.bytes.len()].copy_from_slice(edit.bytes.as_slice());
-    }
 }
 
 /// The record of an edit's range.

@@ -15,6 +15,3 @@ mod table;
 
 pub use holders::Holder;
 pub use table::{Asked, LockTable};
-
-#[cfg(test)]
-mod tests;

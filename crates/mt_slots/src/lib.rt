@@ -17,6 +17,3 @@ mod reading;
 pub use changing::{empty, insert, remove, replace};
 pub use checking::check;
 pub use reading::{RecordView, get, live, room};
-
-#[cfg(test)]
-mod tests;

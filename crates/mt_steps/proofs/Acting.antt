@@ -3,7 +3,7 @@ use Rattle.std.proofs.Common.{◌≡◌, ◌≢◌, ◌⊎◌, ⊎_elim, ℕ, �
 use Rattle.std.proofs.lemmas.Bool.{cases_eq}
 use Rattle.mt_base.specs.declared.numbers.RecordName.{RecordName}
 use Rattle.mt_slots.specs.Page.{Fits, Row}
-use Rattle.mt_pool.specs.Changes.{PageBytes}
+use Rattle.mt_space.specs.Changes.{PageBytes}
 use Rattle.mt_space.specs.Kinds.{kind}
 use Rattle.mt_file.specs.File.{record_in, Touches, Adds, Drops, Stays as StaysThere, Puts, Moves}
 use Rattle.mt_file.proofs.Filed.{record_kind}

@@ -2,8 +2,8 @@
 use Rattle.std.proofs.Common.{◌≡◌, ◌≢◌, ◌⊎◌, inl, inr, ℕ, ◌<◌, ◌+◌, ◌==◌, Bool, true, false, cond, List, length, get_or, refl, ap, sym, ◌∙◌, subst, arith, ℤ}
 use Rattle.std.proofs.lemmas.Bool.{cases_eq, eq-eqb, ne_eqb}
 use Rattle.mt_base.specs.Ranges.{Torn}
-use Rattle.mt_pool.specs.Changes.{PageBytes, replaced}
-use Rattle.mt_pool.proofs.Changing.{replaced_here, replaced_other}
+use Rattle.mt_space.specs.Changes.{PageBytes, replaced}
+use Rattle.mt_space.proofs.Changing.{replaced_here, replaced_other}
 use Rattle.mt_space.specs.Kinds.{kind}
 use Rattle.mt_index.specs.Maps.{Map}
 use Rattle.mt_index.specs.Pages.{LeavesIndex}

@@ -8,9 +8,9 @@ use Rattle.mt_base.specs.declared.modes.Mode.{Mode}
 use Rattle.mt_base.specs.declared.numbers.RecordName.{RecordName}
 use Rattle.mt_slots.specs.Page.{Row}
 use Rattle.mt_base.specs.Edits.{patched, IsShortest}
-use Rattle.mt_pool.specs.declared.changes.PageChange.{PageChange}
-use Rattle.mt_pool.specs.Changes.{PageBytes, replaced, after, IsUntouched, AreShort}
-use Rattle.mt_pool.proofs.Changing.{replaced_here, replaced_other, after_untouched}
+use Rattle.mt_space.specs.declared.changes.PageChange.{PageChange}
+use Rattle.mt_space.specs.Changes.{PageBytes, replaced, after, IsUntouched, AreShort}
+use Rattle.mt_space.proofs.Changing.{replaced_here, replaced_other, after_untouched}
 use Rattle.mt_space.specs.Kinds.{kind}
 use Rattle.mt_file.specs.File.{Touches}
 use Rattle.mt_file.specs.declared.step.Step.{Step}

@@ -1,8 +1,8 @@
 -- Operations on rows leave the counters page.
 use Rattle.std.proofs.Common.{◌≡◌, ◌≢◌, ◌⊎◌, ⊎_elim, ℕ, List, [], get_or, refl, ap, sym, ◌∙◌, subst, arith}
 use Rattle.mt_slots.specs.Page.{Row}
-use Rattle.mt_pool.specs.declared.changes.PageChange.{PageChange}
-use Rattle.mt_pool.specs.Changes.{PageBytes, after, AreShort}
+use Rattle.mt_space.specs.declared.changes.PageChange.{PageChange}
+use Rattle.mt_space.specs.Changes.{PageBytes, after, AreShort}
 use Rattle.mt_space.specs.Kinds.{kind}
 use Rattle.mt_file.specs.File.{Touches, Stays as StaysThere}
 use Rattle.mt_index.specs.Maps.{Map}

@@ -8,9 +8,9 @@ use Rattle.std.proofs.lemmas.List.{drop_more, take_more, set_split}
 use Rattle.mt_base.specs.declared.edits.Edit.{Edit}
 use Rattle.mt_base.specs.Edits.{patched, IsShortest}
 use Rattle.std.proofs.lemmas.List.Elements.{All-weaker}
-use Rattle.mt_pool.specs.declared.changes.PageChange.{PageChange}
-use Rattle.mt_pool.specs.Changes.{PageBytes, Agrees, IsUntouched, IsShort, AreShort, replaced, after}
-use Rattle.mt_pool.proofs.Changing.{replaced_here, replaced_other, after_push, after_untouched}
+use Rattle.mt_space.specs.declared.changes.PageChange.{PageChange}
+use Rattle.mt_space.specs.Changes.{PageBytes, Agrees, IsUntouched, IsShort, AreShort, replaced, after}
+use Rattle.mt_space.proofs.Changing.{replaced_here, replaced_other, after_push, after_untouched}
 use Rattle.mt_steps.specs.declared.draft.PageCopy.{PageCopy}
 use Rattle.mt_steps.specs.Drafts.{copied, or_below, shown, or_bytes, drawn, IsUncopied, AreApart, AreCopies, IsCopyAt, Keeps}
 

@@ -4,8 +4,8 @@ use Rattle.std.proofs.Common.{◌≡◌, ◌⊎◌, inl, inr, ℕ, ◌<◌, List
 use Rattle.std.proofs.lemmas.Bool.Decides.{Decides-eqb}
 use Rattle.mt_base.specs.declared.numbers.RecordName.{RecordName}
 use Rattle.mt_slots.specs.Page.{Row, Fits}
-use Rattle.mt_pool.specs.declared.changes.PageChange.{PageChange}
-use Rattle.mt_pool.specs.Changes.{PageBytes, after}
+use Rattle.mt_space.specs.declared.changes.PageChange.{PageChange}
+use Rattle.mt_space.specs.Changes.{PageBytes, after}
 use Rattle.mt_space.specs.Kinds.{kind}
 use Rattle.mt_space.specs.Rooms.{mapped, IsFirstFree}
 use Rattle.mt_space.proofs.Maps.{mapped_at}
@@ -13,7 +13,7 @@ use Rattle.mt_file.specs.declared.step.Step.{Step}
 use Rattle.mt_file.specs.declared.step.Step.TheVariants as step
 use Rattle.mt_file.specs.declared.step.Plan.{Plan}
 use Rattle.mt_file.specs.Plans.{IsPut, IsShortPlan, IsNamed, IsChosen}
-use Rattle.mt_pool.specs.declared.changes.Changes.{Changes}
+use Rattle.mt_space.specs.declared.changes.Changes.{Changes}
 use Rattle.mt_index.specs.declared.answers.Add.{Add}
 use Rattle.mt_index.specs.declared.answers.Add.TheVariants as add
 use Rattle.mt_index.specs.Answers.{IfAdded, AddFull, AddEndless, Added}

@@ -3,7 +3,7 @@ use Rattle.std.proofs.Common.{◌≡◌, ◌≢◌, ℕ, None, Some, refl, sym, 
 use Rattle.std.proofs.lemmas.Bool.{ne_eqb}
 use Rattle.mt_bucket.specs.Page.{IsBucket}
 use Rattle.mt_slots.specs.Page.{Row}
-use Rattle.mt_pool.specs.Changes.{PageBytes}
+use Rattle.mt_space.specs.Changes.{PageBytes}
 use Rattle.mt_space.specs.Kinds.{kind}
 use Rattle.mt_file.specs.File.{record_in}
 use Rattle.mt_index.proofs.Witness.{formatted}

@@ -2,8 +2,8 @@
 use Rattle.std.proofs.Common.{◌≡◌, ◌<◌, ◌⊎◌, Bool, ℕ, List, [], Result, Ok, Err, IfOk, Option, None, Some, refl, sym, ◌∙◌, ap, subst}
 use Rattle.mt_base.specs.declared.numbers.RecordName.{RecordName}
 use Rattle.mt_slots.specs.Page.{Row}
-use Rattle.mt_pool.specs.declared.changes.PageChange.{PageChange}
-use Rattle.mt_pool.specs.Changes.{PageBytes, after, AreShort}
+use Rattle.mt_space.specs.declared.changes.PageChange.{PageChange}
+use Rattle.mt_space.specs.Changes.{PageBytes, after, AreShort}
 use Rattle.mt_file.specs.File.{record_in}
 use Rattle.mt_index.specs.Maps.{Map}
 use Rattle.mt_model.specs.declared.operations.Op.{Op}

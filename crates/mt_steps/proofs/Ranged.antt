@@ -7,11 +7,11 @@ use Rattle.std.proofs.lemmas.List.Elements.{recursion_from_All}
 use Rattle.mt_base.specs.Edits.{splice, patched, IsShortest}
 use Rattle.mt_base.specs.Ranges.{part}
 use Rattle.mt_base.specs.declared.edits.Edit.{Edit}
-use Rattle.mt_pool.specs.declared.changes.PageChange.{PageChange}
-use Rattle.mt_pool.specs.Changes.{PageBytes, replaced, after, IsUntouched, IsShort, AreShort}
-use Rattle.mt_pool.specs.Writes.{change_records, redone}
-use Rattle.mt_pool.proofs.Changing.{replaced_here, replaced_other}
-use Rattle.mt_pool.proofs.Redone.{put_part, in_range, Covers, covers, covers_rest, AreWithin, patched_outside, patched_length, shortest_within, own_redone}
+use Rattle.mt_space.specs.declared.changes.PageChange.{PageChange}
+use Rattle.mt_space.specs.Changes.{PageBytes, replaced, after, IsUntouched, IsShort, AreShort}
+use Rattle.mt_frame.specs.PageRecords.{change_records, redone}
+use Rattle.mt_space.proofs.Changing.{replaced_here, replaced_other}
+use Rattle.mt_frame.proofs.Redone.{put_part, in_range, Covers, covers, covers_rest, AreWithin, patched_outside, patched_length, shortest_within, own_redone}
 use Rattle.mt_steps.specs.Repeated.{Change, made, redo, put_back, on, AreBy, Repeated, changed, repeat, ranges_of, changes_of}
 use Rattle.mt_steps.proofs.Picking.{on_append, by_both}
 use Rattle.mt_steps.proofs.Repeating.{redo_append, put_back_append, redo_none, put_back_none, changed_more}

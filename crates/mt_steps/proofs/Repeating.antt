@@ -3,7 +3,7 @@ use Rattle.std.proofs.Common.{◌≡◌, ◌≢◌, ◌⊎◌, inl, inr, ⊎_eli
 use Rattle.std.proofs.lemmas.Bool.{cases_eq}
 use Rattle.mt_base.specs.Edits.{splice}
 use Rattle.mt_frame.specs.declared.records.Record.{Record}
-use Rattle.mt_pool.specs.Changes.{PageBytes}
+use Rattle.mt_space.specs.Changes.{PageBytes}
 use Rattle.mt_steps.specs.Repeated.{Change, made, unmade, redo, put_back, by, but, on, AreBy, Repeated, held, changed, finished, dropped, repeated, repeat, logged, IsRepeated}
 use Rattle.mt_steps.proofs.Picking.{by_append, but_append, on_append, by_other, by_but, but_but, but_own, by_others, on_by, on_but, on_alone, on_absent}
 

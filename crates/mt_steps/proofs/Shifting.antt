@@ -4,8 +4,8 @@ use Rattle.std.proofs.Common.{◌≡◌, ◌≢◌, ◌⊎◌, inl, inr, ⊎_eli
 use Rattle.std.proofs.lemmas.Bool.{cases_eq}
 use Rattle.mt_base.specs.declared.numbers.RecordName.{RecordName}
 use Rattle.mt_slots.specs.Page.{Row, Fits, row_length}
-use Rattle.mt_pool.specs.declared.changes.PageChange.{PageChange}
-use Rattle.mt_pool.specs.Changes.{PageBytes, after, AreShort}
+use Rattle.mt_space.specs.declared.changes.PageChange.{PageChange}
+use Rattle.mt_space.specs.Changes.{PageBytes, after, AreShort}
 use Rattle.mt_space.specs.Kinds.{kind}
 use Rattle.mt_file.specs.File.{record_in, Drops}
 use Rattle.mt_file.specs.declared.step.Step.{Step}

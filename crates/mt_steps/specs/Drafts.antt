@@ -1,8 +1,8 @@
 -- Pages as they will be: copies of some pages that lie over all pages.
 use Rattle.std.specs.Prelude.{◌≡◌, ◌≢◌, ◌==◌, ◌<◌, if◌then◌else◌, All, ℕ, List, [], ◌∷◌, length, take, Option, Some, None, IsSome}
 use Rattle.std.proofs.Math.ListN.{get_or}
-use Rattle.mt_pool.specs.Changes.{PageBytes}
-use Rattle.mt_pool.specs.declared.changes.PageChange.{PageChange}
+use Rattle.mt_space.specs.Changes.{PageBytes}
+use Rattle.mt_space.specs.declared.changes.PageChange.{PageChange}
 use Rattle.mt_steps.specs.declared.draft.PageCopy.{PageCopy}
 
 -- the copy of a page, if there is one

@@ -1,7 +1,7 @@
 -- Pages as a device is formatted with them.
 use Rattle.std.specs.Prelude.{◌≡◌, ◌≢◌, ℕ, length, None}
 use Rattle.mt_bucket.specs.Page.{IsBucket}
-use Rattle.mt_pool.specs.Changes.{PageBytes}
+use Rattle.mt_space.specs.Changes.{PageBytes}
 use Rattle.mt_space.specs.Kinds.{kind}
 use Rattle.mt_index.specs.Pages.{IsDirectory, IsEmpty}
 use Rattle.mt_model.specs.Model.{Base}

@@ -4,7 +4,7 @@ use Rattle.mt_space.specs.Kinds.{kind}
 use Rattle.std.specs.Prelude.{◌≡◌, ℕ, List, Some, ◌<◌}
 use Rattle.mt_base.specs.declared.numbers.RecordName.{RecordName}
 use Rattle.mt_slots.specs.Page.{Row}
-use Rattle.mt_pool.specs.Changes.{PageBytes}
+use Rattle.mt_space.specs.Changes.{PageBytes}
 use Rattle.mt_file.specs.File.{record_in, IsFile, AreWithin}
 use Rattle.mt_index.specs.Maps.{Map}
 use Rattle.mt_index.specs.Pages.{AreMap, AreFormed}

@@ -1,8 +1,8 @@
 -- What the plan of any operation promises.
 use Rattle.std.specs.Prelude.{◌≡◌, ℕ, ◌+◌, ◌<◌, ◌≤◌, Bool, cond, List, Option, Some, None}
 use Rattle.mt_slots.specs.Page.{row_length}
-use Rattle.mt_pool.specs.Changes.{PageBytes, Agrees, after, AreShort}
-use Rattle.mt_pool.specs.declared.changes.PageChange.{PageChange}
+use Rattle.mt_space.specs.Changes.{PageBytes, Agrees, after, AreShort}
+use Rattle.mt_space.specs.declared.changes.PageChange.{PageChange}
 use Rattle.mt_space.specs.Kinds.{kind}
 use Rattle.mt_space.specs.Rooms.{mapped, free_in}
 use Rattle.mt_file.specs.Plans.{IsNamed}

@@ -5,8 +5,8 @@ use Rattle.mt_base.specs.Ranges.{part}
 use Rattle.mt_base.specs.declared.edits.Edit.{Edit}
 use Rattle.mt_frame.specs.declared.records.Record.{Record}
 use Rattle.mt_frame.specs.declared.records.Record.TheVariants.{Page, OpEnd, OpDropped, Commit, AbortEnd}
-use Rattle.mt_pool.specs.Changes.{PageBytes}
-use Rattle.mt_pool.specs.declared.changes.PageChange.{PageChange}
+use Rattle.mt_space.specs.Changes.{PageBytes}
+use Rattle.mt_space.specs.declared.changes.PageChange.{PageChange}
 
 -- bytes of one page, as they were and as they become, and the operation that changes them
 pub record Change : Type 0 where

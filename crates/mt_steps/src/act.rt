@@ -1,7 +1,7 @@
 // What the plan of an operation answers.
 use mt_base::{Mode, PageNo};
 use mt_model::Reply;
-use mt_pool::Changes;
+use mt_space::Changes;
 
 /// The answer of an operation's plan over the pages that are at hand. A plan changes no page itself, whatever it
 /// answers; where memory is refused there is no plan, and it can be made again.

@@ -5,7 +5,7 @@ ghost use Rattle.mt_steps.specs.declared.draft.PageCopy.{PageCopy};
 
 use crate::draft::{PageCopy, copy_of};
 use mt_base::PageNo;
-use mt_pool::Pages;
+use mt_space::Pages;
 use std::alloc::{AllocError, Global};
 
 /// Copies of some of a device's pages, those that an operation has looked at: no other page is at hand.

@@ -3,7 +3,7 @@ ghost use Rattle.std.specs.Prelude.{◌≡◌, ◌<◌, ◌≤◌, ℕ, [], leng
 ghost use Rattle.mt_steps.specs.Drafts.{AreAtHand};
 ghost use Rattle.mt_base.specs.Limits.{IsStep};
 ghost use Rattle.mt_base.specs.declared.modes.Mode.TheVariants.{Read as ToRead, Write as ToWrite};
-ghost use Rattle.mt_pool.specs.Changes.{after, AreShort};
+ghost use Rattle.mt_space.specs.Changes.{after, AreShort};
 ghost use Rattle.mt_model.specs.declared.operations.Op.TheVariants.{Add, Read};
 ghost use Rattle.mt_steps.specs.Counters.{AreCounters};
 ghost use Rattle.mt_steps.specs.Plans.{IsModest};
@@ -14,8 +14,8 @@ use crate::act::Act;
 use crate::counters::{add, counter};
 use mt_base::{CtrNo, Mode, PageNo};
 use mt_model::Reply;
-use mt_pool::{Changes, Pages};
 use mt_space::pages::COUNTERS;
+use mt_space::{Changes, Pages};
 use std::alloc::{AllocError, Global};
 
 /// Plans to add a step to a counter, where the sum lies in the counter's bounds; else nothing changes, which

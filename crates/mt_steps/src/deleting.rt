@@ -1,6 +1,6 @@
 // A row less.
 ghost use Rattle.std.specs.Prelude.{◌≡◌, ◌≤◌, ◌<◌, ℕ, [], List, length, None, Some, IfOk, IsSome};
-ghost use Rattle.mt_pool.specs.Changes.{after, AreShort};
+ghost use Rattle.mt_space.specs.Changes.{after, AreShort};
 ghost use Rattle.mt_index.specs.Answers.{InMaps};
 ghost use Rattle.mt_model.specs.declared.operations.Op.TheVariants.{Delete};
 ghost use Rattle.mt_steps.specs.Drafts.{AreAtHand};
@@ -15,7 +15,7 @@ use mt_base::{Bytes, Mode, RecordName, RelNo};
 use mt_file::{Found, Step, plan_read, plan_remove};
 use mt_index::{Amend, Find, plan_drop, plan_find};
 use mt_model::Reply;
-use mt_pool::{Changes, Pages};
+use mt_space::{Changes, Pages};
 use std::alloc::{AllocError, Global};
 
 /// Plans to take away the value under a key: its record, whose page is given back where it was the last there, and

@@ -1,11 +1,11 @@
 // Pages as they will be once some changes are made.
 ghost use Rattle.std.specs.Prelude.{◌≡◌, ◌+◌, ◌≤◌, ℕ, List, [], All, length, IfSome, IfNone, IfOk, OnOk, OnErr, IsSome, ◌↔◌, Some, None};
 ghost use Rattle.mt_base.specs.Edits.{patched};
-ghost use Rattle.mt_pool.specs.Changes.{PageBytes, Agrees, IsUntouched, AreShort, after};
+ghost use Rattle.mt_space.specs.Changes.{PageBytes, Agrees, IsUntouched, AreShort, after};
 ghost use Rattle.mt_steps.specs.Drafts.{copied, shown, drawn, AreApart, AreCopies, AreAtHand, IsCopyAt, Keeps};
 
 use mt_base::PageNo;
-use mt_pool::{Changes, PageChange, Pages, patch};
+use mt_space::{Changes, PageChange, Pages, patch};
 use std::alloc::{AllocError, Global};
 
 // A page's bytes as they will be.

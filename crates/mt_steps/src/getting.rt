@@ -1,7 +1,7 @@
 // A read of a row.
 ghost use Rattle.std.specs.Prelude.{◌≡◌, ◌≤◌, ◌<◌, [], ℕ, length, None, IfOk};
 ghost use Rattle.mt_base.specs.declared.modes.Mode.TheVariants.{Read};
-ghost use Rattle.mt_pool.specs.Changes.{after, AreShort};
+ghost use Rattle.mt_space.specs.Changes.{after, AreShort};
 ghost use Rattle.mt_model.specs.declared.operations.Op.TheVariants.{Get};
 ghost use Rattle.mt_steps.specs.Acts.{HasGood, InGood, IfLock, IfMade, IfFull, IfBroken, IsAct};
 ghost use Rattle.mt_steps.specs.Logged.{logged_of};
@@ -11,7 +11,7 @@ use mt_base::{Bytes, RelNo};
 use mt_file::{Found, plan_read};
 use mt_index::{Find, plan_find};
 use mt_model::Reply;
-use mt_pool::{Changes, Pages};
+use mt_space::{Changes, Pages};
 use std::alloc::{AllocError, Global};
 
 /// Plans to read the value under a key: the directory, the key's bucket and the record's page are

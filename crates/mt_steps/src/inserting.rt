@@ -2,7 +2,7 @@
 ghost use Rattle.std.specs.Prelude.{◌≡◌, ◌⊎◌, ◌≤◌, ◌<◌, ℕ, [], List, Option, length, None, IfOk, IsSome, cond};
 ghost use Rattle.mt_base.specs.Limits.{IsKey, IsValue};
 ghost use Rattle.mt_slots.specs.Page.{Fits, row_length};
-ghost use Rattle.mt_pool.specs.Changes.{after, AreShort};
+ghost use Rattle.mt_space.specs.Changes.{after, AreShort};
 ghost use Rattle.mt_model.specs.declared.operations.Op.TheVariants.{Insert};
 ghost use Rattle.mt_index.specs.Answers.{InMaps};
 ghost use Rattle.mt_steps.specs.Drafts.{AreAtHand};
@@ -17,7 +17,7 @@ use mt_base::{Mode, PageNo, RelNo};
 use mt_file::{Plan, Step, plan_put};
 use mt_index::{Add, Find, plan_add, plan_find};
 use mt_model::Reply;
-use mt_pool::{Changes, Pages};
+use mt_space::{Changes, Pages};
 use std::alloc::{AllocError, Global};
 
 /// Plans to put a value under a key that has none: the record goes into the page `room`, which holds

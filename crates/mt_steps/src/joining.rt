@@ -1,6 +1,6 @@
 // Two plans of one operation, the second made over the changes of the first.
 ghost use Rattle.std.specs.Prelude.{◌≡◌, ◌+◌, ◌<◌, ◌≤◌, ℕ, length, None, IfOk};
-ghost use Rattle.mt_pool.specs.Changes.{PageBytes, Agrees, after, AreShort, IsUntouched};
+ghost use Rattle.mt_space.specs.Changes.{PageBytes, Agrees, after, AreShort, IsUntouched};
 ghost use Rattle.mt_steps.specs.Drafts.{AreAtHand, AreCopies, shown};
 ghost use Rattle.mt_steps.specs.Acts.{IfLock, IfMade, IfFull, IfBroken};
 
@@ -8,8 +8,8 @@ use crate::act::Act;
 use crate::draft::{Draft, first_missing, merged};
 use mt_base::{Mode, PageNo};
 use mt_model::Reply;
-use mt_pool::{Changes, Pages};
 use mt_space::pages::DIRECTORY;
+use mt_space::{Changes, Pages};
 use std::alloc::{AllocError, Global};
 
 // A page of a bucket is to be written; the directory is read.

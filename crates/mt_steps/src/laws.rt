@@ -1,6 +1,6 @@
 // Laws of pages, for all pages there are.
 ghost use Rattle.std.specs.Prelude.{ℕ};
-ghost use Rattle.mt_pool.specs.Changes.{PageBytes};
+ghost use Rattle.mt_space.specs.Changes.{PageBytes};
 ghost use Rattle.mt_steps.specs.Formatted.{IsFormatted, first_base};
 ghost use Rattle.mt_steps.specs.Held.{Holds};
 ghost use Rattle.mt_steps.specs.Plans.{IsGood};

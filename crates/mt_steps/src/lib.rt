@@ -24,6 +24,3 @@ pub use draft::{Draft, first_missing, merged};
 pub use laws::formatted_pages_are_good;
 pub use logging::{has_effect, logged};
 pub use planning::{pages_for, plan};
-
-#[cfg(test)]
-mod tests;

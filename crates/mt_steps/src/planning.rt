@@ -16,7 +16,7 @@ use crate::updating::update;
 use mt_base::PageNo;
 use mt_base::limits::{INSERT_PAGES, UNSPLIT_INSERT_PAGES, UPDATE_PAGES};
 use mt_model::Op;
-use mt_pool::Pages;
+use mt_space::Pages;
 use std::alloc::{AllocError, Global};
 
 /// Plans an operation over the pages at hand: [`Act::Lock`] names a page that is not at hand and has to be locked

@@ -3,7 +3,7 @@ ghost use Rattle.std.specs.Prelude.{◌≡◌, ◌≢◌, ◌⊎◌, ◌≤◌, 
 ghost use Rattle.mt_base.specs.Limits.{IsValue};
 ghost use Rattle.mt_base.specs.declared.numbers.RecordName.{RecordName};
 ghost use Rattle.mt_slots.specs.Page.{Fits, row_length};
-ghost use Rattle.mt_pool.specs.Changes.{after, AreShort};
+ghost use Rattle.mt_space.specs.Changes.{after, AreShort};
 ghost use Rattle.mt_index.specs.Answers.{InMaps};
 ghost use Rattle.mt_model.specs.declared.operations.Op.TheVariants.{Update};
 ghost use Rattle.mt_steps.specs.Drafts.{AreAtHand};
@@ -18,7 +18,7 @@ use mt_base::{Bytes, Mode, PageNo, RecordName, RelNo};
 use mt_file::{Found, Plan, Step, plan_read, plan_replace};
 use mt_index::{Amend, Find, plan_find, plan_set};
 use mt_model::Reply;
-use mt_pool::{Changes, Pages};
+use mt_space::{Changes, Pages};
 use std::alloc::{AllocError, Global};
 
 /// Plans to replace the value under a key that has one. The record stays under its name where its page has

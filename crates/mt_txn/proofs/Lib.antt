@@ -1,4 +1,5 @@
 pub mod Soundness
+pub mod Calling
 pub mod Effects
 pub mod Finishing
 pub mod Endings

@@ -1,8 +1,9 @@
 -- What each event keeps of the live transactions.
 use Rattle.std.proofs.Common.{◌≡◌, ℕ, ◌<◌, ◌≤◌, ◌^◌, List, length, get_or, sym, ap, arith, None, subst, ◌+◌, ◌++◌, ◌∷◌, [], ◌∙◌, length-append}
 use Rattle.std.specs.List.{All, sum_by}
-use Rattle.std.proofs.lemmas.List.Elements.{All-push}
-use Rattle.std.proofs.lemmas.List.Sums.{sum_by_push}
+use Rattle.std.proofs.Math.ListN.{set, length-set}
+use Rattle.std.proofs.lemmas.List.Elements.{All-push, All-set}
+use Rattle.std.proofs.lemmas.List.Sums.{sum_by_push, sum_by-set}
 use Rattle.mt_model.specs.declared.operations.Op.{Op}
 use Rattle.mt_model.specs.declared.operations.Op.TheVariants.{Get, Insert, Update, Delete, Add, Read}
 use Rattle.mt_model.specs.Model.{IsWithin}
@@ -11,6 +12,7 @@ use Rattle.mt_txn.specs.Parties.{with_running}
 use Rattle.mt_txn.specs.declared.live.Committing.{Committing}
 use Rattle.mt_txn.specs.Sound.{IsSound, starts_left, IsParty, IsCallWithin, IsRunningWithin}
 use Rattle.mt_txn.specs.Effects.{effects, running_need, unfinished}
+use Rattle.mt_txn.specs.Logged.{log_need_of}
 use Rattle.mt_txn.specs.State.{IsNamed, IsSized, IsFresh}
 
 -- a named and sized operation is one of the schema
@@ -82,3 +84,27 @@ called_party relations counters old new op i number live starts there parties be
     let old_party : IsParty relations counters old = subst (IsParty relations counters) (sym there) (parties i old below) in
     subst (IsParty relations counters) (sym starts)
     (running_party relations counters old number op old_party (ready old there).1 (ready old there).0 from_one fits inside)
+
+-- what the kernel keeps once that operation is entered
+pub entered_sound : (used area reserved begun operations book : ℕ) (live : List Party) (committing : List Committing) (i number need : ℕ) (l z : Party) (op : Op)
+    → IsSound used area reserved begun operations book live committing → i < length live → l ≡ get_or live i l → l.started < 256 → z ≡ with_running l number op
+    → need ≡ log_need_of op → used + reserved + log_need_of op < area
+    → IsSound used area (reserved + need) begun (operations + 1) book (set live i z) committing
+entered_sound used area reserved begun operations book live committing i number need l z op sound within there few is needs room =
+    let shares = sum_by-set (λ (x : Party). x.reserved) live i z l within in
+    let lefts = sum_by-set starts_left live i z l within in
+    let had : (get_or live i l).reserved ≡ l.reserved = ap (λ (x : Party). x.reserved) (sym there) in
+    let started : (get_or live i l).started ≡ l.started = ap (λ (x : Party). x.started) (sym there) in
+    let has : z.reserved ≡ l.reserved + log_need_of op = ap (λ (x : Party). x.reserved) is in
+    let one_more : z.started ≡ l.started + 1 = ap (λ (x : Party). x.started) is in
+    record {
+      room = omega (arith, needs, room);
+      small = sound.small;
+      shares = omega (arith, sound.shares, shares, had, has, needs);
+      begun_below = sound.begun_below;
+      numbered = omega (arith, sound.numbered, lefts, started, one_more, few);
+      crowd = omega (arith, length-set live i z, sound.crowd);
+      commits = omega (arith, length-set live i z, sound.commits);
+      old_numbers = All-set (λ (x : Party). x.number ≤ begun) live i z
+          (omega (arith, sound.old_numbers i l within, ap (λ (x : Party). x.number) there, ap (λ (x : Party). x.number) is)) sound.old_numbers;
+    }

@@ -224,6 +224,13 @@ call_cause s t op =
 
 -- ---- what the calls do
 
+-- the operation is under way in the transaction at a place, with the next number, and all else is as before
+pub record HasEntered (s : State) (i : ℕ) (l : Party) (op : Op) (z : State) : Type 0 where
+  pub live : z.live ≡ slice_set s.live i (with_running l (s.operations + 1) op)
+  pub operations : z.operations ≡ s.operations + 1
+  pub reserved : z.reserved ≡ s.reserved + log_need_of op
+  pub rest : z ≡ record s { live = z.live; operations = z.operations; reserved = z.reserved }
+
 -- the operation of the open transaction t is under way, with the next number, and all else is as before
 pub record HasCalled (s : State) (t : ℕ) (op : Op) (z : State) : Type 0 where
   pub live : (i : ℕ) × (l : Party) × (place_in s.live t ≡ Some i) × (i < length s.live) × (l ≡ slice_index_or s.live i l)

@@ -3,7 +3,7 @@ ghost use Rattle.mt_base.specs.declared.refusal.Refusal.{Refusal};
 ghost use Rattle.mt_model.specs.Model.{stays};
 ghost use Rattle.mt_model.specs.Tables.{IsLimited};
 ghost use Rattle.mt_model.specs.Views.{base_of, counters_of, relations_of};
-ghost use Rattle.mt_txn.specs.State.{state_of, IsNamed, IsSized, place_in, live_at, open_cause, name_cause, size_cause, bounds_cause, log_cause, operation_cause, busy_cause, count_cause, call_cause, first_of, is_step, HasCalled};
+ghost use Rattle.mt_txn.specs.State.{state_of, IsNamed, IsSized, place_in, live_at, open_cause, name_cause, size_cause, bounds_cause, log_cause, operation_cause, busy_cause, count_cause, call_cause, first_of, is_step, HasCalled, HasEntered};
 ghost use Rattle.mt_log.specs.Words.{used, area_size};
 ghost use Rattle.mt_txn.specs.Logged.{log_need_of};
 ghost use Rattle.mt_txn.specs.Kept.{Keeps};
@@ -191,11 +191,27 @@ impl<D: Device> Kernel<D> {
         ensures err { OnErr result (state_of self.new ≡ state_of self.old) }
     {
         let place = self.place_for_call(txn, &op)?;
+        self.enter(place, op)?;
+        Ok(Called::Started)
+    }
+
+    // Enters the operation, with the next number, as the one under way of the transaction at this place.
+    fn enter(&mut self, place: usize, op: Op) -> Result<(), Refusal>
+        requires within { place < length self.old.live.items }
+        requires idle { (l : Party) → l ≡ slice_index_or self.old.live.items place l → (l.started < 256) × (l.running ≡ None) }
+        requires named { IsNamed (relations_of self.old.base) (length (counters_of self.old.base)) op }
+        requires sized { IsSized op }
+        requires room { used self.old.log + self.old.reserved + log_need_of op < area_size self.old.log }
+        ensures entered { OnOk result ((l : Party) → l ≡ slice_index_or self.old.live.items place l → HasEntered (state_of self.old) place l op (state_of self.new)) }
+        ensures device { self.new.device ≡ self.old.device }
+        ensures err { OnErr result (state_of self.new ≡ state_of self.old) }
+        ensures only_memory { IfErr result (λ why. why ≡ Refusal.NoMemory) }
+    {
         let need = log_need(&op);
         let number = OpNo::new(self.operations + 1);
         self.live[place].start(number, op)?;
         self.operations += 1;
         self.reserved += need;
-        Ok(Called::Started)
+        Ok(())
     }
 }

@@ -18,6 +18,3 @@ mod steps;
 
 pub use answers::{AbortStepped, Called, KernelForced, Stepped};
 pub use kernel::Kernel;
-
-#[cfg(test)]
-mod tests;

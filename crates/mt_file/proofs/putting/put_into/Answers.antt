@@ -1,6 +1,6 @@
 use Rattle.std.proofs.Common.{refl, inr}
 use Rattle.mt_file.proofs.Planned.{named_seen, named_shaped, named_full, named_adds, named_roomy, untouched_seen}
-use Rattle.mt_pool.specs.Changes.{after}
+use Rattle.mt_space.specs.Changes.{after}
 use Rattle.mt_file.proofs.putting.put_into.Goals as goal
 
 pub insert-requires-clause-shaped : goal.insert-requires-clause-shaped

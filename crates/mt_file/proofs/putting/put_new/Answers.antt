@@ -1,5 +1,5 @@
 use Rattle.std.proofs.Common.{◌≡◌, ℕ, None, Some, inl, sym, ap, subst, ◌∙◌}
-use Rattle.mt_pool.specs.Changes.{after, replaced, IsUntouched}
+use Rattle.mt_space.specs.Changes.{after, replaced, IsUntouched}
 use Rattle.mt_space.specs.Rooms.{mapped, IsFirstFree}
 use Rattle.mt_file.proofs.Planned.{map_seen, map_kind, first_seen, new_adds, new_seen, no_records, untouched_seen}
 use Rattle.mt_file.proofs.putting.put_new.Goals as goal

@@ -1,5 +1,5 @@
 use Rattle.std.proofs.Common.{◌≡◌, ℕ, inr, refl, sym, ap, ◌∙◌}
-use Rattle.mt_pool.specs.Changes.{after, replaced}
+use Rattle.mt_space.specs.Changes.{after, replaced}
 use Rattle.mt_file.proofs.Planned.{is_held, noted_first, drops_one, none_beside, gives_back}
 use Rattle.mt_file.proofs.removing.plan_remove.Goals as goal
 

@@ -1,8 +1,8 @@
 use Rattle.std.proofs.Common.{[], ◌≡◌, ◌≢◌, ℕ, List, Option, Some, None, refl, sym, ap, subst, ◌∙◌, inl, inr}
 use Rattle.std.proofs.lemmas.Result.{IfOk-weaker}
-use Rattle.mt_pool.specs.declared.changes.PageChange.{PageChange}
-use Rattle.mt_pool.specs.Changes.{PageBytes, after, replaced, IsUntouched, AreShort}
-use Rattle.mt_pool.proofs.Changing.{replaced_other}
+use Rattle.mt_space.specs.declared.changes.PageChange.{PageChange}
+use Rattle.mt_space.specs.Changes.{PageBytes, after, replaced, IsUntouched, AreShort}
+use Rattle.mt_space.proofs.Changing.{replaced_other}
 use Rattle.mt_slots.specs.Page.{Row, row_length}
 use Rattle.mt_file.specs.File.{Moves}
 use Rattle.mt_file.specs.Plans.{IsTooFull, IsPut, IsWhole}

@@ -1,7 +1,7 @@
 use Rattle.std.proofs.Common.{[], ◌≡◌, ◌≢◌, ℕ, List, refl, sym, ap, subst, inl}
 use Rattle.std.specs.Option.{IsSome}
-use Rattle.mt_pool.specs.declared.changes.PageChange.{PageChange}
-use Rattle.mt_pool.specs.Changes.{after}
+use Rattle.mt_space.specs.declared.changes.PageChange.{PageChange}
+use Rattle.mt_space.specs.Changes.{after}
 use Rattle.mt_slots.specs.Page.{Row}
 use Rattle.mt_file.specs.File.{Stays}
 use Rattle.mt_file.proofs.Planned.{is_held, noted_first}

@@ -1,4 +1,4 @@
-use Rattle.mt_pool.specs.Changes.{after}
+use Rattle.mt_space.specs.Changes.{after}
 use Rattle.mt_file.proofs.Planned.{noted_first}
 use Rattle.mt_file.proofs.Moved.{whole_page}
 use Rattle.mt_file.proofs.replacing.write_whole.Goals as goal

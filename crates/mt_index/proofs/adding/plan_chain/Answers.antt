@@ -1,5 +1,5 @@
 use Rattle.std.proofs.Common.{◌≡◌, ◌≢◌, ℕ, [], get_or, false, inl, inr, refl, ap, sym, ◌∙◌, subst, arith}
-use Rattle.mt_pool.specs.Changes.{PageBytes, after}
+use Rattle.mt_space.specs.Changes.{PageBytes, after}
 use Rattle.mt_bucket.specs.Entries.{Entry}
 use Rattle.mt_bucket.specs.Page.{depth_of, IsBucket}
 use Rattle.mt_space.specs.Kinds.{kind}

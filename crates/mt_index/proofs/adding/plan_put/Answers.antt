@@ -1,5 +1,5 @@
 use Rattle.std.proofs.Common.{ap, ◌∙◌, List, ℕ, get_or, ◌≡◌, ◌<◌, inl, inr, refl, sym, subst, arith, length}
-use Rattle.mt_pool.specs.Changes.{after}
+use Rattle.mt_space.specs.Changes.{after}
 use Rattle.mt_bucket.specs.Entries.{Entry}
 use Rattle.mt_bucket.specs.Page.{entries, KeepsHead, IsBucket}
 use Rattle.mt_space.specs.Kinds.{kind}

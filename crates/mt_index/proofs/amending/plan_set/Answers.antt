@@ -1,5 +1,5 @@
 use Rattle.std.proofs.Common.{◌≡◌, ap, ◌∙◌, subst}
-use Rattle.mt_pool.specs.Changes.{after}
+use Rattle.mt_space.specs.Changes.{after}
 use Rattle.mt_bucket.specs.Page.{IsBucket}
 use Rattle.mt_space.specs.Kinds.{kind}
 use Rattle.mt_index.specs.Answers.{Lacks}

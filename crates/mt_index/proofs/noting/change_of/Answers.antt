@@ -1,5 +1,5 @@
 use Rattle.std.proofs.Common.{◌≡◌, sym, ap, ◌∙◌, subst}
-use Rattle.mt_pool.specs.Changes.{PageBytes, after, replaced, IsUntouched, AreShort}
+use Rattle.mt_space.specs.Changes.{PageBytes, after, replaced, IsUntouched, AreShort}
 use Rattle.mt_index.proofs.OnePage.{turns}
 use Rattle.mt_index.proofs.noting.change_of.Goals as goal
 

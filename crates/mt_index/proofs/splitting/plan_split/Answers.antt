@@ -6,7 +6,7 @@ use Rattle.mt_space.specs.Rooms.{mapped}
 use Rattle.mt_index.proofs.Free.{Fresh, fresh, none_fresh}
 use Rattle.mt_index.proofs.Composing.{unput, full_half, due_end, put_pages, put_space, link_pages, apart, put_added, second_off, second_free, link_added, split_short}
 use Rattle.std.proofs.lemmas.Bool.{cases_eq}
-use Rattle.mt_pool.specs.Changes.{after}
+use Rattle.mt_space.specs.Changes.{after}
 use Rattle.mt_index.specs.Answers.{Adds}
 use Rattle.mt_index.proofs.Placing.{taken_is, seen_at}
 use Rattle.mt_index.specs.Halves.{AreHalves, PutsInHalf, Links, changed}

@@ -1,6 +1,6 @@
 use Rattle.std.proofs.Common.{◌≡◌, ◌<◌, ◌∙◌, refl, sym, List, length, get_or, ap, subst, arith}
-use Rattle.mt_pool.specs.declared.changes.PageChange.{PageChange}
-use Rattle.mt_pool.specs.Changes.{IsUntouched}
+use Rattle.mt_space.specs.declared.changes.PageChange.{PageChange}
+use Rattle.mt_space.specs.Changes.{IsUntouched}
 use Rattle.mt_steps.proofs.Drafting.{named_at}
 use Rattle.std.specs.Prelude.{All, Contains, IsTrue, false}
 use Rattle.std.proofs.lemmas.List.{take_all}

@@ -1,5 +1,5 @@
 use Rattle.std.proofs.Common.{◌≡◌, ◌++◌, drop}
-use Rattle.mt_pool.specs.Writes.{change_records}
+use Rattle.mt_frame.specs.PageRecords.{change_records}
 use Rattle.mt_pool.proofs.writing.records_of.Given as goal
 
 abbrev pub invariant-loop-edit : goal.invariant-loop-edit

@@ -2,14 +2,14 @@ use Rattle.std.proofs.Common.{arith, ◌≡◌, ◌∙◌, ◌+◌, ℕ, ℤ, Li
 use Rattle.std.specs.Int.{w64}
 use Rattle.std.proofs.lemmas.Int.{to_z-of_z}
 use Rattle.mt_base.specs.Ranges.{Torn}
-use Rattle.mt_pool.specs.declared.changes.PageChange.{PageChange}
-use Rattle.mt_pool.specs.Changes.{PageBytes, after, replaced, IsUntouched, AreShort}
+use Rattle.mt_space.specs.declared.changes.PageChange.{PageChange}
+use Rattle.mt_space.specs.Changes.{PageBytes, after, replaced, IsUntouched, AreShort}
 use Rattle.mt_model.specs.declared.operations.Op.TheVariants.{Add}
 use Rattle.mt_model.specs.declared.operations.Reply.TheVariants.{Done, OutOfBounds}
 use Rattle.mt_model.specs.Model.{moved, stays}
 use Rattle.mt_steps.specs.Counters.{place_of, count_in, AreCounters}
 use Rattle.mt_steps.specs.Acts.{IsAct}
-use Rattle.mt_pool.proofs.Changing.{replaced_other}
+use Rattle.mt_space.proofs.Changing.{replaced_other}
 use Rattle.mt_steps.proofs.Modest.{modest_nothing, modest_same}
 use Rattle.mt_steps.proofs.Asking.{all_at_hand}
 use Rattle.mt_steps.proofs.Adding.{adds_done, adds_nothing}

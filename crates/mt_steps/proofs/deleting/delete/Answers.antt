@@ -1,6 +1,6 @@
 use Rattle.std.proofs.Common.{List, sym, subst}
-use Rattle.mt_pool.specs.declared.changes.PageChange.{PageChange}
-use Rattle.mt_pool.specs.Changes.{after, AreShort}
+use Rattle.mt_space.specs.declared.changes.PageChange.{PageChange}
+use Rattle.mt_space.specs.Changes.{after, AreShort}
 use Rattle.mt_model.specs.declared.operations.Op.TheVariants.{Delete}
 use Rattle.mt_model.specs.declared.operations.Reply.TheVariants.{Missing}
 use Rattle.mt_base.specs.declared.modes.Mode.TheVariants.{Read}

@@ -3,8 +3,8 @@ use Rattle.std.specs.Prelude.{IsSome}
 use Rattle.std.proofs.lemmas.Grind.{common_steps}
 use Rattle.std.proofs.lemmas.List.{take_all}
 use Rattle.std.proofs.lemmas.List.Elements.{All-more}
-use Rattle.mt_pool.specs.declared.changes.PageChange.{PageChange}
-use Rattle.mt_pool.specs.Changes.{IsUntouched}
+use Rattle.mt_space.specs.declared.changes.PageChange.{PageChange}
+use Rattle.mt_space.specs.Changes.{IsUntouched}
 use Rattle.mt_steps.specs.Drafts.{AreAtHand}
 use Rattle.mt_steps.proofs.Drafting.{named_at}
 use Rattle.mt_steps.proofs.draft.first_missing.Goals as goal

@@ -1,6 +1,6 @@
 use Rattle.std.proofs.Common.{◌∙◌, List, ap, subst, sym}
 use Rattle.std.proofs.lemmas.Result.{IfOk-weaker}
-use Rattle.mt_pool.specs.Changes.{Agrees, after}
+use Rattle.mt_space.specs.Changes.{Agrees, after}
 use Rattle.mt_steps.specs.declared.draft.PageCopy.{PageCopy}
 use Rattle.mt_steps.specs.Drafts.{drawn}
 use Rattle.mt_steps.proofs.draft.merged.Goals as goal

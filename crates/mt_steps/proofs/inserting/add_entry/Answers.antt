@@ -1,6 +1,6 @@
 use Rattle.std.proofs.Common.{cond, ◌≡◌, arith, None, Some, sym, subst}
 use Rattle.mt_bucket.specs.Entries.{Entry}
-use Rattle.mt_pool.specs.Changes.{PageBytes, after}
+use Rattle.mt_space.specs.Changes.{PageBytes, after}
 use Rattle.mt_index.specs.Maps.{alter}
 use Rattle.mt_index.specs.Pages.{AreMap}
 use Rattle.mt_index.specs.Answers.{InMaps, Adds, Asks, IsInAdd, TakesSeen, Shortage}

@@ -1,6 +1,6 @@
 use Rattle.std.proofs.Common.{cond, List, sym, subst}
-use Rattle.mt_pool.specs.declared.changes.PageChange.{PageChange}
-use Rattle.mt_pool.specs.Changes.{after, AreShort}
+use Rattle.mt_space.specs.declared.changes.PageChange.{PageChange}
+use Rattle.mt_space.specs.Changes.{after, AreShort}
 use Rattle.mt_model.specs.declared.operations.Op.TheVariants.{Insert}
 use Rattle.mt_model.specs.declared.operations.Reply.TheVariants.{Exists}
 use Rattle.mt_base.specs.declared.modes.Mode.TheVariants.{Read}

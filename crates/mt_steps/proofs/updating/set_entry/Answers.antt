@@ -1,6 +1,6 @@
 use Rattle.std.proofs.Common.{◌≡◌, arith, ◌<◌, ◌∙◌, ℕ, None, Some, sym, subst}
 use Rattle.std.proofs.lemmas.Result.{IfOk-weaker}
-use Rattle.mt_pool.specs.Changes.{PageBytes, after}
+use Rattle.mt_space.specs.Changes.{PageBytes, after}
 use Rattle.mt_index.specs.Pages.{AreFormed}
 use Rattle.mt_index.specs.Answers.{InMaps, Amends, Asks, IsInBucket}
 use Rattle.mt_model.specs.declared.operations.Op.TheVariants.{Update}

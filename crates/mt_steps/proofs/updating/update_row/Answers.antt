@@ -2,7 +2,7 @@ use Rattle.std.proofs.Common.{◌≡◌, ◌<◌, inl, inr, arith, ⊎_elim, ◌
 use Rattle.std.proofs.lemmas.Result.{IfOk-weaker}
 use Rattle.mt_base.specs.declared.numbers.RecordName.{RecordName}
 use Rattle.mt_slots.specs.Page.{Row}
-use Rattle.mt_pool.specs.Changes.{after, AreShort}
+use Rattle.mt_space.specs.Changes.{after, AreShort}
 use Rattle.mt_space.specs.Kinds.{kind}
 use Rattle.mt_file.proofs.Filed.{record_kind}
 use Rattle.mt_model.specs.declared.operations.Op.TheVariants.{Update}

@@ -1,25 +1,27 @@
-use Rattle.std.proofs.Common.{◌≡◌, ◌<◌, ◌+◌, ◌-◌, ◌++◌, ◌∷◌, [], ℕ, OnErr, refl, sym, ap, ◌∙◌, subst, arith}
+use Rattle.std.proofs.Common.{◌<◌, ◌+◌, ◌-◌, ◌++◌, [], ℕ, refl, sym, ap, ◌∙◌, subst, arith}
+use Rattle.std.specs.Prelude.{Err}
 use Rattle.std.proofs.lemmas.Result.{err_from_is_err_and}
-use Rattle.mt_log.specs.Words.{appended}
+use Rattle.mt_log.specs.Words.{appended, used, area_size}
+use Rattle.mt_log.specs.declared.log.Log.{Log}
 use Rattle.mt_frame.specs.declared.records.Record.TheVariants.{OpDropped}
 use Rattle.mt_pool.specs.Views.{waits_for}
 use Rattle.mt_pool.specs.declared.pool.Pool.{Pool}
 use Rattle.mt_op.specs.Operations.{world}
+use Rattle.mt_op.specs.Records.{dropped_with}
+use Rattle.mt_op.specs.Stepping.{PutsOneBack}
 use Rattle.mt_op.specs.declared.scope.Stage.TheVariants.{Cleared}
 use Rattle.mt_op.proofs.Right.{right_rests}
 use Rattle.mt_op.proofs.Budget.{area_small}
-use Rattle.mt_op.proofs.Restored.{returnable, notes_back, last_goes}
+use Rattle.mt_op.proofs.Restored.{kept_to_drop, returnable, notes_back, last_goes}
 use Rattle.mt_op.proofs.Written.{rests_goes_as}
 use Rattle.mt_op.proofs.operations.Operations.clear.Goals as goal
 
 pub overflow_add-scope : goal.overflow_add-scope
 overflow_add-scope g c = let used = c.used-before.ensures in let most = area_small c.args.self.now.store.log in omega arith
 
-pub returns-in_err-append_dropped-clause-goes : goal.returns-in_err-append_dropped-clause-goes
-returns-in_err-append_dropped-clause-goes g c = λ opening relations counters right k.
-    let f = c.append_dropped.ensures in let seen = g.D.Device.seen in let o = c.args.self.now in let n = c.append_dropped.new.self in
-    let rests = c.in_err-append_dropped.ensures.rests opening in
-    (right_rests seen g.D.Device.may_leave opening relations counters o n right (f.kept opening right.kept) rests f.map f.rooms, rests_goes_as relations counters (world seen opening o) (world seen opening n) c.args.scope.now rests k)
+pub overflow_sub-scope : goal.overflow_sub-scope
+overflow_sub-scope g c = let (opening, relations, counters, right, k) = c.requires.right in let took = c.in_ok-append_dropped.ensures.used in let same = ap (λ (l : Log). used l) c.put_back.ensures.log in let was = c.used-before.ensures in let now = c.used.ensures in
+    let kept = kept_to_drop relations counters (world g.D.Device.seen opening c.args.self.now) c.args.scope.now k c.requires.stage c.requires.last c.requires.budget in omega (arith, took, same, was, now, kept)
 
 pub put_back-requires-clause-logged : goal.put_back-requires-clause-logged
 put_back-requires-clause-logged g c =
@@ -28,21 +30,56 @@ put_back-requires-clause-logged g c =
     let ready = returnable g.D.Device.seen g.D.Device.may_leave opening relations counters c.args.self.now c.args.scope.now change right k c.requires.stage (omega arith) is in
     subst (λ (p : Pool). 0 < waits_for p c.args.page) (sym c.append_dropped.ensures.pool) (subst (λ (p : ℕ). 0 < waits_for c.args.self.now.store.pool p) same ready.logged)
 
-pub returns-clause-goes : goal.returns-clause-goes
-returns-clause-goes g c = λ opening relations counters right k.
-    let f = c.append_dropped.ensures in let b = c.put_back.ensures in let seen = g.D.Device.seen in let s = c.args.scope.now in
-    let (change, is, same) = c.requires.page in
-    let o = c.args.self.now in let m = c.append_dropped.new.self in let n = c.put_back.new.self in
-    let back = notes_back (world seen opening o) (world seen opening m) (world seen opening n) s change (OpDropped s.txn s.number) (c.in_ok-append_dropped.ensures.notes opening) (b.back opening change same) in
-    last_goes seen g.D.Device.may_leave opening relations counters o n s change right k c.requires.stage is (b.kept opening (f.kept opening right.kept)) (b.map ∙ f.map) (b.rooms ∙ f.rooms)
-    (record s { left = s.left + c.used-before.result - c.used.result; stage = Cleared; standing = 0 }) back c.requires.last
-    (record { op = record { txn = refl; number = refl; op = refl; undoes = refl; split = refl; total = refl }; room = refl; guards = refl; seen = refl; changes = refl; reply = refl }) refl
-
-pub returns-in_err-append_dropped-clause-err_records : goal.returns-in_err-append_dropped-clause-err_records
-returns-in_err-append_dropped-clause-err_records g c =
+pub returns-in_err-append_dropped : goal.returns-in_err-append_dropped
+returns-in_err-append_dropped g c =
+    let f = c.append_dropped.ensures in let e = c.in_err-append_dropped.ensures in let seen = g.D.Device.seen in let may_leave = g.D.Device.may_leave in
+    let o = c.args.self.now in let n = c.append_dropped.new.self in let s = c.args.scope.now in
     let p = err_from_is_err_and c.from_residual.result c.from_residual.ensures.1 in
-    subst (λ r. OnErr r (appended c.append_dropped.new.self.store.log ≡ appended c.args.self.now.store.log)) (sym p.1)
-    (c.in_err-append_dropped.ensures.rests (λ n. [])).records
+    let is = p.1 ∙ ap Err (p.2 ∙ e.only_memory) in
+    record {
+      cleared = rw is tt;
+      back = subst (PutsOneBack seen may_leave o n s s) (sym is) (record {
+        goes = λ opening relations counters right k. let rests = e.rests opening in
+            (right_rests seen may_leave opening relations counters o n right (f.kept opening right.kept) rests f.map f.rooms, rests_goes_as relations counters (world seen opening o) (world seen opening n) s rests k);
+        device = f.device;
+        more = λ is. absurd cc;
+        clear = λ is. absurd cc;
+        never = λ is. absurd cc;
+        log = ap (λ (u : ℕ). u + s.left) e.err_used;
+        area = f.area;
+        map = f.map;
+        records = (e.rests (λ n. [])).records;
+        locks = f.locks;
+        budget = c.requires.budget;
+        err = refl;
+        only_memory = refl;
+      });
+    }
 
-pub returns-clause-records : goal.returns-clause-records
-returns-clause-records g c = ap appended c.put_back.ensures.log ∙ (c.in_ok-append_dropped.ensures.notes (λ n. [])).records
+pub returns : goal.returns
+returns g c = let f = c.append_dropped.ensures in let b = c.put_back.ensures in let seen = g.D.Device.seen in let may_leave = g.D.Device.may_leave in
+    let o = c.args.self.now in let m = c.append_dropped.new.self in let n = c.put_back.new.self in let s = c.args.scope.now in
+    let (change, is, same) = c.requires.page in
+    record {
+      cleared = refl;
+      back = record {
+        goes = λ opening relations counters right k.
+            let back = notes_back (world seen opening o) (world seen opening m) (world seen opening n) s change (OpDropped s.txn s.number) (c.in_ok-append_dropped.ensures.notes opening) (b.back opening change same) in
+            last_goes seen may_leave opening relations counters o n s change right k c.requires.stage is (b.kept opening (f.kept opening right.kept)) (b.map ∙ f.map) (b.rooms ∙ f.rooms)
+            (record s { left = s.left + c.used-before.result - c.used.result; stage = Cleared; standing = 0 }) back c.requires.last
+            (record { op = record { txn = refl; number = refl; op = refl; undoes = refl; split = refl; total = refl }; room = refl; guards = refl; seen = refl; changes = refl; reply = refl }) refl;
+        device = b.device ∙ f.device;
+        more = λ is. absurd cc;
+        clear = λ is. (refl, (let last = c.requires.last in omega arith));
+        never = λ is. absurd cc;
+        log = let took = c.in_ok-append_dropped.ensures.used in let same = ap (λ (l : Log). used l) b.log in let was = c.used-before.ensures in let now = c.used.ensures in let (opening, relations, counters, right, k) = c.requires.right in
+            let kept = kept_to_drop relations counters (world seen opening o) s k c.requires.stage c.requires.last c.requires.budget in omega (arith, took, same, was, now, kept);
+        area = ap (λ (l : Log). area_size l) b.log ∙ f.area;
+        map = b.map ∙ f.map;
+        records = ap (λ (l : Log). appended l) b.log ∙ (c.in_ok-append_dropped.ensures.notes (λ n. [])).records ∙ ap (λ (standing : ℕ). appended o.store.log ++ dropped_with s.txn s.number standing) (sym c.requires.last);
+        locks = b.locks ∙ f.locks;
+        budget = record { enough = omega arith; reads = c.requires.budget.reads };
+        err = tt;
+        only_memory = tt;
+      };
+    }

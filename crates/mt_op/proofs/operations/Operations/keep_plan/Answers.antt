@@ -2,7 +2,7 @@ use Rattle.std.specs.Prelude.{All, Contains}
 use Rattle.mt_base.specs.declared.modes.Mode.TheVariants.{Write}
 use Rattle.mt_plock.specs.Holding.{lock_of}
 use Rattle.mt_plock.specs.declared.guards.PageLock.{PageLock}
-use Rattle.mt_pool.specs.declared.changes.PageChange.{PageChange}
+use Rattle.mt_space.specs.declared.changes.PageChange.{PageChange}
 use Rattle.std.proofs.Common.{List, Some, refl, subst}
 use Rattle.std.proofs.lemmas.Result.{err_from_is_err_and}
 use Rattle.mt_op.specs.World.{looked}

@@ -1,5 +1,5 @@
 use Rattle.std.proofs.Common.{◌≡◌, ℕ}
-use Rattle.mt_pool.specs.Changes.{PageBytes}
+use Rattle.mt_space.specs.Changes.{PageBytes}
 use Rattle.mt_pool.specs.Views.{pages}
 use Rattle.mt_op.specs.Operations.{IsRight}
 use Rattle.mt_op.proofs.operations.Operations.note_rooms.Given as goal

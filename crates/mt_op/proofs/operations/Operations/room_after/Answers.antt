@@ -2,7 +2,7 @@ use Rattle.std.proofs.Common.{◌≡◌, ◌≢◌, ◌<◌, ◌≤◌, ◌+◌,
 use Rattle.std.proofs.lemmas.Bool.{eqb-true}
 use Rattle.mt_base.specs.Edits.{patched}
 use Rattle.mt_base.specs.declared.edits.Edit.{Edit}
-use Rattle.mt_pool.specs.declared.changes.PageChange.{PageChange}
+use Rattle.mt_space.specs.declared.changes.PageChange.{PageChange}
 use Rattle.mt_op.proofs.Following.{after_here, after_other, edits_within}
 use Rattle.mt_op.proofs.operations.Operations.room_after.Goals as goal
 use Rattle.mt_op.proofs.operations.Operations.room_after.Goals.{then-eq, else-eq}

@@ -1,5 +1,5 @@
 use Rattle.std.proofs.Common.{◌≡◌, length, take}
-use Rattle.mt_pool.specs.Changes.{PageBytes, after, AreShort}
+use Rattle.mt_space.specs.Changes.{PageBytes, after, AreShort}
 use Rattle.mt_op.proofs.operations.Operations.room_after.Given as goal
 
 abbrev pub invariant-loop-change : goal.invariant-loop-change

@@ -1,5 +1,5 @@
 use Rattle.std.proofs.Common.{◌≡◌, length, take, false}
-use Rattle.mt_pool.specs.Changes.{PageBytes, after, AreShort}
+use Rattle.mt_space.specs.Changes.{PageBytes, after, AreShort}
 use Rattle.mt_op.proofs.space_map.SpaceMap.follow.Given as goal
 
 abbrev pub invariant-loop-change : goal.invariant-loop-change

@@ -8,12 +8,13 @@ use Rattle.mt_frame.specs.Grammar.{IsRecord}
 use Rattle.mt_log.specs.Words.{appended}
 use Rattle.mt_frame.specs.History.{MayFollow}
 use Rattle.mt_log.specs.Holds.{HasItsPage}
-use Rattle.mt_pool.specs.Changes.{IsShort}
+use Rattle.mt_space.specs.Changes.{IsShort}
 use Rattle.mt_pool.specs.Views.{view, pages}
-use Rattle.mt_pool.specs.Writes.{change_records, redone, due_image, records_size, IsLonger, IsUnfinished}
+use Rattle.mt_frame.specs.PageRecords.{change_records, redone}
+use Rattle.mt_pool.specs.Writes.{due_image, records_size, IsLonger, IsUnfinished}
 use Rattle.mt_pool.proofs.Kept.{no_call}
 use Rattle.mt_pool.proofs.Logged.{kept_append, kept_write, longer_appended}
-use Rattle.mt_pool.proofs.Redone.{shortest_within, own_redone, other_redone}
+use Rattle.mt_frame.proofs.Redone.{shortest_within, own_redone, other_redone}
 use Rattle.mt_pool.proofs.Writes.{now_records, now_some, now_size, now_pages, now_may, changes_images, ends_nothing, other_pages, view_whole, view_any, all_other}
 use Rattle.mt_pool.proofs.store.Store.write.Goals as goal
 

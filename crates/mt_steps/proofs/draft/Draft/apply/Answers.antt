@@ -2,8 +2,8 @@ use Rattle.std.proofs.Common.{◌≡◌, ◌<◌, ◌+◌, arith, ◌∙◌, ℕ
 use Rattle.std.specs.Prelude.{IsSome}
 use Rattle.std.proofs.lemmas.List.{length-take}
 use Rattle.std.proofs.lemmas.List.Elements.{All-get_or}
-use Rattle.mt_pool.specs.declared.changes.PageChange.{PageChange}
-use Rattle.mt_pool.specs.Changes.{IsShort}
+use Rattle.mt_space.specs.declared.changes.PageChange.{PageChange}
+use Rattle.mt_space.specs.Changes.{IsShort}
 use Rattle.mt_steps.specs.Drafts.{shown, shown_whole, drawn, AreCopies}
 use Rattle.mt_steps.proofs.Drafting.{IsMade, short_at, edits_fit, agrees_more, drawn_more, below_some, shown_some}
 use Rattle.mt_steps.proofs.draft.Draft.apply.Goals as goal

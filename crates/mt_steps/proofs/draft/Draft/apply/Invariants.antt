@@ -1,5 +1,5 @@
 use Rattle.std.proofs.Common.{◌≡◌, ◌+◌, ◌≤◌, length, take}
-use Rattle.mt_pool.specs.Changes.{PageBytes, Agrees, after}
+use Rattle.mt_space.specs.Changes.{PageBytes, Agrees, after}
 use Rattle.mt_steps.specs.Drafts.{shown, drawn, AreCopies}
 use Rattle.mt_steps.proofs.draft.Draft.apply.Given as goal
 

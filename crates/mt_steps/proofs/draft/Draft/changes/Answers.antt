@@ -1,6 +1,6 @@
 use Rattle.std.proofs.Common.{◌≡◌, ◌<◌, ◌∙◌, length, get_or, arith, List, Some, None, ap, subst, sym, take, ◌+◌}
 use Rattle.std.proofs.lemmas.List.{take_all, length-take}
-use Rattle.mt_pool.specs.declared.changes.Changes.{Changes}
+use Rattle.mt_space.specs.declared.changes.Changes.{Changes}
 use Rattle.mt_steps.specs.declared.draft.PageCopy.{PageCopy}
 use Rattle.mt_steps.proofs.Drafting.{ComeTo, IsNoted, come_more, below_there, some_value, none_shown}
 use Rattle.mt_steps.proofs.Asking.{all_at_hand}

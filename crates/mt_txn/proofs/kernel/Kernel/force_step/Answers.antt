@@ -1,4 +1,4 @@
-use Rattle.std.proofs.Common.{refl}
+use Rattle.std.proofs.Common.{refl, arith}
 use Rattle.mt_txn.specs.Commits.{durable_count}
 use Rattle.mt_txn.proofs.Keeping.{settled_keeps}
 use Rattle.mt_txn.proofs.Settled.{settled_sound}
@@ -14,3 +14,12 @@ invariant_of-self-in-Durable-clause-sound g c =
 pub returns-in-Durable-clause-kept : goal.returns-in-Durable-clause-kept
 returns-in-Durable-clause-kept g c =
     settled_keeps _ _ (durable_count c.args.self.now.committing.items c.in-Durable.place) c.settle.ensures.left c.settle.ensures.book refl refl
+
+pub settle-requires-clause-shelf : goal.settle-requires-clause-shelf
+settle-requires-clause-shelf g c = c.args.self.now.shelf
+
+pub settle-requires-clause-names : goal.settle-requires-clause-names
+settle-requires-clause-names g c = omega (arith, c.in_ok-names.ensures.len, c.in_ok-names.ensures.capacity, c.len.ensures, c.args.self.now.committing.ok.0)
+
+pub settle-requires-clause-small : goal.settle-requires-clause-small
+settle-requires-clause-small g c = omega (arith, c.args.self.now.sound.shares, c.args.self.now.sound.room, c.args.self.now.sound.small)

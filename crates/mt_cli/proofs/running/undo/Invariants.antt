@@ -1,6 +1,0 @@
-use Rattle.mt_txn.specs.State.{state_of}
-use Rattle.mt_cli.specs.Runs.{Undoes}
-use Rattle.mt_cli.proofs.running.undo.Given as goal
-
-abbrev pub invariant-loop : goal.invariant-loop
-invariant-loop g l = Undoes l.txn (state_of l.initial.kernel) (state_of l.kernel)

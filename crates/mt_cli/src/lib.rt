@@ -1,0 +1,11 @@
+//! The command line of `mtk`: which command words name, and what it does. Files and streams are passed in, so
+//! all of it runs in tests too; the program is one call of [`perform_words`].
+#![tactic(auto)]
+
+mod command;
+mod folder;
+mod performing;
+
+pub use command::{CliFault, Command, command_of};
+pub use folder::{DiskFolder, Folder, MemFolder};
+pub use performing::{perform, perform_words};

@@ -1,0 +1,263 @@
+// The commands, done.
+ghost use Rattle.std.specs.Prelude.{◌≡◌, ◌≢◌, ◌≤◌, ℕ, List, Some, IfOk, IfErr, IfSome, IsOk, MatchResult, OnOk, OnErr, length, map, option_map};
+ghost use Rattle.mt_base.specs.Limits.{IsValue};
+ghost use Rattle.mt_disk.specs.Memory.{content};
+ghost use Rattle.mt_model.specs.Views.{base_of, relations_of, counters_of};
+ghost use Rattle.mt_txn.specs.State.{state_of};
+ghost use Rattle.mt_server.specs.Answers.{AppendsFront};
+ghost use Rattle.mt_server.specs.Scripts.{IsScript};
+ghost use Rattle.mt_cli.specs.CommandLines.{IsMistaken};
+ghost use Rattle.mt_cli.specs.declared.performing.Fault.{Fault};
+ghost use Rattle.mt_cli.specs.Performs.{IsFirstBase, IsFirst, HasTried, IsTried, IsUnread, IsUnmade, IsCutTrial, IsUntried, IsDone, IsWordsDone, IsGivenUp, IsWordsGivenUp, IsTold, source_of, script_source, fault_line};
+ghost use Rattle.std.specs.Io.KnownBytes.{Appends, Keeps};
+
+use crate::command::{CliFault, Command, command_of};
+use crate::folder::Folder;
+use mt_base::Refusal;
+use mt_base::limits::device_bytes;
+use mt_disk::{Device, MemDevice};
+use mt_log::{AreaPlace, begin_area};
+use mt_model::Base;
+use mt_server::{Answer, RunFault, Script, ScriptFault, put, read_script, run_alone, write_answer};
+use mt_txn::Kernel;
+use std::alloc::Global;
+use std::io::{Read, Write};
+
+/// The status of a command that was done; refusals within a transcript count as done.
+const DONE: u8 = 0;
+
+/// The status of a command that was refused, or whose output could not be written.
+const REFUSED: u8 = 1;
+
+/// The status of a command line that names no command.
+const MISUSED: u8 = 2;
+
+/// Pages of the device that `try` runs on.
+const PAGES: u16 = 64;
+
+/// MiB of each of its two log areas.
+const AREA_MIB: u8 = 4;
+
+/// Its relations.
+const RELATIONS: u16 = 2;
+
+/// Low, high and start of its counters.
+const COUNTERS: [(i64, i64, i64); 1] = [(0, 10, 5)];
+
+/// Writes without a sync that its device has room for, and the bytes in them.
+const WRITES: usize = 16;
+
+const WRITTEN_BYTES: usize = 8_400_000;
+
+/// Why `try` did not end well.
+#[derive(Drop)]
+enum Fault {
+    /// The output cannot be written.
+    Output,
+    /// What was asked for was refused.
+    Refused(Refusal),
+}
+
+/// What is told of an output that cannot be written.
+const NO_OUTPUT: &str = "the output cannot be written\n";
+
+/// Tells of a fault on the error output.
+fn tell<E: Write>(err: &mut E, fault: &Fault)
+    ensures { AppendsFront (E.contents err.old) (E.contents err.new) (fault_line fault.now) }
+{
+    let _ = match fault {
+        Fault::Output => put(err, NO_OUTPUT.as_bytes()),
+        Fault::Refused(refusal) => write_answer(err, &Answer::Refused(*refusal)),
+    };
+}
+
+/// The script of this name, or the one on standard input where there is no name.
+fn script_of<F: Folder, I: Read>(
+    alloc: Global,
+    folder: &mut F,
+    name: Option<&str>,
+    input: &mut I,
+) -> Result<Script, Refusal>
+    ensures script { IfOk result (λ script. IfSome (source_of (F.known folder.old) (option_map (λ n. n.now) name.entry) (I.remaining input.old)) (λ bytes. IsScript bytes script.lines.items)) }
+    ensures unread { IfErr result (IsUnread (source_of (F.known folder.old) (option_map (λ n. n.now) name.entry) (I.remaining input.old))) }
+{
+    let read = match name {
+        Some(name) => {
+            let bytes = folder.script(name)?;
+            let mut rest = bytes.as_slice();
+            read_script(alloc, &mut rest)
+        }
+        None => read_script(alloc, input),
+    };
+    match read {
+        Ok(script) => Ok(script),
+        Err(ScriptFault::Input) => Err(Refusal::DeviceFailed),
+        Err(ScriptFault::Refused(refusal)) => Err(refusal),
+    }
+}
+
+/// The base of the schema that `try` runs on.
+fn first_base(alloc: Global) -> Result<Base, Refusal>
+    ensures values { IfOk result (λ base. (r : ℕ) (k v : List ℕ) → (base_of base).rows r k ≡ Some v → IsValue v) }
+    ensures relations { IfOk result (λ base. relations_of base ≤ 64) }
+    ensures counters { IfOk result (λ base. length (counters_of base) ≤ 128) }
+    ensures first { IfOk result IsFirstBase }
+    ensures unmade { IfErr result IsUnmade }
+{
+    Ok(Base::new(alloc, RELATIONS, &COUNTERS)?)
+}
+
+/// A device in memory of the size that `try` runs on, all of its bytes 0.
+fn first_device(alloc: Global) -> Result<MemDevice, Refusal>
+    ensures size { IfOk result (λ device. length (content device) ≡ 8658944) }
+    ensures unmade { IfErr result IsUnmade }
+{
+    let len = device_bytes(PAGES, AREA_MIB) as usize;
+    let bytes = vec![in alloc; 0u8; len]?;
+    Ok(MemDevice::new(alloc, bytes, WRITES, WRITTEN_BYTES)?)
+}
+
+/// A kernel with the schema that `try` has, over a device, with nothing committed.
+fn kernel_over<D: Device + Drop>(alloc: Global, mut device: D) -> Result<Kernel<D>, Refusal>
+    requires { 8658944 ≤ length (D.seen device) }
+    ensures first { IfOk result (λ kernel. IsFirst (state_of kernel)) }
+    ensures unmade { IfErr result IsUnmade }
+{
+    let base = first_base(alloc)?;
+    let place = AreaPlace::of(PAGES, AREA_MIB, false);
+    let log = begin_area(alloc, &mut device, place)?;
+    Ok(Kernel::assemble(alloc, device, log, base))
+}
+
+/// The kernel that `try` runs on: over a device in memory, with nothing committed.
+fn first_kernel(alloc: Global) -> Result<Kernel<MemDevice>, Refusal>
+    ensures first { IfOk result (λ kernel. IsFirst (state_of kernel)) }
+    ensures unmade { IfErr result IsUnmade }
+{
+    let device = first_device(alloc)?;
+    kernel_over(alloc, device)
+}
+
+/// Runs a script over a device in memory, and writes its transcript.
+fn try_script<O: Write>(alloc: Global, script: &Script, out: &mut O) -> Result<(), Fault>
+    ensures tried { OnOk result (HasTried script.now.lines.items (O.contents out.old) (O.contents out.new)) }
+    ensures cut { IfErr result (IsCutTrial script.now.lines.items (O.contents out.old) (O.contents out.new)) }
+{
+    let mut kernel = match first_kernel(alloc) {
+        Ok(kernel) => kernel,
+        Err(refusal) => return Err(Fault::Refused(refusal)),
+    };
+    let ran = run_alone(&mut kernel, 1, script, out);
+    let _device = kernel.into_device();
+    match ran {
+        Ok(()) => Ok(()),
+        Err(RunFault::Output) => Err(Fault::Output),
+        Err(RunFault::Refused(refusal)) => Err(Fault::Refused(refusal)),
+    }
+}
+
+/// Does `try`: reads the whole script, and then runs it.
+fn perform_try<F: Folder, I: Read, O: Write>(
+    alloc: Global,
+    folder: &mut F,
+    name: Option<&str>,
+    input: &mut I,
+    out: &mut O,
+) -> Result<(), Fault>
+    ensures tried { OnOk result (IsTried (source_of (F.known folder.old) (option_map (λ n. n.now) name.entry) (I.remaining input.old)) (O.contents out.old) (O.contents out.new)) }
+    ensures untried { IfErr result (IsUntried (source_of (F.known folder.old) (option_map (λ n. n.now) name.entry) (I.remaining input.old)) (O.contents out.old) (O.contents out.new)) }
+{
+    match script_of(alloc, folder, name, input) {
+        Ok(script) => try_script(alloc, &script, out),
+        Err(refusal) => Err(Fault::Refused(refusal)),
+    }
+}
+
+/// Flushes the output after a command, and answers the status.
+fn finish<O: Write, E: Write>(done: Result<(), Fault>, out: &mut O, err: &mut E) -> u8
+    ensures kept { Keeps (O.contents out.old) (O.contents out.new) }
+    ensures done { result ≡ 0 → IsOk done × (err.new ≡ err.old) }
+    ensures status { result ≢ 0 → result ≡ 1 }
+    ensures told { result ≢ 0 → MatchResult done
+        (λ _. AppendsFront (E.contents err.old) (E.contents err.new) (fault_line Fault.Output))
+        (λ fault. AppendsFront (E.contents err.old) (E.contents err.new) (fault_line fault)) }
+{
+    let flushed = out.flush();
+    let fault = match done {
+        Ok(()) if flushed.is_ok() => return DONE,
+        Ok(()) => Fault::Output,
+        Err(fault) => fault,
+    };
+    tell(err, &fault);
+    REFUSED
+}
+
+/// Writes the help or the version.
+fn show<O: Write>(text: &str, out: &mut O) -> Result<(), Fault>
+    ensures shown { OnOk result (Appends (O.contents out.old) (O.contents out.new) text.now) }
+    ensures front { OnErr result (AppendsFront (O.contents out.old) (O.contents out.new) text.now) }
+    ensures fault { IfErr result (λ fault. fault ≡ Fault.Output) }
+{
+    match put(out, text.as_bytes()) {
+        Ok(()) => Ok(()),
+        Err(_) => Err(Fault::Output),
+    }
+}
+
+/// Does a command, and answers the status of the program:
+///
+/// - 0: it was done. Refusals within a transcript count as done.
+/// - 1: it was refused, and the refusal's text is on `err`; or `out` could not be written. An input
+///   that cannot be read, and a file that is not there or cannot be read, is refusal 2.
+///
+/// A script is read whole before any of it runs.
+pub fn perform<F: Folder, I: Read, O: Write, E: Write>(
+    alloc: Global,
+    command: &Command,
+    folder: &mut F,
+    input: &mut I,
+    out: &mut O,
+    err: &mut E,
+) -> u8
+    ensures done { result ≡ 0 → IsDone command.now (script_source (F.known folder.old) command.now (I.remaining input.old)) (O.contents out.old) (O.contents out.new) × (err.new ≡ err.old) }
+    ensures told { result ≢ 0 → (result ≡ 1) × IsTold (E.contents err.old) (E.contents err.new) }
+    ensures given_up { result ≢ 0 → IsGivenUp command.now (script_source (F.known folder.old) command.now (I.remaining input.old)) (O.contents out.old) (O.contents out.new) (E.contents err.old) (E.contents err.new) }
+{
+    let done = match command {
+        Command::Try { script: Some(name) } => {
+            perform_try(alloc, folder, Some(name.as_str()), input, out)
+        }
+        Command::Try { script: None } => perform_try(alloc, folder, None, input, out),
+        Command::Show { text } => show(text.as_str(), out),
+    };
+    finish(done, out, err)
+}
+
+/// Does the command that these words name, those behind the program's name, and answers the status:
+/// that of [`perform`], or 2 with what is wrong on `err` where they name none.
+pub fn perform_words<F: Folder, I: Read, O: Write, E: Write>(
+    alloc: Global,
+    words: &[&str],
+    folder: &mut F,
+    input: &mut I,
+    out: &mut O,
+    err: &mut E,
+) -> u8
+    ensures status { result ≤ 2 }
+    ensures done { result ≡ 0 → IsWordsDone (map (λ word. word.now) words.now) (F.known folder.old) (I.remaining input.old) (O.contents out.old) (O.contents out.new) }
+    ensures told { result ≡ 1 → IsTold (E.contents err.old) (E.contents err.new) }
+    ensures given_up { result ≡ 1 → IsWordsGivenUp (map (λ word. word.now) words.now) (F.known folder.old) (I.remaining input.old) (O.contents out.old) (O.contents out.new) (E.contents err.old) (E.contents err.new) }
+    ensures misused { result ≡ 2 → IsMistaken (map (λ word. word.now) words.now) × (out.new ≡ out.old) }
+{
+    match command_of(alloc, words) {
+        Ok(command) => perform(alloc, &command, folder, input, out, err),
+        Err(CliFault::Usage(text)) => {
+            let _ = put(err, text.as_str().as_bytes());
+            MISUSED
+        }
+        Err(CliFault::Refused(refusal)) => {
+            tell(err, &Fault::Refused(refusal));
+            REFUSED
+        }
+    }
+}

@@ -1,0 +1,368 @@
+ghost use Rattle.mt_index.specs.Checks.{AreWhole as AreRowWhole};
+ghost use Rattle.mt_index.specs.Copies.{AreWhole};
+ghost use Rattle.std.specs.Prelude.{◌≡◌, ◌<◌, ◌≤◌, length, slice_get};
+
+use crate::common::name_of;
+use mt_base::ranges::{put, u16_at};
+use mt_base::{Edit, Mode, PageNo, RecordName, RelNo};
+use mt_bucket::{count, depth, empty, next};
+use mt_index::{Add, Amend, Find, check, depth as bits, plan_add, plan_drop, plan_find, plan_set};
+use mt_space::{Changes, PageChange, Pages};
+use std::alloc::{AllocError, Global};
+use std::test::Fail;
+
+/// Pages 0, 1, 3, 4 and 5 of 64, in memory.
+#[derive(Drop)]
+struct Copies {
+    space: [u8; 4096],
+    directory: [u8; 4096],
+    third: [u8; 4096],
+    fourth: [u8; 4096],
+    fifth: [u8; 4096],
+    ghost whole: { AreWhole space directory third fourth fifth },
+}
+
+impl Pages for Copies {
+    ghost use Rattle.mt_index.specs.Copies.{copied, copied_whole};
+
+    ghost is_sound = { λ c. Unit {0} };
+
+    ghost total = { λ copies. 64 };
+
+    ghost at_hand = { λ c p. copied c.space c.directory c.third c.fourth c.fifth p };
+
+    ghost whole = { λ c sound p bytes there. copied_whole c.space c.directory c.third c.fourth c.fifth c.whole p bytes there };
+
+    fn count(&self) -> u16 {
+        64
+    }
+
+    fn page(&self, page: PageNo) -> Option<&[u8; 4096]> {
+        match page.get() {
+            0 => Some(&self.space),
+            1 => Some(&self.directory),
+            3 => Some(&self.third),
+            4 => Some(&self.fourth),
+            5 => Some(&self.fifth),
+            _ => None,
+        }
+    }
+}
+
+/// The map with no page free.
+fn filled(space: &[u8; 4096]) -> [u8; 4096]
+    ensures { length result ≡ 4096 }
+{
+    let mut new = *space;
+    put(&mut new, 6, &[3; 58]);
+    new
+}
+
+/// An index without entries: page 3 is its only bucket.
+fn formatted() -> Copies {
+    let mut space = [0u8; 4096];
+    put(&mut space, 0, &[1, 1, 1, 2]);
+    let mut directory = [0u8; 4096];
+    put(&mut directory, 8, &[0, 3]);
+    let mut third = [0u8; 4096];
+    empty(&mut third, 0);
+    Copies {
+        space,
+        directory,
+        third,
+        fourth: [7; 4096], // whatever a free page has
+        fifth: [9; 4096],
+    }
+}
+
+fn patched(page: &[u8; 4096], edits: &[Edit]) -> [u8; 4096]
+    ensures { length result ≡ 4096 }
+{
+    let mut new = *page;
+    for edit in edits {
+        let at = usize::from(edit.start);
+        if at <= 4096 && edit.bytes.len() <= 4096 - at {
+            put(&mut new, at, edit.bytes.as_slice());
+        }
+    }
+    new
+}
+
+fn make_one(copies: &mut Copies, change: &PageChange) {
+    let edits = change.edits.as_slice();
+    match change.page.get() {
+        0 => copies.space = patched(&copies.space, edits),
+        1 => copies.directory = patched(&copies.directory, edits),
+        3 => copies.third = patched(&copies.third, edits),
+        4 => copies.fourth = patched(&copies.fourth, edits),
+        5 => copies.fifth = patched(&copies.fifth, edits),
+        _ => {}
+    }
+}
+
+fn make(copies: &mut Copies, changes: &Changes) {
+    for change in changes.list.as_slice() {
+        make_one(copies, change);
+    }
+}
+
+/// Adds the key `a` in a relation; answers whether there was room.
+fn add(alloc: Global, copies: &mut Copies, relation: u16, split: bool) -> Result<bool, AllocError>
+    requires { relation < 256 }
+{
+    let name = name_of(6, relation);
+    match plan_add(alloc, copies, RelNo::new(relation), b"a", name, split)? {
+        Add::Changes(changes) => {
+            make(copies, &changes);
+            Ok(true)
+        }
+        _ => Ok(false),
+    }
+}
+
+fn add_all(
+    alloc: Global,
+    copies: &mut Copies,
+    relations: u16,
+    split: bool,
+) -> Result<bool, AllocError>
+    requires { relations ≤ 256 }
+{
+    for relation in 0..relations {
+        if !add(alloc, copies, relation, split)? {
+            return Ok(false);
+        }
+    }
+    Ok(true)
+}
+
+fn free_pages(copies: &Copies) -> usize {
+    copies.space[..64].iter().filter(|kind| **kind == 0).count()
+}
+
+/// Whether this page is needed, to be written.
+fn asks_for(answer: &Add, number: u16) -> bool {
+    match answer {
+        Add::Need(page, mode) => page.get() == number && *mode == Mode::Write,
+        _ => false,
+    }
+}
+
+#[test]
+fn a_full_bucket_splits_and_then_chains(rt: HostRuntime) -> Result<(), Fail> {
+    let mut copies = formatted();
+    assert!(rt; add_all(rt.alloc(), &mut copies, 58, true)?);
+    assert_eq!(rt; count(&copies.third), 58);
+    assert_eq!(rt; free_pages(&copies), 60);
+    assert_eq!(rt; bits(&copies.directory), 0);
+
+    // bit 0 of the hash of `a` is 0: no entry moves
+    assert!(rt; add(rt.alloc(), &mut copies, 58, true)?);
+    assert_eq!(rt; bits(&copies.directory), 1);
+    assert_eq!(rt; u16_at(&copies.directory, 8), 3);
+    assert_eq!(rt; u16_at(&copies.directory, 10), 4);
+    assert_eq!(rt; depth(&copies.third), 1);
+    assert_eq!(rt; count(&copies.fourth), 0);
+    assert_eq!(rt; next(&copies.third), PageNo::new(5));
+    assert_eq!(rt; count(&copies.fifth), 1);
+    assert_eq!(rt; free_pages(&copies), 58);
+
+    assert!(rt; add(rt.alloc(), &mut copies, 59, true)?);
+    assert_eq!(rt; free_pages(&copies), 58);
+    Ok(())
+}
+
+#[test]
+fn without_splits_it_chains_at_once(rt: HostRuntime) -> Result<(), Fail> {
+    let mut copies = formatted();
+    assert!(rt; add_all(rt.alloc(), &mut copies, 59, false)?);
+    assert_eq!(rt; bits(&copies.directory), 0);
+    assert_eq!(rt; depth(&copies.third), 0);
+    assert_eq!(rt; next(&copies.third), PageNo::new(4));
+    assert_eq!(rt; count(&copies.fourth), 1);
+    assert_eq!(rt; free_pages(&copies), 59);
+    assert!(rt; add(rt.alloc(), &mut copies, 59, false)?);
+    assert_eq!(rt; free_pages(&copies), 59);
+    Ok(())
+}
+
+#[test]
+fn a_page_that_is_not_at_hand_is_asked_for(rt: HostRuntime) -> Result<(), Fail> {
+    let mut copies = formatted();
+    assert!(rt; add_all(rt.alloc(), &mut copies, 174, false)?);
+    let name = name_of(6, 0);
+    let needs = plan_add(rt.alloc(), &copies, RelNo::new(200), b"a", name, false)?;
+    assert!(rt; asks_for(&needs, 6));
+    copies.space = filled(&copies.space);
+    let full = plan_add(rt.alloc(), &copies, RelNo::new(200), b"a", name, false)?;
+    assert!(rt; matches!(full, Add::Full));
+    Ok(())
+}
+
+/// The relations of the long run.
+const RELATIONS: u16 = 4;
+
+/// The places of its plain map: 1,000 keys in each relation.
+const PLACES: u16 = 4000;
+
+/// All pages of a device, in memory.
+#[derive(Drop)]
+struct Row {
+    pages: Vec<[u8; 4096]>,
+    ghost whole: { AreRowWhole pages.items },
+}
+
+impl Pages for Row {
+    ghost use Rattle.mt_index.specs.Copies.{row_whole};
+
+    ghost is_sound = { λ row. Unit {0} };
+
+    ghost total = { λ row. length row.pages.items };
+
+    ghost at_hand = { λ row p. slice_get row.pages.items p };
+
+    ghost whole = { λ row sound p bytes there. row_whole row.pages.items p bytes row.whole there };
+
+    fn count(&self) -> u16 {
+        self.pages.len() as u16
+    }
+
+    fn page(&self, page: PageNo) -> Option<&[u8; 4096]> {
+        self.pages.get(usize::from(page.get()))
+    }
+}
+
+impl Row {
+    // An index without entries, and 196 free pages.
+    fn new(alloc: Global) -> Result<Row, AllocError> {
+        let start = formatted();
+        let mut pages = Vec::new(alloc);
+        pages.push(start.space)?;
+        pages.push(start.directory)?;
+        pages.push(start.fourth)?;
+        pages.push(start.third)?;
+        for _page in 4..200u16 {
+            pages.push(start.fifth)?;
+        }
+        Ok(Row { pages })
+    }
+
+    fn make_one(&mut self, change: &PageChange) {
+        let place = usize::from(change.page.get());
+        if place < self.pages.len() {
+            self.pages[place] = patched(&self.pages[place], change.edits.as_slice());
+        }
+    }
+
+    fn make(&mut self, changes: &Changes) {
+        for change in &changes.list {
+            self.make_one(change);
+        }
+    }
+
+    /// Whether a find of a place's key answers this.
+    fn holds(&self, place: u16, name: Option<RecordName>) -> bool {
+        let found = plan_find(self, RelNo::new(place % RELATIONS), &key_of(place));
+        match name {
+            Some(name) => matches!(found, Find::Found(held) if held == name),
+            None => matches!(found, Find::Missing),
+        }
+    }
+
+    /// What gives a place's key this name, or none.
+    fn plan(
+        &self,
+        alloc: Global,
+        place: u16,
+        is_held: bool,
+        name: Option<RecordName>,
+    ) -> Result<Option<Changes>, AllocError> {
+        let relation = RelNo::new(place % RELATIONS);
+        let key = key_of(place);
+        match name {
+            Some(name) if is_held => Ok(amended(plan_set(alloc, self, relation, &key, name)?)),
+            Some(name) => Ok(added(plan_add(alloc, self, relation, &key, name, true)?)),
+            None => Ok(amended(plan_drop(alloc, self, relation, &key)?)),
+        }
+    }
+
+    /// Gives a place's key this name, or none, here and in the plain map; answers whether they agree.
+    fn turn(
+        &mut self,
+        alloc: Global,
+        names: &mut [Option<RecordName>],
+        place: u16,
+        name: &Option<RecordName>,
+    ) -> Result<bool, AllocError> {
+        let at = usize::from(place);
+        if at >= names.len() {
+            return Ok(false);
+        }
+        if let Some(changes) = self.plan(alloc, place, names[at].is_some(), *name)? {
+            self.make(&changes);
+        }
+        names[at] = *name;
+        Ok(self.holds(place, *name))
+    }
+
+    /// Whether each place's find answers what the plain map has.
+    fn is_map(&self, names: &[Option<RecordName>]) -> bool {
+        for place in 0..PLACES {
+            match names.get(usize::from(place)) {
+                Some(name) if self.holds(place, *name) => {}
+                _ => return false,
+            }
+        }
+        true
+    }
+}
+
+fn key_of(place: u16) -> [u8; 2]
+    ensures { length result ≡ 2 }
+{
+    (place / RELATIONS).to_be_bytes()
+}
+
+fn added(answer: Add) -> Option<Changes> {
+    match answer {
+        Add::Changes(changes) => Some(changes),
+        _ => None,
+    }
+}
+
+fn amended(answer: Amend) -> Option<Changes> {
+    match answer {
+        Amend::Changes(changes) => Some(changes),
+        _ => None,
+    }
+}
+
+/// Of three turns two give a key a name and one takes it away.
+fn name_in(turn: u16, number: u64) -> Option<RecordName> {
+    if number % 3 == 0 {
+        None
+    } else {
+        Some(name_of(6, turn))
+    }
+}
+
+#[test]
+fn a_long_run_agrees_with_a_plain_map(rt: HostRuntime) -> Result<(), Fail> {
+    let mut row = Row::new(rt.alloc())?;
+    let mut names = vec![in rt.alloc(); None; usize::from(PLACES)]?;
+    let mut seed = 1u64;
+    for turn in 0..20_000u16 {
+        seed = seed
+            .wrapping_mul(6_364_136_223_846_793_005)
+            .wrapping_add(1_442_695_040_888_963_407);
+        let number = seed >> 33;
+        let place = (number % u64::from(PLACES)) as u16;
+        let name = name_in(turn, number / u64::from(PLACES));
+        assert!(rt; row.turn(rt.alloc(), &mut names, place, &name)?);
+    }
+    assert!(rt; row.is_map(&names));
+    assert!(rt; check(rt.alloc(), &row.pages, RELATIONS)?.is_none());
+    // some 2,650 of 4,000 keys are there, and 32 pages hold 1,856
+    assert!(rt; bits(&row.pages[1]) > 5);
+    Ok(())
+}

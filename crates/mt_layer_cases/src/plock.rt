@@ -1,0 +1,89 @@
+use mt_base::{Mode, OpNo, PageNo};
+use mt_plock::{Asked, PageGuard, PageLocks};
+use std::process::Abort;
+use std::test::Fail;
+
+/// Asks for a lock that is to be granted.
+fn grants(rt: &impl Abort, locks: &mut PageLocks, op: u64, page: u16, mode: Mode) -> PageGuard {
+    match locks.ask(OpNo::new(op), PageNo::new(page), mode) {
+        Ok(Asked::Granted(guard)) => guard,
+        _ => panic!(rt; "{op} {page}: not granted"),
+    }
+}
+
+/// Asks for a write that is not to be granted: the operation to wait for, or none where it is to
+/// begin again.
+fn awaited(rt: &impl Abort, locks: &mut PageLocks, op: u64, page: u16) -> Option<u64> {
+    let Ok(asked) = locks.ask(OpNo::new(op), PageNo::new(page), Mode::Write) else {
+        panic!(rt; "no memory")
+    };
+    match asked {
+        Asked::Wait(holder) => Some(holder.get()),
+        Asked::Again => None,
+        Asked::Granted(_guard) => panic!(rt; "{op} {page}: granted"),
+    }
+}
+
+#[test]
+fn reads_agree(rt: HostRuntime) -> Result<(), Fail> {
+    let page = PageNo::new(7);
+    let mut locks = PageLocks::new(rt.alloc());
+    let one = grants(&rt, &mut locks, 1, 7, Mode::Read);
+    let two = grants(&rt, &mut locks, 2, 7, Mode::Read);
+    locks.release(one);
+    assert!(rt; locks.is_held_by(page, OpNo::new(2)));
+    assert!(rt; !locks.is_held_by(page, OpNo::new(1)));
+    assert!(rt; !locks.is_unlocked(page));
+    locks.release(two);
+    assert!(rt; locks.is_unlocked(page));
+    Ok(())
+}
+
+#[test]
+fn a_read_becomes_a_write_of_its_only_holder(rt: HostRuntime) -> Result<(), Fail> {
+    let mut locks = PageLocks::new(rt.alloc());
+    let one = grants(&rt, &mut locks, 1, 7, Mode::Read);
+    let two = grants(&rt, &mut locks, 2, 7, Mode::Read);
+    assert_eq!(rt; awaited(&rt, &mut locks, 1, 7), Some(2));
+    assert_eq!(rt; awaited(&rt, &mut locks, 2, 7), None);
+    locks.release(two);
+    let more = grants(&rt, &mut locks, 1, 7, Mode::Write);
+    locks.release(more);
+    locks.release(one);
+    Ok(())
+}
+
+#[test]
+fn the_smallest_is_waited_for(rt: HostRuntime) -> Result<(), Fail> {
+    let mut locks = PageLocks::new(rt.alloc());
+    let five = grants(&rt, &mut locks, 5, 7, Mode::Read);
+    let three = grants(&rt, &mut locks, 3, 7, Mode::Read);
+    assert_eq!(rt; awaited(&rt, &mut locks, 1, 7), Some(3));
+    assert_eq!(rt; awaited(&rt, &mut locks, 4, 7), None);
+    locks.release(three);
+    assert_eq!(rt; awaited(&rt, &mut locks, 4, 7), Some(5));
+    locks.release(five);
+    Ok(())
+}
+
+/// Keeps a guard.
+fn keep(rt: &impl Abort, guards: &mut Vec<PageGuard>, guard: PageGuard) {
+    match guards.push(guard) {
+        Ok(()) => {}
+        Err(_) => panic!(rt; "no memory"),
+    }
+}
+
+#[test]
+fn an_operation_gives_all_back(rt: HostRuntime) -> Result<(), Fail> {
+    let mut guards = Vec::new(rt.alloc());
+    let mut locks = PageLocks::new(rt.alloc());
+    keep(&rt, &mut guards, grants(&rt, &mut locks, 1, 7, Mode::Read));
+    let other = grants(&rt, &mut locks, 2, 8, Mode::Read);
+    keep(&rt, &mut guards, grants(&rt, &mut locks, 1, 7, Mode::Write));
+    locks.release_all(guards);
+    assert_eq!(rt; locks.locks().len(), 1);
+    assert!(rt; locks.is_held_by(other.lock().page, other.lock().op));
+    locks.release(other);
+    Ok(())
+}

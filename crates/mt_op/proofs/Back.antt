@@ -1,0 +1,155 @@
+-- A step of a taking back as a whole: where nothing is done, where nothing is left to be done, and where a page is put back.
+use Rattle.std.proofs.Common.{◌≡◌, ◌⊎◌, ◌≤◌, ◌+◌, ◌++◌, ℕ, List, inl, refl, sym, ap, ◌∙◌, subst, arith, append-nil}
+use Rattle.std.specs.Prelude.{Result, Ok, Err, IfErr, OnErr}
+use Rattle.mt_base.specs.declared.refusal.Refusal.{Refusal}
+use Rattle.mt_base.specs.declared.refusal.Refusal.TheVariants as refusal
+use Rattle.mt_disk.specs.Disk.{LeavesOnly}
+use Rattle.mt_frame.specs.declared.records.Record.{Record}
+use Rattle.mt_log.specs.Words.{appended, used, area_size}
+use Rattle.mt_log.specs.declared.log.Log.{Log}
+use Rattle.mt_space.specs.Changes.{PageBytes}
+use Rattle.mt_pool.specs.Kept.{IsKept, Explains}
+use Rattle.mt_pool.specs.Views.{IsFull}
+use Rattle.mt_space.specs.Rooms.{reserved_of}
+use Rattle.mt_op.specs.World.{IsUnderWay}
+use Rattle.mt_op.specs.Moves.{Rests}
+use Rattle.mt_op.specs.Operations.{world, IsRight, Goes, HasBudget, IsCause, claimed}
+use Rattle.mt_op.specs.Records.{TellsDropped, dropped_with}
+use Rattle.mt_op.specs.Faults.{TellsFaults}
+use Rattle.mt_op.specs.Stepping.{PutsOneBack}
+use Rattle.mt_op.specs.declared.answers.TakenBack.{TakenBack}
+use Rattle.mt_op.specs.declared.answers.TakenBack.TheVariants as taken
+use Rattle.mt_op.specs.declared.operations.Operations.{Operations}
+use Rattle.mt_op.specs.declared.scope.OpScope.{OpScope}
+use Rattle.mt_op.specs.declared.scope.Stage.TheVariants.{Planning, Writing, Taking, Cleared}
+use Rattle.mt_op.specs.declared.space_map.SpaceMap.{SpaceMap}
+use Rattle.mt_op.proofs.Faulting.{no_fault, no_fault_ok, told_behind}
+use Rattle.mt_op.proofs.Going.{goes_behind}
+use Rattle.mt_op.proofs.Restored.{clears_goes}
+use Rattle.mt_op.proofs.Staying.{rests_own}
+use Rattle.mt_op.proofs.Written.{rests_goes_as}
+
+-- what is promised of a step
+pub record TakesBack {D : Type 0} (seen : D → List ℕ) (may_leave : D → List ℕ → Type 0) (moment : D → ℕ) (left_since : D → ℕ → List ℕ → Type 0) (failures : D → ℕ) (o n : Operations D) (s t : OpScope) (r : Result TakenBack Refusal) : Type 0 where
+  pub goes : (opening : PageBytes) (relations counters : ℕ) → IsRight seen may_leave opening relations counters o → IsUnderWay relations counters (world seen opening o) s
+      → IsRight seen may_leave opening relations counters n × Goes relations counters (world seen opening o) (world seen opening n) s t
+  pub moments : (opening : PageBytes) → IsKept seen may_leave opening o.store → LeavesOnly moment left_since o.store.device n.store.device (Explains opening o.store)
+  pub more : r ≡ Ok taken.More → (t.stage ≡ Taking) × (t.standing + 1 ≡ s.standing)
+  pub clear : r ≡ Ok taken.Clear → (t.stage ≡ Cleared) × (s.standing ≤ 1)
+  pub few : s.standing ≤ 8
+  pub log : used n.store.log + t.left ≡ used o.store.log + s.left
+  pub area : area_size n.store.log ≡ area_size o.store.log
+  pub claimed : claimed n ≡ claimed o
+  pub records : TellsDropped s (appended o.store.log) (appended n.store.log) r
+  pub locks : n.locks ≡ o.locks
+  pub budget : HasBudget t
+  pub err : OnErr r (t ≡ s)
+  pub flush : r ≡ Ok taken.Flush → t ≡ s
+  pub full : r ≡ Ok taken.Flush → IsFull o.store.pool × (n ≡ o)
+  pub why : IfErr r IsCause
+  pub faults : TellsFaults (failures o.store.device) (failures n.store.device) r
+
+-- nothing was done: it is refused, or has to wait for a frame
+abbrev pub TakesNone : Result TakenBack Refusal → Type 0
+TakesNone (Ok taken.Flush) = Unit {0}
+TakesNone (Ok taken.More) = ⊥
+TakesNone (Ok taken.Clear) = ⊥
+TakesNone (Err why) = Unit {0}
+
+none_more : (r : Result TakenBack Refusal) → TakesNone r → r ≡ Ok taken.More → ⊥
+none_more r none is = subst TakesNone is none
+
+none_clear : (r : Result TakenBack Refusal) → TakesNone r → r ≡ Ok taken.Clear → ⊥
+none_clear r none is = subst TakesNone is none
+
+none_tells : (s : OpScope) (old new : List Record) (r : Result TakenBack Refusal) → TakesNone r → new ≡ old → TellsDropped s old new r
+none_tells s old new (Ok taken.Flush) none same = same
+none_tells s old new (Ok taken.More) none same = absurd none
+none_tells s old new (Ok taken.Clear) none same = absurd none
+none_tells s old new (Err why) none same = same
+
+none_same : (s : OpScope) (r : Result TakenBack Refusal) → OnErr r (s ≡ s)
+none_same s (Ok x) = tt
+none_same s (Err why) = refl
+
+cause_of : (r : Result TakenBack Refusal) → IfErr r (λ why. why ≡ refusal.NoMemory) → IfErr r IsCause
+cause_of (Ok x) memory = tt
+cause_of (Err why) memory = inl memory
+
+module _ {D : Type 0} (seen : D → List ℕ) (may_leave : D → List ℕ → Type 0) (moment : D → ℕ) (left_since : D → ℕ → List ℕ → Type 0) (failures : D → ℕ) (o : Operations D) (s : OpScope) where
+  -- no page stands
+  pub no_page_stands : ((opening : PageBytes) → IsKept seen may_leave opening o.store → LeavesOnly moment left_since o.store.device o.store.device (Explains opening o.store)) → s.standing ≤ 8
+      → (s.stage ≡ Planning) ⊎ ((s.stage ≡ Writing) ⊎ (s.stage ≡ Taking)) → s.standing ≡ 0 → HasBudget s
+      → TakesBack seen may_leave moment left_since failures o o s (record s { stage = Cleared }) (Ok taken.Clear)
+  no_page_stands moments few stage none budget = record {
+    goes = λ opening relations counters right k. (right, clears_goes relations counters (world seen opening o) s k stage none);
+    moments = moments;
+    more = λ is. absurd cc;
+    clear = λ is. (refl, omega arith);
+    few = few;
+    log = refl;
+    area = refl;
+    claimed = refl;
+    records = sym (append-nil (appended o.store.log)) ∙ ap (λ (n : ℕ). appended o.store.log ++ dropped_with s.txn s.number n) (sym none);
+    locks = refl;
+    budget = record { enough = omega arith; reads = budget.reads };
+    err = tt;
+    flush = λ is. absurd cc;
+    full = λ is. absurd cc;
+    why = tt;
+    faults = no_fault_ok (failures o.store.device) (failures o.store.device) taken.Clear refl;
+  }
+
+module _ {D : Type 0} (seen : D → List ℕ) (may_leave : D → List ℕ → Type 0) (moment : D → ℕ) (left_since : D → ℕ → List ℕ → Type 0) (failures : D → ℕ) (o m : Operations D) (s : OpScope)
+    (right : (opening : PageBytes) (relations counters : ℕ) → IsRight seen may_leave opening relations counters o → IsRight seen may_leave opening relations counters m)
+    (rests : (opening : PageBytes) → Rests (world seen opening o) (world seen opening m))
+    (moments : (opening : PageBytes) → IsKept seen may_leave opening o.store → LeavesOnly moment left_since o.store.device m.store.device (Explains opening o.store))
+    (log : m.store.log ≡ o.store.log) (map : m.map ≡ o.map) (locks : m.locks ≡ o.locks) (few : s.standing ≤ 8) where
+  same_claims : claimed m ≡ claimed o
+  same_claims = ap (λ (x : SpaceMap). reserved_of x.space) map
+
+  -- nothing but what is in frames has changed
+  pub takes_none : (r : Result TakenBack Refusal) → TakesNone r → HasBudget s → (r ≡ Ok taken.Flush → IsFull o.store.pool × (m ≡ o)) → IfErr r IsCause → TellsFaults (failures o.store.device) (failures m.store.device) r
+      → TakesBack seen may_leave moment left_since failures o m s s r
+  takes_none r none budget full why told = record {
+    goes = λ opening relations counters ok k. (right opening relations counters ok, rests_goes_as relations counters (world seen opening o) (world seen opening m) s (rests opening) k);
+    moments = moments;
+    more = λ is. absurd (none_more r none is);
+    clear = λ is. absurd (none_clear r none is);
+    few = few;
+    log = ap (λ (l : Log). used l + s.left) log;
+    area = ap (λ (l : Log). area_size l) log;
+    claimed = same_claims;
+    records = none_tells s (appended o.store.log) (appended m.store.log) r none (ap (λ (l : Log). appended l) log);
+    locks = locks;
+    budget = budget;
+    err = none_same s r;
+    flush = λ is. refl;
+    full = full;
+    why = why;
+    faults = told;
+  }
+
+  -- a page that is in a frame is put back
+  pub takes_behind : (n : Operations D) (t : OpScope) (r : Result TakenBack Refusal) → PutsOneBack seen may_leave m n s t r → failures m.store.device ≡ failures o.store.device → TakesBack seen may_leave moment left_since failures o n s t r
+  takes_behind n t r b unfailed = record {
+    goes = λ opening relations counters ok k.
+        let w = world seen opening o in let x = world seen opening m in
+        let gone = b.goes opening relations counters (right opening relations counters ok) (rests_own relations counters w x s (rests opening) k) in
+        (gone.0, goes_behind relations counters w x (world seen opening n) s t (rests opening) gone.1);
+    moments = λ opening kept. subst (λ (d : D). LeavesOnly moment left_since o.store.device d (Explains opening o.store)) (sym b.device) (moments opening kept);
+    more = b.more;
+    clear = b.clear;
+    few = few;
+    log = b.log ∙ ap (λ (l : Log). used l + s.left) log;
+    area = b.area ∙ ap (λ (l : Log). area_size l) log;
+    claimed = ap (λ (x : SpaceMap). reserved_of x.space) b.map ∙ same_claims;
+    records = subst (λ (l : Log). TellsDropped s (appended l) (appended n.store.log) r) log b.records;
+    locks = b.locks ∙ locks;
+    budget = b.budget;
+    err = b.err;
+    flush = λ is. absurd (b.never is);
+    full = λ is. absurd (b.never is);
+    why = cause_of r b.only_memory;
+    faults = told_behind (failures o.store.device) (failures m.store.device) (failures n.store.device) r unfailed (no_fault (failures m.store.device) (failures n.store.device) r b.only_memory (ap failures b.device));
+  }

@@ -1,0 +1,303 @@
+-- A step of an operation that plans, as a whole: a page that is locked, a plan that is kept, and what is left where neither is done.
+use Rattle.std.proofs.Common.{◌≡◌, ◌<◌, ◌≤◌, ◌+◌, ℕ, List, inl, refl, sym, ap, ◌∙◌, subst, arith, Option, Some, None, if◌then◌else◌}
+use Rattle.std.specs.Prelude.{Result, Ok, Err, IfErr}
+use Rattle.mt_base.specs.declared.refusal.Refusal.{Refusal}
+use Rattle.mt_base.specs.declared.refusal.Refusal.TheVariants as refusal
+use Rattle.mt_disk.specs.Disk.{LeavesOnly}
+use Rattle.mt_log.specs.Words.{appended, used, area_size}
+use Rattle.mt_log.specs.declared.log.Log.{Log}
+use Rattle.mt_model.specs.declared.operations.Op.{Op}
+use Rattle.mt_plock.specs.declared.guards.PageLock.{PageLock}
+use Rattle.mt_space.specs.Changes.{PageBytes}
+use Rattle.mt_pool.specs.Kept.{IsKept, Explains}
+use Rattle.mt_pool.specs.Views.{IsFull}
+use Rattle.mt_pool.specs.declared.store.Store.{Store}
+use Rattle.mt_space.specs.Rooms.{reserved_of}
+use Rattle.mt_steps.specs.Plans.{own_needs}
+use Rattle.mt_op.specs.World.{World, IsUnderWay, IsAt, IsPlanning}
+use Rattle.mt_op.specs.Moves.{Rests, SameOp}
+use Rattle.mt_op.specs.Operations.{world, IsRight, Goes, GoesOn, Steps, GivesBack, HasBudget, IsAsFar, IsCause, claimed, only_reads, needs}
+use Rattle.mt_op.specs.Holds.{KeepsLocks}
+use Rattle.mt_op.specs.Records.{KeepsRecords}
+use Rattle.mt_op.specs.Work.{Works, ComesTo}
+use Rattle.mt_op.specs.Faults.{TellsFaults}
+use Rattle.mt_op.specs.Stepping.{GoesAhead, LocksPage, PlansOn}
+use Rattle.mt_op.specs.declared.answers.Stepped.{Stepped}
+use Rattle.mt_op.specs.declared.answers.Stepped.TheVariants as stepped
+use Rattle.mt_op.specs.declared.operations.Operations.{Operations}
+use Rattle.mt_op.specs.declared.scope.OpScope.{OpScope}
+use Rattle.mt_op.specs.declared.scope.Stage.{Stage}
+use Rattle.mt_op.specs.declared.scope.Stage.TheVariants.{Planning, Writing}
+use Rattle.mt_op.specs.declared.space_map.SpaceMap.{SpaceMap}
+use Rattle.mt_op.proofs.Ahead.{IsIdle, idle_works}
+use Rattle.mt_op.proofs.Chosen.{on_steps, on_keeps, steps_then}
+use Rattle.mt_op.proofs.Faulting.{no_fault, told_ok, told_err, told_behind}
+use Rattle.mt_op.proofs.Going.{goes_on_behind, planning_of, rests_same}
+use Rattle.mt_op.proofs.Keeping.{same_keeps, same_records}
+use Rattle.mt_op.proofs.Staying.{rests_own, own_kept, open_same}
+use Rattle.mt_op.proofs.Work.{comes_on, works_behind}
+use Rattle.mt_op.proofs.Written.{rests_goes_as}
+
+idle_goes_on : (relations counters : ℕ) (w z : World) (s t : OpScope) (r : Result Stepped Refusal) → IsIdle r → Goes relations counters w z s t → GoesOn relations counters w z s t r
+idle_goes_on relations counters w z s t (Ok stepped.Flush) idle g = g
+idle_goes_on relations counters w z s t (Err why) idle g = g
+idle_goes_on relations counters w z s t (Ok stepped.Went) idle g = absurd idle
+idle_goes_on relations counters w z s t (Ok (stepped.Wait holder)) idle g = absurd idle
+idle_goes_on relations counters w z s t (Ok stepped.Again) idle g = absurd idle
+idle_goes_on relations counters w z s t (Ok (stepped.Ready first second)) idle g = absurd idle
+
+pub cause_memory : {T : Type 0} (r : Result T Refusal) → IfErr r (λ why. why ≡ refusal.NoMemory) → IfErr r IsCause
+cause_memory (Ok x) memory = tt
+cause_memory (Err why) memory = inl memory
+
+-- ---- a page is locked
+
+module _ {D : Type 0} (seen : D → List ℕ) (may_leave : D → List ℕ → Type 0) (moment : D → ℕ) (left_since : D → ℕ → List ℕ → Type 0) (failures : D → ℕ) (o m : Operations D) (s : OpScope)
+    (right : (opening : PageBytes) (relations counters : ℕ) → IsRight seen may_leave opening relations counters o → IsRight seen may_leave opening relations counters m)
+    (rests : (opening : PageBytes) → Rests (world seen opening o) (world seen opening m))
+    (moments : (opening : PageBytes) → IsKept seen may_leave opening o.store → LeavesOnly moment left_since o.store.device m.store.device (Explains opening o.store))
+    (log : m.store.log ≡ o.store.log) (map : m.map ≡ o.map) (locks : m.locks ≡ o.locks) where
+  -- nothing but what is in frames has changed
+  pub idle_locks : (r : Result Stepped Refusal) → IsIdle r → (r ≡ Ok stepped.Flush → IsFull o.store.pool × (m ≡ o)) → IfErr r IsCause
+      → TellsFaults (failures o.store.device) (failures m.store.device) r → LocksPage seen may_leave moment left_since failures o m s s r
+  idle_locks r idle full why told = record {
+    goes = λ opening relations counters ok k.
+        (right opening relations counters ok, idle_goes_on relations counters (world seen opening o) (world seen opening m) s s r idle (rests_goes_as relations counters (world seen opening o) (world seen opening m) s (rests opening) k));
+    moments = moments;
+    log = log;
+    map = map;
+    same = record { op = refl; stage = refl; changes = refl; written = refl; left = refl };
+    full = full;
+    work = idle_works s r idle;
+    locks = same_keeps s.number o.locks m.locks r locks;
+    why = why;
+    faults = told;
+  }
+
+  -- it is asked for behind it
+  pub locks_behind : (n : Operations D) (t : OpScope) (r : Result Stepped Refusal)
+      → ((opening : PageBytes) (relations counters : ℕ) → IsRight seen may_leave opening relations counters m → IsUnderWay relations counters (world seen opening m) s
+      → IsRight seen may_leave opening relations counters n × GoesOn relations counters (world seen opening m) (world seen opening n) s t r)
+      → n.store ≡ m.store → n.map ≡ m.map → IsAsFar s t → (r ≡ Ok stepped.Flush → ⊥) → Works s t r → KeepsLocks s.number m.locks n.locks r → IfErr r (λ why. why ≡ refusal.NoMemory) → failures m.store.device ≡ failures o.store.device
+      → LocksPage seen may_leave moment left_since failures o n s t r
+  locks_behind n t r goes store same_map same never work keeps memory unfailed = record {
+    goes = λ opening relations counters ok k.
+        let w = world seen opening o in let x = world seen opening m in
+        let gone = goes opening relations counters (right opening relations counters ok) (rests_own relations counters w x s (rests opening) k) in
+        (gone.0, goes_on_behind relations counters w x (world seen opening n) s t r (rests opening) gone.1);
+    moments = λ opening kept. subst (λ (x : Store D). LeavesOnly moment left_since o.store.device x.device (Explains opening o.store)) (sym store) (moments opening kept);
+    log = ap (λ (x : Store D). x.log) store ∙ log;
+    map = same_map ∙ map;
+    same = same;
+    full = λ is. absurd (never is);
+    work = work;
+    locks = subst (λ (ls : List PageLock). KeepsLocks s.number ls n.locks r) locks keeps;
+    why = cause_memory r memory;
+    faults = told_behind (failures o.store.device) (failures m.store.device) (failures n.store.device) r unfailed (no_fault (failures m.store.device) (failures n.store.device) r memory (ap (λ (x : Store D). failures x.device) store));
+  }
+
+-- ---- a step that plans
+
+-- an answer, and the same of a step that plans
+none_some : (r : Result Stepped Refusal) (q : Result (Option Stepped) Refusal) (a : Stepped) → r ≡ Ok a → q ≡ Ok (Some a) → r ≡ Ok stepped.Flush → q ≡ Ok (Some stepped.Flush)
+none_some r q a is too flush = cc
+
+some_none : (r : Result Stepped Refusal) (q : Result (Option Stepped) Refusal) (a : Stepped) → r ≡ Ok a → q ≡ Ok (Some a) → q ≡ Ok (Some stepped.Flush) → r ≡ Ok stepped.Flush
+some_none r q a is too flush = cc
+
+-- as far as before, it has what it needs
+far_budget : (s t : OpScope) → IsAsFar s t → s.stage ≡ Planning → HasBudget s → HasBudget t
+far_budget s t m planning k =
+    let was : (if only_reads s.op then 0 else 106496) ≤ s.left = subst (λ (g : Stage). needs s g ≤ s.left) planning k.enough in
+    record {
+      enough = subst (λ (g : Stage). needs t g ≤ t.left) (sym (m.stage ∙ planning)) (subst (λ (X : Type 0). X) (λ i. (if only_reads (sym m.op i) then 0 else 106496) ≤ sym m.left i) was);
+      reads = λ is. ap (λ cs. cs.list.items) m.changes ∙ k.reads (ap (λ (x : Op). only_reads x) (sym m.op) ∙ is);
+    }
+
+-- the page that it was led to is full, and it is led to none
+pub unled_goes : (relations counters : ℕ) (w : World) (s : OpScope) → s.stage ≡ Planning → IsUnderWay relations counters w s → Goes relations counters w w s (record s { room = None })
+unled_goes relations counters w s planning k =
+    let t : OpScope = record s { room = None } in
+    let at = planning_of relations counters w s planning k in
+    let op : SameOp s t = record { txn = refl; number = refl; op = refl; undoes = refl; split = refl; total = refl } in
+    let now : IsPlanning w t = record {
+      sees = record { saw = at.sees.saw; named = λ p is. absurd cc };
+      unended = open_same w s t op at.unended;
+      nothing = at.nothing;
+      none_written = at.none_written;
+      none_standing = at.none_standing;
+    } in
+    record {
+      own = own_kept relations counters w w s t op refl refl refl refl k (subst (IsAt relations counters w t) (sym planning) now);
+      others = λ u ku other. ku;
+      held = refl;
+      same = op;
+    }
+
+module _ {D : Type 0} (seen : D → List ℕ) (may_leave : D → List ℕ → Type 0) (moment : D → ℕ) (left_since : D → ℕ → List ℕ → Type 0) (failures : D → ℕ) (o : Operations D) (s : OpScope) where
+  -- nothing is planned for want of memory
+  pub refused_plan : ((opening : PageBytes) → IsKept seen may_leave opening o.store → LeavesOnly moment left_since o.store.device o.store.device (Explains opening o.store)) → s.stage ≡ Planning → HasBudget s
+      → PlansOn seen may_leave moment left_since failures o o s s (Err refusal.NoMemory)
+  refused_plan moments planning budget = record {
+    goes = λ opening relations counters right k few. (right, rests_goes_as relations counters (world seen opening o) (world seen opening o) s (rests_same (world seen opening o)) k);
+    moments = moments;
+    made = λ is. absurd cc;
+    log = refl;
+    map = refl;
+    left = refl;
+    budget = budget;
+    full = λ is. absurd cc;
+    stage = λ not. planning;
+    work = omega arith;
+    locks = refl;
+    why = inl refl;
+    faults = no_fault (failures o.store.device) (failures o.store.device) (Err refusal.NoMemory) refl refl;
+  }
+
+module _ {D : Type 0} (seen : D → List ℕ) (may_leave : D → List ℕ → Type 0) (moment : D → ℕ) (left_since : D → ℕ → List ℕ → Type 0) (failures : D → ℕ) (o n : Operations D) (s t : OpScope) (planning : s.stage ≡ Planning) where
+  pub locked_some : (a : Stepped) → HasBudget s → LocksPage seen may_leave moment left_since failures o n s t (Ok a) → PlansOn seen may_leave moment left_since failures o n s t (Ok (Some a))
+  locked_some a budget l = record {
+    goes = λ opening relations counters right k few. l.goes opening relations counters right k;
+    moments = l.moments;
+    made = λ is. absurd cc;
+    log = l.log;
+    map = l.map;
+    left = l.same.left;
+    budget = far_budget s t l.same planning budget;
+    full = λ is. l.full (some_none (Ok a) (Ok (Some a)) a refl refl is);
+    stage = λ not. l.same.stage ∙ planning;
+    work = l.work;
+    locks = l.locks;
+    why = tt;
+    faults = told_ok (failures o.store.device) (failures n.store.device) (Ok a) a (Some a) refl l.faults;
+  }
+
+  pub locked_err : (why : Refusal) → HasBudget s → LocksPage seen may_leave moment left_since failures o n s t (Err why) → PlansOn seen may_leave moment left_since failures o n s t (Err why)
+  locked_err why budget l = record {
+    goes = λ opening relations counters right k few. l.goes opening relations counters right k;
+    moments = l.moments;
+    made = λ is. absurd cc;
+    log = l.log;
+    map = l.map;
+    left = l.same.left;
+    budget = far_budget s t l.same planning budget;
+    full = λ is. absurd cc;
+    stage = λ not. l.same.stage ∙ planning;
+    work = l.work;
+    locks = l.locks;
+    why = l.why;
+    faults = told_err (failures o.store.device) (failures n.store.device) (Err why) (Err why) why refl refl l.faults;
+  }
+
+-- ---- what is promised of a step
+
+pub record MakesStep {D : Type 0} (seen : D → List ℕ) (may_leave : D → List ℕ → Type 0) (moment : D → ℕ) (left_since : D → ℕ → List ℕ → Type 0) (failures : D → ℕ) (o n : Operations D) (s t : OpScope) (r : Result Stepped Refusal) : Type 0 where
+  pub steps : (opening : PageBytes) (relations counters : ℕ) → IsRight seen may_leave opening relations counters o → IsUnderWay relations counters (world seen opening o) s → relations ≤ 64 → counters ≤ 128
+      → IsRight seen may_leave opening relations counters n × Steps relations counters (world seen opening o) (world seen opening n) s t r
+  pub moments : (opening : PageBytes) → IsKept seen may_leave opening o.store → LeavesOnly moment left_since o.store.device n.store.device (Explains opening o.store)
+  pub log : used n.store.log + t.left ≡ used o.store.log + s.left
+  pub area : area_size n.store.log ≡ area_size o.store.log
+  pub budget : HasBudget t
+  pub claims : GivesBack (own_needs s.op s.split) (claimed o) (claimed n) r
+  pub full : r ≡ Ok stepped.Flush → IsFull o.store.pool × (n ≡ o)
+  pub stage : ComesTo t.stage r
+  pub work : Works s t r
+  pub records : KeepsRecords t (appended o.store.log) (appended n.store.log) r
+  pub locks : KeepsLocks s.number o.locks n.locks r
+  pub writing : s.stage ≡ Writing → n.locks ≡ o.locks
+  pub went : s.stage ≡ Writing → r ≡ Ok stepped.Went → t.written ≡ s.written + 1
+  pub why : IfErr r IsCause
+  pub faults : TellsFaults (failures o.store.device) (failures n.store.device) r
+
+pub room_still : (old new : Log) (left now : ℕ) → new ≡ old → now ≡ left → used old + left < area_size old → used new + now < area_size new
+room_still old new left now log same room = subst (λ (X : Type 0). X) (λ i. used (sym log i) + sym same i < area_size (sym log i)) room
+
+not_writing : (s : OpScope) → s.stage ≡ Planning → s.stage ≡ Writing → ⊥
+not_writing s planning writing = cc
+
+module _ {D : Type 0} (seen : D → List ℕ) (may_leave : D → List ℕ → Type 0) (moment : D → ℕ) (left_since : D → ℕ → List ℕ → Type 0) (failures : D → ℕ) (o n : Operations D) (s t : OpScope) where
+  pub writes_step : (r : Result Stepped Refusal) → GoesAhead seen may_leave moment left_since failures o n s t r → MakesStep seen may_leave moment left_since failures o n s t r
+  writes_step r a = record {
+    steps = a.steps;
+    moments = a.moments;
+    log = a.log;
+    area = a.area;
+    budget = a.budget;
+    claims = a.claims;
+    full = a.full;
+    stage = a.stage;
+    work = a.work;
+    records = a.records;
+    locks = same_keeps s.number o.locks n.locks r a.locks;
+    writing = λ writing. a.locks;
+    went = λ writing. a.went;
+    why = a.why;
+    faults = a.faults;
+  }
+
+  -- it is refused while it plans
+  pub stopped_step : (why : Refusal) → PlansOn seen may_leave moment left_since failures o n s t (Err why) → MakesStep seen may_leave moment left_since failures o n s t (Err why)
+  stopped_step why p = record {
+    steps = λ opening relations counters right k few some. p.goes opening relations counters right k few;
+    moments = p.moments;
+    log = λ i. used (p.log i) + p.left i;
+    area = ap (λ (l : Log). area_size l) p.log;
+    budget = p.budget;
+    claims = ap (λ (x : SpaceMap). reserved_of x.space) p.map;
+    full = λ is. absurd cc;
+    stage = inl (p.stage (λ is. absurd cc));
+    work = p.work;
+    records = ap (λ (l : Log). appended l) p.log;
+    locks = p.locks;
+    writing = λ writing. p.locks;
+    went = λ writing is. absurd cc;
+    why = p.why;
+    faults = told_err (failures o.store.device) (failures n.store.device) (Err why) (Err why) why refl refl p.faults;
+  }
+
+  -- it goes on planning
+  pub planned_step : (a : Stepped) → s.stage ≡ Planning → (relations counters : ℕ) (w z : World) → GoesOn relations counters w z s t (Ok a) → PlansOn seen may_leave moment left_since failures o n s t (Ok (Some a))
+      → MakesStep seen may_leave moment left_since failures o n s t (Ok a)
+  planned_step a planning relations counters w z goes p = record {
+    steps = λ opening relations counters right k few some. let gone = p.goes opening relations counters right k few in (gone.0, on_steps relations counters (world seen opening o) (world seen opening n) s t (Ok a) gone.1);
+    moments = p.moments;
+    log = λ i. used (p.log i) + p.left i;
+    area = ap (λ (l : Log). area_size l) p.log;
+    budget = p.budget;
+    claims = on_keeps relations counters w z s t (Ok a) (own_needs s.op s.split) (claimed o) (claimed n) goes (ap (λ (x : SpaceMap). reserved_of x.space) p.map);
+    full = λ is. p.full (none_some (Ok a) (Ok (Some a)) a refl refl is);
+    stage = comes_on relations counters w z s t (Ok a) goes (inl (p.stage (λ is. absurd cc)));
+    work = p.work;
+    records = same_records t (appended o.store.log) (appended n.store.log) (Ok a) (ap (λ (l : Log). appended l) p.log);
+    locks = p.locks;
+    writing = λ writing. absurd (not_writing s planning writing);
+    went = λ writing. absurd (not_writing s planning writing);
+    why = tt;
+    faults = told_ok (failures o.store.device) (failures n.store.device) (Ok (Some a)) (Some a) a refl p.faults;
+  }
+
+  -- its plan is made, and it goes ahead
+  pub made_step : (z : Operations D) (u : OpScope) (r : Result Stepped Refusal) → s.stage ≡ Planning → SameOp s t → PlansOn seen may_leave moment left_since failures o n s t (Ok None) → GoesAhead seen may_leave moment left_since failures n z t u r
+      → MakesStep seen may_leave moment left_since failures o z s u r
+  made_step z u r planning same p a =
+      let made = p.made refl in
+      record {
+        steps = λ opening relations counters right k few some.
+            let gone = p.goes opening relations counters right k few in
+            let ended = a.steps opening relations counters gone.0 gone.1.own few some in
+            (ended.0, steps_then relations counters (world seen opening o) (world seen opening n) (world seen opening z) s t u r p.locks (ap (λ (l : Log). appended l) p.log) gone.1 ended.1);
+        moments = λ opening kept. subst (λ (x : Operations D). IsKept seen may_leave opening x.store → LeavesOnly moment left_since x.store.device z.store.device (Explains opening x.store)) made.0 (a.moments opening) kept;
+        log = a.log ∙ (λ i. used (p.log i) + p.left i);
+        area = a.area ∙ ap (λ (l : Log). area_size l) p.log;
+        budget = a.budget;
+        claims = subst (λ (X : Type 0). X) (λ i. GivesBack (own_needs (same.op i) (same.split i)) (reserved_of (p.map i).space) (claimed z) r) a.claims;
+        full = λ is. let f = a.full is in (subst (λ (x : Operations D). IsFull x.store.pool) made.0 f.0, f.1 ∙ made.0);
+        stage = a.stage;
+        work = works_behind s t u r p.work same.total a.work;
+        records = subst (λ (l : Log). KeepsRecords u (appended l) (appended z.store.log) r) p.log a.records;
+        locks = same_keeps s.number o.locks z.locks r (a.locks ∙ p.locks);
+        writing = λ writing. absurd (not_writing s planning writing);
+        went = λ writing. absurd (not_writing s planning writing);
+        why = a.why;
+        faults = told_behind (failures o.store.device) (failures n.store.device) (failures z.store.device) r (ap (λ (x : Operations D). failures x.store.device) made.0) a.faults;
+      }

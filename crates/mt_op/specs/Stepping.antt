@@ -1,0 +1,91 @@
+-- What a call does that goes on with an operation or takes a page of it back: all its clauses in one relation, for those who pass them on.
+use Rattle.std.specs.Prelude.{◌≡◌, ◌≤◌, ◌+◌, ℕ, List, Option, None, Some, Result, Ok, IfErr, OnErr}
+use Rattle.mt_base.specs.declared.refusal.Refusal.{Refusal}
+use Rattle.mt_base.specs.declared.refusal.Refusal.TheVariants as refusal
+use Rattle.mt_disk.specs.Disk.{LeavesOnly}
+use Rattle.mt_log.specs.Words.{appended, used, area_size}
+use Rattle.mt_space.specs.Changes.{PageBytes}
+use Rattle.mt_pool.specs.Kept.{IsKept, Explains}
+use Rattle.mt_pool.specs.Views.{IsFull}
+use Rattle.mt_steps.specs.Plans.{own_needs}
+use Rattle.mt_op.specs.World.{IsUnderWay}
+use Rattle.mt_op.specs.Operations.{world, IsRight, Goes, GoesOn, Steps, GivesBack, IsPlannedOn, HasBudget, IsAsFar, IsCause, claimed}
+use Rattle.mt_op.specs.Holds.{KeepsLocks, KeepsLocksOn}
+use Rattle.mt_op.specs.Records.{KeepsRecords, TellsDropped}
+use Rattle.mt_op.specs.Work.{Works, WorksOn, ComesTo}
+use Rattle.mt_op.specs.Faults.{TellsFaults}
+use Rattle.mt_op.specs.declared.answers.Stepped.{Stepped}
+use Rattle.mt_op.specs.declared.answers.Stepped.TheVariants as stepped
+use Rattle.mt_op.specs.declared.answers.TakenBack.{TakenBack}
+use Rattle.mt_op.specs.declared.answers.TakenBack.TheVariants as taken
+use Rattle.mt_op.specs.declared.operations.Operations.{Operations}
+use Rattle.mt_op.specs.declared.scope.OpScope.{OpScope}
+use Rattle.mt_op.specs.declared.scope.Stage.TheVariants.{Planning, Writing, Taking, Cleared}
+
+-- a step of an operation that writes, or ends
+pub record GoesAhead {D : Type 0} (seen : D → List ℕ) (may_leave : D → List ℕ → Type 0) (moment : D → ℕ) (left_since : D → ℕ → List ℕ → Type 0) (failures : D → ℕ) (o n : Operations D) (s t : OpScope) (r : Result Stepped Refusal) : Type 0 where
+  pub steps : (opening : PageBytes) (relations counters : ℕ) → IsRight seen may_leave opening relations counters o → IsUnderWay relations counters (world seen opening o) s → relations ≤ 64 → counters ≤ 128
+      → IsRight seen may_leave opening relations counters n × Steps relations counters (world seen opening o) (world seen opening n) s t r
+  pub moments : (opening : PageBytes) → IsKept seen may_leave opening o.store → LeavesOnly moment left_since o.store.device n.store.device (Explains opening o.store)
+  pub log : used n.store.log + t.left ≡ used o.store.log + s.left
+  pub area : area_size n.store.log ≡ area_size o.store.log
+  pub budget : HasBudget t
+  pub claims : GivesBack (own_needs s.op s.split) (claimed o) (claimed n) r
+  pub full : r ≡ Ok stepped.Flush → IsFull o.store.pool × (n ≡ o)
+  pub went : r ≡ Ok stepped.Went → t.written ≡ s.written + 1
+  pub stage : ComesTo t.stage r
+  pub work : Works s t r
+  pub records : KeepsRecords t (appended o.store.log) (appended n.store.log) r
+  pub locks : n.locks ≡ o.locks
+  pub err : OnErr r (t ≡ s)
+  pub flush : r ≡ Ok stepped.Flush → t ≡ s
+  pub why : IfErr r IsCause
+  pub faults : TellsFaults (failures o.store.device) (failures n.store.device) r
+
+-- a page is put back that is in a frame
+pub record PutsOneBack {D : Type 0} (seen : D → List ℕ) (may_leave : D → List ℕ → Type 0) (o n : Operations D) (s t : OpScope) (r : Result TakenBack Refusal) : Type 0 where
+  pub goes : (opening : PageBytes) (relations counters : ℕ) → IsRight seen may_leave opening relations counters o → IsUnderWay relations counters (world seen opening o) s
+      → IsRight seen may_leave opening relations counters n × Goes relations counters (world seen opening o) (world seen opening n) s t
+  pub device : n.store.device ≡ o.store.device
+  pub more : r ≡ Ok taken.More → (t.stage ≡ Taking) × (t.standing + 1 ≡ s.standing)
+  pub clear : r ≡ Ok taken.Clear → (t.stage ≡ Cleared) × (s.standing ≤ 1)
+  pub never : r ≡ Ok taken.Flush → ⊥
+  pub log : used n.store.log + t.left ≡ used o.store.log + s.left
+  pub area : area_size n.store.log ≡ area_size o.store.log
+  pub map : n.map ≡ o.map
+  pub records : TellsDropped s (appended o.store.log) (appended n.store.log) r
+  pub locks : n.locks ≡ o.locks
+  pub budget : HasBudget t
+  pub err : OnErr r (t ≡ s)
+  pub only_memory : IfErr r (λ why. why ≡ refusal.NoMemory)
+
+-- a page is locked and looked at, or is not to be had
+pub record LocksPage {D : Type 0} (seen : D → List ℕ) (may_leave : D → List ℕ → Type 0) (moment : D → ℕ) (left_since : D → ℕ → List ℕ → Type 0) (failures : D → ℕ) (o n : Operations D) (s t : OpScope) (r : Result Stepped Refusal) : Type 0 where
+  pub goes : (opening : PageBytes) (relations counters : ℕ) → IsRight seen may_leave opening relations counters o → IsUnderWay relations counters (world seen opening o) s
+      → IsRight seen may_leave opening relations counters n × GoesOn relations counters (world seen opening o) (world seen opening n) s t r
+  pub moments : (opening : PageBytes) → IsKept seen may_leave opening o.store → LeavesOnly moment left_since o.store.device n.store.device (Explains opening o.store)
+  pub log : n.store.log ≡ o.store.log
+  pub map : n.map ≡ o.map
+  pub same : IsAsFar s t
+  pub full : r ≡ Ok stepped.Flush → IsFull o.store.pool × (n ≡ o)
+  pub work : Works s t r
+  pub locks : KeepsLocks s.number o.locks n.locks r
+  pub why : IfErr r IsCause
+  pub faults : TellsFaults (failures o.store.device) (failures n.store.device) r
+
+-- a step of an operation that plans
+pub record PlansOn {D : Type 0} (seen : D → List ℕ) (may_leave : D → List ℕ → Type 0) (moment : D → ℕ) (left_since : D → ℕ → List ℕ → Type 0) (failures : D → ℕ) (o n : Operations D) (s t : OpScope) (r : Result (Option Stepped) Refusal) : Type 0 where
+  pub goes : (opening : PageBytes) (relations counters : ℕ) → IsRight seen may_leave opening relations counters o → IsUnderWay relations counters (world seen opening o) s → relations ≤ 64
+      → IsRight seen may_leave opening relations counters n × IsPlannedOn relations counters (world seen opening o) (world seen opening n) s t r
+  pub moments : (opening : PageBytes) → IsKept seen may_leave opening o.store → LeavesOnly moment left_since o.store.device n.store.device (Explains opening o.store)
+  pub made : r ≡ Ok None → (n ≡ o) × (t.stage ≡ Writing)
+  pub log : n.store.log ≡ o.store.log
+  pub map : n.map ≡ o.map
+  pub left : t.left ≡ s.left
+  pub budget : HasBudget t
+  pub full : r ≡ Ok (Some stepped.Flush) → IsFull o.store.pool × (n ≡ o)
+  pub stage : (r ≡ Ok None → ⊥) → t.stage ≡ Planning
+  pub work : WorksOn s t r
+  pub locks : KeepsLocksOn s.number o.locks n.locks r
+  pub why : IfErr r IsCause
+  pub faults : TellsFaults (failures o.store.device) (failures n.store.device) r

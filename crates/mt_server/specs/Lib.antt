@@ -1,0 +1,5 @@
+pub mod Answers
+pub mod Lines
+pub mod Scripts
+pub mod Plays
+pub mod Runs

@@ -1,0 +1,16 @@
+//! Scripts served to a kernel: a script is read whole, line by line, before any of it runs; it then runs
+//! alone, and each of its lines is answered by a line of the transcript. A refusal is an answer, and the
+//! script goes on.
+//!
+//! Readers and writers are passed in, and their bytes are what contracts speak of. Begin at [`run_alone`].
+#![tactic(auto)]
+
+mod answers;
+mod lines;
+mod reader;
+mod running;
+
+pub use answers::{Answer, Unheard, put, write_answer};
+pub use lines::{Line, line_of};
+pub use reader::{Script, ScriptFault, read_script};
+pub use running::{RunFault, run_alone};

@@ -1,0 +1,30 @@
+//! The program `mtk`: the command line, with the standard streams and the files of the system.
+#![tactic(auto)]
+
+use mt_cli::{DiskFolder, perform_words};
+use std::env;
+use std::io::{self, BufWriter};
+use std::process::ExitCode;
+
+/// Does what the command line asks for, with the standard streams and the files of the system.
+fn main(rt: HostRuntime) -> io::Result<ExitCode> {
+    let alloc = rt.alloc();
+    let own: Vec<String> = env::args(&rt)?.skip(1).collect(alloc)?;
+    let mut words = Vec::with_capacity(alloc, own.len())?;
+    for word in &own {
+        words.push(word.as_str())?;
+    }
+    let mut folder = DiskFolder::new(&rt);
+    let mut input = rt.reader();
+    let mut out = BufWriter::new(alloc, rt.stdout())?;
+    let mut err = rt.stderr();
+    let status = perform_words(
+        alloc,
+        words.as_slice(),
+        &mut folder,
+        &mut input,
+        &mut out,
+        &mut err,
+    );
+    Ok(ExitCode::from(status))
+}

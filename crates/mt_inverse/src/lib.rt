@@ -5,13 +5,26 @@
 //! to is a law of the model, `inverses_take_back` of `mt_model`.
 #![tactic(auto)]
 
-ghost use Rattle.std.specs.Prelude.{◌≡◌, IfOk, IfErr};
+ghost use Rattle.std.specs.Prelude.{◌≡◌, IfOk, IfErr, is_some};
 ghost use Rattle.mt_base.specs.declared.refusal.Refusal.{Refusal};
 ghost use Rattle.mt_model.specs.Model.{inverse_of as inverse};
 ghost use Rattle.mt_inverse.specs.Steps.{IsWithinSteps};
 
 use mt_base::Refusal;
 use mt_model::{Op, Reply};
+
+/// Whether an operation that replied this did anything: if and only if it has an inverse.
+pub fn has_effect(op: &Op, reply: &Reply) -> bool
+    ensures { result ≡ is_some (inverse op.now reply.now) }
+{
+    match (op, reply) {
+        (Op::Insert(_, _, _), Reply::Done) => true,
+        (Op::Update(_, _, _), Reply::Was(_)) => true,
+        (Op::Delete(_, _), Reply::Was(_)) => true,
+        (Op::Add(_, _), Reply::Done) => true,
+        _ => false,
+    }
+}
 
 /// The operation that takes back what this one did, where it replied this: an insert by a delete, an
 /// update or a delete by putting the old value back, an add by the opposite step. `None` where it did

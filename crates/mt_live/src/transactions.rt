@@ -1,8 +1,8 @@
-ghost use Rattle.std.specs.Prelude.{ℕ, ◌≡◌, ◌<◌, IfSome, IfNone, OnOk, OnErr, is_some, length, true, slice_index_or};
-ghost use Rattle.mt_model.specs.Model.{inverse_of};
+ghost use Rattle.std.specs.Prelude.{ℕ, ◌≡◌, ◌<◌, IfSome, IfNone, OnOk, OnErr, length, true, slice_index_or};
 ghost use Rattle.mt_live.specs.Members.{fresh, with_room, with_call, with_state, cut_at, committed_of, last_place};
 
 use mt_base::{OpNo, TxnNo};
+use mt_inverse::has_effect;
 use mt_model::{Calls, Committed, Op, Reply};
 use std::alloc::{AllocError, Global};
 use std::marker::Model;
@@ -51,19 +51,6 @@ impl Model for Transaction {
         HasRoomFor t.has_room (vec_len t.calls) (vec_capacity t.calls) (vec_len t.operations) (vec_capacity t.operations) };
 }
 
-// Whether an operation with this reply did something, so that it has an inverse.
-fn has_inverse(op: &Op, reply: &Reply) -> bool
-    ensures { result ≡ is_some (inverse_of op.now reply.now) }
-{
-    matches!(
-        (op, reply),
-        (Op::Insert(_, _, _), Reply::Done)
-            | (Op::Update(_, _, _), Reply::Was(_))
-            | (Op::Delete(_, _), Reply::Was(_))
-            | (Op::Add(_, _), Reply::Done)
-    )
-}
-
 // The number of the last call that did something.
 fn last_place(calls: &[(Op, Reply)]) -> Option<usize>
     ensures place { result ≡ last_place calls.now }
@@ -71,7 +58,7 @@ fn last_place(calls: &[(Op, Reply)]) -> Option<usize>
 {
     let mut last = None;
     for (at, (op, reply)) in calls.iter().enumerate() {
-        if has_inverse(op, reply) {
+        if has_effect(op, reply) {
             last = Some(at);
         }
     }

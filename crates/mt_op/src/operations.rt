@@ -8,7 +8,7 @@ ghost use Rattle.mt_log.specs.Words.{appended, durable, used, area_size, has_fai
 ghost use Rattle.mt_model.specs.Model.{IsWithin};
 ghost use Rattle.mt_space.specs.Changes.{PageBytes};
 ghost use Rattle.mt_pool.specs.Kept.{IsKept, Explains};
-ghost use Rattle.mt_pool.specs.Views.{IsPool, IsFull, pages, to_flush, waits_for};
+ghost use Rattle.mt_pool.specs.Views.{IsPool, IsFull, IsWaiting, Cleans, pages, to_flush, waits_for};
 ghost use Rattle.mt_pool.specs.declared.flushing.Flushed.TheVariants as flushed;
 ghost use Rattle.mt_steps.specs.Plans.{IsGood, free_pages};
 ghost use Rattle.mt_op.specs.World.{IsUnderWay, IsFresh, held_in};
@@ -241,6 +241,8 @@ impl<D: Device> Operations<D> {
         ensures moments { (opening : PageBytes) → IsKept D.seen D.may_leave opening self.old.store → LeavesOnly D.moment D.left_since self.old.store.device self.new.store.device (Explains opening self.old.store) }
         ensures claimed { claimed self.new ≡ claimed self.old }
         ensures log { self.new.store.log ≡ self.old.store.log }
+        ensures written { (p : ℕ) → result ≡ Ok (flushed.Page p) → Cleans self.old.store.pool self.new.store.pool (length (durable self.old.store.log)) p }
+        ensures barred { result ≡ Ok flushed.Force → IsWaiting self.old.store.pool (length (durable self.old.store.log)) }
         ensures fewer { (p : ℕ) → result ≡ Ok (flushed.Page p) → to_flush self.new.store.pool + 1 ≡ to_flush self.old.store.pool }
         ensures forced { result ≡ Ok flushed.Force → length (durable self.old.store.log) < length (appended self.old.store.log) }
         ensures exact { ((f : ℕ) → get_or self.old.store.pool.dirty.items f false ≡ false) → result ≡ Ok flushed.Clean }

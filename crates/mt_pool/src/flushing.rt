@@ -29,7 +29,7 @@ enum Found {
 }
 
 impl Pool {
-    ghost use Rattle.mt_pool.specs.Views.{IsPool, Shows, IsReady, IsWaiting, view, pages, waits_for, to_flush};
+    ghost use Rattle.mt_pool.specs.Views.{IsPool, Shows, IsReady, IsWaiting, Cleans, view, pages, waits_for, to_flush};
     ghost use Rattle.mt_pool.specs.declared.flushing.Flushed.TheVariants as flushed;
     ghost use Rattle.mt_pool.specs.declared.flushing.Found.TheVariants as found;
 
@@ -75,7 +75,7 @@ impl Pool {
         ensures crash { (device.new ≡ device.old) ⊎ ((p : ℕ) × (p < pages self.old) × (0 < waits_for self.old p) × (waits_for self.old p ≤ durable)
             × Torn (self.old.place + 4096 * p) 4096 (D.seen device.old) (D.seen device.new) × Follows (Torn (self.old.place + 4096 * p) 4096) (D.may_leave device.old) (D.may_leave device.new)) }
         ensures time { Elapses (D.moment device.old) (D.moment device.new) (D.left_since device.old) (D.left_since device.new) (D.may_leave device.new) }
-        ensures page { (p : ℕ) → result ≡ Ok (flushed.Page p) → (f : ℕ) × IsReady self.old durable f p × (self.new.dirty.items ≡ set self.old.dirty.items f false) }
+        ensures page { (p : ℕ) → result ≡ Ok (flushed.Page p) → Cleans self.old self.new durable p }
         ensures fewer { (p : ℕ) → result ≡ Ok (flushed.Page p) → to_flush self.new + 1 ≡ to_flush self.old }
         ensures forced { result ≡ Ok flushed.Force → IsWaiting self.old durable }
         ensures waiting { result ≡ Ok flushed.Force → (self.new ≡ self.old) × (device.new ≡ device.old) }

@@ -81,7 +81,7 @@ impl<D: Device> Store<D> {
     ghost use Rattle.mt_pool.specs.Kept.{IsKept, Explains};
     ghost use Rattle.mt_frame.specs.PageRecords.{change_records, redone};
     ghost use Rattle.mt_pool.specs.Writes.{due_image, IsUnfinished};
-    ghost use Rattle.mt_pool.specs.Views.{IsThere, IsFull, to_flush, view, pages, waits_for};
+    ghost use Rattle.mt_pool.specs.Views.{IsThere, IsFull, IsWaiting, Cleans, to_flush, view, pages, waits_for};
     ghost use Rattle.mt_pool.specs.declared.fetching.Fetched.TheVariants as fetched;
     ghost use Rattle.mt_pool.specs.declared.flushing.Flushed.TheVariants as flushed;
 
@@ -129,6 +129,8 @@ impl<D: Device> Store<D> {
         ensures waits { self.new.pool.waits ≡ self.old.pool.waits }
         ensures there { self.new.pool.of_page ≡ self.old.pool.of_page }
         ensures page { (p : ℕ) → result ≡ Ok (flushed.Page p) → waits_for self.old.pool p ≤ length (durable self.old.log) }
+        ensures written { (p : ℕ) → result ≡ Ok (flushed.Page p) → Cleans self.old.pool self.new.pool (length (durable self.old.log)) p }
+        ensures barred { result ≡ Ok flushed.Force → IsWaiting self.old.pool (length (durable self.old.log)) }
         ensures fewer { (p : ℕ) → result ≡ Ok (flushed.Page p) → to_flush self.new.pool + 1 ≡ to_flush self.old.pool }
         ensures waiting { result ≡ Ok flushed.Force → self.new ≡ self.old }
         ensures fault { IsErr result → self.new.pool ≡ self.old.pool }
@@ -151,6 +153,7 @@ impl<D: Device> Store<D> {
         ensures views { (q : ℕ) → view self.new.pool (D.seen self.new.device) q ≡ view self.old.pool (D.seen self.old.device) q }
         ensures there { result ≡ Ok fetched.There → IsThere self.new.pool page }
         ensures full { result ≡ Ok fetched.Flush → IsFull self.old.pool }
+        ensures missing { result ≡ Ok fetched.Flush → get_or self.old.pool.of_page.items page None ≡ None }
         ensures nothing { result ≡ Ok fetched.Flush → self.new ≡ self.old }
         ensures exact { IsFull self.old.pool → get_or self.old.pool.of_page.items page None ≡ None → result ≡ Ok fetched.Flush }
         ensures log { self.new.log ≡ self.old.log }

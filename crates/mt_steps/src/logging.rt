@@ -1,26 +1,13 @@
 // What is logged of an operation.
-ghost use Rattle.std.specs.Prelude.{◌≡◌, ◌≤◌, ℕ, IfOk, IfErr, IfSome, is_some};
+ghost use Rattle.std.specs.Prelude.{◌≡◌, ◌≤◌, ℕ, IfOk, IfErr, IfSome};
 ghost use Rattle.mt_base.specs.declared.refusal.Refusal.{Refusal};
 ghost use Rattle.mt_frame.specs.Grammar.{IsOperation};
-ghost use Rattle.mt_model.specs.Model.{inverse_of, IsWithin};
+ghost use Rattle.mt_model.specs.Model.{IsWithin};
 ghost use Rattle.mt_steps.specs.Logged.{logged_of, HasSmallReply};
 
 use mt_base::Refusal;
 use mt_frame::LoggedOp;
 use mt_model::{Op, Reply};
-
-/// Whether an operation that replied this did anything.
-pub fn has_effect(op: &Op, reply: &Reply) -> bool
-    ensures { result ≡ is_some (inverse_of op.now reply.now) }
-{
-    match (op, reply) {
-        (Op::Insert(_, _, _), Reply::Done) => true,
-        (Op::Update(_, _, _), Reply::Was(_)) => true,
-        (Op::Delete(_, _), Reply::Was(_)) => true,
-        (Op::Add(_, _), Reply::Done) => true,
-        _ => false,
-    }
-}
 
 /// What is logged of an operation that replied this: nothing where it did nothing.
 pub fn logged(op: &Op, reply: &Reply) -> Result<Option<LoggedOp>, Refusal>

@@ -9,8 +9,8 @@ ghost use Rattle.mt_model.specs.declared.operations.Reply.{Reply};
 use crate::logged::log_need;
 use mt_base::limits::OPERATION_LOG_BYTES;
 use mt_base::{LogPos, OpNo, TxnNo};
+use mt_inverse::has_effect;
 use mt_model::{Calls, Op, Reply};
-use mt_steps::has_effect;
 use std::alloc::AllocError;
 use std::marker::Model;
 

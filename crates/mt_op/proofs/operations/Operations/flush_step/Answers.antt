@@ -12,6 +12,8 @@ returns g c = let f = c.flush_step.ensures in let seen = g.D.Device.seen in
       moments = f.moments;
       claimed = refl;
       log = f.log;
+      written = f.written;
+      barred = f.barred;
       fewer = f.fewer;
       forced = f.forced;
       exact = f.exact;

@@ -1,5 +1,6 @@
-use Rattle.std.proofs.Common.{[], ap, length, refl, sym, append-nil}
+use Rattle.std.proofs.Common.{ℕ, [], ◌∙◌, ap, length, refl, sym, subst, append-nil}
 use Rattle.mt_log.specs.Words.{durable}
+use Rattle.mt_pool.specs.Views.{Cleans, IsWaiting}
 use Rattle.mt_pool.proofs.Kept.{each_moment, kept_flush}
 use Rattle.mt_pool.proofs.store.Store.flush_step.Goals as goal
 
@@ -11,3 +12,9 @@ pub returns-clause-moments : goal.returns-clause-moments
 returns-clause-moments g c = λ opening k. let f = c.flush_step.ensures in
     each_moment g.D.Device.seen g.D.Device.may_leave g.D.Device.moment g.D.Device.left_since g.met.D.Device.only_now opening c.args.self.now _ k (returns-clause-kept g c opening k) refl refl f.place (ap (λ v. length v.items) f.there) refl
     [] (sym (append-nil (durable c.args.self.now.log))) f.time
+
+pub returns-clause-written : goal.returns-clause-written
+returns-clause-written g c = λ p is. subst (λ (n : ℕ). Cleans c.args.self.now.pool c.flush_step.new.self n p) (c.get.ensures ∙ c.requires.kept.1.settled) (c.flush_step.ensures.page p is)
+
+pub returns-clause-barred : goal.returns-clause-barred
+returns-clause-barred g c = λ is. subst (λ (n : ℕ). IsWaiting c.args.self.now.pool n) (c.get.ensures ∙ c.requires.kept.1.settled) (c.flush_step.ensures.forced is)

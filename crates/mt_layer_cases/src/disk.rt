@@ -2,6 +2,7 @@ ghost use Rattle.std.specs.Prelude.{◌≤◌, length};
 
 use mt_base::Refusal;
 use mt_disk::{Device, DeviceFault, FaultDevice, FileDevice, MemDevice};
+use std::alloc::{AllocError, Global};
 use std::fs;
 use std::test::Fail;
 
@@ -24,43 +25,56 @@ fn four_calls<D: Device>(device: &mut D) -> ([bool; 4], [u8; 4])
 }
 
 #[test]
-fn memory_is_written_and_has_its_room(rt: HostRuntime) -> Result<(), Fail> {
+fn memory_is_written(rt: HostRuntime) -> Result<(), Fail> {
     let mut device = MemDevice::new(rt.alloc(), vec![in rt.alloc(); 0u8; 8]?, 2, 4)?;
     let (went, read) = four_calls(&mut device);
-    assert_eq!(rt; went, [true; 4]);
-    assert_eq!(rt; &read, b"\0abc");
-    assert_eq!(rt; device.bytes(), b"\0\0abd\0\0\0".as_slice());
-    // Room for two writes and four bytes in all: five are too many, and so is a third write.
-    let few = vec![in rt.alloc(); 0u8; 8]?;
-    let mut narrow = MemDevice::new(rt.alloc(), few, 2, 4)?;
-    assert_eq!(rt; narrow.write_at(0, b"wxyz?"), Err(DeviceFault));
-    assert_eq!(rt; narrow.write_at(0, b"wxyz"), Ok(()));
-    assert_eq!(rt; narrow.write_at(4, b"?"), Err(DeviceFault));
-    assert_eq!(rt; narrow.write_at(4, b""), Ok(()));
-    assert_eq!(rt; narrow.write_at(4, b""), Err(DeviceFault));
-    assert_eq!(rt; narrow.sync(), Ok(()));
-    assert_eq!(rt; narrow.write_at(4, b"more"), Ok(()));
-    let bytes = narrow.into_bytes();
-    assert_eq!(rt; bytes.as_slice(), b"wxyzmore".as_slice());
+    assert!(rt; went == [true; 4]);
+    assert!(rt; &read == b"\0abc");
+    assert!(rt; device.bytes() == b"\0\0abd\0\0\0".as_slice());
     Ok(())
+}
+
+/// Five writes, of 5, 4, 1, 0 and 0 bytes, a sync and a write of 4: which of them went well.
+fn seven_calls<D: Device>(device: &mut D) -> [bool; 7]
+    requires { 8 ≤ length (D.seen device.old) }
+{
+    [
+        device.write_at(0, b"wxyz?").is_ok(),
+        device.write_at(0, b"wxyz").is_ok(),
+        device.write_at(4, b"?").is_ok(),
+        device.write_at(4, b"").is_ok(),
+        device.write_at(4, b"").is_ok(),
+        device.sync().is_ok(),
+        device.write_at(4, b"more").is_ok(),
+    ]
+}
+
+// Room for two writes and four bytes in all: five are too many, and so is a third write.
+#[test]
+fn memory_has_its_room(rt: HostRuntime) -> Result<(), Fail> {
+    let mut device = MemDevice::new(rt.alloc(), vec![in rt.alloc(); 0u8; 8]?, 2, 4)?;
+    let went = seven_calls(&mut device);
+    assert!(rt; went == [false, true, false, true, false, true, true]);
+    let bytes = device.into_bytes();
+    assert!(rt; bytes.as_slice() == b"wxyzmore".as_slice());
+    Ok(())
+}
+
+/// Four calls of a device that fails at its nth: which of them went well, and the third byte behind them.
+fn failing_at(alloc: Global, n: u64) -> Result<([bool; 4], Option<u8>), AllocError> {
+    let memory = MemDevice::new(alloc, vec![in alloc; 0u8; 8]?, 2, 8)?;
+    let mut device = FaultDevice::new(memory, n);
+    let (went, _) = four_calls(&mut device);
+    let written = device.into_inner();
+    Ok((went, written.bytes().get(2).copied()))
 }
 
 #[test]
 fn each_call_fails_in_turn(rt: HostRuntime) -> Result<(), Fail> {
-    for (n, went) in [
-        (0, [false, false, false, false]),
-        (1, [false, false, false, false]),
-        (2, [true, false, false, false]),
-        (3, [true, true, false, false]),
-        (4, [true, true, true, false]),
-        (5, [true, true, true, true]),
-    ] {
-        let memory = MemDevice::new(rt.alloc(), vec![in rt.alloc(); 0u8; 8]?, 2, 8)?;
-        let mut device = FaultDevice::new(memory, n);
-        assert_eq!(rt; four_calls(&mut device).0, went, "at {n}");
-        let written = device.into_inner();
-        let first = written.bytes().get(2).copied();
-        assert_eq!(rt; first, Some(if n > 1 { b'a' } else { 0 }), "at {n}");
+    for n in 0..6u64 {
+        let (went, third) = failing_at(rt.alloc(), n)?;
+        assert!(rt; went == [n > 1, n > 2, n > 3, n > 4], "at {n}");
+        assert!(rt; third == Some(if n > 1 { b'a' } else { 0 }), "at {n}");
     }
     Ok(())
 }

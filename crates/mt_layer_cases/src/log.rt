@@ -111,27 +111,29 @@ fn each_call_of_a_force_fails_in_turn(rt: HostRuntime) -> Result<(), Fail> {
     fails_at(&rt, rt.alloc(), 10, &[MORE, MORE, MORE, FAILED, FAILED])
 }
 
-/// Appends two commits while the batch of a first one is being forced.
+/// Appends two commits while the batch of a first one is being forced, whose other steps follow.
 fn append_beside_a_force<D: Device>(
-    rt: &impl Abort,
     log: &mut Log,
     device: &mut D,
-) -> Result<(), Refusal>
+) -> Result<([LogPos; 3], [Result<Forced, Refusal>; 4]), Refusal>
     requires on { IsOn D.seen D.may_leave log.old device.old }
     requires size { area_size log.old ≡ 52 }
     requires used { used log.old ≡ 5 }
     ensures on { OnOk result (IsOn D.seen D.may_leave log.new device.new) }
 {
-    assert_eq!(rt; append_commit(log, device, 1)?, LogPos::new(1));
-    assert_eq!(rt; log.force_step(device), MORE);
-    assert_eq!(rt; append_commit(log, device, 2)?, LogPos::new(2));
-    assert_eq!(rt; append_commit(log, device, 3)?, LogPos::new(3));
-    assert_eq!(rt; log.used(), 47);
-    assert_eq!(rt; log.force_step(device), MORE);
-    assert_eq!(rt; log.force_step(device), MORE);
-    let durable = Ok(Forced::Durable(LogPos::new(1)));
-    assert_eq!(rt; log.force_step(device), durable);
-    Ok(())
+    let first = append_commit(log, device, 1)?;
+    let begun = log.force_step(device);
+    let others = [
+        append_commit(log, device, 2)?,
+        append_commit(log, device, 3)?,
+    ];
+    let steps = [
+        begun,
+        log.force_step(device),
+        log.force_step(device),
+        log.force_step(device),
+    ];
+    Ok(([first, others[0], others[1]], steps))
 }
 
 /// Forces the batch of both.
@@ -155,7 +157,9 @@ fn records_wait_for_the_next_batch(rt: HostRuntime) -> Result<(), Fail> {
     let mut device = MemDevice::new(rt.alloc(), vec![in rt.alloc(); 0u8; 64]?, 4, 64)?;
     assert_eq!(rt; device.len(), 64);
     let mut log = begin_area(rt.alloc(), &mut device, place())?;
-    append_beside_a_force(&rt, &mut log, &mut device)?;
+    let (appended, steps) = append_beside_a_force(&mut log, &mut device)?;
+    assert!(rt; appended == [LogPos::new(1), LogPos::new(2), LogPos::new(3)]);
+    assert!(rt; steps == [MORE, MORE, MORE, Ok(Forced::Durable(LogPos::new(1)))]);
     force_both(&rt, &mut log, &mut device);
     let batch = b"\xa5\0\0\0\x12\x04\0\0\0\0\0\0\0\x02\x04\0\0\0\0\0\0\0\x03\0".as_slice();
     expect_bytes(&rt, &device, 27, batch);

@@ -46,25 +46,36 @@ fn reading_ends_at_the_first_closed_gate(rt: HostRuntime) -> Result<(), Fail> {
     Ok(())
 }
 
+/// Areas, and what a scan of each answers: how many batches there are, or the first place that breaks the grammar.
+const AREAS: [(&[u8], Result<usize, Refusal>); 6] = [
+    // no first batch
+    (b"\0", Err(Refusal::BadFormat(8))),
+    // a commit in the first
+    (
+        b"\xa5\0\0\0\x09\x04\0\0\0\0\0\0\0\x01\0",
+        Err(Refusal::BadFormat(8)),
+    ),
+    // the next gate is the area's end
+    (b"\xa5\0\0\0\0\xa5\0\0\0\x2a", Err(Refusal::BadFormat(13))),
+    // no row of records
+    (
+        b"\xa5\0\0\0\0\xa5\0\0\0\x01\x09\0",
+        Err(Refusal::BadFormat(13)),
+    ),
+    // committed twice
+    (
+        b"\xa5\0\0\0\0\xa5\0\0\0\x09\x04\0\0\0\0\0\0\0\x01\xa5\0\0\0\x09\x04\0\0\0\0\0\0\0\x01\0",
+        Err(Refusal::BadFormat(27)),
+    ),
+    // another gate
+    (b"\xa5\0\0\0\0\x5a\0\0\0\x2a", Ok(1)),
+];
+
 #[test]
 fn the_first_place_that_breaks_the_grammar_is_named(rt: HostRuntime) -> Result<(), Fail> {
-    let alloc = rt.alloc();
-    let no_first_batch = answer(&rt, alloc, b"\0")?;
-    assert_eq!(rt; no_first_batch, Err(Refusal::BadFormat(8)));
-    let commit_in_the_first = answer(&rt, alloc, b"\xa5\0\0\0\x09\x04\0\0\0\0\0\0\0\x01\0")?;
-    assert_eq!(rt; commit_in_the_first, Err(Refusal::BadFormat(8)));
-    let next_gate_at_the_end = answer(&rt, alloc, b"\xa5\0\0\0\0\xa5\0\0\0\x2a")?;
-    assert_eq!(rt; next_gate_at_the_end, Err(Refusal::BadFormat(13)));
-    let no_row_of_records = answer(&rt, alloc, b"\xa5\0\0\0\0\xa5\0\0\0\x01\x09\0")?;
-    assert_eq!(rt; no_row_of_records, Err(Refusal::BadFormat(13)));
-    let committed_twice = answer(
-        &rt,
-        alloc,
-        b"\xa5\0\0\0\0\xa5\0\0\0\x09\x04\0\0\0\0\0\0\0\x01\xa5\0\0\0\x09\x04\0\0\0\0\0\0\0\x01\0",
-    )?;
-    assert_eq!(rt; committed_twice, Err(Refusal::BadFormat(27)));
-    let another_gate = answer(&rt, alloc, b"\xa5\0\0\0\0\x5a\0\0\0\x2a")?;
-    assert_eq!(rt; another_gate, Ok(1));
+    for (area, wanted) in &AREAS {
+        assert!(rt; answer(&rt, rt.alloc(), area)? == *wanted);
+    }
     Ok(())
 }
 
@@ -100,12 +111,10 @@ fn left_at(rt: &impl Abort, alloc: Global, n: u64) -> Result<Result<usize, Refus
 
 #[test]
 fn a_batch_is_found_once_its_gate_is_open(rt: HostRuntime) -> Result<(), Fail> {
-    let alloc = rt.alloc();
-    assert_eq!(rt; left_at(&rt, alloc, 7)?, Ok(1));
-    assert_eq!(rt; left_at(&rt, alloc, 8)?, Ok(1));
-    assert_eq!(rt; left_at(&rt, alloc, 9)?, Ok(1));
-    assert_eq!(rt; left_at(&rt, alloc, 10)?, Ok(2));
-    assert_eq!(rt; left_at(&rt, alloc, 11)?, Ok(2));
+    for n in 7..12 {
+        let found = left_at(&rt, rt.alloc(), n)?;
+        assert!(rt; found == Ok(if n < 10 { 1 } else { 2 }));
+    }
     Ok(())
 }
 

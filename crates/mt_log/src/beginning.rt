@@ -15,11 +15,11 @@ ghost use Rattle.mt_log.specs.declared.stage.Stage.TheVariants.{Forcing};
 
 use crate::area::AreaPlace;
 use crate::forcing::close_text;
-use crate::log::{Forced, Log, head_alone};
+use crate::log::{Forced, Log, head_alone, push_text};
 use crate::stage::{Stage, Step};
 use mt_base::{History, Refusal};
 use mt_disk::{Device, DeviceFault};
-use mt_frame::{CLOSED_GATE, Record, push_record};
+use mt_frame::{CLOSED_GATE, Record};
 use std::alloc::Global;
 
 // What a force of these records writes behind the gate, and the records as a batch.
@@ -34,8 +34,7 @@ fn first_batch(alloc: Global, records: &[Record]) -> Result<(Vec<u8>, History<Re
     let mut text = head_alone(alloc)?;
     let mut batch = History::new();
     for entry in records {
-        text.reserve(entry.length() + 1)?;
-        push_record(&mut text, entry)?;
+        push_text(&mut text, entry)?;
         batch = batch.and(entry);
     }
     close_text(&mut text);

@@ -1,5 +1,5 @@
 // The log: records wait for a force, which makes them durable a batch at a time.
-ghost use Rattle.std.specs.Prelude.{◌≡◌, ◌+◌, ◌-◌, ◌*◌, ◌<◌, ◌≤◌, ◌^◌, ◌++◌, ◌∷◌, [], ℕ, true, false, length, map, drop, vec_len, vec_capacity, IfOk, IfErr, OnOk, OnErr, IsOk, IsErr};
+ghost use Rattle.std.specs.Prelude.{◌≡◌, ◌+◌, ◌-◌, ◌*◌, ◌<◌, ◌≤◌, ◌++◌, ◌∷◌, [], ℕ, true, false, length, map, drop, vec_len, vec_capacity, IfOk, IfErr, OnOk, OnErr, IsOk, IsErr};
 ghost use Rattle.mt_base.specs.declared.refusal.Refusal.{Refusal};
 ghost use Rattle.mt_frame.specs.Grammar.{IsRecord, record_text, body_text};
 ghost use Rattle.mt_frame.specs.Lengths.{record_length};
@@ -72,8 +72,7 @@ pub(crate) fn head_alone(alloc: Global) -> Result<Vec<u8>, AllocError>
 
 // Puts a record's text behind the others, and keeps room for a gate behind it.
 pub(crate) fn push_text(text: &mut Vec<u8>, entry: &Record) -> Result<(), AllocError>
-    requires grammar { IsRecord entry.now }
-    requires short { record_length entry.now < 2 ^ 32 }
+    requires { IsRecord entry.now }
     ensures ok { OnOk result (text.new.items ≡ text.old.items ++ record_text entry.now) }
     ensures gate_room { OnOk result (vec_len text.new < vec_capacity text.new) }
     ensures err { OnErr result (text.new.items ≡ text.old.items) }

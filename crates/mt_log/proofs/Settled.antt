@@ -55,7 +55,7 @@ leaves_coming seen may start end next bs b w Idle a c left = inl (next, a.front 
 leaves_coming seen may start end next bs b w (Forcing step) a c left = leaves seen may start end next bs b (Forcing step) a c left
 leaves_coming seen may start end next bs b w Failed a c left = leaves seen may start end next bs b Failed a c left
 
-same_area : (seen : List ℕ) (may : List ℕ → Type 0) (start start2 end end2 next next2 : ℕ) (bs bs2 : List (List Record)) (b b2 : List Record) (stage stage2 : Stage)
+pub same_area : (seen : List ℕ) (may : List ℕ → Type 0) (start start2 end end2 next next2 : ℕ) (bs bs2 : List (List Record)) (b b2 : List Record) (stage stage2 : Stage)
     → start2 ≡ start → end2 ≡ end → next2 ≡ next → bs2 ≡ bs → b2 ≡ b → stage2 ≡ stage → Area seen may start end next bs b stage → Area seen may start2 end2 next2 bs2 b2 stage2
 same_area seen may start start2 end end2 next next2 bs bs2 b b2 stage stage2 s e n l f t a =
     subst (λ (x : ℕ). Area seen may x end2 next2 bs2 b2 stage2) (sym s)

@@ -44,6 +44,7 @@ module _ (past : List State) (old : State) (may : List ℕ → Type 0) where
   unfolding later
   elapses_later = record {
     later = omega (arith, length-append past (old ∷ []));
+    at_once = omega (arith, length-append past (old ∷ []));
     nothing_else = λ t c le left. ⊎_elim (λ now. inr now) (λ had. inl (split t c le had)) left;
     keeps = λ t c le left. inr (joined t c le left);
   }

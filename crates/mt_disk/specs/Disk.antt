@@ -1,6 +1,6 @@
 -- What the calls of a device do to its content, and what a crash may leave of it. All of it goes by
 -- single bytes, since facts on ranges then come from facts on indexes.
-use Rattle.std.specs.Prelude.{◌<◌, ◌≡◌, ◌⊎◌, ℕ, ◌≤◌, List, Result, IsErr, IsOk}
+use Rattle.std.specs.Prelude.{◌<◌, ◌≡◌, ◌⊎◌, ℕ, ◌+◌, ◌≤◌, List, Result, IsErr, IsOk}
 pub use Rattle.mt_base.specs.Ranges.{Has, Torn, Wrote, Apart}
 
 -- whatever a crash may leave now comes by such a step from what it might have left before
@@ -15,10 +15,11 @@ Leaves outcomes P = (c : List ℕ) → outcomes c → P c
 abbrev pub Only : List ℕ → (List ℕ → Type 0) → Type 0
 Only content outcomes = (c : List ℕ) → outcomes c → c ≡ content
 
--- One call's time: what a crash since some earlier moment might have left is what it might have left
--- before the call, or what it may leave after it.
+-- The time of one call at most: a moment passes in it at most, so that two calls have no such time; and what a crash since
+-- some earlier moment might have left is what it might have left before the call, or what it may leave after it.
 pub record Elapses (before now : ℕ) (past since : ℕ → List ℕ → Type 0) (may_leave : List ℕ → Type 0) : Type 0 where
   pub later : before ≤ now
+  pub at_once : now ≤ before + 1
   pub nothing_else : (t : ℕ) (c : List ℕ) → t ≤ before → since t c → past t c ⊎ may_leave c
   pub keeps : (t : ℕ) (c : List ℕ) → t ≤ before → past t c → since t c
 

@@ -42,7 +42,8 @@ pub trait Device {
     /// What a crash at this moment may leave.
     ghost may_leave: { Self → List ℕ → Type 0 };
 
-    /// The moment, as a number that never falls.
+    /// The moment, as a number that never falls. In one call it rises by 1 at most, and this is all that code
+    /// over any device knows: so what may rise it by 1 at most makes one call at most.
     ghost moment: { Self → ℕ };
 
     /// What a crash at this moment or at one since that moment might have left, within a call too.

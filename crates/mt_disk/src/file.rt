@@ -1,6 +1,7 @@
 ghost use Rattle.std.specs.Prelude.{◌≡◌, ℕ, List, ◌+◌, ◌*◌, ◌<◌, ◌≤◌, ◌⊎◌, length, replicate, IsTrue, IfOk, IfErr, OnOk, OnErr, IsOk, IsErr};
 ghost use Rattle.mt_disk.specs.Disk.{Has, Only, Follows, Torn, Wrote, Elapses, HasCause};
-ghost use Rattle.mt_disk.specs.Memory.{content, MayLeave, moment_of, left_by, failures_of, writes_left, bytes_left};
+ghost use Rattle.mt_disk.specs.Memory.{content, MayLeave, moment_of, left_by, failures_of};
+ghost use Rattle.mt_disk.specs.File.{IsFreshCopy};
 
 use crate::{Device, DeviceFault, MemDevice};
 use mt_base::limits::PAGE_BYTES;
@@ -35,7 +36,7 @@ pub struct FileDevice<F> {
 }
 
 impl<F: Read + Write + Seek + OpenFile + Drop> FileDevice<F> {
-    ghost use Rattle.mt_disk.specs.File.{copy_in, file_failures, IsBroken};
+    ghost use Rattle.mt_disk.specs.File.{copy_in, file_failures, IsBroken, IsFresh, AsksFile};
 
     /// The device in the file of this path, of the file's length. What the file holds is synced
     /// first, so that none of it can be lost any more. Refused by `NoMemory` for want of memory, and
@@ -45,20 +46,11 @@ impl<F: Read + Write + Seek + OpenFile + Drop> FileDevice<F> {
         rt: &R,
         path: &str,
     ) -> Result<FileDevice<F>, Refusal>
-        ensures synced { IfOk result (λ device. Only (content (copy_in device)) (MayLeave (copy_in device))) }
-        ensures quiet { IfOk result (λ device. (failures_of (copy_in device) ≡ 0) × (file_failures device ≡ 0)) }
-        ensures writes { IfOk result (λ device. length (content (copy_in device)) ≤ 4096 * writes_left (copy_in device)) }
-        ensures written { IfOk result (λ device. length (content (copy_in device)) ≤ bytes_left (copy_in device)) }
+        ensures fresh { IfOk result (λ device. IsFresh device) }
         ensures refusals { IfErr result (λ refusal. (refusal ≡ Refusal.NoMemory) ⊎ (refusal ≡ Refusal.DeviceFailed)) }
     {
         let mut file = opened(rt, path)?;
-        settle_file(&mut file)?;
-        let len = length_of(&mut file)?;
-        let mut bytes = vec![in rt.alloc(); 0u8; len as usize]?;
-        read_from_start(&mut file, bytes.as_mut_slice())?;
-        if length_of(&mut file)? != len {
-            return Err(Refusal::DeviceFailed);
-        }
+        let bytes = read_whole(rt.alloc(), &mut file)?;
         let memory = copy_of(rt.alloc(), bytes)?;
         Ok(FileDevice {
             memory,
@@ -77,14 +69,10 @@ impl<F: Read + Write + Seek + OpenFile + Drop> FileDevice<F> {
         len: u64,
     ) -> Result<FileDevice<F>, Refusal>
         ensures content { IfOk result (λ device. content (copy_in device) ≡ replicate len 0) }
-        ensures synced { IfOk result (λ device. Only (content (copy_in device)) (MayLeave (copy_in device))) }
-        ensures quiet { IfOk result (λ device. (failures_of (copy_in device) ≡ 0) × (file_failures device ≡ 0)) }
-        ensures writes { IfOk result (λ device. length (content (copy_in device)) ≤ 4096 * writes_left (copy_in device)) }
-        ensures written { IfOk result (λ device. length (content (copy_in device)) ≤ bytes_left (copy_in device)) }
+        ensures fresh { IfOk result (λ device. IsFresh device) }
         ensures refusals { IfErr result (λ refusal. (refusal ≡ Refusal.NoMemory) ⊎ (refusal ≡ Refusal.DeviceFailed)) }
     {
-        let bytes = vec![in rt.alloc(); 0u8; len as usize]?;
-        let memory = copy_of(rt.alloc(), bytes)?;
+        let memory = zeros(rt.alloc(), len)?;
         let mut file = created(rt, path)?;
         put(&mut file, 0, memory.bytes())?;
         settle_file(&mut file)?;
@@ -106,20 +94,47 @@ impl<F: Read + Write + Seek + OpenFile + Drop> FileDevice<F> {
         self.failures = self.failures.and(&DeviceFault);
         DeviceFault
     }
+
+    /// Puts the bytes into the file alone.
+    fn put_in_file(&mut self, at: u64, bytes: &[u8]) -> Result<(), DeviceFault>
+        ensures { AsksFile self.old self.new result }
+    {
+        if self.broken || put(&mut self.file, at, bytes).is_err() {
+            return Err(self.fail());
+        }
+        Ok(())
+    }
+
+    /// Syncs the file alone.
+    fn sync_in_file(&mut self) -> Result<(), DeviceFault>
+        ensures { AsksFile self.old self.new result }
+    {
+        let len = self.len();
+        if self.broken || sync_file(&mut self.file, len).is_err() {
+            return Err(self.fail());
+        }
+        Ok(())
+    }
 }
 
 /// The device in memory over these bytes, with the room of a file's.
 fn copy_of(alloc: Global, bytes: Vec<u8>) -> Result<MemDevice, AllocError>
     ensures content { IfOk result (λ device. content device ≡ bytes.items) }
-    ensures synced { IfOk result (λ device. Only (content device) (MayLeave device)) }
-    ensures quiet { IfOk result (λ device. failures_of device ≡ 0) }
-    ensures writes { IfOk result (λ device. length (content device) ≤ 4096 * writes_left device) }
-    ensures written { IfOk result (λ device. length (content device) ≤ bytes_left device) }
+    ensures fresh { IfOk result (λ device. IsFreshCopy device) }
 {
     let len = bytes.len();
     let writes = len / PAGE_BYTES + SPARE_WRITES;
     let written = len.saturating_add(SPARE_WRITES * PAGE_BYTES);
     MemDevice::new(alloc, bytes, writes, written)
+}
+
+/// The device in memory of so many bytes, all of them 0.
+fn zeros(alloc: Global, len: u64) -> Result<MemDevice, AllocError>
+    ensures content { IfOk result (λ device. content device ≡ replicate len 0) }
+    ensures fresh { IfOk result (λ device. IsFreshCopy device) }
+{
+    let bytes = vec![in alloc; 0u8; len as usize]?;
+    copy_of(alloc, bytes)
 }
 
 fn opened<R: Files>(rt: &R, path: &str) -> Result<R::File, DeviceFault> {
@@ -147,6 +162,23 @@ fn read_from_start<F: Read + Seek>(file: &mut F, buf: &mut [u8]) -> Result<(), D
     file.seek(SeekFrom::Start(0))?;
     file.read_exact(buf)?;
     Ok(())
+}
+
+/// The bytes of the file, which are synced first.
+fn read_whole<F: Read + Write + Seek + OpenFile>(
+    alloc: Global,
+    file: &mut F,
+) -> Result<Vec<u8>, Refusal>
+    ensures { IfErr result (λ refusal. (refusal ≡ Refusal.NoMemory) ⊎ (refusal ≡ Refusal.DeviceFailed)) }
+{
+    settle_file(file)?;
+    let len = length_of(file)?;
+    let mut bytes = vec![in alloc; 0u8; len as usize]?;
+    read_from_start(file, bytes.as_mut_slice())?;
+    if length_of(file)? != len {
+        return Err(Refusal::DeviceFailed);
+    }
+    Ok(bytes)
 }
 
 fn put<F: Write + Seek>(file: &mut F, at: u64, bytes: &[u8]) -> Result<(), DeviceFault> {
@@ -220,10 +252,7 @@ impl<F: Read + Write + Seek + OpenFile + Drop> Device for FileDevice<F> {
         ensures broken { IsBroken self.old → IsErr result × IsBroken self.new }
     {
         self.memory.write_at(at, bytes)?;
-        if self.broken || put(&mut self.file, at, bytes).is_err() {
-            return Err(self.fail());
-        }
-        Ok(())
+        self.put_in_file(at, bytes)
     }
 
     fn sync(&mut self) -> Result<(), DeviceFault>
@@ -235,10 +264,7 @@ impl<F: Read + Write + Seek + OpenFile + Drop> Device for FileDevice<F> {
         ensures broken { IsBroken self.old → IsErr result × IsBroken self.new }
         ensures breaks { OnErr result (IsBroken self.new) }
     {
-        let len = self.len();
-        if self.broken || sync_file(&mut self.file, len).is_err() {
-            return Err(self.fail());
-        }
+        self.sync_in_file()?;
         self.memory.sync()
     }
 }

@@ -8,7 +8,7 @@ ghost use Rattle.mt_frame.specs.Codec.{Gives, number_at, within_at, part_at, byt
 use std::alloc::{AllocError, AllocFailed};
 
 // Why nothing was read: memory ran out, or no text of the grammar stands there.
-#[derive(Clone, Copy, Debug, PartialEq, Eq)]
+#[derive(Clone, Copy)]
 pub(crate) enum ReadError {
     Memory,
     Wrong,

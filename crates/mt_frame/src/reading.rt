@@ -308,11 +308,18 @@ fn record_of(alloc: Global, bytes: &[u8]) -> Result<(Record, &[u8]), ReadError>
 
 // ---- batches
 
+// An open gate.
+fn gate_of(bytes: &[u8]) -> Result<(u8, &[u8]), ReadError>
+    ensures { Gives (λ x. (x.0, x.1.now)) result (byte_at 165 165 bytes.now) }
+{
+    byte_within(bytes, OPEN_GATE, OPEN_GATE)
+}
+
 #[tactic(auto, unfolding(crate::specs::Codec::within_at, crate::specs::Codec::counted_at, crate::specs::Readers::framed_at))]
 fn framed_of(bytes: &[u8]) -> Result<(&[u8], &[u8]), ReadError>
     ensures { Gives (λ x. (x.0.now, x.1.now)) result (framed_at bytes.now) }
 {
-    let (_gate, rest) = byte_within(bytes, OPEN_GATE, OPEN_GATE)?;
+    let (_gate, rest) = gate_of(bytes)?;
     let (n, rest) = u32_at(rest)?;
     let (body, rest) = part_of(rest, n as usize)?;
     Ok((body, rest))

@@ -1,11 +1,11 @@
 -- What a crash leaves of a log's area, in the words of its callers.
-use Rattle.std.proofs.Common.{◌≡◌, ℕ, ◌<◌, List, refl, subst, arith, false}
+use Rattle.std.proofs.Common.{◌≡◌, inl, inr, ℕ, ◌-◌, ◌<◌, List, [], refl, subst, arith, false}
 use Rattle.mt_disk.specs.Disk.{LeavesOnly}
 use Rattle.mt_disk.proofs.Frame.{runs_both, leaves_more}
 use Rattle.mt_frame.specs.declared.records.Record.{Record}
 use Rattle.mt_log.specs.Batch.{Scans}
-use Rattle.mt_log.specs.Area.{Area, ScansWithOrWithout}
-use Rattle.mt_log.specs.Words.{durable_batches, in_flight, area_start, area_end, calls_left, calls_after, has_failed, is_failed, coming, batch_of, IsOn}
+use Rattle.mt_log.specs.Area.{Area, ScansWithOrWithout, TornFrom, AreaBegins}
+use Rattle.mt_log.specs.Words.{durable_batches, in_flight, area_start, area_end, area_size, calls_left, calls_after, has_failed, is_failed, coming, batch_of, IsOn}
 use Rattle.mt_log.specs.declared.log.Log.{Log}
 use Rattle.mt_log.specs.declared.stage.Step.{Step}
 use Rattle.mt_log.specs.declared.stage.Step.TheVariants.{WriteBody, SyncBody, WriteGate, SyncGate}
@@ -62,3 +62,20 @@ scans_more moment left_since old mid new start start2 end end2 bs bs2 b b2 s e l
     (subst (λ (k : ℕ). ScansWithOrWithout start2 k bs b c) e
     (subst (λ (k : List (List Record)). ScansWithOrWithout start2 end2 k b c) l
     (subst (λ (k : List Record). ScansWithOrWithout start2 end2 bs2 k c) n scans)))))
+
+-- an area begins: its first gate is closed, and then its batch is forced
+pub area_begins : {D : Type 0} (moment : D → ℕ) (left_since : D → ℕ → List ℕ → Type 0) (old mid new : D) (contents : List ℕ → Type 0) (start end s e : ℕ) (images b : List Record) (bs : List (List Record)) → s ≡ start → e ≡ end → bs ≡ [] → b ≡ images
+    → LeavesOnly moment left_since old mid (TornFrom contents start 1) → LeavesOnly moment left_since mid new (ScansWithOrWithout s e bs b) → LeavesOnly moment left_since old new (AreaBegins contents start end images)
+area_begins moment left_since old mid new contents start end s e images b bs s_is e_is bs_is b_is first second =
+    runs_both moment left_since old mid new (AreaBegins contents start end images)
+    (leaves_more moment left_since old mid (TornFrom contents start 1) (AreaBegins contents start end images) first (λ c torn. inl torn))
+    (leaves_more moment left_since mid new (ScansWithOrWithout s e bs b) (AreaBegins contents start end images) second
+    (λ c scans. inr (subst (λ (k : ℕ). ScansWithOrWithout k end [] images c) s_is
+    (subst (λ (k : ℕ). ScansWithOrWithout s k [] images c) e_is
+    (subst (λ (k : List (List Record)). ScansWithOrWithout s e k images c) bs_is
+    (subst (λ (k : List Record). ScansWithOrWithout s e bs k c) b_is scans))))))
+
+-- the area's size is from where it begins to where it ends
+pub size_of : (log : Log) → area_size log ≡ area_end log - area_start log
+unfolding area_size area_start area_end
+size_of log = refl

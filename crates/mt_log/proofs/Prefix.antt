@@ -199,3 +199,13 @@ pub sound_moved : (pages : ℕ) (old new : Log) → ((durable_batches new ≡ du
     → IsSound pages old → IsSound pages new
 sound_moved pages old new (inl same) sound = sound_same pages old new same.0 same.1 sound
 sound_moved pages old new (inr more) sound = sound_durable pages old new more.0 more.1 more.2 sound
+
+-- a log with this first batch alone
+pub sound_first : (pages : ℕ) (log : Log) (b : List Record) → durable_batches log ≡ b ∷ [] → durable log ≡ b → in_flight log ≡ [] → waiting log ≡ [] → AreRecords pages b → MayFollow true [] b → IsSound pages log
+sound_first pages log b batches durable_is flying waits each may = record {
+  begun = let some = ap length batches in omega (arith, some);
+  each = subst (AreRecords pages) (sym (ap (λ (l : List Record). l ++ (in_flight log ++ waiting log)) durable_is ∙ ap (λ (l : List Record). b ++ (l ++ waiting log)) flying ∙ ap (λ (l : List Record). b ++ l) waits ∙ append-nil b)) each;
+  rules = subst IsHistory
+      (sym (ap (λ (l : List (List Record)). l ++ (in_flight log ++ waiting log) ∷ []) batches ∙ ap (λ (l : List Record). b ∷ (l ++ waiting log) ∷ []) flying ∙ ap (λ (l : List Record). b ∷ l ∷ []) waits))
+      (may, (tt, tt));
+}

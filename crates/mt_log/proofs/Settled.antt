@@ -1,10 +1,11 @@
 -- What a force has come to after a device call, and what it has kept.
-use Rattle.std.proofs.Common.{◌≡◌, ◌⊎◌, true, inl, inr, ℕ, ◌+◌, ◌<◌, List, [], ◌∷◌, ◌++◌, length, refl, sym, ◌∙◌, ap, subst, arith, map, length-append, append_assoc, append-nil, Result, Ok, Err, OnOk, OnErr, IsErr, IfOk}
+use Rattle.std.proofs.Common.{◌≡◌, ◌⊎◌, true, inl, inr, ℕ, ◌+◌, ◌-◌, ◌*◌, ◌<◌, List, vec_len, [], ◌∷◌, ◌++◌, length, refl, sym, ◌∙◌, ap, subst, arith, map, length-append, append_assoc, append-nil, Result, Ok, Err, OnOk, OnErr, IsErr, IfOk}
 use Rattle.mt_base.specs.declared.refusal.Refusal.{Refusal}
 use Rattle.mt_frame.specs.declared.records.Record.{Record}
 use Rattle.mt_frame.specs.Grammar.{body_text}
 use Rattle.mt_log.specs.Batch.{joined}
 use Rattle.mt_log.specs.Area.{Area, AreaAfter, ScansWithOrWithout, step_behind}
+use Rattle.mt_log.specs.Forcing.{IsCall}
 use Rattle.mt_log.specs.Words.{has_failed, is_failed, Moves, durable_batches, batches_after, durable, in_flight, waiting, used, calls_left, calls_after, IsStep, AreaOf, batch_of}
 use Rattle.mt_log.specs.declared.log.Log.{Log}
 use Rattle.mt_log.specs.declared.log.Forced.{Forced}
@@ -54,7 +55,7 @@ leaves_coming seen may start end next bs b w Idle a c left = inl (next, a.front 
 leaves_coming seen may start end next bs b w (Forcing step) a c left = leaves seen may start end next bs b (Forcing step) a c left
 leaves_coming seen may start end next bs b w Failed a c left = leaves seen may start end next bs b Failed a c left
 
-same_area : (seen : List ℕ) (may : List ℕ → Type 0) (start start2 end end2 next next2 : ℕ) (bs bs2 : List (List Record)) (b b2 : List Record) (stage stage2 : Stage)
+pub same_area : (seen : List ℕ) (may : List ℕ → Type 0) (start start2 end end2 next next2 : ℕ) (bs bs2 : List (List Record)) (b b2 : List Record) (stage stage2 : Stage)
     → start2 ≡ start → end2 ≡ end → next2 ≡ next → bs2 ≡ bs → b2 ≡ b → stage2 ≡ stage → Area seen may start end next bs b stage → Area seen may start2 end2 next2 bs2 b2 stage2
 same_area seen may start start2 end end2 next next2 bs bs2 b b2 stage stage2 s e n l f t a =
     subst (λ (x : ℕ). Area seen may x end2 next2 bs2 b2 stage2) (sym s)
@@ -64,35 +65,31 @@ same_area seen may start start2 end end2 next next2 bs bs2 b b2 stage stage2 s e
     (subst (λ (x : List Record). Area seen may start end next bs x stage2) (sym f)
     (subst (λ (x : Stage). Area seen may start end next bs b x) (sym t) a)))))
 
-module _ (old new : Log) (step : Step) (place : new.place ≡ old.place) where
-  pub settled : {T E : Type 0} (done : Result T E) (result : Result Forced Refusal) (seen : List ℕ) (may : List ℕ → Type 0) → old.stage ≡ Forcing step
+module _ (old new : Log) (step : Step) where
+  pub settled : {T E : Type 0} (done : Result T E) (result : Result Forced Refusal) (seen : List ℕ) (may : List ℕ → Type 0)
       → OnOk done (AreaAfter step seen may old.place.start old.place.end old.next (batches_in old) old.in_flight.items)
       → OnErr done (Area seen may old.place.start old.place.end old.next (batches_in old) old.in_flight.items Failed)
-      → (IsErr result → IsErr done) → (IsErr done → IsErr result)
-      → (result ≡ Ok More → (step ≡ SyncGate → ⊥) × (new.stage ≡ Forcing (step_behind step)) × (new.next ≡ old.next) × (new.batches ≡ old.batches) × (new.in_flight ≡ old.in_flight))
-      → ((pos : ℕ) → result ≡ Ok (Durable pos) → (step ≡ SyncGate) × (new.stage ≡ Idle) × (new.next ≡ old.behind) × (new.batches.items ≡ old.batches.items ++ old.in_flight ∷ []) × (new.in_flight.items ≡ []) × (pos ≡ old.batched))
-      → (result ≡ Ok Nothing → ⊥)
-      → OnErr result ((new.stage ≡ Failed) × (new.next ≡ old.next) × (new.batches ≡ old.batches) × (new.in_flight ≡ old.in_flight))
-      → AreaOf seen may new
-  settled done (Ok More) seen may stage good bad from to way arrived not err =
-      let w = way refl in
+      → (IsErr result → IsErr done) → (IsErr done → IsErr result) → IsCall old step result new → old.stage ≡ Forcing step → AreaOf seen may new
+  settled done (Ok More) seen may good bad from to call stage =
+      let w = call.came in
       let a = of_ok done (λ is. no_err More (to is)) good in
       same_area seen may old.place.start new.place.start old.place.end new.place.end old.next new.next (batches_in old) (batches_in new) old.in_flight.items new.in_flight.items (Forcing (step_behind step)) new.stage
-      (ap (λ p. p.start) place) (ap (λ p. p.end) place) w.2 (ap (λ h. map (λ batch. batch.items) h.items) w.3) (ap (λ h. h.items) w.4) w.1
-      (after_step seen may old.place.start old.place.end old.next (batches_in old) old.in_flight.items step w.0 a)
-  settled done (Ok (Durable pos)) seen may stage good bad from to way arrived not err =
-      let w = arrived pos refl in
+      (ap (λ p. p.start) call.place) (ap (λ p. p.end) call.place) w.next (ap (λ h. map (λ batch. batch.items) h.items) w.batches) (ap (λ h. h.items) w.in_flight) w.stage
+      (after_step seen may old.place.start old.place.end old.next (batches_in old) old.in_flight.items step w.not_last a)
+  settled done (Ok (Durable pos)) seen may good bad from to call stage =
+      let w = call.came in
       let a = of_ok done (λ is. no_err (Durable pos) (to is)) good in
       let behind = (old.under_way (λ is. cc)).place in
-      let more : batches_in new ≡ batches_in old ++ old.in_flight.items ∷ [] = ap (λ l. map (λ batch. batch.items) l) w.3 ∙ batches_push old.batches.items old.in_flight in
+      let more : batches_in new ≡ batches_in old ++ old.in_flight.items ∷ [] = ap (λ l. map (λ batch. batch.items) l) w.batches ∙ batches_push old.batches.items old.in_flight in
       same_area seen may old.place.start new.place.start old.place.end new.place.end (old.next + 5 + length (body_text old.in_flight.items)) new.next (batches_in old ++ old.in_flight.items ∷ []) (batches_in new) [] new.in_flight.items Idle new.stage
-      (ap (λ p. p.start) place) (ap (λ p. p.end) place) (w.2 ∙ behind) more w.4 w.1
-      (subst (λ (x : Step). AreaAfter x seen may old.place.start old.place.end old.next (batches_in old) old.in_flight.items) w.0 a)
-  settled done (Ok Nothing) seen may stage good bad from to way arrived not err = absurd (not refl)
-  settled done (Err e) seen may stage good bad from to way arrived not err =
+      (ap (λ p. p.start) call.place) (ap (λ p. p.end) call.place) (w.next ∙ behind) more w.in_flight w.stage
+      (subst (λ (x : Step). AreaAfter x seen may old.place.start old.place.end old.next (batches_in old) old.in_flight.items) w.last a)
+  settled done (Ok Nothing) seen may good bad from to call stage = absurd call.came
+  settled done (Err e) seen may good bad from to call stage =
       let a = of_err done (from refl) bad in
+      let w = call.came in
       same_area seen may old.place.start new.place.start old.place.end new.place.end old.next new.next (batches_in old) (batches_in new) old.in_flight.items new.in_flight.items Failed new.stage
-      (ap (λ p. p.start) place) (ap (λ p. p.end) place) err.1 (ap (λ h. map (λ batch. batch.items) h.items) err.2) (ap (λ h. h.items) err.3) err.0 a
+      (ap (λ p. p.start) call.place) (ap (λ p. p.end) call.place) w.next (ap (λ h. map (λ batch. batch.items) h.items) w.batches) (ap (λ h. h.items) w.in_flight) w.stage a
 
 pub joined_push : (bs : List (List Record)) (b : List Record) → joined (bs ++ b ∷ []) ≡ joined bs ++ b
 joined_push [] b = append-nil b
@@ -116,103 +113,90 @@ one_fewer step not old new o n = ap (λ (s : Stage). calls_after s + 1) n ∙ (s
 some_after : (step : Step) → (step ≡ SyncGate → ⊥) → (new : Stage) → new ≡ Forcing (step_behind step) → 0 < calls_after new
 some_after step not new n = subst (λ (s : Stage). 0 < calls_after s) (sym n) (step_fewer step not).1
 
-module _ (old new : Log) (step : Step) (place : new.place ≡ old.place) (waits : new.waiting ≡ old.waiting) where
-  pub appended_kept : (result : Result Forced Refusal)
-      → (result ≡ Ok More → (step ≡ SyncGate → ⊥) × (new.stage ≡ Forcing (step_behind step)) × (new.next ≡ old.next) × (new.batches ≡ old.batches) × (new.in_flight ≡ old.in_flight))
-      → ((pos : ℕ) → result ≡ Ok (Durable pos) → (step ≡ SyncGate) × (new.stage ≡ Idle) × (new.next ≡ old.behind) × (new.batches.items ≡ old.batches.items ++ old.in_flight ∷ []) × (new.in_flight.items ≡ []) × (pos ≡ old.batched))
-      → (result ≡ Ok Nothing → ⊥)
-      → OnErr result ((new.stage ≡ Failed) × (new.next ≡ old.next) × (new.batches ≡ old.batches) × (new.in_flight ≡ old.in_flight))
-      → durable new ++ (in_flight new ++ waiting new) ≡ durable old ++ (in_flight old ++ waiting old)
+module _ (old new : Log) (step : Step) where
+  pub appended_kept : (result : Result Forced Refusal) → IsCall old step result new → durable new ++ (in_flight new ++ waiting new) ≡ durable old ++ (in_flight old ++ waiting old)
   unfolding durable in_flight waiting
-  appended_kept (Ok More) way arrived not err = let w = way refl in
-      ap (λ h. joined (map (λ batch. batch.items) h.items) ++ (new.in_flight.items ++ new.waiting.items)) w.3
-      ∙ ap (λ h. joined (batches_in old) ++ (h.items ++ new.waiting.items)) w.4
-      ∙ ap (λ h. joined (batches_in old) ++ (old.in_flight.items ++ h.items)) waits
-  appended_kept (Ok (Durable pos)) way arrived not err = let w = arrived pos refl in
-      let more : joined (batches_in new) ≡ joined (batches_in old) ++ old.in_flight.items = ap (λ l. joined (map (λ batch. batch.items) l)) w.3 ∙ ap joined (batches_push old.batches.items old.in_flight) ∙ joined_push (batches_in old) old.in_flight.items in
+  appended_kept (Ok More) call = let w = call.came in
+      ap (λ h. joined (map (λ batch. batch.items) h.items) ++ (new.in_flight.items ++ new.waiting.items)) w.batches
+      ∙ ap (λ h. joined (batches_in old) ++ (h.items ++ new.waiting.items)) w.in_flight
+      ∙ ap (λ h. joined (batches_in old) ++ (old.in_flight.items ++ h.items)) call.waiting
+  appended_kept (Ok (Durable pos)) call = let w = call.came in
+      let more : joined (batches_in new) ≡ joined (batches_in old) ++ old.in_flight.items = ap (λ l. joined (map (λ batch. batch.items) l)) w.batches ∙ ap joined (batches_push old.batches.items old.in_flight) ∙ joined_push (batches_in old) old.in_flight.items in
       ap (λ (l : List Record). l ++ (new.in_flight.items ++ new.waiting.items)) more
-      ∙ ap (λ (l : List Record). (joined (batches_in old) ++ old.in_flight.items) ++ (l ++ new.waiting.items)) w.4
-      ∙ ap (λ h. (joined (batches_in old) ++ old.in_flight.items) ++ h.items) waits
+      ∙ ap (λ (l : List Record). (joined (batches_in old) ++ old.in_flight.items) ++ (l ++ new.waiting.items)) w.in_flight
+      ∙ ap (λ h. (joined (batches_in old) ++ old.in_flight.items) ++ h.items) call.waiting
       ∙ append_assoc (joined (batches_in old)) old.in_flight.items old.waiting.items
-  appended_kept (Ok Nothing) way arrived not err = absurd (not refl)
-  appended_kept (Err e) way arrived not err =
-      ap (λ h. joined (map (λ batch. batch.items) h.items) ++ (new.in_flight.items ++ new.waiting.items)) err.2
-      ∙ ap (λ h. joined (batches_in old) ++ (h.items ++ new.waiting.items)) err.3
-      ∙ ap (λ h. joined (batches_in old) ++ (old.in_flight.items ++ h.items)) waits
+  appended_kept (Ok Nothing) call = absurd call.came
+  appended_kept (Err e) call = let w = call.came in
+      ap (λ h. joined (map (λ batch. batch.items) h.items) ++ (new.in_flight.items ++ new.waiting.items)) w.batches
+      ∙ ap (λ h. joined (batches_in old) ++ (h.items ++ new.waiting.items)) w.in_flight
+      ∙ ap (λ h. joined (batches_in old) ++ (old.in_flight.items ++ h.items)) call.waiting
+
+  -- the bytes in use are the same
+  pub used_kept : (result : Result Forced Refusal) → IsCall old step result new → used new ≡ used old
+  unfolding used
+  used_kept result call =
+      ap (λ p. (new.behind - p.start) + 5 * new.waiting_count + (vec_len new.pending - 4)) call.place
+      ∙ ap (λ (k : ℕ). (k - old.place.start) + 5 * new.waiting_count + (vec_len new.pending - 4)) call.behind
+      ∙ ap (λ (k : ℕ). (old.behind - old.place.start) + 5 * k + (vec_len new.pending - 4)) call.count
+      ∙ ap (λ v. (old.behind - old.place.start) + 5 * old.waiting_count + (vec_len v - 4)) call.pending
 
   -- what the step did, in the words of callers
-  pub step_taken : (result : Result Forced Refusal) → old.stage ≡ Forcing step → used new ≡ used old
-      → (result ≡ Ok More → (step ≡ SyncGate → ⊥) × (new.stage ≡ Forcing (step_behind step)) × (new.next ≡ old.next) × (new.batches ≡ old.batches) × (new.in_flight ≡ old.in_flight))
-      → ((pos : ℕ) → result ≡ Ok (Durable pos) → (step ≡ SyncGate) × (new.stage ≡ Idle) × (new.next ≡ old.behind) × (new.batches.items ≡ old.batches.items ++ old.in_flight ∷ []) × (new.in_flight.items ≡ []) × (pos ≡ old.batched))
-      → (result ≡ Ok Nothing → ⊥)
-      → IfOk result (λ forced. IsStep old forced new)
+  pub step_taken : (result : Result Forced Refusal) → IsCall old step result new → old.stage ≡ Forcing step → IfOk result (λ forced. IsStep old forced new)
   unfolding durable in_flight waiting calls_left
-  step_taken (Ok More) stage same way arrived not = let w = way refl in (
-    ap (λ h. joined (map (λ batch. batch.items) h.items)) w.3,
+  step_taken (Ok More) call stage = let w = call.came in (
+    ap (λ h. joined (map (λ batch. batch.items) h.items)) w.batches,
     (λ zero_left. absurd (more_left step (ap calls_after (sym stage) ∙ zero_left))),
-    (λ some_left. (ap (λ h. h.items) w.4, ap (λ h. h.items) waits, one_fewer step w.0 old.stage new.stage stage w.1, some_after step w.0 new.stage w.1, same)),
+    (λ some_left. (ap (λ h. h.items) w.in_flight, ap (λ h. h.items) call.waiting, one_fewer step w.not_last old.stage new.stage stage w.stage, some_after step w.not_last new.stage w.stage, used_kept (Ok More) call)),
   )
-  step_taken (Ok (Durable pos)) stage same way arrived not = let w = arrived pos refl in
-      let more : joined (batches_in new) ≡ joined (batches_in old) ++ old.in_flight.items = ap (λ l. joined (map (λ batch. batch.items) l)) w.3 ∙ ap joined (batches_push old.batches.items old.in_flight) ∙ joined_push (batches_in old) old.in_flight.items in (
-        ap calls_after (stage ∙ ap Forcing w.0),
-        ap calls_after w.1,
+  step_taken (Ok (Durable pos)) call stage = let w = call.came in
+      let more : joined (batches_in new) ≡ joined (batches_in old) ++ old.in_flight.items = ap (λ l. joined (map (λ batch. batch.items) l)) w.batches ∙ ap joined (batches_push old.batches.items old.in_flight) ∙ joined_push (batches_in old) old.in_flight.items in (
+        ap calls_after (stage ∙ ap Forcing w.last),
+        ap calls_after w.stage,
         more,
-        w.4,
-        ap (λ h. h.items) waits,
-        same,
-        w.5 ∙ old.counted_batched ∙ sym (ap length more ∙ length-append (joined (batches_in old)) old.in_flight.items),
+        w.in_flight,
+        ap (λ h. h.items) call.waiting,
+        used_kept (Ok (Durable pos)) call,
+        w.place ∙ old.counted_batched ∙ sym (ap length more ∙ length-append (joined (batches_in old)) old.in_flight.items),
       )
-  step_taken (Ok Nothing) stage same way arrived not = absurd (not refl)
-  step_taken (Err e) stage same way arrived not = tt
+  step_taken (Ok Nothing) call stage = absurd call.came
+  step_taken (Err e) call stage = tt
 
-  pub batches_kept : (result : Result Forced Refusal)
-      → (result ≡ Ok More → (step ≡ SyncGate → ⊥) × (new.stage ≡ Forcing (step_behind step)) × (new.next ≡ old.next) × (new.batches ≡ old.batches) × (new.in_flight ≡ old.in_flight))
-      → ((pos : ℕ) → result ≡ Ok (Durable pos) → (step ≡ SyncGate) × (new.stage ≡ Idle) × (new.next ≡ old.behind) × (new.batches.items ≡ old.batches.items ++ old.in_flight ∷ []) × (new.in_flight.items ≡ []) × (pos ≡ old.batched))
-      → (result ≡ Ok Nothing → ⊥)
-      → IfOk result (λ forced. durable_batches new ≡ batches_after old forced)
+  pub batches_kept : (result : Result Forced Refusal) → IsCall old step result new → IfOk result (λ forced. durable_batches new ≡ batches_after old forced)
   unfolding durable_batches in_flight
-  batches_kept (Ok More) way arrived not = ap (λ h. map (λ batch. batch.items) h.items) (way refl).3
-  batches_kept (Ok (Durable pos)) way arrived not = ap (λ l. map (λ batch. batch.items) l) (arrived pos refl).3 ∙ batches_push old.batches.items old.in_flight
-  batches_kept (Ok Nothing) way arrived not = absurd (not refl)
-  batches_kept (Err e) way arrived not = tt
+  batches_kept (Ok More) call = ap (λ h. map (λ batch. batch.items) h.items) call.came.batches
+  batches_kept (Ok (Durable pos)) call = ap (λ l. map (λ batch. batch.items) l) call.came.batches ∙ batches_push old.batches.items old.in_flight
+  batches_kept (Ok Nothing) call = absurd call.came
+  batches_kept (Err e) call = tt
 
   -- where the records went
-  pub moved : (result : Result Forced Refusal) → old.stage ≡ Forcing step
-      → (result ≡ Ok More → (step ≡ SyncGate → ⊥) × (new.stage ≡ Forcing (step_behind step)) × (new.next ≡ old.next) × (new.batches ≡ old.batches) × (new.in_flight ≡ old.in_flight))
-      → ((pos : ℕ) → result ≡ Ok (Durable pos) → (step ≡ SyncGate) × (new.stage ≡ Idle) × (new.next ≡ old.behind) × (new.batches.items ≡ old.batches.items ++ old.in_flight ∷ []) × (new.in_flight.items ≡ []) × (pos ≡ old.batched))
-      → (result ≡ Ok Nothing → ⊥)
-      → OnErr result ((new.stage ≡ Failed) × (new.next ≡ old.next) × (new.batches ≡ old.batches) × (new.in_flight ≡ old.in_flight))
-      → Moves old new
+  pub moved : (result : Result Forced Refusal) → IsCall old step result new → old.stage ≡ Forcing step → Moves old new
   unfolding durable in_flight waiting calls_left has_failed
-  moved (Ok More) stage way arrived not err = let w = way refl in inl (
-    ap (λ h. joined (map (λ batch. batch.items) h.items)) w.3,
-    ap (λ h. h.items) w.4,
-    ap (λ h. h.items) waits,
-    (λ zero_left well. absurd (let s = some_after step w.0 new.stage w.1 in omega arith)),
+  moved (Ok More) call stage = let w = call.came in inl (
+    ap (λ h. joined (map (λ batch. batch.items) h.items)) w.batches,
+    ap (λ h. h.items) w.in_flight,
+    ap (λ h. h.items) call.waiting,
+    (λ zero_left well. absurd (let s = some_after step w.not_last new.stage w.stage in omega arith)),
   )
-  moved (Ok (Durable pos)) stage way arrived not err = let w = arrived pos refl in
-      let more : joined (batches_in new) ≡ joined (batches_in old) ++ old.in_flight.items = ap (λ l. joined (map (λ batch. batch.items) l)) w.3 ∙ ap joined (batches_push old.batches.items old.in_flight) ∙ joined_push (batches_in old) old.in_flight.items in
-      inr (inr (ap calls_after w.1, more, w.4, ap (λ h. h.items) waits))
-  moved (Ok Nothing) stage way arrived not err = absurd (not refl)
-  moved (Err e) stage way arrived not err = inl (
-    ap (λ h. joined (map (λ batch. batch.items) h.items)) err.2,
-    ap (λ h. h.items) err.3,
-    ap (λ h. h.items) waits,
-    (λ zero_left well. let broken : is_failed new.stage ≡ true = ap is_failed err.0 in absurd (cc)),
+  moved (Ok (Durable pos)) call stage = let w = call.came in
+      let more : joined (batches_in new) ≡ joined (batches_in old) ++ old.in_flight.items = ap (λ l. joined (map (λ batch. batch.items) l)) w.batches ∙ ap joined (batches_push old.batches.items old.in_flight) ∙ joined_push (batches_in old) old.in_flight.items in
+      inr (inr (ap calls_after w.stage, more, w.in_flight, ap (λ h. h.items) call.waiting))
+  moved (Ok Nothing) call stage = absurd call.came
+  moved (Err e) call stage = let w = call.came in inl (
+    ap (λ h. joined (map (λ batch. batch.items) h.items)) w.batches,
+    ap (λ h. h.items) w.in_flight,
+    ap (λ h. h.items) call.waiting,
+    (λ zero_left well. let broken : is_failed new.stage ≡ true = ap is_failed w.stage in absurd (cc)),
   )
 
   -- the same, of the durable batches
-  pub moved_batches : (result : Result Forced Refusal)
-      → (result ≡ Ok More → (step ≡ SyncGate → ⊥) × (new.stage ≡ Forcing (step_behind step)) × (new.next ≡ old.next) × (new.batches ≡ old.batches) × (new.in_flight ≡ old.in_flight))
-      → ((pos : ℕ) → result ≡ Ok (Durable pos) → (step ≡ SyncGate) × (new.stage ≡ Idle) × (new.next ≡ old.behind) × (new.batches.items ≡ old.batches.items ++ old.in_flight ∷ []) × (new.in_flight.items ≡ []) × (pos ≡ old.batched))
-      → (result ≡ Ok Nothing → ⊥)
-      → OnErr result ((new.stage ≡ Failed) × (new.next ≡ old.next) × (new.batches ≡ old.batches) × (new.in_flight ≡ old.in_flight))
+  pub moved_batches : (result : Result Forced Refusal) → IsCall old step result new
       → ((durable_batches new ≡ durable_batches old) × (in_flight new ++ waiting new ≡ in_flight old ++ waiting old)) ⊎ ((durable_batches new ≡ durable_batches old ++ in_flight old ∷ []) × (in_flight new ≡ []) × (waiting new ≡ waiting old))
   unfolding durable_batches in_flight waiting
-  moved_batches (Ok More) way arrived not err = let w = way refl in
-      inl (ap (λ h. map (λ batch. batch.items) h.items) w.3, ap (λ h. h.items ++ new.waiting.items) w.4 ∙ ap (λ h. old.in_flight.items ++ h.items) waits)
-  moved_batches (Ok (Durable pos)) way arrived not err = let w = arrived pos refl in
-      inr (ap (λ l. map (λ batch. batch.items) l) w.3 ∙ batches_push old.batches.items old.in_flight, w.4, ap (λ h. h.items) waits)
-  moved_batches (Ok Nothing) way arrived not err = absurd (not refl)
-  moved_batches (Err e) way arrived not err =
-      inl (ap (λ h. map (λ batch. batch.items) h.items) err.2, ap (λ h. h.items ++ new.waiting.items) err.3 ∙ ap (λ h. old.in_flight.items ++ h.items) waits)
+  moved_batches (Ok More) call = let w = call.came in
+      inl (ap (λ h. map (λ batch. batch.items) h.items) w.batches, ap (λ h. h.items ++ new.waiting.items) w.in_flight ∙ ap (λ h. old.in_flight.items ++ h.items) call.waiting)
+  moved_batches (Ok (Durable pos)) call = let w = call.came in
+      inr (ap (λ l. map (λ batch. batch.items) l) w.batches ∙ batches_push old.batches.items old.in_flight, w.in_flight, ap (λ h. h.items) call.waiting)
+  moved_batches (Ok Nothing) call = absurd call.came
+  moved_batches (Err e) call = let w = call.came in
+      inl (ap (λ h. map (λ batch. batch.items) h.items) w.batches, ap (λ h. h.items ++ new.waiting.items) w.in_flight ∙ ap (λ h. old.in_flight.items ++ h.items) call.waiting)

@@ -1,5 +1,7 @@
 pub mod Area
 pub mod Batch
+pub mod First
+pub mod Forcing
 pub mod Found
 pub mod Holds
 pub mod Laws

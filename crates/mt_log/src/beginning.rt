@@ -7,19 +7,18 @@ ghost use Rattle.mt_frame.specs.Grammar.{IsRecord, body_text};
 ghost use Rattle.mt_frame.specs.History.{MayFollow};
 ghost use Rattle.mt_log.specs.Area.{ScansWithOrWithout, TornFrom, AreaBegins};
 ghost use Rattle.mt_log.specs.Batch.{framed, Scans};
+ghost use Rattle.mt_log.specs.First.{IsFirst};
 ghost use Rattle.mt_log.specs.Holds.{AreRecords};
 ghost use Rattle.mt_log.specs.Sound.{IsSound};
 ghost use Rattle.mt_log.specs.Words.{durable_batches, durable, in_flight, waiting, area_start, area_end, area_size, used, calls_left, has_failed, IsOn};
-ghost use Rattle.mt_log.specs.declared.stage.Step.TheVariants.{WriteBody};
-ghost use Rattle.mt_log.specs.declared.stage.Stage.TheVariants.{Forcing};
 
 use crate::area::AreaPlace;
 use crate::forcing::close_text;
-use crate::log::{Forced, Log, head_alone};
+use crate::log::{Forced, Log, head_alone, push_text};
 use crate::stage::{Stage, Step};
 use mt_base::{History, Refusal};
 use mt_disk::{Device, DeviceFault};
-use mt_frame::{CLOSED_GATE, Record, push_record};
+use mt_frame::{CLOSED_GATE, Record};
 use std::alloc::Global;
 
 // What a force of these records writes behind the gate, and the records as a batch.
@@ -34,8 +33,7 @@ fn first_batch(alloc: Global, records: &[Record]) -> Result<(Vec<u8>, History<Re
     let mut text = head_alone(alloc)?;
     let mut batch = History::new();
     for entry in records {
-        text.reserve(entry.length() + 1)?;
-        push_record(&mut text, entry)?;
+        push_text(&mut text, entry)?;
         batch = batch.and(entry);
     }
     close_text(&mut text);
@@ -46,13 +44,7 @@ fn first_batch(alloc: Global, records: &[Record]) -> Result<(Vec<u8>, History<Re
 fn before_first(alloc: Global, place: AreaPlace, records: &[Record]) -> Result<Log, Refusal>
     requires grammar { AllByRecursion IsRecord records.now }
     requires fits { 5 + length (body_text records.now) < place.end - place.start }
-    ensures place { IfOk result (λ log. log.place ≡ place) }
-    ensures next { IfOk result (λ log. log.next ≡ place.start) }
-    ensures stage { IfOk result (λ log. log.stage ≡ Forcing WriteBody) }
-    ensures batches { IfOk result (λ log. log.batches.items ≡ []) }
-    ensures in_flight { IfOk result (λ log. log.in_flight.items ≡ records.now) }
-    ensures waiting { IfOk result (λ log. log.waiting.items ≡ []) }
-    ensures used { IfOk result (λ log. used log ≡ 5 + length (body_text records.now)) }
+    ensures first { IfOk result (λ log. IsFirst place records.now log) }
     ensures only_memory { IfErr result (λ why. why ≡ Refusal.NoMemory) }
 {
     let pending = head_alone(alloc)?;
@@ -150,7 +142,6 @@ pub fn begin_area<D: Device>(
 ///
 /// Refusals are [`Refusal::NoMemory`], before any device call, and [`Refusal::DeviceFailed`]. Nothing
 /// outside of the area is touched in any case.
-#[tactic(auto, unfolding(crate::specs::Words::durable_batches, crate::specs::Words::durable, crate::specs::Words::in_flight, crate::specs::Words::waiting, crate::specs::Words::area_start, crate::specs::Words::area_end, crate::specs::Words::area_size, crate::specs::Words::used, crate::specs::Words::calls_left, crate::specs::Words::has_failed, crate::specs::Words::IsOn))]
 pub fn begin_area_with<D: Device>(
     alloc: Global,
     device: &mut D,

@@ -4,7 +4,8 @@ ghost use Rattle.std.specs.Prelude.{◌≡◌, ◌⊎◌, ◌+◌, ◌-◌, ◌*
 ghost use Rattle.std.specs.Int.{w32, to_be_bytes};
 ghost use Rattle.mt_base.specs.declared.refusal.Refusal.{Refusal};
 ghost use Rattle.mt_disk.specs.Disk.{Torn, Follows, Elapses, LeavesOnly, HasCause};
-ghost use Rattle.mt_log.specs.Area.{Area, AreaAfter, ScansWithOrWithout, step_behind};
+ghost use Rattle.mt_log.specs.Area.{Area, AreaAfter, ScansWithOrWithout};
+ghost use Rattle.mt_log.specs.Forcing.{IsCall};
 ghost use Rattle.mt_log.specs.declared.log.Forced.{Forced};
 ghost use Rattle.mt_log.specs.declared.stage.Step.TheVariants.{WriteBody, SyncBody, WriteGate, SyncGate};
 ghost use Rattle.mt_log.specs.declared.stage.Stage.TheVariants.{Idle, Forcing, Failed};
@@ -81,17 +82,8 @@ impl Log {
     // What this step's device call has come to.
     fn settle(&mut self, step: Step, done: Result<(), DeviceFault>) -> Result<Forced, Refusal>
         requires stage { self.old.stage ≡ Forcing step }
-        ensures place { self.new.place ≡ self.old.place }
-        ensures waiting { self.new.waiting ≡ self.old.waiting }
-        ensures count { self.new.waiting_count ≡ self.old.waiting_count }
-        ensures pending { self.new.pending ≡ self.old.pending }
-        ensures behind { self.new.behind ≡ self.old.behind }
-        ensures on_the_way { result ≡ Ok Forced.More → (step ≡ SyncGate → ⊥) × (self.new.stage ≡ Forcing (step_behind step)) × (self.new.next ≡ self.old.next) × (self.new.batches ≡ self.old.batches) × (self.new.in_flight ≡ self.old.in_flight) }
-        ensures arrived { (pos : ℕ) → result ≡ Ok (Forced.Durable pos) → (step ≡ SyncGate) × (self.new.stage ≡ Idle) × (self.new.next ≡ self.old.behind) × (self.new.batches.items ≡ self.old.batches.items ++ self.old.in_flight ∷ []) × (self.new.in_flight.items ≡ []) × (pos ≡ self.old.batched) }
-        ensures not_idle { result ≡ Ok Forced.Idle → ⊥ }
-        ensures err { OnErr result ((self.new.stage ≡ Failed) × (self.new.next ≡ self.old.next) × (self.new.batches ≡ self.old.batches) × (self.new.in_flight ≡ self.old.in_flight)) }
+        ensures call { IsCall self.old step result self.new }
         ensures cause { IsErr result ↔ IsErr done }
-        ensures only_device { IfErr result (λ why. why ≡ Refusal.DeviceFailed) }
     {
         if done.is_err() {
             self.stage = Stage::Failed;
@@ -118,16 +110,7 @@ impl Log {
         requires on { AreaOf (D.seen device.old) (D.may_leave device.old) self.old }
         requires stage { self.old.stage ≡ Forcing step }
         ensures on { AreaOf (D.seen device.new) (D.may_leave device.new) self.new }
-        ensures place { self.new.place ≡ self.old.place }
-        ensures waiting { self.new.waiting ≡ self.old.waiting }
-        ensures count { self.new.waiting_count ≡ self.old.waiting_count }
-        ensures pending { self.new.pending ≡ self.old.pending }
-        ensures behind { self.new.behind ≡ self.old.behind }
-        ensures on_the_way { result ≡ Ok Forced.More → (step ≡ SyncGate → ⊥) × (self.new.stage ≡ Forcing (step_behind step)) × (self.new.next ≡ self.old.next) × (self.new.batches ≡ self.old.batches) × (self.new.in_flight ≡ self.old.in_flight) }
-        ensures arrived { (pos : ℕ) → result ≡ Ok (Forced.Durable pos) → (step ≡ SyncGate) × (self.new.stage ≡ Idle) × (self.new.next ≡ self.old.behind) × (self.new.batches.items ≡ self.old.batches.items ++ self.old.in_flight ∷ []) × (self.new.in_flight.items ≡ []) × (pos ≡ self.old.batched) }
-        ensures not_idle { result ≡ Ok Forced.Idle → ⊥ }
-        ensures err { OnErr result ((self.new.stage ≡ Failed) × (self.new.next ≡ self.old.next) × (self.new.batches ≡ self.old.batches) × (self.new.in_flight ≡ self.old.in_flight)) }
-        ensures only_device { IfErr result (λ why. why ≡ Refusal.DeviceFailed) }
+        ensures call { IsCall self.old step result self.new }
         ensures moments { LeavesOnly D.moment D.left_since device.old device.new (ScansWithOrWithout self.old.place.start self.old.place.end (map (λ batch. batch.items) self.old.batches.items) self.old.in_flight.items) }
         ensures time { Elapses (D.moment device.old) (D.moment device.new) (D.left_since device.old) (D.left_since device.new) (D.may_leave device.new) }
         ensures elsewhere { Follows (Torn self.old.place.start (self.old.place.end - self.old.place.start)) (D.may_leave device.old) (D.may_leave device.new) }

@@ -1,7 +1,7 @@
 // The log: records wait for a force, which makes them durable a batch at a time.
 ghost use Rattle.std.specs.Prelude.{◌≡◌, ◌+◌, ◌-◌, ◌*◌, ◌<◌, ◌≤◌, ◌++◌, ◌∷◌, [], ℕ, true, false, length, map, drop, vec_len, vec_capacity, IfOk, IfErr, OnOk, OnErr, IsOk, IsErr};
 ghost use Rattle.mt_base.specs.declared.refusal.Refusal.{Refusal};
-ghost use Rattle.mt_frame.specs.Grammar.{IsRecord, body_text};
+ghost use Rattle.mt_frame.specs.Grammar.{IsRecord, record_text, body_text};
 ghost use Rattle.mt_frame.specs.Lengths.{record_length};
 ghost use Rattle.mt_frame.specs.History.{may_stand};
 ghost use Rattle.mt_log.specs.Batch.{joined};
@@ -68,6 +68,19 @@ pub(crate) fn head_alone(alloc: Global) -> Result<Vec<u8>, AllocError>
     let mut text = Vec::from_elem(alloc, 0u8, 4)?;
     text.reserve(1)?;
     Ok(text)
+}
+
+// Puts a record's text behind the others, and keeps room for a gate behind it.
+pub(crate) fn push_text(text: &mut Vec<u8>, entry: &Record) -> Result<(), AllocError>
+    requires { IsRecord entry.now }
+    ensures ok { OnOk result (text.new.items ≡ text.old.items ++ record_text entry.now) }
+    ensures gate_room { OnOk result (vec_len text.new < vec_capacity text.new) }
+    ensures err { OnErr result (text.new.items ≡ text.old.items) }
+    ensures room { vec_len text.old + record_length entry.now + 1 ≤ vec_capacity text.old → IsOk result }
+    ensures capacity { vec_capacity text.old ≤ vec_capacity text.new }
+{
+    text.reserve(entry.length() + 1)?;
+    push_record(text, entry)
 }
 
 #[tactic(auto, unfolding(crate::specs::Words::durable_batches, crate::specs::Words::durable, crate::specs::Words::in_flight, crate::specs::Words::waiting, crate::specs::Words::area_start, crate::specs::Words::area_end, crate::specs::Words::used, crate::specs::Words::area_size, crate::specs::Words::room, crate::specs::Words::calls_left, crate::specs::Words::has_failed, crate::specs::Words::stands_at))]
@@ -180,8 +193,7 @@ impl Log {
         ensures err_used { OnErr result (used self.new ≡ used self.old) }
         ensures only_memory { IfErr result (λ why. why ≡ Refusal.NoMemory) }
     {
-        self.pending.reserve(entry.length() + 1)?;
-        push_record(&mut self.pending, &entry)?;
+        push_text(&mut self.pending, &entry)?;
         self.waiting = self.waiting.and(&entry);
         self.waiting_count += 1;
         Ok(LogPos::new(self.batched + self.waiting_count))

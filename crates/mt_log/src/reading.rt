@@ -1,5 +1,5 @@
 // What a scan keeps while it reads an area.
-ghost use Rattle.std.specs.Prelude.{◌≡◌, ◌≢◌, ◌⊎◌, ◌+◌, ◌<◌, ◌≤◌, ◌++◌, ℕ, List, true, false, length, slice_index, Ok, IfOk, IfErr, IfSome, IfNone, IsOk};
+ghost use Rattle.std.specs.Prelude.{◌≡◌, ◌≢◌, ◌⊎◌, ◌+◌, ◌<◌, ◌≤◌, ◌++◌, ℕ, List, true, false, length, slice_index, Ok, IfOk, IfErr, IfSome, IfNone, OnOk, IsOk};
 ghost use Rattle.std.specs.List.{AllByRecursion};
 ghost use Rattle.mt_base.specs.declared.refusal.Refusal.{Refusal};
 ghost use Rattle.mt_frame.specs.declared.records.Record.{Record};
@@ -112,7 +112,7 @@ impl Reading {
     ) -> Result<bool, Refusal>
         requires read { HasRead (D.seen device.old) self.old }
         requires within { self.old.place.end ≤ length (D.seen device.old) }
-        ensures read { IsOk result → HasRead (D.seen device.old) self.new }
+        ensures read { OnOk result (HasRead (D.seen device.old) self.new) }
         ensures place { self.new.place ≡ self.old.place }
         ensures pages { self.new.pages ≡ self.old.pages }
         ensures more { result ≡ Ok true → self.old.next < self.new.next }

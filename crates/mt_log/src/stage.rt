@@ -2,7 +2,7 @@
 
 /// The device call that comes next in a force: the body with a closed gate behind it, a sync, the
 /// open gate, a sync.
-#[derive(Clone, Copy, Debug, PartialEq, Eq)]
+#[derive(Clone, Copy)]
 pub enum Step {
     WriteBody,
     SyncBody,
@@ -11,7 +11,7 @@ pub enum Step {
 }
 
 /// Whether a batch is being forced, and how far its force has come.
-#[derive(Clone, Copy, Debug, PartialEq, Eq)]
+#[derive(Clone, Copy)]
 pub enum Stage {
     /// No batch is being forced.
     Idle,

@@ -37,17 +37,6 @@ pub view_any : (pool : Pool) (seen seen2 : List ℕ) (page : ℕ) → IsThere po
 view_any pool seen seen2 page there =
     ap (λ (o : Option ℕ). held o pool.bytes.items (slot pool.place seen page)) there.1 ∙ sym (ap (λ (o : Option ℕ). held o pool.bytes.items (slot pool.place seen2 page)) there.1)
 
--- other bytes in the place of all
-pub all_other : (old new : List ℕ) → length old ≡ 4096 → length new ≡ 4096 → take 0 old ++ (new ++ drop (0 + length new) old) ≡ new
-all_other old new size size2 = ap (λ (l : List ℕ). new ++ l) (drop_all (0 + length new) old (omega arith)) ∙ append-nil new
-  where
-    drop_all : (n : ℕ) (l : List ℕ) → length l ≤ n → drop n l ≡ []
-    drop_all n l le = list_nil (drop n l) (let d = length-drop n l in omega arith)
-      where
-        list_nil : (l : List ℕ) → length l ≡ 0 → l ≡ []
-        list_nil [] is = refl
-        list_nil (x ∷ l) is = absurd (omega arith)
-
 -- ---- the image that is due
 
 pub due_cases : (pool : Pool) (page : ℕ) (bytes : List ℕ) → ((waits_for pool page ≡ 0) × (due_image pool page bytes ≡ Some bytes)) ⊎ ((waits_for pool page ≢ 0) × (due_image pool page bytes ≡ None))

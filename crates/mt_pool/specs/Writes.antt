@@ -1,11 +1,13 @@
 -- What a store's log has of a change of one page.
-use Rattle.std.specs.Prelude.{◌≡◌, ℕ, ◌+◌, List, [], ◌∷◌, ◌++◌, Option, Some, None, false, ◌==◌, if◌then◌else◌}
+use Rattle.std.specs.Prelude.{◌≡◌, ◌≢◌, set, ℕ, ◌+◌, List, [], ◌∷◌, ◌++◌, Option, Some, None, false, ◌==◌, if◌then◌else◌}
 use Rattle.mt_frame.specs.declared.records.Record.{Record}
 use Rattle.mt_frame.specs.History.{some_record, ends_txn, ends_op}
 use Rattle.mt_frame.specs.Lengths.{record_length}
 use Rattle.mt_log.specs.Words.{durable, in_flight, waiting, stands_at}
 use Rattle.mt_log.specs.declared.log.Log.{Log}
-use Rattle.mt_pool.specs.Views.{waits_for}
+use Rattle.mt_base.specs.Edits.{patched}
+use Rattle.mt_base.specs.declared.edits.Edit.{Edit}
+use Rattle.mt_pool.specs.Views.{IsPool, Shows, view, waits_for}
 use Rattle.mt_pool.specs.declared.pool.Pool.{Pool}
 
 -- the image that the first record of a page carries
@@ -28,3 +30,13 @@ pub record IsLonger (log new : Log) (records : List Record) : Type 0 where
   pub durable_same : durable new ≡ durable log
   pub flying_same : in_flight new ≡ in_flight log
   pub waiting_more : waiting new ≡ waiting log ++ records
+
+-- all edits of a page in a frame are made, and the page waits for the record at this place
+pub record IsEdited (old new : Pool) (page : ℕ) (edits : List Edit) (position : ℕ) : Type 0 where
+  pub pool : IsPool new
+  pub shows : (seen : List ℕ) → Shows old seen → Shows new seen
+  pub edited : (seen : List ℕ) → view new seen page ≡ patched edits (view old seen page)
+  pub others : (seen : List ℕ) (q : ℕ) → q ≢ page → view new seen q ≡ view old seen q
+  pub waits : new.waits.items ≡ set old.waits.items page position
+  pub there : new.of_page ≡ old.of_page
+  pub place : new.place ≡ old.place

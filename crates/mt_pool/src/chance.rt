@@ -4,7 +4,6 @@ ghost use Rattle.std.specs.Prelude.{◌≡◌, ◌<◌, ◌≤◌, ◌+◌, ℕ,
 use crate::Pool;
 
 /// What the hand came to in some of the frames.
-#[derive(Clone, Copy, Debug, PartialEq, Eq)]
 enum Passed {
     /// This frame, whose page is not to be flushed, and was not used since the hand passed it. The hand
     /// stands behind it.

@@ -19,7 +19,6 @@ pub enum Flushed {
 }
 
 /// What there is to flush.
-#[derive(Clone, Copy, Debug, PartialEq, Eq)]
 enum Found {
     /// In this frame this page, and all its records are durable.
     Ready(usize, PageNo),

@@ -2,7 +2,9 @@
 ghost use Rattle.std.specs.Prelude.{◌≡◌, ◌≢◌, ◌⊎◌, ◌<◌, ◌≤◌, ◌+◌, ◌-◌, ◌*◌, ◌++◌, ◌∷◌, [], ℕ, List, length, take, drop, set, get_or, None, false, true, IsOk, IsErr, OnOk, OnErr, IfOk, IfErr, Ok};
 ghost use Rattle.mt_base.specs.Edits.{patched, log_size};
 ghost use Rattle.mt_base.specs.declared.refusal.Refusal.{Refusal};
-ghost use Rattle.mt_disk.specs.Disk.{Only, LeavesOnly, HasCause};
+ghost use Rattle.mt_disk.specs.Disk.{Torn, Only, LeavesOnly, HasCause};
+ghost use Rattle.mt_log.specs.Area.{TornFrom};
+ghost use Rattle.mt_pool.specs.Begun.{Begins, device_after};
 ghost use Rattle.mt_frame.specs.Grammar.{IsRecord, IsOfPage, IsTxn, IsOp};
 ghost use Rattle.mt_frame.specs.History.{may_stand};
 ghost use Rattle.mt_frame.specs.Lengths.{record_length};
@@ -35,14 +37,32 @@ pub struct Store<D: Device> {
     pub settled: LogPos,
 }
 
-impl<D: Device + Drop> Store<D> {
+/// A store that could not begin: why not, and the device that it was to have.
+#[derive(Drop)]
+pub struct NotBegun<D: Device> {
+    pub refusal: Refusal,
+    pub device: D,
+}
+
+/// The device is let go.
+impl<D: Device + Drop> From<NotBegun<D>> for Refusal {
+    ghost from_gives = { λ gone refusal. refusal ≡ gone.refusal };
+
+    fn from(gone: NotBegun<D>) -> Refusal {
+        let NotBegun { refusal, .. } = gone;
+        refusal
+    }
+}
+
+impl<D: Device> Store<D> {
     ghost use Rattle.mt_pool.specs.Kept.{IsKept};
     ghost use Rattle.mt_pool.specs.Views.{view, pages as pages_of, frames as frames_of};
 
     /// A store over a device whose page slots begin at `place`, so many pages, in so many frames. What is on the
     /// device is synced, and then the log's area begins anew without images, so the pages as they are now
-    /// are those to be had after a crash. Refusals are [`Refusal::NoMemory`] and [`Refusal::DeviceFailed`];
-    /// no slot is touched in any case.
+    /// are those to be had after a crash. Refusals are [`Refusal::NoMemory`] and, where the device failed in this
+    /// call, [`Refusal::DeviceFailed`]; each hands the device back. No byte outside of the area is touched in any
+    /// case.
     pub fn begin(
         alloc: Global,
         device: D,
@@ -50,7 +70,7 @@ impl<D: Device + Drop> Store<D> {
         pages: u16,
         place: u64,
         area: AreaPlace,
-    ) -> Result<Store<D>, Refusal>
+    ) -> Result<Store<D>, NotBegun<D>>
         requires few { pages ≤ 4000 }
         requires apart { place + 4096 * pages ≤ area.start }
         requires within { area.end ≤ length (D.seen device) }
@@ -61,19 +81,48 @@ impl<D: Device + Drop> Store<D> {
         ensures area { IfOk result (λ store. area_size store.log ≡ area.end - area.start) }
         ensures pages { IfOk result (λ store. pages_of store.pool ≡ pages) }
         ensures frames { IfOk result (λ store. frames_of store.pool ≡ frames) }
-        ensures why { IfErr result (λ why. (why ≡ Refusal.NoMemory) ⊎ (why ≡ Refusal.DeviceFailed)) }
+        ensures cause { IfErr result (λ gone. (gone.refusal ≡ Refusal.NoMemory)
+            ⊎ (gone.refusal ≡ Refusal.DeviceFailed) × (D.faults device < D.faults gone.device)) }
+        // Whenever a crash comes in this call, it leaves what it might have left before, but for the area.
+        ensures moments { LeavesOnly D.moment D.left_since device (device_after result)
+            (TornFrom (D.may_leave device) area.start (area.end - area.start)) }
+        ensures rest { Torn area.start (area.end - area.start) (D.seen device) (D.seen (device_after result)) }
     {
         let mut device = device;
-        let pool = Pool::new(alloc, frames, pages, place)?;
-        device.sync()?;
-        let log = begin_area(alloc, &mut device, area)?;
-        Ok(Store {
-            device,
-            log,
-            pool,
-            settled: LogPos::new(0),
-        })
+        match parts(alloc, &mut device, frames, pages, place, area) {
+            Ok((log, pool)) => Ok(Store {
+                device,
+                log,
+                pool,
+                settled: LogPos::new(0),
+            }),
+            Err(refusal) => Err(NotBegun { refusal, device }),
+        }
     }
+}
+
+// The log and the pool that a store begins with.
+fn parts<D: Device>(
+    alloc: Global,
+    device: &mut D,
+    frames: usize,
+    pages: u16,
+    place: u64,
+    area: AreaPlace,
+) -> Result<(Log, Pool), Refusal>
+    requires few { pages ≤ 4000 }
+    requires apart { place + 4096 * pages ≤ area.start }
+    requires within { area.end ≤ length (D.seen device.old) }
+    ensures begun { IfOk result (λ parts. Begins D.seen D.may_leave place pages frames area device.old
+        (record { device = device.new; log = parts.0; pool = parts.1; settled = 0 })) }
+    ensures cause { IfErr result (λ why. (why ≡ Refusal.NoMemory) ⊎ (why ≡ Refusal.DeviceFailed) × (D.faults device.old < D.faults device.new)) }
+    ensures moments { LeavesOnly D.moment D.left_since device.old device.new (TornFrom (D.may_leave device.old) area.start (area.end - area.start)) }
+    ensures rest { Torn area.start (area.end - area.start) (D.seen device.old) (D.seen device.new) }
+{
+    let pool = Pool::new(alloc, frames, pages, place)?;
+    device.sync()?;
+    let log = begin_area(alloc, device, area)?;
+    Ok((log, pool))
 }
 
 impl<D: Device> Store<D> {
@@ -246,9 +295,9 @@ impl<D: Device> Store<D> {
         ensures device { self.new.device ≡ self.old.device }
         ensures only_memory { IfErr result (λ why. why ≡ Refusal.NoMemory) }
     {
-        let prepared = self.pool.prepare(alloc, txn, op, change)?;
-        let place = append_all(&mut self.log, prepared.records)?;
-        self.pool.change(change.page, 0, &prepared.bytes, place);
+        let records = self.pool.prepare(alloc, txn, op, change)?;
+        let place = append_all(&mut self.log, records)?;
+        self.pool.change_all(change.page, &change.edits, place);
         Ok(())
     }
 
@@ -268,7 +317,8 @@ impl<D: Device> Store<D> {
 
     /// One device call more on the way to where every page is in its slot: a page is written in place, or
     /// where each has to wait for its records the log is forced a step. `false` tells that nothing was left to
-    /// do. Then a [`Store::sync`] makes the slots last. The only refusal is [`Refusal::DeviceFailed`].
+    /// do. Then a [`Store::sync`] makes the slots last. The only refusal is [`Refusal::DeviceFailed`], where the device
+    /// failed in this call or in an earlier force.
     pub fn write_back_step(&mut self) -> Result<bool, Refusal>
         requires kept { (opening : ℕ → List ℕ) × IsKept D.seen D.may_leave opening self.old }
         ensures kept { (opening : ℕ → List ℕ) → IsKept D.seen D.may_leave opening self.old → IsKept D.seen D.may_leave opening self.new }
@@ -282,6 +332,8 @@ impl<D: Device> Store<D> {
         ensures more { result ≡ Ok true → (to_flush self.new.pool + 1 ≡ to_flush self.old.pool)
             ⊎ ((length (durable self.old.log) < length (appended self.old.log)) × (forced : Forced) × IsStep self.old.log forced self.new.log) }
         ensures appended { appended self.new.log ≡ appended self.old.log }
+        ensures cause { IsErr result → (D.faults self.old.device < D.faults self.new.device ⊎ (has_failed self.old.log ≡ true)) }
+        ensures quiet { IsOk result → D.faults self.new.device ≡ D.faults self.old.device }
         ensures only_device { IfErr result (λ why. why ≡ Refusal.DeviceFailed) }
     {
         match self.flush_step()? {

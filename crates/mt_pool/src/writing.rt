@@ -22,7 +22,7 @@ use std::alloc::{AllocError, Global};
 use std::collections::VecDeque;
 
 /// Whose change it is, and of which page.
-#[derive(Clone, Copy, Debug)]
+#[derive(Clone, Copy)]
 pub(crate) struct Change {
     pub(crate) txn: TxnNo,
     pub(crate) op: OpNo,
@@ -75,16 +75,9 @@ pub(crate) fn records_of(
     Ok(records)
 }
 
-/// A change of a page that is about to be logged: its records, and the page's bytes behind it.
-#[derive(Drop)]
-pub(crate) struct Prepared {
-    pub(crate) records: VecDeque<Record>,
-    pub(crate) bytes: [u8; 4096],
-}
-
 impl Pool {
     ghost use Rattle.mt_pool.specs.Views.{IsPool, IsThere, view, pages};
-    ghost use Rattle.mt_pool.specs.Writes.{due_image};
+    ghost use Rattle.mt_pool.specs.Writes.{due_image, IsEdited};
 
     /// A copy of the page, in a frame, where the area has no image of it yet.
     pub(crate) fn due_image(&self, alloc: Global, page: PageNo) -> Result<Option<Bytes>, AllocError>
@@ -99,31 +92,46 @@ impl Pool {
         Ok(None)
     }
 
-    /// What is to be logged of a change of a page in a frame, and what the page will be.
+    /// What is to be logged of a change of a page in a frame. The page is copied once, to know its bytes behind
+    /// the change.
     pub(crate) fn prepare(
         &self,
         alloc: Global,
         txn: TxnNo,
         op: OpNo,
         change: &PageChange,
-    ) -> Result<Prepared, AllocError>
+    ) -> Result<VecDeque<Record>, AllocError>
         requires pool { IsPool self.now }
         requires there { IsThere self.now change.now.page }
         requires inside { change.now.page < pages self.now }
         requires within { All (λ e. e.start + length e.bytes ≤ 4096) change.now.edits.items }
-        ensures records { (seen : List ℕ) → IfOk result (λ p. let page = view self.now seen change.now.page in
-            p.records.items ≡ change_records txn op change.now.page (due_image self.now change.now.page page) page (patched change.now.edits.items page) change.now.edits.items) }
-        ensures bytes { (seen : List ℕ) → IfOk result (λ p. p.bytes ≡ patched change.now.edits.items (view self.now seen change.now.page)) }
-        ensures size { IfOk result (λ p. length p.bytes ≡ 4096) }
+        ensures records { (seen : List ℕ) → IfOk result (λ records. let page = view self.now seen change.now.page in
+            records.items ≡ change_records txn op change.now.page (due_image self.now change.now.page page) page (patched change.now.edits.items page) change.now.edits.items) }
+        ensures size { (seen : List ℕ) → OnOk result (length (patched change.now.edits.items (view self.now seen change.now.page)) ≡ 4096) }
     {
         let page = change.page;
-        let old = *self.view(page);
-        let mut bytes = old;
-        patch(&mut bytes, &change.edits);
+        let old = self.view(page);
+        let mut new = *old;
+        patch(&mut new, &change.edits);
         let image = self.due_image(alloc, page)?;
         let of = Change { txn, op, page };
-        let records = records_of(alloc, &of, image, &old, &bytes, &change.edits)?;
-        Ok(Prepared { records, bytes })
+        records_of(alloc, &of, image, old, &new, &change.edits)
+    }
+
+    /// Makes the edits of a change in the page's frame, the first one first, each as [`Pool::change`] does.
+    pub(crate) fn change_all(&mut self, page: PageNo, edits: &[Edit], position: LogPos)
+        requires pool { IsPool self.old }
+        requires there { IsThere self.old page }
+        requires inside { page < pages self.old }
+        requires within { All (λ e. e.start + length e.bytes ≤ 4096) edits.now }
+        requires some { 0 < length edits.now }
+        requires position { 0 < position }
+        ensures { IsEdited self.old self.new page edits.now position }
+    {
+        for edit in edits {
+            let start = usize::from(edit.start);
+            self.change(page, start, edit.bytes.as_slice(), position);
+        }
     }
 }
 

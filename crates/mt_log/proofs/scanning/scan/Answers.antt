@@ -72,7 +72,7 @@ returns-then-is_empty-clause-bad g c = λ at is.
     let place = c.args.place in
     let r = c.read_batch.new.self in
     let shut : get_or seen r.next 0 ≢ 165 = subst (λ (l : List ℕ). get_or l r.next 0 ≢ 165) inv.reads.same (e.ended (ap Ok c.if-branch.false)) in
-    let read = subst (λ (l : List ℕ). HasRead l r) inv.reads.same (e.read refl) in
+    let read = subst (λ (l : List ℕ). HasRead l r) inv.reads.same e.read in
     let zero_len : vec_len r.found ≡ 0 = eqb-true (vec_len r.found) 0 (sym c.is_empty.ensures ∙ c.if-is_empty.true) in
     subst (λ (k : ℕ). BreaksAt seen place.start place.end c.args.pages k) (bad_place place.start at is)
     (none_read seen place c.args.pages r (e.place ∙ inv.place) (e.pages ∙ inv.pages) read shut (omega (arith, r.found.ok.0)))
@@ -85,7 +85,7 @@ returns-then-is_empty-clause-no_other_refusal g c = λ batches holds.
     let place = c.args.place in
     let r = c.read_batch.new.self in
     let shut : get_or seen r.next 0 ≢ 165 = subst (λ (l : List ℕ). get_or l r.next 0 ≢ 165) inv.reads.same (e.ended (ap Ok c.if-branch.false)) in
-    let read = subst (λ (l : List ℕ). HasRead l r) inv.reads.same (e.read refl) in
+    let read = subst (λ (l : List ℕ). HasRead l r) inv.reads.same e.read in
     let zero_len : vec_len r.found ≡ 0 = eqb-true (vec_len r.found) 0 (sym c.is_empty.ensures ∙ c.if-is_empty.true) in
     absurd (holds_or_breaks seen place.start place.end c.args.pages place.start batches (small place) holds
     (none_read seen place c.args.pages r (e.place ∙ inv.place) (e.pages ∙ inv.pages) read shut (omega (arith, r.found.ok.0))))
@@ -98,7 +98,7 @@ returns-clause-only g c = λ batches holds.
     let place = c.args.place in
     let r = c.read_batch.new.self in
     let shut : get_or seen r.next 0 ≢ 165 = subst (λ (l : List ℕ). get_or l r.next 0 ≢ 165) inv.reads.same (e.ended (ap Ok c.if-branch.false)) in
-    let read = subst (λ (l : List ℕ). HasRead l r) inv.reads.same (e.read refl) in
+    let read = subst (λ (l : List ℕ). HasRead l r) inv.reads.same e.read in
     let some : (length r.found.items ≡ 0 → ⊥) = some_found r.found c.is_empty.result c.is_empty.ensures c.if-is_empty.false in
     holds_one seen place.start place.end c.args.pages (records_of r.found.items) batches (small place) (all_read seen place c.args.pages r (e.place ∙ inv.place) (e.pages ∙ inv.pages) read shut some) holds
 
@@ -110,7 +110,7 @@ returns-clause-recovers g c = λ log starts ends holds.
     let place = c.args.place in
     let r = c.read_batch.new.self in
     let shut : get_or seen r.next 0 ≢ 165 = subst (λ (l : List ℕ). get_or l r.next 0 ≢ 165) inv.reads.same (e.ended (ap Ok c.if-branch.false)) in
-    let read = subst (λ (l : List ℕ). HasRead l r) inv.reads.same (e.read refl) in
+    let read = subst (λ (l : List ℕ). HasRead l r) inv.reads.same e.read in
     let some : (length r.found.items ≡ 0 → ⊥) = some_found r.found c.is_empty.result c.is_empty.ensures c.if-is_empty.false in
     let held : HoldsBatches seen place.start place.end c.args.pages holds.batches = subst (λ (k : ℕ). HoldsBatches seen k place.end c.args.pages holds.batches) starts (subst (λ (k : ℕ). HoldsBatches seen (area_start log) k c.args.pages holds.batches) ends holds.held) in
     let same = holds_one seen place.start place.end c.args.pages (records_of r.found.items) holds.batches (small place) (all_read seen place c.args.pages r (e.place ∙ inv.place) (e.pages ∙ inv.pages) read shut some) held in

@@ -30,9 +30,7 @@ pub returns-clause-room_left : goal.returns-clause-room_left
 unfolding room
 returns-clause-room_left c =
     let old = c.args.self.now.pending in
-    let new = c.push_record.new.buffer in
-    let text = ap length c.in_ok-push_record.ensures.ok in
-    let same = c.reserve.ensures.len in
-    let grows = c.reserve.ensures.capacity in
-    let kept = c.push_record.ensures.capacity in
-    omega (arith, text, length-append c.reserve.new.self.items (record_text c.args.entry), length-record_text c.args.entry, old.ok.0, new.ok.0, c.reserve.new.self.ok.0)
+    let new = c.push_text.new.text in
+    let text = ap length c.in_ok-push_text.ensures.ok in
+    let kept = c.push_text.ensures.capacity in
+    omega (arith, kept, text, length-append old.items (record_text c.args.entry), length-record_text c.args.entry, old.ok.0, new.ok.0)

@@ -30,7 +30,7 @@ returns-else-self-eq0-clause-appended g c =
     let t = c.seal.new.self in
     let m = c.make_call.ensures in
     let b = c.seal.ensures in
-    appended_kept t c.make_call.new.self WriteBody m.place m.waiting c.make_call.result m.on_the_way m.arrived m.not_idle m.err
+    appended_kept t c.make_call.new.self WriteBody c.make_call.result m.call
     ∙ ap (λ h. joined (map (λ batch. batch.items) h.items) ++ (t.in_flight.items ++ t.waiting.items)) b.batches
     ∙ ap (λ (l : List Record). joined (map (λ batch. batch.items) s.batches.items) ++ (l ++ t.waiting.items)) b.in_flight
     ∙ ap (λ (l : List Record). joined (map (λ batch. batch.items) s.batches.items) ++ (s.waiting.items ++ l)) b.waiting
@@ -39,32 +39,28 @@ returns-else-self-eq0-clause-appended g c =
 pub returns-in-Forcing-clause-appended : goal.returns-in-Forcing-clause-appended
 returns-in-Forcing-clause-appended g c =
     let m = c.make_call-in-Forcing.ensures in
-    appended_kept c.args.self.now c.make_call-in-Forcing.new.self c.in-Forcing.step m.place m.waiting c.make_call-in-Forcing.result m.on_the_way m.arrived m.not_idle m.err
+    appended_kept c.args.self.now c.make_call-in-Forcing.new.self c.in-Forcing.step c.make_call-in-Forcing.result m.call
 
 pub returns-in-Forcing-clause-step : goal.returns-in-Forcing-clause-step
-unfolding used
 returns-in-Forcing-clause-step g c =
     let m = c.make_call-in-Forcing.ensures in
-    let s = c.args.self.now in
-    let t = c.make_call-in-Forcing.new.self in
-    let same : used t ≡ used s = ap (λ p. (t.behind - p.start) + 5 * t.waiting_count + (vec_len t.pending - 4)) m.place ∙ ap (λ (k : ℕ). (k - s.place.start) + 5 * t.waiting_count + (vec_len t.pending - 4)) m.behind ∙ ap (λ (k : ℕ). (s.behind - s.place.start) + 5 * k + (vec_len t.pending - 4)) m.count ∙ ap (λ v. (s.behind - s.place.start) + 5 * s.waiting_count + (vec_len v - 4)) m.pending in
-    step_taken s t c.in-Forcing.step m.place m.waiting c.make_call-in-Forcing.result c.in-Forcing.is same m.on_the_way m.arrived m.not_idle
+    step_taken c.args.self.now c.make_call-in-Forcing.new.self c.in-Forcing.step c.make_call-in-Forcing.result m.call c.in-Forcing.is
 
 pub returns-in-Forcing-clause-batches : goal.returns-in-Forcing-clause-batches
 returns-in-Forcing-clause-batches g c =
     let m = c.make_call-in-Forcing.ensures in
-    batches_kept c.args.self.now c.make_call-in-Forcing.new.self c.in-Forcing.step m.place m.waiting c.make_call-in-Forcing.result m.on_the_way m.arrived m.not_idle
+    batches_kept c.args.self.now c.make_call-in-Forcing.new.self c.in-Forcing.step c.make_call-in-Forcing.result m.call
 
 pub returns-in-Forcing-clause-moves : goal.returns-in-Forcing-clause-moves
 returns-in-Forcing-clause-moves g c =
     let m = c.make_call-in-Forcing.ensures in
-    moved c.args.self.now c.make_call-in-Forcing.new.self c.in-Forcing.step m.place m.waiting c.make_call-in-Forcing.result c.in-Forcing.is m.on_the_way m.arrived m.not_idle m.err
+    moved c.args.self.now c.make_call-in-Forcing.new.self c.in-Forcing.step c.make_call-in-Forcing.result m.call c.in-Forcing.is
 
 pub returns-in-Forcing-clause-sound : goal.returns-in-Forcing-clause-sound
 returns-in-Forcing-clause-sound g c = λ pages sound.
     let m = c.make_call-in-Forcing.ensures in
     sound_moved pages c.args.self.now c.make_call-in-Forcing.new.self
-    (moved_batches c.args.self.now c.make_call-in-Forcing.new.self c.in-Forcing.step m.place m.waiting c.make_call-in-Forcing.result m.on_the_way m.arrived m.not_idle m.err) sound
+    (moved_batches c.args.self.now c.make_call-in-Forcing.new.self c.in-Forcing.step c.make_call-in-Forcing.result m.call) sound
 
 -- the records that wait become the batch that is forced
 sealed_behind : (old new : List Record) (wait : List Record) → old ≡ [] → new ≡ wait → new ++ [] ≡ old ++ wait
@@ -79,7 +75,7 @@ returns-else-self-eq0-clause-sound g c = λ pages sound.
     let b = c.seal.ensures in
     let behind : t.in_flight.items ++ t.waiting.items ≡ s.in_flight.items ++ s.waiting.items =
     ap (λ (l : List Record). t.in_flight.items ++ l) b.waiting ∙ sealed_behind s.in_flight.items t.in_flight.items s.waiting.items (nothing s.in_flight.items (s.at_rest c.in-Idle.is).none) b.in_flight in
-    sound_moved pages t c.make_call.new.self (moved_batches t c.make_call.new.self WriteBody m.place m.waiting c.make_call.result m.on_the_way m.arrived m.not_idle m.err)
+    sound_moved pages t c.make_call.new.self (moved_batches t c.make_call.new.self WriteBody c.make_call.result m.call)
     (sound_same pages s t (ap (λ h. map (λ batch. batch.items) h.items) b.batches) behind sound)
 
 pub returns-in-Failed-clause-holds : goal.returns-in-Failed-clause-holds

@@ -7,8 +7,8 @@ use Rattle.mt_log.proofs.log.Log.make_call.Goals as goal
 pub returns-clause-on : goal.returns-clause-on
 returns-clause-on g c =
     let e = c.settle.ensures in
-    settled c.args.self.now c.settle.new.self c.args.step e.place c.call-done.result c.settle.result (g.D.Device.seen c.call-done.new.device) (g.D.Device.may_leave c.call-done.new.device) c.requires.stage
-    c.call-done.ensures.done c.call-done.ensures.failed e.cause.0 e.cause.1 e.on_the_way e.arrived e.not_idle e.err
+    settled c.args.self.now c.settle.new.self c.args.step c.call-done.result c.settle.result (g.D.Device.seen c.call-done.new.device) (g.D.Device.may_leave c.call-done.new.device)
+    c.call-done.ensures.done c.call-done.ensures.failed e.cause.0 e.cause.1 e.call c.requires.stage
 
 pub returns-clause-moments : goal.returns-clause-moments
 returns-clause-moments g c =

@@ -62,7 +62,7 @@ returns-in_default-2-clause-bad g c = λ at is.
     })
 
 pub returns-clause-read : goal.returns-clause-read
-returns-clause-read g c = λ is.
+returns-clause-read g c =
     let s = c.args.self.now in
     let seen = g.D.Device.seen c.args.device.now in
     let r = c.requires.read in

@@ -3,6 +3,7 @@ use Rattle.std.proofs.lemmas.Bool.{cases_eq}
 use Rattle.std.proofs.lemmas.List.Elements.{recursion_from_All}
 use Rattle.std.specs.List.{AllByRecursion}
 use Rattle.mt_base.specs.Edits.{patched, IsShortest}
+use Rattle.mt_base.specs.declared.edits.Edit.{Edit}
 use Rattle.mt_frame.specs.declared.records.Record.{Record}
 use Rattle.mt_frame.specs.Grammar.{IsRecord}
 use Rattle.mt_log.specs.Words.{appended}
@@ -15,11 +16,11 @@ use Rattle.mt_pool.specs.Writes.{due_image, records_size, IsLonger, IsUnfinished
 use Rattle.mt_pool.proofs.Kept.{no_call}
 use Rattle.mt_pool.proofs.Logged.{kept_append, kept_write, longer_appended}
 use Rattle.mt_frame.proofs.Redone.{shortest_within, own_redone, other_redone}
-use Rattle.mt_pool.proofs.Writes.{now_records, now_some, now_size, now_pages, now_may, changes_images, ends_nothing, other_pages, view_whole, view_any, all_other}
+use Rattle.mt_pool.proofs.Writes.{now_records, now_some, now_size, now_pages, now_may, changes_images, ends_nothing, other_pages, view_any}
 use Rattle.mt_pool.proofs.store.Store.write.Goals as goal
 
-pub returns-in_err-prepared-clause-moments : goal.returns-in_err-prepared-clause-moments
-returns-in_err-prepared-clause-moments g c = λ opening k. no_call g.D.Device.seen g.D.Device.may_leave opening c.args.self.now k g.D.Device.moment g.D.Device.left_since g.met.D.Device.only_now
+pub returns-in_err-records-clause-moments : goal.returns-in_err-records-clause-moments
+returns-in_err-records-clause-moments g c = λ opening k. no_call g.D.Device.seen g.D.Device.may_leave opening c.args.self.now k g.D.Device.moment g.D.Device.left_since g.met.D.Device.only_now
 
 pub returns-in_err-place-clause-moments : goal.returns-in_err-place-clause-moments
 returns-in_err-place-clause-moments g c = λ opening k. no_call g.D.Device.seen g.D.Device.may_leave opening c.args.self.now k g.D.Device.moment g.D.Device.left_since g.met.D.Device.only_now
@@ -29,59 +30,59 @@ returns-clause-moments g c = λ opening k. no_call g.D.Device.seen g.D.Device.ma
 
 pub append_all-requires-clause-some : goal.append_all-requires-clause-some
 append_all-requires-clause-some g c =
-    let s = c.args.self.now in let r = c.requires in let p = c.in_ok-prepared.ensures in let seen = g.D.Device.seen s.device in
-    let size = sym (ap length (p.bytes seen)) ∙ p.size in
+    let s = c.args.self.now in let r = c.requires in let p = c.in_ok-records.ensures in let seen = g.D.Device.seen s.device in
+    let size = p.size seen in
     let some = now_some g.D.Device.seen g.D.Device.may_leave r.kept.0 s r.kept.1 c.args.txn c.args.op c.args.change.now r.there r.inside r.short r.numbers size in
     omega (arith, ap length (p.records seen), some)
 
 pub append_all-requires-clause-grammar : goal.append_all-requires-clause-grammar
 append_all-requires-clause-grammar g c =
-    let s = c.args.self.now in let r = c.requires in let p = c.in_ok-prepared.ensures in let seen = g.D.Device.seen s.device in
-    let size = sym (ap length (p.bytes seen)) ∙ p.size in
+    let s = c.args.self.now in let r = c.requires in let p = c.in_ok-records.ensures in let seen = g.D.Device.seen s.device in
+    let size = p.size seen in
     subst (AllByRecursion IsRecord) (sym (p.records seen)) (now_records g.D.Device.seen g.D.Device.may_leave r.kept.0 s r.kept.1 c.args.txn c.args.op c.args.change.now r.there r.inside r.short r.numbers size)
 
 pub append_all-requires-clause-fits : goal.append_all-requires-clause-fits
 append_all-requires-clause-fits g c =
-    let s = c.args.self.now in let r = c.requires in let p = c.in_ok-prepared.ensures in let seen = g.D.Device.seen s.device in
-    let size = sym (ap length (p.bytes seen)) ∙ p.size in
+    let s = c.args.self.now in let r = c.requires in let p = c.in_ok-records.ensures in let seen = g.D.Device.seen s.device in
+    let size = p.size seen in
     let fits = r.fits in
     omega (arith, fits, ap records_size (p.records seen), now_size g.D.Device.seen g.D.Device.may_leave r.kept.0 s r.kept.1 c.args.txn c.args.op c.args.change.now r.there r.inside r.short r.numbers size)
 
 pub append_all-requires-clause-short : goal.append_all-requires-clause-short
 append_all-requires-clause-short g c =
-    let s = c.args.self.now in let r = c.requires in let p = c.in_ok-prepared.ensures in let seen = g.D.Device.seen s.device in
-    let size = sym (ap length (p.bytes seen)) ∙ p.size in
+    let s = c.args.self.now in let r = c.requires in let p = c.in_ok-records.ensures in let seen = g.D.Device.seen s.device in
+    let size = p.size seen in
     omega (arith, r.short.size, ap records_size (p.records seen), now_size g.D.Device.seen g.D.Device.may_leave r.kept.0 s r.kept.1 c.args.txn c.args.op c.args.change.now r.there r.inside r.short r.numbers size)
 
 pub returns-in_err-place-clause-kept : goal.returns-in_err-place-clause-kept
 returns-in_err-place-clause-kept g c = λ opening k.
-    let s = c.args.self.now in let r = c.requires in let p = c.in_ok-prepared.ensures in let seen = g.D.Device.seen s.device in
-    let size = sym (ap length (p.bytes seen)) ∙ p.size in
+    let s = c.args.self.now in let r = c.requires in let p = c.in_ok-records.ensures in let seen = g.D.Device.seen s.device in
+    let size = p.size seen in
     kept_append g.D.Device.seen g.D.Device.may_leave opening s k c.append_all.new.log [] c.in_err-place.ensures.err_longer
     (λ sound. c.append_all.ensures.sound _ sound
     (subst (AllByRecursion (HasItsPage (pages s.pool))) (sym (p.records seen)) (now_pages g.D.Device.seen g.D.Device.may_leave r.kept.0 s r.kept.1 c.args.txn c.args.op c.args.change.now r.there r.inside r.short r.numbers size))
     (subst (MayFollow false (appended s.log)) (sym (p.records seen)) (now_may g.D.Device.seen g.D.Device.may_leave r.kept.0 s r.kept.1 c.args.txn c.args.op c.args.change.now r.there r.inside r.short r.numbers size r.unfinished)))
     (λ q. refl) (λ q. refl)
 
-pub change-requires-clause-position : goal.change-requires-clause-position
-change-requires-clause-position g c =
-    let s = c.args.self.now in let r = c.requires in let p = c.in_ok-prepared.ensures in let seen = g.D.Device.seen s.device in
-    let size = sym (ap length (p.bytes seen)) ∙ p.size in
+pub change_all-requires-clause-position : goal.change_all-requires-clause-position
+change_all-requires-clause-position g c =
+    let s = c.args.self.now in let r = c.requires in let p = c.in_ok-records.ensures in let seen = g.D.Device.seen s.device in
+    let size = p.size seen in
     let e = c.in_ok-place.ensures in
     let some = now_some g.D.Device.seen g.D.Device.may_leave r.kept.0 s r.kept.1 c.args.txn c.args.op c.args.change.now r.there r.inside r.short r.numbers size in
-    let records = c.in_ok-prepared.prepared.records.items in
+    let records = c.in_ok-records.records.items in
     omega (arith, e.place, ap length (longer_appended s.log c.append_all.new.log records e.longer), length-append (appended s.log) records, ap length (p.records seen), some)
 
 pub returns-clause-kept : goal.returns-clause-kept
 returns-clause-kept g c = λ opening k.
-    let s = c.args.self.now in let r = c.requires in let p = c.in_ok-prepared.ensures in let seen = g.D.Device.seen s.device in
-    let size = sym (ap length (p.bytes seen)) ∙ p.size in
-    let f = c.change.ensures in
+    let s = c.args.self.now in let r = c.requires in let p = c.in_ok-records.ensures in let seen = g.D.Device.seen s.device in
+    let size = p.size seen in
+    let f = c.change_all.ensures in
     let l = c.in_ok-place.ensures in
     let page = c.args.change.now.page in
     let v = view s.pool seen page in
     let longer : IsLonger s.log c.append_all.new.log _ = subst (IsLonger s.log c.append_all.new.log) (p.records seen) l.longer in
-    kept_write g.D.Device.seen g.D.Device.may_leave opening s k c.append_all.new.log c.change.new.self _ page longer
+    kept_write g.D.Device.seen g.D.Device.may_leave opening s k c.append_all.new.log c.change_all.new.self _ page longer
     (λ sound. c.append_all.ensures.sound _ sound
     (subst (AllByRecursion (HasItsPage (pages s.pool))) (sym (p.records seen)) (now_pages g.D.Device.seen g.D.Device.may_leave r.kept.0 s r.kept.1 c.args.txn c.args.op c.args.change.now r.there r.inside r.short r.numbers size))
     (subst (MayFollow false (appended s.log)) (sym (p.records seen)) (now_may g.D.Device.seen g.D.Device.may_leave r.kept.0 s r.kept.1 c.args.txn c.args.op c.args.change.now r.there r.inside r.short r.numbers size r.unfinished)))
@@ -93,24 +94,22 @@ returns-clause-kept g c = λ opening k.
 
 pub returns-clause-view : goal.returns-clause-view
 returns-clause-view g c = λ seen.
-    let s = c.args.self.now in let r = c.requires in let p = c.in_ok-prepared.ensures in
-    let page = c.args.change.now.page in
-    c.change.ensures.view seen ∙ all_other (view s.pool seen page) c.in_ok-prepared.prepared.bytes (view_whole s.pool seen page r.kept.1.frames r.there) p.size ∙ p.bytes seen
+    c.change_all.ensures.edited seen ∙ ap (λ (es : List Edit). patched es (view c.args.self.now.pool seen c.args.change.now.page)) c.deref.ensures.value
 
 pub returns-clause-appended : goal.returns-clause-appended
 returns-clause-appended g c =
-    let s = c.args.self.now in let p = c.in_ok-prepared.ensures in let seen = g.D.Device.seen s.device in
+    let s = c.args.self.now in let p = c.in_ok-records.ensures in let seen = g.D.Device.seen s.device in
     longer_appended s.log c.append_all.new.log _ c.in_ok-place.ensures.longer ∙ ap (λ (rs : List Record). appended s.log ++ rs) (p.records seen)
 
 pub returns-clause-used : goal.returns-clause-used
 returns-clause-used g c =
-    let s = c.args.self.now in let r = c.requires in let p = c.in_ok-prepared.ensures in let seen = g.D.Device.seen s.device in
-    let size = sym (ap length (p.bytes seen)) ∙ p.size in
+    let s = c.args.self.now in let r = c.requires in let p = c.in_ok-records.ensures in let seen = g.D.Device.seen s.device in
+    let size = p.size seen in
     omega (arith, c.in_ok-place.ensures.used, ap records_size (p.records seen), now_size g.D.Device.seen g.D.Device.may_leave r.kept.0 s r.kept.1 c.args.txn c.args.op c.args.change.now r.there r.inside r.short r.numbers size)
 
 pub returns-clause-ends_none : goal.returns-clause-ends_none
 returns-clause-ends_none g c = λ t o unfinished.
-    let s = c.args.self.now in let p = c.in_ok-prepared.ensures in let seen = g.D.Device.seen s.device in
+    let s = c.args.self.now in let p = c.in_ok-records.ensures in let seen = g.D.Device.seen s.device in
     let page = c.args.change.now.page in
     let v = view s.pool seen page in
     subst (IsUnfinished t o) (sym (longer_appended s.log c.append_all.new.log _ c.in_ok-place.ensures.longer ∙ ap (λ (rs : List Record). appended s.log ++ rs) (p.records seen)))
@@ -125,8 +124,8 @@ returns-clause-redone g c = λ seen q.
     let here = view_any s.pool (g.D.Device.seen s.device) seen page r.there in
     let short = subst (λ (l : List ℕ). IsShort l c.args.change.now) here r.short in
     ⊎_elim
-    (λ (same : q ≡ page). ap (view c.change.new.self seen) same ∙ returns-clause-view g c seen
+    (λ (same : q ≡ page). ap (view c.change_all.new.self seen) same ∙ returns-clause-view g c seen
     ∙ sym (own_redone c.args.txn c.args.op page v (due_image s.pool page v) edits (shortest_within v (patched edits v) edits (recursion_from_All (IsShortest v (patched edits v)) edits short.ranges)))
     ∙ ap (λ (x : ℕ). redone x (change_records c.args.txn c.args.op page (due_image s.pool page v) v (patched edits v) edits) (view s.pool seen x)) (sym same))
-    (λ (differ : q ≢ page). c.change.ensures.others seen q differ ∙ sym (other_redone c.args.txn c.args.op page v (patched edits v) q differ (due_image s.pool page v) edits (view s.pool seen q)))
+    (λ (differ : q ≢ page). c.change_all.ensures.others seen q differ ∙ sym (other_redone c.args.txn c.args.op page v (patched edits v) q differ (due_image s.pool page v) edits (view s.pool seen q)))
     (cases_eq q page)

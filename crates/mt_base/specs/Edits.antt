@@ -37,11 +37,21 @@ pub record EndsRun (old new : List ℕ) (i end : ℕ) : Type 0 where
   pub last : get_or old (end - 1) 0 ≢ get_or new (end - 1) 0
   pub quiet : (k : ℕ) → end ≤ k → k < end + 15 → k < length old → get_or old k 0 ≡ get_or new k 0
 
--- The edits so far change all below `last`, and no byte from there up to i differs.
-pub record Edited (old new : List ℕ) (edits : List Edit) (last i : ℕ) : Type 0 where
+-- no byte from a place up to another one differs
+pub record AreEqual (old new : List ℕ) (from at : ℕ) : Type 0 where
+  pub after : from ≤ at
+  pub within : at ≤ length old
+  pub equal : (k : ℕ) → from ≤ k → k < at → get_or old k 0 ≡ get_or new k 0
+
+-- the first place from one on at which a byte differs, or the length
+pub record FirstDiffers (old new : List ℕ) (from at : ℕ) : Type 0 where
+  pub before : AreEqual old new from at
+  pub differs : at < length old → get_or old at 0 ≢ get_or new at 0
+
+-- The edits so far change all below `last`. Behind it stay fifteen bytes, or as many as there are.
+pub record Edited (old new : List ℕ) (edits : List Edit) (last : ℕ) : Type 0 where
   pub ends : last ≤ length old
   pub made : Halfway old new (patched edits old) last
-  pub equal : (k : ℕ) → last ≤ k → k < i → get_or old k 0 ≡ get_or new k 0
   pub quiet : (last ≡ 0) ⊎ ((k : ℕ) → last ≤ k → k < last + 15 → k < length old → get_or old k 0 ≡ get_or new k 0)
   pub short : All (IsShortest old new) edits
   pub size : log_size edits ≤ 29 + 2 * last

@@ -1,10 +1,15 @@
 // A change of a page as ranges of bytes, as short as a log wants them.
-ghost use Rattle.std.specs.Prelude.{◌≡◌, ◌≢◌, ◌+◌, ◌*◌, ◌<◌, ◌≤◌, length, get_or, IfOk, All, MatchBool};
-ghost use Rattle.mt_base.specs.Edits.{patched, log_size, IsShortest, EndsRun, Edited};
+ghost use Rattle.std.specs.Prelude.{◌≡◌, ◌≢◌, ◌+◌, ◌*◌, ◌<◌, ◌≤◌, length, get_or, IfOk, All, IsTrue};
+ghost use Rattle.std.specs.Int.{w64, to_le_bytes};
+ghost use Rattle.mt_base.specs.Ranges.{part, Same};
+ghost use Rattle.mt_base.specs.Edits.{patched, log_size, IsShortest, AreEqual, FirstDiffers, EndsRun, Edited};
 
 use crate::bytes::Bytes;
 use crate::ranges::part_of;
 use std::alloc::{AllocError, Global};
+
+// The bytes that are compared at once.
+const BLOCK_BYTES: usize = 32;
 
 // Equal bytes that end a range: a log record's fields and head take 29 bytes, and each byte within a
 // range is logged twice.
@@ -31,49 +36,110 @@ pub fn edits_of(alloc: Global, old: &[u8], new: &[u8]) -> Result<Vec<Edit>, Allo
 {
     let mut edits = Vec::new(alloc);
     let mut last = 0;
-    for i in 0..old.len() {
-        last = step(alloc, &mut edits, old, new, i, last)?;
+    while last < old.len() {
+        last = step(alloc, &mut edits, old, new, last)?;
     }
     Ok(edits)
 }
 
-// One edit more, if the byte at i is in none and differs. Answers where the last edit ends.
+// The next edit, behind the last one's end, if a byte differs there. Answers where it ends, or the length.
 fn step(
     alloc: Global,
     edits: &mut Vec<Edit>,
     old: &[u8],
     new: &[u8],
-    i: usize,
     last: usize,
 ) -> Result<usize, AllocError>
     requires same { length old.now ≡ length new.now }
     requires fits { length old.now ≤ 4096 }
-    requires so_far { Edited old.now new.now edits.old.items last i }
-    requires there { i < length old.now }
-    ensures { IfOk result (λ end. Edited old.now new.now edits.new.items end (i + 1)) }
+    requires so_far { Edited old.now new.now edits.old.items last }
+    requires there { last < length old.now }
+    ensures edited { IfOk result (λ end. Edited old.now new.now edits.new.items end) }
+    ensures further { IfOk result (λ end. last < end) }
 {
-    if i < last {
-        return Ok(last);
+    let start = first_difference(old, new, last);
+    if start == old.len() {
+        return Ok(start);
     }
-    if !differ(old, new, i) {
-        return Ok(last);
-    }
-    let end = run_end(old, new, i);
-    let bytes = Bytes::copy_of(alloc, part_of(new, i, end - i))?;
+    let end = run_end(old, new, start);
+    let bytes = Bytes::copy_of(alloc, part_of(new, start, end - start))?;
     edits.push(Edit {
-        start: i as u16,
+        start: start as u16,
         bytes,
     })?;
     Ok(end)
 }
 
-// Whether the pages differ in a byte.
-fn differ(old: &[u8], new: &[u8], i: usize) -> bool
+// The first place from one on at which a byte differs, or the length.
+fn first_difference(old: &[u8], new: &[u8], from: usize) -> usize
     requires same { length old.now ≡ length new.now }
-    requires there { i < length old.now }
-    ensures { MatchBool result (get_or old.now i 0 ≢ get_or new.now i 0) (get_or old.now i 0 ≡ get_or new.now i 0) }
+    requires fits { length old.now ≤ 4096 }
+    requires there { from ≤ length old.now }
+    ensures { FirstDiffers old.now new.now from result }
 {
-    old[i] != new[i]
+    let mut at = equal_blocks(old, new, from);
+    while at < old.len() && old[at] == new[at] {
+        at += 1;
+    }
+    at
+}
+
+// Where the blocks from a place on that are equal end.
+fn equal_blocks(old: &[u8], new: &[u8], from: usize) -> usize
+    requires same { length old.now ≡ length new.now }
+    requires fits { length old.now ≤ 4096 }
+    requires there { from ≤ length old.now }
+    ensures { AreEqual old.now new.now from result }
+{
+    let mut at = from;
+    while at + BLOCK_BYTES <= old.len() && same_block(old, new, at) {
+        at += BLOCK_BYTES;
+    }
+    at
+}
+
+// Whether the blocks at a place are equal, looked at by words.
+fn same_block(old: &[u8], new: &[u8], at: usize) -> bool
+    requires old_there { at + BLOCK_BYTES ≤ length old.now }
+    requires new_there { at + BLOCK_BYTES ≤ length new.now }
+    ensures { IsTrue result → Same at BLOCK_BYTES old.now new.now }
+{
+    if !same_word(old, new, at) {
+        return false;
+    }
+    if !same_word(old, new, at + 8) {
+        return false;
+    }
+    if !same_word(old, new, at + 16) {
+        return false;
+    }
+    same_word(old, new, at + 24)
+}
+
+// Whether the words at a place are equal.
+fn same_word(old: &[u8], new: &[u8], at: usize) -> bool
+    requires old_there { at + 8 ≤ length old.now }
+    requires new_there { at + 8 ≤ length new.now }
+    ensures { IsTrue result → Same at 8 old.now new.now }
+{
+    word_at(old, at) == word_at(new, at)
+}
+
+// The eight bytes at a place as one number.
+fn word_at(page: &[u8], at: usize) -> u64
+    requires { at + 8 ≤ length page.now }
+    ensures { to_le_bytes w64 result ≡ part page.now at 8 }
+{
+    u64::from_le_bytes([
+        page[at],
+        page[at + 1],
+        page[at + 2],
+        page[at + 3],
+        page[at + 4],
+        page[at + 5],
+        page[at + 6],
+        page[at + 7],
+    ])
 }
 
 // Where the range that begins at a byte that differs ends.

@@ -1,6 +1,6 @@
 -- What is written into a bucket page leaves it one.
-use Rattle.std.proofs.Common.{◌≡◌, ℕ, ◌+◌, ◌*◌, ◌<◌, ◌≤◌, List, length, get_or, ap, ap₂, sym, ◌∙◌, subst, arith, ⊎_elim}
-use Rattle.std.proofs.lemmas.Bool.{cases_lt}
+use Rattle.std.proofs.Common.{◌≡◌, ◌≢◌, ℕ, ◌+◌, ◌*◌, ◌<◌, ◌≤◌, List, length, get_or, ap, ap₂, sym, ◌∙◌, subst, arith, ⊎_elim}
+use Rattle.std.proofs.lemmas.Bool.{cases_lt, cases_eq}
 use Rattle.mt_base.specs.Ranges.{u16_at, Torn}
 use Rattle.mt_bucket.specs.Page.{cell, count_of, KeepsHead, IsCell, IsBucket, KeepsBucket, TakesCell}
 use Rattle.mt_bucket.specs.Steps.{OneMore, Closed}
@@ -55,9 +55,10 @@ closed_kept c d i closed r p is = bucket_kept r p c d closed.head closed.few eac
   where
     each : (j : ℕ) → j < u16_at d 2 → IsCell r p d (8 + 70 * j)
     each j lt = ⊎_elim
-        (λ (less : j < i). cell_copied r p c d (8 + 70 * j) (8 + 70 * j) (closed.front j less) (is.each j (omega (arith, lt, closed.few, closed.counted))))
-        (λ (le : i ≤ j). cell_copied r p c d (8 + 70 * (j + 1)) (8 + 70 * j) (closed.back j le (omega (arith, lt, closed.few))) (is.each (j + 1) (omega (arith, lt, closed.few, closed.counted))))
-        (cases_lt j i)
+        (λ (here : j ≡ i). cell_copied r p c d (8 + 70 * count_of d) (8 + 70 * j)
+        (ap (λ (n : ℕ). cell d (8 + 70 * n)) here ∙ closed.filled (omega (arith, here, lt, closed.few))) (is.each (count_of d) (omega (arith, lt, closed.few, closed.counted))))
+        (λ (there : j ≢ i). cell_copied r p c d (8 + 70 * j) (8 + 70 * j) (closed.others j there (omega (arith, lt, closed.few))) (is.each j (omega (arith, lt, closed.few, closed.counted))))
+        (cases_eq j i)
 
 -- the bytes of an entry, as they are written over zeros: the relation and the key's length, the key, the record's name
 pub cell_written : (a d e b key : List ℕ) (r s place pages : ℕ) → ((i : ℕ) → 2 ≤ i → i < 66 → get_or a i 0 ≡ 0) → Torn 0 2 a d → Torn 2 (length key) d e → Torn 66 4 e b

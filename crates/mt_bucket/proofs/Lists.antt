@@ -2,7 +2,7 @@
 use Rattle.std.proofs.Common.{◌≡◌, ◌≢◌, ℕ, zero, suc, ◌+◌, ◌*◌, ◌<◌, ◌≤◌, Bool, true, false, cond, List, [], ◌∷◌, ◌++◌, Some, None, length, refl, ap, sym, ◌∙◌, arith}
 use Rattle.std.proofs.lemmas.Option.{none-some}
 use Rattle.mt_base.specs.declared.numbers.RecordName.{RecordName}
-use Rattle.mt_bucket.specs.Entries.{Entry, is_at, look, renamed, without}
+use Rattle.mt_bucket.specs.Entries.{Entry, is_at, look, renamed, behind_first, last_first, without}
 use Rattle.mt_bucket.specs.Page.{cell, entry_of, entries_from}
 
 pub take_it : {A : Type 0} (t : Bool) (x y : A) → t ≡ true → cond t x y ≡ x
@@ -42,6 +42,20 @@ look_renamed r k n (e ∷ es) x is = go (is_at r k e) refl (look_renamed r k n e
         ap (look r k) (pass_it (is_at r k e) (record e { name = n } ∷ es) (e ∷ renamed r k n es) t)
         ∙ pass_it (is_at r k e) (Some e.name) (look r k (renamed r k n es)) t
         ∙ rest (sym (pass_it (is_at r k e) (Some e.name) (look r k es) t) ∙ is)
+
+pub last_first_push : (es : List Entry) (l : Entry) → last_first (es ++ l ∷ []) ≡ l ∷ es
+last_first_push [] l = refl
+last_first_push (e ∷ es) l = ap (behind_first e) (last_first_push es l)
+
+-- the last cell comes to the first one's place
+pub filled_first : (c d : List ℕ) (at n : ℕ) → ((j : ℕ) → 0 < j → j < n → cell d (at + 70 * j) ≡ cell c (at + 70 * j)) → (0 < n → cell d (at + 70 * 0) ≡ cell c (at + 70 * n))
+    → entries_from d at n ≡ last_first (entries_from c (at + 70) n)
+filled_first c d at zero others filled = refl
+filled_first c d at (suc n) others filled =
+    ap (λ x. entry_of x ∷ entries_from d (at + 70) n) (ap (cell d) (omega arith) ∙ filled (omega arith) ∙ ap (cell c) (omega arith))
+    ∙ ap (λ es. entry_of (cell c (at + 70 + 70 * n)) ∷ es) (entries_moved c d (at + 70) (at + 70) n
+    (λ j less. ap (cell d) (omega arith) ∙ others (suc j) (omega arith) (omega arith) ∙ ap (cell c) (omega arith)))
+    ∙ sym (ap last_first (entries_push c (at + 70) n) ∙ last_first_push (entries_from c (at + 70) n) (entry_of (cell c (at + 70 + 70 * n))))
 
 -- where the first entry of a relation and a key is
 module _ (r : ℕ) (k c : List ℕ) where
@@ -88,15 +102,15 @@ module _ (r : ℕ) (k c : List ℕ) where
       ∙ sym (pass_it (is_at r k (entry_of (cell c at))) (record (entry_of (cell c at)) { name = name } ∷ entries_from c (at + 70) n) (entry_of (cell c at) ∷ renamed r k name (entries_from c (at + 70) n)) (sym (here_first at) ∙ others 0 (omega arith)))
 
   pub without_first : (d : List ℕ) (at n i : ℕ) → i ≤ n → here at i ≡ true → ((j : ℕ) → j < i → here at j ≡ false)
-      → ((j : ℕ) → j < i → cell d (at + 70 * j) ≡ cell c (at + 70 * j)) → ((j : ℕ) → i ≤ j → j < n → cell d (at + 70 * j) ≡ cell c (at + 70 * (j + 1)))
+      → ((j : ℕ) → j ≢ i → j < n → cell d (at + 70 * j) ≡ cell c (at + 70 * j)) → (i < n → cell d (at + 70 * i) ≡ cell c (at + 70 * n))
       → entries_from d at n ≡ without r k (entries_from c at (suc n))
-  without_first d at n zero le is_it others front back =
-      entries_moved c d (at + 70) at n (λ j less. back j (omega arith) less ∙ ap (cell c) (omega arith))
-      ∙ sym (take_it (is_at r k (entry_of (cell c at))) (entries_from c (at + 70) n) (entry_of (cell c at) ∷ without r k (entries_from c (at + 70) n)) (sym (here_first at) ∙ is_it))
-  without_first d at zero (suc i) le is_it others front back = absurd (omega arith)
-  without_first d at (suc n) (suc i) le is_it others front back =
-      ap (λ x. entry_of x ∷ entries_from d (at + 70) n) (ap (cell d) (omega arith) ∙ front 0 (omega arith) ∙ ap (cell c) (omega arith))
-      ∙ ap (λ es. entry_of (cell c at) ∷ es) (without_first d (at + 70) n i (omega arith) (sym (here_next at i) ∙ is_it) (λ j less. sym (here_next at j) ∙ others (suc j) (omega arith))
-      (λ j less. ap (cell d) (omega arith) ∙ front (suc j) (omega arith) ∙ ap (cell c) (omega arith))
-      (λ j less more. ap (cell d) (omega arith) ∙ back (suc j) (omega arith) (omega arith) ∙ ap (cell c) (omega arith)))
-      ∙ sym (pass_it (is_at r k (entry_of (cell c at))) (entries_from c (at + 70) (suc n)) (entry_of (cell c at) ∷ without r k (entries_from c (at + 70) (suc n))) (sym (here_first at) ∙ others 0 (omega arith)))
+  without_first d at n zero le is_it before others filled =
+      filled_first c d at n (λ j some less. others j (λ e. absurd (omega arith)) less) filled
+      ∙ sym (take_it (is_at r k (entry_of (cell c at))) (last_first (entries_from c (at + 70) n)) (entry_of (cell c at) ∷ without r k (entries_from c (at + 70) n)) (sym (here_first at) ∙ is_it))
+  without_first d at zero (suc i) le is_it before others filled = absurd (omega arith)
+  without_first d at (suc n) (suc i) le is_it before others filled =
+      ap (λ x. entry_of x ∷ entries_from d (at + 70) n) (ap (cell d) (omega arith) ∙ others 0 (λ e. absurd (omega arith)) (omega arith) ∙ ap (cell c) (omega arith))
+      ∙ ap (λ es. entry_of (cell c at) ∷ es) (without_first d (at + 70) n i (omega arith) (sym (here_next at i) ∙ is_it) (λ j less. sym (here_next at j) ∙ before (suc j) (omega arith))
+      (λ j away less. ap (cell d) (omega arith) ∙ others (suc j) (λ e. absurd (away (omega arith))) (omega arith) ∙ ap (cell c) (omega arith))
+      (λ less. ap (cell d) (omega arith) ∙ filled (omega arith) ∙ ap (cell c) (omega arith)))
+      ∙ sym (pass_it (is_at r k (entry_of (cell c at))) (last_first (entries_from c (at + 70) (suc n))) (entry_of (cell c at) ∷ without r k (entries_from c (at + 70) (suc n))) (sym (here_first at) ∙ before 0 (omega arith)))

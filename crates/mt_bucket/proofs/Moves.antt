@@ -1,14 +1,14 @@
 -- What bytes written into a page do to its entries.
-use Rattle.std.proofs.Common.{◌≡◌, ◌≢◌, ◌⊎◌, inl, inr, ⊎_elim, ℕ, suc, ◌+◌, ◌-◌, ◌*◌, ◌<◌, ◌≤◌, Bool, true, false, not, List, [], ◌∷◌, ◌++◌, Some, length, get_or, min, filter, refl, ap, ap₂, sym, ◌∙◌, subst, arith, append-nil, append_assoc}
+use Rattle.std.proofs.Common.{◌≡◌, ◌≢◌, ◌⊎◌, inl, inr, ⊎_elim, ℕ, suc, ◌+◌, ◌-◌, ◌*◌, ◌<◌, ◌≤◌, Bool, true, false, not, List, [], ◌∷◌, ◌++◌, Some, length, min, filter, refl, ap, ap₂, sym, ◌∙◌, subst, arith, append-nil, append_assoc}
 use Rattle.std.proofs.lemmas.Bool.{cases_lt, cases_eq}
 use Rattle.std.proofs.lemmas.List.Elements.{filter-append}
 use Rattle.mt_base.specs.declared.numbers.RecordName.{RecordName}
-use Rattle.mt_base.specs.Ranges.{u16_at, part, Torn, Wrote}
-use Rattle.mt_base.proofs.Places.{same_u16, same_torn, part_length}
+use Rattle.mt_base.specs.Ranges.{u16_at, Torn, Wrote}
+use Rattle.mt_base.proofs.Places.{same_u16, same_torn}
 use Rattle.mt_bucket.specs.Entries.{Entry, look, renamed}
 use Rattle.mt_bucket.specs.Page.{cell, entry_of, entries, entries_from, count_of, KeepsHead, IsFirst}
 use Rattle.mt_bucket.specs.Steps.{OneMore, Pushed, Closed, Sorted, Dealt}
-use Rattle.mt_bucket.proofs.Cells.{cell_same, cell_has, cell_moved, cell_renamed, key_length, long_cell}
+use Rattle.mt_bucket.proofs.Cells.{cell_same, cell_has, cell_renamed, key_length, long_cell}
 use Rattle.mt_bucket.proofs.Lists.{take_it, pass_it, entries_push, entries_moved, look_first, look_renamed, renamed_first}
 
 -- a head of which the depth or the next page changes
@@ -52,13 +52,13 @@ pushed c f b room more =
           ∙ ap₂ (λ (xs : List Entry) (x : List ℕ). xs ++ entry_of x ∷ []) (entries_moved c f 8 8 n more.front) more.last;
     }
 
--- the cells behind one are written over it, and the count falls
-pub closed : (c d f : List ℕ) (i : ℕ) → length c ≡ 4096 → i < count_of c → Wrote (8 + 70 * i) (part c (8 + 70 * (i + 1)) (70 * (count_of c - i - 1))) c d → Torn 2 2 d f → u16_at f 2 ≡ count_of c - 1 → Closed i c f
-closed c d f i size lt wrote torn number =
+-- the last cell is written over one, and the count falls
+pub closed : (c d f b : List ℕ) (i : ℕ) → length c ≡ 4096 → i < count_of c → b ≡ cell c (8 + 70 * (count_of c - 1)) → Wrote (8 + 70 * i) b c d → Torn 2 2 d f → u16_at f 2 ≡ count_of c - 1 → Closed i c f
+closed c d f b i size lt last wrote torn number =
     let sd = wrote.rest.size in
     let sf = torn.size in
-    let tail = part_length c (8 + 70 * (i + 1)) (70 * (count_of c - i - 1)) (omega arith) in
-    let long = tail.0 in
+    let fewer : count_of f ≡ count_of c - 1 = omega arith in
+    let long : length b ≡ 70 = ap length last ∙ long_cell c (8 + 70 * (count_of c - 1)) (omega arith) in
     let kept : (j : ℕ) → 8 + 70 * j + 70 ≤ 4096 → cell f (8 + 70 * j) ≡ cell d (8 + 70 * j) =
     λ j le. cell_same d f (8 + 70 * j) (omega arith) torn.size (same_torn 2 2 (8 + 70 * j) 70 d f torn (inr (omega arith))) in
     record {
@@ -66,16 +66,14 @@ closed c d f i size lt wrote torn number =
         size = sf ∙ sd;
         depth = torn.below 0 (omega arith) ∙ wrote.rest.below 0 (omega arith);
         first = torn.below 1 (omega arith) ∙ wrote.rest.below 1 (omega arith);
-        next = same_u16 4 d f (same_torn 2 2 4 2 d f torn (inr (omega arith))) ∙ same_u16 4 c d (same_torn (8 + 70 * i) (length (part c (8 + 70 * (i + 1)) (70 * (count_of c - i - 1)))) 4 2 c d wrote.rest (inl (omega arith)));
-        last = same_u16 6 d f (same_torn 2 2 6 2 d f torn (inr (omega arith))) ∙ same_u16 6 c d (same_torn (8 + 70 * i) (length (part c (8 + 70 * (i + 1)) (70 * (count_of c - i - 1)))) 6 2 c d wrote.rest (inl (omega arith)));
+        next = same_u16 4 d f (same_torn 2 2 4 2 d f torn (inr (omega arith))) ∙ same_u16 4 c d (same_torn (8 + 70 * i) (length b) 4 2 c d wrote.rest (inl (omega arith)));
+        last = same_u16 6 d f (same_torn 2 2 6 2 d f torn (inr (omega arith))) ∙ same_u16 6 c d (same_torn (8 + 70 * i) (length b) 6 2 c d wrote.rest (inl (omega arith)));
       };
       counted = omega arith;
       few = omega arith;
-      front = λ j less. kept j (omega arith) ∙ cell_same c d (8 + 70 * j) (omega arith) sd (same_torn (8 + 70 * i) (length (part c (8 + 70 * (i + 1)) (70 * (count_of c - i - 1)))) (8 + 70 * j) 70 c d wrote.rest (inl (omega arith)));
-      back = λ j le less. kept j (omega arith) ∙ cell_moved c d (8 + 70 * (j + 1)) (8 + 70 * j) (omega arith) (omega arith)
-          (λ k small. ap (λ (m : ℕ). get_or d m 0) (let e : 8 + 70 * j + k ≡ 8 + 70 * i + (70 * (j - i) + k) = omega arith in e)
-          ∙ wrote.has.each (70 * (j - i) + k) (omega arith) ∙ tail.1 (70 * (j - i) + k) (omega arith)
-          ∙ ap (λ (m : ℕ). get_or c m 0) (let e : 8 + 70 * (i + 1) + (70 * (j - i) + k) ≡ 8 + 70 * (j + 1) + k = omega arith in e));
+      others = λ j away less. kept j (omega arith) ∙ cell_same c d (8 + 70 * j) (omega arith) sd (same_torn (8 + 70 * i) (length b) (8 + 70 * j) 70 c d wrote.rest
+          (⊎_elim (λ (before : j < i). inl (omega arith)) (λ (behind : i ≤ j). inr (omega arith)) (cases_lt j i)));
+      filled = λ less. kept i (omega arith) ∙ cell_has d b (8 + 70 * i) long wrote.has ∙ last ∙ ap (λ (n : ℕ). cell c (8 + 70 * n)) (sym fewer);
     }
 
 -- the name of the first entry of a relation and a key is written

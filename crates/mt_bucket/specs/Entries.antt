@@ -21,7 +21,17 @@ abbrev pub renamed : ℕ → List ℕ → RecordName → List Entry → List Ent
 renamed r k n [] = []
 renamed r k n (e ∷ es) = cond (is_at r k e) (record e { name = n } ∷ es) (e ∷ renamed r k n es)
 
--- the list without the first entry of this relation and key
+-- the list with an entry more, behind the first one
+abbrev pub behind_first : Entry → List Entry → List Entry
+behind_first e [] = e ∷ []
+behind_first e (f ∷ es) = f ∷ e ∷ es
+
+-- the list with its last entry in front of the others
+abbrev pub last_first : List Entry → List Entry
+last_first [] = []
+last_first (e ∷ es) = behind_first e (last_first es)
+
+-- the list with its last entry in the place of the first one of this relation and key
 abbrev pub without : ℕ → List ℕ → List Entry → List Entry
 without r k [] = []
-without r k (e ∷ es) = cond (is_at r k e) es (e ∷ without r k es)
+without r k (e ∷ es) = cond (is_at r k e) (last_first es) (e ∷ without r k es)

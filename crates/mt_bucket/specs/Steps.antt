@@ -1,5 +1,5 @@
 -- What single steps do to a page.
-use Rattle.std.specs.Prelude.{ℕ, ◌≡◌, ◌+◌, ◌*◌, ◌<◌, ◌≤◌, ◌++◌, ◌∷◌, [], Bool, cond, not, List, filter}
+use Rattle.std.specs.Prelude.{ℕ, ◌≡◌, ◌≢◌, ◌+◌, ◌*◌, ◌<◌, ◌≤◌, ◌++◌, ◌∷◌, [], Bool, cond, not, List, filter}
 use Rattle.mt_base.specs.Ranges.{u16_at}
 use Rattle.mt_bucket.specs.Entries.{Entry}
 use Rattle.mt_bucket.specs.Page.{cell, count_of, entries, KeepsHead}
@@ -17,13 +17,13 @@ pub record Pushed (e : Entry) (old new : List ℕ) : Type 0 where
   pub counted : count_of new ≡ count_of old + 1
   pub entries : entries new ≡ entries old ++ e ∷ []
 
--- the cell at place i is gone, and those behind it are one place further up
+-- the cell at place i is gone, and the last one stands there
 pub record Closed (i : ℕ) (old new : List ℕ) : Type 0 where
   pub head : KeepsHead old new
   pub counted : count_of old ≡ count_of new + 1
   pub few : u16_at new 2 ≤ 58
-  pub front : (j : ℕ) → j < i → cell new (8 + 70 * j) ≡ cell old (8 + 70 * j)
-  pub back : (j : ℕ) → i ≤ j → j < count_of new → cell new (8 + 70 * j) ≡ cell old (8 + 70 * (j + 1))
+  pub others : (j : ℕ) → j ≢ i → j < count_of new → cell new (8 + 70 * j) ≡ cell old (8 + 70 * j)
+  pub filled : i < count_of new → cell new (8 + 70 * i) ≡ cell old (8 + 70 * count_of new)
 
 -- an entry goes to the one page or to the other
 abbrev pub Sorted : Bool → Entry → List ℕ → List ℕ → List ℕ → List ℕ → Type 0

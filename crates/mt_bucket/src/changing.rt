@@ -51,8 +51,8 @@ pub fn set(page: &mut [u8], relation: RelNo, key: &[u8], name: RecordName) -> bo
     true
 }
 
-/// Takes the entry of a relation and a key out and answers true; those behind it move up. Where there is
-/// no such entry, it answers false, and the page is as before.
+/// Takes the entry of a relation and a key out and answers true; the last entry takes its place. Where there
+/// is no such entry, it answers false, and the page is as before.
 pub fn remove(page: &mut [u8], relation: RelNo, key: &[u8]) -> bool
     requires whole { length page.old ≡ 4096 }
     requires short { length key.now ≤ 64 }
@@ -125,7 +125,7 @@ fn push_cell(page: &mut [u8], bytes: &[u8])
     set_count(page, count + 1);
 }
 
-// Moves the cells behind one up by a place, over it.
+// Moves the last cell into the place of one.
 fn close_gap(page: &mut [u8], i: usize)
     requires whole { length page.old ≡ 4096 }
     requires there { i < count_of page.old }
@@ -133,14 +133,9 @@ fn close_gap(page: &mut [u8], i: usize)
     ensures kept { KeepsBucket page.old page.new }
 {
     let count = count(page);
-    let mut copy = [0u8; PAGE_BYTES];
-    copy.copy_from_slice(page);
-    let behind = part_of(
-        &copy,
-        HEAD_BYTES + CELL_BYTES * (i + 1),
-        CELL_BYTES * (count - i - 1),
-    );
-    put(page, HEAD_BYTES + CELL_BYTES * i, behind);
+    let mut last = [0u8; CELL_BYTES];
+    last.copy_from_slice(part_of(page, HEAD_BYTES + CELL_BYTES * (count - 1), CELL_BYTES));
+    put(page, HEAD_BYTES + CELL_BYTES * i, &last);
     set_count(page, count - 1);
 }
 

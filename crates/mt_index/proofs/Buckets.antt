@@ -2,11 +2,11 @@
 use Rattle.std.proofs.Common.{◌≡◌, ◌≢◌, ℕ, Bool, true, false, cond, List, ◌∷◌, ◌++◌, Option, Some, None, refl, ap, sym, ◌∙◌, ◌⊎◌, inl, inr}
 use Rattle.std.proofs.lemmas.Bool.{cases_eq}
 use Rattle.mt_base.specs.declared.numbers.RecordName.{RecordName}
-use Rattle.mt_bucket.specs.Entries.{Entry, is_at, look}
+use Rattle.mt_bucket.specs.Entries.{Entry, is_at, look, last_first}
 use Rattle.mt_bucket.specs.Hash.{hash}
 use Rattle.mt_index.specs.Maps.{Once, Each, alter}
 use Rattle.mt_index.specs.Buckets.{IsBuckets, lookup, Changed}
-use Rattle.mt_index.proofs.Lists.{at_parts, look_insert, once_insert, once_remove, each_insert, each_remove}
+use Rattle.mt_index.proofs.Lists.{at_parts, look_insert, once_insert, once_remove, each_insert, each_remove, Turned, last_turned}
 
 -- ---- one list changed
 
@@ -80,18 +80,25 @@ added names depth old new b front e back is home absent parts c = (
     none : look e.relation e.key (front ++ back) ≡ None
     none = ap (look e.relation e.key) (sym (ap old home ∙ parts)) ∙ absent
 
-pub dropped : (names depth : ℕ → ℕ) (old new : ℕ → List Entry) (b : ℕ) (front : List Entry) (e : Entry) (back : List Entry)
-    → IsBuckets names depth old → names (hash e.key) ≡ b → old b ≡ front ++ e ∷ back → Changed names b old new (front ++ back)
+-- an entry goes, and the last one of those behind it in its page takes its place
+pub dropped : (names depth : ℕ → ℕ) (old new : ℕ → List Entry) (b : ℕ) (front : List Entry) (e : Entry) (mid back : List Entry)
+    → IsBuckets names depth old → names (hash e.key) ≡ b → old b ≡ front ++ e ∷ (mid ++ back) → Changed names b old new (front ++ (last_first mid ++ back))
     → IsBuckets names depth new × ((r : ℕ) (k : List ℕ) → lookup names new r k ≡ alter (lookup names old) e.relation e.key None r k)
-dropped names depth old new b front e back is home parts c = (
-  bucket_kept names depth old new b (front ++ back) is c (once_remove front e back once).1
-      (each_remove (λ x. names (hash x.key) ≡ b) front e back (rw parts at (rw home at (is.own (hash e.key))))).1,
-  bucket_alters names old new b (front ++ back) e None c home
-      (λ r k. look_drop r k front e back once ∙ ap (λ x. cond (is_at r k e) None (look r k x)) (sym parts)),
+dropped names depth old new b front e mid back is home parts c = (
+  bucket_kept names depth old new b (front ++ (last_first mid ++ back)) is c (turned.once gone.1)
+      (turned.each (each_remove (λ x. names (hash x.key) ≡ b) front e (mid ++ back) (rw parts at (rw home at (is.own (hash e.key))))).1),
+  bucket_alters names old new b (front ++ (last_first mid ++ back)) e None c home
+      (λ r k. turned.same gone.1 r k ∙ look_drop r k front e (mid ++ back) once ∙ ap (λ x. cond (is_at r k e) None (look r k x)) (sym parts)),
 )
   where
-    once : Once (front ++ e ∷ back)
+    once : Once (front ++ e ∷ (mid ++ back))
     once = rw parts at (rw home at (is.once (hash e.key)))
+
+    gone : (look e.relation e.key (front ++ (mid ++ back)) ≡ None) × Once (front ++ (mid ++ back))
+    gone = once_remove front e (mid ++ back) once
+
+    turned : Turned (λ x. names (hash x.key) ≡ b) (front ++ (mid ++ back)) (front ++ (last_first mid ++ back))
+    turned = last_turned (λ x. names (hash x.key) ≡ b) front mid back
 
 pub renamed : (names depth : ℕ → ℕ) (old new : ℕ → List Entry) (b : ℕ) (front : List Entry) (e : Entry) (n : RecordName) (back : List Entry)
     → IsBuckets names depth old → names (hash e.key) ≡ b → old b ≡ front ++ e ∷ back → Changed names b old new (front ++ record e { name = n } ∷ back)

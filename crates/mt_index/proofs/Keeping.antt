@@ -1,12 +1,12 @@
 -- The plans keep the index, and change one key.
 use Rattle.std.proofs.Common.{◌≡◌, ◌≢◌, ℕ, ◌≤◌, ◌^◌, ◌%◌, Bool, true, false, List, [], ◌∷◌, ◌++◌, length, get_or, Some, None, refl, ap, sym, ◌∙◌, subst, arith, length-append, inl, inr}
 use Rattle.mt_base.specs.declared.numbers.RecordName.{RecordName}
-use Rattle.mt_bucket.specs.Entries.{Entry}
+use Rattle.mt_bucket.specs.Entries.{Entry, last_first}
 use Rattle.mt_bucket.specs.Hash.{hash}
 use Rattle.mt_index.specs.Maps.{Map, Each, alter}
 use Rattle.mt_index.specs.Index.{Node, State, named, Linked, IsTree, IsIndex}
 use Rattle.mt_index.specs.Steps.{Walk, OnChain, Halves, double, Puts, Adds, Drops, Sets}
-use Rattle.mt_index.proofs.Lists.{each_remove}
+use Rattle.mt_index.proofs.Lists.{each_remove, last_first_length}
 use Rattle.mt_index.proofs.Chains.{linked_same, linked_at}
 use Rattle.mt_index.proofs.Steps.{entry_added, entry_dropped, entry_renamed}
 use Rattle.mt_index.proofs.Overflow.{entry_chained}
@@ -85,8 +85,8 @@ add_kept true s t m e i absent (inl w) = put_kept s t m e i absent w
 add_kept true s t m e i absent (inr (u, q, l, inl h, w)) = put_kept u t m e (half_kept s u m e.key q l i h) absent w
 add_kept true s t m e i absent (inr (u, q, l, inr h, w)) = put_kept u t m e (half_kept (double s) u m e.key q l (directory_doubled s m i) h) absent w
 
-less_one : (x : List Entry) (e : Entry) (y : List Entry) → length (x ++ e ∷ y) ≤ 58 → length (x ++ y) ≤ 58
-less_one x e y le = omega (arith, length-append x y, length-append x (e ∷ y))
+less_one : (x : List Entry) (e : Entry) (y : List Entry) → length (x ++ e ∷ y) ≤ 58 → length (x ++ last_first y) ≤ 58
+less_one x e y le = omega (arith, length-append x (last_first y), last_first_length y, length-append x (e ∷ y))
 
 same_many : (x : List Entry) (e f : Entry) (y : List Entry) → length (x ++ e ∷ y) ≤ 58 → length (x ++ f ∷ y) ≤ 58
 same_many x e f y le = omega (arith, length-append x (f ∷ y), length-append x (e ∷ y))

@@ -1,10 +1,10 @@
 -- A list of entries as a map.
-use Rattle.std.proofs.Common.{◌≡◌, ℕ, Bool, true, false, cond, ◌==◌, List, [], ◌∷◌, ◌++◌, Option, Some, None, bytes_eq, refl, ap, sym, ◌∙◌, filter}
+use Rattle.std.proofs.Common.{◌≡◌, ℕ, Bool, true, false, cond, ◌==◌, List, [], ◌∷◌, ◌++◌, Option, Some, None, bytes_eq, refl, ap, sym, subst, ◌+◌, ◌∙◌, filter, length, append_assoc, length-append, arith}
 use Rattle.std.proofs.lemmas.Bool.{and_parts, and_from, both_ways}
 use Rattle.std.proofs.lemmas.Bool.Decides.{Decides-eqb}
 use Rattle.std.specs.Cmp.Lexicographic.{bytes_decides}
 use Rattle.mt_base.specs.declared.numbers.RecordName.{RecordName}
-use Rattle.mt_bucket.specs.Entries.{Entry, is_at, look}
+use Rattle.mt_bucket.specs.Entries.{Entry, is_at, look, behind_first, last_first}
 use Rattle.mt_index.specs.Maps.{Once, Each}
 
 pub at_parts : (r : ℕ) (k : List ℕ) (e : Entry) → is_at r k e ≡ true → (e.relation ≡ r) × (e.key ≡ k)
@@ -125,3 +125,55 @@ keep_step P p false x fs is h r = r
 pub each_filter : {A : Type 0} (P : A → Type 0) (p : A → Bool) (xs : List A) → Each P xs → Each (λ y. P y × (p y ≡ true)) (filter p xs)
 each_filter P p [] h = tt
 each_filter P p (x ∷ xs) h = keep_step P p (p x) x (filter p xs) refl h.0 (each_filter P p xs h.1)
+
+-- ---- the last one of some entries, put in front of the others
+
+-- a list that is not empty by its last entry
+pub record Ends (es : List Entry) : Type 0 where
+  pub others : List Entry
+  pub last : Entry
+  pub whole : es ≡ others ++ last ∷ []
+  pub turned : last_first es ≡ last ∷ others
+
+pub ends : (e : Entry) (es : List Entry) → Ends (e ∷ es)
+ends e [] = record { others = []; last = e; whole = refl; turned = refl }
+ends e (f ∷ es) = let r = ends f es in record {
+  others = e ∷ r.others;
+  last = r.last;
+  whole = ap (λ xs. e ∷ xs) r.whole;
+  turned = ap (behind_first e) r.turned;
+}
+
+pub last_first_length : (es : List Entry) → length (last_first es) ≡ length es
+last_first_length [] = refl
+last_first_length (e ∷ es) = let r = ends e es in ap length r.turned ∙ (let a = ap length r.whole in omega (arith, length-append r.others (r.last ∷ [])))
+
+-- the entries among others, before and after
+pub record Turned (P : Entry → Type 0) (old new : List Entry) : Type 0 where
+  pub each : Each P old → Each P new
+  pub once : Once old → Once new
+  pub same : Once old → (r : ℕ) (k : List ℕ) → look r k new ≡ look r k old
+
+-- an entry moves up
+moved_up : (P : Entry → Type 0) (front mid : List Entry) (l : Entry) (back : List Entry) → Turned P (front ++ mid ++ l ∷ back) (front ++ l ∷ (mid ++ back))
+moved_up P front mid l back = record {
+  each = λ h. let r = each_remove P (front ++ mid) l back h in each_insert P front l (mid ++ back) r.0 (subst (Each P) joined r.1);
+  once = λ o. once_insert front l (mid ++ back) (absent o) (subst Once joined (once_remove (front ++ mid) l back o).1);
+  same = λ o r k. look_insert r k front l (mid ++ back) (absent o) ∙ ap (λ xs. cond (is_at r k l) (Some l.name) (look r k xs)) (sym joined)
+      ∙ sym (look_insert r k (front ++ mid) l back (once_remove (front ++ mid) l back o).0);
+}
+  where
+    joined : front ++ mid ++ back ≡ front ++ (mid ++ back)
+    joined = append_assoc front mid back
+
+    absent : Once (front ++ mid ++ l ∷ back) → look l.relation l.key (front ++ (mid ++ back)) ≡ None
+    absent o = ap (look l.relation l.key) (sym joined) ∙ (once_remove (front ++ mid) l back o).0
+
+pub last_turned : (P : Entry → Type 0) (front es back : List Entry) → Turned P (front ++ (es ++ back)) (front ++ (last_first es ++ back))
+last_turned P front [] back = record { each = λ h. h; once = λ o. o; same = λ o r k. refl }
+last_turned P front (e ∷ es) back =
+    let w = ends e es in
+    let old : front ++ w.others ++ w.last ∷ back ≡ front ++ (e ∷ es ++ back) =
+    append_assoc front w.others (w.last ∷ back) ∙ ap (λ xs. front ++ xs) (sym (append_assoc w.others (w.last ∷ []) back) ∙ ap (λ xs. xs ++ back) (sym w.whole)) in
+    let new : front ++ w.last ∷ (w.others ++ back) ≡ front ++ (last_first (e ∷ es) ++ back) = ap (λ xs. front ++ (xs ++ back)) (sym w.turned) in
+    subst (λ (x : List Entry). Turned P x (front ++ (last_first (e ∷ es) ++ back))) old (subst (Turned P (front ++ w.others ++ w.last ∷ back)) new (moved_up P front w.others w.last back))

@@ -3,7 +3,7 @@ use Rattle.std.proofs.Common.{◌≡◌, ◌≢◌, ℕ, ◌^◌, ◌⊎◌, inl
 use Rattle.std.specs.Bool.{OnTrue, OnFalse}
 use Rattle.std.proofs.lemmas.Bool.{cases_eq}
 use Rattle.mt_base.specs.declared.numbers.RecordName.{RecordName}
-use Rattle.mt_bucket.specs.Entries.{Entry, is_at, look, renamed, without}
+use Rattle.mt_bucket.specs.Entries.{Entry, is_at, look, renamed, last_first, without}
 use Rattle.mt_bucket.specs.Page.{depth_of, next_of, entries, KeepsHead, IsBucket}
 use Rattle.mt_index.specs.Maps.{Map, alter}
 use Rattle.mt_index.specs.Index.{IsIndex}
@@ -80,7 +80,7 @@ pub record Parts (r : ℕ) (k : List ℕ) (es : List Entry) : Type 0 where
   pub relation : entry.relation ≡ r
   pub key : entry.key ≡ k
   pub set : (name : RecordName) → renamed r k name es ≡ front ++ record entry { name = name } ∷ back
-  pub gone : without r k es ≡ front ++ back
+  pub gone : without r k es ≡ front ++ last_first back
 
 pub parts_of : (r : ℕ) (k : List ℕ) (es : List Entry) (old : RecordName) → look r k es ≡ Some old → Parts r k es
 parts_of r k [] old is = absurd cc
@@ -95,7 +95,7 @@ parts_of r k (e ∷ es) old is = go (is_at r k e) refl (parts_of r k es old)
       relation = p.0;
       key = p.1;
       set = λ name. ap (λ (b : Bool). cond b (record e { name = name } ∷ es) (e ∷ renamed r k name es)) t;
-      gone = ap (λ (b : Bool). cond b es (e ∷ without r k es)) t;
+      gone = ap (λ (b : Bool). cond b (last_first es) (e ∷ without r k es)) t;
     }
     go false t rec = let p = rec (sym (ap (λ (b : Bool). cond b (Some e.name) (look r k es)) t) ∙ is) in record {
       front = e ∷ p.front;
@@ -105,7 +105,7 @@ parts_of r k (e ∷ es) old is = go (is_at r k e) refl (parts_of r k es old)
       relation = p.relation;
       key = p.key;
       set = λ name. ap (λ (b : Bool). cond b (record e { name = name } ∷ es) (e ∷ renamed r k name es)) t ∙ ap (λ xs. e ∷ xs) (p.set name);
-      gone = ap (λ (b : Bool). cond b es (e ∷ without r k es)) t ∙ ap (λ xs. e ∷ xs) p.gone;
+      gone = ap (λ (b : Bool). cond b (last_first es) (e ∷ without r k es)) t ∙ ap (λ xs. e ∷ xs) p.gone;
     }
 
 -- it was found, so the call did not answer that it was not

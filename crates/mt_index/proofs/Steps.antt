@@ -2,7 +2,7 @@
 use Rattle.std.proofs.Common.{◌≡◌, ◌≢◌, ℕ, ◌<◌, ◌≤◌, ◌==◌, ◌&&◌, cond, List, [], ◌∷◌, ◌++◌, length, Option, Some, None, refl, ap, sym, ◌∙◌, subst, arith, append_assoc, length-append, ◌⊎◌, inl, inr, bytes_eq}
 use Rattle.std.proofs.lemmas.Bool.{cases_eq}
 use Rattle.mt_base.specs.declared.numbers.RecordName.{RecordName}
-use Rattle.mt_bucket.specs.Entries.{Entry}
+use Rattle.mt_bucket.specs.Entries.{Entry, last_first}
 use Rattle.mt_bucket.specs.Hash.{hash}
 use Rattle.mt_index.specs.Maps.{Map, Each, alter}
 use Rattle.mt_index.specs.Buckets.{IsBuckets, lookup, Changed}
@@ -109,19 +109,19 @@ entry_added names g node kind m node2 i e p front back parts absent room w =
 -- an entry goes out of its page
 pub entry_dropped : (names : ℕ → ℕ) (g : ℕ) (node : ℕ → Node) (kind : ℕ → ℕ) (m : Map) (node2 : ℕ → Node) (i : IsTree names g node kind m)
     (e : Entry) (p : ℕ) (front back : List ℕ) (x y : List Entry) → i.chain (names (hash e.key)) ≡ front ++ p ∷ back → (node p).entries ≡ x ++ e ∷ y
-    → length (x ++ y) ≤ 58 → Rewrites p (x ++ y) node node2 → IsTree names g node2 kind (alter m e.relation e.key None)
+    → length (x ++ last_first y) ≤ 58 → Rewrites p (x ++ last_first y) node node2 → IsTree names g node2 kind (alter m e.relation e.key None)
 entry_dropped names g node kind m node2 i e p front back x y parts there fits w =
-    rebuilt names g node kind m _ node2 i p (x ++ y) w fits r.0
+    rebuilt names g node kind m _ node2 i p (x ++ last_first y) w fits r.0
     (λ s l. r.1 s l ∙ altered m (lookup names (λ b. entries_of node (i.chain b))) e.relation e.key None i.map s l)
   where
     r : IsBuckets names (λ b. (node b).depth) (λ b. entries_of node2 (i.chain b))
         × ((s : ℕ) (l : List ℕ) → lookup names (λ b. entries_of node2 (i.chain b)) s l ≡ alter (lookup names (λ b. entries_of node (i.chain b))) e.relation e.key None s l)
     r = dropped names (λ b. (node b).depth) (λ b. entries_of node (i.chain b)) (λ b. entries_of node2 (i.chain b)) (names (hash e.key))
-        (entries_of node front ++ x) e (y ++ entries_of node back) i.buckets refl
+        (entries_of node front ++ x) e y (entries_of node back) i.buckets refl
         (ap (entries_of node) parts ∙ entries_parts node front p back ∙ ap (λ z. entries_of node front ++ (z ++ entries_of node back)) there ∙ with_one (entries_of node front) x e y (entries_of node back))
         (subst (Changed names (names (hash e.key)) (λ b. entries_of node (i.chain b)) (λ b. entries_of node2 (i.chain b)))
-        (with_none (entries_of node front) x y (entries_of node back))
-        (rewritten_changes names g node kind m node2 i (hash e.key) p front back (x ++ y) parts w))
+        (with_none (entries_of node front) x (last_first y) (entries_of node back))
+        (rewritten_changes names g node kind m node2 i (hash e.key) p front back (x ++ last_first y) parts w))
 
 -- an entry's name is set
 pub entry_renamed : (names : ℕ → ℕ) (g : ℕ) (node : ℕ → Node) (kind : ℕ → ℕ) (m : Map) (node2 : ℕ → Node) (i : IsTree names g node kind m)

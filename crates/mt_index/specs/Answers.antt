@@ -11,6 +11,7 @@ use Rattle.mt_space.specs.declared.changes.PageChange.{PageChange}
 use Rattle.mt_index.specs.declared.answers.Amend.{Amend}
 use Rattle.mt_index.specs.declared.answers.Amend.TheVariants as amend
 use Rattle.mt_index.specs.Index.{kept_low, kept_high}
+use Rattle.mt_index.specs.Steps.{OnChain}
 use Rattle.mt_index.specs.Rule.{IsFull, MaySplit, Way}
 use Rattle.mt_space.specs.Changes.{PageBytes, Agrees, after, AreShort}
 use Rattle.mt_space.specs.Kinds.{kind}
@@ -28,9 +29,9 @@ use Rattle.mt_index.specs.declared.answers.Held.TheVariants as held
 abbrev pub InMaps : (ℕ → Option (List ℕ)) → ℕ → (PageBytes → Map → Type 0) → Type 0
 InMaps at_hand total P = (pages : PageBytes) → Agrees at_hand pages → (m : Map) → AreMap total pages m → P pages m
 
--- the directory is read; a bucket's page is locked as the plan says
-abbrev pub IsInBucket : Mode → PageBytes → ℕ → Mode → Type 0
-IsInBucket in_bucket pages p mode = ((p ≡ 1) × (mode ≡ Read)) ⊎ ((kind pages p ≡ 2) × (mode ≡ in_bucket))
+-- the directory is read; a page on the key's chain is locked as the plan says
+abbrev pub IsInBucket : List ℕ → Mode → PageBytes → ℕ → Mode → Type 0
+IsInBucket key in_bucket pages p mode = ((p ≡ 1) × (mode ≡ Read)) ⊎ ((kind pages p ≡ 2) × (mode ≡ in_bucket) × OnChain (state_of pages) key p)
 
 -- a page is needed that is not at hand
 pub record Asks (at_hand : ℕ → Option (List ℕ)) (total : ℕ) (Role : PageBytes → ℕ → Mode → Type 0) (p : ℕ) (mode : Mode) : Type 0 where
@@ -162,6 +163,7 @@ pub record Fits (relations total : ℕ) (e : Entry) : Type 0 where
 pub record Added (split : Bool) (total : ℕ) (e : Entry) (pages pages2 : PageBytes) : Type 0 where
   pub way : Way split e (state_of pages) (state_of pages2)
   pub stays : Stays total pages pages2
+  pub directory : split ≡ false → pages2 1 ≡ pages 1
   pub formed : (relations : ℕ) → Fits relations total e → AreFormed relations total pages → AreFormed relations total pages2
 
 -- at most five pages change, each once
@@ -190,17 +192,19 @@ pub record Shortage (split : Bool) (total : ℕ) (e : Entry) (pages : PageBytes)
   pub full : IsEnd e.key pages last alone
   pub free : HasNoneFree total pages ⊎ ((split ≡ true) × (MaySplit e.key (state_of pages) × (((q : ℕ) × HasOneFree total pages q) × IsLopsided e pages last)))
 
--- besides the pages of the bucket: the map of the space, the directory where it is to change, and pages to be
+-- besides the pages of the bucket: the map of the space, the directory where a split may change it, and pages to be
 -- taken are needed, to be written
-abbrev pub IsInAdd : ℕ → PageBytes → ℕ → Mode → Type 0
-IsInAdd total pages p mode = IsInBucket Write pages p mode ⊎ (((p ≡ 0) ⊎ ((p ≡ 1) ⊎ ((kind pages p ≡ 0) × (p < total)))) × (mode ≡ Write))
+abbrev pub IsInAdd : Bool → List ℕ → ℕ → PageBytes → ℕ → Mode → Type 0
+IsInAdd split key total pages p mode =
+    IsInBucket key Write pages p mode
+    ⊎ (((p ≡ 0) ⊎ (((p ≡ 1) × (split ≡ true)) ⊎ ((kind pages p ≡ 0) × (p < total)))) × (mode ≡ Write))
 
 -- each page that is taken is at hand
 abbrev pub TakesSeen : (ℕ → Option (List ℕ)) → PageBytes → List PageChange → Type 0
 TakesSeen at_hand pages changes = (p : ℕ) → kind pages p ≡ 0 → kind (after changes pages) p ≢ 0 → IsSome (at_hand p)
 
 abbrev pub IsPlanned : (ℕ → Option (List ℕ)) → ℕ → Bool → Entry → Add → Type 0
-IsPlanned at_hand total split e (add.Need p mode) = Asks at_hand total (IsInAdd total) p mode
+IsPlanned at_hand total split e (add.Need p mode) = Asks at_hand total (IsInAdd split e.key total) p mode
 IsPlanned at_hand total split e (add.Changes changes) = InMaps at_hand total (λ pages m. Adds split total e pages changes.list.items × TakesSeen at_hand pages changes.list.items)
 IsPlanned at_hand total split e add.Full = InMaps at_hand total (λ pages m. Shortage split total e pages)
 IsPlanned at_hand total split e add.Endless = InMaps at_hand total (λ pages m. ⊥)

@@ -1,7 +1,7 @@
 -- What the plans do to the pages of an index.
 use Rattle.std.specs.Prelude.{ℕ, suc, ◌≡◌, ◌≢◌, ◌<◌, ◌⊎◌, Bool, true, false, List, [], ◌∷◌, ◌++◌, length}
 use Rattle.mt_base.specs.declared.numbers.RecordName.{RecordName}
-use Rattle.mt_bucket.specs.Entries.{Entry}
+use Rattle.mt_bucket.specs.Entries.{Entry, last_first}
 use Rattle.mt_bucket.specs.Hash.{hash}
 use Rattle.mt_index.specs.Index.{Node, State, named, Rewrites, Takes, Chains, Divides, Repoints}
 
@@ -61,7 +61,7 @@ Adds true e s t = Puts e s t ⊎ ((u : State) × (q : ℕ) × (l : ℕ) × (Halv
 pub record Drops (e : Entry) (p : ℕ) (x y : List Entry) (s t : State) : Type 0 where
   pub on : OnChain s e.key p
   pub there : (s.node p).entries ≡ x ++ e ∷ y
-  pub change : OnePage p (x ++ y) s t
+  pub change : OnePage p (x ++ last_first y) s t
 
 pub record Sets (e : Entry) (n : RecordName) (p : ℕ) (x y : List Entry) (s t : State) : Type 0 where
   pub on : OnChain s e.key p

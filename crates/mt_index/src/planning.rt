@@ -37,7 +37,7 @@ pub fn plan_add<V: Pages>(
     requires sound { V.is_sound views.now }
     requires relation_fits { relation < 256 }
     requires short { length key.now ≤ 64 }
-    ensures need { IfOk result (λ add. AddNeeds add (Asks (V.at_hand views.now) (V.total views.now) (IsInAdd (V.total views.now)))) }
+    ensures need { IfOk result (λ add. AddNeeds add (Asks (V.at_hand views.now) (V.total views.now) (IsInAdd split key.now (V.total views.now)))) }
     ensures added { IfOk result (λ add. IfAdded add (λ changes. InMaps (V.at_hand views.now) (V.total views.now) (λ pages m.
         Adds split (V.total views.now) (record { relation = relation; key = key.now; name = name }) pages changes))) }
     ensures map { IfOk result (λ add. IfAdded add (λ changes. InMaps (V.at_hand views.now) (V.total views.now) (λ pages m.

@@ -14,7 +14,7 @@ use mt_space::pages::DIRECTORY;
 pub(crate) fn holder_of<V: Pages>(views: &V, relation: RelNo, key: &[u8], mode: Mode) -> Held
     requires sound { V.is_sound views.now }
     requires short { length key.now ≤ 64 }
-    ensures need { HeldNeeds result (Asks (V.at_hand views.now) (V.total views.now) (IsInBucket mode)) }
+    ensures need { HeldNeeds result (Asks (V.at_hand views.now) (V.total views.now) (IsInBucket key.now mode)) }
     ensures at_hand { IfIn result (λ page name. (V.at_hand views.now page ≡ None → ⊥)) }
     ensures found { IfIn result (λ page name. InMaps (V.at_hand views.now) (V.total views.now) (λ pages m. Holds relation key.now pages page name)) }
     ensures nowhere { IfNowhere result (InMaps (V.at_hand views.now) (V.total views.now) (λ pages m. m relation key.now ≡ None)) }
@@ -43,7 +43,7 @@ pub(crate) fn holder_of<V: Pages>(views: &V, relation: RelNo, key: &[u8], mode: 
 // The first page of the key's bucket with room for an entry, or else its last page.
 pub(crate) fn room_in<V: Pages>(views: &V, key: &[u8]) -> Spot
     requires sound { V.is_sound views.now }
-    ensures need { SpotNeeds result (Asks (V.at_hand views.now) (V.total views.now) (IsInBucket Write)) }
+    ensures need { SpotNeeds result (Asks (V.at_hand views.now) (V.total views.now) (IsInBucket key.now Write)) }
     ensures room { IfRoom result (λ page. InMaps (V.at_hand views.now) (V.total views.now) (λ pages m. HasRoom key.now pages page)) }
     ensures behind { IfBehind result (λ last alone. InMaps (V.at_hand views.now) (V.total views.now) (λ pages m. IsEnd key.now pages last alone)) }
     ensures endless { SpotEndless result (InMaps (V.at_hand views.now) (V.total views.now) (λ pages m. ⊥)) }

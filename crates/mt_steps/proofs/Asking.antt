@@ -1,5 +1,5 @@
 -- Pages that a plan asks for are among those that there are.
-use Rattle.std.proofs.Common.{◌≡◌, ◌≢◌, ◌⊎◌, inl, inr, ⊎_elim, ℕ, ◌<◌, ◌≤◌, ◌+◌, List, [], ◌∷◌, Option, None, Some, length, get_or, refl, ap, sym, ◌∙◌, subst, arith}
+use Rattle.std.proofs.Common.{◌≡◌, ◌≢◌, ◌⊎◌, inl, inr, ⊎_elim, Bool, ℕ, ◌<◌, ◌≤◌, ◌+◌, List, [], ◌∷◌, Option, None, Some, length, get_or, refl, ap, sym, ◌∙◌, subst, arith}
 use Rattle.std.specs.Prelude.{All, IsSome}
 use Rattle.std.proofs.lemmas.Bool.{cases_eq}
 use Rattle.std.proofs.lemmas.List.Elements.{All-head, All-cons, All-nil}
@@ -34,19 +34,19 @@ pub kind_inside : (total : ℕ) (pages : PageBytes) (m : Map) (p n : ℕ) → Ar
 kind_inside total pages m p n a is some = a.within p (λ z. some (sym is ∙ z))
 
 -- the directory, or a page of a bucket
-pub bucket_inside : (total : ℕ) (pages : PageBytes) (m : Map) (in_bucket : Mode) (p : ℕ) (mode : Mode) → AreMap total pages m → IsInBucket in_bucket pages p mode → p < total
-bucket_inside total pages m in_bucket p mode a = ⊎_elim
+pub bucket_inside : (total : ℕ) (key : List ℕ) (pages : PageBytes) (m : Map) (in_bucket : Mode) (p : ℕ) (mode : Mode) → AreMap total pages m → IsInBucket key in_bucket pages p mode → p < total
+bucket_inside total key pages m in_bucket p mode a = ⊎_elim
     (λ d. subst (λ (q : ℕ). q < total) (sym d.0) (kind_inside total pages m 1 1 a a.directory_fixed (omega arith)))
     (λ b. kind_inside total pages m p 2 a b.0 (omega arith))
 
 -- what an add to the index asks for
-pub add_inside : (total : ℕ) (pages : PageBytes) (m : Map) (p : ℕ) (mode : Mode) → AreMap total pages m → IsInAdd total pages p mode → p < total
-add_inside total pages m p mode a role = elim role [
-  | inl bucket ↦ bucket_inside total pages m _ p mode a bucket
+pub add_inside : (total : ℕ) (split : Bool) (key : List ℕ) (pages : PageBytes) (m : Map) (p : ℕ) (mode : Mode) → AreMap total pages m → IsInAdd split key total pages p mode → p < total
+add_inside total split key pages m p mode a role = elim role [
+  | inl bucket ↦ bucket_inside total key pages m _ p mode a bucket
   | inr other ↦ elim other.0 [
     | inl space ↦ subst (λ (q : ℕ). q < total) (sym space) (kind_inside total pages m 0 1 a a.space_fixed (omega arith))
     | inr rest ↦ elim rest [
-      | inl directory ↦ subst (λ (q : ℕ). q < total) (sym directory) (kind_inside total pages m 1 1 a a.directory_fixed (omega arith))
+      | inl directory ↦ subst (λ (q : ℕ). q < total) (sym directory.0) (kind_inside total pages m 1 1 a a.directory_fixed (omega arith))
       | inr free ↦ free.1
     ]
   ]

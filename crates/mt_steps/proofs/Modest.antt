@@ -16,7 +16,7 @@ use Rattle.mt_file.proofs.Filed.{record_kind}
 use Rattle.mt_index.specs.Index.{State}
 use Rattle.mt_index.specs.Rule.{Way, Here, Chained, SplitHere, SplitChained}
 use Rattle.mt_index.specs.Maps.{Map}
-use Rattle.mt_index.specs.Pages.{state_of}
+use Rattle.mt_index.specs.Pages.{state_of, AreMap}
 use Rattle.mt_index.specs.Answers.{Added, Shortage}
 use Rattle.mt_steps.specs.Held.{AreRows}
 use Rattle.mt_steps.specs.Acts.{IsPlaced, IsTaken, IsKept, IsMoved}
@@ -25,23 +25,29 @@ use Rattle.mt_steps.specs.Plans.{free_pages, IsTight, IsModest}
 -- ---- one step, and more
 
 -- the map stays
-pub modest_same : (at_hand : ℕ → Option (List ℕ)) (total n : ℕ) (pages pages2 : PageBytes) → pages2 0 ≡ pages 0 → IsModest at_hand total n pages pages2
-modest_same at_hand total n pages pages2 same = record {
+pub modest_same : (at_hand : ℕ → Option (List ℕ)) (total n : ℕ) (split : Bool) (pages pages2 : PageBytes) → pages2 0 ≡ pages 0 → pages2 1 ≡ pages 1 → IsModest at_hand total n split pages pages2
+modest_same at_hand total n split pages pages2 same directory = record {
   kinds = λ p none. ap (λ (map : List ℕ). get_or map p 0) same;
   takes = let free = ap (λ (map : List ℕ). free_in (mapped map total)) same in omega (arith, free);
+  directory = λ none. directory;
 }
 
-pub modest_nothing : (at_hand : ℕ → Option (List ℕ)) (total n : ℕ) (pages : PageBytes) (changes : List PageChange) → changes ≡ [] → IsModest at_hand total n pages (after changes pages)
-modest_nothing at_hand total n pages changes none = modest_same at_hand total n pages (after changes pages) (ap (λ (l : List PageChange). after l pages 0) none)
+pub modest_nothing : (at_hand : ℕ → Option (List ℕ)) (total n : ℕ) (split : Bool) (pages : PageBytes) (changes : List PageChange) → changes ≡ [] → IsModest at_hand total n split pages (after changes pages)
+modest_nothing at_hand total n split pages changes none = modest_same at_hand total n split pages (after changes pages) (ap (λ (l : List PageChange). after l pages 0) none) (ap (λ (l : List PageChange). after l pages 1) none)
 
-pub modest_trans : (at_hand : ℕ → Option (List ℕ)) (total n k : ℕ) (a b c : PageBytes) → IsModest at_hand total n a b → IsModest at_hand total k b c → IsModest at_hand total (n + k) a c
-modest_trans at_hand total n k a b c x y = record {
+pub modest_trans : (at_hand : ℕ → Option (List ℕ)) (total n k : ℕ) (split : Bool) (a b c : PageBytes) → IsModest at_hand total n split a b → IsModest at_hand total k split b c → IsModest at_hand total (n + k) split a c
+modest_trans at_hand total n k split a b c x y = record {
   kinds = λ p none. y.kinds p none ∙ x.kinds p none;
   takes = let first = x.takes in let second = y.takes in omega (arith, first, second);
+  directory = λ none. y.directory none ∙ x.directory none;
 }
 
-pub modest_more : (at_hand : ℕ → Option (List ℕ)) (total n k : ℕ) (a b : PageBytes) → n ≤ k → IsModest at_hand total n a b → IsModest at_hand total k a b
-modest_more at_hand total n k a b le x = record { kinds = x.kinds; takes = let takes = x.takes in omega (arith, takes, le) }
+pub modest_more : (at_hand : ℕ → Option (List ℕ)) (total n k : ℕ) (split : Bool) (a b : PageBytes) → n ≤ k → IsModest at_hand total n split a b → IsModest at_hand total k split a b
+modest_more at_hand total n k split a b le x = record { kinds = x.kinds; takes = let takes = x.takes in omega (arith, takes, le); directory = x.directory }
+
+-- what is so without a split is so
+pub modest_any : (at_hand : ℕ → Option (List ℕ)) (total n : ℕ) (split : Bool) (a b : PageBytes) → IsModest at_hand total n false a b → IsModest at_hand total n split a b
+modest_any at_hand total n split a b x = record { kinds = x.kinds; takes = x.takes; directory = λ none. x.directory refl }
 
 seen_none : (at_hand : ℕ → Option (List ℕ)) (p : ℕ) → IsSome (at_hand p) → at_hand p ≡ None → ⊥
 seen_none at_hand p some none = go (at_hand p) some none
@@ -54,17 +60,19 @@ apart : (at_hand : ℕ → Option (List ℕ)) (p q : ℕ) → IsSome (at_hand q)
 apart at_hand p q some none same = seen_none at_hand q some (ap at_hand (sym same) ∙ none)
 
 -- one page at hand changes its kind
-touches_modest : (at_hand : ℕ → Option (List ℕ)) (total : ℕ) (pages mid : PageBytes) (q : ℕ) → length (mid 0) ≡ length (pages 0) → Touches pages mid q → IsSome (at_hand q) → IsModest at_hand total 1 pages mid
-touches_modest at_hand total pages mid q size t some = record {
+touches_modest : (at_hand : ℕ → Option (List ℕ)) (total : ℕ) (split : Bool) (pages mid : PageBytes) (q : ℕ) → length (mid 0) ≡ length (pages 0) → Touches pages mid q → 1 ≢ q → IsSome (at_hand q) → IsModest at_hand total 1 split pages mid
+touches_modest at_hand total split pages mid q size t off some = record {
   kinds = λ p none. t.kinds p (apart at_hand p q some none);
   takes = free_but_one (pages 0) (mid 0) total q size (λ p ne free. t.kinds p ne ∙ free);
+  directory = λ none. t.others 1 off (omega arith);
 }
 
 -- and it was not free
-drops_modest : (at_hand : ℕ → Option (List ℕ)) (total : ℕ) (pages mid : PageBytes) (q : ℕ) → length (mid 0) ≡ length (pages 0) → Touches pages mid q → kind pages q ≡ 3 → IsSome (at_hand q) → IsModest at_hand total 0 pages mid
-drops_modest at_hand total pages mid q size t three some = record {
+drops_modest : (at_hand : ℕ → Option (List ℕ)) (total : ℕ) (split : Bool) (pages mid : PageBytes) (q : ℕ) → length (mid 0) ≡ length (pages 0) → Touches pages mid q → 1 ≢ q → kind pages q ≡ 3 → IsSome (at_hand q) → IsModest at_hand total 0 split pages mid
+drops_modest at_hand total split pages mid q size t off three some = record {
   kinds = λ p none. t.kinds p (apart at_hand p q some none);
   takes = let fewer = free_stay (pages 0) (mid 0) total size (λ p free. t.kinds p (not_here p free) ∙ free) in omega (arith, fewer);
+  directory = λ none. t.others 1 off (omega arith);
 }
   where
     not_here : (p : ℕ) → kind pages p ≡ 0 → p ≢ q
@@ -75,29 +83,45 @@ drops_modest at_hand total pages mid q size t three some = record {
 sizes : (pages mid : PageBytes) → IsFile pages → IsFile mid → length (mid 0) ≡ length (pages 0)
 sizes pages mid a b = b.whole ∙ sym a.whole
 
-pub placed_modest : (at_hand : ℕ → Option (List ℕ)) (relations total : ℕ) (pages : PageBytes) (m : Map) (changes : List PageChange) (name : RecordName) (row : Row) → AreRows relations total pages m → IsSome (at_hand name.page)
-    → IsPlaced total pages changes name row → IsModest at_hand total 1 pages (after changes pages)
-placed_modest at_hand relations total pages m changes name row rows seen placed =
-    touches_modest at_hand total pages (after changes pages) name.page (sizes pages (after changes pages) rows.file placed.adds.file) placed.adds.touches seen
+-- the directory is no page of another kind
+off_directory : (total : ℕ) (pages : PageBytes) (m : Map) (q n : ℕ) → AreMap total pages m → kind pages q ≡ n → n ≢ 1 → 1 ≢ q
+off_directory total pages m q n a is other same = other (sym is ∙ sym (ap (λ (x : ℕ). kind pages x) same) ∙ a.directory_fixed)
 
-pub taken_modest : (at_hand : ℕ → Option (List ℕ)) (relations total : ℕ) (pages : PageBytes) (m : Map) (changes : List PageChange) (n : RecordName) (row : Row) → AreRows relations total pages m → IsSome (at_hand n.page)
-    → IsTaken pages changes n row → IsModest at_hand total 0 pages (after changes pages)
-taken_modest at_hand relations total pages m changes n row rows seen taken =
-    drops_modest at_hand total pages (after changes pages) n.page (sizes pages (after changes pages) rows.file taken.drops.file) taken.drops.touches (record_kind pages n.page n.slot row taken.stood) seen
+pub placed_modest : (at_hand : ℕ → Option (List ℕ)) (relations total : ℕ) (split : Bool) (pages : PageBytes) (m : Map) (changes : List PageChange) (name : RecordName) (row : Row) → AreRows relations total pages m → IsSome (at_hand name.page)
+    → IsPlaced total pages changes name row → IsModest at_hand total 1 split pages (after changes pages)
+placed_modest at_hand relations total split pages m changes name row rows seen placed =
+    touches_modest at_hand total split pages (after changes pages) name.page (sizes pages (after changes pages) rows.file placed.adds.file) placed.adds.touches (⊎_elim {C = 1 ≢ name.page}
+    (λ (three : kind pages name.page ≡ 3). off_directory total pages m name.page 3 rows.index three (omega arith))
+    (λ (free : kind pages name.page ≡ 0). off_directory total pages m name.page 0 rows.index free (omega arith)) placed.was) seen
 
-pub kept_modest : (at_hand : ℕ → Option (List ℕ)) (total : ℕ) (pages : PageBytes) (changes : List PageChange) (n : RecordName) (old row : Row) → kind pages 0 ≡ 1 → IsKept pages changes n old row → IsModest at_hand total 1 pages (after changes pages)
-kept_modest at_hand total pages changes n old row fixed kept =
+pub taken_modest : (at_hand : ℕ → Option (List ℕ)) (relations total : ℕ) (split : Bool) (pages : PageBytes) (m : Map) (changes : List PageChange) (n : RecordName) (row : Row) → AreRows relations total pages m → IsSome (at_hand n.page)
+    → IsTaken pages changes n row → IsModest at_hand total 0 split pages (after changes pages)
+taken_modest at_hand relations total split pages m changes n row rows seen taken =
+    let three = record_kind pages n.page n.slot row taken.stood in
+    drops_modest at_hand total split pages (after changes pages) n.page (sizes pages (after changes pages) rows.file taken.drops.file) taken.drops.touches (off_directory total pages m n.page 3 rows.index three (omega arith)) three seen
+
+pub kept_modest : (at_hand : ℕ → Option (List ℕ)) (relations total : ℕ) (split : Bool) (pages : PageBytes) (m : Map) (changes : List PageChange) (n : RecordName) (old row : Row) → AreRows relations total pages m
+    → IsKept pages changes n old row → IsModest at_hand total 1 split pages (after changes pages)
+kept_modest at_hand relations total split pages m changes n old row rows kept =
     let three = record_kind pages n.page n.slot old kept.stood in
-    modest_same at_hand total 1 pages (after changes pages) (kept.stays.others 0 (λ e. let k : kind pages 0 ≡ kind pages n.page = ap (λ (x : ℕ). kind pages x) e in omega (arith, fixed, three, k)))
+    let fixed = rows.index.space_fixed in
+    modest_same at_hand total 1 split pages (after changes pages) (kept.stays.others 0 (λ e. let k : kind pages 0 ≡ kind pages n.page = ap (λ (x : ℕ). kind pages x) e in omega (arith, fixed, three, k)))
+    (kept.stays.others 1 (off_directory total pages m n.page 3 rows.index three (omega arith)))
 
-pub moved_modest : (at_hand : ℕ → Option (List ℕ)) (relations total : ℕ) (pages : PageBytes) (m : Map) (changes : List PageChange) (n to : RecordName) (old row : Row) → AreRows relations total pages m → IsSome (at_hand n.page) → IsSome (at_hand to.page)
-    → IsMoved total pages changes n to old row → IsModest at_hand total 1 pages (after changes pages)
-moved_modest at_hand relations total pages m changes n to old row rows from_seen to_seen moved =
+pub moved_modest : (at_hand : ℕ → Option (List ℕ)) (relations total : ℕ) (split : Bool) (pages : PageBytes) (m : Map) (changes : List PageChange) (n to : RecordName) (old row : Row) → AreRows relations total pages m → IsSome (at_hand n.page) → IsSome (at_hand to.page)
+    → IsMoved total pages changes n to old row → IsModest at_hand total 1 split pages (after changes pages)
+moved_modest at_hand relations total split pages m changes n to old row rows from_seen to_seen moved =
     let between = moved.moves.between in
     let last = after changes pages in
-    let first = drops_modest at_hand total pages between n.page (sizes pages between rows.file moved.moves.drops.file) moved.moves.drops.touches (record_kind pages n.page n.slot old moved.stood) from_seen in
-    let second = touches_modest at_hand total between last to.page (sizes between last moved.moves.drops.file moved.moves.adds.file) moved.moves.adds.touches to_seen in
-    modest_more at_hand total (0 + 1) 1 pages last (omega arith) (modest_trans at_hand total 0 1 pages between last first second)
+    let three = record_kind pages n.page n.slot old moved.stood in
+    let off : 1 ≢ n.page = off_directory total pages m n.page 3 rows.index three (omega arith) in
+    let first = drops_modest at_hand total split pages between n.page (sizes pages between rows.file moved.moves.drops.file) moved.moves.drops.touches off three from_seen in
+    let second = touches_modest at_hand total split between last to.page (sizes between last moved.moves.drops.file moved.moves.adds.file) moved.moves.adds.touches (⊎_elim {C = 1 ≢ to.page}
+    (λ (same : to.page ≡ n.page). λ e. off (e ∙ same))
+    (λ away. ⊎_elim {C = 1 ≢ to.page}
+    (λ (three : kind pages to.page ≡ 3). off_directory total pages m to.page 3 rows.index three (omega arith))
+    (λ (free : kind pages to.page ≡ 0). off_directory total pages m to.page 0 rows.index free (omega arith)) away.0) moved.was) to_seen in
+    modest_more at_hand total (0 + 1) 1 split pages last (omega arith) (modest_trans at_hand total 0 1 split pages between last first second)
 
 -- ---- the index
 
@@ -145,7 +169,7 @@ pub insert_needs : (split : Bool) → 1 + cond split 2 1 ≤ cond split 3 2
 insert_needs true = omega arith
 insert_needs false = omega arith
 
-pub added_modest : (at_hand : ℕ → Option (List ℕ)) (split : Bool) (total : ℕ) (e : Entry) (mid last : PageBytes) → ((p : ℕ) → kind mid p ≡ 0 → kind last p ≢ 0 → IsSome (at_hand p)) → Added split total e mid last → IsModest at_hand total (cond split 2 1) mid last
+pub added_modest : (at_hand : ℕ → Option (List ℕ)) (split : Bool) (total : ℕ) (e : Entry) (mid last : PageBytes) → ((p : ℕ) → kind mid p ≡ 0 → kind last p ≢ 0 → IsSome (at_hand p)) → Added split total e mid last → IsModest at_hand total (cond split 2 1) split mid last
 added_modest at_hand split total e mid last seen added =
     record {
       kinds = λ p none. ⊎_elim
@@ -156,10 +180,14 @@ added_modest at_hand split total e mid last seen added =
           (λ (some : kind mid p ≢ 0). added.stays.kinds p some)
           (cases_eq (kind mid p) 0);
       takes = added_takes split total e mid last added;
+      directory = added.directory;
     }
 
-pub amended_modest : (at_hand : ℕ → Option (List ℕ)) (total : ℕ) (mid last : PageBytes) → kind mid 0 ≡ 1 → ((p : ℕ) → kind mid p ≢ 2 → last p ≡ mid p) → IsModest at_hand total 0 mid last
-amended_modest at_hand total mid last space others = modest_same at_hand total 0 mid last (others 0 (λ two. let k : kind mid 0 ≡ 2 = two in omega (arith, space, k)))
+pub amended_modest : (at_hand : ℕ → Option (List ℕ)) (total : ℕ) (split : Bool) (mid last : PageBytes) (m : Map) → AreMap total mid m → ((p : ℕ) → kind mid p ≢ 2 → last p ≡ mid p) → IsModest at_hand total 0 split mid last
+amended_modest at_hand total split mid last m a others =
+    let space = a.space_fixed in
+    let directory = a.directory_fixed in
+    modest_same at_hand total 0 split mid last (others 0 (λ two. let k : kind mid 0 ≡ 2 = two in omega (arith, space, k))) (others 1 (λ two. let k : kind mid 1 ≡ 2 = two in omega (arith, directory, k)))
 
 -- ---- too few pages
 

@@ -1,5 +1,5 @@
 -- An act on rows and counters is what a plan promises.
-use Rattle.std.proofs.Common.{◌≡◌, ◌<◌, ◌⊎◌, Bool, ℕ, List, [], Result, Ok, Err, IfOk, Option, None, Some, refl, sym, ◌∙◌, ap, subst}
+use Rattle.std.proofs.Common.{◌≡◌, ◌<◌, ◌⊎◌, Bool, false, ℕ, List, [], Result, Ok, Err, IfOk, Option, None, Some, refl, sym, ◌∙◌, ap, subst}
 use Rattle.mt_base.specs.declared.numbers.RecordName.{RecordName}
 use Rattle.mt_slots.specs.Page.{Row}
 use Rattle.mt_space.specs.declared.changes.PageChange.{PageChange}
@@ -17,7 +17,7 @@ use Rattle.mt_steps.specs.Acts.{IfMade, IfFull, InGood, InRoomy, IsAct}
 use Rattle.mt_steps.specs.Logged.{HasSmallReply, HasSmallValues}
 use Rattle.mt_steps.specs.Plans.{IsGood, InPages, IsPlanned, IsModest, IsTight, free_pages, own_needs, record_bytes}
 use Rattle.mt_steps.proofs.Entering.{made_weaker}
-use Rattle.mt_steps.proofs.Modest.{modest_nothing}
+use Rattle.mt_steps.proofs.Modest.{modest_nothing, modest_any}
 use Rattle.mt_steps.proofs.Small.{small_reply}
 
 -- ---- the base that good pages hold
@@ -67,7 +67,7 @@ act_small relations total pages pages2 m op reply rows act =
 -- ---- what is promised
 
 pub planned : (relations counters total : ℕ) (at_hand : ℕ → Option (List ℕ)) (pages : PageBytes) (changes : List PageChange) (op : Op) (split : Bool) (reply : Reply) → IsGood relations counters total pages → IsAct relations total pages (after changes pages) op reply → AreShort changes pages
-    → IsModest at_hand total (own_needs op split) pages (after changes pages) → IsPlanned relations counters total at_hand pages changes op split reply
+    → IsModest at_hand total (own_needs op split) split pages (after changes pages) → IsPlanned relations counters total at_hand pages changes op split reply
 planned relations counters total at_hand pages changes op split reply good act short modest = record {
   replies = act.replies;
   base = act.base;
@@ -75,6 +75,7 @@ planned relations counters total at_hand pages changes op split reply good act s
   short = short;
   kinds = modest.kinds;
   takes = modest.takes;
+  directory = modest.directory;
   small = act_small relations total pages (after changes pages) good.meaning op reply good.rows act;
 }
 
@@ -95,7 +96,7 @@ ok_both (Err e) P Q R f p_told q_told = tt
 
 pub rows_planned : (split : Bool) (relations counters total : ℕ) (at_hand : ℕ → Option (List ℕ)) (room : Option ℕ) (op op2 : Op) (act : Act) → op ≡ op2
     → IfMade act (λ changes reply. InRoomy at_hand room relations total (λ pages m. IsAct relations total pages (after changes pages) op reply × AreShort changes pages))
-    → IfMade act (λ changes reply. InRoomy at_hand room relations total (λ pages m. IsModest at_hand total (own_needs op split) pages (after changes pages))) → Promises split relations counters total at_hand room op2 act
+    → IfMade act (λ changes reply. InRoomy at_hand room relations total (λ pages m. IsModest at_hand total (own_needs op split) split pages (after changes pages))) → Promises split relations counters total at_hand room op2 act
 rows_planned split relations counters total at_hand room op op2 act same acts modest = subst (λ (o : Op). Promises split relations counters total at_hand room o act) same
     (made_both act _ _ _ (λ changes reply acts modest pages agrees good named.
     let done = acts pages agrees good.meaning good.rows named in
@@ -103,23 +104,31 @@ rows_planned split relations counters total at_hand room op op2 act same acts mo
 
 pub good_planned : (split : Bool) (relations counters total : ℕ) (at_hand : ℕ → Option (List ℕ)) (room : Option ℕ) (op op2 : Op) (act : Act) → op ≡ op2
     → IfMade act (λ changes reply. InGood at_hand relations total (λ pages m. IsAct relations total pages (after changes pages) op reply × AreShort changes pages))
-    → IfMade act (λ changes reply. InGood at_hand relations total (λ pages m. IsModest at_hand total (own_needs op split) pages (after changes pages))) → Promises split relations counters total at_hand room op2 act
+    → IfMade act (λ changes reply. InGood at_hand relations total (λ pages m. IsModest at_hand total (own_needs op split) false pages (after changes pages))) → Promises split relations counters total at_hand room op2 act
 good_planned split relations counters total at_hand room op op2 act same acts modest =
-    rows_planned split relations counters total at_hand room op op2 act same (made_weaker act _ _ (λ changes reply told pages agrees m rows named. told pages agrees m rows) acts) (made_weaker act _ _ (λ changes reply told pages agrees m rows named. told pages agrees m rows) modest)
+    rows_planned split relations counters total at_hand room op op2 act same (made_weaker act _ _ (λ changes reply told pages agrees m rows named. told pages agrees m rows) acts) (made_weaker act _ _ (λ changes reply told pages agrees m rows named. modest_any at_hand total (own_needs op split) split pages (after changes pages) (told pages agrees m rows)) modest)
+
+-- of an operation that splits nothing
+pub whole_planned : (split : Bool) (relations counters total : ℕ) (at_hand : ℕ → Option (List ℕ)) (room : Option ℕ) (op op2 : Op) (act : Act) → op ≡ op2
+    → IfMade act (λ changes reply. InRoomy at_hand room relations total (λ pages m. IsAct relations total pages (after changes pages) op reply × AreShort changes pages))
+    → IfMade act (λ changes reply. InRoomy at_hand room relations total (λ pages m. IsModest at_hand total (own_needs op split) false pages (after changes pages))) → Promises split relations counters total at_hand room op2 act
+whole_planned split relations counters total at_hand room op op2 act same acts modest =
+    rows_planned split relations counters total at_hand room op op2 act same acts
+    (made_weaker act _ _ (λ changes reply told pages agrees m rows named. modest_any at_hand total (own_needs op split) split pages (after changes pages) (told pages agrees m rows named)) modest)
 
 pub quiet_planned : (split : Bool) (relations counters total : ℕ) (at_hand : ℕ → Option (List ℕ)) (room : Option ℕ) (op op2 : Op) (act : Act) → op ≡ op2
     → IfMade act (λ changes reply. InGood at_hand relations total (λ pages m. IsAct relations total pages (after changes pages) op reply × AreShort changes pages)) → IfMade act (λ changes reply. changes ≡ []) → Promises split relations counters total at_hand room op2 act
 quiet_planned split relations counters total at_hand room op op2 act same acts quiet =
-    good_planned split relations counters total at_hand room op op2 act same acts (made_weaker act _ _ (λ changes reply none pages agrees m rows. modest_nothing at_hand total (own_needs op split) pages changes none) quiet)
+    good_planned split relations counters total at_hand room op op2 act same acts (made_weaker act _ _ (λ changes reply none pages agrees m rows. modest_nothing at_hand total (own_needs op split) false pages changes none) quiet)
 
 pub counts_planned : (split : Bool) (relations counters total number : ℕ) (at_hand : ℕ → Option (List ℕ)) (room : Option ℕ) (op op2 : Op) (act : Act) → op ≡ op2 → number < counters
     → IfMade act (λ changes reply. InGood at_hand relations total (λ pages m. (counters : ℕ) → number < counters → AreCounters relations counters (pages 2) → IsAct relations total pages (after changes pages) op reply × AreShort changes pages))
-    → IfMade act (λ changes reply. InGood at_hand relations total (λ pages m. IsModest at_hand total (own_needs op split) pages (after changes pages)))
+    → IfMade act (λ changes reply. InGood at_hand relations total (λ pages m. IsModest at_hand total (own_needs op split) false pages (after changes pages)))
     → Promises split relations counters total at_hand room op2 act
 counts_planned split relations counters total number at_hand room op op2 act same there acts modest = subst (λ (o : Op). Promises split relations counters total at_hand room o act) same
     (made_both act _ _ _ (λ changes reply acts modest pages agrees good named.
     let done = acts pages agrees good.meaning good.rows counters there good.counts in
-    planned relations counters total at_hand pages changes op split reply good done.0 done.1 (modest pages agrees good.meaning good.rows)) acts modest)
+    planned relations counters total at_hand pages changes op split reply good done.0 done.1 (modest_any at_hand total (own_needs op split) split pages (after changes pages) (modest pages agrees good.meaning good.rows))) acts modest)
 
 -- ---- too little room
 

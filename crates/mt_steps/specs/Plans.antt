@@ -1,5 +1,5 @@
 -- What the plan of any operation promises.
-use Rattle.std.specs.Prelude.{◌≡◌, ℕ, ◌+◌, ◌<◌, ◌≤◌, Bool, cond, List, Option, Some, None}
+use Rattle.std.specs.Prelude.{◌≡◌, ℕ, ◌+◌, ◌<◌, ◌≤◌, Bool, false, cond, List, Option, Some, None}
 use Rattle.mt_slots.specs.Page.{row_length}
 use Rattle.mt_space.specs.Changes.{PageBytes, Agrees, after, AreShort}
 use Rattle.mt_space.specs.declared.changes.PageChange.{PageChange}
@@ -55,10 +55,12 @@ HasPages at_hand room relations counters total = (pages : PageBytes) × Agrees a
 abbrev pub InPages : (ℕ → Option (List ℕ)) → Option ℕ → ℕ → ℕ → ℕ → (PageBytes → Type 0) → Type 0
 InPages at_hand room relations counters total P = (pages : PageBytes) → Agrees at_hand pages → IsGood relations counters total pages → IsNamed room pages → P pages
 
--- a page that is not at hand keeps its kind, and at most so many free pages are taken
-pub record IsModest (at_hand : ℕ → Option (List ℕ)) (total needs : ℕ) (pages pages2 : PageBytes) : Type 0 where
+-- a page that is not at hand keeps its kind, at most so many free pages are taken, and the directory changes only where
+-- a bucket may split
+pub record IsModest (at_hand : ℕ → Option (List ℕ)) (total needs : ℕ) (split : Bool) (pages pages2 : PageBytes) : Type 0 where
   pub kinds : (p : ℕ) → at_hand p ≡ None → kind pages2 p ≡ kind pages p
   pub takes : free_pages total pages ≤ free_pages total pages2 + needs
+  pub directory : split ≡ false → pages2 1 ≡ pages 1
 
 -- What an operation's changes do to pages on which they were planned: whatever base these hold, the reply is the
 -- model's there, and once the changes are made they hold the base that the model leaves, and are as good as before.
@@ -69,4 +71,5 @@ pub record IsPlanned (relations counters total : ℕ) (at_hand : ℕ → Option 
   pub short : AreShort changes pages
   pub kinds : (p : ℕ) → at_hand p ≡ None → kind (after changes pages) p ≡ kind pages p
   pub takes : free_pages total pages ≤ free_pages total (after changes pages) + own_needs op split
+  pub directory : split ≡ false → after changes pages 1 ≡ pages 1
   pub small : HasSmallReply reply

@@ -1,5 +1,5 @@
 // Operations on counters.
-ghost use Rattle.std.specs.Prelude.{◌≡◌, ◌<◌, ◌≤◌, ℕ, [], length, None, IfOk};
+ghost use Rattle.std.specs.Prelude.{◌≡◌, ◌<◌, ◌≤◌, ℕ, [], length, None, IfOk, false};
 ghost use Rattle.mt_steps.specs.Drafts.{AreAtHand};
 ghost use Rattle.mt_base.specs.Limits.{IsStep};
 ghost use Rattle.mt_base.specs.declared.modes.Mode.TheVariants.{Read as ToRead, Write as ToWrite};
@@ -38,7 +38,7 @@ pub(crate) fn add_to<V: Pages>(
     ensures there { IfOk result (λ act. IfMade act (λ changes reply. AreAtHand (V.at_hand views.now) changes)) }
     ensures few { IfOk result (λ act. IfMade act (λ changes reply. length changes ≤ 8)) }
     ensures idle { IfOk result (λ act. IfMade act (λ changes reply. logged_of (Add number step) reply ≡ None → changes ≡ [])) }
-    ensures modest { (relations : ℕ) → IfOk result (λ act. IfMade act (λ changes reply. InGood (V.at_hand views.now) relations (V.total views.now) (λ pages m. IsModest (V.at_hand views.now) (V.total views.now) 0 pages (after changes pages)))) }
+    ensures modest { (relations : ℕ) → IfOk result (λ act. IfMade act (λ changes reply. InGood (V.at_hand views.now) relations (V.total views.now) (λ pages m. IsModest (V.at_hand views.now) (V.total views.now) 0 false pages (after changes pages)))) }
     ensures full { IfOk result (λ act. IfFull act ⊥) }
     ensures broken { IfOk result (λ act. IfBroken act ⊥) }
 {

@@ -1,5 +1,5 @@
 // A row less.
-ghost use Rattle.std.specs.Prelude.{◌≡◌, ◌≤◌, ◌<◌, ℕ, [], List, length, None, Some, IfOk, IsSome};
+ghost use Rattle.std.specs.Prelude.{◌≡◌, ◌≤◌, ◌<◌, ℕ, [], List, length, None, Some, IfOk, IsSome, false};
 ghost use Rattle.mt_space.specs.Changes.{after, AreShort};
 ghost use Rattle.mt_index.specs.Answers.{InMaps};
 ghost use Rattle.mt_model.specs.declared.operations.Op.TheVariants.{Delete};
@@ -33,7 +33,7 @@ pub(crate) fn delete<V: Pages>(
     ensures lock { IfOk result (λ act. IfLock act (λ p mode. (V.at_hand views.now p ≡ None) × (p < V.total views.now))) }
     ensures made { (relations : ℕ) → IfOk result (λ act. IfMade act (λ changes reply.
         InGood (V.at_hand views.now) relations (V.total views.now) (λ pages m. IsAct relations (V.total views.now) pages (after changes pages) (Delete relation key.now) reply × AreShort changes pages))) }
-    ensures modest { (relations : ℕ) → IfOk result (λ act. IfMade act (λ changes reply. InGood (V.at_hand views.now) relations (V.total views.now) (λ pages m. IsModest (V.at_hand views.now) (V.total views.now) 0 pages (after changes pages)))) }
+    ensures modest { (relations : ℕ) → IfOk result (λ act. IfMade act (λ changes reply. InGood (V.at_hand views.now) relations (V.total views.now) (λ pages m. IsModest (V.at_hand views.now) (V.total views.now) 0 false pages (after changes pages)))) }
     ensures full { IfOk result (λ act. IfFull act ⊥) }
     ensures there { IfOk result (λ act. IfMade act (λ changes reply. AreAtHand (V.at_hand views.now) changes)) }
     ensures few { IfOk result (λ act. IfMade act (λ changes reply. length changes ≤ 8)) }
@@ -63,7 +63,7 @@ fn delete_row<V: Pages>(
     ensures lock { IfOk result (λ act. IfLock act (λ p mode. (V.at_hand views.now p ≡ None) × (p < V.total views.now))) }
     ensures made { (relations : ℕ) → IfOk result (λ act. IfMade act (λ changes reply.
         InGood (V.at_hand views.now) relations (V.total views.now) (λ pages m. IsAct relations (V.total views.now) pages (after changes pages) (Delete relation key.now) reply × AreShort changes pages))) }
-    ensures modest { (relations : ℕ) → IfOk result (λ act. IfMade act (λ changes reply. InGood (V.at_hand views.now) relations (V.total views.now) (λ pages m. IsModest (V.at_hand views.now) (V.total views.now) 0 pages (after changes pages)))) }
+    ensures modest { (relations : ℕ) → IfOk result (λ act. IfMade act (λ changes reply. InGood (V.at_hand views.now) relations (V.total views.now) (λ pages m. IsModest (V.at_hand views.now) (V.total views.now) 0 false pages (after changes pages)))) }
     ensures full { IfOk result (λ act. IfFull act ⊥) }
     ensures there { IfOk result (λ act. IfMade act (λ changes reply. AreAtHand (V.at_hand views.now) changes)) }
     ensures few { IfOk result (λ act. IfMade act (λ changes reply. length changes ≤ 8)) }
@@ -106,7 +106,7 @@ fn drop_entry<V: Pages>(
     ensures made { (relations : ℕ) → IfOk result (λ act. IfMade act (λ changes reply.
         InGood (V.at_hand views.now) relations (V.total views.now) (λ pages m. m relation key.now ≡ Some name.now → IsTaken pages first.now.list.items name.now (record { relation = relation; key = key.now; value = old }) →
         IsAct relations (V.total views.now) pages (after changes pages) (Delete relation key.now) reply × AreShort changes pages))) }
-    ensures modest { (relations : ℕ) → IfOk result (λ act. IfMade act (λ changes reply. InGood (V.at_hand views.now) relations (V.total views.now) (λ pages m. m relation key.now ≡ Some name.now → IsTaken pages first.now.list.items name.now (record { relation = relation; key = key.now; value = old }) → IsModest (V.at_hand views.now) (V.total views.now) 0 pages (after changes pages)))) }
+    ensures modest { (relations : ℕ) → IfOk result (λ act. IfMade act (λ changes reply. InGood (V.at_hand views.now) relations (V.total views.now) (λ pages m. m relation key.now ≡ Some name.now → IsTaken pages first.now.list.items name.now (record { relation = relation; key = key.now; value = old }) → IsModest (V.at_hand views.now) (V.total views.now) 0 false pages (after changes pages)))) }
     ensures full { IfOk result (λ act. IfFull act ⊥) }
     ensures there { IfOk result (λ act. IfMade act (λ changes reply. AreAtHand (V.at_hand views.now) changes)) }
     ensures few { IfOk result (λ act. IfMade act (λ changes reply. length changes ≤ 8)) }

@@ -44,7 +44,7 @@ pub(crate) fn insert<V: Pages>(
     ensures there { IfOk result (λ act. IfMade act (λ changes reply. AreAtHand (V.at_hand views.now) changes)) }
     ensures few { IfOk result (λ act. IfMade act (λ changes reply. length changes ≤ 8)) }
     ensures idle { IfOk result (λ act. IfMade act (λ changes reply. logged_of (Insert relation key.now value.now) reply ≡ None → changes ≡ [])) }
-    ensures modest { (relations : ℕ) → IfOk result (λ act. IfMade act (λ changes reply. InRoomy (V.at_hand views.now) room relations (V.total views.now) (λ pages m. IsModest (V.at_hand views.now) (V.total views.now) (cond split 3 2) pages (after changes pages)))) }
+    ensures modest { (relations : ℕ) → IfOk result (λ act. IfMade act (λ changes reply. InRoomy (V.at_hand views.now) room relations (V.total views.now) (λ pages m. IsModest (V.at_hand views.now) (V.total views.now) (cond split 3 2) split pages (after changes pages)))) }
     ensures full { (relations : ℕ) → IfOk result (λ act. IfFull act (InRoomy (V.at_hand views.now) room relations (V.total views.now) (λ pages m. (free_pages (V.total views.now) pages < cond split 3 2) ⊎ IsTight room pages (row_length (record { relation = relation; key = key.now; value = value.now }))))) }
     ensures broken { IfOk result (λ act. IfBroken act ⊥) }
 {
@@ -78,7 +78,7 @@ fn insert_new<V: Pages>(
     ensures there { IfOk result (λ act. IfMade act (λ changes reply. AreAtHand (V.at_hand views.now) changes)) }
     ensures few { IfOk result (λ act. IfMade act (λ changes reply. length changes ≤ 8)) }
     ensures idle { IfOk result (λ act. IfMade act (λ changes reply. logged_of (Insert relation key.now value.now) reply ≡ None → changes ≡ [])) }
-    ensures modest { (relations : ℕ) → IfOk result (λ act. IfMade act (λ changes reply. InRoomy (V.at_hand views.now) room relations (V.total views.now) (λ pages m. IsModest (V.at_hand views.now) (V.total views.now) (cond split 3 2) pages (after changes pages)))) }
+    ensures modest { (relations : ℕ) → IfOk result (λ act. IfMade act (λ changes reply. InRoomy (V.at_hand views.now) room relations (V.total views.now) (λ pages m. IsModest (V.at_hand views.now) (V.total views.now) (cond split 3 2) split pages (after changes pages)))) }
     ensures full { (relations : ℕ) → IfOk result (λ act. IfFull act (InRoomy (V.at_hand views.now) room relations (V.total views.now) (λ pages m. (free_pages (V.total views.now) pages < cond split 3 2) ⊎ IsTight room pages (row_length (record { relation = relation; key = key.now; value = value.now }))))) }
     ensures broken { IfOk result (λ act. IfBroken act ⊥) }
 {
@@ -116,7 +116,7 @@ fn add_entry<V: Pages>(
     ensures there { IfOk result (λ act. IfMade act (λ changes reply. AreAtHand (V.at_hand views.now) changes)) }
     ensures few { IfOk result (λ act. IfMade act (λ changes reply. length changes ≤ 8)) }
     ensures idle { (value : List ℕ) → IfOk result (λ act. IfMade act (λ changes reply. logged_of (Insert relation key.now value) reply ≡ None → changes ≡ [])) }
-    ensures modest { (relations : ℕ) (room : Option ℕ) (value : List ℕ) → IfOk result (λ act. IfMade act (λ changes reply. InRoomy (V.at_hand views.now) room relations (V.total views.now) (λ pages m. IsPlaced (V.total views.now) pages plan.now.changes.list.items plan.now.name (record { relation = relation; key = key.now; value = value }) → IsModest (V.at_hand views.now) (V.total views.now) (cond split 3 2) pages (after changes pages)))) }
+    ensures modest { (relations : ℕ) (room : Option ℕ) (value : List ℕ) → IfOk result (λ act. IfMade act (λ changes reply. InRoomy (V.at_hand views.now) room relations (V.total views.now) (λ pages m. IsPlaced (V.total views.now) pages plan.now.changes.list.items plan.now.name (record { relation = relation; key = key.now; value = value }) → IsModest (V.at_hand views.now) (V.total views.now) (cond split 3 2) split pages (after changes pages)))) }
     ensures full { (relations : ℕ) (room : Option ℕ) (value : List ℕ) → IfOk result (λ act. IfFull act (InRoomy (V.at_hand views.now) room relations (V.total views.now) (λ pages m. IsPlaced (V.total views.now) pages plan.now.changes.list.items plan.now.name (record { relation = relation; key = key.now; value = value }) → free_pages (V.total views.now) pages < cond split 3 2))) }
     ensures broken { IfOk result (λ act. IfBroken act ⊥) }
 {

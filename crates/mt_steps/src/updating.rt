@@ -1,5 +1,5 @@
 // Another value in a row.
-ghost use Rattle.std.specs.Prelude.{◌≡◌, ◌≢◌, ◌⊎◌, ◌≤◌, ◌<◌, ℕ, [], List, Option, length, None, Some, IfOk, IsSome, MatchBool};
+ghost use Rattle.std.specs.Prelude.{◌≡◌, ◌≢◌, ◌⊎◌, ◌≤◌, ◌<◌, ℕ, [], List, Option, length, None, Some, IfOk, IsSome, MatchBool, false};
 ghost use Rattle.mt_base.specs.Limits.{IsValue};
 ghost use Rattle.mt_base.specs.declared.numbers.RecordName.{RecordName};
 ghost use Rattle.mt_slots.specs.Page.{Fits, row_length};
@@ -44,7 +44,7 @@ pub(crate) fn update<V: Pages>(
     ensures there { IfOk result (λ act. IfMade act (λ changes reply. AreAtHand (V.at_hand views.now) changes)) }
     ensures few { IfOk result (λ act. IfMade act (λ changes reply. length changes ≤ 8)) }
     ensures idle { IfOk result (λ act. IfMade act (λ changes reply. logged_of (Update relation key.now value.now) reply ≡ None → changes ≡ [])) }
-    ensures modest { (relations : ℕ) → IfOk result (λ act. IfMade act (λ changes reply. InRoomy (V.at_hand views.now) room relations (V.total views.now) (λ pages m. IsModest (V.at_hand views.now) (V.total views.now) 1 pages (after changes pages)))) }
+    ensures modest { (relations : ℕ) → IfOk result (λ act. IfMade act (λ changes reply. InRoomy (V.at_hand views.now) room relations (V.total views.now) (λ pages m. IsModest (V.at_hand views.now) (V.total views.now) 1 false pages (after changes pages)))) }
     ensures full { (relations : ℕ) → IfOk result (λ act. IfFull act (InRoomy (V.at_hand views.now) room relations (V.total views.now) (λ pages m. (free_pages (V.total views.now) pages < 1) ⊎ IsTight room pages (row_length (record { relation = relation; key = key.now; value = value.now }))))) }
     ensures broken { IfOk result (λ act. IfBroken act ⊥) }
 {
@@ -77,7 +77,7 @@ fn update_row<V: Pages>(
     ensures there { IfOk result (λ act. IfMade act (λ changes reply. AreAtHand (V.at_hand views.now) changes)) }
     ensures few { IfOk result (λ act. IfMade act (λ changes reply. length changes ≤ 8)) }
     ensures idle { IfOk result (λ act. IfMade act (λ changes reply. logged_of (Update relation key.now value.now) reply ≡ None → changes ≡ [])) }
-    ensures modest { (relations : ℕ) → IfOk result (λ act. IfMade act (λ changes reply. InRoomy (V.at_hand views.now) room relations (V.total views.now) (λ pages m. IsModest (V.at_hand views.now) (V.total views.now) 1 pages (after changes pages)))) }
+    ensures modest { (relations : ℕ) → IfOk result (λ act. IfMade act (λ changes reply. InRoomy (V.at_hand views.now) room relations (V.total views.now) (λ pages m. IsModest (V.at_hand views.now) (V.total views.now) 1 false pages (after changes pages)))) }
     ensures full { (relations : ℕ) → IfOk result (λ act. IfFull act (InRoomy (V.at_hand views.now) room relations (V.total views.now) (λ pages m. (free_pages (V.total views.now) pages < 1) ⊎ IsTight room pages (row_length (record { relation = relation; key = key.now; value = value.now }))))) }
     ensures broken { IfOk result (λ act. IfBroken act ⊥) }
 {
@@ -129,7 +129,7 @@ fn set_entry<V: Pages>(
     ensures there { IfOk result (λ act. IfMade act (λ changes reply. AreAtHand (V.at_hand views.now) changes)) }
     ensures few { IfOk result (λ act. IfMade act (λ changes reply. length changes ≤ 8)) }
     ensures idle { (value : List ℕ) → IfOk result (λ act. IfMade act (λ changes reply. logged_of (Update relation key.now value) reply ≡ None → changes ≡ [])) }
-    ensures modest { (relations : ℕ) (room : Option ℕ) (name : RecordName) (value : List ℕ) → IsSome (V.at_hand views.now name.page) → IfOk result (λ act. IfMade act (λ changes reply. InRoomy (V.at_hand views.now) room relations (V.total views.now) (λ pages m. IsMoved (V.total views.now) pages plan.now.changes.list.items name plan.now.name (record { relation = relation; key = key.now; value = old }) (record { relation = relation; key = key.now; value = value }) → IsModest (V.at_hand views.now) (V.total views.now) 1 pages (after changes pages)))) }
+    ensures modest { (relations : ℕ) (room : Option ℕ) (name : RecordName) (value : List ℕ) → IsSome (V.at_hand views.now name.page) → IfOk result (λ act. IfMade act (λ changes reply. InRoomy (V.at_hand views.now) room relations (V.total views.now) (λ pages m. IsMoved (V.total views.now) pages plan.now.changes.list.items name plan.now.name (record { relation = relation; key = key.now; value = old }) (record { relation = relation; key = key.now; value = value }) → IsModest (V.at_hand views.now) (V.total views.now) 1 false pages (after changes pages)))) }
     ensures full { IfOk result (λ act. IfFull act ⊥) }
     ensures broken { IfOk result (λ act. IfBroken act ⊥) }
 {

@@ -13,5 +13,5 @@ returns-clause-removed c =
     let gone = c.close_gap.ensures.closed in
     let counted = gone.counted in
     let within = first.within in
-    without_first c.args.relation c.args.key.now c.args.page.now c.close_gap.new.page 8 (count_of c.close_gap.new.page) c.in-Some.i (omega arith) first.here first.before gone.front gone.back
+    without_first c.args.relation c.args.key.now c.args.page.now c.close_gap.new.page 8 (count_of c.close_gap.new.page) c.in-Some.i (omega arith) first.here first.before gone.others (λ lt. gone.filled lt)
     ∙ ap (λ (m : ℕ). without c.args.relation c.args.key.now (entries_from c.args.page.now 8 m)) (let e : suc (count_of c.close_gap.new.page) ≡ count_of c.args.page.now = omega arith in e)

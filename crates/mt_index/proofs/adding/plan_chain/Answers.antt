@@ -9,7 +9,7 @@ use Rattle.mt_index.specs.Answers.{Adds}
 use Rattle.mt_index.specs.Pages.{state_of}
 use Rattle.mt_index.proofs.Free.{Fresh, fresh, none_fresh}
 use Rattle.mt_index.proofs.Notes.{notes_none, notes_more}
-use Rattle.mt_index.proofs.Passing.{passed_kind}
+use Rattle.mt_index.proofs.Passing.{passed_on, passed_kind}
 use Rattle.mt_index.proofs.OnePage.{no_bucket}
 use Rattle.mt_index.proofs.Placing.{Chained, fresh_off, taken_is, seen_at, chain_last, chain_smallest, chain_stays, chain_formed}
 use Rattle.mt_index.proofs.adding.plan_chain.Goals as goal
@@ -18,7 +18,7 @@ pub returns-in_default-page : goal.returns-in_default-page
 returns-in_default-page g c split no_split = record {
   missing = c.in_default-page.ensures.none;
   role = λ pages agree m a. let end = c.requires.end pages agree m a in
-      inl (inr (passed_kind (IsFull (state_of pages)) (g.V.Pages.total c.args.views.now) pages m c.args.key.now c.args.last end.1.steps a end.1.passed, refl));
+      inl (inr (passed_kind (IsFull (state_of pages)) (g.V.Pages.total c.args.views.now) pages m c.args.key.now c.args.last end.1.steps a end.1.passed, refl, passed_on (IsFull (state_of pages)) pages c.args.key.now c.args.last end.1.steps end.1.passed));
 }
 
 pub returns-in_default-first_free : goal.returns-in_default-first_free
@@ -83,6 +83,7 @@ returns g c split no_split pages agree m a =
       added = record {
         way = ByChain z q (no_split pages agree m a) (chain_smallest total pages q f) (chain_last total pages pages2 m e z q end.0 a end.1 w);
         stays = chain_stays total pages pages2 m e z q a two w;
+        directory = λ none. w.others 1 (λ e. omega (arith, e)) off.1 off_z.1;
         formed = λ relations fits formed. chain_formed relations total pages pages2 m e z q a two w
             (λ shallow. rw n3.here.1.0 (c.overflow_page-new.ensures.bucket relations total (omega (arith, shallow, level)) fits.relation fits.some fits.place))
             (λ within b. rw n3.here.0 (c.set_next.ensures.kept relations total within (subst (IsBucket relations total) old b))) formed;

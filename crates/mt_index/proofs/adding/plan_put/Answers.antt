@@ -6,7 +6,7 @@ use Rattle.mt_space.specs.Kinds.{kind}
 use Rattle.mt_index.specs.Rule.{IsFull, Here}
 use Rattle.mt_index.specs.Answers.{Adds}
 use Rattle.mt_index.specs.Pages.{state_of}
-use Rattle.mt_index.proofs.Passing.{passed_kind}
+use Rattle.mt_index.proofs.Passing.{passed_on, passed_kind}
 use Rattle.mt_index.proofs.OnePage.{no_bucket, turns_formed}
 use Rattle.mt_index.proofs.Placing.{pushed, put_first, put_stays}
 use Rattle.mt_index.proofs.adding.plan_put.Goals as goal
@@ -15,7 +15,7 @@ pub returns-in_default : goal.returns-in_default
 returns-in_default g c split = record {
   missing = c.in_default.ensures.none;
   role = λ pages agree m a. let h = c.requires.room pages agree m a in
-      inl (inr (passed_kind (IsFull (state_of pages)) (g.V.Pages.total c.args.views.now) pages m c.args.key.now c.args.page h.steps a h.passed, refl));
+      inl (inr (passed_kind (IsFull (state_of pages)) (g.V.Pages.total c.args.views.now) pages m c.args.key.now c.args.page h.steps a h.passed, refl, passed_on (IsFull (state_of pages)) pages c.args.key.now c.args.page h.steps h.passed));
 }
 
 pub returns : goal.returns
@@ -34,6 +34,7 @@ returns g c split pages agree m a =
             (subst (λ x. KeepsHead x c.push.new.page) (sym is) c.push.ensures.head)
             (rw is (pushed c.in-Some.old.now c.push.new.page e c.push.result (subst (λ x. length (entries x) < 58) is h.room) c.push.ensures.pushed c.push.ensures.full)));
         stays = put_stays total pages (after c.in_ok-change_of.field-0.list.items pages) p c.push.new.page off two t;
+        directory = λ none. t.others 1 off.1;
         formed = λ relations fits f. turns_formed relations total pages (after c.in_ok-change_of.field-0.list.items pages) p c.push.new.page off t
             (λ b. c.push.ensures.kept relations total fits.relation fits.some fits.place (subst (IsBucket relations total) is b)) f;
       };

@@ -4,7 +4,7 @@ use Rattle.mt_bucket.specs.Page.{depth_of}
 use Rattle.mt_index.specs.Rule.{IsFull}
 use Rattle.mt_index.specs.Pages.{state_of}
 use Rattle.mt_index.specs.Answers.{IsEnd}
-use Rattle.mt_index.proofs.Passing.{passed_kind}
+use Rattle.mt_index.proofs.Passing.{passed_on, passed_kind}
 use Rattle.mt_index.proofs.Ruling.{due, no_several, no_deep}
 use Rattle.mt_index.proofs.planning.plan_by_rule.Goals as goal
 use Rattle.mt_index.proofs.planning.plan_by_rule.Goals.{else-split-via-then-split+then-alone+else-depth-lt-MAX_DEPTH, else-split-via-then-split+else-alone, else-split-via-else-split}
@@ -19,7 +19,7 @@ pub returns-in_default : goal.returns-in_default
 returns-in_default g c = record {
   missing = c.in_default.ensures.none;
   role = λ pages agree m a. let end = c.in-Behind.ensures.behind pages agree m a in
-      inl (inr (passed_kind (IsFull (state_of pages)) (g.V.Pages.total c.args.views.now) pages m c.args.key.now c.in-Behind.last end.steps a end.passed, refl));
+      inl (inr (passed_kind (IsFull (state_of pages)) (g.V.Pages.total c.args.views.now) pages m c.args.key.now c.in-Behind.last end.steps a end.passed, refl, passed_on (IsFull (state_of pages)) pages c.args.key.now c.in-Behind.last end.steps end.passed));
 }
 
 pub plan_split-requires-clause-due : goal.plan_split-requires-clause-due

@@ -1,6 +1,6 @@
 use Rattle.std.proofs.Common.{◌≡◌, ℕ, sym, ◌∙◌, arith, refl, inr, subst}
 use Rattle.mt_index.specs.Answers.{Lacks}
-use Rattle.mt_index.proofs.Passing.{passed_start, passed_more, passed_kind, passed_ends, nowhere_map}
+use Rattle.mt_index.proofs.Passing.{passed_on, passed_start, passed_more, passed_kind, passed_ends, nowhere_map}
 use Rattle.mt_index.proofs.walking.holder_of.Goals as goal
 
 pub loop-step-init : goal.loop-step-init
@@ -10,7 +10,7 @@ loop-step-init g c pages agree m a = passed_start (Lacks c.args.relation c.args.
 pub returns-in_default-page-clause-need : goal.returns-in_default-page-clause-need
 returns-in_default-page-clause-need g c = record {
   missing = c.in_default-page.ensures.none;
-  role = λ pages agree m a. inr (passed_kind (Lacks c.args.relation c.args.key.now pages) (g.V.Pages.total c.args.views.now) pages m c.args.key.now c.loop-step.at c.loop-step._step a (c.loop-step.invariant pages agree m a), refl);
+  role = λ pages agree m a. inr (passed_kind (Lacks c.args.relation c.args.key.now pages) (g.V.Pages.total c.args.views.now) pages m c.args.key.now c.loop-step.at c.loop-step._step a (c.loop-step.invariant pages agree m a), refl, passed_on (Lacks c.args.relation c.args.key.now pages) pages c.args.key.now c.loop-step.at c.loop-step._step (c.loop-step.invariant pages agree m a));
 }
 
 pub returns-in-Some-find-clause-found : goal.returns-in-Some-find-clause-found

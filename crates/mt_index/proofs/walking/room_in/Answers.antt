@@ -1,7 +1,7 @@
 use Rattle.std.proofs.Common.{◌≡◌, ℕ, sym, ◌∙◌, subst, arith, refl, inr}
 use Rattle.mt_index.specs.Rule.{IsFull}
 use Rattle.mt_index.specs.Pages.{state_of}
-use Rattle.mt_index.proofs.Passing.{passed_start, passed_more, passed_kind, passed_ends, full_is, room_is, no_step, some_step}
+use Rattle.mt_index.proofs.Passing.{passed_on, passed_start, passed_more, passed_kind, passed_ends, full_is, room_is, no_step, some_step}
 use Rattle.mt_index.proofs.walking.room_in.Goals as goal
 
 pub loop-step-init : goal.loop-step-init
@@ -11,7 +11,7 @@ loop-step-init g c pages agree m a = passed_start (IsFull (state_of pages)) (g.V
 pub returns-in_default-page-clause-need : goal.returns-in_default-page-clause-need
 returns-in_default-page-clause-need g c = record {
   missing = c.in_default-page.ensures.none;
-  role = λ pages agree m a. inr (passed_kind (IsFull (state_of pages)) (g.V.Pages.total c.args.views.now) pages m c.args.key.now c.loop-step.at c.loop-step.step a (c.loop-step.invariant pages agree m a), refl);
+  role = λ pages agree m a. inr (passed_kind (IsFull (state_of pages)) (g.V.Pages.total c.args.views.now) pages m c.args.key.now c.loop-step.at c.loop-step.step a (c.loop-step.invariant pages agree m a), refl, passed_on (IsFull (state_of pages)) pages c.args.key.now c.loop-step.at c.loop-step.step (c.loop-step.invariant pages agree m a));
 }
 
 pub returns-then-count-lt-MAX_ENTRIES-clause-room : goal.returns-then-count-lt-MAX_ENTRIES-clause-room

@@ -55,7 +55,7 @@ returns-clause-there g c =
     (subst (λ (l : List PageChange). IsUntouched l q) (sym c.new-changes.ensures) tt))
 
 pub returns-then-not-add-clause-modest : goal.returns-then-not-add-clause-modest
-returns-then-not-add-clause-modest g c = λ relations pages agrees m rows. modest_nothing (g.V.Pages.at_hand c.args.views.now) (g.V.Pages.total c.args.views.now) 0 pages c.new-changes.result.list.items c.new-changes.ensures
+returns-then-not-add-clause-modest g c = λ relations pages agrees m rows. modest_nothing (g.V.Pages.at_hand c.args.views.now) (g.V.Pages.total c.args.views.now) 0 false pages c.new-changes.result.list.items c.new-changes.ensures
 
 pub returns-clause-modest : goal.returns-clause-modest
 returns-clause-modest g c = λ relations pages agrees m rows.
@@ -64,6 +64,8 @@ returns-clause-modest g c = λ relations pages agrees m rows.
     let at_page : pages p ≡ c.in-Some.old.now = agrees p c.in-Some.old.now c.in-Some.ensures.some in
     let empty : after list pages ≡ pages = ap (λ (l : List PageChange). after l pages) c.new-changes.ensures in
     let noted = c.in_ok-note.ensures.noted pages (ap (λ (f : PageBytes). f p) empty ∙ at_page) in
-    let other : replaced p c.add.new.page pages 0 ≡ pages 0 = replaced_other p 0 c.add.new.page pages (let two = c.new-page.ensures in λ e. let zero : 0 ≡ p = e in omega (arith, two, zero)) in
-    modest_same (g.V.Pages.at_hand c.args.views.now) (g.V.Pages.total c.args.views.now) 0 pages (after c.note.new.self.list.items pages)
-    (ap (λ (f : PageBytes). f 0) (noted ∙ ap (replaced p c.add.new.page) empty) ∙ other)
+    let two = c.new-page.ensures in
+    let made = noted ∙ ap (replaced p c.add.new.page) empty in
+    modest_same (g.V.Pages.at_hand c.args.views.now) (g.V.Pages.total c.args.views.now) 0 false pages (after c.note.new.self.list.items pages)
+    (ap (λ (f : PageBytes). f 0) made ∙ replaced_other p 0 c.add.new.page pages (λ e. let zero : 0 ≡ p = e in omega (arith, two, zero)))
+    (ap (λ (f : PageBytes). f 1) made ∙ replaced_other p 1 c.add.new.page pages (λ e. let one : 1 ≡ p = e in omega (arith, two, one)))

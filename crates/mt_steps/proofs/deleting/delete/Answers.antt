@@ -1,4 +1,4 @@
-use Rattle.std.proofs.Common.{List, sym, subst}
+use Rattle.std.proofs.Common.{false, List, sym, subst}
 use Rattle.mt_space.specs.declared.changes.PageChange.{PageChange}
 use Rattle.mt_space.specs.Changes.{after, AreShort}
 use Rattle.mt_model.specs.declared.operations.Op.TheVariants.{Delete}
@@ -22,7 +22,7 @@ pub returns-in-Need-clause-lock : goal.returns-in-Need-clause-lock
 returns-in-Need-clause-lock g c =
     let good = c.requires.good.1 in
     let asks = c.in-Need.ensures.need in
-    (asks.missing, bucket_inside (g.V.Pages.total c.args.views.now) good.0 good.2 Read c.in-Need.page c.in-Need.mode good.3.index (asks.role good.0 good.1 good.2 good.3.index))
+    (asks.missing, bucket_inside (g.V.Pages.total c.args.views.now) c.args.key.now good.0 good.2 Read c.in-Need.page c.in-Need.mode good.3.index (asks.role good.0 good.1 good.2 good.3.index))
 
 pub returns-in-Missing-clause-modest : goal.returns-in-Missing-clause-modest
-returns-in-Missing-clause-modest g c = λ relations pages agrees m rows. modest_nothing (g.V.Pages.at_hand c.args.views.now) (g.V.Pages.total c.args.views.now) 0 pages c.new.result.list.items c.new.ensures
+returns-in-Missing-clause-modest g c = λ relations pages agrees m rows. modest_nothing (g.V.Pages.at_hand c.args.views.now) (g.V.Pages.total c.args.views.now) 0 false pages c.new.result.list.items c.new.ensures

@@ -1,4 +1,4 @@
-use Rattle.std.proofs.Common.{◌≡◌, arith, ◌∙◌, ℕ, None, Some, sym, subst}
+use Rattle.std.proofs.Common.{false, ◌≡◌, arith, ◌∙◌, ℕ, None, Some, sym, subst}
 use Rattle.std.proofs.lemmas.Result.{IfOk-weaker}
 use Rattle.mt_space.specs.Changes.{PageBytes, after}
 use Rattle.mt_index.specs.Pages.{AreFormed}
@@ -74,9 +74,9 @@ returns-in-Need-clause-lock g c =
     let first = c.args.first.now.list.items in
     let total = g.V.Pages.total c.args.views.now in
     let between = taken_map c.requires.good.0 total good.0 good.2 first c.args.name.now _ good.3 placed.1 in
-    let asks = subst (λ x. Asks (shown c.in_ok-draft.draft.copies.items (g.V.Pages.at_hand x)) (g.V.Pages.total x) (IsInBucket Write) c.in-Need.page c.in-Need.mode) c.in_ok-draft.ensures.views
+    let asks = subst (λ x. Asks (shown c.in_ok-draft.draft.copies.items (g.V.Pages.at_hand x)) (g.V.Pages.total x) (IsInBucket c.args.key.now Write) c.in-Need.page c.in-Need.mode) c.in_ok-draft.ensures.views
     (amend_needs _ c.in_ok-page.field-0 c.in-Need.page c.in-Need.mode c.in-Need.is c.in_ok-page.ensures.need) in
-    (c.in_ok-draft.ensures.none c.in-Need.page asks.missing, bucket_inside total (after first good.0) good.2 Write c.in-Need.page c.in-Need.mode between (asks.role (after first good.0) (c.in_ok-draft.ensures.agrees good.0 good.1) good.2 between))
+    (c.in_ok-draft.ensures.none c.in-Need.page asks.missing, bucket_inside total c.args.key.now (after first good.0) good.2 Write c.in-Need.page c.in-Need.mode between (asks.role (after first good.0) (c.in_ok-draft.ensures.agrees good.0 good.1) good.2 between))
 
 pub join-requires-clause-inside : goal.join-requires-clause-inside
 join-requires-clause-inside g c = λ p named.
@@ -118,7 +118,7 @@ returns-in-Changes-clause-modest g c = λ relations. IfOk-weaker c.join.result _
     let between = taken_map relations total pages m first c.args.name.now _ rows taken in
     let amends = subst (λ x. InMaps (shown c.in_ok-draft.draft.copies.items (g.V.Pages.at_hand x)) (g.V.Pages.total x) (λ pages m. Amends (g.V.Pages.total x) pages second m c.args.relation c.args.key.now None)) c.in_ok-draft.ensures.views
     (amended_is _ c.in_ok-page.field-0 c.in-Changes.second c.in-Changes.is c.in_ok-page.ensures.dropped) mid (c.in_ok-draft.ensures.agrees pages agrees) m between in
-    subst (λ (p : PageBytes). IsModest at_hand total 0 pages p) (sym (told.1 pages agrees).0)
-    (modest_trans at_hand total 0 0 pages mid last (taken_modest at_hand relations total pages m first c.args.name.now _ rows c.requires.seen taken)
-    (amended_modest at_hand total mid last between.space_fixed amends.others))))
+    subst (λ (p : PageBytes). IsModest at_hand total 0 false pages p) (sym (told.1 pages agrees).0)
+    (modest_trans at_hand total 0 0 false pages mid last (taken_modest at_hand relations total false pages m first c.args.name.now _ rows c.requires.seen taken)
+    (amended_modest at_hand total false mid last m between amends.others))))
     c.join.ensures.made

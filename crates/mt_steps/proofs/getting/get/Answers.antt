@@ -22,7 +22,7 @@ pub returns-in-Need-clause-lock : goal.returns-in-Need-clause-lock
 returns-in-Need-clause-lock g c =
     let good = c.requires.good.1 in
     let asks = c.in-Need.ensures.need in
-    (asks.missing, bucket_inside (g.V.Pages.total c.args.views.now) good.0 good.2 Read c.in-Need.page c.in-Need.mode good.3.index (asks.role good.0 good.1 good.2 good.3.index))
+    (asks.missing, bucket_inside (g.V.Pages.total c.args.views.now) c.args.key.now good.0 good.2 Read c.in-Need.page c.in-Need.mode good.3.index (asks.role good.0 good.1 good.2 good.3.index))
 
 pub returns-in-Need-clause-mode : goal.returns-in-Need-clause-mode
 returns-in-Need-clause-mode g c = let good = c.requires.good.1 in ⊎_elim (λ d. d.1) (λ b. b.1) (c.in-Need.ensures.need.role good.0 good.1 good.2 good.3.index)

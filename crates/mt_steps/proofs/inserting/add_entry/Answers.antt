@@ -66,9 +66,9 @@ returns-in-Need-clause-lock g c =
     let first = c.args.plan.now.changes.list.items in
     let total = g.V.Pages.total c.args.views.now in
     let between = placed_map c.requires.good.0 total good.0 good.2 first c.args.plan.now.name _ good.3 placed in
-    let asks = subst (λ x. Asks (shown c.in_ok-draft.draft.copies.items (g.V.Pages.at_hand x)) (g.V.Pages.total x) (IsInAdd (g.V.Pages.total x)) c.in-Need.page c.in-Need.mode) c.in_ok-draft.ensures.views
+    let asks = subst (λ x. Asks (shown c.in_ok-draft.draft.copies.items (g.V.Pages.at_hand x)) (g.V.Pages.total x) (IsInAdd c.args.split c.args.key.now (g.V.Pages.total x)) c.in-Need.page c.in-Need.mode) c.in_ok-draft.ensures.views
     (add_needs _ c.in_ok-page.field-0 c.in-Need.page c.in-Need.mode c.in-Need.is c.in_ok-page.ensures.need) in
-    (c.in_ok-draft.ensures.none c.in-Need.page asks.missing, add_inside total (after first good.0) good.2 c.in-Need.page c.in-Need.mode between (asks.role (after first good.0) (c.in_ok-draft.ensures.agrees good.0 good.1) good.2 between))
+    (c.in_ok-draft.ensures.none c.in-Need.page asks.missing, add_inside total c.args.split c.args.key.now (after first good.0) good.2 c.in-Need.page c.in-Need.mode between (asks.role (after first good.0) (c.in_ok-draft.ensures.agrees good.0 good.1) good.2 between))
 
 pub join-requires-clause-inside : goal.join-requires-clause-inside
 join-requires-clause-inside g c = λ p named.
@@ -117,8 +117,8 @@ returns-clause-modest g c = λ relations room value. IfOk-weaker c.join.result _
     (added_is _ c.in_ok-page.field-0 c.in-Changes.changes c.in-Changes.is c.in_ok-page.ensures.added) mid draft_agrees m between in
     let seen = subst (λ x. InMaps (shown copies (g.V.Pages.at_hand x)) (g.V.Pages.total x) (λ pages m. TakesSeen (shown copies (g.V.Pages.at_hand x)) pages second)) c.in_ok-draft.ensures.views
     (added_is _ c.in_ok-page.field-0 c.in-Changes.changes c.in-Changes.is c.in_ok-page.ensures.seen) mid draft_agrees m between in
-    subst (λ (p : PageBytes). IsModest at_hand total (cond c.args.split 3 2) pages p) (sym (told.1 pages agrees).0)
-    (modest_more at_hand total _ (cond c.args.split 3 2) pages last (insert_needs c.args.split) (modest_trans at_hand total 1 (cond c.args.split 2 1) pages mid last (placed_modest at_hand relations total pages m first c.args.plan.now.name _ rows c.requires.seen placed)
+    subst (λ (p : PageBytes). IsModest at_hand total (cond c.args.split 3 2) c.args.split pages p) (sym (told.1 pages agrees).0)
+    (modest_more at_hand total _ (cond c.args.split 3 2) c.args.split pages last (insert_needs c.args.split) (modest_trans at_hand total 1 (cond c.args.split 2 1) c.args.split pages mid last (placed_modest at_hand relations total c.args.split pages m first c.args.plan.now.name _ rows c.requires.seen placed)
     (added_modest at_hand c.args.split total e mid last (λ p free some. below_some copies at_hand p c.in_ok-draft.ensures.copies (seen p free some)) adds.added)))))
     c.join.ensures.made
 
@@ -132,7 +132,7 @@ returns-in-Full-clause-full g c = λ relations room value pages agrees m rows na
     let between = placed_map relations total pages m first c.args.plan.now.name _ rows placed in
     let short = subst (λ x. InMaps (shown copies (g.V.Pages.at_hand x)) (g.V.Pages.total x) (λ pages m. Shortage c.args.split (g.V.Pages.total x) e pages)) c.in_ok-draft.ensures.views
     (full_is _ c.in_ok-page.field-0 c.in-Full.is c.in_ok-page.ensures.full) mid (c.in_ok-draft.ensures.agrees pages agrees) m between in
-    let takes = (placed_modest (g.V.Pages.at_hand c.args.views.now) relations total pages m first c.args.plan.now.name _ rows c.requires.seen placed).takes in
+    let takes = (placed_modest (g.V.Pages.at_hand c.args.views.now) relations total c.args.split pages m first c.args.plan.now.name _ rows c.requires.seen placed).takes in
     let one = shortage_few c.args.split total e mid placed.adds.file.whole between.few short in
     let needs = insert_needs c.args.split in
     omega (arith, takes, one, needs)

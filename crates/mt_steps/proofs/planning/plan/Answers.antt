@@ -3,7 +3,7 @@ use Rattle.std.proofs.lemmas.Result.{IfOk-weaker}
 use Rattle.mt_model.specs.declared.operations.Op.{Op}
 use Rattle.mt_model.specs.declared.operations.Op.TheVariants.{Get, Insert, Update, Delete, Add, Read}
 use Rattle.mt_model.specs.Model.{IsWithin}
-use Rattle.mt_steps.proofs.Promised.{ok_both, rows_planned, good_planned, quiet_planned, counts_planned, rows_full, never_full}
+use Rattle.mt_steps.proofs.Promised.{ok_both, rows_planned, whole_planned, good_planned, quiet_planned, counts_planned, rows_full, never_full}
 use Rattle.mt_steps.proofs.planning.plan.Goals as goal
 
 pub returns-in-Get-clause-made : goal.returns-in-Get-clause-made
@@ -28,7 +28,7 @@ returns-in-Update-clause-made g c = λ relations counters few within.
     (λ i. Update c.in-Update.relation (c.as_slice-in-Update.ensures i) (c.as_slice-in-Update-2.ensures i)) ∙ sym c.in-Update.is in
     let inside = subst (λ (o : Op). IsWithin relations counters o) (sym is) within in
     ok_both c.update.result _ _ _
-    (λ act. rows_planned c.args.split relations counters (g.V.Pages.total c.args.views.now) (g.V.Pages.at_hand c.args.views.now) c.args.room (Update c.in-Update.relation c.as_slice-in-Update.result.now c.as_slice-in-Update-2.result.now) c.args.op.now act is)
+    (λ act. whole_planned c.args.split relations counters (g.V.Pages.total c.args.views.now) (g.V.Pages.at_hand c.args.views.now) c.args.room (Update c.in-Update.relation c.as_slice-in-Update.result.now c.as_slice-in-Update-2.result.now) c.args.op.now act is)
     (c.update.ensures.made relations (record { relation = inside.0; key = inside.1; value = inside.2 })) (c.update.ensures.modest relations)
 
 pub returns-in-Delete-clause-made : goal.returns-in-Delete-clause-made

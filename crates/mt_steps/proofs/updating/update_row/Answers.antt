@@ -1,4 +1,4 @@
-use Rattle.std.proofs.Common.{◌≡◌, ◌<◌, inl, inr, arith, ⊎_elim, ◌∙◌, ℕ, List, Option, None, Some, refl, sym, ap, subst}
+use Rattle.std.proofs.Common.{false, ◌≡◌, ◌<◌, inl, inr, arith, ⊎_elim, ◌∙◌, ℕ, List, Option, None, Some, refl, sym, ap, subst}
 use Rattle.std.proofs.lemmas.Result.{IfOk-weaker}
 use Rattle.mt_base.specs.declared.numbers.RecordName.{RecordName}
 use Rattle.mt_slots.specs.Page.{Row}
@@ -153,9 +153,9 @@ returns-then-is_name-clause-modest g c = λ relations pages agrees m rows roomy.
     let named = rows.named.names c.args.relation c.args.key.now n (c.requires.named pages agrees m rows.index) in
     let r : Row = record { relation = c.args.relation; key = c.args.key.now; value = named.0 } in
     let seen = subst (λ (x : Step). IfDone x (λ plan. IsSome (at_hand n.page) × IsSome (at_hand plan.name.page))) c.in-Done.is c.in_ok-page.ensures.seen in
-    ⊎_elim {C = IsModest at_hand total 1 pages (after changes pages)}
-    (λ kept. kept_modest at_hand total pages changes n _ _ rows.index.space_fixed kept.1)
-    (λ moved. moved_modest at_hand relations total pages m changes n c.in-Done.plan.name _ _ rows seen.0 seen.1 moved)
+    ⊎_elim {C = IsModest at_hand total 1 false pages (after changes pages)}
+    (λ kept. kept_modest at_hand relations total false pages m changes n _ _ rows kept.1)
+    (λ moved. moved_modest at_hand relations total false pages m changes n c.in-Done.plan.name _ _ rows seen.0 seen.1 moved)
     (replacement_is at_hand c.args.room relations total pages m n r c.args.value.now c.in_ok-page.field-0 c.in-Done.plan c.in-Done.is rows roomy
     (c.in_ok-page.ensures.replacement pages r agrees rows.file roomy named.1) (c.in_ok-page.ensures.short pages r agrees rows.file roomy named.1) named.1)
 

@@ -194,7 +194,7 @@ impl<D: Device> Operations<D> {
     }
 
     /// Appends the end of a transaction that has no operation under way: its commit, or the end of its abort.
-    /// The only refusal is [`Refusal::NoMemory`], and nothing is appended then.
+    /// The pages held stay. The only refusal is [`Refusal::NoMemory`], and nothing is appended then.
     pub fn append(&mut self, entry: Record) -> Result<LogPos, Refusal>
         requires kept { (opening : PageBytes) × IsKept D.seen D.may_leave opening self.old.store }
         requires grammar { IsRecord entry }
@@ -207,6 +207,9 @@ impl<D: Device> Operations<D> {
         ensures others { (opening : PageBytes) (relations counters : ℕ) (u : OpScope) → IsUnderWay relations counters (world D.seen opening self.old) u → u.txn ≢ txn_of entry → IsUnderWay relations counters (world D.seen opening self.new) u }
         ensures place { IfOk result (λ place. place ≡ length (appended self.new.store.log)) }
         ensures used { OnOk result (used self.new.store.log ≡ used self.old.store.log + 5 + record_length entry) }
+        ensures err_used { OnErr result (used self.new.store.log ≡ used self.old.store.log) }
+        ensures area { area_size self.new.store.log ≡ area_size self.old.store.log }
+        ensures held { (opening : PageBytes) → held_in (world D.seen opening self.new) ≡ held_in (world D.seen opening self.old) }
         ensures claimed { claimed self.new ≡ claimed self.old }
         ensures device { self.new.store.device ≡ self.old.store.device }
         ensures only_memory { IfErr result (λ why. why ≡ Refusal.NoMemory) }

@@ -1,5 +1,5 @@
 -- A step of an operation that plans, as a whole: a page that is locked, a plan that is kept, and what is left where neither is done.
-use Rattle.std.proofs.Common.{◌≡◌, ◌<◌, ◌≤◌, ◌+◌, ℕ, List, inl, refl, sym, ap, ◌∙◌, subst, arith, Option, Some, None, true, false, if◌then◌else◌}
+use Rattle.std.proofs.Common.{◌≡◌, ◌<◌, ◌≤◌, ◌+◌, ℕ, List, inl, refl, sym, ap, ◌∙◌, subst, arith, Option, Some, None, true, if◌then◌else◌}
 use Rattle.std.specs.Prelude.{Result, Ok, Err, IfErr}
 use Rattle.mt_base.specs.declared.refusal.Refusal.{Refusal}
 use Rattle.mt_base.specs.declared.refusal.Refusal.TheVariants as refusal
@@ -18,7 +18,7 @@ use Rattle.mt_steps.specs.Plans.{own_needs, IsReading}
 use Rattle.mt_op.specs.World.{World, IsUnderWay, IsAt, IsPlanning}
 use Rattle.mt_op.specs.Moves.{Rests, SameOp}
 use Rattle.mt_op.specs.Operations.{world, IsRight, Goes, GoesOn, Steps, GivesBack, HasBudget, IsAsFar, IsCause, claimed, only_reads, needs}
-use Rattle.mt_op.specs.Holds.{IsNext, AsksNothing, KeepsLocks, KeepsScope}
+use Rattle.mt_op.specs.Holds.{IsNext, KeepsLocks, KeepsScope}
 use Rattle.mt_op.specs.Records.{KeepsRecords}
 use Rattle.mt_op.specs.Work.{Works, ComesTo}
 use Rattle.mt_op.specs.Faults.{TellsFaults}

@@ -1,17 +1,15 @@
 -- Steps of an operation that plans: what they keep of all operations.
 use Rattle.std.proofs.Common.{◌≡◌, ◌<◌, inl, ℕ, List, [], ◌∷◌, ◌++◌, length, refl, sym, ◌∙◌, ap, subst, append-nil, None}
-use Rattle.std.specs.Prelude.{Result, Ok, Err, IsSome, All, Any, true}
+use Rattle.std.specs.Prelude.{Result, Ok, Err, IsSome}
 use Rattle.mt_base.specs.declared.modes.Mode.{Mode}
 use Rattle.mt_base.specs.declared.refusal.Refusal.{Refusal}
-use Rattle.mt_plock.specs.declared.guards.PageLock.{PageLock}
-use Rattle.mt_plock.specs.Holding.{lock_of, is_in_way, IsLeastHolder}
+use Rattle.mt_plock.specs.Holding.{lock_of}
 use Rattle.std.proofs.Math.ListN.{get_or}
 use Rattle.mt_pool.specs.Images.{slot}
 use Rattle.mt_pool.specs.Views.{IsPool, IsThere, view, held, framed, frame_whole}
 use Rattle.mt_pool.specs.declared.pool.Pool.{Pool}
 use Rattle.mt_steps.specs.Repeated.{by}
 use Rattle.mt_steps.specs.declared.draft.PageCopy.{PageCopy}
-use Rattle.mt_plock.specs.Releasing.{locks_without}
 use Rattle.mt_op.specs.World.{World, held_in, unfinished_in, looked, HasNothing, IsWorld, IsUnderWay, IsAt, IsPlanning}
 use Rattle.mt_steps.specs.declared.copies.Copies.{Copies}
 use Rattle.mt_op.specs.Moves.{SameOp, Rests, Locks, Leaves, Gains, IsLed}

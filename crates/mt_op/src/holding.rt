@@ -40,6 +40,7 @@ impl<D: Device> Operations<D> {
         ensures log { self.new.store.log ≡ self.old.store.log }
         ensures locks { self.new.locks ≡ self.old.locks }
         ensures map { self.new.map ≡ self.old.map }
+        ensures rooms { self.new.rooms ≡ self.old.rooms }
         ensures waits { self.new.store.pool.waits ≡ self.old.store.pool.waits }
         ensures only_device { IfErr result (λ why. why ≡ Refusal.DeviceFailed) }
         ensures cause { HasCause (D.faults self.old.store.device) (D.faults self.new.store.device) result }

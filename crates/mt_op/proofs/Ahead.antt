@@ -16,6 +16,7 @@ use Rattle.mt_op.specs.Operations.{world, IsRight, Goes, Steps, GivesBack, HasBu
 use Rattle.mt_op.specs.Records.{KeepsRecords}
 use Rattle.mt_op.specs.Work.{IsGoing, ComesTo, Works}
 use Rattle.mt_op.specs.Faults.{TellsFaults}
+use Rattle.mt_op.specs.Holds.{AsksNothing}
 use Rattle.mt_op.specs.Stepping.{GoesAhead}
 use Rattle.mt_op.specs.declared.answers.Stepped.{Stepped}
 use Rattle.mt_op.specs.declared.answers.Stepped.TheVariants as stepped
@@ -36,7 +37,7 @@ IsIdle (Ok stepped.Flush) = Unit {0}
 IsIdle (Err why) = Unit {0}
 IsIdle (Ok stepped.Went) = ⊥
 IsIdle (Ok (stepped.Wait holder)) = ⊥
-IsIdle (Ok stepped.Again) = ⊥
+IsIdle (Ok (stepped.Again holder)) = ⊥
 IsIdle (Ok (stepped.Ready first second)) = ⊥
 
 idle_steps : (relations counters : ℕ) (w z : World) (s t : OpScope) (r : Result Stepped Refusal) → IsIdle r → Goes relations counters w z s t → Steps relations counters w z s t r
@@ -44,7 +45,7 @@ idle_steps relations counters w z s t (Ok stepped.Flush) idle g = g
 idle_steps relations counters w z s t (Err why) idle g = g
 idle_steps relations counters w z s t (Ok stepped.Went) idle g = absurd idle
 idle_steps relations counters w z s t (Ok (stepped.Wait holder)) idle g = absurd idle
-idle_steps relations counters w z s t (Ok stepped.Again) idle g = absurd idle
+idle_steps relations counters w z s t (Ok (stepped.Again holder)) idle g = absurd idle
 idle_steps relations counters w z s t (Ok (stepped.Ready first second)) idle g = absurd idle
 
 idle_gives : (claim before now : ℕ) (r : Result Stepped Refusal) → IsIdle r → now ≡ before → GivesBack claim before now r
@@ -52,7 +53,7 @@ idle_gives claim before now (Ok stepped.Flush) idle same = same
 idle_gives claim before now (Err why) idle same = same
 idle_gives claim before now (Ok stepped.Went) idle same = absurd idle
 idle_gives claim before now (Ok (stepped.Wait holder)) idle same = absurd idle
-idle_gives claim before now (Ok stepped.Again) idle same = absurd idle
+idle_gives claim before now (Ok (stepped.Again holder)) idle same = absurd idle
 idle_gives claim before now (Ok (stepped.Ready first second)) idle same = absurd idle
 
 idle_comes : (stage : Stage) (r : Result Stepped Refusal) → IsIdle r → IsGoing stage → ComesTo stage r
@@ -60,7 +61,7 @@ idle_comes stage (Ok stepped.Flush) idle going = going
 idle_comes stage (Err why) idle going = going
 idle_comes stage (Ok stepped.Went) idle going = absurd idle
 idle_comes stage (Ok (stepped.Wait holder)) idle going = absurd idle
-idle_comes stage (Ok stepped.Again) idle going = absurd idle
+idle_comes stage (Ok (stepped.Again holder)) idle going = absurd idle
 idle_comes stage (Ok (stepped.Ready first second)) idle going = absurd idle
 
 pub idle_works : (s : OpScope) (r : Result Stepped Refusal) → IsIdle r → Works s s r
@@ -68,8 +69,16 @@ idle_works s (Ok stepped.Flush) idle = omega arith
 idle_works s (Err why) idle = omega arith
 idle_works s (Ok stepped.Went) idle = absurd idle
 idle_works s (Ok (stepped.Wait holder)) idle = absurd idle
-idle_works s (Ok stepped.Again) idle = absurd idle
+idle_works s (Ok (stepped.Again holder)) idle = absurd idle
 idle_works s (Ok (stepped.Ready first second)) idle = absurd idle
+
+pub idle_asks : (r : Result Stepped Refusal) → IsIdle r → AsksNothing r
+idle_asks (Ok stepped.Flush) idle = tt
+idle_asks (Err why) idle = tt
+idle_asks (Ok stepped.Went) idle = tt
+idle_asks (Ok (stepped.Wait holder)) idle = absurd idle
+idle_asks (Ok (stepped.Again holder)) idle = absurd idle
+idle_asks (Ok (stepped.Ready first second)) idle = tt
 
 idle_err : (s : OpScope) (r : Result Stepped Refusal) → IsIdle r → OnErr r (s ≡ s)
 idle_err s (Ok x) idle = tt
@@ -103,6 +112,7 @@ module _ {D : Type 0} (seen : D → List ℕ) (may_leave : D → List ℕ → Ty
     work = idle_works s r idle;
     records = same_records s (appended o.store.log) (appended m.store.log) r records;
     locks = locks;
+    asks = idle_asks r idle;
     err = idle_err s r idle;
     flush = λ is. refl;
     why = why;
@@ -116,7 +126,7 @@ module _ {D : Type 0} (seen : D → List ℕ) (may_leave : D → List ℕ → Ty
     steps = λ opening relations counters ok k few some.
         let w = world seen opening o in let x = world seen opening m in
         let gone = a.steps opening relations counters (right opening relations counters ok) (rests_own relations counters w x s (rests opening) k) few some in
-        (gone.0, steps_then relations counters w x (world seen opening n) s s t r (rests opening).locks (rests opening).records (rests_goes_as relations counters w x s (rests opening) k) gone.1);
+        (gone.0, steps_then relations counters w x (world seen opening n) s s t r (rests opening).records (rests_goes_as relations counters w x s (rests opening) k) gone.1);
     moments = λ opening kept. subst (λ (d : D). LeavesOnly moment left_since o.store.device d (Explains opening o.store)) (sym device) (moments opening kept);
     log = a.log ∙ ap (λ (n : ℕ). n + s.left) spent;
     area = a.area ∙ area;
@@ -128,6 +138,7 @@ module _ {D : Type 0} (seen : D → List ℕ) (may_leave : D → List ℕ → Ty
     work = a.work;
     records = subst (λ (rs : List Record). KeepsRecords t rs (appended n.store.log) r) records a.records;
     locks = a.locks ∙ locks;
+    asks = a.asks;
     err = a.err;
     flush = a.flush;
     why = a.why;

@@ -1,5 +1,5 @@
 -- A step of an operation that plans, as a whole: a page that is locked, a plan that is kept, and what is left where neither is done.
-use Rattle.std.proofs.Common.{◌≡◌, ◌<◌, ◌≤◌, ◌+◌, ℕ, List, inl, refl, sym, ap, ◌∙◌, subst, arith, Option, Some, None, if◌then◌else◌}
+use Rattle.std.proofs.Common.{◌≡◌, ◌<◌, ◌≤◌, ◌+◌, ℕ, List, inl, refl, sym, ap, ◌∙◌, subst, arith, Option, Some, None, true, if◌then◌else◌}
 use Rattle.std.specs.Prelude.{Result, Ok, Err, IfErr}
 use Rattle.mt_base.specs.declared.refusal.Refusal.{Refusal}
 use Rattle.mt_base.specs.declared.refusal.Refusal.TheVariants as refusal
@@ -13,11 +13,12 @@ use Rattle.mt_pool.specs.Kept.{IsKept, Explains}
 use Rattle.mt_pool.specs.Views.{IsFull}
 use Rattle.mt_pool.specs.declared.store.Store.{Store}
 use Rattle.mt_space.specs.Rooms.{reserved_of}
-use Rattle.mt_steps.specs.Plans.{own_needs}
+use Rattle.mt_model.specs.declared.operations.Op.TheVariants.{Get, Insert, Update, Delete, Add, Read}
+use Rattle.mt_steps.specs.Plans.{own_needs, IsReading}
 use Rattle.mt_op.specs.World.{World, IsUnderWay, IsAt, IsPlanning}
 use Rattle.mt_op.specs.Moves.{Rests, SameOp}
 use Rattle.mt_op.specs.Operations.{world, IsRight, Goes, GoesOn, Steps, GivesBack, HasBudget, IsAsFar, IsCause, claimed, only_reads, needs}
-use Rattle.mt_op.specs.Holds.{KeepsLocks}
+use Rattle.mt_op.specs.Holds.{IsNext, KeepsLocks, KeepsScope}
 use Rattle.mt_op.specs.Records.{KeepsRecords}
 use Rattle.mt_op.specs.Work.{Works, ComesTo}
 use Rattle.mt_op.specs.Faults.{TellsFaults}
@@ -29,11 +30,11 @@ use Rattle.mt_op.specs.declared.scope.OpScope.{OpScope}
 use Rattle.mt_op.specs.declared.scope.Stage.{Stage}
 use Rattle.mt_op.specs.declared.scope.Stage.TheVariants.{Planning, Writing}
 use Rattle.mt_op.specs.declared.space_map.SpaceMap.{SpaceMap}
-use Rattle.mt_op.proofs.Ahead.{IsIdle, idle_works}
+use Rattle.mt_op.proofs.Ahead.{IsIdle, idle_works, idle_asks}
 use Rattle.mt_op.proofs.Chosen.{on_steps, on_keeps, steps_then}
 use Rattle.mt_op.proofs.Faulting.{no_fault, told_ok, told_err, told_behind}
 use Rattle.mt_op.proofs.Going.{goes_on_behind, planning_of, rests_same}
-use Rattle.mt_op.proofs.Keeping.{same_keeps, same_records}
+use Rattle.mt_op.proofs.Keeping.{same_keeps, same_records, stays_same, same_scope, ahead_scope, made_scope}
 use Rattle.mt_op.proofs.Staying.{rests_own, own_kept, open_same}
 use Rattle.mt_op.proofs.Work.{comes_on, works_behind}
 use Rattle.mt_op.proofs.Written.{rests_goes_as}
@@ -43,12 +44,21 @@ idle_goes_on relations counters w z s t (Ok stepped.Flush) idle g = g
 idle_goes_on relations counters w z s t (Err why) idle g = g
 idle_goes_on relations counters w z s t (Ok stepped.Went) idle g = absurd idle
 idle_goes_on relations counters w z s t (Ok (stepped.Wait holder)) idle g = absurd idle
-idle_goes_on relations counters w z s t (Ok stepped.Again) idle g = absurd idle
+idle_goes_on relations counters w z s t (Ok (stepped.Again holder)) idle g = absurd idle
 idle_goes_on relations counters w z s t (Ok (stepped.Ready first second)) idle g = absurd idle
 
 pub cause_memory : {T : Type 0} (r : Result T Refusal) → IfErr r (λ why. why ≡ refusal.NoMemory) → IfErr r IsCause
 cause_memory (Ok x) memory = tt
 cause_memory (Err why) memory = inl memory
+
+-- what the test says
+pub reading_of : (op : Op) → only_reads op ≡ true → IsReading op
+reading_of (Get r k) is = tt
+reading_of (Insert r k v) is = absurd cc
+reading_of (Update r k v) is = absurd cc
+reading_of (Delete r k) is = absurd cc
+reading_of (Add c d) is = absurd cc
+reading_of (Read c) is = tt
 
 -- ---- a page is locked
 
@@ -69,7 +79,8 @@ module _ {D : Type 0} (seen : D → List ℕ) (may_leave : D → List ℕ → Ty
     same = record { op = refl; stage = refl; changes = refl; written = refl; left = refl };
     full = full;
     work = idle_works s r idle;
-    locks = same_keeps s.number o.locks m.locks r locks;
+    locks = same_keeps s.number (IsNext s) o.locks m.locks r (idle_asks r idle) locks;
+    scope = same_scope s r (idle_asks r idle);
     why = why;
     faults = told;
   }
@@ -78,9 +89,9 @@ module _ {D : Type 0} (seen : D → List ℕ) (may_leave : D → List ℕ → Ty
   pub locks_behind : (n : Operations D) (t : OpScope) (r : Result Stepped Refusal)
       → ((opening : PageBytes) (relations counters : ℕ) → IsRight seen may_leave opening relations counters m → IsUnderWay relations counters (world seen opening m) s
       → IsRight seen may_leave opening relations counters n × GoesOn relations counters (world seen opening m) (world seen opening n) s t r)
-      → n.store ≡ m.store → n.map ≡ m.map → IsAsFar s t → (r ≡ Ok stepped.Flush → ⊥) → Works s t r → KeepsLocks s.number m.locks n.locks r → IfErr r (λ why. why ≡ refusal.NoMemory) → failures m.store.device ≡ failures o.store.device
+      → n.store ≡ m.store → n.map ≡ m.map → IsAsFar s t → (r ≡ Ok stepped.Flush → ⊥) → Works s t r → KeepsLocks s.number (IsNext s) m.locks n.locks r → KeepsScope s t r → IfErr r (λ why. why ≡ refusal.NoMemory) → failures m.store.device ≡ failures o.store.device
       → LocksPage seen may_leave moment left_since failures o n s t r
-  locks_behind n t r goes store same_map same never work keeps memory unfailed = record {
+  locks_behind n t r goes store same_map same never work keeps scope memory unfailed = record {
     goes = λ opening relations counters ok k.
         let w = world seen opening o in let x = world seen opening m in
         let gone = goes opening relations counters (right opening relations counters ok) (rests_own relations counters w x s (rests opening) k) in
@@ -91,7 +102,8 @@ module _ {D : Type 0} (seen : D → List ℕ) (may_leave : D → List ℕ → Ty
     same = same;
     full = λ is. absurd (never is);
     work = work;
-    locks = subst (λ (ls : List PageLock). KeepsLocks s.number ls n.locks r) locks keeps;
+    locks = subst (λ (ls : List PageLock). KeepsLocks s.number (IsNext s) ls n.locks r) locks keeps;
+    scope = scope;
     why = cause_memory r memory;
     faults = told_behind (failures o.store.device) (failures m.store.device) (failures n.store.device) r unfailed (no_fault (failures m.store.device) (failures n.store.device) r memory (ap (λ (x : Store D). failures x.device) store));
   }
@@ -150,6 +162,7 @@ module _ {D : Type 0} (seen : D → List ℕ) (may_leave : D → List ℕ → Ty
     stage = λ not. planning;
     work = omega arith;
     locks = refl;
+    scope = inl (stays_same s);
     why = inl refl;
     faults = no_fault (failures o.store.device) (failures o.store.device) (Err refusal.NoMemory) refl refl;
   }
@@ -168,6 +181,7 @@ module _ {D : Type 0} (seen : D → List ℕ) (may_leave : D → List ℕ → Ty
     stage = λ not. l.same.stage ∙ planning;
     work = l.work;
     locks = l.locks;
+    scope = l.scope;
     why = tt;
     faults = told_ok (failures o.store.device) (failures n.store.device) (Ok a) a (Some a) refl l.faults;
   }
@@ -185,6 +199,7 @@ module _ {D : Type 0} (seen : D → List ℕ) (may_leave : D → List ℕ → Ty
     stage = λ not. l.same.stage ∙ planning;
     work = l.work;
     locks = l.locks;
+    scope = l.scope;
     why = l.why;
     faults = told_err (failures o.store.device) (failures n.store.device) (Err why) (Err why) why refl refl l.faults;
   }
@@ -203,7 +218,8 @@ pub record MakesStep {D : Type 0} (seen : D → List ℕ) (may_leave : D → Lis
   pub stage : ComesTo t.stage r
   pub work : Works s t r
   pub records : KeepsRecords t (appended o.store.log) (appended n.store.log) r
-  pub locks : KeepsLocks s.number o.locks n.locks r
+  pub locks : KeepsLocks s.number (IsNext s) o.locks n.locks r
+  pub scope : KeepsScope s t r
   pub writing : s.stage ≡ Writing → n.locks ≡ o.locks
   pub went : s.stage ≡ Writing → r ≡ Ok stepped.Went → t.written ≡ s.written + 1
   pub why : IfErr r IsCause
@@ -228,7 +244,8 @@ module _ {D : Type 0} (seen : D → List ℕ) (may_leave : D → List ℕ → Ty
     stage = a.stage;
     work = a.work;
     records = a.records;
-    locks = same_keeps s.number o.locks n.locks r a.locks;
+    locks = same_keeps s.number (IsNext s) o.locks n.locks r a.asks a.locks;
+    scope = ahead_scope s t r a.asks a.err a.flush;
     writing = λ writing. a.locks;
     went = λ writing. a.went;
     why = a.why;
@@ -249,6 +266,7 @@ module _ {D : Type 0} (seen : D → List ℕ) (may_leave : D → List ℕ → Ty
     work = p.work;
     records = ap (λ (l : Log). appended l) p.log;
     locks = p.locks;
+    scope = p.scope;
     writing = λ writing. p.locks;
     went = λ writing is. absurd cc;
     why = p.why;
@@ -270,6 +288,7 @@ module _ {D : Type 0} (seen : D → List ℕ) (may_leave : D → List ℕ → Ty
     work = p.work;
     records = same_records t (appended o.store.log) (appended n.store.log) (Ok a) (ap (λ (l : Log). appended l) p.log);
     locks = p.locks;
+    scope = p.scope;
     writing = λ writing. absurd (not_writing s planning writing);
     went = λ writing. absurd (not_writing s planning writing);
     why = tt;
@@ -285,7 +304,7 @@ module _ {D : Type 0} (seen : D → List ℕ) (may_leave : D → List ℕ → Ty
         steps = λ opening relations counters right k few some.
             let gone = p.goes opening relations counters right k few in
             let ended = a.steps opening relations counters gone.0 gone.1.own few some in
-            (ended.0, steps_then relations counters (world seen opening o) (world seen opening n) (world seen opening z) s t u r p.locks (ap (λ (l : Log). appended l) p.log) gone.1 ended.1);
+            (ended.0, steps_then relations counters (world seen opening o) (world seen opening n) (world seen opening z) s t u r (ap (λ (l : Log). appended l) p.log) gone.1 ended.1);
         moments = λ opening kept. subst (λ (x : Operations D). IsKept seen may_leave opening x.store → LeavesOnly moment left_since x.store.device z.store.device (Explains opening x.store)) made.0 (a.moments opening) kept;
         log = a.log ∙ (λ i. used (p.log i) + p.left i);
         area = a.area ∙ ap (λ (l : Log). area_size l) p.log;
@@ -295,7 +314,8 @@ module _ {D : Type 0} (seen : D → List ℕ) (may_leave : D → List ℕ → Ty
         stage = a.stage;
         work = works_behind s t u r p.work same.total a.work;
         records = subst (λ (l : Log). KeepsRecords u (appended l) (appended z.store.log) r) p.log a.records;
-        locks = same_keeps s.number o.locks z.locks r (a.locks ∙ p.locks);
+        locks = same_keeps s.number (IsNext s) o.locks z.locks r a.asks (a.locks ∙ p.locks);
+        scope = made_scope s t u r p.scope a.asks a.err a.flush;
         writing = λ writing. absurd (not_writing s planning writing);
         went = λ writing. absurd (not_writing s planning writing);
         why = a.why;

@@ -22,7 +22,7 @@ use Rattle.mt_op.specs.declared.answers.Stepped.{Stepped}
 use Rattle.mt_op.specs.declared.answers.Stepped.TheVariants as stepped
 use Rattle.mt_op.specs.declared.scope.OpScope.{OpScope}
 use Rattle.mt_op.specs.declared.scope.Stage.TheVariants.{Planning, Writing}
-use Rattle.mt_op.proofs.Going.{planning_of, awaited_of, barred_of, left_of}
+use Rattle.mt_op.proofs.Going.{planning_of}
 use Rattle.mt_op.proofs.Planned.{some_or_none, not_at_hand}
 use Rattle.mt_op.proofs.Writing.{plans}
 
@@ -78,19 +78,19 @@ module _ (relations counters : ℕ) where
     same = then_same s t u f.same g.same;
   }
 
-  pub steps_then : (w m z : World) (s t u : OpScope) (r : Result Stepped Refusal) → m.locks ≡ w.locks → m.records ≡ w.records → Goes relations counters w m s t → Steps relations counters m z t u r → Steps relations counters w z s u r
-  steps_then w m z s t u (Ok (stepped.Ready first second)) locks records f g = (acts_then w m z s t u first records f g.0, g.1)
-  steps_then w m z s t u (Ok stepped.Went) locks records f g = goes_then w m z s t u f g
-  steps_then w m z s t u (Ok (stepped.Wait holder)) locks records f g = (goes_then w m z s t u f g.0, awaited_of m w t s holder locks f.same.number g.1)
-  steps_then w m z s t u (Ok stepped.Again) locks records f g = (goes_then w m z s t u f g.0, barred_of m w t s locks f.same.number g.1, left_of m w z t s u locks f.same.number g.2)
-  steps_then w m z s t u (Ok stepped.Flush) locks records f g = goes_then w m z s t u f g
-  steps_then w m z s t u (Err why) locks records f g = goes_then w m z s t u f g
+  pub steps_then : (w m z : World) (s t u : OpScope) (r : Result Stepped Refusal) → m.records ≡ w.records → Goes relations counters w m s t → Steps relations counters m z t u r → Steps relations counters w z s u r
+  steps_then w m z s t u (Ok (stepped.Ready first second)) records f g = (acts_then w m z s t u first records f g.0, g.1)
+  steps_then w m z s t u (Ok stepped.Went) records f g = goes_then w m z s t u f g
+  steps_then w m z s t u (Ok (stepped.Wait holder)) records f g = goes_then w m z s t u f g
+  steps_then w m z s t u (Ok (stepped.Again holder)) records f g = goes_then w m z s t u f g
+  steps_then w m z s t u (Ok stepped.Flush) records f g = goes_then w m z s t u f g
+  steps_then w m z s t u (Err why) records f g = goes_then w m z s t u f g
 
   pub on_steps : (w z : World) (s t : OpScope) (r : Result Stepped Refusal) → GoesOn relations counters w z s t r → Steps relations counters w z s t r
   on_steps w z s t (Ok (stepped.Ready first second)) g = absurd g
   on_steps w z s t (Ok stepped.Went) g = g
   on_steps w z s t (Ok (stepped.Wait holder)) g = g
-  on_steps w z s t (Ok stepped.Again) g = g
+  on_steps w z s t (Ok (stepped.Again holder)) g = g
   on_steps w z s t (Ok stepped.Flush) g = g
   on_steps w z s t (Err why) g = g
 
@@ -99,6 +99,6 @@ module _ (relations counters : ℕ) where
   on_keeps w z s t (Ok (stepped.Ready first second)) claim before now g same = absurd g
   on_keeps w z s t (Ok stepped.Went) claim before now g same = same
   on_keeps w z s t (Ok (stepped.Wait holder)) claim before now g same = same
-  on_keeps w z s t (Ok stepped.Again) claim before now g same = same
+  on_keeps w z s t (Ok (stepped.Again holder)) claim before now g same = same
   on_keeps w z s t (Ok stepped.Flush) claim before now g same = same
   on_keeps w z s t (Err why) claim before now g same = same

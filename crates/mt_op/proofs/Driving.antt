@@ -107,8 +107,8 @@ goes_on w z s t g = record { own = g.own; others = g.others; same = g.same }
 pub steps_on : (w z : World) (s t : OpScope) (r : Result Stepped Refusal) → Steps 2 2 w z s t r → GoesOn w z s t
 steps_on w z s t (Ok (stepped.Ready first second)) g = record { own = g.0.own; others = g.0.others; same = g.0.same }
 steps_on w z s t (Ok stepped.Went) g = goes_on w z s t g
-steps_on w z s t (Ok (stepped.Wait holder)) g = goes_on w z s t g.0
-steps_on w z s t (Ok stepped.Again) g = goes_on w z s t g.0
+steps_on w z s t (Ok (stepped.Wait holder)) g = goes_on w z s t g
+steps_on w z s t (Ok (stepped.Again holder)) g = goes_on w z s t g
 steps_on w z s t (Ok stepped.Flush) g = goes_on w z s t g
 steps_on w z s t (Err why) g = goes_on w z s t g
 
@@ -117,7 +117,7 @@ pub claim_stays : (claim before after : ℕ) (r : Result Stepped Refusal) → Gi
 claim_stays claim before after (Ok (stepped.Ready first second)) g not = absurd (not first second refl)
 claim_stays claim before after (Ok stepped.Went) g not = g
 claim_stays claim before after (Ok (stepped.Wait holder)) g not = g
-claim_stays claim before after (Ok stepped.Again) g not = g
+claim_stays claim before after (Ok (stepped.Again holder)) g not = g
 claim_stays claim before after (Ok stepped.Flush) g not = g
 claim_stays claim before after (Err why) g not = g
 

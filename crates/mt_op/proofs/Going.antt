@@ -1,21 +1,19 @@
 -- Steps of an operation that plans: what they keep of all operations.
 use Rattle.std.proofs.Common.{◌≡◌, ◌<◌, inl, ℕ, List, [], ◌∷◌, ◌++◌, length, refl, sym, ◌∙◌, ap, subst, append-nil, None}
-use Rattle.std.specs.Prelude.{Result, Ok, Err, IsSome, All, Any, true}
+use Rattle.std.specs.Prelude.{Result, Ok, Err, IsSome}
 use Rattle.mt_base.specs.declared.modes.Mode.{Mode}
 use Rattle.mt_base.specs.declared.refusal.Refusal.{Refusal}
-use Rattle.mt_plock.specs.declared.guards.PageLock.{PageLock}
-use Rattle.mt_plock.specs.Holding.{lock_of, is_in_way, IsLeastHolder}
+use Rattle.mt_plock.specs.Holding.{lock_of}
 use Rattle.std.proofs.Math.ListN.{get_or}
 use Rattle.mt_pool.specs.Images.{slot}
 use Rattle.mt_pool.specs.Views.{IsPool, IsThere, view, held, framed, frame_whole}
 use Rattle.mt_pool.specs.declared.pool.Pool.{Pool}
 use Rattle.mt_steps.specs.Repeated.{by}
 use Rattle.mt_steps.specs.declared.draft.PageCopy.{PageCopy}
-use Rattle.mt_plock.specs.Releasing.{locks_without}
 use Rattle.mt_op.specs.World.{World, held_in, unfinished_in, looked, HasNothing, IsWorld, IsUnderWay, IsAt, IsPlanning}
 use Rattle.mt_steps.specs.declared.copies.Copies.{Copies}
 use Rattle.mt_op.specs.Moves.{SameOp, Rests, Locks, Leaves, Gains, IsLed}
-use Rattle.mt_op.specs.Holds.{Stays, Holds, IsAnew, IsAwaited, IsBarred, IsHeld, HasLeft}
+use Rattle.mt_op.specs.Holds.{Stays, Holds, IsAnew, IsHeld}
 use Rattle.mt_op.specs.Operations.{Goes, GoesOn}
 use Rattle.mt_op.specs.declared.scope.OpScope.{OpScope}
 use Rattle.mt_op.specs.declared.scope.Stage.TheVariants.{Planning}
@@ -24,18 +22,6 @@ use Rattle.mt_op.specs.declared.answers.Stepped.TheVariants as stepped
 use Rattle.mt_op.proofs.Staying.{own_kept, sees_same, open_same, rests_own, rests_held, world_rests}
 use Rattle.mt_op.proofs.Locking.{world_locks, others_lock, own_locks, own_upgrades, locks_held}
 use Rattle.mt_op.proofs.Leaving.{world_leaves, others_leave, begins_anew, leaves_held}
-
--- the same locks, and the same number
-pub awaited_of : (m w : World) (t s : OpScope) (holder : ℕ) → m.locks ≡ w.locks → t.number ≡ s.number → IsAwaited m t holder → IsAwaited w s holder
-awaited_of m w t s holder locks number a = subst (λ (X : Type 0). X)
-    (λ i. (p : ℕ) × (mode : Mode) × IsLeastHolder (lock_of (number i) p mode) (locks i) holder × All (λ (l : PageLock). is_in_way (lock_of (number i) p mode) l ≡ true → number i < l.op) (locks i)) a
-
-pub barred_of : (m w : World) (t s : OpScope) → m.locks ≡ w.locks → t.number ≡ s.number → IsBarred m t → IsBarred w s
-barred_of m w t s locks number b = subst (λ (X : Type 0). X)
-    (λ i. (p : ℕ) × (mode : Mode) × Any (λ (l : PageLock). (is_in_way (lock_of (number i) p mode) l ≡ true) × (l.op < number i)) (locks i)) b
-
-pub left_of : (m w z : World) (t s u : OpScope) → m.locks ≡ w.locks → t.number ≡ s.number → HasLeft m z t u → HasLeft w z s u
-left_of m w z t s u locks number l = (l.0 ∙ (λ i. locks_without (number i) (locks i)), l.1)
 
 module _ (relations counters : ℕ) where
   pub planning_of : (w : World) (s : OpScope) → s.stage ≡ Planning → IsUnderWay relations counters w s → IsPlanning w s
@@ -112,15 +98,15 @@ module _ (relations counters : ℕ) where
   pub held_world : (w z : World) (s t : OpScope) (p : ℕ) (mode : Mode) (r : Result Stepped Refusal) → IsHeld w z s t p mode r → HasNothing w s → IsWorld relations counters w → IsWorld relations counters z
   held_world w z s t p mode (Ok stepped.Went) h nothing k = world_locks relations counters w z (lock_of s.number p mode) h.0 k
   held_world w z s t p mode (Ok (stepped.Wait holder)) h nothing k = world_rests relations counters w z h.0 k
-  held_world w z s t p mode (Ok stepped.Again) h nothing k = world_leaves relations counters w z s h.0 k nothing
+  held_world w z s t p mode (Ok (stepped.Again holder)) h nothing k = world_leaves relations counters w z s h.0 k nothing
   held_world w z s t p mode (Ok stepped.Flush) h nothing k = absurd h
   held_world w z s t p mode (Ok (stepped.Ready first second)) h nothing k = absurd h
   held_world w z s t p mode (Err why) h nothing k = world_rests relations counters w z h.0 k
 
   pub upgrade_goes_on : (w z : World) (s t : OpScope) (p : ℕ) (mode : Mode) (r : Result Stepped Refusal) → IsHeld w z s t p mode r → s.stage ≡ Planning → IsSome (looked s p) → IsUnderWay relations counters w s → GoesOn relations counters w z s t r
   upgrade_goes_on w z s t p mode (Ok stepped.Went) h planning some k = upgrades_goes w z s t p mode h.0 planning h.1 some k
-  upgrade_goes_on w z s t p mode (Ok (stepped.Wait holder)) h planning some k = (rests_goes w z s t h.0 planning h.1 k, h.2)
-  upgrade_goes_on w z s t p mode (Ok stepped.Again) h planning some k = (leaves_goes w z s t h.0 planning h.1 k, h.2, (h.0.locks, h.1.guards))
+  upgrade_goes_on w z s t p mode (Ok (stepped.Wait holder)) h planning some k = rests_goes w z s t h.0 planning h.1 k
+  upgrade_goes_on w z s t p mode (Ok (stepped.Again holder)) h planning some k = leaves_goes w z s t h.0 planning h.1 k
   upgrade_goes_on w z s t p mode (Ok stepped.Flush) h planning some k = absurd h
   upgrade_goes_on w z s t p mode (Ok (stepped.Ready first second)) h planning some k = absurd h
   upgrade_goes_on w z s t p mode (Err why) h planning some k = rests_goes w z s t h.0 planning h.1 k
@@ -128,8 +114,8 @@ module _ (relations counters : ℕ) where
   -- where the lock is not had
   pub unlocked_goes_on : (w z : World) (s t : OpScope) (p : ℕ) (mode : Mode) (r : Result Stepped Refusal) → (r ≡ Ok stepped.Went → ⊥) → IsHeld w z s t p mode r → s.stage ≡ Planning → IsUnderWay relations counters w s → GoesOn relations counters w z s t r
   unlocked_goes_on w z s t p mode (Ok stepped.Went) not h planning k = absurd (not refl)
-  unlocked_goes_on w z s t p mode (Ok (stepped.Wait holder)) not h planning k = (rests_goes w z s t h.0 planning h.1 k, h.2)
-  unlocked_goes_on w z s t p mode (Ok stepped.Again) not h planning k = (leaves_goes w z s t h.0 planning h.1 k, h.2, (h.0.locks, h.1.guards))
+  unlocked_goes_on w z s t p mode (Ok (stepped.Wait holder)) not h planning k = rests_goes w z s t h.0 planning h.1 k
+  unlocked_goes_on w z s t p mode (Ok (stepped.Again holder)) not h planning k = leaves_goes w z s t h.0 planning h.1 k
   unlocked_goes_on w z s t p mode (Ok stepped.Flush) not h planning k = absurd h
   unlocked_goes_on w z s t p mode (Ok (stepped.Ready first second)) not h planning k = absurd h
   unlocked_goes_on w z s t p mode (Err why) not h planning k = rests_goes w z s t h.0 planning h.1 k
@@ -149,8 +135,8 @@ module _ (relations counters : ℕ) where
 
   pub goes_on_behind : (w m z : World) (s t : OpScope) (r : Result Stepped Refusal) → Rests w m → GoesOn relations counters m z s t r → GoesOn relations counters w z s t r
   goes_on_behind w m z s t (Ok stepped.Went) rests g = goes_behind w m z s t rests g
-  goes_on_behind w m z s t (Ok (stepped.Wait holder)) rests g = (goes_behind w m z s t rests g.0, awaited_of m w s s holder rests.locks refl g.1)
-  goes_on_behind w m z s t (Ok stepped.Again) rests g = (goes_behind w m z s t rests g.0, barred_of m w s s rests.locks refl g.1, left_of m w z s s t rests.locks refl g.2)
+  goes_on_behind w m z s t (Ok (stepped.Wait holder)) rests g = goes_behind w m z s t rests g
+  goes_on_behind w m z s t (Ok (stepped.Again holder)) rests g = goes_behind w m z s t rests g
   goes_on_behind w m z s t (Ok stepped.Flush) rests g = goes_behind w m z s t rests g
   goes_on_behind w m z s t (Ok (stepped.Ready first second)) rests g = absurd g
   goes_on_behind w m z s t (Err why) rests g = goes_behind w m z s t rests g
@@ -166,8 +152,8 @@ module _ (relations counters : ℕ) where
 
   pub goes_on_since : (w z : World) (s m t : OpScope) (r : Result Stepped Refusal) → SameOp s m → GoesOn relations counters w z m t r → GoesOn relations counters w z s t r
   goes_on_since w z s m t (Ok stepped.Went) op g = goes_since w z s m t op g
-  goes_on_since w z s m t (Ok (stepped.Wait holder)) op g = (goes_since w z s m t op g.0, awaited_of w w m s holder refl op.number g.1)
-  goes_on_since w z s m t (Ok stepped.Again) op g = (goes_since w z s m t op g.0, barred_of w w m s refl op.number g.1, left_of w w z m s t refl op.number g.2)
+  goes_on_since w z s m t (Ok (stepped.Wait holder)) op g = goes_since w z s m t op g
+  goes_on_since w z s m t (Ok (stepped.Again holder)) op g = goes_since w z s m t op g
   goes_on_since w z s m t (Ok stepped.Flush) op g = goes_since w z s m t op g
   goes_on_since w z s m t (Ok (stepped.Ready first second)) op g = absurd g
   goes_on_since w z s m t (Err why) op g = goes_since w z s m t op g
@@ -188,7 +174,7 @@ stays_roomy s seen total items = record {
 pub held_held : (w z : World) (s t : OpScope) (p : ℕ) (mode : Mode) (r : Result Stepped Refusal) → IsHeld w z s t p mode r → held_in z ≡ held_in w
 held_held w z s t p mode (Ok stepped.Went) h = locks_held w z (lock_of s.number p mode) h.0
 held_held w z s t p mode (Ok (stepped.Wait holder)) h = rests_held w z h.0
-held_held w z s t p mode (Ok stepped.Again) h = leaves_held w z s h.0
+held_held w z s t p mode (Ok (stepped.Again holder)) h = leaves_held w z s h.0
 held_held w z s t p mode (Ok stepped.Flush) h = absurd h
 held_held w z s t p mode (Ok (stepped.Ready first second)) h = absurd h
 held_held w z s t p mode (Err why) h = rests_held w z h.0

@@ -1,43 +1,132 @@
--- The locks of all operations and the records of the log, behind a step of one of them.
-use Rattle.std.proofs.Common.{◌≡◌, ℕ, List, inl, inr, refl, sym, subst, Option}
-use Rattle.std.specs.Prelude.{Result, Ok, Err}
+-- The locks of all operations, the operation itself and the records of the log, behind a step of it.
+use Rattle.std.proofs.Common.{◌≡◌, ◌∙◌, ℕ, List, inl, inr, refl, sym, subst, Option}
+use Rattle.std.specs.Prelude.{Result, Ok, Err, OnErr}
 use Rattle.mt_base.specs.declared.modes.Mode.{Mode}
 use Rattle.mt_base.specs.declared.refusal.Refusal.{Refusal}
 use Rattle.mt_frame.specs.declared.records.Record.{Record}
-use Rattle.mt_plock.specs.Holding.{lock_of}
 use Rattle.mt_plock.specs.declared.guards.PageLock.{PageLock}
 use Rattle.mt_op.specs.World.{World}
-use Rattle.mt_op.specs.Holds.{IsHeld, KeepsLocks, KeepsLocksOn}
+use Rattle.mt_op.specs.Moves.{SameOp}
+use Rattle.mt_op.specs.Holds.{Stays, IsAnew, IsMade, IsHeld, AsksNothing, KeepsLocks, KeepsLocksOn, KeepsScope, KeepsScopeOn}
 use Rattle.mt_op.specs.Records.{KeepsRecords}
 use Rattle.mt_op.specs.declared.answers.Stepped.{Stepped}
 use Rattle.mt_op.specs.declared.answers.Stepped.TheVariants as stepped
 use Rattle.mt_op.specs.declared.scope.OpScope.{OpScope}
 
-pub held_keeps : (w z : World) (s t : OpScope) (p : ℕ) (mode : Mode) (r : Result Stepped Refusal) → IsHeld w z s t p mode r → KeepsLocks s.number w.locks z.locks r
-held_keeps w z s t p mode (Ok stepped.Went) h = inr (lock_of s.number p mode, refl, h.0.locks)
-held_keeps w z s t p mode (Ok (stepped.Wait holder)) h = h.0.locks
-held_keeps w z s t p mode (Ok stepped.Again) h = tt
-held_keeps w z s t p mode (Ok stepped.Flush) h = absurd h
-held_keeps w z s t p mode (Ok (stepped.Ready first second)) h = absurd h
-held_keeps w z s t p mode (Err why) h = h.0.locks
+pub held_keeps : (Next : ℕ → Mode → Type 0) (w z : World) (s t : OpScope) (p : ℕ) (mode : Mode) (r : Result Stepped Refusal) → Next p mode → IsHeld w z s t p mode r → KeepsLocks s.number Next w.locks z.locks r
+held_keeps Next w z s t p mode (Ok stepped.Went) next h = inr (p, mode, next, h.0.locks)
+held_keeps Next w z s t p mode (Ok (stepped.Wait holder)) next h = (h.0.locks, (p, mode, next, h.2))
+held_keeps Next w z s t p mode (Ok (stepped.Again holder)) next h = (h.0.locks, (p, mode, next, h.2))
+held_keeps Next w z s t p mode (Ok stepped.Flush) next h = absurd h
+held_keeps Next w z s t p mode (Ok (stepped.Ready first second)) next h = absurd h
+held_keeps Next w z s t p mode (Err why) next h = h.0.locks
 
-pub same_keeps : (op : ℕ) (old new : List PageLock) (r : Result Stepped Refusal) → new ≡ old → KeepsLocks op old new r
-same_keeps op old new (Ok stepped.Went) same = inl same
-same_keeps op old new (Ok (stepped.Wait holder)) same = same
-same_keeps op old new (Ok stepped.Again) same = tt
-same_keeps op old new (Ok stepped.Flush) same = same
-same_keeps op old new (Ok (stepped.Ready first second)) same = same
-same_keeps op old new (Err why) same = same
+pub same_keeps : (op : ℕ) (Next : ℕ → Mode → Type 0) (old new : List PageLock) (r : Result Stepped Refusal) → AsksNothing r → new ≡ old → KeepsLocks op Next old new r
+same_keeps op Next old new (Ok stepped.Went) none same = inl same
+same_keeps op Next old new (Ok (stepped.Wait holder)) none same = absurd none
+same_keeps op Next old new (Ok (stepped.Again holder)) none same = absurd none
+same_keeps op Next old new (Ok stepped.Flush) none same = same
+same_keeps op Next old new (Ok (stepped.Ready first second)) none same = same
+same_keeps op Next old new (Err why) none same = same
 
-pub err_keeps_on : (op : ℕ) (old new : List PageLock) (r : Result (Option Stepped) Refusal) (why : Refusal) → r ≡ Err why → new ≡ old → KeepsLocksOn op old new r
-err_keeps_on op old new r why is same = subst (KeepsLocksOn op old new) (sym is) same
+pub err_keeps : (op : ℕ) (Next : ℕ → Mode → Type 0) (old new : List PageLock) (r : Result Stepped Refusal) (why : Refusal) → r ≡ Err why → new ≡ old → KeepsLocks op Next old new r
+err_keeps op Next old new r why is same = subst (KeepsLocks op Next old new) (sym is) same
+
+pub err_keeps_on : (op : ℕ) (Next : ℕ → Mode → Type 0) (old new : List PageLock) (r : Result (Option Stepped) Refusal) (why : Refusal) → r ≡ Err why → new ≡ old → KeepsLocksOn op Next old new r
+err_keeps_on op Next old new r why is same = subst (KeepsLocksOn op Next old new) (sym is) same
+
+-- ---- the operation itself
+
+pub stays_same : (s : OpScope) → Stays s s
+stays_same s = record {
+  plan = record { op = record { txn = refl; number = refl; op = refl; undoes = refl; split = refl; total = refl }; room = refl; guards = refl; seen = refl; changes = refl; reply = refl };
+  stage = refl;
+  written = refl;
+  standing = refl;
+  left = refl;
+}
+
+op_then : (s m t : OpScope) → SameOp s m → SameOp m t → SameOp s t
+op_then s m t f g = record { txn = g.txn ∙ f.txn; number = g.number ∙ f.number; op = g.op ∙ f.op; undoes = g.undoes ∙ f.undoes; split = g.split ∙ f.split; total = g.total ∙ f.total }
+
+-- behind a scope that stayed
+pub stays_then : (s m t : OpScope) → Stays s m → Stays m t → Stays s t
+stays_then s m t f g = record {
+  plan = record {
+    op = op_then s m t f.plan.op g.plan.op;
+    room = g.plan.room ∙ f.plan.room;
+    guards = g.plan.guards ∙ f.plan.guards;
+    seen = g.plan.seen ∙ f.plan.seen;
+    changes = g.plan.changes ∙ f.plan.changes;
+    reply = g.plan.reply ∙ f.plan.reply;
+  };
+  stage = g.stage ∙ f.stage;
+  written = g.written ∙ f.written;
+  standing = g.standing ∙ f.standing;
+  left = g.left ∙ f.left;
+}
+
+anew_then : (s m t : OpScope) → Stays s m → m.changes ≡ s.changes → IsAnew m t → IsAnew s t
+anew_then s m t f changes g = record {
+  op = op_then s m t f.plan.op g.op;
+  stage = g.stage ∙ f.stage;
+  room = g.room;
+  guards = g.guards;
+  seen = g.seen;
+  changes = g.changes ∙ changes;
+  reply = g.reply ∙ f.plan.reply;
+  written = g.written ∙ f.written;
+  standing = g.standing ∙ f.standing;
+  left = g.left ∙ f.left;
+}
+
+pub held_scope : (w z : World) (s m t : OpScope) (p : ℕ) (mode : Mode) (r : Result Stepped Refusal) → Stays s m → m.changes ≡ s.changes → IsHeld w z m t p mode r → KeepsScope s t r
+held_scope w z s m t p mode (Ok stepped.Went) f changes h = tt
+held_scope w z s m t p mode (Ok (stepped.Wait holder)) f changes h = stays_then s m t f h.1
+held_scope w z s m t p mode (Ok (stepped.Again holder)) f changes h = anew_then s m t f changes h.1
+held_scope w z s m t p mode (Ok stepped.Flush) f changes h = absurd h
+held_scope w z s m t p mode (Ok (stepped.Ready first second)) f changes h = absurd h
+held_scope w z s m t p mode (Err why) f changes h = inl (stays_then s m t f h.1)
+
+pub err_scope : (s t : OpScope) (r : Result Stepped Refusal) (why : Refusal) → r ≡ Err why → Stays s t → KeepsScope s t r
+err_scope s t r why is stays = subst (KeepsScope s t) (sym is) (inl stays)
+
+pub err_scope_on : (s t : OpScope) (r : Result (Option Stepped) Refusal) (why : Refusal) → r ≡ Err why → KeepsScope s t (Err why) → KeepsScopeOn s t r
+err_scope_on s t r why is keeps = subst (KeepsScopeOn s t) (sym is) keeps
+
+-- where it asks for nothing
+pub same_scope : (s : OpScope) (r : Result Stepped Refusal) → AsksNothing r → KeepsScope s s r
+same_scope s (Ok stepped.Went) none = tt
+same_scope s (Ok (stepped.Wait holder)) none = absurd none
+same_scope s (Ok (stepped.Again holder)) none = absurd none
+same_scope s (Ok stepped.Flush) none = inl (stays_same s)
+same_scope s (Ok (stepped.Ready first second)) none = tt
+same_scope s (Err why) none = inl (stays_same s)
+
+-- it writes, or ends
+pub ahead_scope : (s t : OpScope) (r : Result Stepped Refusal) → AsksNothing r → OnErr r (t ≡ s) → (r ≡ Ok stepped.Flush → t ≡ s) → KeepsScope s t r
+ahead_scope s t (Ok stepped.Went) none err flush = tt
+ahead_scope s t (Ok (stepped.Wait holder)) none err flush = absurd none
+ahead_scope s t (Ok (stepped.Again holder)) none err flush = absurd none
+ahead_scope s t (Ok stepped.Flush) none err flush = inl (subst (Stays s) (sym (flush refl)) (stays_same s))
+ahead_scope s t (Ok (stepped.Ready first second)) none err flush = tt
+ahead_scope s t (Err why) none err flush = inl (subst (Stays s) (sym err) (stays_same s))
+
+-- the same behind a plan that was made
+pub made_scope : (s t u : OpScope) (r : Result Stepped Refusal) → IsMade s t → AsksNothing r → OnErr r (u ≡ t) → (r ≡ Ok stepped.Flush → u ≡ t) → KeepsScope s u r
+made_scope s t u (Ok stepped.Went) made none err flush = tt
+made_scope s t u (Ok (stepped.Wait holder)) made none err flush = absurd none
+made_scope s t u (Ok (stepped.Again holder)) made none err flush = absurd none
+made_scope s t u (Ok stepped.Flush) made none err flush = inr (subst (IsMade s) (sym (flush refl)) made)
+made_scope s t u (Ok (stepped.Ready first second)) made none err flush = tt
+made_scope s t u (Err why) made none err flush = inr (subst (IsMade s) (sym err) made)
 
 -- ---- records
 
 pub same_records : (s : OpScope) (old new : List Record) (r : Result Stepped Refusal) → new ≡ old → KeepsRecords s old new r
 same_records s old new (Ok stepped.Went) same = inl same
 same_records s old new (Ok (stepped.Wait holder)) same = same
-same_records s old new (Ok stepped.Again) same = same
+same_records s old new (Ok (stepped.Again holder)) same = same
 same_records s old new (Ok stepped.Flush) same = same
 same_records s old new (Ok (stepped.Ready first second)) same = tt
 same_records s old new (Err why) same = same

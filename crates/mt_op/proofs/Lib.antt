@@ -26,4 +26,5 @@ pub mod Keeping
 pub mod Faulting
 pub mod Ahead
 pub mod Back
+pub mod Begun
 pub mod Choosing

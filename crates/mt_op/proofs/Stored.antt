@@ -22,7 +22,7 @@ use Rattle.mt_op.specs.Moves.{Rests, Notes, EndsTxn}
 use Rattle.mt_op.specs.Operations.{world, IsRight, claimed}
 use Rattle.mt_op.specs.declared.operations.Operations.{Operations}
 use Rattle.mt_op.specs.declared.scope.OpScope.{OpScope}
-use Rattle.mt_op.proofs.Staying.{world_of, rests_own}
+use Rattle.mt_op.proofs.Staying.{world_of, rests_own, rests_held}
 use Rattle.mt_op.proofs.Noting.{world_notes, notes_held, others_note}
 use Rattle.mt_op.proofs.Right.{right_held, right_rests, with_store}
 
@@ -52,6 +52,11 @@ module _ {D : Type 0} (seen : D → List ℕ) (may_leave : D → List ℕ → Ty
       right_held seen may_leave opening relations counters o (with_store o s) right kept (world_notes relations counters w z (txn_of r) r (notes ok) ends right.sound)
       (notes_held relations counters w z (txn_of r) r (notes ok) ends) refl refl (ap (λ (p : Pool). pages p) pool)
   right_appended (Err why) ok err ends right kept = right_rests seen may_leave opening relations counters o (with_store o s) right kept (rests err) refl refl
+
+  -- the pages held stay
+  pub held_appended : {A B : Type 0} (x : Result A B) → OnOk x (appended s.log ≡ appended o.store.log ++ r ∷ []) → OnErr x (appended s.log ≡ appended o.store.log) → EndsTxn (txn_of r) r → held_in z ≡ held_in w
+  held_appended (Ok a) ok err ends = notes_held relations counters w z (txn_of r) r (notes ok) ends
+  held_appended (Err why) ok err ends = rests_held w z (rests err)
 
   -- and those of other transactions under way
   pub others_appended : {A B : Type 0} (x : Result A B) → OnOk x (appended s.log ≡ appended o.store.log ++ r ∷ []) → OnErr x (appended s.log ≡ appended o.store.log) → EndsTxn (txn_of r) r

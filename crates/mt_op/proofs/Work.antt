@@ -225,7 +225,7 @@ writing_work s t was_writing writing changes written more =
 pub works_behind : (s t u : OpScope) (r : Result Stepped Refusal) → work_of t ≤ work_of s → t.seen.total ≡ s.seen.total → Works t u r → Works s u r
 works_behind s t u (Ok stepped.Went) le total w = omega arith
 works_behind s t u (Ok (stepped.Wait holder)) le total w = omega arith
-works_behind s t u (Ok stepped.Again) le total w = omega arith
+works_behind s t u (Ok (stepped.Again holder)) le total w = omega arith
 works_behind s t u (Ok stepped.Flush) le total w = omega arith
 works_behind s t u (Ok (stepped.Ready first second)) le total w = w
 works_behind s t u (Err why) le total w = omega arith
@@ -240,7 +240,7 @@ err_works_on s t r why is le = subst (WorksOn s t) (sym is) le
 pub unlocked_works : (w z : World) (s t : OpScope) (p : ℕ) (mode : Mode) (r : Result Stepped Refusal) → (r ≡ Ok stepped.Went → ⊥) → IsHeld w z s t p mode r → s.stage ≡ Planning → Works s t r
 unlocked_works w z s t p mode (Ok stepped.Went) not h planning = absurd (not refl)
 unlocked_works w z s t p mode (Ok (stepped.Wait holder)) not h planning = let e = stays_work s t planning h.1 in omega arith
-unlocked_works w z s t p mode (Ok stepped.Again) not h planning = anew_work s t planning h.1
+unlocked_works w z s t p mode (Ok (stepped.Again holder)) not h planning = anew_work s t planning h.1
 unlocked_works w z s t p mode (Ok stepped.Flush) not h planning = absurd h
 unlocked_works w z s t p mode (Ok (stepped.Ready first second)) not h planning = absurd h
 unlocked_works w z s t p mode (Err why) not h planning = let e = stays_work s t planning h.1 in omega arith
@@ -258,7 +258,7 @@ upgrade_works relations counters w z s t p r held planning some none k = answere
     answered : (r : Result Stepped Refusal) → IsHeld w z s t p Write r → Works s t r
     answered (Ok stepped.Went) h = upgrades_work s t p planning h.1 some (unwritten s.guards.items s.number p (own_guards relations counters w s k) none) (subst (λ (n : ℕ). p < n) (sym k.total) (k.inside p some))
     answered (Ok (stepped.Wait holder)) h = let e = stays_work s t planning h.1 in omega arith
-    answered (Ok stepped.Again) h = anew_work s t planning h.1
+    answered (Ok (stepped.Again holder)) h = anew_work s t planning h.1
     answered (Ok stepped.Flush) h = absurd h
     answered (Ok (stepped.Ready first second)) h = absurd h
     answered (Err why) h = let e = stays_work s t planning h.1 in omega arith
@@ -269,6 +269,6 @@ pub comes_on : (relations counters : ℕ) (w z : World) (s t : OpScope) (r : Res
 comes_on relations counters w z s t (Ok (stepped.Ready first second)) goes to = absurd goes
 comes_on relations counters w z s t (Ok stepped.Went) goes to = to
 comes_on relations counters w z s t (Ok (stepped.Wait holder)) goes to = to
-comes_on relations counters w z s t (Ok stepped.Again) goes to = to
+comes_on relations counters w z s t (Ok (stepped.Again holder)) goes to = to
 comes_on relations counters w z s t (Ok stepped.Flush) goes to = to
 comes_on relations counters w z s t (Err why) goes to = to

@@ -1,13 +1,21 @@
 -- What asking for a page lock does to an operation.
-use Rattle.std.specs.Prelude.{◌≡◌, ◌⊎◌, ◌<◌, ◌++◌, ◌∷◌, [], ℕ, List, Option, None, Some, Result, Ok, Err, All, Any, true}
+use Rattle.std.specs.Prelude.{◌≡◌, ◌⊎◌, ◌<◌, ◌≤◌, ◌++◌, ◌∷◌, [], ℕ, List, Option, None, Some, IsSome, Result, Ok, Err, Contains, true}
 use Rattle.mt_base.specs.declared.modes.Mode.{Mode}
+use Rattle.mt_base.specs.declared.modes.Mode.TheVariants.{Read, Write}
 use Rattle.mt_base.specs.declared.refusal.Refusal.{Refusal}
-use Rattle.mt_plock.specs.Holding.{lock_of, is_in_way, IsLeastHolder}
+use Rattle.mt_model.specs.Model.{IsWithin}
+use Rattle.mt_model.specs.declared.operations.Reply.{Reply}
+use Rattle.mt_plock.specs.Holding.{lock_of, IsLeastHolder}
 use Rattle.mt_plock.specs.declared.guards.PageLock.{PageLock}
 use Rattle.mt_plock.specs.Releasing.{locks_without}
-use Rattle.mt_op.specs.World.{World}
+use Rattle.mt_space.specs.Changes.{IsUntouched}
+use Rattle.mt_space.specs.declared.changes.PageChange.{PageChange}
+use Rattle.mt_steps.specs.Plans.{InPages, IsPlanned}
+use Rattle.mt_op.specs.World.{World, looked}
 use Rattle.mt_op.specs.Moves.{SameOp, SamePlan, Locks, Rests, Leaves}
+use Rattle.mt_op.specs.Operations.{only_reads}
 use Rattle.mt_op.specs.declared.scope.OpScope.{OpScope}
+use Rattle.mt_op.specs.declared.scope.Stage.TheVariants.{Planning, Writing}
 use Rattle.mt_op.specs.declared.answers.Stepped.{Stepped}
 use Rattle.mt_op.specs.declared.answers.Stepped.TheVariants as stepped
 
@@ -45,43 +53,96 @@ pub record IsAnew (s t : OpScope) : Type 0 where
   pub standing : t.standing ≡ s.standing
   pub left : t.left ≡ s.left
 
--- On some page and in some mode: the smallest operation that holds a lock in its way; all such are larger than it.
-abbrev pub IsAwaited : World → OpScope → ℕ → Type 0
-IsAwaited w s holder = (p : ℕ) × (mode : Mode) × IsLeastHolder (lock_of s.number p mode) w.locks holder × All (λ held. is_in_way (lock_of s.number p mode) held ≡ true → s.number < held.op) w.locks
+-- its plan is made, and it is to write; nothing else of it has changed
+pub record IsMade (s t : OpScope) : Type 0 where
+  pub op : SameOp s t
+  pub planning : s.stage ≡ Planning
+  pub stage : t.stage ≡ Writing
+  pub room : t.room ≡ s.room
+  pub guards : t.guards.items ≡ s.guards.items
+  pub seen : t.seen.list.items ≡ s.seen.list.items
+  pub written : t.written ≡ s.written
+  pub standing : t.standing ≡ s.standing
+  pub left : t.left ≡ s.left
 
--- On some page and in some mode a smaller operation holds a lock in its way.
-abbrev pub IsBarred : World → OpScope → Type 0
-IsBarred w s = (p : ℕ) × (mode : Mode) × Any (λ held. (is_in_way (lock_of s.number p mode) held ≡ true) × (held.op < s.number)) w.locks
+-- ---- what it asks for
 
--- All its locks are given back, and no other's.
-abbrev pub HasLeft : World → World → OpScope → OpScope → Type 0
-HasLeft w z s t = (z.locks ≡ locks_without s.number w.locks) × (t.guards.items ≡ [])
+-- a page that it has not looked at; where it only reads, to read it
+pub record IsToLook (s : OpScope) (p : ℕ) (mode : Mode) : Type 0 where
+  pub new : looked s p ≡ None
+  pub inside : p < s.seen.total
+  pub reads : only_reads s.op ≡ true → mode ≡ Read
+
+-- a page that it has looked at and not locked to write, and that its plan changes: to write it
+pub record IsToWrite (s : OpScope) (p : ℕ) (mode : Mode) : Type 0 where
+  pub seen : IsSome (looked s p)
+  pub unlocked : Contains s.guards.items (lock_of s.number p Write) → ⊥
+  pub writes : mode ≡ Write
+  pub changes : List PageChange
+  pub reply : Reply
+  pub planned : (relations counters : ℕ) → relations ≤ 64 → IsWithin relations counters s.op → InPages (looked s) s.room relations counters s.seen.total (λ pages. IsPlanned relations counters s.seen.total (looked s) pages changes s.op s.split reply)
+  pub reads : only_reads s.op ≡ true → changes ≡ []
+  pub touched : IsUntouched changes p → ⊥
+
+abbrev pub IsNext : OpScope → ℕ → Mode → Type 0
+IsNext s p mode = IsToLook s p mode ⊎ IsToWrite s p mode
+
+-- The smallest operation with a lock in its way is larger than it, and so is every other such.
+abbrev pub IsAwaited : List PageLock → PageLock → ℕ → Type 0
+IsAwaited locks lock holder = IsLeastHolder lock locks holder × (lock.op < holder)
+
+-- The smallest operation with a lock in its way is smaller than it.
+abbrev pub IsBarred : List PageLock → PageLock → ℕ → Type 0
+IsBarred locks lock holder = IsLeastHolder lock locks holder × (holder < lock.op)
 
 abbrev pub IsHeld : World → World → OpScope → OpScope → ℕ → Mode → Result Stepped Refusal → Type 0
 IsHeld w z s t p mode (Ok stepped.Went) = Locks w z (lock_of s.number p mode) × Holds s t p mode
-IsHeld w z s t p mode (Ok (stepped.Wait holder)) = Rests w z × Stays s t × IsAwaited w s holder
-IsHeld w z s t p mode (Ok stepped.Again) = Leaves w z s × IsAnew s t × IsBarred w s
+IsHeld w z s t p mode (Ok (stepped.Wait holder)) = Rests w z × Stays s t × IsAwaited w.locks (lock_of s.number p mode) holder
+IsHeld w z s t p mode (Ok (stepped.Again holder)) = Leaves w z s × IsAnew s t × IsBarred w.locks (lock_of s.number p mode) holder
 IsHeld w z s t p mode (Ok stepped.Flush) = ⊥
 IsHeld w z s t p mode (Ok (stepped.Ready first second)) = ⊥
 IsHeld w z s t p mode (Err why) = Rests w z × Stays s t
 
+-- it has asked for no lock that it did not get
+abbrev pub AsksNothing : Result Stepped Refusal → Type 0
+AsksNothing (Ok (stepped.Wait holder)) = ⊥
+AsksNothing (Ok (stepped.Again holder)) = ⊥
+AsksNothing (Ok stepped.Went) = Unit {0}
+AsksNothing (Ok stepped.Flush) = Unit {0}
+AsksNothing (Ok (stepped.Ready first second)) = Unit {0}
+AsksNothing (Err why) = Unit {0}
+
 -- ---- the locks of all
 
--- they stay, or there is one of this operation more
-abbrev pub HasMore : ℕ → List PageLock → List PageLock → Type 0
-HasMore op old new = (new ≡ old) ⊎ ((lock : PageLock) × (lock.op ≡ op) × (new ≡ old ++ lock ∷ []))
-
--- They stay where the operation waits, is refused or ends. What goes where it begins anew is said by HasLeft.
-abbrev pub KeepsLocks : ℕ → List PageLock → List PageLock → Result Stepped Refusal → Type 0
-KeepsLocks op old new (Ok stepped.Went) = HasMore op old new
-KeepsLocks op old new (Ok (stepped.Wait holder)) = new ≡ old
-KeepsLocks op old new (Ok stepped.Again) = Unit {0}
-KeepsLocks op old new (Ok stepped.Flush) = new ≡ old
-KeepsLocks op old new (Ok (stepped.Ready first second)) = new ≡ old
-KeepsLocks op old new (Err why) = new ≡ old
+-- They stay but for what a step asks for, which is next: it gets this lock, and no other; or waits for the smallest
+-- operation in the way; or gives all its own back, and no other's.
+abbrev pub KeepsLocks : ℕ → (ℕ → Mode → Type 0) → List PageLock → List PageLock → Result Stepped Refusal → Type 0
+KeepsLocks op Next old new (Ok stepped.Went) = (new ≡ old) ⊎ ((p : ℕ) × (mode : Mode) × Next p mode × (new ≡ old ++ lock_of op p mode ∷ []))
+KeepsLocks op Next old new (Ok (stepped.Wait holder)) = (new ≡ old) × ((p : ℕ) × (mode : Mode) × Next p mode × IsAwaited old (lock_of op p mode) holder)
+KeepsLocks op Next old new (Ok (stepped.Again holder)) = (new ≡ locks_without op old) × ((p : ℕ) × (mode : Mode) × Next p mode × IsBarred old (lock_of op p mode) holder)
+KeepsLocks op Next old new (Ok stepped.Flush) = new ≡ old
+KeepsLocks op Next old new (Ok (stepped.Ready first second)) = new ≡ old
+KeepsLocks op Next old new (Err why) = new ≡ old
 
 -- the same of a step that plans; where it answers nothing the plan is made
-abbrev pub KeepsLocksOn : ℕ → List PageLock → List PageLock → Result (Option Stepped) Refusal → Type 0
-KeepsLocksOn op old new (Ok (Some answer)) = KeepsLocks op old new (Ok answer)
-KeepsLocksOn op old new (Ok None) = new ≡ old
-KeepsLocksOn op old new (Err why) = new ≡ old
+abbrev pub KeepsLocksOn : ℕ → (ℕ → Mode → Type 0) → List PageLock → List PageLock → Result (Option Stepped) Refusal → Type 0
+KeepsLocksOn op Next old new (Ok (Some answer)) = KeepsLocks op Next old new (Ok answer)
+KeepsLocksOn op Next old new (Ok None) = new ≡ old
+KeepsLocksOn op Next old new (Err why) = new ≡ old
+
+-- ---- the operation itself
+
+-- It stays where it waits; where it begins anew it is as at its beginning. Where it needs a frame or is refused it
+-- stays, unless its plan was made in this step.
+abbrev pub KeepsScope : OpScope → OpScope → Result Stepped Refusal → Type 0
+KeepsScope s t (Ok stepped.Went) = Unit {0}
+KeepsScope s t (Ok (stepped.Wait holder)) = Stays s t
+KeepsScope s t (Ok (stepped.Again holder)) = IsAnew s t
+KeepsScope s t (Ok stepped.Flush) = Stays s t ⊎ IsMade s t
+KeepsScope s t (Ok (stepped.Ready first second)) = Unit {0}
+KeepsScope s t (Err why) = Stays s t ⊎ IsMade s t
+
+abbrev pub KeepsScopeOn : OpScope → OpScope → Result (Option Stepped) Refusal → Type 0
+KeepsScopeOn s t (Ok (Some answer)) = KeepsScope s t (Ok answer)
+KeepsScopeOn s t (Ok None) = IsMade s t
+KeepsScopeOn s t (Err why) = KeepsScope s t (Err why)

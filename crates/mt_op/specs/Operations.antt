@@ -15,7 +15,6 @@ use Rattle.mt_steps.specs.Held.{Holds}
 use Rattle.mt_steps.specs.Logged.{HasSmallReply}
 use Rattle.mt_op.specs.World.{World, held_in, IsWorld, IsUnderWay, IsOther, changes_in}
 use Rattle.mt_op.specs.Moves.{SameOp}
-use Rattle.mt_op.specs.Holds.{IsAwaited, IsBarred, HasLeft}
 use Rattle.mt_op.specs.Records.{end_of}
 use Rattle.mt_op.specs.declared.operations.Operations.{Operations}
 use Rattle.mt_op.specs.declared.scope.OpScope.{OpScope}
@@ -97,8 +96,8 @@ pub record Acts (relations counters : ℕ) (w z : World) (s t : OpScope) (reply 
 abbrev pub Steps : ℕ → ℕ → World → World → OpScope → OpScope → Result Stepped Refusal → Type 0
 Steps relations counters w z s t (Ok (stepped.Ready first second)) = Acts relations counters w z s t first × (second ≡ first)
 Steps relations counters w z s t (Ok stepped.Went) = Goes relations counters w z s t
-Steps relations counters w z s t (Ok (stepped.Wait holder)) = Goes relations counters w z s t × IsAwaited w s holder
-Steps relations counters w z s t (Ok stepped.Again) = Goes relations counters w z s t × IsBarred w s × HasLeft w z s t
+Steps relations counters w z s t (Ok (stepped.Wait holder)) = Goes relations counters w z s t
+Steps relations counters w z s t (Ok (stepped.Again holder)) = Goes relations counters w z s t
 Steps relations counters w z s t (Ok stepped.Flush) = Goes relations counters w z s t
 Steps relations counters w z s t (Err why) = Goes relations counters w z s t
 
@@ -107,7 +106,7 @@ abbrev pub GivesBack : ℕ → ℕ → ℕ → Result Stepped Refusal → Type 0
 GivesBack claim before after (Ok (stepped.Ready first second)) = after + claim ≡ before
 GivesBack claim before after (Ok stepped.Went) = after ≡ before
 GivesBack claim before after (Ok (stepped.Wait holder)) = after ≡ before
-GivesBack claim before after (Ok stepped.Again) = after ≡ before
+GivesBack claim before after (Ok (stepped.Again holder)) = after ≡ before
 GivesBack claim before after (Ok stepped.Flush) = after ≡ before
 GivesBack claim before after (Err why) = after ≡ before
 
@@ -115,8 +114,8 @@ GivesBack claim before after (Err why) = after ≡ before
 abbrev pub GoesOn : ℕ → ℕ → World → World → OpScope → OpScope → Result Stepped Refusal → Type 0
 GoesOn relations counters w z s t (Ok (stepped.Ready first second)) = ⊥
 GoesOn relations counters w z s t (Ok stepped.Went) = Goes relations counters w z s t
-GoesOn relations counters w z s t (Ok (stepped.Wait holder)) = Goes relations counters w z s t × IsAwaited w s holder
-GoesOn relations counters w z s t (Ok stepped.Again) = Goes relations counters w z s t × IsBarred w s × HasLeft w z s t
+GoesOn relations counters w z s t (Ok (stepped.Wait holder)) = Goes relations counters w z s t
+GoesOn relations counters w z s t (Ok (stepped.Again holder)) = Goes relations counters w z s t
 GoesOn relations counters w z s t (Ok stepped.Flush) = Goes relations counters w z s t
 GoesOn relations counters w z s t (Err why) = Goes relations counters w z s t
 

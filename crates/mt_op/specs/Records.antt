@@ -34,7 +34,7 @@ HasPageMore s old new = (new ≡ old) ⊎ ((c : PageChange) × (image : Option (
 abbrev pub KeepsRecords : OpScope → List Record → List Record → Result Stepped Refusal → Type 0
 KeepsRecords s old new (Ok stepped.Went) = HasPageMore s old new
 KeepsRecords s old new (Ok (stepped.Wait holder)) = new ≡ old
-KeepsRecords s old new (Ok stepped.Again) = new ≡ old
+KeepsRecords s old new (Ok (stepped.Again holder)) = new ≡ old
 KeepsRecords s old new (Ok stepped.Flush) = new ≡ old
 KeepsRecords s old new (Ok (stepped.Ready first second)) = Unit {0}
 KeepsRecords s old new (Err why) = new ≡ old

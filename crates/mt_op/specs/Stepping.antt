@@ -10,7 +10,7 @@ use Rattle.mt_pool.specs.Views.{IsFull}
 use Rattle.mt_steps.specs.Plans.{own_needs}
 use Rattle.mt_op.specs.World.{IsUnderWay}
 use Rattle.mt_op.specs.Operations.{world, IsRight, Goes, GoesOn, Steps, GivesBack, IsPlannedOn, HasBudget, IsAsFar, IsCause, claimed}
-use Rattle.mt_op.specs.Holds.{KeepsLocks, KeepsLocksOn}
+use Rattle.mt_op.specs.Holds.{IsNext, AsksNothing, KeepsLocks, KeepsLocksOn, KeepsScope, KeepsScopeOn}
 use Rattle.mt_op.specs.Records.{KeepsRecords, TellsDropped}
 use Rattle.mt_op.specs.Work.{Works, WorksOn, ComesTo}
 use Rattle.mt_op.specs.Faults.{TellsFaults}
@@ -37,6 +37,7 @@ pub record GoesAhead {D : Type 0} (seen : D → List ℕ) (may_leave : D → Lis
   pub work : Works s t r
   pub records : KeepsRecords t (appended o.store.log) (appended n.store.log) r
   pub locks : n.locks ≡ o.locks
+  pub asks : AsksNothing r
   pub err : OnErr r (t ≡ s)
   pub flush : r ≡ Ok stepped.Flush → t ≡ s
   pub why : IfErr r IsCause
@@ -69,7 +70,8 @@ pub record LocksPage {D : Type 0} (seen : D → List ℕ) (may_leave : D → Lis
   pub same : IsAsFar s t
   pub full : r ≡ Ok stepped.Flush → IsFull o.store.pool × (n ≡ o)
   pub work : Works s t r
-  pub locks : KeepsLocks s.number o.locks n.locks r
+  pub locks : KeepsLocks s.number (IsNext s) o.locks n.locks r
+  pub scope : KeepsScope s t r
   pub why : IfErr r IsCause
   pub faults : TellsFaults (failures o.store.device) (failures n.store.device) r
 
@@ -86,6 +88,7 @@ pub record PlansOn {D : Type 0} (seen : D → List ℕ) (may_leave : D → List 
   pub full : r ≡ Ok (Some stepped.Flush) → IsFull o.store.pool × (n ≡ o)
   pub stage : (r ≡ Ok None → ⊥) → t.stage ≡ Planning
   pub work : WorksOn s t r
-  pub locks : KeepsLocksOn s.number o.locks n.locks r
+  pub locks : KeepsLocksOn s.number (IsNext s) o.locks n.locks r
+  pub scope : KeepsScopeOn s t r
   pub why : IfErr r IsCause
   pub faults : TellsFaults (failures o.store.device) (failures n.store.device) r

@@ -45,7 +45,7 @@ work_of s = work_at s s.stage
 abbrev pub Works : OpScope → OpScope → Result Stepped Refusal → Type 0
 Works s t (Ok stepped.Went) = work_of t < work_of s
 Works s t (Ok (stepped.Wait holder)) = work_of t ≤ work_of s
-Works s t (Ok stepped.Again) = work_of t ≤ work_of s + 2 * s.seen.total
+Works s t (Ok (stepped.Again holder)) = work_of t ≤ work_of s + 2 * s.seen.total
 Works s t (Ok stepped.Flush) = work_of t ≤ work_of s
 Works s t (Ok (stepped.Ready first second)) = work_of t ≡ 0
 Works s t (Err why) = work_of t ≤ work_of s
@@ -66,6 +66,6 @@ abbrev pub ComesTo : Stage → Result Stepped Refusal → Type 0
 ComesTo stage (Ok (stepped.Ready first second)) = stage ≡ Ready
 ComesTo stage (Ok stepped.Went) = IsGoing stage
 ComesTo stage (Ok (stepped.Wait holder)) = IsGoing stage
-ComesTo stage (Ok stepped.Again) = IsGoing stage
+ComesTo stage (Ok (stepped.Again holder)) = IsGoing stage
 ComesTo stage (Ok stepped.Flush) = IsGoing stage
 ComesTo stage (Err why) = IsGoing stage

@@ -7,11 +7,11 @@ use mt_model::Reply;
 pub enum Stepped {
     /// It locked a page and looked at it, or wrote one.
     Went,
-    /// Nothing: this operation, which is the smallest that holds a lock in the way, is to be waited for.
+    /// Nothing: this operation, which is the smallest that holds a lock in the way, is to be waited for. It is larger.
     Wait(OpNo),
-    /// It gave all its locks back and begins anew, without a trace, since a smaller operation holds a
-    /// lock in the way.
-    Again,
+    /// It gave all its locks back and begins anew, without a trace, since this operation, which is the smallest that
+    /// holds a lock in the way, is smaller. It does well to wait for the end of that one.
+    Again(OpNo),
     /// Nothing: every frame holds a page that is yet to be flushed.
     Flush,
     /// The operation has acted on the base that the pages hold; its end is in the log, where one is due. It

@@ -12,7 +12,7 @@ ghost use Rattle.mt_op.specs.declared.answers.Stepped.TheVariants as stepped;
 ghost use Rattle.mt_plock.specs.Releasing.{locks_of};
 ghost use Rattle.mt_space.specs.Changes.{PageBytes};
 ghost use Rattle.mt_op.specs.Operations.{world};
-ghost use Rattle.mt_op.specs.Holds.{IsHeld, IsAnew, KeepsLocks};
+ghost use Rattle.mt_op.specs.Holds.{IsHeld, IsAnew, IsNext, IsToLook, IsToWrite, KeepsLocks, KeepsScope};
 ghost use Rattle.mt_op.specs.Moves.{Leaves, Rests};
 ghost use Rattle.mt_op.specs.Stepping.{LocksPage};
 ghost use Rattle.mt_op.specs.Work.{Works};
@@ -40,6 +40,7 @@ impl<D: Device> Operations<D> {
         ensures log { self.new.store.log ≡ self.old.store.log }
         ensures locks { self.new.locks ≡ self.old.locks }
         ensures map { self.new.map ≡ self.old.map }
+        ensures rooms { self.new.rooms ≡ self.old.rooms }
         ensures waits { self.new.store.pool.waits ≡ self.old.store.pool.waits }
         ensures only_device { IfErr result (λ why. why ≡ Refusal.DeviceFailed) }
         ensures cause { HasCause (D.faults self.old.store.device) (D.faults self.new.store.device) result }
@@ -76,9 +77,9 @@ impl<D: Device> Operations<D> {
                 Ok(Stepped::Went)
             }
             Asked::Wait(holder) => Ok(Stepped::Wait(holder)),
-            Asked::Again => {
+            Asked::Again(holder) => {
                 self.begin_again(scope);
-                Ok(Stepped::Again)
+                Ok(Stepped::Again(holder))
             }
         }
     }
@@ -94,8 +95,7 @@ impl<D: Device> Operations<D> {
     ) -> Result<Stepped, Refusal>
         requires right { (opening : PageBytes) × (relations : ℕ) × (counters : ℕ) × IsRight D.seen D.may_leave opening relations counters self.old × IsUnderWay relations counters (world D.seen opening self.old) scope.old }
         requires planning { scope.old.stage ≡ Planning }
-        requires new { looked scope.old page ≡ None }
-        requires inside { page < scope.old.seen.total }
+        requires next { IsToLook scope.old page mode }
         requires led { (room ≡ scope.old.room) ⊎ ((room ≡ Some page) × (mode ≡ Write) × (get_or self.old.map.kinds page 0 ≡ 3)) }
         ensures { LocksPage D.seen D.may_leave D.moment D.left_since D.faults self.old self.new scope.old scope.new result }
     {
@@ -115,8 +115,7 @@ impl<D: Device> Operations<D> {
     ) -> Result<Stepped, Refusal>
         requires right { (opening : PageBytes) × (relations : ℕ) × (counters : ℕ) × IsRight D.seen D.may_leave opening relations counters self.old × IsUnderWay relations counters (world D.seen opening self.old) scope.old }
         requires planning { scope.old.stage ≡ Planning }
-        requires new { looked scope.old page ≡ None }
-        requires inside { page < scope.old.seen.total }
+        requires next { IsToLook scope.old page mode }
         requires led { (room ≡ scope.old.room) ⊎ ((room ≡ Some page) × (mode ≡ Write) × (get_or self.old.map.kinds page 0 ≡ 3)) }
         requires there { IsThere self.old.store.pool page }
         ensures goes { (opening : PageBytes) (relations counters : ℕ) → IsRight D.seen D.may_leave opening relations counters self.old → IsUnderWay relations counters (world D.seen opening self.old) scope.old →
@@ -126,7 +125,8 @@ impl<D: Device> Operations<D> {
         ensures same { IsAsFar scope.old scope.new }
         ensures never { result ≡ Ok stepped.Flush → ⊥ }
         ensures work { Works scope.old scope.new result }
-        ensures locks { KeepsLocks scope.old.number self.old.locks self.new.locks result }
+        ensures locks { KeepsLocks scope.old.number (IsNext scope.old) self.old.locks self.new.locks result }
+        ensures scope { KeepsScope scope.old scope.new result }
         ensures only_memory { IfErr result (λ why. why ≡ Refusal.NoMemory) }
     {
         scope.seen.reserve()?;
@@ -144,8 +144,7 @@ impl<D: Device> Operations<D> {
     pub(crate) fn upgrade(&mut self, scope: &mut OpScope, page: PageNo) -> Result<Stepped, Refusal>
         requires right { (opening : PageBytes) × (relations : ℕ) × (counters : ℕ) × IsRight D.seen D.may_leave opening relations counters self.old × IsUnderWay relations counters (world D.seen opening self.old) scope.old }
         requires planning { scope.old.stage ≡ Planning }
-        requires seen { IsSome (looked scope.old page) }
-        requires unlocked { Contains scope.old.guards.items (lock_of scope.old.number page Write) → ⊥ }
+        requires next { IsToWrite scope.old page Write }
         ensures goes { (opening : PageBytes) (relations counters : ℕ) → IsRight D.seen D.may_leave opening relations counters self.old → IsUnderWay relations counters (world D.seen opening self.old) scope.old →
             IsRight D.seen D.may_leave opening relations counters self.new × GoesOn relations counters (world D.seen opening self.old) (world D.seen opening self.new) scope.old scope.new result }
         ensures store { self.new.store ≡ self.old.store }
@@ -153,7 +152,8 @@ impl<D: Device> Operations<D> {
         ensures same { IsAsFar scope.old scope.new }
         ensures never { result ≡ Ok stepped.Flush → ⊥ }
         ensures work { Works scope.old scope.new result }
-        ensures locks { KeepsLocks scope.old.number self.old.locks self.new.locks result }
+        ensures locks { KeepsLocks scope.old.number (IsNext scope.old) self.old.locks self.new.locks result }
+        ensures scope { KeepsScope scope.old scope.new result }
         ensures only_memory { IfErr result (λ why. why ≡ Refusal.NoMemory) }
     {
         self.hold(scope, page, Mode::Write)

@@ -1,5 +1,5 @@
 // The operations of one kernel over their pages.
-ghost use Rattle.std.specs.Prelude.{◌≡◌, ◌≢◌, ◌⊎◌, ◌<◌, ◌≤◌, ◌+◌, ◌*◌, [], ℕ, length, get_or, false, true, Ok, if◌then◌else◌, IsOk, IsErr, IfOk, IfErr, OnOk, OnErr};
+ghost use Rattle.std.specs.Prelude.{◌≡◌, ◌≢◌, ◌⊎◌, ◌<◌, ◌≤◌, ◌+◌, ◌*◌, [], ℕ, length, get_or, replicate, false, true, Ok, if◌then◌else◌, IsOk, IsErr, IfOk, IfErr, OnOk, OnErr};
 ghost use Rattle.mt_disk.specs.Disk.{LeavesOnly, HasCause};
 ghost use Rattle.mt_frame.specs.Grammar.{IsTxn, IsOp, IsRecord};
 ghost use Rattle.mt_frame.specs.History.{may_stand, txn_of};
@@ -10,10 +10,12 @@ ghost use Rattle.mt_space.specs.Changes.{PageBytes};
 ghost use Rattle.mt_pool.specs.Kept.{IsKept, Explains};
 ghost use Rattle.mt_pool.specs.Views.{IsPool, IsFull, IsWaiting, Cleans, pages, to_flush, waits_for};
 ghost use Rattle.mt_pool.specs.declared.flushing.Flushed.TheVariants as flushed;
+ghost use Rattle.mt_file.specs.Rooms.{AreRooms};
 ghost use Rattle.mt_steps.specs.Plans.{IsGood, free_pages};
 ghost use Rattle.mt_op.specs.World.{IsUnderWay, IsFresh, held_in};
 ghost use Rattle.mt_op.specs.Moves.{Rests, Notes, EndsTxn};
 ghost use Rattle.mt_op.specs.Operations.{world, IsRight, HasBudget, only_reads, IsCause, claimed};
+ghost use Rattle.mt_op.specs.Room.{HasNoted};
 ghost use Rattle.mt_op.specs.Work.{work_of};
 ghost use Rattle.mt_op.specs.declared.scope.OpScope.{OpScope};
 ghost use Rattle.mt_op.specs.declared.scope.Stage.TheVariants.{Planning};
@@ -46,13 +48,14 @@ pub struct Operations<D: Device> {
 
 impl<D: Device + Drop> Operations<D> {
     /// Operations over a store whose log has no record yet: none is under way. Each page of records is looked
-    /// at once, for how long a record it takes. The refusals are [`Refusal::NoMemory`] and
+    /// at once, and it is noted how long a record it takes. The refusals are [`Refusal::NoMemory`] and
     /// [`Refusal::DeviceFailed`].
     pub fn new(alloc: Global, store: Store<D>) -> Result<Operations<D>, Refusal>
         requires good { (opening : PageBytes) × (relations : ℕ) × (counters : ℕ) × IsKept D.seen D.may_leave opening store × IsGood relations counters (pages store.pool) opening }
         requires idle { appended store.log ≡ [] }
         requires free { IsFull store.pool → ⊥ }
         ensures right { (opening : PageBytes) (relations counters : ℕ) → IsKept D.seen D.may_leave opening store → IsGood relations counters (pages store.pool) opening → IfOk result (IsRight D.seen D.may_leave opening relations counters) }
+        ensures rooms { (opening : PageBytes) (relations counters : ℕ) → IsKept D.seen D.may_leave opening store → IsGood relations counters (pages store.pool) opening → IfOk result (λ operations. AreRooms operations.rooms.0 opening) }
         ensures locks { IfOk result (λ operations. operations.locks ≡ []) }
         ensures claimed { IfOk result (λ operations. claimed operations ≡ 0) }
         ensures log { IfOk result (λ operations. operations.store.log ≡ store.log) }
@@ -194,7 +197,7 @@ impl<D: Device> Operations<D> {
     }
 
     /// Appends the end of a transaction that has no operation under way: its commit, or the end of its abort.
-    /// The only refusal is [`Refusal::NoMemory`], and nothing is appended then.
+    /// The pages held stay. The only refusal is [`Refusal::NoMemory`], and nothing is appended then.
     pub fn append(&mut self, entry: Record) -> Result<LogPos, Refusal>
         requires kept { (opening : PageBytes) × IsKept D.seen D.may_leave opening self.old.store }
         requires grammar { IsRecord entry }
@@ -207,6 +210,9 @@ impl<D: Device> Operations<D> {
         ensures others { (opening : PageBytes) (relations counters : ℕ) (u : OpScope) → IsUnderWay relations counters (world D.seen opening self.old) u → u.txn ≢ txn_of entry → IsUnderWay relations counters (world D.seen opening self.new) u }
         ensures place { IfOk result (λ place. place ≡ length (appended self.new.store.log)) }
         ensures used { OnOk result (used self.new.store.log ≡ used self.old.store.log + 5 + record_length entry) }
+        ensures err_used { OnErr result (used self.new.store.log ≡ used self.old.store.log) }
+        ensures area { area_size self.new.store.log ≡ area_size self.old.store.log }
+        ensures held { (opening : PageBytes) → held_in (world D.seen opening self.new) ≡ held_in (world D.seen opening self.old) }
         ensures claimed { claimed self.new ≡ claimed self.old }
         ensures device { self.new.store.device ≡ self.old.store.device }
         ensures only_memory { IfErr result (λ why. why ≡ Refusal.NoMemory) }
@@ -256,13 +262,10 @@ impl<D: Device> Operations<D> {
     fn note_rooms(&mut self, count: u16) -> Result<(), Refusal>
         requires right { (opening : PageBytes) × (relations : ℕ) × (counters : ℕ) × IsRight D.seen D.may_leave opening relations counters self.old × (appended self.old.store.log ≡ []) }
         requires all { count ≡ pages self.old.store.pool }
-        ensures right { (opening : PageBytes) (relations counters : ℕ) → IsRight D.seen D.may_leave opening relations counters self.old → IsRight D.seen D.may_leave opening relations counters self.new }
-        ensures locks { self.new.locks ≡ self.old.locks }
-        ensures map { self.new.map ≡ self.old.map }
-        ensures log { self.new.store.log ≡ self.old.store.log }
-        ensures pages { pages self.new.store.pool ≡ pages self.old.store.pool }
+        requires spare { IsFull self.old.store.pool → ⊥ }
+        requires blank { self.old.rooms.0 ≡ replicate count 0 }
+        ensures noted { OnOk result (HasNoted D.seen D.may_leave D.faults self.old self.new) }
         ensures only_device { IfErr result (λ why. why ≡ Refusal.DeviceFailed) }
-        ensures cause { HasCause (D.faults self.old.store.device) (D.faults self.new.store.device) result }
     {
         for number in 0..count {
             let page = PageNo::new(number);

@@ -1,9 +1,10 @@
 // The steps of an operation, from its first page lock to its end.
-ghost use Rattle.std.specs.Prelude.{◌≡◌, ◌≢◌, ◌⊎◌, ◌<◌, ◌≤◌, ◌+◌, ℕ, List, length, get_or, All, Contains, [], None, Some, Ok, true, MatchOption, IfErr, IfSome, IsTrue, ◌↔◌};
+ghost use Rattle.std.specs.Prelude.{◌≡◌, ◌≢◌, ◌⊎◌, ◌<◌, ◌≤◌, ◌+◌, ℕ, List, length, get_or, All, Contains, [], None, Some, Ok, true, false, MatchOption, IfErr, IfSome, IsTrue, ◌↔◌};
 ghost use Rattle.mt_steps.specs.Drafts.{AreAtHand};
 ghost use Rattle.mt_steps.specs.Logged.{logged_of};
 ghost use Rattle.mt_base.specs.declared.modes.Mode.TheVariants.{Write};
 ghost use Rattle.mt_disk.specs.Disk.{LeavesOnly};
+ghost use Rattle.mt_model.specs.Model.{IsWithin};
 ghost use Rattle.mt_log.specs.Words.{appended, used, area_size};
 ghost use Rattle.mt_plock.specs.Holding.{lock_of};
 ghost use Rattle.mt_space.specs.Changes.{PageBytes, IsUntouched};
@@ -12,7 +13,7 @@ ghost use Rattle.mt_pool.specs.Views.{IsFull};
 ghost use Rattle.mt_steps.specs.Plans.{own_needs, free_pages, record_bytes as bytes_put, InPages, IsPlanned};
 ghost use Rattle.mt_op.specs.World.{IsUnderWay, looked, held_in};
 ghost use Rattle.mt_op.specs.Operations.{world, IsRight, Steps, GivesBack, IsPlannedOn, HasBudget, only_reads, IsCause, claimed};
-ghost use Rattle.mt_op.specs.Holds.{KeepsLocks, KeepsLocksOn};
+ghost use Rattle.mt_op.specs.Holds.{IsNext, IsToLook, KeepsLocks, KeepsLocksOn, KeepsScope, KeepsScopeOn};
 ghost use Rattle.mt_op.specs.Stepping.{GoesAhead, LocksPage, PlansOn};
 ghost use Rattle.mt_op.specs.Records.{KeepsRecords};
 ghost use Rattle.mt_op.specs.Work.{Works, WorksOn, ComesTo};
@@ -36,8 +37,10 @@ impl<D: Device> Operations<D> {
     /// Makes a step of an operation: it locks a page and looks at it, or writes a page with its log records, or
     /// ends. All pages are locked and looked at before the first is written.
     ///
-    /// [`Stepped::Wait`], [`Stepped::Flush`] and the refusals change nothing of pages, locks and log;
-    /// [`Stepped::Again`] gives the operation's locks back, so that it begins anew with its number. As many free pages
+    /// [`Stepped::Wait`], [`Stepped::Flush`] and the refusals change nothing of pages, locks and log, and of the operation
+    /// nothing but that its plan may be made, where it is not to wait; [`Stepped::Again`] gives the operation's locks
+    /// back, so that it begins anew with its number. A lock is asked for on a page that the plan needs and that was not
+    /// looked at, by an operation that only reads to read it; or, to write it, on one that the plan changes. As many free pages
     /// as the operation may take are to be claimed for it; with its end it has given them back. The
     /// refusals are [`Refusal::NoMemory`] and, exactly where the device failed in this call, [`Refusal::DeviceFailed`].
     ///
@@ -62,7 +65,8 @@ impl<D: Device> Operations<D> {
         ensures stage { ComesTo scope.new.stage result }
         ensures work { Works scope.old scope.new result }
         ensures records { KeepsRecords scope.new (appended self.old.store.log) (appended self.new.store.log) result }
-        ensures locks { KeepsLocks scope.old.number self.old.locks self.new.locks result }
+        ensures locks { KeepsLocks scope.old.number (IsNext scope.old) self.old.locks self.new.locks result }
+        ensures scope { KeepsScope scope.old scope.new result }
         ensures writing { scope.old.stage ≡ Writing → self.new.locks ≡ self.old.locks }
         // Where the plan is made, a page more is written then.
         ensures went { scope.old.stage ≡ Writing → result ≡ Ok stepped.Went → scope.new.written ≡ scope.old.written + 1 }
@@ -127,8 +131,7 @@ impl<D: Device> Operations<D> {
     ) -> Result<Stepped, Refusal>
         requires right { (opening : PageBytes) × (relations : ℕ) × (counters : ℕ) × IsRight D.seen D.may_leave opening relations counters self.old × IsUnderWay relations counters (world D.seen opening self.old) scope.old }
         requires planning { scope.old.stage ≡ Planning }
-        requires new { looked scope.old page ≡ None }
-        requires inside { page < scope.old.seen.total }
+        requires next { IsToLook scope.old page mode }
         ensures { LocksPage D.seen D.may_leave D.moment D.left_since D.faults self.old self.new scope.old scope.new result }
     {
         if page.get() == MAP {
@@ -149,6 +152,7 @@ impl<D: Device> Operations<D> {
         ensures records { IfSome result (λ p. get_or self.now.map.kinds p 0 ≡ 3) }
         ensures unlocked { IfSome result (λ p. All (λ l. l.page ≢ p) self.now.locks) }
         ensures roomy { IfSome result (λ p. bytes_put scope.now.op ≤ get_or self.now.rooms.0 p 0) }
+        ensures puts { IfSome result (λ p. only_reads scope.now.op ≡ false) }
     {
         let bytes = record_bytes(&scope.op)?;
         let room = self.rooms.with_room(bytes)?;
@@ -176,9 +180,9 @@ impl<D: Device> Operations<D> {
         requires few { length changes.list.items ≤ 8 }
         requires quiet { logged_of scope.old.op reply ≡ None → changes.list.items ≡ [] }
         requires reads { only_reads scope.old.op ≡ true → changes.list.items ≡ [] }
+        requires planned { (relations counters : ℕ) → relations ≤ 64 → IsWithin relations counters scope.old.op → InPages (looked scope.old) scope.old.room relations counters scope.old.seen.total (λ pages. IsPlanned relations counters scope.old.seen.total (looked scope.old) pages changes.list.items scope.old.op scope.old.split reply) }
         requires budget { HasBudget scope.old }
-        ensures goes { (opening : PageBytes) (relations counters : ℕ) → IsRight D.seen D.may_leave opening relations counters self.old → IsUnderWay relations counters (world D.seen opening self.old) scope.old →
-            InPages (looked scope.old) scope.old.room relations counters scope.old.seen.total (λ pages. IsPlanned relations counters scope.old.seen.total (looked scope.old) pages changes.list.items scope.old.op scope.old.split reply) →
+        ensures goes { (opening : PageBytes) (relations counters : ℕ) → IsRight D.seen D.may_leave opening relations counters self.old → IsUnderWay relations counters (world D.seen opening self.old) scope.old → relations ≤ 64 →
             IsRight D.seen D.may_leave opening relations counters self.new × IsPlannedOn relations counters (world D.seen opening self.old) (world D.seen opening self.new) scope.old scope.new result }
         ensures store { self.new.store ≡ self.old.store }
         ensures map { self.new.map ≡ self.old.map }
@@ -188,7 +192,8 @@ impl<D: Device> Operations<D> {
         ensures never { result ≡ Ok (Some stepped.Flush) → ⊥ }
         ensures stage { (result ≡ Ok None → ⊥) → scope.new.stage ≡ Planning }
         ensures work { WorksOn scope.old scope.new result }
-        ensures locks { KeepsLocksOn scope.old.number self.old.locks self.new.locks result }
+        ensures locks { KeepsLocksOn scope.old.number (IsNext scope.old) self.old.locks self.new.locks result }
+        ensures scope { KeepsScopeOn scope.old scope.new result }
         ensures only_memory { IfErr result (λ why. why ≡ Refusal.NoMemory) }
     {
         if let Some(page) = first_unlocked(scope.number, &changes, scope.guards.as_slice()) {
@@ -232,6 +237,7 @@ fn holds(guards: &[PageGuard], lock: &PageLock) -> bool
 fn record_bytes(op: &Op) -> Option<u16>
     ensures some { IfSome result (λ bytes. 0 < bytes) }
     ensures exact { IfSome result (λ bytes. bytes ≡ bytes_put op.now) }
+    ensures puts { IfSome result (λ bytes. only_reads op.now ≡ false) }
 {
     match op {
         Op::Insert(_, key, value) | Op::Update(_, key, value) => {

@@ -78,6 +78,14 @@ impl OpScope {
         self.undoes
     }
 
+    /// Whether, as an insert, it may split a bucket of the index; [`pages_for`](mt_steps::pages_for) of the operation and
+    /// of this is its claim.
+    pub fn split(&self) -> bool
+        ensures { result ≡ self.now.split }
+    {
+        self.split
+    }
+
     /// How far it has come.
     pub fn stage(&self) -> Stage
         ensures { result ≡ self.now.stage }

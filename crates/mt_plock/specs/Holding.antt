@@ -28,15 +28,15 @@ pub record IsLeastHolder (asked : PageLock) (locks : List PageLock) (holder : �
   pub least : All (λ held. is_in_way asked held ≡ true → holder ≤ held.op) locks
 
 -- what an asker is answered, and the locks then: the lock is granted where none is in the way; it
--- waits for the smallest holder where every holder is larger than it; and begins again where one is
--- smaller
+-- waits for the smallest holder where that one, and so every holder, is larger than it; and begins
+-- again where that one is smaller
 abbrev pub IsAnswered : PageLock → List PageLock → Asked → List PageLock → Type 0
 IsAnswered asked old (Granted guard) new =
     All (λ held. is_in_way asked held ≡ false) old × (guard ≡ asked) × (new ≡ old ++ asked ∷ [])
 IsAnswered asked old (Wait holder) new =
-    IsLeastHolder asked old holder × All (λ held. is_in_way asked held ≡ true → asked.op < held.op) old × (new ≡ old)
-IsAnswered asked old Again new =
-    Any (λ held. (is_in_way asked held ≡ true) × (held.op < asked.op)) old × (new ≡ old)
+    IsLeastHolder asked old holder × (asked.op < holder) × (new ≡ old)
+IsAnswered asked old (Again holder) new =
+    IsLeastHolder asked old holder × (holder < asked.op) × (new ≡ old)
 
 -- the lesser of a number that may be there, and another
 abbrev pub lesser_of : Option ℕ → ℕ → ℕ

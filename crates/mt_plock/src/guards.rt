@@ -38,10 +38,12 @@ impl Model for PageGuard {
 pub enum Asked {
     /// The lock is granted.
     Granted(PageGuard),
-    /// This operation holds a lock in the way, and is to be waited for.
+    /// This operation is the smallest that holds a lock in the way, and larger than the asker. It is
+    /// to be waited for.
     Wait(OpNo),
-    /// The operation is to give back all its locks and begin anew, with its number.
-    Again,
+    /// This operation is the smallest that holds a lock in the way, and smaller than the asker. The
+    /// asker is to give back all its locks, and to begin anew with its number.
+    Again(OpNo),
 }
 
 impl PageGuard {

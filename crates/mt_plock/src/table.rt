@@ -92,8 +92,9 @@ impl PageLocks {
 
     /// Asks for a lock. Where no other operation holds the page in a mode that does not agree, it is
     /// granted, and is the last of the locks; so a read becomes a write where the operation is the
-    /// only holder. Else the answer is to wait for the smallest such holder, if all of them are larger
-    /// than the asker, and otherwise to begin again; both leave the table as it was.
+    /// only holder. Else the answer names the smallest such holder: to wait for it if it is larger
+    /// than the asker, as all of them are then, and otherwise to begin again; both leave the table as
+    /// it was.
     ///
     /// The only error is [`Refusal::NoMemory`]; the table is then as before.
     pub fn ask(&mut self, op: OpNo, page: PageNo, mode: Mode) -> Result<Asked, Refusal>
@@ -112,7 +113,7 @@ impl PageLocks {
                 if op.get() < holder.get() {
                     Ok(Asked::Wait(holder))
                 } else {
-                    Ok(Asked::Again)
+                    Ok(Asked::Again(holder))
                 }
             }
         }

@@ -243,6 +243,7 @@ returns g c = let d = g.D.Device in let seen = d.seen in let o = c.args.self.now
           | in-Some+in_ok-append_end w ↦ ap (λ (x : Operations g.row.D.Denot). x.locks) w.self-is ∙ w.append_end.ensures.locks
           | in_default w ↦ ap (λ (x : Operations g.row.D.Denot). x.locks) w.self-is
         ];
+        asks = tt;
         err = tt;
         flush = λ e. absurd cc;
         why = tt;

@@ -14,7 +14,7 @@ returns-in-Again-clause-held g c = λ opening.
         area = record { opening = left.area.opening; total = left.area.total };
         pages = left.pages;
         records = left.records;
-        locks = left.locks ∙ ap (locks_without c.args.scope.now.number) answer.1;
+        locks = left.locks ∙ ap (locks_without c.args.scope.now.number) answer.2;
       },
       record {
         op = record { txn = anew.op.txn; number = anew.op.number; op = anew.op.op; undoes = anew.op.undoes; split = anew.op.split; total = anew.op.total };
@@ -28,5 +28,5 @@ returns-in-Again-clause-held g c = λ opening.
         standing = anew.standing;
         left = anew.left;
       },
-      (c.args.page, c.args.mode, answer.0),
+      (answer.0, answer.1),
     )

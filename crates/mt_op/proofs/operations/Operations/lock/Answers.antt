@@ -32,4 +32,4 @@ look-requires-clause-led g c = ⊎_elim inl (λ led. inr (led.0, led.1, ap (λ m
 pub returns : goal.returns
 returns g c = let d = g.D.Device in let f = c.bring.ensures in let l = c.look.ensures in
     locks_behind d.seen d.may_leave d.moment d.left_since d.faults c.args.self.now c.bring.new.self c.args.scope.now f.right f.rests f.moments f.log f.map f.locks c.look.new.self c.look.new.scope c.look.result
-    l.goes l.store l.map l.same l.never l.work l.locks l.only_memory (unfailed _ _ c.bring.result _ f.cause c.in_ok-bring.was)
+    l.goes l.store l.map l.same l.never l.work l.locks l.scope l.only_memory (unfailed _ _ c.bring.result _ f.cause c.in_ok-bring.was)

@@ -3,11 +3,14 @@ use Rattle.std.proofs.lemmas.List.{length-replicate}
 use Rattle.std.specs.Prelude.{Ok}
 use Rattle.mt_log.specs.Words.{appended}
 use Rattle.mt_log.specs.declared.log.Log.{Log}
-use Rattle.mt_pool.specs.Views.{IsThere, view}
+use Rattle.mt_pool.specs.Kept.{IsKept}
+use Rattle.mt_pool.specs.Views.{IsThere, view, pages}
+use Rattle.mt_space.specs.Changes.{PageBytes}
 use Rattle.mt_space.specs.Rooms.{mapped, reserved_of}
 use Rattle.mt_steps.specs.Plans.{IsGood}
 use Rattle.mt_op.specs.declared.space_map.SpaceMap.{SpaceMap}
 use Rattle.mt_op.proofs.Faulting.{unfailed}
+use Rattle.mt_op.proofs.Begun.{unlogged_spare}
 use Rattle.mt_op.proofs.Stored.{unlogged_right, unlogged_whole}
 use Rattle.mt_op.proofs.operations.Operations.new.Goals as goal
 
@@ -32,22 +35,29 @@ note_rooms-requires-clause-right g c = let (opening, relations, counters, kept, 
     (subst (λ (n : ℕ). IsGood relations counters n opening) (sym f.pages) good) in
     (opening, relations, counters, right, none)
 
+pub note_rooms-requires-clause-spare : goal.note_rooms-requires-clause-spare
+note_rooms-requires-clause-spare g c = let (opening, relations, counters, kept, good) = c.requires.good in let f = c.fetch.ensures in
+    let none = ap (λ (log : Log). appended log) f.log ∙ c.requires.idle in
+    unlogged_spare g.D.Device.seen g.D.Device.may_leave opening c.fetch.new.self c.new.result (f.kept opening kept) none (f.there (c.in-Ok-There.is ∙ ap Ok c.in-Ok-There.field-0-is))
+
 pub returns : goal.returns
-returns g c = let f = c.fetch.ensures in let e = c.in_ok-map-in-Ok-There.ensures in let n = c.note_rooms.ensures in let seen = g.D.Device.seen in
+returns g c = let f = c.fetch.ensures in let e = c.in_ok-map-in-Ok-There.ensures in let n = c.in_ok-note_rooms.ensures.noted in let seen = g.D.Device.seen in
+    let noted = λ (opening : PageBytes) (relations counters : ℕ) (kept : IsKept seen g.D.Device.may_leave opening c.args.store) (good : IsGood relations counters (pages c.args.store.pool) opening).
+    let none = ap (λ (log : Log). appended log) f.log ∙ c.requires.idle in
+    let map = e.kinds ∙ c.view.ensures (seen c.fetch.new.self.device) ∙ ap (λ (p : ℕ). view c.fetch.new.self.pool (seen c.fetch.new.self.device) p) c.new-in-Ok-There.ensures in
+    let count = c.count-count.ensures ∙ sym f.pages in
+    let space = e.free ∙ (λ i. mapped (sym e.kinds i) (count i)) in
+    let rooms = ap (λ (xs : List ℕ). length xs) c.in_ok-rooms.ensures.fits ∙ length-replicate _ _ ∙ count in
+    n.right opening relations counters
+    (unlogged_right seen g.D.Device.may_leave opening relations counters (record { store = c.fetch.new.self; locks = c.new-2.result; rooms = c.in_ok-rooms.rooms; map = c.in_ok-map-in-Ok-There.map }) (f.kept opening kept) none c.new-2.ensures map space e.none rooms
+    (subst (λ (n : ℕ). IsGood relations counters n opening) (sym f.pages) good)) in
     record {
-      right = λ opening relations counters kept good.
-          let none = ap (λ (log : Log). appended log) f.log ∙ c.requires.idle in
-          let map = e.kinds ∙ c.view.ensures (seen c.fetch.new.self.device) ∙ ap (λ (p : ℕ). view c.fetch.new.self.pool (seen c.fetch.new.self.device) p) c.new-in-Ok-There.ensures in
-          let count = c.count-count.ensures ∙ sym f.pages in
-          let space = e.free ∙ (λ i. mapped (sym e.kinds i) (count i)) in
-          let rooms = ap (λ (xs : List ℕ). length xs) c.in_ok-rooms.ensures.fits ∙ length-replicate _ _ ∙ count in
-          c.note_rooms.ensures.right opening relations counters
-          (unlogged_right seen g.D.Device.may_leave opening relations counters (record { store = c.fetch.new.self; locks = c.new-2.result; rooms = c.in_ok-rooms.rooms; map = c.in_ok-map-in-Ok-There.map }) (f.kept opening kept) none c.new-2.ensures map space e.none rooms
-          (subst (λ (n : ℕ). IsGood relations counters n opening) (sym f.pages) good));
+      right = λ opening relations counters kept good. (noted opening relations counters kept good).0;
+      rooms = λ opening relations counters kept good. (noted opening relations counters kept good).1;
       locks = n.locks ∙ c.new-2.ensures;
       claimed = ap (λ (x : SpaceMap). reserved_of x.space) n.map ∙ e.none;
       log = n.log ∙ f.log;
       pages = n.pages ∙ f.pages;
       why = tt;
-      quiet = unfailed _ _ c.note_rooms.result _ n.cause c.in_ok-note_rooms.was ∙ unfailed _ _ c.fetch.result _ f.cause c.in-Ok-There.is;
+      quiet = n.faults ∙ unfailed _ _ c.fetch.result _ f.cause c.in-Ok-There.is;
     }

@@ -1,31 +1,22 @@
-use Rattle.std.proofs.Common.{◌≡◌, ◌<◌, ◌∙◌, ℕ, List, [], length, get_or, sym, ap, subst, arith, length-set}
+use Rattle.std.proofs.Common.{◌≡◌, ◌<◌, ◌+◌, ◌∙◌, ℕ, List, [], length, get_or, replicate, refl, sym, ap, subst, arith}
+use Rattle.std.specs.Prelude.{Ok}
+use Rattle.std.proofs.Math.ListN.{set}
+use Rattle.std.proofs.lemmas.List.{length-replicate, get_or-replicate}
+use Rattle.mt_file.specs.Rooms.{fits_of}
 use Rattle.mt_log.specs.Words.{appended}
 use Rattle.mt_log.specs.declared.log.Log.{Log}
-use Rattle.mt_pool.specs.Views.{pages}
+use Rattle.mt_pool.specs.Views.{IsThere, view, pages}
 use Rattle.mt_slots.specs.Page.{IsShaped}
-use Rattle.mt_op.specs.Operations.{IsRight}
 use Rattle.mt_op.specs.declared.operations.Operations.{Operations}
-use Rattle.mt_op.proofs.Stored.{right_noted, unlogged_shaped}
-use Rattle.mt_op.proofs.Faulting.{unfailed, cause_behind}
+use Rattle.mt_op.proofs.Begun.{IsNotedTo, passed, noted_page, all_noted}
+use Rattle.mt_op.proofs.Stored.{unlogged_shaped}
+use Rattle.mt_op.proofs.Faulting.{unfailed}
 use Rattle.mt_op.proofs.operations.Operations.note_rooms.Goals as goal
 use Rattle.mt_op.proofs.operations.Operations.note_rooms.Goals.{then-self-from-eq-RECORDS+in_ok-bring+then-branch, else-self-from-eq-RECORDS, else-self-from-eq-RECORDS-via-then-self-from-eq-RECORDS+in_ok-bring+else-branch, else-self-from-eq-RECORDS-via-else-self-from-eq-RECORDS}
 
 pub bring-requires-clause-kept : goal.bring-requires-clause-kept
 bring-requires-clause-kept g c = let (opening, relations, counters, right, none) = c.requires.right in
     (opening, (c.loop-number.invariant.right opening relations counters right).kept)
-
-pub returns-in_err-bring-clause-right : goal.returns-in_err-bring-clause-right
-returns-in_err-bring-clause-right g c = λ opening relations counters right. c.bring.ensures.right opening relations counters (c.loop-number.invariant.right opening relations counters right)
-
-pub returns-in_err-bring-clause-locks : goal.returns-in_err-bring-clause-locks
-returns-in_err-bring-clause-locks g c = let (opening, relations, counters, right, none) = c.requires.right in (c.bring.ensures.rests opening).locks ∙ c.loop-number.invariant.locks
-
-pub returns-in_err-bring-clause-pages : goal.returns-in_err-bring-clause-pages
-returns-in_err-bring-clause-pages g c = let (opening, relations, counters, right, none) = c.requires.right in (c.bring.ensures.rests opening).area.total ∙ c.loop-number.invariant.pages
-
-pub returns-in_err-bring-clause-cause : goal.returns-in_err-bring-clause-cause
-returns-in_err-bring-clause-cause g c =
-    cause_behind _ _ _ c.bring.result c.from_residual.result _ c.loop-number.invariant.faults c.in_err-bring.was c.from_residual.ensures.0 c.bring.ensures.cause
 
 pub view-requires-clause-pool : goal.view-requires-clause-pool
 view-requires-clause-pool g c = let (opening, relations, counters, right, none) = c.requires.right in
@@ -56,48 +47,66 @@ noted-requires g c = let (opening, relations, counters, right, none) = c.require
     let rooms : length c.bring.new.self.rooms.0 ≡ pages c.bring.new.self.store.pool = now.rooms in
     let below = c.loop-number-test.true in let is = c.new-page.ensures in omega arith
 
+pub loop-number-init : goal.loop-number-init
+loop-number-init g c =
+    let rooms : c.args.self.now.rooms.0 ≡ replicate c.args.count 0 = c.requires.blank in
+    record {
+      right = λ opening relations counters right. right;
+      noted = λ opening relations counters right p below. absurd (omega arith);
+      blank = λ p above below.
+          let size : length c.args.self.now.rooms.0 ≡ c.args.count = ap (λ (xs : List ℕ). length xs) rooms ∙ length-replicate _ _ in
+          ap (λ (xs : List ℕ). get_or xs p 0) rooms ∙ get_or-replicate c.args.count p 0 0 (omega (arith, size, below));
+      spare = c.requires.spare;
+      locks = refl;
+      map = refl;
+      log = refl;
+      pages = refl;
+      faults = refl;
+    }
+
 pub loop-number-preserved : goal.loop-number-preserved
 loop-number-preserved g c =
-    let (first, relations0, counters0, right0, none) = c.requires.right in
+    let (first, relations, counters, right, none) = c.requires.right in
+    let d = g.D.Device in let o = c.args.self.now in let l = c.loop-number.self in let n = c.loop-number.number in
     let before = c.loop-number.invariant in
-    let seen = g.D.Device.seen in let may_leave = g.D.Device.may_leave in
+    let size : length l.rooms.0 ≡ pages o.store.pool = (before.right first relations counters right).rooms ∙ before.pages in
+    let below = c.loop-number-test.true in let all = c.requires.all in
+    let inside : n < length l.rooms.0 = omega (arith, size, below, all) in
+    let within : n < pages o.store.pool = omega (arith, below, all) in
+    let from : c.from.result ≡ n = c.from.ensures in
+    let page : c.new-page.result ≡ n = c.new-page.ensures in
+    let Noted : Operations g.row.D.Denot → Type 0 = λ x. IsNotedTo d.seen d.may_leave d.faults o x (n + 1) in
     elim c.if-self-from-eq-RECORDS.branch [
       | then-self-from-eq-RECORDS+in_ok-bring+then-branch w ↦
-          let m = w.bring.new.self in
-          let rests = w.bring.ensures.rests first in
-          let size : length w.noted.new.self.0 ≡ length m.rooms.0 = ap (λ (xs : List ℕ). length xs) w.noted.ensures.fits ∙ length-set _ _ _ in
-          record {
-            right = λ opening relations counters k. subst (IsRight seen may_leave opening relations counters) (sym w.self-is)
-                (right_noted seen may_leave opening relations counters m w.noted.new.self size (w.bring.ensures.right opening relations counters (before.right opening relations counters k)));
-            locks = ap (λ (o : Operations g.row.D.Denot). o.locks) w.self-is ∙ rests.locks ∙ before.locks;
-            map = ap (λ (o : Operations g.row.D.Denot). o.map) w.self-is ∙ w.bring.ensures.map ∙ before.map;
-            log = ap (λ (o : Operations g.row.D.Denot). o.store.log) w.self-is ∙ w.bring.ensures.log ∙ before.log;
-            pages = ap (λ (o : Operations g.row.D.Denot). pages o.store.pool) w.self-is ∙ rests.area.total ∙ before.pages;
-            faults = ap (λ (o : Operations g.row.D.Denot). g.D.Device.faults o.store.device) w.self-is ∙ unfailed _ _ w.bring.result _ w.bring.ensures.cause w.in_ok-bring.was ∙ before.faults;
-          }
+          let b = w.bring.ensures in let m = w.bring.new.self in
+          subst Noted (sym w.self-is)
+          (noted_page d.seen d.may_leave d.faults o l n before inside m w.noted.new.self w.fits-room.result b.right b.locks b.map b.rooms b.log (b.rests first).area.total (unfailed _ _ w.bring.result _ b.cause w.in_ok-bring.was)
+          first relations counters right none (subst (λ (p : ℕ). IsThere m.store.pool p) page (b.there (w.in_ok-bring.was ∙ ap Ok w.if-branch.true))) within
+          (ap (λ (p : ℕ). get_or l.map.kinds p 0) (sym from) ∙ w.if-self-from-eq-RECORDS.true)
+          (w.noted.ensures.fits ∙ ap (λ (p : ℕ). set m.rooms.0 p w.fits-room.result) page)
+          (w.fits-room.ensures ∙ ap (λ (bytes : List ℕ). fits_of bytes) (w.view.ensures (d.seen m.store.device)) ∙ ap (λ (p : ℕ). fits_of (view m.store.pool (d.seen m.store.device) p)) page))
       | else-self-from-eq-RECORDS w ↦
           elim w.else-self-from-eq-RECORDS.branch [
             | else-self-from-eq-RECORDS-via-then-self-from-eq-RECORDS+in_ok-bring+else-branch x ↦
-                let is = w.self-is ∙ x.self-is in
-                let rests = x.bring.ensures.rests first in
-                record {
-                  right = λ opening relations counters k. subst (IsRight seen may_leave opening relations counters) (sym is)
-                      (x.bring.ensures.right opening relations counters (before.right opening relations counters k));
-                  locks = ap (λ (o : Operations g.row.D.Denot). o.locks) is ∙ rests.locks ∙ before.locks;
-                  map = ap (λ (o : Operations g.row.D.Denot). o.map) is ∙ x.bring.ensures.map ∙ before.map;
-                  log = ap (λ (o : Operations g.row.D.Denot). o.store.log) is ∙ x.bring.ensures.log ∙ before.log;
-                  pages = ap (λ (o : Operations g.row.D.Denot). pages o.store.pool) is ∙ rests.area.total ∙ before.pages;
-                  faults = ap (λ (o : Operations g.row.D.Denot). g.D.Device.faults o.store.device) is ∙ unfailed _ _ x.bring.result _ x.bring.ensures.cause x.in_ok-bring.was ∙ before.faults;
-                }
+                absurd (before.spare (x.bring.ensures.full (x.in_ok-bring.was ∙ ap Ok x.if-branch.false)).0)
             | else-self-from-eq-RECORDS-via-else-self-from-eq-RECORDS x ↦
-                let is = w.self-is ∙ x.self-is in
-                record {
-                  right = λ opening relations counters k. subst (IsRight seen may_leave opening relations counters) (sym is) (before.right opening relations counters k);
-                  locks = ap (λ (o : Operations g.row.D.Denot). o.locks) is ∙ before.locks;
-                  map = ap (λ (o : Operations g.row.D.Denot). o.map) is ∙ before.map;
-                  log = ap (λ (o : Operations g.row.D.Denot). o.store.log) is ∙ before.log;
-                  pages = ap (λ (o : Operations g.row.D.Denot). pages o.store.pool) is ∙ before.pages;
-                  faults = ap (λ (o : Operations g.row.D.Denot). g.D.Device.faults o.store.device) is ∙ before.faults;
-                }
+                subst Noted (sym (w.self-is ∙ x.self-is))
+                (passed d.seen d.may_leave d.faults o l n before inside (λ is. x.if-self-from-eq-RECORDS.false (ap (λ (p : ℕ). get_or l.map.kinds p 0) from ∙ is)))
           ]
     ]
+
+pub returns-clause-noted : goal.returns-clause-noted
+returns-clause-noted g c =
+    let (first, relations, counters, right, none) = c.requires.right in
+    let d = g.D.Device in let o = c.args.self.now in let l = c.loop-number.self in
+    let past = c.loop-number-test.false in let within = c.loop-number.auto.number-end in let all = c.requires.all in
+    let last : c.loop-number.number ≡ pages o.store.pool = omega (arith, past, within, all) in
+    let done = subst (IsNotedTo d.seen d.may_leave d.faults o l) last c.loop-number.invariant in
+    record {
+      right = λ opening relations counters k. (done.right opening relations counters k, all_noted d.seen d.may_leave d.faults o l opening relations counters done k none);
+      locks = done.locks;
+      map = done.map;
+      log = done.log;
+      pages = done.pages;
+      faults = done.faults;
+    }

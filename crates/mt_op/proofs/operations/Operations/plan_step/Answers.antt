@@ -1,17 +1,18 @@
 use Rattle.std.specs.Prelude.{Err}
-use Rattle.std.proofs.Common.{◌<◌, ◌⊎◌, inl, refl, sym, subst, ◌∙◌, ap}
+use Rattle.std.proofs.Common.{◌≡◌, None, ◌<◌, ◌⊎◌, inl, refl, sym, subst, ◌∙◌, ap}
 use Rattle.std.proofs.lemmas.Result.{err_from_is_err_and}
 use Rattle.mt_pool.proofs.Kept.{no_call}
 use Rattle.mt_disk.specs.Disk.{LeavesOnly}
 use Rattle.mt_pool.specs.Kept.{Explains}
 use Rattle.mt_pool.specs.declared.store.Store.{Store}
-use Rattle.mt_steps.specs.Acts.{IfMade, IfFull}
+use Rattle.mt_base.specs.declared.modes.Mode.TheVariants.{Read}
+use Rattle.mt_steps.specs.Acts.{IfLock, IfMade, IfFull}
 use Rattle.mt_steps.specs.Plans.{InPages, IsPlanned, IsTight, free_pages, own_needs, record_bytes}
 use Rattle.mt_steps.specs.declared.act.Act.{Act}
 use Rattle.mt_op.specs.World.{looked}
 use Rattle.mt_op.specs.Operations.{world}
 use Rattle.mt_op.specs.Stepping.{LocksPage, PlansOn}
-use Rattle.mt_op.proofs.Choosing.{cause_memory, locked_some, locked_err, refused_plan, unled_goes}
+use Rattle.mt_op.proofs.Choosing.{cause_memory, locked_some, locked_err, refused_plan, unled_goes, reading_of}
 use Rattle.mt_op.proofs.Work.{led_work}
 use Rattle.mt_op.proofs.Faulting.{no_fault, no_fault_ok}
 use Rattle.mt_op.proofs.operations.Operations.plan_step.Goals as goal
@@ -32,11 +33,23 @@ pub returns-in_ok-stepped-in-Lock : goal.returns-in_ok-stepped-in-Lock
 returns-in_ok-stepped-in-Lock g c = let d = g.D.Device in let o = c.args.self.now in let s = c.args.scope.now in let n = c.lock_next.new.self in let t = c.lock_next.new.scope in
     locked_some d.seen d.may_leave d.moment d.left_since d.faults o n s t c.requires.planning _ c.requires.budget (subst (LocksPage d.seen d.may_leave d.moment d.left_since d.faults o n s t) c.in_ok-stepped-in-Lock.was c.lock_next.ensures)
 
+pub lock_next-requires-clause-next : goal.lock_next-requires-clause-next
+lock_next-requires-clause-next g c = let s = c.args.scope.now in
+    let l = subst (λ (a : Act). IfLock a (λ p mode. (looked s p ≡ None) × (p < s.seen.total))) c.in-Lock.is c.in_ok-page.ensures.lock in
+    record {
+      new = l.0;
+      inside = l.1;
+      reads = λ is. subst (λ (a : Act). IfLock a (λ p mode. mode ≡ Read)) c.in-Lock.is (c.in_ok-page.ensures.mode (reading_of s.op is));
+    }
+
+pub keep_plan-requires-clause-planned : goal.keep_plan-requires-clause-planned
+keep_plan-requires-clause-planned g c = let s = c.args.scope.now in λ relations counters small within.
+    subst (λ (a : Act). IfMade a (λ changes reply. InPages (looked s) s.room relations counters s.seen.total (λ pages. IsPlanned relations counters s.seen.total (looked s) pages changes s.op s.split reply))) c.in-Made.is (c.in_ok-page.ensures.made relations counters small within)
+
 pub returns-in-Made : goal.returns-in-Made
 returns-in-Made g c = let d = g.D.Device in let o = c.args.self.now in let s = c.args.scope.now in let f = c.keep_plan.ensures in
     record {
-      goes = λ opening relations counters right k small. f.goes opening relations counters right k
-          (subst (λ (a : Act). IfMade a (λ changes reply. InPages (looked s) s.room relations counters s.seen.total (λ pages. IsPlanned relations counters s.seen.total (looked s) pages changes s.op s.split reply))) c.in-Made.is (c.in_ok-page.ensures.made relations counters small k.within));
+      goes = f.goes;
       moments = λ opening kept. subst (λ (x : Store g.row.D.Denot). LeavesOnly d.moment d.left_since o.store.device x.device (Explains opening o.store)) (sym f.store)
           (no_call d.seen d.may_leave opening o.store kept d.moment d.left_since g.met.D.Device.only_now);
       made = f.made;
@@ -48,6 +61,7 @@ returns-in-Made g c = let d = g.D.Device in let o = c.args.self.now in let s = c
       stage = f.stage;
       work = f.work;
       locks = f.locks;
+      scope = f.scope;
       why = cause_memory c.keep_plan.result f.only_memory;
       faults = no_fault _ _ c.keep_plan.result f.only_memory (ap (λ (x : Store g.row.D.Denot). d.faults x.device) f.store);
     }
@@ -67,6 +81,7 @@ returns-in-Full g c = let d = g.D.Device in let o = c.args.self.now in let s = c
       work = led_work relations counters (world d.seen opening o) s c.requires.planning right.sound k free
           (subst (λ (a : Act). IfFull a (InPages (looked s) s.room relations counters s.seen.total (λ pages. (free_pages s.seen.total pages < own_needs s.op s.split) ⊎ IsTight s.room pages (record_bytes s.op)))) c.in-Full.is (c.in_ok-page.ensures.full relations counters small k.within));
       locks = inl refl;
+      scope = tt;
       why = tt;
       faults = no_fault_ok _ _ _ refl;
     }

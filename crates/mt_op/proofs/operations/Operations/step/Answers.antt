@@ -25,6 +25,7 @@ returns-then-eq g c = let d = g.D.Device in
       work = e.work;
       records = e.records;
       locks = e.locks;
+      scope = e.scope;
       writing = e.writing;
       went = e.went;
       why = e.why;
@@ -48,6 +49,7 @@ returns-in_err-stepped g c = let d = g.D.Device in let o = c.args.self.now in le
       work = e.work;
       records = e.records;
       locks = e.locks;
+      scope = e.scope;
       writing = e.writing;
       went = e.went;
       why = e.why;
@@ -72,6 +74,7 @@ returns-in-Some g c = let d = g.D.Device in let o = c.args.self.now in let s = c
       work = e.work;
       records = e.records;
       locks = e.locks;
+      scope = e.scope;
       writing = e.writing;
       went = e.went;
       why = e.why;
@@ -112,6 +115,7 @@ returns-in-None g c = let d = g.D.Device in let o = c.args.self.now in let s = c
       work = e.work;
       records = e.records;
       locks = e.locks;
+      scope = e.scope;
       writing = e.writing;
       went = e.went;
       why = e.why;

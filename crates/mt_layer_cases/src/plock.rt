@@ -11,16 +11,12 @@ fn grants(rt: &impl Abort, locks: &mut PageLocks, op: u64, page: u16, mode: Mode
     }
 }
 
-/// Asks for a write that is not to be granted: the operation to wait for, or none where it is to
-/// begin again.
-fn awaited(rt: &impl Abort, locks: &mut PageLocks, op: u64, page: u16) -> Option<u64> {
-    let Ok(asked) = locks.ask(OpNo::new(op), PageNo::new(page), Mode::Write) else {
-        panic!(rt; "no memory")
-    };
-    match asked {
-        Asked::Wait(holder) => Some(holder.get()),
-        Asked::Again => None,
-        Asked::Granted(_guard) => panic!(rt; "{op} {page}: granted"),
+/// Asks for a write that is not to be granted: whether to wait, or else to begin again, and who is in the way.
+fn barred(rt: &impl Abort, locks: &mut PageLocks, op: u64, page: u16) -> (bool, u64) {
+    match locks.ask(OpNo::new(op), PageNo::new(page), Mode::Write) {
+        Ok(Asked::Wait(holder)) => (true, holder.get()),
+        Ok(Asked::Again(holder)) => (false, holder.get()),
+        _ => panic!(rt; "{op} {page}: not barred"),
     }
 }
 
@@ -44,8 +40,8 @@ fn a_read_becomes_a_write_of_its_only_holder(rt: HostRuntime) -> Result<(), Fail
     let mut locks = PageLocks::new(rt.alloc());
     let one = grants(&rt, &mut locks, 1, 7, Mode::Read);
     let two = grants(&rt, &mut locks, 2, 7, Mode::Read);
-    assert_eq!(rt; awaited(&rt, &mut locks, 1, 7), Some(2));
-    assert_eq!(rt; awaited(&rt, &mut locks, 2, 7), None);
+    assert!(rt; barred(&rt, &mut locks, 1, 7) == (true, 2));
+    assert!(rt; barred(&rt, &mut locks, 2, 7) == (false, 1));
     locks.release(two);
     let more = grants(&rt, &mut locks, 1, 7, Mode::Write);
     locks.release(more);
@@ -58,10 +54,10 @@ fn the_smallest_is_waited_for(rt: HostRuntime) -> Result<(), Fail> {
     let mut locks = PageLocks::new(rt.alloc());
     let five = grants(&rt, &mut locks, 5, 7, Mode::Read);
     let three = grants(&rt, &mut locks, 3, 7, Mode::Read);
-    assert_eq!(rt; awaited(&rt, &mut locks, 1, 7), Some(3));
-    assert_eq!(rt; awaited(&rt, &mut locks, 4, 7), None);
+    assert!(rt; barred(&rt, &mut locks, 1, 7) == (true, 3));
+    assert!(rt; barred(&rt, &mut locks, 4, 7) == (false, 3));
     locks.release(three);
-    assert_eq!(rt; awaited(&rt, &mut locks, 4, 7), Some(5));
+    assert!(rt; barred(&rt, &mut locks, 4, 7) == (true, 5));
     locks.release(five);
     Ok(())
 }

@@ -78,8 +78,11 @@ fn script_of<F: Folder, I: Read>(
     name: Option<&str>,
     input: &mut I,
 ) -> Result<Script, Refusal>
-    ensures script { IfOk result (λ script. IfSome (source_of (F.known folder.old) (option_map (λ n. n.now) name.entry) (I.remaining input.old)) (λ bytes. IsScript bytes script.lines.items)) }
-    ensures unread { IfErr result (IsUnread (source_of (F.known folder.old) (option_map (λ n. n.now) name.entry) (I.remaining input.old))) }
+    ensures script { IfOk result (λ script. IfSome
+        (source_of (F.known folder.old) (option_map (λ n. n.now) name.entry) (I.remaining input.old))
+        (λ bytes. IsScript bytes script.lines.items)) }
+    ensures unread { IfErr result (IsUnread
+        (source_of (F.known folder.old) (option_map (λ n. n.now) name.entry) (I.remaining input.old))) }
 {
     let read = match name {
         Some(name) => {
@@ -164,8 +167,12 @@ fn perform_try<F: Folder, I: Read, O: Write>(
     input: &mut I,
     out: &mut O,
 ) -> Result<(), Fault>
-    ensures tried { OnOk result (IsTried (source_of (F.known folder.old) (option_map (λ n. n.now) name.entry) (I.remaining input.old)) (O.contents out.old) (O.contents out.new)) }
-    ensures untried { IfErr result (IsUntried (source_of (F.known folder.old) (option_map (λ n. n.now) name.entry) (I.remaining input.old)) (O.contents out.old) (O.contents out.new)) }
+    ensures tried { OnOk result (IsTried
+        (source_of (F.known folder.old) (option_map (λ n. n.now) name.entry) (I.remaining input.old))
+        (O.contents out.old) (O.contents out.new)) }
+    ensures untried { IfErr result (IsUntried
+        (source_of (F.known folder.old) (option_map (λ n. n.now) name.entry) (I.remaining input.old))
+        (O.contents out.old) (O.contents out.new)) }
 {
     match script_of(alloc, folder, name, input) {
         Ok(script) => try_script(alloc, &script, out),
@@ -219,9 +226,13 @@ pub fn perform<F: Folder, I: Read, O: Write, E: Write>(
     out: &mut O,
     err: &mut E,
 ) -> u8
-    ensures done { result ≡ 0 → IsDone command.now (script_source (F.known folder.old) command.now (I.remaining input.old)) (O.contents out.old) (O.contents out.new) × (err.new ≡ err.old) }
+    ensures done { result ≡ 0 → IsDone command.now
+        (script_source (F.known folder.old) command.now (I.remaining input.old)) (O.contents out.old)
+        (O.contents out.new) × (err.new ≡ err.old) }
     ensures told { result ≢ 0 → (result ≡ 1) × IsTold (E.contents err.old) (E.contents err.new) }
-    ensures given_up { result ≢ 0 → IsGivenUp command.now (script_source (F.known folder.old) command.now (I.remaining input.old)) (O.contents out.old) (O.contents out.new) (E.contents err.old) (E.contents err.new) }
+    ensures given_up { result ≢ 0 → IsGivenUp command.now
+        (script_source (F.known folder.old) command.now (I.remaining input.old)) (O.contents out.old)
+        (O.contents out.new) (E.contents err.old) (E.contents err.new) }
 {
     let done = match command {
         Command::Try { script: Some(name) } => {
@@ -244,9 +255,11 @@ pub fn perform_words<F: Folder, I: Read, O: Write, E: Write>(
     err: &mut E,
 ) -> u8
     ensures status { result ≤ 2 }
-    ensures done { result ≡ 0 → IsWordsDone (map (λ word. word.now) words.now) (F.known folder.old) (I.remaining input.old) (O.contents out.old) (O.contents out.new) }
+    ensures done { result ≡ 0 → IsWordsDone (map (λ word. word.now) words.now) (F.known folder.old)
+        (I.remaining input.old) (O.contents out.old) (O.contents out.new) }
     ensures told { result ≡ 1 → IsTold (E.contents err.old) (E.contents err.new) }
-    ensures given_up { result ≡ 1 → IsWordsGivenUp (map (λ word. word.now) words.now) (F.known folder.old) (I.remaining input.old) (O.contents out.old) (O.contents out.new) (E.contents err.old) (E.contents err.new) }
+    ensures given_up { result ≡ 1 → IsWordsGivenUp (map (λ word. word.now) words.now) (F.known folder.old)
+        (I.remaining input.old) (O.contents out.old) (O.contents out.new) (E.contents err.old) (E.contents err.new) }
     ensures misused { result ≡ 2 → IsMistaken (map (λ word. word.now) words.now) × (out.new ≡ out.old) }
 {
     match command_of(alloc, words) {

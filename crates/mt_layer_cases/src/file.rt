@@ -80,7 +80,8 @@ impl Copies {
     }
 
     fn is_good(&self, page: usize) -> bool
-        ensures { OnTrue result (kind (copied self.now.pages.items) page ≡ 3 → IsShaped (copied self.now.pages.items page)) }
+        ensures { OnTrue result (kind (copied self.now.pages.items) page ≡ 3
+            → IsShaped (copied self.now.pages.items page)) }
     {
         self.kind_at(page) != 3 || self.is_records(page)
     }
@@ -191,7 +192,8 @@ impl Copies {
     // Whether a name holds a record.
     fn holds(&self, name: &RecordName) -> bool
         requires { IsFile (copied self.now.pages.items) }
-        ensures { OnTrue result ((r : Row) × (record_in (copied self.now.pages.items) name.now.page name.now.slot ≡ Some r)) }
+        ensures { OnTrue result ((r : Row)
+            × (record_in (copied self.now.pages.items) name.now.page name.now.slot ≡ Some r)) }
     {
         if self.kind(name.page) != 3 {
             return false;

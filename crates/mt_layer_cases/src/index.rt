@@ -31,7 +31,8 @@ impl Pages for Copies {
 
     ghost at_hand = { λ c p. copied c.space c.directory c.third c.fourth c.fifth p };
 
-    ghost whole = { λ c sound p bytes there. copied_whole c.space c.directory c.third c.fourth c.fifth c.whole p bytes there };
+    ghost whole = { λ c sound p bytes there. copied_whole c.space c.directory c.third c.fourth c.fifth c.whole p bytes
+        there };
 
     fn count(&self) -> u16 {
         64

@@ -61,8 +61,10 @@ pub fn put<W: Write>(writer: &mut W, bytes: &[u8]) -> Result<(), Unheard>
 /// Writes these pieces, one behind the other. Where the writer fails, it has written a beginning of
 /// them.
 fn put_all<W: Write>(writer: &mut W, pieces: &[&[u8]]) -> Result<(), Unheard>
-    ensures all { OnOk result (Appends (W.contents writer.old) (W.contents writer.new) (concat (map (λ p. p.now) pieces.now))) }
-    ensures front { OnErr result (AppendsFront (W.contents writer.old) (W.contents writer.new) (concat (map (λ p. p.now) pieces.now))) }
+    ensures all { OnOk result (Appends (W.contents writer.old) (W.contents writer.new)
+        (concat (map (λ p. p.now) pieces.now))) }
+    ensures front { OnErr result (AppendsFront (W.contents writer.old) (W.contents writer.new)
+        (concat (map (λ p. p.now) pieces.now))) }
 {
     for piece in pieces {
         put(writer, piece)?;
@@ -72,8 +74,10 @@ fn put_all<W: Write>(writer: &mut W, pieces: &[&[u8]]) -> Result<(), Unheard>
 
 /// Writes what an operation replied, as one line.
 fn write_reply<W: Write>(writer: &mut W, reply: &Reply) -> Result<(), Unheard>
-    ensures all { OnOk result (Appends (W.contents writer.old) (W.contents writer.new) (reply_text reply.now ++ 10 ∷ [])) }
-    ensures front { OnErr result (AppendsFront (W.contents writer.old) (W.contents writer.new) (reply_text reply.now ++ 10 ∷ [])) }
+    ensures all { OnOk result (Appends (W.contents writer.old) (W.contents writer.new)
+        (reply_text reply.now ++ 10 ∷ [])) }
+    ensures front { OnErr result (AppendsFront (W.contents writer.old) (W.contents writer.new)
+        (reply_text reply.now ++ 10 ∷ [])) }
 {
     match reply {
         Reply::Found(value) => put_all(writer, &[b"found ", value.as_slice(), b"\n"]),
@@ -93,7 +97,8 @@ fn write_reply<W: Write>(writer: &mut W, reply: &Reply) -> Result<(), Unheard>
 /// Writes a refusal as one line.
 fn write_refusal<W: Write>(writer: &mut W, refusal: Refusal) -> Result<(), Unheard>
     ensures all { OnOk result (Appends (W.contents writer.old) (W.contents writer.new) (text_of refusal ++ 10 ∷ [])) }
-    ensures front { OnErr result (AppendsFront (W.contents writer.old) (W.contents writer.new) (text_of refusal ++ 10 ∷ [])) }
+    ensures front { OnErr result (AppendsFront (W.contents writer.old) (W.contents writer.new)
+        (text_of refusal ++ 10 ∷ [])) }
 {
     let mut digits = Buffer::new();
     let number = digits.format(refusal.number()).as_bytes();
@@ -113,8 +118,10 @@ fn write_refusal<W: Write>(writer: &mut W, refusal: Refusal) -> Result<(), Unhea
 
 /// Writes an answer as one line. Where the writer fails, it has written a beginning of the line.
 pub fn write_answer<W: Write>(writer: &mut W, answer: &Answer) -> Result<(), Unheard>
-    ensures all { OnOk result (Appends (W.contents writer.old) (W.contents writer.new) (answer_text answer.now ++ 10 ∷ [])) }
-    ensures front { OnErr result (AppendsFront (W.contents writer.old) (W.contents writer.new) (answer_text answer.now ++ 10 ∷ [])) }
+    ensures all { OnOk result (Appends (W.contents writer.old) (W.contents writer.new)
+        (answer_text answer.now ++ 10 ∷ [])) }
+    ensures front { OnErr result (AppendsFront (W.contents writer.old) (W.contents writer.new)
+        (answer_text answer.now ++ 10 ∷ [])) }
 {
     match answer {
         Answer::Begun => put(writer, b"begun\n"),

@@ -127,7 +127,8 @@ fn is_text_of(bytes: &[u8], text: &str) -> bool
 
 /// A relation and a key: `R K`.
 fn key_of(alloc: Global, words: &[u8]) -> Result<Option<(RelNo, Bytes)>, AllocError>
-    ensures { IfOk result (λ o. MatchOption o ((r : ℕ) (k : List ℕ) → ¬ SpellsKey words.now r k) (λ p. SpellsKey words.now p.0 p.1)) }
+    ensures { IfOk result (λ o. MatchOption o ((r : ℕ) (k : List ℕ) → ¬ SpellsKey words.now r k)
+        (λ p. SpellsKey words.now p.0 p.1)) }
 {
     let Some((number, word)) = split_at_space(words) else {
         return Ok(None);
@@ -144,7 +145,8 @@ fn key_of(alloc: Global, words: &[u8]) -> Result<Option<(RelNo, Bytes)>, AllocEr
 
 /// A relation, a key and a value: `R K V`.
 fn row_of(alloc: Global, words: &[u8]) -> Result<Option<(RelNo, Bytes, Bytes)>, AllocError>
-    ensures { IfOk result (λ o. MatchOption o ((r : ℕ) (k v : List ℕ) → ¬ SpellsRow words.now r k v) (λ p. SpellsRow words.now p.0 p.1 p.2)) }
+    ensures { IfOk result (λ o. MatchOption o ((r : ℕ) (k v : List ℕ) → ¬ SpellsRow words.now r k v)
+        (λ p. SpellsRow words.now p.0 p.1 p.2)) }
 {
     let Some((number, rest)) = split_at_space(words) else {
         return Ok(None);

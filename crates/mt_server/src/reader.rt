@@ -71,8 +71,10 @@ impl Reading {
     /// Takes the next byte.
     #[tactic(auto, using(crate::proofs::ScriptLemmas::gathered_byte))]
     fn take(&mut self, byte: u8) -> Result<(), Refusal>
-        ensures cause { IfErr result (λ why. (front more : List ℕ) → Gathered front self.old.lines.items self.old.line.items → IsRefusedFor (front ++ byte ∷ more) why) }
-        ensures taken { OnOk result ((front : List ℕ) → Gathered front self.old.lines.items self.old.line.items → Gathered (front ++ byte ∷ []) self.new.lines.items self.new.line.items) }
+        ensures cause { IfErr result (λ why. (front more : List ℕ)
+            → Gathered front self.old.lines.items self.old.line.items → IsRefusedFor (front ++ byte ∷ more) why) }
+        ensures taken { OnOk result ((front : List ℕ) → Gathered front self.old.lines.items self.old.line.items
+            → Gathered (front ++ byte ∷ []) self.new.lines.items self.new.line.items) }
     {
         if byte == b'\n' {
             self.end_line()
@@ -87,8 +89,10 @@ impl Reading {
     /// Takes the end of the line under way.
     #[tactic(auto, using(crate::proofs::ScriptLemmas::gathered_line))]
     fn end_line(&mut self) -> Result<(), Refusal>
-        ensures cause { IfErr result (λ why. (front more : List ℕ) → Gathered front self.old.lines.items self.old.line.items → IsRefusedFor (front ++ 10 ∷ more) why) }
-        ensures taken { OnOk result ((front : List ℕ) → Gathered front self.old.lines.items self.old.line.items → Gathered (front ++ 10 ∷ []) self.new.lines.items self.new.line.items) }
+        ensures cause { IfErr result (λ why. (front more : List ℕ)
+            → Gathered front self.old.lines.items self.old.line.items → IsRefusedFor (front ++ 10 ∷ more) why) }
+        ensures taken { OnOk result ((front : List ℕ) → Gathered front self.old.lines.items self.old.line.items
+            → Gathered (front ++ 10 ∷ []) self.new.lines.items self.new.line.items) }
     {
         if self.lines.len() >= MAX_LINES {
             return Err(self.bad_line());
@@ -103,8 +107,10 @@ impl Reading {
 
     /// Takes the next bytes.
     fn take_all(&mut self, bytes: &[u8]) -> Result<(), Refusal>
-        ensures cause { IfErr result (λ why. (front more : List ℕ) → Gathered front self.old.lines.items self.old.line.items → IsRefusedFor (front ++ bytes.now ++ more) why) }
-        ensures taken { OnOk result ((front : List ℕ) → Gathered front self.old.lines.items self.old.line.items → Gathered (front ++ bytes.now) self.new.lines.items self.new.line.items) }
+        ensures cause { IfErr result (λ why. (front more : List ℕ)
+            → Gathered front self.old.lines.items self.old.line.items → IsRefusedFor (front ++ bytes.now ++ more) why) }
+        ensures taken { OnOk result ((front : List ℕ) → Gathered front self.old.lines.items self.old.line.items
+            → Gathered (front ++ bytes.now) self.new.lines.items self.new.line.items) }
     {
         for byte in bytes {
             self.take(*byte)?;
@@ -115,8 +121,10 @@ impl Reading {
     /// The script, where no line is under way.
     #[tactic(auto, using(crate::proofs::ScriptLemmas::is_script))]
     fn end(self) -> Result<Script, Refusal>
-        ensures cause { IfErr result (λ why. (bytes : List ℕ) → Gathered bytes self.lines.items self.line.items → IsRefusedFor bytes why) }
-        ensures script { IfOk result (λ script. (bytes : List ℕ) → Gathered bytes self.lines.items self.line.items → IsScript bytes script.lines.items) }
+        ensures cause { IfErr result (λ why. (bytes : List ℕ) → Gathered bytes self.lines.items self.line.items
+            → IsRefusedFor bytes why) }
+        ensures script { IfOk result (λ script. (bytes : List ℕ) → Gathered bytes self.lines.items self.line.items
+            → IsScript bytes script.lines.items) }
     {
         if !self.line.is_empty() {
             return Err(self.bad_line());
@@ -134,7 +142,8 @@ impl Reading {
 /// way and one piece.
 pub fn read_script<R: Read>(alloc: Global, reader: &mut R) -> Result<Script, ScriptFault>
     ensures cause { IfErr result (λ fault. IfSome (R.remaining reader.old) (λ bytes. IsFaultOf bytes fault)) }
-    ensures script { IfOk result (λ script. IfSome (R.remaining reader.old) (λ bytes. IsScript bytes script.lines.items)) }
+    ensures script { IfOk result (λ script. IfSome (R.remaining reader.old)
+        (λ bytes. IsScript bytes script.lines.items)) }
 {
     let mut reading = Reading::new(alloc);
     let mut piece = [0u8; PIECE_BYTES];

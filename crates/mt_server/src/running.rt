@@ -101,7 +101,8 @@ fn step_to_reply<D: Device>(kernel: &mut Kernel<D>, txn: TxnNo) -> Result<Reply,
 
 /// Makes one operation in a transaction.
 fn call<D: Device>(kernel: &mut Kernel<D>, txn: TxnNo, op: &Op) -> Result<Answer, Refusal>
-    ensures answered { IfOk result (λ answer. IsCallAnswered (state_of kernel.old) txn op.now answer (state_of kernel.new)) }
+    ensures answered { IfOk result (λ answer. IsCallAnswered (state_of kernel.old) txn op.now answer
+        (state_of kernel.new)) }
     ensures err { OnErr result (HasCalled (state_of kernel.old) txn op.now (state_of kernel.new)) }
 {
     let Ok(copy) = op.try_clone() else {
@@ -213,7 +214,8 @@ fn answer_within<D: Device>(
     txn: TxnNo,
     line: &Line,
 ) -> Result<Answer, Refusal>
-    ensures answered { IfOk result (λ answer. IsAnsweredWithin (state_of kernel.old) txn line.now answer (state_of kernel.new)) }
+    ensures answered { IfOk result (λ answer. IsAnsweredWithin (state_of kernel.old) txn line.now answer
+        (state_of kernel.new)) }
     ensures err { OnErr result (IsHaltedWithin (state_of kernel.old) txn line.now (state_of kernel.new)) }
 {
     match line {
@@ -241,7 +243,8 @@ fn answer<D: Device>(
     live: Option<TxnNo>,
     line: &Line,
 ) -> Result<(Answer, Option<TxnNo>), Refusal>
-    ensures answered { IfOk result (λ told. IsAnswered session (state_of kernel.old) live line.now told.0 (state_of kernel.new) told.1) }
+    ensures answered { IfOk result (λ told. IsAnswered session (state_of kernel.old) live line.now told.0
+        (state_of kernel.new) told.1) }
     ensures err { OnErr result (IsHalted (state_of kernel.old) live line.now (state_of kernel.new)) }
 {
     match live {
@@ -302,8 +305,10 @@ fn run_line<D: Device, W: Write>(
     line: &Line,
     writer: &mut W,
 ) -> Result<Option<TxnNo>, RunFault>
-    ensures told { IfOk result (IsTold session (state_of kernel.old) live line.now (W.contents writer.old) (W.contents writer.new) (state_of kernel.new)) }
-    ensures cut { IfErr result (IsCut session (state_of kernel.old) live line.now (W.contents writer.old) (W.contents writer.new) (state_of kernel.new)) }
+    ensures told { IfOk result (IsTold session (state_of kernel.old) live line.now (W.contents writer.old)
+        (W.contents writer.new) (state_of kernel.new)) }
+    ensures cut { IfErr result (IsCut session (state_of kernel.old) live line.now (W.contents writer.old)
+        (W.contents writer.new) (state_of kernel.new)) }
 {
     let told = match answer(kernel, session, live, line) {
         Ok(told) => told,
@@ -324,8 +329,10 @@ fn end_live<D: Device, W: Write>(
     txn: TxnNo,
     writer: &mut W,
 ) -> Result<(), RunFault>
-    ensures ended { OnOk result (IsEnded (state_of kernel.old) txn (W.contents writer.old) (W.contents writer.new) (state_of kernel.new)) }
-    ensures cut { IfErr result (IsCutAtEnd (state_of kernel.old) txn (W.contents writer.old) (W.contents writer.new) (state_of kernel.new)) }
+    ensures ended { OnOk result (IsEnded (state_of kernel.old) txn (W.contents writer.old) (W.contents writer.new)
+        (state_of kernel.new)) }
+    ensures cut { IfErr result (IsCutAtEnd (state_of kernel.old) txn (W.contents writer.old) (W.contents writer.new)
+        (state_of kernel.new)) }
 {
     if let Err(refusal) = end_open(kernel, txn) {
         return Err(end_refused(writer, refusal));
@@ -343,8 +350,10 @@ fn run_lines<D: Device, W: Write>(
     lines: &[Line],
     writer: &mut W,
 ) -> Result<Option<TxnNo>, RunFault>
-    ensures ran { IfOk result (λ live. HasRunLines session (state_of kernel.old) lines.now (W.contents writer.old) (W.contents writer.new) (state_of kernel.new) live) }
-    ensures cut { IfErr result (IsCutRun session (state_of kernel.old) lines.now (W.contents writer.old) (W.contents writer.new) (state_of kernel.new)) }
+    ensures ran { IfOk result (λ live. HasRunLines session (state_of kernel.old) lines.now (W.contents writer.old)
+        (W.contents writer.new) (state_of kernel.new) live) }
+    ensures cut { IfErr result (IsCutRun session (state_of kernel.old) lines.now (W.contents writer.old)
+        (W.contents writer.new) (state_of kernel.new)) }
 {
     let mut live = None;
     for line in lines {
@@ -366,8 +375,10 @@ pub fn run_alone<D: Device, W: Write>(
     script: &Script,
     writer: &mut W,
 ) -> Result<(), RunFault>
-    ensures ran { OnOk result (HasRun session (state_of kernel.old) script.now.lines.items (W.contents writer.old) (W.contents writer.new) (state_of kernel.new)) }
-    ensures cut { IfErr result (IsCutRun session (state_of kernel.old) script.now.lines.items (W.contents writer.old) (W.contents writer.new) (state_of kernel.new)) }
+    ensures ran { OnOk result (HasRun session (state_of kernel.old) script.now.lines.items (W.contents writer.old)
+        (W.contents writer.new) (state_of kernel.new)) }
+    ensures cut { IfErr result (IsCutRun session (state_of kernel.old) script.now.lines.items (W.contents writer.old)
+        (W.contents writer.new) (state_of kernel.new)) }
 {
     match run_lines(kernel, session, script.lines(), writer)? {
         Some(txn) => end_live(kernel, txn, writer),

@@ -58,7 +58,8 @@ impl<D: Device> Driver<D> {
         writes: usize,
     ) -> Result<Acted, Refusal>
         requires { IsIdle D.seen D.may_leave self.old.last self.old.operations }
-        ensures { ((s : OpScope) → result ≡ Ok (acted.Lost s) → ⊥) → IsIdle D.seen D.may_leave self.new.last self.new.operations }
+        ensures { ((s : OpScope) → result ≡ Ok (acted.Lost s) → ⊥)
+            → IsIdle D.seen D.may_leave self.new.last self.new.operations }
     {
         let mut scope = self.begin(alloc, op, split)?;
         match go(rt, alloc, &mut self.operations, &mut scope, writes) {
@@ -107,7 +108,8 @@ impl<D: Device> Driver<D> {
         split: bool,
         claim: u16,
     ) -> Result<OpScope, Refusal>
-        requires right { (opening : PageBytes) × IsRight D.seen D.may_leave opening 2 2 self.old.operations × ((n : ℕ) → self.old.last < n → n ≤ 2 ^ 40 → IsFresh (world D.seen opening self.old.operations) n n 0) }
+        requires right { (opening : PageBytes) × IsRight D.seen D.may_leave opening 2 2 self.old.operations
+            × ((n : ℕ) → self.old.last < n → n ≤ 2 ^ 40 → IsFresh (world D.seen opening self.old.operations) n n 0) }
         requires claimed { claimed self.old.operations ≡ claim }
         requires claim { claim ≡ own_needs op split }
         requires log { used self.old.operations.store.log + 106624 < area_size self.old.operations.store.log }
@@ -281,7 +283,8 @@ fn step<D: Device>(
     ensures busy { IsBusy D.seen D.may_leave operations.new scope.new }
     ensures number { scope.new.number ≡ scope.old.number }
     ensures split { scope.new.split ≡ scope.old.split }
-    ensures claim { ((first second : Reply) → result ≡ Ok (stepped.Ready first second) → ⊥) → HasClaim operations.new scope.new }
+    ensures claim { ((first second : Reply) → result ≡ Ok (stepped.Ready first second) → ⊥)
+        → HasClaim operations.new scope.new }
     ensures given { (first second : Reply) → result ≡ Ok (stepped.Ready first second) → claimed operations.new ≡ 0 }
 {
     operations.step(alloc, scope)

@@ -37,7 +37,8 @@ fn begin<D: Device>(
     requires idle { IsIdle D.seen D.may_leave driver.now.last driver.now.operations }
     requires few { driver.now.last < 1000000000 }
     requires behind { (1 ≤ behind) × (behind ≤ 2) }
-    ensures among { (i : IsIdle D.seen D.may_leave driver.now.last driver.now.operations) → IsAmong D.seen D.may_leave i.opening driver.now.operations result }
+    ensures among { (i : IsIdle D.seen D.may_leave driver.now.last driver.now.operations)
+        → IsAmong D.seen D.may_leave i.opening driver.now.operations result }
     ensures number { result.number ≡ driver.now.last + behind }
     ensures txn { result.txn ≡ driver.now.last + behind }
 {
@@ -75,8 +76,11 @@ fn step<D: Device>(
     scope: &mut OpScope,
 ) -> Stepped
     requires { (opening : PageBytes) × IsAmong D.seen D.may_leave opening operations.old scope.old }
-    ensures own { (opening : PageBytes) → IsAmong D.seen D.may_leave opening operations.old scope.old → IsAmong D.seen D.may_leave opening operations.new scope.new }
-    ensures others { (opening : PageBytes) (u : OpScope) → IsAmong D.seen D.may_leave opening operations.old scope.old → IsAmong D.seen D.may_leave opening operations.old u → IsOther scope.old u → IsAmong D.seen D.may_leave opening operations.new u }
+    ensures own { (opening : PageBytes) → IsAmong D.seen D.may_leave opening operations.old scope.old
+        → IsAmong D.seen D.may_leave opening operations.new scope.new }
+    ensures others { (opening : PageBytes) (u : OpScope) → IsAmong D.seen D.may_leave opening operations.old scope.old
+        → IsAmong D.seen D.may_leave opening operations.old u → IsOther scope.old u
+        → IsAmong D.seen D.may_leave opening operations.new u }
     ensures number { scope.new.number ≡ scope.old.number }
     ensures txn { scope.new.txn ≡ scope.old.txn }
     ensures ready { (first second : Reply) → result ≡ stepped.Ready first second → scope.new.stage ≡ Ready }
@@ -98,8 +102,11 @@ fn go<D: Device>(
     writes: usize,
 ) -> Stepped
     requires { (opening : PageBytes) × IsAmong D.seen D.may_leave opening operations.old scope.old }
-    ensures own { (opening : PageBytes) → IsAmong D.seen D.may_leave opening operations.old scope.old → IsAmong D.seen D.may_leave opening operations.new scope.new }
-    ensures others { (opening : PageBytes) (u : OpScope) → IsAmong D.seen D.may_leave opening operations.old scope.old → IsAmong D.seen D.may_leave opening operations.old u → IsOther scope.old u → IsAmong D.seen D.may_leave opening operations.new u }
+    ensures own { (opening : PageBytes) → IsAmong D.seen D.may_leave opening operations.old scope.old
+        → IsAmong D.seen D.may_leave opening operations.new scope.new }
+    ensures others { (opening : PageBytes) (u : OpScope) → IsAmong D.seen D.may_leave opening operations.old scope.old
+        → IsAmong D.seen D.may_leave opening operations.old u → IsOther scope.old u
+        → IsAmong D.seen D.may_leave opening operations.new u }
     ensures number { scope.new.number ≡ scope.old.number }
     ensures txn { scope.new.txn ≡ scope.old.txn }
     ensures ready { (first second : Reply) → result ≡ stepped.Ready first second → scope.new.stage ≡ Ready }
@@ -130,8 +137,11 @@ fn finish<D: Device>(
     scope: OpScope,
 ) -> Reply
     requires { (opening : PageBytes) × IsAmong D.seen D.may_leave opening operations.old scope }
-    ensures right { (opening : PageBytes) → IsAmong D.seen D.may_leave opening operations.old scope → IsRight D.seen D.may_leave opening 2 2 operations.new }
-    ensures others { (opening : PageBytes) (u : OpScope) → IsAmong D.seen D.may_leave opening operations.old scope → IsAmong D.seen D.may_leave opening operations.old u → IsOther scope u → IsAmong D.seen D.may_leave opening operations.new u }
+    ensures right { (opening : PageBytes) → IsAmong D.seen D.may_leave opening operations.old scope
+        → IsRight D.seen D.may_leave opening 2 2 operations.new }
+    ensures others { (opening : PageBytes) (u : OpScope) → IsAmong D.seen D.may_leave opening operations.old scope
+        → IsAmong D.seen D.may_leave opening operations.old u → IsOther scope u
+        → IsAmong D.seen D.may_leave opening operations.new u }
 {
     let mut scope = scope;
     match go(rt, alloc, operations, &mut scope, usize::MAX) {
@@ -147,7 +157,9 @@ fn finish<D: Device>(
 // Drops an operation out that has written nothing.
 fn drop_out<D: Device>(rt: &impl Abort, operations: &mut Operations<D>, scope: OpScope)
     requires { (opening : PageBytes) × IsAmong D.seen D.may_leave opening operations.old scope }
-    ensures others { (opening : PageBytes) (u : OpScope) → IsAmong D.seen D.may_leave opening operations.old scope → IsAmong D.seen D.may_leave opening operations.old u → IsOther scope u → IsAmong D.seen D.may_leave opening operations.new u }
+    ensures others { (opening : PageBytes) (u : OpScope) → IsAmong D.seen D.may_leave opening operations.old scope
+        → IsAmong D.seen D.may_leave opening operations.old u → IsOther scope u
+        → IsAmong D.seen D.may_leave opening operations.new u }
 {
     let mut scope = scope;
     assert!(rt; scope.stage() == Stage::Planning);
@@ -167,7 +179,8 @@ fn older_waits(
     older: OpScope,
     younger: OpScope,
 ) -> (Reply, Reply)
-    requires both { (opening : PageBytes) × IsAmong content MayLeave opening operations.old older × IsAmong content MayLeave opening operations.old younger }
+    requires both { (opening : PageBytes) × IsAmong content MayLeave opening operations.old older
+        × IsAmong content MayLeave opening operations.old younger }
     requires apart { IsOther older younger }
     ensures { (opening : PageBytes) × IsRight content MayLeave opening 2 2 operations.new }
 {
@@ -193,7 +206,8 @@ fn younger_gives_way(
     older: OpScope,
     younger: OpScope,
 ) -> Reply
-    requires both { (opening : PageBytes) × IsAmong content MayLeave opening operations.old older × IsAmong content MayLeave opening operations.old younger }
+    requires both { (opening : PageBytes) × IsAmong content MayLeave opening operations.old older
+        × IsAmong content MayLeave opening operations.old younger }
     requires apart { IsOther older younger }
     ensures { (opening : PageBytes) × IsRight content MayLeave opening 2 2 operations.new }
 {

@@ -71,9 +71,12 @@ impl Pool {
         ensures there { self.new.of_page ≡ self.old.of_page }
         ensures place { self.new.place ≡ self.old.place }
         // A page is written in place only after every record of its changes is durable.
-        ensures crash { (device.new ≡ device.old) ⊎ ((p : ℕ) × (p < pages self.old) × (0 < waits_for self.old p) × (waits_for self.old p ≤ durable)
-            × Torn (self.old.place + 4096 * p) 4096 (D.seen device.old) (D.seen device.new) × Follows (Torn (self.old.place + 4096 * p) 4096) (D.may_leave device.old) (D.may_leave device.new)) }
-        ensures time { Elapses (D.moment device.old) (D.moment device.new) (D.left_since device.old) (D.left_since device.new) (D.may_leave device.new) }
+        ensures crash { (device.new ≡ device.old) ⊎ ((p : ℕ) × (p < pages self.old) × (0 < waits_for self.old p)
+            × (waits_for self.old p ≤ durable)
+            × Torn (self.old.place + 4096 * p) 4096 (D.seen device.old) (D.seen device.new)
+            × Follows (Torn (self.old.place + 4096 * p) 4096) (D.may_leave device.old) (D.may_leave device.new)) }
+        ensures time { Elapses (D.moment device.old) (D.moment device.new) (D.left_since device.old)
+            (D.left_since device.new) (D.may_leave device.new) }
         ensures page { (p : ℕ) → result ≡ Ok (flushed.Page p) → Cleans self.old self.new durable p }
         ensures fewer { (p : ℕ) → result ≡ Ok (flushed.Page p) → to_flush self.new + 1 ≡ to_flush self.old }
         ensures forced { result ≡ Ok flushed.Force → IsWaiting self.old durable }

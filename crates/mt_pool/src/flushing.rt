@@ -30,14 +30,12 @@ enum Found {
 impl Pool {
     ghost use Rattle.mt_pool.specs.Views.{IsPool, Shows, IsReady, IsWaiting, Cleans, view, pages, waits_for, to_flush};
     ghost use Rattle.mt_pool.specs.declared.flushing.Flushed.TheVariants as flushed;
-    ghost use Rattle.mt_pool.specs.declared.flushing.Found.TheVariants as found;
+    ghost use Rattle.mt_pool.specs.Finds.{IsFound};
 
     /// Looks for a page that may be written, where the area's first `durable` records are durable.
     fn find(&self, durable: u64) -> Found
         requires pool { IsPool self.now }
-        ensures ready { (f p : ℕ) → result ≡ found.Ready f p → IsReady self.now durable f p }
-        ensures waiting { result ≡ found.Waiting → IsWaiting self.now durable }
-        ensures nothing { result ≡ found.Nothing → (f : ℕ) → get_or self.now.dirty.items f false ≡ false }
+        ensures { IsFound self.now durable result }
     {
         let mut any = false;
         for frame in 0..self.dirty.len() {

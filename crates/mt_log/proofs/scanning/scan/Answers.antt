@@ -6,7 +6,7 @@ use Rattle.mt_log.specs.Batch.{Stands}
 use Rattle.mt_log.specs.declared.area.AreaPlace.{AreaPlace}
 use Rattle.mt_log.specs.declared.batch.Batch.{Batch}
 use Rattle.mt_log.specs.declared.reading.Reading.{Reading}
-use Rattle.mt_log.specs.Found.{records_of}
+use Rattle.mt_log.specs.Found.{records_of, places_of}
 use Rattle.mt_log.specs.Holds.{HoldsBatches, BreaksAt, AreBatches, places_from}
 use Rattle.mt_log.specs.Reading.{HasRead}
 use Rattle.mt_log.specs.Sound.{IsBeginning}
@@ -107,7 +107,8 @@ returns-clause-places g c =
     let inv = c.loop-reading.invariant in
     let e = c.in_ok-read_batch.ensures in
     let r = c.read_batch.new.self in
-    e.read.places ∙ ap (λ (p : AreaPlace). places_from p.start (records_of r.found.items)) (e.place ∙ inv.place)
+    let there : places_of r.found.items ≡ places_from r.place.start (records_of r.found.items) = e.read.places in
+    subst (λ (p : AreaPlace). places_of r.found.items ≡ places_from p.start (records_of r.found.items)) (e.place ∙ inv.place) there
 
 pub returns-clause-only : goal.returns-clause-only
 returns-clause-only g c = λ batches holds.

@@ -63,7 +63,8 @@ pub trait Device {
         ensures bytes { OnOk result (Has (seen self.old) at buf.new) }
         ensures seen { seen self.new ≡ seen self.old }
         ensures crash { (c : List ℕ) → may_leave self.new c → may_leave self.old c }
-        ensures time { Elapses (moment self.old) (moment self.new) (left_since self.old) (left_since self.new) (may_leave self.new) }
+        ensures time { Elapses (moment self.old) (moment self.new) (left_since self.old) (left_since self.new)
+            (may_leave self.new) }
         ensures cause { HasCause (faults self.old) (faults self.new) result };
 
     /// Writes `bytes` from `at` on. Until the next sync a crash may leave any bytes in that range.
@@ -73,7 +74,8 @@ pub trait Device {
         ensures written { OnOk result (Wrote at bytes.now (seen self.old) (seen self.new)) }
         ensures rest { Torn at (length bytes.now) (seen self.old) (seen self.new) }
         ensures crash { Follows (Torn at (length bytes.now)) (may_leave self.old) (may_leave self.new) }
-        ensures time { Elapses (moment self.old) (moment self.new) (left_since self.old) (left_since self.new) (may_leave self.new) }
+        ensures time { Elapses (moment self.old) (moment self.new) (left_since self.old) (left_since self.new)
+            (may_leave self.new) }
         ensures cause { HasCause (faults self.old) (faults self.new) result };
 
     /// Makes all writes so far last: after it, a crash leaves just what a read returns. After a
@@ -82,7 +84,8 @@ pub trait Device {
         ensures durable { OnOk result (Only (seen self.old) (may_leave self.new)) }
         ensures seen { seen self.new ≡ seen self.old }
         ensures crash { (c : List ℕ) → may_leave self.new c → may_leave self.old c }
-        ensures time { Elapses (moment self.old) (moment self.new) (left_since self.old) (left_since self.new) (may_leave self.new) }
+        ensures time { Elapses (moment self.old) (moment self.new) (left_since self.old) (left_since self.new)
+            (may_leave self.new) }
         ensures cause { HasCause (faults self.old) (faults self.new) result };
 
     /// What a read returns is among what a crash may leave.

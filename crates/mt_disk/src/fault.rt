@@ -84,8 +84,10 @@ impl<D: Device> Device for FaultDevice<D> {
         ensures bytes { OnOk result (Has (D.seen (below self.old)) at buf.new) }
         ensures seen { D.seen (below self.new) ≡ D.seen (below self.old) }
         ensures crash { (c : List ℕ) → D.may_leave (below self.new) c → D.may_leave (below self.old) c }
-        ensures time { Elapses (D.moment (below self.old)) (D.moment (below self.new)) (D.left_since (below self.old)) (D.left_since (below self.new)) (D.may_leave (below self.new)) }
-        ensures cause { HasCause (D.faults (below self.old) + own_failures self.old) (D.faults (below self.new) + own_failures self.new) result }
+        ensures time { Elapses (D.moment (below self.old)) (D.moment (below self.new)) (D.left_since (below self.old))
+            (D.left_since (below self.new)) (D.may_leave (below self.new)) }
+        ensures cause { HasCause (D.faults (below self.old) + own_failures self.old)
+            (D.faults (below self.new) + own_failures self.new) result }
         ensures turn { TakesTurn self.old self.new (D.faults (below self.old)) (D.faults (below self.new)) result }
     {
         if !self.passes() {
@@ -98,9 +100,12 @@ impl<D: Device> Device for FaultDevice<D> {
         requires { at + length bytes.now ≤ length (D.seen (below self.old)) }
         ensures written { OnOk result (Wrote at bytes.now (D.seen (below self.old)) (D.seen (below self.new))) }
         ensures rest { Torn at (length bytes.now) (D.seen (below self.old)) (D.seen (below self.new)) }
-        ensures crash { Follows (Torn at (length bytes.now)) (D.may_leave (below self.old)) (D.may_leave (below self.new)) }
-        ensures time { Elapses (D.moment (below self.old)) (D.moment (below self.new)) (D.left_since (below self.old)) (D.left_since (below self.new)) (D.may_leave (below self.new)) }
-        ensures cause { HasCause (D.faults (below self.old) + own_failures self.old) (D.faults (below self.new) + own_failures self.new) result }
+        ensures crash { Follows (Torn at (length bytes.now)) (D.may_leave (below self.old))
+            (D.may_leave (below self.new)) }
+        ensures time { Elapses (D.moment (below self.old)) (D.moment (below self.new)) (D.left_since (below self.old))
+            (D.left_since (below self.new)) (D.may_leave (below self.new)) }
+        ensures cause { HasCause (D.faults (below self.old) + own_failures self.old)
+            (D.faults (below self.new) + own_failures self.new) result }
         ensures turn { TakesTurn self.old self.new (D.faults (below self.old)) (D.faults (below self.new)) result }
     {
         if !self.passes() {
@@ -113,8 +118,10 @@ impl<D: Device> Device for FaultDevice<D> {
         ensures durable { OnOk result (Only (D.seen (below self.old)) (D.may_leave (below self.new))) }
         ensures seen { D.seen (below self.new) ≡ D.seen (below self.old) }
         ensures crash { (c : List ℕ) → D.may_leave (below self.new) c → D.may_leave (below self.old) c }
-        ensures time { Elapses (D.moment (below self.old)) (D.moment (below self.new)) (D.left_since (below self.old)) (D.left_since (below self.new)) (D.may_leave (below self.new)) }
-        ensures cause { HasCause (D.faults (below self.old) + own_failures self.old) (D.faults (below self.new) + own_failures self.new) result }
+        ensures time { Elapses (D.moment (below self.old)) (D.moment (below self.new)) (D.left_since (below self.old))
+            (D.left_since (below self.new)) (D.may_leave (below self.new)) }
+        ensures cause { HasCause (D.faults (below self.old) + own_failures self.old)
+            (D.faults (below self.new) + own_failures self.new) result }
         ensures turn { TakesTurn self.old self.new (D.faults (below self.old)) (D.faults (below self.new)) result }
     {
         if !self.passes() {

@@ -246,9 +246,12 @@ impl<F: Read + Write + Seek + OpenFile + Drop> Device for FileDevice<F> {
         requires { at + length bytes.now ≤ length (content (copy_in self.old)) }
         ensures written { OnOk result (Wrote at bytes.now (content (copy_in self.old)) (content (copy_in self.new))) }
         ensures rest { Torn at (length bytes.now) (content (copy_in self.old)) (content (copy_in self.new)) }
-        ensures crash { Follows (Torn at (length bytes.now)) (MayLeave (copy_in self.old)) (MayLeave (copy_in self.new)) }
-        ensures time { Elapses (moment_of (copy_in self.old)) (moment_of (copy_in self.new)) (left_by (copy_in self.old)) (left_by (copy_in self.new)) (MayLeave (copy_in self.new)) }
-        ensures cause { HasCause (failures_of (copy_in self.old) + file_failures self.old) (failures_of (copy_in self.new) + file_failures self.new) result }
+        ensures crash { Follows (Torn at (length bytes.now)) (MayLeave (copy_in self.old))
+            (MayLeave (copy_in self.new)) }
+        ensures time { Elapses (moment_of (copy_in self.old)) (moment_of (copy_in self.new))
+            (left_by (copy_in self.old)) (left_by (copy_in self.new)) (MayLeave (copy_in self.new)) }
+        ensures cause { HasCause (failures_of (copy_in self.old) + file_failures self.old)
+            (failures_of (copy_in self.new) + file_failures self.new) result }
         ensures broken { IsBroken self.old → IsErr result × IsBroken self.new }
     {
         self.memory.write_at(at, bytes)?;
@@ -259,8 +262,10 @@ impl<F: Read + Write + Seek + OpenFile + Drop> Device for FileDevice<F> {
         ensures durable { OnOk result (Only (content (copy_in self.old)) (MayLeave (copy_in self.new))) }
         ensures seen { content (copy_in self.new) ≡ content (copy_in self.old) }
         ensures crash { (c : List ℕ) → MayLeave (copy_in self.new) c → MayLeave (copy_in self.old) c }
-        ensures time { Elapses (moment_of (copy_in self.old)) (moment_of (copy_in self.new)) (left_by (copy_in self.old)) (left_by (copy_in self.new)) (MayLeave (copy_in self.new)) }
-        ensures cause { HasCause (failures_of (copy_in self.old) + file_failures self.old) (failures_of (copy_in self.new) + file_failures self.new) result }
+        ensures time { Elapses (moment_of (copy_in self.old)) (moment_of (copy_in self.new))
+            (left_by (copy_in self.old)) (left_by (copy_in self.new)) (MayLeave (copy_in self.new)) }
+        ensures cause { HasCause (failures_of (copy_in self.old) + file_failures self.old)
+            (failures_of (copy_in self.new) + file_failures self.new) result }
         ensures broken { IsBroken self.old → IsErr result × IsBroken self.new }
         ensures breaks { OnErr result (IsBroken self.new) }
     {

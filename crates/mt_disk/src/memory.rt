@@ -54,7 +54,8 @@ impl State {
         requires range { at + length new.now ≤ length self.old.bytes.items }
         requires room { HasRoom self.old (length new.now) }
         ensures wrote { Wrote at new.now self.old.bytes.items self.new.bytes.items }
-        ensures noted { self.new.writes.items ≡ self.old.writes.items ++ record { at = at; len = length new.now; from = vec_len self.old.written } ∷ [] }
+        ensures noted { self.new.writes.items ≡ self.old.writes.items
+            ++ record { at = at; len = length new.now; from = vec_len self.old.written } ∷ [] }
         ensures kept { self.new.written.items ≡ self.old.written.items ++ new.now }
         ensures synced { self.new.synced.items ≡ self.old.synced.items }
         ensures writes_room { self.new.writes_room ≡ self.old.writes_room }
@@ -245,14 +246,17 @@ impl Device for MemDevice {
         ensures crash { Follows (Torn at (length bytes.now)) (MayLeave self.old) (MayLeave self.new) }
 
         // Nothing that this write's tear makes of an outcome is left out.
-        ensures torn { OnOk result ((c d : List ℕ) → MayLeave self.old d → Torn at (length bytes.now) d c → MayLeave self.new c) }
-        ensures time { Elapses (moment_of self.old) (moment_of self.new) (left_by self.old) (left_by self.new) (MayLeave self.new) }
+        ensures torn { OnOk result ((c d : List ℕ) → MayLeave self.old d → Torn at (length bytes.now) d c
+            → MayLeave self.new c) }
+        ensures time { Elapses (moment_of self.old) (moment_of self.new) (left_by self.old) (left_by self.new)
+            (MayLeave self.new) }
         ensures cause { HasCause (failures_of self.old) (failures_of self.new) result }
 
         ensures room { IsOk result ↔ (0 < writes_left self.old) × (length bytes.now ≤ bytes_left self.old) }
         ensures one_fewer { OnOk result (writes_left self.old ≡ writes_left self.new + 1) }
         ensures fewer { OnOk result (bytes_left self.old ≡ bytes_left self.new + length bytes.now) }
-        ensures full { OnErr result ((content self.new ≡ content self.old) × (writes_left self.new ≡ writes_left self.old) × (bytes_left self.new ≡ bytes_left self.old)) }
+        ensures full { OnErr result ((content self.new ≡ content self.old)
+            × (writes_left self.new ≡ writes_left self.old) × (bytes_left self.new ≡ bytes_left self.old)) }
     {
         if !self.state.has_room(bytes.len()) {
             return Err(self.fail());
@@ -267,7 +271,8 @@ impl Device for MemDevice {
         ensures durable { Only (content self.old) (MayLeave self.new) }
         ensures seen { content self.new ≡ content self.old }
         ensures crash { (c : List ℕ) → MayLeave self.new c → MayLeave self.old c }
-        ensures time { Elapses (moment_of self.old) (moment_of self.new) (left_by self.old) (left_by self.new) (MayLeave self.new) }
+        ensures time { Elapses (moment_of self.old) (moment_of self.new) (left_by self.old) (left_by self.new)
+            (MayLeave self.new) }
         ensures succeeds { IsOk result }
         ensures quiet { failures_of self.new ≡ failures_of self.old }
         ensures writes { writes_left self.new ≡ writes_room self.old }

@@ -6,3 +6,4 @@ pub mod Rows
 pub mod SlotLaws
 pub mod RuleLaws
 pub mod Redone
+pub mod TextLengths

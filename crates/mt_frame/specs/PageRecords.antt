@@ -1,5 +1,5 @@
 -- The records of a change of one page, and what they make of its bytes.
-use Rattle.std.specs.Prelude.{◌≡◌, ℕ, List, [], ◌∷◌, length, Option, None, ◌==◌, if◌then◌else◌}
+use Rattle.std.specs.Prelude.{ℕ, List, [], ◌∷◌, length, Option, None, ◌==◌, if◌then◌else◌}
 use Rattle.mt_base.specs.Edits.{splice}
 use Rattle.mt_base.specs.Ranges.{part}
 use Rattle.mt_base.specs.declared.edits.Edit.{Edit}

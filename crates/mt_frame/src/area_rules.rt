@@ -26,7 +26,8 @@ pub struct AreaRules {
 
 // Puts an operation into a set of them.
 fn remember(set: &mut BTreeSet<(u64, u64)>, txn: u64, op: u64) -> Result<(), AllocError>
-    ensures { OnOk result ((t o : ℕ) → contains pair_cmp set.new (t, o) ≡ (contains pair_cmp set.old (t, o) || ((txn == t) && (op == o)))) }
+    ensures { OnOk result ((t o : ℕ) → contains pair_cmp set.new (t, o) ≡
+        (contains pair_cmp set.old (t, o) || ((txn == t) && (op == o)))) }
 {
     match set.insert((txn, op)) {
         Ok(_) => Ok(()),
@@ -35,7 +36,8 @@ fn remember(set: &mut BTreeSet<(u64, u64)>, txn: u64, op: u64) -> Result<(), All
 }
 
 fn note_end(set: &mut BTreeSet<u64>, entry: &Record) -> Result<(), AllocError>
-    ensures { OnOk result ((t : ℕ) → contains nat_cmp set.new t ≡ (contains nat_cmp set.old t || ends_txn t entry.now)) }
+    ensures { OnOk result ((t : ℕ) → contains nat_cmp set.new t ≡
+        (contains nat_cmp set.old t || ends_txn t entry.now)) }
 {
     match entry {
         Record::Commit { txn } => match set.insert(txn.get()) {
@@ -51,7 +53,8 @@ fn note_end(set: &mut BTreeSet<u64>, entry: &Record) -> Result<(), AllocError>
 }
 
 fn note_page(set: &mut BTreeSet<u16>, entry: &Record) -> Result<(), AllocError>
-    ensures { OnOk result ((p : ℕ) → contains nat_cmp set.new p ≡ (contains nat_cmp set.old p || is_of_page p entry.now)) }
+    ensures { OnOk result ((p : ℕ) → contains nat_cmp set.new p ≡
+        (contains nat_cmp set.old p || is_of_page p entry.now)) }
 {
     match entry {
         Record::Page { page, .. } => match set.insert(page.get()) {
@@ -63,7 +66,8 @@ fn note_page(set: &mut BTreeSet<u16>, entry: &Record) -> Result<(), AllocError>
 }
 
 fn note_op_end(set: &mut BTreeSet<(u64, u64)>, entry: &Record) -> Result<(), AllocError>
-    ensures { OnOk result ((t o : ℕ) → contains pair_cmp set.new (t, o) ≡ (contains pair_cmp set.old (t, o) || ends_op t o entry.now)) }
+    ensures { OnOk result ((t o : ℕ) → contains pair_cmp set.new (t, o) ≡
+        (contains pair_cmp set.old (t, o) || ends_op t o entry.now)) }
 {
     match entry {
         Record::OpEnd { txn, op, .. } => remember(set, txn.get(), op.get()),
@@ -73,7 +77,8 @@ fn note_op_end(set: &mut BTreeSet<(u64, u64)>, entry: &Record) -> Result<(), All
 }
 
 fn note_finish(set: &mut BTreeSet<(u64, u64)>, entry: &Record) -> Result<(), AllocError>
-    ensures { OnOk result ((t o : ℕ) → contains pair_cmp set.new (t, o) ≡ (contains pair_cmp set.old (t, o) || finishes t o entry.now)) }
+    ensures { OnOk result ((t o : ℕ) → contains pair_cmp set.new (t, o) ≡
+        (contains pair_cmp set.old (t, o) || finishes t o entry.now)) }
 {
     match entry {
         Record::OpEnd {
@@ -92,7 +97,8 @@ fn note_finish(set: &mut BTreeSet<(u64, u64)>, entry: &Record) -> Result<(), All
 }
 
 fn note_undoing(set: &mut BTreeSet<(u64, u64)>, entry: &Record) -> Result<(), AllocError>
-    ensures { OnOk result ((t o : ℕ) → contains pair_cmp set.new (t, o) ≡ (contains pair_cmp set.old (t, o) || undoes_op t o entry.now)) }
+    ensures { OnOk result ((t o : ℕ) → contains pair_cmp set.new (t, o) ≡
+        (contains pair_cmp set.old (t, o) || undoes_op t o entry.now)) }
 {
     match entry {
         Record::OpEnd { txn, undoes, .. } => {
@@ -180,7 +186,8 @@ impl AreaRules {
 
     // Takes the record to those that are known.
     fn note(&mut self, entry: &Record) -> Result<(), AllocError>
-        ensures { OnOk result ((earlier : List Record) → Knows self.old earlier → Knows self.new (earlier ++ entry.now ∷ [])) }
+        ensures { OnOk result ((earlier : List Record) → Knows self.old earlier
+            → Knows self.new (earlier ++ entry.now ∷ [])) }
     {
         note_end(&mut self.ended, entry)?;
         note_page(&mut self.imaged, entry)?;
@@ -194,9 +201,12 @@ impl AreaRules {
     /// then on. After `false` and after the only refusal, [`Refusal::NoMemory`], some of them may be
     /// known, so the rules are then to be let go.
     pub fn admit(&mut self, first: bool, records: &[Record]) -> Result<bool, Refusal>
-        ensures yes { IfOk result (λ ok. (earlier : List Record) → Knows self.old earlier → ok ≡ true → MayFollow first earlier records.now) }
-        ensures known { IfOk result (λ ok. (earlier : List Record) → Knows self.old earlier → ok ≡ true → Knows self.new (earlier ++ records.now)) }
-        ensures no { IfOk result (λ ok. (earlier : List Record) → Knows self.old earlier → ok ≡ false → MayFollow first earlier records.now → ⊥) }
+        ensures yes { IfOk result (λ ok. (earlier : List Record) → Knows self.old earlier → ok ≡ true
+            → MayFollow first earlier records.now) }
+        ensures known { IfOk result (λ ok. (earlier : List Record) → Knows self.old earlier → ok ≡ true
+            → Knows self.new (earlier ++ records.now)) }
+        ensures no { IfOk result (λ ok. (earlier : List Record) → Knows self.old earlier → ok ≡ false
+            → MayFollow first earlier records.now → ⊥) }
         ensures only_memory { IfErr result (λ refusal. refusal ≡ Refusal.NoMemory) }
     {
         for entry in records {

@@ -137,7 +137,13 @@ fn operation_of(alloc: Global, bytes: &[u8]) -> Result<(LoggedOp, &[u8]), ReadEr
 // Whether the numbers go together: of transaction 0 they tell an image alone, of any other a range
 // within the page.
 fn is_page_head(head: &PageHead) -> bool
-    ensures { result ≡ is_head (head.now.txn, (head.now.op, (head.now.page, (head.now.has_image, (head.now.start, head.now.length))))) }
+    ensures { result ≡ is_head (
+      head.now.txn,
+      (
+        head.now.op,
+        (head.now.page, (head.now.has_image, (head.now.start, head.now.length))),
+      ),
+    ) }
 {
     if head.txn == 0 {
         head.op == 0 && head.has_image && head.start == 0 && head.length == 0
@@ -158,7 +164,8 @@ fn flag_of(bytes: &[u8]) -> Result<(bool, &[u8]), ReadError>
 
 #[tactic(auto, unfolding(crate::specs::Readers::head_at))]
 fn head_of(bytes: &[u8]) -> Result<(PageHead, &[u8]), ReadError>
-    ensures { Gives (λ x. ((x.0.txn, (x.0.op, (x.0.page, (x.0.has_image, (x.0.start, x.0.length))))), x.1.now)) result (head_at bytes.now) }
+    ensures { Gives (λ x. ((x.0.txn, (x.0.op, (x.0.page, (x.0.has_image, (x.0.start, x.0.length))))), x.1.now)) result
+        (head_at bytes.now) }
 {
     let (txn, rest) = u64_within(bytes, 0, MAX_BEGUN)?;
     let (op, rest) = u64_within(rest, 0, u64::MAX)?;
@@ -367,7 +374,8 @@ pub fn decode_body(alloc: Global, bytes: &[u8]) -> Result<Option<Vec<Record>>, R
 /// where no front of them is an open batch. The only refusal is [`Refusal::NoMemory`].
 pub fn decode_batch(alloc: Global, bytes: &[u8]) -> Result<Option<(Vec<Record>, usize)>, Refusal>
     ensures found { IfOk result (λ o. IfSome o (λ batch. IsBatch bytes.now batch.0.items batch.1)) }
-    ensures none { IfOk result (λ o. IfNone o ((records : List Record) (size : ℕ) → IsBatch bytes.now records size → ⊥)) }
+    ensures none { IfOk result (λ o. IfNone o ((records : List Record) (size : ℕ) → IsBatch bytes.now records size
+        → ⊥)) }
     ensures only_memory { IfErr result (λ refusal. refusal ≡ Refusal.NoMemory) }
 {
     match batch_of(alloc, bytes) {

@@ -159,7 +159,9 @@ fn put_name(out: &mut Vec<u8>, txn: u64, op: u64)
 // What a page record tells of its range.
 fn put_place(out: &mut Vec<u8>, head: &PageHead)
     requires { vec_len out.old + 7 ≤ vec_capacity out.old }
-    ensures items { out.new.items ≡ out.old.items ++ (to_be_bytes w16 head.now.page ++ ((flag_number head.now.has_image ∷ []) ++ (to_be_bytes w16 head.now.start ++ to_be_bytes w16 head.now.length))) }
+    ensures items { out.new.items ≡ out.old.items ++ (to_be_bytes w16 head.now.page
+        ++ ((flag_number head.now.has_image ∷ []) ++ (to_be_bytes w16 head.now.start
+        ++ to_be_bytes w16 head.now.length))) }
     ensures len { vec_len out.new ≡ vec_len out.old + 7 }
     ensures capacity { vec_capacity out.old ≤ vec_capacity out.new }
 {
@@ -171,7 +173,8 @@ fn put_place(out: &mut Vec<u8>, head: &PageHead)
 
 fn put_head(out: &mut Vec<u8>, head: &PageHead)
     requires { vec_len out.old + 23 ≤ vec_capacity out.old }
-    ensures items { out.new.items ≡ out.old.items ++ head_text head.now.txn head.now.op head.now.page head.now.has_image head.now.start head.now.length }
+    ensures items { out.new.items ≡ out.old.items ++ head_text head.now.txn head.now.op head.now.page
+        head.now.has_image head.now.start head.now.length }
     ensures len { vec_len out.new ≡ vec_len out.old + 23 }
     ensures capacity { vec_capacity out.old ≤ vec_capacity out.new }
 {

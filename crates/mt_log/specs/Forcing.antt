@@ -1,5 +1,5 @@
 -- What one device call of a batch's force does to the log.
-use Rattle.std.specs.Prelude.{ℕ, ◌≡◌, List, [], ◌∷◌, ◌++◌, Result, Ok, Err}
+use Rattle.std.specs.Prelude.{ℕ, ◌≡◌, [], ◌∷◌, ◌++◌, Result, Ok, Err}
 use Rattle.mt_base.specs.declared.refusal.Refusal.{Refusal}
 use Rattle.mt_log.specs.Area.{step_behind}
 use Rattle.mt_log.specs.declared.stage.Step.{Step}

@@ -92,9 +92,12 @@ fn force_all<D: Device>(log: &mut Log, device: &mut D) -> Result<(), Refusal>
     ensures used { OnOk result (used log.new ≡ used log.old) }
     ensures calls { OnOk result (calls_left log.new ≡ 0) }
     ensures failed { OnOk result (has_failed log.new ≡ false) }
-    ensures moments { LeavesOnly D.moment D.left_since device.old device.new (TornFrom (D.may_leave device.old) (area_start log.old) (area_size log.old)) }
-    ensures scans { LeavesOnly D.moment D.left_since device.old device.new (ScansWithOrWithout (area_start log.old) (area_end log.old) (durable_batches log.old) (in_flight log.old)) }
-    ensures elsewhere { Follows (Torn (area_start log.old) (area_size log.old)) (D.may_leave device.old) (D.may_leave device.new) }
+    ensures moments { LeavesOnly D.moment D.left_since device.old device.new
+        (TornFrom (D.may_leave device.old) (area_start log.old) (area_size log.old)) }
+    ensures scans { LeavesOnly D.moment D.left_since device.old device.new
+        (ScansWithOrWithout (area_start log.old) (area_end log.old) (durable_batches log.old) (in_flight log.old)) }
+    ensures elsewhere { Follows (Torn (area_start log.old) (area_size log.old)) (D.may_leave device.old)
+        (D.may_leave device.new) }
     ensures rest { Torn (area_start log.old) (area_size log.old) (D.seen device.old) (D.seen device.new) }
     ensures cause { IsErr result → D.faults device.old < D.faults device.new }
     ensures only_device { IfErr result (λ why. why ≡ Refusal.DeviceFailed) }
@@ -124,12 +127,16 @@ pub fn begin_area<D: Device>(
     ensures calls { IfOk result (λ log. calls_left log ≡ 0) }
     ensures failed { IfOk result (λ log. has_failed log ≡ false) }
     ensures sound { IfOk result (λ log. (pages : ℕ) → IsSound pages log) }
-    ensures begins { LeavesOnly D.moment D.left_since device.old device.new (AreaBegins (D.may_leave device.old) place.start place.end []) }
+    ensures begins { LeavesOnly D.moment D.left_since device.old device.new
+        (AreaBegins (D.may_leave device.old) place.start place.end []) }
     ensures begun { OnOk result ((c : List ℕ) → D.may_leave device.new c → Scans c place.start place.end ([] ∷ [])) }
-    ensures moments { LeavesOnly D.moment D.left_since device.old device.new (TornFrom (D.may_leave device.old) place.start (place.end - place.start)) }
-    ensures elsewhere { Follows (Torn place.start (place.end - place.start)) (D.may_leave device.old) (D.may_leave device.new) }
+    ensures moments { LeavesOnly D.moment D.left_since device.old device.new
+        (TornFrom (D.may_leave device.old) place.start (place.end - place.start)) }
+    ensures elsewhere { Follows (Torn place.start (place.end - place.start)) (D.may_leave device.old)
+        (D.may_leave device.new) }
     ensures rest { Torn place.start (place.end - place.start) (D.seen device.old) (D.seen device.new) }
-    ensures cause { IfErr result (λ why. (why ≡ Refusal.NoMemory) ⊎ (why ≡ Refusal.DeviceFailed) × (D.faults device.old < D.faults device.new)) }
+    ensures cause { IfErr result (λ why. (why ≡ Refusal.NoMemory) ⊎ (why ≡ Refusal.DeviceFailed)
+        × (D.faults device.old < D.faults device.new)) }
 {
     begin_area_with(alloc, device, place, &[])
 }
@@ -161,14 +168,20 @@ pub fn begin_area_with<D: Device>(
     ensures used { IfOk result (λ log. used log ≡ 5 + length (body_text images.now)) }
     ensures calls { IfOk result (λ log. calls_left log ≡ 0) }
     ensures failed { IfOk result (λ log. has_failed log ≡ false) }
-    ensures sound { IfOk result (λ log. (pages : ℕ) → AreRecords pages images.now → MayFollow true [] images.now → IsSound pages log) }
+    ensures sound { IfOk result (λ log. (pages : ℕ) → AreRecords pages images.now → MayFollow true [] images.now
+        → IsSound pages log) }
     // Whenever a crash comes in this call, and what it leaves once the call has gone well.
-    ensures begins { LeavesOnly D.moment D.left_since device.old device.new (AreaBegins (D.may_leave device.old) place.start place.end images.now) }
-    ensures begun { OnOk result ((c : List ℕ) → D.may_leave device.new c → Scans c place.start place.end (images.now ∷ [])) }
-    ensures moments { LeavesOnly D.moment D.left_since device.old device.new (TornFrom (D.may_leave device.old) place.start (place.end - place.start)) }
-    ensures elsewhere { Follows (Torn place.start (place.end - place.start)) (D.may_leave device.old) (D.may_leave device.new) }
+    ensures begins { LeavesOnly D.moment D.left_since device.old device.new
+        (AreaBegins (D.may_leave device.old) place.start place.end images.now) }
+    ensures begun { OnOk result ((c : List ℕ) → D.may_leave device.new c
+        → Scans c place.start place.end (images.now ∷ [])) }
+    ensures moments { LeavesOnly D.moment D.left_since device.old device.new
+        (TornFrom (D.may_leave device.old) place.start (place.end - place.start)) }
+    ensures elsewhere { Follows (Torn place.start (place.end - place.start)) (D.may_leave device.old)
+        (D.may_leave device.new) }
     ensures rest { Torn place.start (place.end - place.start) (D.seen device.old) (D.seen device.new) }
-    ensures cause { IfErr result (λ why. (why ≡ Refusal.NoMemory) ⊎ (why ≡ Refusal.DeviceFailed) × (D.faults device.old < D.faults device.new)) }
+    ensures cause { IfErr result (λ why. (why ≡ Refusal.NoMemory) ⊎ (why ≡ Refusal.DeviceFailed)
+        × (D.faults device.old < D.faults device.new)) }
 {
     let mut log = before_first(alloc, place, images)?;
     close_gate(device, place.start)?;

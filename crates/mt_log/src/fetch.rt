@@ -41,7 +41,8 @@ pub(crate) fn body_length<D: Device>(
     requires within { end ≤ length (D.seen device.old) }
     ensures head { IfOk result (λ o. IfSome o (λ n. Has (D.seen device.old) (at + 1) (to_be_bytes w32 n))) }
     ensures fits { IfOk result (λ o. IfSome o (λ n. at + 5 + n < end)) }
-    ensures none { IfOk result (λ o. IfNone o ((n : ℕ) → n < 2 ^ 32 → Has (D.seen device.old) (at + 1) (to_be_bytes w32 n) → end ≤ at + 5 + n)) }
+    ensures none { IfOk result (λ o. IfNone o ((n : ℕ) → n < 2 ^ 32
+        → Has (D.seen device.old) (at + 1) (to_be_bytes w32 n) → end ≤ at + 5 + n)) }
     ensures reads { OnlyReads D.seen D.may_leave D.moment D.left_since device.old device.new }
     ensures cause { HasCause (D.faults device.old) (D.faults device.new) result }
 {
@@ -69,7 +70,8 @@ pub(crate) fn read_into<D: Device>(
     ensures size { OnOk result (vec_len buffer.new ≡ size) }
     ensures reads { OnlyReads D.seen D.may_leave D.moment D.left_since device.old device.new }
     ensures quiet { IsOk result → D.faults device.new ≡ D.faults device.old }
-    ensures cause { IfErr result (λ why. (why ≡ Refusal.NoMemory) ⊎ (why ≡ Refusal.DeviceFailed) × (D.faults device.old < D.faults device.new)) }
+    ensures cause { IfErr result (λ why. (why ≡ Refusal.NoMemory) ⊎ (why ≡ Refusal.DeviceFailed)
+        × (D.faults device.old < D.faults device.new)) }
 {
     buffer.clear();
     buffer.reserve_exact(size)?;

@@ -21,7 +21,8 @@ pub(crate) fn close_text(text: &mut Vec<u8>)
     requires head { 4 ≤ vec_len text.old }
     requires short { vec_len text.old < 2 ^ 32 }
     requires gate_room { vec_len text.old < vec_capacity text.old }
-    ensures items { text.new.items ≡ (to_be_bytes w32 (length (drop 4 text.old.items)) ++ drop 4 text.old.items) ++ 0 ∷ [] }
+    ensures items { text.new.items ≡ (to_be_bytes w32 (length (drop 4 text.old.items)) ++ drop 4 text.old.items)
+        ++ 0 ∷ [] }
     ensures capacity { vec_capacity text.old ≤ vec_capacity text.new }
 {
     let length = (text.len() - 4) as u32;
@@ -64,11 +65,18 @@ impl Log {
     fn call<D: Device>(&self, device: &mut D, step: Step) -> Result<(), DeviceFault>
         requires on { AreaOf (D.seen device.old) (D.may_leave device.old) self.now }
         requires stage { self.now.stage ≡ Forcing step }
-        ensures done { OnOk result (AreaAfter step (D.seen device.new) (D.may_leave device.new) self.now.place.start self.now.place.end self.now.next (map (λ batch. batch.items) self.now.batches.items) self.now.in_flight.items) }
-        ensures failed { OnErr result (Area (D.seen device.new) (D.may_leave device.new) self.now.place.start self.now.place.end self.now.next (map (λ batch. batch.items) self.now.batches.items) self.now.in_flight.items Failed) }
-        ensures time { Elapses (D.moment device.old) (D.moment device.new) (D.left_since device.old) (D.left_since device.new) (D.may_leave device.new) }
-        ensures elsewhere { Follows (Torn self.now.place.start (self.now.place.end - self.now.place.start)) (D.may_leave device.old) (D.may_leave device.new) }
-        ensures rest { Torn self.now.place.start (self.now.place.end - self.now.place.start) (D.seen device.old) (D.seen device.new) }
+        ensures done { OnOk result (AreaAfter step (D.seen device.new)
+            (D.may_leave device.new) self.now.place.start self.now.place.end self.now.next
+            (map (λ batch. batch.items) self.now.batches.items) self.now.in_flight.items) }
+        ensures failed { OnErr result (Area (D.seen device.new)
+            (D.may_leave device.new) self.now.place.start self.now.place.end self.now.next
+            (map (λ batch. batch.items) self.now.batches.items) self.now.in_flight.items Failed) }
+        ensures time { Elapses (D.moment device.old) (D.moment device.new) (D.left_since device.old)
+            (D.left_since device.new) (D.may_leave device.new) }
+        ensures elsewhere { Follows (Torn self.now.place.start (self.now.place.end - self.now.place.start))
+            (D.may_leave device.old) (D.may_leave device.new) }
+        ensures rest { Torn self.now.place.start (self.now.place.end - self.now.place.start) (D.seen device.old)
+            (D.seen device.new) }
         ensures cause { HasCause (D.faults device.old) (D.faults device.new) result }
     {
         match step {
@@ -111,10 +119,15 @@ impl Log {
         requires stage { self.old.stage ≡ Forcing step }
         ensures on { AreaOf (D.seen device.new) (D.may_leave device.new) self.new }
         ensures call { IsCall self.old step result self.new }
-        ensures moments { LeavesOnly D.moment D.left_since device.old device.new (ScansWithOrWithout self.old.place.start self.old.place.end (map (λ batch. batch.items) self.old.batches.items) self.old.in_flight.items) }
-        ensures time { Elapses (D.moment device.old) (D.moment device.new) (D.left_since device.old) (D.left_since device.new) (D.may_leave device.new) }
-        ensures elsewhere { Follows (Torn self.old.place.start (self.old.place.end - self.old.place.start)) (D.may_leave device.old) (D.may_leave device.new) }
-        ensures rest { Torn self.old.place.start (self.old.place.end - self.old.place.start) (D.seen device.old) (D.seen device.new) }
+        ensures moments { LeavesOnly D.moment D.left_since device.old device.new
+            (ScansWithOrWithout self.old.place.start self.old.place.end
+            (map (λ batch. batch.items) self.old.batches.items) self.old.in_flight.items) }
+        ensures time { Elapses (D.moment device.old) (D.moment device.new) (D.left_since device.old)
+            (D.left_since device.new) (D.may_leave device.new) }
+        ensures elsewhere { Follows (Torn self.old.place.start (self.old.place.end - self.old.place.start))
+            (D.may_leave device.old) (D.may_leave device.new) }
+        ensures rest { Torn self.old.place.start (self.old.place.end - self.old.place.start) (D.seen device.old)
+            (D.seen device.new) }
         ensures cause { HasCause (D.faults device.old) (D.faults device.new) result }
     {
         let done = self.call(device, step);
@@ -134,7 +147,8 @@ impl Log {
         // Whenever a crash comes in this call, reading the area finds the durable batches, or these and
         // the one that is being forced.
         ensures moments { LeavesOnly D.moment D.left_since device.old device.new
-            (ScansWithOrWithout (area_start self.old) (area_end self.old) (durable_batches self.old) (coming self.old)) }
+            (ScansWithOrWithout (area_start self.old) (area_end self.old) (durable_batches self.old)
+            (coming self.old)) }
         ensures step { IfOk result (λ forced. IsStep self.old forced self.new) }
         ensures batches { IfOk result (λ forced. durable_batches self.new ≡ batches_after self.old forced) }
         ensures err_batches { OnErr result (durable_batches self.new ≡ durable_batches self.old) }
@@ -143,11 +157,13 @@ impl Log {
         // Only the first call of a force changes the bytes in use.
         ensures used_less { 0 < calls_left self.old → used self.new ≡ used self.old }
         // That call puts the records that wait under one head of 5 bytes; each was counted with one of its own.
-        ensures used_shared { calls_left self.old ≡ 0 → has_failed self.old ≡ false → 0 < length (waiting self.old) → used self.new + 5 * length (waiting self.old) ≡ used self.old + 5 }
+        ensures used_shared { calls_left self.old ≡ 0 → has_failed self.old ≡ false → 0 < length (waiting self.old)
+            → used self.new + 5 * length (waiting self.old) ≡ used self.old + 5 }
         ensures moves { Moves self.old self.new }
         // While the appended records break no rule: whenever a crash comes in this call, the area holds
         // batches whose records are a beginning of them with all durable ones. `scan` finds just those.
-        ensures holds { (pages : ℕ) → IsSound pages self.old → LeavesOnly D.moment D.left_since device.old device.new (HoldsBeginning pages self.old) }
+        ensures holds { (pages : ℕ) → IsSound pages self.old
+            → LeavesOnly D.moment D.left_since device.old device.new (HoldsBeginning pages self.old) }
         ensures sound { (pages : ℕ) → IsSound pages self.old → IsSound pages self.new }
         ensures start { area_start self.new ≡ area_start self.old }
         ensures end { area_end self.new ≡ area_end self.old }
@@ -160,8 +176,10 @@ impl Log {
         ensures only_device { IfErr result (λ why. why ≡ Refusal.DeviceFailed) }
         ensures err_durable { OnErr result (durable self.new ≡ durable self.old) }
         // At most one device call, within the area, for what others keep on the device.
-        ensures time { Elapses (D.moment device.old) (D.moment device.new) (D.left_since device.old) (D.left_since device.new) (D.may_leave device.new) }
-        ensures elsewhere { Follows (Torn (area_start self.old) (area_size self.old)) (D.may_leave device.old) (D.may_leave device.new) }
+        ensures time { Elapses (D.moment device.old) (D.moment device.new) (D.left_since device.old)
+            (D.left_since device.new) (D.may_leave device.new) }
+        ensures elsewhere { Follows (Torn (area_start self.old) (area_size self.old)) (D.may_leave device.old)
+            (D.may_leave device.new) }
         ensures rest { Torn (area_start self.old) (area_size self.old) (D.seen device.old) (D.seen device.new) }
     {
         match self.stage {

@@ -100,7 +100,8 @@ impl Log {
         ensures size { IfOk result (λ log. area_size log ≡ place.end - place.start) }
         ensures calls { IfOk result (λ log. calls_left log ≡ 0) }
         ensures failed { IfOk result (λ log. has_failed log ≡ false) }
-        ensures stands { IfOk result (λ log. stands_at log ≡ (place.start, place.end, place.start + 5, [] ∷ [], [], Idle)) }
+        ensures stands { IfOk result (λ log. stands_at log ≡
+            (place.start, place.end, place.start + 5, [] ∷ [], [], Idle)) }
         ensures sound { IfOk result (λ log. (pages : ℕ) → IsSound pages log) }
         ensures only_memory { IfErr result (λ why. why ≡ Refusal.NoMemory) }
     {
@@ -186,7 +187,8 @@ impl Log {
         ensures failed { has_failed self.new ≡ has_failed self.old }
         ensures stands { stands_at self.new ≡ stands_at self.old }
         // A record that may stand behind the others leaves a log whose records break no rule one.
-        ensures sound { (pages : ℕ) → IsSound pages self.old → HasItsPage pages entry → may_stand false (appended self.old) entry ≡ true → IsSound pages self.new }
+        ensures sound { (pages : ℕ) → IsSound pages self.old → HasItsPage pages entry
+            → may_stand false (appended self.old) entry ≡ true → IsSound pages self.new }
         ensures room { 0 < record_length entry → record_length entry ≤ room self.old → IsOk result }
         ensures room_left { room self.old ≤ room self.new + record_length entry }
         ensures err_waiting { OnErr result (waiting self.new ≡ waiting self.old) }

@@ -67,9 +67,12 @@ fn admitted(
 ) -> Result<Option<Vec<Record>>, Refusal>
     ensures row { IfOk result (λ o. IfSome o (λ records. IsBody body.now records.items)) }
     ensures each { IfOk result (λ o. IfSome o (λ records. AreRecords pages records.items)) }
-    ensures may { IfOk result (λ o. IfSome o (λ records. (earlier : List Record) → Knows rules.old earlier → MayFollow first earlier records.items)) }
-    ensures known { IfOk result (λ o. IfSome o (λ records. (earlier : List Record) → Knows rules.old earlier → Knows rules.new (earlier ++ records.items))) }
-    ensures none { IfOk result (λ o. IfNone o ((records earlier : List Record) → Knows rules.old earlier → IsBody body.now records → AreRecords pages records → MayFollow first earlier records → ⊥)) }
+    ensures may { IfOk result (λ o. IfSome o (λ records. (earlier : List Record) → Knows rules.old earlier
+        → MayFollow first earlier records.items)) }
+    ensures known { IfOk result (λ o. IfSome o (λ records. (earlier : List Record) → Knows rules.old earlier
+        → Knows rules.new (earlier ++ records.items))) }
+    ensures none { IfOk result (λ o. IfNone o ((records earlier : List Record) → Knows rules.old earlier
+        → IsBody body.now records → AreRecords pages records → MayFollow first earlier records → ⊥)) }
     ensures only_memory { IfErr result (λ why. why ≡ Refusal.NoMemory) }
 {
     let Some(records) = decode_body(alloc, body)? else {
@@ -117,8 +120,11 @@ impl Reading {
         ensures pages { self.new.pages ≡ self.old.pages }
         ensures more { result ≡ Ok true → self.old.next < self.new.next }
         ensures ended { result ≡ Ok false → slice_index (D.seen device.old) self.new.next ≢ 165 }
-        ensures bad { IfErr result (λ why. (at : ℕ) → why ≡ Refusal.BadFormat at → BreaksAt (D.seen device.old) self.old.place.start self.old.place.end self.old.pages at) }
-        ensures cause { IfErr result (λ why. (why ≡ Refusal.NoMemory) ⊎ (((why ≡ Refusal.DeviceFailed) × (D.faults device.old < D.faults device.new)) ⊎ ((at : ℕ) × (why ≡ Refusal.BadFormat at)))) }
+        ensures bad { IfErr result (λ why. (at : ℕ) → why ≡ Refusal.BadFormat at
+            → BreaksAt (D.seen device.old) self.old.place.start self.old.place.end self.old.pages at) }
+        ensures cause { IfErr result (λ why. (why ≡ Refusal.NoMemory)
+            ⊎ (((why ≡ Refusal.DeviceFailed) × (D.faults device.old < D.faults device.new))
+            ⊎ ((at : ℕ) × (why ≡ Refusal.BadFormat at)))) }
         ensures reads { OnlyReads D.seen D.may_leave D.moment D.left_since device.old device.new }
         ensures quiet { IsOk result → D.faults device.new ≡ D.faults device.old }
     {

@@ -31,19 +31,30 @@ pub fn scan<D: Device>(
     pages: u16,
 ) -> Result<Vec<Batch>, Refusal>
     requires { place.end ≤ length (D.seen device.old) }
-    ensures found { IfOk result (λ batches. HoldsBatches (D.seen device.old) place.start place.end pages (records_of batches.items)) }
-    ensures places { IfOk result (λ batches. places_of batches.items ≡ places_from place.start (records_of batches.items)) }
-    ensures bad { IfErr result (λ why. (at : ℕ) → why ≡ Refusal.BadFormat at → BreaksAt (D.seen device.old) place.start place.end pages at) }
+    ensures found { IfOk result (λ batches. HoldsBatches (D.seen device.old) place.start place.end pages
+        (records_of batches.items)) }
+    ensures places { IfOk result (λ batches. places_of batches.items ≡ places_from place.start
+        (records_of batches.items)) }
+    ensures bad { IfErr result (λ why. (at : ℕ) → why ≡ Refusal.BadFormat at
+        → BreaksAt (D.seen device.old) place.start place.end pages at) }
     // An area that holds batches is never refused as one that breaks the grammar, and no others are found.
-    ensures only { (batches : List (List Record)) → HoldsBatches (D.seen device.old) place.start place.end pages batches → IfOk result (λ found. records_of found.items ≡ batches) }
-    ensures no_other_refusal { (batches : List (List Record)) → HoldsBatches (D.seen device.old) place.start place.end pages batches → IfErr result (λ why. (why ≡ Refusal.NoMemory) ⊎ (why ≡ Refusal.DeviceFailed)) }
+    ensures only { (batches : List (List Record)) → HoldsBatches
+        (D.seen device.old) place.start place.end pages batches
+        → IfOk result (λ found. records_of found.items ≡ batches) }
+    ensures no_other_refusal { (batches : List (List Record))
+        → HoldsBatches (D.seen device.old) place.start place.end pages batches
+        → IfErr result (λ why. (why ≡ Refusal.NoMemory) ⊎ (why ≡ Refusal.DeviceFailed)) }
     // So of what a crash left of a log whose records break no rule it finds a beginning of them with all durable ones.
-    ensures recovers { (log : Log) → area_start log ≡ place.start → area_end log ≡ place.end → HoldsBeginning pages log (D.seen device.old) → IfOk result (λ found. IsBeginning log (records_of found.items)) }
+    ensures recovers { (log : Log) → area_start log ≡ place.start → area_end log ≡ place.end
+        → HoldsBeginning pages log (D.seen device.old)
+        → IfOk result (λ found. IsBeginning log (records_of found.items)) }
     ensures seen { D.seen device.new ≡ D.seen device.old }
     ensures crash { (c : List ℕ) → D.may_leave device.new c → D.may_leave device.old c }
     ensures moments { LeavesOnly D.moment D.left_since device.old device.new (D.may_leave device.old) }
     ensures quiet { IsOk result → D.faults device.new ≡ D.faults device.old }
-    ensures cause { IfErr result (λ why. (why ≡ Refusal.NoMemory) ⊎ (((why ≡ Refusal.DeviceFailed) × (D.faults device.old < D.faults device.new)) ⊎ ((at : ℕ) × (why ≡ Refusal.BadFormat at)))) }
+    ensures cause { IfErr result (λ why. (why ≡ Refusal.NoMemory)
+        ⊎ (((why ≡ Refusal.DeviceFailed) × (D.faults device.old < D.faults device.new))
+        ⊎ ((at : ℕ) × (why ≡ Refusal.BadFormat at)))) }
 {
     let mut reading = Reading::new(alloc, place, pages);
     while reading.read_batch(alloc, device)? {}

@@ -22,11 +22,15 @@ impl Pool {
     fn pass(&mut self, from: usize, to: usize) -> Passed
         requires pool { IsPool self.old }
         requires inside { to ≤ frames self.old }
-        ensures unused { (f : ℕ) → result ≡ passed.Unused f → (f < frames self.old) × (get_or self.old.dirty.items f false ≡ false) }
-        ensures used { (f : ℕ) → result ≡ passed.Used f → (f < frames self.old) × (get_or self.old.dirty.items f false ≡ false) }
-        ensures none { result ≡ passed.Dirty → (f : ℕ) → from ≤ f → f < to → get_or self.old.dirty.items f false ≡ true }
+        ensures unused { (f : ℕ) → result ≡ passed.Unused f → (f < frames self.old)
+            × (get_or self.old.dirty.items f false ≡ false) }
+        ensures used { (f : ℕ) → result ≡ passed.Used f → (f < frames self.old)
+            × (get_or self.old.dirty.items f false ≡ false) }
+        ensures none { result ≡ passed.Dirty → (f : ℕ) → from ≤ f → f < to
+            → get_or self.old.dirty.items f false ≡ true }
         ensures still { result ≡ passed.Dirty → self.new ≡ self.old }
-        ensures rest { (u : _) × (h : ℕ) × (self.new ≡ record self.old { used = u; hand = h }) × (length u.items ≡ frames self.old) × (h ≤ frames self.old) }
+        ensures rest { (u : _) × (h : ℕ) × (self.new ≡ record self.old { used = u; hand = h })
+            × (length u.items ≡ frames self.old) × (h ≤ frames self.old) }
     {
         let mut clean = None;
         for frame in from..to {
@@ -51,7 +55,8 @@ impl Pool {
         requires pool { IsPool self.old }
         ensures some { IfSome result (λ f. (f < frames self.old) × (get_or self.old.dirty.items f false ≡ false)) }
         ensures none { result ≡ None → (IsFull self.old) × (self.new ≡ self.old) }
-        ensures rest { (u : _) × (h : ℕ) × (self.new ≡ record self.old { used = u; hand = h }) × (length u.items ≡ frames self.old) × (h ≤ frames self.old) }
+        ensures rest { (u : _) × (h : ℕ) × (self.new ≡ record self.old { used = u; hand = h })
+            × (length u.items ≡ frames self.old) × (h ≤ frames self.old) }
     {
         let start = self.hand;
         let end = self.dirty.len();

@@ -29,8 +29,11 @@ impl Pool {
         requires free { get_or self.old.holds.items frame None ≡ None }
         requires new { get_or self.old.of_page.items page None ≡ None }
         ensures pool { IsPool self.new }
-        ensures shows { (seen : List ℕ) → Shows self.old seen → get_or self.old.bytes.items frame [] ≡ slot self.old.place seen page → Shows self.new seen }
-        ensures views { (seen : List ℕ) → Shows self.old seen → get_or self.old.bytes.items frame [] ≡ slot self.old.place seen page → (q : ℕ) → view self.new seen q ≡ view self.old seen q }
+        ensures shows { (seen : List ℕ) → Shows self.old seen
+            → get_or self.old.bytes.items frame [] ≡ slot self.old.place seen page → Shows self.new seen }
+        ensures views { (seen : List ℕ) → Shows self.old seen
+            → get_or self.old.bytes.items frame [] ≡ slot self.old.place seen page → (q : ℕ)
+            → view self.new seen q ≡ view self.old seen q }
         ensures there { get_or self.new.of_page.items page None ≡ Some frame }
         ensures waits { self.new.waits ≡ self.old.waits }
         ensures pages { pages self.new ≡ pages self.old }
@@ -58,12 +61,14 @@ impl Pool {
         ensures flush { self.new.dirty ≡ self.old.dirty }
         ensures place { self.new.place ≡ self.old.place }
         ensures there { result ≡ Ok fetched.There → IsThere self.new page }
-        ensures full { result ≡ Ok fetched.Flush → (IsFull self.old) × (get_or self.old.of_page.items page None ≡ None) }
+        ensures full { result ≡ Ok fetched.Flush → (IsFull self.old)
+            × (get_or self.old.of_page.items page None ≡ None) }
         ensures nothing { result ≡ Ok fetched.Flush → (self.new ≡ self.old) × (device.new ≡ device.old) }
         ensures exact { IsFull self.old → get_or self.old.of_page.items page None ≡ None → result ≡ Ok fetched.Flush }
         ensures seen { D.seen device.new ≡ D.seen device.old }
         ensures crash { (c : List ℕ) → D.may_leave device.new c → D.may_leave device.old c }
-        ensures time { Elapses (D.moment device.old) (D.moment device.new) (D.left_since device.old) (D.left_since device.new) (D.may_leave device.new) }
+        ensures time { Elapses (D.moment device.old) (D.moment device.new) (D.left_since device.old)
+            (D.left_since device.new) (D.may_leave device.new) }
         ensures cause { HasCause (D.faults device.old) (D.faults device.new) result }
     {
         if let Some(frame) = self.frame_of(page) {

@@ -30,14 +30,12 @@ enum Found {
 impl Pool {
     ghost use Rattle.mt_pool.specs.Views.{IsPool, Shows, IsReady, IsWaiting, Cleans, view, pages, waits_for, to_flush};
     ghost use Rattle.mt_pool.specs.declared.flushing.Flushed.TheVariants as flushed;
-    ghost use Rattle.mt_pool.specs.declared.flushing.Found.TheVariants as found;
+    ghost use Rattle.mt_pool.specs.Finds.{IsFound};
 
     /// Looks for a page that may be written, where the area's first `durable` records are durable.
     fn find(&self, durable: u64) -> Found
         requires pool { IsPool self.now }
-        ensures ready { (f p : ℕ) → result ≡ found.Ready f p → IsReady self.now durable f p }
-        ensures waiting { result ≡ found.Waiting → IsWaiting self.now durable }
-        ensures nothing { result ≡ found.Nothing → (f : ℕ) → get_or self.now.dirty.items f false ≡ false }
+        ensures { IsFound self.now durable result }
     {
         let mut any = false;
         for frame in 0..self.dirty.len() {
@@ -71,9 +69,12 @@ impl Pool {
         ensures there { self.new.of_page ≡ self.old.of_page }
         ensures place { self.new.place ≡ self.old.place }
         // A page is written in place only after every record of its changes is durable.
-        ensures crash { (device.new ≡ device.old) ⊎ ((p : ℕ) × (p < pages self.old) × (0 < waits_for self.old p) × (waits_for self.old p ≤ durable)
-            × Torn (self.old.place + 4096 * p) 4096 (D.seen device.old) (D.seen device.new) × Follows (Torn (self.old.place + 4096 * p) 4096) (D.may_leave device.old) (D.may_leave device.new)) }
-        ensures time { Elapses (D.moment device.old) (D.moment device.new) (D.left_since device.old) (D.left_since device.new) (D.may_leave device.new) }
+        ensures crash { (device.new ≡ device.old) ⊎ ((p : ℕ) × (p < pages self.old) × (0 < waits_for self.old p)
+            × (waits_for self.old p ≤ durable)
+            × Torn (self.old.place + 4096 * p) 4096 (D.seen device.old) (D.seen device.new)
+            × Follows (Torn (self.old.place + 4096 * p) 4096) (D.may_leave device.old) (D.may_leave device.new)) }
+        ensures time { Elapses (D.moment device.old) (D.moment device.new) (D.left_since device.old)
+            (D.left_since device.new) (D.may_leave device.new) }
         ensures page { (p : ℕ) → result ≡ Ok (flushed.Page p) → Cleans self.old self.new durable p }
         ensures fewer { (p : ℕ) → result ≡ Ok (flushed.Page p) → to_flush self.new + 1 ≡ to_flush self.old }
         ensures forced { result ≡ Ok flushed.Force → IsWaiting self.old durable }

@@ -34,7 +34,8 @@ pub(crate) fn write_page<D: Device>(
     ensures written { OnOk result (Has (D.seen device.new) (place + 4096 * page) bytes.now) }
     ensures rest { Torn (place + 4096 * page) 4096 (D.seen device.old) (D.seen device.new) }
     ensures crash { Follows (Torn (place + 4096 * page) 4096) (D.may_leave device.old) (D.may_leave device.new) }
-    ensures time { Elapses (D.moment device.old) (D.moment device.new) (D.left_since device.old) (D.left_since device.new) (D.may_leave device.new) }
+    ensures time { Elapses (D.moment device.old) (D.moment device.new) (D.left_since device.old)
+        (D.left_since device.new) (D.may_leave device.new) }
     ensures cause { HasCause (D.faults device.old) (D.faults device.new) result }
 {
     device.write_at(slot_at(place, page), bytes)
@@ -53,7 +54,8 @@ pub(crate) fn read_page<D: Device>(
     ensures read { OnOk result (bytes.new ≡ slot place (D.seen device.old) page) }
     ensures seen { D.seen device.new ≡ D.seen device.old }
     ensures crash { (c : List ℕ) → D.may_leave device.new c → D.may_leave device.old c }
-    ensures time { Elapses (D.moment device.old) (D.moment device.new) (D.left_since device.old) (D.left_since device.new) (D.may_leave device.new) }
+    ensures time { Elapses (D.moment device.old) (D.moment device.new) (D.left_since device.old)
+        (D.left_since device.new) (D.may_leave device.new) }
     ensures cause { HasCause (D.faults device.old) (D.faults device.new) result }
 {
     device.read(slot_at(place, page), bytes)

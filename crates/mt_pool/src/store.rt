@@ -75,7 +75,8 @@ impl<D: Device> Store<D> {
         requires apart { place + 4096 * pages ≤ area.start }
         requires within { area.end ≤ length (D.seen device) }
         ensures kept { IfOk result (λ store. IsKept D.seen D.may_leave (slot place (D.seen device)) store) }
-        ensures views { IfOk result (λ store. (q : ℕ) → q < pages → view store.pool (D.seen store.device) q ≡ slot place (D.seen device) q) }
+        ensures views { IfOk result (λ store. (q : ℕ) → q < pages
+            → view store.pool (D.seen store.device) q ≡ slot place (D.seen device) q) }
         ensures appended { IfOk result (λ store. appended store.log ≡ []) }
         ensures used { IfOk result (λ store. used store.log ≡ 5) }
         ensures area { IfOk result (λ store. area_size store.log ≡ area.end - area.start) }
@@ -115,8 +116,10 @@ fn parts<D: Device>(
     requires within { area.end ≤ length (D.seen device.old) }
     ensures begun { IfOk result (λ parts. Begins D.seen D.may_leave place pages frames area device.old
         (record { device = device.new; log = parts.0; pool = parts.1; settled = 0 })) }
-    ensures cause { IfErr result (λ why. (why ≡ Refusal.NoMemory) ⊎ (why ≡ Refusal.DeviceFailed) × (D.faults device.old < D.faults device.new)) }
-    ensures moments { LeavesOnly D.moment D.left_since device.old device.new (TornFrom (D.may_leave device.old) area.start (area.end - area.start)) }
+    ensures cause { IfErr result (λ why. (why ≡ Refusal.NoMemory) ⊎ (why ≡ Refusal.DeviceFailed)
+        × (D.faults device.old < D.faults device.new)) }
+    ensures moments { LeavesOnly D.moment D.left_since device.old device.new
+        (TornFrom (D.may_leave device.old) area.start (area.end - area.start)) }
     ensures rest { Torn area.start (area.end - area.start) (D.seen device.old) (D.seen device.new) }
 {
     let pool = Pool::new(alloc, frames, pages, place)?;
@@ -139,21 +142,27 @@ impl<D: Device> Store<D> {
     /// is durable stays.
     pub fn force_step(&mut self) -> Result<Forced, Refusal>
         requires kept { (opening : ℕ → List ℕ) × IsKept D.seen D.may_leave opening self.old }
-        ensures kept { (opening : ℕ → List ℕ) → IsKept D.seen D.may_leave opening self.old → IsKept D.seen D.may_leave opening self.new }
-        ensures moments { (opening : ℕ → List ℕ) → IsKept D.seen D.may_leave opening self.old → LeavesOnly D.moment D.left_since self.old.device self.new.device (Explains opening self.old) }
-        ensures views { (q : ℕ) → q < pages self.old.pool → view self.new.pool (D.seen self.new.device) q ≡ view self.old.pool (D.seen self.old.device) q }
+        ensures kept { (opening : ℕ → List ℕ) → IsKept D.seen D.may_leave opening self.old
+            → IsKept D.seen D.may_leave opening self.new }
+        ensures moments { (opening : ℕ → List ℕ) → IsKept D.seen D.may_leave opening self.old
+            → LeavesOnly D.moment D.left_since self.old.device self.new.device (Explains opening self.old) }
+        ensures views { (q : ℕ) → q < pages self.old.pool
+            → view self.new.pool (D.seen self.new.device) q ≡ view self.old.pool (D.seen self.old.device) q }
         ensures pool { self.new.pool ≡ self.old.pool }
         ensures appended { appended self.new.log ≡ appended self.old.log }
         ensures step { IfOk result (λ forced. IsStep self.old.log forced self.new.log) }
         ensures moves { Moves self.old.log self.new.log }
         ensures used { used self.new.log ≤ used self.old.log }
         ensures used_less { 0 < calls_left self.old.log → used self.new.log ≡ used self.old.log }
-        ensures used_shared { calls_left self.old.log ≡ 0 → has_failed self.old.log ≡ false → 0 < length (waiting self.old.log) → used self.new.log + 5 * length (waiting self.old.log) ≡ used self.old.log + 5 }
+        ensures used_shared { calls_left self.old.log ≡ 0 → has_failed self.old.log ≡ false
+            → 0 < length (waiting self.old.log) → used self.new.log + 5 * length (waiting self.old.log)
+            ≡ used self.old.log + 5 }
         ensures area { area_size self.new.log ≡ area_size self.old.log }
         ensures failed { has_failed self.old.log ≡ true → IsErr result }
         ensures now_failed { IsErr result → has_failed self.new.log ≡ true }
         ensures well { IsOk result → has_failed self.new.log ≡ false }
-        ensures cause { IsErr result → (D.faults self.old.device < D.faults self.new.device ⊎ (has_failed self.old.log ≡ true)) }
+        ensures cause { IsErr result → (D.faults self.old.device < D.faults self.new.device
+            ⊎ (has_failed self.old.log ≡ true)) }
         ensures quiet { IsOk result → D.faults self.new.device ≡ D.faults self.old.device }
         // Idle tells that every record is durable.
         ensures idle { result ≡ Ok forced.Idle → length (durable self.old.log) ≡ length (appended self.old.log) }
@@ -171,14 +180,19 @@ impl<D: Device> Store<D> {
     /// may hold anything.
     pub fn flush_step(&mut self) -> Result<Flushed, DeviceFault>
         requires kept { (opening : ℕ → List ℕ) × IsKept D.seen D.may_leave opening self.old }
-        ensures kept { (opening : ℕ → List ℕ) → IsKept D.seen D.may_leave opening self.old → IsKept D.seen D.may_leave opening self.new }
-        ensures moments { (opening : ℕ → List ℕ) → IsKept D.seen D.may_leave opening self.old → LeavesOnly D.moment D.left_since self.old.device self.new.device (Explains opening self.old) }
-        ensures views { (q : ℕ) → view self.new.pool (D.seen self.new.device) q ≡ view self.old.pool (D.seen self.old.device) q }
+        ensures kept { (opening : ℕ → List ℕ) → IsKept D.seen D.may_leave opening self.old
+            → IsKept D.seen D.may_leave opening self.new }
+        ensures moments { (opening : ℕ → List ℕ) → IsKept D.seen D.may_leave opening self.old
+            → LeavesOnly D.moment D.left_since self.old.device self.new.device (Explains opening self.old) }
+        ensures views { (q : ℕ) → view self.new.pool (D.seen self.new.device) q ≡ view self.old.pool
+            (D.seen self.old.device) q }
         ensures log { self.new.log ≡ self.old.log }
         ensures waits { self.new.pool.waits ≡ self.old.pool.waits }
         ensures there { self.new.pool.of_page ≡ self.old.pool.of_page }
-        ensures page { (p : ℕ) → result ≡ Ok (flushed.Page p) → waits_for self.old.pool p ≤ length (durable self.old.log) }
-        ensures written { (p : ℕ) → result ≡ Ok (flushed.Page p) → Cleans self.old.pool self.new.pool (length (durable self.old.log)) p }
+        ensures page { (p : ℕ) → result ≡ Ok (flushed.Page p)
+            → waits_for self.old.pool p ≤ length (durable self.old.log) }
+        ensures written { (p : ℕ) → result ≡ Ok (flushed.Page p)
+            → Cleans self.old.pool self.new.pool (length (durable self.old.log)) p }
         ensures barred { result ≡ Ok flushed.Force → IsWaiting self.old.pool (length (durable self.old.log)) }
         ensures fewer { (p : ℕ) → result ≡ Ok (flushed.Page p) → to_flush self.new.pool + 1 ≡ to_flush self.old.pool }
         ensures waiting { result ≡ Ok flushed.Force → self.new ≡ self.old }
@@ -197,14 +211,18 @@ impl<D: Device> Store<D> {
     pub fn fetch(&mut self, page: PageNo) -> Result<Fetched, DeviceFault>
         requires kept { (opening : ℕ → List ℕ) × IsKept D.seen D.may_leave opening self.old }
         requires inside { page < pages self.old.pool }
-        ensures kept { (opening : ℕ → List ℕ) → IsKept D.seen D.may_leave opening self.old → IsKept D.seen D.may_leave opening self.new }
-        ensures moments { (opening : ℕ → List ℕ) → IsKept D.seen D.may_leave opening self.old → LeavesOnly D.moment D.left_since self.old.device self.new.device (Explains opening self.old) }
-        ensures views { (q : ℕ) → view self.new.pool (D.seen self.new.device) q ≡ view self.old.pool (D.seen self.old.device) q }
+        ensures kept { (opening : ℕ → List ℕ) → IsKept D.seen D.may_leave opening self.old
+            → IsKept D.seen D.may_leave opening self.new }
+        ensures moments { (opening : ℕ → List ℕ) → IsKept D.seen D.may_leave opening self.old
+            → LeavesOnly D.moment D.left_since self.old.device self.new.device (Explains opening self.old) }
+        ensures views { (q : ℕ) → view self.new.pool (D.seen self.new.device) q ≡ view self.old.pool
+            (D.seen self.old.device) q }
         ensures there { result ≡ Ok fetched.There → IsThere self.new.pool page }
         ensures full { result ≡ Ok fetched.Flush → IsFull self.old.pool }
         ensures missing { result ≡ Ok fetched.Flush → get_or self.old.pool.of_page.items page None ≡ None }
         ensures nothing { result ≡ Ok fetched.Flush → self.new ≡ self.old }
-        ensures exact { IsFull self.old.pool → get_or self.old.pool.of_page.items page None ≡ None → result ≡ Ok fetched.Flush }
+        ensures exact { IsFull self.old.pool → get_or self.old.pool.of_page.items page None ≡ None
+            → result ≡ Ok fetched.Flush }
         ensures log { self.new.log ≡ self.old.log }
         ensures pages { pages self.new.pool ≡ pages self.old.pool }
         ensures waits { self.new.pool.waits ≡ self.old.pool.waits }
@@ -220,9 +238,12 @@ impl<D: Device> Store<D> {
         requires inside { page < pages self.old.pool }
         requires range { start + length before.now ≤ 4096 }
         requires logged { 0 < waits_for self.old.pool page }
-        ensures kept { (opening : ℕ → List ℕ) → IsKept D.seen D.may_leave opening self.old → IsKept D.seen D.may_leave opening self.new }
-        ensures moments { (opening : ℕ → List ℕ) → IsKept D.seen D.may_leave opening self.old → LeavesOnly D.moment D.left_since self.old.device self.new.device (Explains opening self.old) }
-        ensures view { (seen : List ℕ) → view self.new.pool seen page ≡ take start (view self.old.pool seen page) ++ before.now ++ drop (start + length before.now) (view self.old.pool seen page) }
+        ensures kept { (opening : ℕ → List ℕ) → IsKept D.seen D.may_leave opening self.old
+            → IsKept D.seen D.may_leave opening self.new }
+        ensures moments { (opening : ℕ → List ℕ) → IsKept D.seen D.may_leave opening self.old
+            → LeavesOnly D.moment D.left_since self.old.device self.new.device (Explains opening self.old) }
+        ensures view { (seen : List ℕ) → view self.new.pool seen page ≡ take start (view self.old.pool seen page)
+            ++ before.now ++ drop (start + length before.now) (view self.old.pool seen page) }
         ensures others { (seen : List ℕ) (q : ℕ) → q ≢ page → view self.new.pool seen q ≡ view self.old.pool seen q }
         ensures there { self.new.pool.of_page ≡ self.old.pool.of_page }
         ensures waits { self.new.pool.waits ≡ self.old.pool.waits }
@@ -240,8 +261,10 @@ impl<D: Device> Store<D> {
         requires no_page { IsOfPage entry → ⊥ }
         requires rules { may_stand false (appended self.old.log) entry ≡ true }
         requires fits { used self.old.log + 5 + record_length entry < area_size self.old.log }
-        ensures kept { (opening : ℕ → List ℕ) → IsKept D.seen D.may_leave opening self.old → IsKept D.seen D.may_leave opening self.new }
-        ensures moments { (opening : ℕ → List ℕ) → IsKept D.seen D.may_leave opening self.old → LeavesOnly D.moment D.left_since self.old.device self.new.device (Explains opening self.old) }
+        ensures kept { (opening : ℕ → List ℕ) → IsKept D.seen D.may_leave opening self.old
+            → IsKept D.seen D.may_leave opening self.new }
+        ensures moments { (opening : ℕ → List ℕ) → IsKept D.seen D.may_leave opening self.old
+            → LeavesOnly D.moment D.left_since self.old.device self.new.device (Explains opening self.old) }
         ensures appended { OnOk result (appended self.new.log ≡ appended self.old.log ++ entry ∷ []) }
         ensures place { IfOk result (λ place. place ≡ length (appended self.new.log)) }
         ensures used { OnOk result (used self.new.log ≡ used self.old.log + 5 + record_length entry) }
@@ -274,18 +297,29 @@ impl<D: Device> Store<D> {
         requires numbers { IsTxn txn × IsOp op }
         requires unfinished { IsUnfinished txn op (appended self.old.log) }
         requires fits { used self.old.log + log_size change.now.edits.items + 4096 < area_size self.old.log }
-        ensures kept { (opening : ℕ → List ℕ) → IsKept D.seen D.may_leave opening self.old → IsKept D.seen D.may_leave opening self.new }
-        ensures moments { (opening : ℕ → List ℕ) → IsKept D.seen D.may_leave opening self.old → LeavesOnly D.moment D.left_since self.old.device self.new.device (Explains opening self.old) }
-        ensures view { OnOk result ((seen : List ℕ) → view self.new.pool seen change.now.page ≡ patched change.now.edits.items (view self.old.pool seen change.now.page)) }
-        ensures others { (seen : List ℕ) (q : ℕ) → q ≢ change.now.page → view self.new.pool seen q ≡ view self.old.pool seen q }
-        ensures appended { OnOk result (let page = view self.old.pool (D.seen self.old.device) change.now.page in appended self.new.log ≡ appended self.old.log
-            ++ change_records txn op change.now.page (due_image self.old.pool change.now.page page) page (patched change.now.edits.items page) change.now.edits.items) }
+        ensures kept { (opening : ℕ → List ℕ) → IsKept D.seen D.may_leave opening self.old
+            → IsKept D.seen D.may_leave opening self.new }
+        ensures moments { (opening : ℕ → List ℕ) → IsKept D.seen D.may_leave opening self.old
+            → LeavesOnly D.moment D.left_since self.old.device self.new.device (Explains opening self.old) }
+        ensures view { OnOk result ((seen : List ℕ)
+            → view self.new.pool seen change.now.page ≡ patched change.now.edits.items
+            (view self.old.pool seen change.now.page)) }
+        ensures others { (seen : List ℕ) (q : ℕ) → q ≢ change.now.page
+            → view self.new.pool seen q ≡ view self.old.pool seen q }
+        ensures appended { OnOk result (let page = view self.old.pool
+            (D.seen self.old.device) change.now.page in appended self.new.log ≡ appended self.old.log
+            ++ change_records txn op change.now.page (due_image self.old.pool change.now.page page) page
+            (patched change.now.edits.items page) change.now.edits.items) }
         // These records, made again over a page as it was, give it as it is.
         ensures redone { OnOk result ((seen : List ℕ) (q : ℕ) → let page = view self.old.pool seen change.now.page in
-            view self.new.pool seen q ≡ redone q (change_records txn op change.now.page (due_image self.old.pool change.now.page page) page (patched change.now.edits.items page) change.now.edits.items) (view self.old.pool seen q)) }
-        ensures waits { OnOk result (self.new.pool.waits.items ≡ set self.old.pool.waits.items change.now.page (length (appended self.new.log))) }
+            view self.new.pool seen q ≡ redone q (change_records txn op change.now.page
+            (due_image self.old.pool change.now.page page) page
+            (patched change.now.edits.items page) change.now.edits.items) (view self.old.pool seen q)) }
+        ensures waits { OnOk result (self.new.pool.waits.items ≡ set self.old.pool.waits.items change.now.page
+            (length (appended self.new.log))) }
         // These records end neither a transaction nor an operation.
-        ensures ends_none { (t o : ℕ) → IsUnfinished t o (appended self.old.log) → IsUnfinished t o (appended self.new.log) }
+        ensures ends_none { (t o : ℕ) → IsUnfinished t o (appended self.old.log)
+            → IsUnfinished t o (appended self.new.log) }
         ensures used { OnOk result (used self.new.log ≤ used self.old.log + log_size change.now.edits.items + 4096) }
         ensures err_appended { OnErr result (appended self.new.log ≡ appended self.old.log) }
         ensures err_used { OnErr result (used self.new.log ≡ used self.old.log) }
@@ -304,8 +338,10 @@ impl<D: Device> Store<D> {
     /// Makes all writes so far last, as [`Device::sync`] does. After an error a crash may leave no more than before.
     pub fn sync(&mut self) -> Result<(), DeviceFault>
         requires kept { (opening : ℕ → List ℕ) × IsKept D.seen D.may_leave opening self.old }
-        ensures kept { (opening : ℕ → List ℕ) → IsKept D.seen D.may_leave opening self.old → IsKept D.seen D.may_leave opening self.new }
-        ensures moments { (opening : ℕ → List ℕ) → IsKept D.seen D.may_leave opening self.old → LeavesOnly D.moment D.left_since self.old.device self.new.device (Explains opening self.old) }
+        ensures kept { (opening : ℕ → List ℕ) → IsKept D.seen D.may_leave opening self.old
+            → IsKept D.seen D.may_leave opening self.new }
+        ensures moments { (opening : ℕ → List ℕ) → IsKept D.seen D.may_leave opening self.old
+            → LeavesOnly D.moment D.left_since self.old.device self.new.device (Explains opening self.old) }
         ensures synced { OnOk result (Only (D.seen self.new.device) (D.may_leave self.new.device)) }
         ensures seen { D.seen self.new.device ≡ D.seen self.old.device }
         ensures log { self.new.log ≡ self.old.log }
@@ -321,18 +357,24 @@ impl<D: Device> Store<D> {
     /// failed in this call or in an earlier force.
     pub fn write_back_step(&mut self) -> Result<bool, Refusal>
         requires kept { (opening : ℕ → List ℕ) × IsKept D.seen D.may_leave opening self.old }
-        ensures kept { (opening : ℕ → List ℕ) → IsKept D.seen D.may_leave opening self.old → IsKept D.seen D.may_leave opening self.new }
-        ensures moments { (opening : ℕ → List ℕ) → IsKept D.seen D.may_leave opening self.old → LeavesOnly D.moment D.left_since self.old.device self.new.device (Explains opening self.old) }
-        ensures views { (q : ℕ) → q < pages self.old.pool → view self.new.pool (D.seen self.new.device) q ≡ view self.old.pool (D.seen self.old.device) q }
+        ensures kept { (opening : ℕ → List ℕ) → IsKept D.seen D.may_leave opening self.old
+            → IsKept D.seen D.may_leave opening self.new }
+        ensures moments { (opening : ℕ → List ℕ) → IsKept D.seen D.may_leave opening self.old
+            → LeavesOnly D.moment D.left_since self.old.device self.new.device (Explains opening self.old) }
+        ensures views { (q : ℕ) → q < pages self.old.pool
+            → view self.new.pool (D.seen self.new.device) q ≡ view self.old.pool (D.seen self.old.device) q }
         ensures there { self.new.pool.of_page ≡ self.old.pool.of_page }
         ensures waits { self.new.pool.waits ≡ self.old.pool.waits }
         ensures used { used self.new.log ≤ used self.old.log }
         ensures area { area_size self.new.log ≡ area_size self.old.log }
-        ensures done { result ≡ Ok false → (q : ℕ) → q < pages self.old.pool → slot self.new.pool.place (D.seen self.new.device) q ≡ view self.new.pool (D.seen self.new.device) q }
+        ensures done { result ≡ Ok false → (q : ℕ) → q < pages self.old.pool
+            → slot self.new.pool.place (D.seen self.new.device) q ≡ view self.new.pool (D.seen self.new.device) q }
         ensures more { result ≡ Ok true → (to_flush self.new.pool + 1 ≡ to_flush self.old.pool)
-            ⊎ ((length (durable self.old.log) < length (appended self.old.log)) × (forced : Forced) × IsStep self.old.log forced self.new.log) }
+            ⊎ ((length (durable self.old.log) < length (appended self.old.log)) × (forced : Forced)
+            × IsStep self.old.log forced self.new.log) }
         ensures appended { appended self.new.log ≡ appended self.old.log }
-        ensures cause { IsErr result → (D.faults self.old.device < D.faults self.new.device ⊎ (has_failed self.old.log ≡ true)) }
+        ensures cause { IsErr result → (D.faults self.old.device < D.faults self.new.device
+            ⊎ (has_failed self.old.log ≡ true)) }
         ensures quiet { IsOk result → D.faults self.new.device ≡ D.faults self.old.device }
         ensures only_device { IfErr result (λ why. why ≡ Refusal.DeviceFailed) }
     {

@@ -39,7 +39,8 @@ fn range_record(
     edit: &Edit,
 ) -> Result<Record, AllocError>
     requires { edit.now.start + length edit.now.bytes ≤ 4096 }
-    ensures { IfOk result (λ entry. entry ≡ range_record change.now.txn change.now.op change.now.page image old.now new.now edit.now) }
+    ensures { IfOk result (λ entry. entry ≡ range_record change.now.txn change.now.op change.now.page image old.now
+        new.now edit.now) }
 {
     let start = usize::from(edit.start);
     let bytes = edit.bytes.len();
@@ -64,7 +65,8 @@ pub(crate) fn records_of(
     edits: &[Edit],
 ) -> Result<VecDeque<Record>, AllocError>
     requires { All (λ e. e.start + length e.bytes ≤ 4096) edits.now }
-    ensures { IfOk result (λ records. records.items ≡ change_records change.now.txn change.now.op change.now.page image old.now new.now edits.now) }
+    ensures { IfOk result (λ records. records.items
+        ≡ change_records change.now.txn change.now.op change.now.page image old.now new.now edits.now) }
 {
     let mut image = image;
     let mut records = VecDeque::new(alloc);
@@ -106,8 +108,10 @@ impl Pool {
         requires inside { change.now.page < pages self.now }
         requires within { All (λ e. e.start + length e.bytes ≤ 4096) change.now.edits.items }
         ensures records { (seen : List ℕ) → IfOk result (λ records. let page = view self.now seen change.now.page in
-            records.items ≡ change_records txn op change.now.page (due_image self.now change.now.page page) page (patched change.now.edits.items page) change.now.edits.items) }
-        ensures size { (seen : List ℕ) → OnOk result (length (patched change.now.edits.items (view self.now seen change.now.page)) ≡ 4096) }
+            records.items ≡ change_records txn op change.now.page (due_image self.now change.now.page page) page
+            (patched change.now.edits.items page) change.now.edits.items) }
+        ensures size { (seen : List ℕ) → OnOk result
+            (length (patched change.now.edits.items (view self.now seen change.now.page)) ≡ 4096) }
     {
         let page = change.page;
         let old = self.view(page);
@@ -145,7 +149,8 @@ pub(crate) fn append_all(log: &mut Log, records: VecDeque<Record>) -> Result<Log
     ensures longer { OnOk result (IsLonger log.old log.new records.items) }
     ensures used { OnOk result (used log.new ≡ used log.old + records_size records.items) }
     ensures place { IfOk result (λ place. place ≡ length (appended log.new)) }
-    ensures sound { (pages : ℕ) → IsSound pages log.old → AllByRecursion (HasItsPage pages) records.items → MayFollow false (appended log.old) records.items → IsSound pages log.new }
+    ensures sound { (pages : ℕ) → IsSound pages log.old → AllByRecursion (HasItsPage pages) records.items
+        → MayFollow false (appended log.old) records.items → IsSound pages log.new }
     ensures err_longer { OnErr result (IsLonger log.old log.new []) }
     ensures err_used { OnErr result (used log.new ≡ used log.old) }
     ensures area { area_size log.new ≡ area_size log.old }

@@ -1,8 +1,8 @@
-use Rattle.std.proofs.Common.{◌≡◌, ◌∙◌, ◌+◌, ◌-◌, ◌≤◌, ◌++◌, ◌∷◌, [], inl, ℕ, List, refl, sym, ap, subst, arith}
-use Rattle.mt_disk.specs.Disk.{LeavesOnly, Torn, Follows}
-use Rattle.mt_disk.proofs.Frame.{started, leaves_more, torn_refl, torn_within, follows_within, follows_less}
+use Rattle.std.proofs.Common.{◌∙◌, ◌-◌, ◌++◌, ◌∷◌, [], inl, ℕ, List, refl, ap, subst, arith}
+use Rattle.mt_disk.specs.Disk.{LeavesOnly}
+use Rattle.mt_disk.proofs.Frame.{started, leaves_more, torn_refl, torn_within, follows_within}
 use Rattle.mt_frame.specs.declared.records.Record.{Record}
-use Rattle.mt_log.specs.Area.{TornFrom, AreaBegins}
+use Rattle.mt_log.specs.Area.{TornFrom}
 use Rattle.mt_log.specs.Batch.{Scans}
 use Rattle.mt_log.specs.Words.{area_start, area_end, area_size, durable_batches, in_flight, IsOn}
 use Rattle.mt_log.proofs.AtRest.{area_begins, scans_at_rest, size_of}

@@ -6,8 +6,8 @@ use Rattle.mt_log.specs.Batch.{Stands}
 use Rattle.mt_log.specs.declared.area.AreaPlace.{AreaPlace}
 use Rattle.mt_log.specs.declared.batch.Batch.{Batch}
 use Rattle.mt_log.specs.declared.reading.Reading.{Reading}
-use Rattle.mt_log.specs.Found.{records_of}
-use Rattle.mt_log.specs.Holds.{HoldsBatches, BreaksAt, AreBatches}
+use Rattle.mt_log.specs.Found.{records_of, places_of}
+use Rattle.mt_log.specs.Holds.{HoldsBatches, BreaksAt, AreBatches, places_from}
 use Rattle.mt_log.specs.Reading.{HasRead}
 use Rattle.mt_log.specs.Sound.{IsBeginning}
 use Rattle.mt_log.specs.Words.{area_start}
@@ -89,6 +89,26 @@ returns-then-is_empty-clause-no_other_refusal g c = λ batches holds.
     let zero_len : vec_len r.found ≡ 0 = eqb-true (vec_len r.found) 0 (sym c.is_empty.ensures ∙ c.if-is_empty.true) in
     absurd (holds_or_breaks seen place.start place.end c.args.pages place.start batches (small place) holds
     (none_read seen place c.args.pages r (e.place ∙ inv.place) (e.pages ∙ inv.pages) read shut (omega (arith, r.found.ok.0))))
+
+pub returns-clause-found : goal.returns-clause-found
+returns-clause-found g c =
+    let inv = c.loop-reading.invariant in
+    let e = c.in_ok-read_batch.ensures in
+    let seen = g.D.Device.seen c.args.device.now in
+    let place = c.args.place in
+    let r = c.read_batch.new.self in
+    let shut : get_or seen r.next 0 ≢ 165 = subst (λ (l : List ℕ). get_or l r.next 0 ≢ 165) inv.reads.same (e.ended (ap Ok c.if-branch.false)) in
+    let read = subst (λ (l : List ℕ). HasRead l r) inv.reads.same e.read in
+    let some : (length r.found.items ≡ 0 → ⊥) = some_found r.found c.is_empty.result c.is_empty.ensures c.if-is_empty.false in
+    all_read seen place c.args.pages r (e.place ∙ inv.place) (e.pages ∙ inv.pages) read shut some
+
+pub returns-clause-places : goal.returns-clause-places
+returns-clause-places g c =
+    let inv = c.loop-reading.invariant in
+    let e = c.in_ok-read_batch.ensures in
+    let r = c.read_batch.new.self in
+    let there : places_of r.found.items ≡ places_from r.place.start (records_of r.found.items) = e.read.places in
+    subst (λ (p : AreaPlace). places_of r.found.items ≡ places_from p.start (records_of r.found.items)) (e.place ∙ inv.place) there
 
 pub returns-clause-only : goal.returns-clause-only
 returns-clause-only g c = λ batches holds.

@@ -4,7 +4,6 @@ use Rattle.mt_disk.proofs.Frame.{follows_less, torn_refl}
 use Rattle.mt_frame.specs.declared.records.Record.{Record}
 use Rattle.mt_log.specs.Words.{in_flight, waiting}
 use Rattle.mt_log.proofs.Frames.{frame_none, frame_one, frame_then}
-use Rattle.mt_pool.specs.Begun.{Begins}
 use Rattle.mt_pool.specs.Images.{slot}
 use Rattle.mt_pool.specs.Views.{view}
 use Rattle.mt_pool.proofs.Safe.{cut_torn}

@@ -1,10 +1,10 @@
-use Rattle.std.proofs.Common.{◌≡◌, ◌+◌, ◌-◌, ◌*◌, ◌++◌, ◌∷◌, [], ℕ, List, map, length, ap, sym, ◌∙◌, refl, vec_len, append-nil, arith}
+use Rattle.std.proofs.Common.{◌≡◌, ◌++◌, ◌∷◌, [], List, map, length, ap, sym, ◌∙◌, refl, append-nil, arith}
 use Rattle.mt_disk.proofs.Frame.{started, leaves_more}
 use Rattle.mt_frame.specs.declared.records.Record.{Record}
 use Rattle.mt_log.specs.Area.{ScansWithOrWithout}
 use Rattle.mt_log.specs.Batch.{joined}
 use Rattle.mt_log.specs.Sound.{HoldsBeginning}
-use Rattle.mt_log.specs.Words.{durable_batches, durable, in_flight, waiting, area_start, area_end, used, coming, IsOn, batch_of}
+use Rattle.mt_log.specs.Words.{durable_batches, durable, in_flight, waiting, area_start, area_end, coming, IsOn, batch_of}
 use Rattle.mt_log.specs.declared.stage.Stage.{Stage}
 use Rattle.mt_log.specs.declared.stage.Step.TheVariants.{WriteBody}
 use Rattle.mt_log.proofs.Prefix.{beginning_found, beginning_at, sound_same, sound_moved}

@@ -1,4 +1,4 @@
-use Rattle.std.proofs.Common.{◌≡◌, ◌∙◌, ◌+◌, ◌∷◌, ℕ, List, length, take, drop, set, sym, ap, append_assoc}
+use Rattle.std.proofs.Common.{◌∙◌, ◌+◌, ◌∷◌, ℕ, List, length, take, drop, set, sym, ap, append_assoc}
 use Rattle.std.proofs.lemmas.List.{drop_more, set-set}
 use Rattle.mt_base.specs.Edits.{patched, splice}
 use Rattle.mt_base.specs.declared.edits.Edit.{Edit}

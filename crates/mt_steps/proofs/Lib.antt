@@ -16,3 +16,4 @@ mod Asking
 mod Promised
 mod Modest
 pub mod Formatting
+mod Telling

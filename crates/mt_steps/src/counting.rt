@@ -30,7 +30,7 @@ pub(crate) fn add_to<V: Pages>(
     requires good { (relations counters : ℕ) × (number < counters) × HasCounters (V.at_hand views.now) relations counters }
     requires step { IsStep step }
     requires inside { 2 < V.total views.now }
-    ensures lock { IfOk result (λ act. IfLock act (λ p mode. (V.at_hand views.now p ≡ None) × (p < V.total views.now))) }
+    ensures lock { IfOk result (λ act. IfLock act (λ p mode. (V.at_hand views.now p ≡ None) × (p ≡ 2))) }
     ensures mode { IfOk result (λ act. IfLock act (λ p mode. mode ≡ ToWrite)) }
     ensures made { (relations : ℕ) → IfOk result (λ act. IfMade act (λ changes reply.
         InGood (V.at_hand views.now) relations (V.total views.now) (λ pages m. (counters : ℕ) → number < counters → AreCounters relations counters (pages 2) →
@@ -60,7 +60,7 @@ pub(crate) fn read_from<V: Pages>(alloc: Global, views: &V, number: CtrNo) -> Ac
     requires sound { V.is_sound views.now }
     requires there { number < 128 }
     requires inside { 2 < V.total views.now }
-    ensures lock { IfLock result (λ p mode. (V.at_hand views.now p ≡ None) × (p < V.total views.now)) }
+    ensures lock { IfLock result (λ p mode. (V.at_hand views.now p ≡ None) × (p ≡ 2)) }
     ensures mode { IfLock result (λ p mode. mode ≡ ToRead) }
     ensures made { (relations : ℕ) → IfMade result (λ changes reply. InGood (V.at_hand views.now) relations (V.total views.now) (λ pages m. IsAct relations (V.total views.now) pages (after changes pages) (Read number) reply × AreShort changes pages)) }
     ensures quiet { IfMade result (λ changes reply. changes ≡ []) }

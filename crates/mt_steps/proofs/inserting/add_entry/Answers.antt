@@ -117,6 +117,6 @@ returns g c = λ value.
             modest = subst (λ (next : PageBytes). IsModest at_hand total (cond c.args.split 3 2) c.args.split pages next) (sym led.0)
                 (modest_more at_hand total _ (cond c.args.split 3 2) c.args.split pages last (insert_needs c.args.split)
                 (modest_trans at_hand total 1 (cond c.args.split 2 1) c.args.split pages mid last (placed_modest at_hand relations total c.args.split pages m first name _ rows c.requires.seen placed)
-                (added_modest at_hand c.args.split total e mid last (λ p free some. below_some copies at_hand p c.in_ok-draft.ensures.copies (seen p free some)) adds.added)));
+                (added_modest at_hand c.args.split total e mid last m between (λ p free some. below_some copies at_hand p c.in_ok-draft.ensures.copies (seen p free some)) adds.added)));
           };
     }) (λ no. absurd no)) c.join.ensures

@@ -17,3 +17,4 @@ mod Promised
 mod Modest
 pub mod Formatting
 mod Telling
+mod LoggedOps

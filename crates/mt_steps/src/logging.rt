@@ -15,6 +15,14 @@ pub fn logged(op: &Op, reply: &Reply) -> Result<Option<LoggedOp>, Refusal>
     ensures operation { (relations counters : ℕ) → relations ≤ 64 → counters ≤ 128 → IsWithin relations counters op.now → HasSmallReply reply.now → IfOk result (λ done. IfSome done IsOperation) }
     ensures only_memory { IfErr result (λ why. why ≡ Refusal.NoMemory) }
 {
+    told(op, reply)
+}
+
+// The same, by the operation and its reply.
+fn told(op: &Op, reply: &Reply) -> Result<Option<LoggedOp>, Refusal>
+    ensures logged { IfOk result (λ done. done ≡ logged_of op.now reply.now) }
+    ensures only_memory { IfErr result (λ why. why ≡ Refusal.NoMemory) }
+{
     match (op, reply) {
         (Op::Insert(relation, key, value), Reply::Done) => {
             let key = key.try_clone()?;

@@ -72,3 +72,6 @@ returns-clause-modest g c = λ relations pages agrees m rows.
     (subst (λ (f : PageBytes). HasNoRecord f q) (made ∙ ap (λ (n : ℕ). replaced n c.add.new.page pages) two) none))
     (ap (λ (f : PageBytes). f 0) made ∙ replaced_other p 0 c.add.new.page pages (λ e. let zero : 0 ≡ p = e in omega (arith, two, zero)))
     (ap (λ (f : PageBytes). f 1) made ∙ replaced_other p 1 c.add.new.page pages (λ e. let one : 1 ≡ p = e in omega (arith, two, one)))
+
+pub returns-in_default-clause-lock : goal.returns-in_default-clause-lock
+returns-in_default-clause-lock g c = (c.in_default.ensures.none, c.new-page.ensures)

@@ -33,8 +33,10 @@ pub(crate) fn drafted<'a, V: Pages>(
     requires short { (pages : PageBytes) × Agrees (V.at_hand views.now) pages × AreShort changes.now.list.items pages }
     ensures copies { IfOk result (λ d. AreCopies (V.at_hand views.now) d.copies.items) }
     ensures views { IfOk result (λ d. d.views.now ≡ views.now) }
-    ensures none { IfOk result (λ d. (p : ℕ) → shown d.copies.items (V.at_hand views.now) p ≡ None → V.at_hand views.now p ≡ None) }
-    ensures agrees { IfOk result (λ d. (pages : PageBytes) → Agrees (V.at_hand views.now) pages → Agrees (shown d.copies.items (V.at_hand views.now)) (after changes.now.list.items pages)) }
+    ensures none { IfOk result (λ d. (p : ℕ) → shown d.copies.items (V.at_hand views.now) p ≡ None →
+        V.at_hand views.now p ≡ None) }
+    ensures agrees { IfOk result (λ d. (pages : PageBytes) → Agrees (V.at_hand views.now) pages →
+        Agrees (shown d.copies.items (V.at_hand views.now)) (after changes.now.list.items pages)) }
 {
     let mut draft = Draft::new(alloc, views);
     draft.apply(changes)?;
@@ -52,8 +54,10 @@ pub(crate) fn join<V: Pages>(
     requires sound { V.is_sound views.now }
     requires there { AreAtHand (V.at_hand views.now) first.now.list.items }
     requires inside { (p : ℕ) → (IsUntouched second.now.list.items p → ⊥) → p < V.total views.now }
-    requires short { (pages : PageBytes) × Agrees (V.at_hand views.now) pages × AreShort first.now.list.items pages × AreShort second.now.list.items (after first.now.list.items pages) }
-    ensures { IfOk result (Tells (V.at_hand views.now) (V.total views.now) (IsJoined (V.at_hand views.now) first.now.list.items second.now.list.items reply) ⊥) }
+    requires short { (pages : PageBytes) × Agrees (V.at_hand views.now) pages × AreShort first.now.list.items pages ×
+        AreShort second.now.list.items (after first.now.list.items pages) }
+    ensures { IfOk result (Tells (V.at_hand views.now) (V.total views.now) (IsJoined
+        (V.at_hand views.now) first.now.list.items second.now.list.items reply) ⊥) }
 {
     if let Some(page) = first_missing(views, second) {
         return Ok(Act::Lock(page, Mode::Write));

@@ -20,9 +20,11 @@ pub fn push(page: &mut [u8], relation: RelNo, key: &[u8], name: RecordName) -> b
     requires relation_fits { relation < 256 }
     requires short { length key.now ≤ 64 }
     ensures head { KeepsHead page.old page.new }
-    ensures pushed { OnTrue result (entries page.new ≡ entries page.old ++ record { relation = relation; key = key.now; name = name } ∷ []) }
+    ensures pushed { OnTrue result
+        (entries page.new ≡ entries page.old ++ record { relation = relation; key = key.now; name = name } ∷ []) }
     ensures full { OnFalse result (count_of page.old ≡ 58) }
-    ensures kept { (relations pages : ℕ) → relation < relations → 1 ≤ length key.now → name.page < pages → IsBucket relations pages page.old → IsBucket relations pages page.new }
+    ensures kept { (relations pages : ℕ) → relation < relations → 1 ≤ length key.now → name.page < pages →
+        IsBucket relations pages page.old → IsBucket relations pages page.new }
     ensures unchanged { OnFalse result (page.new ≡ page.old) }
 {
     if count(page) == MAX_ENTRIES {
@@ -40,7 +42,8 @@ pub fn set(page: &mut [u8], relation: RelNo, key: &[u8], name: RecordName) -> bo
     ensures head { KeepsHead page.old page.new }
     ensures set { OnTrue result (entries page.new ≡ renamed relation key.now name (entries page.old)) }
     ensures found { OnTrue result (look relation key.now (entries page.new) ≡ Some name) }
-    ensures kept { (relations pages : ℕ) → name.page < pages → IsBucket relations pages page.old → IsBucket relations pages page.new }
+    ensures kept { (relations pages : ℕ) → name.page < pages → IsBucket relations pages page.old →
+        IsBucket relations pages page.new }
     ensures none { OnFalse result (look relation key.now (entries page.old) ≡ None) }
     ensures unchanged { OnFalse result (page.new ≡ page.old) }
 {
@@ -81,7 +84,8 @@ pub fn partition(page: &mut [u8], bit: u8, to: &mut [u8])
     ensures stay { entries page.new ≡ filter (λ e. not (goes_over bit e)) (entries page.old) }
     ensures go { entries to.new ≡ entries to.old ++ filter (goes_over bit) (entries page.old) }
     ensures kept { KeepsBucket page.old page.new }
-    ensures to_kept { (relations pages : ℕ) → IsBucket relations pages page.old → IsBucket relations pages to.old → IsBucket relations pages to.new }
+    ensures to_kept { (relations pages : ℕ) → IsBucket relations pages page.old → IsBucket relations pages to.old →
+        IsBucket relations pages to.new }
 {
     let mut copy = [0u8; PAGE_BYTES];
     copy.copy_from_slice(page);
@@ -144,7 +148,8 @@ fn cell_of(relation: RelNo, key: &[u8], name: RecordName) -> [u8; CELL_BYTES]
     requires relation_fits { relation < 256 }
     requires short { length key.now ≤ 64 }
     ensures entry { entry_of result ≡ record { relation = relation; key = key.now; name = name } }
-    ensures cell { (relations pages : ℕ) → relation < relations → 1 ≤ length key.now → name.page < pages → IsCell relations pages result 0 }
+    ensures cell { (relations pages : ℕ) → relation < relations → 1 ≤ length key.now → name.page < pages →
+        IsCell relations pages result 0 }
 {
     let mut bytes = [0u8; CELL_BYTES];
     put(&mut bytes, 0, &[relation.get() as u8, key.len() as u8]);

@@ -49,7 +49,8 @@ fn is_filled(page: &[u8], at: usize, key: usize) -> bool
     requires whole { length page.now ≡ 4096 }
     requires within { at + 64 ≤ 4096 }
     requires short { key ≤ 64 }
-    ensures { MatchBool result ((i : ℕ) → key ≤ i → i < 64 → get_or page.now (at + i) 0 ≡ 0) (((i : ℕ) → key ≤ i → i < 64 → get_or page.now (at + i) 0 ≡ 0) → ⊥) }
+    ensures { MatchBool result ((i : ℕ) → key ≤ i → i < 64 → get_or page.now (at + i) 0 ≡ 0) (((i : ℕ) → key ≤ i →
+        i < 64 → get_or page.now (at + i) 0 ≡ 0) → ⊥) }
 {
     for i in key..MAX_KEY_BYTES {
         if page[at + i] != 0 {

@@ -35,7 +35,8 @@ pub fn entry(page: &[u8], i: usize) -> EntryView<'_>
     requires whole { length page.now ≡ 4096 }
     requires there { i < count_of page.now }
     requires fits { get_or page.now (8 + 70 * i + 1) 0 ≤ 64 }
-    ensures is { entry_of (cell page.now (8 + 70 * i)) ≡ record { relation = result.relation; key = result.key.now; name = result.name } }
+    ensures is { entry_of (cell page.now
+        (8 + 70 * i)) ≡ record { relation = result.relation; key = result.key.now; name = result.name } }
     ensures short { length result.key.now ≤ 64 }
 {
     let at = HEAD_BYTES + CELL_BYTES * i;

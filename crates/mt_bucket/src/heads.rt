@@ -69,7 +69,8 @@ pub fn set_next(page: &mut [u8], next: PageNo)
     ensures depth { depth_of page.new ≡ depth_of page.old }
     ensures next { next_of page.new ≡ next }
     ensures entries { entries page.new ≡ entries page.old }
-    ensures kept { (relations pages : ℕ) → next < pages → IsBucket relations pages page.old → IsBucket relations pages page.new }
+    ensures kept { (relations pages : ℕ) → next < pages → IsBucket relations pages page.old →
+        IsBucket relations pages page.new }
 {
     put_u16(page, 4, next.get());
 }

@@ -31,8 +31,11 @@ pub fn plan_put<V: Pages>(
     requires relation_fits { relation < 256 }
     requires key_fits { IsKey key.now }
     requires value_fits { IsValue value.now }
-    ensures put { IfOk result (λ step. (pages : PageBytes) → Agrees (V.at_hand views.now) pages → IsFile pages → IsNamed room pages → IsPut (V.at_hand views.now) room (V.total views.now) [] pages (record { relation = relation; key = key.now; value = value.now }) step) }
-    ensures short { IfOk result (λ step. (pages : PageBytes) → Agrees (V.at_hand views.now) pages → IsFile pages → IsNamed room pages → IsShortPlan pages step) }
+    ensures put { IfOk result (λ step. (pages : PageBytes) → Agrees (V.at_hand views.now) pages → IsFile pages →
+        IsNamed room pages → IsPut (V.at_hand views.now) room (V.total views.now) [] pages
+        (record { relation = relation; key = key.now; value = value.now }) step) }
+    ensures short { IfOk result (λ step. (pages : PageBytes) → Agrees (V.at_hand views.now) pages → IsFile pages →
+        IsNamed room pages → IsShortPlan pages step) }
     ensures few { IfOk result (IsFew (2)) }
     ensures seen { IfOk result (λ step. IfDone step (λ plan. IsSome (V.at_hand views.now plan.name.page))) }
 {
@@ -53,8 +56,12 @@ pub(crate) fn put<V: Pages>(
     requires relation_fits { relation < 256 }
     requires key_fits { length key.now < 256 }
     requires value_fits { length value.now ≤ 1024 }
-    ensures put { IfOk result (λ step. (pages : PageBytes) → IsReady (V.at_hand views.now) room (after changes.list.items pages) → IsPut (V.at_hand views.now) room (V.total views.now) changes.list.items pages (record { relation = relation; key = key.now; value = value.now }) step) }
-    ensures short { IfOk result (λ step. (pages : PageBytes) → IsReady (V.at_hand views.now) room (after changes.list.items pages) → IsApart room changes.list.items pages → IsShortPlan pages step) }
+    ensures put { IfOk result (λ step. (pages : PageBytes) → IsReady (V.at_hand views.now) room
+        (after changes.list.items pages) → IsPut (V.at_hand views.now) room
+        (V.total views.now) changes.list.items pages
+        (record { relation = relation; key = key.now; value = value.now }) step) }
+    ensures short { IfOk result (λ step. (pages : PageBytes) → IsReady (V.at_hand views.now) room
+        (after changes.list.items pages) → IsApart room changes.list.items pages → IsShortPlan pages step) }
     ensures few { IfOk result (IsFew (length changes.list.items + 2)) }
     ensures seen { IfOk result (λ step. IfDone step (λ plan. IsSome (V.at_hand views.now plan.name.page))) }
 {
@@ -78,8 +85,12 @@ fn put_into<V: Pages>(
     requires relation_fits { relation < 256 }
     requires key_fits { length key.now < 256 }
     requires value_fits { length value.now ≤ 1024 }
-    ensures put { IfOk result (λ step. (pages : PageBytes) → IsReady (V.at_hand views.now) (Some page) (after changes.list.items pages) → IsPut (V.at_hand views.now) (Some page) (V.total views.now) changes.list.items pages (record { relation = relation; key = key.now; value = value.now }) step) }
-    ensures short { IfOk result (λ step. (pages : PageBytes) → IsReady (V.at_hand views.now) (Some page) (after changes.list.items pages) → IsApart (Some page) changes.list.items pages → IsShortPlan pages step) }
+    ensures put { IfOk result (λ step. (pages : PageBytes) → IsReady (V.at_hand views.now) (Some page)
+        (after changes.list.items pages) → IsPut (V.at_hand views.now) (Some page)
+        (V.total views.now) changes.list.items pages
+        (record { relation = relation; key = key.now; value = value.now }) step) }
+    ensures short { IfOk result (λ step. (pages : PageBytes) → IsReady (V.at_hand views.now) (Some page)
+        (after changes.list.items pages) → IsApart (Some page) changes.list.items pages → IsShortPlan pages step) }
     ensures few { IfOk result (IsFew (length changes.list.items + 2)) }
     ensures seen { IfOk result (λ step. IfDone step (λ plan. IsSome (V.at_hand views.now plan.name.page))) }
 {
@@ -109,8 +120,12 @@ fn put_new<V: Pages>(
     requires relation_fits { relation < 256 }
     requires key_fits { length key.now < 256 }
     requires value_fits { length value.now ≤ 1024 }
-    ensures put { IfOk result (λ step. (pages : PageBytes) → IsReady (V.at_hand views.now) None (after changes.list.items pages) → IsPut (V.at_hand views.now) None (V.total views.now) changes.list.items pages (record { relation = relation; key = key.now; value = value.now }) step) }
-    ensures short { IfOk result (λ step. (pages : PageBytes) → IsReady (V.at_hand views.now) None (after changes.list.items pages) → IsApart None changes.list.items pages → IsShortPlan pages step) }
+    ensures put { IfOk result (λ step. (pages : PageBytes) → IsReady (V.at_hand views.now) None
+        (after changes.list.items pages) → IsPut (V.at_hand views.now) None
+        (V.total views.now) changes.list.items pages
+        (record { relation = relation; key = key.now; value = value.now }) step) }
+    ensures short { IfOk result (λ step. (pages : PageBytes) → IsReady (V.at_hand views.now) None
+        (after changes.list.items pages) → IsApart None changes.list.items pages → IsShortPlan pages step) }
     ensures few { IfOk result (IsFew (length changes.list.items + 2)) }
     ensures seen { IfOk result (λ step. IfDone step (λ plan. IsSome (V.at_hand views.now plan.name.page))) }
 {

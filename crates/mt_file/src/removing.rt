@@ -18,9 +18,13 @@ use std::alloc::{AllocError, Global};
 /// bytes, which are open from then on, are left. Never `Full`. The only error is want of memory.
 pub fn plan_remove<V: Pages>(alloc: Global, views: &V, name: RecordName) -> Result<Step, AllocError>
     requires sound { V.is_sound views.now }
-    requires good { (pages : PageBytes) × (r : Row) × Agrees (V.at_hand views.now) pages × IsFile pages × (record_in pages name.page name.slot ≡ Some r) }
-    ensures removal { IfOk result (λ step. (pages : PageBytes) (r : Row) → Agrees (V.at_hand views.now) pages → IsFile pages → record_in pages name.page name.slot ≡ Some r → IsRemoval (V.at_hand views.now) pages name.page name.slot step) }
-    ensures short { IfOk result (λ step. (pages : PageBytes) (r : Row) → Agrees (V.at_hand views.now) pages → IsFile pages → record_in pages name.page name.slot ≡ Some r → IsShortPlan pages step) }
+    requires good { (pages : PageBytes) × (r : Row) × Agrees (V.at_hand views.now) pages × IsFile pages ×
+        (record_in pages name.page name.slot ≡ Some r) }
+    ensures removal { IfOk result (λ step. (pages : PageBytes) (r : Row) → Agrees (V.at_hand views.now) pages →
+        IsFile pages → record_in pages name.page name.slot ≡ Some r → IsRemoval
+        (V.at_hand views.now) pages name.page name.slot step) }
+    ensures short { IfOk result (λ step. (pages : PageBytes) (r : Row) → Agrees (V.at_hand views.now) pages →
+        IsFile pages → record_in pages name.page name.slot ≡ Some r → IsShortPlan pages step) }
     ensures few { IfOk result (IsFew 1) }
     ensures seen { IfOk result (λ step. IfDone step (λ plan. IsSome (V.at_hand views.now name.page))) }
 {

@@ -31,12 +31,18 @@ pub fn plan_replace<V: Pages>(
     room: Option<PageNo>,
 ) -> Result<Step, AllocError>
     requires sound { V.is_sound views.now }
-    requires good { (pages : PageBytes) × (r : Row) × Agrees (V.at_hand views.now) pages × IsFile pages × IsNamed room pages × (record_in pages name.page name.slot ≡ Some r) }
+    requires good { (pages : PageBytes) × (r : Row) × Agrees (V.at_hand views.now) pages × IsFile pages ×
+        IsNamed room pages × (record_in pages name.page name.slot ≡ Some r) }
     requires value_fits { IsValue value.now }
-    ensures replacement { IfOk result (λ step. (pages : PageBytes) (r : Row) → Agrees (V.at_hand views.now) pages → IsFile pages → IsNamed room pages → record_in pages name.page name.slot ≡ Some r → IsReplacement (V.at_hand views.now) room (V.total views.now) pages name.page name.slot r (record r { value = value.now }) step) }
-    ensures short { IfOk result (λ step. (pages : PageBytes) (r : Row) → Agrees (V.at_hand views.now) pages → IsFile pages → IsNamed room pages → record_in pages name.page name.slot ≡ Some r → IsShortPlan pages step) }
+    ensures replacement { IfOk result (λ step. (pages : PageBytes) (r : Row) → Agrees (V.at_hand views.now) pages →
+        IsFile pages → IsNamed room pages → record_in pages name.page name.slot ≡ Some r →
+        IsReplacement (V.at_hand views.now) room (V.total views.now) pages name.page name.slot r
+        (record r { value = value.now }) step) }
+    ensures short { IfOk result (λ step. (pages : PageBytes) (r : Row) → Agrees (V.at_hand views.now) pages →
+        IsFile pages → IsNamed room pages → record_in pages name.page name.slot ≡ Some r → IsShortPlan pages step) }
     ensures few { IfOk result (IsFew 3) }
-    ensures seen { IfOk result (λ step. IfDone step (λ plan. IsSome (V.at_hand views.now name.page) × IsSome (V.at_hand views.now plan.name.page))) }
+    ensures seen { IfOk result (λ step. IfDone step (λ plan. IsSome (V.at_hand views.now name.page) ×
+        IsSome (V.at_hand views.now plan.name.page))) }
 {
     let Some(old) = views.page(name.page) else {
         return Ok(Step::Need(name.page, Mode::Write));
@@ -77,14 +83,21 @@ fn plan_move<V: Pages>(
     requires sound { V.is_sound views.now }
     requires none { changes.list.items ≡ [] }
     requires there { V.at_hand views.now name.page ≡ Some old.now }
-    requires good { (pages : PageBytes) × (r : Row) × Agrees (V.at_hand views.now) pages × IsFile pages × IsNamed room pages × (record_in pages name.page name.slot ≡ Some r) }
+    requires good { (pages : PageBytes) × (r : Row) × Agrees (V.at_hand views.now) pages × IsFile pages ×
+        IsNamed room pages × (record_in pages name.page name.slot ≡ Some r) }
     requires value_fits { length value.now ≤ 1024 }
-    requires outgrown { (r : Row) → held old.now name.slot ≡ Some r → room_of old.now + row_length r < row_length (record r { value = value.now }) }
+    requires outgrown { (r : Row) → held old.now name.slot ≡ Some r → room_of old.now + row_length r < row_length
+        (record r { value = value.now }) }
     requires other { (r : Row) → held old.now name.slot ≡ Some r → r.value ≢ value.now }
-    ensures replacement { IfOk result (λ step. (pages : PageBytes) (r : Row) → Agrees (V.at_hand views.now) pages → IsFile pages → IsNamed room pages → record_in pages name.page name.slot ≡ Some r → IsReplacement (V.at_hand views.now) room (V.total views.now) pages name.page name.slot r (record r { value = value.now }) step) }
-    ensures short { IfOk result (λ step. (pages : PageBytes) (r : Row) → Agrees (V.at_hand views.now) pages → IsFile pages → IsNamed room pages → record_in pages name.page name.slot ≡ Some r → IsShortPlan pages step) }
+    ensures replacement { IfOk result (λ step. (pages : PageBytes) (r : Row) → Agrees (V.at_hand views.now) pages →
+        IsFile pages → IsNamed room pages → record_in pages name.page name.slot ≡ Some r →
+        IsReplacement (V.at_hand views.now) room (V.total views.now) pages name.page name.slot r
+        (record r { value = value.now }) step) }
+    ensures short { IfOk result (λ step. (pages : PageBytes) (r : Row) → Agrees (V.at_hand views.now) pages →
+        IsFile pages → IsNamed room pages → record_in pages name.page name.slot ≡ Some r → IsShortPlan pages step) }
     ensures few { IfOk result (IsFew 3) }
-    ensures seen { IfOk result (λ step. IfDone step (λ plan. IsSome (V.at_hand views.now name.page) × IsSome (V.at_hand views.now plan.name.page))) }
+    ensures seen { IfOk result (λ step. IfDone step (λ plan. IsSome (V.at_hand views.now name.page) ×
+        IsSome (V.at_hand views.now plan.name.page))) }
 {
     let RecordName { page, slot } = name;
     let Some(row) = get(old, slot) else {
@@ -119,8 +132,11 @@ fn write_whole(
     requires key_fits { length key.now < 256 }
     requires value_fits { length value.now ≤ 1024 }
     ensures page { IfOk result (λ plan. plan.name.page ≡ page) }
-    ensures whole { IfOk result (λ plan. (pages : PageBytes) → pages page ≡ old.now → IsWhole pages (after plan.changes.list.items pages) page plan.name.slot (record { relation = relation; key = key.now; value = value.now })) }
-    ensures short { IfOk result (λ plan. (pages : PageBytes) → pages page ≡ old.now → AreShort plan.changes.list.items pages) }
+    ensures whole { IfOk result (λ plan. (pages : PageBytes) → pages page ≡ old.now →
+        IsWhole pages (after plan.changes.list.items pages) page plan.name.slot
+        (record { relation = relation; key = key.now; value = value.now })) }
+    ensures short { IfOk result (λ plan. (pages : PageBytes) → pages page ≡ old.now →
+        AreShort plan.changes.list.items pages) }
     ensures few { IfOk result (λ plan. length plan.changes.list.items ≤ 1) }
 {
     let (new, slot) = page_of_one(relation, key, value);

@@ -73,8 +73,10 @@ impl Rooms {
         requires { 0 < bytes }
         ensures found { IfSome result (λ p. Takes self.now bytes p) }
         ensures none { IfNone result ((p : ℕ) → Takes self.now bytes p → ⊥) }
-        ensures records { IfSome result (λ p. (pages : PageBytes) → AreRooms self.now.0 pages → (kind pages p ≡ 3) × (bytes ≤ fits_of (pages p))) }
-        ensures full { IfNone result ((pages : PageBytes) (p : ℕ) → AreRooms self.now.0 pages → p < length self.now.0 → is_held self.now p ≡ false → kind pages p ≡ 3 → fits_of (pages p) < bytes) }
+        ensures records { IfSome result (λ p. (pages : PageBytes) → AreRooms self.now.0 pages → (kind pages p ≡ 3) ×
+            (bytes ≤ fits_of (pages p))) }
+        ensures full { IfNone result ((pages : PageBytes) (p : ℕ) → AreRooms self.now.0 pages →
+            p < length self.now.0 → is_held self.now p ≡ false → kind pages p ≡ 3 → fits_of (pages p) < bytes) }
     {
         let leaf = leaf_with(self.tree.as_slice(), bytes)?;
         Some(PageNo::new((leaf - LEAVES) as u16))
@@ -85,7 +87,8 @@ impl Rooms {
         requires { page < length self.old.0 }
         ensures fits { self.new.0 ≡ slice_set self.old.0 page fits }
         ensures held { self.new.1 ≡ self.old.1 }
-        ensures rooms { (old new : PageBytes) → AreRooms self.old.0 old → kind old 0 ≢ 3 → Touches old new page → (kind new page ≡ 3 → fits ≡ fits_of (new page)) → (kind new page ≢ 3 → fits ≡ 0) → AreRooms self.new.0 new }
+        ensures rooms { (old new : PageBytes) → AreRooms self.old.0 old → kind old 0 ≢ 3 → Touches old new page →
+            (kind new page ≡ 3 → fits ≡ fits_of (new page)) → (kind new page ≢ 3 → fits ≡ 0) → AreRooms self.new.0 new }
     {
         let place = usize::from(page.get());
         self.fits[place] = fits;

@@ -1,5 +1,5 @@
 -- The laws of the index, for all pages there are.
-use Rattle.std.specs.Prelude.{ℕ, List, None, ◌≡◌, ◌<◌, ◌^◌, ◌%◌, ◌↔◌}
+use Rattle.std.specs.Prelude.{ℕ, None, ◌≡◌, ◌<◌, ◌^◌, ◌%◌, ◌↔◌}
 use Rattle.std.proofs.Math.ListN.{get_or}
 use Rattle.mt_space.specs.Changes.{PageBytes}
 use Rattle.mt_index.specs.Maps.{Map}

@@ -28,7 +28,8 @@ pub(crate) fn plan_put<V: Pages>(
     requires relation_fits { relation < 256 }
     requires short { length key.now ≤ 64 }
     requires room { InMaps (V.at_hand views.now) (V.total views.now) (λ pages m. HasRoom key.now pages page) }
-    ensures { (split : Bool) → IfOk result (IsPlanned (V.at_hand views.now) (V.total views.now) split (record { relation = relation; key = key.now; name = name })) }
+    ensures { (split : Bool) → IfOk result (IsPlanned (V.at_hand views.now) (V.total views.now) split
+        (record { relation = relation; key = key.now; name = name })) }
 {
     let Some(old) = views.page(page) else {
         return Ok(Add::Need(page, Mode::Write));
@@ -50,9 +51,12 @@ pub(crate) fn plan_chain<V: Pages>(
     requires sound { V.is_sound views.now }
     requires relation_fits { relation < 256 }
     requires short { length key.now ≤ 64 }
-    requires end { InMaps (V.at_hand views.now) (V.total views.now) (λ pages m. (alone : Bool) × IsEnd key.now pages last alone) }
-    ensures { (split : Bool) → InMaps (V.at_hand views.now) (V.total views.now) (λ pages m. split ≡ true → MaySplit key.now (state_of pages) → ⊥)
-        → IfOk result (IsPlanned (V.at_hand views.now) (V.total views.now) split (record { relation = relation; key = key.now; name = name })) }
+    requires end { InMaps (V.at_hand views.now) (V.total views.now) (λ pages m. (alone : Bool) ×
+        IsEnd key.now pages last alone) }
+    ensures { (split : Bool) → InMaps (V.at_hand views.now) (V.total views.now) (λ pages m. split ≡ true →
+        MaySplit key.now (state_of pages) → ⊥)
+        → IfOk result (IsPlanned (V.at_hand views.now) (V.total views.now) split
+        (record { relation = relation; key = key.now; name = name })) }
 {
     let Some(space) = views.page(PageNo::new(MAP)) else {
         return Ok(Add::Need(PageNo::new(MAP), Mode::Write));
@@ -98,7 +102,8 @@ pub(crate) fn overflow_page(
     requires relation_fits { relation < 256 }
     requires short { length key.now ≤ 64 }
     ensures one { HasOne depth (record { relation = relation; key = key.now; name = name }) result }
-    ensures bucket { (relations pages : ℕ) → depth ≤ 9 → relation < relations → 1 ≤ length key.now → name.page < pages → IsBucket relations pages result }
+    ensures bucket { (relations pages : ℕ) → depth ≤ 9 → relation < relations → 1 ≤ length key.now →
+        name.page < pages → IsBucket relations pages result }
 {
     let mut page = *spare;
     empty(&mut page, depth);

@@ -25,12 +25,18 @@ pub fn plan_set<V: Pages>(
 ) -> Result<Amend, AllocError>
     requires sound { V.is_sound views.now }
     requires short { length key.now ≤ 64 }
-    ensures need { IfOk result (λ amend. AmendNeeds amend (Asks (V.at_hand views.now) (V.total views.now) (IsInBucket key.now Write))) }
-    ensures set { IfOk result (λ amend. IfAmended amend (λ changes. InMaps (V.at_hand views.now) (V.total views.now) (λ pages m. Amends (V.total views.now) pages changes m relation key.now (Some name)))) }
-    ensures formed { IfOk result (λ amend. IfAmended amend (λ changes. InMaps (V.at_hand views.now) (V.total views.now) (λ pages m.
-        (relations : ℕ) → name.page < V.total views.now → AreFormed relations (V.total views.now) pages → AreFormed relations (V.total views.now) (after changes pages)))) }
-    ensures missing { IfOk result (λ amend. AmendMissing amend (InMaps (V.at_hand views.now) (V.total views.now) (λ pages m. m relation key.now ≡ None))) }
-    ensures endless { IfOk result (λ amend. AmendEndless amend (InMaps (V.at_hand views.now) (V.total views.now) (λ pages m. ⊥))) }
+    ensures need { IfOk result (λ amend. AmendNeeds amend (Asks (V.at_hand views.now) (V.total views.now)
+        (IsInBucket key.now Write))) }
+    ensures set { IfOk result (λ amend. IfAmended amend (λ changes. InMaps (V.at_hand views.now) (V.total views.now)
+        (λ pages m. Amends (V.total views.now) pages changes m relation key.now (Some name)))) }
+    ensures formed { IfOk result (λ amend. IfAmended amend (λ changes.
+        InMaps (V.at_hand views.now) (V.total views.now) (λ pages m.
+        (relations : ℕ) → name.page < V.total views.now → AreFormed relations (V.total views.now) pages →
+        AreFormed relations (V.total views.now) (after changes pages)))) }
+    ensures missing { IfOk result (λ amend. AmendMissing amend (InMaps (V.at_hand views.now) (V.total views.now)
+        (λ pages m. m relation key.now ≡ None))) }
+    ensures endless { IfOk result (λ amend. AmendEndless amend (InMaps (V.at_hand views.now) (V.total views.now)
+        (λ pages m. ⊥))) }
 {
     let page = match holder_of(views, relation, key, Mode::Write) {
         Held::Need(page, mode) => return Ok(Amend::Need(page, mode)),
@@ -57,12 +63,19 @@ pub fn plan_drop<V: Pages>(
 ) -> Result<Amend, AllocError>
     requires sound { V.is_sound views.now }
     requires short { length key.now ≤ 64 }
-    ensures need { IfOk result (λ amend. AmendNeeds amend (Asks (V.at_hand views.now) (V.total views.now) (IsInBucket key.now Write))) }
-    ensures dropped { IfOk result (λ amend. IfAmended amend (λ changes. InMaps (V.at_hand views.now) (V.total views.now) (λ pages m. Amends (V.total views.now) pages changes m relation key.now None))) }
-    ensures formed { IfOk result (λ amend. IfAmended amend (λ changes. InMaps (V.at_hand views.now) (V.total views.now) (λ pages m.
-        (relations : ℕ) → AreFormed relations (V.total views.now) pages → AreFormed relations (V.total views.now) (after changes pages)))) }
-    ensures missing { IfOk result (λ amend. AmendMissing amend (InMaps (V.at_hand views.now) (V.total views.now) (λ pages m. m relation key.now ≡ None))) }
-    ensures endless { IfOk result (λ amend. AmendEndless amend (InMaps (V.at_hand views.now) (V.total views.now) (λ pages m. ⊥))) }
+    ensures need { IfOk result (λ amend. AmendNeeds amend (Asks (V.at_hand views.now) (V.total views.now)
+        (IsInBucket key.now Write))) }
+    ensures dropped { IfOk result (λ amend. IfAmended amend (λ changes.
+        InMaps (V.at_hand views.now) (V.total views.now) (λ pages m. Amends
+        (V.total views.now) pages changes m relation key.now None))) }
+    ensures formed { IfOk result (λ amend. IfAmended amend (λ changes.
+        InMaps (V.at_hand views.now) (V.total views.now) (λ pages m.
+        (relations : ℕ) → AreFormed relations (V.total views.now) pages →
+        AreFormed relations (V.total views.now) (after changes pages)))) }
+    ensures missing { IfOk result (λ amend. AmendMissing amend (InMaps (V.at_hand views.now) (V.total views.now)
+        (λ pages m. m relation key.now ≡ None))) }
+    ensures endless { IfOk result (λ amend. AmendEndless amend (InMaps (V.at_hand views.now) (V.total views.now)
+        (λ pages m. ⊥))) }
 {
     let page = match holder_of(views, relation, key, Mode::Write) {
         Held::Need(page, mode) => return Ok(Amend::Need(page, mode)),

@@ -87,7 +87,8 @@ fn redirect_one(directory: &mut [u8], i: u16, from: PageNo, to: PageNo, bit: u8)
     requires whole { length directory.old ≡ 4096 }
     requires there { i < 512 }
     requires bit { bit < 64 }
-    ensures pointer { pointer_at directory.new i ≡ cond (pointer_at directory.old i == from && high bit i) to (pointer_at directory.old i) }
+    ensures pointer { pointer_at directory.new i ≡ cond (pointer_at directory.old i == from && high bit i) to
+        (pointer_at directory.old i) }
     ensures rest { Torn (8 + 2 * i) 2 directory.old directory.new }
 {
     let at = HEAD_BYTES + POINTER_BYTES * usize::from(i);

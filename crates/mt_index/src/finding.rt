@@ -14,8 +14,10 @@ pub fn plan_find<V: Pages>(views: &V, relation: RelNo, key: &[u8]) -> Find
     requires sound { V.is_sound views.now }
     requires short { length key.now ≤ 64 }
     ensures need { FindNeeds result (Asks (V.at_hand views.now) (V.total views.now) (IsInBucket key.now Read)) }
-    ensures found { IfFound result (λ name. InMaps (V.at_hand views.now) (V.total views.now) (λ pages m. m relation key.now ≡ Some name)) }
-    ensures missing { IfMissing result (InMaps (V.at_hand views.now) (V.total views.now) (λ pages m. m relation key.now ≡ None)) }
+    ensures found { IfFound result (λ name. InMaps (V.at_hand views.now) (V.total views.now) (λ pages m.
+        m relation key.now ≡ Some name)) }
+    ensures missing { IfMissing result (InMaps (V.at_hand views.now) (V.total views.now) (λ pages m.
+        m relation key.now ≡ None)) }
     ensures endless { IfEndless result (InMaps (V.at_hand views.now) (V.total views.now) (λ pages m. ⊥)) }
 {
     match holder_of(views, relation, key, Mode::Read) {

@@ -17,7 +17,9 @@ pub(crate) fn mark_buckets(pages: &[[u8; 4096]], homes: &mut [u16]) -> Option<Pa
     requires size { length homes.old ≡ length pages.now }
     requires none { (n : ℕ) → get_or homes.old n 0 ≡ 0 }
     ensures size { length homes.new ≡ length homes.old }
-    ensures done { MatchOption result (AreMarked (bytes_of pages.now) homes.new (2 ^ depth_in (bytes_of pages.now 1))) (λ p. (relations : ℕ) → IsSound relations (length pages.now) (bytes_of pages.now) → ⊥) }
+    ensures done { MatchOption result (AreMarked (bytes_of pages.now) homes.new (2 ^ depth_in
+        (bytes_of pages.now 1))) (λ p. (relations : ℕ) → IsSound relations (length pages.now) (bytes_of pages.now) →
+        ⊥) }
 {
     let directory = page_at(pages, PageNo::new(DIRECTORY));
     for i in 0..1usize << depth(directory) {
@@ -38,7 +40,8 @@ fn mark_bucket(pages: &[[u8; 4096]], homes: &mut [u16], bucket: PageNo) -> Optio
     requires marked { (done : ℕ) × AreMarked (bytes_of pages.now) homes.old done }
     ensures size { length homes.new ≡ length homes.old }
     ensures marks { Marks (bytes_of pages.now) bucket homes.old homes.new }
-    ensures done { MatchOption result (IsMarked (bytes_of pages.now) homes.new bucket) (λ p. (get_or homes.old bucket 0 ≢ bucket) × IsStuck (length pages.now) (bytes_of pages.now) homes.old bucket p) }
+    ensures done { MatchOption result (IsMarked (bytes_of pages.now) homes.new bucket) (λ p.
+        (get_or homes.old bucket 0 ≢ bucket) × IsStuck (length pages.now) (bytes_of pages.now) homes.old bucket p) }
 {
     if homes[usize::from(bucket.get())] == bucket.get() {
         return None;
@@ -54,7 +57,8 @@ fn mark_chain(pages: &[[u8; 4096]], homes: &mut [u16], bucket: PageNo) -> Option
     requires size { length homes.old ≡ length pages.now }
     ensures size { length homes.new ≡ length homes.old }
     ensures marks { Marks (bytes_of pages.now) bucket homes.old homes.new }
-    ensures done { MatchOption result (IsMarked (bytes_of pages.now) homes.new bucket) (λ p. IsStuck (length pages.now) (bytes_of pages.now) homes.old bucket p) }
+    ensures done { MatchOption result (IsMarked (bytes_of pages.now) homes.new bucket) (λ p.
+        IsStuck (length pages.now) (bytes_of pages.now) homes.old bucket p) }
 {
     let bits = mt_bucket::depth(page_at(pages, bucket));
     let mut at = bucket;
@@ -76,7 +80,8 @@ fn is_next(pages: &[[u8; 4096]], homes: &[u16], page: PageNo, bits: u8) -> bool
     requires whole { AreWhole pages.now }
     requires kinds { AreKinds (length pages.now) (bytes_of pages.now) }
     requires size { length homes.now ≡ length pages.now }
-    ensures { MatchBool result (CanFollow (length pages.now) (bytes_of pages.now) homes.now page bits) (CannotFollow (bytes_of pages.now) homes.now page bits) }
+    ensures { MatchBool result (CanFollow (length pages.now) (bytes_of pages.now) homes.now page bits) (CannotFollow
+        (bytes_of pages.now) homes.now page bits) }
 {
     if !is_bucket(pages, page) {
         return false;

@@ -15,8 +15,10 @@ pub(crate) fn change_of(
 ) -> Result<Changes, AllocError>
     requires old_whole { length old.now ≡ 4096 }
     requires new_whole { length new.now ≡ 4096 }
-    ensures turned { IfOk result (λ changes. (pages : PageBytes) → pages page ≡ old.now → Turns page new.now pages (after changes.list.items pages)) }
-    ensures short { IfOk result (λ changes. (pages : PageBytes) → pages page ≡ old.now → AreShort changes.list.items pages) }
+    ensures turned { IfOk result (λ changes. (pages : PageBytes) → pages page ≡ old.now →
+        Turns page new.now pages (after changes.list.items pages)) }
+    ensures short { IfOk result (λ changes. (pages : PageBytes) → pages page ≡ old.now →
+        AreShort changes.list.items pages) }
     ensures one { IfOk result (λ changes. length changes.list.items ≤ 1) }
 {
     let mut changes = Changes::new(alloc);

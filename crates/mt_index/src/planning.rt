@@ -37,15 +37,21 @@ pub fn plan_add<V: Pages>(
     requires sound { V.is_sound views.now }
     requires relation_fits { relation < 256 }
     requires short { length key.now ≤ 64 }
-    ensures need { IfOk result (λ add. AddNeeds add (Asks (V.at_hand views.now) (V.total views.now) (IsInAdd split key.now (V.total views.now)))) }
-    ensures added { IfOk result (λ add. IfAdded add (λ changes. InMaps (V.at_hand views.now) (V.total views.now) (λ pages m.
+    ensures need { IfOk result (λ add. AddNeeds add (Asks (V.at_hand views.now) (V.total views.now)
+        (IsInAdd split key.now (V.total views.now)))) }
+    ensures added { IfOk result (λ add. IfAdded add (λ changes. InMaps (V.at_hand views.now) (V.total views.now)
+        (λ pages m.
         Adds split (V.total views.now) (record { relation = relation; key = key.now; name = name }) pages changes))) }
-    ensures map { IfOk result (λ add. IfAdded add (λ changes. InMaps (V.at_hand views.now) (V.total views.now) (λ pages m.
-        m relation key.now ≡ None → AreMap (V.total views.now) (after changes pages) (alter m relation key.now (Some name))))) }
-    ensures seen { IfOk result (λ add. IfAdded add (λ changes. InMaps (V.at_hand views.now) (V.total views.now) (λ pages m. TakesSeen (V.at_hand views.now) pages changes))) }
+    ensures map { IfOk result (λ add. IfAdded add (λ changes. InMaps (V.at_hand views.now) (V.total views.now)
+        (λ pages m.
+        m relation key.now ≡ None → AreMap (V.total views.now) (after changes pages) (alter m relation key.now
+        (Some name))))) }
+    ensures seen { IfOk result (λ add. IfAdded add (λ changes. InMaps (V.at_hand views.now) (V.total views.now)
+        (λ pages m. TakesSeen (V.at_hand views.now) pages changes))) }
     ensures full { IfOk result (λ add. AddFull add (InMaps (V.at_hand views.now) (V.total views.now) (λ pages m.
         Shortage split (V.total views.now) (record { relation = relation; key = key.now; name = name }) pages))) }
-    ensures endless { IfOk result (λ add. AddEndless add (InMaps (V.at_hand views.now) (V.total views.now) (λ pages m. ⊥))) }
+    ensures endless { IfOk result (λ add. AddEndless add (InMaps (V.at_hand views.now) (V.total views.now)
+        (λ pages m. ⊥))) }
 {
     plan_by_rule(alloc, views, relation, key, name, split)
 }
@@ -62,7 +68,8 @@ fn plan_by_rule<V: Pages>(
     requires sound { V.is_sound views.now }
     requires relation_fits { relation < 256 }
     requires short { length key.now ≤ 64 }
-    ensures { IfOk result (IsPlanned (V.at_hand views.now) (V.total views.now) split (record { relation = relation; key = key.now; name = name })) }
+    ensures { IfOk result (IsPlanned (V.at_hand views.now) (V.total views.now) split
+        (record { relation = relation; key = key.now; name = name })) }
 {
     let (last, alone) = match room_in(views, key) {
         Spot::Need(page, mode) => return Ok(Add::Need(page, mode)),

@@ -25,7 +25,8 @@ pub fn check(
     relations: u16,
 ) -> Result<Option<PageNo>, AllocError>
     requires whole { AreWhole pages.now }
-    ensures { IfOk result (λ broken. MatchOption broken (IsSound relations (length pages.now) (bytes_of pages.now)) (λ p. IsSound relations (length pages.now) (bytes_of pages.now) → ⊥)) }
+    ensures { IfOk result (λ broken. MatchOption broken (IsSound relations (length pages.now) (bytes_of pages.now))
+        (λ p. IsSound relations (length pages.now) (bytes_of pages.now) → ⊥)) }
 {
     if !are_kinds(pages) {
         return Ok(Some(PageNo::new(MAP)));
@@ -53,7 +54,8 @@ fn first_misplaced(pages: &[[u8; 4096]], homes: &mut [u16], relations: u16) -> O
     requires pointers { ArePointers (bytes_of pages.now) }
     requires size { length homes.old ≡ length pages.now }
     requires none { (n : ℕ) → get_or homes.old n 0 ≡ 0 }
-    ensures { MatchOption result (IsSound relations (length pages.now) (bytes_of pages.now)) (λ p. IsSound relations (length pages.now) (bytes_of pages.now) → ⊥) }
+    ensures { MatchOption result (IsSound relations (length pages.now) (bytes_of pages.now)) (λ p.
+        IsSound relations (length pages.now) (bytes_of pages.now) → ⊥) }
 {
     if let Some(page) = mark_buckets(pages, homes) {
         return Some(page);
@@ -75,7 +77,8 @@ pub(crate) fn page_at(pages: &[[u8; 4096]], page: PageNo) -> &[u8; 4096]
 pub(crate) fn is_bucket(pages: &[[u8; 4096]], page: PageNo) -> bool
     requires whole { AreWhole pages.now }
     requires kinds { AreKinds (length pages.now) (bytes_of pages.now) }
-    ensures { MatchBool result ((kind (bytes_of pages.now) page ≡ 2) × (page < length pages.now)) (kind (bytes_of pages.now) page ≡ 2 → ⊥) }
+    ensures { MatchBool result ((kind (bytes_of pages.now) page ≡ 2) ×
+        (page < length pages.now)) (kind (bytes_of pages.now) page ≡ 2 → ⊥) }
 {
     let number = usize::from(page.get());
     number < pages.len() && page_at(pages, PageNo::new(MAP))[number] == BUCKET
@@ -84,7 +87,8 @@ pub(crate) fn is_bucket(pages: &[[u8; 4096]], page: PageNo) -> bool
 // Whether the space map has the fixed pages, and nothing past the last page.
 fn are_kinds(pages: &[[u8; 4096]]) -> bool
     requires whole { AreWhole pages.now }
-    ensures { MatchBool result (AreKinds (length pages.now) (bytes_of pages.now)) (AreKinds (length pages.now) (bytes_of pages.now) → ⊥) }
+    ensures { MatchBool result (AreKinds (length pages.now) (bytes_of pages.now)) (AreKinds (length pages.now)
+        (bytes_of pages.now) → ⊥) }
 {
     let map = page_at(pages, PageNo::new(MAP));
     map[0] == FIXED && map[1] == FIXED && are_zero(map, pages.len(), PAGE_BYTES)
@@ -94,7 +98,8 @@ fn are_kinds(pages: &[[u8; 4096]]) -> bool
 fn first_malformed(pages: &[[u8; 4096]], relations: u16) -> Option<PageNo>
     requires whole { AreWhole pages.now }
     requires kinds { AreKinds (length pages.now) (bytes_of pages.now) }
-    ensures { MatchOption result (AreBuckets relations (length pages.now) (bytes_of pages.now)) (λ p. AreBuckets relations (length pages.now) (bytes_of pages.now) → ⊥) }
+    ensures { MatchOption result (AreBuckets relations (length pages.now) (bytes_of pages.now)) (λ p.
+        AreBuckets relations (length pages.now) (bytes_of pages.now) → ⊥) }
 {
     let total = pages.len() as u16;
     for number in 0..total {

@@ -18,7 +18,9 @@ pub(crate) fn first_unsettled(pages: &[[u8; 4096]], homes: &[u16]) -> Option<Pag
     requires buckets { (relations : ℕ) × AreBuckets relations (length pages.now) (bytes_of pages.now) }
     requires size { length homes.now ≡ length pages.now }
     requires marked { AreMarked (bytes_of pages.now) homes.now (2 ^ depth_in (bytes_of pages.now 1)) }
-    ensures { MatchOption result ((p : ℕ) → kind (bytes_of pages.now) p ≡ 2 → IsSettled (bytes_of pages.now) homes.now p) (λ p. (kind (bytes_of pages.now) p ≡ 2) × (IsSettled (bytes_of pages.now) homes.now p → ⊥)) }
+    ensures { MatchOption result ((p : ℕ) → kind (bytes_of pages.now) p ≡ 2 →
+        IsSettled (bytes_of pages.now) homes.now p) (λ p. (kind (bytes_of pages.now) p ≡ 2) ×
+        (IsSettled (bytes_of pages.now) homes.now p → ⊥)) }
 {
     for number in 0..pages.len() as u16 {
         let page = PageNo::new(number);
@@ -37,7 +39,8 @@ fn is_settled(pages: &[[u8; 4096]], homes: &[u16], page: PageNo) -> bool
     requires size { length homes.now ≡ length pages.now }
     requires marked { AreMarked (bytes_of pages.now) homes.now (2 ^ depth_in (bytes_of pages.now 1)) }
     requires bucket { kind (bytes_of pages.now) page ≡ 2 }
-    ensures { MatchBool result (IsSettled (bytes_of pages.now) homes.now page) (IsSettled (bytes_of pages.now) homes.now page → ⊥) }
+    ensures { MatchBool result (IsSettled (bytes_of pages.now) homes.now page) (IsSettled
+        (bytes_of pages.now) homes.now page → ⊥) }
 {
     let home = homes[usize::from(page.get())];
     if home == 0 {
@@ -59,7 +62,8 @@ fn is_alone(pages: &[[u8; 4096]], home: PageNo, page: PageNo, i: usize) -> bool
     requires bucket { (relations : ℕ) × IsBucket relations (length pages.now) (bytes_of pages.now page) }
     requires there { i < count_of (bytes_of pages.now page) }
     requires finite { IsFinite (length pages.now) (bytes_of pages.now) (next_of (bytes_of pages.now page)) }
-    ensures { MatchBool result (IsAlone (bytes_of pages.now) home page i) (IsAlone (bytes_of pages.now) home page i → ⊥) }
+    ensures { MatchBool result (IsAlone (bytes_of pages.now) home page i) (IsAlone (bytes_of pages.now) home page i →
+        ⊥) }
 {
     let bytes = page_at(pages, page);
     let entry = entry(bytes, i);
@@ -77,7 +81,8 @@ fn lacks_from(pages: &[[u8; 4096]], first: PageNo, relation: RelNo, key: &[u8]) 
     requires whole { AreWhole pages.now }
     requires finite { IsFinite (length pages.now) (bytes_of pages.now) first }
     requires short { length key.now ≤ 64 }
-    ensures { MatchBool result (LacksFrom (bytes_of pages.now) first relation key.now) (LacksFrom (bytes_of pages.now) first relation key.now → ⊥) }
+    ensures { MatchBool result (LacksFrom (bytes_of pages.now) first relation key.now) (LacksFrom
+        (bytes_of pages.now) first relation key.now → ⊥) }
 {
     let mut at = first;
     for _step in 0..pages.len() {

@@ -51,7 +51,8 @@ impl Halves {
     fn put(&mut self, upper: bool, relation: RelNo, key: &[u8], name: RecordName) -> bool
         requires relation_fits { relation < 256 }
         requires short { length key.now ≤ 64 }
-        ensures { PutsInHalf upper result (record { relation = relation; key = key.now; name = name }) self.old self.new }
+        ensures { PutsInHalf upper result
+            (record { relation = relation; key = key.now; name = name }) self.old self.new }
     {
         if upper {
             push(&mut self.up, relation, key, name)
@@ -82,7 +83,8 @@ impl Halves {
         old: &[u8; PAGE_BYTES],
         spare: &[u8; PAGE_BYTES],
     ) -> Result<Changes, AllocError>
-        ensures { IfOk result (λ changes. (pages : PageBytes) → pages 0 ≡ space.now → pages 1 ≡ directory.now → pages self.now.bucket ≡ old.now → pages self.now.fresh ≡ spare.now
+        ensures { IfOk result (λ changes. (pages : PageBytes) → pages 0 ≡ space.now → pages 1 ≡ directory.now →
+            pages self.now.bucket ≡ old.now → pages self.now.fresh ≡ spare.now
             → Apart self.now.bucket self.now.fresh → Notes (changed self.now) pages changes.list.items) }
     {
         let mut changes = Changes::new(alloc);
@@ -133,8 +135,10 @@ pub(crate) fn plan_split<V: Pages>(
     requires short { length key.now ≤ 64 }
     requires there { V.at_hand views.now bucket ≡ Some old.now }
     requires shallow { depth_of old.now < 9 }
-    requires due { InMaps (V.at_hand views.now) (V.total views.now) (λ pages m. MaySplit key.now (state_of pages) × (named (state_of pages) (hash_of key.now) ≡ bucket)) }
-    ensures { IfOk result (IsPlanned (V.at_hand views.now) (V.total views.now) true (record { relation = relation; key = key.now; name = name })) }
+    requires due { InMaps (V.at_hand views.now) (V.total views.now) (λ pages m. MaySplit key.now (state_of pages) ×
+        (named (state_of pages) (hash_of key.now) ≡ bucket)) }
+    ensures { IfOk result (IsPlanned (V.at_hand views.now) (V.total views.now) true
+        (record { relation = relation; key = key.now; name = name })) }
 {
     let Some(space) = views.page(PageNo::new(MAP)) else {
         return Ok(Add::Need(PageNo::new(MAP), Mode::Write));

@@ -16,8 +16,10 @@ pub(crate) fn holder_of<V: Pages>(views: &V, relation: RelNo, key: &[u8], mode: 
     requires short { length key.now ≤ 64 }
     ensures need { HeldNeeds result (Asks (V.at_hand views.now) (V.total views.now) (IsInBucket key.now mode)) }
     ensures at_hand { IfIn result (λ page name. (V.at_hand views.now page ≡ None → ⊥)) }
-    ensures found { IfIn result (λ page name. InMaps (V.at_hand views.now) (V.total views.now) (λ pages m. Holds relation key.now pages page name)) }
-    ensures nowhere { IfNowhere result (InMaps (V.at_hand views.now) (V.total views.now) (λ pages m. m relation key.now ≡ None)) }
+    ensures found { IfIn result (λ page name. InMaps (V.at_hand views.now) (V.total views.now) (λ pages m.
+        Holds relation key.now pages page name)) }
+    ensures nowhere { IfNowhere result (InMaps (V.at_hand views.now) (V.total views.now) (λ pages m.
+        m relation key.now ≡ None)) }
     ensures endless { HeldEndless result (InMaps (V.at_hand views.now) (V.total views.now) (λ pages m. ⊥)) }
 {
     let Some(directory) = views.page(PageNo::new(DIRECTORY)) else {
@@ -44,8 +46,10 @@ pub(crate) fn holder_of<V: Pages>(views: &V, relation: RelNo, key: &[u8], mode: 
 pub(crate) fn room_in<V: Pages>(views: &V, key: &[u8]) -> Spot
     requires sound { V.is_sound views.now }
     ensures need { SpotNeeds result (Asks (V.at_hand views.now) (V.total views.now) (IsInBucket key.now Write)) }
-    ensures room { IfRoom result (λ page. InMaps (V.at_hand views.now) (V.total views.now) (λ pages m. HasRoom key.now pages page)) }
-    ensures behind { IfBehind result (λ last alone. InMaps (V.at_hand views.now) (V.total views.now) (λ pages m. IsEnd key.now pages last alone)) }
+    ensures room { IfRoom result (λ page. InMaps (V.at_hand views.now) (V.total views.now) (λ pages m.
+        HasRoom key.now pages page)) }
+    ensures behind { IfBehind result (λ last alone. InMaps (V.at_hand views.now) (V.total views.now) (λ pages m.
+        IsEnd key.now pages last alone)) }
     ensures endless { SpotEndless result (InMaps (V.at_hand views.now) (V.total views.now) (λ pages m. ⊥)) }
 {
     let Some(directory) = views.page(PageNo::new(DIRECTORY)) else {

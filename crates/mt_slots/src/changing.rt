@@ -30,8 +30,10 @@ pub fn insert(page: &mut [u8], relation: RelNo, key: &[u8], value: &[u8]) -> Opt
     requires key_fits { length key.now < 256 }
     requires value_fits { length value.now ≤ 4096 }
     ensures shaped { IsShaped page.new }
-    ensures done { IfSome result (λ i. Inserted page.old page.new i (record { relation = relation; key = key.now; value = value.now })) }
-    ensures list { IfSome result (λ i. slots page.new ≡ put_at (slots page.old) i (Some (record { relation = relation; key = key.now; value = value.now }))) }
+    ensures done { IfSome result (λ i. Inserted page.old page.new i
+        (record { relation = relation; key = key.now; value = value.now })) }
+    ensures list { IfSome result (λ i. slots page.new ≡ put_at (slots page.old) i (Some
+        (record { relation = relation; key = key.now; value = value.now }))) }
     ensures unchanged { IfNone result (page.new ≡ page.old) }
     ensures full { IfNone result (IsFull page.old (4 + length key.now + length value.now)) }
 {
@@ -76,10 +78,13 @@ pub fn replace(page: &mut [u8], slot: u16, value: &[u8]) -> bool
     requires live { IsSome (held page.old slot) }
     requires value_fits { length value.now ≤ 4096 }
     ensures shaped { IsShaped page.new }
-    ensures done { OnTrue result ((r : Row) → held page.old slot ≡ Some r → Sets page.old page.new slot (Some (record r { value = value.now })) (count page.old)) }
-    ensures list { OnTrue result ((r : Row) → held page.old slot ≡ Some r → slots page.new ≡ set (slots page.old) slot (Some (record r { value = value.now }))) }
+    ensures done { OnTrue result ((r : Row) → held page.old slot ≡ Some r →
+        Sets page.old page.new slot (Some (record r { value = value.now })) (count page.old)) }
+    ensures list { OnTrue result ((r : Row) → held page.old slot ≡ Some r →
+        slots page.new ≡ set (slots page.old) slot (Some (record r { value = value.now }))) }
     ensures unchanged { OnFalse result (page.new ≡ page.old) }
-    ensures full { OnFalse result ((r : Row) → held page.old slot ≡ Some r → room_of page.old + row_length r < row_length (record r { value = value.now })) }
+    ensures full { OnFalse result ((r : Row) → held page.old slot ≡ Some r →
+        room_of page.old + row_length r < row_length (record r { value = value.now })) }
 {
     replace_live(page, usize::from(slot), value)
 }
@@ -91,9 +96,11 @@ fn replace_live(page: &mut [u8], i: usize, value: &[u8]) -> bool
     requires live { size page.old i ≢ 0 }
     requires value_fits { length value.now ≤ 4096 }
     ensures shaped { IsShaped page.new }
-    ensures done { OnTrue result (Sets page.old page.new i (Some (record (row_at page.old (offset page.old i)) { value = value.now })) (count page.old)) }
+    ensures done { OnTrue result (Sets page.old page.new i (Some (record (row_at page.old
+        (offset page.old i)) { value = value.now })) (count page.old)) }
     ensures unchanged { OnFalse result (page.new ≡ page.old) }
-    ensures full { OnFalse result (4096 + size page.old i < 8 + 4 * count page.old + live_bytes page.old (count page.old) + (4 + length (row_at page.old (offset page.old i)).key + length value.now)) }
+    ensures full { OnFalse result (4096 + size page.old i < 8 + 4 * count page.old + live_bytes page.old
+        (count page.old) + (4 + length (row_at page.old (offset page.old i)).key + length value.now)) }
 {
     let mut buffer = [0u8; 256];
     let (relation, length) = keep(page, i, &mut buffer);

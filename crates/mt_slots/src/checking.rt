@@ -49,7 +49,8 @@ pub fn check(page: &[u8], relations: u16, longest: usize) -> bool
 // Whether the bytes 2 to 7 are zero.
 fn has_zeros(page: &[u8]) -> bool
     requires whole { length page.now ≡ 4096 }
-    ensures { MatchBool result ((i : ℕ) → 2 ≤ i → i < 8 → get_or page.now i 0 ≡ 0) (((i : ℕ) → 2 ≤ i → i < 8 → get_or page.now i 0 ≡ 0) → ⊥) }
+    ensures { MatchBool result ((i : ℕ) → 2 ≤ i → i < 8 → get_or page.now i 0 ≡ 0) (((i : ℕ) → 2 ≤ i → i < 8 →
+        get_or page.now i 0 ≡ 0) → ⊥) }
 {
     for k in 2..PAGE_HEAD_BYTES {
         if page[k] != 0 {
@@ -108,7 +109,8 @@ fn is_row(page: &[u8], at: usize, bytes: usize) -> bool
 // Whether the record at a place is one of the schema.
 fn fits(page: &[u8], at: usize, relations: u16, longest: usize) -> bool
     requires { at + row_size page.now at ≤ length page.now }
-    ensures { MatchBool result (Fits relations longest (row_at page.now at)) (Fits relations longest (row_at page.now at) → ⊥) }
+    ensures { MatchBool result (Fits relations longest (row_at page.now at)) (Fits relations longest
+        (row_at page.now at) → ⊥) }
 {
     let row = view_at(page, at);
     row.relation.get() < relations && key_fits(row.key) && row.value.len() <= longest

@@ -61,8 +61,10 @@ pub(crate) fn place_row(
     requires relation_fits { relation < 256 }
     requires key_fits { length key.now < 256 }
     ensures shaped { IsShaped page.new }
-    ensures sets { Sets page.old page.new i (Some (record { relation = relation; key = key.now; value = value.now })) slots }
-    ensures live { live_bytes page.new (count page.new) ≡ live_bytes page.old (count page.old) + (4 + length key.now + length value.now) }
+    ensures sets { Sets page.old page.new i (Some
+        (record { relation = relation; key = key.now; value = value.now })) slots }
+    ensures live { live_bytes page.new (count page.new) ≡ live_bytes page.old (count page.old) +
+        (4 + length key.now + length value.now) }
 {
     write_row(page, at, relation, key, value);
     set_head(page, i, at, row_bytes(key, value));
@@ -122,8 +124,10 @@ pub(crate) fn settle(
     requires relation_fits { relation < 256 }
     requires key_fits { length key.now < 256 }
     ensures shaped { IsShaped page.new }
-    ensures sets { Sets page.old page.new i (Some (record { relation = relation; key = key.now; value = value.now })) slots }
-    ensures grown { live_bytes page.new (count page.new) ≡ live_bytes page.old (count page.old) + (4 + length key.now + length value.now) }
+    ensures sets { Sets page.old page.new i (Some
+        (record { relation = relation; key = key.now; value = value.now })) slots }
+    ensures grown { live_bytes page.new (count page.new) ≡ live_bytes page.old (count page.old) +
+        (4 + length key.now + length value.now) }
 {
     let bytes = row_bytes(key, value);
     let table = PAGE_HEAD_BYTES + SLOT_BYTES * slots;

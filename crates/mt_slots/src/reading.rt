@@ -79,7 +79,8 @@ pub fn live(page: &[u8]) -> u16
 /// The record in a slot; `None` where the slot is empty or past the table.
 pub fn get(page: &[u8], slot: u16) -> Option<RecordView<'_>>
     requires shaped { IsShaped page.now }
-    ensures found { IfSome result (λ v. held page.now slot ≡ Some (record { relation = v.relation; key = v.key.now; value = v.value.now })) }
+    ensures found { IfSome result (λ v. held page.now slot ≡ Some
+        (record { relation = v.relation; key = v.key.now; value = v.value.now })) }
     ensures none { IfNone result (held page.now slot ≡ None) }
 {
     let i = usize::from(slot);
@@ -96,7 +97,12 @@ pub fn get(page: &[u8], slot: u16) -> Option<RecordView<'_>>
 #[tactic(auto, unfolding(crate::specs::Page::row_size, crate::specs::Page::row_at))]
 pub(crate) fn view_at(page: &[u8], at: usize) -> RecordView<'_>
     requires { at + row_size page.now at ≤ length page.now }
-    ensures { row_at page.now at ≡ record { relation = result.relation; key = result.key.now; value = result.value.now } }
+    ensures { row_at page.now at ≡ record {
+      relation = result.relation;
+      key = result.key.now;
+      value =
+          result.value.now;
+    } }
 {
     let key = usize::from(page[at + 1]);
     let value = usize::from(u16_at(page, at + 2));

@@ -36,7 +36,7 @@ leaves relations total pages m new rows = record {
   within = λ p some. rows.index.within p (λ z. some (kinds_stay pages new p ∙ z));
 }
 
-file_kept : (relations total : ℕ) (pages : PageBytes) (m : Map) (new : List ℕ) → AreRows relations total pages m → StaysFile pages (replaced 2 new pages)
+pub file_kept : (relations total : ℕ) (pages : PageBytes) (m : Map) (new : List ℕ) → AreRows relations total pages m → StaysFile pages (replaced 2 new pages)
 file_kept relations total pages m new rows = record {
   size = ap length (replaced_other 2 0 new pages (omega arith));
   fixed = kinds_stay pages new 0 ∙ rows.index.space_fixed;

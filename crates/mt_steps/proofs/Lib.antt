@@ -16,3 +16,5 @@ mod Asking
 mod Promised
 mod Modest
 pub mod Formatting
+mod Telling
+mod LoggedOps

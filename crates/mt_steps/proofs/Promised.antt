@@ -76,6 +76,7 @@ planned relations counters total at_hand pages changes op split reply good act s
   kinds = modest.kinds;
   takes = modest.takes;
   directory = modest.directory;
+  empties = modest.empties;
   small = act_small relations total pages (after changes pages) good.meaning op reply good.rows act;
 }
 

@@ -5,4 +5,5 @@ pub mod Drafts
 pub mod Plans
 pub mod Repeated
 pub mod Logged
+pub mod Tells
 pub mod Formatted

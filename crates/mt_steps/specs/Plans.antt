@@ -5,11 +5,14 @@ use Rattle.mt_space.specs.Changes.{PageBytes, Agrees, after, AreShort}
 use Rattle.mt_space.specs.declared.changes.PageChange.{PageChange}
 use Rattle.mt_space.specs.Kinds.{kind}
 use Rattle.mt_space.specs.Rooms.{mapped, free_in}
+use Rattle.mt_base.specs.declared.modes.Mode.{Mode}
+use Rattle.mt_base.specs.declared.modes.Mode.TheVariants.{Read as ToRead, Write as ToWrite}
+use Rattle.mt_file.specs.File.{record_in}
 use Rattle.mt_file.specs.Plans.{IsNamed}
 use Rattle.mt_file.specs.Rooms.{fits_of}
 use Rattle.mt_index.specs.Maps.{Map}
 use Rattle.mt_model.specs.declared.operations.Op.{Op}
-use Rattle.mt_model.specs.declared.operations.Op.TheVariants.{Get, Insert, Update, Read}
+use Rattle.mt_model.specs.declared.operations.Op.TheVariants.{Get, Insert, Update, Add, Read}
 use Rattle.mt_model.specs.declared.operations.Reply.{Reply}
 use Rattle.mt_model.specs.Model.{Base, reply_of, base_after}
 use Rattle.mt_steps.specs.Counters.{AreCounters}
@@ -55,12 +58,23 @@ HasPages at_hand room relations counters total = (pages : PageBytes) × Agrees a
 abbrev pub InPages : (ℕ → Option (List ℕ)) → Option ℕ → ℕ → ℕ → ℕ → (PageBytes → Type 0) → Type 0
 InPages at_hand room relations counters total P = (pages : PageBytes) → Agrees at_hand pages → IsGood relations counters total pages → IsNamed room pages → P pages
 
--- a page that is not at hand keeps its kind, at most so many free pages are taken, and the directory changes only where
--- a bucket may split
+-- a page of records that has none
+abbrev pub HasNoRecord : PageBytes → ℕ → Type 0
+HasNoRecord pages p = (kind pages p ≡ 3) × ((s : ℕ) → record_in pages p s ≡ None)
+
+-- the lock that an operation on a counter may ask for
+abbrev pub AsksCounters : Op → ℕ → Mode → Type 0
+AsksCounters (Add c d) p mode = (p ≡ 2) × (mode ≡ ToWrite)
+AsksCounters (Read c) p mode = (p ≡ 2) × (mode ≡ ToRead)
+AsksCounters _ p mode = Unit {0}
+
+-- A page that is not at hand keeps its kind, at most so many free pages are taken, the directory changes only where a
+-- bucket may split, and no page is left without a record that had one.
 pub record IsModest (at_hand : ℕ → Option (List ℕ)) (total needs : ℕ) (split : Bool) (pages pages2 : PageBytes) : Type 0 where
   pub kinds : (p : ℕ) → at_hand p ≡ None → kind pages2 p ≡ kind pages p
   pub takes : free_pages total pages ≤ free_pages total pages2 + needs
   pub directory : split ≡ false → pages2 1 ≡ pages 1
+  pub empties : (p : ℕ) → HasNoRecord pages2 p → HasNoRecord pages p
 
 -- What an operation's changes do to pages on which they were planned: whatever base these hold, the reply is the
 -- model's there, and once the changes are made they hold the base that the model leaves, and are as good as before.
@@ -72,4 +86,5 @@ pub record IsPlanned (relations counters total : ℕ) (at_hand : ℕ → Option 
   pub kinds : (p : ℕ) → at_hand p ≡ None → kind (after changes pages) p ≡ kind pages p
   pub takes : free_pages total pages ≤ free_pages total (after changes pages) + own_needs op split
   pub directory : split ≡ false → after changes pages 1 ≡ pages 1
+  pub empties : (p : ℕ) → HasNoRecord (after changes pages) p → HasNoRecord pages p
   pub small : HasSmallReply reply

@@ -40,7 +40,8 @@ pub fn sizes(page: &[u8]) -> SchemaSizes
     requires whole { length page.now ≡ 4096 }
     ensures relations { result.relations ≡ get_or page.now 0 0 }
     ensures counters { result.counters ≡ get_or page.now 1 0 }
-    ensures schema { (relations counters : ℕ) → AreCounters relations counters page.now → (result.relations ≡ relations) × (result.counters ≡ counters) }
+    ensures schema { (relations counters : ℕ) → AreCounters relations counters page.now →
+        (result.relations ≡ relations) × (result.counters ≡ counters) }
 {
     SchemaSizes {
         relations: u16::from(page[0]),
@@ -93,7 +94,8 @@ pub fn add(page: &mut [u8], number: CtrNo, step: i64) -> bool
     ensures done { OnTrue result (count_in page.new number ≡ moved (count_in page.old number) step) }
     ensures unchanged { OnFalse result (page.new ≡ page.old) }
     ensures rest { Torn (place_of number + 16) 8 page.old page.new }
-    ensures kept { (relations counters : ℕ) → AreCounters relations counters page.old → AreCounters relations counters page.new }
+    ensures kept { (relations counters : ℕ) → AreCounters relations counters page.old →
+        AreCounters relations counters page.new }
 {
     let count = counter(page, number);
     if !count.takes(step) {
@@ -121,7 +123,8 @@ pub fn check(page: &[u8], relations: u16, counters: u16) -> bool
 // Whether the bytes behind the two numbers are zero.
 fn has_zeros(page: &[u8]) -> bool
     requires whole { length page.now ≡ 4096 }
-    ensures { MatchBool result ((i : ℕ) → 2 ≤ i → i < 8 → get_or page.now i 0 ≡ 0) (((i : ℕ) → 2 ≤ i → i < 8 → get_or page.now i 0 ≡ 0) → ⊥) }
+    ensures { MatchBool result ((i : ℕ) → 2 ≤ i → i < 8 → get_or page.now i 0 ≡ 0) (((i : ℕ) → 2 ≤ i → i < 8 →
+        get_or page.now i 0 ≡ 0) → ⊥) }
 {
     for i in 2..HEAD_BYTES {
         if page[i] != 0 {
@@ -135,7 +138,8 @@ fn has_zeros(page: &[u8]) -> bool
 fn are_limited(page: &[u8], counters: u16) -> bool
     requires whole { length page.now ≡ 4096 }
     requires few { counters ≤ 128 }
-    ensures { MatchBool result ((c : ℕ) → c < counters → IsLimited (count_in page.now c)) (((c : ℕ) → c < counters → IsLimited (count_in page.now c)) → ⊥) }
+    ensures { MatchBool result ((c : ℕ) → c < counters → IsLimited (count_in page.now c)) (((c : ℕ) → c < counters →
+        IsLimited (count_in page.now c)) → ⊥) }
 {
     for c in 0..counters {
         let count = counter(page, CtrNo::new(c));

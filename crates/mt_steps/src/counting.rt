@@ -27,18 +27,24 @@ pub(crate) fn add_to<V: Pages>(
     step: i64,
 ) -> Result<Act, AllocError>
     requires sound { V.is_sound views.now }
-    requires good { (relations counters : ℕ) × (number < counters) × HasCounters (V.at_hand views.now) relations counters }
+    requires good { (relations counters : ℕ) × (number < counters) × HasCounters
+        (V.at_hand views.now) relations counters }
     requires step { IsStep step }
     requires inside { 2 < V.total views.now }
-    ensures lock { IfOk result (λ act. IfLock act (λ p mode. (V.at_hand views.now p ≡ None) × (p < V.total views.now))) }
+    ensures lock { IfOk result (λ act. IfLock act (λ p mode. (V.at_hand views.now p ≡ None) × (p ≡ 2))) }
     ensures mode { IfOk result (λ act. IfLock act (λ p mode. mode ≡ ToWrite)) }
     ensures made { (relations : ℕ) → IfOk result (λ act. IfMade act (λ changes reply.
-        InGood (V.at_hand views.now) relations (V.total views.now) (λ pages m. (counters : ℕ) → number < counters → AreCounters relations counters (pages 2) →
-        IsAct relations (V.total views.now) pages (after changes pages) (Add number step) reply × AreShort changes pages))) }
+        InGood (V.at_hand views.now) relations (V.total views.now) (λ pages m. (counters : ℕ) → number < counters →
+        AreCounters relations counters (pages 2) →
+        IsAct relations (V.total views.now) pages (after changes pages) (Add number step) reply ×
+        AreShort changes pages))) }
     ensures there { IfOk result (λ act. IfMade act (λ changes reply. AreAtHand (V.at_hand views.now) changes)) }
     ensures few { IfOk result (λ act. IfMade act (λ changes reply. length changes ≤ 8)) }
-    ensures idle { IfOk result (λ act. IfMade act (λ changes reply. logged_of (Add number step) reply ≡ None → changes ≡ [])) }
-    ensures modest { (relations : ℕ) → IfOk result (λ act. IfMade act (λ changes reply. InGood (V.at_hand views.now) relations (V.total views.now) (λ pages m. IsModest (V.at_hand views.now) (V.total views.now) 0 false pages (after changes pages)))) }
+    ensures idle { IfOk result (λ act. IfMade act (λ changes reply. logged_of (Add number step) reply ≡ None →
+        changes ≡ [])) }
+    ensures modest { (relations : ℕ) → IfOk result (λ act. IfMade act (λ changes reply.
+        InGood (V.at_hand views.now) relations (V.total views.now) (λ pages m.
+        IsModest (V.at_hand views.now) (V.total views.now) 0 false pages (after changes pages)))) }
     ensures full { IfOk result (λ act. IfFull act ⊥) }
     ensures broken { IfOk result (λ act. IfBroken act ⊥) }
 {
@@ -60,9 +66,11 @@ pub(crate) fn read_from<V: Pages>(alloc: Global, views: &V, number: CtrNo) -> Ac
     requires sound { V.is_sound views.now }
     requires there { number < 128 }
     requires inside { 2 < V.total views.now }
-    ensures lock { IfLock result (λ p mode. (V.at_hand views.now p ≡ None) × (p < V.total views.now)) }
+    ensures lock { IfLock result (λ p mode. (V.at_hand views.now p ≡ None) × (p ≡ 2)) }
     ensures mode { IfLock result (λ p mode. mode ≡ ToRead) }
-    ensures made { (relations : ℕ) → IfMade result (λ changes reply. InGood (V.at_hand views.now) relations (V.total views.now) (λ pages m. IsAct relations (V.total views.now) pages (after changes pages) (Read number) reply × AreShort changes pages)) }
+    ensures made { (relations : ℕ) → IfMade result (λ changes reply. InGood (V.at_hand views.now) relations
+        (V.total views.now) (λ pages m. IsAct relations (V.total views.now) pages (after changes pages)
+        (Read number) reply × AreShort changes pages)) }
     ensures quiet { IfMade result (λ changes reply. changes ≡ []) }
     ensures idle { IfMade result (λ changes reply. logged_of (Read number) reply ≡ None → changes ≡ []) }
     ensures full { IfFull result ⊥ }

@@ -7,6 +7,7 @@ ghost use Rattle.mt_steps.specs.Drafts.{AreAtHand};
 ghost use Rattle.mt_steps.specs.Acts.{HasGood, InGood, IfLock, IfMade, IfFull, IfBroken, IsAct, IsTaken};
 ghost use Rattle.mt_steps.specs.Plans.{IsModest};
 ghost use Rattle.mt_steps.specs.Logged.{logged_of};
+ghost use Rattle.mt_steps.specs.Tells.{Tells, IsDone, IsAny, HasTaken};
 
 use crate::act::Act;
 use crate::draft::first_missing;
@@ -30,14 +31,20 @@ pub(crate) fn delete<V: Pages>(
     requires sound { V.is_sound views.now }
     requires good { (relations : ℕ) × HasGood (V.at_hand views.now) relations (V.total views.now) }
     requires short { length key.now ≤ 64 }
-    ensures lock { IfOk result (λ act. IfLock act (λ p mode. (V.at_hand views.now p ≡ None) × (p < V.total views.now))) }
+    ensures lock { IfOk result (λ act. IfLock act (λ p mode. (V.at_hand views.now p ≡ None) ×
+        (p < V.total views.now))) }
     ensures made { (relations : ℕ) → IfOk result (λ act. IfMade act (λ changes reply.
-        InGood (V.at_hand views.now) relations (V.total views.now) (λ pages m. IsAct relations (V.total views.now) pages (after changes pages) (Delete relation key.now) reply × AreShort changes pages))) }
-    ensures modest { (relations : ℕ) → IfOk result (λ act. IfMade act (λ changes reply. InGood (V.at_hand views.now) relations (V.total views.now) (λ pages m. IsModest (V.at_hand views.now) (V.total views.now) 0 false pages (after changes pages)))) }
+        InGood (V.at_hand views.now) relations (V.total views.now) (λ pages m.
+        IsAct relations (V.total views.now) pages (after changes pages) (Delete relation key.now) reply ×
+        AreShort changes pages))) }
+    ensures modest { (relations : ℕ) → IfOk result (λ act. IfMade act (λ changes reply.
+        InGood (V.at_hand views.now) relations (V.total views.now) (λ pages m.
+        IsModest (V.at_hand views.now) (V.total views.now) 0 false pages (after changes pages)))) }
     ensures full { IfOk result (λ act. IfFull act ⊥) }
     ensures there { IfOk result (λ act. IfMade act (λ changes reply. AreAtHand (V.at_hand views.now) changes)) }
     ensures few { IfOk result (λ act. IfMade act (λ changes reply. length changes ≤ 8)) }
-    ensures idle { IfOk result (λ act. IfMade act (λ changes reply. logged_of (Delete relation key.now) reply ≡ None → changes ≡ [])) }
+    ensures idle { IfOk result (λ act. IfMade act (λ changes reply. logged_of
+        (Delete relation key.now) reply ≡ None → changes ≡ [])) }
     ensures broken { IfOk result (λ act. IfBroken act ⊥) }
 {
     match plan_find(views, relation, key) {
@@ -60,15 +67,8 @@ fn delete_row<V: Pages>(
     requires good { (relations : ℕ) × HasGood (V.at_hand views.now) relations (V.total views.now) }
     requires short { length key.now ≤ 64 }
     requires named { InMaps (V.at_hand views.now) (V.total views.now) (λ pages m. m relation key.now ≡ Some name.now) }
-    ensures lock { IfOk result (λ act. IfLock act (λ p mode. (V.at_hand views.now p ≡ None) × (p < V.total views.now))) }
-    ensures made { (relations : ℕ) → IfOk result (λ act. IfMade act (λ changes reply.
-        InGood (V.at_hand views.now) relations (V.total views.now) (λ pages m. IsAct relations (V.total views.now) pages (after changes pages) (Delete relation key.now) reply × AreShort changes pages))) }
-    ensures modest { (relations : ℕ) → IfOk result (λ act. IfMade act (λ changes reply. InGood (V.at_hand views.now) relations (V.total views.now) (λ pages m. IsModest (V.at_hand views.now) (V.total views.now) 0 false pages (after changes pages)))) }
-    ensures full { IfOk result (λ act. IfFull act ⊥) }
-    ensures there { IfOk result (λ act. IfMade act (λ changes reply. AreAtHand (V.at_hand views.now) changes)) }
-    ensures few { IfOk result (λ act. IfMade act (λ changes reply. length changes ≤ 8)) }
-    ensures idle { IfOk result (λ act. IfMade act (λ changes reply. logged_of (Delete relation key.now) reply ≡ None → changes ≡ [])) }
-    ensures broken { IfOk result (λ act. IfBroken act ⊥) }
+    ensures { IfOk result (Tells (V.at_hand views.now) (V.total views.now) (IsDone (V.at_hand views.now)
+        (V.total views.now) 0 false (Delete relation key.now) IsAny) ⊥) }
 {
     let old = match plan_read(views, *name) {
         Found::Need(page, _) => return Ok(Act::Lock(page, Mode::Write)),
@@ -101,17 +101,12 @@ fn drop_entry<V: Pages>(
     requires few { length first.now.list.items ≤ 1 }
     requires seen { IsSome (V.at_hand views.now name.now.page) }
     requires short { length key.now ≤ 64 }
-    requires good { (relations : ℕ) × HasGood (V.at_hand views.now) relations (V.total views.now) × InGood (V.at_hand views.now) relations (V.total views.now) (λ pages m. (m relation key.now ≡ Some name.now) × IsTaken pages first.now.list.items name.now (record { relation = relation; key = key.now; value = old })) }
-    ensures lock { IfOk result (λ act. IfLock act (λ p mode. (V.at_hand views.now p ≡ None) × (p < V.total views.now))) }
-    ensures made { (relations : ℕ) → IfOk result (λ act. IfMade act (λ changes reply.
-        InGood (V.at_hand views.now) relations (V.total views.now) (λ pages m. m relation key.now ≡ Some name.now → IsTaken pages first.now.list.items name.now (record { relation = relation; key = key.now; value = old }) →
-        IsAct relations (V.total views.now) pages (after changes pages) (Delete relation key.now) reply × AreShort changes pages))) }
-    ensures modest { (relations : ℕ) → IfOk result (λ act. IfMade act (λ changes reply. InGood (V.at_hand views.now) relations (V.total views.now) (λ pages m. m relation key.now ≡ Some name.now → IsTaken pages first.now.list.items name.now (record { relation = relation; key = key.now; value = old }) → IsModest (V.at_hand views.now) (V.total views.now) 0 false pages (after changes pages)))) }
-    ensures full { IfOk result (λ act. IfFull act ⊥) }
-    ensures there { IfOk result (λ act. IfMade act (λ changes reply. AreAtHand (V.at_hand views.now) changes)) }
-    ensures few { IfOk result (λ act. IfMade act (λ changes reply. length changes ≤ 8)) }
-    ensures idle { IfOk result (λ act. IfMade act (λ changes reply. logged_of (Delete relation key.now) reply ≡ None → changes ≡ [])) }
-    ensures broken { IfOk result (λ act. IfBroken act ⊥) }
+    requires good { (relations : ℕ) × HasGood (V.at_hand views.now) relations (V.total views.now) ×
+        InGood (V.at_hand views.now) relations (V.total views.now) (λ pages m. (m relation key.now ≡ Some name.now) ×
+        IsTaken pages first.now.list.items name.now (record { relation = relation; key = key.now; value = old })) }
+    ensures { IfOk result (Tells (V.at_hand views.now) (V.total views.now) (IsDone (V.at_hand views.now)
+        (V.total views.now) 0 false (Delete relation key.now)
+        (HasTaken first.now.list.items name.now (record { relation = relation; key = key.now; value = old }))) ⊥) }
 {
     let draft = drafted(alloc, views, first)?;
     match plan_drop(alloc, &draft, relation, key)? {

@@ -44,13 +44,19 @@ impl<'a, V: Pages> Draft<'a, V> {
         requires sound { V.is_sound self.old.views.now }
         requires copies { AreCopies (V.at_hand self.old.views.now) self.old.copies.items }
         requires there { AreAtHand (shown self.old.copies.items (V.at_hand self.old.views.now)) changes.now.list.items }
-        requires short { (pages : PageBytes) × Agrees (shown self.old.copies.items (V.at_hand self.old.views.now)) pages × AreShort changes.now.list.items pages }
+        requires short { (pages : PageBytes) × Agrees (shown self.old.copies.items
+            (V.at_hand self.old.views.now)) pages × AreShort changes.now.list.items pages }
         ensures copies { AreCopies (V.at_hand self.old.views.now) self.new.copies.items }
         ensures views { self.new.views.now ≡ self.old.views.now }
-        ensures same_pages { (p : ℕ) → IsSome (shown self.new.copies.items (V.at_hand self.old.views.now) p) ↔ IsSome (V.at_hand self.old.views.now p) }
-        ensures agrees { OnOk result ((pages : PageBytes) → Agrees (shown self.old.copies.items (V.at_hand self.old.views.now)) pages → Agrees (shown self.new.copies.items (V.at_hand self.old.views.now)) (after changes.now.list.items pages)) }
-        ensures few { OnOk result (length self.new.copies.items ≤ length self.old.copies.items + length changes.now.list.items) }
-        ensures drawn { OnOk result ((pages : PageBytes) → Agrees (V.at_hand self.old.views.now) pages → drawn self.new.copies.items pages ≡ after changes.now.list.items (drawn self.old.copies.items pages)) }
+        ensures same_pages { (p : ℕ) → IsSome (shown self.new.copies.items
+            (V.at_hand self.old.views.now) p) ↔ IsSome (V.at_hand self.old.views.now p) }
+        ensures agrees { OnOk result ((pages : PageBytes) → Agrees (shown self.old.copies.items
+            (V.at_hand self.old.views.now)) pages → Agrees (shown self.new.copies.items (V.at_hand self.old.views.now))
+            (after changes.now.list.items pages)) }
+        ensures few { OnOk result (length self.new.copies.items ≤ length self.old.copies.items + length
+            changes.now.list.items) }
+        ensures drawn { OnOk result ((pages : PageBytes) → Agrees (V.at_hand self.old.views.now) pages →
+            drawn self.new.copies.items pages ≡ after changes.now.list.items (drawn self.old.copies.items pages)) }
     {
         for change in &changes.list {
             self.make(change)?;
@@ -67,7 +73,9 @@ impl<'a, V: Pages> Draft<'a, V> {
         ensures copies { AreCopies (V.at_hand self.old.views.now) self.new.copies.items }
         ensures views { self.new.views.now ≡ self.old.views.now }
         ensures few { OnOk result (length self.new.copies.items ≤ length self.old.copies.items + 1) }
-        ensures kept { OnOk result ((bytes : List ℕ) → shown self.old.copies.items (V.at_hand self.old.views.now) change.now.page ≡ Some bytes → Keeps change.now.page (patched change.now.edits.items bytes) self.old.copies.items self.new.copies.items) }
+        ensures kept { OnOk result ((bytes : List ℕ) → shown self.old.copies.items
+            (V.at_hand self.old.views.now) change.now.page ≡ Some bytes → Keeps change.now.page
+            (patched change.now.edits.items bytes) self.old.copies.items self.new.copies.items) }
     {
         let mut bytes = match self.page(change.page) {
             Some(shown) => *shown,
@@ -83,11 +91,14 @@ impl<'a, V: Pages> Draft<'a, V> {
     pub fn changes(&self) -> Result<Changes, AllocError>
         requires sound { V.is_sound self.now.views.now }
         requires copies { AreCopies (V.at_hand self.now.views.now) self.now.copies.items }
-        ensures made { IfOk result (λ changes. (pages : PageBytes) → Agrees (V.at_hand self.now.views.now) pages → after changes.list.items pages ≡ drawn self.now.copies.items pages) }
-        ensures short { IfOk result (λ changes. (pages : PageBytes) → Agrees (V.at_hand self.now.views.now) pages → AreShort changes.list.items pages) }
+        ensures made { IfOk result (λ changes. (pages : PageBytes) → Agrees (V.at_hand self.now.views.now) pages →
+            after changes.list.items pages ≡ drawn self.now.copies.items pages) }
+        ensures short { IfOk result (λ changes. (pages : PageBytes) → Agrees (V.at_hand self.now.views.now) pages →
+            AreShort changes.list.items pages) }
         ensures there { IfOk result (λ changes. AreAtHand (V.at_hand self.now.views.now) changes.list.items) }
         ensures few { IfOk result (λ changes. length changes.list.items ≤ length self.now.copies.items) }
-        ensures same { IfOk result (λ changes. (p : ℕ) → shown self.now.copies.items (V.at_hand self.now.views.now) p ≡ V.at_hand self.now.views.now p → IsUntouched changes.list.items p) }
+        ensures same { IfOk result (λ changes. (p : ℕ) → shown self.now.copies.items
+            (V.at_hand self.now.views.now) p ≡ V.at_hand self.now.views.now p → IsUntouched changes.list.items p) }
     {
         let mut changes = Changes::new(*self.copies.allocator());
         for copy in &self.copies {
@@ -149,11 +160,15 @@ pub fn merged<V: Pages>(
     requires sound { V.is_sound views.now }
     requires first_there { AreAtHand (V.at_hand views.now) first.now.list.items }
     requires second_there { AreAtHand (V.at_hand views.now) second.now.list.items }
-    requires short { (pages : PageBytes) × Agrees (V.at_hand views.now) pages × AreShort first.now.list.items pages × AreShort second.now.list.items (after first.now.list.items pages) }
-    ensures made { IfOk result (λ changes. (pages : PageBytes) → Agrees (V.at_hand views.now) pages → after changes.list.items pages ≡ after second.now.list.items (after first.now.list.items pages)) }
-    ensures short { IfOk result (λ changes. (pages : PageBytes) → Agrees (V.at_hand views.now) pages → AreShort changes.list.items pages) }
+    requires short { (pages : PageBytes) × Agrees (V.at_hand views.now) pages × AreShort first.now.list.items pages ×
+        AreShort second.now.list.items (after first.now.list.items pages) }
+    ensures made { IfOk result (λ changes. (pages : PageBytes) → Agrees (V.at_hand views.now) pages →
+        after changes.list.items pages ≡ after second.now.list.items (after first.now.list.items pages)) }
+    ensures short { IfOk result (λ changes. (pages : PageBytes) → Agrees (V.at_hand views.now) pages →
+        AreShort changes.list.items pages) }
     ensures there { IfOk result (λ changes. AreAtHand (V.at_hand views.now) changes.list.items) }
-    ensures few { IfOk result (λ changes. length changes.list.items ≤ length first.now.list.items + length second.now.list.items) }
+    ensures few { IfOk result (λ changes.
+        length changes.list.items ≤ length first.now.list.items + length second.now.list.items) }
 {
     let mut draft = Draft::new(alloc, views);
     draft.apply(first)?;

@@ -25,11 +25,16 @@ pub(crate) fn get<V: Pages>(
     requires sound { V.is_sound views.now }
     requires good { (relations : ℕ) × HasGood (V.at_hand views.now) relations (V.total views.now) }
     requires short { length key.now ≤ 64 }
-    ensures lock { IfOk result (λ act. IfLock act (λ p mode. (V.at_hand views.now p ≡ None) × (p < V.total views.now))) }
+    ensures lock { IfOk result (λ act. IfLock act (λ p mode. (V.at_hand views.now p ≡ None) ×
+        (p < V.total views.now))) }
     ensures mode { IfOk result (λ act. IfLock act (λ p mode. mode ≡ Read)) }
-    ensures made { (relations : ℕ) → IfOk result (λ act. IfMade act (λ changes reply. InGood (V.at_hand views.now) relations (V.total views.now) (λ pages m. IsAct relations (V.total views.now) pages (after changes pages) (Get relation key.now) reply × AreShort changes pages))) }
+    ensures made { (relations : ℕ) → IfOk result (λ act. IfMade act (λ changes reply.
+        InGood (V.at_hand views.now) relations (V.total views.now) (λ pages m.
+        IsAct relations (V.total views.now) pages (after changes pages) (Get relation key.now) reply ×
+        AreShort changes pages))) }
     ensures quiet { IfOk result (λ act. IfMade act (λ changes reply. changes ≡ [])) }
-    ensures idle { IfOk result (λ act. IfMade act (λ changes reply. logged_of (Get relation key.now) reply ≡ None → changes ≡ [])) }
+    ensures idle { IfOk result (λ act. IfMade act (λ changes reply. logged_of (Get relation key.now) reply ≡ None →
+        changes ≡ [])) }
     ensures full { IfOk result (λ act. IfFull act ⊥) }
     ensures broken { IfOk result (λ act. IfBroken act ⊥) }
 {

@@ -2,13 +2,16 @@
 ghost use Rattle.std.specs.Prelude.{◌≡◌, ◌⊎◌, ◌≤◌, ◌<◌, ℕ, [], List, Option, length, None, IfOk, IsSome, cond};
 ghost use Rattle.mt_base.specs.Limits.{IsKey, IsValue};
 ghost use Rattle.mt_slots.specs.Page.{Fits, row_length};
-ghost use Rattle.mt_space.specs.Changes.{after, AreShort};
+ghost use Rattle.mt_space.specs.Changes.{PageBytes, Agrees, after, AreShort};
 ghost use Rattle.mt_model.specs.declared.operations.Op.TheVariants.{Insert};
 ghost use Rattle.mt_index.specs.Answers.{InMaps};
 ghost use Rattle.mt_steps.specs.Drafts.{AreAtHand};
 ghost use Rattle.mt_steps.specs.Acts.{HasRoomy, InRoomy, IfLock, IfMade, IfFull, IfBroken, IsAct, IsPlaced};
 ghost use Rattle.mt_steps.specs.Plans.{free_pages, IsTight, IsModest};
 ghost use Rattle.mt_steps.specs.Logged.{logged_of};
+ghost use Rattle.mt_steps.specs.Tells.{Tells, IsDone, TakesRow, HasPlaced};
+ghost use Rattle.mt_index.specs.Maps.{Map};
+ghost use Rattle.mt_steps.specs.Held.{AreRows};
 
 use crate::act::Act;
 use crate::draft::first_missing;
@@ -38,14 +41,25 @@ pub(crate) fn insert<V: Pages>(
     requires relation_fits { relation < 256 }
     requires key_fits { IsKey key.now }
     requires value_fits { IsValue value.now }
-    ensures lock { IfOk result (λ act. IfLock act (λ p mode. (V.at_hand views.now p ≡ None) × (p < V.total views.now))) }
-    ensures made { (relations : ℕ) → Fits relations 1024 (record { relation = relation; key = key.now; value = value.now }) → IfOk result (λ act. IfMade act (λ changes reply.
-        InRoomy (V.at_hand views.now) room relations (V.total views.now) (λ pages m. IsAct relations (V.total views.now) pages (after changes pages) (Insert relation key.now value.now) reply × AreShort changes pages))) }
+    ensures lock { IfOk result (λ act. IfLock act (λ p mode. (V.at_hand views.now p ≡ None) ×
+        (p < V.total views.now))) }
+    ensures made { (relations : ℕ) → Fits relations 1024
+        (record { relation = relation; key = key.now; value = value.now }) → IfOk result (λ act.
+        IfMade act (λ changes reply.
+        InRoomy (V.at_hand views.now) room relations (V.total views.now) (λ pages m.
+        IsAct relations (V.total views.now) pages (after changes pages) (Insert relation key.now value.now) reply ×
+        AreShort changes pages))) }
     ensures there { IfOk result (λ act. IfMade act (λ changes reply. AreAtHand (V.at_hand views.now) changes)) }
     ensures few { IfOk result (λ act. IfMade act (λ changes reply. length changes ≤ 8)) }
-    ensures idle { IfOk result (λ act. IfMade act (λ changes reply. logged_of (Insert relation key.now value.now) reply ≡ None → changes ≡ [])) }
-    ensures modest { (relations : ℕ) → IfOk result (λ act. IfMade act (λ changes reply. InRoomy (V.at_hand views.now) room relations (V.total views.now) (λ pages m. IsModest (V.at_hand views.now) (V.total views.now) (cond split 3 2) split pages (after changes pages)))) }
-    ensures full { (relations : ℕ) → IfOk result (λ act. IfFull act (InRoomy (V.at_hand views.now) room relations (V.total views.now) (λ pages m. (free_pages (V.total views.now) pages < cond split 3 2) ⊎ IsTight room pages (row_length (record { relation = relation; key = key.now; value = value.now }))))) }
+    ensures idle { IfOk result (λ act. IfMade act (λ changes reply. logged_of
+        (Insert relation key.now value.now) reply ≡ None → changes ≡ [])) }
+    ensures modest { (relations : ℕ) → Fits relations 1024
+        (record { relation = relation; key = key.now; value = value.now }) → IfOk result (λ act.
+        IfMade act (λ changes reply. InRoomy (V.at_hand views.now) room relations (V.total views.now) (λ pages m.
+        IsModest (V.at_hand views.now) (V.total views.now) (cond split 3 2) split pages (after changes pages)))) }
+    ensures full { (relations : ℕ) → IfOk result (λ act. IfFull act (InRoomy (V.at_hand views.now) room relations
+        (V.total views.now) (λ pages m. (free_pages (V.total views.now) pages < cond split 3 2) ⊎
+        IsTight room pages (row_length (record { relation = relation; key = key.now; value = value.now }))))) }
     ensures broken { IfOk result (λ act. IfBroken act ⊥) }
 {
     match plan_find(views, relation, key) {
@@ -72,15 +86,12 @@ fn insert_new<V: Pages>(
     requires key_fits { IsKey key.now }
     requires value_fits { IsValue value.now }
     requires missing { InMaps (V.at_hand views.now) (V.total views.now) (λ pages m. m relation key.now ≡ None) }
-    ensures lock { IfOk result (λ act. IfLock act (λ p mode. (V.at_hand views.now p ≡ None) × (p < V.total views.now))) }
-    ensures made { (relations : ℕ) → Fits relations 1024 (record { relation = relation; key = key.now; value = value.now }) → IfOk result (λ act. IfMade act (λ changes reply.
-        InRoomy (V.at_hand views.now) room relations (V.total views.now) (λ pages m. IsAct relations (V.total views.now) pages (after changes pages) (Insert relation key.now value.now) reply × AreShort changes pages))) }
-    ensures there { IfOk result (λ act. IfMade act (λ changes reply. AreAtHand (V.at_hand views.now) changes)) }
-    ensures few { IfOk result (λ act. IfMade act (λ changes reply. length changes ≤ 8)) }
-    ensures idle { IfOk result (λ act. IfMade act (λ changes reply. logged_of (Insert relation key.now value.now) reply ≡ None → changes ≡ [])) }
-    ensures modest { (relations : ℕ) → IfOk result (λ act. IfMade act (λ changes reply. InRoomy (V.at_hand views.now) room relations (V.total views.now) (λ pages m. IsModest (V.at_hand views.now) (V.total views.now) (cond split 3 2) split pages (after changes pages)))) }
-    ensures full { (relations : ℕ) → IfOk result (λ act. IfFull act (InRoomy (V.at_hand views.now) room relations (V.total views.now) (λ pages m. (free_pages (V.total views.now) pages < cond split 3 2) ⊎ IsTight room pages (row_length (record { relation = relation; key = key.now; value = value.now }))))) }
-    ensures broken { IfOk result (λ act. IfBroken act ⊥) }
+    ensures { IfOk result (Tells (V.at_hand views.now) (V.total views.now) (IsDone (V.at_hand views.now)
+        (V.total views.now) (cond split 3 2) split (Insert relation key.now value.now)
+        (TakesRow room (record { relation = relation; key = key.now; value = value.now })))
+        ((relations : ℕ) → InRoomy (V.at_hand views.now) room relations (V.total views.now) (λ pages m.
+        (free_pages (V.total views.now) pages < cond split 3 2) ⊎ IsTight room pages (row_length
+        (record { relation = relation; key = key.now; value = value.now }))))) }
 {
     let plan = match plan_put(alloc, views, room, relation, key, value)? {
         Step::Need(page, mode) => return Ok(Act::Lock(page, mode)),
@@ -108,17 +119,20 @@ fn add_entry<V: Pages>(
     requires seen { IsSome (V.at_hand views.now plan.now.name.page) }
     requires relation_fits { relation < 256 }
     requires short { length key.now ≤ 64 }
-    requires good { (relations : ℕ) × (room : Option ℕ) × (value : List ℕ) × HasRoomy (V.at_hand views.now) room relations (V.total views.now) × InRoomy (V.at_hand views.now) room relations (V.total views.now) (λ pages m. IsPlaced (V.total views.now) pages plan.now.changes.list.items plan.now.name (record { relation = relation; key = key.now; value = value })) }
-    ensures lock { IfOk result (λ act. IfLock act (λ p mode. (V.at_hand views.now p ≡ None) × (p < V.total views.now))) }
-    ensures made { (relations : ℕ) (room : Option ℕ) (value : List ℕ) → Fits relations 1024 (record { relation = relation; key = key.now; value = value }) → IfOk result (λ act. IfMade act (λ changes reply.
-        InRoomy (V.at_hand views.now) room relations (V.total views.now) (λ pages m. m relation key.now ≡ None → IsPlaced (V.total views.now) pages plan.now.changes.list.items plan.now.name (record { relation = relation; key = key.now; value = value }) →
-        IsAct relations (V.total views.now) pages (after changes pages) (Insert relation key.now value) reply × AreShort changes pages))) }
-    ensures there { IfOk result (λ act. IfMade act (λ changes reply. AreAtHand (V.at_hand views.now) changes)) }
-    ensures few { IfOk result (λ act. IfMade act (λ changes reply. length changes ≤ 8)) }
-    ensures idle { (value : List ℕ) → IfOk result (λ act. IfMade act (λ changes reply. logged_of (Insert relation key.now value) reply ≡ None → changes ≡ [])) }
-    ensures modest { (relations : ℕ) (room : Option ℕ) (value : List ℕ) → IfOk result (λ act. IfMade act (λ changes reply. InRoomy (V.at_hand views.now) room relations (V.total views.now) (λ pages m. IsPlaced (V.total views.now) pages plan.now.changes.list.items plan.now.name (record { relation = relation; key = key.now; value = value }) → IsModest (V.at_hand views.now) (V.total views.now) (cond split 3 2) split pages (after changes pages)))) }
-    ensures full { (relations : ℕ) (room : Option ℕ) (value : List ℕ) → IfOk result (λ act. IfFull act (InRoomy (V.at_hand views.now) room relations (V.total views.now) (λ pages m. IsPlaced (V.total views.now) pages plan.now.changes.list.items plan.now.name (record { relation = relation; key = key.now; value = value }) → free_pages (V.total views.now) pages < cond split 3 2))) }
-    ensures broken { IfOk result (λ act. IfBroken act ⊥) }
+    requires good { (relations : ℕ) × (room : Option ℕ) × (value : List ℕ) ×
+        HasRoomy (V.at_hand views.now) room relations (V.total views.now) ×
+        InRoomy (V.at_hand views.now) room relations (V.total views.now) (λ pages m.
+        IsPlaced (V.total views.now) pages plan.now.changes.list.items plan.now.name
+        (record { relation = relation; key = key.now; value = value })) }
+    ensures { (value : List ℕ) → IfOk result (Tells (V.at_hand views.now) (V.total views.now) (IsDone
+        (V.at_hand views.now) (V.total views.now) (cond split 3 2) split (Insert relation key.now value)
+        (HasPlaced (V.total views.now) plan.now.changes.list.items plan.now.name
+        (record { relation = relation; key = key.now; value = value })))
+        ((relations : ℕ) (pages : PageBytes) → Agrees (V.at_hand views.now) pages → (m : Map) →
+        AreRows relations (V.total views.now) pages m →
+        IsPlaced (V.total views.now) pages plan.now.changes.list.items plan.now.name
+        (record { relation = relation; key = key.now; value = value }) →
+        free_pages (V.total views.now) pages < cond split 3 2)) }
 {
     let draft = drafted(alloc, views, &plan.changes)?;
     match plan_add(alloc, &draft, relation, key, plan.name, split)? {

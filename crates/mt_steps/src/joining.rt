@@ -3,6 +3,7 @@ ghost use Rattle.std.specs.Prelude.{◌≡◌, ◌+◌, ◌<◌, ◌≤◌, ℕ,
 ghost use Rattle.mt_space.specs.Changes.{PageBytes, Agrees, after, AreShort, IsUntouched};
 ghost use Rattle.mt_steps.specs.Drafts.{AreAtHand, AreCopies, shown};
 ghost use Rattle.mt_steps.specs.Acts.{IfLock, IfMade, IfFull, IfBroken};
+ghost use Rattle.mt_steps.specs.Tells.{Tells, IsJoined};
 
 use crate::act::Act;
 use crate::draft::{Draft, first_missing, merged};
@@ -32,8 +33,10 @@ pub(crate) fn drafted<'a, V: Pages>(
     requires short { (pages : PageBytes) × Agrees (V.at_hand views.now) pages × AreShort changes.now.list.items pages }
     ensures copies { IfOk result (λ d. AreCopies (V.at_hand views.now) d.copies.items) }
     ensures views { IfOk result (λ d. d.views.now ≡ views.now) }
-    ensures none { IfOk result (λ d. (p : ℕ) → shown d.copies.items (V.at_hand views.now) p ≡ None → V.at_hand views.now p ≡ None) }
-    ensures agrees { IfOk result (λ d. (pages : PageBytes) → Agrees (V.at_hand views.now) pages → Agrees (shown d.copies.items (V.at_hand views.now)) (after changes.now.list.items pages)) }
+    ensures none { IfOk result (λ d. (p : ℕ) → shown d.copies.items (V.at_hand views.now) p ≡ None →
+        V.at_hand views.now p ≡ None) }
+    ensures agrees { IfOk result (λ d. (pages : PageBytes) → Agrees (V.at_hand views.now) pages →
+        Agrees (shown d.copies.items (V.at_hand views.now)) (after changes.now.list.items pages)) }
 {
     let mut draft = Draft::new(alloc, views);
     draft.apply(changes)?;
@@ -51,13 +54,10 @@ pub(crate) fn join<V: Pages>(
     requires sound { V.is_sound views.now }
     requires there { AreAtHand (V.at_hand views.now) first.now.list.items }
     requires inside { (p : ℕ) → (IsUntouched second.now.list.items p → ⊥) → p < V.total views.now }
-    requires short { (pages : PageBytes) × Agrees (V.at_hand views.now) pages × AreShort first.now.list.items pages × AreShort second.now.list.items (after first.now.list.items pages) }
-    ensures lock { IfOk result (λ act. IfLock act (λ p mode. (V.at_hand views.now p ≡ None) × (p < V.total views.now))) }
-    ensures made { IfOk result (λ act. IfMade act (λ changes told. (told ≡ reply) × ((pages : PageBytes) → Agrees (V.at_hand views.now) pages → (after changes pages ≡ after second.now.list.items (after first.now.list.items pages)) × AreShort changes pages))) }
-    ensures there { IfOk result (λ act. IfMade act (λ changes reply. AreAtHand (V.at_hand views.now) changes)) }
-    ensures few { IfOk result (λ act. IfMade act (λ changes told. length changes ≤ length first.now.list.items + length second.now.list.items)) }
-    ensures broken { IfOk result (λ act. IfBroken act ⊥) }
-    ensures full { IfOk result (λ act. IfFull act ⊥) }
+    requires short { (pages : PageBytes) × Agrees (V.at_hand views.now) pages × AreShort first.now.list.items pages ×
+        AreShort second.now.list.items (after first.now.list.items pages) }
+    ensures { IfOk result (Tells (V.at_hand views.now) (V.total views.now) (IsJoined
+        (V.at_hand views.now) first.now.list.items second.now.list.items reply) ⊥) }
 {
     if let Some(page) = first_missing(views, second) {
         return Ok(Act::Lock(page, Mode::Write));

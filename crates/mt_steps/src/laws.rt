@@ -8,6 +8,8 @@ ghost use Rattle.mt_steps.specs.Plans.{IsGood};
 /// Pages as a device is formatted with them break no rule, and hold the base without rows, with the counters of
 /// page 2.
 pub fn formatted_pages_are_good()
-    ensures good { (relations counters total : ℕ) (pages : PageBytes) → IsFormatted relations counters total pages → IsGood relations counters total pages }
-    ensures base { (relations counters total : ℕ) (pages : PageBytes) → IsFormatted relations counters total pages → Holds pages (first_base pages) }
+    ensures good { (relations counters total : ℕ) (pages : PageBytes) → IsFormatted relations counters total pages →
+        IsGood relations counters total pages }
+    ensures base { (relations counters total : ℕ) (pages : PageBytes) → IsFormatted relations counters total pages →
+        Holds pages (first_base pages) }
 {}

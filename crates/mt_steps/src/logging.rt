@@ -12,7 +12,16 @@ use mt_model::{Op, Reply};
 /// What is logged of an operation that replied this: nothing where it did nothing.
 pub fn logged(op: &Op, reply: &Reply) -> Result<Option<LoggedOp>, Refusal>
     ensures logged { IfOk result (λ done. done ≡ logged_of op.now reply.now) }
-    ensures operation { (relations counters : ℕ) → relations ≤ 64 → counters ≤ 128 → IsWithin relations counters op.now → HasSmallReply reply.now → IfOk result (λ done. IfSome done IsOperation) }
+    ensures operation { (relations counters : ℕ) → relations ≤ 64 → counters ≤ 128 →
+        IsWithin relations counters op.now → HasSmallReply reply.now → IfOk result (λ done. IfSome done IsOperation) }
+    ensures only_memory { IfErr result (λ why. why ≡ Refusal.NoMemory) }
+{
+    told(op, reply)
+}
+
+// The same, by the operation and its reply.
+fn told(op: &Op, reply: &Reply) -> Result<Option<LoggedOp>, Refusal>
+    ensures logged { IfOk result (λ done. done ≡ logged_of op.now reply.now) }
     ensures only_memory { IfErr result (λ why. why ≡ Refusal.NoMemory) }
 {
     match (op, reply) {

@@ -4,7 +4,7 @@ ghost use Rattle.mt_base.specs.declared.modes.Mode.TheVariants.{Read as ToRead};
 ghost use Rattle.mt_model.specs.Model.{IsWithin};
 ghost use Rattle.mt_steps.specs.Drafts.{AreAtHand};
 ghost use Rattle.mt_steps.specs.Acts.{IfLock, IfMade, IfFull, IfBroken};
-ghost use Rattle.mt_steps.specs.Plans.{free_pages, own_needs, record_bytes, IsReading, IsTight, HasPages, InPages, IsPlanned};
+ghost use Rattle.mt_steps.specs.Plans.{free_pages, own_needs, record_bytes, AsksCounters, IsReading, IsTight, HasPages, InPages, IsPlanned};
 ghost use Rattle.mt_steps.specs.Logged.{logged_of};
 
 use crate::act::Act;
@@ -37,17 +37,24 @@ pub fn plan<V: Pages>(
     split: bool,
 ) -> Result<Act, AllocError>
     requires sound { V.is_sound views.now }
-    requires good { (relations : ℕ) × (counters : ℕ) × HasPages (V.at_hand views.now) room relations counters (V.total views.now) × IsWithin relations counters op.now × (relations ≤ 64) }
-    ensures lock { IfOk result (λ act. IfLock act (λ p mode. (V.at_hand views.now p ≡ None) × (p < V.total views.now))) }
+    requires good { (relations : ℕ) × (counters : ℕ) × HasPages (V.at_hand views.now) room relations counters
+        (V.total views.now) × IsWithin relations counters op.now × (relations ≤ 64) }
+    ensures lock { IfOk result (λ act. IfLock act (λ p mode. (V.at_hand views.now p ≡ None) ×
+        (p < V.total views.now))) }
+    ensures counters { IfOk result (λ act. IfLock act (AsksCounters op.now)) }
     ensures mode { IsReading op.now → IfOk result (λ act. IfLock act (λ p mode. mode ≡ ToRead)) }
-    ensures made { (relations counters : ℕ) → relations ≤ 64 → IsWithin relations counters op.now → IfOk result (λ act. IfMade act (λ changes reply.
-        InPages (V.at_hand views.now) room relations counters (V.total views.now) (λ pages. IsPlanned relations counters (V.total views.now) (V.at_hand views.now) pages changes op.now split reply))) }
+    ensures made { (relations counters : ℕ) → relations ≤ 64 → IsWithin relations counters op.now →
+        IfOk result (λ act. IfMade act (λ changes reply.
+        InPages (V.at_hand views.now) room relations counters (V.total views.now) (λ pages.
+        IsPlanned relations counters (V.total views.now) (V.at_hand views.now) pages changes op.now split reply))) }
     ensures there { IfOk result (λ act. IfMade act (λ changes reply. AreAtHand (V.at_hand views.now) changes)) }
     ensures few { IfOk result (λ act. IfMade act (λ changes reply. length changes ≤ 8)) }
     ensures quiet { IsReading op.now → IfOk result (λ act. IfMade act (λ changes reply. changes ≡ [])) }
     ensures idle { IfOk result (λ act. IfMade act (λ changes reply. logged_of op.now reply ≡ None → changes ≡ [])) }
-    ensures full { (relations counters : ℕ) → relations ≤ 64 → IsWithin relations counters op.now → IfOk result (λ act. IfFull act (
-        InPages (V.at_hand views.now) room relations counters (V.total views.now) (λ pages. (free_pages (V.total views.now) pages < own_needs op.now split) ⊎ IsTight room pages (record_bytes op.now)))) }
+    ensures full { (relations counters : ℕ) → relations ≤ 64 → IsWithin relations counters op.now →
+        IfOk result (λ act. IfFull act (
+        InPages (V.at_hand views.now) room relations counters (V.total views.now) (λ pages.
+        (free_pages (V.total views.now) pages < own_needs op.now split) ⊎ IsTight room pages (record_bytes op.now)))) }
     ensures broken { IfOk result (λ act. IfBroken act ⊥) }
 {
     match op {

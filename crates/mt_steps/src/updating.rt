@@ -10,6 +10,7 @@ ghost use Rattle.mt_steps.specs.Drafts.{AreAtHand};
 ghost use Rattle.mt_steps.specs.Acts.{HasRoomy, InRoomy, IfLock, IfMade, IfFull, IfBroken, IsAct, IsMoved};
 ghost use Rattle.mt_steps.specs.Plans.{free_pages, IsTight, IsModest};
 ghost use Rattle.mt_steps.specs.Logged.{logged_of};
+ghost use Rattle.mt_steps.specs.Tells.{Tells, IsDone, TakesRow, HasMoved};
 
 use crate::act::Act;
 use crate::draft::first_missing;
@@ -38,14 +39,25 @@ pub(crate) fn update<V: Pages>(
     requires good { (relations : ℕ) × HasRoomy (V.at_hand views.now) room relations (V.total views.now) }
     requires short { length key.now ≤ 64 }
     requires value_fits { IsValue value.now }
-    ensures lock { IfOk result (λ act. IfLock act (λ p mode. (V.at_hand views.now p ≡ None) × (p < V.total views.now))) }
-    ensures made { (relations : ℕ) → Fits relations 1024 (record { relation = relation; key = key.now; value = value.now }) → IfOk result (λ act. IfMade act (λ changes reply.
-        InRoomy (V.at_hand views.now) room relations (V.total views.now) (λ pages m. IsAct relations (V.total views.now) pages (after changes pages) (Update relation key.now value.now) reply × AreShort changes pages))) }
+    ensures lock { IfOk result (λ act. IfLock act (λ p mode. (V.at_hand views.now p ≡ None) ×
+        (p < V.total views.now))) }
+    ensures made { (relations : ℕ) → Fits relations 1024
+        (record { relation = relation; key = key.now; value = value.now }) → IfOk result (λ act.
+        IfMade act (λ changes reply.
+        InRoomy (V.at_hand views.now) room relations (V.total views.now) (λ pages m.
+        IsAct relations (V.total views.now) pages (after changes pages) (Update relation key.now value.now) reply ×
+        AreShort changes pages))) }
     ensures there { IfOk result (λ act. IfMade act (λ changes reply. AreAtHand (V.at_hand views.now) changes)) }
     ensures few { IfOk result (λ act. IfMade act (λ changes reply. length changes ≤ 8)) }
-    ensures idle { IfOk result (λ act. IfMade act (λ changes reply. logged_of (Update relation key.now value.now) reply ≡ None → changes ≡ [])) }
-    ensures modest { (relations : ℕ) → IfOk result (λ act. IfMade act (λ changes reply. InRoomy (V.at_hand views.now) room relations (V.total views.now) (λ pages m. IsModest (V.at_hand views.now) (V.total views.now) 1 false pages (after changes pages)))) }
-    ensures full { (relations : ℕ) → IfOk result (λ act. IfFull act (InRoomy (V.at_hand views.now) room relations (V.total views.now) (λ pages m. (free_pages (V.total views.now) pages < 1) ⊎ IsTight room pages (row_length (record { relation = relation; key = key.now; value = value.now }))))) }
+    ensures idle { IfOk result (λ act. IfMade act (λ changes reply. logged_of
+        (Update relation key.now value.now) reply ≡ None → changes ≡ [])) }
+    ensures modest { (relations : ℕ) → Fits relations 1024
+        (record { relation = relation; key = key.now; value = value.now }) → IfOk result (λ act.
+        IfMade act (λ changes reply. InRoomy (V.at_hand views.now) room relations (V.total views.now) (λ pages m.
+        IsModest (V.at_hand views.now) (V.total views.now) 1 false pages (after changes pages)))) }
+    ensures full { (relations : ℕ) → IfOk result (λ act. IfFull act (InRoomy (V.at_hand views.now) room relations
+        (V.total views.now) (λ pages m. (free_pages (V.total views.now) pages < 1) ⊎
+        IsTight room pages (row_length (record { relation = relation; key = key.now; value = value.now }))))) }
     ensures broken { IfOk result (λ act. IfBroken act ⊥) }
 {
     match plan_find(views, relation, key) {
@@ -71,15 +83,12 @@ fn update_row<V: Pages>(
     requires short { length key.now ≤ 64 }
     requires value_fits { IsValue value.now }
     requires named { InMaps (V.at_hand views.now) (V.total views.now) (λ pages m. m relation key.now ≡ Some name.now) }
-    ensures lock { IfOk result (λ act. IfLock act (λ p mode. (V.at_hand views.now p ≡ None) × (p < V.total views.now))) }
-    ensures made { (relations : ℕ) → Fits relations 1024 (record { relation = relation; key = key.now; value = value.now }) → IfOk result (λ act. IfMade act (λ changes reply.
-        InRoomy (V.at_hand views.now) room relations (V.total views.now) (λ pages m. IsAct relations (V.total views.now) pages (after changes pages) (Update relation key.now value.now) reply × AreShort changes pages))) }
-    ensures there { IfOk result (λ act. IfMade act (λ changes reply. AreAtHand (V.at_hand views.now) changes)) }
-    ensures few { IfOk result (λ act. IfMade act (λ changes reply. length changes ≤ 8)) }
-    ensures idle { IfOk result (λ act. IfMade act (λ changes reply. logged_of (Update relation key.now value.now) reply ≡ None → changes ≡ [])) }
-    ensures modest { (relations : ℕ) → IfOk result (λ act. IfMade act (λ changes reply. InRoomy (V.at_hand views.now) room relations (V.total views.now) (λ pages m. IsModest (V.at_hand views.now) (V.total views.now) 1 false pages (after changes pages)))) }
-    ensures full { (relations : ℕ) → IfOk result (λ act. IfFull act (InRoomy (V.at_hand views.now) room relations (V.total views.now) (λ pages m. (free_pages (V.total views.now) pages < 1) ⊎ IsTight room pages (row_length (record { relation = relation; key = key.now; value = value.now }))))) }
-    ensures broken { IfOk result (λ act. IfBroken act ⊥) }
+    ensures { IfOk result (Tells (V.at_hand views.now) (V.total views.now) (IsDone (V.at_hand views.now)
+        (V.total views.now) 1 false (Update relation key.now value.now)
+        (TakesRow room (record { relation = relation; key = key.now; value = value.now })))
+        ((relations : ℕ) → InRoomy (V.at_hand views.now) room relations (V.total views.now) (λ pages m.
+        (free_pages (V.total views.now) pages < 1) ⊎ IsTight room pages (row_length
+        (record { relation = relation; key = key.now; value = value.now }))))) }
 {
     let old = match plan_read(views, *name) {
         Found::Need(page, _) => return Ok(Act::Lock(page, Mode::Write)),
@@ -102,7 +111,8 @@ fn update_row<V: Pages>(
 
 // Whether two names are the same.
 fn is_name(one: &RecordName, other: &RecordName) -> bool
-    ensures { MatchBool result (one.now ≡ other.now) ((one.now.page ≢ other.now.page) ⊎ (one.now.slot ≢ other.now.slot)) }
+    ensures { MatchBool result (one.now ≡ other.now) ((one.now.page ≢ other.now.page) ⊎
+        (one.now.slot ≢ other.now.slot)) }
 {
     one.page == other.page && one.slot == other.slot
 }
@@ -121,17 +131,19 @@ fn set_entry<V: Pages>(
     requires few { length plan.now.changes.list.items ≤ 3 }
     requires seen { IsSome (V.at_hand views.now plan.now.name.page) }
     requires short { length key.now ≤ 64 }
-    requires good { (relations : ℕ) × (room : Option ℕ) × (name : RecordName) × (value : List ℕ) × HasRoomy (V.at_hand views.now) room relations (V.total views.now) × InRoomy (V.at_hand views.now) room relations (V.total views.now) (λ pages m. (m relation key.now ≡ Some name) × IsMoved (V.total views.now) pages plan.now.changes.list.items name plan.now.name (record { relation = relation; key = key.now; value = old }) (record { relation = relation; key = key.now; value = value })) }
-    ensures lock { IfOk result (λ act. IfLock act (λ p mode. (V.at_hand views.now p ≡ None) × (p < V.total views.now))) }
-    ensures made { (relations : ℕ) (room : Option ℕ) (name : RecordName) (value : List ℕ) → Fits relations 1024 (record { relation = relation; key = key.now; value = value }) → IfOk result (λ act. IfMade act (λ changes reply.
-        InRoomy (V.at_hand views.now) room relations (V.total views.now) (λ pages m. m relation key.now ≡ Some name → IsMoved (V.total views.now) pages plan.now.changes.list.items name plan.now.name (record { relation = relation; key = key.now; value = old }) (record { relation = relation; key = key.now; value = value }) →
-        IsAct relations (V.total views.now) pages (after changes pages) (Update relation key.now value) reply × AreShort changes pages))) }
-    ensures there { IfOk result (λ act. IfMade act (λ changes reply. AreAtHand (V.at_hand views.now) changes)) }
-    ensures few { IfOk result (λ act. IfMade act (λ changes reply. length changes ≤ 8)) }
-    ensures idle { (value : List ℕ) → IfOk result (λ act. IfMade act (λ changes reply. logged_of (Update relation key.now value) reply ≡ None → changes ≡ [])) }
-    ensures modest { (relations : ℕ) (room : Option ℕ) (name : RecordName) (value : List ℕ) → IsSome (V.at_hand views.now name.page) → IfOk result (λ act. IfMade act (λ changes reply. InRoomy (V.at_hand views.now) room relations (V.total views.now) (λ pages m. IsMoved (V.total views.now) pages plan.now.changes.list.items name plan.now.name (record { relation = relation; key = key.now; value = old }) (record { relation = relation; key = key.now; value = value }) → IsModest (V.at_hand views.now) (V.total views.now) 1 false pages (after changes pages)))) }
-    ensures full { IfOk result (λ act. IfFull act ⊥) }
-    ensures broken { IfOk result (λ act. IfBroken act ⊥) }
+    requires good { (relations : ℕ) × (room : Option ℕ) × (name : RecordName) × (value : List ℕ) ×
+        HasRoomy (V.at_hand views.now) room relations (V.total views.now) ×
+        InRoomy (V.at_hand views.now) room relations (V.total views.now) (λ pages m.
+        (m relation key.now ≡ Some name) × IsMoved
+        (V.total views.now) pages plan.now.changes.list.items name plan.now.name
+        (record { relation = relation; key = key.now; value = old })
+        (record { relation = relation; key = key.now; value = value })) }
+    ensures { (name : RecordName) (value : List ℕ) → IsSome (V.at_hand views.now name.page) →
+        IfOk result (Tells (V.at_hand views.now) (V.total views.now) (IsDone (V.at_hand views.now)
+        (V.total views.now) 1 false (Update relation key.now value)
+        (HasMoved (V.total views.now) plan.now.changes.list.items name plan.now.name
+        (record { relation = relation; key = key.now; value = old })
+        (record { relation = relation; key = key.now; value = value }))) ⊥) }
 {
     let draft = drafted(alloc, views, &plan.changes)?;
     match plan_set(alloc, &draft, relation, key, plan.name)? {

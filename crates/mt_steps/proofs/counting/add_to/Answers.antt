@@ -9,10 +9,11 @@ use Rattle.mt_model.specs.declared.operations.Reply.TheVariants.{Done, OutOfBoun
 use Rattle.mt_model.specs.Model.{moved, stays}
 use Rattle.mt_steps.specs.Counters.{place_of, count_in, AreCounters}
 use Rattle.mt_steps.specs.Acts.{IsAct}
+use Rattle.mt_steps.specs.Plans.{HasNoRecord}
 use Rattle.mt_space.proofs.Changing.{replaced_other}
-use Rattle.mt_steps.proofs.Modest.{modest_nothing, modest_same}
+use Rattle.mt_steps.proofs.Modest.{modest_nothing, modest_same, file_empties}
 use Rattle.mt_steps.proofs.Asking.{all_at_hand}
-use Rattle.mt_steps.proofs.Adding.{adds_done, adds_nothing}
+use Rattle.mt_steps.proofs.Adding.{file_kept, adds_done, adds_nothing}
 use Rattle.mt_steps.proofs.counting.add_to.Goals as goal
 
 none_some : (x : List ℕ) → None ≡ Some x → ⊥
@@ -67,5 +68,10 @@ returns-clause-modest g c = λ relations pages agrees m rows.
     let two = c.new-page.ensures in
     let made = noted ∙ ap (replaced p c.add.new.page) empty in
     modest_same (g.V.Pages.at_hand c.args.views.now) (g.V.Pages.total c.args.views.now) 0 false pages (after c.note.new.self.list.items pages)
+    (λ q none. file_empties pages (replaced 2 c.add.new.page pages) (file_kept relations (g.V.Pages.total c.args.views.now) pages m c.add.new.page rows) q
+    (subst (λ (f : PageBytes). HasNoRecord f q) (made ∙ ap (λ (n : ℕ). replaced n c.add.new.page pages) two) none))
     (ap (λ (f : PageBytes). f 0) made ∙ replaced_other p 0 c.add.new.page pages (λ e. let zero : 0 ≡ p = e in omega (arith, two, zero)))
     (ap (λ (f : PageBytes). f 1) made ∙ replaced_other p 1 c.add.new.page pages (λ e. let one : 1 ≡ p = e in omega (arith, two, one)))
+
+pub returns-in_default-clause-lock : goal.returns-in_default-clause-lock
+returns-in_default-clause-lock g c = (c.in_default.ensures.none, c.new-page.ensures)

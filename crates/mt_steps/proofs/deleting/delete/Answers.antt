@@ -4,6 +4,8 @@ use Rattle.mt_space.specs.Changes.{after, AreShort}
 use Rattle.mt_model.specs.declared.operations.Op.TheVariants.{Delete}
 use Rattle.mt_model.specs.declared.operations.Reply.TheVariants.{Missing}
 use Rattle.mt_base.specs.declared.modes.Mode.TheVariants.{Read}
+use Rattle.std.proofs.lemmas.Result.{IfOk-weaker}
+use Rattle.mt_steps.proofs.Telling.{lock_told, made_told, full_told, broken_told}
 use Rattle.mt_steps.proofs.Asking.{bucket_inside}
 use Rattle.mt_steps.proofs.Modest.{modest_nothing}
 use Rattle.mt_steps.specs.Acts.{IsAct}
@@ -26,3 +28,27 @@ returns-in-Need-clause-lock g c =
 
 pub returns-in-Missing-clause-modest : goal.returns-in-Missing-clause-modest
 returns-in-Missing-clause-modest g c = λ relations pages agrees m rows. modest_nothing (g.V.Pages.at_hand c.args.views.now) (g.V.Pages.total c.args.views.now) 0 false pages c.new.result.list.items c.new.ensures
+
+pub returns-in-Found-clause-lock : goal.returns-in-Found-clause-lock
+returns-in-Found-clause-lock g c = IfOk-weaker c.delete_row.result _ _ (lock_told (g.V.Pages.at_hand c.args.views.now) (g.V.Pages.total c.args.views.now) _ _) c.delete_row.ensures
+
+pub returns-in-Found-clause-made : goal.returns-in-Found-clause-made
+returns-in-Found-clause-made g c = λ relations. IfOk-weaker c.delete_row.result _ _ (made_told (g.V.Pages.at_hand c.args.views.now) (g.V.Pages.total c.args.views.now) _ _ _ (λ changes reply done pages agrees m rows. let d = done.does relations pages agrees m rows tt in (d.act, d.short))) c.delete_row.ensures
+
+pub returns-in-Found-clause-modest : goal.returns-in-Found-clause-modest
+returns-in-Found-clause-modest g c = λ relations. IfOk-weaker c.delete_row.result _ _ (made_told (g.V.Pages.at_hand c.args.views.now) (g.V.Pages.total c.args.views.now) _ _ _ (λ changes reply done pages agrees m rows. (done.does relations pages agrees m rows tt).modest)) c.delete_row.ensures
+
+pub returns-in-Found-clause-there : goal.returns-in-Found-clause-there
+returns-in-Found-clause-there g c = IfOk-weaker c.delete_row.result _ _ (made_told (g.V.Pages.at_hand c.args.views.now) (g.V.Pages.total c.args.views.now) _ _ _ (λ changes reply done. done.there)) c.delete_row.ensures
+
+pub returns-in-Found-clause-few : goal.returns-in-Found-clause-few
+returns-in-Found-clause-few g c = IfOk-weaker c.delete_row.result _ _ (made_told (g.V.Pages.at_hand c.args.views.now) (g.V.Pages.total c.args.views.now) _ _ _ (λ changes reply done. done.few)) c.delete_row.ensures
+
+pub returns-in-Found-clause-idle : goal.returns-in-Found-clause-idle
+returns-in-Found-clause-idle g c = IfOk-weaker c.delete_row.result _ _ (made_told (g.V.Pages.at_hand c.args.views.now) (g.V.Pages.total c.args.views.now) _ _ _ (λ changes reply done. done.idle)) c.delete_row.ensures
+
+pub returns-in-Found-clause-broken : goal.returns-in-Found-clause-broken
+returns-in-Found-clause-broken g c = IfOk-weaker c.delete_row.result _ _ (broken_told (g.V.Pages.at_hand c.args.views.now) (g.V.Pages.total c.args.views.now) _ _) c.delete_row.ensures
+
+pub returns-in-Found-clause-full : goal.returns-in-Found-clause-full
+returns-in-Found-clause-full g c = IfOk-weaker c.delete_row.result _ _ (full_told (g.V.Pages.at_hand c.args.views.now) (g.V.Pages.total c.args.views.now) _ _ _ (λ no. no)) c.delete_row.ensures

@@ -3,8 +3,8 @@ use Rattle.std.proofs.lemmas.Result.{IfOk-weaker}
 use Rattle.mt_slots.specs.Page.{Row}
 use Rattle.mt_space.specs.Kinds.{kind}
 use Rattle.mt_file.proofs.Filed.{record_kind}
+use Rattle.mt_steps.proofs.Telling.{tells_weaker}
 use Rattle.mt_steps.proofs.Asking.{kind_inside, removal_needs, taken_inside}
-use Rattle.mt_steps.proofs.Entering.{made_weaker}
 use Rattle.mt_steps.proofs.Rows.{row_of}
 use Rattle.mt_steps.proofs.Leaving.{removal_fits, removal_takes}
 use Rattle.mt_steps.proofs.deleting.delete_row.Goals as goal
@@ -22,8 +22,8 @@ plan_read-requires-clause-good g c =
     let named = good.3.named.names c.args.relation c.args.key.now n (c.requires.named good.0 good.1 good.2 good.3.index) in
     (good.0, good.1, good.3.file, record_kind good.0 n.page n.slot _ named.1)
 
-pub returns-in-Need-clause-lock : goal.returns-in-Need-clause-lock
-returns-in-Need-clause-lock g c =
+pub returns-in-Need : goal.returns-in-Need
+returns-in-Need g c =
     let good = c.requires.good.1 in
     let n = c.args.name.now in
     let named = good.3.named.names c.args.relation c.args.key.now n (c.requires.named good.0 good.1 good.2 good.3.index) in
@@ -31,8 +31,8 @@ returns-in-Need-clause-lock g c =
     let told = c.in-Need.ensures good.0 good.1 good.3.file three in
     (told.0, kind_inside (g.V.Pages.total c.args.views.now) good.0 good.2 c.in-Need.page 3 good.3.index (ap (λ (p : ℕ). kind good.0 p) told.2 ∙ three) (omega arith))
 
-pub returns-in-Nothing-clause-broken : goal.returns-in-Nothing-clause-broken
-returns-in-Nothing-clause-broken g c =
+pub returns-in-Nothing : goal.returns-in-Nothing
+returns-in-Nothing g c =
     let good = c.requires.good.1 in
     let n = c.args.name.now in
     let named = good.3.named.names c.args.relation c.args.key.now n (c.requires.named good.0 good.1 good.2 good.3.index) in
@@ -44,15 +44,15 @@ plan_remove-requires-clause-good g c =
     let named = good.3.named.names c.args.relation c.args.key.now c.args.name.now (c.requires.named good.0 good.1 good.2 good.3.index) in
     (good.0, _, good.1, good.3.file, named.1)
 
-pub returns-in-Need-2-clause-lock : goal.returns-in-Need-2-clause-lock
-returns-in-Need-2-clause-lock g c =
+pub returns-in-Need-2 : goal.returns-in-Need-2
+returns-in-Need-2 g c =
     let good = c.requires.good.1 in
     let n = c.args.name.now in
     let named = good.3.named.names c.args.relation c.args.key.now n (c.requires.named good.0 good.1 good.2 good.3.index) in
     removal_needs (g.V.Pages.at_hand c.args.views.now) (g.V.Pages.total c.args.views.now) good.0 good.2 n.page n.slot c.in-Need-2.page c.in-Need-2.mode c.in_ok-page.field-0 c.in-Need-2.is good.3.index (record_kind good.0 n.page n.slot _ named.1) (c.in_ok-page.ensures.removal good.0 _ good.1 good.3.file named.1)
 
-pub returns-in-Full-clause-broken : goal.returns-in-Full-clause-broken
-returns-in-Full-clause-broken g c =
+pub returns-in-Full : goal.returns-in-Full
+returns-in-Full g c =
     let good = c.requires.good.1 in
     let n = c.args.name.now in
     let named = good.3.named.names c.args.relation c.args.key.now n (c.requires.named good.0 good.1 good.2 good.3.index) in
@@ -71,34 +71,29 @@ drop_entry-requires-clause-good g c = (
       (is, removal_takes (g.V.Pages.at_hand c.args.views.now) pages n _ c.in_ok-page.field-0 c.in-Done.plan c.in-Done.is (c.in_ok-page.ensures.removal pages _ agrees rows.file named.1) (c.in_ok-page.ensures.short pages _ agrees rows.file named.1) stood),
 )
 
-pub returns-clause-made : goal.returns-clause-made
-returns-clause-made g c = λ relations. IfOk-weaker c.drop_entry.result _ _
-    (λ act. made_weaker act _ _ (λ changes reply done pages agrees m rows.
-    let n = c.args.name.now in
-    let is = c.requires.named pages agrees m rows.index in
-    let named = rows.named.names c.args.relation c.args.key.now n is in
-    let told = c.in-Record.ensures pages agrees rows.file (record_kind pages n.page n.slot _ named.1) in
-    let stood = named.1 ∙ ap (λ (v : List ℕ). row_of c.args.relation c.args.key.now (Some v)) (value_of _ _ _ (sym named.1 ∙ told) ∙ sym c.in_ok-old-in-Record.ensures) in
-    done pages agrees m rows is
-    (removal_takes (g.V.Pages.at_hand c.args.views.now) pages n _ c.in_ok-page.field-0 c.in-Done.plan c.in-Done.is (c.in_ok-page.ensures.removal pages _ agrees rows.file named.1) (c.in_ok-page.ensures.short pages _ agrees rows.file named.1) stood)))
-    (c.drop_entry.ensures.made relations)
-
-pub returns-in-Some-clause-lock : goal.returns-in-Some-clause-lock
-returns-in-Some-clause-lock g c =
+pub returns-in-Some : goal.returns-in-Some
+returns-in-Some g c =
     let good = c.requires.good.1 in
     let n = c.args.name.now in
     let named = good.3.named.names c.args.relation c.args.key.now n (c.requires.named good.0 good.1 good.2 good.3.index) in
     let taken = removal_takes (g.V.Pages.at_hand c.args.views.now) good.0 n _ c.in_ok-page.field-0 c.in-Done.plan c.in-Done.is (c.in_ok-page.ensures.removal good.0 _ good.1 good.3.file named.1) (c.in_ok-page.ensures.short good.0 _ good.1 good.3.file named.1) named.1 in
     (c.in-Some.ensures.some, taken_inside (g.V.Pages.total c.args.views.now) good.0 good.2 c.in-Done.plan.changes.list.items n _ c.in-Some.page good.3.index taken c.in-Some.ensures.named)
 
-pub returns-clause-modest : goal.returns-clause-modest
-returns-clause-modest g c = λ relations. IfOk-weaker c.drop_entry.result _ _
-    (λ act. made_weaker act _ _ (λ changes reply modest pages agrees m rows.
-    let n = c.args.name.now in
-    let is = c.requires.named pages agrees m rows.index in
-    let named = rows.named.names c.args.relation c.args.key.now n is in
-    let told = c.in-Record.ensures pages agrees rows.file (record_kind pages n.page n.slot _ named.1) in
-    let stood = named.1 ∙ ap (λ (v : List ℕ). row_of c.args.relation c.args.key.now (Some v)) (value_of _ _ _ (sym named.1 ∙ told) ∙ sym c.in_ok-old-in-Record.ensures) in
-    modest pages agrees m rows is
-    (removal_takes (g.V.Pages.at_hand c.args.views.now) pages n _ c.in_ok-page.field-0 c.in-Done.plan c.in-Done.is (c.in_ok-page.ensures.removal pages _ agrees rows.file named.1) (c.in_ok-page.ensures.short pages _ agrees rows.file named.1) stood)))
-    (c.drop_entry.ensures.modest relations)
+pub returns : goal.returns
+returns g c =
+    let at_hand = g.V.Pages.at_hand c.args.views.now in
+    IfOk-weaker c.drop_entry.result _ _ (tells_weaker at_hand (g.V.Pages.total c.args.views.now) _ _ ⊥ ⊥ (λ changes reply done. record {
+      there = done.there;
+      few = done.few;
+      idle = done.idle;
+      does = λ relations pages agrees m rows so.
+          let n = c.args.name.now in
+          let is = c.requires.named pages agrees m rows.index in
+          let named = rows.named.names c.args.relation c.args.key.now n is in
+          let told = c.in-Record.ensures pages agrees rows.file (record_kind pages n.page n.slot _ named.1) in
+          let stood = named.1 ∙ ap (λ (v : List ℕ). row_of c.args.relation c.args.key.now (Some v)) (value_of _ _ _ (sym named.1 ∙ told) ∙ sym c.in_ok-old-in-Record.ensures) in
+          done.does relations pages agrees m rows (
+            is,
+            removal_takes at_hand pages n _ c.in_ok-page.field-0 c.in-Done.plan c.in-Done.is (c.in_ok-page.ensures.removal pages _ agrees rows.file named.1) (c.in_ok-page.ensures.short pages _ agrees rows.file named.1) stood,
+          );
+    }) (λ no. no)) c.drop_entry.ensures

@@ -1,4 +1,4 @@
-use Rattle.std.proofs.Common.{false, ◌≡◌, arith, ◌∙◌, ℕ, None, Some, sym, subst}
+use Rattle.std.proofs.Common.{refl, false, ◌≡◌, arith, ◌∙◌, ℕ, None, Some, sym, subst}
 use Rattle.std.proofs.lemmas.Result.{IfOk-weaker}
 use Rattle.mt_space.specs.Changes.{PageBytes, after}
 use Rattle.mt_index.specs.Pages.{AreFormed}
@@ -7,18 +7,20 @@ use Rattle.mt_model.specs.declared.operations.Op.TheVariants.{Delete}
 use Rattle.mt_steps.specs.Acts.{IsAct}
 use Rattle.mt_steps.specs.Drafts.{shown}
 use Rattle.mt_base.specs.declared.modes.Mode.TheVariants.{Write}
+use Rattle.mt_steps.specs.Logged.{logged_of}
+use Rattle.mt_model.specs.declared.operations.Reply.TheVariants.{Was}
+use Rattle.mt_steps.proofs.Telling.{tells_weaker, logs_something}
 use Rattle.mt_steps.proofs.Asking.{amend_needs, bucket_inside, amended_inside, named_differs, few_more}
 use Rattle.mt_steps.proofs.Modest.{taken_modest, amended_modest, modest_trans}
 use Rattle.mt_steps.specs.Plans.{IsModest}
-use Rattle.mt_steps.proofs.Entering.{made_weaker}
 use Rattle.mt_steps.proofs.Leaving.{amended_is, amend_missing_is, amend_endless_is, taken_map, taken_form, left}
 use Rattle.mt_steps.proofs.deleting.drop_entry.Goals as goal
 
 none_some : {A : Type 0} (x : A) → None ≡ Some x → ⊥
 none_some x e = cc
 
-pub returns-in-Missing-clause-broken : goal.returns-in-Missing-clause-broken
-returns-in-Missing-clause-broken g c =
+pub returns-in-Missing : goal.returns-in-Missing
+returns-in-Missing g c =
     let good = c.requires.good.1 in
     let placed = c.requires.good.2 good.0 good.1 good.2 good.3 in
     let copies = c.in_ok-draft.draft.copies.items in
@@ -26,8 +28,8 @@ returns-in-Missing-clause-broken g c =
     none_some _ (sym (told (after c.args.first.now.list.items good.0) (c.in_ok-draft.ensures.agrees good.0 good.1) good.2
     (taken_map c.requires.good.0 (g.V.Pages.total c.args.views.now) good.0 good.2 c.args.first.now.list.items c.args.name.now _ good.3 placed.1)) ∙ placed.0)
 
-pub returns-in-Endless-clause-broken : goal.returns-in-Endless-clause-broken
-returns-in-Endless-clause-broken g c =
+pub returns-in-Endless : goal.returns-in-Endless
+returns-in-Endless g c =
     let good = c.requires.good.1 in
     let placed = c.requires.good.2 good.0 good.1 good.2 good.3 in
     let copies = c.in_ok-draft.draft.copies.items in
@@ -46,29 +48,8 @@ join-requires-clause-short g c =
     (taken_map c.requires.good.0 (g.V.Pages.total c.args.views.now) good.0 good.2 c.args.first.now.list.items c.args.name.now _ good.3 placed.1) in
     (good.0, good.1, placed.1.short, amends.short)
 
-pub returns-in-Changes-clause-made : goal.returns-in-Changes-clause-made
-returns-in-Changes-clause-made g c = λ relations. IfOk-weaker c.join.result _ _
-    (λ act. made_weaker act _ _ (λ changes reply told pages agrees m rows is taken.
-    let first = c.args.first.now.list.items in
-    let mid = after first pages in
-    let copies = c.in_ok-draft.draft.copies.items in
-    let second = c.in-Changes.second.list.items in
-    let total = g.V.Pages.total c.args.views.now in
-    let between = taken_map relations total pages m first c.args.name.now _ rows taken in
-    let draft_agrees = c.in_ok-draft.ensures.agrees pages agrees in
-    let amends = subst (λ x. InMaps (shown copies (g.V.Pages.at_hand x)) (g.V.Pages.total x) (λ pages m. Amends (g.V.Pages.total x) pages second m c.args.relation c.args.key.now None)) c.in_ok-draft.ensures.views
-    (amended_is _ c.in_ok-page.field-0 c.in-Changes.second c.in-Changes.is c.in_ok-page.ensures.dropped) mid draft_agrees m between in
-    let formed = subst (λ x. InMaps (shown copies (g.V.Pages.at_hand x)) (g.V.Pages.total x) (λ pages m. (relations : ℕ) → AreFormed relations (g.V.Pages.total x) pages → AreFormed relations (g.V.Pages.total x) (after second pages))) c.in_ok-draft.ensures.views
-    (amended_is _ c.in_ok-page.field-0 c.in-Changes.second c.in-Changes.is c.in_ok-page.ensures.formed) mid draft_agrees m between relations (taken_form relations total pages m first c.args.name.now _ rows taken) in
-    let joined = told.1 pages agrees in (
-      subst (λ (last : PageBytes). IsAct relations total pages last (Delete c.args.relation c.args.key.now) reply) (sym joined.0)
-          (left relations total pages (after second mid) m first c.args.name.now c.args.relation c.args.key.now c.args.old reply rows is taken amends.map amends.others formed told.0),
-      joined.1,
-    )))
-    c.join.ensures.made
-
-pub returns-in-Need-clause-lock : goal.returns-in-Need-clause-lock
-returns-in-Need-clause-lock g c =
+pub returns-in-Need : goal.returns-in-Need
+returns-in-Need g c =
     let good = c.requires.good.1 in
     let placed = c.requires.good.2 good.0 good.1 good.2 good.3 in
     let first = c.args.first.now.list.items in
@@ -91,34 +72,38 @@ join-requires-clause-inside g c = λ p named.
     let amends = told (after first good.0) (c.in_ok-draft.ensures.agrees good.0 good.1) good.2 between in
     amended_inside total (after first good.0) (after second (after first good.0)) good.2 p between amends.others (named_differs second (after first good.0) p amends.short named)
 
-pub returns-in-Changes-clause-few : goal.returns-in-Changes-clause-few
-returns-in-Changes-clause-few g c = IfOk-weaker c.join.result _ _
-    (λ act. made_weaker act _ _ (λ changes reply few.
-    let good = c.requires.good.1 in
-    let placed = c.requires.good.2 good.0 good.1 good.2 good.3 in
-    let first = c.args.first.now.list.items in
-    let second = c.in-Changes.second.list.items in
-    let total = g.V.Pages.total c.args.views.now in
-    let between = taken_map c.requires.good.0 total good.0 good.2 first c.args.name.now _ good.3 placed.1 in
-    let told = subst (λ x. InMaps (shown c.in_ok-draft.draft.copies.items (g.V.Pages.at_hand x)) (g.V.Pages.total x) (λ pages m. Amends (g.V.Pages.total x) pages second m c.args.relation c.args.key.now None)) c.in_ok-draft.ensures.views
-    (amended_is _ c.in_ok-page.field-0 c.in-Changes.second c.in-Changes.is c.in_ok-page.ensures.dropped) in
-    let amends = told (after first good.0) (c.in_ok-draft.ensures.agrees good.0 good.1) good.2 between in
-    few_more _ _ _ 1 1 8 few c.requires.few amends.one (omega arith)))
-    c.join.ensures.few
-
-pub returns-in-Changes-clause-modest : goal.returns-in-Changes-clause-modest
-returns-in-Changes-clause-modest g c = λ relations. IfOk-weaker c.join.result _ _
-    (λ act. made_weaker act _ _ (λ changes reply told pages agrees m rows is taken.
+pub returns-in-Changes : goal.returns-in-Changes
+returns-in-Changes g c =
     let at_hand = g.V.Pages.at_hand c.args.views.now in
+    let total = g.V.Pages.total c.args.views.now in
     let first = c.args.first.now.list.items in
     let second = c.in-Changes.second.list.items in
-    let total = g.V.Pages.total c.args.views.now in
-    let mid = after first pages in
-    let last = after second mid in
-    let between = taken_map relations total pages m first c.args.name.now _ rows taken in
-    let amends = subst (λ x. InMaps (shown c.in_ok-draft.draft.copies.items (g.V.Pages.at_hand x)) (g.V.Pages.total x) (λ pages m. Amends (g.V.Pages.total x) pages second m c.args.relation c.args.key.now None)) c.in_ok-draft.ensures.views
-    (amended_is _ c.in_ok-page.field-0 c.in-Changes.second c.in-Changes.is c.in_ok-page.ensures.dropped) mid (c.in_ok-draft.ensures.agrees pages agrees) m between in
-    subst (λ (p : PageBytes). IsModest at_hand total 0 false pages p) (sym (told.1 pages agrees).0)
-    (modest_trans at_hand total 0 0 false pages mid last (taken_modest at_hand relations total false pages m first c.args.name.now _ rows c.requires.seen taken)
-    (amended_modest at_hand total false mid last m between amends.others))))
-    c.join.ensures.made
+    let copies = c.in_ok-draft.draft.copies.items in
+    let good = c.requires.good.1 in
+    let stood = c.requires.good.2 good.0 good.1 good.2 good.3 in
+    let told = subst (λ x. InMaps (shown copies (g.V.Pages.at_hand x)) (g.V.Pages.total x) (λ pages m. Amends (g.V.Pages.total x) pages second m c.args.relation c.args.key.now None)) c.in_ok-draft.ensures.views
+    (amended_is _ c.in_ok-page.field-0 c.in-Changes.second c.in-Changes.is c.in_ok-page.ensures.dropped) in
+    let told_formed = subst (λ x. InMaps (shown copies (g.V.Pages.at_hand x)) (g.V.Pages.total x) (λ pages m. (relations : ℕ) → AreFormed relations (g.V.Pages.total x) pages → AreFormed relations (g.V.Pages.total x) (after second pages))) c.in_ok-draft.ensures.views
+    (amended_is _ c.in_ok-page.field-0 c.in-Changes.second c.in-Changes.is c.in_ok-page.ensures.formed) in
+    let one = (told (after first good.0) (c.in_ok-draft.ensures.agrees good.0 good.1) good.2 (taken_map c.requires.good.0 total good.0 good.2 first c.args.name.now _ good.3 stood.1)).one in
+    IfOk-weaker c.join.result _ _ (tells_weaker at_hand total _ _ ⊥ ⊥ (λ changes reply joined. record {
+      there = joined.there;
+      few = few_more _ _ _ 1 1 8 joined.few c.requires.few one (omega arith);
+      idle = λ none. logs_something (logged_of (Delete c.args.relation c.args.key.now)) reply (Was c.args.old) _ joined.same refl none;
+      does = λ relations pages agrees m rows so.
+          let mid = after first pages in
+          let last = after second mid in
+          let taken = so.1 in
+          let between = taken_map relations total pages m first c.args.name.now _ rows taken in
+          let draft_agrees = c.in_ok-draft.ensures.agrees pages agrees in
+          let amends = told mid draft_agrees m between in
+          let formed = told_formed mid draft_agrees m between relations (taken_form relations total pages m first c.args.name.now _ rows taken) in
+          let led = joined.leads pages agrees in record {
+            act = subst (λ (next : PageBytes). IsAct relations total pages next (Delete c.args.relation c.args.key.now) reply) (sym led.0)
+                (left relations total pages last m first c.args.name.now c.args.relation c.args.key.now c.args.old reply rows so.0 taken amends.map amends.others formed joined.same);
+            short = led.1;
+            modest = subst (λ (next : PageBytes). IsModest at_hand total 0 false pages next) (sym led.0)
+                (modest_trans at_hand total 0 0 false pages mid last (taken_modest at_hand relations total false pages m first c.args.name.now _ rows c.requires.seen taken)
+                (amended_modest at_hand total false mid last m between amends.others));
+          };
+    }) (λ no. no)) c.join.ensures

@@ -1,4 +1,4 @@
-use Rattle.std.proofs.Common.{cond, ◌≡◌, arith, None, Some, sym, subst}
+use Rattle.std.proofs.Common.{refl, cond, ◌≡◌, arith, None, Some, sym, subst}
 use Rattle.mt_bucket.specs.Entries.{Entry}
 use Rattle.mt_space.specs.Changes.{PageBytes, after}
 use Rattle.mt_index.specs.Maps.{alter}
@@ -9,14 +9,17 @@ use Rattle.mt_model.specs.declared.operations.Op.TheVariants.{Insert}
 use Rattle.mt_steps.specs.Acts.{IsAct}
 use Rattle.mt_steps.specs.Plans.{IsModest}
 use Rattle.mt_steps.specs.Drafts.{shown}
+use Rattle.mt_steps.specs.Logged.{logged_of}
+use Rattle.mt_model.specs.declared.operations.Reply.TheVariants.{Done}
+use Rattle.mt_steps.proofs.Telling.{tells_weaker, logs_something}
 use Rattle.mt_steps.proofs.Asking.{add_needs, add_inside, added_inside, named_differs, few_more}
 use Rattle.mt_steps.proofs.Drafting.{below_some}
 use Rattle.mt_steps.proofs.Modest.{placed_modest, added_modest, modest_trans, modest_more, insert_needs, shortage_few}
-use Rattle.mt_steps.proofs.Entering.{added_is, full_is, endless_is, placed_map, made_weaker, entered}
+use Rattle.mt_steps.proofs.Entering.{added_is, full_is, endless_is, placed_map, entered}
 use Rattle.mt_steps.proofs.inserting.add_entry.Goals as goal
 
-pub returns-in-Endless-clause-broken : goal.returns-in-Endless-clause-broken
-returns-in-Endless-clause-broken g c =
+pub returns-in-Endless : goal.returns-in-Endless
+returns-in-Endless g c = λ value.
     let good = c.requires.good.3 in
     let placed = c.requires.good.4 good.0 good.1 good.2 good.3 good.4 in
     let copies = c.in_ok-draft.draft.copies.items in
@@ -36,31 +39,8 @@ join-requires-clause-short g c =
     (placed_map c.requires.good.0 (g.V.Pages.total c.args.views.now) good.0 good.2 c.args.plan.now.changes.list.items c.args.plan.now.name _ good.3 placed) in
     (good.0, good.1, placed.short, adds.short)
 
-pub returns-clause-made : goal.returns-clause-made
-returns-clause-made g c = λ relations room value fits. IfOk-weaker c.join.result _ _
-    (λ act. made_weaker act _ _ (λ changes reply told pages agrees m rows named none placed.
-    let first = c.args.plan.now.changes.list.items in
-    let name = c.args.plan.now.name in
-    let mid = after first pages in
-    let copies = c.in_ok-draft.draft.copies.items in
-    let e : Entry = record { relation = c.args.relation; key = c.args.key.now; name = name } in
-    let second = c.in-Changes.changes.list.items in
-    let total = g.V.Pages.total c.args.views.now in
-    let between = placed_map relations total pages m first name _ rows placed in
-    let draft_agrees = c.in_ok-draft.ensures.agrees pages agrees in
-    let adds = subst (λ x. InMaps (shown copies (g.V.Pages.at_hand x)) (g.V.Pages.total x) (λ pages m. Adds c.args.split (g.V.Pages.total x) e pages second)) c.in_ok-draft.ensures.views
-    (added_is _ c.in_ok-page.field-0 c.in-Changes.changes c.in-Changes.is c.in_ok-page.ensures.added) mid draft_agrees m between in
-    let map = subst (λ x. InMaps (shown copies (g.V.Pages.at_hand x)) (g.V.Pages.total x) (λ pages m. m c.args.relation c.args.key.now ≡ None → AreMap (g.V.Pages.total x) (after second pages) (alter m c.args.relation c.args.key.now (Some name)))) c.in_ok-draft.ensures.views
-    (added_is _ c.in_ok-page.field-0 c.in-Changes.changes c.in-Changes.is c.in_ok-page.ensures.map) mid draft_agrees m between none in
-    let joined = told.1 pages agrees in (
-      subst (λ (last : PageBytes). IsAct relations total pages last (Insert c.args.relation c.args.key.now value) reply) (sym joined.0)
-          (entered relations total c.args.split pages (after second mid) m first name c.args.relation c.args.key.now value reply rows none fits placed map adds.added told.0),
-      joined.1,
-    )))
-    c.join.ensures.made
-
-pub returns-in-Need-clause-lock : goal.returns-in-Need-clause-lock
-returns-in-Need-clause-lock g c =
+pub returns-in-Need : goal.returns-in-Need
+returns-in-Need g c = λ value.
     let good = c.requires.good.3 in
     let placed = c.requires.good.4 good.0 good.1 good.2 good.3 good.4 in
     let first = c.args.plan.now.changes.list.items in
@@ -84,46 +64,8 @@ join-requires-clause-inside g c = λ p named.
     let adds = told (after first good.0) (c.in_ok-draft.ensures.agrees good.0 good.1) good.2 between in
     added_inside total (after first good.0) (after second (after first good.0)) good.2 p between adds.added.stays (named_differs second (after first good.0) p adds.short named)
 
-pub returns-clause-few : goal.returns-clause-few
-returns-clause-few g c = IfOk-weaker c.join.result _ _
-    (λ act. made_weaker act _ _ (λ changes reply few.
-    let good = c.requires.good.3 in
-    let placed = c.requires.good.4 good.0 good.1 good.2 good.3 good.4 in
-    let first = c.args.plan.now.changes.list.items in
-    let second = c.in-Changes.changes.list.items in
-    let total = g.V.Pages.total c.args.views.now in
-    let e : Entry = record { relation = c.args.relation; key = c.args.key.now; name = c.args.plan.now.name } in
-    let between = placed_map c.requires.good.0 total good.0 good.2 first c.args.plan.now.name _ good.3 placed in
-    let told = subst (λ x. InMaps (shown c.in_ok-draft.draft.copies.items (g.V.Pages.at_hand x)) (g.V.Pages.total x) (λ pages m. Adds c.args.split (g.V.Pages.total x) e pages second)) c.in_ok-draft.ensures.views
-    (added_is _ c.in_ok-page.field-0 c.in-Changes.changes c.in-Changes.is c.in_ok-page.ensures.added) in
-    let adds = told (after first good.0) (c.in_ok-draft.ensures.agrees good.0 good.1) good.2 between in
-    few_more _ _ _ 2 5 8 few c.requires.few adds.few (omega arith)))
-    c.join.ensures.few
-
-pub returns-clause-modest : goal.returns-clause-modest
-returns-clause-modest g c = λ relations room value. IfOk-weaker c.join.result _ _
-    (λ act. made_weaker act _ _ (λ changes reply told pages agrees m rows named placed.
-    let at_hand = g.V.Pages.at_hand c.args.views.now in
-    let first = c.args.plan.now.changes.list.items in
-    let second = c.in-Changes.changes.list.items in
-    let total = g.V.Pages.total c.args.views.now in
-    let mid = after first pages in
-    let last = after second mid in
-    let copies = c.in_ok-draft.draft.copies.items in
-    let e : Entry = record { relation = c.args.relation; key = c.args.key.now; name = c.args.plan.now.name } in
-    let between = placed_map relations total pages m first c.args.plan.now.name _ rows placed in
-    let draft_agrees = c.in_ok-draft.ensures.agrees pages agrees in
-    let adds = subst (λ x. InMaps (shown copies (g.V.Pages.at_hand x)) (g.V.Pages.total x) (λ pages m. Adds c.args.split (g.V.Pages.total x) e pages second)) c.in_ok-draft.ensures.views
-    (added_is _ c.in_ok-page.field-0 c.in-Changes.changes c.in-Changes.is c.in_ok-page.ensures.added) mid draft_agrees m between in
-    let seen = subst (λ x. InMaps (shown copies (g.V.Pages.at_hand x)) (g.V.Pages.total x) (λ pages m. TakesSeen (shown copies (g.V.Pages.at_hand x)) pages second)) c.in_ok-draft.ensures.views
-    (added_is _ c.in_ok-page.field-0 c.in-Changes.changes c.in-Changes.is c.in_ok-page.ensures.seen) mid draft_agrees m between in
-    subst (λ (p : PageBytes). IsModest at_hand total (cond c.args.split 3 2) c.args.split pages p) (sym (told.1 pages agrees).0)
-    (modest_more at_hand total _ (cond c.args.split 3 2) c.args.split pages last (insert_needs c.args.split) (modest_trans at_hand total 1 (cond c.args.split 2 1) c.args.split pages mid last (placed_modest at_hand relations total c.args.split pages m first c.args.plan.now.name _ rows c.requires.seen placed)
-    (added_modest at_hand c.args.split total e mid last (λ p free some. below_some copies at_hand p c.in_ok-draft.ensures.copies (seen p free some)) adds.added)))))
-    c.join.ensures.made
-
-pub returns-in-Full-clause-full : goal.returns-in-Full-clause-full
-returns-in-Full-clause-full g c = λ relations room value pages agrees m rows named placed.
+pub returns-in-Full : goal.returns-in-Full
+returns-in-Full g c = λ value relations pages agrees m rows placed.
     let first = c.args.plan.now.changes.list.items in
     let total = g.V.Pages.total c.args.views.now in
     let mid = after first pages in
@@ -136,3 +78,45 @@ returns-in-Full-clause-full g c = λ relations room value pages agrees m rows na
     let one = shortage_few c.args.split total e mid placed.adds.file.whole between.few short in
     let needs = insert_needs c.args.split in
     omega (arith, takes, one, needs)
+
+pub returns : goal.returns
+returns g c = λ value.
+    let at_hand = g.V.Pages.at_hand c.args.views.now in
+    let total = g.V.Pages.total c.args.views.now in
+    let first = c.args.plan.now.changes.list.items in
+    let name = c.args.plan.now.name in
+    let second = c.in-Changes.changes.list.items in
+    let copies = c.in_ok-draft.draft.copies.items in
+    let e : Entry = record { relation = c.args.relation; key = c.args.key.now; name = name } in
+    let good = c.requires.good.3 in
+    let stood = c.requires.good.4 good.0 good.1 good.2 good.3 good.4 in
+    let told = subst (λ x. InMaps (shown copies (g.V.Pages.at_hand x)) (g.V.Pages.total x) (λ pages m. Adds c.args.split (g.V.Pages.total x) e pages second)) c.in_ok-draft.ensures.views
+    (added_is _ c.in_ok-page.field-0 c.in-Changes.changes c.in-Changes.is c.in_ok-page.ensures.added) in
+    let told_map = subst (λ x. InMaps (shown copies (g.V.Pages.at_hand x)) (g.V.Pages.total x) (λ pages m. m c.args.relation c.args.key.now ≡ None → AreMap (g.V.Pages.total x) (after second pages) (alter m c.args.relation c.args.key.now (Some name)))) c.in_ok-draft.ensures.views
+    (added_is _ c.in_ok-page.field-0 c.in-Changes.changes c.in-Changes.is c.in_ok-page.ensures.map) in
+    let told_seen = subst (λ x. InMaps (shown copies (g.V.Pages.at_hand x)) (g.V.Pages.total x) (λ pages m. TakesSeen (shown copies (g.V.Pages.at_hand x)) pages second)) c.in_ok-draft.ensures.views
+    (added_is _ c.in_ok-page.field-0 c.in-Changes.changes c.in-Changes.is c.in_ok-page.ensures.seen) in
+    let few = (told (after first good.0) (c.in_ok-draft.ensures.agrees good.0 good.1) good.2 (placed_map c.requires.good.0 total good.0 good.2 first name _ good.3 stood)).few in
+    IfOk-weaker c.join.result _ _ (tells_weaker at_hand total _ _ ⊥ _ (λ changes reply joined. record {
+      there = joined.there;
+      few = few_more _ _ _ 2 5 8 joined.few c.requires.few few (omega arith);
+      idle = λ none. logs_something (logged_of (Insert c.args.relation c.args.key.now value)) reply Done _ joined.same refl none;
+      does = λ relations pages agrees m rows so.
+          let mid = after first pages in
+          let last = after second mid in
+          let placed = so.2 in
+          let between = placed_map relations total pages m first name _ rows placed in
+          let draft_agrees = c.in_ok-draft.ensures.agrees pages agrees in
+          let adds = told mid draft_agrees m between in
+          let map = told_map mid draft_agrees m between so.1 in
+          let seen = told_seen mid draft_agrees m between in
+          let led = joined.leads pages agrees in record {
+            act = subst (λ (next : PageBytes). IsAct relations total pages next (Insert c.args.relation c.args.key.now value) reply) (sym led.0)
+                (entered relations total c.args.split pages last m first name c.args.relation c.args.key.now value reply rows so.1 so.0 placed map adds.added joined.same);
+            short = led.1;
+            modest = subst (λ (next : PageBytes). IsModest at_hand total (cond c.args.split 3 2) c.args.split pages next) (sym led.0)
+                (modest_more at_hand total _ (cond c.args.split 3 2) c.args.split pages last (insert_needs c.args.split)
+                (modest_trans at_hand total 1 (cond c.args.split 2 1) c.args.split pages mid last (placed_modest at_hand relations total c.args.split pages m first name _ rows c.requires.seen placed)
+                (added_modest at_hand c.args.split total e mid last m between (λ p free some. below_some copies at_hand p c.in_ok-draft.ensures.copies (seen p free some)) adds.added)));
+          };
+    }) (λ no. absurd no)) c.join.ensures

@@ -4,6 +4,8 @@ use Rattle.mt_space.specs.Changes.{after, AreShort}
 use Rattle.mt_model.specs.declared.operations.Op.TheVariants.{Insert}
 use Rattle.mt_model.specs.declared.operations.Reply.TheVariants.{Exists}
 use Rattle.mt_base.specs.declared.modes.Mode.TheVariants.{Read}
+use Rattle.std.proofs.lemmas.Result.{IfOk-weaker}
+use Rattle.mt_steps.proofs.Telling.{lock_told, made_told, full_told, broken_told}
 use Rattle.mt_steps.proofs.Asking.{bucket_inside}
 use Rattle.mt_steps.proofs.Modest.{modest_nothing}
 use Rattle.mt_steps.specs.Acts.{IsAct}
@@ -25,4 +27,28 @@ returns-in-Need-clause-lock g c =
     (asks.missing, bucket_inside (g.V.Pages.total c.args.views.now) c.args.key.now good.0 good.2 Read c.in-Need.page c.in-Need.mode good.3.index (asks.role good.0 good.1 good.2 good.3.index))
 
 pub returns-in-Found-clause-modest : goal.returns-in-Found-clause-modest
-returns-in-Found-clause-modest g c = λ relations pages agrees m rows named. modest_nothing (g.V.Pages.at_hand c.args.views.now) (g.V.Pages.total c.args.views.now) (cond c.args.split 3 2) c.args.split pages c.new.result.list.items c.new.ensures
+returns-in-Found-clause-modest g c = λ relations fits pages agrees m rows named. modest_nothing (g.V.Pages.at_hand c.args.views.now) (g.V.Pages.total c.args.views.now) (cond c.args.split 3 2) c.args.split pages c.new.result.list.items c.new.ensures
+
+pub returns-in-Missing-clause-lock : goal.returns-in-Missing-clause-lock
+returns-in-Missing-clause-lock g c = IfOk-weaker c.insert_new.result _ _ (lock_told (g.V.Pages.at_hand c.args.views.now) (g.V.Pages.total c.args.views.now) _ _) c.insert_new.ensures
+
+pub returns-in-Missing-clause-made : goal.returns-in-Missing-clause-made
+returns-in-Missing-clause-made g c = λ relations fits. IfOk-weaker c.insert_new.result _ _ (made_told (g.V.Pages.at_hand c.args.views.now) (g.V.Pages.total c.args.views.now) _ _ _ (λ changes reply done pages agrees m rows named. let d = done.does relations pages agrees m rows (fits, named) in (d.act, d.short))) c.insert_new.ensures
+
+pub returns-in-Missing-clause-modest : goal.returns-in-Missing-clause-modest
+returns-in-Missing-clause-modest g c = λ relations fits. IfOk-weaker c.insert_new.result _ _ (made_told (g.V.Pages.at_hand c.args.views.now) (g.V.Pages.total c.args.views.now) _ _ _ (λ changes reply done pages agrees m rows named. (done.does relations pages agrees m rows (fits, named)).modest)) c.insert_new.ensures
+
+pub returns-in-Missing-clause-there : goal.returns-in-Missing-clause-there
+returns-in-Missing-clause-there g c = IfOk-weaker c.insert_new.result _ _ (made_told (g.V.Pages.at_hand c.args.views.now) (g.V.Pages.total c.args.views.now) _ _ _ (λ changes reply done. done.there)) c.insert_new.ensures
+
+pub returns-in-Missing-clause-few : goal.returns-in-Missing-clause-few
+returns-in-Missing-clause-few g c = IfOk-weaker c.insert_new.result _ _ (made_told (g.V.Pages.at_hand c.args.views.now) (g.V.Pages.total c.args.views.now) _ _ _ (λ changes reply done. done.few)) c.insert_new.ensures
+
+pub returns-in-Missing-clause-idle : goal.returns-in-Missing-clause-idle
+returns-in-Missing-clause-idle g c = IfOk-weaker c.insert_new.result _ _ (made_told (g.V.Pages.at_hand c.args.views.now) (g.V.Pages.total c.args.views.now) _ _ _ (λ changes reply done. done.idle)) c.insert_new.ensures
+
+pub returns-in-Missing-clause-broken : goal.returns-in-Missing-clause-broken
+returns-in-Missing-clause-broken g c = IfOk-weaker c.insert_new.result _ _ (broken_told (g.V.Pages.at_hand c.args.views.now) (g.V.Pages.total c.args.views.now) _ _) c.insert_new.ensures
+
+pub returns-in-Missing-clause-full : goal.returns-in-Missing-clause-full
+returns-in-Missing-clause-full g c = λ relations. IfOk-weaker c.insert_new.result _ _ (full_told (g.V.Pages.at_hand c.args.views.now) (g.V.Pages.total c.args.views.now) _ _ _ (λ full. full relations)) c.insert_new.ensures

@@ -1,12 +1,15 @@
-use Rattle.std.proofs.Common.{[], inl, inr, ⊎_elim, subst, arith}
+use Rattle.std.proofs.Common.{ℕ, [], inl, inr, ⊎_elim, subst, arith}
 use Rattle.std.proofs.lemmas.Result.{IfOk-weaker}
 use Rattle.mt_slots.specs.Page.{Row}
 use Rattle.mt_file.specs.declared.step.Step.{Step}
-use Rattle.mt_file.specs.Plans.{IsPut}
+use Rattle.mt_file.specs.Plans.{IsPut, IsNamed}
+use Rattle.mt_steps.specs.Held.{AreRows}
+use Rattle.mt_index.specs.Maps.{Map}
+use Rattle.mt_space.specs.Changes.{PageBytes, Agrees}
+use Rattle.mt_steps.proofs.Telling.{tells_weaker}
 use Rattle.mt_steps.proofs.Asking.{put_needs, placed_inside}
-use Rattle.mt_steps.proofs.Entering.{placed_is, made_weaker}
+use Rattle.mt_steps.proofs.Entering.{placed_is}
 use Rattle.mt_steps.proofs.Modest.{insert_needs, too_full}
-use Rattle.mt_steps.proofs.Promised.{full_weaker}
 use Rattle.mt_steps.proofs.inserting.insert_new.Goals as goal
 
 pub add_entry-requires-clause-good : goal.add_entry-requires-clause-good
@@ -21,46 +24,35 @@ add_entry-requires-clause-good g c =
           (c.in_ok-page.ensures.put pages agrees rows.file named) (c.in_ok-page.ensures.short pages agrees rows.file named),
     )
 
-pub returns-clause-made : goal.returns-clause-made
-returns-clause-made g c = λ relations fits. IfOk-weaker c.add_entry.result _ _
-    (λ act. made_weaker act _ _ (λ changes reply told pages agrees m rows named.
-    told pages agrees m rows named (c.requires.missing pages agrees m rows.index)
-    (placed_is (g.V.Pages.at_hand c.args.views.now) c.args.room relations (g.V.Pages.total c.args.views.now) pages m _ c.in_ok-page.field-0 c.in-Done.plan c.in-Done.is rows named
-    (c.in_ok-page.ensures.put pages agrees rows.file named) (c.in_ok-page.ensures.short pages agrees rows.file named))))
-    (c.add_entry.ensures.made relations c.args.room c.args.value.now fits)
-
-pub returns-in-Need-clause-lock : goal.returns-in-Need-clause-lock
-returns-in-Need-clause-lock g c =
+pub returns-in-Need : goal.returns-in-Need
+returns-in-Need g c =
     let good = c.requires.good.1 in
     put_needs (g.V.Pages.at_hand c.args.views.now) c.args.room (g.V.Pages.total c.args.views.now) good.0 good.2 _ c.in-Need.page c.in-Need.mode c.in_ok-page.field-0 c.in-Need.is good.3.index good.4 (c.in_ok-page.ensures.put good.0 good.1 good.3.file good.4)
 
-pub returns-in-Some-clause-lock : goal.returns-in-Some-clause-lock
-returns-in-Some-clause-lock g c =
+pub returns-in-Some : goal.returns-in-Some
+returns-in-Some g c =
     let good = c.requires.good.1 in
     let placed = placed_is (g.V.Pages.at_hand c.args.views.now) c.args.room c.requires.good.0 (g.V.Pages.total c.args.views.now) good.0 good.2 _ c.in_ok-page.field-0 c.in-Done.plan c.in-Done.is good.3 good.4
     (c.in_ok-page.ensures.put good.0 good.1 good.3.file good.4) (c.in_ok-page.ensures.short good.0 good.1 good.3.file good.4) in
     (c.in-Some.ensures.some, placed_inside (g.V.Pages.total c.args.views.now) good.0 good.2 c.in-Done.plan.changes.list.items c.in-Done.plan.name _ c.in-Some.page good.3.index placed c.in-Some.ensures.named)
 
-pub returns-in-Full-clause-full : goal.returns-in-Full-clause-full
-returns-in-Full-clause-full g c = λ relations pages agrees m rows named.
+pub returns-in-Full : goal.returns-in-Full
+returns-in-Full g c = λ relations pages agrees m rows named.
     let total = g.V.Pages.total c.args.views.now in
     let row : Row = record { relation = c.args.relation; key = c.args.key.now; value = c.args.value.now } in
     let told = subst (λ (x : Step). IsPut (g.V.Pages.at_hand c.args.views.now) c.args.room total [] pages row x) c.in-Full.is (c.in_ok-page.ensures.put pages agrees rows.file named) in
     ⊎_elim (λ none. let needs = insert_needs c.args.split in inl (omega (arith, none, needs))) (λ tight. inr tight) (too_full c.args.room total _ pages told)
 
-pub returns-clause-modest : goal.returns-clause-modest
-returns-clause-modest g c = λ relations. IfOk-weaker c.add_entry.result _ _
-    (λ act. made_weaker act _ _ (λ changes reply modest pages agrees m rows named. modest pages agrees m rows named
-    (placed_is (g.V.Pages.at_hand c.args.views.now) c.args.room relations (g.V.Pages.total c.args.views.now) pages m _ c.in_ok-page.field-0 c.in-Done.plan c.in-Done.is rows named
-    (c.in_ok-page.ensures.put pages agrees rows.file named) (c.in_ok-page.ensures.short pages agrees rows.file named))))
-    (c.add_entry.ensures.modest relations c.args.room c.args.value.now)
-
-pub returns-clause-full : goal.returns-clause-full
-returns-clause-full g c = λ relations. IfOk-weaker c.add_entry.result _ _
-    (λ act. full_weaker act _ _ (λ full pages agrees m rows named. inl (full pages agrees m rows named
-    (placed_is (g.V.Pages.at_hand c.args.views.now) c.args.room relations (g.V.Pages.total c.args.views.now) pages m _ c.in_ok-page.field-0 c.in-Done.plan c.in-Done.is rows named
-    (c.in_ok-page.ensures.put pages agrees rows.file named) (c.in_ok-page.ensures.short pages agrees rows.file named)))))
-    (c.add_entry.ensures.full relations c.args.room c.args.value.now)
-
-pub returns-clause-idle : goal.returns-clause-idle
-returns-clause-idle g c = c.add_entry.ensures.idle c.args.value.now
+pub returns : goal.returns
+returns g c =
+    let at_hand = g.V.Pages.at_hand c.args.views.now in
+    let total = g.V.Pages.total c.args.views.now in
+    let put = λ (relations : ℕ) (pages : PageBytes) (agrees : Agrees at_hand pages) (m : Map) (rows : AreRows relations total pages m) (named : IsNamed c.args.room pages).
+    placed_is at_hand c.args.room relations total pages m _ c.in_ok-page.field-0 c.in-Done.plan c.in-Done.is rows named
+    (c.in_ok-page.ensures.put pages agrees rows.file named) (c.in_ok-page.ensures.short pages agrees rows.file named) in
+    IfOk-weaker c.add_entry.result _ _ (tells_weaker at_hand total _ _ _ _ (λ changes reply done. record {
+      there = done.there;
+      few = done.few;
+      idle = done.idle;
+      does = λ relations pages agrees m rows so. done.does relations pages agrees m rows (so.0, c.requires.missing pages agrees m rows.index, put relations pages agrees m rows so.1);
+    }) (λ full relations pages agrees m rows named. inl (full relations pages agrees m rows (put relations pages agrees m rows named)))) (c.add_entry.ensures c.args.value.now)

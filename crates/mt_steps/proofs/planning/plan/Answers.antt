@@ -20,7 +20,7 @@ returns-in-Insert-clause-made g c = λ relations counters few within.
     let inside = subst (λ (o : Op). IsWithin relations counters o) (sym is) within in
     ok_both c.insert.result _ _ _
     (λ act. rows_planned c.args.split relations counters (g.V.Pages.total c.args.views.now) (g.V.Pages.at_hand c.args.views.now) c.args.room (Insert c.in-Insert.relation c.as_slice-in-Insert.result.now c.as_slice-in-Insert-2.result.now) c.args.op.now act is)
-    (c.insert.ensures.made relations (record { relation = inside.0; key = inside.1; value = inside.2 })) (c.insert.ensures.modest relations)
+    (c.insert.ensures.made relations (record { relation = inside.0; key = inside.1; value = inside.2 })) (c.insert.ensures.modest relations (record { relation = inside.0; key = inside.1; value = inside.2 }))
 
 pub returns-in-Update-clause-made : goal.returns-in-Update-clause-made
 returns-in-Update-clause-made g c = λ relations counters few within.
@@ -29,7 +29,7 @@ returns-in-Update-clause-made g c = λ relations counters few within.
     let inside = subst (λ (o : Op). IsWithin relations counters o) (sym is) within in
     ok_both c.update.result _ _ _
     (λ act. whole_planned c.args.split relations counters (g.V.Pages.total c.args.views.now) (g.V.Pages.at_hand c.args.views.now) c.args.room (Update c.in-Update.relation c.as_slice-in-Update.result.now c.as_slice-in-Update-2.result.now) c.args.op.now act is)
-    (c.update.ensures.made relations (record { relation = inside.0; key = inside.1; value = inside.2 })) (c.update.ensures.modest relations)
+    (c.update.ensures.made relations (record { relation = inside.0; key = inside.1; value = inside.2 })) (c.update.ensures.modest relations (record { relation = inside.0; key = inside.1; value = inside.2 }))
 
 pub returns-in-Delete-clause-made : goal.returns-in-Delete-clause-made
 returns-in-Delete-clause-made g c = λ relations counters few within.

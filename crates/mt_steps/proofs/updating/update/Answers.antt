@@ -4,6 +4,8 @@ use Rattle.mt_space.specs.Changes.{after, AreShort}
 use Rattle.mt_model.specs.declared.operations.Op.TheVariants.{Update}
 use Rattle.mt_model.specs.declared.operations.Reply.TheVariants.{Missing}
 use Rattle.mt_base.specs.declared.modes.Mode.TheVariants.{Read}
+use Rattle.std.proofs.lemmas.Result.{IfOk-weaker}
+use Rattle.mt_steps.proofs.Telling.{lock_told, made_told, full_told, broken_told}
 use Rattle.mt_steps.proofs.Asking.{bucket_inside}
 use Rattle.mt_steps.proofs.Modest.{modest_nothing}
 use Rattle.mt_steps.specs.Acts.{IsAct}
@@ -25,4 +27,28 @@ returns-in-Need-clause-lock g c =
     (asks.missing, bucket_inside (g.V.Pages.total c.args.views.now) c.args.key.now good.0 good.2 Read c.in-Need.page c.in-Need.mode good.3.index (asks.role good.0 good.1 good.2 good.3.index))
 
 pub returns-in-Missing-clause-modest : goal.returns-in-Missing-clause-modest
-returns-in-Missing-clause-modest g c = λ relations pages agrees m rows named. modest_nothing (g.V.Pages.at_hand c.args.views.now) (g.V.Pages.total c.args.views.now) 1 false pages c.new.result.list.items c.new.ensures
+returns-in-Missing-clause-modest g c = λ relations fits pages agrees m rows named. modest_nothing (g.V.Pages.at_hand c.args.views.now) (g.V.Pages.total c.args.views.now) 1 false pages c.new.result.list.items c.new.ensures
+
+pub returns-in-Found-clause-lock : goal.returns-in-Found-clause-lock
+returns-in-Found-clause-lock g c = IfOk-weaker c.update_row.result _ _ (lock_told (g.V.Pages.at_hand c.args.views.now) (g.V.Pages.total c.args.views.now) _ _) c.update_row.ensures
+
+pub returns-in-Found-clause-made : goal.returns-in-Found-clause-made
+returns-in-Found-clause-made g c = λ relations fits. IfOk-weaker c.update_row.result _ _ (made_told (g.V.Pages.at_hand c.args.views.now) (g.V.Pages.total c.args.views.now) _ _ _ (λ changes reply done pages agrees m rows named. let d = done.does relations pages agrees m rows (fits, named) in (d.act, d.short))) c.update_row.ensures
+
+pub returns-in-Found-clause-modest : goal.returns-in-Found-clause-modest
+returns-in-Found-clause-modest g c = λ relations fits. IfOk-weaker c.update_row.result _ _ (made_told (g.V.Pages.at_hand c.args.views.now) (g.V.Pages.total c.args.views.now) _ _ _ (λ changes reply done pages agrees m rows named. (done.does relations pages agrees m rows (fits, named)).modest)) c.update_row.ensures
+
+pub returns-in-Found-clause-there : goal.returns-in-Found-clause-there
+returns-in-Found-clause-there g c = IfOk-weaker c.update_row.result _ _ (made_told (g.V.Pages.at_hand c.args.views.now) (g.V.Pages.total c.args.views.now) _ _ _ (λ changes reply done. done.there)) c.update_row.ensures
+
+pub returns-in-Found-clause-few : goal.returns-in-Found-clause-few
+returns-in-Found-clause-few g c = IfOk-weaker c.update_row.result _ _ (made_told (g.V.Pages.at_hand c.args.views.now) (g.V.Pages.total c.args.views.now) _ _ _ (λ changes reply done. done.few)) c.update_row.ensures
+
+pub returns-in-Found-clause-idle : goal.returns-in-Found-clause-idle
+returns-in-Found-clause-idle g c = IfOk-weaker c.update_row.result _ _ (made_told (g.V.Pages.at_hand c.args.views.now) (g.V.Pages.total c.args.views.now) _ _ _ (λ changes reply done. done.idle)) c.update_row.ensures
+
+pub returns-in-Found-clause-broken : goal.returns-in-Found-clause-broken
+returns-in-Found-clause-broken g c = IfOk-weaker c.update_row.result _ _ (broken_told (g.V.Pages.at_hand c.args.views.now) (g.V.Pages.total c.args.views.now) _ _) c.update_row.ensures
+
+pub returns-in-Found-clause-full : goal.returns-in-Found-clause-full
+returns-in-Found-clause-full g c = λ relations. IfOk-weaker c.update_row.result _ _ (full_told (g.V.Pages.at_hand c.args.views.now) (g.V.Pages.total c.args.views.now) _ _ _ (λ full. full relations)) c.update_row.ensures

@@ -1,20 +1,19 @@
-use Rattle.std.proofs.Common.{false, ◌≡◌, ◌<◌, inl, inr, arith, ⊎_elim, ◌∙◌, ℕ, List, Option, None, Some, refl, sym, ap, subst}
+use Rattle.std.proofs.Common.{rules, false, ◌≡◌, ◌<◌, inl, inr, arith, ⊎_elim, ◌∙◌, ℕ, List, Option, None, Some, refl, sym, ap, subst}
 use Rattle.std.proofs.lemmas.Result.{IfOk-weaker}
 use Rattle.mt_base.specs.declared.numbers.RecordName.{RecordName}
 use Rattle.mt_slots.specs.Page.{Row}
-use Rattle.mt_space.specs.Changes.{after, AreShort}
 use Rattle.mt_space.specs.Kinds.{kind}
 use Rattle.mt_file.proofs.Filed.{record_kind}
 use Rattle.mt_model.specs.declared.operations.Op.TheVariants.{Update}
 use Rattle.mt_model.specs.declared.operations.Reply.TheVariants.{Was}
-use Rattle.mt_steps.specs.Acts.{IsAct, IsMoved}
+use Rattle.mt_steps.specs.Acts.{IsMoved}
+use Rattle.mt_steps.specs.Tells.{Does}
+use Rattle.mt_steps.proofs.Telling.{tells_weaker}
 use Rattle.mt_steps.proofs.Asking.{kind_inside, replacement_needs, kept_inside, moved_inside}
 use Rattle.mt_file.specs.declared.step.Step.{Step}
 use Rattle.mt_file.specs.Plans.{IfDone, IsReplacement}
 use Rattle.mt_steps.proofs.Modest.{kept_modest, moved_modest, too_full}
-use Rattle.mt_steps.specs.Plans.{IsModest}
 use Rattle.std.specs.Prelude.{IsSome}
-use Rattle.mt_steps.proofs.Entering.{made_weaker}
 use Rattle.mt_steps.proofs.Rows.{row_of}
 use Rattle.mt_steps.proofs.Shifting.{replacement_is, kept_act, moved_here, has_moved, to_inside}
 use Rattle.mt_steps.proofs.updating.update_row.Goals as goal
@@ -32,8 +31,8 @@ plan_read-requires-clause-good g c =
     let named = good.3.named.names c.args.relation c.args.key.now n (c.requires.named good.0 good.1 good.2 good.3.index) in
     (good.0, good.1, good.3.file, record_kind good.0 n.page n.slot _ named.1)
 
-pub returns-in-Need-clause-lock : goal.returns-in-Need-clause-lock
-returns-in-Need-clause-lock g c =
+pub returns-in-Need : goal.returns-in-Need
+returns-in-Need g c =
     let good = c.requires.good.1 in
     let n = c.args.name.now in
     let named = good.3.named.names c.args.relation c.args.key.now n (c.requires.named good.0 good.1 good.2 good.3.index) in
@@ -41,8 +40,8 @@ returns-in-Need-clause-lock g c =
     let told = c.in-Need.ensures good.0 good.1 good.3.file three in
     (told.0, kind_inside (g.V.Pages.total c.args.views.now) good.0 good.2 c.in-Need.page 3 good.3.index (ap (λ (p : ℕ). kind good.0 p) told.2 ∙ three) (omega arith))
 
-pub returns-in-Nothing-clause-broken : goal.returns-in-Nothing-clause-broken
-returns-in-Nothing-clause-broken g c =
+pub returns-in-Nothing : goal.returns-in-Nothing
+returns-in-Nothing g c =
     let good = c.requires.good.1 in
     let n = c.args.name.now in
     let named = good.3.named.names c.args.relation c.args.key.now n (c.requires.named good.0 good.1 good.2 good.3.index) in
@@ -54,32 +53,12 @@ plan_replace-requires-clause-good g c =
     let named = good.3.named.names c.args.relation c.args.key.now c.args.name.now (c.requires.named good.0 good.1 good.2 good.3.index) in
     (good.0, _, good.1, good.3.file, good.4, named.1)
 
-pub returns-in-Need-2-clause-lock : goal.returns-in-Need-2-clause-lock
-returns-in-Need-2-clause-lock g c =
+pub returns-in-Need-2 : goal.returns-in-Need-2
+returns-in-Need-2 g c =
     let good = c.requires.good.1 in
     let n = c.args.name.now in
     let named = good.3.named.names c.args.relation c.args.key.now n (c.requires.named good.0 good.1 good.2 good.3.index) in
     replacement_needs (g.V.Pages.at_hand c.args.views.now) c.args.room (g.V.Pages.total c.args.views.now) good.0 good.2 n _ _ c.in-Need-2.page c.in-Need-2.mode c.in_ok-page.field-0 c.in-Need-2.is good.3.index good.4 (record_kind good.0 n.page n.slot _ named.1) (c.in_ok-page.ensures.replacement good.0 _ good.1 good.3.file good.4 named.1)
-
-pub returns-then-is_name-clause-made : goal.returns-then-is_name-clause-made
-returns-then-is_name-clause-made g c = λ relations fits pages agrees m rows roomy.
-    let n = c.args.name.now in
-    let total = g.V.Pages.total c.args.views.now in
-    let old = c.in_ok-old-in-Record.old in
-    let is = c.requires.named pages agrees m rows.index in
-    let named = rows.named.names c.args.relation c.args.key.now n is in
-    let told = c.in-Record.ensures pages agrees rows.file (record_kind pages n.page n.slot _ named.1) in
-    let stood = named.1 ∙ ap (λ (v : List ℕ). row_of c.args.relation c.args.key.now (Some v)) (value_of _ _ _ (sym named.1 ∙ told) ∙ sym c.in_ok-old-in-Record.ensures) in
-    let r : Row = record { relation = c.args.relation; key = c.args.key.now; value = old } in
-    let w : Row = record { relation = c.args.relation; key = c.args.key.now; value = c.args.value.now } in
-    let changes = c.in-Done.plan.changes.list.items in
-    ⊎_elim {C = IsAct relations total pages (after changes pages) (Update c.args.relation c.args.key.now c.args.value.now) (Was old) × AreShort changes pages}
-    (λ kept. (kept_act relations total pages m changes n c.args.relation c.args.key.now old c.args.value.now (Was old) rows is fits kept.1 refl, kept.1.short))
-    (λ moved.
-    let here : IsMoved total pages changes n n r w = subst (λ (to : RecordName). IsMoved total pages changes n to r w) c.if-is_name.ensures moved in
-    (moved_here relations total pages m changes n c.args.relation c.args.key.now old c.args.value.now (Was old) rows is fits here refl, here.short))
-    (replacement_is (g.V.Pages.at_hand c.args.views.now) c.args.room relations total pages m n r c.args.value.now c.in_ok-page.field-0 c.in-Done.plan c.in-Done.is rows roomy
-    (c.in_ok-page.ensures.replacement pages r agrees rows.file roomy stood) (c.in_ok-page.ensures.short pages r agrees rows.file roomy stood) stood)
 
 pub set_entry-requires-clause-good : goal.set_entry-requires-clause-good
 set_entry-requires-clause-good g c = (
@@ -103,24 +82,8 @@ set_entry-requires-clause-good g c = (
       ),
 )
 
-pub returns-clause-made : goal.returns-clause-made
-returns-clause-made g c = λ relations fits. IfOk-weaker c.set_entry.result _ _
-    (λ act. made_weaker act _ _ (λ changes reply done pages agrees m rows roomy.
-    let n = c.args.name.now in
-    let old = c.in_ok-old-in-Record.old in
-    let is = c.requires.named pages agrees m rows.index in
-    let named = rows.named.names c.args.relation c.args.key.now n is in
-    let told = c.in-Record.ensures pages agrees rows.file (record_kind pages n.page n.slot _ named.1) in
-    let stood = named.1 ∙ ap (λ (v : List ℕ). row_of c.args.relation c.args.key.now (Some v)) (value_of _ _ _ (sym named.1 ∙ told) ∙ sym c.in_ok-old-in-Record.ensures) in
-    let r : Row = record { relation = c.args.relation; key = c.args.key.now; value = old } in
-    done pages agrees m rows roomy is
-    (has_moved (g.V.Pages.total c.args.views.now) pages c.in-Done.plan n r c.args.value.now c.if-is_name.ensures
-    (replacement_is (g.V.Pages.at_hand c.args.views.now) c.args.room relations (g.V.Pages.total c.args.views.now) pages m n r c.args.value.now c.in_ok-page.field-0 c.in-Done.plan c.in-Done.is rows roomy
-    (c.in_ok-page.ensures.replacement pages r agrees rows.file roomy stood) (c.in_ok-page.ensures.short pages r agrees rows.file roomy stood) stood))))
-    (c.set_entry.ensures.made relations c.args.room c.args.name.now c.args.value.now fits)
-
-pub returns-in-Some-clause-lock : goal.returns-in-Some-clause-lock
-returns-in-Some-clause-lock g c =
+pub returns-in-Some : goal.returns-in-Some
+returns-in-Some g c =
     let good = c.requires.good.1 in
     let n = c.args.name.now in
     let total = g.V.Pages.total c.args.views.now in
@@ -135,8 +98,8 @@ returns-in-Some-clause-lock g c =
           (c.in_ok-page.ensures.replacement good.0 r good.1 good.3.file good.4 named.1) (c.in_ok-page.ensures.short good.0 r good.1 good.3.file good.4 named.1) named.1),
     )
 
-pub returns-in-Full-clause-full : goal.returns-in-Full-clause-full
-returns-in-Full-clause-full g c = λ relations pages agrees m rows roomy.
+pub returns-in-Full : goal.returns-in-Full
+returns-in-Full g c = λ relations pages agrees m rows roomy.
     let n = c.args.name.now in
     let total = g.V.Pages.total c.args.views.now in
     let named = rows.named.names c.args.relation c.args.key.now n (c.requires.named pages agrees m rows.index) in
@@ -144,44 +107,67 @@ returns-in-Full-clause-full g c = λ relations pages agrees m rows roomy.
     let told = subst (λ (x : Step). IsReplacement (g.V.Pages.at_hand c.args.views.now) c.args.room total pages n.page n.slot r (record r { value = c.args.value.now }) x) c.in-Full.is (c.in_ok-page.ensures.replacement pages r agrees rows.file roomy named.1) in
     ⊎_elim (λ none. inl (omega (arith, none))) (λ tight. inr tight) (too_full c.args.room total _ pages told.1)
 
-pub returns-then-is_name-clause-modest : goal.returns-then-is_name-clause-modest
-returns-then-is_name-clause-modest g c = λ relations pages agrees m rows roomy.
-    let n = c.args.name.now in
-    let at_hand = g.V.Pages.at_hand c.args.views.now in
-    let total = g.V.Pages.total c.args.views.now in
-    let changes = c.in-Done.plan.changes.list.items in
-    let named = rows.named.names c.args.relation c.args.key.now n (c.requires.named pages agrees m rows.index) in
-    let r : Row = record { relation = c.args.relation; key = c.args.key.now; value = named.0 } in
-    let seen = subst (λ (x : Step). IfDone x (λ plan. IsSome (at_hand n.page) × IsSome (at_hand plan.name.page))) c.in-Done.is c.in_ok-page.ensures.seen in
-    ⊎_elim {C = IsModest at_hand total 1 false pages (after changes pages)}
-    (λ kept. kept_modest at_hand relations total false pages m changes n _ _ rows kept.1)
-    (λ moved. moved_modest at_hand relations total false pages m changes n c.in-Done.plan.name _ _ rows seen.0 seen.1 moved)
-    (replacement_is at_hand c.args.room relations total pages m n r c.args.value.now c.in_ok-page.field-0 c.in-Done.plan c.in-Done.is rows roomy
-    (c.in_ok-page.ensures.replacement pages r agrees rows.file roomy named.1) (c.in_ok-page.ensures.short pages r agrees rows.file roomy named.1) named.1)
-
 pub set_entry-requires-clause-seen : goal.set_entry-requires-clause-seen
 set_entry-requires-clause-seen g c =
     let at_hand = g.V.Pages.at_hand c.args.views.now in
     (subst (λ (x : Step). IfDone x (λ plan. IsSome (at_hand c.args.name.now.page) × IsSome (at_hand plan.name.page))) c.in-Done.is c.in_ok-page.ensures.seen).1
 
-pub returns-clause-modest : goal.returns-clause-modest
-returns-clause-modest g c = λ relations.
-    let at_hand = g.V.Pages.at_hand c.args.views.now in
-    let seen = subst (λ (x : Step). IfDone x (λ plan. IsSome (at_hand c.args.name.now.page) × IsSome (at_hand plan.name.page))) c.in-Done.is c.in_ok-page.ensures.seen in
-    IfOk-weaker c.set_entry.result _ _
-    (λ act. made_weaker act _ _ (λ changes reply modest pages agrees m rows roomy.
-    let n = c.args.name.now in
-    let old = c.in_ok-old-in-Record.old in
-    let is = c.requires.named pages agrees m rows.index in
-    let named = rows.named.names c.args.relation c.args.key.now n is in
-    let told = c.in-Record.ensures pages agrees rows.file (record_kind pages n.page n.slot _ named.1) in
-    let stood = named.1 ∙ ap (λ (v : List ℕ). row_of c.args.relation c.args.key.now (Some v)) (value_of _ _ _ (sym named.1 ∙ told) ∙ sym c.in_ok-old-in-Record.ensures) in
-    let r : Row = record { relation = c.args.relation; key = c.args.key.now; value = old } in
-    modest pages agrees m rows roomy
-    (has_moved (g.V.Pages.total c.args.views.now) pages c.in-Done.plan n r c.args.value.now c.if-is_name.ensures
-    (replacement_is at_hand c.args.room relations (g.V.Pages.total c.args.views.now) pages m n r c.args.value.now c.in_ok-page.field-0 c.in-Done.plan c.in-Done.is rows roomy
-    (c.in_ok-page.ensures.replacement pages r agrees rows.file roomy stood) (c.in_ok-page.ensures.short pages r agrees rows.file roomy stood) stood))))
-    (c.set_entry.ensures.modest relations c.args.room c.args.name.now c.args.value.now seen.0)
+pub returns-then-is_name : goal.returns-then-is_name
+returns-then-is_name g c = record {
+  there = search rules;
+  few = search rules;
+  idle = search rules;
+  does = λ relations pages agrees m rows so.
+      let n = c.args.name.now in
+      let at_hand = g.V.Pages.at_hand c.args.views.now in
+      let total = g.V.Pages.total c.args.views.now in
+      let old = c.in_ok-old-in-Record.old in
+      let is = c.requires.named pages agrees m rows.index in
+      let named = rows.named.names c.args.relation c.args.key.now n is in
+      let told = c.in-Record.ensures pages agrees rows.file (record_kind pages n.page n.slot _ named.1) in
+      let stood = named.1 ∙ ap (λ (v : List ℕ). row_of c.args.relation c.args.key.now (Some v)) (value_of _ _ _ (sym named.1 ∙ told) ∙ sym c.in_ok-old-in-Record.ensures) in
+      let r : Row = record { relation = c.args.relation; key = c.args.key.now; value = old } in
+      let w : Row = record { relation = c.args.relation; key = c.args.key.now; value = c.args.value.now } in
+      let changes = c.in-Done.plan.changes.list.items in
+      let seen = subst (λ (x : Step). IfDone x (λ plan. IsSome (at_hand n.page) × IsSome (at_hand plan.name.page))) c.in-Done.is c.in_ok-page.ensures.seen in
+      ⊎_elim {C = Does at_hand relations total 1 false (Update c.args.relation c.args.key.now c.args.value.now) pages changes (Was old)}
+      (λ kept. record {
+        act = kept_act relations total pages m changes n c.args.relation c.args.key.now old c.args.value.now (Was old) rows is so.0 kept.1 refl;
+        short = kept.1.short;
+        modest = kept_modest at_hand relations total false pages m changes n _ _ rows kept.1;
+      })
+      (λ moved.
+      let here : IsMoved total pages changes n n r w = subst (λ (to : RecordName). IsMoved total pages changes n to r w) c.if-is_name.ensures moved in record {
+        act = moved_here relations total pages m changes n c.args.relation c.args.key.now old c.args.value.now (Was old) rows is so.0 here refl;
+        short = here.short;
+        modest = moved_modest at_hand relations total false pages m changes n c.in-Done.plan.name _ _ rows seen.0 seen.1 moved;
+      })
+      (replacement_is at_hand c.args.room relations total pages m n r c.args.value.now c.in_ok-page.field-0 c.in-Done.plan c.in-Done.is rows so.1
+      (c.in_ok-page.ensures.replacement pages r agrees rows.file so.1 stood) (c.in_ok-page.ensures.short pages r agrees rows.file so.1 stood) stood);
+}
 
-pub returns-clause-idle : goal.returns-clause-idle
-returns-clause-idle g c = c.set_entry.ensures.idle c.args.value.now
+pub returns : goal.returns
+returns g c =
+    let n = c.args.name.now in
+    let at_hand = g.V.Pages.at_hand c.args.views.now in
+    let total = g.V.Pages.total c.args.views.now in
+    let seen = subst (λ (x : Step). IfDone x (λ plan. IsSome (at_hand n.page) × IsSome (at_hand plan.name.page))) c.in-Done.is c.in_ok-page.ensures.seen in
+    IfOk-weaker c.set_entry.result _ _ (tells_weaker at_hand total _ _ ⊥ _ (λ changes reply done. record {
+      there = done.there;
+      few = done.few;
+      idle = done.idle;
+      does = λ relations pages agrees m rows so.
+          let old = c.in_ok-old-in-Record.old in
+          let is = c.requires.named pages agrees m rows.index in
+          let named = rows.named.names c.args.relation c.args.key.now n is in
+          let told = c.in-Record.ensures pages agrees rows.file (record_kind pages n.page n.slot _ named.1) in
+          let stood = named.1 ∙ ap (λ (v : List ℕ). row_of c.args.relation c.args.key.now (Some v)) (value_of _ _ _ (sym named.1 ∙ told) ∙ sym c.in_ok-old-in-Record.ensures) in
+          let r : Row = record { relation = c.args.relation; key = c.args.key.now; value = old } in
+          done.does relations pages agrees m rows (
+            so.0,
+            is,
+            has_moved total pages c.in-Done.plan n r c.args.value.now c.if-is_name.ensures
+                (replacement_is at_hand c.args.room relations total pages m n r c.args.value.now c.in_ok-page.field-0 c.in-Done.plan c.in-Done.is rows so.1
+                (c.in_ok-page.ensures.replacement pages r agrees rows.file so.1 stood) (c.in_ok-page.ensures.short pages r agrees rows.file so.1 stood) stood),
+          );
+    }) (λ no. absurd no)) (c.set_entry.ensures n c.args.value.now seen.0)

@@ -1,0 +1,46 @@
+-- What follows from an answer that is told by cases.
+use Rattle.std.proofs.Common.{◌≡◌, ◌<◌, ℕ, List, Option, None, Some, sym, ap, ◌∙◌}
+use Rattle.mt_space.specs.declared.changes.PageChange.{PageChange}
+use Rattle.mt_model.specs.declared.operations.Reply.{Reply}
+use Rattle.mt_steps.specs.declared.act.Act.{Act}
+use Rattle.mt_steps.specs.declared.act.Act.TheVariants.{Lock, Made, Full, Broken}
+use Rattle.mt_steps.specs.Acts.{IfLock, IfMade, IfFull, IfBroken}
+use Rattle.mt_steps.specs.Tells.{Tells}
+
+pub tells_weaker : (at_hand : ℕ → Option (List ℕ)) (total : ℕ) (P Q : List PageChange → Reply → Type 0) (F G : Type 0)
+    → ((changes : List PageChange) (reply : Reply) → P changes reply → Q changes reply) → (F → G) → (act : Act) → Tells at_hand total P F act → Tells at_hand total Q G act
+tells_weaker at_hand total P Q F G f h (Lock p mode) told = told
+tells_weaker at_hand total P Q F G f h (Made changes reply) told = f changes.list.items reply told
+tells_weaker at_hand total P Q F G f h Full told = h told
+tells_weaker at_hand total P Q F G f h Broken told = told
+
+pub lock_told : (at_hand : ℕ → Option (List ℕ)) (total : ℕ) (P : List PageChange → Reply → Type 0) (F : Type 0) (act : Act) → Tells at_hand total P F act → IfLock act (λ p mode. (at_hand p ≡ None) × (p < total))
+lock_told at_hand total P F (Lock p mode) told = told
+lock_told at_hand total P F (Made changes reply) told = tt
+lock_told at_hand total P F Full told = tt
+lock_told at_hand total P F Broken told = tt
+
+pub made_told : (at_hand : ℕ → Option (List ℕ)) (total : ℕ) (P Q : List PageChange → Reply → Type 0) (F : Type 0) → ((changes : List PageChange) (reply : Reply) → P changes reply → Q changes reply) → (act : Act) → Tells at_hand total P F act → IfMade act Q
+made_told at_hand total P Q F f (Lock p mode) told = tt
+made_told at_hand total P Q F f (Made changes reply) told = f changes.list.items reply told
+made_told at_hand total P Q F f Full told = tt
+made_told at_hand total P Q F f Broken told = tt
+
+pub full_told : (at_hand : ℕ → Option (List ℕ)) (total : ℕ) (P : List PageChange → Reply → Type 0) (F G : Type 0) → (F → G) → (act : Act) → Tells at_hand total P F act → IfFull act G
+full_told at_hand total P F G h (Lock p mode) told = tt
+full_told at_hand total P F G h (Made changes reply) told = tt
+full_told at_hand total P F G h Full told = h told
+full_told at_hand total P F G h Broken told = tt
+
+pub broken_told : (at_hand : ℕ → Option (List ℕ)) (total : ℕ) (P : List PageChange → Reply → Type 0) (F : Type 0) (act : Act) → Tells at_hand total P F act → IfBroken act ⊥
+broken_told at_hand total P F (Lock p mode) told = tt
+broken_told at_hand total P F (Made changes reply) told = tt
+broken_told at_hand total P F Full told = tt
+broken_told at_hand total P F Broken told = told
+
+-- what is logged is something
+pub logs_something : {A B : Type 0} (log : Reply → Option A) (reply told : Reply) (x : A) → reply ≡ told → log told ≡ Some x → log reply ≡ None → B
+logs_something log reply told x same some none = absurd (none_some (sym none ∙ ap log same ∙ some))
+  where
+    none_some : None ≡ Some x → ⊥
+    none_some e = cc

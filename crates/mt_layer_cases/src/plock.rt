@@ -19,7 +19,7 @@ fn awaited(rt: &impl Abort, locks: &mut PageLocks, op: u64, page: u16) -> Option
     };
     match asked {
         Asked::Wait(holder) => Some(holder.get()),
-        Asked::Again => None,
+        Asked::Again(_) => None,
         Asked::Granted(_guard) => panic!(rt; "{op} {page}: granted"),
     }
 }

@@ -211,7 +211,7 @@ fn go<D: Device>(
                 assert!(rt; scope.stage() == Stage::Ready);
                 return Ok(Some(first));
             }
-            Stepped::Wait(_) | Stepped::Again => panic!(rt; "no other is under way"),
+            Stepped::Wait(_) | Stepped::Again(_) => panic!(rt; "no other is under way"),
         }
         // a page that is written takes of its log bytes
         if scope.left() < left {

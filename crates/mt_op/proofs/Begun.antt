@@ -11,10 +11,9 @@ use Rattle.mt_pool.specs.Views.{IsThere, IsFull, view, pages}
 use Rattle.mt_pool.specs.declared.store.Store.{Store}
 use Rattle.mt_frame.specs.declared.records.Record.{Record}
 use Rattle.mt_space.specs.Changes.{PageBytes}
-use Rattle.mt_op.specs.Operations.{world, IsRight}
 use Rattle.mt_op.specs.Room.{IsRoom}
 use Rattle.mt_op.specs.declared.operations.Operations.{Operations}
-use Rattle.mt_op.proofs.Stored.{right_noted, unlogged_shows, unlogged_held}
+use Rattle.mt_op.proofs.Stored.{unlogged_shows}
 
 -- where the log has no record no frame is to be flushed, so one that has a page is to be had
 pub unlogged_spare : {D : Type 0} (seen : D → List ℕ) (may_leave : D → List ℕ → Type 0) (opening : PageBytes) (s : Store D) (p : ℕ) → IsKept seen may_leave opening s → appended s.log ≡ [] → IsThere s.pool p → IsFull s.pool → ⊥
@@ -31,10 +30,11 @@ unlogged_spare seen may_leave opening s p kept none there full =
 
 -- the first so many pages are noted, and the others are not yet
 pub record IsNotedTo {D : Type 0} (seen : D → List ℕ) (may_leave : D → List ℕ → Type 0) (failures : D → ℕ) (o l : Operations D) (n : ℕ) : Type 0 where
-  pub right : (opening : PageBytes) (relations counters : ℕ) → IsRight seen may_leave opening relations counters o → IsRight seen may_leave opening relations counters l
-  pub noted : (opening : PageBytes) (relations counters : ℕ) → IsRight seen may_leave opening relations counters o → (p : ℕ) → p < n → IsRoom (get_or l.map.kinds p 0) (opening p) (get_or l.rooms.0 p 0)
+  pub kept : (opening : PageBytes) → IsKept seen may_leave opening o.store → IsKept seen may_leave opening l.store
+  pub noted : (opening : PageBytes) → IsKept seen may_leave opening o.store → (p : ℕ) → p < n → IsRoom (get_or l.map.kinds p 0) (opening p) (get_or l.rooms.0 p 0)
   pub blank : (p : ℕ) → n ≤ p → p < length l.rooms.0 → get_or l.rooms.0 p 0 ≡ 0
   pub spare : IsFull l.store.pool → ⊥
+  pub size : length l.rooms.0 ≡ length o.rooms.0
   pub locks : l.locks ≡ o.locks
   pub map : l.map ≡ o.map
   pub log : l.store.log ≡ o.store.log
@@ -45,11 +45,12 @@ module _ {D : Type 0} (seen : D → List ℕ) (may_leave : D → List ℕ → Ty
   -- a page that does not hold records
   pub passed : get_or l.map.kinds n 0 ≢ 3 → IsNotedTo seen may_leave failures o l (n + 1)
   passed other = record {
-    right = before.right;
-    noted = λ opening relations counters right. below_more (λ p. IsRoom (get_or l.map.kinds p 0) (opening p) (get_or l.rooms.0 p 0)) n
-        (before.noted opening relations counters right) (record { records = λ is. absurd (other is); others = λ not. before.blank n (omega arith) inside });
+    kept = before.kept;
+    noted = λ opening kept. below_more (λ p. IsRoom (get_or l.map.kinds p 0) (opening p) (get_or l.rooms.0 p 0)) n
+        (before.noted opening kept) (record { records = λ is. absurd (other is); others = λ not. before.blank n (omega arith) inside });
     blank = λ p above below. before.blank p (omega arith) below;
     spare = before.spare;
+    size = before.size;
     locks = before.locks;
     map = before.map;
     log = before.log;
@@ -58,29 +59,30 @@ module _ {D : Type 0} (seen : D → List ℕ) (may_leave : D → List ℕ → Ty
   }
 
   -- one that does, which has been brought into a frame
-  pub noted_page : (m : Operations D) (rooms : Rooms) (fits : ℕ) → ((opening : PageBytes) (relations counters : ℕ) → IsRight seen may_leave opening relations counters l → IsRight seen may_leave opening relations counters m)
+  pub noted_page : (m : Operations D) (rooms : Rooms) (fits : ℕ) → ((opening : PageBytes) → IsKept seen may_leave opening l.store → IsKept seen may_leave opening m.store)
       → m.locks ≡ l.locks → m.map ≡ l.map → m.rooms ≡ l.rooms → m.store.log ≡ l.store.log → pages m.store.pool ≡ pages l.store.pool → failures m.store.device ≡ failures l.store.device
-      → (opening : PageBytes) (relations counters : ℕ) → IsRight seen may_leave opening relations counters o → appended o.store.log ≡ [] → IsThere m.store.pool n → n < pages o.store.pool
+      → (opening : PageBytes) → IsKept seen may_leave opening o.store → appended o.store.log ≡ [] → IsThere m.store.pool n → n < pages o.store.pool
       → get_or l.map.kinds n 0 ≡ 3 → rooms.0 ≡ set m.rooms.0 n fits → fits ≡ fits_of (view m.store.pool (seen m.store.device) n)
       → IsNotedTo seen may_leave failures o (record m { rooms = rooms }) (n + 1)
-  noted_page m rooms fits right locks map same log total faults first relations0 counters0 first_right none there within records put is =
+  noted_page m rooms fits keeps locks map same log total faults first first_kept none there within records put is =
       let empty : appended m.store.log ≡ [] = ap (λ (x : Log). appended x) (log ∙ before.log) ∙ none in
       let same_list : rooms.0 ≡ set l.rooms.0 n fits = put ∙ ap (λ (x : Rooms). set x.0 n fits) same in
       let size : length rooms.0 ≡ length l.rooms.0 = ap (λ (xs : List ℕ). length xs) same_list ∙ length-set l.rooms.0 n fits in
       let here : get_or rooms.0 n 0 ≡ fits = ap (λ (xs : List ℕ). get_or xs n 0) same_list ∙ get_or-set_same l.rooms.0 n fits 0 inside in
       let elsewhere : (p : ℕ) → p ≢ n → get_or rooms.0 p 0 ≡ get_or l.rooms.0 p 0 = λ p other. ap (λ (xs : List ℕ). get_or xs p 0) same_list ∙ get_or-set_other l.rooms.0 n p fits 0 other in
       record {
-        right = λ opening relations counters k. right_noted seen may_leave opening relations counters m rooms (size ∙ ap (λ (x : Rooms). length x.0) (sym same)) (right opening relations counters (before.right opening relations counters k));
-        noted = λ opening relations counters k.
-            let now = right opening relations counters (before.right opening relations counters k) in
+        kept = λ opening k. keeps opening (before.kept opening k);
+        noted = λ opening k.
+            let now = keeps opening (before.kept opening k) in
             below_more (λ p. IsRoom (get_or m.map.kinds p 0) (opening p) (get_or rooms.0 p 0)) n
-            (λ p below. subst (λ (X : Type 0). X) (λ i. IsRoom (get_or (sym map i).kinds p 0) (opening p) (sym (elsewhere p (λ e. absurd (omega arith))) i)) (before.noted opening relations counters k p below))
+            (λ p below. subst (λ (X : Type 0). X) (λ i. IsRoom (get_or (sym map i).kinds p 0) (opening p) (sym (elsewhere p (λ e. absurd (omega arith))) i)) (before.noted opening k p below))
             (record {
-              records = λ kind. here ∙ is ∙ ap (λ (bytes : List ℕ). fits_of bytes) (unlogged_shows seen may_leave opening m.store now.kept empty n (subst (λ (x : ℕ). n < x) (sym (total ∙ before.pages)) within));
+              records = λ kind. here ∙ is ∙ ap (λ (bytes : List ℕ). fits_of bytes) (unlogged_shows seen may_leave opening m.store now empty n (subst (λ (x : ℕ). n < x) (sym (total ∙ before.pages)) within));
               others = λ not. absurd (not (ap (λ x. get_or x.kinds n 0) map ∙ records));
             });
         blank = λ p above below. elsewhere p (λ e. absurd (omega arith)) ∙ before.blank p (omega arith) (omega arith);
-        spare = unlogged_spare seen may_leave first m.store n (right first relations0 counters0 (before.right first relations0 counters0 first_right)).kept empty there;
+        spare = unlogged_spare seen may_leave first m.store n (keeps first (before.kept first first_kept)) empty there;
+        size = size ∙ before.size;
         locks = locks ∙ before.locks;
         map = map ∙ before.map;
         log = log ∙ before.log;
@@ -89,14 +91,12 @@ module _ {D : Type 0} (seen : D → List ℕ) (may_leave : D → List ℕ → Ty
       }
 
 -- once all are
-pub all_noted : {D : Type 0} (seen : D → List ℕ) (may_leave : D → List ℕ → Type 0) (failures : D → ℕ) (o l : Operations D) (opening : PageBytes) (relations counters : ℕ) → IsNotedTo seen may_leave failures o l (pages o.store.pool)
-    → IsRight seen may_leave opening relations counters o → appended o.store.log ≡ [] → AreRooms l.rooms.0 opening
-all_noted seen may_leave failures o l opening relations counters done right none =
-    let now = done.right opening relations counters right in
-    let empty : appended l.store.log ≡ [] = ap (λ (x : Log). appended x) done.log ∙ none in
-    let kinds : l.map.kinds ≡ opening 0 = now.map ∙ ap (λ (f : PageBytes). f 0) (unlogged_held (world seen opening l) empty) in
-    let size : length l.rooms.0 ≡ pages o.store.pool = now.rooms ∙ done.pages in
+pub all_noted : {D : Type 0} (seen : D → List ℕ) (may_leave : D → List ℕ → Type 0) (failures : D → ℕ) (o l : Operations D) (opening : PageBytes) → IsNotedTo seen may_leave failures o l (length o.rooms.0)
+    → IsKept seen may_leave opening o.store → o.map.kinds ≡ opening 0 → AreRooms l.rooms.0 opening
+all_noted seen may_leave failures o l opening done kept first =
+    let kinds : l.map.kinds ≡ opening 0 = ap (λ x. x.kinds) done.map ∙ first in
+    let size = done.size in
     record {
-      records = λ p below is. (done.noted opening relations counters right p (omega (arith, size, below))).records (ap (λ (bytes : List ℕ). get_or bytes p 0) kinds ∙ is);
-      others = λ p below not. (done.noted opening relations counters right p (omega (arith, size, below))).others (λ is. not (ap (λ (bytes : List ℕ). get_or bytes p 0) (sym kinds) ∙ is));
+      records = λ p below is. (done.noted opening kept p (omega (arith, size, below))).records (ap (λ (bytes : List ℕ). get_or bytes p 0) kinds ∙ is);
+      others = λ p below not. (done.noted opening kept p (omega (arith, size, below))).others (λ is. not (ap (λ (bytes : List ℕ). get_or bytes p 0) (sym kinds) ∙ is));
     }

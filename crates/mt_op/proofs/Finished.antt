@@ -1,5 +1,5 @@
 -- An operation has ended, and the map follows: what is kept of all operations, and how it acted on the base.
-use Rattle.std.proofs.Common.{◌≡◌, ◌<◌, ◌≤◌, ◌+◌, ℕ, Bool, List, [], ◌++◌, true, false, ◌==◌, Option, Some, None, length, take, get_or, refl, sym, ap, ◌∙◌, subst, arith}
+use Rattle.std.proofs.Common.{◌≡◌, ◌<◌, ◌≤◌, ◌+◌, ℕ, Bool, List, [], ◌++◌, true, false, ◌==◌, Option, Some, None, length, take, get_or, refl, sym, ap, ◌∙◌, subst, arith, ⊎_elim}
 use Rattle.std.specs.Prelude.{IsSome}
 use Rattle.std.proofs.lemmas.Bool.{ne_eqb}
 use Rattle.std.proofs.lemmas.List.{append-nil, length-map, length-take-le}
@@ -31,6 +31,10 @@ use Rattle.mt_op.specs.declared.scope.OpScope.{OpScope}
 use Rattle.mt_op.specs.declared.space_map.SpaceMap.{SpaceMap}
 use Rattle.mt_op.specs.declared.scope.Stage.TheVariants.{Writing, Ready}
 use Rattle.mt_op.proofs.Ending.{ends, others_end, own_ends, own_ends_quietly}
+use Rattle.mt_file.specs.Rooms.{fits_of, AreRooms}
+use Rattle.mt_space.proofs.Changing.{after_untouched}
+use Rattle.mt_op.specs.Room.{HasRooms}
+use Rattle.mt_op.proofs.Planned.{some_or_none, not_at_hand}
 use Rattle.mt_op.proofs.Writing.{planned_held}
 
 -- its end may stand in the log
@@ -200,12 +204,35 @@ module _ {D : Type 0} (seen : D → List ℕ) (may_leave : D → List ℕ → Ty
   ready : t.stage ≡ Ready
   ready = ap (λ (x : OpScope). x.stage) moves
 
+  -- what each page takes then: those that it looked at are noted, and the others are as they were
+  pub note_all : (m : OpScope) → m ≡ record s { left = left } → (map new : List ℕ) → map ≡ after (changes_in s) (held_in w) 0 → length new ≡ length o.rooms.0
+      → ((f : PageBytes) → Agrees (looked m) f → AreShort (changes_in m) f → HasRooms m map new f) → ((p : ℕ) → looked m p ≡ None → get_or new p 0 ≡ get_or o.rooms.0 p 0)
+      → AreRooms new (after (changes_in s) (held_in w))
+  note_all m scope map new follows size noted others =
+      let at = now relations counters w s reply right.sound k stage is in
+      let has : HasRooms s map new (held_in w) = subst (λ (x : OpScope). HasRooms x map new (held_in w)) scope
+      (noted (held_in w) (subst (λ (x : OpScope). Agrees (looked x) (held_in w)) (sym scope) at.sees.saw) (subst (λ (x : OpScope). AreShort (changes_in x) (held_in w)) (sym scope) planned.short)) in
+      let here = λ (p : ℕ) (some : IsSome (looked s p)). has p some (k.guarded p some) in
+      let kinds = λ (p : ℕ). ap (λ (bytes : List ℕ). get_or bytes p 0) follows in
+      let still = λ (p : ℕ) (none : looked s p ≡ None). others p (ap (λ (x : OpScope). looked x p) scope ∙ none) in
+      let bytes = λ (p : ℕ) (none : looked s p ≡ None). after_untouched (changes_in s) (held_in w) p (not_at_hand (looked s) (changes_in s) p at.plan.there none) in
+      record {
+        records = λ p below records. ⊎_elim
+            (λ (some : IsSome (looked s p)). (here p some).records (kinds p ∙ records))
+            (λ (none : looked s p ≡ None). still p none ∙ right.noted.records p (omega (arith, size, below)) (sym (planned.kinds p none) ∙ records) ∙ ap (λ (b : List ℕ). fits_of b) (sym (bytes p none)))
+            (some_or_none (looked s p));
+        others = λ p below other. ⊎_elim
+            (λ (some : IsSome (looked s p)). (here p some).others (λ e. other (sym (kinds p) ∙ e)))
+            (λ (none : looked s p ≡ None). still p none ∙ right.noted.others p (omega (arith, size, below)) (λ e. other (planned.kinds p none ∙ e)))
+            (some_or_none (looked s p));
+      }
+
   -- its end was noted
   pub finished : (done : LoggedOp) (m n : Operations D) → logged_of s.op reply ≡ Some done → s.written ≡ length (changes_in s) → Notes w (world seen opening m) (OpEnd s.txn s.number s.undoes done) → IsKept seen may_leave opening m.store
       → n.store ≡ m.store → n.locks ≡ m.locks → n.map.kinds ≡ after (changes_in s) (held_in w) 0 → n.map.space.0 ≡ mapped n.map.kinds (pages o.store.pool) → reserved_of n.map.space ≤ free_of n.map.space
-      → length n.rooms.0 ≡ length o.rooms.0
+      → length n.rooms.0 ≡ length o.rooms.0 → AreRooms n.rooms.0 (after (changes_in s) (held_in w))
       → IsRight seen may_leave opening relations counters n × Acts relations counters w (world seen opening n) s t reply
-  finished done m n due all noted kept store locks map space claims rooms =
+  finished done m n due all noted kept store locks map space claims rooms fits =
       let z = world seen opening m in
       let moved : world seen opening n ≡ z = λ i. world seen opening (record { store = store i; locks = locks i; rooms = m.rooms; map = m.map }) in
       let e = ends relations counters w z s done noted right.sound k stage all reply is in
@@ -218,6 +245,7 @@ module _ {D : Type 0} (seen : D → List ℕ) (may_leave : D → List ℕ → Ty
           space = space ∙ (λ i. mapped (kinds i) (total i));
           claims = claims;
           rooms = rooms ∙ right.rooms ∙ total;
+          noted = subst (AreRooms n.rooms.0) (sym (ap held_in moved ∙ e.1)) fits;
         },
         acts relations counters w (world seen opening n) s t reply planned (ap held_in moved ∙ e.1)
             (subst (λ (x : World). IsUnderWay relations counters x t) (sym moved) (own_ends relations counters w z s done noted right.sound k stage all t same guards copies ready))
@@ -227,9 +255,9 @@ module _ {D : Type 0} (seen : D → List ℕ) (may_leave : D → List ℕ → Ty
 
   -- nothing of it is logged
   pub finished_quietly : (n : Operations D) → logged_of s.op reply ≡ None → n.store ≡ o.store → n.locks ≡ o.locks → n.map.kinds ≡ after (changes_in s) (held_in w) 0
-      → n.map.space.0 ≡ mapped n.map.kinds (pages o.store.pool) → reserved_of n.map.space ≤ free_of n.map.space → length n.rooms.0 ≡ length o.rooms.0
+      → n.map.space.0 ≡ mapped n.map.kinds (pages o.store.pool) → reserved_of n.map.space ≤ free_of n.map.space → length n.rooms.0 ≡ length o.rooms.0 → AreRooms n.rooms.0 (after (changes_in s) (held_in w))
       → IsRight seen may_leave opening relations counters n × Acts relations counters w (world seen opening n) s t reply
-  finished_quietly n quiet store locks map space claims rooms =
+  finished_quietly n quiet store locks map space claims rooms fits =
       let moved : world seen opening n ≡ w = λ i. world seen opening (record { store = store i; locks = locks i; rooms = o.rooms; map = o.map }) in
       let none = nothing_changes relations counters w s reply right.sound k stage is quiet in
       let held : after (changes_in s) (held_in w) ≡ held_in w = ap (λ (cs : List PageChange). after cs (held_in w)) none in
@@ -242,6 +270,7 @@ module _ {D : Type 0} (seen : D → List ℕ) (may_leave : D → List ℕ → Ty
           space = space ∙ (λ i. mapped (kinds i) (total i));
           claims = claims;
           rooms = rooms ∙ right.rooms ∙ total;
+          noted = subst (AreRooms n.rooms.0) (sym (ap held_in moved ∙ sym held)) fits;
         },
         acts relations counters w (world seen opening n) s t reply planned (ap held_in moved ∙ sym held)
             (subst (λ (x : World). IsUnderWay relations counters x t) (sym moved) (own_ends_quietly relations counters w s right.sound k stage none t same guards copies ready))

@@ -1,5 +1,6 @@
 -- What holds of all operations together, kept where the pages held stay.
 use Rattle.std.proofs.Common.{◌≡◌, ◌<◌, ◌≤◌, ℕ, List, length, refl, sym, ◌∙◌, ap, subst}
+use Rattle.mt_file.specs.Rooms.{AreRooms}
 use Rattle.mt_log.specs.Words.{appended}
 use Rattle.mt_pool.specs.declared.store.Store.{Store}
 use Rattle.mt_space.specs.Changes.{PageBytes}
@@ -24,6 +25,7 @@ right_held seen may_leave opening relations counters o n k kept sound held map r
   space = ap (λ (m : SpaceMap). m.space.0) map ∙ k.space ∙ (λ i. mapped (sym held i 0) (sym total i));
   claims = subst (λ (m : SpaceMap). reserved_of m.space ≤ free_of m.space) (sym map) k.claims;
   rooms = ap (λ r. length r.0) rooms ∙ k.rooms ∙ sym total;
+  noted = subst (λ (X : Type 0). X) (λ i. AreRooms (sym rooms i).0 (sym held i)) k.noted;
 }
 
 -- nothing but what is in frames has changed

@@ -5,7 +5,7 @@ use Rattle.std.proofs.lemmas.List.Elements.{All-nil}
 use Rattle.mt_frame.specs.declared.records.Record.{Record}
 use Rattle.mt_frame.specs.History.{txn_of}
 use Rattle.mt_log.specs.Words.{appended}
-use Rattle.mt_file.specs.declared.rooms.Rooms.{Rooms}
+use Rattle.mt_file.specs.Rooms.{AreRooms}
 use Rattle.mt_plock.specs.Holding.{AreTogether}
 use Rattle.mt_space.specs.Changes.{PageBytes}
 use Rattle.mt_pool.specs.Kept.{IsKept, carried}
@@ -66,10 +66,6 @@ module _ {D : Type 0} (seen : D → List ℕ) (may_leave : D → List ℕ → Ty
 
 -- ---- the index of rooms says something else of a page
 
-pub right_noted : {D : Type 0} (seen : D → List ℕ) (may_leave : D → List ℕ → Type 0) (opening : PageBytes) (relations counters : ℕ) (o : Operations D) (rooms : Rooms)
-    → length rooms.0 ≡ length o.rooms.0 → IsRight seen may_leave opening relations counters o → IsRight seen may_leave opening relations counters (record o { rooms = rooms })
-right_noted seen may_leave opening relations counters o rooms same k = record { kept = k.kept; sound = k.sound; map = k.map; space = k.space; claims = k.claims; rooms = same ∙ k.rooms }
-
 -- ---- no record is in the log yet
 
 -- the pages held are those of the opening
@@ -90,10 +86,8 @@ module _ {D : Type 0} (seen : D → List ℕ) (may_leave : D → List ℕ → Ty
       (kept.tied.untouched p inside (omega arith)).1
 
   -- a page of records that shows is well formed
-  pub unlogged_shaped : (relations counters : ℕ) (o : Operations D) → IsRight seen may_leave opening relations counters o → appended o.store.log ≡ [] → (p : ℕ) → p < pages o.store.pool → kind (held_in (world seen opening o)) p ≡ 3
-      → IsShaped (view o.store.pool (seen o.store.device) p)
-  unlogged_shaped relations counters o right none p inside records =
-      subst IsShaped (ap (λ (f : PageBytes). f p) (unlogged_held (world seen opening o) none) ∙ sym (unlogged_shows o.store right.kept none p inside)) (right.sound.good.rows.file.each p records)
+  pub unlogged_shaped : (relations counters : ℕ) (s : Store D) → IsKept seen may_leave opening s → appended s.log ≡ [] → IsGood relations counters (pages s.pool) opening → (p : ℕ) → p < pages s.pool → kind opening p ≡ 3 → IsShaped (view s.pool (seen s.device) p)
+  unlogged_shaped relations counters s kept none good p inside records = subst IsShaped (sym (unlogged_shows s kept none p inside)) (good.rows.file.each p records)
 
   -- the map that shows is that of the opening, and whole
   pub unlogged_map : (relations counters : ℕ) (s : Store D) → IsKept seen may_leave opening s → appended s.log ≡ [] → IsGood relations counters (pages s.pool) opening → view s.pool (seen s.device) 0 ≡ opening 0
@@ -105,12 +99,12 @@ module _ {D : Type 0} (seen : D → List ℕ) (may_leave : D → List ℕ → Ty
   unlogged_whole relations counters s kept none good = ap (λ (bytes : List ℕ). length bytes) (unlogged_map relations counters s kept none good) ∙ good.rows.file.whole
 
   -- all is right where none is under way
-  pub unlogged_right : (relations counters : ℕ) (o : Operations D) → IsKept seen may_leave opening o.store → appended o.store.log ≡ [] → o.locks ≡ [] → o.map.kinds ≡ view o.store.pool (seen o.store.device) 0 → o.map.space.0 ≡ mapped o.map.kinds (pages o.store.pool) → claimed o ≡ 0 → length o.rooms.0 ≡ pages o.store.pool
+  pub unlogged_right : (relations counters : ℕ) (o : Operations D) → IsKept seen may_leave opening o.store → appended o.store.log ≡ [] → o.locks ≡ [] → o.map.kinds ≡ opening 0 → o.map.space.0 ≡ mapped o.map.kinds (pages o.store.pool) → claimed o ≡ 0 → length o.rooms.0 ≡ pages o.store.pool → AreRooms o.rooms.0 opening
       → IsGood relations counters (pages o.store.pool) opening → IsRight seen may_leave opening relations counters o
-  unlogged_right relations counters o kept none free map space unclaimed rooms good =
+  unlogged_right relations counters o kept none free map space unclaimed rooms noted good =
       let w = world seen opening o in
       let shows = unlogged_shows o.store kept none in
-      let kinds : o.map.kinds ≡ held_in w 0 = map ∙ unlogged_map relations counters o.store kept none good ∙ ap (λ (f : PageBytes). f 0) (sym (unlogged_held w none)) in
+      let kinds : o.map.kinds ≡ held_in w 0 = map ∙ ap (λ (f : PageBytes). f 0) (sym (unlogged_held w none)) in
       record {
         kept = kept;
         sound = unlogged_world relations counters w none free shows good;
@@ -118,4 +112,5 @@ module _ {D : Type 0} (seen : D → List ℕ) (may_leave : D → List ℕ → Ty
         space = space ∙ ap (λ (bytes : List ℕ). mapped bytes (pages o.store.pool)) kinds;
         claims = let zero : reserved_of o.map.space ≡ 0 = unclaimed in omega (arith, zero);
         rooms = rooms;
+        noted = subst (AreRooms o.rooms.0) (sym (unlogged_held w none)) noted;
       }

@@ -2,6 +2,7 @@
 use Rattle.std.specs.Prelude.{◌≡◌, ◌⊎◌, ◌≤◌, ◌-◌, ◌+◌, ◌*◌, ◌++◌, ℕ, List, [], length, Bool, true, false, if◌then◌else◌, Option, Some, None, Result, Ok, Err}
 use Rattle.mt_base.specs.declared.refusal.Refusal.{Refusal}
 use Rattle.mt_base.specs.declared.refusal.Refusal.TheVariants as refusal
+use Rattle.mt_file.specs.Rooms.{AreRooms}
 use Rattle.mt_log.specs.Words.{appended}
 use Rattle.mt_model.specs.declared.operations.Op.{Op}
 use Rattle.mt_model.specs.declared.operations.Op.TheVariants.{Get, Insert, Update, Delete, Add, Read}
@@ -37,8 +38,8 @@ world seen opening o = record {
 abbrev pub claimed : {D : Type 0} → Operations D → ℕ
 claimed o = reserved_of o.map.space
 
--- The store keeps its rules, the world is right, the map and the free pages are those of the pages held, and no more
--- of these are claimed than there are.
+-- The store keeps its rules, the world is right, the map, the free pages and what each page of records takes are those
+-- of the pages held, and no more pages are claimed than are free.
 pub record IsRight {D : Type 0} (seen : D → List ℕ) (may_leave : D → List ℕ → Type 0) (opening : PageBytes) (relations counters : ℕ) (o : Operations D) : Type 0 where
   pub kept : IsKept seen may_leave opening o.store
   pub sound : IsWorld relations counters (world seen opening o)
@@ -46,6 +47,7 @@ pub record IsRight {D : Type 0} (seen : D → List ℕ) (may_leave : D → List 
   pub space : o.map.space.0 ≡ mapped (held_in (world seen opening o) 0) (pages o.store.pool)
   pub claims : reserved_of o.map.space ≤ free_of o.map.space
   pub rooms : length o.rooms.0 ≡ pages o.store.pool
+  pub noted : AreRooms o.rooms.0 (held_in (world seen opening o))
 
 -- ---- log bytes
 

@@ -33,6 +33,7 @@ impl<D: Device> Operations<D> {
         requires kept { (opening : PageBytes) × IsKept D.seen D.may_leave opening self.old.store }
         requires inside { page < pages self.old.store.pool }
         ensures right { (opening : PageBytes) (relations counters : ℕ) → IsRight D.seen D.may_leave opening relations counters self.old → IsRight D.seen D.may_leave opening relations counters self.new }
+        ensures kept { (opening : PageBytes) → IsKept D.seen D.may_leave opening self.old.store → IsKept D.seen D.may_leave opening self.new.store }
         ensures rests { (opening : PageBytes) → Rests (world D.seen opening self.old) (world D.seen opening self.new) }
         ensures moments { (opening : PageBytes) → IsKept D.seen D.may_leave opening self.old.store → LeavesOnly D.moment D.left_since self.old.store.device self.new.store.device (Explains opening self.old.store) }
         ensures there { result ≡ Ok true → IsThere self.new.store.pool page }

@@ -10,7 +10,6 @@ ghost use Rattle.mt_space.specs.Changes.{PageBytes};
 ghost use Rattle.mt_pool.specs.Kept.{IsKept, Explains};
 ghost use Rattle.mt_pool.specs.Views.{IsPool, IsFull, IsWaiting, Cleans, pages, to_flush, waits_for};
 ghost use Rattle.mt_pool.specs.declared.flushing.Flushed.TheVariants as flushed;
-ghost use Rattle.mt_file.specs.Rooms.{AreRooms};
 ghost use Rattle.mt_steps.specs.Plans.{IsGood, free_pages};
 ghost use Rattle.mt_op.specs.World.{IsUnderWay, IsFresh, held_in};
 ghost use Rattle.mt_op.specs.Moves.{Rests, Notes, EndsTxn};
@@ -55,7 +54,6 @@ impl<D: Device + Drop> Operations<D> {
         requires idle { appended store.log ≡ [] }
         requires free { IsFull store.pool → ⊥ }
         ensures right { (opening : PageBytes) (relations counters : ℕ) → IsKept D.seen D.may_leave opening store → IsGood relations counters (pages store.pool) opening → IfOk result (IsRight D.seen D.may_leave opening relations counters) }
-        ensures rooms { (opening : PageBytes) (relations counters : ℕ) → IsKept D.seen D.may_leave opening store → IsGood relations counters (pages store.pool) opening → IfOk result (λ operations. AreRooms operations.rooms.0 opening) }
         ensures locks { IfOk result (λ operations. operations.locks ≡ []) }
         ensures claimed { IfOk result (λ operations. claimed operations ≡ 0) }
         ensures log { IfOk result (λ operations. operations.store.log ≡ store.log) }
@@ -260,7 +258,8 @@ impl<D: Device> Operations<D> {
 
     // Notes what each page of records takes.
     fn note_rooms(&mut self, count: u16) -> Result<(), Refusal>
-        requires right { (opening : PageBytes) × (relations : ℕ) × (counters : ℕ) × IsRight D.seen D.may_leave opening relations counters self.old × (appended self.old.store.log ≡ []) }
+        requires kept { (opening : PageBytes) × (relations : ℕ) × (counters : ℕ) × IsKept D.seen D.may_leave opening self.old.store × IsGood relations counters (pages self.old.store.pool) opening × (self.old.map.kinds ≡ opening 0) }
+        requires idle { appended self.old.store.log ≡ [] }
         requires all { count ≡ pages self.old.store.pool }
         requires spare { IsFull self.old.store.pool → ⊥ }
         requires blank { self.old.rooms.0 ≡ replicate count 0 }

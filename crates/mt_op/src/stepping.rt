@@ -94,7 +94,6 @@ impl<D: Device> Operations<D> {
         ensures ahead { GoesAhead D.seen D.may_leave D.moment D.left_since D.faults self.old self.new scope.old scope.new result }
         ensures device { self.new.store.device ≡ self.old.store.device }
         ensures ready { OnOk result (scope.new.stage ≡ Ready) }
-        ensures rooms { OnOk result ((pages : PageBytes) → Agrees (looked scope.new) pages → AreShort (changes_in scope.new) pages → HasRooms scope.new self.new.map.kinds self.new.rooms.0 pages) }
         ensures ended { (result ≡ Ok stepped.Went → ⊥) × (result ≡ Ok stepped.Flush → ⊥) }
         ensures only_memory { IfErr result (λ why. why ≡ Refusal.NoMemory) }
     {

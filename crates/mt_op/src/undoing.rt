@@ -163,7 +163,7 @@ impl<D: Device> Operations<D> {
     /// Ends an operation that is ready: its locks are given back. It takes no memory.
     pub fn end(&mut self, scope: OpScope)
         requires ready { scope.stage ≡ Ready }
-        requires right { (opening : PageBytes) × (relations : ℕ) × (counters : ℕ) × IsRight D.seen D.may_leave opening relations counters self.old × IsUnderWay relations counters (world D.seen opening self.old) scope }
+        requires right { ∥ ((opening : PageBytes) × (relations : ℕ) × (counters : ℕ) × IsRight D.seen D.may_leave opening relations counters self.old × IsUnderWay relations counters (world D.seen opening self.old) scope) ∥₁ }
         ensures right { (opening : PageBytes) (relations counters : ℕ) → IsRight D.seen D.may_leave opening relations counters self.old → IsUnderWay relations counters (world D.seen opening self.old) scope → IsRight D.seen D.may_leave opening relations counters self.new }
         ensures held { (opening : PageBytes) → held_in (world D.seen opening self.new) ≡ held_in (world D.seen opening self.old) }
         ensures others { (opening : PageBytes) (relations counters : ℕ) (u : OpScope) → IsUnderWay relations counters (world D.seen opening self.old) u → u.number ≢ scope.number → IsUnderWay relations counters (world D.seen opening self.new) u }
@@ -178,7 +178,7 @@ impl<D: Device> Operations<D> {
     /// takes no memory.
     pub fn drop_out(&mut self, scope: OpScope)
         requires cleared { scope.stage ≡ Cleared }
-        requires right { (opening : PageBytes) × (relations : ℕ) × (counters : ℕ) × IsRight D.seen D.may_leave opening relations counters self.old × IsUnderWay relations counters (world D.seen opening self.old) scope }
+        requires right { ∥ ((opening : PageBytes) × (relations : ℕ) × (counters : ℕ) × IsRight D.seen D.may_leave opening relations counters self.old × IsUnderWay relations counters (world D.seen opening self.old) scope) ∥₁ }
         ensures right { (opening : PageBytes) (relations counters : ℕ) → IsRight D.seen D.may_leave opening relations counters self.old → IsUnderWay relations counters (world D.seen opening self.old) scope → IsRight D.seen D.may_leave opening relations counters self.new }
         ensures held { (opening : PageBytes) → held_in (world D.seen opening self.new) ≡ held_in (world D.seen opening self.old) }
         ensures others { (opening : PageBytes) (relations counters : ℕ) (u : OpScope) → IsUnderWay relations counters (world D.seen opening self.old) u → u.number ≢ scope.number → IsUnderWay relations counters (world D.seen opening self.new) u }

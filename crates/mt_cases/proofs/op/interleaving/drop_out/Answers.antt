@@ -3,7 +3,7 @@ use Rattle.mt_cases.proofs.op.interleaving.drop_out.Goals as goal
 
 pub drop_out-requires-clause-right : goal.drop_out-requires-clause-right
 drop_out-requires-clause-right g c = let (opening, a) = c.requires in
-    let went = c.take_back.ensures.goes opening 2 2 a.right a.under in (opening, 2, 2, went.0, went.1.own)
+    let went = c.take_back.ensures.goes opening 2 2 a.right a.under in ∣ (opening, 2, 2, went.0, went.1.own) ∣₁
 
 pub returns : goal.returns
 returns g c = record {

@@ -1,3 +1,5 @@
+use Rattle.std.proofs.Props.{props}
+use mathlib.Core.Logic.{∥∥₁_elim}
 use Rattle.std.proofs.Common.{subst}
 use Rattle.mt_op.specs.World.{IsAt}
 use Rattle.mt_op.specs.Operations.{world}
@@ -11,3 +13,6 @@ returns-clause-right g c = λ opening relations counters right k. let f = c.rele
 
 pub returns-clause-others : goal.returns-clause-others
 returns-clause-others g c = λ opening relations counters u ku other. others_leave relations counters _ _ c.args.scope u (c.release.ensures.leaves opening) ku other
+
+pub release-requires : goal.release-requires
+release-requires g c = record { locks = ∥∥₁_elim c.requires.right (hlevel props) (λ r. r.4.locks) }

@@ -1,4 +1,4 @@
-use Rattle.std.proofs.Common.{◌≡◌, ◌≤◌, ◌+◌, ◌∙◌, inl, length, refl, sym, ap, subst, Option, arith}
+use Rattle.std.proofs.Common.{ℕ, List, get_or, ◌≡◌, ◌≤◌, ◌+◌, ◌∙◌, inl, length, refl, sym, ap, subst, Option, arith}
 use Rattle.std.specs.Prelude.{IfSome, Err}
 use Rattle.std.proofs.lemmas.Result.{err_from_is_err_and}
 use Rattle.mt_base.specs.declared.refusal.Refusal.TheVariants as refusal
@@ -14,7 +14,6 @@ use Rattle.mt_pool.proofs.Kept.{no_call}
 use Rattle.mt_space.specs.Rooms.{mapped, free_of, reserved_of}
 use Rattle.mt_steps.specs.Plans.{own_needs}
 use Rattle.mt_op.specs.Operations.{world}
-use Rattle.mt_op.specs.Room.{HasRooms}
 use Rattle.mt_op.specs.Stepping.{GoesAhead}
 use Rattle.mt_op.specs.declared.operations.Operations.{Operations}
 use Rattle.mt_op.specs.declared.scope.OpScope.{OpScope}
@@ -25,7 +24,7 @@ use Rattle.mt_op.proofs.Budget.{ended_budget}
 use Rattle.mt_op.proofs.Faulting.{no_fault, no_fault_ok}
 use Rattle.mt_op.proofs.Going.{rests_same}
 use Rattle.mt_op.proofs.Right.{right_rests}
-use Rattle.mt_op.proofs.Finished.{has_reply, end_stands, planned_reply, open_still, settle_asks, settle_claimed, settle_mapped, settle_gives, settle_frees, note_asks, note_whole, note_inside, note_few, finished, finished_quietly}
+use Rattle.mt_op.proofs.Finished.{has_reply, end_stands, planned_reply, open_still, settle_asks, settle_claimed, settle_mapped, settle_gives, settle_frees, note_asks, note_whole, note_inside, note_few, note_all, finished, finished_quietly}
 use Rattle.mt_op.proofs.operations.Operations.finish.Goals as goal
 use Rattle.mt_op.proofs.operations.Operations.finish.Goals.{in-Some+in_ok-append_end, in_default}
 
@@ -149,7 +148,6 @@ returns-in_err-first g c = let d = g.D.Device in let o = c.args.self.now in let 
           (λ is. absurd cc) (inl refl) (no_fault _ _ (Err refusal.NoMemory) refl refl));
       device = refl;
       ready = rw p.1 tt;
-      rooms = rw p.1 tt;
       ended = ((λ e. absurd cc), (λ e. absurd cc));
       only_memory = rw is refl;
     }
@@ -172,7 +170,6 @@ returns-in_err-append_end g c = let d = g.D.Device in let o = c.args.self.now in
           (λ is. absurd cc) (inl refl) (no_fault _ _ (Err refusal.NoMemory) refl (ap d.faults f.device))));
       device = f.device;
       ready = rw p.1 tt;
-      rooms = rw p.1 tt;
       ended = ((λ e. absurd cc), (λ e. absurd cc));
       only_memory = rw is refl;
     }
@@ -193,24 +190,30 @@ returns g c = let d = g.D.Device in let seen = d.seen in let o = c.args.self.now
               let scope : c.match-done.scope ≡ record s { left = w.append_end.new.scope.left } = w.scope-is ∙ e.scope in
               let map_same : c.match-done.self.map ≡ o.map = ap (λ (x : Operations g.row.D.Denot). x.map) w.self-is ∙ e.map in
               let changes : c.match-done.scope.changes ≡ s.changes = ap (λ (t : OpScope). t.changes) scope in
+              let rooms : c.match-done.self.rooms.0 ≡ o.rooms.0 = ap (λ (x : Operations g.row.D.Denot). x.rooms.0) w.self-is ∙ ap (λ (x : Rooms). x.0) e.rooms in
               let given = settle_gives seen d.may_leave opening relations counters o s _ right k c.requires.writing is c.match-done.self.map c.match-done.scope map_same changes c.settle.new.self.kinds f.kinds in
               let free = settle_frees seen d.may_leave opening relations counters o s _ right k c.requires.writing is c.match-done.self.map c.match-done.scope map_same changes c.settle.new.self.space.0 c.settle.new.self.kinds f.free in
               let done = finished seen d.may_leave opening relations counters o s _ c.in_ok-first.first right k c.requires.writing is w.append_end.new.scope.left (ap (λ (t : OpScope). record t { stage = Ready }) scope)
               w.in-Some.done m c.note_looked.new.self (sym c.in_ok-first.ensures.logged ∙ w.in-Some.is) c.requires.all (w.in_ok-append_end.ensures.notes opening) (e.kept opening right.kept)
               (n.store ∙ ap (λ (x : Operations g.row.D.Denot). x.store) w.self-is) (n.locks ∙ ap (λ (x : Operations g.row.D.Denot). x.locks) w.self-is) (ap (λ (x : SpaceMap). x.kinds) n.map ∙ given)
               (subst (λ (x : SpaceMap). x.space.0 ≡ mapped x.kinds (pages o.store.pool)) (sym n.map) free) (subst (λ (x : SpaceMap). reserved_of x.space ≤ free_of x.space) (sym n.map) f.room)
-              (n.rooms ∙ ap (λ (x : Operations g.row.D.Denot). length x.rooms.0) w.self-is ∙ ap (λ (x : Rooms). length x.0) e.rooms) in
+              (n.rooms ∙ ap (λ (xs : List ℕ). length xs) rooms)
+              (note_all seen d.may_leave opening relations counters o s _ c.in_ok-first.first right k c.requires.writing is w.append_end.new.scope.left (ap (λ (t : OpScope). record t { stage = Ready }) scope)
+              c.match-done.scope scope c.settle.new.self.kinds c.note_looked.new.self.rooms.0 given (n.rooms ∙ ap (λ (xs : List ℕ). length xs) rooms) n.noted (λ p none. n.others p none ∙ ap (λ (xs : List ℕ). get_or xs p 0) rooms)) in
               (done.0, (done.1, c.in_ok-first.ensures.twice))
           | in_default w ↦
               let map_same : c.match-done.self.map ≡ o.map = ap (λ (x : Operations g.row.D.Denot). x.map) w.self-is in
               let changes : c.match-done.scope.changes ≡ s.changes = ap (λ (t : OpScope). t.changes) w.scope-is in
+              let rooms : c.match-done.self.rooms.0 ≡ o.rooms.0 = ap (λ (x : Operations g.row.D.Denot). x.rooms.0) w.self-is in
               let given = settle_gives seen d.may_leave opening relations counters o s _ right k c.requires.writing is c.match-done.self.map c.match-done.scope map_same changes c.settle.new.self.kinds f.kinds in
               let free = settle_frees seen d.may_leave opening relations counters o s _ right k c.requires.writing is c.match-done.self.map c.match-done.scope map_same changes c.settle.new.self.space.0 c.settle.new.self.kinds f.free in
               let done = finished_quietly seen d.may_leave opening relations counters o s _ c.in_ok-first.first right k c.requires.writing is s.left (ap (λ (t : OpScope). record t { stage = Ready }) w.scope-is)
               c.note_looked.new.self (sym c.in_ok-first.ensures.logged ∙ w.in_default.is)
               (n.store ∙ ap (λ (x : Operations g.row.D.Denot). x.store) w.self-is) (n.locks ∙ ap (λ (x : Operations g.row.D.Denot). x.locks) w.self-is) (ap (λ (x : SpaceMap). x.kinds) n.map ∙ given)
               (subst (λ (x : SpaceMap). x.space.0 ≡ mapped x.kinds (pages o.store.pool)) (sym n.map) free) (subst (λ (x : SpaceMap). reserved_of x.space ≤ free_of x.space) (sym n.map) f.room)
-              (n.rooms ∙ ap (λ (x : Operations g.row.D.Denot). length x.rooms.0) w.self-is) in
+              (n.rooms ∙ ap (λ (xs : List ℕ). length xs) rooms)
+              (note_all seen d.may_leave opening relations counters o s _ c.in_ok-first.first right k c.requires.writing is s.left (ap (λ (t : OpScope). record t { stage = Ready }) w.scope-is)
+              c.match-done.scope w.scope-is c.settle.new.self.kinds c.note_looked.new.self.rooms.0 given (n.rooms ∙ ap (λ (xs : List ℕ). length xs) rooms) n.noted (λ p none. n.others p none ∙ ap (λ (xs : List ℕ). get_or xs p 0) rooms)) in
               (done.0, (done.1, c.in_ok-first.ensures.twice))
         ];
         moments = λ opening kept. subst (λ (x : g.row.D.Denot). LeavesOnly d.moment d.left_since o.store.device x (Explains opening o.store)) (sym device) (no_call seen d.may_leave opening o.store kept d.moment d.left_since g.met.D.Device.only_now);
@@ -251,7 +254,6 @@ returns g c = let d = g.D.Device in let seen = d.seen in let o = c.args.self.now
       };
       device = device;
       ready = refl;
-      rooms = λ pages agrees short. subst (λ (x : SpaceMap). HasRooms c.match-done.scope x.kinds c.note_looked.new.self.rooms.0 pages) (sym n.map) (n.noted pages agrees short);
       ended = ((λ e. absurd cc), (λ e. absurd cc));
       only_memory = tt;
     }

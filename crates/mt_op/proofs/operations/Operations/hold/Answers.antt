@@ -1,4 +1,4 @@
-use Rattle.std.proofs.Common.{subst, ap, ◌∙◌}
+use Rattle.std.proofs.Common.{refl, subst, ap, ◌∙◌}
 use Rattle.mt_plock.specs.declared.guards.Asked.{Asked}
 use Rattle.mt_plock.specs.Holding.{lock_of, IsAnswered}
 use Rattle.mt_plock.specs.Releasing.{locks_without}
@@ -27,6 +27,20 @@ returns-in-Again-clause-held g c = λ opening.
         written = anew.written;
         standing = anew.standing;
         left = anew.left;
+      },
+      (answer.0, answer.1),
+    )
+
+pub returns-in-Wait-clause-held : goal.returns-in-Wait-clause-held
+returns-in-Wait-clause-held g c = λ opening.
+    let answer = subst (λ (a : Asked). IsAnswered (lock_of c.args.scope.now.number c.args.page c.args.mode) c.args.self.now.locks a c.ask.new.self) c.in-Wait.is c.in_ok-guard.ensures.answer in (
+      record { area = record { opening = refl; total = refl }; pages = λ p lt. refl; records = refl; locks = answer.2 },
+      record {
+        plan = record { op = record { txn = refl; number = refl; op = refl; undoes = refl; split = refl; total = refl }; room = refl; guards = c.reserve.ensures.items; seen = refl; changes = refl; reply = refl };
+        stage = refl;
+        written = refl;
+        standing = refl;
+        left = refl;
       },
       (answer.0, answer.1),
     )

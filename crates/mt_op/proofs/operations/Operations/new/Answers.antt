@@ -3,15 +3,13 @@ use Rattle.std.proofs.lemmas.List.{length-replicate}
 use Rattle.std.specs.Prelude.{Ok}
 use Rattle.mt_log.specs.Words.{appended}
 use Rattle.mt_log.specs.declared.log.Log.{Log}
-use Rattle.mt_pool.specs.Kept.{IsKept}
 use Rattle.mt_pool.specs.Views.{IsThere, view, pages}
-use Rattle.mt_space.specs.Changes.{PageBytes}
 use Rattle.mt_space.specs.Rooms.{mapped, reserved_of}
 use Rattle.mt_steps.specs.Plans.{IsGood}
 use Rattle.mt_op.specs.declared.space_map.SpaceMap.{SpaceMap}
 use Rattle.mt_op.proofs.Faulting.{unfailed}
 use Rattle.mt_op.proofs.Begun.{unlogged_spare}
-use Rattle.mt_op.proofs.Stored.{unlogged_right, unlogged_whole}
+use Rattle.mt_op.proofs.Stored.{unlogged_right, unlogged_whole, unlogged_map}
 use Rattle.mt_op.proofs.operations.Operations.new.Goals as goal
 
 pub view-requires-clause-there : goal.view-requires-clause-there
@@ -24,16 +22,13 @@ of-requires-in-Ok-There-clause-whole g c = let (opening, relations, counters, ke
     ap (λ (bytes : List ℕ). length bytes) (c.view.ensures (seen c.fetch.new.self.device) ∙ ap (λ (p : ℕ). view c.fetch.new.self.pool (seen c.fetch.new.self.device) p) c.new-in-Ok-There.ensures)
     ∙ unlogged_whole seen g.D.Device.may_leave opening relations counters c.fetch.new.self (f.kept opening kept) none (subst (λ (n : ℕ). IsGood relations counters n opening) (sym f.pages) good)
 
-pub note_rooms-requires-clause-right : goal.note_rooms-requires-clause-right
-note_rooms-requires-clause-right g c = let (opening, relations, counters, kept, good) = c.requires.good in let f = c.fetch.ensures in let e = c.in_ok-map-in-Ok-There.ensures in let seen = g.D.Device.seen in
+pub note_rooms-requires-clause-kept : goal.note_rooms-requires-clause-kept
+note_rooms-requires-clause-kept g c = let (opening, relations, counters, kept, good) = c.requires.good in let f = c.fetch.ensures in let e = c.in_ok-map-in-Ok-There.ensures in let seen = g.D.Device.seen in
     let none = ap (λ (log : Log). appended log) f.log ∙ c.requires.idle in
-    let map = e.kinds ∙ c.view.ensures (seen c.fetch.new.self.device) ∙ ap (λ (p : ℕ). view c.fetch.new.self.pool (seen c.fetch.new.self.device) p) c.new-in-Ok-There.ensures in
-    let count = c.count-count.ensures ∙ sym f.pages in
-    let space = e.free ∙ (λ i. mapped (sym e.kinds i) (count i)) in
-    let rooms = ap (λ (xs : List ℕ). length xs) c.in_ok-rooms.ensures.fits ∙ length-replicate _ _ ∙ count in
-    let right = unlogged_right seen g.D.Device.may_leave opening relations counters (record { store = c.fetch.new.self; locks = c.new-2.result; rooms = c.in_ok-rooms.rooms; map = c.in_ok-map-in-Ok-There.map }) (f.kept opening kept) none c.new-2.ensures map space e.none rooms
-    (subst (λ (n : ℕ). IsGood relations counters n opening) (sym f.pages) good) in
-    (opening, relations, counters, right, none)
+    let good_now = subst (λ (n : ℕ). IsGood relations counters n opening) (sym f.pages) good in
+    let map = e.kinds ∙ c.view.ensures (seen c.fetch.new.self.device) ∙ ap (λ (p : ℕ). view c.fetch.new.self.pool (seen c.fetch.new.self.device) p) c.new-in-Ok-There.ensures
+    ∙ unlogged_map seen g.D.Device.may_leave opening relations counters c.fetch.new.self (f.kept opening kept) none good_now in
+    (opening, relations, counters, f.kept opening kept, good_now, map)
 
 pub note_rooms-requires-clause-spare : goal.note_rooms-requires-clause-spare
 note_rooms-requires-clause-spare g c = let (opening, relations, counters, kept, good) = c.requires.good in let f = c.fetch.ensures in
@@ -42,18 +37,17 @@ note_rooms-requires-clause-spare g c = let (opening, relations, counters, kept, 
 
 pub returns : goal.returns
 returns g c = let f = c.fetch.ensures in let e = c.in_ok-map-in-Ok-There.ensures in let n = c.in_ok-note_rooms.ensures.noted in let seen = g.D.Device.seen in
-    let noted = λ (opening : PageBytes) (relations counters : ℕ) (kept : IsKept seen g.D.Device.may_leave opening c.args.store) (good : IsGood relations counters (pages c.args.store.pool) opening).
-    let none = ap (λ (log : Log). appended log) f.log ∙ c.requires.idle in
-    let map = e.kinds ∙ c.view.ensures (seen c.fetch.new.self.device) ∙ ap (λ (p : ℕ). view c.fetch.new.self.pool (seen c.fetch.new.self.device) p) c.new-in-Ok-There.ensures in
-    let count = c.count-count.ensures ∙ sym f.pages in
-    let space = e.free ∙ (λ i. mapped (sym e.kinds i) (count i)) in
-    let rooms = ap (λ (xs : List ℕ). length xs) c.in_ok-rooms.ensures.fits ∙ length-replicate _ _ ∙ count in
-    n.right opening relations counters
-    (unlogged_right seen g.D.Device.may_leave opening relations counters (record { store = c.fetch.new.self; locks = c.new-2.result; rooms = c.in_ok-rooms.rooms; map = c.in_ok-map-in-Ok-There.map }) (f.kept opening kept) none c.new-2.ensures map space e.none rooms
-    (subst (λ (n : ℕ). IsGood relations counters n opening) (sym f.pages) good)) in
     record {
-      right = λ opening relations counters kept good. (noted opening relations counters kept good).0;
-      rooms = λ opening relations counters kept good. (noted opening relations counters kept good).1;
+      right = λ opening relations counters kept good.
+          let none = ap (λ (log : Log). appended log) f.log ∙ c.requires.idle in
+          let good_then = subst (λ (n : ℕ). IsGood relations counters n opening) (sym f.pages) good in
+          let map = e.kinds ∙ c.view.ensures (seen c.fetch.new.self.device) ∙ ap (λ (p : ℕ). view c.fetch.new.self.pool (seen c.fetch.new.self.device) p) c.new-in-Ok-There.ensures
+          ∙ unlogged_map seen g.D.Device.may_leave opening relations counters c.fetch.new.self (f.kept opening kept) none good_then in
+          let count = c.count-count.ensures ∙ sym f.pages ∙ sym n.pages in
+          let rooms = n.size ∙ ap (λ (xs : List ℕ). length xs) c.in_ok-rooms.ensures.fits ∙ length-replicate _ _ ∙ count in
+          unlogged_right seen g.D.Device.may_leave opening relations counters c.note_rooms.new.self (n.kept opening (f.kept opening kept)) (ap (λ (log : Log). appended log) n.log ∙ none) (n.locks ∙ c.new-2.ensures)
+          (ap (λ (x : SpaceMap). x.kinds) n.map ∙ map) (ap (λ (x : SpaceMap). x.space.0) n.map ∙ e.free ∙ (λ i. mapped (sym e.kinds i) (count i)) ∙ ap (λ (x : SpaceMap). mapped x.kinds (pages c.note_rooms.new.self.store.pool)) (sym n.map))
+          (ap (λ (x : SpaceMap). reserved_of x.space) n.map ∙ e.none) rooms (n.noted opening (f.kept opening kept) map) (subst (λ (x : ℕ). IsGood relations counters x opening) (sym n.pages) good_then);
       locks = n.locks ∙ c.new-2.ensures;
       claimed = ap (λ (x : SpaceMap). reserved_of x.space) n.map ∙ e.none;
       log = n.log ∙ f.log;

@@ -19,3 +19,6 @@ returns-in-Some-drop_out g c = λ never. absurd (never _ refl)
 
 pub returns-in-Err : goal.returns-in-Err
 returns-in-Err g c = λ never. absurd (never _ refl)
+
+pub end-requires-clause-right : goal.end-requires-clause-right
+end-requires-clause-right g c = let b = c.go.ensures.busy in ∣ (b.opening, 2, 2, b.right, b.under) ∣₁

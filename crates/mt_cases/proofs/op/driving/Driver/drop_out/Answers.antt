@@ -11,3 +11,6 @@ returns g c = λ is. let b = c.take_back.ensures.busy in let e = c.drop_out.ensu
     subst (λ (n : ℕ). IsIdle seen may_leave n c.give_back.new.self) (c.take_back.ensures.number ∙ c.requires.number)
     (idle_ends seen may_leave c.take_back.new.operations c.give_back.new.self c.take_back.new.scope b (f.right b.opening 2 2 (e.right b.opening 2 2 b.right b.under)) (omega arith)
     (λ u k other. subst (λ (w : World). IsUnderWay 2 2 w u) (world_same seen may_leave c.drop_out.new.self c.give_back.new.self b.opening f.store f.locks) (e.others b.opening 2 2 u k other)))
+
+pub drop_out-requires-clause-right : goal.drop_out-requires-clause-right
+drop_out-requires-clause-right g c = let b = c.take_back.ensures.busy in ∣ (b.opening, 2, 2, b.right, b.under) ∣₁

@@ -95,7 +95,8 @@ pub trait Device {
     ghost sized: { (device : Self) (c : List ℕ) → may_leave device c → length c ≡ length (seen device) };
 
     /// This moment is among those since any earlier one.
-    ghost counts_now: { (device : Self) (t : ℕ) (c : List ℕ) → t ≤ moment device → may_leave device c → left_since device t c };
+    ghost counts_now: { (device : Self) (t : ℕ) (c : List ℕ) → t ≤ moment device → may_leave device c
+        → left_since device t c };
 
     /// Since this moment there has been no other.
     ghost only_now: { (device : Self) (c : List ℕ) → left_since device (moment device) c → may_leave device c };

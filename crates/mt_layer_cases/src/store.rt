@@ -7,7 +7,7 @@ ghost use Rattle.mt_pool.specs.Writes.{IsUnfinished};
 
 use crate::log::expect_bytes;
 use mt_base::{LogPos, OpNo, PageNo, Refusal, TxnNo, edits_of};
-use mt_disk::{Device, DeviceFault, MemDevice};
+use mt_disk::{Device, MemDevice};
 use mt_frame::Record;
 use mt_log::{AreaPlace, Forced};
 use mt_pool::{Fetched, Flushed, Store};
@@ -172,46 +172,17 @@ fn a_record_of_no_page_waits_for_a_force(rt: HostRuntime) -> Result<(), Fail> {
     Ok(())
 }
 
-/// What a full pool's store answered.
-#[derive(Drop)]
-struct Filled {
-    stamped: bool,
-    fetched: [Result<Fetched, DeviceFault>; 2],
-    flushed: [Result<Flushed, DeviceFault>; 2],
-    forced: [Result<Forced, Refusal>; 4],
-}
-
-/// Stamps as many pages as there are frames, and makes way for one more.
-fn fill(alloc: Global, store: &mut Store<MemDevice>) -> Result<Filled, Refusal>
-    requires kept { (opening : ℕ → List ℕ) × IsKept content MayLeave opening store.old }
-    requires pages { pages store.old.pool ≡ 33 }
-    requires unfinished { IsUnfinished 1 1 (appended store.old.log) }
-    requires fits { used store.old.log + 12317 * 32 < area_size store.old.log }
-{
-    let last = PageNo::new(32);
-    let stamped = stamp_all(alloc, store, 32)?;
-    let full = store.fetch(last);
-    let waiting = store.flush_step();
-    let forced = four_steps(store);
-    let flushed = [waiting, store.flush_step()];
-    let fetched = [full, store.fetch(last)];
-    Ok(Filled {
-        stamped,
-        fetched,
-        flushed,
-        forced,
-    })
-}
-
 #[test]
 fn a_full_pool_forces_the_log_before_it_flushes(rt: HostRuntime) -> Result<(), Fail> {
     let mut store = formatted(rt.alloc())?;
-    let filled = fill(rt.alloc(), &mut store)?;
-    assert!(rt; filled.stamped);
-    assert!(rt; filled.fetched == [Ok(Fetched::Flush), Ok(Fetched::There)]);
-    assert!(rt; filled.flushed == [Ok(Flushed::Force), Ok(Flushed::Page(PageNo::new(0)))]);
+    let last = PageNo::new(32);
+    assert!(rt; stamp_all(rt.alloc(), &mut store, 32)?);
+    assert!(rt; store.fetch(last) == Ok(Fetched::Flush));
+    assert!(rt; store.flush_step() == Ok(Flushed::Force));
     let durable = Ok(Forced::Durable(LogPos::new(32)));
-    assert!(rt; filled.forced == [MORE, MORE, MORE, durable]);
+    assert!(rt; four_steps(&mut store) == [MORE, MORE, MORE, durable]);
+    assert!(rt; store.flush_step() == Ok(Flushed::Page(PageNo::new(0))));
+    assert!(rt; store.fetch(last) == Ok(Fetched::There));
     // The batch's gate and length, and the first record, with page 0 as it was.
     let batch =
         b"\xa5\0\x02\x03\xc0\x01\0\0\0\0\0\0\0\x01\0\0\0\0\0\0\0\x01\0\0\x01\0\x07\0\x03\x01\x01\x01\x02";

@@ -54,7 +54,8 @@ pub struct Log {
     ghost text: { drop 4 pending.items ≡ body_text waiting.items },
     ghost counted: { waiting_count ≡ length waiting.items },
     ghost few_waiting: { waiting_count + 4 ≤ vec_len pending },
-    ghost counted_batched: { batched ≡ length (joined (map (λ batch. batch.items) batches.items)) + length in_flight.items },
+    ghost counted_batched: { batched ≡ length (joined (map (λ batch. batch.items) batches.items))
+        + length in_flight.items },
     ghost few_batched: { batched + place.start ≤ behind },
     ghost at_rest: { stage ≡ Idle → IsAtRest next behind (vec_len flight) in_flight.items },
     ghost under_way: { (stage ≡ Idle → ⊥) → IsUnderWay next behind flight.items in_flight.items },

@@ -119,7 +119,8 @@ impl Seat {
         ensures seen { self.new.view.list ≡ end.old.view.list }
         ensures others { Holds self.old.view.number self.old.view.list self.new.view.list }
         ensures pass { SamePass self.old.view self.new.view }
-        ensures end { (end.new.view.list ≡ end.old.view.list) × SameEnd end.old.view end.new.view × IsConfirmed end.new.view }
+        ensures end { (end.new.view.list ≡ end.old.view.list) × SameEnd end.old.view end.new.view
+            × IsConfirmed end.new.view }
     {
         end.hear(self);
         end.check();
@@ -139,7 +140,8 @@ pub fn new(
     requires from { from ≡ length about.now.book.value.items }
     requires room { count < 2 ^ 32 }
     requires legal { IsLegal about.now.base.value about.now.book.value.items }
-    ensures end { IfOk result (λ r. (r.0.view.list ≡ labelled about.now.book.value.items) × (r.0.view.base ≡ about.now.base.value) × IsConfirmed r.0.view) }
+    ensures end { IfOk result (λ r. (r.0.view.list ≡ labelled about.now.book.value.items)
+        × (r.0.view.base ≡ about.now.base.value) × IsConfirmed r.0.view) }
     ensures count { IfOk result (λ r. vec_len r.1 ≡ count) }
     ensures seats { IfOk result (λ r. (k : ℕ) (d : Held) → k < count → IsNewSeat r.0 k (slice_index_or r.1.items k d)) }
 {
@@ -163,7 +165,8 @@ impl End {
     fn seat(&mut self) -> Result<Seat, AllocError>
         requires confirmed { IsConfirmed self.old.view }
         requires room { self.old.view.made + 1 < 2 ^ 64 }
-        ensures end { (self.new.mark ≡ self.old.mark) × (self.new.view ≡ record self.old.view { made = self.new.view.made }) }
+        ensures end { (self.new.mark ≡ self.old.mark)
+            × (self.new.view ≡ record self.old.view { made = self.new.view.made }) }
         ensures made { OnOk result (self.new.view.made ≡ self.old.view.made + 1) }
         ensures seat { IfOk result (λ s. (s.mark ≡ self.old.mark) × (s.view ≡ new_pass self.old.view)) }
     {

@@ -32,10 +32,15 @@ impl<D: Device> Operations<D> {
     pub(crate) fn bring(&mut self, page: PageNo) -> Result<bool, Refusal>
         requires kept { (opening : PageBytes) × IsKept D.seen D.may_leave opening self.old.store }
         requires inside { page < pages self.old.store.pool }
-        ensures right { (opening : PageBytes) (relations counters : ℕ) → IsRight D.seen D.may_leave opening relations counters self.old → IsRight D.seen D.may_leave opening relations counters self.new }
-        ensures kept { (opening : PageBytes) → IsKept D.seen D.may_leave opening self.old.store → IsKept D.seen D.may_leave opening self.new.store }
+        ensures right { (opening : PageBytes) (relations counters : ℕ)
+            → IsRight D.seen D.may_leave opening relations counters self.old
+            → IsRight D.seen D.may_leave opening relations counters self.new }
+        ensures kept { (opening : PageBytes) → IsKept D.seen D.may_leave opening self.old.store
+            → IsKept D.seen D.may_leave opening self.new.store }
         ensures rests { (opening : PageBytes) → Rests (world D.seen opening self.old) (world D.seen opening self.new) }
-        ensures moments { (opening : PageBytes) → IsKept D.seen D.may_leave opening self.old.store → LeavesOnly D.moment D.left_since self.old.store.device self.new.store.device (Explains opening self.old.store) }
+        ensures moments { (opening : PageBytes) → IsKept D.seen D.may_leave opening self.old.store
+            → LeavesOnly D.moment D.left_since self.old.store.device self.new.store.device
+            (Explains opening self.old.store) }
         ensures there { result ≡ Ok true → IsThere self.new.store.pool page }
         ensures full { result ≡ Ok false → IsFull self.old.store.pool × (self.new ≡ self.old) }
         ensures log { self.new.store.log ≡ self.old.store.log }
@@ -62,7 +67,8 @@ impl<D: Device> Operations<D> {
         mode: Mode,
     ) -> Result<Stepped, Refusal>
         requires locks { locks_of scope.old.number self.old.locks ≡ scope.old.guards.items }
-        ensures held { (opening : PageBytes) → IsHeld (world D.seen opening self.old) (world D.seen opening self.new) scope.old scope.new page mode result }
+        ensures held { (opening : PageBytes) → IsHeld (world D.seen opening self.old) (world D.seen opening self.new)
+            scope.old scope.new page mode result }
         ensures store { self.new.store ≡ self.old.store }
         ensures map { self.new.map ≡ self.old.map }
         ensures rooms { self.new.rooms ≡ self.old.rooms }
@@ -94,11 +100,15 @@ impl<D: Device> Operations<D> {
         mode: Mode,
         room: Option<PageNo>,
     ) -> Result<Stepped, Refusal>
-        requires right { (opening : PageBytes) × (relations : ℕ) × (counters : ℕ) × IsRight D.seen D.may_leave opening relations counters self.old × IsUnderWay relations counters (world D.seen opening self.old) scope.old }
+        requires right { (opening : PageBytes) × (relations : ℕ) × (counters : ℕ)
+            × IsRight D.seen D.may_leave opening relations counters self.old
+            × IsUnderWay relations counters (world D.seen opening self.old) scope.old }
         requires planning { scope.old.stage ≡ Planning }
         requires next { IsToLook scope.old page mode }
-        requires led { (room ≡ scope.old.room) ⊎ ((room ≡ Some page) × (mode ≡ Write) × (get_or self.old.map.kinds page 0 ≡ 3)) }
-        ensures { LocksPage D.seen D.may_leave D.moment D.left_since D.faults self.old self.new scope.old scope.new result }
+        requires led { (room ≡ scope.old.room)
+            ⊎ ((room ≡ Some page) × (mode ≡ Write) × (get_or self.old.map.kinds page 0 ≡ 3)) }
+        ensures { LocksPage D.seen D.may_leave D.moment D.left_since D.faults self.old self.new scope.old scope.new
+            result }
     {
         if !self.bring(page)? {
             return Ok(Stepped::Flush);
@@ -114,12 +124,17 @@ impl<D: Device> Operations<D> {
         mode: Mode,
         room: Option<PageNo>,
     ) -> Result<Stepped, Refusal>
-        requires right { (opening : PageBytes) × (relations : ℕ) × (counters : ℕ) × IsRight D.seen D.may_leave opening relations counters self.old × IsUnderWay relations counters (world D.seen opening self.old) scope.old }
+        requires right { (opening : PageBytes) × (relations : ℕ) × (counters : ℕ)
+            × IsRight D.seen D.may_leave opening relations counters self.old
+            × IsUnderWay relations counters (world D.seen opening self.old) scope.old }
         requires planning { scope.old.stage ≡ Planning }
         requires next { IsToLook scope.old page mode }
-        requires led { (room ≡ scope.old.room) ⊎ ((room ≡ Some page) × (mode ≡ Write) × (get_or self.old.map.kinds page 0 ≡ 3)) }
+        requires led { (room ≡ scope.old.room)
+            ⊎ ((room ≡ Some page) × (mode ≡ Write) × (get_or self.old.map.kinds page 0 ≡ 3)) }
         requires there { IsThere self.old.store.pool page }
-        ensures goes { (opening : PageBytes) (relations counters : ℕ) → IsRight D.seen D.may_leave opening relations counters self.old → IsUnderWay relations counters (world D.seen opening self.old) scope.old →
+        ensures goes { (opening : PageBytes) (relations counters : ℕ)
+            → IsRight D.seen D.may_leave opening relations counters self.old
+            → IsUnderWay relations counters (world D.seen opening self.old) scope.old →
             IsRight D.seen D.may_leave opening relations counters self.new × GoesOn relations counters (world D.seen opening self.old) (world D.seen opening self.new) scope.old scope.new result }
         ensures store { self.new.store ≡ self.old.store }
         ensures map { self.new.map ≡ self.old.map }
@@ -143,10 +158,14 @@ impl<D: Device> Operations<D> {
 
     // Locks a page that the operation has looked at, to write it.
     pub(crate) fn upgrade(&mut self, scope: &mut OpScope, page: PageNo) -> Result<Stepped, Refusal>
-        requires right { (opening : PageBytes) × (relations : ℕ) × (counters : ℕ) × IsRight D.seen D.may_leave opening relations counters self.old × IsUnderWay relations counters (world D.seen opening self.old) scope.old }
+        requires right { (opening : PageBytes) × (relations : ℕ) × (counters : ℕ)
+            × IsRight D.seen D.may_leave opening relations counters self.old
+            × IsUnderWay relations counters (world D.seen opening self.old) scope.old }
         requires planning { scope.old.stage ≡ Planning }
         requires next { IsToWrite scope.old page Write }
-        ensures goes { (opening : PageBytes) (relations counters : ℕ) → IsRight D.seen D.may_leave opening relations counters self.old → IsUnderWay relations counters (world D.seen opening self.old) scope.old →
+        ensures goes { (opening : PageBytes) (relations counters : ℕ)
+            → IsRight D.seen D.may_leave opening relations counters self.old
+            → IsUnderWay relations counters (world D.seen opening self.old) scope.old →
             IsRight D.seen D.may_leave opening relations counters self.new × GoesOn relations counters (world D.seen opening self.old) (world D.seen opening self.new) scope.old scope.new result }
         ensures store { self.new.store ≡ self.old.store }
         ensures map { self.new.map ≡ self.old.map }
@@ -163,7 +182,8 @@ impl<D: Device> Operations<D> {
     // Gives all locks of an operation back, and forgets what it looked at.
     fn begin_again(&mut self, scope: &mut OpScope)
         requires locks { locks_of scope.old.number self.old.locks ≡ scope.old.guards.items }
-        ensures leaves { (opening : PageBytes) → Leaves (world D.seen opening self.old) (world D.seen opening self.new) scope.old }
+        ensures leaves { (opening : PageBytes) → Leaves (world D.seen opening self.old) (world D.seen opening self.new)
+            scope.old }
         ensures anew { IsAnew scope.old scope.new }
         ensures store { self.new.store ≡ self.old.store }
         ensures map { self.new.map ≡ self.old.map }

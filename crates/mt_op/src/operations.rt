@@ -50,10 +50,13 @@ impl<D: Device + Drop> Operations<D> {
     /// at once, and it is noted how long a record it takes. The refusals are [`Refusal::NoMemory`] and
     /// [`Refusal::DeviceFailed`].
     pub fn new(alloc: Global, store: Store<D>) -> Result<Operations<D>, Refusal>
-        requires good { (opening : PageBytes) × (relations : ℕ) × (counters : ℕ) × IsKept D.seen D.may_leave opening store × IsGood relations counters (pages store.pool) opening }
+        requires good { (opening : PageBytes) × (relations : ℕ) × (counters : ℕ)
+            × IsKept D.seen D.may_leave opening store × IsGood relations counters (pages store.pool) opening }
         requires idle { appended store.log ≡ [] }
         requires free { IsFull store.pool → ⊥ }
-        ensures right { (opening : PageBytes) (relations counters : ℕ) → IsKept D.seen D.may_leave opening store → IsGood relations counters (pages store.pool) opening → IfOk result (IsRight D.seen D.may_leave opening relations counters) }
+        ensures right { (opening : PageBytes) (relations counters : ℕ) → IsKept D.seen D.may_leave opening store
+            → IsGood relations counters (pages store.pool) opening
+            → IfOk result (IsRight D.seen D.may_leave opening relations counters) }
         ensures locks { IfOk result (λ operations. operations.locks ≡ []) }
         ensures claimed { IfOk result (λ operations. claimed operations ≡ 0) }
         ensures log { IfOk result (λ operations. operations.store.log ≡ store.log) }
@@ -117,9 +120,12 @@ impl<D: Device> Operations<D> {
     ) -> Result<OpScope, Refusal>
         requires pool { IsPool self.now.store.pool }
         requires numbers { IsTxn txn × IsOp number }
-        ensures under { (opening : PageBytes) (relations counters : ℕ) → IsRight D.seen D.may_leave opening relations counters self.now → IsWithin relations counters op → IsFresh (world D.seen opening self.now) txn number undoes →
+        ensures under { (opening : PageBytes) (relations counters : ℕ)
+            → IsRight D.seen D.may_leave opening relations counters self.now → IsWithin relations counters op
+            → IsFresh (world D.seen opening self.now) txn number undoes →
             IfOk result (IsUnderWay relations counters (world D.seen opening self.now)) }
-        ensures named { IfOk result (λ s. (s.txn ≡ txn) × (s.number ≡ number) × (s.op ≡ op) × (s.undoes ≡ undoes) × (s.split ≡ split)) }
+        ensures named { IfOk result (λ s. (s.txn ≡ txn) × (s.number ≡ number) × (s.op ≡ op) × (s.undoes ≡ undoes)
+            × (s.split ≡ split)) }
         ensures planning { IfOk result (λ s. (s.stage ≡ Planning) × (s.seen.total ≡ pages self.now.store.pool)) }
         ensures budget { IfOk result HasBudget }
         ensures work { IfOk result (λ s. work_of s ≡ 2 * pages self.now.store.pool + 9) }
@@ -166,12 +172,16 @@ impl<D: Device> Operations<D> {
     /// Claims so many free pages, for operations and their inverses. Refused with 10 exactly where fewer of the pages
     /// held are free and not claimed; nothing has changed then. It takes no memory.
     pub fn claim(&mut self, count: u16) -> Result<(), Refusal>
-        ensures right { (opening : PageBytes) (relations counters : ℕ) → IsRight D.seen D.may_leave opening relations counters self.old → IsRight D.seen D.may_leave opening relations counters self.new }
+        ensures right { (opening : PageBytes) (relations counters : ℕ)
+            → IsRight D.seen D.may_leave opening relations counters self.old
+            → IsRight D.seen D.may_leave opening relations counters self.new }
         ensures claimed { OnOk result (claimed self.new ≡ claimed self.old + count) }
-        ensures fits { (opening : PageBytes) (relations counters : ℕ) → IsRight D.seen D.may_leave opening relations counters self.old →
+        ensures fits { (opening : PageBytes) (relations counters : ℕ)
+            → IsRight D.seen D.may_leave opening relations counters self.old →
             OnOk result (claimed self.old + count ≤ free_pages (pages self.old.store.pool) (held_in (world D.seen opening self.old))) }
         ensures why { IfErr result (λ why. why ≡ Refusal.NoRoom) }
-        ensures cause { (opening : PageBytes) (relations counters : ℕ) → IsRight D.seen D.may_leave opening relations counters self.old →
+        ensures cause { (opening : PageBytes) (relations counters : ℕ)
+            → IsRight D.seen D.may_leave opening relations counters self.old →
             OnErr result (free_pages (pages self.old.store.pool) (held_in (world D.seen opening self.old)) < claimed self.old + count) }
         ensures err { OnErr result (self.new ≡ self.old) }
         ensures rests { (opening : PageBytes) → Rests (world D.seen opening self.old) (world D.seen opening self.new) }
@@ -185,7 +195,9 @@ impl<D: Device> Operations<D> {
     /// and those for inverses that are not needed any more, are given back here.
     pub fn give_back(&mut self, count: u16)
         requires { count ≤ claimed self.old }
-        ensures right { (opening : PageBytes) (relations counters : ℕ) → IsRight D.seen D.may_leave opening relations counters self.old → IsRight D.seen D.may_leave opening relations counters self.new }
+        ensures right { (opening : PageBytes) (relations counters : ℕ)
+            → IsRight D.seen D.may_leave opening relations counters self.old
+            → IsRight D.seen D.may_leave opening relations counters self.new }
         ensures claimed { claimed self.new + count ≡ claimed self.old }
         ensures rests { (opening : PageBytes) → Rests (world D.seen opening self.old) (world D.seen opening self.new) }
         ensures store { self.new.store ≡ self.old.store }
@@ -202,15 +214,22 @@ impl<D: Device> Operations<D> {
         requires ends { EndsTxn (txn_of entry) entry }
         requires rules { may_stand false (appended self.old.store.log) entry ≡ true }
         requires fits { used self.old.store.log + 5 + record_length entry < area_size self.old.store.log }
-        ensures right { (opening : PageBytes) (relations counters : ℕ) → IsRight D.seen D.may_leave opening relations counters self.old → IsRight D.seen D.may_leave opening relations counters self.new }
-        ensures notes { (opening : PageBytes) → OnOk result (Notes (world D.seen opening self.old) (world D.seen opening self.new) entry) }
-        ensures rests { (opening : PageBytes) → OnErr result (Rests (world D.seen opening self.old) (world D.seen opening self.new)) }
-        ensures others { (opening : PageBytes) (relations counters : ℕ) (u : OpScope) → IsUnderWay relations counters (world D.seen opening self.old) u → u.txn ≢ txn_of entry → IsUnderWay relations counters (world D.seen opening self.new) u }
+        ensures right { (opening : PageBytes) (relations counters : ℕ)
+            → IsRight D.seen D.may_leave opening relations counters self.old
+            → IsRight D.seen D.may_leave opening relations counters self.new }
+        ensures notes { (opening : PageBytes)
+            → OnOk result (Notes (world D.seen opening self.old) (world D.seen opening self.new) entry) }
+        ensures rests { (opening : PageBytes)
+            → OnErr result (Rests (world D.seen opening self.old) (world D.seen opening self.new)) }
+        ensures others { (opening : PageBytes) (relations counters : ℕ) (u : OpScope)
+            → IsUnderWay relations counters (world D.seen opening self.old) u → u.txn ≢ txn_of entry
+            → IsUnderWay relations counters (world D.seen opening self.new) u }
         ensures place { IfOk result (λ place. place ≡ length (appended self.new.store.log)) }
         ensures used { OnOk result (used self.new.store.log ≡ used self.old.store.log + 5 + record_length entry) }
         ensures err_used { OnErr result (used self.new.store.log ≡ used self.old.store.log) }
         ensures area { area_size self.new.store.log ≡ area_size self.old.store.log }
-        ensures held { (opening : PageBytes) → held_in (world D.seen opening self.new) ≡ held_in (world D.seen opening self.old) }
+        ensures held { (opening : PageBytes) → held_in (world D.seen opening self.new) ≡ held_in
+            (world D.seen opening self.old) }
         ensures claimed { claimed self.new ≡ claimed self.old }
         ensures device { self.new.store.device ≡ self.old.store.device }
         ensures only_memory { IfErr result (λ why. why ≡ Refusal.NoMemory) }
@@ -222,15 +241,20 @@ impl<D: Device> Operations<D> {
     /// refusal is [`Refusal::DeviceFailed`], where the device failed in this call or the log has failed before.
     pub fn force_step(&mut self) -> Result<Forced, Refusal>
         requires kept { (opening : PageBytes) × IsKept D.seen D.may_leave opening self.old.store }
-        ensures right { (opening : PageBytes) (relations counters : ℕ) → IsRight D.seen D.may_leave opening relations counters self.old → IsRight D.seen D.may_leave opening relations counters self.new }
+        ensures right { (opening : PageBytes) (relations counters : ℕ)
+            → IsRight D.seen D.may_leave opening relations counters self.old
+            → IsRight D.seen D.may_leave opening relations counters self.new }
         ensures rests { (opening : PageBytes) → Rests (world D.seen opening self.old) (world D.seen opening self.new) }
-        ensures moments { (opening : PageBytes) → IsKept D.seen D.may_leave opening self.old.store → LeavesOnly D.moment D.left_since self.old.store.device self.new.store.device (Explains opening self.old.store) }
+        ensures moments { (opening : PageBytes) → IsKept D.seen D.may_leave opening self.old.store
+            → LeavesOnly D.moment D.left_since self.old.store.device self.new.store.device
+            (Explains opening self.old.store) }
         ensures claimed { claimed self.new ≡ claimed self.old }
         ensures step { IfOk result (λ forced. IsStep self.old.store.log forced self.new.store.log) }
         ensures used { used self.new.store.log ≤ used self.old.store.log }
         ensures area { area_size self.new.store.log ≡ area_size self.old.store.log }
         ensures only_device { IfErr result (λ why. why ≡ Refusal.DeviceFailed) }
-        ensures cause { IsErr result → (D.faults self.old.store.device < D.faults self.new.store.device ⊎ (has_failed self.old.store.log ≡ true)) }
+        ensures cause { IsErr result → (D.faults self.old.store.device < D.faults self.new.store.device
+            ⊎ (has_failed self.old.store.log ≡ true)) }
         ensures quiet { IsOk result → D.faults self.new.store.device ≡ D.faults self.old.store.device }
     {
         self.store.force_step()
@@ -240,15 +264,22 @@ impl<D: Device> Operations<D> {
     /// error is the device's.
     pub fn flush_step(&mut self) -> Result<Flushed, DeviceFault>
         requires kept { (opening : PageBytes) × IsKept D.seen D.may_leave opening self.old.store }
-        ensures right { (opening : PageBytes) (relations counters : ℕ) → IsRight D.seen D.may_leave opening relations counters self.old → IsRight D.seen D.may_leave opening relations counters self.new }
+        ensures right { (opening : PageBytes) (relations counters : ℕ)
+            → IsRight D.seen D.may_leave opening relations counters self.old
+            → IsRight D.seen D.may_leave opening relations counters self.new }
         ensures rests { (opening : PageBytes) → Rests (world D.seen opening self.old) (world D.seen opening self.new) }
-        ensures moments { (opening : PageBytes) → IsKept D.seen D.may_leave opening self.old.store → LeavesOnly D.moment D.left_since self.old.store.device self.new.store.device (Explains opening self.old.store) }
+        ensures moments { (opening : PageBytes) → IsKept D.seen D.may_leave opening self.old.store
+            → LeavesOnly D.moment D.left_since self.old.store.device self.new.store.device
+            (Explains opening self.old.store) }
         ensures claimed { claimed self.new ≡ claimed self.old }
         ensures log { self.new.store.log ≡ self.old.store.log }
-        ensures written { (p : ℕ) → result ≡ Ok (flushed.Page p) → Cleans self.old.store.pool self.new.store.pool (length (durable self.old.store.log)) p }
+        ensures written { (p : ℕ) → result ≡ Ok (flushed.Page p) → Cleans self.old.store.pool self.new.store.pool
+            (length (durable self.old.store.log)) p }
         ensures barred { result ≡ Ok flushed.Force → IsWaiting self.old.store.pool (length (durable self.old.store.log)) }
-        ensures fewer { (p : ℕ) → result ≡ Ok (flushed.Page p) → to_flush self.new.store.pool + 1 ≡ to_flush self.old.store.pool }
-        ensures forced { result ≡ Ok flushed.Force → length (durable self.old.store.log) < length (appended self.old.store.log) }
+        ensures fewer { (p : ℕ) → result ≡ Ok (flushed.Page p)
+            → to_flush self.new.store.pool + 1 ≡ to_flush self.old.store.pool }
+        ensures forced { result ≡ Ok flushed.Force → length (durable self.old.store.log) < length
+            (appended self.old.store.log) }
         ensures exact { ((f : ℕ) → get_or self.old.store.pool.dirty.items f false ≡ false) → result ≡ Ok flushed.Clean }
         ensures nothing { result ≡ Ok flushed.Clean → (f : ℕ) → get_or self.new.store.pool.dirty.items f false ≡ false }
         ensures cause { HasCause (D.faults self.old.store.device) (D.faults self.new.store.device) result }
@@ -258,7 +289,9 @@ impl<D: Device> Operations<D> {
 
     // Notes what each page of records takes.
     fn note_rooms(&mut self, count: u16) -> Result<(), Refusal>
-        requires kept { (opening : PageBytes) × (relations : ℕ) × (counters : ℕ) × IsKept D.seen D.may_leave opening self.old.store × IsGood relations counters (pages self.old.store.pool) opening × (self.old.map.kinds ≡ opening 0) }
+        requires kept { (opening : PageBytes) × (relations : ℕ) × (counters : ℕ)
+            × IsKept D.seen D.may_leave opening self.old.store × IsGood relations counters (pages self.old.store.pool)
+            opening × (self.old.map.kinds ≡ opening 0) }
         requires idle { appended self.old.store.log ≡ [] }
         requires all { count ≡ pages self.old.store.pool }
         requires spare { IsFull self.old.store.pool → ⊥ }

@@ -48,19 +48,27 @@ impl<D: Device> Operations<D> {
     /// of them. A step that answers [`Stepped::Went`] leaves less to do, [`Stepped::Again`] adds at most `2 n`
     /// steps, and nothing else adds any.
     pub fn step(&mut self, alloc: Global, scope: &mut OpScope) -> Result<Stepped, Refusal>
-        requires right { (opening : PageBytes) × (relations : ℕ) × (counters : ℕ) × IsRight D.seen D.may_leave opening relations counters self.old × IsUnderWay relations counters (world D.seen opening self.old) scope.old
+        requires right { (opening : PageBytes) × (relations : ℕ) × (counters : ℕ)
+            × IsRight D.seen D.may_leave opening relations counters self.old
+            × IsUnderWay relations counters (world D.seen opening self.old) scope.old
             × (relations ≤ 64) × (counters ≤ 128) }
         requires claims { own_needs scope.old.op scope.old.split ≤ claimed self.old }
         requires stage { (scope.old.stage ≡ Planning) ⊎ (scope.old.stage ≡ Writing) }
         requires budget { HasBudget scope.old }
         requires room { used self.old.store.log + scope.old.left < area_size self.old.store.log }
-        ensures steps { (opening : PageBytes) (relations counters : ℕ) → IsRight D.seen D.may_leave opening relations counters self.old → IsUnderWay relations counters (world D.seen opening self.old) scope.old → relations ≤ 64 → counters ≤ 128 →
+        ensures steps { (opening : PageBytes) (relations counters : ℕ)
+            → IsRight D.seen D.may_leave opening relations counters self.old
+            → IsUnderWay relations counters (world D.seen opening self.old) scope.old → relations ≤ 64 → counters ≤ 128
+            →
             IsRight D.seen D.may_leave opening relations counters self.new × Steps relations counters (world D.seen opening self.old) (world D.seen opening self.new) scope.old scope.new result }
-        ensures moments { (opening : PageBytes) → IsKept D.seen D.may_leave opening self.old.store → LeavesOnly D.moment D.left_since self.old.store.device self.new.store.device (Explains opening self.old.store) }
+        ensures moments { (opening : PageBytes) → IsKept D.seen D.may_leave opening self.old.store
+            → LeavesOnly D.moment D.left_since self.old.store.device self.new.store.device
+            (Explains opening self.old.store) }
         ensures log { used self.new.store.log + scope.new.left ≡ used self.old.store.log + scope.old.left }
         ensures area { area_size self.new.store.log ≡ area_size self.old.store.log }
         ensures budget { HasBudget scope.new }
-        ensures claims { GivesBack (own_needs scope.old.op scope.old.split) (claimed self.old) (claimed self.new) result }
+        ensures claims { GivesBack (own_needs scope.old.op scope.old.split) (claimed self.old) (claimed self.new)
+            result }
         ensures full { result ≡ Ok stepped.Flush → IsFull self.old.store.pool × (self.new ≡ self.old) }
         ensures stage { ComesTo scope.new.stage result }
         ensures work { Works scope.old scope.new result }
@@ -69,7 +77,8 @@ impl<D: Device> Operations<D> {
         ensures scope { KeepsScope scope.old scope.new result }
         ensures writing { scope.old.stage ≡ Writing → self.new.locks ≡ self.old.locks }
         // Where the plan is made, a page more is written then.
-        ensures went { scope.old.stage ≡ Writing → result ≡ Ok stepped.Went → scope.new.written ≡ scope.old.written + 1 }
+        ensures went { scope.old.stage ≡ Writing → result ≡ Ok stepped.Went
+            → scope.new.written ≡ scope.old.written + 1 }
         ensures why { IfErr result IsCause }
         ensures faults { TellsFaults (D.faults self.old.store.device) (D.faults self.new.store.device) result }
     {
@@ -84,12 +93,16 @@ impl<D: Device> Operations<D> {
 
     // Writes the next page of the plan, or ends the operation.
     fn go_on(&mut self, alloc: Global, scope: &mut OpScope) -> Result<Stepped, Refusal>
-        requires right { (opening : PageBytes) × (relations : ℕ) × (counters : ℕ) × IsRight D.seen D.may_leave opening relations counters self.old × IsUnderWay relations counters (world D.seen opening self.old) scope.old × (relations ≤ 64) × (counters ≤ 128) }
+        requires right { (opening : PageBytes) × (relations : ℕ) × (counters : ℕ)
+            × IsRight D.seen D.may_leave opening relations counters self.old
+            × IsUnderWay relations counters (world D.seen opening self.old) scope.old × (relations ≤ 64)
+            × (counters ≤ 128) }
         requires claims { own_needs scope.old.op scope.old.split ≤ claimed self.old }
         requires writing { scope.old.stage ≡ Writing }
         requires budget { HasBudget scope.old }
         requires room { used self.old.store.log + scope.old.left < area_size self.old.store.log }
-        ensures { GoesAhead D.seen D.may_leave D.moment D.left_since D.faults self.old self.new scope.old scope.new result }
+        ensures { GoesAhead D.seen D.may_leave D.moment D.left_since D.faults self.old self.new scope.old scope.new
+            result }
     {
         if scope.written < scope.changes.list.len() {
             self.write_next(alloc, scope)
@@ -101,7 +114,9 @@ impl<D: Device> Operations<D> {
     // Plans over the pages that the operation has looked at: locks the one that is needed next, or keeps the
     // plan where there is none.
     fn plan_step(&mut self, alloc: Global, scope: &mut OpScope) -> Result<Option<Stepped>, Refusal>
-        requires right { (opening : PageBytes) × (relations : ℕ) × (counters : ℕ) × IsRight D.seen D.may_leave opening relations counters self.old × IsUnderWay relations counters (world D.seen opening self.old) scope.old
+        requires right { (opening : PageBytes) × (relations : ℕ) × (counters : ℕ)
+            × IsRight D.seen D.may_leave opening relations counters self.old
+            × IsUnderWay relations counters (world D.seen opening self.old) scope.old
             × (relations ≤ 64) × (own_needs scope.old.op scope.old.split ≤ free_pages scope.old.seen.total (held_in (world D.seen opening self.old))) }
         requires planning { scope.old.stage ≡ Planning }
         requires budget { HasBudget scope.old }
@@ -129,10 +144,13 @@ impl<D: Device> Operations<D> {
         page: PageNo,
         mode: Mode,
     ) -> Result<Stepped, Refusal>
-        requires right { (opening : PageBytes) × (relations : ℕ) × (counters : ℕ) × IsRight D.seen D.may_leave opening relations counters self.old × IsUnderWay relations counters (world D.seen opening self.old) scope.old }
+        requires right { (opening : PageBytes) × (relations : ℕ) × (counters : ℕ)
+            × IsRight D.seen D.may_leave opening relations counters self.old
+            × IsUnderWay relations counters (world D.seen opening self.old) scope.old }
         requires planning { scope.old.stage ≡ Planning }
         requires next { IsToLook scope.old page mode }
-        ensures { LocksPage D.seen D.may_leave D.moment D.left_since D.faults self.old self.new scope.old scope.new result }
+        ensures { LocksPage D.seen D.may_leave D.moment D.left_since D.faults self.old self.new scope.old scope.new
+            result }
     {
         if page.get() == MAP {
             if let Some(room) = self.room_for(scope) {
@@ -174,15 +192,22 @@ impl<D: Device> Operations<D> {
         changes: Changes,
         reply: Reply,
     ) -> Result<Option<Stepped>, Refusal>
-        requires right { (opening : PageBytes) × (relations : ℕ) × (counters : ℕ) × IsRight D.seen D.may_leave opening relations counters self.old × IsUnderWay relations counters (world D.seen opening self.old) scope.old }
+        requires right { (opening : PageBytes) × (relations : ℕ) × (counters : ℕ)
+            × IsRight D.seen D.may_leave opening relations counters self.old
+            × IsUnderWay relations counters (world D.seen opening self.old) scope.old }
         requires planning { scope.old.stage ≡ Planning }
         requires there { AreAtHand (looked scope.old) changes.list.items }
         requires few { length changes.list.items ≤ 8 }
         requires quiet { logged_of scope.old.op reply ≡ None → changes.list.items ≡ [] }
         requires reads { only_reads scope.old.op ≡ true → changes.list.items ≡ [] }
-        requires planned { (relations counters : ℕ) → relations ≤ 64 → IsWithin relations counters scope.old.op → InPages (looked scope.old) scope.old.room relations counters scope.old.seen.total (λ pages. IsPlanned relations counters scope.old.seen.total (looked scope.old) pages changes.list.items scope.old.op scope.old.split reply) }
+        requires planned { (relations counters : ℕ) → relations ≤ 64 → IsWithin relations counters scope.old.op
+            → InPages (looked scope.old) scope.old.room relations counters scope.old.seen.total
+            (λ pages. IsPlanned relations counters scope.old.seen.total (looked scope.old) pages changes.list.items
+            scope.old.op scope.old.split reply) }
         requires budget { HasBudget scope.old }
-        ensures goes { (opening : PageBytes) (relations counters : ℕ) → IsRight D.seen D.may_leave opening relations counters self.old → IsUnderWay relations counters (world D.seen opening self.old) scope.old → relations ≤ 64 →
+        ensures goes { (opening : PageBytes) (relations counters : ℕ)
+            → IsRight D.seen D.may_leave opening relations counters self.old
+            → IsUnderWay relations counters (world D.seen opening self.old) scope.old → relations ≤ 64 →
             IsRight D.seen D.may_leave opening relations counters self.new × IsPlannedOn relations counters (world D.seen opening self.old) (world D.seen opening self.new) scope.old scope.new result }
         ensures store { self.new.store ≡ self.old.store }
         ensures map { self.new.map ≡ self.old.map }

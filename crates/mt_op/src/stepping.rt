@@ -41,12 +41,15 @@ impl<D: Device> Operations<D> {
         alloc: Global,
         scope: &mut OpScope,
     ) -> Result<Stepped, Refusal>
-        requires right { (opening : PageBytes) × (relations : ℕ) × (counters : ℕ) × IsRight D.seen D.may_leave opening relations counters self.old × IsUnderWay relations counters (world D.seen opening self.old) scope.old }
+        requires right { (opening : PageBytes) × (relations : ℕ) × (counters : ℕ)
+            × IsRight D.seen D.may_leave opening relations counters self.old
+            × IsUnderWay relations counters (world D.seen opening self.old) scope.old }
         requires writing { scope.old.stage ≡ Writing }
         requires more { scope.old.written < length (changes_in scope.old) }
         requires budget { HasBudget scope.old }
         requires room { used self.old.store.log + scope.old.left < area_size self.old.store.log }
-        ensures ahead { GoesAhead D.seen D.may_leave D.moment D.left_since D.faults self.old self.new scope.old scope.new result }
+        ensures ahead { GoesAhead D.seen D.may_leave D.moment D.left_since D.faults self.old self.new scope.old
+            scope.new result }
         ensures map { self.new.map ≡ self.old.map }
         ensures stage { scope.new.stage ≡ Writing }
     {
@@ -59,13 +62,17 @@ impl<D: Device> Operations<D> {
 
     // The same of a page that is in a frame. Where memory is refused nothing has changed.
     fn write_there(&mut self, alloc: Global, scope: &mut OpScope) -> Result<Stepped, Refusal>
-        requires right { (opening : PageBytes) × (relations : ℕ) × (counters : ℕ) × IsRight D.seen D.may_leave opening relations counters self.old × IsUnderWay relations counters (world D.seen opening self.old) scope.old }
+        requires right { (opening : PageBytes) × (relations : ℕ) × (counters : ℕ)
+            × IsRight D.seen D.may_leave opening relations counters self.old
+            × IsUnderWay relations counters (world D.seen opening self.old) scope.old }
         requires writing { scope.old.stage ≡ Writing }
         requires more { scope.old.written < length (changes_in scope.old) }
-        requires there { (c : PageChange) → c ≡ get_or (changes_in scope.old) scope.old.written c → IsThere self.old.store.pool c.page }
+        requires there { (c : PageChange) → c ≡ get_or (changes_in scope.old) scope.old.written c
+            → IsThere self.old.store.pool c.page }
         requires budget { HasBudget scope.old }
         requires room { used self.old.store.log + scope.old.left < area_size self.old.store.log }
-        ensures ahead { GoesAhead D.seen D.may_leave D.moment D.left_since D.faults self.old self.new scope.old scope.new result }
+        ensures ahead { GoesAhead D.seen D.may_leave D.moment D.left_since D.faults self.old self.new scope.old
+            scope.new result }
         ensures device { self.new.store.device ≡ self.old.store.device }
         ensures map { self.new.map ≡ self.old.map }
         ensures stage { scope.new.stage ≡ Writing }
@@ -85,13 +92,17 @@ impl<D: Device> Operations<D> {
     // Ends the operation: its end is appended where one is due, and with that it has acted on the base
     // that the pages hold; its claim on free pages is given back. Where memory is refused nothing has changed.
     pub(crate) fn finish(&mut self, scope: &mut OpScope) -> Result<Stepped, Refusal>
-        requires right { (opening : PageBytes) × (relations : ℕ) × (counters : ℕ) × IsRight D.seen D.may_leave opening relations counters self.old × IsUnderWay relations counters (world D.seen opening self.old) scope.old × (relations ≤ 64) × (counters ≤ 128) }
+        requires right { (opening : PageBytes) × (relations : ℕ) × (counters : ℕ)
+            × IsRight D.seen D.may_leave opening relations counters self.old
+            × IsUnderWay relations counters (world D.seen opening self.old) scope.old × (relations ≤ 64)
+            × (counters ≤ 128) }
         requires claims { own_needs scope.old.op scope.old.split ≤ claimed self.old }
         requires writing { scope.old.stage ≡ Writing }
         requires all { scope.old.written ≡ length (changes_in scope.old) }
         requires budget { HasBudget scope.old }
         requires room { used self.old.store.log + scope.old.left < area_size self.old.store.log }
-        ensures ahead { GoesAhead D.seen D.may_leave D.moment D.left_since D.faults self.old self.new scope.old scope.new result }
+        ensures ahead { GoesAhead D.seen D.may_leave D.moment D.left_since D.faults self.old self.new scope.old
+            scope.new result }
         ensures device { self.new.store.device ≡ self.old.store.device }
         ensures ready { OnOk result (scope.new.stage ≡ Ready) }
         ensures ended { (result ≡ Ok stepped.Went → ⊥) × (result ≡ Ok stepped.Flush → ⊥) }
@@ -113,12 +124,17 @@ impl<D: Device> Operations<D> {
         requires kept { (opening : PageBytes) × IsKept D.seen D.may_leave opening self.old.store }
         requires numbers { IsTxn scope.old.txn × IsOp scope.old.number }
         requires operation { IsOperation done }
-        requires rules { may_stand false (appended self.old.store.log) (OpEnd scope.old.txn scope.old.number scope.old.undoes done) ≡ true }
+        requires rules { may_stand false (appended self.old.store.log)
+            (OpEnd scope.old.txn scope.old.number scope.old.undoes done) ≡ true }
         requires left { 2149 ≤ scope.old.left }
         requires room { used self.old.store.log + scope.old.left < area_size self.old.store.log }
-        ensures kept { (opening : PageBytes) → IsKept D.seen D.may_leave opening self.old.store → IsKept D.seen D.may_leave opening self.new.store }
-        ensures notes { (opening : PageBytes) → OnOk result (Notes (world D.seen opening self.old) (world D.seen opening self.new) (OpEnd scope.old.txn scope.old.number scope.old.undoes done)) }
-        ensures rests { (opening : PageBytes) → OnErr result (Rests (world D.seen opening self.old) (world D.seen opening self.new)) }
+        ensures kept { (opening : PageBytes) → IsKept D.seen D.may_leave opening self.old.store
+            → IsKept D.seen D.may_leave opening self.new.store }
+        ensures notes { (opening : PageBytes)
+            → OnOk result (Notes (world D.seen opening self.old) (world D.seen opening self.new)
+            (OpEnd scope.old.txn scope.old.number scope.old.undoes done)) }
+        ensures rests { (opening : PageBytes)
+            → OnErr result (Rests (world D.seen opening self.old) (world D.seen opening self.new)) }
         ensures device { self.new.store.device ≡ self.old.store.device }
         ensures pool { self.new.store.pool ≡ self.old.store.pool }
         ensures map { self.new.map ≡ self.old.map }
@@ -143,7 +159,8 @@ impl<D: Device> Operations<D> {
 
     // Notes what the pages take that the operation looked at, once its changes are made.
     fn note_looked(&mut self, scope: &OpScope)
-        requires pages { (pages : PageBytes) × Agrees (looked scope.now) pages × AreShort (changes_in scope.now) pages × ((p : ℕ) → get_or self.old.map.kinds p 0 ≡ 3 → IsShaped (after (changes_in scope.now) pages p)) }
+        requires pages { (pages : PageBytes) × Agrees (looked scope.now) pages × AreShort (changes_in scope.now) pages
+            × ((p : ℕ) → get_or self.old.map.kinds p 0 ≡ 3 → IsShaped (after (changes_in scope.now) pages p)) }
         requires whole { (p : ℕ) (bytes : List ℕ) → looked scope.now p ≡ Some bytes → length bytes ≡ 4096 }
         requires inside { (p : ℕ) → IsSome (looked scope.now p) → p < length self.old.rooms.0 }
         requires few { length self.old.rooms.0 ≤ 4096 }
@@ -151,8 +168,10 @@ impl<D: Device> Operations<D> {
         ensures locks { self.new.locks ≡ self.old.locks }
         ensures map { self.new.map ≡ self.old.map }
         ensures rooms { length self.new.rooms.0 ≡ length self.old.rooms.0 }
-        ensures noted { (pages : PageBytes) → Agrees (looked scope.now) pages → AreShort (changes_in scope.now) pages → HasRooms scope.now self.old.map.kinds self.new.rooms.0 pages }
-        ensures others { (p : ℕ) → looked scope.now p ≡ None → get_or self.new.rooms.0 p 0 ≡ get_or self.old.rooms.0 p 0 }
+        ensures noted { (pages : PageBytes) → Agrees (looked scope.now) pages → AreShort (changes_in scope.now) pages
+            → HasRooms scope.now self.old.map.kinds self.new.rooms.0 pages }
+        ensures others { (p : ℕ) → looked scope.now p ≡ None
+            → get_or self.new.rooms.0 p 0 ≡ get_or self.old.rooms.0 p 0 }
     {
         for guard in &scope.guards {
             let page = guard.lock().page;
@@ -167,8 +186,10 @@ impl<D: Device> Operations<D> {
     fn room_after(&self, changes: &Changes, page: PageNo, before: &[u8; 4096]) -> u16
         requires inside { page < 4096 }
         requires whole { length before.now ≡ 4096 }
-        requires pages { (pages : PageBytes) × (pages page ≡ before.now) × AreShort changes.now.list.items pages × (get_or self.now.map.kinds page 0 ≡ 3 → IsShaped (after changes.now.list.items pages page)) }
-        ensures records { (pages : PageBytes) → pages page ≡ before.now → AreShort changes.now.list.items pages → get_or self.now.map.kinds page 0 ≡ 3 → result ≡ fits_of (after changes.now.list.items pages page) }
+        requires pages { (pages : PageBytes) × (pages page ≡ before.now) × AreShort changes.now.list.items pages
+            × (get_or self.now.map.kinds page 0 ≡ 3 → IsShaped (after changes.now.list.items pages page)) }
+        ensures records { (pages : PageBytes) → pages page ≡ before.now → AreShort changes.now.list.items pages
+            → get_or self.now.map.kinds page 0 ≡ 3 → result ≡ fits_of (after changes.now.list.items pages page) }
         ensures others { get_or self.now.map.kinds page 0 ≢ 3 → result ≡ 0 }
     {
         if self.map.kinds[usize::from(page.get())] != RECORDS {
@@ -190,7 +211,9 @@ fn told(scope: &OpScope) -> Result<(Reply, Reply, Option<LoggedOp>), Refusal>
     ensures reply { IfOk result (λ told. scope.now.reply ≡ Some told.0) }
     ensures twice { IfOk result (λ told. told.1 ≡ told.0) }
     ensures logged { IfOk result (λ told. told.2 ≡ logged_of scope.now.op told.0) }
-    ensures operation { (relations counters : ℕ) → relations ≤ 64 → counters ≤ 128 → IsWithin relations counters scope.now.op → IfOk result (λ told. HasSmallReply told.0 → IfSome told.2 IsOperation) }
+    ensures operation { (relations counters : ℕ) → relations ≤ 64 → counters ≤ 128
+        → IsWithin relations counters scope.now.op
+        → IfOk result (λ told. HasSmallReply told.0 → IfSome told.2 IsOperation) }
     ensures only_memory { IfErr result (λ why. why ≡ Refusal.NoMemory) }
 {
     let Some(reply) = &scope.reply else {

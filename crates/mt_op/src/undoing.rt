@@ -38,14 +38,21 @@ impl<D: Device> Operations<D> {
     /// [`TakenBack::Flush`] and the refusals change nothing: [`Refusal::NoMemory`], where the record cannot be
     /// appended, and, exactly where the device failed in this call, [`Refusal::DeviceFailed`].
     pub fn take_back(&mut self, scope: &mut OpScope) -> Result<TakenBack, Refusal>
-        requires right { (opening : PageBytes) × (relations : ℕ) × (counters : ℕ) × IsRight D.seen D.may_leave opening relations counters self.old × IsUnderWay relations counters (world D.seen opening self.old) scope.old }
+        requires right { (opening : PageBytes) × (relations : ℕ) × (counters : ℕ)
+            × IsRight D.seen D.may_leave opening relations counters self.old
+            × IsUnderWay relations counters (world D.seen opening self.old) scope.old }
         requires stage { (scope.old.stage ≡ Planning) ⊎ ((scope.old.stage ≡ Writing) ⊎ (scope.old.stage ≡ Taking)) }
         requires budget { HasBudget scope.old }
         requires room { used self.old.store.log + scope.old.left < area_size self.old.store.log }
-        ensures goes { (opening : PageBytes) (relations counters : ℕ) → IsRight D.seen D.may_leave opening relations counters self.old → IsUnderWay relations counters (world D.seen opening self.old) scope.old →
+        ensures goes { (opening : PageBytes) (relations counters : ℕ)
+            → IsRight D.seen D.may_leave opening relations counters self.old
+            → IsUnderWay relations counters (world D.seen opening self.old) scope.old →
             IsRight D.seen D.may_leave opening relations counters self.new × Goes relations counters (world D.seen opening self.old) (world D.seen opening self.new) scope.old scope.new }
-        ensures moments { (opening : PageBytes) → IsKept D.seen D.may_leave opening self.old.store → LeavesOnly D.moment D.left_since self.old.store.device self.new.store.device (Explains opening self.old.store) }
-        ensures more { result ≡ Ok taken.More → (scope.new.stage ≡ Taking) × (scope.new.standing + 1 ≡ scope.old.standing) }
+        ensures moments { (opening : PageBytes) → IsKept D.seen D.may_leave opening self.old.store
+            → LeavesOnly D.moment D.left_since self.old.store.device self.new.store.device
+            (Explains opening self.old.store) }
+        ensures more { result ≡ Ok taken.More → (scope.new.stage ≡ Taking)
+            × (scope.new.standing + 1 ≡ scope.old.standing) }
         ensures clear { result ≡ Ok taken.Clear → (scope.new.stage ≡ Cleared) × (scope.old.standing ≤ 1) }
         ensures few { scope.old.standing ≤ 8 }
         ensures log { used self.new.store.log + scope.new.left ≡ used self.old.store.log + scope.old.left }
@@ -73,10 +80,13 @@ impl<D: Device> Operations<D> {
 
     // Puts the last page back that still stands, which is in a frame.
     fn put_last_back(&mut self, scope: &mut OpScope, page: PageNo) -> Result<TakenBack, Refusal>
-        requires right { (opening : PageBytes) × (relations : ℕ) × (counters : ℕ) × IsRight D.seen D.may_leave opening relations counters self.old × IsUnderWay relations counters (world D.seen opening self.old) scope.old }
+        requires right { (opening : PageBytes) × (relations : ℕ) × (counters : ℕ)
+            × IsRight D.seen D.may_leave opening relations counters self.old
+            × IsUnderWay relations counters (world D.seen opening self.old) scope.old }
         requires stage { (scope.old.stage ≡ Writing) ⊎ (scope.old.stage ≡ Taking) }
         requires some { 0 < scope.old.standing }
-        requires page { (c : PageChange) × (c ≡ get_or (changes_in scope.old) (scope.old.standing - 1) c) × (c.page ≡ page) }
+        requires page { (c : PageChange) × (c ≡ get_or (changes_in scope.old) (scope.old.standing - 1) c)
+            × (c.page ≡ page) }
         requires there { IsThere self.old.store.pool page }
         requires budget { HasBudget scope.old }
         requires room { used self.old.store.log + scope.old.left < area_size self.old.store.log }
@@ -99,8 +109,10 @@ impl<D: Device> Operations<D> {
         requires inside { page < pages self.old.store.pool }
         requires there { IsThere self.old.store.pool page }
         requires logged { 0 < waits_for self.old.store.pool page }
-        ensures kept { (opening : PageBytes) → IsKept D.seen D.may_leave opening self.old.store → IsKept D.seen D.may_leave opening self.new.store }
-        ensures back { (opening : PageBytes) (c : PageChange) → c.page ≡ page → PutsBack (world D.seen opening self.old) (world D.seen opening self.new) scope.now c [] }
+        ensures kept { (opening : PageBytes) → IsKept D.seen D.may_leave opening self.old.store
+            → IsKept D.seen D.may_leave opening self.new.store }
+        ensures back { (opening : PageBytes) (c : PageChange) → c.page ≡ page → PutsBack (world D.seen opening self.old)
+            (world D.seen opening self.new) scope.now c [] }
         ensures device { self.new.store.device ≡ self.old.store.device }
         ensures log { self.new.store.log ≡ self.old.store.log }
         ensures locks { self.new.locks ≡ self.old.locks }
@@ -119,9 +131,13 @@ impl<D: Device> Operations<D> {
         requires grammar { IsRecord (OpDropped scope.now.txn scope.now.number) }
         requires rules { may_stand false (appended self.old.store.log) (OpDropped scope.now.txn scope.now.number) ≡ true }
         requires room { used self.old.store.log + 22 < area_size self.old.store.log }
-        ensures kept { (opening : PageBytes) → IsKept D.seen D.may_leave opening self.old.store → IsKept D.seen D.may_leave opening self.new.store }
-        ensures notes { (opening : PageBytes) → OnOk result (Notes (world D.seen opening self.old) (world D.seen opening self.new) (OpDropped scope.now.txn scope.now.number)) }
-        ensures rests { (opening : PageBytes) → OnErr result (Rests (world D.seen opening self.old) (world D.seen opening self.new)) }
+        ensures kept { (opening : PageBytes) → IsKept D.seen D.may_leave opening self.old.store
+            → IsKept D.seen D.may_leave opening self.new.store }
+        ensures notes { (opening : PageBytes)
+            → OnOk result (Notes (world D.seen opening self.old) (world D.seen opening self.new)
+            (OpDropped scope.now.txn scope.now.number)) }
+        ensures rests { (opening : PageBytes)
+            → OnErr result (Rests (world D.seen opening self.old) (world D.seen opening self.new)) }
         ensures device { self.new.store.device ≡ self.old.store.device }
         ensures pool { self.new.store.pool ≡ self.old.store.pool }
         ensures locks { self.new.locks ≡ self.old.locks }
@@ -141,10 +157,13 @@ impl<D: Device> Operations<D> {
 
     // Appends the record that the operation was taken back, and puts its last page back, which is in a frame.
     fn clear(&mut self, scope: &mut OpScope, page: PageNo) -> Result<TakenBack, Refusal>
-        requires right { (opening : PageBytes) × (relations : ℕ) × (counters : ℕ) × IsRight D.seen D.may_leave opening relations counters self.old × IsUnderWay relations counters (world D.seen opening self.old) scope.old }
+        requires right { (opening : PageBytes) × (relations : ℕ) × (counters : ℕ)
+            × IsRight D.seen D.may_leave opening relations counters self.old
+            × IsUnderWay relations counters (world D.seen opening self.old) scope.old }
         requires stage { (scope.old.stage ≡ Writing) ⊎ (scope.old.stage ≡ Taking) }
         requires last { scope.old.standing ≡ 1 }
-        requires page { (c : PageChange) × (c ≡ get_or (changes_in scope.old) (scope.old.standing - 1) c) × (c.page ≡ page) }
+        requires page { (c : PageChange) × (c ≡ get_or (changes_in scope.old) (scope.old.standing - 1) c)
+            × (c.page ≡ page) }
         requires there { IsThere self.old.store.pool page }
         requires budget { HasBudget scope.old }
         requires room { used self.old.store.log + scope.old.left < area_size self.old.store.log }
@@ -163,10 +182,18 @@ impl<D: Device> Operations<D> {
     /// Ends an operation that is ready: its locks are given back. It takes no memory.
     pub fn end(&mut self, scope: OpScope)
         requires ready { scope.stage ≡ Ready }
-        requires right { ∥ ((opening : PageBytes) × (relations : ℕ) × (counters : ℕ) × IsRight D.seen D.may_leave opening relations counters self.old × IsUnderWay relations counters (world D.seen opening self.old) scope) ∥₁ }
-        ensures right { (opening : PageBytes) (relations counters : ℕ) → IsRight D.seen D.may_leave opening relations counters self.old → IsUnderWay relations counters (world D.seen opening self.old) scope → IsRight D.seen D.may_leave opening relations counters self.new }
-        ensures held { (opening : PageBytes) → held_in (world D.seen opening self.new) ≡ held_in (world D.seen opening self.old) }
-        ensures others { (opening : PageBytes) (relations counters : ℕ) (u : OpScope) → IsUnderWay relations counters (world D.seen opening self.old) u → u.number ≢ scope.number → IsUnderWay relations counters (world D.seen opening self.new) u }
+        requires right { ∥ ((opening : PageBytes) × (relations : ℕ) × (counters : ℕ)
+            × IsRight D.seen D.may_leave opening relations counters self.old
+            × IsUnderWay relations counters (world D.seen opening self.old) scope) ∥₁ }
+        ensures right { (opening : PageBytes) (relations counters : ℕ)
+            → IsRight D.seen D.may_leave opening relations counters self.old
+            → IsUnderWay relations counters (world D.seen opening self.old) scope
+            → IsRight D.seen D.may_leave opening relations counters self.new }
+        ensures held { (opening : PageBytes) → held_in (world D.seen opening self.new) ≡ held_in
+            (world D.seen opening self.old) }
+        ensures others { (opening : PageBytes) (relations counters : ℕ) (u : OpScope)
+            → IsUnderWay relations counters (world D.seen opening self.old) u → u.number ≢ scope.number
+            → IsUnderWay relations counters (world D.seen opening self.new) u }
         ensures locks { self.new.locks ≡ locks_without scope.number self.old.locks }
         ensures store { self.new.store ≡ self.old.store }
         ensures claimed { claimed self.new ≡ claimed self.old }
@@ -178,10 +205,18 @@ impl<D: Device> Operations<D> {
     /// takes no memory.
     pub fn drop_out(&mut self, scope: OpScope)
         requires cleared { scope.stage ≡ Cleared }
-        requires right { ∥ ((opening : PageBytes) × (relations : ℕ) × (counters : ℕ) × IsRight D.seen D.may_leave opening relations counters self.old × IsUnderWay relations counters (world D.seen opening self.old) scope) ∥₁ }
-        ensures right { (opening : PageBytes) (relations counters : ℕ) → IsRight D.seen D.may_leave opening relations counters self.old → IsUnderWay relations counters (world D.seen opening self.old) scope → IsRight D.seen D.may_leave opening relations counters self.new }
-        ensures held { (opening : PageBytes) → held_in (world D.seen opening self.new) ≡ held_in (world D.seen opening self.old) }
-        ensures others { (opening : PageBytes) (relations counters : ℕ) (u : OpScope) → IsUnderWay relations counters (world D.seen opening self.old) u → u.number ≢ scope.number → IsUnderWay relations counters (world D.seen opening self.new) u }
+        requires right { ∥ ((opening : PageBytes) × (relations : ℕ) × (counters : ℕ)
+            × IsRight D.seen D.may_leave opening relations counters self.old
+            × IsUnderWay relations counters (world D.seen opening self.old) scope) ∥₁ }
+        ensures right { (opening : PageBytes) (relations counters : ℕ)
+            → IsRight D.seen D.may_leave opening relations counters self.old
+            → IsUnderWay relations counters (world D.seen opening self.old) scope
+            → IsRight D.seen D.may_leave opening relations counters self.new }
+        ensures held { (opening : PageBytes) → held_in (world D.seen opening self.new) ≡ held_in
+            (world D.seen opening self.old) }
+        ensures others { (opening : PageBytes) (relations counters : ℕ) (u : OpScope)
+            → IsUnderWay relations counters (world D.seen opening self.old) u → u.number ≢ scope.number
+            → IsUnderWay relations counters (world D.seen opening self.new) u }
         ensures locks { self.new.locks ≡ locks_without scope.number self.old.locks }
         ensures store { self.new.store ≡ self.old.store }
         ensures claimed { claimed self.new ≡ claimed self.old }
@@ -192,7 +227,8 @@ impl<D: Device> Operations<D> {
     // Gives the operation's locks back, and spends it.
     fn release(&mut self, scope: OpScope)
         requires locks { locks_of scope.number self.old.locks ≡ scope.guards.items }
-        ensures leaves { (opening : PageBytes) → Leaves (world D.seen opening self.old) (world D.seen opening self.new) scope }
+        ensures leaves { (opening : PageBytes) → Leaves (world D.seen opening self.old) (world D.seen opening self.new)
+            scope }
         ensures locks { self.new.locks ≡ locks_without scope.number self.old.locks }
         ensures store { self.new.store ≡ self.old.store }
         ensures map { self.new.map ≡ self.old.map }

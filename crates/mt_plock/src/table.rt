@@ -1,4 +1,4 @@
-ghost use Rattle.std.specs.Prelude.{◌≡◌, ◌≢◌, ◌↔◌, [], ℕ, IsTrue, false, Some, MatchOption, IfOk, IfErr, OnErr, All, Any, Contains};
+ghost use Rattle.std.specs.Prelude.{◌≡◌, ◌≢◌, ◌↔◌, [], ℕ, IsTrue, false, Some, MatchOption, IfOk, IfErr, OnErr, All, Contains};
 ghost use Rattle.mt_plock.specs.Holding.{lock_of, is_in_way, lesser_of, IsLeastHolder, IsAnswered, AreTogether};
 ghost use Rattle.mt_plock.specs.Releasing.{IsLastAt, GivesBack, GivesBackEach, locks_of, locks_without};
 
@@ -151,14 +151,5 @@ impl PageLocks {
         ensures { IsTrue result ↔ All (λ lock. lock.page ≢ page) self.now }
     {
         self.locks.iter().all(|lock| lock.page != page)
-    }
-
-    /// Whether the operation holds a lock on the page.
-    pub fn is_held_by(&self, page: PageNo, op: OpNo) -> bool
-        ensures { IsTrue result ↔ Any (λ lock. (lock.page ≡ page) × (lock.op ≡ op)) self.now }
-    {
-        self.locks
-            .iter()
-            .any(|lock| lock.page == page && lock.op == op)
     }
 }

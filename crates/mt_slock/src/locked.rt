@@ -52,7 +52,8 @@ impl LockedObjects {
 
     /// The oldest of the other transactions that hold an object in a mode that conflicts with this one.
     pub fn barring(&self, txn: TxnNo, object: &Object, mode: LockMode) -> Option<TxnNo>
-        ensures { MatchOption result (IsFree (held_of self.now) txn object.now mode) (IsLeastBar (held_of self.now) txn object.now mode) }
+        ensures { MatchOption result (IsFree (held_of self.now) txn object.now mode)
+            (IsLeastBar (held_of self.now) txn object.now mode) }
     {
         match self.holders.get(object) {
             Some(holders) => holders.barring(txn, mode),

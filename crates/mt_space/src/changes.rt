@@ -37,9 +37,12 @@ impl Changes {
     pub fn note(&mut self, page: PageNo, old: &[u8], new: &[u8]) -> Result<(), AllocError>
         requires old_whole { length old.now ≡ 4096 }
         requires new_whole { length new.now ≡ 4096 }
-        ensures noted { OnOk result ((pages : PageBytes) → after self.old.list.items pages page ≡ old.now → after self.new.list.items pages ≡ replaced page new.now (after self.old.list.items pages)) }
-        ensures short { OnOk result ((pages : PageBytes) → pages page ≡ old.now → IsUntouched self.old.list.items page → AreShort self.old.list.items pages → AreShort self.new.list.items pages) }
-        ensures others { OnOk result ((p : ℕ) → p ≢ page → IsUntouched self.old.list.items p → IsUntouched self.new.list.items p) }
+        ensures noted { OnOk result ((pages : PageBytes) → after self.old.list.items pages page ≡ old.now
+            → after self.new.list.items pages ≡ replaced page new.now (after self.old.list.items pages)) }
+        ensures short { OnOk result ((pages : PageBytes) → pages page ≡ old.now → IsUntouched self.old.list.items page
+            → AreShort self.old.list.items pages → AreShort self.new.list.items pages) }
+        ensures others { OnOk result ((p : ℕ) → p ≢ page → IsUntouched self.old.list.items p
+            → IsUntouched self.new.list.items p) }
         ensures count { OnOk result (length self.new.list.items ≤ length self.old.list.items + 1) }
         ensures same { OnOk result (new.now ≡ old.now → self.new ≡ self.old) }
     {

@@ -15,7 +15,8 @@ pub trait Pages {
     ghost at_hand: { Self → ℕ → Option (List ℕ) };
 
     /// A page that is at hand is whole.
-    ghost whole: { (pages : Self) → is_sound pages → (p : ℕ) (bytes : List ℕ) → at_hand pages p ≡ Some bytes → length bytes ≡ 4096 };
+    ghost whole: { (pages : Self) → is_sound pages → (p : ℕ) (bytes : List ℕ) → at_hand pages p ≡ Some bytes
+        → length bytes ≡ 4096 };
 
     /// How many pages there are.
     fn count(&self) -> u16

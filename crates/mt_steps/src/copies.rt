@@ -61,7 +61,8 @@ impl Pages for Copies {
     ghost use Rattle.std.specs.Prelude.{◌≡◌, ℕ, List, length, Some};
     ghost use Rattle.mt_steps.specs.Drafts.{copied};
 
-    ghost is_sound = { λ copies. (p : ℕ) (bytes : List ℕ) → copied copies.list.items p ≡ Some bytes → length bytes ≡ 4096 };
+    ghost is_sound = { λ copies. (p : ℕ) (bytes : List ℕ) → copied copies.list.items p ≡ Some bytes
+        → length bytes ≡ 4096 };
 
     ghost total = { λ copies. copies.total };
 

@@ -10,7 +10,7 @@ use std::alloc::{AllocError, Global};
 
 // A page's bytes as they will be.
 #[derive(Drop)]
-pub struct PageCopy {
+pub(crate) struct PageCopy {
     pub(crate) page: PageNo,
     pub(crate) bytes: [u8; 4096],
 }
@@ -19,14 +19,14 @@ pub struct PageCopy {
 /// all pages as they are. An operation that plans twice makes its second plan over a draft with the
 /// changes of the first. It is for the few pages of one operation: a copy is found by a walk over all.
 #[derive(Drop)]
-pub struct Draft<'a, V: Pages> {
+pub(crate) struct Draft<'a, V: Pages> {
     views: &'a V,
     copies: Vec<PageCopy>,
 }
 
 impl<'a, V: Pages> Draft<'a, V> {
     /// The pages as they are: no change is made so far.
-    pub fn new(alloc: Global, views: &'a V) -> Draft<'a, V>
+    pub(crate) fn new(alloc: Global, views: &'a V) -> Draft<'a, V>
         ensures none { result.copies.items ≡ [] }
         ensures views { result.views.now ≡ views.now }
     {
@@ -40,7 +40,7 @@ impl<'a, V: Pages> Draft<'a, V> {
     /// to be at hand, which [`first_missing`] tells, and each edit to lie within its page, as it does in
     /// the changes that a plan answers. The only error is want of memory: a first part of the changes is
     /// made then, and the draft is still sound.
-    pub fn apply(&mut self, changes: &Changes) -> Result<(), AllocError>
+    pub(crate) fn apply(&mut self, changes: &Changes) -> Result<(), AllocError>
         requires sound { V.is_sound self.old.views.now }
         requires copies { AreCopies (V.at_hand self.old.views.now) self.old.copies.items }
         requires there { AreAtHand (shown self.old.copies.items (V.at_hand self.old.views.now)) changes.now.list.items }
@@ -88,7 +88,7 @@ impl<'a, V: Pages> Draft<'a, V> {
 
     /// What all changes so far come to, against the pages as they are: one list that names each page once,
     /// and none that is as before. The only error is want of memory.
-    pub fn changes(&self) -> Result<Changes, AllocError>
+    pub(crate) fn changes(&self) -> Result<Changes, AllocError>
         requires sound { V.is_sound self.now.views.now }
         requires copies { AreCopies (V.at_hand self.now.views.now) self.now.copies.items }
         ensures made { IfOk result (λ changes. (pages : PageBytes) → Agrees (V.at_hand self.now.views.now) pages →
@@ -119,7 +119,8 @@ impl<'a, V: Pages> Pages for Draft<'a, V> {
 
     ghost at_hand = { λ draft. shown draft.copies.items (V.at_hand draft.views.now) };
 
-    ghost whole = { λ draft sound. shown_whole draft.copies.items (V.at_hand draft.views.now) sound.1 (V.whole draft.views.now sound.0) };
+    ghost whole = { λ draft sound. shown_whole draft.copies.items (V.at_hand draft.views.now) sound.1
+        (V.whole draft.views.now sound.0) };
 
     fn count(&self) -> u16 {
         self.views.count()
@@ -135,7 +136,7 @@ impl<'a, V: Pages> Pages for Draft<'a, V> {
 
 /// The first page of these changes that is not at hand, so that it has to be seen before a draft takes
 /// them; `None` where each is.
-pub fn first_missing<V: Pages>(views: &V, changes: &Changes) -> Option<PageNo>
+pub(crate) fn first_missing<V: Pages>(views: &V, changes: &Changes) -> Option<PageNo>
     requires sound { V.is_sound views.now }
     ensures some { IfSome result (λ p. V.at_hand views.now p ≡ None) }
     ensures named { IfSome result (λ p. IsUntouched changes.now.list.items p → ⊥) }
@@ -151,7 +152,7 @@ pub fn first_missing<V: Pages>(views: &V, changes: &Changes) -> Option<PageNo>
 
 /// Two plans' changes as one list, of which the second plan was made over the changes of the first. Each
 /// page that changes is to be at hand. The only error is want of memory.
-pub fn merged<V: Pages>(
+pub(crate) fn merged<V: Pages>(
     alloc: Global,
     views: &V,
     first: &Changes,

@@ -20,7 +20,6 @@ mod updating;
 pub use act::Act;
 pub use copies::Copies;
 pub use counters::{SchemaSizes, add, check, counter, sizes};
-pub use draft::{Draft, first_missing, merged};
 pub use laws::formatted_pages_are_good;
 pub use logging::logged;
 pub use planning::{pages_for, plan};

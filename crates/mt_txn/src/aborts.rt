@@ -25,7 +25,8 @@ fn inverse_at(live: &Live, at: usize) -> Result<Op, Refusal>
     requires within { at < length live.now.calls }
     requires effect { (c : Call) → c ≡ slice_index_or live.now.calls at c → IsSome (inverse_of c.0 c.1) }
     requires sized { (c : Call) → c ≡ slice_index_or live.now.calls at c → IsWithin 64 128 c.0 }
-    ensures inverse { IfOk result (λ op. (c : Call) → c ≡ slice_index_or live.now.calls at c → Some op ≡ inverse_of c.0 c.1) }
+    ensures inverse { IfOk result (λ op. (c : Call) → c ≡ slice_index_or live.now.calls at c
+        → Some op ≡ inverse_of c.0 c.1) }
     ensures only_memory { IfErr result (λ why. why ≡ Refusal.NoMemory) }
 {
     let (op, reply) = &live.calls[at];
@@ -80,7 +81,8 @@ impl<D: Device> Kernel<D> {
         requires within { place < length self.old.live.items }
         requires runs { (l : Party) → l ≡ slice_index_or self.old.live.items place l → IsSome l.running }
         ensures device { self.new.device ≡ self.old.device }
-        ensures given_up { (l : Party) → l ≡ slice_index_or self.old.live.items place l → HasGivenUp (state_of self.old) place l (state_of self.new) }
+        ensures given_up { (l : Party) → l ≡ slice_index_or self.old.live.items place l
+            → HasGivenUp (state_of self.old) place l (state_of self.new) }
     {
         let given_back = self.live[place].give_up();
         self.reserved -= given_back;
@@ -91,7 +93,8 @@ impl<D: Device> Kernel<D> {
         requires within { place < length self.old.live.items }
         requires idle { (l : Party) → l ≡ slice_index_or self.old.live.items place l → l.running ≡ None }
         requires call { (l : Party) → l ≡ slice_index_or self.old.live.items place l → IsLastEffect l at }
-        ensures undone { OnOk result ((l : Party) → l ≡ slice_index_or self.old.live.items place l → HasUndone (state_of self.old) place l (state_of self.new)) }
+        ensures undone { OnOk result ((l : Party) → l ≡ slice_index_or self.old.live.items place l
+            → HasUndone (state_of self.old) place l (state_of self.new)) }
         ensures device { self.new.device ≡ self.old.device }
         ensures err { OnErr result (state_of self.new ≡ state_of self.old) }
         ensures only_memory { IfErr result (λ why. why ≡ Refusal.NoMemory) }
@@ -108,7 +111,8 @@ impl<D: Device> Kernel<D> {
         requires within { place < length self.old.live.items }
         requires idle { (l : Party) → l ≡ slice_index_or self.old.live.items place l → l.running ≡ None }
         requires nothing { (l : Party) → l ≡ slice_index_or self.old.live.items place l → effects l.calls ≡ 0 }
-        ensures left { OnOk result ((l : Party) → l ≡ slice_index_or self.old.live.items place l → HasLeft (state_of self.old) place l (state_of self.new)) }
+        ensures left { OnOk result ((l : Party) → l ≡ slice_index_or self.old.live.items place l
+            → HasLeft (state_of self.old) place l (state_of self.new)) }
         ensures device { self.new.device ≡ self.old.device }
         ensures err { OnErr result (state_of self.new ≡ state_of self.old) }
         ensures only_memory { IfErr result (λ why. why ≡ Refusal.NoMemory) }
@@ -131,7 +135,8 @@ impl<D: Device> Kernel<D> {
         ensures may { OnOk result (abort_cause (state_of self.old) txn ≡ None) }
         ensures stepped { IfOk result (λ stepped. IsAbortStepped (state_of self.old) txn stepped (state_of self.new)) }
         ensures undo { IfOk result (λ stepped. KeepsAbortUndo (state_of self.old) txn stepped (state_of self.new)) }
-        ensures work { IfOk result (λ stepped. LowersAbortWork stepped (work_left (state_of self.old) txn) (work_left (state_of self.new) txn)) }
+        ensures work { IfOk result (λ stepped. LowersAbortWork stepped (work_left (state_of self.old) txn)
+            (work_left (state_of self.new) txn)) }
         ensures kept { OnOk result (IsSingle (state_of self.old) → Keeps (state_of self.old) (state_of self.new)) }
         ensures device { self.new.device ≡ self.old.device }
         ensures err { OnErr result (state_of self.new ≡ state_of self.old) }

@@ -48,7 +48,8 @@ impl<D: Device> Kernel<D> {
         ensures begun { OnOk result (IsBegun (state_of self.old) session (state_of self.new)) }
         ensures kept { OnOk result (Keeps (state_of self.old) (state_of self.new)) }
         ensures undo { OnOk result (KeepsUndo Whoever (state_of self.old) (state_of self.new)) }
-        ensures fresh_undo { IfOk result (λ txn. (x : Object) → UndoesTo txn x (state_of self.old).held (state_of self.new)) }
+        ensures fresh_undo { IfOk result
+            (λ txn. (x : Object) → UndoesTo txn x (state_of self.old).held (state_of self.new)) }
         ensures device { self.new.device ≡ self.old.device }
         ensures err { OnErr result (state_of self.new ≡ state_of self.old) }
     {

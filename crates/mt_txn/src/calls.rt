@@ -130,7 +130,8 @@ impl<D: Device> Kernel<D> {
         ensures cause { result ≡ operation_cause (state_of self.now) op.now }
         ensures named { IfNone result (IsNamed (relations_of self.now.base) (length (counters_of self.now.base)) op.now) }
         ensures sized { IfNone result (IsSized op.now) }
-        ensures room { IfNone result (used self.now.log + self.now.reserved + log_need_of op.now < area_size self.now.log) }
+        ensures room { IfNone result (used self.now.log + self.now.reserved + log_need_of op.now < area_size
+            self.now.log) }
     {
         if let Some(why) = name_cause(&self.base, op) {
             return Some(why);
@@ -155,7 +156,8 @@ impl<D: Device> Kernel<D> {
         ensures may { OnOk result (call_cause (state_of self.now) txn op.now ≡ None) }
         ensures place { IfOk result (λ i. place_in self.now.live.items txn ≡ Some i) }
         ensures within { IfOk result (λ i. i < length self.now.live.items) }
-        ensures started { IfOk result (λ i. (l : Party) → l ≡ slice_index_or self.now.live.items i l → (l.started < 256) × (l.running ≡ None)) }
+        ensures started { IfOk result (λ i. (l : Party) → l ≡ slice_index_or self.now.live.items i l → (l.started < 256)
+            × (l.running ≡ None)) }
         ensures named { OnOk result (IsNamed (relations_of self.now.base) (length (counters_of self.now.base)) op.now) }
         ensures sized { OnOk result (IsSized op.now) }
         ensures room { OnOk result (used self.now.log + self.now.reserved + log_need_of op.now < area_size self.now.log) }
@@ -198,11 +200,13 @@ impl<D: Device> Kernel<D> {
     // Enters the operation, with the next number, as the one under way of the transaction at this place.
     fn enter(&mut self, place: usize, op: Op) -> Result<(), Refusal>
         requires within { place < length self.old.live.items }
-        requires idle { (l : Party) → l ≡ slice_index_or self.old.live.items place l → (l.started < 256) × (l.running ≡ None) }
+        requires idle { (l : Party) → l ≡ slice_index_or self.old.live.items place l → (l.started < 256)
+            × (l.running ≡ None) }
         requires named { IsNamed (relations_of self.old.base) (length (counters_of self.old.base)) op }
         requires sized { IsSized op }
         requires room { used self.old.log + self.old.reserved + log_need_of op < area_size self.old.log }
-        ensures entered { OnOk result ((l : Party) → l ≡ slice_index_or self.old.live.items place l → HasEntered (state_of self.old) place l op (state_of self.new)) }
+        ensures entered { OnOk result ((l : Party) → l ≡ slice_index_or self.old.live.items place l
+            → HasEntered (state_of self.old) place l op (state_of self.new)) }
         ensures device { self.new.device ≡ self.old.device }
         ensures err { OnErr result (state_of self.new ≡ state_of self.old) }
         ensures only_memory { IfErr result (λ why. why ≡ Refusal.NoMemory) }

@@ -43,9 +43,12 @@ fn settle(
     requires names { vec_len names.old + length committing.old.items ≤ vec_capacity names.old }
     requires small { sum_by (λ (c : Committing). c.reserved) committing.old.items < 2 ^ 64 }
     ensures left { committing.new.items ≡ drop (durable_count committing.old.items place) committing.old.items }
-    ensures book { book.new.items ≡ book.old.items ++ map committed_of (take (durable_count committing.old.items place) committing.old.items) }
-    ensures names { names.new.items ≡ names.old.items ++ map (λ (c : Committing). c.number) (take (durable_count committing.old.items place) committing.old.items) }
-    ensures reserved { result ≡ sum_by (λ (c : Committing). c.reserved) (take (durable_count committing.old.items place) committing.old.items) }
+    ensures book { book.new.items ≡ book.old.items ++ map committed_of
+        (take (durable_count committing.old.items place) committing.old.items) }
+    ensures names { names.new.items ≡ names.old.items ++ map (λ (c : Committing). c.number)
+        (take (durable_count committing.old.items place) committing.old.items) }
+    ensures reserved { result ≡ sum_by (λ (c : Committing). c.reserved)
+        (take (durable_count committing.old.items place) committing.old.items) }
     ensures within { durable_count committing.old.items place ≤ length committing.old.items }
     ensures shelf { vec_len book.new + length committing.new.items ≤ vec_capacity book.new }
 {
@@ -123,7 +126,8 @@ impl<D: Device> Kernel<D> {
         ensures kept { OnOk result (Keeps (state_of self.old) (state_of self.new)) }
         ensures undo { OnOk result (KeepsUndo Whoever (state_of self.old) (state_of self.new)) }
         // 2 comes from a fault of the device, in this call or in an earlier one, and stays for good
-        ensures fault { IsErrOf result Refusal.DeviceFailed → (D.faults self.old.device < D.faults self.new.device) ⊎ ((state_of self.old).failed ≡ true) }
+        ensures fault { IsErrOf result Refusal.DeviceFailed → (D.faults self.old.device < D.faults self.new.device)
+            ⊎ ((state_of self.old).failed ≡ true) }
         ensures stopped { IsErrOf result Refusal.DeviceFailed → HasFailed (state_of self.old) (state_of self.new) }
         ensures for_good { (state_of self.old).failed ≡ true → IsErrOf result Refusal.DeviceFailed }
         ensures well { OnOk result ((state_of self.new).failed ≡ false) }

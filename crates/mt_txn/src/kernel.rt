@@ -33,7 +33,8 @@ pub struct Kernel<D: Device> {
     pub(crate) begun: u64,
     pub(crate) operations: u64,
     pub(crate) reserved: u64,
-    ghost sound: { IsSound (used log) (area_size log) reserved begun operations (length book.items) live.items committing.items },
+    ghost sound: { IsSound (used log) (area_size log) reserved begun operations (length book.items)
+        live.items committing.items },
     ghost parties: { All (IsParty (relations_of base) (length (counters_of base))) live.items } by { AllParties-prop (relations_of base) (length (counters_of base)) live.items },
     ghost values: { HasSmallValues (base_of base) },
     // the log is on the device

@@ -136,7 +136,8 @@ impl Live {
     pub fn last_effect(&self) -> Option<usize>
         ensures none { IfNone result (effects self.now.calls ≡ 0) }
         ensures within { IfSome result (λ i. i < length self.now.calls) }
-        ensures effect { IfSome result (λ i. (c : Op × Reply) → c ≡ slice_index_or self.now.calls i c → IsSome (inverse_of c.0 c.1)) }
+        ensures effect { IfSome result (λ i. (c : Op × Reply) → c ≡ slice_index_or self.now.calls i c
+            → IsSome (inverse_of c.0 c.1)) }
         ensures last { IfSome result (λ i. effects self.now.calls ≡ effects (take i self.now.calls) + 1) }
     {
         last_effect(&self.calls)
@@ -171,7 +172,8 @@ pub struct Committing {
 fn last_effect(calls: &[(Op, Reply)]) -> Option<usize>
     ensures none { IfNone result (effects calls.now ≡ 0) }
     ensures within { IfSome result (λ i. i < length calls.now) }
-    ensures effect { IfSome result (λ i. (c : Op × Reply) → c ≡ slice_index_or calls.now i c → IsSome (inverse_of c.0 c.1)) }
+    ensures effect { IfSome result (λ i. (c : Op × Reply) → c ≡ slice_index_or calls.now i c
+        → IsSome (inverse_of c.0 c.1)) }
     ensures last { IfSome result (λ i. effects calls.now ≡ effects (take i calls.now) + 1) }
 {
     let mut left = calls.len();

@@ -95,7 +95,8 @@ impl<D: Device> Kernel<D> {
     fn ending(&self, place: usize) -> Result<Ending, Refusal>
         requires within { place < length self.now.live.items }
         requires running { (l : Party) → l ≡ slice_index_or self.now.live.items place l → IsSome l.running }
-        ensures ending { IfOk result (IsEnding (base_of self.now.base) (used self.now.log) self.now.reserved (area_size self.now.log) self.now.live.items place) }
+        ensures ending { IfOk result (IsEnding (base_of self.now.base) (used self.now.log) self.now.reserved
+            (area_size self.now.log) self.now.live.items place) }
         ensures only_memory { IfErr result (λ why. why ≡ Refusal.NoMemory) }
     {
         let live = &self.live[place];
@@ -127,9 +128,11 @@ impl<D: Device> Kernel<D> {
     fn finish(&mut self, place: usize, ending: Ending) -> Result<Stepped, Refusal>
         requires within { place < length self.old.live.items }
         requires running { (l : Party) → l ≡ slice_index_or self.old.live.items place l → IsSome l.running }
-        requires ending { IsEnding (base_of self.old.base) (used self.old.log) self.old.reserved (area_size self.old.log) self.old.live.items place ending }
+        requires ending { IsEnding (base_of self.old.base) (used self.old.log) self.old.reserved
+            (area_size self.old.log) self.old.live.items place ending }
         requires room { 2144 ≤ room self.old.log }
-        ensures ended { OnOk result ((l : Party) (r : Running) → IsUnderWay self.old.live.items place l r → IsFinished (state_of self.old) place l r ending.reply (state_of self.new)) }
+        ensures ended { OnOk result ((l : Party) (r : Running) → IsUnderWay self.old.live.items place l r
+            → IsFinished (state_of self.old) place l r ending.reply (state_of self.new)) }
         ensures answer { IfOk result (λ stepped. stepped ≡ Stepped.Replied ending.reply) }
         ensures device { self.new.device ≡ self.old.device }
         ensures err { OnErr result (state_of self.new ≡ state_of self.old) }
@@ -153,7 +156,8 @@ impl<D: Device> Kernel<D> {
         ensures may { OnOk result (step_cause (state_of self.old) txn ≡ None) }
         ensures ended { IfOk result (λ stepped. IsStepped (state_of self.old) txn stepped (state_of self.new)) }
         ensures undo { OnOk result (KeepsUndo (IsApart (state_of self.old) txn) (state_of self.old) (state_of self.new)) }
-        ensures work { IfOk result (λ stepped. LowersWork stepped (work_left (state_of self.old) txn) (work_left (state_of self.new) txn)) }
+        ensures work { IfOk result (λ stepped. LowersWork stepped (work_left (state_of self.old) txn)
+            (work_left (state_of self.new) txn)) }
         ensures kept { OnOk result (IsSingle (state_of self.old) → Keeps (state_of self.old) (state_of self.new)) }
         ensures device { self.new.device ≡ self.old.device }
         ensures err { OnErr result (state_of self.new ≡ state_of self.old) }

@@ -13,10 +13,13 @@ fn grants(rt: &impl Abort, locks: &mut PageLocks, op: u64, page: u16, mode: Mode
 
 /// Asks for a write that is not to be granted: whether to wait, or else to begin again, and who is in the way.
 fn barred(rt: &impl Abort, locks: &mut PageLocks, op: u64, page: u16) -> (bool, u64) {
-    match locks.ask(OpNo::new(op), PageNo::new(page), Mode::Write) {
-        Ok(Asked::Wait(holder)) => (true, holder.get()),
-        Ok(Asked::Again(holder)) => (false, holder.get()),
-        _ => panic!(rt; "{op} {page}: not barred"),
+    let Ok(asked) = locks.ask(OpNo::new(op), PageNo::new(page), Mode::Write) else {
+        panic!(rt; "no memory")
+    };
+    match asked {
+        Asked::Wait(holder) => (true, holder.get()),
+        Asked::Again(holder) => (false, holder.get()),
+        Asked::Granted(_guard) => panic!(rt; "{op} {page}: granted"),
     }
 }
 

@@ -215,7 +215,7 @@ fn younger_gives_way(
     let half = go(rt, alloc, operations, &mut older, 1);
     assert!(rt; matches!(half, Stepped::Went));
     let met = go(rt, alloc, operations, &mut younger, usize::MAX);
-    assert!(rt; matches!(met, Stepped::Again(number) if number == older.number()));
+    assert!(rt; matches!(met, Stepped::Again(number) if number.get() == older.number().get()));
     drop_out(rt, operations, younger);
     finish(rt, alloc, operations, older)
 }

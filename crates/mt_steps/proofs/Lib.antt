@@ -18,3 +18,4 @@ mod Modest
 pub mod Formatting
 mod Telling
 mod LoggedOps
+mod Undoing

@@ -131,6 +131,14 @@ counts_planned split relations counters total number at_hand room op op2 act sam
     let done = acts pages agrees good.meaning good.rows counters there good.counts in
     planned relations counters total at_hand pages changes op split reply good done.0 done.1 (modest_any at_hand total (own_needs op split) split pages (after changes pages) (modest pages agrees good.meaning good.rows))) acts modest)
 
+-- of an operation that reads a counter
+pub read_planned : (split : Bool) (relations counters total number : ℕ) (at_hand : ℕ → Option (List ℕ)) (room : Option ℕ) (op op2 : Op) (act : Act) → op ≡ op2 → number < counters
+    → IfMade act (λ changes reply. InGood at_hand relations total (λ pages m. (counters : ℕ) → number < counters → AreCounters relations counters (pages 2) → IsAct relations total pages (after changes pages) op reply × AreShort changes pages))
+    → IfMade act (λ changes reply. changes ≡ []) → Promises split relations counters total at_hand room op2 act
+read_planned split relations counters total number at_hand room op op2 act same there acts quiet =
+    counts_planned split relations counters total number at_hand room op op2 act same there acts
+    (made_weaker act _ _ (λ changes reply none pages agrees m rows. modest_nothing at_hand total (own_needs op split) false pages changes none) quiet)
+
 -- ---- too little room
 
 pub full_weaker : (act : Act) (P Q : Type 0) → (P → Q) → IfFull act P → IfFull act Q

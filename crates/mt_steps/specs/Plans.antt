@@ -12,7 +12,7 @@ use Rattle.mt_file.specs.Plans.{IsNamed}
 use Rattle.mt_file.specs.Rooms.{fits_of}
 use Rattle.mt_index.specs.Maps.{Map}
 use Rattle.mt_model.specs.declared.operations.Op.{Op}
-use Rattle.mt_model.specs.declared.operations.Op.TheVariants.{Get, Insert, Update, Add, Read}
+use Rattle.mt_model.specs.declared.operations.Op.TheVariants.{Get, Insert, Update, Delete, Add, Read}
 use Rattle.mt_model.specs.declared.operations.Reply.{Reply}
 use Rattle.mt_model.specs.Model.{Base, reply_of, base_after}
 use Rattle.mt_steps.specs.Counters.{AreCounters}
@@ -40,6 +40,12 @@ abbrev pub own_needs : Op → Bool → ℕ
 own_needs (Insert r k v) split = cond split 3 2
 own_needs (Update r k v) split = 1
 own_needs _ split = 0
+
+-- free pages that the operation may take that takes one back
+abbrev pub undo_pages : Op → ℕ
+undo_pages (Update r k v) = 1
+undo_pages (Delete r k) = 2
+undo_pages _ = 0
 
 -- the bytes of the record that an operation puts
 abbrev pub record_bytes : Op → ℕ

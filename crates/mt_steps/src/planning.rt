@@ -1,10 +1,12 @@
 // Any operation.
-ghost use Rattle.std.specs.Prelude.{◌≡◌, ◌⊎◌, ◌<◌, ◌≤◌, ℕ, [], length, None, IfOk};
+ghost use Rattle.std.specs.Prelude.{◌≡◌, ◌⊎◌, ◌<◌, ◌≤◌, ℕ, [], length, false, None, Some, IfOk};
 ghost use Rattle.mt_base.specs.declared.modes.Mode.TheVariants.{Read as ToRead};
-ghost use Rattle.mt_model.specs.Model.{IsWithin};
+ghost use Rattle.mt_model.specs.Model.{IsWithin, inverse_of};
+ghost use Rattle.mt_model.specs.declared.operations.Op.{Op};
+ghost use Rattle.mt_model.specs.declared.operations.Reply.{Reply};
 ghost use Rattle.mt_steps.specs.Drafts.{AreAtHand};
 ghost use Rattle.mt_steps.specs.Acts.{IfLock, IfMade, IfFull, IfBroken};
-ghost use Rattle.mt_steps.specs.Plans.{free_pages, own_needs, record_bytes, AsksCounters, IsReading, IsTight, HasPages, InPages, IsPlanned};
+ghost use Rattle.mt_steps.specs.Plans.{free_pages, own_needs, undo_pages, record_bytes, AsksCounters, IsReading, IsTight, HasPages, InPages, IsPlanned};
 ghost use Rattle.mt_steps.specs.Logged.{logged_of};
 
 use crate::act::Act;
@@ -14,7 +16,9 @@ use crate::getting::get;
 use crate::inserting::insert;
 use crate::updating::update;
 use mt_base::PageNo;
-use mt_base::limits::{INSERT_PAGES, UNSPLIT_INSERT_PAGES, UPDATE_PAGES};
+use mt_base::limits::{
+    DELETE_INVERSE_PAGES, INSERT_PAGES, UNSPLIT_INSERT_PAGES, UPDATE_INVERSE_PAGES, UPDATE_PAGES,
+};
 use mt_model::Op;
 use mt_space::Pages;
 use std::alloc::{AllocError, Global};
@@ -91,6 +95,19 @@ pub fn pages_for(op: &Op, split: bool) -> u16
         Op::Insert(_, _, _) if split => INSERT_PAGES,
         Op::Insert(_, _, _) => UNSPLIT_INSERT_PAGES,
         Op::Update(_, _, _) => UPDATE_PAGES,
+        _ => 0,
+    }
+}
+
+/// How many free pages the inverse of an operation may take, which splits no bucket of the index.
+pub fn pages_to_undo(op: &Op) -> u16
+    ensures pages { result ≡ undo_pages op.now }
+    ensures enough { (reply : Reply) (inverse : Op) → inverse_of op.now reply ≡ Some inverse →
+        own_needs inverse false ≤ undo_pages op.now }
+{
+    match op {
+        Op::Update(_, _, _) => UPDATE_INVERSE_PAGES,
+        Op::Delete(_, _) => DELETE_INVERSE_PAGES,
         _ => 0,
     }
 }

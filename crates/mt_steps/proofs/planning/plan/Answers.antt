@@ -1,9 +1,9 @@
-use Rattle.std.proofs.Common.{◌≡◌, ◌∙◌, sym, ap, subst, rules, to_z, of_z, to_z-of_z, SFits, w64}
+use Rattle.std.proofs.Common.{◌≡◌, ◌<◌, ◌∙◌, sym, ap, subst, rules, to_z, of_z, to_z-of_z, SFits, w64}
 use Rattle.std.proofs.lemmas.Result.{IfOk-weaker}
 use Rattle.mt_model.specs.declared.operations.Op.{Op}
 use Rattle.mt_model.specs.declared.operations.Op.TheVariants.{Get, Insert, Update, Delete, Add, Read}
 use Rattle.mt_model.specs.Model.{IsWithin}
-use Rattle.mt_steps.proofs.Promised.{ok_both, rows_planned, whole_planned, good_planned, quiet_planned, counts_planned, rows_full, never_full}
+use Rattle.mt_steps.proofs.Promised.{ok_both, rows_planned, whole_planned, good_planned, quiet_planned, counts_planned, read_planned, rows_full, never_full}
 use Rattle.mt_steps.proofs.planning.plan.Goals as goal
 
 pub returns-in-Get-clause-made : goal.returns-in-Get-clause-made
@@ -49,7 +49,8 @@ returns-in-Add-clause-made g c = λ relations counters few within.
 
 pub returns-in-Read-clause-made : goal.returns-in-Read-clause-made
 returns-in-Read-clause-made g c = λ relations counters few within.
-    quiet_planned c.args.split relations counters (g.V.Pages.total c.args.views.now) (g.V.Pages.at_hand c.args.views.now) c.args.room (Read c.in-Read.counter) c.args.op.now c.read_from.result (sym c.in-Read.is) (c.read_from.ensures.made relations) c.read_from.ensures.quiet
+    let inside : c.in-Read.counter < counters = subst (λ (o : Op). IsWithin relations counters o) c.in-Read.is within in
+    read_planned c.args.split relations counters (g.V.Pages.total c.args.views.now) c.in-Read.counter (g.V.Pages.at_hand c.args.views.now) c.args.room (Read c.in-Read.counter) c.args.op.now c.read_from.result (sym c.in-Read.is) inside (c.read_from.ensures.made relations) c.read_from.ensures.quiet
 
 pub returns-in-Insert-clause-full : goal.returns-in-Insert-clause-full
 returns-in-Insert-clause-full g c = λ relations counters few within.

@@ -13,12 +13,12 @@ use Rattle.mt_steps.specs.Drafts.{AreAtHand}
 use Rattle.mt_steps.specs.declared.act.Act.{Act}
 use Rattle.mt_steps.specs.declared.act.Act.TheVariants.{Lock, Made, Full, Broken}
 use Rattle.mt_steps.specs.Acts.{IsAct, IsPlaced, IsTaken, IsMoved}
-use Rattle.mt_steps.specs.Plans.{IsModest}
+use Rattle.mt_steps.specs.Plans.{IsForChange, IsModest}
 use Rattle.mt_steps.specs.Logged.{logged_of}
 
 -- an answer by cases: a page that is not at hand, changes and a reply of which this holds, or that this is why it is full
 abbrev pub Tells : (ℕ → Option (List ℕ)) → ℕ → (List PageChange → Reply → Type 0) → Type 0 → Act → Type 0
-Tells at_hand total Does TooFull (Lock p mode) = (at_hand p ≡ None) × (p < total)
+Tells at_hand total Does TooFull (Lock p mode) = (at_hand p ≡ None) × (p < total) × IsForChange p mode
 Tells at_hand total Does TooFull (Made changes reply) = Does changes.list.items reply
 Tells at_hand total Does TooFull Full = TooFull
 Tells at_hand total Does TooFull Broken = ⊥

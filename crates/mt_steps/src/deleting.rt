@@ -5,7 +5,7 @@ ghost use Rattle.mt_index.specs.Answers.{InMaps};
 ghost use Rattle.mt_model.specs.declared.operations.Op.TheVariants.{Delete};
 ghost use Rattle.mt_steps.specs.Drafts.{AreAtHand};
 ghost use Rattle.mt_steps.specs.Acts.{HasGood, InGood, IfLock, IfMade, IfFull, IfBroken, IsAct, IsTaken};
-ghost use Rattle.mt_steps.specs.Plans.{IsModest};
+ghost use Rattle.mt_steps.specs.Plans.{AsksRow, IsModest};
 ghost use Rattle.mt_steps.specs.Logged.{logged_of};
 ghost use Rattle.mt_steps.specs.Tells.{Tells, IsDone, IsAny, HasTaken};
 
@@ -33,6 +33,8 @@ pub(crate) fn delete<V: Pages>(
     requires short { length key.now ≤ 64 }
     ensures lock { IfOk result (λ act. IfLock act (λ p mode. (V.at_hand views.now p ≡ None) ×
         (p < V.total views.now))) }
+    ensures asks { IfOk result (λ act. IfLock act (AsksRow (V.at_hand views.now) (V.total views.now)
+        (Delete relation key.now))) }
     ensures made { (relations : ℕ) → IfOk result (λ act. IfMade act (λ changes reply.
         InGood (V.at_hand views.now) relations (V.total views.now) (λ pages m.
         IsAct relations (V.total views.now) pages (after changes pages) (Delete relation key.now) reply ×

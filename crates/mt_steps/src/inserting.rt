@@ -7,7 +7,7 @@ ghost use Rattle.mt_model.specs.declared.operations.Op.TheVariants.{Insert};
 ghost use Rattle.mt_index.specs.Answers.{InMaps};
 ghost use Rattle.mt_steps.specs.Drafts.{AreAtHand};
 ghost use Rattle.mt_steps.specs.Acts.{HasRoomy, InRoomy, IfLock, IfMade, IfFull, IfBroken, IsAct, IsPlaced};
-ghost use Rattle.mt_steps.specs.Plans.{free_pages, IsTight, IsModest};
+ghost use Rattle.mt_steps.specs.Plans.{free_pages, IsTight, AsksRow, IsModest};
 ghost use Rattle.mt_steps.specs.Logged.{logged_of};
 ghost use Rattle.mt_steps.specs.Tells.{Tells, IsDone, TakesRow, HasPlaced};
 ghost use Rattle.mt_index.specs.Maps.{Map};
@@ -43,6 +43,8 @@ pub(crate) fn insert<V: Pages>(
     requires value_fits { IsValue value.now }
     ensures lock { IfOk result (λ act. IfLock act (λ p mode. (V.at_hand views.now p ≡ None) ×
         (p < V.total views.now))) }
+    ensures asks { IfOk result (λ act. IfLock act (AsksRow (V.at_hand views.now) (V.total views.now)
+        (Insert relation key.now value.now))) }
     ensures made { (relations : ℕ) → Fits relations 1024
         (record { relation = relation; key = key.now; value = value.now }) → IfOk result (λ act.
         IfMade act (λ changes reply.

@@ -6,7 +6,7 @@ ghost use Rattle.mt_model.specs.declared.operations.Op.{Op};
 ghost use Rattle.mt_model.specs.declared.operations.Reply.{Reply};
 ghost use Rattle.mt_steps.specs.Drafts.{AreAtHand};
 ghost use Rattle.mt_steps.specs.Acts.{IfLock, IfMade, IfFull, IfBroken};
-ghost use Rattle.mt_steps.specs.Plans.{free_pages, own_needs, undo_pages, record_bytes, AsksCounters, IsReading, IsTight, HasPages, InPages, IsPlanned};
+ghost use Rattle.mt_steps.specs.Plans.{free_pages, own_needs, undo_pages, record_bytes, AsksCounters, AsksRow, IsReading, IsTight, HasPages, InPages, IsPlanned};
 ghost use Rattle.mt_steps.specs.Logged.{logged_of};
 
 use crate::act::Act;
@@ -46,6 +46,7 @@ pub fn plan<V: Pages>(
     ensures lock { IfOk result (λ act. IfLock act (λ p mode. (V.at_hand views.now p ≡ None) ×
         (p < V.total views.now))) }
     ensures counters { IfOk result (λ act. IfLock act (AsksCounters op.now)) }
+    ensures rows { IfOk result (λ act. IfLock act (AsksRow (V.at_hand views.now) (V.total views.now) op.now)) }
     ensures mode { IsReading op.now → IfOk result (λ act. IfLock act (λ p mode. mode ≡ ToRead)) }
     ensures made { (relations counters : ℕ) → relations ≤ 64 → IsWithin relations counters op.now →
         IfOk result (λ act. IfMade act (λ changes reply.

@@ -1,4 +1,4 @@
-use Rattle.std.proofs.Common.{ℕ, [], inl, inr, ⊎_elim, subst, arith}
+use Rattle.std.proofs.Common.{ℕ, [], inl, inr, refl, ⊎_elim, subst, arith}
 use Rattle.std.proofs.lemmas.Result.{IfOk-weaker}
 use Rattle.mt_slots.specs.Page.{Row}
 use Rattle.mt_file.specs.declared.step.Step.{Step}
@@ -34,7 +34,7 @@ returns-in-Some g c =
     let good = c.requires.good.1 in
     let placed = placed_is (g.V.Pages.at_hand c.args.views.now) c.args.room c.requires.good.0 (g.V.Pages.total c.args.views.now) good.0 good.2 _ c.in_ok-page.field-0 c.in-Done.plan c.in-Done.is good.3 good.4
     (c.in_ok-page.ensures.put good.0 good.1 good.3.file good.4) (c.in_ok-page.ensures.short good.0 good.1 good.3.file good.4) in
-    (c.in-Some.ensures.some, placed_inside (g.V.Pages.total c.args.views.now) good.0 good.2 c.in-Done.plan.changes.list.items c.in-Done.plan.name _ c.in-Some.page good.3.index placed c.in-Some.ensures.named)
+    (c.in-Some.ensures.some, placed_inside (g.V.Pages.total c.args.views.now) good.0 good.2 c.in-Done.plan.changes.list.items c.in-Done.plan.name _ c.in-Some.page good.3.index placed c.in-Some.ensures.named, inl refl)
 
 pub returns-in-Full : goal.returns-in-Full
 returns-in-Full g c = λ relations pages agrees m rows named.

@@ -3,7 +3,7 @@ use Rattle.std.proofs.lemmas.Result.{IfOk-weaker}
 use Rattle.mt_model.specs.declared.operations.Op.{Op}
 use Rattle.mt_model.specs.declared.operations.Op.TheVariants.{Get, Insert, Update, Delete, Add, Read}
 use Rattle.mt_model.specs.Model.{IsWithin}
-use Rattle.mt_steps.proofs.Promised.{ok_both, rows_planned, whole_planned, good_planned, quiet_planned, counts_planned, read_planned, rows_full, never_full}
+use Rattle.mt_steps.proofs.Promised.{ok_both, asks_same, rows_planned, whole_planned, good_planned, quiet_planned, counts_planned, read_planned, rows_full, never_full}
 use Rattle.mt_steps.proofs.planning.plan.Goals as goal
 
 pub returns-in-Get-clause-made : goal.returns-in-Get-clause-made
@@ -79,3 +79,25 @@ returns-in-Add-clause-full g c = λ relations counters few within. IfOk-weaker c
 
 pub returns-in-Read-clause-full : goal.returns-in-Read-clause-full
 returns-in-Read-clause-full g c = λ relations counters few within. never_full c.read_from.result _ c.read_from.ensures.full
+
+pub returns-in-Get-clause-rows : goal.returns-in-Get-clause-rows
+returns-in-Get-clause-rows g c =
+    let is : Get c.in-Get.relation c.as_slice.result.now ≡ c.args.op.now = ap (Get c.in-Get.relation) c.as_slice.ensures ∙ sym c.in-Get.is in
+    asks_same (g.V.Pages.at_hand c.args.views.now) (g.V.Pages.total c.args.views.now) _ c.args.op.now c.get.result is c.get.ensures.asks
+
+pub returns-in-Insert-clause-rows : goal.returns-in-Insert-clause-rows
+returns-in-Insert-clause-rows g c =
+    let is : Insert c.in-Insert.relation c.as_slice-in-Insert.result.now c.as_slice-in-Insert-2.result.now ≡ c.args.op.now =
+    (λ i. Insert c.in-Insert.relation (c.as_slice-in-Insert.ensures i) (c.as_slice-in-Insert-2.ensures i)) ∙ sym c.in-Insert.is in
+    asks_same (g.V.Pages.at_hand c.args.views.now) (g.V.Pages.total c.args.views.now) _ c.args.op.now c.insert.result is c.insert.ensures.asks
+
+pub returns-in-Update-clause-rows : goal.returns-in-Update-clause-rows
+returns-in-Update-clause-rows g c =
+    let is : Update c.in-Update.relation c.as_slice-in-Update.result.now c.as_slice-in-Update-2.result.now ≡ c.args.op.now =
+    (λ i. Update c.in-Update.relation (c.as_slice-in-Update.ensures i) (c.as_slice-in-Update-2.ensures i)) ∙ sym c.in-Update.is in
+    asks_same (g.V.Pages.at_hand c.args.views.now) (g.V.Pages.total c.args.views.now) _ c.args.op.now c.update.result is c.update.ensures.asks
+
+pub returns-in-Delete-clause-rows : goal.returns-in-Delete-clause-rows
+returns-in-Delete-clause-rows g c =
+    let is : Delete c.in-Delete.relation c.as_slice-in-Delete.result.now ≡ c.args.op.now = ap (Delete c.in-Delete.relation) c.as_slice-in-Delete.ensures ∙ sym c.in-Delete.is in
+    asks_same (g.V.Pages.at_hand c.args.views.now) (g.V.Pages.total c.args.views.now) _ c.args.op.now c.delete.result is c.delete.ensures.asks

@@ -38,7 +38,7 @@ returns-in-Need g c =
     let named = good.3.named.names c.args.relation c.args.key.now n (c.requires.named good.0 good.1 good.2 good.3.index) in
     let three = record_kind good.0 n.page n.slot _ named.1 in
     let told = c.in-Need.ensures good.0 good.1 good.3.file three in
-    (told.0, kind_inside (g.V.Pages.total c.args.views.now) good.0 good.2 c.in-Need.page 3 good.3.index (ap (λ (p : ℕ). kind good.0 p) told.2 ∙ three) (omega arith))
+    (told.0, kind_inside (g.V.Pages.total c.args.views.now) good.0 good.2 c.in-Need.page 3 good.3.index (ap (λ (p : ℕ). kind good.0 p) told.2 ∙ three) (omega arith), inl refl)
 
 pub returns-in-Nothing : goal.returns-in-Nothing
 returns-in-Nothing g c =
@@ -96,6 +96,7 @@ returns-in-Some g c =
           (λ moved. moved_inside total good.0 good.2 changes n c.in-Done.plan.name _ _ c.in-Some.page good.3.index (to_inside c.requires.good.0 total good.0 good.2 changes n c.in-Done.plan.name _ _ good.3 moved) moved c.in-Some.ensures.named)
           (replacement_is (g.V.Pages.at_hand c.args.views.now) c.args.room c.requires.good.0 total good.0 good.2 n r c.args.value.now c.in_ok-page.field-0 c.in-Done.plan c.in-Done.is good.3 good.4
           (c.in_ok-page.ensures.replacement good.0 r good.1 good.3.file good.4 named.1) (c.in_ok-page.ensures.short good.0 r good.1 good.3.file good.4 named.1) named.1),
+      inl refl,
     )
 
 pub returns-in-Full : goal.returns-in-Full

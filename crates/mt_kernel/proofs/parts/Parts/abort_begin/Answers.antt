@@ -1,0 +1,18 @@
+use Rattle.std.proofs.Common.{refl, ◌∙◌}
+use Rattle.mt_live.specs.Lives.{has_room}
+use Rattle.mt_live.specs.Members.{with_state}
+use Rattle.mt_live.specs.declared.transactions.TxnState.TheVariants.{Aborting}
+use Rattle.mt_kernel.proofs.Beginning.{changed_in, reopened, reopened_states}
+use Rattle.mt_kernel.proofs.Members.{changed_keeps}
+use Rattle.mt_kernel.proofs.parts.Parts.abort_begin.Goals as goal
+
+pub returns : goal.returns
+returns g c = record {
+  state = λ origin base safe. let e = c.set_state.ensures in let k = c.args.self.now in let was = c.requires in
+      changed_in g.D.Device.seen g.D.Device.may_leave origin base k (record k { live = c.set_state.new.self }) c.args.txn (λ m. with_state m Aborting) safe e.member e.begun e.standing e.count (λ m. refl)
+      (λ last records m told. record { many = told.many; numbers = told.numbers; rising = told.rising; due = told.due }) (λ m. refl) (λ m. refl)
+      (reopened k.live.members c.set_state.new.self.members c.args.txn was e.member)
+      (λ u h. changed_keeps has_room (λ m. with_state m Aborting) k.live.members c.set_state.new.self.members c.args.txn (λ m. refl) e.member u ∙ h)
+      (λ u. (reopened_states k.live.members c.set_state.new.self.members c.args.txn was e.member u).0)
+      (λ u. (reopened_states k.live.members c.set_state.new.self.members c.args.txn was e.member u).1);
+}

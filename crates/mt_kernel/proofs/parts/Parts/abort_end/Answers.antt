@@ -1,0 +1,42 @@
+use Rattle.std.proofs.Common.{◌≡◌, ◌∙◌, ◌≤◌, ◌-◌, false, refl, sym, ap, subst, arith}
+use Rattle.std.specs.Prelude.{OnErr}
+use Rattle.std.proofs.lemmas.Result.{err_from_is_err_and}
+use Rattle.mt_kernel.specs.Consistent.{state_of, IsIn}
+use Rattle.mt_kernel.specs.Runs.{is_open}
+use Rattle.mt_kernel.specs.declared.parts.Parts.{Parts}
+use Rattle.mt_kernel.proofs.Aborted.{ended_in, none_pending}
+use Rattle.mt_kernel.proofs.Calling.{txn_low}
+use Rattle.mt_kernel.proofs.Enough.{end_enough}
+use Rattle.mt_kernel.proofs.Leaving.{gone_in, gone_closed}
+use Rattle.mt_kernel.proofs.Resting.{rests_in}
+use Rattle.mt_kernel.proofs.Underway.{runs_none}
+use Rattle.mt_live.specs.Lives.{member_of}
+use Rattle.mt_kernel.proofs.parts.Parts.abort_end.Goals as goal
+
+pub append-requires-clause-fits : goal.append-requires-clause-fits
+append-requires-clause-fits g c = let (origin, base, safe) = c.requires.safe in
+    let enough = end_enough g.D.Device.seen g.D.Device.may_leave origin base c.args.self.now c.args.txn safe.fit c.requires.at_work in let log = safe.fit.log in omega arith
+
+pub overflow_sub-self : goal.overflow_sub-self
+overflow_sub-self g c = let (origin, base, safe) = c.requires.safe in end_enough g.D.Device.seen g.D.Device.may_leave origin base c.args.self.now c.args.txn safe.fit c.requires.at_work
+
+pub returns-in_err-append-clause-err : goal.returns-in_err-append-clause-err
+returns-in_err-append-clause-err g c = λ origin base safe. let p = err_from_is_err_and c.from_residual.result c.from_residual.ensures.1 in let k = c.args.self.now in let e = c.append.ensures in let f = c.in_err-append.ensures in
+    let same = f.err_used in
+    subst (λ r. OnErr r (IsIn g.D.Device.seen g.D.Device.may_leave origin base (state_of k base) (record k { operations = c.append.new.self }))) (sym p.1)
+    (rests_in g.D.Device.seen g.D.Device.may_leave origin base k (record k { operations = c.append.new.self }) safe (e.right origin.pages origin.relations origin.counters safe.fit.right) (f.rests origin.pages) e.claimed (omega arith) e.area)
+
+pub returns-clause-gone : goal.returns-clause-gone
+returns-clause-gone g c = λ origin base safe. let k = c.args.self.now in let e = c.append.ensures in let f = c.in_ok-append.ensures in let m = c.leave.ensures in
+    let seen = g.D.Device.seen in let may_leave = g.D.Device.may_leave in
+    let enough = end_enough seen may_leave origin base k c.args.txn safe.fit c.requires.at_work in
+    let idle = runs_none k.running.items c.args.txn c.requires.idle in
+    let z : Parts g.row.D.Denot = record k { live = c.leave.new.self; locks = c.release.new.self; reserved = k.reserved - 128 } in
+    let closed : is_open (member_of c.leave.new.self.members c.args.txn) ≡ false = ap is_open (m.member c.args.txn) ∙ gone_closed (member_of k.live.members) c.args.txn in
+    let gone_now = gone_in seen may_leave origin base k z c.args.txn safe c.requires.at_work c.requires.idle c.requires.nothing m.standing m.member m.begun m.count c.release.ensures.released refl
+    (sym (none_pending origin.first (state_of k base) c.args.txn safe.fit.kept idle c.requires.nothing)) (omega arith) in
+    let low = txn_low seen may_leave origin base k c.args.txn safe.fit c.requires.at_work in
+    let log = safe.fit.log in let now = f.used in let area = e.area in
+    let ended_now = ended_in seen may_leave origin base z (record z { operations = c.append.new.self }) c.args.txn gone_now.consistent closed (subst (λ n. c.args.txn ≤ n) (sym m.begun) low) c.requires.idle
+    (e.right origin.pages origin.relations origin.counters safe.fit.right) (f.notes origin.pages) (λ u ku apart. e.others origin.pages origin.relations origin.counters u ku apart) e.claimed (omega arith) in
+    record { consistent = ended_now.consistent; state = gone_now.state ∙ ended_now.state }

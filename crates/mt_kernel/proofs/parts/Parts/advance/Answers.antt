@@ -1,0 +1,57 @@
+use Rattle.std.proofs.Common.{◌≡◌, get_or, arith, refl, sym, ap, subst}
+use Rattle.std.specs.Vec.{with_item}
+use Rattle.std.proofs.Common.{◌∙◌}
+use Rattle.std.proofs.lemmas.List.{length-set, get_or_default, get_or-set_same}
+use Rattle.mt_op.specs.Moves.{SameOp}
+use Rattle.std.proofs.lemmas.List.Sums.{get_or-le-sum_by}
+use Rattle.mt_op.specs.Operations.{world}
+use Rattle.mt_kernel.specs.declared.parts.Running.{Running}
+use Rattle.mt_kernel.specs.Runs.{IsRunning, left_of}
+use Rattle.mt_kernel.proofs.Advancing.{advanced, needs_claimed, steps_same}
+use Rattle.mt_kernel.proofs.parts.Parts.advance.Goals as goal
+
+pub step-requires-clause-right : goal.step-requires-clause-right
+step-requires-clause-right g c = let (origin, base, safe) = c.requires.safe in let k = c.args.self.now in let r = c.index_mut.result.now in
+    let was : IsRunning origin.relations origin.counters (world g.D.Device.seen origin.pages k.operations) k.last r = subst (IsRunning origin.relations origin.counters (world g.D.Device.seen origin.pages k.operations) k.last) (sym c.index_mut.ensures.value) (safe.runs c.args.place r c.requires.within) in
+    (origin.pages, origin.relations, origin.counters, safe.fit.right, was.under, safe.fit.schema.few_relations, safe.fit.schema.few_counters)
+
+pub step-requires-clause-claims : goal.step-requires-clause-claims
+step-requires-clause-claims g c = let (origin, base, safe) = c.requires.safe in
+    needs_claimed g.D.Device.seen g.D.Device.may_leave origin base c.args.self.now c.args.place c.index_mut.result.now safe c.requires.within c.index_mut.ensures.value
+
+pub step-requires-clause-stage : goal.step-requires-clause-stage
+step-requires-clause-stage g c = c.requires.stage c.index_mut.result.now c.index_mut.ensures.value
+
+pub step-requires-clause-budget : goal.step-requires-clause-budget
+step-requires-clause-budget g c = let (origin, base, safe) = c.requires.safe in let k = c.args.self.now in let r = c.index_mut.result.now in
+    let was : IsRunning origin.relations origin.counters (world g.D.Device.seen origin.pages k.operations) k.last r = subst (IsRunning origin.relations origin.counters (world g.D.Device.seen origin.pages k.operations) k.last) (sym c.index_mut.ensures.value) (safe.runs c.args.place r c.requires.within) in
+    was.budget
+
+pub step-requires-clause-room : goal.step-requires-clause-room
+step-requires-clause-room g c = let (origin, base, safe) = c.requires.safe in let k = c.args.self.now in let r = c.index_mut.result.now in
+    let part = get_or-le-sum_by left_of k.running.items c.args.place r c.requires.within in
+    let mine : left_of (get_or k.running.items c.args.place r) ≡ left_of r = ap left_of (sym c.index_mut.ensures.value) in
+    let log = safe.fit.log in omega (arith, part, mine, log)
+
+pub returns-clause-length : goal.returns-clause-length
+returns-clause-length g c = length-set c.args.self.now.running.items c.args.place (record { scope = c.step.new.scope; op = c.index_mut.result.now.op })
+
+pub returns-clause-advances : goal.returns-clause-advances
+returns-clause-advances g c = λ origin base safe.
+    let seen = g.D.Device.seen in let k = c.args.self.now in let r = c.index_mut.result.now in let e = c.step.ensures in
+    let q : Running = record { scope = c.step.new.scope; op = r.op } in
+    let was : IsRunning origin.relations origin.counters (world seen origin.pages k.operations) k.last r = subst (IsRunning origin.relations origin.counters (world seen origin.pages k.operations) k.last) (sym c.index_mut.ensures.value) (safe.runs c.args.place r c.requires.within) in
+    let went = e.steps origin.pages origin.relations origin.counters safe.fit.right was.under safe.fit.schema.few_relations safe.fit.schema.few_counters in
+    advanced seen g.D.Device.may_leave origin base k (record k { operations = c.step.new.self; running = with_item k.running c.args.place q }) c.args.place r q c.step.result
+    c.requires.within c.index_mut.ensures.value refl refl safe
+    (record { right = went.0; steps = went.1; log = e.log; area = e.area; budget = e.budget; claims = e.claims; stage = e.stage; records = e.records; locks = e.locks })
+
+pub returns-clause-same : goal.returns-clause-same
+returns-clause-same g c = λ x y at now. let (origin, base, safe) = c.requires.safe in
+    let seen = g.D.Device.seen in let k = c.args.self.now in let r = c.index_mut.result.now in let e = c.step.ensures in
+    let q : Running = record { scope = c.step.new.scope; op = r.op } in
+    let was : IsRunning origin.relations origin.counters (world seen origin.pages k.operations) k.last r = subst (IsRunning origin.relations origin.counters (world seen origin.pages k.operations) k.last) (sym c.index_mut.ensures.value) (safe.runs c.args.place r c.requires.within) in
+    let went = e.steps origin.pages origin.relations origin.counters safe.fit.right was.under safe.fit.schema.few_relations safe.fit.schema.few_counters in
+    let old : r ≡ x = c.index_mut.ensures.value ∙ sym (get_or_default k.running.items c.args.place x r c.requires.within) ∙ sym at in
+    let new : q ≡ y = sym (now ∙ get_or-set_same k.running.items c.args.place q y c.requires.within) in
+    subst (λ (X : Type 0). X) (λ i. SameOp (old i).scope (new i).scope) (steps_same origin.relations origin.counters (world seen origin.pages k.operations) (world seen origin.pages c.step.new.self) r.scope q.scope c.step.result went.1)

@@ -1,0 +1,11 @@
+use Rattle.std.proofs.Common.{◌+◌, refl, arith}
+use Rattle.mt_kernel.proofs.Beginning.{begun_in}
+use Rattle.mt_kernel.proofs.parts.Parts.begin.Goals as goal
+
+pub overflow_add-self : goal.overflow_add-self
+overflow_add-self g c = let sum = c.if-not-log_takes.ensures.sum in omega arith
+
+pub returns-clause-begun : goal.returns-clause-begun
+returns-clause-begun g c = λ origin base safe. let e = c.in_ok-txn.ensures in let k = c.args.self.now in
+    begun_in g.D.Device.seen g.D.Device.may_leave origin base k (record k { live = c.begin.new.self; reserved = k.reserved + 128 }) c.in_ok-txn.txn c.args.session safe c.requires.few e.number e.begun e.unused e.member e.standing e.count refl
+    (let takes = c.if-not-log_takes.ensures.takes in omega arith)

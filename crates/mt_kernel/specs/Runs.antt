@@ -1,0 +1,106 @@
+-- The operations under way, at most one a transaction, and what is kept for them and for what may have to be undone.
+use Rattle.std.specs.Prelude.{ℕ, ◌≡◌, ◌≢◌, ◌⊎◌, ◌≤◌, ◌+◌, ◌==◌, ◌&&◌, Bool, true, false, cond, if◌then◌else◌, List, [], ◌∷◌, Option, Some, None, is_some}
+use Rattle.mt_live.specs.declared.transactions.TxnState.{TxnState}
+use Rattle.mt_live.specs.declared.transactions.TxnState.TheVariants.{Open, Committing, Aborting}
+use Rattle.mt_live.specs.Entries.{Entry}
+use Rattle.mt_live.specs.Lives.{member_of, has_room, IsAbove}
+use Rattle.mt_live.specs.Members.{Member, last_operation}
+use Rattle.mt_live.specs.Undoing.{last_effect}
+use Rattle.mt_model.specs.History.{Call}
+use Rattle.mt_model.specs.declared.operations.Op.{Op}
+use Rattle.mt_model.specs.Model.{inverse_of}
+use Rattle.mt_op.specs.Operations.{HasBudget, only_reads}
+use Rattle.mt_op.specs.World.{World, IsUnderWay, IsOther}
+use Rattle.mt_op.specs.declared.scope.Stage.{Stage}
+use Rattle.mt_op.specs.declared.scope.Stage.TheVariants.{Planning, Writing, Taking}
+use Rattle.mt_steps.specs.Plans.{own_needs, undo_pages}
+use Rattle.mt_kernel.specs.declared.parts.Running.{Running}
+
+-- a transaction's operation that is no inverse
+abbrev pub is_for : ℕ → Running → Bool
+is_for t r = (r.scope.txn == t) && (r.scope.undoes == 0)
+
+abbrev pub running_in : List Running → ℕ → Option Op
+running_in [] t = None
+running_in (r ∷ rs) t = cond (is_for t r) (Some r.scope.op) (running_in rs t)
+
+abbrev pub AreApart : Running → Running → Type 0
+AreApart r q = IsOther r.scope q.scope
+
+abbrev pub IsMoving : Stage → Type 0
+IsMoving stage = (stage ≡ Planning) ⊎ ((stage ≡ Writing) ⊎ (stage ≡ Taking))
+
+-- on the pages
+pub record IsRunning (relations counters : ℕ) (w : World) (last : ℕ) (r : Running) : Type 0 where
+  pub under : IsUnderWay relations counters w r.scope
+  pub budget : HasBudget r.scope
+  pub number : r.scope.number ≤ last
+  pub moving : IsMoving r.scope.stage
+
+-- ---- its transaction
+
+abbrev pub is_at_work : TxnState → Bool
+is_at_work Open = true
+is_at_work Committing = false
+is_at_work Aborting = true
+
+abbrev pub is_open : Option Member → Bool
+is_open None = false
+is_open (Some m) = is_at_work m.state
+
+-- the last entry of its transaction that did something, which it takes back, by its operation's number
+pub record TakesBack (ms : List Member) (standing : List Entry) (r : Running) : Type 0 where
+  pub named : last_operation (member_of ms r.scope.txn) ≡ Some r.scope.undoes
+  pub entry : Entry
+  pub last : last_effect r.scope.txn standing ≡ Some entry
+  pub inverse : inverse_of entry.op entry.reply ≡ Some r.scope.op
+  pub copy : r.op ≡ entry.op
+  pub unsplit : r.scope.split ≡ false
+
+pub record IsOwned (ms : List Member) (standing : List Entry) (r : Running) : Type 0 where
+  pub at_work : is_open (member_of ms r.scope.txn) ≡ true
+  pub room : r.scope.undoes ≡ 0 → has_room (member_of ms r.scope.txn) ≡ true
+  pub copy : r.scope.undoes ≡ 0 → r.op ≡ r.scope.op
+  pub inverse : r.scope.undoes ≢ 0 → TakesBack ms standing r
+  pub newest : r.scope.undoes ≡ 0 → IsAbove r.scope.number (member_of ms r.scope.txn)
+
+-- ---- claims and log bytes
+
+-- log bytes that the inverse may append
+abbrev pub undo_bytes : Op → ℕ
+undo_bytes op = if only_reads op then 0 else 106496
+
+-- of an entry that did something
+abbrev pub weighed : (Op → ℕ) → Entry → ℕ
+weighed weight e = cond (is_some (inverse_of e.op e.reply)) (weight e.op) 0
+
+-- of a call, as of its entry
+abbrev pub call_weighed : (Op → ℕ) → Call → ℕ
+call_weighed weight c = cond (is_some (inverse_of c.0 c.1)) (weight c.0) 0
+
+abbrev pub call_pages : Call → ℕ
+call_pages c = call_weighed undo_pages c
+
+abbrev pub call_bytes : Call → ℕ
+call_bytes c = call_weighed undo_bytes c
+
+abbrev pub entry_pages : Entry → ℕ
+entry_pages e = weighed undo_pages e
+
+abbrev pub entry_bytes : Entry → ℕ
+entry_bytes e = weighed undo_bytes e
+
+-- What is claimed for an operation and for its inverse; an inverse has what its entry claims.
+abbrev pub pages_of : Running → ℕ
+pages_of r = cond (r.scope.undoes == 0) (own_needs r.scope.op r.scope.split + undo_pages r.scope.op) 0
+
+abbrev pub left_of : Running → ℕ
+left_of r = r.scope.left
+
+-- log bytes kept for the inverse of what runs
+abbrev pub kept_bytes : Running → ℕ
+kept_bytes r = cond (r.scope.undoes == 0) (undo_bytes r.scope.op) 0
+
+-- those that an inverse which runs has taken of what was kept for it
+abbrev pub taken_bytes : Running → ℕ
+taken_bytes r = cond (r.scope.undoes == 0) 0 106496

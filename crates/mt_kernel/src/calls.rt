@@ -1,0 +1,210 @@
+// Calls of operations.
+ghost use Rattle.std.specs.Prelude.{◌≡◌, ◌≢◌, ◌<◌, ◌+◌, ◌^◌, ◌++◌, [], ℕ, length, true, All, List, OnOk, OnErr};
+ghost use Rattle.std.specs.Bool.{OnTrue};
+ghost use Rattle.std.specs.Bool.{OnFalse};
+ghost use Rattle.std.specs.List.{sum_by};
+ghost use Rattle.std.specs.Vec.{vec_len, vec_capacity};
+ghost use Rattle.mt_escrow.specs.Seen.{Escrowed};
+ghost use Rattle.mt_live.specs.Adds.{add_before};
+ghost use Rattle.mt_live.specs.Machine.{called};
+ghost use Rattle.mt_log.specs.Words.{used, area_size};
+ghost use Rattle.mt_model.specs.Model.{Base, IsWithin, object_of};
+ghost use Rattle.mt_model.specs.declared.objects.Object.{Object};
+ghost use Rattle.mt_slock.specs.declared.holders.Holder.{Holder};
+ghost use Rattle.mt_kernel.specs.Consistent.{Origin, state_of, IsConsistent, IsIn, MayRun, MayBeCalled, IsLocked, IsGranted, IsAskedFor, IsCalled, IsRestored, without_call};
+ghost use Rattle.mt_kernel.specs.Runs.{left_of};
+ghost use Rattle.mt_kernel.specs.declared.parts.Running.{Running};
+
+use crate::ends::let_go;
+use crate::parts::{Parts, Running};
+use crate::reserving::{bytes_to_undo, left_in};
+use mt_base::{OpNo, Refusal, TxnNo};
+use mt_disk::Device;
+use mt_escrow::Escrow;
+use mt_model::{Object, Op};
+use mt_slock::Asked;
+use mt_steps::{pages_for, pages_to_undo};
+use std::alloc::Global;
+
+// Whether an operation of the transaction is under way.
+pub(crate) fn is_busy(running: &[Running], txn: TxnNo) -> bool
+    ensures { OnFalse result (All (λ (r : Running). r.scope.txn ≢ txn) running.now) }
+{
+    for one in running {
+        if one.scope.txn() == txn {
+            return true;
+        }
+    }
+    false
+}
+
+/// What a call answers that is not refused.
+#[derive(Clone, Copy, PartialEq, Eq, Debug)]
+pub enum Called {
+    /// The operation is under way.
+    Started,
+    /// Nothing: this transaction, the oldest that holds a lock in the way, is younger and is to be waited for.
+    Wait(TxnNo),
+}
+
+// Asks leave for an operation that is an add.
+fn ask(escrow: &mut Escrow, txn: TxnNo, op: &Op) -> Result<(), Refusal>
+    requires { (relations : ℕ) × IsWithin relations (length escrow.old.committed) op.now }
+    ensures granted { OnOk result (escrow.new.pending ≡ escrow.old.pending ++ add_before txn op.now []) }
+    ensures committed { escrow.new.committed ≡ escrow.old.committed }
+    ensures admitted { OnOk result (IsAskedFor escrow.old txn op.now) }
+    ensures kept { OnErr result (escrow.new ≡ escrow.old) }
+{
+    if let Op::Add(counter, step) = op {
+        escrow.ask(txn, *counter, *step)?;
+    }
+    Ok(())
+}
+
+impl<D: Device> Parts<D> {
+    /// Calls an operation of a transaction at work that runs nothing: it takes the operation's lock, the escrow's leave
+    /// where it is an add, pages and log bytes for it and for its inverse, and starts it. `split` says whether an insert
+    /// may split a bucket of the index.
+    ///
+    /// It answers [`Called::Wait`] or is refused with 14 as the lock table does, with 9 as the escrow does, with 10 where
+    /// fewer pages are free and not claimed, with 11 where the log has no room beside what is kept, with 1 for want of
+    /// memory. In each of these cases nothing of the call is kept.
+    pub fn call(
+        &mut self,
+        alloc: Global,
+        txn: TxnNo,
+        op: &Op,
+        split: bool,
+    ) -> Result<Called, Refusal>
+        requires safe { (origin : Origin) × (base : Base) × IsConsistent D.seen D.may_leave origin base self.old × MayBeCalled origin self.old txn op.now }
+        requires few { self.old.last < 2 ^ 40 }
+        ensures { (origin : Origin) (base : Base) → IsConsistent D.seen D.may_leave origin base self.old → MayBeCalled origin self.old txn op.now
+            → IsCalled D.seen D.may_leave origin base (state_of self.old base) self.new txn op.now result }
+    {
+        let own = op.try_clone()?;
+        let end = op.try_clone()?;
+        let object = op.object()?;
+        let again = op.object()?;
+        self.live.room(txn)?;
+        self.running.reserve(1)?;
+        self.lock(alloc, txn, op, own, end, split, object, &again)
+    }
+
+    // Whether the log has room for so many bytes beside those that are kept.
+    pub(crate) fn log_takes(&self, bytes: u64) -> bool
+        requires { used self.now.operations.store.log + sum_by left_of self.now.running.items + self.now.reserved < area_size self.now.operations.store.log }
+        ensures takes { OnTrue result (used self.now.operations.store.log + sum_by left_of self.now.running.items + self.now.reserved + bytes < area_size self.now.operations.store.log) }
+        ensures sum { OnTrue result (self.now.reserved + bytes < 2 ^ 64) }
+    {
+        let log = self.operations.log();
+        bytes < log.area_size() - log.used() - left_in(self.running.as_slice()) - self.reserved
+    }
+
+    // Starts an operation for which all is granted, where there are pages and log bytes for it and for its inverse.
+    fn start(
+        &mut self,
+        alloc: Global,
+        txn: TxnNo,
+        own: Op,
+        end: Op,
+        split: bool,
+    ) -> Result<(), Refusal>
+        requires granted { (origin : Origin) × (base : Base) × (locks : List (Object × List Holder)) × (escrow : Escrowed) × IsGranted D.seen D.may_leave origin base locks escrow self.old txn end }
+        requires same { own ≡ end }
+        requires room { vec_len self.old.running < vec_capacity self.old.running }
+        requires few { self.old.last < 2 ^ 40 }
+        ensures ok { (origin : Origin) (base : Base) (locks : List (Object × List Holder)) (escrow : Escrowed) → IsGranted D.seen D.may_leave origin base locks escrow self.old txn end
+            → OnOk result (IsIn D.seen D.may_leave origin base (called (state_of (without_call locks escrow self.old) base) txn end) self.new) }
+        ensures err { OnErr result (IsRestored D.seen D.may_leave self.old self.new) }
+    {
+        let pages = pages_for(&own, split) + pages_to_undo(&own);
+        let bytes = bytes_to_undo(&own);
+        let takes = self.log_takes(2 * bytes);
+        self.operations.claim(pages)?;
+        if !takes {
+            self.operations.give_back(pages);
+            return Err(Refusal::LogFull);
+        }
+        let number = self.last + 1;
+        match self
+            .operations
+            .begin_op(alloc, txn, OpNo::new(number), own, 0, split)
+        {
+            Ok(scope) => {
+                self.last = number;
+                self.reserved += bytes;
+                self.running.push_reserved(Running { scope, op: end });
+                Ok(())
+            }
+            Err(why) => {
+                self.operations.give_back(pages);
+                Err(why)
+            }
+        }
+    }
+
+    // Asks leave for an operation that is an add, and starts it. Its lock is had.
+    fn admit(
+        &mut self,
+        alloc: Global,
+        txn: TxnNo,
+        op: &Op,
+        own: Op,
+        end: Op,
+        split: bool,
+    ) -> Result<(), Refusal>
+        requires locked { (origin : Origin) × (base : Base) × (locks : List (Object × List Holder)) × IsLocked D.seen D.may_leave origin base locks self.old txn op.now }
+        requires same { (own ≡ op.now) × (end ≡ op.now) }
+        requires room { vec_len self.old.running < vec_capacity self.old.running }
+        requires few { self.old.last < 2 ^ 40 }
+        ensures ok { (origin : Origin) (base : Base) (locks : List (Object × List Holder)) → IsLocked D.seen D.may_leave origin base locks self.old txn op.now
+            → OnOk result (IsIn D.seen D.may_leave origin base (called (state_of (without_call locks self.old.escrow self.old) base) txn op.now) self.new) }
+        ensures err { OnErr result (IsRestored D.seen D.may_leave self.old self.new) }
+    {
+        ask(&mut self.escrow, txn, op)?;
+        match self.start(alloc, txn, own, end, split) {
+            Ok(()) => Ok(()),
+            Err(why) => {
+                let_go(&mut self.escrow, txn, op);
+                Err(why)
+            }
+        }
+    }
+
+    // Locks the operation's object, and starts it.
+    fn lock(
+        &mut self,
+        alloc: Global,
+        txn: TxnNo,
+        op: &Op,
+        own: Op,
+        end: Op,
+        split: bool,
+        object: Object,
+        again: &Object,
+    ) -> Result<Called, Refusal>
+        requires safe { (origin : Origin) × (base : Base) × IsConsistent D.seen D.may_leave origin base self.old × MayRun origin self.old txn op.now }
+        requires same { (own ≡ op.now) × (end ≡ op.now) × (object ≡ object_of op.now) × (again.now ≡ object_of op.now) }
+        requires room { vec_len self.old.running < vec_capacity self.old.running }
+        requires few { self.old.last < 2 ^ 40 }
+        ensures { (origin : Origin) (base : Base) → IsConsistent D.seen D.may_leave origin base self.old → MayRun origin self.old txn op.now
+            → IsCalled D.seen D.may_leave origin base (state_of self.old base) self.new txn op.now result }
+    {
+        let mode = op.mode();
+        match self.locks.ask(txn, object, mode)? {
+            Asked::Wait(holder) => Ok(Called::Wait(holder)),
+            Asked::Granted { was_held } => {
+                match self.admit(alloc, txn, op, own, end, split) {
+                    Ok(()) => Ok(Called::Started),
+                    Err(why) => {
+                        if was_held {
+                            return Err(why);
+                        }
+                        self.locks.take_out(txn, again, mode);
+                        Err(why)
+                    }
+                }
+            }
+        }
+    }
+}

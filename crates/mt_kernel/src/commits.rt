@@ -1,0 +1,112 @@
+// Transactions that begin, commit and leave, and the writes that make commits durable.
+ghost use Rattle.std.specs.Prelude.{◌≡◌, ◌≢◌, ◌<◌, ◌+◌, ◌^◌, ℕ, List, ◌∷◌, true, All, Some, IfOk, OnOk, OnErr};
+ghost use Rattle.mt_live.specs.Lives.{member_of};
+ghost use Rattle.mt_live.specs.Machine.{begun, booked};
+ghost use Rattle.mt_live.specs.declared.transactions.TxnState.TheVariants.{Open};
+ghost use Rattle.mt_model.specs.Model.{Base};
+ghost use Rattle.mt_kernel.specs.Consistent.{Origin, state_of, state_in, session_in, IsConsistent, IsIn};
+ghost use Rattle.mt_kernel.specs.Runs.{is_open};
+ghost use Rattle.mt_kernel.specs.declared.parts.Commit.{Commit};
+ghost use Rattle.mt_kernel.specs.declared.parts.Running.{Running};
+
+use crate::parts::{Commit, Parts};
+use crate::reserving::{all_bytes_kept, all_pages_kept};
+use mt_base::limits::TRANSACTION_LOG_BYTES;
+use mt_base::{Refusal, TxnNo};
+use mt_disk::{Device, DeviceFault};
+use mt_frame::Record;
+use mt_live::TxnState;
+use mt_log::Forced;
+use mt_pool::Flushed;
+
+// What the Commit of a transaction, or the end of its abort, takes of the log.
+const END_LOG_BYTES: u64 = 14;
+
+impl<D: Device> Parts<D> {
+    /// Begins a transaction of this session, open and without operations. Its number is the next one, from 1.
+    ///
+    /// Refused with 11 where the log has no room for its end beside what is kept, else with 1 for want of memory; nothing
+    /// has changed then.
+    pub fn begin(&mut self, session: u32) -> Result<TxnNo, Refusal>
+        requires safe { (origin : Origin) × (base : Base) × IsConsistent D.seen D.may_leave origin base self.old }
+        requires few { self.old.live.begun < 2 ^ 40 }
+        ensures begun { (origin : Origin) (base : Base) → IsConsistent D.seen D.may_leave origin base self.old
+            → OnOk result (IsIn D.seen D.may_leave origin base (begun (state_of self.old base) session) self.new) }
+        ensures number { IfOk result (λ txn. txn ≡ self.old.live.begun + 1) }
+        ensures err { OnErr result (self.new ≡ self.old) }
+    {
+        if !self.log_takes(TRANSACTION_LOG_BYTES) {
+            return Err(Refusal::LogFull);
+        }
+        let txn = self.live.begin(session)?;
+        self.reserved += TRANSACTION_LOG_BYTES;
+        Ok(txn)
+    }
+
+    /// Begins to undo an open transaction. It takes no memory.
+    pub fn abort_begin(&mut self, txn: TxnNo)
+        requires { state_in self.old.live.members txn ≡ Some Open }
+        ensures state { (origin : Origin) (base : Base) → IsConsistent D.seen D.may_leave origin base self.old
+            → IsIn D.seen D.may_leave origin base (state_of self.old base) self.new }
+    {
+        self.live.set_state(txn, TxnState::Aborting);
+    }
+
+    /// Begins the commit of a transaction at work that runs nothing: its Commit is appended, and it is the last of the
+    /// commits under way. Answers its place among all commits, from 1.
+    ///
+    /// Refused with 1 for want of memory; the transaction is at work as before.
+    pub fn commit_begin(&mut self, txn: TxnNo) -> Result<usize, Refusal>
+        requires safe { (origin : Origin) × (base : Base) × IsConsistent D.seen D.may_leave origin base self.old }
+        requires at_work { is_open (member_of self.old.live.members txn) ≡ true }
+        requires idle { All (λ (r : Running). r.scope.txn ≢ txn) self.old.running.items }
+        ensures state { (origin : Origin) (base : Base) → IsConsistent D.seen D.may_leave origin base self.old
+            → IsIn D.seen D.may_leave origin base (state_of self.old base) self.new }
+    {
+        self.commits.reserve(1)?;
+        self.book.reserve(self.commits.len() + 1)?;
+        let place = self.operations.append(Record::Commit { txn })?;
+        self.live.set_state(txn, TxnState::Committing);
+        self.commits.push_reserved(Commit { txn, place });
+        self.reserved -= END_LOG_BYTES;
+        Ok(self.book.len() + self.commits.len())
+    }
+
+    // The first of the commits under way is durable: its calls are the last of the book, its adds move the counters, and
+    // what was kept for its inverses is free.
+    fn leave_first(&mut self) -> TxnNo
+        requires safe { (origin : Origin) × (base : Base) × IsConsistent D.seen D.may_leave origin base self.old }
+        requires some { (c : Commit) × (cs : List Commit) × (self.old.commits.items ≡ c ∷ cs) }
+        ensures left { (origin : Origin) (base : Base) (c : Commit) (cs : List Commit) → IsConsistent D.seen D.may_leave origin base self.old → self.old.commits.items ≡ c ∷ cs
+            → IsIn D.seen D.may_leave origin base (booked (state_of self.old base) c.txn (session_in self.old.live.members c.txn)) self.new × (result ≡ c.txn) × (self.new.commits.items ≡ cs) }
+    {
+        let reserved = self.reserved;
+        let Commit { txn, place: _ } = self.commits.remove(0);
+        let done = self.live.leave(txn);
+        let calls = done.calls.as_slice();
+        self.operations.give_back(all_pages_kept(calls));
+        self.reserved = reserved - (TRANSACTION_LOG_BYTES - END_LOG_BYTES + all_bytes_kept(calls));
+        self.book.push_reserved(done);
+        self.locks.release(txn);
+        self.escrow.commit(txn);
+        txn
+    }
+
+    // Makes a step of the log's force.
+    fn force_log(&mut self) -> Result<Forced, Refusal>
+        requires safe { (origin : Origin) × (base : Base) × IsConsistent D.seen D.may_leave origin base self.old }
+        ensures state { (origin : Origin) (base : Base) → IsConsistent D.seen D.may_leave origin base self.old
+            → IsIn D.seen D.may_leave origin base (state_of self.old base) self.new }
+    {
+        self.operations.force_step()
+    }
+
+    /// Writes a page into its slot, where one waits for no record that is not durable.
+    pub fn flush_step(&mut self) -> Result<Flushed, DeviceFault>
+        requires safe { (origin : Origin) × (base : Base) × IsConsistent D.seen D.may_leave origin base self.old }
+        ensures state { (origin : Origin) (base : Base) → IsConsistent D.seen D.may_leave origin base self.old
+            → IsIn D.seen D.may_leave origin base (state_of self.old base) self.new }
+    {
+        self.operations.flush_step()
+    }
+}

@@ -1,0 +1,74 @@
+// The steps of operations.
+ghost use Rattle.std.specs.Prelude.{◌≡◌, ◌⊎◌, ◌<◌, ℕ, length, slice_index_or};
+ghost use Rattle.mt_model.specs.Model.{Base};
+ghost use Rattle.mt_op.specs.declared.scope.Stage.TheVariants.{Planning, Writing};
+ghost use Rattle.mt_kernel.specs.Consistent.{Origin, state_of, IsConsistent, Advances};
+ghost use Rattle.mt_op.specs.Moves.{SameOp};
+ghost use Rattle.mt_kernel.specs.Steps.{Steps};
+ghost use Rattle.mt_kernel.specs.declared.parts.Running.{Running};
+
+use crate::parts::Parts;
+use mt_base::{OpNo, Refusal};
+use mt_disk::Device;
+use mt_model::Reply;
+use mt_op::Stepped;
+use std::alloc::Global;
+
+/// What a step of an operation did that has not ended yet.
+#[derive(Clone, Copy, PartialEq, Eq, Debug)]
+pub enum Going {
+    /// It locked a page and looked at it, or wrote one.
+    Went,
+    /// Nothing: this operation, the smallest that holds a lock in the way, is larger and is to be waited for.
+    Wait(OpNo),
+    /// It gave all its page locks back and begins anew, since this operation, the smallest in the way, is smaller.
+    Again(OpNo),
+    /// Nothing: every frame holds a page that is yet to be flushed.
+    Flush,
+}
+
+/// What a step of an operation did.
+#[derive(Debug, Drop)]
+pub enum Stepping {
+    /// It goes on.
+    Going(Going),
+    /// It has ended, with this reply.
+    Ended(Reply),
+}
+
+impl<D: Device> Parts<D> {
+    // Makes a step of the operation at a place.
+    fn advance(&mut self, alloc: Global, place: usize) -> Result<Stepped, Refusal>
+        requires safe { (origin : Origin) × (base : Base) × IsConsistent D.seen D.may_leave origin base self.old }
+        requires within { place < length self.old.running.items }
+        requires stage { (r : Running) → r ≡ slice_index_or self.old.running.items place r → (r.scope.stage ≡ Planning) ⊎ (r.scope.stage ≡ Writing) }
+        ensures length { length self.new.running.items ≡ length self.old.running.items }
+        ensures same { (r q : Running) → r ≡ slice_index_or self.old.running.items place r → q ≡ slice_index_or self.new.running.items place q → SameOp r.scope q.scope }
+        ensures advances { (origin : Origin) (base : Base) → IsConsistent D.seen D.may_leave origin base self.old → Advances D.seen D.may_leave origin base (state_of self.old base) self.new place result }
+    {
+        self.operations.step(alloc, &mut self.running[place].scope)
+    }
+
+    /// Makes a step of an operation that is no inverse, at a place of those under way. Where it ends it has acted once on
+    /// the base that the pages hold, and stands behind all others with the model's reply; else it leaves that base.
+    ///
+    /// Refused with 1 for want of memory, and with 2 where the device has failed; the base is as before.
+    pub fn step(&mut self, alloc: Global, place: usize) -> Result<Stepping, Refusal>
+        requires safe { (origin : Origin) × (base : Base) × IsConsistent D.seen D.may_leave origin base self.old }
+        requires within { place < length self.old.running.items }
+        requires forward { (r : Running) → r ≡ slice_index_or self.old.running.items place r → r.scope.undoes ≡ 0 }
+        requires stage { (r : Running) → r ≡ slice_index_or self.old.running.items place r → (r.scope.stage ≡ Planning) ⊎ (r.scope.stage ≡ Writing) }
+        ensures { (origin : Origin) (base : Base) → IsConsistent D.seen D.may_leave origin base self.old → Steps D.seen D.may_leave origin base self.old self.new place result }
+    {
+        match self.advance(alloc, place)? {
+            Stepped::Ready(reply, answer) => {
+                self.note_end(place, reply);
+                Ok(Stepping::Ended(answer))
+            }
+            Stepped::Went => Ok(Stepping::Going(Going::Went)),
+            Stepped::Wait(holder) => Ok(Stepping::Going(Going::Wait(holder))),
+            Stepped::Again(holder) => Ok(Stepping::Going(Going::Again(holder))),
+            Stepped::Flush => Ok(Stepping::Going(Going::Flush)),
+        }
+    }
+}

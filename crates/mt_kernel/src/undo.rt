@@ -1,0 +1,66 @@
+// The inverses of an abort, and its end.
+ghost use Rattle.std.specs.Prelude.{◌≡◌, ◌≢◌, ◌<◌, ◌^◌, ℕ, true, All, None, OnOk, OnErr};
+ghost use Rattle.mt_live.specs.Lives.{member_of};
+ghost use Rattle.mt_live.specs.Machine.{gone};
+ghost use Rattle.mt_live.specs.Undoing.{last_effect};
+ghost use Rattle.mt_model.specs.Model.{Base};
+ghost use Rattle.mt_kernel.specs.Consistent.{Origin, state_of, IsConsistent, IsIn};
+ghost use Rattle.mt_kernel.specs.Runs.{is_open};
+ghost use Rattle.mt_kernel.specs.declared.parts.Running.{Running};
+
+use crate::parts::{Parts, Running};
+use mt_base::limits::{OPERATION_LOG_BYTES, TRANSACTION_LOG_BYTES};
+use mt_base::{OpNo, Refusal, TxnNo};
+use mt_disk::Device;
+use mt_frame::Record;
+use mt_inverse::inverse_of;
+use std::alloc::Global;
+
+impl<D: Device> Parts<D> {
+    // Begins the inverse of a transaction's last operation that did something; `false` where there is none. It runs on
+    // the pages and the log bytes that were kept for it.
+    fn undo_next(&mut self, alloc: Global, txn: TxnNo) -> Result<bool, Refusal>
+        requires safe { (origin : Origin) × (base : Base) × IsConsistent D.seen D.may_leave origin base self.old }
+        requires at_work { is_open (member_of self.old.live.members txn) ≡ true }
+        requires idle { All (λ (r : Running). r.scope.txn ≢ txn) self.old.running.items }
+        requires few { self.old.last < 2 ^ 40 }
+        ensures state { (origin : Origin) (base : Base) → IsConsistent D.seen D.may_leave origin base self.old
+            → IsIn D.seen D.may_leave origin base (state_of self.old base) self.new }
+    {
+        let Some(last) = self.live.last_to_undo(txn) else {
+            return Ok(false);
+        };
+        let Some(inverse) = inverse_of(last.op, last.reply)? else {
+            return Ok(false);
+        };
+        let op = last.op.try_clone()?;
+        let undoes = last.number.get();
+        self.running.reserve(1)?;
+        let number = self.last + 1;
+        let scope = self
+            .operations
+            .begin_op(alloc, txn, OpNo::new(number), inverse, undoes, false)?;
+        self.last = number;
+        self.reserved -= OPERATION_LOG_BYTES;
+        self.running.push_reserved(Running { scope, op });
+        Ok(true)
+    }
+
+    // Ends an abort of which nothing is left to undo: the transaction leaves no trace.
+    fn abort_end(&mut self, txn: TxnNo) -> Result<(), Refusal>
+        requires safe { (origin : Origin) × (base : Base) × IsConsistent D.seen D.may_leave origin base self.old }
+        requires at_work { is_open (member_of self.old.live.members txn) ≡ true }
+        requires idle { All (λ (r : Running). r.scope.txn ≢ txn) self.old.running.items }
+        requires nothing { last_effect txn self.old.live.standing ≡ None }
+        ensures gone { (origin : Origin) (base : Base) → IsConsistent D.seen D.may_leave origin base self.old
+            → OnOk result (IsIn D.seen D.may_leave origin base (gone (state_of self.old base) txn) self.new) }
+        ensures err { (origin : Origin) (base : Base) → IsConsistent D.seen D.may_leave origin base self.old
+            → OnErr result (IsIn D.seen D.may_leave origin base (state_of self.old base) self.new) }
+    {
+        self.operations.append(Record::AbortEnd { txn })?;
+        self.live.leave(txn);
+        self.locks.release(txn);
+        self.reserved -= TRANSACTION_LOG_BYTES;
+        Ok(())
+    }
+}

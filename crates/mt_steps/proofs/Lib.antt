@@ -19,3 +19,4 @@ pub mod Formatting
 mod Telling
 mod LoggedOps
 mod Undoing
+mod Naming

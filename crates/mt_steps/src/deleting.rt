@@ -7,7 +7,7 @@ ghost use Rattle.mt_steps.specs.Drafts.{AreAtHand};
 ghost use Rattle.mt_steps.specs.Acts.{HasGood, InGood, IfLock, IfMade, IfFull, IfBroken, IsAct, IsTaken};
 ghost use Rattle.mt_steps.specs.Plans.{AsksRow, IsModest};
 ghost use Rattle.mt_steps.specs.Logged.{logged_of};
-ghost use Rattle.mt_steps.specs.Tells.{Tells, IsDone, IsAny, HasTaken};
+ghost use Rattle.mt_steps.specs.Tells.{Tells, IsDone, IsAny, AnyKept, HasTaken};
 
 use crate::act::Act;
 use crate::draft::first_missing;
@@ -70,7 +70,7 @@ fn delete_row<V: Pages>(
     requires short { length key.now ≤ 64 }
     requires named { InMaps (V.at_hand views.now) (V.total views.now) (λ pages m. m relation key.now ≡ Some name.now) }
     ensures { IfOk result (Tells (V.at_hand views.now) (V.total views.now) (IsDone (V.at_hand views.now)
-        (V.total views.now) 0 false (Delete relation key.now) IsAny) ⊥) }
+        (V.total views.now) 0 false (Delete relation key.now) AnyKept IsAny) ⊥) }
 {
     let old = match plan_read(views, *name) {
         Found::Need(page, _) => return Ok(Act::Lock(page, Mode::Write)),
@@ -107,7 +107,7 @@ fn drop_entry<V: Pages>(
         InGood (V.at_hand views.now) relations (V.total views.now) (λ pages m. (m relation key.now ≡ Some name.now) ×
         IsTaken pages first.now.list.items name.now (record { relation = relation; key = key.now; value = old })) }
     ensures { IfOk result (Tells (V.at_hand views.now) (V.total views.now) (IsDone (V.at_hand views.now)
-        (V.total views.now) 0 false (Delete relation key.now)
+        (V.total views.now) 0 false (Delete relation key.now) AnyKept
         (HasTaken first.now.list.items name.now (record { relation = relation; key = key.now; value = old }))) ⊥) }
 {
     let draft = drafted(alloc, views, first)?;

@@ -106,5 +106,6 @@ returns-in-Changes g c =
             modest = subst (λ (next : PageBytes). IsModest at_hand total 0 false pages next) (sym led.0)
                 (modest_trans at_hand total 0 0 false pages mid last (taken_modest at_hand relations total false pages m first c.args.name.now _ rows c.requires.seen taken)
                 (amended_modest at_hand total false mid last m between amends.others));
+            keeps = tt;
           };
     }) (λ no. no)) c.join.ensures

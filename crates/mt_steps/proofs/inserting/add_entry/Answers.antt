@@ -16,6 +16,8 @@ use Rattle.mt_steps.proofs.Asking.{add_needs, add_change, add_inside, added_insi
 use Rattle.mt_steps.proofs.Drafting.{below_some}
 use Rattle.mt_steps.proofs.Modest.{placed_modest, added_modest, modest_trans, modest_more, insert_needs, shortage_few}
 use Rattle.mt_steps.proofs.Entering.{added_is, full_is, endless_is, placed_map, entered}
+use Rattle.mt_steps.specs.Tells.{TakesAlone}
+use Rattle.mt_steps.proofs.Naming.{placed_alone, added_alone}
 use Rattle.mt_steps.proofs.inserting.add_entry.Goals as goal
 
 pub returns-in-Endless : goal.returns-in-Endless
@@ -119,5 +121,7 @@ returns g c = λ value.
                 (modest_more at_hand total _ (cond c.args.split 3 2) c.args.split pages last (insert_needs c.args.split)
                 (modest_trans at_hand total 1 (cond c.args.split 2 1) c.args.split pages mid last (placed_modest at_hand relations total c.args.split pages m first name _ rows c.requires.seen placed)
                 (added_modest at_hand c.args.split total e mid last m between (λ p free some. below_some copies at_hand p c.in_ok-draft.ensures.copies (seen p free some)) adds.added)));
+            keeps = subst (λ (next : PageBytes). TakesAlone name.page pages next) (sym led.0)
+                (added_alone c.args.split total name.page e pages mid last adds.added (placed_alone total pages first name _ placed));
           };
     }) (λ no. absurd no)) c.join.ensures

@@ -15,6 +15,8 @@ use Rattle.mt_steps.proofs.Modest.{moved_modest, amended_modest, modest_trans}
 use Rattle.mt_steps.specs.Plans.{IsModest}
 use Rattle.mt_steps.proofs.Leaving.{amended_is, amend_missing_is, amend_endless_is}
 use Rattle.mt_steps.proofs.Shifting.{moved_map, moved_act, to_inside}
+use Rattle.mt_steps.specs.Tells.{TakesAlone}
+use Rattle.mt_steps.proofs.Naming.{moved_alone, amended_alone}
 use Rattle.mt_steps.proofs.updating.set_entry.Goals as goal
 
 none_some : {A : Type 0} (x : A) → None ≡ Some x → ⊥
@@ -108,5 +110,7 @@ returns-in-Changes g c = λ name value seen.
             modest = subst (λ (next : PageBytes). IsModest at_hand total 1 false pages next) (sym led.0)
                 (modest_trans at_hand total 1 0 false pages mid last (moved_modest at_hand relations total false pages m first name to _ _ rows seen c.requires.seen moved)
                 (amended_modest at_hand total false mid last m between.0 amends.others));
+            keeps = subst (λ (next : PageBytes). TakesAlone to.page pages next) (sym led.0)
+                (amended_alone to.page pages mid last between.0.space_fixed amends.others (moved_alone total pages first name to _ _ moved));
           };
     }) (λ no. no)) c.join.ensures

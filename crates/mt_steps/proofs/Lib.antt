@@ -20,3 +20,4 @@ mod Telling
 mod LoggedOps
 mod Undoing
 mod Naming
+mod Joined

@@ -107,7 +107,7 @@ fn insert_new<V: Pages>(
     if let Some(page) = first_missing(views, &plan.changes) {
         return Ok(Act::Lock(page, Mode::Write));
     }
-    add_entry(alloc, views, relation, key, &plan, split)
+    add_entry(alloc, views, relation, key, plan, split)
 }
 
 // The entry of a record that has been put.
@@ -116,27 +116,27 @@ fn add_entry<V: Pages>(
     views: &V,
     relation: RelNo,
     key: &[u8],
-    plan: &Plan,
+    plan: Plan,
     split: bool,
 ) -> Result<Act, AllocError>
     requires sound { V.is_sound views.now }
-    requires there { AreAtHand (V.at_hand views.now) plan.now.changes.list.items }
-    requires few { length plan.now.changes.list.items ≤ 2 }
-    requires seen { IsSome (V.at_hand views.now plan.now.name.page) }
+    requires there { AreAtHand (V.at_hand views.now) plan.changes.list.items }
+    requires few { length plan.changes.list.items ≤ 2 }
+    requires seen { IsSome (V.at_hand views.now plan.name.page) }
     requires relation_fits { relation < 256 }
     requires short { length key.now ≤ 64 }
     requires good { (relations : ℕ) × (room : Option ℕ) × (value : List ℕ) ×
         HasRoomy (V.at_hand views.now) room relations (V.total views.now) ×
         InRoomy (V.at_hand views.now) room relations (V.total views.now) (λ pages m.
-        IsPlaced (V.total views.now) pages plan.now.changes.list.items plan.now.name
+        IsPlaced (V.total views.now) pages plan.changes.list.items plan.name
         (record { relation = relation; key = key.now; value = value })) }
     ensures { (value : List ℕ) → IfOk result (Tells (V.at_hand views.now) (V.total views.now) (IsDone
         (V.at_hand views.now) (V.total views.now) (cond split 3 2) split (Insert relation key.now value)
-        (TakesAlone plan.now.name.page) (HasPlaced (V.total views.now) plan.now.changes.list.items plan.now.name
+        (TakesAlone plan.name.page) (HasPlaced (V.total views.now) plan.changes.list.items plan.name
         (record { relation = relation; key = key.now; value = value })))
         ((relations : ℕ) (pages : PageBytes) → Agrees (V.at_hand views.now) pages → (m : Map) →
         AreRows relations (V.total views.now) pages m →
-        IsPlaced (V.total views.now) pages plan.now.changes.list.items plan.now.name
+        IsPlaced (V.total views.now) pages plan.changes.list.items plan.name
         (record { relation = relation; key = key.now; value = value }) →
         free_pages (V.total views.now) pages < cond split 3 2)) }
 {
@@ -145,6 +145,6 @@ fn add_entry<V: Pages>(
         Add::Need(page, mode) => Ok(Act::Lock(page, mode)),
         Add::Full => Ok(Act::Full),
         Add::Endless => Ok(Act::Broken),
-        Add::Changes(changes) => join(alloc, views, &plan.changes, &changes, Reply::Done),
+        Add::Changes(changes) => join(alloc, views, plan.changes, changes, Reply::Done),
     }
 }

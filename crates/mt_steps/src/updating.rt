@@ -112,7 +112,7 @@ fn update_row<V: Pages>(
     if is_name(&plan.name, name) {
         return Ok(Act::Made(plan.changes, Reply::Was(old)));
     }
-    set_entry(alloc, views, relation, key, &plan, old)
+    set_entry(alloc, views, relation, key, plan, old)
 }
 
 // Whether two names are the same.
@@ -129,25 +129,25 @@ fn set_entry<V: Pages>(
     views: &V,
     relation: RelNo,
     key: &[u8],
-    plan: &Plan,
+    plan: Plan,
     old: Bytes,
 ) -> Result<Act, AllocError>
     requires sound { V.is_sound views.now }
-    requires there { AreAtHand (V.at_hand views.now) plan.now.changes.list.items }
-    requires few { length plan.now.changes.list.items ≤ 3 }
-    requires seen { IsSome (V.at_hand views.now plan.now.name.page) }
+    requires there { AreAtHand (V.at_hand views.now) plan.changes.list.items }
+    requires few { length plan.changes.list.items ≤ 3 }
+    requires seen { IsSome (V.at_hand views.now plan.name.page) }
     requires short { length key.now ≤ 64 }
     requires good { (relations : ℕ) × (room : Option ℕ) × (name : RecordName) × (value : List ℕ) ×
         HasRoomy (V.at_hand views.now) room relations (V.total views.now) ×
         InRoomy (V.at_hand views.now) room relations (V.total views.now) (λ pages m.
         (m relation key.now ≡ Some name) × IsMoved
-        (V.total views.now) pages plan.now.changes.list.items name plan.now.name
+        (V.total views.now) pages plan.changes.list.items name plan.name
         (record { relation = relation; key = key.now; value = old })
         (record { relation = relation; key = key.now; value = value })) }
     ensures { (name : RecordName) (value : List ℕ) → IsSome (V.at_hand views.now name.page) →
         IfOk result (Tells (V.at_hand views.now) (V.total views.now) (IsDone (V.at_hand views.now)
         (V.total views.now) 1 false (Update relation key.now value)
-        (TakesAlone plan.now.name.page) (HasMoved (V.total views.now) plan.now.changes.list.items name plan.now.name
+        (TakesAlone plan.name.page) (HasMoved (V.total views.now) plan.changes.list.items name plan.name
         (record { relation = relation; key = key.now; value = old })
         (record { relation = relation; key = key.now; value = value }))) ⊥) }
 {
@@ -156,6 +156,6 @@ fn set_entry<V: Pages>(
         Amend::Need(page, mode) => Ok(Act::Lock(page, mode)),
         Amend::Missing => Ok(Act::Broken),
         Amend::Endless => Ok(Act::Broken),
-        Amend::Changes(second) => join(alloc, views, &plan.changes, &second, Reply::Was(old)),
+        Amend::Changes(second) => join(alloc, views, plan.changes, second, Reply::Was(old)),
     }
 }

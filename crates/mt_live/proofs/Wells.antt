@@ -79,6 +79,9 @@ numbered_in begun (x ∷ xs) all t m is = go (x.number == t) refl is (λ h. numb
         subst (λ n. IsNumbered begun n m) ((Decides-eqb x.number t).0 e) (subst (λ (y : Member). IsNumbered begun x.number y) same first)
     go false e h rec = rec h
 
+pub nobody_numbered : (begun : ℕ) (ms : List Member) → ms ≡ [] → AreNumbered begun ms
+nobody_numbered begun ms none = subst (AreNumbered begun) (sym none) (λ t m is. absurd cc)
+
 pub numbered_of : (begun : ℕ) (ms : List Member) (os : List Place) (used capacity : ℕ) → IsWell begun ms os used capacity → AreNumbered begun ms
 numbered_of begun ms os used capacity w = numbered_in begun ms w.numbered
 

@@ -79,6 +79,7 @@ impl Live {
     pub fn new(alloc: Global) -> Live
         ensures begun { result.begun ≡ 0 }
         ensures members { length result.members ≡ 0 }
+        ensures numbered { AreNumbered result.begun result.members }
         ensures standing { length result.standing ≡ 0 }
     {
         Live {

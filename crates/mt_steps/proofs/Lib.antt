@@ -19,3 +19,5 @@ pub mod Formatting
 mod Telling
 mod LoggedOps
 mod Undoing
+mod Naming
+mod Joined

@@ -1,5 +1,6 @@
 -- Pages as they will be: copies of some pages that lie over all pages.
-use Rattle.std.specs.Prelude.{◌≡◌, ◌≢◌, ◌==◌, ◌<◌, if◌then◌else◌, All, ℕ, List, [], ◌∷◌, length, take, Option, Some, None, IsSome}
+use Rattle.std.specs.Prelude.{◌≡◌, ◌≢◌, ◌==◌, ◌<◌, if◌then◌else◌, All, ℕ, Bool, List, [], ◌∷◌, length, take, Option, Some, None, IsSome}
+use Rattle.std.specs.List.{list_any}
 use Rattle.std.proofs.Math.ListN.{get_or}
 use Rattle.mt_space.specs.Changes.{PageBytes}
 use Rattle.mt_space.specs.declared.changes.PageChange.{PageChange}
@@ -57,6 +58,10 @@ Keeps p bytes old new = (q : ℕ) → copied new q ≡ (if p == q then Some byte
 -- each change is of a page that is at hand
 abbrev pub AreAtHand : (ℕ → Option (List ℕ)) → List PageChange → Type 0
 AreAtHand at_hand changes = All (λ c. IsSome (at_hand c.page)) changes
+
+-- some change is of this page
+unfoldable pub names_page : List PageChange → ℕ → Bool
+names_page changes p = list_any (λ (c : PageChange). c.page == p) changes
 
 -- a page that is at hand is whole, where those below are
 pub shown_whole : (copies : List PageCopy) (below : ℕ → Option (List ℕ)) → AreCopies below copies → ((p : ℕ) (bytes : List ℕ) → below p ≡ Some bytes → length bytes ≡ 4096) → (p : ℕ) (bytes : List ℕ) → shown copies below p ≡ Some bytes → length bytes ≡ 4096

@@ -80,6 +80,10 @@ AsksCounters _ p mode = Unit {0}
 abbrev pub LooksFor : (ℕ → Option (List ℕ)) → ℕ → List ℕ → Mode → ℕ → Mode → Type 0
 LooksFor at_hand total key in_bucket p mode = InMaps at_hand total (λ pages m. IsInBucket key in_bucket pages p mode)
 
+-- where a page is named for a record, no page becomes one of records
+abbrev pub TakesNamed : Option ℕ → PageBytes → PageBytes → Type 0
+TakesNamed room pages pages2 = (q : ℕ) → room ≡ Some q → (p : ℕ) → kind pages2 p ≡ 3 → kind pages p ≡ 3
+
 -- what is at hand shows that a key has no record, or which one it has
 abbrev pub IsMissing : (ℕ → Option (List ℕ)) → ℕ → ℕ → List ℕ → Type 0
 IsMissing at_hand total r k = InMaps at_hand total (λ pages m. m r k ≡ None)

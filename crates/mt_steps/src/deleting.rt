@@ -7,7 +7,7 @@ ghost use Rattle.mt_steps.specs.Drafts.{AreAtHand};
 ghost use Rattle.mt_steps.specs.Acts.{HasGood, InGood, IfLock, IfMade, IfFull, IfBroken, IsAct, IsTaken};
 ghost use Rattle.mt_steps.specs.Plans.{AsksRow, IsModest};
 ghost use Rattle.mt_steps.specs.Logged.{logged_of};
-ghost use Rattle.mt_steps.specs.Tells.{Tells, IsDone, IsAny, HasTaken};
+ghost use Rattle.mt_steps.specs.Tells.{Tells, IsDone, IsAny, AnyKept, HasTaken};
 
 use crate::act::Act;
 use crate::draft::first_missing;
@@ -70,7 +70,7 @@ fn delete_row<V: Pages>(
     requires short { length key.now ≤ 64 }
     requires named { InMaps (V.at_hand views.now) (V.total views.now) (λ pages m. m relation key.now ≡ Some name.now) }
     ensures { IfOk result (Tells (V.at_hand views.now) (V.total views.now) (IsDone (V.at_hand views.now)
-        (V.total views.now) 0 false (Delete relation key.now) IsAny) ⊥) }
+        (V.total views.now) 0 false (Delete relation key.now) AnyKept IsAny) ⊥) }
 {
     let old = match plan_read(views, *name) {
         Found::Need(page, _) => return Ok(Act::Lock(page, Mode::Write)),
@@ -85,7 +85,7 @@ fn delete_row<V: Pages>(
     if let Some(page) = first_missing(views, &plan.changes) {
         return Ok(Act::Lock(page, Mode::Write));
     }
-    drop_entry(alloc, views, relation, key, name, &plan.changes, old)
+    drop_entry(alloc, views, relation, key, name, plan.changes, old)
 }
 
 // The entry of a record that has been taken away.
@@ -95,26 +95,26 @@ fn drop_entry<V: Pages>(
     relation: RelNo,
     key: &[u8],
     name: &RecordName,
-    first: &Changes,
+    first: Changes,
     old: Bytes,
 ) -> Result<Act, AllocError>
     requires sound { V.is_sound views.now }
-    requires there { AreAtHand (V.at_hand views.now) first.now.list.items }
-    requires few { length first.now.list.items ≤ 1 }
+    requires there { AreAtHand (V.at_hand views.now) first.list.items }
+    requires few { length first.list.items ≤ 1 }
     requires seen { IsSome (V.at_hand views.now name.now.page) }
     requires short { length key.now ≤ 64 }
     requires good { (relations : ℕ) × HasGood (V.at_hand views.now) relations (V.total views.now) ×
         InGood (V.at_hand views.now) relations (V.total views.now) (λ pages m. (m relation key.now ≡ Some name.now) ×
-        IsTaken pages first.now.list.items name.now (record { relation = relation; key = key.now; value = old })) }
+        IsTaken pages first.list.items name.now (record { relation = relation; key = key.now; value = old })) }
     ensures { IfOk result (Tells (V.at_hand views.now) (V.total views.now) (IsDone (V.at_hand views.now)
-        (V.total views.now) 0 false (Delete relation key.now)
-        (HasTaken first.now.list.items name.now (record { relation = relation; key = key.now; value = old }))) ⊥) }
+        (V.total views.now) 0 false (Delete relation key.now) AnyKept
+        (HasTaken first.list.items name.now (record { relation = relation; key = key.now; value = old }))) ⊥) }
 {
-    let draft = drafted(alloc, views, first)?;
+    let draft = drafted(alloc, views, &first)?;
     match plan_drop(alloc, &draft, relation, key)? {
         Amend::Need(page, mode) => Ok(Act::Lock(page, mode)),
         Amend::Missing => Ok(Act::Broken),
         Amend::Endless => Ok(Act::Broken),
-        Amend::Changes(second) => join(alloc, views, first, &second, Reply::Was(old)),
+        Amend::Changes(second) => join(alloc, views, first, second, Reply::Was(old)),
     }
 }

@@ -7,9 +7,9 @@ ghost use Rattle.mt_model.specs.declared.operations.Op.TheVariants.{Insert};
 ghost use Rattle.mt_index.specs.Answers.{InMaps};
 ghost use Rattle.mt_steps.specs.Drafts.{AreAtHand};
 ghost use Rattle.mt_steps.specs.Acts.{HasRoomy, InRoomy, IfLock, IfMade, IfFull, IfBroken, IsAct, IsPlaced};
-ghost use Rattle.mt_steps.specs.Plans.{free_pages, IsTight, AsksRow, IsModest};
+ghost use Rattle.mt_steps.specs.Plans.{free_pages, IsTight, AsksRow, TakesNamed, IsModest};
 ghost use Rattle.mt_steps.specs.Logged.{logged_of};
-ghost use Rattle.mt_steps.specs.Tells.{Tells, IsDone, TakesRow, HasPlaced};
+ghost use Rattle.mt_steps.specs.Tells.{Tells, IsDone, TakesRow, TakesAlone, HasPlaced};
 ghost use Rattle.mt_index.specs.Maps.{Map};
 ghost use Rattle.mt_steps.specs.Held.{AreRows};
 
@@ -59,6 +59,10 @@ pub(crate) fn insert<V: Pages>(
         (record { relation = relation; key = key.now; value = value.now }) → IfOk result (λ act.
         IfMade act (λ changes reply. InRoomy (V.at_hand views.now) room relations (V.total views.now) (λ pages m.
         IsModest (V.at_hand views.now) (V.total views.now) (cond split 3 2) split pages (after changes pages)))) }
+    ensures named { (relations : ℕ) → Fits relations 1024
+        (record { relation = relation; key = key.now; value = value.now }) → IfOk result (λ act.
+        IfMade act (λ changes reply. InRoomy (V.at_hand views.now) room relations (V.total views.now) (λ pages m.
+        TakesNamed room pages (after changes pages)))) }
     ensures full { (relations : ℕ) → IfOk result (λ act. IfFull act (InRoomy (V.at_hand views.now) room relations
         (V.total views.now) (λ pages m. (free_pages (V.total views.now) pages < cond split 3 2) ⊎
         IsTight room pages (row_length (record { relation = relation; key = key.now; value = value.now }))))) }
@@ -90,7 +94,7 @@ fn insert_new<V: Pages>(
     requires missing { InMaps (V.at_hand views.now) (V.total views.now) (λ pages m. m relation key.now ≡ None) }
     ensures { IfOk result (Tells (V.at_hand views.now) (V.total views.now) (IsDone (V.at_hand views.now)
         (V.total views.now) (cond split 3 2) split (Insert relation key.now value.now)
-        (TakesRow room (record { relation = relation; key = key.now; value = value.now })))
+        (TakesNamed room) (TakesRow room (record { relation = relation; key = key.now; value = value.now })))
         ((relations : ℕ) → InRoomy (V.at_hand views.now) room relations (V.total views.now) (λ pages m.
         (free_pages (V.total views.now) pages < cond split 3 2) ⊎ IsTight room pages (row_length
         (record { relation = relation; key = key.now; value = value.now }))))) }
@@ -103,7 +107,7 @@ fn insert_new<V: Pages>(
     if let Some(page) = first_missing(views, &plan.changes) {
         return Ok(Act::Lock(page, Mode::Write));
     }
-    add_entry(alloc, views, relation, key, &plan, split)
+    add_entry(alloc, views, relation, key, plan, split)
 }
 
 // The entry of a record that has been put.
@@ -112,27 +116,27 @@ fn add_entry<V: Pages>(
     views: &V,
     relation: RelNo,
     key: &[u8],
-    plan: &Plan,
+    plan: Plan,
     split: bool,
 ) -> Result<Act, AllocError>
     requires sound { V.is_sound views.now }
-    requires there { AreAtHand (V.at_hand views.now) plan.now.changes.list.items }
-    requires few { length plan.now.changes.list.items ≤ 2 }
-    requires seen { IsSome (V.at_hand views.now plan.now.name.page) }
+    requires there { AreAtHand (V.at_hand views.now) plan.changes.list.items }
+    requires few { length plan.changes.list.items ≤ 2 }
+    requires seen { IsSome (V.at_hand views.now plan.name.page) }
     requires relation_fits { relation < 256 }
     requires short { length key.now ≤ 64 }
     requires good { (relations : ℕ) × (room : Option ℕ) × (value : List ℕ) ×
         HasRoomy (V.at_hand views.now) room relations (V.total views.now) ×
         InRoomy (V.at_hand views.now) room relations (V.total views.now) (λ pages m.
-        IsPlaced (V.total views.now) pages plan.now.changes.list.items plan.now.name
+        IsPlaced (V.total views.now) pages plan.changes.list.items plan.name
         (record { relation = relation; key = key.now; value = value })) }
     ensures { (value : List ℕ) → IfOk result (Tells (V.at_hand views.now) (V.total views.now) (IsDone
         (V.at_hand views.now) (V.total views.now) (cond split 3 2) split (Insert relation key.now value)
-        (HasPlaced (V.total views.now) plan.now.changes.list.items plan.now.name
+        (TakesAlone plan.name.page) (HasPlaced (V.total views.now) plan.changes.list.items plan.name
         (record { relation = relation; key = key.now; value = value })))
         ((relations : ℕ) (pages : PageBytes) → Agrees (V.at_hand views.now) pages → (m : Map) →
         AreRows relations (V.total views.now) pages m →
-        IsPlaced (V.total views.now) pages plan.now.changes.list.items plan.now.name
+        IsPlaced (V.total views.now) pages plan.changes.list.items plan.name
         (record { relation = relation; key = key.now; value = value }) →
         free_pages (V.total views.now) pages < cond split 3 2)) }
 {
@@ -141,6 +145,6 @@ fn add_entry<V: Pages>(
         Add::Need(page, mode) => Ok(Act::Lock(page, mode)),
         Add::Full => Ok(Act::Full),
         Add::Endless => Ok(Act::Broken),
-        Add::Changes(changes) => join(alloc, views, &plan.changes, &changes, Reply::Done),
+        Add::Changes(changes) => join(alloc, views, plan.changes, changes, Reply::Done),
     }
 }

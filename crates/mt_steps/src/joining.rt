@@ -1,8 +1,9 @@
 // Two plans of one operation, the second made over the changes of the first.
-ghost use Rattle.std.specs.Prelude.{◌≡◌, ◌≢◌, ◌+◌, ◌<◌, ◌≤◌, ℕ, length, None, IfOk};
+ghost use Rattle.std.specs.Prelude.{◌≡◌, ◌≢◌, ◌+◌, ◌++◌, ◌<◌, ◌≤◌, ℕ, All, false, length, None, IfOk};
+ghost use Rattle.std.specs.Bool.{OnTrue};
 ghost use Rattle.mt_base.specs.declared.modes.Mode.TheVariants.{Write as ToWrite};
 ghost use Rattle.mt_space.specs.Changes.{PageBytes, Agrees, after, AreShort, IsUntouched};
-ghost use Rattle.mt_steps.specs.Drafts.{AreAtHand, AreCopies, shown};
+ghost use Rattle.mt_steps.specs.Drafts.{AreAtHand, AreCopies, names_page, shown};
 ghost use Rattle.mt_steps.specs.Acts.{IfLock, IfMade, IfFull, IfBroken};
 ghost use Rattle.mt_steps.specs.Tells.{Tells, IsJoined};
 
@@ -51,20 +52,53 @@ pub(crate) fn drafted<'a, V: Pages>(
 pub(crate) fn join<V: Pages>(
     alloc: Global,
     views: &V,
-    first: &Changes,
-    second: &Changes,
+    first: Changes,
+    second: Changes,
     reply: Reply,
 ) -> Result<Act, AllocError>
     requires sound { V.is_sound views.now }
-    requires there { AreAtHand (V.at_hand views.now) first.now.list.items }
-    requires inside { (p : ℕ) → (IsUntouched second.now.list.items p → ⊥) → p < V.total views.now }
-    requires short { (pages : PageBytes) × Agrees (V.at_hand views.now) pages × AreShort first.now.list.items pages ×
-        AreShort second.now.list.items (after first.now.list.items pages) }
+    requires there { AreAtHand (V.at_hand views.now) first.list.items }
+    requires inside { (p : ℕ) → (IsUntouched second.list.items p → ⊥) → p < V.total views.now }
+    requires short { (pages : PageBytes) × Agrees (V.at_hand views.now) pages × AreShort first.list.items pages ×
+        AreShort second.list.items (after first.list.items pages) }
     ensures { IfOk result (Tells (V.at_hand views.now) (V.total views.now) (IsJoined
-        (V.at_hand views.now) first.now.list.items second.now.list.items reply) ⊥) }
+        (V.at_hand views.now) first.list.items second.list.items reply) ⊥) }
 {
-    if let Some(page) = first_missing(views, second) {
+    if let Some(page) = first_missing(views, &second) {
         return Ok(Act::Lock(page, Mode::Write));
     }
-    Ok(Act::Made(merged(alloc, views, first, second)?, reply))
+    if are_apart(&first, &second) {
+        let changes = chained(first, second)?;
+        return Ok(Act::Made(changes, reply));
+    }
+    Ok(Act::Made(merged(alloc, views, &first, &second)?, reply))
+}
+
+// Whether these changes name a page.
+#[tactic(auto, unfolding(crate::specs::Drafts::names_page))]
+fn name_page(changes: &Changes, page: PageNo) -> bool
+    ensures { result ≡ names_page changes.now.list.items page }
+{
+    changes.list.iter().any(|change| change.page == page)
+}
+
+// Whether no page is named by both.
+fn are_apart(first: &Changes, second: &Changes) -> bool
+    ensures { OnTrue result (All (λ c. names_page first.now.list.items c.page ≡ false) second.now.list.items) }
+{
+    for change in &second.list {
+        if name_page(first, change.page) {
+            return false;
+        }
+    }
+    true
+}
+
+// The changes of both, one list behind the other.
+fn chained(first: Changes, mut second: Changes) -> Result<Changes, AllocError>
+    ensures { IfOk result (λ all. all.list.items ≡ first.list.items ++ second.list.items) }
+{
+    let mut all = first;
+    all.list.append(&mut second.list)?;
+    Ok(all)
 }

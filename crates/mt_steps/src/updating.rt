@@ -8,9 +8,9 @@ ghost use Rattle.mt_index.specs.Answers.{InMaps};
 ghost use Rattle.mt_model.specs.declared.operations.Op.TheVariants.{Update};
 ghost use Rattle.mt_steps.specs.Drafts.{AreAtHand};
 ghost use Rattle.mt_steps.specs.Acts.{HasRoomy, InRoomy, IfLock, IfMade, IfFull, IfBroken, IsAct, IsMoved};
-ghost use Rattle.mt_steps.specs.Plans.{free_pages, IsTight, AsksRow, IsModest};
+ghost use Rattle.mt_steps.specs.Plans.{free_pages, IsTight, AsksRow, TakesNamed, IsModest};
 ghost use Rattle.mt_steps.specs.Logged.{logged_of};
-ghost use Rattle.mt_steps.specs.Tells.{Tells, IsDone, TakesRow, HasMoved};
+ghost use Rattle.mt_steps.specs.Tells.{Tells, IsDone, TakesRow, TakesAlone, HasMoved};
 
 use crate::act::Act;
 use crate::draft::first_missing;
@@ -57,6 +57,10 @@ pub(crate) fn update<V: Pages>(
         (record { relation = relation; key = key.now; value = value.now }) → IfOk result (λ act.
         IfMade act (λ changes reply. InRoomy (V.at_hand views.now) room relations (V.total views.now) (λ pages m.
         IsModest (V.at_hand views.now) (V.total views.now) 1 false pages (after changes pages)))) }
+    ensures named { (relations : ℕ) → Fits relations 1024
+        (record { relation = relation; key = key.now; value = value.now }) → IfOk result (λ act.
+        IfMade act (λ changes reply. InRoomy (V.at_hand views.now) room relations (V.total views.now) (λ pages m.
+        TakesNamed room pages (after changes pages)))) }
     ensures full { (relations : ℕ) → IfOk result (λ act. IfFull act (InRoomy (V.at_hand views.now) room relations
         (V.total views.now) (λ pages m. (free_pages (V.total views.now) pages < 1) ⊎
         IsTight room pages (row_length (record { relation = relation; key = key.now; value = value.now }))))) }
@@ -87,7 +91,7 @@ fn update_row<V: Pages>(
     requires named { InMaps (V.at_hand views.now) (V.total views.now) (λ pages m. m relation key.now ≡ Some name.now) }
     ensures { IfOk result (Tells (V.at_hand views.now) (V.total views.now) (IsDone (V.at_hand views.now)
         (V.total views.now) 1 false (Update relation key.now value.now)
-        (TakesRow room (record { relation = relation; key = key.now; value = value.now })))
+        (TakesNamed room) (TakesRow room (record { relation = relation; key = key.now; value = value.now })))
         ((relations : ℕ) → InRoomy (V.at_hand views.now) room relations (V.total views.now) (λ pages m.
         (free_pages (V.total views.now) pages < 1) ⊎ IsTight room pages (row_length
         (record { relation = relation; key = key.now; value = value.now }))))) }
@@ -108,7 +112,7 @@ fn update_row<V: Pages>(
     if is_name(&plan.name, name) {
         return Ok(Act::Made(plan.changes, Reply::Was(old)));
     }
-    set_entry(alloc, views, relation, key, &plan, old)
+    set_entry(alloc, views, relation, key, plan, old)
 }
 
 // Whether two names are the same.
@@ -125,25 +129,25 @@ fn set_entry<V: Pages>(
     views: &V,
     relation: RelNo,
     key: &[u8],
-    plan: &Plan,
+    plan: Plan,
     old: Bytes,
 ) -> Result<Act, AllocError>
     requires sound { V.is_sound views.now }
-    requires there { AreAtHand (V.at_hand views.now) plan.now.changes.list.items }
-    requires few { length plan.now.changes.list.items ≤ 3 }
-    requires seen { IsSome (V.at_hand views.now plan.now.name.page) }
+    requires there { AreAtHand (V.at_hand views.now) plan.changes.list.items }
+    requires few { length plan.changes.list.items ≤ 3 }
+    requires seen { IsSome (V.at_hand views.now plan.name.page) }
     requires short { length key.now ≤ 64 }
     requires good { (relations : ℕ) × (room : Option ℕ) × (name : RecordName) × (value : List ℕ) ×
         HasRoomy (V.at_hand views.now) room relations (V.total views.now) ×
         InRoomy (V.at_hand views.now) room relations (V.total views.now) (λ pages m.
         (m relation key.now ≡ Some name) × IsMoved
-        (V.total views.now) pages plan.now.changes.list.items name plan.now.name
+        (V.total views.now) pages plan.changes.list.items name plan.name
         (record { relation = relation; key = key.now; value = old })
         (record { relation = relation; key = key.now; value = value })) }
     ensures { (name : RecordName) (value : List ℕ) → IsSome (V.at_hand views.now name.page) →
         IfOk result (Tells (V.at_hand views.now) (V.total views.now) (IsDone (V.at_hand views.now)
         (V.total views.now) 1 false (Update relation key.now value)
-        (HasMoved (V.total views.now) plan.now.changes.list.items name plan.now.name
+        (TakesAlone plan.name.page) (HasMoved (V.total views.now) plan.changes.list.items name plan.name
         (record { relation = relation; key = key.now; value = old })
         (record { relation = relation; key = key.now; value = value }))) ⊥) }
 {
@@ -152,6 +156,6 @@ fn set_entry<V: Pages>(
         Amend::Need(page, mode) => Ok(Act::Lock(page, mode)),
         Amend::Missing => Ok(Act::Broken),
         Amend::Endless => Ok(Act::Broken),
-        Amend::Changes(second) => join(alloc, views, &plan.changes, &second, Reply::Was(old)),
+        Amend::Changes(second) => join(alloc, views, plan.changes, second, Reply::Was(old)),
     }
 }

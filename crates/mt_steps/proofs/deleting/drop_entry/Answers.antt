@@ -25,8 +25,8 @@ returns-in-Missing g c =
     let placed = c.requires.good.2 good.0 good.1 good.2 good.3 in
     let copies = c.in_ok-draft.draft.copies.items in
     let told = subst (λ x. InMaps (shown copies (g.V.Pages.at_hand x)) (g.V.Pages.total x) (λ pages m. m c.args.relation c.args.key.now ≡ None)) c.in_ok-draft.ensures.views (amend_missing_is _ c.in_ok-page.field-0 c.in-Missing.is c.in_ok-page.ensures.missing) in
-    none_some _ (sym (told (after c.args.first.now.list.items good.0) (c.in_ok-draft.ensures.agrees good.0 good.1) good.2
-    (taken_map c.requires.good.0 (g.V.Pages.total c.args.views.now) good.0 good.2 c.args.first.now.list.items c.args.name.now _ good.3 placed.1)) ∙ placed.0)
+    none_some _ (sym (told (after c.args.first.list.items good.0) (c.in_ok-draft.ensures.agrees good.0 good.1) good.2
+    (taken_map c.requires.good.0 (g.V.Pages.total c.args.views.now) good.0 good.2 c.args.first.list.items c.args.name.now _ good.3 placed.1)) ∙ placed.0)
 
 pub returns-in-Endless : goal.returns-in-Endless
 returns-in-Endless g c =
@@ -34,8 +34,8 @@ returns-in-Endless g c =
     let placed = c.requires.good.2 good.0 good.1 good.2 good.3 in
     let copies = c.in_ok-draft.draft.copies.items in
     let told = subst (λ x. InMaps (shown copies (g.V.Pages.at_hand x)) (g.V.Pages.total x) (λ pages m. ⊥)) c.in_ok-draft.ensures.views (amend_endless_is _ c.in_ok-page.field-0 c.in-Endless.is c.in_ok-page.ensures.endless) in
-    told (after c.args.first.now.list.items good.0) (c.in_ok-draft.ensures.agrees good.0 good.1) good.2
-    (taken_map c.requires.good.0 (g.V.Pages.total c.args.views.now) good.0 good.2 c.args.first.now.list.items c.args.name.now _ good.3 placed.1)
+    told (after c.args.first.list.items good.0) (c.in_ok-draft.ensures.agrees good.0 good.1) good.2
+    (taken_map c.requires.good.0 (g.V.Pages.total c.args.views.now) good.0 good.2 c.args.first.list.items c.args.name.now _ good.3 placed.1)
 
 pub join-requires-clause-short : goal.join-requires-clause-short
 join-requires-clause-short g c =
@@ -44,15 +44,15 @@ join-requires-clause-short g c =
     let copies = c.in_ok-draft.draft.copies.items in
     let told = subst (λ x. InMaps (shown copies (g.V.Pages.at_hand x)) (g.V.Pages.total x) (λ pages m. Amends (g.V.Pages.total x) pages c.in-Changes.second.list.items m c.args.relation c.args.key.now None)) c.in_ok-draft.ensures.views
     (amended_is _ c.in_ok-page.field-0 c.in-Changes.second c.in-Changes.is c.in_ok-page.ensures.dropped) in
-    let amends = told (after c.args.first.now.list.items good.0) (c.in_ok-draft.ensures.agrees good.0 good.1) good.2
-    (taken_map c.requires.good.0 (g.V.Pages.total c.args.views.now) good.0 good.2 c.args.first.now.list.items c.args.name.now _ good.3 placed.1) in
+    let amends = told (after c.args.first.list.items good.0) (c.in_ok-draft.ensures.agrees good.0 good.1) good.2
+    (taken_map c.requires.good.0 (g.V.Pages.total c.args.views.now) good.0 good.2 c.args.first.list.items c.args.name.now _ good.3 placed.1) in
     (good.0, good.1, placed.1.short, amends.short)
 
 pub returns-in-Need : goal.returns-in-Need
 returns-in-Need g c =
     let good = c.requires.good.1 in
     let placed = c.requires.good.2 good.0 good.1 good.2 good.3 in
-    let first = c.args.first.now.list.items in
+    let first = c.args.first.list.items in
     let total = g.V.Pages.total c.args.views.now in
     let between = taken_map c.requires.good.0 total good.0 good.2 first c.args.name.now _ good.3 placed.1 in
     let asks = subst (λ x. Asks (shown c.in_ok-draft.draft.copies.items (g.V.Pages.at_hand x)) (g.V.Pages.total x) (IsInBucket c.args.key.now Write) c.in-Need.page c.in-Need.mode) c.in_ok-draft.ensures.views
@@ -64,7 +64,7 @@ pub join-requires-clause-inside : goal.join-requires-clause-inside
 join-requires-clause-inside g c = λ p named.
     let good = c.requires.good.1 in
     let placed = c.requires.good.2 good.0 good.1 good.2 good.3 in
-    let first = c.args.first.now.list.items in
+    let first = c.args.first.list.items in
     let second = c.in-Changes.second.list.items in
     let total = g.V.Pages.total c.args.views.now in
     let between = taken_map c.requires.good.0 total good.0 good.2 first c.args.name.now _ good.3 placed.1 in
@@ -77,7 +77,7 @@ pub returns-in-Changes : goal.returns-in-Changes
 returns-in-Changes g c =
     let at_hand = g.V.Pages.at_hand c.args.views.now in
     let total = g.V.Pages.total c.args.views.now in
-    let first = c.args.first.now.list.items in
+    let first = c.args.first.list.items in
     let second = c.in-Changes.second.list.items in
     let copies = c.in_ok-draft.draft.copies.items in
     let good = c.requires.good.1 in
@@ -106,5 +106,6 @@ returns-in-Changes g c =
             modest = subst (λ (next : PageBytes). IsModest at_hand total 0 false pages next) (sym led.0)
                 (modest_trans at_hand total 0 0 false pages mid last (taken_modest at_hand relations total false pages m first c.args.name.now _ rows c.requires.seen taken)
                 (amended_modest at_hand total false mid last m between amends.others));
+            keeps = tt;
           };
     }) (λ no. no)) c.join.ensures

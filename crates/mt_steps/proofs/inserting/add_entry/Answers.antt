@@ -16,6 +16,8 @@ use Rattle.mt_steps.proofs.Asking.{add_needs, add_change, add_inside, added_insi
 use Rattle.mt_steps.proofs.Drafting.{below_some}
 use Rattle.mt_steps.proofs.Modest.{placed_modest, added_modest, modest_trans, modest_more, insert_needs, shortage_few}
 use Rattle.mt_steps.proofs.Entering.{added_is, full_is, endless_is, placed_map, entered}
+use Rattle.mt_steps.specs.Tells.{TakesAlone}
+use Rattle.mt_steps.proofs.Naming.{placed_alone, added_alone}
 use Rattle.mt_steps.proofs.inserting.add_entry.Goals as goal
 
 pub returns-in-Endless : goal.returns-in-Endless
@@ -24,28 +26,28 @@ returns-in-Endless g c = λ value.
     let placed = c.requires.good.4 good.0 good.1 good.2 good.3 good.4 in
     let copies = c.in_ok-draft.draft.copies.items in
     let told = subst (λ x. InMaps (shown copies (g.V.Pages.at_hand x)) (g.V.Pages.total x) (λ pages m. ⊥)) c.in_ok-draft.ensures.views (endless_is _ c.in_ok-page.field-0 c.in-Endless.is c.in_ok-page.ensures.endless) in
-    told (after c.args.plan.now.changes.list.items good.0) (c.in_ok-draft.ensures.agrees good.0 good.1) good.2
-    (placed_map c.requires.good.0 (g.V.Pages.total c.args.views.now) good.0 good.2 c.args.plan.now.changes.list.items c.args.plan.now.name _ good.3 placed)
+    told (after c.args.plan.changes.list.items good.0) (c.in_ok-draft.ensures.agrees good.0 good.1) good.2
+    (placed_map c.requires.good.0 (g.V.Pages.total c.args.views.now) good.0 good.2 c.args.plan.changes.list.items c.args.plan.name _ good.3 placed)
 
 pub join-requires-clause-short : goal.join-requires-clause-short
 join-requires-clause-short g c =
     let good = c.requires.good.3 in
     let placed = c.requires.good.4 good.0 good.1 good.2 good.3 good.4 in
     let copies = c.in_ok-draft.draft.copies.items in
-    let e : Entry = record { relation = c.args.relation; key = c.args.key.now; name = c.args.plan.now.name } in
+    let e : Entry = record { relation = c.args.relation; key = c.args.key.now; name = c.args.plan.name } in
     let told = subst (λ x. InMaps (shown copies (g.V.Pages.at_hand x)) (g.V.Pages.total x) (λ pages m. Adds c.args.split (g.V.Pages.total x) e pages c.in-Changes.changes.list.items)) c.in_ok-draft.ensures.views
     (added_is _ c.in_ok-page.field-0 c.in-Changes.changes c.in-Changes.is c.in_ok-page.ensures.added) in
-    let adds = told (after c.args.plan.now.changes.list.items good.0) (c.in_ok-draft.ensures.agrees good.0 good.1) good.2
-    (placed_map c.requires.good.0 (g.V.Pages.total c.args.views.now) good.0 good.2 c.args.plan.now.changes.list.items c.args.plan.now.name _ good.3 placed) in
+    let adds = told (after c.args.plan.changes.list.items good.0) (c.in_ok-draft.ensures.agrees good.0 good.1) good.2
+    (placed_map c.requires.good.0 (g.V.Pages.total c.args.views.now) good.0 good.2 c.args.plan.changes.list.items c.args.plan.name _ good.3 placed) in
     (good.0, good.1, placed.short, adds.short)
 
 pub returns-in-Need : goal.returns-in-Need
 returns-in-Need g c = λ value.
     let good = c.requires.good.3 in
     let placed = c.requires.good.4 good.0 good.1 good.2 good.3 good.4 in
-    let first = c.args.plan.now.changes.list.items in
+    let first = c.args.plan.changes.list.items in
     let total = g.V.Pages.total c.args.views.now in
-    let between = placed_map c.requires.good.0 total good.0 good.2 first c.args.plan.now.name _ good.3 placed in
+    let between = placed_map c.requires.good.0 total good.0 good.2 first c.args.plan.name _ good.3 placed in
     let asks = subst (λ x. Asks (shown c.in_ok-draft.draft.copies.items (g.V.Pages.at_hand x)) (g.V.Pages.total x) (IsInAdd c.args.split c.args.key.now (g.V.Pages.total x)) c.in-Need.page c.in-Need.mode) c.in_ok-draft.ensures.views
     (add_needs _ c.in_ok-page.field-0 c.in-Need.page c.in-Need.mode c.in-Need.is c.in_ok-page.ensures.need) in
     let role = asks.role (after first good.0) (c.in_ok-draft.ensures.agrees good.0 good.1) good.2 between in
@@ -55,11 +57,11 @@ pub join-requires-clause-inside : goal.join-requires-clause-inside
 join-requires-clause-inside g c = λ p named.
     let good = c.requires.good.3 in
     let placed = c.requires.good.4 good.0 good.1 good.2 good.3 good.4 in
-    let first = c.args.plan.now.changes.list.items in
+    let first = c.args.plan.changes.list.items in
     let second = c.in-Changes.changes.list.items in
     let total = g.V.Pages.total c.args.views.now in
-    let e : Entry = record { relation = c.args.relation; key = c.args.key.now; name = c.args.plan.now.name } in
-    let between = placed_map c.requires.good.0 total good.0 good.2 first c.args.plan.now.name _ good.3 placed in
+    let e : Entry = record { relation = c.args.relation; key = c.args.key.now; name = c.args.plan.name } in
+    let between = placed_map c.requires.good.0 total good.0 good.2 first c.args.plan.name _ good.3 placed in
     let told = subst (λ x. InMaps (shown c.in_ok-draft.draft.copies.items (g.V.Pages.at_hand x)) (g.V.Pages.total x) (λ pages m. Adds c.args.split (g.V.Pages.total x) e pages second)) c.in_ok-draft.ensures.views
     (added_is _ c.in_ok-page.field-0 c.in-Changes.changes c.in-Changes.is c.in_ok-page.ensures.added) in
     let adds = told (after first good.0) (c.in_ok-draft.ensures.agrees good.0 good.1) good.2 between in
@@ -67,25 +69,25 @@ join-requires-clause-inside g c = λ p named.
 
 pub returns-in-Full : goal.returns-in-Full
 returns-in-Full g c = λ value relations pages agrees m rows placed.
-    let first = c.args.plan.now.changes.list.items in
+    let first = c.args.plan.changes.list.items in
     let total = g.V.Pages.total c.args.views.now in
     let mid = after first pages in
     let copies = c.in_ok-draft.draft.copies.items in
-    let e : Entry = record { relation = c.args.relation; key = c.args.key.now; name = c.args.plan.now.name } in
-    let between = placed_map relations total pages m first c.args.plan.now.name _ rows placed in
+    let e : Entry = record { relation = c.args.relation; key = c.args.key.now; name = c.args.plan.name } in
+    let between = placed_map relations total pages m first c.args.plan.name _ rows placed in
     let short = subst (λ x. InMaps (shown copies (g.V.Pages.at_hand x)) (g.V.Pages.total x) (λ pages m. Shortage c.args.split (g.V.Pages.total x) e pages)) c.in_ok-draft.ensures.views
     (full_is _ c.in_ok-page.field-0 c.in-Full.is c.in_ok-page.ensures.full) mid (c.in_ok-draft.ensures.agrees pages agrees) m between in
-    let takes = (placed_modest (g.V.Pages.at_hand c.args.views.now) relations total c.args.split pages m first c.args.plan.now.name _ rows c.requires.seen placed).takes in
+    let takes = (placed_modest (g.V.Pages.at_hand c.args.views.now) relations total c.args.split pages m first c.args.plan.name _ rows c.requires.seen placed).takes in
     let one = shortage_few c.args.split total e mid placed.adds.file.whole between.few short in
     let needs = insert_needs c.args.split in
     omega (arith, takes, one, needs)
 
-pub returns : goal.returns
-returns g c = λ value.
+pub returns-in-Changes : goal.returns-in-Changes
+returns-in-Changes g c = λ value.
     let at_hand = g.V.Pages.at_hand c.args.views.now in
     let total = g.V.Pages.total c.args.views.now in
-    let first = c.args.plan.now.changes.list.items in
-    let name = c.args.plan.now.name in
+    let first = c.args.plan.changes.list.items in
+    let name = c.args.plan.name in
     let second = c.in-Changes.changes.list.items in
     let copies = c.in_ok-draft.draft.copies.items in
     let e : Entry = record { relation = c.args.relation; key = c.args.key.now; name = name } in
@@ -119,5 +121,7 @@ returns g c = λ value.
                 (modest_more at_hand total _ (cond c.args.split 3 2) c.args.split pages last (insert_needs c.args.split)
                 (modest_trans at_hand total 1 (cond c.args.split 2 1) c.args.split pages mid last (placed_modest at_hand relations total c.args.split pages m first name _ rows c.requires.seen placed)
                 (added_modest at_hand c.args.split total e mid last m between (λ p free some. below_some copies at_hand p c.in_ok-draft.ensures.copies (seen p free some)) adds.added)));
+            keeps = subst (λ (next : PageBytes). TakesAlone name.page pages next) (sym led.0)
+                (added_alone c.args.split total name.page e pages mid last adds.added (placed_alone total pages first name _ placed));
           };
     }) (λ no. absurd no)) c.join.ensures

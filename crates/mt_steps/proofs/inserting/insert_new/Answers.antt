@@ -5,11 +5,12 @@ use Rattle.mt_file.specs.declared.step.Step.{Step}
 use Rattle.mt_file.specs.Plans.{IsPut, IsNamed}
 use Rattle.mt_steps.specs.Held.{AreRows}
 use Rattle.mt_index.specs.Maps.{Map}
-use Rattle.mt_space.specs.Changes.{PageBytes, Agrees}
+use Rattle.mt_space.specs.Changes.{PageBytes, Agrees, after}
 use Rattle.mt_steps.proofs.Telling.{tells_weaker}
 use Rattle.mt_steps.proofs.Asking.{put_needs, placed_inside}
 use Rattle.mt_steps.proofs.Entering.{placed_is}
 use Rattle.mt_steps.proofs.Modest.{insert_needs, too_full}
+use Rattle.mt_steps.proofs.Naming.{alone_named, put_own}
 use Rattle.mt_steps.proofs.inserting.insert_new.Goals as goal
 
 pub add_entry-requires-clause-good : goal.add_entry-requires-clause-good
@@ -54,5 +55,12 @@ returns g c =
       there = done.there;
       few = done.few;
       idle = done.idle;
-      does = λ relations pages agrees m rows so. done.does relations pages agrees m rows (so.0, c.requires.missing pages agrees m rows.index, put relations pages agrees m rows so.1);
+      does = λ relations pages agrees m rows so.
+          let d = done.does relations pages agrees m rows (so.0, c.requires.missing pages agrees m rows.index, put relations pages agrees m rows so.1) in record {
+            act = d.act;
+            short = d.short;
+            modest = d.modest;
+            keeps = alone_named c.args.room c.in-Done.plan.name.page pages (after changes pages)
+                (put_own at_hand c.args.room total pages _ c.in_ok-page.field-0 c.in-Done.plan c.in-Done.is so.1 (c.in_ok-page.ensures.put pages agrees rows.file so.1)) d.keeps;
+          };
     }) (λ full relations pages agrees m rows named. inl (full relations pages agrees m rows (put relations pages agrees m rows named)))) (c.add_entry.ensures c.args.value.now)

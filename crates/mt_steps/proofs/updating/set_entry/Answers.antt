@@ -15,6 +15,8 @@ use Rattle.mt_steps.proofs.Modest.{moved_modest, amended_modest, modest_trans}
 use Rattle.mt_steps.specs.Plans.{IsModest}
 use Rattle.mt_steps.proofs.Leaving.{amended_is, amend_missing_is, amend_endless_is}
 use Rattle.mt_steps.proofs.Shifting.{moved_map, moved_act, to_inside}
+use Rattle.mt_steps.specs.Tells.{TakesAlone}
+use Rattle.mt_steps.proofs.Naming.{moved_alone, amended_alone}
 use Rattle.mt_steps.proofs.updating.set_entry.Goals as goal
 
 none_some : {A : Type 0} (x : A) → None ≡ Some x → ⊥
@@ -26,8 +28,8 @@ returns-in-Missing g c = λ name value seen.
     let placed = c.requires.good.5 good.0 good.1 good.2 good.3 good.4 in
     let copies = c.in_ok-draft.draft.copies.items in
     let told = subst (λ x. InMaps (shown copies (g.V.Pages.at_hand x)) (g.V.Pages.total x) (λ pages m. m c.args.relation c.args.key.now ≡ None)) c.in_ok-draft.ensures.views (amend_missing_is _ c.in_ok-page.field-0 c.in-Missing.is c.in_ok-page.ensures.missing) in
-    none_some _ (sym (told (after c.args.plan.now.changes.list.items good.0) (c.in_ok-draft.ensures.agrees good.0 good.1) good.2
-    (moved_map c.requires.good.0 (g.V.Pages.total c.args.views.now) good.0 good.2 c.args.plan.now.changes.list.items c.requires.good.2 c.args.plan.now.name _ _ good.3 placed.1).0) ∙ placed.0)
+    none_some _ (sym (told (after c.args.plan.changes.list.items good.0) (c.in_ok-draft.ensures.agrees good.0 good.1) good.2
+    (moved_map c.requires.good.0 (g.V.Pages.total c.args.views.now) good.0 good.2 c.args.plan.changes.list.items c.requires.good.2 c.args.plan.name _ _ good.3 placed.1).0) ∙ placed.0)
 
 pub returns-in-Endless : goal.returns-in-Endless
 returns-in-Endless g c = λ name value seen.
@@ -35,27 +37,27 @@ returns-in-Endless g c = λ name value seen.
     let placed = c.requires.good.5 good.0 good.1 good.2 good.3 good.4 in
     let copies = c.in_ok-draft.draft.copies.items in
     let told = subst (λ x. InMaps (shown copies (g.V.Pages.at_hand x)) (g.V.Pages.total x) (λ pages m. ⊥)) c.in_ok-draft.ensures.views (amend_endless_is _ c.in_ok-page.field-0 c.in-Endless.is c.in_ok-page.ensures.endless) in
-    told (after c.args.plan.now.changes.list.items good.0) (c.in_ok-draft.ensures.agrees good.0 good.1) good.2
-    (moved_map c.requires.good.0 (g.V.Pages.total c.args.views.now) good.0 good.2 c.args.plan.now.changes.list.items c.requires.good.2 c.args.plan.now.name _ _ good.3 placed.1).0
+    told (after c.args.plan.changes.list.items good.0) (c.in_ok-draft.ensures.agrees good.0 good.1) good.2
+    (moved_map c.requires.good.0 (g.V.Pages.total c.args.views.now) good.0 good.2 c.args.plan.changes.list.items c.requires.good.2 c.args.plan.name _ _ good.3 placed.1).0
 
 pub join-requires-clause-short : goal.join-requires-clause-short
 join-requires-clause-short g c =
     let good = c.requires.good.4 in
     let placed = c.requires.good.5 good.0 good.1 good.2 good.3 good.4 in
     let copies = c.in_ok-draft.draft.copies.items in
-    let told = subst (λ x. InMaps (shown copies (g.V.Pages.at_hand x)) (g.V.Pages.total x) (λ pages m. Amends (g.V.Pages.total x) pages c.in-Changes.second.list.items m c.args.relation c.args.key.now (Some c.args.plan.now.name))) c.in_ok-draft.ensures.views
+    let told = subst (λ x. InMaps (shown copies (g.V.Pages.at_hand x)) (g.V.Pages.total x) (λ pages m. Amends (g.V.Pages.total x) pages c.in-Changes.second.list.items m c.args.relation c.args.key.now (Some c.args.plan.name))) c.in_ok-draft.ensures.views
     (amended_is _ c.in_ok-page.field-0 c.in-Changes.second c.in-Changes.is c.in_ok-page.ensures.set) in
-    let amends = told (after c.args.plan.now.changes.list.items good.0) (c.in_ok-draft.ensures.agrees good.0 good.1) good.2
-    (moved_map c.requires.good.0 (g.V.Pages.total c.args.views.now) good.0 good.2 c.args.plan.now.changes.list.items c.requires.good.2 c.args.plan.now.name _ _ good.3 placed.1).0 in
+    let amends = told (after c.args.plan.changes.list.items good.0) (c.in_ok-draft.ensures.agrees good.0 good.1) good.2
+    (moved_map c.requires.good.0 (g.V.Pages.total c.args.views.now) good.0 good.2 c.args.plan.changes.list.items c.requires.good.2 c.args.plan.name _ _ good.3 placed.1).0 in
     (good.0, good.1, placed.1.short, amends.short)
 
 pub returns-in-Need : goal.returns-in-Need
 returns-in-Need g c = λ name value seen.
     let good = c.requires.good.4 in
     let placed = c.requires.good.5 good.0 good.1 good.2 good.3 good.4 in
-    let first = c.args.plan.now.changes.list.items in
+    let first = c.args.plan.changes.list.items in
     let total = g.V.Pages.total c.args.views.now in
-    let between = (moved_map c.requires.good.0 total good.0 good.2 first c.requires.good.2 c.args.plan.now.name _ _ good.3 placed.1).0 in
+    let between = (moved_map c.requires.good.0 total good.0 good.2 first c.requires.good.2 c.args.plan.name _ _ good.3 placed.1).0 in
     let asks = subst (λ x. Asks (shown c.in_ok-draft.draft.copies.items (g.V.Pages.at_hand x)) (g.V.Pages.total x) (IsInBucket c.args.key.now Write) c.in-Need.page c.in-Need.mode) c.in_ok-draft.ensures.views
     (amend_needs _ c.in_ok-page.field-0 c.in-Need.page c.in-Need.mode c.in-Need.is c.in_ok-page.ensures.need) in
     let role = asks.role (after first good.0) (c.in_ok-draft.ensures.agrees good.0 good.1) good.2 between in
@@ -65,11 +67,11 @@ pub join-requires-clause-inside : goal.join-requires-clause-inside
 join-requires-clause-inside g c = λ p named.
     let good = c.requires.good.4 in
     let placed = c.requires.good.5 good.0 good.1 good.2 good.3 good.4 in
-    let first = c.args.plan.now.changes.list.items in
+    let first = c.args.plan.changes.list.items in
     let second = c.in-Changes.second.list.items in
     let total = g.V.Pages.total c.args.views.now in
-    let between = (moved_map c.requires.good.0 total good.0 good.2 first c.requires.good.2 c.args.plan.now.name _ _ good.3 placed.1).0 in
-    let told = subst (λ x. InMaps (shown c.in_ok-draft.draft.copies.items (g.V.Pages.at_hand x)) (g.V.Pages.total x) (λ pages m. Amends (g.V.Pages.total x) pages second m c.args.relation c.args.key.now (Some c.args.plan.now.name))) c.in_ok-draft.ensures.views
+    let between = (moved_map c.requires.good.0 total good.0 good.2 first c.requires.good.2 c.args.plan.name _ _ good.3 placed.1).0 in
+    let told = subst (λ x. InMaps (shown c.in_ok-draft.draft.copies.items (g.V.Pages.at_hand x)) (g.V.Pages.total x) (λ pages m. Amends (g.V.Pages.total x) pages second m c.args.relation c.args.key.now (Some c.args.plan.name))) c.in_ok-draft.ensures.views
     (amended_is _ c.in_ok-page.field-0 c.in-Changes.second c.in-Changes.is c.in_ok-page.ensures.set) in
     let amends = told (after first good.0) (c.in_ok-draft.ensures.agrees good.0 good.1) good.2 between in
     amended_inside total (after first good.0) (after second (after first good.0)) good.2 p between amends.others (named_differs second (after first good.0) p amends.short named)
@@ -78,8 +80,8 @@ pub returns-in-Changes : goal.returns-in-Changes
 returns-in-Changes g c = λ name value seen.
     let at_hand = g.V.Pages.at_hand c.args.views.now in
     let total = g.V.Pages.total c.args.views.now in
-    let first = c.args.plan.now.changes.list.items in
-    let to = c.args.plan.now.name in
+    let first = c.args.plan.changes.list.items in
+    let to = c.args.plan.name in
     let second = c.in-Changes.second.list.items in
     let copies = c.in_ok-draft.draft.copies.items in
     let good = c.requires.good.4 in
@@ -108,5 +110,7 @@ returns-in-Changes g c = λ name value seen.
             modest = subst (λ (next : PageBytes). IsModest at_hand total 1 false pages next) (sym led.0)
                 (modest_trans at_hand total 1 0 false pages mid last (moved_modest at_hand relations total false pages m first name to _ _ rows seen c.requires.seen moved)
                 (amended_modest at_hand total false mid last m between.0 amends.others));
+            keeps = subst (λ (next : PageBytes). TakesAlone to.page pages next) (sym led.0)
+                (amended_alone to.page pages mid last between.0.space_fixed amends.others (moved_alone total pages first name to _ _ moved));
           };
     }) (λ no. no)) c.join.ensures

@@ -1,4 +1,6 @@
 -- What operations note of the pages of records when they begin, page by page.
+use Rattle.std.proofs.Props.{props}
+use mathlib.Core.Logic.{∥∥₁_elim}
 use Rattle.std.proofs.Common.{◌≡◌, ◌≢◌, ◌<◌, ◌≤◌, ◌+◌, ◌∙◌, ℕ, List, [], length, sym, ap, subst, arith, below_more, length-set}
 use Rattle.std.proofs.Math.ListN.{get_or, set}
 use Rattle.std.proofs.lemmas.List.{get_or-set_same, get_or-set_other}
@@ -6,7 +8,7 @@ use Rattle.mt_file.specs.Rooms.{fits_of, AreRooms}
 use Rattle.mt_file.specs.declared.rooms.Rooms.{Rooms}
 use Rattle.mt_log.specs.Words.{appended}
 use Rattle.mt_log.specs.declared.log.Log.{Log}
-use Rattle.mt_pool.specs.Kept.{IsKept, carried}
+use Rattle.mt_pool.specs.Kept.{IsKept, HasOpening, carried}
 use Rattle.mt_pool.specs.Views.{IsThere, IsFull, view, pages}
 use Rattle.mt_pool.specs.declared.store.Store.{Store}
 use Rattle.mt_frame.specs.declared.records.Record.{Record}
@@ -61,10 +63,10 @@ module _ {D : Type 0} (seen : D → List ℕ) (may_leave : D → List ℕ → Ty
   -- one that does, which has been brought into a frame
   pub noted_page : (m : Operations D) (rooms : Rooms) (fits : ℕ) → ((opening : PageBytes) → IsKept seen may_leave opening l.store → IsKept seen may_leave opening m.store)
       → m.locks ≡ l.locks → m.map ≡ l.map → m.rooms ≡ l.rooms → m.store.log ≡ l.store.log → pages m.store.pool ≡ pages l.store.pool → failures m.store.device ≡ failures l.store.device
-      → (opening : PageBytes) → IsKept seen may_leave opening o.store → appended o.store.log ≡ [] → IsThere m.store.pool n → n < pages o.store.pool
+      → HasOpening seen may_leave o.store → appended o.store.log ≡ [] → IsThere m.store.pool n → n < pages o.store.pool
       → get_or l.map.kinds n 0 ≡ 3 → rooms.0 ≡ set m.rooms.0 n fits → fits ≡ fits_of (view m.store.pool (seen m.store.device) n)
       → IsNotedTo seen may_leave failures o (record m { rooms = rooms }) (n + 1)
-  noted_page m rooms fits keeps locks map same log total faults first first_kept none there within records put is =
+  noted_page m rooms fits keeps locks map same log total faults some none there within records put is =
       let empty : appended m.store.log ≡ [] = ap (λ (x : Log). appended x) (log ∙ before.log) ∙ none in
       let same_list : rooms.0 ≡ set l.rooms.0 n fits = put ∙ ap (λ (x : Rooms). set x.0 n fits) same in
       let size : length rooms.0 ≡ length l.rooms.0 = ap (λ (xs : List ℕ). length xs) same_list ∙ length-set l.rooms.0 n fits in
@@ -81,7 +83,7 @@ module _ {D : Type 0} (seen : D → List ℕ) (may_leave : D → List ℕ → Ty
               others = λ not. absurd (not (ap (λ x. get_or x.kinds n 0) map ∙ records));
             });
         blank = λ p above below. elsewhere p (λ e. absurd (omega arith)) ∙ before.blank p (omega arith) (omega arith);
-        spare = unlogged_spare seen may_leave first m.store n (keeps first (before.kept first first_kept)) empty there;
+        spare = ∥∥₁_elim some (hlevel props) (λ (opening, k). unlogged_spare seen may_leave opening m.store n (keeps opening (before.kept opening k)) empty there);
         size = size ∙ before.size;
         locks = locks ∙ before.locks;
         map = map ∙ before.map;

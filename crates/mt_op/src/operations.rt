@@ -7,7 +7,7 @@ ghost use Rattle.mt_frame.specs.Lengths.{record_length};
 ghost use Rattle.mt_log.specs.Words.{appended, durable, used, area_size, has_failed, IsStep};
 ghost use Rattle.mt_model.specs.Model.{IsWithin};
 ghost use Rattle.mt_space.specs.Changes.{PageBytes};
-ghost use Rattle.mt_pool.specs.Kept.{IsKept, Explains};
+ghost use Rattle.mt_pool.specs.Kept.{IsKept, HasOpening, Explains};
 ghost use Rattle.mt_pool.specs.Views.{IsPool, IsFull, IsWaiting, Cleans, pages, to_flush, waits_for};
 ghost use Rattle.mt_pool.specs.declared.flushing.Flushed.TheVariants as flushed;
 ghost use Rattle.mt_steps.specs.Plans.{IsGood, free_pages};
@@ -50,8 +50,8 @@ impl<D: Device + Drop> Operations<D> {
     /// at once, and it is noted how long a record it takes. The refusals are [`Refusal::NoMemory`] and
     /// [`Refusal::DeviceFailed`].
     pub fn new(alloc: Global, store: Store<D>) -> Result<Operations<D>, Refusal>
-        requires good { (opening : PageBytes) × (relations : ℕ) × (counters : ℕ)
-            × IsKept D.seen D.may_leave opening store × IsGood relations counters (pages store.pool) opening }
+        requires good { ∥ ((opening : PageBytes) × (relations : ℕ) × (counters : ℕ)
+            × IsKept D.seen D.may_leave opening store × IsGood relations counters (pages store.pool) opening) ∥₁ }
         requires idle { appended store.log ≡ [] }
         requires free { IsFull store.pool → ⊥ }
         ensures right { (opening : PageBytes) (relations counters : ℕ) → IsKept D.seen D.may_leave opening store
@@ -209,7 +209,7 @@ impl<D: Device> Operations<D> {
     /// Appends the end of a transaction that has no operation under way: its commit, or the end of its abort.
     /// The pages held stay. The only refusal is [`Refusal::NoMemory`], and nothing is appended then.
     pub fn append(&mut self, entry: Record) -> Result<LogPos, Refusal>
-        requires kept { (opening : PageBytes) × IsKept D.seen D.may_leave opening self.old.store }
+        requires kept { HasOpening D.seen D.may_leave self.old.store }
         requires grammar { IsRecord entry }
         requires ends { EndsTxn (txn_of entry) entry }
         requires rules { may_stand false (appended self.old.store.log) entry ≡ true }
@@ -240,7 +240,7 @@ impl<D: Device> Operations<D> {
     /// A step of the log's force, as [`Store::force_step`] makes it: pages, locks and operations stay. The only
     /// refusal is [`Refusal::DeviceFailed`], where the device failed in this call or the log has failed before.
     pub fn force_step(&mut self) -> Result<Forced, Refusal>
-        requires kept { (opening : PageBytes) × IsKept D.seen D.may_leave opening self.old.store }
+        requires kept { HasOpening D.seen D.may_leave self.old.store }
         ensures right { (opening : PageBytes) (relations counters : ℕ)
             → IsRight D.seen D.may_leave opening relations counters self.old
             → IsRight D.seen D.may_leave opening relations counters self.new }
@@ -263,7 +263,7 @@ impl<D: Device> Operations<D> {
     /// Writes one page into its slot, as [`Store::flush_step`] does: pages, locks and operations stay. The only
     /// error is the device's.
     pub fn flush_step(&mut self) -> Result<Flushed, DeviceFault>
-        requires kept { (opening : PageBytes) × IsKept D.seen D.may_leave opening self.old.store }
+        requires kept { HasOpening D.seen D.may_leave self.old.store }
         ensures right { (opening : PageBytes) (relations counters : ℕ)
             → IsRight D.seen D.may_leave opening relations counters self.old
             → IsRight D.seen D.may_leave opening relations counters self.new }
@@ -289,9 +289,9 @@ impl<D: Device> Operations<D> {
 
     // Notes what each page of records takes.
     fn note_rooms(&mut self, count: u16) -> Result<(), Refusal>
-        requires kept { (opening : PageBytes) × (relations : ℕ) × (counters : ℕ)
+        requires kept { ∥ ((opening : PageBytes) × (relations : ℕ) × (counters : ℕ)
             × IsKept D.seen D.may_leave opening self.old.store × IsGood relations counters (pages self.old.store.pool)
-            opening × (self.old.map.kinds ≡ opening 0) }
+            opening × (self.old.map.kinds ≡ opening 0)) ∥₁ }
         requires idle { appended self.old.store.log ≡ [] }
         requires all { count ≡ pages self.old.store.pool }
         requires spare { IsFull self.old.store.pool → ⊥ }

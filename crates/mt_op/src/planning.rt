@@ -12,7 +12,7 @@ ghost use Rattle.mt_pool.specs.Kept.{IsKept, Explains};
 ghost use Rattle.mt_pool.specs.Views.{IsFull};
 ghost use Rattle.mt_steps.specs.Plans.{own_needs, free_pages, record_bytes as bytes_put, InPages, IsPlanned};
 ghost use Rattle.mt_op.specs.World.{IsUnderWay, looked, held_in};
-ghost use Rattle.mt_op.specs.Operations.{world, IsRight, Steps, GivesBack, IsPlannedOn, HasBudget, only_reads, IsCause, claimed};
+ghost use Rattle.mt_op.specs.Operations.{world, IsRight, IsOneOf, IsOneWithin, Steps, GivesBack, IsPlannedOn, HasBudget, only_reads, IsCause, claimed};
 ghost use Rattle.mt_op.specs.Holds.{IsNext, IsToLook, KeepsLocks, KeepsLocksOn, KeepsScope, KeepsScopeOn};
 ghost use Rattle.mt_op.specs.Stepping.{GoesAhead, LocksPage, PlansOn};
 ghost use Rattle.mt_op.specs.Records.{KeepsRecords};
@@ -93,10 +93,7 @@ impl<D: Device> Operations<D> {
 
     // Writes the next page of the plan, or ends the operation.
     fn go_on(&mut self, alloc: Global, scope: &mut OpScope) -> Result<Stepped, Refusal>
-        requires right { (opening : PageBytes) × (relations : ℕ) × (counters : ℕ)
-            × IsRight D.seen D.may_leave opening relations counters self.old
-            × IsUnderWay relations counters (world D.seen opening self.old) scope.old × (relations ≤ 64)
-            × (counters ≤ 128) }
+        requires right { IsOneWithin D.seen D.may_leave self.old scope.old }
         requires claims { own_needs scope.old.op scope.old.split ≤ claimed self.old }
         requires writing { scope.old.stage ≡ Writing }
         requires budget { HasBudget scope.old }
@@ -144,9 +141,7 @@ impl<D: Device> Operations<D> {
         page: PageNo,
         mode: Mode,
     ) -> Result<Stepped, Refusal>
-        requires right { (opening : PageBytes) × (relations : ℕ) × (counters : ℕ)
-            × IsRight D.seen D.may_leave opening relations counters self.old
-            × IsUnderWay relations counters (world D.seen opening self.old) scope.old }
+        requires right { IsOneOf D.seen D.may_leave self.old scope.old }
         requires planning { scope.old.stage ≡ Planning }
         requires next { IsToLook scope.old page mode }
         ensures { LocksPage D.seen D.may_leave D.moment D.left_since D.faults self.old self.new scope.old scope.new
@@ -192,9 +187,7 @@ impl<D: Device> Operations<D> {
         changes: Changes,
         reply: Reply,
     ) -> Result<Option<Stepped>, Refusal>
-        requires right { (opening : PageBytes) × (relations : ℕ) × (counters : ℕ)
-            × IsRight D.seen D.may_leave opening relations counters self.old
-            × IsUnderWay relations counters (world D.seen opening self.old) scope.old }
+        requires right { IsOneOf D.seen D.may_leave self.old scope.old }
         requires planning { scope.old.stage ≡ Planning }
         requires there { AreAtHand (looked scope.old) changes.list.items }
         requires few { length changes.list.items ≤ 8 }

@@ -13,7 +13,7 @@ begin-requires-clause-within g c = let first = c.of-area.ensures.first refl in l
 
 pub new-requires-clause-good : goal.new-requires-clause-good
 new-requires-clause-good g c = let f = c.in_ok-store.ensures in let opening = slot 8192 (g.D.Device.seen c.args.device) in
-    (opening, 2, 2, f.kept, subst (λ (n : ℕ). IsGood 2 2 n opening) (sym f.pages) (formatted_good 2 2 c.args.pages opening c.requires.formatted))
+    ∣ (opening, 2, 2, f.kept, subst (λ (n : ℕ). IsGood 2 2 n opening) (sym f.pages) (formatted_good 2 2 c.args.pages opening c.requires.formatted)) ∣₁
 
 pub new-requires-clause-free : goal.new-requires-clause-free
 new-requires-clause-free g c = let f = c.in_ok-store.ensures in let frames = f.frames in let same = c.from-frames.ensures in let some = c.requires.frames in

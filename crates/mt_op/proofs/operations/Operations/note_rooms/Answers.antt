@@ -1,3 +1,5 @@
+use Rattle.std.proofs.Props.{props}
+use mathlib.Core.Logic.{∥∥₁_elim, ∥∥₁_map}
 use Rattle.std.proofs.Common.{◌≡◌, ◌<◌, ◌+◌, ◌∙◌, ℕ, List, [], length, get_or, replicate, refl, sym, ap, subst, arith}
 use Rattle.std.specs.Prelude.{Ok}
 use Rattle.std.proofs.Math.ListN.{set}
@@ -14,14 +16,18 @@ use Rattle.mt_op.specs.declared.operations.Operations.{Operations}
 use Rattle.mt_op.proofs.Begun.{IsNotedTo, passed, noted_page, all_noted}
 use Rattle.mt_op.proofs.Stored.{unlogged_shaped}
 use Rattle.mt_op.proofs.Faulting.{unfailed}
+use Rattle.mt_pool.proofs.Steady.{steady}
+use Rattle.mt_pool.specs.Kept.{HasOpening}
+use Rattle.mt_op.proofs.Shaped.{shaped_of}
 use Rattle.mt_op.proofs.operations.Operations.note_rooms.Goals as goal
 use Rattle.mt_op.proofs.operations.Operations.note_rooms.Goals.{then-self-from-eq-RECORDS+in_ok-bring+then-branch, else-self-from-eq-RECORDS, else-self-from-eq-RECORDS-via-then-self-from-eq-RECORDS+in_ok-bring+else-branch, else-self-from-eq-RECORDS-via-else-self-from-eq-RECORDS}
 
 pub bring-requires-clause-kept : goal.bring-requires-clause-kept
-bring-requires-clause-kept g c = let (opening, relations, counters, kept, good, first) = c.requires.kept in (opening, c.loop-number.invariant.kept opening kept)
+bring-requires-clause-kept g c = ∥∥₁_map c.requires.kept (λ (opening, relations, counters, kept, good, first). (opening, c.loop-number.invariant.kept opening kept))
 
 pub view-requires-clause-pool : goal.view-requires-clause-pool
-view-requires-clause-pool g c = let (opening, relations, counters, kept, good, first) = c.requires.kept in (c.bring.ensures.kept opening (c.loop-number.invariant.kept opening kept)).frames
+view-requires-clause-pool g c = (steady g.D.Device.seen g.D.Device.may_leave c.bring.new.self.store
+    (∥∥₁_map c.requires.kept (λ (opening, relations, counters, kept, good, first). (opening, c.bring.ensures.kept opening (c.loop-number.invariant.kept opening kept))))).frames
 
 pub view-requires-clause-inside : goal.view-requires-clause-inside
 view-requires-clause-inside g c =
@@ -29,7 +35,7 @@ view-requires-clause-inside g c =
     let below = c.loop-number-test.true in let is = c.new-page.ensures in omega arith
 
 pub fits-room-requires : goal.fits-room-requires
-fits-room-requires g c = let (opening, relations, counters, kept, good, first) = c.requires.kept in
+fits-room-requires g c = shaped_of c.view.result.now (∥∥₁_map c.requires.kept (λ (opening, relations, counters, kept, good, first).
     let seen = g.D.Device.seen in let m = c.bring.new.self in let before = c.loop-number.invariant in
     let now = c.bring.ensures.kept opening (before.kept opening kept) in
     let same : pages m.store.pool ≡ pages c.args.self.now.store.pool = (c.bring.ensures.rests opening).area.total ∙ before.pages in
@@ -41,7 +47,7 @@ fits-room-requires g c = let (opening, relations, counters, kept, good, first) =
     let empty : appended m.store.log ≡ [] = ap (λ (log : Log). appended log) (c.bring.ensures.log ∙ before.log) ∙ c.requires.idle in
     let within : c.new-page.result < pages m.store.pool = omega (arith, total, below, is) in
     subst IsShaped (sym (c.view.ensures (seen m.store.device)))
-    (unlogged_shaped seen g.D.Device.may_leave opening relations counters m.store now empty (subst (λ (n : ℕ). IsGood relations counters n opening) (sym same) good) c.new-page.result within (ap (λ (bytes : List ℕ). get_or bytes c.new-page.result 0) (sym kinds) ∙ records))
+    (unlogged_shaped seen g.D.Device.may_leave opening relations counters m.store now empty (subst (λ (n : ℕ). IsGood relations counters n opening) (sym same) good) c.new-page.result within (ap (λ (bytes : List ℕ). get_or bytes c.new-page.result 0) (sym kinds) ∙ records))))
 
 pub noted-requires : goal.noted-requires
 noted-requires g c =
@@ -69,7 +75,8 @@ loop-number-init g c =
 
 pub loop-number-preserved : goal.loop-number-preserved
 loop-number-preserved g c =
-    let (first, relations, counters, kept, good, kinds) = c.requires.kept in let none = c.requires.idle in
+    let some : HasOpening g.D.Device.seen g.D.Device.may_leave c.args.self.now.store = ∥∥₁_map c.requires.kept (λ r. (r.0, r.3)) in
+    let none = c.requires.idle in
     let d = g.D.Device in let o = c.args.self.now in let l = c.loop-number.self in let n = c.loop-number.number in
     let before = c.loop-number.invariant in
     let blank : length o.rooms.0 ≡ c.args.count = ap (λ (xs : List ℕ). length xs) c.requires.blank ∙ length-replicate _ _ in
@@ -84,8 +91,8 @@ loop-number-preserved g c =
       | then-self-from-eq-RECORDS+in_ok-bring+then-branch w ↦
           let b = w.bring.ensures in let m = w.bring.new.self in
           subst Noted (sym w.self-is)
-          (noted_page d.seen d.may_leave d.faults o l n before inside m w.noted.new.self w.fits-room.result b.kept b.locks b.map b.rooms b.log (b.rests first).area.total (unfailed _ _ w.bring.result _ b.cause w.in_ok-bring.was)
-          first kept none (subst (λ (p : ℕ). IsThere m.store.pool p) page (b.there (w.in_ok-bring.was ∙ ap Ok w.if-branch.true))) within
+          (noted_page d.seen d.may_leave d.faults o l n before inside m w.noted.new.self w.fits-room.result b.kept b.locks b.map b.rooms b.log (b.rests (λ p. [])).area.total (unfailed _ _ w.bring.result _ b.cause w.in_ok-bring.was)
+          some none (subst (λ (p : ℕ). IsThere m.store.pool p) page (b.there (w.in_ok-bring.was ∙ ap Ok w.if-branch.true))) within
           (ap (λ (p : ℕ). get_or l.map.kinds p 0) (sym from) ∙ w.if-self-from-eq-RECORDS.true)
           (w.noted.ensures.fits ∙ ap (λ (p : ℕ). set m.rooms.0 p w.fits-room.result) page)
           (w.fits-room.ensures ∙ ap (λ (bytes : List ℕ). fits_of bytes) (w.view.ensures (d.seen m.store.device)) ∙ ap (λ (p : ℕ). fits_of (view m.store.pool (d.seen m.store.device) p)) page))
@@ -116,3 +123,8 @@ returns-clause-noted g c =
       pages = done.pages;
       faults = done.faults;
     }
+
+pub bounds-self-from : goal.bounds-self-from
+bounds-self-from g c =
+    let k = steady g.D.Device.seen g.D.Device.may_leave c.args.self.now.store (∥∥₁_map c.requires.kept (λ r. (r.0, r.3))) in
+    let few = k.few in let all = c.requires.all in let below = c.loop-number-test.true in let is = c.from.ensures in omega arith

@@ -67,7 +67,7 @@ returns-in-Made g c = let d = g.D.Device in let o = c.args.self.now in let s = c
     }
 
 pub returns-in-Full : goal.returns-in-Full
-returns-in-Full g c = let d = g.D.Device in let o = c.args.self.now in let s = c.args.scope.now in let (opening, relations, counters, right, k, small, free) = c.requires.right in
+returns-in-Full g c = let d = g.D.Device in let o = c.args.self.now in let s = c.args.scope.now in
     record {
       goes = λ opening relations counters right k small. (right, unled_goes relations counters (world d.seen opening o) s c.requires.planning k);
       moments = λ opening kept. no_call d.seen d.may_leave opening o.store kept d.moment d.left_since g.met.D.Device.only_now;
@@ -78,10 +78,16 @@ returns-in-Full g c = let d = g.D.Device in let o = c.args.self.now in let s = c
       budget = record { enough = c.requires.budget.enough; reads = c.requires.budget.reads };
       full = λ is. absurd cc;
       stage = λ not. c.requires.planning;
-      work = led_work relations counters (world d.seen opening o) s c.requires.planning right.sound k free
+      work = let (opening, relations, counters, right, k, small, free) = c.requires.right in led_work relations counters (world d.seen opening o) s c.requires.planning right.sound k free
           (subst (λ (a : Act). IfFull a (InPages (looked s) s.room relations counters s.seen.total (λ pages. (free_pages s.seen.total pages < own_needs s.op s.split) ⊎ IsTight s.room pages (record_bytes s.op)))) c.in-Full.is (c.in_ok-page.ensures.full relations counters small k.within));
       locks = inl refl;
       scope = tt;
       why = tt;
       faults = no_fault_ok _ _ _ refl;
     }
+
+pub lock_next-requires-clause-right : goal.lock_next-requires-clause-right
+lock_next-requires-clause-right g c = let (opening, relations, counters, right, k, small, free) = c.requires.right in ∣ (opening, relations, counters, right, k) ∣₁
+
+pub keep_plan-requires-clause-right : goal.keep_plan-requires-clause-right
+keep_plan-requires-clause-right g c = let (opening, relations, counters, right, k, small, free) = c.requires.right in ∣ (opening, relations, counters, right, k) ∣₁

@@ -1,5 +1,5 @@
 -- What is known of an operation under way, whatever the pages were when the area began and whatever the schema.
-use Rattle.std.proofs.Common.{◌<◌, ◌≤◌, ◌≡◌, ◌⊎◌, inl, inr, ap, subst, sym, ℕ, List, length, Option, Some}
+use Rattle.std.proofs.Common.{◌<◌, ◌≤◌, ◌≡◌, ◌⊎◌, inl, inr, ap, subst, sym, ℕ, List, length, Some}
 use Rattle.std.specs.Prelude.{IsSome}
 use Rattle.std.proofs.Math.ListN.{get_or}
 use Rattle.std.proofs.lemmas.List.Elements.{All-get_or}

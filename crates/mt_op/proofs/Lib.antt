@@ -27,6 +27,7 @@ pub mod Faulting
 pub mod Ahead
 pub mod Back
 pub mod Begun
+pub mod Parted
 pub mod Known
 pub mod Shaped
 pub mod Unready

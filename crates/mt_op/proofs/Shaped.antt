@@ -1,9 +1,9 @@
 -- A page of records is well formed where it is so in some way: of two records which one lies before the other can be told.
-use Rattle.std.proofs.Common.{◌≡◌, ◌≢◌, ◌⊎◌, inl, inr, ◌<◌, ◌≤◌, ◌+◌, ℕ, List, arith}
+use Rattle.std.proofs.Common.{◌⊎◌, inl, inr, ◌<◌, ◌≤◌, ◌+◌, ℕ, List, arith}
 use Rattle.std.proofs.Props.{props}
 use Rattle.std.proofs.lemmas.Bool.{cases_lt}
 use mathlib.Core.Logic.{∥∥₁_elim}
-use Rattle.mt_slots.specs.Page.{count, offset, size, IsShaped}
+use Rattle.mt_slots.specs.Page.{offset, size, IsShaped}
 
 pub shaped_of : (page : List ℕ) → ∥ IsShaped page ∥₁ → IsShaped page
 shaped_of page some = record {

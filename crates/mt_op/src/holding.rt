@@ -48,6 +48,7 @@ impl<D: Device> Operations<D> {
         ensures map { self.new.map ≡ self.old.map }
         ensures rooms { self.new.rooms ≡ self.old.rooms }
         ensures waits { self.new.store.pool.waits ≡ self.old.store.pool.waits }
+        ensures flush { self.new.store.pool.dirty ≡ self.old.store.pool.dirty }
         ensures only_device { IfErr result (λ why. why ≡ Refusal.DeviceFailed) }
         ensures cause { HasCause (D.faults self.old.store.device) (D.faults self.new.store.device) result }
     {

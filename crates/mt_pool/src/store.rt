@@ -225,6 +225,7 @@ impl<D: Device> Store<D> {
             → result ≡ Ok fetched.Flush }
         ensures log { self.new.log ≡ self.old.log }
         ensures pages { pages self.new.pool ≡ pages self.old.pool }
+        ensures flush { self.new.pool.dirty ≡ self.old.pool.dirty }
         ensures waits { self.new.pool.waits ≡ self.old.pool.waits }
         ensures cause { HasCause (D.faults self.old.device) (D.faults self.new.device) result }
     {

@@ -35,7 +35,7 @@ fn holds(rt: &impl Abort, table: &LockTable, txn: u64, object: &Object, mode: Lo
 /// What the second transaction is answered, beside the first.
 fn beside(is_granted: bool) -> Result<Asked, Refusal> {
     if is_granted {
-        Ok(Asked::Granted)
+        Ok(Asked::Granted { was_held: false })
     } else {
         Err(Refusal::Die(TxnNo::new(1)))
     }
@@ -70,7 +70,7 @@ fn modes_are_granted_beside_one_another(rt: HostRuntime) -> Result<(), Fail> {
 fn the_oldest_in_the_way_decides(rt: HostRuntime) -> Result<(), Fail> {
     let alloc = rt.alloc();
     let mut table = LockTable::new(alloc);
-    let granted = Ok(Asked::Granted);
+    let granted = Ok(Asked::Granted { was_held: false });
     let k = key(alloc, b"k")?;
     let other = key(alloc, b"other")?;
     answers(
@@ -105,7 +105,7 @@ fn the_oldest_in_the_way_decides(rt: HostRuntime) -> Result<(), Fail> {
 fn a_transaction_holds_several_modes(rt: HostRuntime) -> Result<(), Fail> {
     let alloc = rt.alloc();
     let mut table = LockTable::new(alloc);
-    let granted = Ok(Asked::Granted);
+    let granted = Ok(Asked::Granted { was_held: false });
     let k = key(alloc, b"k")?;
     answers(
         &rt,
@@ -129,7 +129,7 @@ fn a_transaction_holds_several_modes(rt: HostRuntime) -> Result<(), Fail> {
         1,
         key(alloc, b"k")?,
         LockMode::Write,
-        granted,
+        Ok(Asked::Granted { was_held: true }),
     );
     answers(&rt, &mut table, 2, counter(0), LockMode::Add, granted);
     table.take_out(TxnNo::new(1), &k, LockMode::Write);

@@ -407,3 +407,26 @@ pub kept_undone : (b : Base) (s : State) (t : ℕ) (e : Entry) (i : Op) (ps : Li
 kept_undone b s t e i ps k idle last inverse given =
     let c = cut_of t s.standing e i last inverse in
     subst (λ w. IsKept b (undone_at s w i ps)) (sym c.then) (kept_undone_at b s t c.front e c.rest i ps k idle c.done given)
+
+-- ---- a call is refused after all
+
+-- what was pending for a call is given back: what is kept holds as if it had not been called
+pub kept_given_back : (b : Base) (s : State) (t : ℕ) (op : Op) (ps : List Pending) → IsKept b s → MayCall b s t op → GivesBack t op (s.pending ++ add_before t op []) ps → IsKept b (record s { pending = ps })
+kept_given_back b s t op ps k may given =
+    let c = kept_called b s t op k may in
+    let runs : put s.running t (Some op) t ≡ Some op = let same : (t == t) ≡ true = eq_self t in rw same refl in
+    let d = kept_dropped b (called s t op) t op ps c runs given in
+    record {
+      legal = k.legal;
+      sound = k.sound;
+      base = k.base;
+      locks = k.locks;
+      room = d.room;
+      tied = λ u. d.tied u ∙ ap (λ (o : Option Op). pending_of u (adds s.standing) ++ add_of u o) (back u (u == t) refl);
+      locked = k.locked;
+      owned = record { standing = k.owned.standing; running = k.owned.running; held = k.owned.held; fresh = k.owned.fresh };
+    }
+  where
+    back : (u : ℕ) (c : Bool) → (u == t) ≡ c → put (put s.running t (Some op)) t None u ≡ s.running u
+    back u true is = rw is (sym (ap s.running ((Decides-eqb u t).0 is) ∙ may.idle))
+    back u false is = rw is refl

@@ -1,11 +1,12 @@
 -- What is kept of the live transactions, as their list and the order of ends change.
-use Rattle.std.proofs.Common.{◌≡◌, ℕ, zero, suc, ◌<◌, ◌≤◌, ◌+◌, ◌==◌, Bool, true, false, cond, not, filter, map, List, [], ◌∷◌, ◌++◌, Option, Some, None, is_some, get_or, set, take, drop, length, All, MatchOption, refl, ap, sym, ◌∙◌, subst, arith}
+use Rattle.std.proofs.Common.{◌≡◌, ℕ, zero, suc, ◌<◌, ◌≤◌, ◌+◌, ◌==◌, Bool, true, false, cond, not, filter, map, List, [], ◌∷◌, ◌++◌, Option, Some, None, is_some, get_or, set, take, drop, length, All, AllPairs, MatchOption, refl, ap, sym, ◌∙◌, subst, arith}
 use Rattle.std.specs.Option.{option_map}
 use Rattle.std.specs.List.{remove, position, position_from, sum_by}
 use Rattle.std.proofs.lemmas.Iterator.Adapters.{position_from-zero}
 use Rattle.std.proofs.lemmas.Bool.Decides.{Decides-eqb}
-use Rattle.std.proofs.lemmas.List.{length-set}
-use Rattle.std.proofs.lemmas.List.Quantifiers.{position-Some}
+use Rattle.std.proofs.lemmas.List.{length-append, length-set, get_or-take, length-take-le}
+use Rattle.std.proofs.lemmas.List.Elements.{All-push, All-set, All-cons}
+use Rattle.std.proofs.lemmas.List.Quantifiers.{position-Some, all_pairs_push}
 use Rattle.std.proofs.lemmas.List.Sums.{sum_by-set, sum_by-remove, sum_by_push, sum_by-le}
 use Rattle.mt_model.specs.History.{Call}
 use Rattle.mt_live.specs.declared.places.Place.{Place}
@@ -13,7 +14,7 @@ use Rattle.mt_live.specs.Entries.{calls, kept}
 use Rattle.mt_live.specs.Machine.{put}
 use Rattle.mt_live.specs.Undoing.{only, others, last_effect, cut_back}
 use Rattle.mt_live.specs.Members.{Member, fresh, with_room, with_call, cut_at, cut_to, taken_back, last_place}
-use Rattle.mt_live.specs.Lives.{member_of, is_member, has_room, entry_by, IsFirst, IsChanged, calls_in, calls_of, standing_by, numbers, count_from, AreRising, rooms, IsWell}
+use Rattle.mt_live.specs.Lives.{member_of, is_member, has_room, entry_by, IsNumbered, AreNumbered, IsAbove, IsFirst, IsChanged, calls_in, calls_of, standing_by, numbers, count_from, AreRising, rooms, IsWell}
 use Rattle.mt_live.proofs.Ends.{standing_noted, placed_noted, standing_left, placed_left, standing_own, nothing_to_undo, before_cut, IsUndone, undone_by, placed_undone}
 use Rattle.mt_live.proofs.MemberLists.{there, member_of-set, member_of-push, member_of-remove, nobody_above, rising_set, rising_remove, rising_push}
 
@@ -56,15 +57,76 @@ changed ms t i m y f first is now own u =
     member_of-set ms t i y first own u
     ∙ ap (λ (x : Option Member). put (member_of ms) t x u) (ap Some now ∙ sym (ap (option_map f) (is_there ms t i m first is)))
 
+-- ---- numbers
+
+pub numbered_at : (begun : ℕ) (ms : List Member) (t i : ℕ) (m : Member) → All (λ (x : Member). IsNumbered begun x.number x) ms → IsFirst ms t i → m ≡ get_or ms i m → IsNumbered begun t m
+numbered_at begun ms t i m all first is =
+    let own : m.number ≡ t = ap (λ (x : Member). x.number) is ∙ first.own m in
+    let its : IsNumbered begun m.number m = subst (λ (x : Member). IsNumbered begun x.number x) (sym is) (all i m first.within) in
+    subst (λ n. IsNumbered begun n m) own its
+
+own_number : (begun t : ℕ) (y : Member) → IsNumbered begun t y → IsNumbered begun y.number y
+own_number begun t y n = subst (λ u. IsNumbered begun u y) (sym n.number) n
+
+numbered_in : (begun : ℕ) (ms : List Member) → All (λ (x : Member). IsNumbered begun x.number x) ms → AreNumbered begun ms
+numbered_in begun [] all t m is = absurd cc
+numbered_in begun (x ∷ xs) all t m is = go (x.number == t) refl is (λ h. numbered_in begun xs (λ k d less. all (suc k) d (omega (arith, less))) t m h)
+  where
+    go : (b : Bool) → (x.number == t) ≡ b → cond b (Some x) (member_of xs t) ≡ Some m → (member_of xs t ≡ Some m → IsNumbered begun t m) → IsNumbered begun t m
+    go true e h rec =
+        let same : x ≡ m = cc in
+        let first : IsNumbered begun x.number x = all 0 x (omega arith) in
+        subst (λ n. IsNumbered begun n m) ((Decides-eqb x.number t).0 e) (subst (λ (y : Member). IsNumbered begun x.number y) same first)
+    go false e h rec = rec h
+
+pub numbered_of : (begun : ℕ) (ms : List Member) (os : List Place) (used capacity : ℕ) → IsWell begun ms os used capacity → AreNumbered begun ms
+numbered_of begun ms os used capacity w = numbered_in begun ms w.numbered
+
+same_numbered : (begun t : ℕ) (m y : Member) → y.number ≡ m.number → y.operations ≡ m.operations → y.calls ≡ m.calls → IsNumbered begun t m → IsNumbered begun t y
+same_numbered begun t m y own operations calls n = record {
+  number = own ∙ n.number;
+  from_one = n.from_one;
+  has_begun = n.has_begun;
+  operations = ap length operations ∙ (n.operations ∙ sym (ap length calls));
+  rising = subst (AllPairs (λ (a b : ℕ). a < b)) (sym operations) n.rising;
+}
+
+noted_numbered : (begun t : ℕ) (m y : Member) (o : ℕ) (c : Call) → y ≡ with_call m o c → All (λ (x : ℕ). x < o) m.operations → IsNumbered begun t m → IsNumbered begun t y
+noted_numbered begun t m y o c now above n = subst (IsNumbered begun t) (sym now) (record {
+  number = n.number;
+  from_one = n.from_one;
+  has_begun = n.has_begun;
+  operations = let same = n.operations in omega (arith, same, length-append m.operations (o ∷ []), length-append m.calls (c ∷ []));
+  rising = all_pairs_push (λ (a b : ℕ). a < b) m.operations o n.rising above;
+})
+
+cut_numbered : (begun t : ℕ) (m y : Member) (k : ℕ) → y ≡ cut_at m k → k ≤ length m.calls → IsNumbered begun t m → IsNumbered begun t y
+cut_numbered begun t m y k now within n =
+    let few : k ≤ length m.operations = let same = n.operations in omega (arith, same, within) in
+    subst (IsNumbered begun t) (sym now) (record {
+      number = n.number;
+      from_one = n.from_one;
+      has_begun = n.has_begun;
+      operations = length-take-le k m.operations few ∙ sym (length-take-le k m.calls within);
+      rising = λ i j d less end.
+          let short : j < k = let size = length-take-le k m.operations few in omega (arith, size, end) in
+          let first = get_or-take k m.operations i d (omega (arith, less, short)) in
+          let second = get_or-take k m.operations j d short in
+          let own = n.rising i j d less (omega (arith, short, few)) in
+          omega (arith, first, second, own);
+    })
+
 -- ---- the whole
 
 pub well_set : (begun : ℕ) (ms : List Member) (os : List Place) (used capacity t i : ℕ) (m y : Member) (os' : List Place) (used' capacity' : ℕ)
     → IsWell begun ms os used capacity → IsFirst ms t i → m ≡ get_or ms i m → y.number ≡ t
+    → (IsNumbered begun t m → IsNumbered begun t y)
     → ((u : ℕ) → numbers u os' ≡ count_from 0 (length (put (calls_of ms) t y.calls u)))
     → (sum_by rooms (set ms i y) + rooms m ≡ sum_by rooms ms + rooms y → used' + sum_by rooms (set ms i y) ≤ capacity')
     → IsWell begun (set ms i y) os' used' capacity'
-well_set begun ms os used capacity t i m y os' used' capacity' w first is own placed room = record {
+well_set begun ms os used capacity t i m y os' used' capacity' w first is own numbered placed room = record {
   rising = rising_set 0 ms begun t i y first own w.rising;
+  numbered = All-set (λ (x : Member). IsNumbered begun x.number x) ms i y (own_number begun t y (numbered (numbered_at begun ms t i m w.numbered first is))) w.numbered;
   placed = λ u. placed u ∙ ap (λ f. count_from 0 (length (f u))) (sym (calls_set ms t i y first own));
   room = room (ap (λ (x : Member). sum_by rooms (set ms i y) + rooms x) is ∙ sum_by-set rooms ms i y m first.within);
 }
@@ -91,11 +153,12 @@ pub same_standing : (ms : List Member) (os : List Place) (t i : ℕ) (m y : Memb
 same_standing ms os t i m y first is own same =
     ap (λ f. standing_by f os) (calls_set ms t i y first own ∙ (λ k u. same_calls ms t i m y first is same u k))
 
-pub well_same : (begun : ℕ) (ms : List Member) (os : List Place) (used capacity t i : ℕ) (m y : Member) (capacity' : ℕ) → IsWell begun ms os used capacity → IsFirst ms t i → m ≡ get_or ms i m → y.number ≡ t → y.calls ≡ m.calls
+pub well_same : (begun : ℕ) (ms : List Member) (os : List Place) (used capacity t i : ℕ) (m y : Member) (capacity' : ℕ) → IsWell begun ms os used capacity → IsFirst ms t i → m ≡ get_or ms i m → y.number ≡ t → y.operations ≡ m.operations → y.calls ≡ m.calls
     → (sum_by rooms (set ms i y) + rooms m ≡ sum_by rooms ms + rooms y → used + sum_by rooms (set ms i y) ≤ capacity')
     → IsWell begun (set ms i y) os used capacity'
-well_same begun ms os used capacity t i m y capacity' w first is own same room =
+well_same begun ms os used capacity t i m y capacity' w first is own operations same room =
     well_set begun ms os used capacity t i m y os used capacity' w first is own
+    (same_numbered begun t m y (own ∙ sym (ap (λ (x : Member). x.number) is ∙ first.own m)) operations same)
     (λ u. w.placed u ∙ ap (λ w'. count_from 0 (length w')) (sym (same_calls ms t i m y first is same u))) room
 
 pub its_number : (ms : List Member) (t i : ℕ) (m : Member) → IsFirst ms t i → m ≡ get_or ms i m → m.number ≡ t
@@ -108,6 +171,24 @@ begun_calls ms m none empty u =
     ap calls_in (member_of-push ms m none u) ∙ (put_out (member_of ms) m.number (Some m) u
     ∙ put_same (calls_of ms) m.number m.calls (empty ∙ sym (ap calls_in none)) u)
 
+one_more : (begun t : ℕ) (m : Member) → IsNumbered begun t m → IsNumbered (begun + 1) t m
+one_more begun t m n = record {
+  number = n.number;
+  from_one = n.from_one;
+  has_begun = let below = n.has_begun in omega (arith, below);
+  operations = n.operations;
+  rising = n.rising;
+}
+
+begun_numbered : (begun session number : ℕ) (m : Member) → number ≡ begun + 1 → m ≡ fresh number session → IsNumbered (begun + 1) m.number m
+begun_numbered begun session number m next is = subst (λ (x : Member). IsNumbered (begun + 1) x.number x) (sym is) (record {
+  number = refl;
+  from_one = omega (arith, next);
+  has_begun = omega (arith, next);
+  operations = refl;
+  rising = λ i j d less end. absurd (omega (arith, end));
+})
+
 pub begun_well : (begun : ℕ) (ms : List Member) (os : List Place) (used capacity session : ℕ) (number : ℕ) (m : Member) (new : List Member) → IsWell begun ms os used capacity
     → number ≡ begun + 1 → m ≡ fresh number session → new ≡ ms ++ m ∷ [] → IsWell (begun + 1) new os used capacity
 begun_well begun ms os used capacity session number m new w next is now =
@@ -117,6 +198,8 @@ begun_well begun ms os used capacity session number m new w next is now =
     let before = w.room in
     subst (λ xs. IsWell (begun + 1) xs os used capacity) (sym now) (record {
       rising = rising_push 0 ms begun m own w.rising;
+      numbered = All-push (λ (x : Member). IsNumbered (begun + 1) x.number x) ms m
+          (λ k d less. one_more begun (get_or ms k d).number (get_or ms k d) (w.numbered k d less)) (begun_numbered begun session number m next is);
       placed = λ u. w.placed u ∙ ap (λ cs. count_from 0 (length cs)) (sym (begun_calls ms m none (ap (λ (x : Member). x.calls) is) u));
       room = let sums = sum_by_push rooms ms m in omega (arith, sums, no_room, before);
     })
@@ -163,6 +246,7 @@ room_well begun ms os used capacity t i m y os' used' capacity' w first is now s
     let few = rooms_few (set ms i y) in
     let size : length (set ms i y) ≡ length ms = length-set ms i y in
     well_set begun ms os used capacity t i m y os' used' capacity' w first is (ap (λ (x : Member). x.number) now ∙ its_number ms t i m first is)
+    (same_numbered begun t m y (ap (λ (x : Member). x.number) now) (ap (λ (x : Member). x.operations) now) (ap (λ (x : Member). x.calls) now))
     (λ u. ap (numbers u) same ∙ (w.placed u ∙ ap (λ cs. count_from 0 (length cs)) (sym (same_calls ms t i m y first is (ap (λ (x : Member). x.calls) now) u))))
     (λ sums. omega (arith, few, size, room))
 
@@ -193,14 +277,15 @@ noted_at : (ms : List Member) (t i : ℕ) (l : Member) (index : ℕ) → IsFirst
 noted_at ms t i l index first is at' = at' ∙ ap length (sym (its_calls ms t i l first is))
 
 pub noted_well : (begun : ℕ) (ms : List Member) (os : List Place) (used capacity t i : ℕ) (m y l : Member) (o : ℕ) (c : Call) (index : ℕ) (os' : List Place) (used' capacity' : ℕ) → IsWell begun ms os used capacity
-    → IsFirst ms t i → m ≡ get_or ms i m → y ≡ with_call m o c → l ≡ get_or ms i l → index ≡ length l.calls → m.has_room ≡ true
+    → IsFirst ms t i → m ≡ get_or ms i m → y ≡ with_call m o c → l ≡ get_or ms i l → index ≡ length l.calls → m.has_room ≡ true → IsAbove o (member_of ms t)
     → os' ≡ os ++ record { txn = t; index = index } ∷ [] → used' ≡ used + 1 → capacity' ≡ capacity → IsWell begun (set ms i y) os' used' capacity'
-noted_well begun ms os used capacity t i m y l o c index os' used' capacity' w first is now lis at' h more longer same =
+noted_well begun ms os used capacity t i m y l o c index os' used' capacity' w first is now lis at' h above more longer same =
     let place = noted_at ms t i l index first lis at' in
     let mine = one_room m h in
     let none : rooms y ≡ 0 = ap rooms now in
     let room = w.room in
     well_set begun ms os used capacity t i m y os' used' capacity' w first is (ap (λ (x : Member). x.number) now ∙ its_number ms t i m first is)
+    (noted_numbered begun t m y o c now (subst (IsAbove o) (is_there ms t i m first is) above))
     (λ u. ap (numbers u) (more ∙ ap (λ (n : ℕ). os ++ record { txn = t; index = n } ∷ []) place) ∙ (placed_noted (calls_of ms) t c os w.placed u
     ∙ ap (λ cs. count_from 0 (length (put (calls_of ms) t cs u))) (sym (noted_calls ms t i m y o c first is now))))
     (λ sums. omega (arith, sums, mine, none, room, longer, same))
@@ -254,6 +339,7 @@ undone_well begun ms os used capacity t i m y k os' used' capacity' w first is n
     let few : k ≤ length (calls_of ms t) = subst (λ n. k ≤ n) (ap length (sym its)) within in
     let room = w.room in
     well_set begun ms os used capacity t i m y os' used' capacity' w first is (ap (λ (x : Member). x.number) now ∙ its_number ms t i m first is)
+    (cut_numbered begun t m y k now within)
     (λ u. ap (numbers u) less ∙ (placed_undone (calls_of ms) t k os few w.placed u ∙ ap (λ cs. count_from 0 (length (put (calls_of ms) t cs u))) (sym cut)))
     (λ sums. omega (arith, sums, rooms_same, room, shorter, same))
 
@@ -282,6 +368,12 @@ nothing_member ms t i l first lis last u =
 
 -- ---- one leaves
 
+all_removed : (P : Member → Type 0) (ms : List Member) (i : ℕ) → All P ms → All P (remove ms i)
+all_removed P [] zero all = all
+all_removed P [] (suc i) all = all
+all_removed P (x ∷ xs) zero all = λ k d less. all (suc k) d (omega (arith, less))
+all_removed P (x ∷ xs) (suc i) all = All-cons P x (remove xs i) (all 0 x (omega arith)) (all_removed P xs i (λ k d less. all (suc k) d (omega (arith, less))))
+
 pub left_well : (begun : ℕ) (ms : List Member) (os : List Place) (used capacity t i : ℕ) (os' : List Place) (new : List Member) (used' capacity' : ℕ) → IsWell begun ms os used capacity
     → IsFirst ms t i → os' ≡ filter (λ (o : Place). not (o.txn == t)) os → new ≡ remove ms i → used' ≤ used → capacity' ≡ capacity → IsWell begun new os' used' capacity'
 left_well begun ms os used capacity t i os' new used' capacity' w first less now shorter same =
@@ -289,6 +381,7 @@ left_well begun ms os used capacity t i os' new used' capacity' w first less now
     let room = w.room in
     subst (λ xs. IsWell begun xs os' used' capacity') (sym now) (record {
       rising = rising_remove 0 ms begun i w.rising;
+      numbered = all_removed (λ (x : Member). IsNumbered begun x.number x) ms i w.numbered;
       placed = λ u. ap (numbers u) less ∙ (placed_left (calls_of ms) t os w.placed u ∙ ap (λ f. count_from 0 (length (f u))) (sym (calls_remove begun ms t i first w.rising)));
       room = omega (arith, sums, room, shorter, same);
     })
@@ -342,3 +435,16 @@ room_made old new t h there =
     go : (x : Option Member) → is_some x ≡ true → has_room (option_map with_room x) ≡ true
     go None k = absurd cc
     go (Some m) k = refl
+
+-- where a number is above those of all operations, it is above those of all once one transaction is changed so
+pub still_above : (old new : List Member) (t n : ℕ) (f : Member → Member) → IsChanged old new t f → ((m : Member) → IsAbove n (Some m) → IsAbove n (Some (f m)))
+    → ((u : ℕ) → IsAbove n (member_of old u)) → (u : ℕ) → IsAbove n (member_of new u)
+still_above old new t n f h keeps all u = subst (IsAbove n) (sym (h u)) (go (u == t))
+  where
+    through : (x : Option Member) → IsAbove n x → IsAbove n (option_map f x)
+    through None k = tt
+    through (Some m) k = keeps m k
+
+    go : (b : Bool) → IsAbove n (cond b (option_map f (member_of old t)) (member_of old u))
+    go true = through (member_of old t) (all t)
+    go false = all u

@@ -1,5 +1,5 @@
 -- What holds of the kernel without pages: the statements of its laws.
-use Rattle.std.specs.Prelude.{ℕ, ◌≡◌, List, [], ◌∷◌, Some, None, Bool, true}
+use Rattle.std.specs.Prelude.{ℕ, ◌≡◌, List, [], ◌∷◌, ◌++◌, Some, None, Bool, true}
 use Rattle.mt_base.specs.declared.modes.LockMode.{LockMode}
 use Rattle.mt_model.specs.declared.objects.Object.{Object}
 use Rattle.mt_model.specs.declared.operations.Op.{Op}
@@ -10,7 +10,7 @@ use Rattle.mt_model.specs.History.{IsLegal, after}
 use Rattle.mt_model.specs.Locks.{Held, AreTogether}
 use Rattle.mt_model.specs.Pending.{moved_by}
 use Rattle.mt_live.specs.Entries.{Entry, calls, runs, AreActed, kept, struck, IsExplained}
-use Rattle.mt_live.specs.Adds.{GivesBack}
+use Rattle.mt_live.specs.Adds.{GivesBack, add_before}
 use Rattle.mt_live.specs.Sound.{IsSound}
 use Rattle.mt_live.specs.Undoing.{only, others, last_effect}
 use Rattle.mt_live.specs.Machine.{State, committed_base, is_live, IsKept, begun, called, MayCall, ended, dropped, gone, booked, undone, Goes, AllGo, last_state, start}
@@ -57,6 +57,12 @@ AbortLeavesNoTrace =
     (b : Base) (s : State) (t : ℕ) → IsKept b s → s.running t ≡ None → last_effect t s.standing ≡ None
     → ((gone s t).standing ≡ kept (others t) s.standing) × ((gone s t).book ≡ s.book)
     × ((gone s t).base ≡ runs (committed_base b s) (kept (others t) s.standing))
+
+-- what was pending for a call that is refused after all is given back: it holds as if it had not been called
+abbrev pub GivingBackKeeps : Type 0
+GivingBackKeeps =
+    (b : Base) (s : State) (t : ℕ) (op : Op) (ps : List Pending) → IsKept b s → MayCall b s t op
+    → GivesBack t op (s.pending ++ add_before t op []) ps → IsKept b (record s { pending = ps })
 
 -- ---- what is kept explains
 

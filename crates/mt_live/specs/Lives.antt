@@ -1,5 +1,5 @@
 -- The live transactions as contracts see them.
-use Rattle.std.specs.Prelude.{ℕ, zero, suc, ◌≡◌, ◌≢◌, ◌<◌, ◌≤◌, ◌+◌, ◌==◌, Bool, false, cond, List, [], ◌∷◌, ◌++◌, Option, Some, None, filter, map, take, drop, length, is_some, slice_index_or}
+use Rattle.std.specs.Prelude.{ℕ, zero, suc, ◌≡◌, ◌≢◌, ◌<◌, ◌≤◌, ◌+◌, ◌==◌, Bool, false, cond, List, [], ◌∷◌, ◌++◌, Option, Some, None, All, AllPairs, filter, map, take, drop, length, is_some, slice_index_or}
 use Rattle.std.specs.List.{sum_by}
 use Rattle.std.specs.Option.{option_map}
 use Rattle.mt_model.specs.History.{Call}
@@ -33,6 +33,23 @@ is_member ms t = is_some (member_of ms t)
 abbrev pub has_room : Option Member → Bool
 has_room None = false
 has_room (Some m) = m.has_room
+
+-- The transaction of a number: the number is one of those that have begun, from 1; there are as many operations as calls, and
+-- their numbers rise.
+pub record IsNumbered (begun t : ℕ) (m : Member) : Type 0 where
+  pub number : m.number ≡ t
+  pub from_one : 1 ≤ t
+  pub has_begun : t ≤ begun
+  pub operations : length m.operations ≡ length m.calls
+  pub rising : AllPairs (λ (a b : ℕ). a < b) m.operations
+
+abbrev pub AreNumbered : ℕ → List Member → Type 0
+AreNumbered begun ms = (t : ℕ) (m : Member) → member_of ms t ≡ Some m → IsNumbered begun t m
+
+-- an operation's number is above those of the operations that stand
+abbrev pub IsAbove : ℕ → Option Member → Type 0
+IsAbove operation None = Unit {0}
+IsAbove operation (Some m) = All (λ (o : ℕ). o < operation) m.operations
 
 -- one transaction is changed, and no other
 abbrev pub IsChanged : List Member → List Member → ℕ → (Member → Member) → Type 0
@@ -77,9 +94,10 @@ AreRising low (m ∷ ms) high = (low < m.number) × AreRising m.number ms high
 abbrev pub rooms : Member → ℕ
 rooms m = cond m.has_room 1 0
 
--- transaction numbers rise up to the last begun; each transaction's calls ended in their order; and the
+-- transaction numbers rise up to the last begun, and so do each transaction's operations; its calls ended in their order; and the
 -- list of ends has a place for each transaction that has room
 pub record IsWell (begun : ℕ) (ms : List Member) (os : List Place) (used capacity : ℕ) : Type 0 where
   pub rising : AreRising 0 ms begun
+  pub numbered : All (λ (m : Member). IsNumbered begun m.number m) ms
   pub placed : (t : ℕ) → numbers t os ≡ count_from 0 (length (calls_of ms t))
   pub room : used + sum_by rooms ms ≤ capacity

@@ -1,6 +1,6 @@
 //! Laws of live transactions: why strict commuting locks, escrow and inverses explain every state.
 //! Each is a function with an empty body, whose contract is the law.
-ghost use Rattle.mt_live.specs.Laws.{BeginKeeps, CallKeeps, EndKeeps, DropKeeps, CommitKeeps, CommitMovesCounters, InverseKeeps, AbortKeeps, AbortLeavesNoTrace, KeptIsExplained, SoundIsExplained, SetMovesInFront, TransactionsMoveInFront, StartIsKept, EventKeeps, EveryScheduleIsRight, EmptyHoldsBook, NobodyLeavesNothing};
+ghost use Rattle.mt_live.specs.Laws.{BeginKeeps, CallKeeps, EndKeeps, DropKeeps, GivingBackKeeps, CommitKeeps, CommitMovesCounters, InverseKeeps, AbortKeeps, AbortLeavesNoTrace, KeptIsExplained, SoundIsExplained, SetMovesInFront, TransactionsMoveInFront, StartIsKept, EventKeeps, EveryScheduleIsRight, EmptyHoldsBook, NobodyLeavesNothing};
 ghost use Rattle.mt_live.specs.Witness.{RunTakesPlace};
 
 /// A transaction that begins changes nothing of what is kept.
@@ -20,9 +20,11 @@ pub fn end_keeps()
     ensures { EndKeeps }
 {}
 
-/// An operation that is taken back unfinished, its add with it, keeps what is kept.
+/// An operation that is taken back unfinished, its add with it, keeps what is kept; and so does a call that
+/// is refused once its add was granted, and gives that back.
 pub fn drop_keeps()
-    ensures { DropKeeps }
+    ensures dropped { DropKeeps }
+    ensures given_back { GivingBackKeeps }
 {}
 
 /// A commit moves its transaction's entries behind the book, whatever others did in between: the book

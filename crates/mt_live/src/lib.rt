@@ -10,5 +10,5 @@ pub mod mistakes;
 mod places;
 mod transactions;
 
-pub use live::Live;
+pub use live::{Effect, Live};
 pub use transactions::TxnState;

@@ -7,7 +7,7 @@ ghost use Rattle.mt_live.specs.Entries.{Entry, calls, kept};
 ghost use Rattle.mt_live.specs.Undoing.{only, others, last_effect, cut_back};
 ghost use Rattle.mt_live.specs.Machine.{put};
 ghost use Rattle.mt_live.specs.Members.{Member, fresh, with_room, with_call, with_state, taken_back, committed_of, last_operation};
-ghost use Rattle.mt_live.specs.Lives.{member_of, is_member, has_room, IsFirst, IsChanged};
+ghost use Rattle.mt_live.specs.Lives.{member_of, is_member, has_room, AreNumbered, IsAbove, IsFirst, IsChanged};
 
 use crate::places::{Place, cut_from, take_out};
 use crate::transactions::{Transaction, TxnState};
@@ -15,6 +15,17 @@ use mt_base::{OpNo, Refusal, TxnNo};
 use mt_model::{Committed, Op, Reply};
 use std::alloc::Global;
 use std::marker::Model;
+
+/// An operation that stands and did something.
+#[derive(Clone, Copy, Debug)]
+pub struct Effect<'a> {
+    /// Its number.
+    pub number: OpNo,
+    /// The operation itself.
+    pub op: &'a Op,
+    /// What it replied.
+    pub reply: &'a Reply,
+}
 
 /// The live transactions: each with its session, its state and what stands of its operations, and the
 /// order in which these ended.
@@ -77,6 +88,14 @@ impl Live {
         }
     }
 
+    /// How many transactions have begun. The numbers of those that live are from 1 up to this one.
+    pub fn begun(&self) -> u64
+        ensures begun { result ≡ self.now.begun }
+        ensures numbered { AreNumbered result self.now.members }
+    {
+        self.begun
+    }
+
     /// Begins a transaction of this session, open and without operations. Its number is the next one,
     /// from 1; at most 2^40 transactions begin.
     ///
@@ -85,6 +104,7 @@ impl Live {
         requires { self.old.begun < 2 ^ 40 }
         ensures number { IfOk result (λ txn. txn ≡ self.old.begun + 1) }
         ensures begun { OnOk result (self.new.begun ≡ self.old.begun + 1) }
+        ensures numbered { OnOk result (AreNumbered self.new.begun self.new.members) }
         ensures unused { IfOk result (λ txn. member_of self.old.members txn ≡ None) }
         ensures member { IfOk result (λ txn. (u : ℕ) →
             member_of self.new.members u ≡ put (member_of self.old.members) txn (Some (fresh txn session)) u) }
@@ -129,6 +149,7 @@ impl Live {
     pub fn set_state(&mut self, txn: TxnNo, state: TxnState)
         requires { is_member self.old.members txn ≡ true }
         ensures member { IsChanged self.old.members self.new.members txn (λ m. with_state m state) }
+        ensures numbered { AreNumbered self.new.begun self.new.members }
         ensures count { length self.new.members ≡ length self.old.members }
         ensures begun { self.new.begun ≡ self.old.begun }
         ensures standing { self.new.standing ≡ self.old.standing }
@@ -143,6 +164,7 @@ impl Live {
     pub fn room(&mut self, txn: TxnNo) -> Result<(), Refusal>
         requires { is_member self.old.members txn ≡ true }
         ensures member { OnOk result (IsChanged self.old.members self.new.members txn with_room) }
+        ensures numbered { OnOk result (AreNumbered self.new.begun self.new.members) }
         ensures count { OnOk result (length self.new.members ≡ length self.old.members) }
         ensures begun { OnOk result (self.new.begun ≡ self.old.begun) }
         ensures standing { OnOk result (self.new.standing ≡ self.old.standing) }
@@ -156,12 +178,15 @@ impl Live {
     }
 
     /// The operation of this number, of a live transaction, has ended with this reply: it stands behind all
-    /// others. It takes the room that [`Live::room`] made, and no memory.
+    /// others. Its number is above those of the transaction's others. It takes the room that [`Live::room`]
+    /// made, and no memory.
     pub fn note(&mut self, txn: TxnNo, operation: OpNo, op: Op, reply: Reply)
-        requires { has_room (member_of self.old.members txn) ≡ true }
+        requires room { has_room (member_of self.old.members txn) ≡ true }
+        requires above { IsAbove operation (member_of self.old.members txn) }
         ensures standing { self.new.standing
             ≡ self.old.standing ++ record { txn = txn; op = op; reply = reply } ∷ [] }
         ensures member { IsChanged self.old.members self.new.members txn (λ m. with_call m operation (op, reply)) }
+        ensures numbered { AreNumbered self.new.begun self.new.members }
         ensures count { length self.new.members ≡ length self.old.members }
         ensures begun { self.new.begun ≡ self.old.begun }
     {
@@ -171,17 +196,18 @@ impl Live {
         self.order.push_reserved(Place { txn, index });
     }
 
-    /// The last operation that stands of a transaction and did something: its number, itself and its reply. Its
-    /// inverse is the next to run in an abort, and is logged as one that takes back this number.
-    pub fn last_to_undo(&self, txn: TxnNo) -> Option<(OpNo, &Op, &Reply)>
-        ensures last { option_map {U = Call} (λ r. (r.1.now, r.2.now)) result
+    /// The last operation that stands of a transaction and did something. Its inverse is the next to run in
+    /// an abort, and is logged as one that takes back this number.
+    pub fn last_to_undo(&self, txn: TxnNo) -> Option<Effect<'_>>
+        ensures last { option_map {U = Call} (λ r. (r.op.now, r.reply.now)) result
             ≡ option_map (λ e. (e.op, e.reply)) (last_effect txn self.now.standing) }
-        ensures number { option_map (λ r. r.0) result ≡ last_operation (member_of self.now.members txn) }
+        ensures number { option_map (λ r. r.number) result ≡ last_operation (member_of self.now.members txn) }
     {
         let place = place_of(&self.transactions, txn)?;
         let at = self.transactions[place].last_place()?;
         let (op, reply) = self.transactions[place].call(at);
-        Some((self.transactions[place].operation(at), op, reply))
+        let number = self.transactions[place].operation(at);
+        Some(Effect { number, op, reply })
     }
 
     /// The inverse of [`Live::last_to_undo`] has ended: neither that operation stands any more, nor the
@@ -191,6 +217,7 @@ impl Live {
         requires { is_member self.old.members txn ≡ true }
         ensures standing { self.new.standing ≡ cut_back txn self.old.standing }
         ensures member { IsChanged self.old.members self.new.members txn taken_back }
+        ensures numbered { AreNumbered self.new.begun self.new.members }
         ensures count { length self.new.members ≡ length self.old.members }
         ensures begun { self.new.begun ≡ self.old.begun }
     {
@@ -209,6 +236,7 @@ impl Live {
         ensures calls { result.calls ≡ calls (kept (only txn) self.old.standing) }
         ensures standing { self.new.standing ≡ kept (others txn) self.old.standing }
         ensures member { (u : ℕ) → member_of self.new.members u ≡ put (member_of self.old.members) txn None u }
+        ensures numbered { AreNumbered self.new.begun self.new.members }
         ensures count { length self.new.members + 1 ≡ length self.old.members }
         ensures begun { self.new.begun ≡ self.old.begun }
     {

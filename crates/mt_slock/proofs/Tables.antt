@@ -187,3 +187,22 @@ held_are_free held t u f g together apart hf hg = by (same_object (object_of f) 
     by : (s : Bool) → same_object (object_of f) (object_of g) ≡ s → AreFree f g
     by true e = inr (together t u (object_of f) (mode_of f) (mode_of g) apart hf (subst (λ y. held u y (mode_of g) ≡ true) (sym (same-true (object_of f) (object_of g) e)) hg))
     by false e = inl (λ same. not_both (same_object (object_of f) (object_of g)) (subst (λ y. same_object (object_of f) y ≡ true) same (same-self (object_of f))) e)
+
+-- ---- taken out behind a grant
+
+pub granted_once : (held : Held) (t : ℕ) (x : Object) (m : LockMode) → held t x m ≡ true → with_lock held t x m ≡ held
+granted_once held t x m h = sym (with_held held t x m h)
+
+pub taken_out : (held : Held) (t : ℕ) (x : Object) (m : LockMode) → held t x m ≡ false → without_lock (with_lock held t x m) t x m ≡ held
+taken_out held t x m new = λ i u y k. back (held u y k) (is_lock t x m u y k) (was u y k) i
+  where
+    back : (a b : Bool) → (b ≡ true → a ≡ false) → ((a || b) && not b) ≡ a
+    back true true e = absurd (let h : true ≡ false = e refl in cc)
+    back true false e = refl
+    back false true e = refl
+    back false false e = refl
+
+    was : (u : ℕ) (y : Object) (k : LockMode) → is_lock t x m u y k ≡ true → held u y k ≡ false
+    was u y k is =
+        let p = lock_is t x m u y k is in
+        subst (λ j. held u y j ≡ false) p.2 (subst (λ z. held u z m ≡ false) p.1 (ap (λ n. held n x m) p.0 ∙ new))

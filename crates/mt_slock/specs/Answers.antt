@@ -8,9 +8,9 @@ use Rattle.mt_model.specs.Locks.{Held, with_lock, IsFree, IsLeastBar}
 use Rattle.mt_slock.specs.declared.table.Asked.{Asked}
 use Rattle.mt_slock.specs.declared.table.Asked.TheVariants.{Granted, Wait}
 
--- granted where nobody is in the way; else the oldest that is in the way is younger
+-- granted where nobody is in the way, with whether it was held before; else the oldest that is in the way is younger
 abbrev pub IsAsked : Held → ℕ → Object → LockMode → Asked → Held → Type 0
-IsAsked old t x m Granted new = IsFree old t x m × (new ≡ with_lock old t x m)
+IsAsked old t x m (Granted was_held) new = IsFree old t x m × (new ≡ with_lock old t x m) × (was_held ≡ old t x m)
 IsAsked old t x m (Wait h) new = IsLeastBar old t x m h × (t < h) × (new ≡ old)
 
 -- the oldest that is in the way is older; or the lock would be granted, and was not held before

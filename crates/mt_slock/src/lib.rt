@@ -3,8 +3,8 @@
 //!
 //! A table keeps each locked object with its holders in order of grant, and of each transaction the locks it
 //! holds, so that asking looks at the holders of one object, and a release at the locks of one transaction.
-//! Contracts see which locks are held, as a test of a transaction, an object and a mode. The law of the table
-//! stands in [`laws`].
+//! Contracts see which locks are held, as a test of a transaction, an object and a mode. The laws of the table
+//! stand in [`laws`].
 #![tactic(auto)]
 
 mod holders;

@@ -13,8 +13,8 @@ use std::marker::Model;
 /// What is answered where a lock is asked for and nothing is refused.
 #[derive(Clone, Copy, PartialEq, Eq, Debug)]
 pub enum Asked {
-    /// The transaction holds the lock now, or held it before.
-    Granted,
+    /// The transaction holds the lock now. Where it held it before, nothing has changed.
+    Granted { was_held: bool },
     /// This transaction, the oldest that is in the way, is younger than the asker, which is to wait for it.
     Wait(TxnNo),
 }
@@ -60,7 +60,7 @@ impl LockTable {
     /// Asks for a lock on an object for a transaction. It is granted exactly where no other transaction holds
     /// the object in a mode that conflicts; what the transaction holds itself is never in its way. Then the
     /// transaction holds it until [`LockTable::release`]; asking for what it holds changes nothing and takes
-    /// no memory.
+    /// no memory. The answer tells the two apart, for a call that a later test refuses.
     ///
     /// Else the transactions' ages decide (wait-die): where the oldest holder in the way is younger than the
     /// asker, the answer is to wait for it; where it is older, the call is refused with 14, and the asker is to
@@ -78,26 +78,27 @@ impl LockTable {
             Some(holder) if holder < txn => Err(Refusal::Die(holder)),
             Some(holder) => Ok(Asked::Wait(holder)),
             None => {
-                self.grant(txn, object, mode)?;
-                Ok(Asked::Granted)
+                let was_held = self.grant(txn, object, mode)?;
+                Ok(Asked::Granted { was_held })
             }
         }
     }
 
-    // One lock more, which nobody is in the way of.
-    fn grant(&mut self, txn: TxnNo, object: Object, mode: LockMode) -> Result<(), AllocError>
+    // One lock more, which nobody is in the way of. Answers whether it was held before.
+    fn grant(&mut self, txn: TxnNo, object: Object, mode: LockMode) -> Result<bool, AllocError>
         requires { IsFree (held_of self.old) txn object mode }
         ensures granted { OnOk result (held_of self.new ≡ with_lock (held_of self.old) txn object mode) }
+        ensures was { IfOk result (λ was_held. was_held ≡ held_of self.old txn object mode) }
         ensures new { OnErr result (held_of self.old txn object mode ≡ false) }
         ensures err { OnErr result (held_of self.new ≡ held_of self.old) }
         ensures together { AreTogether (held_of self.new) }
     {
         if self.objects.has(txn, &object, mode) {
-            return Ok(());
+            return Ok(true);
         }
         self.notes.add(txn, &object, mode)?;
         match self.objects.add(txn, object, mode) {
-            Ok(()) => Ok(()),
+            Ok(()) => Ok(false),
             Err(error) => {
                 self.notes.drop_last(txn);
                 Err(error)
@@ -113,8 +114,9 @@ impl LockTable {
         self.objects.has(txn, object, mode)
     }
 
-    /// Takes a lock back that was just granted, for a call that a later test refused. That lock alone goes;
-    /// nothing changes where it was not held. It takes no memory, and time in proportion to the holders of the
+    /// Takes a lock back that was just granted and not held before, for a call that a later test refused. That
+    /// lock alone goes, so that the locks are as before [`LockTable::ask`], by [`laws`](crate::laws); nothing
+    /// changes where it was not held. It takes no memory, and time in proportion to the holders of the
     /// object.
     pub fn take_out(&mut self, txn: TxnNo, object: &Object, mode: LockMode)
         ensures taken { held_of self.new ≡ without_lock (held_of self.old) txn object.now mode }

@@ -59,7 +59,7 @@ adds_good relations total pages m new rows =
 
 -- ---- the acts
 
-stays_is : (pages : PageBytes) (b : Base) (c : ℕ) (d : ℤ) (t : Bool) → Holds pages b → c < 128 → stays (count_in (pages 2) c) d ≡ t → stays (b.counts c) d ≡ t
+stays_is : (pages : PageBytes) (b : Base) (c : ℕ) (d : ℤ) (t : Bool) → Holds pages b → c < get_or (pages 2) 1 0 → stays (count_in (pages 2) c) d ≡ t → stays (b.counts c) d ≡ t
 stays_is pages b c d t held lt is = ap (λ (n : Count). stays n d) (held.counts c lt) ∙ is
 
 -- the sum stays in the bounds
@@ -70,23 +70,29 @@ adds_done relations total pages m c counters d new rows there a fits here torn k
   replies = λ b held. ap (λ (t : Bool). cond t Done OutOfBounds) (stays_is pages b c d true held inside fits);
   base = λ b held. record {
     rows = rows_same pages (replaced 2 new pages) (alter_count b c (added d)) (records_stay pages (replaced 2 new pages) (file_kept relations total pages m new rows)) (record { found = held.rows.found; there = held.rows.there });
-    counts = λ k lt. counted b held k lt (cases k);
+    counts = λ k lt. counted b held k (as_told k lt) (cases k);
   };
   meaning = m;
   good = adds_good relations total pages m new rows;
   counters = λ n old. subst (λ (page : List ℕ). AreCounters relations n page) (sym at_two) (kept relations n old);
 }
   where
-    inside : c < 128
-    inside = let few = a.few in omega (arith, there, few)
+    inside : c < get_or (pages 2) 1 0
+    inside = let told = a.counters_told in omega (arith, there, told)
 
     at_two : replaced 2 new pages 2 ≡ new
     at_two = replaced_here 2 2 new pages refl
 
+    as_told : (k : ℕ) → k < get_or (replaced 2 new pages 2) 1 0 → k < get_or (pages 2) 1 0
+    as_told k lt =
+        let now : get_or (replaced 2 new pages 2) 1 0 ≡ counters = ap (λ (page : List ℕ). get_or page 1 0) at_two ∙ (kept relations counters a).counters_told in
+        let told = a.counters_told in
+        omega (arith, lt, now, told)
+
     cases : (k : ℕ) → (k ≡ c) ⊎ (k ≢ c)
     cases k = cases_eq k c
 
-    counted : (b : Base) → Holds pages b → (k : ℕ) → k < 128 → (k ≡ c) ⊎ (k ≢ c) → cond (c == k) (added d (b.counts k)) (b.counts k) ≡ count_in (replaced 2 new pages 2) k
+    counted : (b : Base) → Holds pages b → (k : ℕ) → k < get_or (pages 2) 1 0 → (k ≡ c) ⊎ (k ≢ c) → cond (c == k) (added d (b.counts k)) (b.counts k) ≡ count_in (replaced 2 new pages 2) k
     counted b held k lt (inl same) =
         ap (λ (t : Bool). cond t (added d (b.counts k)) (b.counts k)) (eq-eqb c k (sym same))
         ∙ ap (λ (n : ℕ). added d (b.counts n)) same
@@ -111,10 +117,10 @@ adds_nothing relations total pages m c counters d rows there a leaves = record {
   counters = λ n old. old;
 }
   where
-    inside : c < 128
-    inside = let few = a.few in omega (arith, there, few)
+    inside : c < get_or (pages 2) 1 0
+    inside = let told = a.counters_told in omega (arith, there, told)
 
-    counted : (b : Base) → Holds pages b → (k : ℕ) → k < 128 → (k ≡ c) ⊎ (k ≢ c) → cond (c == k) (added d (b.counts k)) (b.counts k) ≡ count_in (pages 2) k
+    counted : (b : Base) → Holds pages b → (k : ℕ) → k < get_or (pages 2) 1 0 → (k ≡ c) ⊎ (k ≢ c) → cond (c == k) (added d (b.counts k)) (b.counts k) ≡ count_in (pages 2) k
     counted b held k lt (inl same) =
         ap (λ (t : Bool). cond t (added d (b.counts k)) (b.counts k)) (eq-eqb c k (sym same))
         ∙ ap (λ (n : ℕ). added d (b.counts n)) same
@@ -123,9 +129,9 @@ adds_nothing relations total pages m c counters d rows there a leaves = record {
     counted b held k lt (inr other) = ap (λ (t : Bool). cond t (added d (b.counts k)) (b.counts k)) (ne_eqb c k (λ e. other (sym e))) ∙ held.counts k lt
 
 -- a read
-pub reads : (relations total : ℕ) (pages : PageBytes) (m : Map) (c : ℕ) (number : ℤ) → AreRows relations total pages m → c < 128 → number ≡ (count_in (pages 2) c).number → IsAct relations total pages pages (Read c) (Value number)
-reads relations total pages m c number rows lt is = record {
-  replies = λ b held. ap (λ (n : Count). Value n.number) (held.counts c lt) ∙ ap Value (sym is);
+pub reads : (relations total : ℕ) (pages : PageBytes) (m : Map) (c counters : ℕ) (number : ℤ) → AreRows relations total pages m → c < counters → AreCounters relations counters (pages 2) → number ≡ (count_in (pages 2) c).number → IsAct relations total pages pages (Read c) (Value number)
+reads relations total pages m c counters number rows there a is = record {
+  replies = λ b held. ap (λ (n : Count). Value n.number) (held.counts c (let told = a.counters_told in omega (arith, there, told))) ∙ ap Value (sym is);
   base = λ b held. record { rows = held.rows; counts = held.counts };
   meaning = m;
   good = rows;

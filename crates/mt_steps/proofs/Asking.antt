@@ -5,6 +5,7 @@ use Rattle.std.proofs.lemmas.Bool.{cases_eq}
 use Rattle.std.proofs.lemmas.List.Elements.{All-head, All-cons, All-nil}
 use Rattle.mt_base.specs.declared.edits.Edit.{Edit}
 use Rattle.mt_base.specs.declared.modes.Mode.{Mode}
+use Rattle.mt_base.specs.declared.modes.Mode.TheVariants.{Read, Write}
 use Rattle.mt_base.specs.declared.numbers.RecordName.{RecordName}
 use Rattle.mt_slots.specs.Page.{Row}
 use Rattle.mt_base.specs.Edits.{patched, IsShortest}
@@ -25,6 +26,7 @@ use Rattle.mt_index.specs.declared.answers.Amend.{Amend}
 use Rattle.mt_index.specs.declared.answers.Amend.TheVariants as amend
 use Rattle.mt_index.specs.Answers.{IsInBucket, IsInAdd, Stays, AddNeeds, AmendNeeds}
 use Rattle.mt_steps.specs.Drafts.{AreAtHand}
+use Rattle.mt_steps.specs.Plans.{IsForChange}
 use Rattle.mt_steps.specs.Acts.{IsPlaced, IsTaken, IsKept, IsMoved}
 use Rattle.mt_steps.proofs.Entering.{first_inside}
 
@@ -38,6 +40,20 @@ pub bucket_inside : (total : ℕ) (key : List ℕ) (pages : PageBytes) (m : Map)
 bucket_inside total key pages m in_bucket p mode a = ⊎_elim
     (λ d. subst (λ (q : ℕ). q < total) (sym d.0) (kind_inside total pages m 1 1 a a.directory_fixed (omega arith)))
     (λ b. kind_inside total pages m p 2 a b.0 (omega arith))
+
+-- the same to be written, but for the directory
+pub bucket_change : (key : List ℕ) (pages : PageBytes) (p : ℕ) (mode : Mode) → IsInBucket key Write pages p mode → IsForChange p mode
+bucket_change key pages p mode a = ⊎_elim (λ d. inr d.0) (λ b. inl b.1) a
+
+pub add_change : (total : ℕ) (split : Bool) (key : List ℕ) (pages : PageBytes) (p : ℕ) (mode : Mode) → IsInAdd split key total pages p mode → IsForChange p mode
+add_change total split key pages p mode role = ⊎_elim (λ bucket. bucket_change key pages p mode bucket) (λ other. inl other.1) role
+
+-- a page of a bucket that was looked for to read is asked for to write
+pub looks_to_write : (key : List ℕ) (total : ℕ) (pages : PageBytes) (m : Map) (p : ℕ) (mode asked : Mode) → AreMap total pages m → (p ≡ 1 → asked ≡ mode) → (p ≢ 1 → asked ≡ Write) → IsInBucket key Read pages p mode → IsInBucket key Write pages p asked
+looks_to_write key total pages m p mode asked a directory others role = ⊎_elim
+    (λ d. inl (d.0, directory d.0 ∙ d.1))
+    (λ b. inr (b.0, others (λ one. let here : kind pages p ≡ kind pages 1 = ap (λ (n : ℕ). kind pages n) one in let fixed = a.directory_fixed in let two = b.0 in absurd (omega (arith, here, fixed, two))), b.2))
+    role
 
 -- what an add to the index asks for
 pub add_inside : (total : ℕ) (split : Bool) (key : List ℕ) (pages : PageBytes) (m : Map) (p : ℕ) (mode : Mode) → AreMap total pages m → IsInAdd split key total pages p mode → p < total
@@ -129,13 +145,13 @@ pub named_differs : (cs : List PageChange) (pages : PageBytes) (p : ℕ) → Are
 named_differs cs pages p short named same = named (stays_untouched cs pages p short same)
 
 pub put_needs : (at_hand : ℕ → Option (List ℕ)) (room : Option ℕ) (total : ℕ) (pages : PageBytes) (m : Map) (row : Row) (q : ℕ) (mode : Mode) (answer : Step) → answer ≡ step.Need q mode → AreMap total pages m → IsNamed room pages
-    → IsPut at_hand room total [] pages row answer → (at_hand q ≡ None) × (q < total)
+    → IsPut at_hand room total [] pages row answer → (at_hand q ≡ None) × (q < total) × IsForChange q mode
 put_needs at_hand room total pages m row q mode answer is a named told =
     let t = subst (λ (x : Step). IsPut at_hand room total [] pages row x) is told in
-    (t.0, looked_inside room total pages m q a named t.2)
+    (t.0, looked_inside room total pages m q a named t.2, inl t.1)
 
 pub removal_needs : (at_hand : ℕ → Option (List ℕ)) (total : ℕ) (pages : PageBytes) (m : Map) (p s q : ℕ) (mode : Mode) (answer : Step) → answer ≡ step.Need q mode → AreMap total pages m → kind pages p ≡ 3
-    → IsRemoval at_hand pages p s answer → (at_hand q ≡ None) × (q < total)
+    → IsRemoval at_hand pages p s answer → (at_hand q ≡ None) × (q < total) × IsForChange q mode
 removal_needs at_hand total pages m p s q mode answer is a three told =
     let t = subst (λ (x : Step). IsRemoval at_hand pages p s x) is told in (
       t.0,
@@ -143,10 +159,11 @@ removal_needs at_hand total pages m p s q mode answer is a three told =
           (λ (here : q ≡ p). subst (λ (x : ℕ). x < total) (sym here) (kind_inside total pages m p 3 a three (omega arith)))
           (λ space. subst (λ (x : ℕ). x < total) (sym space.0) (kind_inside total pages m 0 1 a a.space_fixed (omega arith)))
           t.2,
+      inl t.1,
     )
 
 pub replacement_needs : (at_hand : ℕ → Option (List ℕ)) (room : Option ℕ) (total : ℕ) (pages : PageBytes) (m : Map) (n : RecordName) (r row : Row) (q : ℕ) (mode : Mode) (answer : Step) → answer ≡ step.Need q mode → AreMap total pages m → IsNamed room pages
-    → kind pages n.page ≡ 3 → IsReplacement at_hand room total pages n.page n.slot r row answer → (at_hand q ≡ None) × (q < total)
+    → kind pages n.page ≡ 3 → IsReplacement at_hand room total pages n.page n.slot r row answer → (at_hand q ≡ None) × (q < total) × IsForChange q mode
 replacement_needs at_hand room total pages m n r row q mode answer is a named three told =
     let t = subst (λ (x : Step). IsReplacement at_hand room total pages n.page n.slot r row x) is told in (
       t.0,
@@ -154,6 +171,7 @@ replacement_needs at_hand room total pages m n r row q mode answer is a named th
           (λ (here : q ≡ n.page). subst (λ (x : ℕ). x < total) (sym here) (kind_inside total pages m n.page 3 a three (omega arith)))
           (λ looked. looked_inside room total pages m q a named looked.1)
           t.2,
+      inl t.1,
     )
 
 -- a page that changes where a record is put, taken away, replaced or moved

@@ -1,5 +1,5 @@
 -- Operations on rows leave the counters page.
-use Rattle.std.proofs.Common.{◌≡◌, ◌≢◌, ◌⊎◌, ⊎_elim, ℕ, List, [], get_or, refl, ap, sym, ◌∙◌, subst, arith}
+use Rattle.std.proofs.Common.{◌≡◌, ◌≢◌, ◌<◌, ◌⊎◌, ⊎_elim, ℕ, List, [], get_or, refl, ap, sym, ◌∙◌, subst, arith}
 use Rattle.mt_slots.specs.Page.{Row}
 use Rattle.mt_space.specs.declared.changes.PageChange.{PageChange}
 use Rattle.mt_space.specs.Changes.{PageBytes, after, AreShort}
@@ -57,7 +57,7 @@ row_act relations total pages pages2 m op reply stays counts replies base good =
   replies = λ b held. replies b held.rows;
   base = λ b held. record {
     rows = base b held.rows;
-    counts = λ c lt. ap (λ (f : ℕ → _). f c) (counts b) ∙ held.counts c lt ∙ ap (λ (page : List ℕ). count_in page c) (sym stays.same);
+    counts = λ c lt. ap (λ (f : ℕ → _). f c) (counts b) ∙ held.counts c (subst (λ (page : List ℕ). c < get_or page 1 0) stays.same lt) ∙ ap (λ (page : List ℕ). count_in page c) (sym stays.same);
   };
   meaning = m;
   good = good;

@@ -18,3 +18,5 @@ mod Modest
 pub mod Formatting
 mod Telling
 mod LoggedOps
+mod Undoing
+mod Naming

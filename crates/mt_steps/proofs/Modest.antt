@@ -22,7 +22,7 @@ use Rattle.mt_steps.specs.Held.{AreRows}
 use Rattle.mt_steps.proofs.Apart.{StaysFile, records_stay, add_stays}
 use Rattle.mt_steps.proofs.Acting.{amends_file}
 use Rattle.mt_steps.specs.Acts.{IsPlaced, IsTaken, IsKept, IsMoved}
-use Rattle.mt_steps.specs.Plans.{free_pages, IsTight, HasNoRecord, IsModest}
+use Rattle.mt_steps.specs.Plans.{free_pages, IsTight, HasNoRecord, IsGivenBack, IsModest}
 
 -- ---- pages without a record
 
@@ -49,6 +49,17 @@ drops_empties old new p s drops q none = ⊎_elim {C = HasNoRecord old q}
     (λ (away : q ≢ p). (sym (drops.touches.kinds q away) ∙ none.0, λ t. sym (drops.puts.elsewhere q t (inl away)) ∙ none.1 t))
     (cases_eq q p)
 
+-- a page that loses a record still holds records, or is free
+drops_left : (old new : PageBytes) (p s : ℕ) → Drops old new p s → (kind new p ≡ 3) ⊎ (kind new p ≡ 0)
+drops_left old new p s drops = ⊎_elim {C = (kind new p ≡ 3) ⊎ (kind new p ≡ 0)}
+    (λ (three : kind new p ≡ 3). inl three)
+    (λ (other : kind new p ≢ 3). inr (drops.last (λ t ne. go t ne (record_in old p t) refl other)))
+    (cases_eq (kind new p) 3)
+  where
+    go : (t : ℕ) → t ≢ s → (o : Option Row) → record_in old p t ≡ o → kind new p ≢ 3 → record_in old p t ≡ None
+    go t ne None is other = is
+    go t ne (Some row) is other = absurd (other (drops.more t ne (λ none. no_row row (sym none ∙ is))))
+
 -- ---- one step, and more
 
 -- the map stays
@@ -56,6 +67,7 @@ pub modest_same : (at_hand : ℕ → Option (List ℕ)) (total n : ℕ) (split :
 modest_same at_hand total n split pages pages2 empties same directory = record {
   kinds = λ p none. ap (λ (map : List ℕ). get_or map p 0) same;
   takes = let free = ap (λ (map : List ℕ). free_in (mapped map total)) same in omega (arith, free);
+  gives = λ none p. inl (ap (λ (map : List ℕ). get_or map p 0) same);
   directory = λ none. directory;
   empties = empties;
 }
@@ -63,20 +75,27 @@ modest_same at_hand total n split pages pages2 empties same directory = record {
 pub modest_nothing : (at_hand : ℕ → Option (List ℕ)) (total n : ℕ) (split : Bool) (pages : PageBytes) (changes : List PageChange) → changes ≡ [] → IsModest at_hand total n split pages (after changes pages)
 modest_nothing at_hand total n split pages changes none = modest_same at_hand total n split pages (after changes pages) (λ p empty. subst (λ (l : List PageChange). HasNoRecord (after l pages) p) none empty) (ap (λ (l : List PageChange). after l pages 0) none) (ap (λ (l : List PageChange). after l pages 1) none)
 
+given_twice : (a b c : ℕ) → IsGivenBack a b → IsGivenBack b c → IsGivenBack a c
+given_twice a b c (inl one) (inl two) = inl (two ∙ one)
+given_twice a b c (inl one) (inr two) = inr (sym one ∙ two.0, two.1)
+given_twice a b c (inr one) (inl two) = inr (one.0, two ∙ one.1)
+given_twice a b c (inr one) (inr two) = let zero = one.1 in let three = two.0 in absurd (omega (arith, zero, three))
+
 pub modest_trans : (at_hand : ℕ → Option (List ℕ)) (total n k : ℕ) (split : Bool) (a b c : PageBytes) → IsModest at_hand total n split a b → IsModest at_hand total k split b c → IsModest at_hand total (n + k) split a c
 modest_trans at_hand total n k split a b c x y = record {
   kinds = λ p none. y.kinds p none ∙ x.kinds p none;
   takes = let first = x.takes in let second = y.takes in omega (arith, first, second);
+  gives = λ none p. given_twice (kind a p) (kind b p) (kind c p) (x.gives (omega (arith, none)) p) (y.gives (omega (arith, none)) p);
   directory = λ none. y.directory none ∙ x.directory none;
   empties = λ p none. x.empties p (y.empties p none);
 }
 
 pub modest_more : (at_hand : ℕ → Option (List ℕ)) (total n k : ℕ) (split : Bool) (a b : PageBytes) → n ≤ k → IsModest at_hand total n split a b → IsModest at_hand total k split a b
-modest_more at_hand total n k split a b le x = record { kinds = x.kinds; takes = let takes = x.takes in omega (arith, takes, le); directory = x.directory; empties = x.empties }
+modest_more at_hand total n k split a b le x = record { kinds = x.kinds; takes = let takes = x.takes in omega (arith, takes, le); gives = λ none p. x.gives (omega (arith, none, le)) p; directory = x.directory; empties = x.empties }
 
 -- what is so without a split is so
 pub modest_any : (at_hand : ℕ → Option (List ℕ)) (total n : ℕ) (split : Bool) (a b : PageBytes) → IsModest at_hand total n false a b → IsModest at_hand total n split a b
-modest_any at_hand total n split a b x = record { kinds = x.kinds; takes = x.takes; directory = λ none. x.directory refl; empties = x.empties }
+modest_any at_hand total n split a b x = record { kinds = x.kinds; takes = x.takes; gives = x.gives; directory = λ none. x.directory refl; empties = x.empties }
 
 seen_none : (at_hand : ℕ → Option (List ℕ)) (p : ℕ) → IsSome (at_hand p) → at_hand p ≡ None → ⊥
 seen_none at_hand p some none = go (at_hand p) some none
@@ -93,15 +112,23 @@ touches_modest : (at_hand : ℕ → Option (List ℕ)) (total : ℕ) (split : Bo
 touches_modest at_hand total split pages mid q size t empties off some = record {
   kinds = λ p none. t.kinds p (apart at_hand p q some none);
   takes = free_but_one (pages 0) (mid 0) total q size (λ p ne free. t.kinds p ne ∙ free);
+  gives = λ none p. absurd (omega (arith, none));
   directory = λ none. t.others 1 off (omega arith);
   empties = empties;
 }
 
 -- and it was not free
-drops_modest : (at_hand : ℕ → Option (List ℕ)) (total : ℕ) (split : Bool) (pages mid : PageBytes) (q : ℕ) → length (mid 0) ≡ length (pages 0) → Touches pages mid q → ((p : ℕ) → HasNoRecord mid p → HasNoRecord pages p) → 1 ≢ q → kind pages q ≡ 3 → IsSome (at_hand q) → IsModest at_hand total 0 split pages mid
-drops_modest at_hand total split pages mid q size t empties off three some = record {
+drops_modest : (at_hand : ℕ → Option (List ℕ)) (total : ℕ) (split : Bool) (pages mid : PageBytes) (q : ℕ) → length (mid 0) ≡ length (pages 0) → Touches pages mid q → ((p : ℕ) → HasNoRecord mid p → HasNoRecord pages p) → 1 ≢ q → kind pages q ≡ 3 → (kind mid q ≡ 3) ⊎ (kind mid q ≡ 0) → IsSome (at_hand q) → IsModest at_hand total 0 split pages mid
+drops_modest at_hand total split pages mid q size t empties off three left some = record {
   kinds = λ p none. t.kinds p (apart at_hand p q some none);
   takes = let fewer = free_stay (pages 0) (mid 0) total size (λ p free. t.kinds p (not_here p free) ∙ free) in omega (arith, fewer);
+  gives = λ none p. ⊎_elim
+      (λ (here : p ≡ q).
+      let was : kind pages p ≡ 3 = ap (λ (x : ℕ). kind pages x) here ∙ three in
+      let now : kind mid p ≡ kind mid q = ap (λ (x : ℕ). kind mid x) here in
+      ⊎_elim {C = IsGivenBack (kind pages p) (kind mid p)} (λ still. inl (now ∙ still ∙ sym was)) (λ gone. inr (was, now ∙ gone)) left)
+      (λ (away : p ≢ q). inl (t.kinds p away))
+      (cases_eq p q);
   directory = λ none. t.others 1 off (omega arith);
   empties = empties;
 }
@@ -129,7 +156,7 @@ pub taken_modest : (at_hand : ℕ → Option (List ℕ)) (relations total : ℕ)
     → IsTaken pages changes n row → IsModest at_hand total 0 split pages (after changes pages)
 taken_modest at_hand relations total split pages m changes n row rows seen taken =
     let three = record_kind pages n.page n.slot row taken.stood in
-    drops_modest at_hand total split pages (after changes pages) n.page (sizes pages (after changes pages) rows.file taken.drops.file) taken.drops.touches (drops_empties pages (after changes pages) n.page n.slot taken.drops) (off_directory total pages m n.page 3 rows.index three (omega arith)) three seen
+    drops_modest at_hand total split pages (after changes pages) n.page (sizes pages (after changes pages) rows.file taken.drops.file) taken.drops.touches (drops_empties pages (after changes pages) n.page n.slot taken.drops) (off_directory total pages m n.page 3 rows.index three (omega arith)) three (drops_left pages (after changes pages) n.page n.slot taken.drops) seen
 
 pub kept_modest : (at_hand : ℕ → Option (List ℕ)) (relations total : ℕ) (split : Bool) (pages : PageBytes) (m : Map) (changes : List PageChange) (n : RecordName) (old row : Row) → AreRows relations total pages m
     → IsKept pages changes n old row → IsModest at_hand total 1 split pages (after changes pages)
@@ -146,7 +173,7 @@ moved_modest at_hand relations total split pages m changes n to old row rows fro
     let last = after changes pages in
     let three = record_kind pages n.page n.slot old moved.stood in
     let off : 1 ≢ n.page = off_directory total pages m n.page 3 rows.index three (omega arith) in
-    let first = drops_modest at_hand total split pages between n.page (sizes pages between rows.file moved.moves.drops.file) moved.moves.drops.touches (drops_empties pages between n.page n.slot moved.moves.drops) off three from_seen in
+    let first = drops_modest at_hand total split pages between n.page (sizes pages between rows.file moved.moves.drops.file) moved.moves.drops.touches (drops_empties pages between n.page n.slot moved.moves.drops) off three (drops_left pages between n.page n.slot moved.moves.drops) from_seen in
     let second = touches_modest at_hand total split between last to.page (sizes between last moved.moves.drops.file moved.moves.adds.file) moved.moves.adds.touches (puts_empties between last to.page to.slot row moved.moves.adds.puts moved.moves.adds.touches.kinds) (⊎_elim {C = 1 ≢ to.page}
     (λ (same : to.page ≡ n.page). λ e. off (e ∙ same))
     (λ away. ⊎_elim {C = 1 ≢ to.page}
@@ -200,6 +227,10 @@ pub insert_needs : (split : Bool) → 1 + cond split 2 1 ≤ cond split 3 2
 insert_needs true = omega arith
 insert_needs false = omega arith
 
+takes_some : (split : Bool) → cond {A = ℕ} split 2 1 ≡ 0 → ⊥
+takes_some true none = omega (arith, none)
+takes_some false none = omega (arith, none)
+
 pub added_modest : (at_hand : ℕ → Option (List ℕ)) (split : Bool) (total : ℕ) (e : Entry) (mid last : PageBytes) (m : Map) → AreMap total mid m → ((p : ℕ) → kind mid p ≡ 0 → kind last p ≢ 0 → IsSome (at_hand p)) → Added split total e mid last → IsModest at_hand total (cond split 2 1) split mid last
 added_modest at_hand split total e mid last m a seen added =
     record {
@@ -211,6 +242,7 @@ added_modest at_hand split total e mid last m a seen added =
           (λ (some : kind mid p ≢ 0). added.stays.kinds p some)
           (cases_eq (kind mid p) 0);
       takes = added_takes split total e mid last added;
+      gives = λ none p. absurd (takes_some split none);
       directory = added.directory;
       empties = file_empties mid last (add_stays total mid last a.space_fixed a.directory_fixed added.stays);
     }

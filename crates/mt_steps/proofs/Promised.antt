@@ -13,9 +13,9 @@ use Rattle.mt_steps.specs.Counters.{count_in, AreCounters}
 use Rattle.mt_steps.specs.Held.{Holds, IsThere, AreRows}
 use Rattle.mt_steps.specs.declared.act.Act.{Act}
 use Rattle.mt_steps.specs.declared.act.Act.TheVariants as act
-use Rattle.mt_steps.specs.Acts.{IfMade, IfFull, InGood, InRoomy, IsAct}
+use Rattle.mt_steps.specs.Acts.{IfLock, IfMade, IfFull, InGood, InRoomy, IsAct}
 use Rattle.mt_steps.specs.Logged.{HasSmallReply, HasSmallValues}
-use Rattle.mt_steps.specs.Plans.{IsGood, InPages, IsPlanned, IsModest, IsTight, free_pages, own_needs, record_bytes}
+use Rattle.mt_steps.specs.Plans.{IsGood, AsksRow, InPages, IsPlanned, IsModest, IsTight, free_pages, own_needs, record_bytes}
 use Rattle.mt_steps.proofs.Entering.{made_weaker}
 use Rattle.mt_steps.proofs.Modest.{modest_nothing, modest_any}
 use Rattle.mt_steps.proofs.Small.{small_reply}
@@ -75,6 +75,7 @@ planned relations counters total at_hand pages changes op split reply good act s
   short = short;
   kinds = modest.kinds;
   takes = modest.takes;
+  gives = modest.gives;
   directory = modest.directory;
   empties = modest.empties;
   small = act_small relations total pages (after changes pages) good.meaning op reply good.rows act;
@@ -130,6 +131,20 @@ counts_planned split relations counters total number at_hand room op op2 act sam
     (made_both act _ _ _ (λ changes reply acts modest pages agrees good named.
     let done = acts pages agrees good.meaning good.rows counters there good.counts in
     planned relations counters total at_hand pages changes op split reply good done.0 done.1 (modest_any at_hand total (own_needs op split) split pages (after changes pages) (modest pages agrees good.meaning good.rows))) acts modest)
+
+-- of an operation that reads a counter
+pub read_planned : (split : Bool) (relations counters total number : ℕ) (at_hand : ℕ → Option (List ℕ)) (room : Option ℕ) (op op2 : Op) (act : Act) → op ≡ op2 → number < counters
+    → IfMade act (λ changes reply. InGood at_hand relations total (λ pages m. (counters : ℕ) → number < counters → AreCounters relations counters (pages 2) → IsAct relations total pages (after changes pages) op reply × AreShort changes pages))
+    → IfMade act (λ changes reply. changes ≡ []) → Promises split relations counters total at_hand room op2 act
+read_planned split relations counters total number at_hand room op op2 act same there acts quiet =
+    counts_planned split relations counters total number at_hand room op op2 act same there acts
+    (made_weaker act _ _ (λ changes reply none pages agrees m rows. modest_nothing at_hand total (own_needs op split) false pages changes none) quiet)
+
+-- ---- what is asked for
+
+pub asks_same : {E : Type 0} (at_hand : ℕ → Option (List ℕ)) (total : ℕ) (op op2 : Op) (r : Result Act E) → op ≡ op2
+    → IfOk r (λ act. IfLock act (AsksRow at_hand total op)) → IfOk r (λ act. IfLock act (AsksRow at_hand total op2))
+asks_same at_hand total op op2 r same told = subst (λ (o : Op). IfOk r (λ act. IfLock act (AsksRow at_hand total o))) same told
 
 -- ---- too little room
 

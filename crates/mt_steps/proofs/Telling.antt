@@ -1,10 +1,12 @@
 -- What follows from an answer that is told by cases.
-use Rattle.std.proofs.Common.{◌≡◌, ◌<◌, ℕ, List, Option, None, Some, sym, ap, ◌∙◌}
+use Rattle.std.proofs.Common.{◌≡◌, ◌<◌, ◌⊎◌, inr, ℕ, List, Option, None, Some, sym, ap, ◌∙◌}
 use Rattle.mt_space.specs.declared.changes.PageChange.{PageChange}
 use Rattle.mt_model.specs.declared.operations.Reply.{Reply}
 use Rattle.mt_steps.specs.declared.act.Act.{Act}
 use Rattle.mt_steps.specs.declared.act.Act.TheVariants.{Lock, Made, Full, Broken}
 use Rattle.mt_steps.specs.Acts.{IfLock, IfMade, IfFull, IfBroken}
+use Rattle.mt_base.specs.declared.modes.Mode.{Mode}
+use Rattle.mt_steps.specs.Plans.{IsForChange}
 use Rattle.mt_steps.specs.Tells.{Tells}
 
 pub tells_weaker : (at_hand : ℕ → Option (List ℕ)) (total : ℕ) (P Q : List PageChange → Reply → Type 0) (F G : Type 0)
@@ -15,10 +17,18 @@ tells_weaker at_hand total P Q F G f h Full told = h told
 tells_weaker at_hand total P Q F G f h Broken told = told
 
 pub lock_told : (at_hand : ℕ → Option (List ℕ)) (total : ℕ) (P : List PageChange → Reply → Type 0) (F : Type 0) (act : Act) → Tells at_hand total P F act → IfLock act (λ p mode. (at_hand p ≡ None) × (p < total))
-lock_told at_hand total P F (Lock p mode) told = told
+lock_told at_hand total P F (Lock p mode) told = (told.0, told.1)
 lock_told at_hand total P F (Made changes reply) told = tt
 lock_told at_hand total P F Full told = tt
 lock_told at_hand total P F Broken told = tt
+
+-- once it is known what the key has, an answer asks for what changes
+pub asks_told : (at_hand : ℕ → Option (List ℕ)) (total : ℕ) (P : List PageChange → Reply → Type 0) (F : Type 0) (Looks : ℕ → Mode → Type 0) (Known : Type 0) → Known → (act : Act) → Tells at_hand total P F act
+    → IfLock act (λ p mode. Looks p mode ⊎ (Known × IsForChange p mode))
+asks_told at_hand total P F Looks Known known (Lock p mode) told = inr (known, told.2)
+asks_told at_hand total P F Looks Known known (Made changes reply) told = tt
+asks_told at_hand total P F Looks Known known Full told = tt
+asks_told at_hand total P F Looks Known known Broken told = tt
 
 pub made_told : (at_hand : ℕ → Option (List ℕ)) (total : ℕ) (P Q : List PageChange → Reply → Type 0) (F : Type 0) → ((changes : List PageChange) (reply : Reply) → P changes reply → Q changes reply) → (act : Act) → Tells at_hand total P F act → IfMade act Q
 made_told at_hand total P Q F f (Lock p mode) told = tt

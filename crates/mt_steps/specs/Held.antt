@@ -1,7 +1,7 @@
 -- What all pages together stand for.
 use Rattle.mt_steps.specs.Counters.{count_in}
 use Rattle.mt_space.specs.Kinds.{kind}
-use Rattle.std.specs.Prelude.{◌≡◌, ℕ, List, Some, ◌<◌}
+use Rattle.std.specs.Prelude.{◌≡◌, ℕ, List, Some, ◌<◌, get_or}
 use Rattle.mt_base.specs.declared.numbers.RecordName.{RecordName}
 use Rattle.mt_slots.specs.Page.{Row}
 use Rattle.mt_space.specs.Changes.{PageBytes}
@@ -19,9 +19,9 @@ pub record HoldsRows (pages : PageBytes) (b : Base) : Type 0 where
   pub found : (r : ℕ) (k v : List ℕ) → b.rows r k ≡ Some v → IsThere pages r k v
   pub there : (r : ℕ) (k v : List ℕ) → IsThere pages r k v → b.rows r k ≡ Some v
 
--- the counters are those of page 2, as many as there can be
+-- the counters are those of page 2, as many as it tells; what lies behind the last one is open
 abbrev pub HoldsCounts : PageBytes → Base → Type 0
-HoldsCounts pages b = (c : ℕ) → c < 128 → b.counts c ≡ count_in (pages 2) c
+HoldsCounts pages b = (c : ℕ) → c < get_or (pages 2) 1 0 → b.counts c ≡ count_in (pages 2) c
 
 -- The base that the pages hold.
 pub record Holds (pages : PageBytes) (b : Base) : Type 0 where

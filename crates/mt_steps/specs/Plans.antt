@@ -1,18 +1,20 @@
 -- What the plan of any operation promises.
-use Rattle.std.specs.Prelude.{◌≡◌, ℕ, ◌+◌, ◌<◌, ◌≤◌, Bool, false, cond, List, Option, Some, None}
+use Rattle.std.specs.Prelude.{◌≡◌, ◌⊎◌, ℕ, ◌+◌, ◌<◌, ◌≤◌, Bool, false, cond, List, Option, Some, None}
 use Rattle.mt_slots.specs.Page.{row_length}
 use Rattle.mt_space.specs.Changes.{PageBytes, Agrees, after, AreShort}
 use Rattle.mt_space.specs.declared.changes.PageChange.{PageChange}
 use Rattle.mt_space.specs.Kinds.{kind}
 use Rattle.mt_space.specs.Rooms.{mapped, free_in}
+use Rattle.mt_base.specs.declared.numbers.RecordName.{RecordName}
 use Rattle.mt_base.specs.declared.modes.Mode.{Mode}
 use Rattle.mt_base.specs.declared.modes.Mode.TheVariants.{Read as ToRead, Write as ToWrite}
 use Rattle.mt_file.specs.File.{record_in}
 use Rattle.mt_file.specs.Plans.{IsNamed}
 use Rattle.mt_file.specs.Rooms.{fits_of}
+use Rattle.mt_index.specs.Answers.{InMaps, IsInBucket}
 use Rattle.mt_index.specs.Maps.{Map}
 use Rattle.mt_model.specs.declared.operations.Op.{Op}
-use Rattle.mt_model.specs.declared.operations.Op.TheVariants.{Get, Insert, Update, Add, Read}
+use Rattle.mt_model.specs.declared.operations.Op.TheVariants.{Get, Insert, Update, Delete, Add, Read}
 use Rattle.mt_model.specs.declared.operations.Reply.{Reply}
 use Rattle.mt_model.specs.Model.{Base, reply_of, base_after}
 use Rattle.mt_steps.specs.Counters.{AreCounters}
@@ -41,6 +43,12 @@ own_needs (Insert r k v) split = cond split 3 2
 own_needs (Update r k v) split = 1
 own_needs _ split = 0
 
+-- free pages that the operation may take that takes one back
+abbrev pub undo_pages : Op → ℕ
+undo_pages (Update r k v) = 1
+undo_pages (Delete r k) = 2
+undo_pages _ = 0
+
 -- the bytes of the record that an operation puts
 abbrev pub record_bytes : Op → ℕ
 record_bytes (Insert r k v) = row_length (record { relation = r; key = k; value = v })
@@ -68,11 +76,49 @@ AsksCounters (Add c d) p mode = (p ≡ 2) × (mode ≡ ToWrite)
 AsksCounters (Read c) p mode = (p ≡ 2) × (mode ≡ ToRead)
 AsksCounters _ p mode = Unit {0}
 
--- A page that is not at hand keeps its kind, at most so many free pages are taken, the directory changes only where a
--- bucket may split, and no page is left without a record that had one.
+-- while its key is looked for, an operation asks for the directory to read, and for pages of the key's chain
+abbrev pub LooksFor : (ℕ → Option (List ℕ)) → ℕ → List ℕ → Mode → ℕ → Mode → Type 0
+LooksFor at_hand total key in_bucket p mode = InMaps at_hand total (λ pages m. IsInBucket key in_bucket pages p mode)
+
+-- where a page is named for a record, no page becomes one of records
+abbrev pub TakesNamed : Option ℕ → PageBytes → PageBytes → Type 0
+TakesNamed room pages pages2 = (q : ℕ) → room ≡ Some q → (p : ℕ) → kind pages2 p ≡ 3 → kind pages p ≡ 3
+
+-- what is at hand shows that a key has no record, or which one it has
+abbrev pub IsMissing : (ℕ → Option (List ℕ)) → ℕ → ℕ → List ℕ → Type 0
+IsMissing at_hand total r k = InMaps at_hand total (λ pages m. m r k ≡ None)
+
+abbrev pub IsNamedBy : (ℕ → Option (List ℕ)) → ℕ → ℕ → List ℕ → RecordName → Type 0
+IsNamedBy at_hand total r k name = InMaps at_hand total (λ pages m. m r k ≡ Some name)
+
+-- what a change asks for is to be written, but for the directory
+abbrev pub IsForChange : ℕ → Mode → Type 0
+IsForChange p mode = (mode ≡ ToWrite) ⊎ (p ≡ 1)
+
+-- The lock that an operation on a row may ask for. Before what is at hand shows whether the key is there, it looks for
+-- the key; only then it asks for the record's page, or for what it changes.
+abbrev pub AsksRow : (ℕ → Option (List ℕ)) → ℕ → Op → ℕ → Mode → Type 0
+AsksRow at_hand total (Get r k) p mode =
+    LooksFor at_hand total k ToRead p mode ⊎ ((s : ℕ) × IsNamedBy at_hand total r k (record { page = p; slot = s }) × (mode ≡ ToRead))
+AsksRow at_hand total (Insert r k v) p mode =
+    LooksFor at_hand total k ToWrite p mode ⊎ (IsMissing at_hand total r k × IsForChange p mode)
+AsksRow at_hand total (Update r k v) p mode =
+    LooksFor at_hand total k ToRead p mode ⊎ (((name : RecordName) × IsNamedBy at_hand total r k name) × IsForChange p mode)
+AsksRow at_hand total (Delete r k) p mode =
+    LooksFor at_hand total k ToWrite p mode ⊎ (((name : RecordName) × IsNamedBy at_hand total r k name) × IsForChange p mode)
+AsksRow at_hand total _ p mode = Unit {0}
+
+-- a page keeps its kind, or is one of records that is given back
+abbrev pub IsGivenBack : ℕ → ℕ → Type 0
+IsGivenBack old new = (new ≡ old) ⊎ ((old ≡ 3) × (new ≡ 0))
+
+-- A page that is not at hand keeps its kind, at most so many free pages are taken, and where none may be, pages of
+-- records are given back and no other changes its kind; the directory changes only where a bucket may split, and no page
+-- is left without a record that had one.
 pub record IsModest (at_hand : ℕ → Option (List ℕ)) (total needs : ℕ) (split : Bool) (pages pages2 : PageBytes) : Type 0 where
   pub kinds : (p : ℕ) → at_hand p ≡ None → kind pages2 p ≡ kind pages p
   pub takes : free_pages total pages ≤ free_pages total pages2 + needs
+  pub gives : needs ≡ 0 → (p : ℕ) → IsGivenBack (kind pages p) (kind pages2 p)
   pub directory : split ≡ false → pages2 1 ≡ pages 1
   pub empties : (p : ℕ) → HasNoRecord pages2 p → HasNoRecord pages p
 
@@ -85,6 +131,7 @@ pub record IsPlanned (relations counters total : ℕ) (at_hand : ℕ → Option 
   pub short : AreShort changes pages
   pub kinds : (p : ℕ) → at_hand p ≡ None → kind (after changes pages) p ≡ kind pages p
   pub takes : free_pages total pages ≤ free_pages total (after changes pages) + own_needs op split
+  pub gives : own_needs op split ≡ 0 → (p : ℕ) → IsGivenBack (kind pages p) (kind (after changes pages) p)
   pub directory : split ≡ false → after changes pages 1 ≡ pages 1
   pub empties : (p : ℕ) → HasNoRecord (after changes pages) p → HasNoRecord pages p
   pub small : HasSmallReply reply

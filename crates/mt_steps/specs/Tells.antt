@@ -1,9 +1,10 @@
 -- What the plans of rows answer, each by one definition.
-use Rattle.std.specs.Prelude.{◌≡◌, ◌+◌, ◌<◌, ◌≤◌, ℕ, Bool, List, [], length, Option, None, Some}
+use Rattle.std.specs.Prelude.{◌≡◌, ◌⊎◌, ◌+◌, ◌<◌, ◌≤◌, ℕ, Bool, List, [], length, Option, None, Some}
 use Rattle.mt_base.specs.declared.numbers.RecordName.{RecordName}
 use Rattle.mt_slots.specs.Page.{Row, Fits}
 use Rattle.mt_space.specs.declared.changes.PageChange.{PageChange}
 use Rattle.mt_space.specs.Changes.{PageBytes, Agrees, after, AreShort}
+use Rattle.mt_space.specs.Kinds.{kind}
 use Rattle.mt_file.specs.Plans.{IsNamed}
 use Rattle.mt_index.specs.Maps.{Map}
 use Rattle.mt_model.specs.declared.operations.Op.{Op}
@@ -13,12 +14,12 @@ use Rattle.mt_steps.specs.Drafts.{AreAtHand}
 use Rattle.mt_steps.specs.declared.act.Act.{Act}
 use Rattle.mt_steps.specs.declared.act.Act.TheVariants.{Lock, Made, Full, Broken}
 use Rattle.mt_steps.specs.Acts.{IsAct, IsPlaced, IsTaken, IsMoved}
-use Rattle.mt_steps.specs.Plans.{IsModest}
+use Rattle.mt_steps.specs.Plans.{IsForChange, IsModest}
 use Rattle.mt_steps.specs.Logged.{logged_of}
 
 -- an answer by cases: a page that is not at hand, changes and a reply of which this holds, or that this is why it is full
 abbrev pub Tells : (ℕ → Option (List ℕ)) → ℕ → (List PageChange → Reply → Type 0) → Type 0 → Act → Type 0
-Tells at_hand total Does TooFull (Lock p mode) = (at_hand p ≡ None) × (p < total)
+Tells at_hand total Does TooFull (Lock p mode) = (at_hand p ≡ None) × (p < total) × IsForChange p mode
 Tells at_hand total Does TooFull (Made changes reply) = Does changes.list.items reply
 Tells at_hand total Does TooFull Full = TooFull
 Tells at_hand total Does TooFull Broken = ⊥
@@ -30,18 +31,29 @@ pub record IsJoined (at_hand : ℕ → Option (List ℕ)) (first second : List P
   pub few : length changes ≤ length first + length second
   pub leads : (pages : PageBytes) → Agrees at_hand pages → (after changes pages ≡ after second (after first pages)) × AreShort changes pages
 
--- changes that are an act of the operation on these pages
-pub record Does (at_hand : ℕ → Option (List ℕ)) (relations total needs : ℕ) (split : Bool) (op : Op) (pages : PageBytes) (changes : List PageChange) (reply : Reply) : Type 0 where
+-- changes that are an act of the operation on these pages, and keep this of them
+pub record Does (at_hand : ℕ → Option (List ℕ)) (relations total needs : ℕ) (split : Bool) (op : Op) (Keeps : PageBytes → PageBytes → Type 0) (pages : PageBytes) (changes : List PageChange) (reply : Reply) : Type 0 where
   pub act : IsAct relations total pages (after changes pages) op reply
   pub short : AreShort changes pages
   pub modest : IsModest at_hand total needs split pages (after changes pages)
+  pub keeps : Keeps pages (after changes pages)
 
 -- an operation's changes of pages at hand, which are an act of it on all good pages that are so
-pub record IsDone (at_hand : ℕ → Option (List ℕ)) (total needs : ℕ) (split : Bool) (op : Op) (IsSo : ℕ → PageBytes → Map → Type 0) (changes : List PageChange) (reply : Reply) : Type 0 where
+pub record IsDone (at_hand : ℕ → Option (List ℕ)) (total needs : ℕ) (split : Bool) (op : Op) (Keeps : PageBytes → PageBytes → Type 0) (IsSo : ℕ → PageBytes → Map → Type 0) (changes : List PageChange) (reply : Reply) : Type 0 where
   pub there : AreAtHand at_hand changes
   pub few : length changes ≤ 8
   pub idle : logged_of op reply ≡ None → changes ≡ []
-  pub does : (relations : ℕ) (pages : PageBytes) → Agrees at_hand pages → (m : Map) → AreRows relations total pages m → IsSo relations pages m → Does at_hand relations total needs split op pages changes reply
+  pub does : (relations : ℕ) (pages : PageBytes) → Agrees at_hand pages → (m : Map) → AreRows relations total pages m → IsSo relations pages m → Does at_hand relations total needs split op Keeps pages changes reply
+
+-- ---- what is kept of the pages
+
+-- any
+abbrev pub AnyKept : PageBytes → PageBytes → Type 0
+AnyKept pages pages2 = Unit {0}
+
+-- no page but this one becomes one of records
+abbrev pub TakesAlone : ℕ → PageBytes → PageBytes → Type 0
+TakesAlone q pages pages2 = (p : ℕ) → kind pages2 p ≡ 3 → (kind pages p ≡ 3) ⊎ (p ≡ q)
 
 -- ---- which pages are so
 

@@ -69,8 +69,9 @@ pub(crate) fn read_from<V: Pages>(alloc: Global, views: &V, number: CtrNo) -> Ac
     ensures lock { IfLock result (λ p mode. (V.at_hand views.now p ≡ None) × (p ≡ 2)) }
     ensures mode { IfLock result (λ p mode. mode ≡ ToRead) }
     ensures made { (relations : ℕ) → IfMade result (λ changes reply. InGood (V.at_hand views.now) relations
-        (V.total views.now) (λ pages m. IsAct relations (V.total views.now) pages (after changes pages)
-        (Read number) reply × AreShort changes pages)) }
+        (V.total views.now) (λ pages m. (counters : ℕ) → number < counters → AreCounters relations counters (pages 2) →
+        IsAct relations (V.total views.now) pages (after changes pages) (Read number) reply ×
+        AreShort changes pages)) }
     ensures quiet { IfMade result (λ changes reply. changes ≡ []) }
     ensures idle { IfMade result (λ changes reply. logged_of (Read number) reply ≡ None → changes ≡ []) }
     ensures full { IfFull result ⊥ }

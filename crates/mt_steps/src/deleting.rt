@@ -5,9 +5,9 @@ ghost use Rattle.mt_index.specs.Answers.{InMaps};
 ghost use Rattle.mt_model.specs.declared.operations.Op.TheVariants.{Delete};
 ghost use Rattle.mt_steps.specs.Drafts.{AreAtHand};
 ghost use Rattle.mt_steps.specs.Acts.{HasGood, InGood, IfLock, IfMade, IfFull, IfBroken, IsAct, IsTaken};
-ghost use Rattle.mt_steps.specs.Plans.{IsModest};
+ghost use Rattle.mt_steps.specs.Plans.{AsksRow, IsModest};
 ghost use Rattle.mt_steps.specs.Logged.{logged_of};
-ghost use Rattle.mt_steps.specs.Tells.{Tells, IsDone, IsAny, HasTaken};
+ghost use Rattle.mt_steps.specs.Tells.{Tells, IsDone, IsAny, AnyKept, HasTaken};
 
 use crate::act::Act;
 use crate::draft::first_missing;
@@ -33,6 +33,8 @@ pub(crate) fn delete<V: Pages>(
     requires short { length key.now ≤ 64 }
     ensures lock { IfOk result (λ act. IfLock act (λ p mode. (V.at_hand views.now p ≡ None) ×
         (p < V.total views.now))) }
+    ensures asks { IfOk result (λ act. IfLock act (AsksRow (V.at_hand views.now) (V.total views.now)
+        (Delete relation key.now))) }
     ensures made { (relations : ℕ) → IfOk result (λ act. IfMade act (λ changes reply.
         InGood (V.at_hand views.now) relations (V.total views.now) (λ pages m.
         IsAct relations (V.total views.now) pages (after changes pages) (Delete relation key.now) reply ×
@@ -68,7 +70,7 @@ fn delete_row<V: Pages>(
     requires short { length key.now ≤ 64 }
     requires named { InMaps (V.at_hand views.now) (V.total views.now) (λ pages m. m relation key.now ≡ Some name.now) }
     ensures { IfOk result (Tells (V.at_hand views.now) (V.total views.now) (IsDone (V.at_hand views.now)
-        (V.total views.now) 0 false (Delete relation key.now) IsAny) ⊥) }
+        (V.total views.now) 0 false (Delete relation key.now) AnyKept IsAny) ⊥) }
 {
     let old = match plan_read(views, *name) {
         Found::Need(page, _) => return Ok(Act::Lock(page, Mode::Write)),
@@ -105,7 +107,7 @@ fn drop_entry<V: Pages>(
         InGood (V.at_hand views.now) relations (V.total views.now) (λ pages m. (m relation key.now ≡ Some name.now) ×
         IsTaken pages first.now.list.items name.now (record { relation = relation; key = key.now; value = old })) }
     ensures { IfOk result (Tells (V.at_hand views.now) (V.total views.now) (IsDone (V.at_hand views.now)
-        (V.total views.now) 0 false (Delete relation key.now)
+        (V.total views.now) 0 false (Delete relation key.now) AnyKept
         (HasTaken first.now.list.items name.now (record { relation = relation; key = key.now; value = old }))) ⊥) }
 {
     let draft = drafted(alloc, views, first)?;

@@ -1,5 +1,6 @@
 // Two plans of one operation, the second made over the changes of the first.
-ghost use Rattle.std.specs.Prelude.{◌≡◌, ◌+◌, ◌<◌, ◌≤◌, ℕ, length, None, IfOk};
+ghost use Rattle.std.specs.Prelude.{◌≡◌, ◌≢◌, ◌+◌, ◌<◌, ◌≤◌, ℕ, length, None, IfOk};
+ghost use Rattle.mt_base.specs.declared.modes.Mode.TheVariants.{Write as ToWrite};
 ghost use Rattle.mt_space.specs.Changes.{PageBytes, Agrees, after, AreShort, IsUntouched};
 ghost use Rattle.mt_steps.specs.Drafts.{AreAtHand, AreCopies, shown};
 ghost use Rattle.mt_steps.specs.Acts.{IfLock, IfMade, IfFull, IfBroken};
@@ -14,7 +15,10 @@ use mt_space::{Changes, Pages};
 use std::alloc::{AllocError, Global};
 
 // A page of a bucket is to be written; the directory is read.
-pub(crate) fn to_write(page: PageNo, mode: Mode) -> Mode {
+pub(crate) fn to_write(page: PageNo, mode: Mode) -> Mode
+    ensures directory { page ≡ 1 → result ≡ mode }
+    ensures others { page ≢ 1 → result ≡ ToWrite }
+{
     if page.get() == DIRECTORY {
         mode
     } else {

@@ -22,4 +22,4 @@ pub use copies::Copies;
 pub use counters::{SchemaSizes, add, check, counter, sizes};
 pub use laws::formatted_pages_are_good;
 pub use logging::logged;
-pub use planning::{pages_for, plan};
+pub use planning::{pages_for, pages_to_undo, plan};

@@ -1,10 +1,13 @@
 // Any operation.
-ghost use Rattle.std.specs.Prelude.{◌≡◌, ◌⊎◌, ◌<◌, ◌≤◌, ℕ, [], length, None, IfOk};
+ghost use Rattle.std.specs.Prelude.{◌≡◌, ◌⊎◌, ◌<◌, ◌≤◌, ℕ, [], length, false, None, Some, IfOk};
 ghost use Rattle.mt_base.specs.declared.modes.Mode.TheVariants.{Read as ToRead};
-ghost use Rattle.mt_model.specs.Model.{IsWithin};
+ghost use Rattle.mt_model.specs.Model.{IsWithin, inverse_of};
+ghost use Rattle.mt_model.specs.declared.operations.Op.{Op};
+ghost use Rattle.mt_model.specs.declared.operations.Reply.{Reply};
+ghost use Rattle.mt_space.specs.Changes.{after};
 ghost use Rattle.mt_steps.specs.Drafts.{AreAtHand};
 ghost use Rattle.mt_steps.specs.Acts.{IfLock, IfMade, IfFull, IfBroken};
-ghost use Rattle.mt_steps.specs.Plans.{free_pages, own_needs, record_bytes, AsksCounters, IsReading, IsTight, HasPages, InPages, IsPlanned};
+ghost use Rattle.mt_steps.specs.Plans.{free_pages, own_needs, undo_pages, record_bytes, AsksCounters, AsksRow, TakesNamed, IsReading, IsTight, HasPages, InPages, IsPlanned};
 ghost use Rattle.mt_steps.specs.Logged.{logged_of};
 
 use crate::act::Act;
@@ -14,7 +17,9 @@ use crate::getting::get;
 use crate::inserting::insert;
 use crate::updating::update;
 use mt_base::PageNo;
-use mt_base::limits::{INSERT_PAGES, UNSPLIT_INSERT_PAGES, UPDATE_PAGES};
+use mt_base::limits::{
+    DELETE_INVERSE_PAGES, INSERT_PAGES, UNSPLIT_INSERT_PAGES, UPDATE_INVERSE_PAGES, UPDATE_PAGES,
+};
 use mt_model::Op;
 use mt_space::Pages;
 use std::alloc::{AllocError, Global};
@@ -42,11 +47,16 @@ pub fn plan<V: Pages>(
     ensures lock { IfOk result (λ act. IfLock act (λ p mode. (V.at_hand views.now p ≡ None) ×
         (p < V.total views.now))) }
     ensures counters { IfOk result (λ act. IfLock act (AsksCounters op.now)) }
+    ensures rows { IfOk result (λ act. IfLock act (AsksRow (V.at_hand views.now) (V.total views.now) op.now)) }
     ensures mode { IsReading op.now → IfOk result (λ act. IfLock act (λ p mode. mode ≡ ToRead)) }
     ensures made { (relations counters : ℕ) → relations ≤ 64 → IsWithin relations counters op.now →
         IfOk result (λ act. IfMade act (λ changes reply.
         InPages (V.at_hand views.now) room relations counters (V.total views.now) (λ pages.
         IsPlanned relations counters (V.total views.now) (V.at_hand views.now) pages changes op.now split reply))) }
+    ensures named { (relations counters : ℕ) → relations ≤ 64 → IsWithin relations counters op.now →
+        IfOk result (λ act. IfMade act (λ changes reply.
+        InPages (V.at_hand views.now) room relations counters (V.total views.now) (λ pages.
+        TakesNamed room pages (after changes pages)))) }
     ensures there { IfOk result (λ act. IfMade act (λ changes reply. AreAtHand (V.at_hand views.now) changes)) }
     ensures few { IfOk result (λ act. IfMade act (λ changes reply. length changes ≤ 8)) }
     ensures quiet { IsReading op.now → IfOk result (λ act. IfMade act (λ changes reply. changes ≡ [])) }
@@ -91,6 +101,19 @@ pub fn pages_for(op: &Op, split: bool) -> u16
         Op::Insert(_, _, _) if split => INSERT_PAGES,
         Op::Insert(_, _, _) => UNSPLIT_INSERT_PAGES,
         Op::Update(_, _, _) => UPDATE_PAGES,
+        _ => 0,
+    }
+}
+
+/// How many free pages the inverse of an operation may take, which splits no bucket of the index.
+pub fn pages_to_undo(op: &Op) -> u16
+    ensures pages { result ≡ undo_pages op.now }
+    ensures enough { (reply : Reply) (inverse : Op) → inverse_of op.now reply ≡ Some inverse →
+        own_needs inverse false ≤ undo_pages op.now }
+{
+    match op {
+        Op::Update(_, _, _) => UPDATE_INVERSE_PAGES,
+        Op::Delete(_, _) => DELETE_INVERSE_PAGES,
         _ => 0,
     }
 }

@@ -8,9 +8,9 @@ ghost use Rattle.mt_index.specs.Answers.{InMaps};
 ghost use Rattle.mt_model.specs.declared.operations.Op.TheVariants.{Update};
 ghost use Rattle.mt_steps.specs.Drafts.{AreAtHand};
 ghost use Rattle.mt_steps.specs.Acts.{HasRoomy, InRoomy, IfLock, IfMade, IfFull, IfBroken, IsAct, IsMoved};
-ghost use Rattle.mt_steps.specs.Plans.{free_pages, IsTight, IsModest};
+ghost use Rattle.mt_steps.specs.Plans.{free_pages, IsTight, AsksRow, TakesNamed, IsModest};
 ghost use Rattle.mt_steps.specs.Logged.{logged_of};
-ghost use Rattle.mt_steps.specs.Tells.{Tells, IsDone, TakesRow, HasMoved};
+ghost use Rattle.mt_steps.specs.Tells.{Tells, IsDone, TakesRow, TakesAlone, HasMoved};
 
 use crate::act::Act;
 use crate::draft::first_missing;
@@ -41,6 +41,8 @@ pub(crate) fn update<V: Pages>(
     requires value_fits { IsValue value.now }
     ensures lock { IfOk result (λ act. IfLock act (λ p mode. (V.at_hand views.now p ≡ None) ×
         (p < V.total views.now))) }
+    ensures asks { IfOk result (λ act. IfLock act (AsksRow (V.at_hand views.now) (V.total views.now)
+        (Update relation key.now value.now))) }
     ensures made { (relations : ℕ) → Fits relations 1024
         (record { relation = relation; key = key.now; value = value.now }) → IfOk result (λ act.
         IfMade act (λ changes reply.
@@ -55,6 +57,10 @@ pub(crate) fn update<V: Pages>(
         (record { relation = relation; key = key.now; value = value.now }) → IfOk result (λ act.
         IfMade act (λ changes reply. InRoomy (V.at_hand views.now) room relations (V.total views.now) (λ pages m.
         IsModest (V.at_hand views.now) (V.total views.now) 1 false pages (after changes pages)))) }
+    ensures named { (relations : ℕ) → Fits relations 1024
+        (record { relation = relation; key = key.now; value = value.now }) → IfOk result (λ act.
+        IfMade act (λ changes reply. InRoomy (V.at_hand views.now) room relations (V.total views.now) (λ pages m.
+        TakesNamed room pages (after changes pages)))) }
     ensures full { (relations : ℕ) → IfOk result (λ act. IfFull act (InRoomy (V.at_hand views.now) room relations
         (V.total views.now) (λ pages m. (free_pages (V.total views.now) pages < 1) ⊎
         IsTight room pages (row_length (record { relation = relation; key = key.now; value = value.now }))))) }
@@ -85,7 +91,7 @@ fn update_row<V: Pages>(
     requires named { InMaps (V.at_hand views.now) (V.total views.now) (λ pages m. m relation key.now ≡ Some name.now) }
     ensures { IfOk result (Tells (V.at_hand views.now) (V.total views.now) (IsDone (V.at_hand views.now)
         (V.total views.now) 1 false (Update relation key.now value.now)
-        (TakesRow room (record { relation = relation; key = key.now; value = value.now })))
+        (TakesNamed room) (TakesRow room (record { relation = relation; key = key.now; value = value.now })))
         ((relations : ℕ) → InRoomy (V.at_hand views.now) room relations (V.total views.now) (λ pages m.
         (free_pages (V.total views.now) pages < 1) ⊎ IsTight room pages (row_length
         (record { relation = relation; key = key.now; value = value.now }))))) }
@@ -141,7 +147,7 @@ fn set_entry<V: Pages>(
     ensures { (name : RecordName) (value : List ℕ) → IsSome (V.at_hand views.now name.page) →
         IfOk result (Tells (V.at_hand views.now) (V.total views.now) (IsDone (V.at_hand views.now)
         (V.total views.now) 1 false (Update relation key.now value)
-        (HasMoved (V.total views.now) plan.now.changes.list.items name plan.now.name
+        (TakesAlone plan.now.name.page) (HasMoved (V.total views.now) plan.now.changes.list.items name plan.now.name
         (record { relation = relation; key = key.now; value = old })
         (record { relation = relation; key = key.now; value = value }))) ⊥) }
 {

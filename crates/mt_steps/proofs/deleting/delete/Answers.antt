@@ -1,12 +1,12 @@
-use Rattle.std.proofs.Common.{false, List, sym, subst}
+use Rattle.std.proofs.Common.{false, inl, List, sym, subst}
 use Rattle.mt_space.specs.declared.changes.PageChange.{PageChange}
 use Rattle.mt_space.specs.Changes.{after, AreShort}
 use Rattle.mt_model.specs.declared.operations.Op.TheVariants.{Delete}
 use Rattle.mt_model.specs.declared.operations.Reply.TheVariants.{Missing}
 use Rattle.mt_base.specs.declared.modes.Mode.TheVariants.{Read}
 use Rattle.std.proofs.lemmas.Result.{IfOk-weaker}
-use Rattle.mt_steps.proofs.Telling.{lock_told, made_told, full_told, broken_told}
-use Rattle.mt_steps.proofs.Asking.{bucket_inside}
+use Rattle.mt_steps.proofs.Telling.{lock_told, asks_told, made_told, full_told, broken_told}
+use Rattle.mt_steps.proofs.Asking.{bucket_inside, looks_to_write}
 use Rattle.mt_steps.proofs.Modest.{modest_nothing}
 use Rattle.mt_steps.specs.Acts.{IsAct}
 use Rattle.mt_steps.proofs.Leaving.{missing_already}
@@ -52,3 +52,10 @@ returns-in-Found-clause-broken g c = IfOk-weaker c.delete_row.result _ _ (broken
 
 pub returns-in-Found-clause-full : goal.returns-in-Found-clause-full
 returns-in-Found-clause-full g c = IfOk-weaker c.delete_row.result _ _ (full_told (g.V.Pages.at_hand c.args.views.now) (g.V.Pages.total c.args.views.now) _ _ _ (λ no. no)) c.delete_row.ensures
+
+pub returns-in-Need-clause-asks : goal.returns-in-Need-clause-asks
+returns-in-Need-clause-asks g c = inl (λ pages agrees m maps.
+    looks_to_write c.args.key.now (g.V.Pages.total c.args.views.now) pages m c.in-Need.page c.in-Need.mode c.to_write.result maps c.to_write.ensures.directory c.to_write.ensures.others (c.in-Need.ensures.need.role pages agrees m maps))
+
+pub returns-in-Found-clause-asks : goal.returns-in-Found-clause-asks
+returns-in-Found-clause-asks g c = IfOk-weaker c.delete_row.result _ _ (asks_told (g.V.Pages.at_hand c.args.views.now) (g.V.Pages.total c.args.views.now) _ _ _ _ (c.in-Found.name, c.in-Found.ensures.found)) c.delete_row.ensures

@@ -1,4 +1,4 @@
-use Rattle.std.proofs.Common.{◌≡◌, ◌∙◌, ℕ, List, Option, None, Some, sym, ap, arith}
+use Rattle.std.proofs.Common.{◌≡◌, ◌∙◌, inl, refl, ℕ, List, Option, None, Some, sym, ap, arith}
 use Rattle.std.proofs.lemmas.Result.{IfOk-weaker}
 use Rattle.mt_slots.specs.Page.{Row}
 use Rattle.mt_space.specs.Kinds.{kind}
@@ -29,7 +29,7 @@ returns-in-Need g c =
     let named = good.3.named.names c.args.relation c.args.key.now n (c.requires.named good.0 good.1 good.2 good.3.index) in
     let three = record_kind good.0 n.page n.slot _ named.1 in
     let told = c.in-Need.ensures good.0 good.1 good.3.file three in
-    (told.0, kind_inside (g.V.Pages.total c.args.views.now) good.0 good.2 c.in-Need.page 3 good.3.index (ap (λ (p : ℕ). kind good.0 p) told.2 ∙ three) (omega arith))
+    (told.0, kind_inside (g.V.Pages.total c.args.views.now) good.0 good.2 c.in-Need.page 3 good.3.index (ap (λ (p : ℕ). kind good.0 p) told.2 ∙ three) (omega arith), inl refl)
 
 pub returns-in-Nothing : goal.returns-in-Nothing
 returns-in-Nothing g c =
@@ -77,7 +77,7 @@ returns-in-Some g c =
     let n = c.args.name.now in
     let named = good.3.named.names c.args.relation c.args.key.now n (c.requires.named good.0 good.1 good.2 good.3.index) in
     let taken = removal_takes (g.V.Pages.at_hand c.args.views.now) good.0 n _ c.in_ok-page.field-0 c.in-Done.plan c.in-Done.is (c.in_ok-page.ensures.removal good.0 _ good.1 good.3.file named.1) (c.in_ok-page.ensures.short good.0 _ good.1 good.3.file named.1) named.1 in
-    (c.in-Some.ensures.some, taken_inside (g.V.Pages.total c.args.views.now) good.0 good.2 c.in-Done.plan.changes.list.items n _ c.in-Some.page good.3.index taken c.in-Some.ensures.named)
+    (c.in-Some.ensures.some, taken_inside (g.V.Pages.total c.args.views.now) good.0 good.2 c.in-Done.plan.changes.list.items n _ c.in-Some.page good.3.index taken c.in-Some.ensures.named, inl refl)
 
 pub returns : goal.returns
 returns g c =

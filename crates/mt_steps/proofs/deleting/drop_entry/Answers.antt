@@ -10,7 +10,7 @@ use Rattle.mt_base.specs.declared.modes.Mode.TheVariants.{Write}
 use Rattle.mt_steps.specs.Logged.{logged_of}
 use Rattle.mt_model.specs.declared.operations.Reply.TheVariants.{Was}
 use Rattle.mt_steps.proofs.Telling.{tells_weaker, logs_something}
-use Rattle.mt_steps.proofs.Asking.{amend_needs, bucket_inside, amended_inside, named_differs, few_more}
+use Rattle.mt_steps.proofs.Asking.{amend_needs, bucket_inside, bucket_change, amended_inside, named_differs, few_more}
 use Rattle.mt_steps.proofs.Modest.{taken_modest, amended_modest, modest_trans}
 use Rattle.mt_steps.specs.Plans.{IsModest}
 use Rattle.mt_steps.proofs.Leaving.{amended_is, amend_missing_is, amend_endless_is, taken_map, taken_form, left}
@@ -57,7 +57,8 @@ returns-in-Need g c =
     let between = taken_map c.requires.good.0 total good.0 good.2 first c.args.name.now _ good.3 placed.1 in
     let asks = subst (λ x. Asks (shown c.in_ok-draft.draft.copies.items (g.V.Pages.at_hand x)) (g.V.Pages.total x) (IsInBucket c.args.key.now Write) c.in-Need.page c.in-Need.mode) c.in_ok-draft.ensures.views
     (amend_needs _ c.in_ok-page.field-0 c.in-Need.page c.in-Need.mode c.in-Need.is c.in_ok-page.ensures.need) in
-    (c.in_ok-draft.ensures.none c.in-Need.page asks.missing, bucket_inside total c.args.key.now (after first good.0) good.2 Write c.in-Need.page c.in-Need.mode between (asks.role (after first good.0) (c.in_ok-draft.ensures.agrees good.0 good.1) good.2 between))
+    let role = asks.role (after first good.0) (c.in_ok-draft.ensures.agrees good.0 good.1) good.2 between in
+    (c.in_ok-draft.ensures.none c.in-Need.page asks.missing, bucket_inside total c.args.key.now (after first good.0) good.2 Write c.in-Need.page c.in-Need.mode between role, bucket_change c.args.key.now (after first good.0) c.in-Need.page c.in-Need.mode role)
 
 pub join-requires-clause-inside : goal.join-requires-clause-inside
 join-requires-clause-inside g c = λ p named.
@@ -105,5 +106,6 @@ returns-in-Changes g c =
             modest = subst (λ (next : PageBytes). IsModest at_hand total 0 false pages next) (sym led.0)
                 (modest_trans at_hand total 0 0 false pages mid last (taken_modest at_hand relations total false pages m first c.args.name.now _ rows c.requires.seen taken)
                 (amended_modest at_hand total false mid last m between amends.others));
+            keeps = tt;
           };
     }) (λ no. no)) c.join.ensures

@@ -1,4 +1,4 @@
-use Rattle.std.proofs.Common.{arith, ◌≡◌, ◌∙◌, ⊎_elim, ℕ, List, Option, None, Some, refl, sym, ap}
+use Rattle.std.proofs.Common.{inl, inr, arith, ◌≡◌, ◌∙◌, ⊎_elim, ℕ, List, Option, None, Some, refl, sym, ap}
 use Rattle.mt_base.specs.declared.modes.Mode.TheVariants.{Read}
 use Rattle.mt_space.specs.Kinds.{kind}
 use Rattle.mt_slots.specs.Page.{Row}
@@ -75,3 +75,13 @@ returns-in-Nothing-clause-broken g c =
     let named = good.3.named.names c.args.relation c.args.key.now name (c.in-Found.ensures.found good.0 good.1 good.2 good.3.index) in
     let told = c.in-Nothing.ensures good.0 good.1 good.3.file (record_kind good.0 name.page name.slot _ named.1) in
     no_row _ (sym told ∙ named.1)
+
+pub returns-in-Need-clause-asks : goal.returns-in-Need-clause-asks
+returns-in-Need-clause-asks g c = inl c.in-Need.ensures.need.role
+
+pub returns-in-Need-plan_read-clause-asks : goal.returns-in-Need-plan_read-clause-asks
+returns-in-Need-plan_read-clause-asks g c =
+    let good = c.requires.good.1 in
+    let named = good.3.named.names c.args.relation c.args.key.now c.in-Found.name (c.in-Found.ensures.found good.0 good.1 good.2 good.3.index) in
+    let told = c.in-Need-plan_read.ensures good.0 good.1 good.3.file (record_kind good.0 c.in-Found.name.page c.in-Found.name.slot _ named.1) in
+    inr (c.in-Found.name.slot, λ pages agrees m maps. c.in-Found.ensures.found pages agrees m maps ∙ ap (λ (p : ℕ). Some (record { page = p; slot = c.in-Found.name.slot })) (sym told.2), told.1)

@@ -12,10 +12,12 @@ use Rattle.mt_steps.specs.Drafts.{shown}
 use Rattle.mt_steps.specs.Logged.{logged_of}
 use Rattle.mt_model.specs.declared.operations.Reply.TheVariants.{Done}
 use Rattle.mt_steps.proofs.Telling.{tells_weaker, logs_something}
-use Rattle.mt_steps.proofs.Asking.{add_needs, add_inside, added_inside, named_differs, few_more}
+use Rattle.mt_steps.proofs.Asking.{add_needs, add_change, add_inside, added_inside, named_differs, few_more}
 use Rattle.mt_steps.proofs.Drafting.{below_some}
 use Rattle.mt_steps.proofs.Modest.{placed_modest, added_modest, modest_trans, modest_more, insert_needs, shortage_few}
 use Rattle.mt_steps.proofs.Entering.{added_is, full_is, endless_is, placed_map, entered}
+use Rattle.mt_steps.specs.Tells.{TakesAlone}
+use Rattle.mt_steps.proofs.Naming.{placed_alone, added_alone}
 use Rattle.mt_steps.proofs.inserting.add_entry.Goals as goal
 
 pub returns-in-Endless : goal.returns-in-Endless
@@ -48,7 +50,8 @@ returns-in-Need g c = λ value.
     let between = placed_map c.requires.good.0 total good.0 good.2 first c.args.plan.now.name _ good.3 placed in
     let asks = subst (λ x. Asks (shown c.in_ok-draft.draft.copies.items (g.V.Pages.at_hand x)) (g.V.Pages.total x) (IsInAdd c.args.split c.args.key.now (g.V.Pages.total x)) c.in-Need.page c.in-Need.mode) c.in_ok-draft.ensures.views
     (add_needs _ c.in_ok-page.field-0 c.in-Need.page c.in-Need.mode c.in-Need.is c.in_ok-page.ensures.need) in
-    (c.in_ok-draft.ensures.none c.in-Need.page asks.missing, add_inside total c.args.split c.args.key.now (after first good.0) good.2 c.in-Need.page c.in-Need.mode between (asks.role (after first good.0) (c.in_ok-draft.ensures.agrees good.0 good.1) good.2 between))
+    let role = asks.role (after first good.0) (c.in_ok-draft.ensures.agrees good.0 good.1) good.2 between in
+    (c.in_ok-draft.ensures.none c.in-Need.page asks.missing, add_inside total c.args.split c.args.key.now (after first good.0) good.2 c.in-Need.page c.in-Need.mode between role, add_change total c.args.split c.args.key.now (after first good.0) c.in-Need.page c.in-Need.mode role)
 
 pub join-requires-clause-inside : goal.join-requires-clause-inside
 join-requires-clause-inside g c = λ p named.
@@ -118,5 +121,7 @@ returns g c = λ value.
                 (modest_more at_hand total _ (cond c.args.split 3 2) c.args.split pages last (insert_needs c.args.split)
                 (modest_trans at_hand total 1 (cond c.args.split 2 1) c.args.split pages mid last (placed_modest at_hand relations total c.args.split pages m first name _ rows c.requires.seen placed)
                 (added_modest at_hand c.args.split total e mid last m between (λ p free some. below_some copies at_hand p c.in_ok-draft.ensures.copies (seen p free some)) adds.added)));
+            keeps = subst (λ (next : PageBytes). TakesAlone name.page pages next) (sym led.0)
+                (added_alone c.args.split total name.page e pages mid last adds.added (placed_alone total pages first name _ placed));
           };
     }) (λ no. absurd no)) c.join.ensures

@@ -1,12 +1,13 @@
-use Rattle.std.proofs.Common.{cond, List, sym, subst}
+use Rattle.std.proofs.Common.{cond, inl, List, sym, subst}
 use Rattle.mt_space.specs.declared.changes.PageChange.{PageChange}
 use Rattle.mt_space.specs.Changes.{after, AreShort}
 use Rattle.mt_model.specs.declared.operations.Op.TheVariants.{Insert}
 use Rattle.mt_model.specs.declared.operations.Reply.TheVariants.{Exists}
 use Rattle.mt_base.specs.declared.modes.Mode.TheVariants.{Read}
 use Rattle.std.proofs.lemmas.Result.{IfOk-weaker}
-use Rattle.mt_steps.proofs.Telling.{lock_told, made_told, full_told, broken_told}
-use Rattle.mt_steps.proofs.Asking.{bucket_inside}
+use Rattle.mt_steps.proofs.Telling.{lock_told, asks_told, made_told, full_told, broken_told}
+use Rattle.mt_steps.proofs.Naming.{quiet_named}
+use Rattle.mt_steps.proofs.Asking.{bucket_inside, looks_to_write}
 use Rattle.mt_steps.proofs.Modest.{modest_nothing}
 use Rattle.mt_steps.specs.Acts.{IsAct}
 use Rattle.mt_steps.proofs.Entering.{found_already}
@@ -52,3 +53,16 @@ returns-in-Missing-clause-broken g c = IfOk-weaker c.insert_new.result _ _ (brok
 
 pub returns-in-Missing-clause-full : goal.returns-in-Missing-clause-full
 returns-in-Missing-clause-full g c = λ relations. IfOk-weaker c.insert_new.result _ _ (full_told (g.V.Pages.at_hand c.args.views.now) (g.V.Pages.total c.args.views.now) _ _ _ (λ full. full relations)) c.insert_new.ensures
+
+pub returns-in-Need-clause-asks : goal.returns-in-Need-clause-asks
+returns-in-Need-clause-asks g c = inl (λ pages agrees m maps.
+    looks_to_write c.args.key.now (g.V.Pages.total c.args.views.now) pages m c.in-Need.page c.in-Need.mode c.to_write.result maps c.to_write.ensures.directory c.to_write.ensures.others (c.in-Need.ensures.need.role pages agrees m maps))
+
+pub returns-in-Missing-clause-asks : goal.returns-in-Missing-clause-asks
+returns-in-Missing-clause-asks g c = IfOk-weaker c.insert_new.result _ _ (asks_told (g.V.Pages.at_hand c.args.views.now) (g.V.Pages.total c.args.views.now) _ _ _ _ c.in-Missing.ensures.missing) c.insert_new.ensures
+
+pub returns-in-Found-clause-named : goal.returns-in-Found-clause-named
+returns-in-Found-clause-named g c = λ relations fits pages agrees m rows named. quiet_named c.args.room pages c.new.result.list.items c.new.ensures
+
+pub returns-in-Missing-clause-named : goal.returns-in-Missing-clause-named
+returns-in-Missing-clause-named g c = λ relations fits. IfOk-weaker c.insert_new.result _ _ (made_told (g.V.Pages.at_hand c.args.views.now) (g.V.Pages.total c.args.views.now) _ _ _ (λ changes reply done pages agrees m rows named. (done.does relations pages agrees m rows (fits, named)).keeps)) c.insert_new.ensures

@@ -1,15 +1,16 @@
-use Rattle.std.proofs.Common.{ℕ, [], inl, inr, ⊎_elim, subst, arith}
+use Rattle.std.proofs.Common.{ℕ, [], inl, inr, refl, ⊎_elim, subst, arith}
 use Rattle.std.proofs.lemmas.Result.{IfOk-weaker}
 use Rattle.mt_slots.specs.Page.{Row}
 use Rattle.mt_file.specs.declared.step.Step.{Step}
 use Rattle.mt_file.specs.Plans.{IsPut, IsNamed}
 use Rattle.mt_steps.specs.Held.{AreRows}
 use Rattle.mt_index.specs.Maps.{Map}
-use Rattle.mt_space.specs.Changes.{PageBytes, Agrees}
+use Rattle.mt_space.specs.Changes.{PageBytes, Agrees, after}
 use Rattle.mt_steps.proofs.Telling.{tells_weaker}
 use Rattle.mt_steps.proofs.Asking.{put_needs, placed_inside}
 use Rattle.mt_steps.proofs.Entering.{placed_is}
 use Rattle.mt_steps.proofs.Modest.{insert_needs, too_full}
+use Rattle.mt_steps.proofs.Naming.{alone_named, put_own}
 use Rattle.mt_steps.proofs.inserting.insert_new.Goals as goal
 
 pub add_entry-requires-clause-good : goal.add_entry-requires-clause-good
@@ -34,7 +35,7 @@ returns-in-Some g c =
     let good = c.requires.good.1 in
     let placed = placed_is (g.V.Pages.at_hand c.args.views.now) c.args.room c.requires.good.0 (g.V.Pages.total c.args.views.now) good.0 good.2 _ c.in_ok-page.field-0 c.in-Done.plan c.in-Done.is good.3 good.4
     (c.in_ok-page.ensures.put good.0 good.1 good.3.file good.4) (c.in_ok-page.ensures.short good.0 good.1 good.3.file good.4) in
-    (c.in-Some.ensures.some, placed_inside (g.V.Pages.total c.args.views.now) good.0 good.2 c.in-Done.plan.changes.list.items c.in-Done.plan.name _ c.in-Some.page good.3.index placed c.in-Some.ensures.named)
+    (c.in-Some.ensures.some, placed_inside (g.V.Pages.total c.args.views.now) good.0 good.2 c.in-Done.plan.changes.list.items c.in-Done.plan.name _ c.in-Some.page good.3.index placed c.in-Some.ensures.named, inl refl)
 
 pub returns-in-Full : goal.returns-in-Full
 returns-in-Full g c = λ relations pages agrees m rows named.
@@ -54,5 +55,12 @@ returns g c =
       there = done.there;
       few = done.few;
       idle = done.idle;
-      does = λ relations pages agrees m rows so. done.does relations pages agrees m rows (so.0, c.requires.missing pages agrees m rows.index, put relations pages agrees m rows so.1);
+      does = λ relations pages agrees m rows so.
+          let d = done.does relations pages agrees m rows (so.0, c.requires.missing pages agrees m rows.index, put relations pages agrees m rows so.1) in record {
+            act = d.act;
+            short = d.short;
+            modest = d.modest;
+            keeps = alone_named c.args.room c.in-Done.plan.name.page pages (after changes pages)
+                (put_own at_hand c.args.room total pages _ c.in_ok-page.field-0 c.in-Done.plan c.in-Done.is so.1 (c.in_ok-page.ensures.put pages agrees rows.file so.1)) d.keeps;
+          };
     }) (λ full relations pages agrees m rows named. inl (full relations pages agrees m rows (put relations pages agrees m rows named)))) (c.add_entry.ensures c.args.value.now)

@@ -1,9 +1,10 @@
-use Rattle.std.proofs.Common.{◌≡◌, ◌∙◌, sym, ap, subst, rules, to_z, of_z, to_z-of_z, SFits, w64}
+use Rattle.std.proofs.Common.{◌≡◌, ◌<◌, ◌∙◌, sym, ap, subst, rules, to_z, of_z, to_z-of_z, SFits, w64}
 use Rattle.std.proofs.lemmas.Result.{IfOk-weaker}
 use Rattle.mt_model.specs.declared.operations.Op.{Op}
 use Rattle.mt_model.specs.declared.operations.Op.TheVariants.{Get, Insert, Update, Delete, Add, Read}
 use Rattle.mt_model.specs.Model.{IsWithin}
-use Rattle.mt_steps.proofs.Promised.{ok_both, rows_planned, whole_planned, good_planned, quiet_planned, counts_planned, rows_full, never_full}
+use Rattle.mt_steps.proofs.Promised.{ok_both, asks_same, rows_planned, whole_planned, good_planned, quiet_planned, counts_planned, read_planned, rows_full, never_full}
+use Rattle.mt_steps.proofs.Naming.{roomy_told, modest_told, quiet_told}
 use Rattle.mt_steps.proofs.planning.plan.Goals as goal
 
 pub returns-in-Get-clause-made : goal.returns-in-Get-clause-made
@@ -49,7 +50,8 @@ returns-in-Add-clause-made g c = λ relations counters few within.
 
 pub returns-in-Read-clause-made : goal.returns-in-Read-clause-made
 returns-in-Read-clause-made g c = λ relations counters few within.
-    quiet_planned c.args.split relations counters (g.V.Pages.total c.args.views.now) (g.V.Pages.at_hand c.args.views.now) c.args.room (Read c.in-Read.counter) c.args.op.now c.read_from.result (sym c.in-Read.is) (c.read_from.ensures.made relations) c.read_from.ensures.quiet
+    let inside : c.in-Read.counter < counters = subst (λ (o : Op). IsWithin relations counters o) c.in-Read.is within in
+    read_planned c.args.split relations counters (g.V.Pages.total c.args.views.now) c.in-Read.counter (g.V.Pages.at_hand c.args.views.now) c.args.room (Read c.in-Read.counter) c.args.op.now c.read_from.result (sym c.in-Read.is) inside (c.read_from.ensures.made relations) c.read_from.ensures.quiet
 
 pub returns-in-Insert-clause-full : goal.returns-in-Insert-clause-full
 returns-in-Insert-clause-full g c = λ relations counters few within.
@@ -78,3 +80,57 @@ returns-in-Add-clause-full g c = λ relations counters few within. IfOk-weaker c
 
 pub returns-in-Read-clause-full : goal.returns-in-Read-clause-full
 returns-in-Read-clause-full g c = λ relations counters few within. never_full c.read_from.result _ c.read_from.ensures.full
+
+pub returns-in-Get-clause-rows : goal.returns-in-Get-clause-rows
+returns-in-Get-clause-rows g c =
+    let is : Get c.in-Get.relation c.as_slice.result.now ≡ c.args.op.now = ap (Get c.in-Get.relation) c.as_slice.ensures ∙ sym c.in-Get.is in
+    asks_same (g.V.Pages.at_hand c.args.views.now) (g.V.Pages.total c.args.views.now) _ c.args.op.now c.get.result is c.get.ensures.asks
+
+pub returns-in-Insert-clause-rows : goal.returns-in-Insert-clause-rows
+returns-in-Insert-clause-rows g c =
+    let is : Insert c.in-Insert.relation c.as_slice-in-Insert.result.now c.as_slice-in-Insert-2.result.now ≡ c.args.op.now =
+    (λ i. Insert c.in-Insert.relation (c.as_slice-in-Insert.ensures i) (c.as_slice-in-Insert-2.ensures i)) ∙ sym c.in-Insert.is in
+    asks_same (g.V.Pages.at_hand c.args.views.now) (g.V.Pages.total c.args.views.now) _ c.args.op.now c.insert.result is c.insert.ensures.asks
+
+pub returns-in-Update-clause-rows : goal.returns-in-Update-clause-rows
+returns-in-Update-clause-rows g c =
+    let is : Update c.in-Update.relation c.as_slice-in-Update.result.now c.as_slice-in-Update-2.result.now ≡ c.args.op.now =
+    (λ i. Update c.in-Update.relation (c.as_slice-in-Update.ensures i) (c.as_slice-in-Update-2.ensures i)) ∙ sym c.in-Update.is in
+    asks_same (g.V.Pages.at_hand c.args.views.now) (g.V.Pages.total c.args.views.now) _ c.args.op.now c.update.result is c.update.ensures.asks
+
+pub returns-in-Delete-clause-rows : goal.returns-in-Delete-clause-rows
+returns-in-Delete-clause-rows g c =
+    let is : Delete c.in-Delete.relation c.as_slice-in-Delete.result.now ≡ c.args.op.now = ap (Delete c.in-Delete.relation) c.as_slice-in-Delete.ensures ∙ sym c.in-Delete.is in
+    asks_same (g.V.Pages.at_hand c.args.views.now) (g.V.Pages.total c.args.views.now) _ c.args.op.now c.delete.result is c.delete.ensures.asks
+
+pub returns-in-Insert-clause-named : goal.returns-in-Insert-clause-named
+returns-in-Insert-clause-named g c = λ relations counters few within.
+    let is : Insert c.in-Insert.relation c.as_slice-in-Insert.result.now c.as_slice-in-Insert-2.result.now ≡ c.args.op.now =
+    (λ i. Insert c.in-Insert.relation (c.as_slice-in-Insert.ensures i) (c.as_slice-in-Insert-2.ensures i)) ∙ sym c.in-Insert.is in
+    let inside = subst (λ (o : Op). IsWithin relations counters o) (sym is) within in
+    IfOk-weaker c.insert.result _ _ (λ act. roomy_told relations counters (g.V.Pages.total c.args.views.now) (g.V.Pages.at_hand c.args.views.now) c.args.room act)
+    (c.insert.ensures.named relations (record { relation = inside.0; key = inside.1; value = inside.2 }))
+
+pub returns-in-Update-clause-named : goal.returns-in-Update-clause-named
+returns-in-Update-clause-named g c = λ relations counters few within.
+    let is : Update c.in-Update.relation c.as_slice-in-Update.result.now c.as_slice-in-Update-2.result.now ≡ c.args.op.now =
+    (λ i. Update c.in-Update.relation (c.as_slice-in-Update.ensures i) (c.as_slice-in-Update-2.ensures i)) ∙ sym c.in-Update.is in
+    let inside = subst (λ (o : Op). IsWithin relations counters o) (sym is) within in
+    IfOk-weaker c.update.result _ _ (λ act. roomy_told relations counters (g.V.Pages.total c.args.views.now) (g.V.Pages.at_hand c.args.views.now) c.args.room act)
+    (c.update.ensures.named relations (record { relation = inside.0; key = inside.1; value = inside.2 }))
+
+pub returns-in-Delete-clause-named : goal.returns-in-Delete-clause-named
+returns-in-Delete-clause-named g c = λ relations counters few within.
+    IfOk-weaker c.delete.result _ _ (λ act. modest_told relations counters (g.V.Pages.total c.args.views.now) (g.V.Pages.at_hand c.args.views.now) c.args.room act) (c.delete.ensures.modest relations)
+
+pub returns-in-Add-clause-named : goal.returns-in-Add-clause-named
+returns-in-Add-clause-named g c = λ relations counters few within.
+    IfOk-weaker c.add_to.result _ _ (λ act. modest_told relations counters (g.V.Pages.total c.args.views.now) (g.V.Pages.at_hand c.args.views.now) c.args.room act) (c.add_to.ensures.modest relations)
+
+pub returns-in-Get-clause-named : goal.returns-in-Get-clause-named
+returns-in-Get-clause-named g c = λ relations counters few within.
+    IfOk-weaker c.get.result _ _ (λ act. quiet_told relations counters (g.V.Pages.total c.args.views.now) (g.V.Pages.at_hand c.args.views.now) c.args.room act) c.get.ensures.quiet
+
+pub returns-in-Read-clause-named : goal.returns-in-Read-clause-named
+returns-in-Read-clause-named g c = λ relations counters few within.
+    quiet_told relations counters (g.V.Pages.total c.args.views.now) (g.V.Pages.at_hand c.args.views.now) c.args.room c.read_from.result c.read_from.ensures.quiet

@@ -10,11 +10,13 @@ use Rattle.mt_base.specs.declared.modes.Mode.TheVariants.{Write}
 use Rattle.mt_steps.specs.Logged.{logged_of}
 use Rattle.mt_model.specs.declared.operations.Reply.TheVariants.{Was}
 use Rattle.mt_steps.proofs.Telling.{tells_weaker, logs_something}
-use Rattle.mt_steps.proofs.Asking.{amend_needs, bucket_inside, amended_inside, named_differs, few_more}
+use Rattle.mt_steps.proofs.Asking.{amend_needs, bucket_inside, bucket_change, amended_inside, named_differs, few_more}
 use Rattle.mt_steps.proofs.Modest.{moved_modest, amended_modest, modest_trans}
 use Rattle.mt_steps.specs.Plans.{IsModest}
 use Rattle.mt_steps.proofs.Leaving.{amended_is, amend_missing_is, amend_endless_is}
 use Rattle.mt_steps.proofs.Shifting.{moved_map, moved_act, to_inside}
+use Rattle.mt_steps.specs.Tells.{TakesAlone}
+use Rattle.mt_steps.proofs.Naming.{moved_alone, amended_alone}
 use Rattle.mt_steps.proofs.updating.set_entry.Goals as goal
 
 none_some : {A : Type 0} (x : A) → None ≡ Some x → ⊥
@@ -58,7 +60,8 @@ returns-in-Need g c = λ name value seen.
     let between = (moved_map c.requires.good.0 total good.0 good.2 first c.requires.good.2 c.args.plan.now.name _ _ good.3 placed.1).0 in
     let asks = subst (λ x. Asks (shown c.in_ok-draft.draft.copies.items (g.V.Pages.at_hand x)) (g.V.Pages.total x) (IsInBucket c.args.key.now Write) c.in-Need.page c.in-Need.mode) c.in_ok-draft.ensures.views
     (amend_needs _ c.in_ok-page.field-0 c.in-Need.page c.in-Need.mode c.in-Need.is c.in_ok-page.ensures.need) in
-    (c.in_ok-draft.ensures.none c.in-Need.page asks.missing, bucket_inside total c.args.key.now (after first good.0) good.2 Write c.in-Need.page c.in-Need.mode between (asks.role (after first good.0) (c.in_ok-draft.ensures.agrees good.0 good.1) good.2 between))
+    let role = asks.role (after first good.0) (c.in_ok-draft.ensures.agrees good.0 good.1) good.2 between in
+    (c.in_ok-draft.ensures.none c.in-Need.page asks.missing, bucket_inside total c.args.key.now (after first good.0) good.2 Write c.in-Need.page c.in-Need.mode between role, bucket_change c.args.key.now (after first good.0) c.in-Need.page c.in-Need.mode role)
 
 pub join-requires-clause-inside : goal.join-requires-clause-inside
 join-requires-clause-inside g c = λ p named.
@@ -107,5 +110,7 @@ returns-in-Changes g c = λ name value seen.
             modest = subst (λ (next : PageBytes). IsModest at_hand total 1 false pages next) (sym led.0)
                 (modest_trans at_hand total 1 0 false pages mid last (moved_modest at_hand relations total false pages m first name to _ _ rows seen c.requires.seen moved)
                 (amended_modest at_hand total false mid last m between.0 amends.others));
+            keeps = subst (λ (next : PageBytes). TakesAlone to.page pages next) (sym led.0)
+                (amended_alone to.page pages mid last between.0.space_fixed amends.others (moved_alone total pages first name to _ _ moved));
           };
     }) (λ no. no)) c.join.ensures

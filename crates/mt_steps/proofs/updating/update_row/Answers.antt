@@ -16,6 +16,9 @@ use Rattle.mt_steps.proofs.Modest.{kept_modest, moved_modest, too_full}
 use Rattle.std.specs.Prelude.{IsSome}
 use Rattle.mt_steps.proofs.Rows.{row_of}
 use Rattle.mt_steps.proofs.Shifting.{replacement_is, kept_act, moved_here, has_moved, to_inside}
+use Rattle.mt_space.specs.Changes.{after}
+use Rattle.mt_steps.specs.Plans.{TakesNamed}
+use Rattle.mt_steps.proofs.Naming.{kept_named, alone_named, moved_own, moved_alone}
 use Rattle.mt_steps.proofs.updating.update_row.Goals as goal
 
 value_of : (k v : List ℕ) (x : Row) {r : ℕ} → Some (record { relation = r; key = k; value = v }) ≡ Some x → v ≡ x.value
@@ -38,7 +41,7 @@ returns-in-Need g c =
     let named = good.3.named.names c.args.relation c.args.key.now n (c.requires.named good.0 good.1 good.2 good.3.index) in
     let three = record_kind good.0 n.page n.slot _ named.1 in
     let told = c.in-Need.ensures good.0 good.1 good.3.file three in
-    (told.0, kind_inside (g.V.Pages.total c.args.views.now) good.0 good.2 c.in-Need.page 3 good.3.index (ap (λ (p : ℕ). kind good.0 p) told.2 ∙ three) (omega arith))
+    (told.0, kind_inside (g.V.Pages.total c.args.views.now) good.0 good.2 c.in-Need.page 3 good.3.index (ap (λ (p : ℕ). kind good.0 p) told.2 ∙ three) (omega arith), inl refl)
 
 pub returns-in-Nothing : goal.returns-in-Nothing
 returns-in-Nothing g c =
@@ -96,6 +99,7 @@ returns-in-Some g c =
           (λ moved. moved_inside total good.0 good.2 changes n c.in-Done.plan.name _ _ c.in-Some.page good.3.index (to_inside c.requires.good.0 total good.0 good.2 changes n c.in-Done.plan.name _ _ good.3 moved) moved c.in-Some.ensures.named)
           (replacement_is (g.V.Pages.at_hand c.args.views.now) c.args.room c.requires.good.0 total good.0 good.2 n r c.args.value.now c.in_ok-page.field-0 c.in-Done.plan c.in-Done.is good.3 good.4
           (c.in_ok-page.ensures.replacement good.0 r good.1 good.3.file good.4 named.1) (c.in_ok-page.ensures.short good.0 r good.1 good.3.file good.4 named.1) named.1),
+      inl refl,
     )
 
 pub returns-in-Full : goal.returns-in-Full
@@ -130,17 +134,21 @@ returns-then-is_name g c = record {
       let w : Row = record { relation = c.args.relation; key = c.args.key.now; value = c.args.value.now } in
       let changes = c.in-Done.plan.changes.list.items in
       let seen = subst (λ (x : Step). IfDone x (λ plan. IsSome (at_hand n.page) × IsSome (at_hand plan.name.page))) c.in-Done.is c.in_ok-page.ensures.seen in
-      ⊎_elim {C = Does at_hand relations total 1 false (Update c.args.relation c.args.key.now c.args.value.now) pages changes (Was old)}
+      ⊎_elim {C = Does at_hand relations total 1 false (Update c.args.relation c.args.key.now c.args.value.now) (TakesNamed c.args.room) pages changes (Was old)}
       (λ kept. record {
         act = kept_act relations total pages m changes n c.args.relation c.args.key.now old c.args.value.now (Was old) rows is so.0 kept.1 refl;
         short = kept.1.short;
         modest = kept_modest at_hand relations total false pages m changes n _ _ rows kept.1;
+        keeps = kept_named c.args.room pages changes n _ _ kept.1;
       })
       (λ moved.
       let here : IsMoved total pages changes n n r w = subst (λ (to : RecordName). IsMoved total pages changes n to r w) c.if-is_name.ensures moved in record {
         act = moved_here relations total pages m changes n c.args.relation c.args.key.now old c.args.value.now (Was old) rows is so.0 here refl;
         short = here.short;
         modest = moved_modest at_hand relations total false pages m changes n c.in-Done.plan.name _ _ rows seen.0 seen.1 moved;
+        keeps = alone_named c.args.room c.in-Done.plan.name.page pages (after changes pages)
+            (moved_own at_hand c.args.room total pages n r w c.in_ok-page.field-0 c.in-Done.plan c.in-Done.is so.1 stood (c.in_ok-page.ensures.replacement pages r agrees rows.file so.1 stood))
+            (moved_alone total pages changes n c.in-Done.plan.name _ _ moved);
       })
       (replacement_is at_hand c.args.room relations total pages m n r c.args.value.now c.in_ok-page.field-0 c.in-Done.plan c.in-Done.is rows so.1
       (c.in_ok-page.ensures.replacement pages r agrees rows.file so.1 stood) (c.in_ok-page.ensures.short pages r agrees rows.file so.1 stood) stood);
@@ -163,11 +171,17 @@ returns g c =
           let told = c.in-Record.ensures pages agrees rows.file (record_kind pages n.page n.slot _ named.1) in
           let stood = named.1 ∙ ap (λ (v : List ℕ). row_of c.args.relation c.args.key.now (Some v)) (value_of _ _ _ (sym named.1 ∙ told) ∙ sym c.in_ok-old-in-Record.ensures) in
           let r : Row = record { relation = c.args.relation; key = c.args.key.now; value = old } in
-          done.does relations pages agrees m rows (
+          let d = done.does relations pages agrees m rows (
             so.0,
             is,
             has_moved total pages c.in-Done.plan n r c.args.value.now c.if-is_name.ensures
                 (replacement_is at_hand c.args.room relations total pages m n r c.args.value.now c.in_ok-page.field-0 c.in-Done.plan c.in-Done.is rows so.1
                 (c.in_ok-page.ensures.replacement pages r agrees rows.file so.1 stood) (c.in_ok-page.ensures.short pages r agrees rows.file so.1 stood) stood),
-          );
+          ) in record {
+            act = d.act;
+            short = d.short;
+            modest = d.modest;
+            keeps = alone_named c.args.room c.in-Done.plan.name.page pages (after changes pages)
+                (moved_own at_hand c.args.room total pages n r (record r { value = c.args.value.now }) c.in_ok-page.field-0 c.in-Done.plan c.in-Done.is so.1 stood (c.in_ok-page.ensures.replacement pages r agrees rows.file so.1 stood)) d.keeps;
+          };
     }) (λ no. absurd no)) (c.set_entry.ensures n c.args.value.now seen.0)

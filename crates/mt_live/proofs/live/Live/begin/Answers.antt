@@ -2,7 +2,7 @@ use Rattle.std.proofs.Common.{◌≡◌, ◌∙◌, ap, subst, None, Some}
 use Rattle.mt_live.specs.Lives.{Lives, member_of}
 use Rattle.mt_live.specs.Machine.{put}
 use Rattle.mt_live.specs.Members.{fresh}
-use Rattle.mt_live.proofs.Wells.{begun_well, begun_unused, begun_member, begun_standing}
+use Rattle.mt_live.proofs.Wells.{begun_well, numbered_of, begun_unused, begun_member, begun_standing}
 use Rattle.mt_live.proofs.live.Live.begin.Goals as goal
 
 pub invariant_of-self-2 : goal.invariant_of-self-2
@@ -25,3 +25,7 @@ returns-clause-standing c =
     let none = begun_unused _ _ _ _ _ c.new-number.result c.self.invariant c.new-number.ensures in
     begun_standing _ _ c.args.session c.new-number.result c.new.result _ none c.new.ensures c.in_ok-push.ensures.items
     ∙ ap (λ (l : Lives). l.standing) c.self.view_is
+
+pub returns-clause-numbered : goal.returns-clause-numbered
+returns-clause-numbered c =
+    numbered_of _ _ _ _ _ (begun_well _ _ _ _ _ c.args.session c.new-number.result c.new.result _ c.self.invariant c.new-number.ensures c.new.ensures c.in_ok-push.ensures.items)

@@ -61,5 +61,5 @@ returns-clause-number c =
     let found = is_there ms c.args.txn i n first c.index-3.ensures in
     let same = same_two ms c.args.txn i n m first c.index-3.ensures c.index.ensures in
     let last = ap (λ (x : Member). last_place x.calls) same ∙ (sym c.last_place.ensures.place ∙ c.in_ok-at.was) in
-    ap Some (c.operation.ensures 0)
+    ap Some (c.operation-number.ensures 0)
     ∙ (sym (ap last_operation found ∙ ap (operation_at n) last) ∙ ap (λ (l : Lives). last_operation (member_of l.members c.args.txn)) c.self.view_is)

@@ -6,7 +6,7 @@ use Rattle.mt_live.specs.Machine.{put}
 use Rattle.mt_model.specs.declared.history.Committed.{Committed}
 use Rattle.mt_live.specs.Lives.{Lives, IsFirst, member_of}
 use Rattle.mt_live.specs.Members.{Member}
-use Rattle.mt_live.proofs.Wells.{left_well, left_standing, left_member, left_calls, is_there}
+use Rattle.mt_live.proofs.Wells.{left_well, numbered_of, left_standing, left_member, left_calls, is_there}
 use Rattle.mt_live.proofs.live.Live.leave.Goals as goal
 
 pub invariant_of-self : goal.invariant_of-self
@@ -47,3 +47,10 @@ returns-clause-member c = λ u.
     let i = c.place_in-place.result in
     let first : IsFirst ms c.args.txn i = subst (λ xs. IsFirst xs c.args.txn i) c.deref.ensures.value c.place_in-place.ensures in
     left_member _ ms _ _ _ c.args.txn i _ c.self.invariant first c.remove.ensures.items u ∙ ap (λ (x : Lives). put (member_of x.members) c.args.txn None u) c.self.view_is
+
+pub returns-clause-numbered : goal.returns-clause-numbered
+returns-clause-numbered c =
+    let ms = c.self.inside.transactions.items in
+    let i = c.place_in-place.result in
+    let first : IsFirst ms c.args.txn i = subst (λ xs. IsFirst xs c.args.txn i) c.deref.ensures.value c.place_in-place.ensures in
+    numbered_of _ _ _ _ _ (left_well _ ms _ _ _ c.args.txn i _ _ _ _ c.self.invariant first c.take_out.ensures.places c.remove.ensures.items c.take_out.ensures.len c.take_out.ensures.capacity)

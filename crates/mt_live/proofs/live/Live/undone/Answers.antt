@@ -1,9 +1,9 @@
 use Rattle.std.proofs.Common.{◌≡◌, ◌∙◌, ap, subst, sym, set}
 use Rattle.mt_live.specs.Undoing.{cut_back}
-use Rattle.mt_live.specs.Lives.{Lives, IsFirst, IsChanged}
+use Rattle.mt_live.specs.Lives.{Lives, AreNumbered, IsFirst, IsChanged}
 use Rattle.mt_live.specs.Members.{taken_back}
 use Rattle.mt_live.proofs.Ends.{cut_none}
-use Rattle.mt_live.proofs.Wells.{undone_well, undone_standing, undone_member, nothing_member, no_effect, same_size}
+use Rattle.mt_live.proofs.Wells.{undone_well, numbered_of, undone_standing, undone_member, nothing_member, no_effect, same_size}
 use Rattle.mt_live.proofs.live.Live.undone.Goals as goal
 
 pub invariant_of-self : goal.invariant_of-self
@@ -56,3 +56,16 @@ returns-in_default-clause-member c =
     let first : IsFirst ms c.args.txn i = subst (λ xs. IsFirst xs c.args.txn i) c.deref.ensures.value c.place_in-place.ensures in
     subst (λ (x : Lives). IsChanged x.members x.members c.args.txn taken_back) c.self.view_is
     (nothing_member ms c.args.txn i l first c.index.ensures (sym c.last_place.ensures.place ∙ c.in_default.is))
+
+pub returns-in-Some-clause-numbered : goal.returns-in-Some-clause-numbered
+returns-in-Some-clause-numbered c =
+    let ms = c.self.inside.transactions.items in
+    let i = c.place_in-place.result in
+    let m = c.index_mut.result.now in
+    let first : IsFirst ms c.args.txn i = subst (λ xs. IsFirst xs c.args.txn i) c.deref.ensures.value c.place_in-place.ensures in
+    let l = c.index.result.now in
+    numbered_of _ _ _ _ _ (undone_well _ ms _ _ _ c.args.txn i m c.cut.new.self c.in-Some.at _ _ _ c.self.invariant first c.index_mut.ensures.value c.cut.ensures
+    (same_size ms c.args.txn i m l c.in-Some.at first c.index_mut.ensures.value c.index.ensures c.in-Some.ensures.within) c.cut_from.ensures.places c.cut_from.ensures.len c.cut_from.ensures.capacity)
+
+pub returns-in_default-clause-numbered : goal.returns-in_default-clause-numbered
+returns-in_default-clause-numbered c = subst (λ (x : Lives). AreNumbered x.begun x.members) c.self.view_is (numbered_of _ _ _ _ _ c.self.invariant)

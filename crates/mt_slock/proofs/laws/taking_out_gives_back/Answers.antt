@@ -1,0 +1,8 @@
+use Rattle.mt_slock.proofs.Tables.{taken_out, granted_once}
+use Rattle.mt_slock.proofs.laws.taking_out_gives_back.Goals as goal
+
+pub returns-clause-back : goal.returns-clause-back
+returns-clause-back c = taken_out
+
+pub returns-clause-once : goal.returns-clause-once
+returns-clause-once c = granted_once

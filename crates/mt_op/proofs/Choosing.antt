@@ -31,12 +31,13 @@ use Rattle.mt_op.specs.declared.scope.Stage.{Stage}
 use Rattle.mt_op.specs.declared.scope.Stage.TheVariants.{Planning, Writing}
 use Rattle.mt_op.specs.declared.space_map.SpaceMap.{SpaceMap}
 use Rattle.mt_op.proofs.Ahead.{IsIdle, idle_works, idle_asks}
-use Rattle.mt_op.proofs.Chosen.{on_steps, on_keeps, steps_then}
+use Rattle.mt_op.proofs.Chosen.{on_steps, steps_then}
 use Rattle.mt_op.proofs.Faulting.{no_fault, told_ok, told_err, told_behind}
 use Rattle.mt_op.proofs.Going.{goes_on_behind, planning_of, rests_same}
 use Rattle.mt_op.proofs.Keeping.{same_keeps, same_records, stays_same, same_scope, ahead_scope, made_scope}
 use Rattle.mt_op.proofs.Staying.{rests_own, own_kept, open_same}
-use Rattle.mt_op.proofs.Work.{comes_on, works_behind}
+use Rattle.mt_op.proofs.Unready.{IsUnready, on_keeps, comes_on}
+use Rattle.mt_op.proofs.Work.{works_behind}
 use Rattle.mt_op.proofs.Written.{rests_goes_as}
 
 idle_goes_on : (relations counters : ℕ) (w z : World) (s t : OpScope) (r : Result Stepped Refusal) → IsIdle r → Goes relations counters w z s t → GoesOn relations counters w z s t r
@@ -274,17 +275,17 @@ module _ {D : Type 0} (seen : D → List ℕ) (may_leave : D → List ℕ → Ty
   }
 
   -- it goes on planning
-  pub planned_step : (a : Stepped) → s.stage ≡ Planning → (relations counters : ℕ) (w z : World) → GoesOn relations counters w z s t (Ok a) → PlansOn seen may_leave moment left_since failures o n s t (Ok (Some a))
+  pub planned_step : (a : Stepped) → s.stage ≡ Planning → IsUnready (Ok a) → PlansOn seen may_leave moment left_since failures o n s t (Ok (Some a))
       → MakesStep seen may_leave moment left_since failures o n s t (Ok a)
-  planned_step a planning relations counters w z goes p = record {
+  planned_step a planning unready p = record {
     steps = λ opening relations counters right k few some. let gone = p.goes opening relations counters right k few in (gone.0, on_steps relations counters (world seen opening o) (world seen opening n) s t (Ok a) gone.1);
     moments = p.moments;
     log = λ i. used (p.log i) + p.left i;
     area = ap (λ (l : Log). area_size l) p.log;
     budget = p.budget;
-    claims = on_keeps relations counters w z s t (Ok a) (own_needs s.op s.split) (claimed o) (claimed n) goes (ap (λ (x : SpaceMap). reserved_of x.space) p.map);
+    claims = on_keeps (Ok a) (own_needs s.op s.split) (claimed o) (claimed n) unready (ap (λ (x : SpaceMap). reserved_of x.space) p.map);
     full = λ is. p.full (none_some (Ok a) (Ok (Some a)) a refl refl is);
-    stage = comes_on relations counters w z s t (Ok a) goes (inl (p.stage (λ is. absurd cc)));
+    stage = comes_on t.stage (Ok a) unready (inl (p.stage (λ is. absurd cc)));
     work = p.work;
     records = same_records t (appended o.store.log) (appended n.store.log) (Ok a) (ap (λ (l : Log). appended l) p.log);
     locks = p.locks;
@@ -296,10 +297,11 @@ module _ {D : Type 0} (seen : D → List ℕ) (may_leave : D → List ℕ → Ty
   }
 
   -- its plan is made, and it goes ahead
-  pub made_step : (z : Operations D) (u : OpScope) (r : Result Stepped Refusal) → s.stage ≡ Planning → SameOp s t → PlansOn seen may_leave moment left_since failures o n s t (Ok None) → GoesAhead seen may_leave moment left_since failures n z t u r
+  pub made_step : (z : Operations D) (u : OpScope) (r : Result Stepped Refusal) → s.stage ≡ Planning → PlansOn seen may_leave moment left_since failures o n s t (Ok None) → GoesAhead seen may_leave moment left_since failures n z t u r
       → MakesStep seen may_leave moment left_since failures o z s u r
-  made_step z u r planning same p a =
+  made_step z u r planning p a =
       let made = p.made refl in
+      let same : SameOp s t = p.scope.op in
       record {
         steps = λ opening relations counters right k few some.
             let gone = p.goes opening relations counters right k few in

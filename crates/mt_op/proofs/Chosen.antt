@@ -16,7 +16,7 @@ use Rattle.mt_steps.specs.Logged.{logged_of}
 use Rattle.mt_steps.specs.Plans.{InPages, IsPlanned}
 use Rattle.mt_op.specs.World.{World, held_in, looked, IsWorld, IsUnderWay, IsOther}
 use Rattle.mt_op.specs.Moves.{SameOp}
-use Rattle.mt_op.specs.Operations.{Goes, Acts, GoesOn, Steps, GivesBack, IsPlannedOn}
+use Rattle.mt_op.specs.Operations.{Goes, Acts, GoesOn, Steps, IsPlannedOn}
 use Rattle.mt_op.specs.Records.{end_with}
 use Rattle.mt_op.specs.declared.answers.Stepped.{Stepped}
 use Rattle.mt_op.specs.declared.answers.Stepped.TheVariants as stepped
@@ -93,12 +93,3 @@ module _ (relations counters : ℕ) where
   on_steps w z s t (Ok (stepped.Again holder)) g = g
   on_steps w z s t (Ok stepped.Flush) g = g
   on_steps w z s t (Err why) g = g
-
-  -- an operation that goes on keeps its claim
-  pub on_keeps : (w z : World) (s t : OpScope) (r : Result Stepped Refusal) (claim before now : ℕ) → GoesOn relations counters w z s t r → now ≡ before → GivesBack claim before now r
-  on_keeps w z s t (Ok (stepped.Ready first second)) claim before now g same = absurd g
-  on_keeps w z s t (Ok stepped.Went) claim before now g same = same
-  on_keeps w z s t (Ok (stepped.Wait holder)) claim before now g same = same
-  on_keeps w z s t (Ok (stepped.Again holder)) claim before now g same = same
-  on_keeps w z s t (Ok stepped.Flush) claim before now g same = same
-  on_keeps w z s t (Err why) claim before now g same = same

@@ -27,4 +27,8 @@ pub mod Faulting
 pub mod Ahead
 pub mod Back
 pub mod Begun
+pub mod Parted
+pub mod Known
+pub mod Shaped
+pub mod Unready
 pub mod Choosing

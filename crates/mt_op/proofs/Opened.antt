@@ -1,7 +1,8 @@
 -- A formatted device, and operations over it.
-use Rattle.std.proofs.Common.{◌≡◌, ◌≢◌, ◌<◌, ◌≤◌, inl, inr, ℕ, zero, suc, List, [], length, get_or, true, refl, ◌∙◌, ap, arith}
+use Rattle.std.proofs.Common.{◌≡◌, ◌≢◌, ◌<◌, ◌≤◌, inl, inr, ℕ, zero, suc, List, [], length, get_or, true, refl, sym, ap, subst, arith}
 use Rattle.std.proofs.lemmas.Bool.{cases_lt}
 use Rattle.std.proofs.lemmas.List.{get_or_past}
+use Rattle.std.proofs.lemmas.List.Elements.{All-nil}
 use Rattle.mt_bucket.specs.Page.{entries_from}
 use Rattle.mt_log.specs.Words.{appended}
 use Rattle.mt_space.specs.Changes.{PageBytes}
@@ -11,14 +12,11 @@ use Rattle.mt_pool.specs.declared.store.Store.{Store}
 use Rattle.mt_frame.specs.declared.records.Record.{Record}
 use Rattle.mt_steps.specs.Counters.{AreCounters}
 use Rattle.mt_steps.specs.Formatted.{IsFormatted}
-use Rattle.mt_base.specs.declared.refusal.Refusal.{Refusal}
-use Rattle.mt_log.specs.declared.log.Log.{Log}
-use Rattle.std.specs.Prelude.{Bool, Result, Ok, Err, IfOk, false}
+use Rattle.std.specs.Prelude.{Bool, false}
 use Rattle.std.specs.Bool.{OnTrue}
-use Rattle.mt_op.specs.Operations.{IsRight, claimed}
-use Rattle.mt_op.specs.Driven.{IsIdle, IsFirstMap, IsFirstDirectory, IsFirstBucket}
-use Rattle.mt_op.specs.declared.operations.Operations.{Operations}
-use Rattle.mt_op.proofs.Driving.{idle_first}
+use Rattle.mt_frame.specs.History.{txn_of}
+use Rattle.mt_op.specs.Begun.{AreImages}
+use Rattle.mt_op.specs.Driven.{IsFirstMap, IsFirstDirectory, IsFirstBucket}
 
 -- what follows from a test that holds
 pub true_gives : (P Q : Type 0) (b : Bool) → (P → Q) → OnTrue b P → OnTrue b Q
@@ -84,8 +82,6 @@ not_full seen may_leave opening s k none some full =
     let zero = ap (λ (rs : List Record). length (carried rs)) none in
     omega arith
 
-module _ {D : Type 0} (seen : D → List ℕ) (may_leave : D → List ℕ → Type 0) where
-  pub idle_of : (r : Result (Operations D) Refusal) (opening : PageBytes) (log : Log) → IfOk r (IsRight seen may_leave opening 2 2) → IfOk r (λ o. claimed o ≡ 0) → IfOk r (λ o. o.locks ≡ []) → IfOk r (λ o. o.store.log ≡ log) → appended log ≡ []
-      → IfOk r (IsIdle seen may_leave 0)
-  idle_of (Ok o) opening log right unclaimed locks same none = idle_first seen may_leave o opening right unclaimed locks (ap appended same ∙ none)
-  idle_of (Err why) opening log right unclaimed locks same none = tt
+-- a log without a record has no other than images
+pub no_images : (records : List Record) → records ≡ [] → AreImages records
+no_images records none = subst AreImages (sym none) (All-nil (λ (r : Record). txn_of r ≡ 0))

@@ -1,20 +1,25 @@
 -- Taking back, of all operations together and the one that is taken back: which page is put back, and what each step does.
-use Rattle.std.proofs.Common.{◌≡◌, ◌≢◌, ◌⊎◌, inl, inr, ℕ, ◌+◌, ◌-◌, ◌<◌, ◌≤◌, true, List, [], ◌∷◌, Contains, length, get_or, take, refl, sym, ap, ◌∙◌, subst, arith, append-nil, length-take}
-use Rattle.std.specs.Prelude.{IsSome}
-use Rattle.std.proofs.lemmas.Bool.{cases_eq, cases_Bool}
+use Rattle.std.proofs.Props.{props}
+use mathlib.Core.Logic.{∥∥₁_elim}
+use Rattle.std.proofs.Common.{◌≡◌, ◌≢◌, ◌⊎◌, inl, inr, ℕ, ◌+◌, ◌-◌, ◌<◌, ◌≤◌, true, false, List, [], ◌∷◌, Contains, length, get_or, take, refl, sym, ap, ◌∙◌, subst, arith, append-nil, length-take}
+use Rattle.std.specs.Prelude.{IsSome, ◌==◌}
+use Rattle.std.proofs.lemmas.Bool.{cases_eq, cases_Bool, ne_eqb}
 use Rattle.std.proofs.lemmas.List.{get_or-take}
 use Rattle.std.proofs.lemmas.List.Elements.{All-get_or}
 use Rattle.mt_frame.specs.declared.records.Record.{Record}
 use Rattle.mt_frame.specs.declared.records.Record.TheVariants.{OpDropped}
-use Rattle.mt_frame.specs.History.{some_record, is_of_page}
+use Rattle.mt_frame.specs.Grammar.{IsTxn}
+use Rattle.mt_frame.specs.History.{some_record, is_of_page, may_stand}
+use Rattle.mt_log.specs.Words.{appended}
 use Rattle.mt_space.specs.Changes.{PageBytes}
 use Rattle.mt_pool.specs.Kept.{IsKept}
 use Rattle.mt_pool.specs.Views.{pages, waits_for}
 use Rattle.mt_space.specs.declared.changes.PageChange.{PageChange}
+use Rattle.mt_pool.specs.Writes.{IsUnfinished}
 use Rattle.mt_pool.specs.declared.store.Store.{Store}
 use Rattle.mt_op.specs.World.{World, looked, changes_in, HasNothing, IsPlanning, IsWriting, IsTaking, IsAt, IsUnderWay}
 use Rattle.mt_op.specs.Moves.{SameOp, SamePlan, Notes, PutsBack, Leaves}
-use Rattle.mt_op.specs.Operations.{world, IsRight, Goes, HasBudget, needs, end_bytes, only_reads}
+use Rattle.mt_op.specs.Operations.{world, IsRight, IsOneOf, Goes, HasBudget, needs, end_bytes, only_reads}
 use Rattle.mt_op.specs.declared.operations.Operations.{Operations}
 use Rattle.mt_op.specs.declared.scope.OpScope.{OpScope}
 use Rattle.mt_op.specs.declared.scope.Stage.{Stage}
@@ -103,6 +108,26 @@ returnable seen may_leave opening relations counters o s c right k stage one is 
 
     recorded : some_record (is_of_page c.page) w.records ≡ true
     recorded = has_record relations counters w s right.sound k stage c (among (changes_in s) s.written (s.standing - 1) c below place is)
+
+-- what is known of one with pages that stand
+pub record HasStanding {D : Type 0} (o : Operations D) (s : OpScope) : Type 0 where
+  pub unfinished : IsUnfinished s.txn s.number (appended o.store.log)
+  pub place : s.standing - 1 < length (changes_in s)
+
+pub standing_one : {D : Type 0} (seen : D → List ℕ) (may_leave : D → List ℕ → Type 0) (o : Operations D) (s : OpScope) → IsOneOf seen may_leave o s → (s.stage ≡ Writing) ⊎ (s.stage ≡ Taking) → 0 < s.standing → HasStanding o s
+standing_one seen may_leave o s one stage stands = ∥∥₁_elim one (hlevel props) (λ (opening, relations, counters, right, k).
+    let at : HasChanged relations counters (world seen opening o) s = has_changed relations counters (world seen opening o) s k stage in
+    record { unfinished = at.unended.unfinished; place = let some = at.some in let fewer = at.fewer_stand in omega arith })
+
+-- the record of its taking back may stand in the log
+pub drop_stands : (records : List Record) (txn op : ℕ) → IsTxn txn → IsUnfinished txn op records → may_stand false records (OpDropped txn op) ≡ true
+drop_stands records txn op is u =
+    let named : (txn == 0) ≡ false = ne_eqb txn 0 (λ e. let some = is.0 in omega arith) in
+    rw (named, u.transaction) refl
+
+pub returnable_one : {D : Type 0} (seen : D → List ℕ) (may_leave : D → List ℕ → Type 0) (o : Operations D) (s : OpScope) (c : PageChange) → IsOneOf seen may_leave o s
+    → (s.stage ≡ Writing) ⊎ (s.stage ≡ Taking) → 0 < s.standing → c ≡ get_or (changes_in s) (s.standing - 1) c → IsReturnable o s c.page
+returnable_one seen may_leave o s c one stage some is = ∥∥₁_elim one (hlevel props) (λ (opening, relations, counters, right, k). returnable seen may_leave opening relations counters o s c right k stage some is)
 
 module _ {D : Type 0} (seen : D → List ℕ) (may_leave : D → List ℕ → Type 0) (opening : PageBytes) (relations counters : ℕ) (o n : Operations D) (s : OpScope) (c : PageChange)
     (right : IsRight seen may_leave opening relations counters o) (k : IsUnderWay relations counters (world seen opening o) s) (stage : (s.stage ≡ Writing) ⊎ (s.stage ≡ Taking))

@@ -1,25 +1,28 @@
 -- The store moves below the operations: their worlds, and what is kept of them all.
-use Rattle.std.proofs.Common.{◌≡◌, ◌≢◌, inl, ℕ, ◌≤◌, ◌<◌, List, [], ◌∷◌, ◌++◌, length, refl, sym, ap, ◌∙◌, subst, arith}
-use Rattle.std.specs.Prelude.{Result, Ok, Err, OnOk, OnErr}
-use Rattle.std.proofs.lemmas.List.Elements.{All-nil}
+use Rattle.std.proofs.Common.{◌≡◌, ◌≢◌, inl, ℕ, ◌≤◌, ◌<◌, List, [], ◌∷◌, ◌++◌, length, refl, sym, ap, ◌∙◌, subst, arith, eq-eqb}
+use Rattle.std.specs.Prelude.{Bool, if◌then◌else◌, Result, Ok, Err, OnOk, OnErr}
+use Rattle.std.specs.List.{AllByRecursion}
+use Rattle.std.proofs.lemmas.List.Elements.{All-nil, recursion_from_All}
 use Rattle.mt_frame.specs.declared.records.Record.{Record}
+use Rattle.mt_frame.specs.declared.records.Record.TheVariants.{Page, OpEnd, OpDropped, Commit, AbortEnd}
 use Rattle.mt_frame.specs.History.{txn_of}
 use Rattle.mt_log.specs.Words.{appended}
 use Rattle.mt_file.specs.Rooms.{AreRooms}
 use Rattle.mt_plock.specs.Holding.{AreTogether}
 use Rattle.mt_space.specs.Changes.{PageBytes}
-use Rattle.mt_pool.specs.Kept.{IsKept, carried}
-use Rattle.mt_pool.specs.Views.{view, pages, waits_for}
+use Rattle.mt_pool.specs.Kept.{IsKept}
+use Rattle.mt_pool.specs.Views.{view, pages}
 use Rattle.mt_pool.specs.declared.pool.Pool.{Pool}
 use Rattle.mt_pool.specs.declared.store.Store.{Store}
 use Rattle.mt_slots.specs.Page.{IsShaped}
 use Rattle.mt_space.specs.Kinds.{kind}
-use Rattle.mt_space.specs.Rooms.{mapped, reserved_of}
+use Rattle.mt_space.specs.Rooms.{mapped, free_of, reserved_of}
 use Rattle.mt_steps.specs.Plans.{IsGood}
-use Rattle.mt_steps.specs.Repeated.{held, logged}
-use Rattle.mt_op.specs.World.{World, held_in, IsCovered, IsWorld, IsUnderWay}
+use Rattle.mt_steps.specs.Repeated.{Repeated, changed, repeated, repeat, held}
+use Rattle.mt_op.specs.World.{World, repeated_in, held_in, IsCovered, IsWorld, IsUnderWay}
 use Rattle.mt_op.specs.Moves.{Rests, Notes, EndsTxn}
-use Rattle.mt_op.specs.Operations.{world, IsRight, claimed}
+use Rattle.mt_op.specs.Begun.{AreImages, ShowsOpening}
+use Rattle.mt_op.specs.Operations.{world, IsRight}
 use Rattle.mt_op.specs.declared.operations.Operations.{Operations}
 use Rattle.mt_op.specs.declared.scope.OpScope.{OpScope}
 use Rattle.mt_op.proofs.Staying.{world_of, rests_own, rests_held}
@@ -64,53 +67,65 @@ module _ {D : Type 0} (seen : D → List ℕ) (may_leave : D → List ℕ → Ty
   others_appended (Ok a) ok err ends u k other = others_note relations counters w z (txn_of r) r (notes ok) ends u k other
   others_appended (Err why) ok err ends u k other = rests_own relations counters w z u (rests err) k
 
--- ---- the index of rooms says something else of a page
+-- ---- no record but images is in the log
 
--- ---- no record is in the log yet
+-- nothing is unfinished over these pages
+abbrev idle : PageBytes → Repeated
+idle pages = record { pages = pages; unfinished = [] }
+
+image_idle : (pages : PageBytes) (r : Record) → txn_of r ≡ 0 → repeated (idle pages) r ≡ idle pages
+image_idle pages (Page txn op page image start old new) none =
+    ap (λ (b : Bool). if b then idle pages else changed (idle pages) (record { op = op; page = page; start = start; old = old; new = new } ∷ [])) (eq-eqb txn 0 none)
+image_idle pages (OpEnd txn op undoes done) none = refl
+image_idle pages (OpDropped txn op) none = refl
+image_idle pages (Commit txn) none = refl
+image_idle pages (AbortEnd txn) none = refl
+
+images_idle : (pages : PageBytes) (rs : List Record) → AllByRecursion (λ (r : Record). txn_of r ≡ 0) rs → repeat (idle pages) rs ≡ idle pages
+images_idle pages [] none = refl
+images_idle pages (r ∷ rs) none = ap (λ (x : Repeated). repeat x rs) (image_idle pages r none.0) ∙ images_idle pages rs none.1
+
+unlogged_repeated : (w : World) → AreImages w.records → repeated_in w ≡ idle w.opening
+unlogged_repeated w none = images_idle w.opening w.records (recursion_from_All (λ (r : Record). txn_of r ≡ 0) w.records none)
 
 -- the pages held are those of the opening
-pub unlogged_held : (w : World) → w.records ≡ [] → held_in w ≡ w.opening
-unlogged_held w none = ap (λ (rs : List Record). held (logged w.opening rs)) none
+pub unlogged_held : (w : World) → AreImages w.records → held_in w ≡ w.opening
+unlogged_held w none = ap held (unlogged_repeated w none)
 
-pub unlogged_world : (relations counters : ℕ) (w : World) → w.records ≡ [] → w.locks ≡ [] → ((p : ℕ) → p < w.total → w.present p ≡ w.opening p) → IsGood relations counters w.total w.opening → IsWorld relations counters w
+pub unlogged_world : (relations counters : ℕ) (w : World) → AreImages w.records → w.locks ≡ [] → ((p : ℕ) → p < w.total → w.present p ≡ w.opening p) → IsGood relations counters w.total w.opening → IsWorld relations counters w
 unlogged_world relations counters w none free same good =
-    world_of relations counters w w (record { pages = w.opening; unfinished = [] }) refl (ap (logged w.opening) none) (record { apart = λ o p. inl refl; leads = λ p. refl })
+    world_of relations counters w w (idle w.opening) refl (unlogged_repeated w none) (record { apart = λ o p. inl refl; leads = λ p. refl })
     (λ p lt. inl (same p lt)) (All-nil (IsCovered w.locks)) (subst AreTogether (sym free) (λ i j d lt within. absurd (omega arith))) good
 
-module _ {D : Type 0} (seen : D → List ℕ) (may_leave : D → List ℕ → Type 0) (opening : PageBytes) where
-  -- and what shows are they
-  pub unlogged_shows : (s : Store D) → IsKept seen may_leave opening s → appended s.log ≡ [] → (p : ℕ) → p < pages s.pool → view s.pool (seen s.device) p ≡ opening p
-  unlogged_shows s kept none p inside =
-      let within : waits_for s.pool p ≤ length (carried (appended s.log)) = kept.tied.within p inside in
-      let no : length (carried (appended s.log)) ≡ 0 = ap (λ (rs : List Record). length (carried rs)) none in
-      (kept.tied.untouched p inside (omega arith)).1
-
+module _ {D : Type 0} (seen : D → List ℕ) (opening : PageBytes) (relations counters : ℕ) (s : Store D) (good : IsGood relations counters (pages s.pool) opening) (shows : ShowsOpening seen opening s) where
   -- a page of records that shows is well formed
-  pub unlogged_shaped : (relations counters : ℕ) (s : Store D) → IsKept seen may_leave opening s → appended s.log ≡ [] → IsGood relations counters (pages s.pool) opening → (p : ℕ) → p < pages s.pool → kind opening p ≡ 3 → IsShaped (view s.pool (seen s.device) p)
-  unlogged_shaped relations counters s kept none good p inside records = subst IsShaped (sym (unlogged_shows s kept none p inside)) (good.rows.file.each p records)
+  pub unlogged_shaped : (p : ℕ) → p < pages s.pool → kind opening p ≡ 3 → IsShaped (view s.pool (seen s.device) p)
+  unlogged_shaped p inside records = subst IsShaped (sym (shows p inside)) (good.rows.file.each p records)
 
-  -- the map that shows is that of the opening, and whole
-  pub unlogged_map : (relations counters : ℕ) (s : Store D) → IsKept seen may_leave opening s → appended s.log ≡ [] → IsGood relations counters (pages s.pool) opening → view s.pool (seen s.device) 0 ≡ opening 0
-  unlogged_map relations counters s kept none good =
-      let fixed : kind opening 0 ≡ 1 = good.rows.index.space_fixed in
-      unlogged_shows s kept none 0 (good.rows.index.within 0 (λ free. let is : 1 ≡ 0 = sym fixed ∙ free in cc))
+  -- the map is a page
+  pub unlogged_inside : 0 < pages s.pool
+  unlogged_inside = let fixed : kind opening 0 ≡ 1 = good.rows.index.space_fixed in good.rows.index.within 0 (λ free. let is : 1 ≡ 0 = sym fixed ∙ free in cc)
 
-  pub unlogged_whole : (relations counters : ℕ) (s : Store D) → IsKept seen may_leave opening s → appended s.log ≡ [] → IsGood relations counters (pages s.pool) opening → length (view s.pool (seen s.device) 0) ≡ 4096
-  unlogged_whole relations counters s kept none good = ap (λ (bytes : List ℕ). length bytes) (unlogged_map relations counters s kept none good) ∙ good.rows.file.whole
+  -- that shows as it was at the opening, and is whole
+  pub unlogged_map : view s.pool (seen s.device) 0 ≡ opening 0
+  unlogged_map = shows 0 unlogged_inside
 
-  -- all is right where none is under way
-  pub unlogged_right : (relations counters : ℕ) (o : Operations D) → IsKept seen may_leave opening o.store → appended o.store.log ≡ [] → o.locks ≡ [] → o.map.kinds ≡ opening 0 → o.map.space.0 ≡ mapped o.map.kinds (pages o.store.pool) → claimed o ≡ 0 → length o.rooms.0 ≡ pages o.store.pool → AreRooms o.rooms.0 opening
-      → IsGood relations counters (pages o.store.pool) opening → IsRight seen may_leave opening relations counters o
-  unlogged_right relations counters o kept none free map space unclaimed rooms noted good =
-      let w = world seen opening o in
-      let shows = unlogged_shows o.store kept none in
-      let kinds : o.map.kinds ≡ held_in w 0 = map ∙ ap (λ (f : PageBytes). f 0) (sym (unlogged_held w none)) in
-      record {
-        kept = kept;
-        sound = unlogged_world relations counters w none free shows good;
-        map = kinds;
-        space = space ∙ ap (λ (bytes : List ℕ). mapped bytes (pages o.store.pool)) kinds;
-        claims = let zero : reserved_of o.map.space ≡ 0 = unclaimed in omega (arith, zero);
-        rooms = rooms;
-        noted = subst (AreRooms o.rooms.0) (sym (unlogged_held w none)) noted;
-      }
+  pub unlogged_whole : length (view s.pool (seen s.device) 0) ≡ 4096
+  unlogged_whole = ap (λ (bytes : List ℕ). length bytes) unlogged_map ∙ good.rows.file.whole
+
+-- all is right where none is under way
+pub unlogged_right : {D : Type 0} (seen : D → List ℕ) (may_leave : D → List ℕ → Type 0) (opening : PageBytes) (relations counters : ℕ) (o : Operations D) → IsKept seen may_leave opening o.store → AreImages (appended o.store.log)
+    → ShowsOpening seen opening o.store → o.locks ≡ [] → o.map.kinds ≡ opening 0 → o.map.space.0 ≡ mapped o.map.kinds (pages o.store.pool) → reserved_of o.map.space ≤ free_of o.map.space → length o.rooms.0 ≡ pages o.store.pool → AreRooms o.rooms.0 opening
+    → IsGood relations counters (pages o.store.pool) opening → IsRight seen may_leave opening relations counters o
+unlogged_right seen may_leave opening relations counters o kept none shows free map space claims rooms noted good =
+    let w = world seen opening o in
+    let kinds : o.map.kinds ≡ held_in w 0 = map ∙ ap (λ (f : PageBytes). f 0) (sym (unlogged_held w none)) in
+    record {
+      kept = kept;
+      sound = unlogged_world relations counters w none free shows good;
+      map = kinds;
+      space = space ∙ ap (λ (bytes : List ℕ). mapped bytes (pages o.store.pool)) kinds;
+      claims = claims;
+      rooms = rooms;
+      noted = subst (AreRooms o.rooms.0) (sym (unlogged_held w none)) noted;
+    }

@@ -16,9 +16,8 @@ use Rattle.mt_steps.specs.declared.draft.PageCopy.{PageCopy}
 use Rattle.mt_steps.proofs.Drafting.{copied_append, some_value, test_yes}
 use Rattle.mt_steps.specs.Plans.{IsGood, InPages, IsTight, free_pages, own_needs, record_bytes}
 use Rattle.mt_op.specs.World.{World, held_in, looked, changes_in, IsWorld, IsUnderWay}
-use Rattle.mt_op.specs.Operations.{GoesOn}
 use Rattle.mt_op.specs.Holds.{Stays, Holds, IsAnew, IsHeld}
-use Rattle.mt_op.specs.Work.{IsGoing, ComesTo, sum_below, writes, is_written, steps_for, work_at, work_of, Works, WorksOn}
+use Rattle.mt_op.specs.Work.{sum_below, writes, is_written, steps_for, work_at, work_of, Works, WorksOn}
 use Rattle.mt_op.specs.declared.answers.Stepped.{Stepped}
 use Rattle.mt_op.specs.declared.answers.Stepped.TheVariants as stepped
 use Rattle.mt_op.specs.declared.scope.OpScope.{OpScope}
@@ -245,30 +244,20 @@ unlocked_works w z s t p mode (Ok stepped.Flush) not h planning = absurd h
 unlocked_works w z s t p mode (Ok (stepped.Ready first second)) not h planning = absurd h
 unlocked_works w z s t p mode (Err why) not h planning = let e = stays_work s t planning h.1 in omega arith
 
-own_guards : (relations counters : ℕ) (w : World) (s : OpScope) → IsUnderWay relations counters w s → All (λ (l : PageLock). l.op ≡ s.number) s.guards.items
-own_guards relations counters w s k =
-    subst (All (λ (l : PageLock). l.op ≡ s.number)) k.locks
+own_guards : (w : World) (s : OpScope) → locks_of s.number w.locks ≡ s.guards.items → All (λ (l : PageLock). l.op ≡ s.number) s.guards.items
+own_guards w s locks =
+    subst (All (λ (l : PageLock). l.op ≡ s.number)) locks
     (All-weaker (λ (l : PageLock). (l.op == s.number) ≡ true) (λ (l : PageLock). l.op ≡ s.number) (λ l is. eqb-true l.op s.number is) (locks_of s.number w.locks) (filter_passes (λ (l : PageLock). l.op == s.number) w.locks))
 
 -- whatever is answered where a page is asked for that it had looked at and not locked to write
-pub upgrade_works : (relations counters : ℕ) (w z : World) (s t : OpScope) (p : ℕ) (r : Result Stepped Refusal) → IsHeld w z s t p Write r → s.stage ≡ Planning → IsSome (looked s p)
-    → (Contains s.guards.items (lock_of s.number p Write) → ⊥) → IsUnderWay relations counters w s → Works s t r
-upgrade_works relations counters w z s t p r held planning some none k = answered r held
+pub upgrade_works : (w z : World) (s t : OpScope) (p : ℕ) (r : Result Stepped Refusal) → IsHeld w z s t p Write r → s.stage ≡ Planning → IsSome (looked s p)
+    → (Contains s.guards.items (lock_of s.number p Write) → ⊥) → locks_of s.number w.locks ≡ s.guards.items → p < s.seen.total → Works s t r
+upgrade_works w z s t p r held planning some none locks inside = answered r held
   where
     answered : (r : Result Stepped Refusal) → IsHeld w z s t p Write r → Works s t r
-    answered (Ok stepped.Went) h = upgrades_work s t p planning h.1 some (unwritten s.guards.items s.number p (own_guards relations counters w s k) none) (subst (λ (n : ℕ). p < n) (sym k.total) (k.inside p some))
+    answered (Ok stepped.Went) h = upgrades_work s t p planning h.1 some (unwritten s.guards.items s.number p (own_guards w s locks) none) inside
     answered (Ok (stepped.Wait holder)) h = let e = stays_work s t planning h.1 in omega arith
     answered (Ok (stepped.Again holder)) h = anew_work s t planning h.1
     answered (Ok stepped.Flush) h = absurd h
     answered (Ok (stepped.Ready first second)) h = absurd h
     answered (Err why) h = let e = stays_work s t planning h.1 in omega arith
-
--- ---- the stage behind a step
-
-pub comes_on : (relations counters : ℕ) (w z : World) (s t : OpScope) (r : Result Stepped Refusal) → GoesOn relations counters w z s t r → IsGoing t.stage → ComesTo t.stage r
-comes_on relations counters w z s t (Ok (stepped.Ready first second)) goes to = absurd goes
-comes_on relations counters w z s t (Ok stepped.Went) goes to = to
-comes_on relations counters w z s t (Ok (stepped.Wait holder)) goes to = to
-comes_on relations counters w z s t (Ok (stepped.Again holder)) goes to = to
-comes_on relations counters w z s t (Ok stepped.Flush) goes to = to
-comes_on relations counters w z s t (Err why) goes to = to

@@ -1,4 +1,6 @@
 -- A store writes a change of an operation: what is kept of all operations.
+use Rattle.std.proofs.Props.{props}
+use mathlib.Core.Logic.{∥∥₁_elim}
 use Rattle.std.proofs.Common.{◌≡◌, ◌≢◌, ◌<◌, ◌+◌, ℕ, List, ◌++◌, length, get_or, refl, ap, ◌∙◌}
 use Rattle.mt_base.specs.Edits.{patched}
 use Rattle.mt_log.specs.Words.{appended}
@@ -11,7 +13,7 @@ use Rattle.mt_space.specs.declared.changes.PageChange.{PageChange}
 use Rattle.mt_pool.specs.declared.store.Store.{Store}
 use Rattle.mt_op.specs.World.{World, IsWorld, IsUnderWay, changes_in}
 use Rattle.mt_op.specs.Moves.{Rests, Writes, SamePlan}
-use Rattle.mt_op.specs.Operations.{world, IsRight, Goes}
+use Rattle.mt_op.specs.Operations.{world, IsRight, IsOneOf, Goes}
 use Rattle.mt_op.specs.declared.operations.Operations.{Operations}
 use Rattle.mt_op.specs.declared.scope.OpScope.{OpScope}
 use Rattle.mt_op.specs.declared.scope.Stage.TheVariants.{Writing}
@@ -42,10 +44,10 @@ writes_goes relations counters w z s t c m h k stage more is same is_writing wri
 module _ {D : Type 0} (seen : D → List ℕ) (may_leave : D → List ℕ → Type 0) where
   -- the next change is short in the page as it shows
   pub next_short : (o : Operations D) (s : OpScope) (c : PageChange)
-      → (opening : PageBytes) × (relations : ℕ) × (counters : ℕ) × IsRight seen may_leave opening relations counters o × IsUnderWay relations counters (world seen opening o) s
+      → IsOneOf seen may_leave o s
       → s.stage ≡ Writing → s.written < length (changes_in s) → c ≡ get_or (changes_in s) s.written c → IsShort (view o.store.pool (seen o.store.device) c.page) c
-  next_short o s c known stage more is =
-      let (opening, relations, counters, right, k) = known in (next_is_short relations counters (world seen opening o) s c right.sound k stage more is).0
+  next_short o s c one stage more is = ∥∥₁_elim one (hlevel props) (λ (opening, relations, counters, right, k).
+      (next_is_short relations counters (world seen opening o) s c right.sound k stage more is).0)
 
   -- it is written in a frame, and logged
   pub store_writes : (opening : PageBytes) (o : Operations D) (n : Store D) (s : OpScope) (c : PageChange) → n.device ≡ o.store.device → n.pool.of_page ≡ o.store.pool.of_page

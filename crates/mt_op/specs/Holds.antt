@@ -1,5 +1,5 @@
 -- What asking for a page lock does to an operation.
-use Rattle.std.specs.Prelude.{◌≡◌, ◌⊎◌, ◌<◌, ◌≤◌, ◌++◌, ◌∷◌, [], ℕ, List, Option, None, Some, IsSome, Result, Ok, Err, Contains, true}
+use Rattle.std.specs.Prelude.{◌≡◌, ◌⊎◌, ◌<◌, ◌≤◌, ◌++◌, ◌∷◌, [], ℕ, List, Option, None, Some, IsSome, Result, Ok, Err, Contains, true, false}
 use Rattle.mt_base.specs.declared.modes.Mode.{Mode}
 use Rattle.mt_base.specs.declared.modes.Mode.TheVariants.{Read, Write}
 use Rattle.mt_base.specs.declared.refusal.Refusal.{Refusal}
@@ -10,7 +10,7 @@ use Rattle.mt_plock.specs.declared.guards.PageLock.{PageLock}
 use Rattle.mt_plock.specs.Releasing.{locks_without}
 use Rattle.mt_space.specs.Changes.{IsUntouched}
 use Rattle.mt_space.specs.declared.changes.PageChange.{PageChange}
-use Rattle.mt_steps.specs.Plans.{InPages, IsPlanned}
+use Rattle.mt_steps.specs.Plans.{InPages, IsPlanned, AsksCounters, AsksRow}
 use Rattle.mt_op.specs.World.{World, looked}
 use Rattle.mt_op.specs.Moves.{SameOp, SamePlan, Locks, Rests, Leaves}
 use Rattle.mt_op.specs.Operations.{only_reads}
@@ -67,11 +67,20 @@ pub record IsMade (s t : OpScope) : Type 0 where
 
 -- ---- what it asks for
 
--- a page that it has not looked at; where it only reads, to read it
+-- what its plan asks for
+abbrev pub IsAsked : OpScope → ℕ → Mode → Type 0
+IsAsked s p mode = AsksCounters s.op p mode × AsksRow (looked s) s.seen.total s.op p mode
+
+-- It puts a record, and its plan asks for the space map: a page of records is tried first, to write it.
+abbrev pub IsTried : OpScope → Mode → Type 0
+IsTried s mode = ((first : Mode) × IsAsked s 0 first) × (mode ≡ Write) × (only_reads s.op ≡ false)
+
+-- a page that it has not looked at, and that its plan asks for, or one that is tried first; where it only reads, to read it
 pub record IsToLook (s : OpScope) (p : ℕ) (mode : Mode) : Type 0 where
   pub new : looked s p ≡ None
   pub inside : p < s.seen.total
   pub reads : only_reads s.op ≡ true → mode ≡ Read
+  pub asked : IsAsked s p mode ⊎ IsTried s mode
 
 -- a page that it has looked at and not locked to write, and that its plan changes: to write it
 pub record IsToWrite (s : OpScope) (p : ℕ) (mode : Mode) : Type 0 where

@@ -4,6 +4,7 @@ pub mod Moves
 pub mod Records
 pub mod Operations
 pub mod Holds
+pub mod Begun
 pub mod Room
 pub mod Driven
 pub mod Work

@@ -49,6 +49,17 @@ pub record IsRight {D : Type 0} (seen : D → List ℕ) (may_leave : D → List 
   pub rooms : length o.rooms.0 ≡ pages o.store.pool
   pub noted : AreRooms o.rooms.0 (held_in (world seen opening o))
 
+-- The operation is one of those under way, for some pages as they were when the area began and some schema.
+abbrev pub IsOneOf : {D : Type 0} → (D → List ℕ) → (D → List ℕ → Type 0) → Operations D → OpScope → Type 0
+IsOneOf seen may_leave o s =
+    ∥ ((opening : PageBytes) × (relations : ℕ) × (counters : ℕ) × IsRight seen may_leave opening relations counters o × IsUnderWay relations counters (world seen opening o) s) ∥₁
+
+-- the same of a schema within its limits
+abbrev pub IsOneWithin : {D : Type 0} → (D → List ℕ) → (D → List ℕ → Type 0) → Operations D → OpScope → Type 0
+IsOneWithin seen may_leave o s =
+    ∥ ((opening : PageBytes) × (relations : ℕ) × (counters : ℕ) × IsRight seen may_leave opening relations counters o × IsUnderWay relations counters (world seen opening o) s
+    × (relations ≤ 64) × (counters ≤ 128)) ∥₁
+
 -- ---- log bytes
 
 -- what IsReading says, as a test, since the bytes that are kept are chosen by it

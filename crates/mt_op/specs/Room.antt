@@ -1,10 +1,9 @@
 -- What the index of rooms says of the pages that an operation looked at.
 use Rattle.std.specs.Prelude.{◌≡◌, ◌≢◌, ℕ, List, length, Any, get_or, IsSome}
 use Rattle.mt_file.specs.Rooms.{fits_of, AreRooms}
-use Rattle.mt_pool.specs.Kept.{IsKept}
-use Rattle.mt_pool.specs.Views.{pages}
 use Rattle.mt_space.specs.Changes.{PageBytes, after}
 use Rattle.mt_op.specs.World.{looked, changes_in}
+use Rattle.mt_op.specs.Begun.{HasRead, ShowsOpening}
 use Rattle.mt_op.specs.declared.operations.Operations.{Operations}
 use Rattle.mt_op.specs.declared.scope.OpScope.{OpScope}
 
@@ -17,13 +16,11 @@ pub record IsRoom (kind : ℕ) (bytes : List ℕ) (room : ℕ) : Type 0 where
 abbrev pub HasRooms : OpScope → List ℕ → List ℕ → PageBytes → Type 0
 HasRooms s map rooms pages = (p : ℕ) → IsSome (looked s p) → Any (λ l. l.page ≡ p) s.guards.items → IsRoom (get_or map p 0) (after (changes_in s) pages p) (get_or rooms p 0)
 
--- What each page of records takes is noted, over a store whose log has no record, and nothing else has changed but frames.
+-- What each page of records takes is noted, and nothing else has changed but frames.
 pub record HasNoted {D : Type 0} (seen : D → List ℕ) (may_leave : D → List ℕ → Type 0) (failures : D → ℕ) (o n : Operations D) : Type 0 where
-  pub kept : (opening : PageBytes) → IsKept seen may_leave opening o.store → IsKept seen may_leave opening n.store
-  pub noted : (opening : PageBytes) → IsKept seen may_leave opening o.store → o.map.kinds ≡ opening 0 → AreRooms n.rooms.0 opening
+  pub read : HasRead seen may_leave o.store n.store
+  pub noted : (opening : PageBytes) → ShowsOpening seen opening o.store → o.map.kinds ≡ opening 0 → AreRooms n.rooms.0 opening
   pub size : length n.rooms.0 ≡ length o.rooms.0
   pub locks : n.locks ≡ o.locks
   pub map : n.map ≡ o.map
-  pub log : n.store.log ≡ o.store.log
-  pub pages : pages n.store.pool ≡ pages o.store.pool
   pub faults : failures n.store.device ≡ failures o.store.device

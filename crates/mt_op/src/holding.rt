@@ -4,9 +4,9 @@ ghost use Rattle.mt_base.specs.declared.refusal.Refusal.{Refusal};
 ghost use Rattle.mt_pool.specs.Views.{IsThere, IsFull, pages};
 ghost use Rattle.mt_base.specs.declared.modes.Mode.TheVariants.{Write};
 ghost use Rattle.mt_disk.specs.Disk.{LeavesOnly, HasCause};
-ghost use Rattle.mt_pool.specs.Kept.{IsKept, Explains};
+ghost use Rattle.mt_pool.specs.Kept.{IsKept, HasOpening, Explains};
 ghost use Rattle.mt_op.specs.World.{IsUnderWay, looked};
-ghost use Rattle.mt_op.specs.Operations.{IsRight, GoesOn, IsAsFar};
+ghost use Rattle.mt_op.specs.Operations.{IsRight, IsOneOf, GoesOn, IsAsFar};
 ghost use Rattle.mt_op.specs.declared.scope.Stage.TheVariants.{Planning};
 ghost use Rattle.mt_op.specs.declared.answers.Stepped.TheVariants as stepped;
 ghost use Rattle.mt_plock.specs.Releasing.{locks_of};
@@ -30,7 +30,7 @@ use std::mem::replace;
 impl<D: Device> Operations<D> {
     // Brings a page into a frame; `false` where every frame holds a page that is yet to be flushed.
     pub(crate) fn bring(&mut self, page: PageNo) -> Result<bool, Refusal>
-        requires kept { (opening : PageBytes) × IsKept D.seen D.may_leave opening self.old.store }
+        requires kept { HasOpening D.seen D.may_leave self.old.store }
         requires inside { page < pages self.old.store.pool }
         ensures right { (opening : PageBytes) (relations counters : ℕ)
             → IsRight D.seen D.may_leave opening relations counters self.old
@@ -48,6 +48,7 @@ impl<D: Device> Operations<D> {
         ensures map { self.new.map ≡ self.old.map }
         ensures rooms { self.new.rooms ≡ self.old.rooms }
         ensures waits { self.new.store.pool.waits ≡ self.old.store.pool.waits }
+        ensures flush { self.new.store.pool.dirty ≡ self.old.store.pool.dirty }
         ensures only_device { IfErr result (λ why. why ≡ Refusal.DeviceFailed) }
         ensures cause { HasCause (D.faults self.old.store.device) (D.faults self.new.store.device) result }
     {
@@ -100,9 +101,7 @@ impl<D: Device> Operations<D> {
         mode: Mode,
         room: Option<PageNo>,
     ) -> Result<Stepped, Refusal>
-        requires right { (opening : PageBytes) × (relations : ℕ) × (counters : ℕ)
-            × IsRight D.seen D.may_leave opening relations counters self.old
-            × IsUnderWay relations counters (world D.seen opening self.old) scope.old }
+        requires right { IsOneOf D.seen D.may_leave self.old scope.old }
         requires planning { scope.old.stage ≡ Planning }
         requires next { IsToLook scope.old page mode }
         requires led { (room ≡ scope.old.room)
@@ -124,9 +123,7 @@ impl<D: Device> Operations<D> {
         mode: Mode,
         room: Option<PageNo>,
     ) -> Result<Stepped, Refusal>
-        requires right { (opening : PageBytes) × (relations : ℕ) × (counters : ℕ)
-            × IsRight D.seen D.may_leave opening relations counters self.old
-            × IsUnderWay relations counters (world D.seen opening self.old) scope.old }
+        requires right { IsOneOf D.seen D.may_leave self.old scope.old }
         requires planning { scope.old.stage ≡ Planning }
         requires next { IsToLook scope.old page mode }
         requires led { (room ≡ scope.old.room)
@@ -158,9 +155,7 @@ impl<D: Device> Operations<D> {
 
     // Locks a page that the operation has looked at, to write it.
     pub(crate) fn upgrade(&mut self, scope: &mut OpScope, page: PageNo) -> Result<Stepped, Refusal>
-        requires right { (opening : PageBytes) × (relations : ℕ) × (counters : ℕ)
-            × IsRight D.seen D.may_leave opening relations counters self.old
-            × IsUnderWay relations counters (world D.seen opening self.old) scope.old }
+        requires right { IsOneOf D.seen D.may_leave self.old scope.old }
         requires planning { scope.old.stage ≡ Planning }
         requires next { IsToWrite scope.old page Write }
         ensures goes { (opening : PageBytes) (relations counters : ℕ)

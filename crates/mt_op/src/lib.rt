@@ -9,6 +9,7 @@
 mod answers;
 mod holding;
 mod operations;
+mod parting;
 mod planning;
 mod scope;
 mod space_map;
@@ -16,5 +17,6 @@ mod stepping;
 mod undoing;
 
 pub use answers::{Stepped, TakenBack};
-pub use operations::Operations;
+pub use operations::{NotOpened, Operations};
+pub use parting::Idle;
 pub use scope::{OpScope, Stage};

@@ -7,13 +7,14 @@ ghost use Rattle.mt_frame.specs.Lengths.{record_length};
 ghost use Rattle.mt_log.specs.Words.{appended, durable, used, area_size, has_failed, IsStep};
 ghost use Rattle.mt_model.specs.Model.{IsWithin};
 ghost use Rattle.mt_space.specs.Changes.{PageBytes};
-ghost use Rattle.mt_pool.specs.Kept.{IsKept, Explains};
+ghost use Rattle.mt_pool.specs.Kept.{IsKept, HasOpening, Explains};
 ghost use Rattle.mt_pool.specs.Views.{IsPool, IsFull, IsWaiting, Cleans, pages, to_flush, waits_for};
 ghost use Rattle.mt_pool.specs.declared.flushing.Flushed.TheVariants as flushed;
 ghost use Rattle.mt_steps.specs.Plans.{IsGood, free_pages};
 ghost use Rattle.mt_op.specs.World.{IsUnderWay, IsFresh, held_in};
 ghost use Rattle.mt_op.specs.Moves.{Rests, Notes, EndsTxn};
-ghost use Rattle.mt_op.specs.Operations.{world, IsRight, HasBudget, only_reads, IsCause, claimed};
+ghost use Rattle.mt_op.specs.Operations.{world, IsRight, HasBudget, only_reads, claimed};
+ghost use Rattle.mt_op.specs.Begun.{AreImages, ShowsOpening, HasGoodOpening, HasRead, BeginsParts, store_after};
 ghost use Rattle.mt_op.specs.Room.{HasNoted};
 ghost use Rattle.mt_op.specs.Work.{work_of};
 ghost use Rattle.mt_op.specs.declared.scope.OpScope.{OpScope};
@@ -45,41 +46,66 @@ pub struct Operations<D: Device> {
     pub(crate) map: SpaceMap,
 }
 
+/// Operations that could not begin: why not, and the store that they were to have.
+#[derive(Drop)]
+pub struct NotOpened<D: Device> {
+    pub refusal: Refusal,
+    pub store: Store<D>,
+}
+
+/// The store is let go.
+impl<D: Device + Drop> From<NotOpened<D>> for Refusal {
+    ghost from_gives = { λ gone refusal. refusal ≡ gone.refusal };
+
+    fn from(gone: NotOpened<D>) -> Refusal {
+        let NotOpened { refusal, .. } = gone;
+        refusal
+    }
+}
+
 impl<D: Device + Drop> Operations<D> {
-    /// Operations over a store whose log has no record yet: none is under way. Each page of records is looked
-    /// at once, and it is noted how long a record it takes. The refusals are [`Refusal::NoMemory`] and
-    /// [`Refusal::DeviceFailed`].
-    pub fn new(alloc: Global, store: Store<D>) -> Result<Operations<D>, Refusal>
-        requires good { (opening : PageBytes) × (relations : ℕ) × (counters : ℕ)
-            × IsKept D.seen D.may_leave opening store × IsGood relations counters (pages store.pool) opening }
-        requires idle { appended store.log ≡ [] }
+    /// Operations over a store whose log has no record but the images that its area began with: none is under way.
+    /// Each page of records is looked at once, and it is noted how long a record it takes. Refusals are
+    /// [`Refusal::NoMemory`] and, where the device failed in this call, [`Refusal::DeviceFailed`]; each hands the
+    /// store back. Pages are read, and nothing is written or appended in any case.
+    pub fn new(alloc: Global, store: Store<D>) -> Result<Operations<D>, NotOpened<D>>
+        requires good { HasGoodOpening D.seen D.may_leave store }
+        requires images { AreImages (appended store.log) }
         requires free { IsFull store.pool → ⊥ }
         ensures right { (opening : PageBytes) (relations counters : ℕ) → IsKept D.seen D.may_leave opening store
-            → IsGood relations counters (pages store.pool) opening
+            → IsGood relations counters (pages store.pool) opening → ShowsOpening D.seen opening store
             → IfOk result (IsRight D.seen D.may_leave opening relations counters) }
         ensures locks { IfOk result (λ operations. operations.locks ≡ []) }
         ensures claimed { IfOk result (λ operations. claimed operations ≡ 0) }
-        ensures log { IfOk result (λ operations. operations.store.log ≡ store.log) }
-        ensures pages { IfOk result (λ operations. pages operations.store.pool ≡ pages store.pool) }
-        ensures why { IfErr result IsCause }
+        ensures read { HasRead D.seen D.may_leave store (store_after result) }
         ensures quiet { IfOk result (λ operations. D.faults operations.store.device ≡ D.faults store.device) }
+        ensures cause { IfErr result (λ gone. (gone.refusal ≡ Refusal.NoMemory)
+            ⊎ (gone.refusal ≡ Refusal.DeviceFailed) × (D.faults store.device < D.faults gone.store.device)) }
     {
         let mut store = store;
-        let count = store.pool.count();
-        let rooms = Rooms::of(alloc, count)?;
-        let map = match store.fetch(PageNo::new(MAP)) {
-            Ok(Fetched::There) => SpaceMap::of(alloc, store.pool.view(PageNo::new(MAP)), count)?,
-            Ok(Fetched::Flush) => unreachable!(),
-            Err(_) => return Err(Refusal::DeviceFailed),
+        let (rooms, map) = match first_parts(alloc, &mut store) {
+            Ok(parts) => parts,
+            Err(refusal) => return Err(NotOpened { refusal, store }),
         };
+        let locks = PageLocks::new(alloc);
         let mut operations = Operations {
             store,
-            locks: PageLocks::new(alloc),
+            locks,
             rooms,
             map,
         };
-        operations.note_rooms(count)?;
-        Ok(operations)
+        match operations.note_rooms() {
+            Ok(()) => Ok(operations),
+            Err(refusal) => {
+                let Operations {
+                    store,
+                    locks: _,
+                    rooms: _,
+                    map: _,
+                } = operations;
+                Err(NotOpened { refusal, store })
+            }
+        }
     }
 
     /// The device, for another opening. All that is under way is gone, and nothing of it is taken back.
@@ -209,7 +235,7 @@ impl<D: Device> Operations<D> {
     /// Appends the end of a transaction that has no operation under way: its commit, or the end of its abort.
     /// The pages held stay. The only refusal is [`Refusal::NoMemory`], and nothing is appended then.
     pub fn append(&mut self, entry: Record) -> Result<LogPos, Refusal>
-        requires kept { (opening : PageBytes) × IsKept D.seen D.may_leave opening self.old.store }
+        requires kept { HasOpening D.seen D.may_leave self.old.store }
         requires grammar { IsRecord entry }
         requires ends { EndsTxn (txn_of entry) entry }
         requires rules { may_stand false (appended self.old.store.log) entry ≡ true }
@@ -240,7 +266,7 @@ impl<D: Device> Operations<D> {
     /// A step of the log's force, as [`Store::force_step`] makes it: pages, locks and operations stay. The only
     /// refusal is [`Refusal::DeviceFailed`], where the device failed in this call or the log has failed before.
     pub fn force_step(&mut self) -> Result<Forced, Refusal>
-        requires kept { (opening : PageBytes) × IsKept D.seen D.may_leave opening self.old.store }
+        requires kept { HasOpening D.seen D.may_leave self.old.store }
         ensures right { (opening : PageBytes) (relations counters : ℕ)
             → IsRight D.seen D.may_leave opening relations counters self.old
             → IsRight D.seen D.may_leave opening relations counters self.new }
@@ -263,7 +289,7 @@ impl<D: Device> Operations<D> {
     /// Writes one page into its slot, as [`Store::flush_step`] does: pages, locks and operations stay. The only
     /// error is the device's.
     pub fn flush_step(&mut self) -> Result<Flushed, DeviceFault>
-        requires kept { (opening : PageBytes) × IsKept D.seen D.may_leave opening self.old.store }
+        requires kept { HasOpening D.seen D.may_leave self.old.store }
         ensures right { (opening : PageBytes) (relations counters : ℕ)
             → IsRight D.seen D.may_leave opening relations counters self.old
             → IsRight D.seen D.may_leave opening relations counters self.new }
@@ -288,17 +314,18 @@ impl<D: Device> Operations<D> {
     }
 
     // Notes what each page of records takes.
-    fn note_rooms(&mut self, count: u16) -> Result<(), Refusal>
-        requires kept { (opening : PageBytes) × (relations : ℕ) × (counters : ℕ)
+    fn note_rooms(&mut self) -> Result<(), Refusal>
+        requires good { ∥ ((opening : PageBytes) × (relations : ℕ) × (counters : ℕ)
             × IsKept D.seen D.may_leave opening self.old.store × IsGood relations counters (pages self.old.store.pool)
-            opening × (self.old.map.kinds ≡ opening 0) }
-        requires idle { appended self.old.store.log ≡ [] }
-        requires all { count ≡ pages self.old.store.pool }
+            opening × ShowsOpening D.seen opening self.old.store × (self.old.map.kinds ≡ opening 0)) ∥₁ }
         requires spare { IsFull self.old.store.pool → ⊥ }
-        requires blank { self.old.rooms.0 ≡ replicate count 0 }
+        requires blank { self.old.rooms.0 ≡ replicate (pages self.old.store.pool) 0 }
         ensures noted { OnOk result (HasNoted D.seen D.may_leave D.faults self.old self.new) }
+        ensures read { HasRead D.seen D.may_leave self.old.store self.new.store }
+        ensures failed { IsErr result → D.faults self.old.store.device < D.faults self.new.store.device }
         ensures only_device { IfErr result (λ why. why ≡ Refusal.DeviceFailed) }
     {
+        let count = self.store.pool.count();
         for number in 0..count {
             let page = PageNo::new(number);
             if self.map.kinds[usize::from(number)] == RECORDS && self.bring(page)? {
@@ -338,4 +365,26 @@ fn reads_only(op: &Op) -> bool
     ensures { result ≡ only_reads op.now }
 {
     matches!(op, Op::Get(_, _) | Op::Read(_))
+}
+
+// What each page of records takes, where none was looked at, and the map of the space.
+fn first_parts<D: Device>(alloc: Global, store: &mut Store<D>) -> Result<(Rooms, SpaceMap), Refusal>
+    requires good { HasGoodOpening D.seen D.may_leave store.old }
+    requires free { IsFull store.old.pool → ⊥ }
+    ensures begins { IfOk result (λ parts. BeginsParts D.seen store.old parts.0 parts.1) }
+    ensures read { HasRead D.seen D.may_leave store.old store.new }
+    ensures quiet { IsOk result → D.faults store.new.device ≡ D.faults store.old.device }
+    ensures cause { IfErr result (λ why. (why ≡ Refusal.NoMemory) ⊎ (why ≡ Refusal.DeviceFailed)
+        × (D.faults store.old.device < D.faults store.new.device)) }
+{
+    let count = store.pool.count();
+    let rooms = Rooms::of(alloc, count)?;
+    match store.fetch(PageNo::new(MAP)) {
+        Ok(Fetched::There) => {
+            let map = SpaceMap::of(alloc, store.pool.view(PageNo::new(MAP)), count)?;
+            Ok((rooms, map))
+        }
+        Ok(Fetched::Flush) => unreachable!(),
+        Err(_) => Err(Refusal::DeviceFailed),
+    }
 }

@@ -12,8 +12,8 @@ ghost use Rattle.mt_pool.specs.Kept.{IsKept, Explains};
 ghost use Rattle.mt_pool.specs.Views.{IsFull};
 ghost use Rattle.mt_steps.specs.Plans.{own_needs, free_pages, record_bytes as bytes_put, InPages, IsPlanned};
 ghost use Rattle.mt_op.specs.World.{IsUnderWay, looked, held_in};
-ghost use Rattle.mt_op.specs.Operations.{world, IsRight, Steps, GivesBack, IsPlannedOn, HasBudget, only_reads, IsCause, claimed};
-ghost use Rattle.mt_op.specs.Holds.{IsNext, IsToLook, KeepsLocks, KeepsLocksOn, KeepsScope, KeepsScopeOn};
+ghost use Rattle.mt_op.specs.Operations.{world, IsRight, IsOneOf, IsOneWithin, Steps, GivesBack, IsPlannedOn, HasBudget, only_reads, IsCause, claimed};
+ghost use Rattle.mt_op.specs.Holds.{IsNext, IsAsked, IsToLook, KeepsLocks, KeepsLocksOn, KeepsScope, KeepsScopeOn};
 ghost use Rattle.mt_op.specs.Stepping.{GoesAhead, LocksPage, PlansOn};
 ghost use Rattle.mt_op.specs.Records.{KeepsRecords};
 ghost use Rattle.mt_op.specs.Work.{Works, WorksOn, ComesTo};
@@ -39,10 +39,14 @@ impl<D: Device> Operations<D> {
     ///
     /// [`Stepped::Wait`], [`Stepped::Flush`] and the refusals change nothing of pages, locks and log, and of the operation
     /// nothing but that its plan may be made, where it is not to wait; [`Stepped::Again`] gives the operation's locks
-    /// back, so that it begins anew with its number. A lock is asked for on a page that the plan needs and that was not
-    /// looked at, by an operation that only reads to read it; or, to write it, on one that the plan changes. As many free pages
-    /// as the operation may take are to be claimed for it; with its end it has given them back. The
-    /// refusals are [`Refusal::NoMemory`] and, exactly where the device failed in this call, [`Refusal::DeviceFailed`].
+    /// back, so that it begins anew with its number. As many free pages as the operation may take are to be claimed for
+    /// it; with its end it has given them back. The refusals are [`Refusal::NoMemory`] and, exactly where the device
+    /// failed in this call, [`Refusal::DeviceFailed`].
+    ///
+    /// A lock is asked for on a page that the plan asks for and that was not looked at, by an operation that only reads
+    /// to read it. A row's operation looks for its key first: in the directory, to read it, and in the key's chain. Where
+    /// the plan asks for the space map, a page with room for the record may be tried first, to write it. Or a lock is
+    /// asked for, to write it, on a page that the plan changes.
     ///
     /// How many steps: over `n` pages an operation that nobody is in the way of is ready after at most `2 n + 9`
     /// of them. A step that answers [`Stepped::Went`] leaves less to do, [`Stepped::Again`] adds at most `2 n`
@@ -93,10 +97,7 @@ impl<D: Device> Operations<D> {
 
     // Writes the next page of the plan, or ends the operation.
     fn go_on(&mut self, alloc: Global, scope: &mut OpScope) -> Result<Stepped, Refusal>
-        requires right { (opening : PageBytes) × (relations : ℕ) × (counters : ℕ)
-            × IsRight D.seen D.may_leave opening relations counters self.old
-            × IsUnderWay relations counters (world D.seen opening self.old) scope.old × (relations ≤ 64)
-            × (counters ≤ 128) }
+        requires right { IsOneWithin D.seen D.may_leave self.old scope.old }
         requires claims { own_needs scope.old.op scope.old.split ≤ claimed self.old }
         requires writing { scope.old.stage ≡ Writing }
         requires budget { HasBudget scope.old }
@@ -144,11 +145,10 @@ impl<D: Device> Operations<D> {
         page: PageNo,
         mode: Mode,
     ) -> Result<Stepped, Refusal>
-        requires right { (opening : PageBytes) × (relations : ℕ) × (counters : ℕ)
-            × IsRight D.seen D.may_leave opening relations counters self.old
-            × IsUnderWay relations counters (world D.seen opening self.old) scope.old }
+        requires right { IsOneOf D.seen D.may_leave self.old scope.old }
         requires planning { scope.old.stage ≡ Planning }
         requires next { IsToLook scope.old page mode }
+        requires asked { IsAsked scope.old page mode }
         ensures { LocksPage D.seen D.may_leave D.moment D.left_since D.faults self.old self.new scope.old scope.new
             result }
     {
@@ -192,9 +192,7 @@ impl<D: Device> Operations<D> {
         changes: Changes,
         reply: Reply,
     ) -> Result<Option<Stepped>, Refusal>
-        requires right { (opening : PageBytes) × (relations : ℕ) × (counters : ℕ)
-            × IsRight D.seen D.may_leave opening relations counters self.old
-            × IsUnderWay relations counters (world D.seen opening self.old) scope.old }
+        requires right { IsOneOf D.seen D.may_leave self.old scope.old }
         requires planning { scope.old.stage ≡ Planning }
         requires there { AreAtHand (looked scope.old) changes.list.items }
         requires few { length changes.list.items ≤ 8 }

@@ -32,9 +32,9 @@ impl SpaceMap {
     // Gives the claim of an operation back that has ended, and follows its changes: of the pages that were claimed it
     // has taken no more than its own.
     pub(crate) fn settle(&mut self, changes: &Changes, claim: u16)
-        requires short { (pages : PageBytes) × (pages 0 ≡ self.old.kinds) × AreShort changes.now.list.items pages
-            × (length self.old.kinds ≡ 4096)
-            × (reserved_of self.old.space ≤ free_in (mapped (after changes.now.list.items pages 0) (length self.old.space.0)) + claim) }
+        requires short { ∥ ((pages : PageBytes) × (pages 0 ≡ self.old.kinds) × AreShort changes.now.list.items pages
+            × (length self.old.kinds ≡ 4096) × (reserved_of self.old.space
+            ≤ free_in (mapped (after changes.now.list.items pages 0) (length self.old.space.0)) + claim)) ∥₁ }
         requires claimed { claim ≤ reserved_of self.old.space }
         requires mapped { self.old.space.0 ≡ mapped self.old.kinds (length self.old.space.0) }
         ensures kinds { (pages : PageBytes) → pages 0 ≡ self.old.kinds → AreShort changes.now.list.items pages
@@ -51,8 +51,8 @@ impl SpaceMap {
 
     // Makes the changes that are of the map; `false` where none is.
     fn follow(&mut self, changes: &Changes) -> bool
-        requires short { (pages : PageBytes) × (pages 0 ≡ self.old.kinds) × AreShort changes.now.list.items pages
-            × (length self.old.kinds ≡ 4096) }
+        requires short { ∥ ((pages : PageBytes) × (pages 0 ≡ self.old.kinds) × AreShort changes.now.list.items pages
+            × (length self.old.kinds ≡ 4096)) ∥₁ }
         ensures kinds { (pages : PageBytes) → pages 0 ≡ self.old.kinds → AreShort changes.now.list.items pages
             → self.new.kinds ≡ after changes.now.list.items pages 0 }
         ensures whole { length self.new.kinds ≡ 4096 }

@@ -12,9 +12,9 @@ ghost use Rattle.mt_slots.specs.Page.{IsShaped};
 ghost use Rattle.mt_model.specs.Model.{IsWithin};
 ghost use Rattle.mt_steps.specs.Logged.{logged_of, HasSmallReply};
 ghost use Rattle.mt_steps.specs.Plans.{own_needs};
-ghost use Rattle.mt_pool.specs.Kept.{IsKept};
-ghost use Rattle.mt_op.specs.World.{IsUnderWay, looked, changes_in};
-ghost use Rattle.mt_op.specs.Operations.{world, IsRight, HasBudget, claimed};
+ghost use Rattle.mt_pool.specs.Kept.{IsKept, HasOpening};
+ghost use Rattle.mt_op.specs.World.{looked, changes_in};
+ghost use Rattle.mt_op.specs.Operations.{world, IsOneOf, IsOneWithin, HasBudget, claimed};
 ghost use Rattle.mt_op.specs.Stepping.{GoesAhead};
 ghost use Rattle.mt_op.specs.declared.scope.Stage.TheVariants.{Writing, Ready};
 ghost use Rattle.mt_op.specs.Room.{HasRooms};
@@ -41,9 +41,7 @@ impl<D: Device> Operations<D> {
         alloc: Global,
         scope: &mut OpScope,
     ) -> Result<Stepped, Refusal>
-        requires right { (opening : PageBytes) × (relations : ℕ) × (counters : ℕ)
-            × IsRight D.seen D.may_leave opening relations counters self.old
-            × IsUnderWay relations counters (world D.seen opening self.old) scope.old }
+        requires right { IsOneOf D.seen D.may_leave self.old scope.old }
         requires writing { scope.old.stage ≡ Writing }
         requires more { scope.old.written < length (changes_in scope.old) }
         requires budget { HasBudget scope.old }
@@ -62,9 +60,7 @@ impl<D: Device> Operations<D> {
 
     // The same of a page that is in a frame. Where memory is refused nothing has changed.
     fn write_there(&mut self, alloc: Global, scope: &mut OpScope) -> Result<Stepped, Refusal>
-        requires right { (opening : PageBytes) × (relations : ℕ) × (counters : ℕ)
-            × IsRight D.seen D.may_leave opening relations counters self.old
-            × IsUnderWay relations counters (world D.seen opening self.old) scope.old }
+        requires right { IsOneOf D.seen D.may_leave self.old scope.old }
         requires writing { scope.old.stage ≡ Writing }
         requires more { scope.old.written < length (changes_in scope.old) }
         requires there { (c : PageChange) → c ≡ get_or (changes_in scope.old) scope.old.written c
@@ -92,10 +88,7 @@ impl<D: Device> Operations<D> {
     // Ends the operation: its end is appended where one is due, and with that it has acted on the base
     // that the pages hold; its claim on free pages is given back. Where memory is refused nothing has changed.
     pub(crate) fn finish(&mut self, scope: &mut OpScope) -> Result<Stepped, Refusal>
-        requires right { (opening : PageBytes) × (relations : ℕ) × (counters : ℕ)
-            × IsRight D.seen D.may_leave opening relations counters self.old
-            × IsUnderWay relations counters (world D.seen opening self.old) scope.old × (relations ≤ 64)
-            × (counters ≤ 128) }
+        requires right { IsOneWithin D.seen D.may_leave self.old scope.old }
         requires claims { own_needs scope.old.op scope.old.split ≤ claimed self.old }
         requires writing { scope.old.stage ≡ Writing }
         requires all { scope.old.written ≡ length (changes_in scope.old) }
@@ -121,7 +114,7 @@ impl<D: Device> Operations<D> {
 
     // Appends the operation's end.
     fn append_end(&mut self, scope: &mut OpScope, done: LoggedOp) -> Result<(), Refusal>
-        requires kept { (opening : PageBytes) × IsKept D.seen D.may_leave opening self.old.store }
+        requires kept { HasOpening D.seen D.may_leave self.old.store }
         requires numbers { IsTxn scope.old.txn × IsOp scope.old.number }
         requires operation { IsOperation done }
         requires rules { may_stand false (appended self.old.store.log)
@@ -159,8 +152,8 @@ impl<D: Device> Operations<D> {
 
     // Notes what the pages take that the operation looked at, once its changes are made.
     fn note_looked(&mut self, scope: &OpScope)
-        requires pages { (pages : PageBytes) × Agrees (looked scope.now) pages × AreShort (changes_in scope.now) pages
-            × ((p : ℕ) → get_or self.old.map.kinds p 0 ≡ 3 → IsShaped (after (changes_in scope.now) pages p)) }
+        requires pages { ∥ ((pages : PageBytes) × Agrees (looked scope.now) pages × AreShort (changes_in scope.now) pages
+            × ((p : ℕ) → get_or self.old.map.kinds p 0 ≡ 3 → IsShaped (after (changes_in scope.now) pages p))) ∥₁ }
         requires whole { (p : ℕ) (bytes : List ℕ) → looked scope.now p ≡ Some bytes → length bytes ≡ 4096 }
         requires inside { (p : ℕ) → IsSome (looked scope.now p) → p < length self.old.rooms.0 }
         requires few { length self.old.rooms.0 ≤ 4096 }
@@ -186,8 +179,8 @@ impl<D: Device> Operations<D> {
     fn room_after(&self, changes: &Changes, page: PageNo, before: &[u8; 4096]) -> u16
         requires inside { page < 4096 }
         requires whole { length before.now ≡ 4096 }
-        requires pages { (pages : PageBytes) × (pages page ≡ before.now) × AreShort changes.now.list.items pages
-            × (get_or self.now.map.kinds page 0 ≡ 3 → IsShaped (after changes.now.list.items pages page)) }
+        requires pages { ∥ ((pages : PageBytes) × (pages page ≡ before.now) × AreShort changes.now.list.items pages
+            × (get_or self.now.map.kinds page 0 ≡ 3 → IsShaped (after changes.now.list.items pages page))) ∥₁ }
         ensures records { (pages : PageBytes) → pages page ≡ before.now → AreShort changes.now.list.items pages
             → get_or self.now.map.kinds page 0 ≡ 3 → result ≡ fits_of (after changes.now.list.items pages page) }
         ensures others { get_or self.now.map.kinds page 0 ≢ 3 → result ≡ 0 }

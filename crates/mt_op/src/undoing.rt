@@ -9,10 +9,10 @@ ghost use Rattle.mt_frame.specs.History.{may_stand};
 ghost use Rattle.mt_frame.specs.declared.records.Record.TheVariants.{OpDropped};
 ghost use Rattle.mt_log.specs.Words.{appended, used, area_size};
 ghost use Rattle.mt_space.specs.Changes.{PageBytes};
-ghost use Rattle.mt_pool.specs.Kept.{IsKept, Explains};
+ghost use Rattle.mt_pool.specs.Kept.{IsKept, HasOpening, Explains};
 ghost use Rattle.mt_op.specs.World.{IsUnderWay, changes_in, held_in, looked};
 ghost use Rattle.mt_op.specs.Moves.{Rests, Notes, Leaves, PutsBack};
-ghost use Rattle.mt_op.specs.Operations.{world, IsRight, Goes, HasBudget, IsCause, claimed};
+ghost use Rattle.mt_op.specs.Operations.{world, IsRight, IsOneOf, Goes, HasBudget, IsCause, claimed};
 ghost use Rattle.mt_op.specs.declared.scope.Stage.TheVariants.{Planning, Writing, Ready, Taking, Cleared};
 ghost use Rattle.mt_op.specs.Faults.{TellsFaults};
 ghost use Rattle.mt_op.specs.Records.{TellsDropped};
@@ -38,9 +38,7 @@ impl<D: Device> Operations<D> {
     /// [`TakenBack::Flush`] and the refusals change nothing: [`Refusal::NoMemory`], where the record cannot be
     /// appended, and, exactly where the device failed in this call, [`Refusal::DeviceFailed`].
     pub fn take_back(&mut self, scope: &mut OpScope) -> Result<TakenBack, Refusal>
-        requires right { (opening : PageBytes) × (relations : ℕ) × (counters : ℕ)
-            × IsRight D.seen D.may_leave opening relations counters self.old
-            × IsUnderWay relations counters (world D.seen opening self.old) scope.old }
+        requires right { IsOneOf D.seen D.may_leave self.old scope.old }
         requires stage { (scope.old.stage ≡ Planning) ⊎ ((scope.old.stage ≡ Writing) ⊎ (scope.old.stage ≡ Taking)) }
         requires budget { HasBudget scope.old }
         requires room { used self.old.store.log + scope.old.left < area_size self.old.store.log }
@@ -80,9 +78,7 @@ impl<D: Device> Operations<D> {
 
     // Puts the last page back that still stands, which is in a frame.
     fn put_last_back(&mut self, scope: &mut OpScope, page: PageNo) -> Result<TakenBack, Refusal>
-        requires right { (opening : PageBytes) × (relations : ℕ) × (counters : ℕ)
-            × IsRight D.seen D.may_leave opening relations counters self.old
-            × IsUnderWay relations counters (world D.seen opening self.old) scope.old }
+        requires right { IsOneOf D.seen D.may_leave self.old scope.old }
         requires stage { (scope.old.stage ≡ Writing) ⊎ (scope.old.stage ≡ Taking) }
         requires some { 0 < scope.old.standing }
         requires page { (c : PageChange) × (c ≡ get_or (changes_in scope.old) (scope.old.standing - 1) c)
@@ -103,7 +99,7 @@ impl<D: Device> Operations<D> {
 
     // Puts a page back as the operation looked at it. It is in a frame, and has a record.
     fn put_back(&mut self, scope: &OpScope, page: PageNo)
-        requires kept { (opening : PageBytes) × IsKept D.seen D.may_leave opening self.old.store }
+        requires kept { HasOpening D.seen D.may_leave self.old.store }
         requires looked { IsSome (looked scope.now page) }
         requires whole { (p : ℕ) (bytes : List ℕ) → looked scope.now p ≡ Some bytes → length bytes ≡ 4096 }
         requires inside { page < pages self.old.store.pool }
@@ -127,7 +123,7 @@ impl<D: Device> Operations<D> {
 
     // Appends the record that the operation was taken back. Where memory is refused nothing has changed.
     fn append_dropped(&mut self, scope: &OpScope) -> Result<(), Refusal>
-        requires kept { (opening : PageBytes) × IsKept D.seen D.may_leave opening self.old.store }
+        requires kept { HasOpening D.seen D.may_leave self.old.store }
         requires grammar { IsRecord (OpDropped scope.now.txn scope.now.number) }
         requires rules { may_stand false (appended self.old.store.log) (OpDropped scope.now.txn scope.now.number) ≡ true }
         requires room { used self.old.store.log + 22 < area_size self.old.store.log }
@@ -157,9 +153,7 @@ impl<D: Device> Operations<D> {
 
     // Appends the record that the operation was taken back, and puts its last page back, which is in a frame.
     fn clear(&mut self, scope: &mut OpScope, page: PageNo) -> Result<TakenBack, Refusal>
-        requires right { (opening : PageBytes) × (relations : ℕ) × (counters : ℕ)
-            × IsRight D.seen D.may_leave opening relations counters self.old
-            × IsUnderWay relations counters (world D.seen opening self.old) scope.old }
+        requires right { IsOneOf D.seen D.may_leave self.old scope.old }
         requires stage { (scope.old.stage ≡ Writing) ⊎ (scope.old.stage ≡ Taking) }
         requires last { scope.old.standing ≡ 1 }
         requires page { (c : PageChange) × (c ≡ get_or (changes_in scope.old) (scope.old.standing - 1) c)
@@ -182,9 +176,7 @@ impl<D: Device> Operations<D> {
     /// Ends an operation that is ready: its locks are given back. It takes no memory.
     pub fn end(&mut self, scope: OpScope)
         requires ready { scope.stage ≡ Ready }
-        requires right { ∥ ((opening : PageBytes) × (relations : ℕ) × (counters : ℕ)
-            × IsRight D.seen D.may_leave opening relations counters self.old
-            × IsUnderWay relations counters (world D.seen opening self.old) scope) ∥₁ }
+        requires right { IsOneOf D.seen D.may_leave self.old scope }
         ensures right { (opening : PageBytes) (relations counters : ℕ)
             → IsRight D.seen D.may_leave opening relations counters self.old
             → IsUnderWay relations counters (world D.seen opening self.old) scope
@@ -205,9 +197,7 @@ impl<D: Device> Operations<D> {
     /// takes no memory.
     pub fn drop_out(&mut self, scope: OpScope)
         requires cleared { scope.stage ≡ Cleared }
-        requires right { ∥ ((opening : PageBytes) × (relations : ℕ) × (counters : ℕ)
-            × IsRight D.seen D.may_leave opening relations counters self.old
-            × IsUnderWay relations counters (world D.seen opening self.old) scope) ∥₁ }
+        requires right { IsOneOf D.seen D.may_leave self.old scope }
         ensures right { (opening : PageBytes) (relations counters : ℕ)
             → IsRight D.seen D.may_leave opening relations counters self.old
             → IsUnderWay relations counters (world D.seen opening self.old) scope

@@ -1,6 +1,6 @@
 -- The records of a change of one page: its images, the grammar, and the rules.
 use Rattle.std.proofs.Common.{◌≡◌, ◌≢◌, ◌⊎◌, inl, inr, ⊎_elim, ℕ, suc, ◌+◌, ◌-◌, ◌<◌, ◌≤◌, List, [], ◌∷◌, ◌++◌, length, get_or, refl, sym, ◌∙◌, ap, subst, arith, false, true, Bool, Option, None, Some}
-use Rattle.std.specs.Prelude.{◌||◌, ◌&&◌, ◌==◌, not, if◌then◌else◌, cond, is_some}
+use Rattle.std.specs.Prelude.{All, ◌||◌, ◌&&◌, ◌==◌, not, if◌then◌else◌, cond, is_some}
 use Rattle.std.specs.List.{AllByRecursion}
 use Rattle.std.proofs.lemmas.Bool.{cases_eq, eqb-true, eq-eqb}
 use Rattle.mt_base.specs.Edits.{patched, log_size, IsShortest}
@@ -19,13 +19,14 @@ use Rattle.mt_pool.specs.declared.pool.Pool.{Pool}
 use Rattle.mt_log.specs.Words.{appended}
 use Rattle.mt_space.specs.Changes.{IsShort}
 use Rattle.mt_space.specs.declared.changes.PageChange.{PageChange}
-use Rattle.mt_pool.specs.Kept.{carried, IsKept}
+use Rattle.mt_pool.specs.Kept.{carried}
 use Rattle.mt_pool.specs.declared.store.Store.{Store}
 use Rattle.mt_frame.specs.PageRecords.{range_record, change_records}
 use Rattle.mt_pool.specs.Writes.{due_image, records_size, IsUnfinished}
-use Rattle.std.proofs.lemmas.List.Elements.{recursion_from_All}
+use Rattle.std.proofs.lemmas.List.Elements.{recursion_from_All, All-weaker}
 use Rattle.mt_pool.proofs.Safe.{bool_cases, has_all}
 use Rattle.mt_pool.proofs.Logged.{AreImagesFirst, no_records}
+use Rattle.mt_pool.proofs.Steady.{IsSteady}
 
 -- a page in a frame is whole, and is there whatever its slot has
 pub view_whole : (pool : Pool) (seen : List ℕ) (page : ℕ) → IsPool pool → IsThere pool page → length (view pool seen page) ≡ 4096
@@ -204,7 +205,11 @@ image_named p (AbortEnd txn ∷ rs) has = image_named p rs has
 
 -- ---- a change of a store's page
 
-module _ {D : Type 0} (seen : D → List ℕ) (may : D → List ℕ → Type 0) (opening : ℕ → List ℕ) (s : Store D) (k : IsKept seen may opening s) (txn op : ℕ) (change : PageChange)
+-- each of its ranges lies in the page
+pub edits_within : (old : List ℕ) (c : PageChange) → length old ≡ 4096 → IsShort old c → All (λ (e : Edit). e.start + length e.bytes ≤ 4096) c.edits.items
+edits_within old c whole short = All-weaker (IsShortest old (patched c.edits.items old)) (λ (e : Edit). e.start + length e.bytes ≤ 4096) (λ e range. let within = range.within in omega (arith, whole)) c.edits.items short.ranges
+
+module _ {D : Type 0} (seen : D → List ℕ) (may : D → List ℕ → Type 0) (s : Store D) (k : IsSteady seen may s) (txn op : ℕ) (change : PageChange)
     (there : IsThere s.pool change.page) (inside : change.page < pages s.pool) (short : IsShort (view s.pool (seen s.device) change.page) change) (numbers : IsTxn txn × IsOp op) (new_size : length (patched change.edits.items (view s.pool (seen s.device) change.page)) ≡ 4096) where
   abbrev pub page_now : List ℕ
   page_now = view s.pool (seen s.device) change.page
@@ -240,7 +245,7 @@ module _ {D : Type 0} (seen : D → List ℕ) (may : D → List ℕ → Type 0) 
   first due (inl is) = ap (λ (i : Option (List ℕ)). if is_some i then not (some_record (is_of_page change.page) (appended s.log)) else some_record (is_of_page change.page) (appended s.log)) is.1
       ∙ ap not (k.unnamed change.page inside is.0)
   first due (inr is) = ap (λ (i : Option (List ℕ)). if is_some i then not (some_record (is_of_page change.page) (appended s.log)) else some_record (is_of_page change.page) (appended s.log)) is.1
-      ∙ image_named change.page (appended s.log) (has_all change.page (carried (appended s.log)) (waits_for s.pool change.page) (k.tied.imaged change.page inside (let n = is.0 in omega (arith, n))))
+      ∙ image_named change.page (appended s.log) (has_all change.page (carried (appended s.log)) (waits_for s.pool change.page) (k.imaged change.page inside (let n = is.0 in omega (arith, n))))
 
   pub now_may : IsUnfinished txn op (appended s.log) → MayFollow false (appended s.log) records_now
   now_may u = changes_may txn op change.page page_now (patched change.edits.items page_now) numbers.0 (appended s.log) (due_image s.pool change.page page_now) change.edits.items (first _ (due_cases s.pool change.page page_now)) u

@@ -49,3 +49,7 @@ pub record IsKept {D : Type 0} (seen : D → List ℕ) (may_leave : D → List �
   pub safe : IsSafe s.pool.place (pages s.pool) opening (carried (appended s.log)) (length (durable s.log)) (may_leave s.device)
   pub tied : IsTied s.pool (seen s.device) opening (carried (appended s.log))
   pub unnamed : (p : ℕ) → p < pages s.pool → waits_for s.pool p ≡ 0 → some_record (is_of_page p) (appended s.log) ≡ false
+
+-- it is kept for some pages, as they were when its area began
+abbrev pub HasOpening : {D : Type 0} → (D → List ℕ) → (D → List ℕ → Type 0) → Store D → Type 0
+HasOpening seen may_leave s = ∥ ((opening : ℕ → List ℕ) × IsKept seen may_leave opening s) ∥₁

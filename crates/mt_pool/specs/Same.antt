@@ -69,7 +69,7 @@ sum_prop pa pb apart (inr a) (inr b) = ap inr (pb a b)
 IsStep-prop : (z : ℤ) → IsProp (IsStep z)
 IsStep-prop z = sum_prop (hlevel T_prop) (hlevel T_prop) (λ up down. omega (arith, ints, up.0, down.1))
 
-Operation-prop : (o : LoggedOp) → IsProp (IsOperation o)
+pub Operation-prop : (o : LoggedOp) → IsProp (IsOperation o)
 Operation-prop (Insert r k v) = hlevel props
 Operation-prop (Update r k v o) = hlevel props
 Operation-prop (Delete r k o) = hlevel props

@@ -130,7 +130,7 @@ fn parts<D: Device>(
 
 impl<D: Device> Store<D> {
     ghost use Rattle.mt_space.specs.Changes.{IsShort};
-    ghost use Rattle.mt_pool.specs.Kept.{IsKept, Explains};
+    ghost use Rattle.mt_pool.specs.Kept.{IsKept, HasOpening, Explains};
     ghost use Rattle.mt_frame.specs.PageRecords.{change_records, redone};
     ghost use Rattle.mt_pool.specs.Writes.{due_image, IsUnfinished};
     ghost use Rattle.mt_pool.specs.Views.{IsThere, IsFull, IsWaiting, Cleans, to_flush, view, pages, waits_for};
@@ -141,7 +141,7 @@ impl<D: Device> Store<D> {
     /// refusal is [`Refusal::DeviceFailed`], where the device failed in this call or in an earlier force; what
     /// is durable stays.
     pub fn force_step(&mut self) -> Result<Forced, Refusal>
-        requires kept { (opening : ℕ → List ℕ) × IsKept D.seen D.may_leave opening self.old }
+        requires kept { HasOpening D.seen D.may_leave self.old }
         ensures kept { (opening : ℕ → List ℕ) → IsKept D.seen D.may_leave opening self.old
             → IsKept D.seen D.may_leave opening self.new }
         ensures moments { (opening : ℕ → List ℕ) → IsKept D.seen D.may_leave opening self.old
@@ -179,7 +179,7 @@ impl<D: Device> Store<D> {
     /// device call, and no memory. The only error is the device's; the pool is as before then, and the slot
     /// may hold anything.
     pub fn flush_step(&mut self) -> Result<Flushed, DeviceFault>
-        requires kept { (opening : ℕ → List ℕ) × IsKept D.seen D.may_leave opening self.old }
+        requires kept { HasOpening D.seen D.may_leave self.old }
         ensures kept { (opening : ℕ → List ℕ) → IsKept D.seen D.may_leave opening self.old
             → IsKept D.seen D.may_leave opening self.new }
         ensures moments { (opening : ℕ → List ℕ) → IsKept D.seen D.may_leave opening self.old
@@ -209,7 +209,7 @@ impl<D: Device> Store<D> {
     /// Brings the page into a frame, as [`Pool::fetch`] does. The only error is the device's, and all views stand
     /// then.
     pub fn fetch(&mut self, page: PageNo) -> Result<Fetched, DeviceFault>
-        requires kept { (opening : ℕ → List ℕ) × IsKept D.seen D.may_leave opening self.old }
+        requires kept { HasOpening D.seen D.may_leave self.old }
         requires inside { page < pages self.old.pool }
         ensures kept { (opening : ℕ → List ℕ) → IsKept D.seen D.may_leave opening self.old
             → IsKept D.seen D.may_leave opening self.new }
@@ -225,6 +225,7 @@ impl<D: Device> Store<D> {
             → result ≡ Ok fetched.Flush }
         ensures log { self.new.log ≡ self.old.log }
         ensures pages { pages self.new.pool ≡ pages self.old.pool }
+        ensures flush { self.new.pool.dirty ≡ self.old.pool.dirty }
         ensures waits { self.new.pool.waits ≡ self.old.pool.waits }
         ensures cause { HasCause (D.faults self.old.device) (D.faults self.new.device) result }
     {
@@ -233,7 +234,7 @@ impl<D: Device> Store<D> {
 
     /// Puts a page's bytes from before a change back without a record, as [`Pool::restore`] does. It cannot fail.
     pub fn restore(&mut self, page: PageNo, start: usize, before: &[u8])
-        requires kept { (opening : ℕ → List ℕ) × IsKept D.seen D.may_leave opening self.old }
+        requires kept { HasOpening D.seen D.may_leave self.old }
         requires there { IsThere self.old.pool page }
         requires inside { page < pages self.old.pool }
         requires range { start + length before.now ≤ 4096 }
@@ -256,7 +257,7 @@ impl<D: Device> Store<D> {
     /// Appends a record that is of no page, as [`Log::append`] does; those of pages come by [`Store::write`]. The
     /// only refusal is [`Refusal::NoMemory`], and nothing is appended then.
     pub fn append(&mut self, entry: Record) -> Result<LogPos, Refusal>
-        requires kept { (opening : ℕ → List ℕ) × IsKept D.seen D.may_leave opening self.old }
+        requires kept { HasOpening D.seen D.may_leave self.old }
         requires grammar { IsRecord entry }
         requires no_page { IsOfPage entry → ⊥ }
         requires rules { may_stand false (appended self.old.log) entry ≡ true }
@@ -290,7 +291,7 @@ impl<D: Device> Store<D> {
         op: OpNo,
         change: &PageChange,
     ) -> Result<(), Refusal>
-        requires kept { (opening : ℕ → List ℕ) × IsKept D.seen D.may_leave opening self.old }
+        requires kept { HasOpening D.seen D.may_leave self.old }
         requires there { IsThere self.old.pool change.now.page }
         requires inside { change.now.page < pages self.old.pool }
         requires short { IsShort (view self.old.pool (D.seen self.old.device) change.now.page) change.now }
@@ -337,7 +338,7 @@ impl<D: Device> Store<D> {
 
     /// Makes all writes so far last, as [`Device::sync`] does. After an error a crash may leave no more than before.
     pub fn sync(&mut self) -> Result<(), DeviceFault>
-        requires kept { (opening : ℕ → List ℕ) × IsKept D.seen D.may_leave opening self.old }
+        requires kept { HasOpening D.seen D.may_leave self.old }
         ensures kept { (opening : ℕ → List ℕ) → IsKept D.seen D.may_leave opening self.old
             → IsKept D.seen D.may_leave opening self.new }
         ensures moments { (opening : ℕ → List ℕ) → IsKept D.seen D.may_leave opening self.old
@@ -356,7 +357,7 @@ impl<D: Device> Store<D> {
     /// do. Then a [`Store::sync`] makes the slots last. The only refusal is [`Refusal::DeviceFailed`], where the device
     /// failed in this call or in an earlier force.
     pub fn write_back_step(&mut self) -> Result<bool, Refusal>
-        requires kept { (opening : ℕ → List ℕ) × IsKept D.seen D.may_leave opening self.old }
+        requires kept { HasOpening D.seen D.may_leave self.old }
         ensures kept { (opening : ℕ → List ℕ) → IsKept D.seen D.may_leave opening self.old
             → IsKept D.seen D.may_leave opening self.new }
         ensures moments { (opening : ℕ → List ℕ) → IsKept D.seen D.may_leave opening self.old

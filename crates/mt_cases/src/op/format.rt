@@ -124,5 +124,6 @@ pub fn opened<D: Device + Drop>(
     let area = AreaPlace::of(pages, mib, false);
     let frames = usize::from(frames);
     let store = Store::begin(alloc, device, frames, pages, MASTER_BYTES, area)?;
-    Operations::new(alloc, store)
+    let operations = Operations::new(alloc, store)?;
+    Ok(operations)
 }

@@ -12,3 +12,9 @@ write-requires-clause-unfinished g c =
 
 pub returns-clause-unfinished : goal.returns-clause-unfinished
 returns-clause-unfinished g c = c.write.ensures.ends_none 1 1 (subst (λ (l : Log). IsUnfinished 1 1 (appended l)) (sym c.fetch.ensures.log) c.requires.unfinished)
+
+pub fetch-requires-clause-kept : goal.fetch-requires-clause-kept
+fetch-requires-clause-kept g c = ∣ c.requires.kept ∣₁
+
+pub write-requires-clause-kept : goal.write-requires-clause-kept
+write-requires-clause-kept g c = let k = c.requires.kept in ∣ (k.0, c.fetch.ensures.kept k.0 k.1) ∣₁

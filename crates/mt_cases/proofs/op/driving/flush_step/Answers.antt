@@ -5,7 +5,7 @@ use Rattle.mt_op.proofs.Driving.{busy_rests}
 use Rattle.mt_cases.proofs.op.driving.flush_step.Goals as goal
 
 pub flush_step-requires : goal.flush_step-requires
-flush_step-requires g c = record { kept = (c.requires.opening, c.requires.right.kept) }
+flush_step-requires g c = record { kept = ∣ (c.requires.opening, c.requires.right.kept) ∣₁ }
 
 pub returns-clause-busy : goal.returns-clause-busy
 returns-clause-busy g c = let b = c.requires in let e = c.flush_step.ensures in let same = ap (λ (log : Log). used log) e.log in

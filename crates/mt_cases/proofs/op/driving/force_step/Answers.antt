@@ -2,7 +2,7 @@ use Rattle.mt_op.proofs.Driving.{busy_rests}
 use Rattle.mt_cases.proofs.op.driving.force_step.Goals as goal
 
 pub force_step-requires : goal.force_step-requires
-force_step-requires g c = record { kept = (c.requires.opening, c.requires.right.kept) }
+force_step-requires g c = record { kept = ∣ (c.requires.opening, c.requires.right.kept) ∣₁ }
 
 pub returns-clause-busy : goal.returns-clause-busy
 returns-clause-busy g c = let b = c.requires in let e = c.force_step.ensures in

@@ -5,7 +5,7 @@ use Rattle.mt_op.proofs.Driving.{busy_on, goes_on}
 use Rattle.mt_cases.proofs.op.driving.put_back.Goals as goal
 
 pub take_back-requires-clause-right : goal.take_back-requires-clause-right
-take_back-requires-clause-right g c = let b = c.requires.busy in (b.opening, 2, 2, b.right, b.under)
+take_back-requires-clause-right g c = let b = c.requires.busy in ∣ (b.opening, 2, 2, b.right, b.under) ∣₁
 
 pub take_back-requires-clause-budget : goal.take_back-requires-clause-budget
 take_back-requires-clause-budget g c = c.requires.busy.budget

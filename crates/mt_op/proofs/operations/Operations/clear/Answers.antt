@@ -1,5 +1,7 @@
-use Rattle.std.proofs.Common.{◌<◌, ◌+◌, ◌-◌, ◌++◌, [], ℕ, refl, sym, ap, ◌∙◌, subst, arith}
-use Rattle.std.specs.Prelude.{Err}
+use Rattle.std.proofs.Props.{props}
+use mathlib.Core.Logic.{∥∥₁_elim, ∥∥₁_map}
+use Rattle.std.proofs.Common.{◌<◌, ◌≤◌, ◌+◌, ◌-◌, ◌++◌, [], ℕ, refl, sym, ap, ◌∙◌, subst, arith}
+use Rattle.std.specs.Prelude.{Err, IsSome}
 use Rattle.std.proofs.lemmas.Result.{err_from_is_err_and}
 use Rattle.mt_log.specs.Words.{appended, used, area_size}
 use Rattle.mt_log.specs.declared.log.Log.{Log}
@@ -12,22 +14,24 @@ use Rattle.mt_op.specs.Stepping.{PutsOneBack}
 use Rattle.mt_op.specs.declared.scope.Stage.TheVariants.{Cleared}
 use Rattle.mt_op.proofs.Right.{right_rests}
 use Rattle.mt_op.proofs.Budget.{area_small}
-use Rattle.mt_op.proofs.Restored.{kept_to_drop, returnable, notes_back, last_goes}
+use Rattle.mt_op.proofs.Restored.{kept_to_drop, returnable_one, standing_one, drop_stands, notes_back, last_goes}
 use Rattle.mt_op.proofs.Written.{rests_goes_as}
+use Rattle.mt_op.proofs.Known.{known}
+use Rattle.mt_op.specs.World.{looked}
 use Rattle.mt_op.proofs.operations.Operations.clear.Goals as goal
 
 pub overflow_add-scope : goal.overflow_add-scope
 overflow_add-scope g c = let used = c.used-before.ensures in let most = area_small c.args.self.now.store.log in omega arith
 
 pub overflow_sub-scope : goal.overflow_sub-scope
-overflow_sub-scope g c = let (opening, relations, counters, right, k) = c.requires.right in let took = c.in_ok-append_dropped.ensures.used in let same = ap (λ (l : Log). used l) c.put_back.ensures.log in let was = c.used-before.ensures in let now = c.used.ensures in
-    let kept = kept_to_drop relations counters (world g.D.Device.seen opening c.args.self.now) c.args.scope.now k c.requires.stage c.requires.last c.requires.budget in omega (arith, took, same, was, now, kept)
+overflow_sub-scope g c = let took = c.in_ok-append_dropped.ensures.used in let same = ap (λ (l : Log). used l) c.put_back.ensures.log in let was = c.used-before.ensures in let now = c.used.ensures in
+    let kept : 22 ≤ c.args.scope.now.left = ∥∥₁_elim c.requires.right (hlevel props) (λ (opening, relations, counters, right, k). kept_to_drop relations counters (world g.D.Device.seen opening c.args.self.now) c.args.scope.now k c.requires.stage c.requires.last c.requires.budget) in omega (arith, took, same, was, now, kept)
 
 pub put_back-requires-clause-logged : goal.put_back-requires-clause-logged
 put_back-requires-clause-logged g c =
-    let (opening, relations, counters, right, k) = c.requires.right in let (change, is, same) = c.requires.page in
+    let (change, is, same) = c.requires.page in
     let last = c.requires.last in
-    let ready = returnable g.D.Device.seen g.D.Device.may_leave opening relations counters c.args.self.now c.args.scope.now change right k c.requires.stage (omega arith) is in
+    let ready = returnable_one g.D.Device.seen g.D.Device.may_leave c.args.self.now c.args.scope.now change c.requires.right c.requires.stage (omega arith) is in
     subst (λ (p : Pool). 0 < waits_for p c.args.page) (sym c.append_dropped.ensures.pool) (subst (λ (p : ℕ). 0 < waits_for c.args.self.now.store.pool p) same ready.logged)
 
 pub returns-in_err-append_dropped : goal.returns-in_err-append_dropped
@@ -72,8 +76,8 @@ returns g c = let f = c.append_dropped.ensures in let b = c.put_back.ensures in 
         more = λ is. absurd cc;
         clear = λ is. (refl, (let last = c.requires.last in omega arith));
         never = λ is. absurd cc;
-        log = let took = c.in_ok-append_dropped.ensures.used in let same = ap (λ (l : Log). used l) b.log in let was = c.used-before.ensures in let now = c.used.ensures in let (opening, relations, counters, right, k) = c.requires.right in
-            let kept = kept_to_drop relations counters (world seen opening o) s k c.requires.stage c.requires.last c.requires.budget in omega (arith, took, same, was, now, kept);
+        log = let took = c.in_ok-append_dropped.ensures.used in let same = ap (λ (l : Log). used l) b.log in let was = c.used-before.ensures in let now = c.used.ensures in
+            let kept : 22 ≤ s.left = ∥∥₁_elim c.requires.right (hlevel props) (λ (opening, relations, counters, right, k). kept_to_drop relations counters (world seen opening o) s k c.requires.stage c.requires.last c.requires.budget) in omega (arith, took, same, was, now, kept);
         area = ap (λ (l : Log). area_size l) b.log ∙ f.area;
         map = b.map ∙ f.map;
         records = ap (λ (l : Log). appended l) b.log ∙ (c.in_ok-append_dropped.ensures.notes (λ n. [])).records ∙ ap (λ (standing : ℕ). appended o.store.log ++ dropped_with s.txn s.number standing) (sym c.requires.last);
@@ -83,3 +87,29 @@ returns g c = let f = c.append_dropped.ensures in let b = c.put_back.ensures in 
         only_memory = tt;
       };
     }
+
+pub append_dropped-requires-clause-kept : goal.append_dropped-requires-clause-kept
+append_dropped-requires-clause-kept g c = (known g.D.Device.seen g.D.Device.may_leave c.args.self.now c.args.scope.now c.requires.right).kept
+
+pub put_back-requires-clause-kept : goal.put_back-requires-clause-kept
+put_back-requires-clause-kept g c = ∥∥₁_map (known g.D.Device.seen g.D.Device.may_leave c.args.self.now c.args.scope.now c.requires.right).kept (λ k. (k.0, c.append_dropped.ensures.kept k.0 k.1))
+
+pub append_dropped-requires-clause-grammar : goal.append_dropped-requires-clause-grammar
+append_dropped-requires-clause-grammar g c = let k = known g.D.Device.seen g.D.Device.may_leave c.args.self.now c.args.scope.now c.requires.right in (k.txn, k.op)
+
+pub append_dropped-requires-clause-rules : goal.append_dropped-requires-clause-rules
+append_dropped-requires-clause-rules g c = let s = c.args.scope.now in let last = c.requires.last in
+    drop_stands (appended c.args.self.now.store.log) s.txn s.number (known g.D.Device.seen g.D.Device.may_leave c.args.self.now c.args.scope.now c.requires.right).txn (standing_one g.D.Device.seen g.D.Device.may_leave c.args.self.now c.args.scope.now c.requires.right c.requires.stage (omega arith)).unfinished
+
+pub append_dropped-requires-clause-room : goal.append_dropped-requires-clause-room
+append_dropped-requires-clause-room g c = let room = c.requires.room in
+    let kept : 22 ≤ c.args.scope.now.left = ∥∥₁_elim c.requires.right (hlevel props) (λ (opening, relations, counters, right, k). kept_to_drop relations counters (world g.D.Device.seen opening c.args.self.now) c.args.scope.now k c.requires.stage c.requires.last c.requires.budget) in
+    omega (arith, room, kept)
+
+pub put_back-requires-clause-looked : goal.put_back-requires-clause-looked
+put_back-requires-clause-looked g c = let (change, is, same) = c.requires.page in let last = c.requires.last in
+    let ready = returnable_one g.D.Device.seen g.D.Device.may_leave c.args.self.now c.args.scope.now change c.requires.right c.requires.stage (omega arith) is in
+    subst (λ (p : ℕ). IsSome (looked c.args.scope.now p)) same ready.some
+
+pub put_back-requires-clause-whole : goal.put_back-requires-clause-whole
+put_back-requires-clause-whole g c = (known g.D.Device.seen g.D.Device.may_leave c.args.self.now c.args.scope.now c.requires.right).whole

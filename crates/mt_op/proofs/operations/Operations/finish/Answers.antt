@@ -1,3 +1,5 @@
+use Rattle.std.proofs.Props.{props}
+use mathlib.Core.Logic.{∥∥₁_elim, ∥∥₁_map}
 use Rattle.std.proofs.Common.{ℕ, List, get_or, ◌≡◌, ◌≤◌, ◌+◌, ◌∙◌, inl, length, refl, sym, ap, subst, Option, arith}
 use Rattle.std.specs.Prelude.{IfSome, Err}
 use Rattle.std.proofs.lemmas.Result.{err_from_is_err_and}
@@ -25,27 +27,27 @@ use Rattle.mt_op.proofs.Faulting.{no_fault, no_fault_ok}
 use Rattle.mt_op.proofs.Going.{rests_same}
 use Rattle.mt_op.proofs.Right.{right_rests}
 use Rattle.mt_op.proofs.Finished.{has_reply, end_stands, planned_reply, open_still, settle_asks, settle_claimed, settle_mapped, settle_gives, settle_frees, note_asks, note_whole, note_inside, note_few, note_all, finished, finished_quietly}
+use Rattle.mt_pool.specs.Same.{Operation-prop}
+use Rattle.mt_op.proofs.Known.{known_within}
 use Rattle.mt_op.proofs.operations.Operations.finish.Goals as goal
 use Rattle.mt_op.proofs.operations.Operations.finish.Goals.{in-Some+in_ok-append_end, in_default}
 
 pub told-requires : goal.told-requires
-told-requires g c = let (opening, relations, counters, right, k, few, some) = c.requires.right in has_reply relations counters (world g.D.Device.seen opening c.args.self.now) c.args.scope.now k c.requires.writing
+told-requires g c = ∥∥₁_elim c.requires.right (hlevel props) (λ (opening, relations, counters, right, k, few, some). has_reply relations counters (world g.D.Device.seen opening c.args.self.now) c.args.scope.now k c.requires.writing)
 
 pub append_end-requires-clause-numbers : goal.append_end-requires-clause-numbers
-append_end-requires-clause-numbers g c = let (opening, relations, counters, right, k, few, some) = c.requires.right in (k.txn, k.op)
+append_end-requires-clause-numbers g c = let k = known_within g.D.Device.seen g.D.Device.may_leave c.args.self.now c.args.scope.now c.requires.right in (k.txn, k.op)
 
 pub append_end-requires-clause-operation : goal.append_end-requires-clause-operation
-append_end-requires-clause-operation g c = let (opening, relations, counters, right, k, few, some) = c.requires.right in
-    let plan = planned_reply relations counters (world g.D.Device.seen opening c.args.self.now) c.args.scope.now _ right.sound k c.requires.writing c.in_ok-first.ensures.reply in
-    subst (λ (x : Option LoggedOp). IfSome x IsOperation) c.in-Some.is (c.in_ok-first.ensures.operation relations counters few some k.within plan.small)
+append_end-requires-clause-operation g c = ∥∥₁_elim c.requires.right (Operation-prop c.in-Some.done) (λ (opening, relations, counters, right, k, few, some). let plan = planned_reply relations counters (world g.D.Device.seen opening c.args.self.now) c.args.scope.now _ right.sound k c.requires.writing c.in_ok-first.ensures.reply in
+    subst (λ (x : Option LoggedOp). IfSome x IsOperation) c.in-Some.is (c.in_ok-first.ensures.operation relations counters few some k.within plan.small))
 
 pub append_end-requires-clause-rules : goal.append_end-requires-clause-rules
-append_end-requires-clause-rules g c = let (opening, relations, counters, right, k, few, some) = c.requires.right in
-    let w = world g.D.Device.seen opening c.args.self.now in
-    end_stands w c.args.scope.now c.in-Some.done k.txn (open_still relations counters w c.args.scope.now _ right.sound k c.requires.writing c.in_ok-first.ensures.reply)
+append_end-requires-clause-rules g c = ∥∥₁_elim c.requires.right (hlevel props) (λ (opening, relations, counters, right, k, few, some). let w = world g.D.Device.seen opening c.args.self.now in
+    end_stands w c.args.scope.now c.in-Some.done k.txn (open_still relations counters w c.args.scope.now _ right.sound k c.requires.writing c.in_ok-first.ensures.reply))
 
 pub settle-requires-clause-short : goal.settle-requires-clause-short
-settle-requires-clause-short g c = let (opening, relations, counters, right, k, few, some) = c.requires.right in let seen = g.D.Device.seen in let s = c.args.scope.now in let o = c.args.self.now in
+settle-requires-clause-short g c = ∥∥₁_map c.requires.right (λ (opening, relations, counters, right, k, few, some). let seen = g.D.Device.seen in let s = c.args.scope.now in let o = c.args.self.now in
     let map_same : c.match-done.self.map ≡ o.map = elim c.match-done.branch [
       | in-Some+in_ok-append_end w ↦ ap (λ (x : Operations g.row.D.Denot). x.map) w.self-is ∙ w.append_end.ensures.map
       | in_default w ↦ ap (λ (x : Operations g.row.D.Denot). x.map) w.self-is
@@ -58,10 +60,10 @@ settle-requires-clause-short g c = let (opening, relations, counters, right, k, 
       | in-Some+in_ok-append_end w ↦ ap (λ (t : OpScope). own_needs t.op t.split) (w.scope-is ∙ w.append_end.ensures.scope)
       | in_default w ↦ ap (λ (t : OpScope). own_needs t.op t.split) w.scope-is
     ] in
-    settle_asks seen g.D.Device.may_leave opening relations counters o s _ right k c.requires.writing c.in_ok-first.ensures.reply c.match-done.self.map c.match-done.scope map_same changes c.pages_for-claim.result own
+    settle_asks seen g.D.Device.may_leave opening relations counters o s _ right k c.requires.writing c.in_ok-first.ensures.reply c.match-done.self.map c.match-done.scope map_same changes c.pages_for-claim.result own)
 
 pub settle-requires-clause-claimed : goal.settle-requires-clause-claimed
-settle-requires-clause-claimed g c = let (opening, relations, counters, right, k, few, some) = c.requires.right in let seen = g.D.Device.seen in let s = c.args.scope.now in let o = c.args.self.now in
+settle-requires-clause-claimed g c = ∥∥₁_elim c.requires.right (hlevel props) (λ (opening, relations, counters, right, k, few, some). let seen = g.D.Device.seen in let s = c.args.scope.now in let o = c.args.self.now in
     let map_same : c.match-done.self.map ≡ o.map = elim c.match-done.branch [
       | in-Some+in_ok-append_end w ↦ ap (λ (x : Operations g.row.D.Denot). x.map) w.self-is ∙ w.append_end.ensures.map
       | in_default w ↦ ap (λ (x : Operations g.row.D.Denot). x.map) w.self-is
@@ -74,10 +76,10 @@ settle-requires-clause-claimed g c = let (opening, relations, counters, right, k
       | in-Some+in_ok-append_end w ↦ ap (λ (t : OpScope). own_needs t.op t.split) (w.scope-is ∙ w.append_end.ensures.scope)
       | in_default w ↦ ap (λ (t : OpScope). own_needs t.op t.split) w.scope-is
     ] in
-    settle_claimed seen g.D.Device.may_leave opening relations counters o s _ right k c.requires.writing c.in_ok-first.ensures.reply c.match-done.self.map c.match-done.scope map_same changes c.pages_for-claim.result own c.requires.claims
+    settle_claimed seen g.D.Device.may_leave opening relations counters o s _ right k c.requires.writing c.in_ok-first.ensures.reply c.match-done.self.map c.match-done.scope map_same changes c.pages_for-claim.result own c.requires.claims)
 
 pub settle-requires-clause-mapped : goal.settle-requires-clause-mapped
-settle-requires-clause-mapped g c = let (opening, relations, counters, right, k, few, some) = c.requires.right in let seen = g.D.Device.seen in let s = c.args.scope.now in let o = c.args.self.now in
+settle-requires-clause-mapped g c = ∥∥₁_elim c.requires.right (hlevel props) (λ (opening, relations, counters, right, k, few, some). let seen = g.D.Device.seen in let s = c.args.scope.now in let o = c.args.self.now in
     let map_same : c.match-done.self.map ≡ o.map = elim c.match-done.branch [
       | in-Some+in_ok-append_end w ↦ ap (λ (x : Operations g.row.D.Denot). x.map) w.self-is ∙ w.append_end.ensures.map
       | in_default w ↦ ap (λ (x : Operations g.row.D.Denot). x.map) w.self-is
@@ -86,10 +88,10 @@ settle-requires-clause-mapped g c = let (opening, relations, counters, right, k,
       | in-Some+in_ok-append_end w ↦ ap (λ (t : OpScope). t.changes) w.scope-is ∙ ap (λ (t : OpScope). t.changes) w.append_end.ensures.scope
       | in_default w ↦ ap (λ (t : OpScope). t.changes) w.scope-is
     ] in
-    settle_mapped seen g.D.Device.may_leave opening relations counters o s _ right k c.requires.writing c.in_ok-first.ensures.reply c.match-done.self.map c.match-done.scope map_same changes
+    settle_mapped seen g.D.Device.may_leave opening relations counters o s _ right k c.requires.writing c.in_ok-first.ensures.reply c.match-done.self.map c.match-done.scope map_same changes)
 
 pub note_looked-requires-clause-pages : goal.note_looked-requires-clause-pages
-note_looked-requires-clause-pages g c = let (opening, relations, counters, right, k, few, some) = c.requires.right in let seen = g.D.Device.seen in let s = c.args.scope.now in let o = c.args.self.now in
+note_looked-requires-clause-pages g c = ∥∥₁_map c.requires.right (λ (opening, relations, counters, right, k, few, some). let seen = g.D.Device.seen in let s = c.args.scope.now in let o = c.args.self.now in
     let copies : c.match-done.scope.seen ≡ s.seen = elim c.match-done.branch [
       | in-Some+in_ok-append_end w ↦ ap (λ (t : OpScope). t.seen) w.scope-is ∙ ap (λ (t : OpScope). t.seen) w.append_end.ensures.scope
       | in_default w ↦ ap (λ (t : OpScope). t.seen) w.scope-is
@@ -103,18 +105,18 @@ note_looked-requires-clause-pages g c = let (opening, relations, counters, right
       | in_default w ↦ ap (λ (t : OpScope). t.changes) w.scope-is
     ] in
     let given = settle_gives seen g.D.Device.may_leave opening relations counters o s _ right k c.requires.writing c.in_ok-first.ensures.reply c.match-done.self.map c.match-done.scope map_same changes c.settle.new.self.kinds c.settle.ensures.kinds in
-    note_asks seen g.D.Device.may_leave opening relations counters o s _ right k c.requires.writing c.in_ok-first.ensures.reply c.match-done.scope copies c.settle.new.self.kinds changes given
+    note_asks seen g.D.Device.may_leave opening relations counters o s _ right k c.requires.writing c.in_ok-first.ensures.reply c.match-done.scope copies c.settle.new.self.kinds changes given)
 
 pub note_looked-requires-clause-whole : goal.note_looked-requires-clause-whole
-note_looked-requires-clause-whole g c = let (opening, relations, counters, right, k, few, some) = c.requires.right in let seen = g.D.Device.seen in let s = c.args.scope.now in let o = c.args.self.now in
+note_looked-requires-clause-whole g c = ∥∥₁_elim c.requires.right (hlevel props) (λ (opening, relations, counters, right, k, few, some). let seen = g.D.Device.seen in let s = c.args.scope.now in let o = c.args.self.now in
     let copies : c.match-done.scope.seen ≡ s.seen = elim c.match-done.branch [
       | in-Some+in_ok-append_end w ↦ ap (λ (t : OpScope). t.seen) w.scope-is ∙ ap (λ (t : OpScope). t.seen) w.append_end.ensures.scope
       | in_default w ↦ ap (λ (t : OpScope). t.seen) w.scope-is
     ] in
-    note_whole seen g.D.Device.may_leave opening relations counters o s _ right k c.requires.writing c.in_ok-first.ensures.reply c.match-done.scope copies
+    note_whole seen g.D.Device.may_leave opening relations counters o s _ right k c.requires.writing c.in_ok-first.ensures.reply c.match-done.scope copies)
 
 pub note_looked-requires-clause-inside : goal.note_looked-requires-clause-inside
-note_looked-requires-clause-inside g c = let (opening, relations, counters, right, k, few, some) = c.requires.right in let seen = g.D.Device.seen in let s = c.args.scope.now in let o = c.args.self.now in
+note_looked-requires-clause-inside g c = ∥∥₁_elim c.requires.right (hlevel props) (λ (opening, relations, counters, right, k, few, some). let seen = g.D.Device.seen in let s = c.args.scope.now in let o = c.args.self.now in
     let copies : c.match-done.scope.seen ≡ s.seen = elim c.match-done.branch [
       | in-Some+in_ok-append_end w ↦ ap (λ (t : OpScope). t.seen) w.scope-is ∙ ap (λ (t : OpScope). t.seen) w.append_end.ensures.scope
       | in_default w ↦ ap (λ (t : OpScope). t.seen) w.scope-is
@@ -123,10 +125,10 @@ note_looked-requires-clause-inside g c = let (opening, relations, counters, righ
       | in-Some+in_ok-append_end w ↦ ap (λ (o : Operations g.row.D.Denot). length o.rooms.0) w.self-is ∙ ap (λ (x : Rooms). length x.0) w.append_end.ensures.rooms
       | in_default w ↦ ap (λ (o : Operations g.row.D.Denot). length o.rooms.0) w.self-is
     ] in
-    note_inside seen g.D.Device.may_leave opening relations counters o s _ right k c.requires.writing c.in_ok-first.ensures.reply c.match-done.scope copies _ rooms
+    note_inside seen g.D.Device.may_leave opening relations counters o s _ right k c.requires.writing c.in_ok-first.ensures.reply c.match-done.scope copies _ rooms)
 
 pub note_looked-requires-clause-few : goal.note_looked-requires-clause-few
-note_looked-requires-clause-few g c = let (opening, relations, counters, right, k, few, some) = c.requires.right in let seen = g.D.Device.seen in let s = c.args.scope.now in let o = c.args.self.now in
+note_looked-requires-clause-few g c = ∥∥₁_elim c.requires.right (hlevel props) (λ (opening, relations, counters, right, k, few, some). let seen = g.D.Device.seen in let s = c.args.scope.now in let o = c.args.self.now in
     let copies : c.match-done.scope.seen ≡ s.seen = elim c.match-done.branch [
       | in-Some+in_ok-append_end w ↦ ap (λ (t : OpScope). t.seen) w.scope-is ∙ ap (λ (t : OpScope). t.seen) w.append_end.ensures.scope
       | in_default w ↦ ap (λ (t : OpScope). t.seen) w.scope-is
@@ -135,7 +137,7 @@ note_looked-requires-clause-few g c = let (opening, relations, counters, right, 
       | in-Some+in_ok-append_end w ↦ ap (λ (o : Operations g.row.D.Denot). length o.rooms.0) w.self-is ∙ ap (λ (x : Rooms). length x.0) w.append_end.ensures.rooms
       | in_default w ↦ ap (λ (o : Operations g.row.D.Denot). length o.rooms.0) w.self-is
     ] in
-    note_few seen g.D.Device.may_leave opening relations counters o s _ right k c.requires.writing c.in_ok-first.ensures.reply c.match-done.scope copies _ rooms
+    note_few seen g.D.Device.may_leave opening relations counters o s _ right k c.requires.writing c.in_ok-first.ensures.reply c.match-done.scope copies _ rooms)
 
 pub returns-in_err-first : goal.returns-in_err-first
 returns-in_err-first g c = let d = g.D.Device in let o = c.args.self.now in let s = c.args.scope.now in
@@ -257,3 +259,6 @@ returns g c = let d = g.D.Device in let seen = d.seen in let o = c.args.self.now
       ended = ((λ e. absurd cc), (λ e. absurd cc));
       only_memory = tt;
     }
+
+pub append_end-requires-clause-kept : goal.append_end-requires-clause-kept
+append_end-requires-clause-kept g c = (known_within g.D.Device.seen g.D.Device.may_leave c.args.self.now c.args.scope.now c.requires.right).kept

@@ -1,12 +1,12 @@
 use Rattle.mt_base.specs.declared.refusal.Refusal.TheVariants as refusal
 use Rattle.std.specs.Prelude.{Ok, Err}
-use Rattle.std.proofs.Common.{inl, inr, ⊎_elim, refl, sym, ◌∙◌, ap, subst}
+use Rattle.std.proofs.Common.{inl, inr, ⊎_elim, refl, sym, ◌∙◌, ap, subst, arith}
 use Rattle.std.proofs.lemmas.Result.{err_from_is_err_and}
 use Rattle.std.proofs.Math.ListN.{get_or}
 use Rattle.mt_op.specs.Stepping.{LocksPage}
 use Rattle.mt_op.specs.declared.answers.Stepped.TheVariants as stepped
 use Rattle.mt_op.proofs.Choosing.{idle_locks, locks_behind}
-use Rattle.mt_op.proofs.Staying.{rests_own}
+use Rattle.mt_op.proofs.Known.{known, one_rests}
 use Rattle.mt_op.proofs.Faulting.{no_fault_ok, fault_told, unfailed}
 use Rattle.mt_op.proofs.operations.Operations.lock.Goals as goal
 
@@ -23,8 +23,15 @@ returns-then-not-branch g c = let d = g.D.Device in let f = c.bring.ensures in
     (λ is. f.full (c.in_ok-bring.was ∙ ap Ok c.if-not-branch.true)) tt (no_fault_ok _ _ _ (unfailed _ _ c.bring.result _ f.cause c.in_ok-bring.was))
 
 pub look-requires-clause-right : goal.look-requires-clause-right
-look-requires-clause-right g c = let (opening, relations, counters, right, k) = c.requires.right in let f = c.bring.ensures in
-    (opening, relations, counters, f.right opening relations counters right, rests_own relations counters _ _ c.args.scope.now (f.rests opening) k)
+look-requires-clause-right g c = let f = c.bring.ensures in
+    one_rests g.D.Device.seen g.D.Device.may_leave c.args.self.now c.bring.new.self c.args.scope.now f.right f.rests c.requires.right
+
+pub bring-requires-clause-kept : goal.bring-requires-clause-kept
+bring-requires-clause-kept g c = (known g.D.Device.seen g.D.Device.may_leave c.args.self.now c.args.scope.now c.requires.right).kept
+
+pub bring-requires-clause-inside : goal.bring-requires-clause-inside
+bring-requires-clause-inside g c = let k = known g.D.Device.seen g.D.Device.may_leave c.args.self.now c.args.scope.now c.requires.right in let inside = c.requires.next.inside in
+    omega (arith, k.total, inside)
 
 pub look-requires-clause-led : goal.look-requires-clause-led
 look-requires-clause-led g c = ⊎_elim inl (λ led. inr (led.0, led.1, ap (λ m. get_or m.kinds c.args.page 0) c.bring.ensures.map ∙ led.2)) c.requires.led

@@ -1,7 +1,7 @@
 use Rattle.std.proofs.Common.{◌≡◌, ◌<◌, ℕ, List, [], ◌∷◌, ◌++◌, None, get_or, ⊎_elim, inl, inr, refl, sym, subst, ◌∙◌, ap, arith}
 use Rattle.std.specs.Prelude.{Ok}
 use Rattle.std.proofs.lemmas.Result.{err_from_is_err_and}
-use Rattle.mt_pool.specs.Views.{IsThere, view}
+use Rattle.mt_pool.specs.Views.{IsPool, IsThere, view}
 use Rattle.mt_pool.specs.declared.store.Store.{Store}
 use Rattle.mt_steps.specs.Drafts.{copied}
 use Rattle.mt_steps.specs.declared.draft.PageCopy.{PageCopy}
@@ -13,6 +13,8 @@ use Rattle.mt_op.proofs.Asking.{asked_right}
 use Rattle.mt_op.proofs.Going.{rests_goes, rests_same, unlocked_goes_on, locks_goes, stays_roomy, goes_on_since, goes_since, planning_stays, err_goes_on, ok_same, there_whole}
 use Rattle.mt_op.proofs.Work.{stays_work, locks_work, err_works, unlocked_works, works_behind}
 use Rattle.mt_op.proofs.Keeping.{held_keeps, err_keeps, held_scope, err_scope, stays_then}
+use Rattle.mt_space.specs.Changes.{PageBytes}
+use Rattle.mt_op.proofs.Known.{known}
 use Rattle.mt_op.proofs.operations.Operations.look.Goals as goal
 
 pub returns-in_err-reserve-clause-goes : goal.returns-in_err-reserve-clause-goes
@@ -78,7 +80,7 @@ returns-in_err-reserve-clause-work g c = let s = c.args.scope.now in let f = c.r
     err_works s m c.from_residual.result p.0 p.1 (omega arith)
 
 pub returns-in_err-other-clause-work : goal.returns-in_err-other-clause-work
-returns-in_err-other-clause-work g c = let (opening, relations, counters, right, k) = c.requires.right in
+returns-in_err-other-clause-work g c = let opening : PageBytes = λ p. [] in
     let seen = g.D.Device.seen in let s = c.args.scope.now in let m = record s { seen = c.reserve.new.self } in
     let w = world seen opening c.args.self.now in let z = world seen opening c.hold.new.self in
     let same = stays_work s m c.requires.planning (stays_roomy s c.reserve.new.self c.reserve.ensures.total c.reserve.ensures.same) in
@@ -88,7 +90,7 @@ returns-in_err-other-clause-work g c = let (opening, relations, counters, right,
     err_works s c.hold.new.scope c.from_residual-in_err-other.result p.0 p.1 (omega arith)
 
 pub returns-in-Went-clause-work : goal.returns-in-Went-clause-work
-returns-in-Went-clause-work g c = let (opening, relations, counters, right, k) = c.requires.right in
+returns-in-Went-clause-work g c = let opening : PageBytes = λ p. [] in
     let seen = g.D.Device.seen in let s = c.args.scope.now in let m = record s { seen = c.reserve.new.self } in
     let w = world seen opening c.args.self.now in let z = world seen opening c.hold.new.self in
     let h = subst (IsHeld w z m c.hold.new.scope c.args.page c.args.mode) (c.in_ok-other.was ∙ ap Ok c.in-Went.is) (c.hold.ensures.held opening) in
@@ -97,7 +99,7 @@ returns-in-Went-clause-work g c = let (opening, relations, counters, right, k) =
     (c.put.ensures.put ∙ ap (λ (cs : List PageCopy). cs ++ copy ∷ []) (h.1.seen ∙ c.reserve.ensures.same)) c.requires.led c.requires.next.new c.requires.next.inside
 
 pub returns-in_default-clause-work : goal.returns-in_default-clause-work
-returns-in_default-clause-work g c = let (opening, relations, counters, right, k) = c.requires.right in
+returns-in_default-clause-work g c = let opening : PageBytes = λ p. [] in
     let seen = g.D.Device.seen in let s = c.args.scope.now in let m = record s { seen = c.reserve.new.self } in
     let w = world seen opening c.args.self.now in let z = world seen opening c.hold.new.self in
     let same = stays_work s m c.requires.planning (stays_roomy s c.reserve.new.self c.reserve.ensures.total c.reserve.ensures.same) in
@@ -106,7 +108,7 @@ returns-in_default-clause-work g c = let (opening, relations, counters, right, k
     (subst (IsHeld w z m c.hold.new.scope c.args.page c.args.mode) c.in_ok-other.was (c.hold.ensures.held opening)) c.requires.planning)
 
 pub returns-in_err-other-clause-locks : goal.returns-in_err-other-clause-locks
-returns-in_err-other-clause-locks g c = let (opening, relations, counters, right, k) = c.requires.right in
+returns-in_err-other-clause-locks g c = let opening : PageBytes = λ p. [] in
     let seen = g.D.Device.seen in let s = c.args.scope.now in
     let p = err_from_is_err_and c.from_residual-in_err-other.result c.from_residual-in_err-other.ensures.1 in
     let h = subst (IsHeld (world seen opening c.args.self.now) (world seen opening c.hold.new.self) (record s { seen = c.reserve.new.self }) c.hold.new.scope c.args.page c.args.mode) c.in_err-other.was (c.hold.ensures.held opening) in
@@ -118,13 +120,13 @@ returns-in_err-reserve-clause-locks g c =
     err_keeps c.args.scope.now.number (IsNext c.args.scope.now) c.args.self.now.locks c.args.self.now.locks c.from_residual.result p.0 p.1 refl
 
 pub returns-in_default-clause-locks : goal.returns-in_default-clause-locks
-returns-in_default-clause-locks g c = let (opening, relations, counters, right, k) = c.requires.right in
+returns-in_default-clause-locks g c = let opening : PageBytes = λ p. [] in
     let seen = g.D.Device.seen in let s = c.args.scope.now in let m = record s { seen = c.reserve.new.self } in
     let w = world seen opening c.args.self.now in let z = world seen opening c.hold.new.self in
     held_keeps (IsNext s) w z m c.hold.new.scope c.args.page c.args.mode (Ok c.in_ok-other.other) (inl c.requires.next) (subst (IsHeld w z m c.hold.new.scope c.args.page c.args.mode) c.in_ok-other.was (c.hold.ensures.held opening))
 
 pub returns-in-Went-clause-locks : goal.returns-in-Went-clause-locks
-returns-in-Went-clause-locks g c = let (opening, relations, counters, right, k) = c.requires.right in
+returns-in-Went-clause-locks g c = let opening : PageBytes = λ p. [] in
     let seen = g.D.Device.seen in let s = c.args.scope.now in let m = record s { seen = c.reserve.new.self } in
     let w = world seen opening c.args.self.now in let z = world seen opening c.hold.new.self in
     let went : c.hold.result ≡ Ok stepped.Went = c.in_ok-other.was ∙ ap Ok c.in-Went.is in
@@ -136,15 +138,21 @@ returns-in_err-reserve-clause-scope g c = let s = c.args.scope.now in let f = c.
     err_scope s (record s { seen = c.reserve.new.self }) c.from_residual.result p.0 p.1 (stays_roomy s c.reserve.new.self f.total f.same)
 
 pub returns-in_err-other-clause-scope : goal.returns-in_err-other-clause-scope
-returns-in_err-other-clause-scope g c = let (opening, relations, counters, right, k) = c.requires.right in
+returns-in_err-other-clause-scope g c = let opening : PageBytes = λ p. [] in
     let seen = g.D.Device.seen in let s = c.args.scope.now in let m = record s { seen = c.reserve.new.self } in
     let p = err_from_is_err_and c.from_residual-in_err-other.result c.from_residual-in_err-other.ensures.1 in
     let h = subst (IsHeld (world seen opening c.args.self.now) (world seen opening c.hold.new.self) m c.hold.new.scope c.args.page c.args.mode) c.in_err-other.was (c.hold.ensures.held opening) in
     err_scope s c.hold.new.scope c.from_residual-in_err-other.result p.0 p.1 (stays_then s m c.hold.new.scope (stays_roomy s c.reserve.new.self c.reserve.ensures.total c.reserve.ensures.same) h.1)
 
 pub returns-in_default-clause-scope : goal.returns-in_default-clause-scope
-returns-in_default-clause-scope g c = let (opening, relations, counters, right, k) = c.requires.right in
+returns-in_default-clause-scope g c = let opening : PageBytes = λ p. [] in
     let seen = g.D.Device.seen in let s = c.args.scope.now in let m = record s { seen = c.reserve.new.self } in
     let w = world seen opening c.args.self.now in let z = world seen opening c.hold.new.self in
     held_scope w z s m c.hold.new.scope c.args.page c.args.mode (Ok c.in_ok-other.other) (stays_roomy s c.reserve.new.self c.reserve.ensures.total c.reserve.ensures.same) refl
     (subst (IsHeld w z m c.hold.new.scope c.args.page c.args.mode) c.in_ok-other.was (c.hold.ensures.held opening))
+
+pub hold-requires : goal.hold-requires
+hold-requires g c = record { locks = (known g.D.Device.seen g.D.Device.may_leave c.args.self.now c.args.scope.now c.requires.right).locks }
+
+pub view-requires-clause-pool : goal.view-requires-clause-pool
+view-requires-clause-pool g c = subst (λ store. IsPool store.pool) (sym c.hold.ensures.store) (known g.D.Device.seen g.D.Device.may_leave c.args.self.now c.args.scope.now c.requires.right).steady.frames

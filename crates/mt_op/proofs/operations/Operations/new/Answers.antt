@@ -1,57 +1,57 @@
-use Rattle.std.proofs.Common.{◌∙◌, ℕ, List, length, sym, ap, subst}
+use mathlib.Core.Logic.{∥∥₁_map}
+use Rattle.std.proofs.Common.{◌≡◌, ◌≤◌, ◌∙◌, ℕ, List, length, sym, ap, subst, arith}
 use Rattle.std.proofs.lemmas.List.{length-replicate}
-use Rattle.std.specs.Prelude.{Ok}
 use Rattle.mt_log.specs.Words.{appended}
 use Rattle.mt_log.specs.declared.log.Log.{Log}
-use Rattle.mt_pool.specs.Views.{IsThere, view, pages}
-use Rattle.mt_space.specs.Rooms.{mapped, reserved_of}
+use Rattle.mt_pool.specs.Views.{pages}
+use Rattle.mt_pool.proofs.Steady.{steady}
+use Rattle.mt_space.specs.Rooms.{mapped, free_of, reserved_of}
 use Rattle.mt_steps.specs.Plans.{IsGood}
+use Rattle.mt_op.specs.Begun.{AreImages}
 use Rattle.mt_op.specs.declared.space_map.SpaceMap.{SpaceMap}
-use Rattle.mt_op.proofs.Faulting.{unfailed}
-use Rattle.mt_op.proofs.Begun.{unlogged_spare}
-use Rattle.mt_op.proofs.Stored.{unlogged_right, unlogged_whole, unlogged_map}
+use Rattle.mt_op.proofs.Begun.{still_spare, read_then}
+use Rattle.mt_op.proofs.Stored.{unlogged_right, unlogged_map}
 use Rattle.mt_op.proofs.operations.Operations.new.Goals as goal
 
-pub view-requires-clause-there : goal.view-requires-clause-there
-view-requires-clause-there g c =
-    subst (λ (p : ℕ). IsThere c.fetch.new.self.pool p) (c.new.ensures ∙ sym c.new-in-Ok-There.ensures) (c.fetch.ensures.there (c.in-Ok-There.is ∙ ap Ok c.in-Ok-There.field-0-is))
-
-pub of-requires-in-Ok-There-clause-whole : goal.of-requires-in-Ok-There-clause-whole
-of-requires-in-Ok-There-clause-whole g c = let (opening, relations, counters, kept, good) = c.requires.good in let f = c.fetch.ensures in let seen = g.D.Device.seen in
-    let none = ap (λ (log : Log). appended log) f.log ∙ c.requires.idle in
-    ap (λ (bytes : List ℕ). length bytes) (c.view.ensures (seen c.fetch.new.self.device) ∙ ap (λ (p : ℕ). view c.fetch.new.self.pool (seen c.fetch.new.self.device) p) c.new-in-Ok-There.ensures)
-    ∙ unlogged_whole seen g.D.Device.may_leave opening relations counters c.fetch.new.self (f.kept opening kept) none (subst (λ (n : ℕ). IsGood relations counters n opening) (sym f.pages) good)
-
-pub note_rooms-requires-clause-kept : goal.note_rooms-requires-clause-kept
-note_rooms-requires-clause-kept g c = let (opening, relations, counters, kept, good) = c.requires.good in let f = c.fetch.ensures in let e = c.in_ok-map-in-Ok-There.ensures in let seen = g.D.Device.seen in
-    let none = ap (λ (log : Log). appended log) f.log ∙ c.requires.idle in
-    let good_now = subst (λ (n : ℕ). IsGood relations counters n opening) (sym f.pages) good in
-    let map = e.kinds ∙ c.view.ensures (seen c.fetch.new.self.device) ∙ ap (λ (p : ℕ). view c.fetch.new.self.pool (seen c.fetch.new.self.device) p) c.new-in-Ok-There.ensures
-    ∙ unlogged_map seen g.D.Device.may_leave opening relations counters c.fetch.new.self (f.kept opening kept) none good_now in
-    (opening, relations, counters, f.kept opening kept, good_now, map)
+pub note_rooms-requires-clause-good : goal.note_rooms-requires-clause-good
+note_rooms-requires-clause-good g c = ∥∥₁_map c.requires.good (λ (opening, relations, counters, kept, good, shows).
+    let read = c.first_parts.ensures.read in let begins = c.in-Ok.ensures.begins in (
+      opening,
+      relations,
+      counters,
+      read.kept opening kept,
+      subst (λ (n : ℕ). IsGood relations counters n opening) (sym read.page_count) good,
+      read.shows opening shows,
+      begins.kinds ∙ unlogged_map g.D.Device.seen opening relations counters c.args.store good shows,
+    ))
 
 pub note_rooms-requires-clause-spare : goal.note_rooms-requires-clause-spare
-note_rooms-requires-clause-spare g c = let (opening, relations, counters, kept, good) = c.requires.good in let f = c.fetch.ensures in
-    let none = ap (λ (log : Log). appended log) f.log ∙ c.requires.idle in
-    unlogged_spare g.D.Device.seen g.D.Device.may_leave opening c.fetch.new.self c.new.result (f.kept opening kept) none (f.there (c.in-Ok-There.is ∙ ap Ok c.in-Ok-There.field-0-is))
+note_rooms-requires-clause-spare g c =
+    let seen = g.D.Device.seen in let may_leave = g.D.Device.may_leave in let o = c.args.store in let n = c.first_parts.new.store in let read = c.first_parts.ensures.read in
+    let old = steady seen may_leave o (∥∥₁_map c.requires.good (λ r. (r.0, r.3))) in
+    let now = steady seen may_leave n (∥∥₁_map c.requires.good (λ r. (r.0, read.kept r.0 r.3))) in
+    still_spare o.pool n.pool old.frames now.frames read.dirty c.requires.free
 
-pub returns : goal.returns
-returns g c = let f = c.fetch.ensures in let e = c.in_ok-map-in-Ok-There.ensures in let n = c.in_ok-note_rooms.ensures.noted in let seen = g.D.Device.seen in
-    record {
-      right = λ opening relations counters kept good.
-          let none = ap (λ (log : Log). appended log) f.log ∙ c.requires.idle in
-          let good_then = subst (λ (n : ℕ). IsGood relations counters n opening) (sym f.pages) good in
-          let map = e.kinds ∙ c.view.ensures (seen c.fetch.new.self.device) ∙ ap (λ (p : ℕ). view c.fetch.new.self.pool (seen c.fetch.new.self.device) p) c.new-in-Ok-There.ensures
-          ∙ unlogged_map seen g.D.Device.may_leave opening relations counters c.fetch.new.self (f.kept opening kept) none good_then in
-          let count = c.count-count.ensures ∙ sym f.pages ∙ sym n.pages in
-          let rooms = n.size ∙ ap (λ (xs : List ℕ). length xs) c.in_ok-rooms.ensures.fits ∙ length-replicate _ _ ∙ count in
-          unlogged_right seen g.D.Device.may_leave opening relations counters c.note_rooms.new.self (n.kept opening (f.kept opening kept)) (ap (λ (log : Log). appended log) n.log ∙ none) (n.locks ∙ c.new-2.ensures)
-          (ap (λ (x : SpaceMap). x.kinds) n.map ∙ map) (ap (λ (x : SpaceMap). x.space.0) n.map ∙ e.free ∙ (λ i. mapped (sym e.kinds i) (count i)) ∙ ap (λ (x : SpaceMap). mapped x.kinds (pages c.note_rooms.new.self.store.pool)) (sym n.map))
-          (ap (λ (x : SpaceMap). reserved_of x.space) n.map ∙ e.none) rooms (n.noted opening (f.kept opening kept) map) (subst (λ (x : ℕ). IsGood relations counters x opening) (sym n.pages) good_then);
-      locks = n.locks ∙ c.new-2.ensures;
-      claimed = ap (λ (x : SpaceMap). reserved_of x.space) n.map ∙ e.none;
-      log = n.log ∙ f.log;
-      pages = n.pages ∙ f.pages;
-      why = tt;
-      quiet = n.faults ∙ unfailed _ _ c.fetch.result _ f.cause c.in-Ok-There.is;
-    }
+pub returns-in-Ok-note_rooms-clause-right : goal.returns-in-Ok-note_rooms-clause-right
+returns-in-Ok-note_rooms-clause-right g c = λ opening relations counters kept good shows.
+    let seen = g.D.Device.seen in let may_leave = g.D.Device.may_leave in let n = c.note_rooms.new.self in
+    let first = c.first_parts.ensures.read in let begins = c.in-Ok.ensures.begins in let noted = c.in-Ok-note_rooms.ensures.noted in
+    let all = read_then seen may_leave c.args.store c.first_parts.new.store n.store first noted.read in
+    let none = subst (λ (log : Log). AreImages (appended log)) (sym all.log) c.requires.images in
+    let kinds : c.in-Ok.parts.1.kinds ≡ opening 0 = begins.kinds ∙ unlogged_map seen opening relations counters c.args.store good shows in
+    let map : n.map ≡ c.in-Ok.parts.1 = noted.map in
+    let space : n.map.space.0 ≡ mapped n.map.kinds (pages n.store.pool) = ap (λ (x : SpaceMap). x.space.0) map ∙ begins.space ∙ (λ i. mapped (sym map i).kinds (sym all.page_count i)) in
+    let zero : reserved_of n.map.space ≡ 0 = ap (λ (x : SpaceMap). reserved_of x.space) map ∙ begins.unclaimed in
+    let claims : reserved_of n.map.space ≤ free_of n.map.space = omega (arith, zero) in
+    unlogged_right seen may_leave opening relations counters n (all.kept opening kept) none (all.shows opening shows) (noted.locks ∙ c.new-locks.ensures)
+    (ap (λ (x : SpaceMap). x.kinds) map ∙ kinds) space claims
+    (noted.size ∙ ap (λ (xs : List ℕ). length xs) begins.blank ∙ length-replicate _ _ ∙ sym all.page_count) (noted.noted opening (first.shows opening shows) kinds)
+    (subst (λ (x : ℕ). IsGood relations counters x opening) (sym all.page_count) good)
+
+pub returns-in-Ok-note_rooms-clause-read : goal.returns-in-Ok-note_rooms-clause-read
+returns-in-Ok-note_rooms-clause-read g c =
+    read_then g.D.Device.seen g.D.Device.may_leave c.args.store c.first_parts.new.store c.note_rooms.new.self.store c.first_parts.ensures.read c.note_rooms.ensures.read
+
+pub returns-in-Err-note_rooms-clause-read : goal.returns-in-Err-note_rooms-clause-read
+returns-in-Err-note_rooms-clause-read g c =
+    read_then g.D.Device.seen g.D.Device.may_leave c.args.store c.first_parts.new.store c.note_rooms.new.self.store c.first_parts.ensures.read c.note_rooms.ensures.read

@@ -1,3 +1,4 @@
+use mathlib.Core.Logic.{∥∥₁_map}
 use Rattle.std.proofs.Common.{◌≡◌, ◌<◌, ◌+◌, ◌∙◌, ℕ, List, None, Some, length, get_or, set, sym, ap, subst, length-set}
 use Rattle.std.specs.Prelude.{IsSome}
 use Rattle.std.proofs.lemmas.List.{get_or-set_other}
@@ -54,3 +55,8 @@ loop-guard-preserved g c =
                 (noted_none s c.args.self.now.map.kinds pages i d lt is old.rooms.0 (before.noted pages agrees short) (sym (ap (looked s) page) ∙ w.in_default.ensures.none));
           }
     ]
+
+pub room_after-room-requires-clause-pages : goal.room_after-room-requires-clause-pages
+room_after-room-requires-clause-pages g c = ∥∥₁_map c.requires.pages (λ (pages, agrees, short, shaped).
+    let p = c.lock-page.result.page in
+    (pages, agrees p c.in-Some.before.now c.in-Some.ensures.some, short, λ kind. shaped p (ap (λ (m : SpaceMap). get_or m.kinds p 0) (sym c.loop-guard.invariant.map) ∙ kind)))

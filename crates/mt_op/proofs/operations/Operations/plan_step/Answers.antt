@@ -7,7 +7,7 @@ use Rattle.mt_pool.specs.Kept.{Explains}
 use Rattle.mt_pool.specs.declared.store.Store.{Store}
 use Rattle.mt_base.specs.declared.modes.Mode.TheVariants.{Read}
 use Rattle.mt_steps.specs.Acts.{IfLock, IfMade, IfFull}
-use Rattle.mt_steps.specs.Plans.{InPages, IsPlanned, IsTight, free_pages, own_needs, record_bytes}
+use Rattle.mt_steps.specs.Plans.{AsksCounters, AsksRow, InPages, IsPlanned, IsTight, free_pages, own_needs, record_bytes}
 use Rattle.mt_steps.specs.declared.act.Act.{Act}
 use Rattle.mt_op.specs.World.{looked}
 use Rattle.mt_op.specs.Operations.{world}
@@ -40,7 +40,17 @@ lock_next-requires-clause-next g c = let s = c.args.scope.now in
       new = l.0;
       inside = l.1;
       reads = λ is. subst (λ (a : Act). IfLock a (λ p mode. mode ≡ Read)) c.in-Lock.is (c.in_ok-page.ensures.mode (reading_of s.op is));
+      asked = inl (
+        subst (λ (a : Act). IfLock a (AsksCounters s.op)) c.in-Lock.is c.in_ok-page.ensures.counters,
+        subst (λ (a : Act). IfLock a (AsksRow (looked s) s.seen.total s.op)) c.in-Lock.is c.in_ok-page.ensures.rows,
+      );
     }
+
+pub lock_next-requires-clause-asked : goal.lock_next-requires-clause-asked
+lock_next-requires-clause-asked g c = let s = c.args.scope.now in (
+  subst (λ (a : Act). IfLock a (AsksCounters s.op)) c.in-Lock.is c.in_ok-page.ensures.counters,
+  subst (λ (a : Act). IfLock a (AsksRow (looked s) s.seen.total s.op)) c.in-Lock.is c.in_ok-page.ensures.rows,
+)
 
 pub keep_plan-requires-clause-planned : goal.keep_plan-requires-clause-planned
 keep_plan-requires-clause-planned g c = let s = c.args.scope.now in λ relations counters small within.
@@ -67,7 +77,7 @@ returns-in-Made g c = let d = g.D.Device in let o = c.args.self.now in let s = c
     }
 
 pub returns-in-Full : goal.returns-in-Full
-returns-in-Full g c = let d = g.D.Device in let o = c.args.self.now in let s = c.args.scope.now in let (opening, relations, counters, right, k, small, free) = c.requires.right in
+returns-in-Full g c = let d = g.D.Device in let o = c.args.self.now in let s = c.args.scope.now in
     record {
       goes = λ opening relations counters right k small. (right, unled_goes relations counters (world d.seen opening o) s c.requires.planning k);
       moments = λ opening kept. no_call d.seen d.may_leave opening o.store kept d.moment d.left_since g.met.D.Device.only_now;
@@ -78,10 +88,16 @@ returns-in-Full g c = let d = g.D.Device in let o = c.args.self.now in let s = c
       budget = record { enough = c.requires.budget.enough; reads = c.requires.budget.reads };
       full = λ is. absurd cc;
       stage = λ not. c.requires.planning;
-      work = led_work relations counters (world d.seen opening o) s c.requires.planning right.sound k free
+      work = let (opening, relations, counters, right, k, small, free) = c.requires.right in led_work relations counters (world d.seen opening o) s c.requires.planning right.sound k free
           (subst (λ (a : Act). IfFull a (InPages (looked s) s.room relations counters s.seen.total (λ pages. (free_pages s.seen.total pages < own_needs s.op s.split) ⊎ IsTight s.room pages (record_bytes s.op)))) c.in-Full.is (c.in_ok-page.ensures.full relations counters small k.within));
       locks = inl refl;
       scope = tt;
       why = tt;
       faults = no_fault_ok _ _ _ refl;
     }
+
+pub lock_next-requires-clause-right : goal.lock_next-requires-clause-right
+lock_next-requires-clause-right g c = let (opening, relations, counters, right, k, small, free) = c.requires.right in ∣ (opening, relations, counters, right, k) ∣₁
+
+pub keep_plan-requires-clause-right : goal.keep_plan-requires-clause-right
+keep_plan-requires-clause-right g c = let (opening, relations, counters, right, k, small, free) = c.requires.right in ∣ (opening, relations, counters, right, k) ∣₁

@@ -1,3 +1,5 @@
+use Rattle.std.proofs.Props.{props}
+use mathlib.Core.Logic.{∥∥₁_elim}
 use Rattle.std.proofs.Common.{◌<◌, ◌-◌, ◌+◌, refl, subst, arith, ap}
 use Rattle.mt_log.specs.Words.{appended, used, area_size}
 use Rattle.mt_log.specs.declared.log.Log.{Log}
@@ -6,17 +8,19 @@ use Rattle.std.specs.Prelude.{IsSome, ℕ}
 use Rattle.mt_op.specs.World.{looked}
 use Rattle.mt_op.specs.Operations.{world}
 use Rattle.mt_op.specs.declared.scope.Stage.TheVariants.{Taking}
-use Rattle.mt_op.proofs.Restored.{returnable, left_to_drop, back_goes}
+use Rattle.mt_op.proofs.Restored.{returnable_one, left_to_drop, back_goes}
+use Rattle.mt_op.proofs.Known.{known}
 use Rattle.mt_op.proofs.operations.Operations.put_last_back.Goals as goal
 
 pub returns-then-scope-eq1 : goal.returns-then-scope-eq1
 returns-then-scope-eq1 g c = c.clear.ensures.back
 
 pub put_back-requires : goal.put_back-requires
-put_back-requires g c = let (opening, relations, counters, right, k) = c.requires.right in let (change, is, same) = c.requires.page in
-    let ready = returnable g.D.Device.seen g.D.Device.may_leave opening relations counters c.args.self.now c.args.scope.now change right k c.requires.stage c.requires.some is in
+put_back-requires g c = let (change, is, same) = c.requires.page in
+    let ready = returnable_one g.D.Device.seen g.D.Device.may_leave c.args.self.now c.args.scope.now change c.requires.right c.requires.stage c.requires.some is in
+    let k = known g.D.Device.seen g.D.Device.may_leave c.args.self.now c.args.scope.now c.requires.right in
     record {
-      kept = (opening, right.kept);
+      kept = k.kept;
       looked = subst (λ (p : ℕ). IsSome (looked c.args.scope.now p)) same ready.some;
       whole = k.whole;
       inside = subst (λ (p : ℕ). p < pages c.args.self.now.store.pool) same ready.inside;
@@ -44,8 +48,8 @@ returns g c = let b = c.put_back.ensures in let seen = g.D.Device.seen in let ma
       map = b.map;
       records = ap (λ (l : Log). appended l) b.log;
       locks = b.locks;
-      budget = let (opening, relations, counters, right, k) = c.requires.right in
-          record { enough = left_to_drop relations counters (world seen opening o) s k c.requires.stage some c.requires.budget; reads = c.requires.budget.reads };
+      budget =
+          record { enough = ∥∥₁_elim c.requires.right (hlevel props) (λ (opening, relations, counters, right, k). left_to_drop relations counters (world seen opening o) s k c.requires.stage some c.requires.budget); reads = c.requires.budget.reads };
       err = tt;
       only_memory = tt;
     }

@@ -1,15 +1,20 @@
-use Rattle.std.proofs.Common.{◌≡◌, ◌≢◌, ◌<◌, ◌≤◌, ◌+◌, ℕ, List, All, length, get_or, sym, ap, ◌∙◌, subst, eq-eqb}
+use Rattle.std.proofs.Props.{props}
+use mathlib.Core.Logic.{∥∥₁_elim, ∥∥₁_map}
+use Rattle.std.proofs.Common.{◌≡◌, ◌≢◌, ◌<◌, ◌≤◌, ◌+◌, ℕ, List, All, length, take, get_or, sym, ap, ◌∙◌, subst, arith, eq-eqb}
 use Rattle.std.proofs.lemmas.Bool.{eqb-true}
 use Rattle.mt_base.specs.Edits.{patched}
 use Rattle.mt_base.specs.declared.edits.Edit.{Edit}
 use Rattle.mt_space.specs.declared.changes.PageChange.{PageChange}
 use Rattle.mt_op.proofs.Following.{after_here, after_other, edits_within}
+use Rattle.std.proofs.lemmas.List.{take_all}
+use Rattle.mt_slots.specs.Page.{IsShaped}
+use Rattle.mt_space.specs.Changes.{after}
+use Rattle.mt_op.proofs.Shaped.{shaped_of}
 use Rattle.mt_op.proofs.operations.Operations.room_after.Goals as goal
 use Rattle.mt_op.proofs.operations.Operations.room_after.Goals.{then-eq, else-eq}
 
 pub patch-requires : goal.patch-requires
-patch-requires g c =
-    let (pages, page, short, shaped) = c.requires.pages in
+patch-requires g c = ∥∥₁_elim c.requires.pages (hlevel props) (λ (pages, page, short, shaped).
     let same = c.deref-change-items.ensures.value in
     let cs = c.args.changes.now.list.items in
     let d = c.change-item.result in
@@ -17,7 +22,7 @@ patch-requires g c =
     let is = c.change-item.is ∙ ap (λ (ds : List PageChange). get_or ds c.loop-change.change-index d) same in
     let here : d.page ≡ c.args.page = eqb-true d.page c.args.page (sym c.eq.ensures ∙ c.if-eq.true) in
     subst (λ (es : List Edit). All (λ (e : Edit). e.start + length e.bytes ≤ 4096) es) (sym c.as_slice.ensures.value)
-    (edits_within cs c.loop-change.change-index d pages lt is short (ap (λ (p : ℕ). length (pages p)) here ∙ ap (λ (bytes : List ℕ). length bytes) page ∙ c.requires.whole))
+    (edits_within cs c.loop-change.change-index d pages lt is short (ap (λ (p : ℕ). length (pages p)) here ∙ ap (λ (bytes : List ℕ). length bytes) page ∙ c.requires.whole)))
 
 pub loop-change-preserved : goal.loop-change-preserved
 loop-change-preserved g c =
@@ -42,3 +47,10 @@ loop-change-preserved g c =
             bytes = λ pages page short. w.bytes-is ∙ before.bytes pages page short ∙ sym (after_other cs i d pages lt is c.args.page other);
           }
     ]
+
+pub fits-requires : goal.fits-requires
+fits-requires g c = shaped_of c.loop-change.bytes (∥∥₁_map c.requires.pages (λ (pages, page, short, shaped).
+    let list = c.args.changes.now.list.items in let value = c.deref-change-items.ensures.value in let long = ap length value in
+    let all : take c.loop-change.change-index list ≡ list = take_all c.loop-change.change-index list (let past = c.loop-change-test.false in omega (arith, long, past)) in
+    let kind = ap (λ (p : ℕ). get_or c.args.self.now.map.kinds p 0) (sym (c.from.ensures ∙ c.get.ensures)) ∙ c.if-self-from-ne-RECORDS.false in
+    subst IsShaped (sym (c.loop-change.invariant.bytes pages page short ∙ ap (λ (cs : List PageChange). after cs pages c.args.page) all)) (shaped kind)))

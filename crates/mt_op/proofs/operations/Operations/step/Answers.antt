@@ -7,6 +7,7 @@ use Rattle.mt_op.specs.declared.space_map.SpaceMap.{SpaceMap}
 use Rattle.mt_op.specs.declared.scope.Stage.TheVariants.{Planning}
 use Rattle.mt_op.specs.Operations.{world}
 use Rattle.mt_op.specs.Stepping.{PlansOn}
+use Rattle.mt_op.proofs.Unready.{goes_unready}
 use Rattle.mt_op.proofs.Choosing.{MakesStep, room_still, writes_step, stopped_step, planned_step, made_step}
 use Rattle.mt_op.proofs.operations.Operations.step.Goals as goal
 
@@ -58,10 +59,11 @@ returns-in_err-stepped g c = let d = g.D.Device in let o = c.args.self.now in le
 
 pub returns-in-Some : goal.returns-in-Some
 returns-in-Some g c = let d = g.D.Device in let o = c.args.self.now in let s = c.args.scope.now in let n = c.plan_step.new.self in let t = c.plan_step.new.scope in
-    let (opening, relations, counters, right, k, few, some) = c.requires.right in let planning : s.stage ≡ Planning = search rules in
+    let planning : s.stage ≡ Planning = search rules in
     let plans = subst (PlansOn d.seen d.may_leave d.moment d.left_since d.faults o n s t) (c.in_ok-stepped.was ∙ ap Ok c.in-Some.is) c.plan_step.ensures in
-    let e = planned_step d.seen d.may_leave d.moment d.left_since d.faults o n s t c.in-Some.stepped planning relations counters (world d.seen opening o) (world d.seen opening n)
-    (plans.goes opening relations counters right k few).1 plans in
+    let (opening, relations, counters, right, k, few, some) = c.requires.right in
+    let unready = goes_unready relations counters (world d.seen opening o) (world d.seen opening n) s t (Ok c.in-Some.stepped) (plans.goes opening relations counters right k few).1 in
+    let e = planned_step d.seen d.may_leave d.moment d.left_since d.faults o n s t c.in-Some.stepped planning unready plans in
     record {
       steps = e.steps;
       moments = e.moments;
@@ -83,14 +85,14 @@ returns-in-Some g c = let d = g.D.Device in let o = c.args.self.now in let s = c
 
 pub go_on-requires-in-None : goal.go_on-requires-in-None
 go_on-requires-in-None g c = let d = g.D.Device in let o = c.args.self.now in let s = c.args.scope.now in let n = c.plan_step.new.self in let t = c.plan_step.new.scope in
-    let (opening, relations, counters, right, k, few, some) = c.requires.right in
     let plans = subst (PlansOn d.seen d.may_leave d.moment d.left_since d.faults o n s t) (c.in_ok-stepped.was ∙ ap Ok c.in-None.is) c.plan_step.ensures in
-    let gone = plans.goes opening relations counters right k few in
-    let own : own_needs t.op t.split ≡ own_needs s.op s.split = λ i. own_needs (gone.1.same.op i) (gone.1.same.split i) in
+    let same = plans.scope.op in
+    let own : own_needs t.op t.split ≡ own_needs s.op s.split = λ i. own_needs (same.op i) (same.split i) in
     let claims = c.requires.claims in
     let stays = ap (λ (m : SpaceMap). reserved_of m.space) plans.map in
     record {
-      right = (opening, relations, counters, gone.0, gone.1.own, few, some);
+      right = let (opening, relations, counters, right, k, few, some) = c.requires.right in let gone = plans.goes opening relations counters right k few in
+          ∣ (opening, relations, counters, gone.0, gone.1.own, few, some) ∣₁;
       claims = omega (arith, own, claims, stays);
       writing = (plans.made refl).1;
       budget = plans.budget;
@@ -99,10 +101,9 @@ go_on-requires-in-None g c = let d = g.D.Device in let o = c.args.self.now in le
 
 pub returns-in-None : goal.returns-in-None
 returns-in-None g c = let d = g.D.Device in let o = c.args.self.now in let s = c.args.scope.now in let n = c.plan_step.new.self in let t = c.plan_step.new.scope in
-    let (opening, relations, counters, right, k, few, some) = c.requires.right in let planning : s.stage ≡ Planning = search rules in
+    let planning : s.stage ≡ Planning = search rules in
     let plans = subst (PlansOn d.seen d.may_leave d.moment d.left_since d.faults o n s t) (c.in_ok-stepped.was ∙ ap Ok c.in-None.is) c.plan_step.ensures in
-    let e = made_step d.seen d.may_leave d.moment d.left_since d.faults o n s t c.go_on-in-None.new.self c.go_on-in-None.new.scope c.go_on-in-None.result planning
-    (plans.goes opening relations counters right k few).1.same plans c.go_on-in-None.ensures in
+    let e = made_step d.seen d.may_leave d.moment d.left_since d.faults o n s t c.go_on-in-None.new.self c.go_on-in-None.new.scope c.go_on-in-None.result planning plans c.go_on-in-None.ensures in
     record {
       steps = e.steps;
       moments = e.moments;
@@ -121,3 +122,6 @@ returns-in-None g c = let d = g.D.Device in let o = c.args.self.now in let s = c
       why = e.why;
       faults = e.faults;
     }
+
+pub go_on-requires-clause-right : goal.go_on-requires-clause-right
+go_on-requires-clause-right g c = ∣ c.requires.right ∣₁

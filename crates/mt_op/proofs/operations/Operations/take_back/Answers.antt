@@ -1,21 +1,27 @@
-use Rattle.std.proofs.Common.{rules, inr, refl, sym, subst, arith, ◌∙◌, ap}
+use Rattle.std.proofs.Props.{props}
+use mathlib.Core.Logic.{∥∥₁_elim}
+use Rattle.std.proofs.Common.{rules, ◌≤◌, ◌<◌, ◌-◌, length, inr, refl, sym, subst, arith, ◌∙◌, ap}
 use Rattle.std.specs.Prelude.{Ok, Err}
 use Rattle.std.proofs.lemmas.Result.{err_from_is_err_and}
 use Rattle.mt_base.specs.declared.refusal.Refusal.TheVariants as refusal
+use Rattle.mt_op.specs.World.{changes_in}
 use Rattle.mt_op.specs.Operations.{world}
 use Rattle.mt_op.specs.declared.answers.TakenBack.TheVariants as taken
 use Rattle.mt_op.proofs.Back.{TakesBack, takes_none, takes_behind, no_page_stands}
-use Rattle.mt_op.proofs.Staying.{rests_own}
-use Rattle.mt_op.proofs.Restored.{few_stand, some_stand}
+use Rattle.mt_op.proofs.Known.{one_rests}
+use Rattle.mt_op.proofs.Restored.{few_stand, some_stand, standing_one, returnable_one}
 use Rattle.mt_op.proofs.Faulting.{no_fault_ok, fault_told, unfailed}
 use Rattle.mt_pool.proofs.Kept.{no_call}
+use Rattle.mt_op.proofs.Known.{Changing-prop}
+use Rattle.mt_op.proofs.Known.{known}
 use Rattle.mt_op.proofs.operations.Operations.take_back.Goals as goal
 
 pub returns-then-scope-eq0 : goal.returns-then-scope-eq0
-returns-then-scope-eq0 g c = let d = g.D.Device in let (opening, relations, counters, right, k) = c.requires.right in
+returns-then-scope-eq0 g c = let d = g.D.Device in
+    let few : c.args.scope.now.standing ≤ 8 = ∥∥₁_elim c.requires.right (hlevel props) (λ (opening, relations, counters, right, k). few_stand relations counters (world d.seen opening c.args.self.now) c.args.scope.now k c.requires.stage) in
     let b = no_page_stands d.seen d.may_leave d.moment d.left_since d.faults c.args.self.now c.args.scope.now
     (λ opening kept. no_call d.seen d.may_leave opening c.args.self.now.store kept d.moment d.left_since g.met.D.Device.only_now)
-    (few_stand relations counters (world d.seen opening c.args.self.now) c.args.scope.now k c.requires.stage) c.requires.stage c.if-scope-eq0.true c.requires.budget in
+    few c.requires.stage c.if-scope-eq0.true c.requires.budget in
     record {
       goes = b.goes;
       moments = b.moments;
@@ -37,11 +43,11 @@ returns-then-scope-eq0 g c = let d = g.D.Device in let (opening, relations, coun
 
 pub returns-in_err-bring : goal.returns-in_err-bring
 returns-in_err-bring g c = let d = g.D.Device in let f = c.bring.ensures in let o = c.args.self.now in let s = c.args.scope.now in
-    let (opening, relations, counters, right, k) = c.requires.right in
+    let few : c.args.scope.now.standing ≤ 8 = ∥∥₁_elim c.requires.right (hlevel props) (λ (opening, relations, counters, right, k). few_stand relations counters (world d.seen opening c.args.self.now) c.args.scope.now k c.requires.stage) in
     let p = err_from_is_err_and c.from_residual.result c.from_residual.ensures.1 in
     let b = subst (TakesBack d.seen d.may_leave d.moment d.left_since d.faults o c.bring.new.self s s) (sym (p.1 ∙ ap Err (p.2 ∙ c.in_err-bring.ensures.only_device)))
     (takes_none d.seen d.may_leave d.moment d.left_since d.faults o c.bring.new.self s f.right f.rests f.moments f.log f.map f.locks
-    (few_stand relations counters (world d.seen opening o) s k c.requires.stage) (Err refusal.DeviceFailed) tt c.requires.budget
+    few (Err refusal.DeviceFailed) tt c.requires.budget
     (λ is. absurd cc) (inr refl) (fault_told _ _ c.bring.result _ (Err refusal.DeviceFailed) f.cause c.in_err-bring.was refl)) in
     record {
       goes = b.goes;
@@ -64,9 +70,9 @@ returns-in_err-bring g c = let d = g.D.Device in let f = c.bring.ensures in let 
 
 pub returns-then-not-branch : goal.returns-then-not-branch
 returns-then-not-branch g c = let d = g.D.Device in let f = c.bring.ensures in let o = c.args.self.now in let s = c.args.scope.now in
-    let (opening, relations, counters, right, k) = c.requires.right in
+    let few : c.args.scope.now.standing ≤ 8 = ∥∥₁_elim c.requires.right (hlevel props) (λ (opening, relations, counters, right, k). few_stand relations counters (world d.seen opening c.args.self.now) c.args.scope.now k c.requires.stage) in
     let b = takes_none d.seen d.may_leave d.moment d.left_since d.faults o c.bring.new.self s f.right f.rests f.moments f.log f.map f.locks
-    (few_stand relations counters (world d.seen opening o) s k c.requires.stage) (Ok taken.Flush) tt c.requires.budget
+    few (Ok taken.Flush) tt c.requires.budget
     (λ is. f.full (c.in_ok-bring.was ∙ ap Ok c.if-not-branch.true)) tt (no_fault_ok _ _ _ (unfailed _ _ c.bring.result _ f.cause c.in_ok-bring.was)) in
     record {
       goes = b.goes;
@@ -88,11 +94,11 @@ returns-then-not-branch g c = let d = g.D.Device in let f = c.bring.ensures in l
     }
 
 pub put_last_back-requires : goal.put_last_back-requires
-put_last_back-requires g c = let (opening, relations, counters, right, k) = c.requires.right in let f = c.bring.ensures in let s = c.args.scope.now in
+put_last_back-requires g c = let f = c.bring.ensures in let s = c.args.scope.now in
     let zero_not = c.if-scope-eq0.false in
     record {
-      right = (opening, relations, counters, f.right opening relations counters right, rests_own relations counters (world g.D.Device.seen opening c.args.self.now) (world g.D.Device.seen opening c.bring.new.self) s (f.rests opening) k);
-      stage = some_stand relations counters (world g.D.Device.seen opening c.args.self.now) s k c.requires.stage zero_not;
+      right = one_rests g.D.Device.seen g.D.Device.may_leave c.args.self.now c.bring.new.self s f.right f.rests c.requires.right;
+      stage = ∥∥₁_elim c.requires.right (Changing-prop s) (λ (opening, relations, counters, right, k). some_stand relations counters (world g.D.Device.seen opening c.args.self.now) s k c.requires.stage zero_not);
       some = omega arith;
       page = (c.index.result.now, c.index.ensures, refl);
       there = f.there (c.in_ok-bring.was ∙ ap Ok c.if-not-branch.false);
@@ -102,9 +108,9 @@ put_last_back-requires g c = let (opening, relations, counters, right, k) = c.re
 
 pub returns : goal.returns
 returns g c = let d = g.D.Device in let f = c.bring.ensures in let o = c.args.self.now in let s = c.args.scope.now in
-    let (opening, relations, counters, right, k) = c.requires.right in
+    let few : c.args.scope.now.standing ≤ 8 = ∥∥₁_elim c.requires.right (hlevel props) (λ (opening, relations, counters, right, k). few_stand relations counters (world d.seen opening c.args.self.now) c.args.scope.now k c.requires.stage) in
     let b = takes_behind d.seen d.may_leave d.moment d.left_since d.faults o c.bring.new.self s f.right f.rests f.moments f.log f.map f.locks
-    (few_stand relations counters (world d.seen opening o) s k c.requires.stage) c.put_last_back.new.self c.put_last_back.new.scope c.put_last_back.result c.put_last_back.ensures (unfailed _ _ c.bring.result _ f.cause c.in_ok-bring.was) in
+    few c.put_last_back.new.self c.put_last_back.new.scope c.put_last_back.result c.put_last_back.ensures (unfailed _ _ c.bring.result _ f.cause c.in_ok-bring.was) in
     record {
       goes = b.goes;
       moments = b.moments;
@@ -123,3 +129,12 @@ returns g c = let d = g.D.Device in let f = c.bring.ensures in let o = c.args.se
       why = b.why;
       faults = b.faults;
     }
+
+pub bring-requires-clause-kept : goal.bring-requires-clause-kept
+bring-requires-clause-kept g c = (known g.D.Device.seen g.D.Device.may_leave c.args.self.now c.args.scope.now c.requires.right).kept
+
+pub index-requires : goal.index-requires
+index-requires g c = let zero_not = c.if-scope-eq0.false in let place : c.args.scope.now.standing - 1 < length (changes_in c.args.scope.now) = (standing_one g.D.Device.seen g.D.Device.may_leave c.args.self.now c.args.scope.now c.requires.right (∥∥₁_elim c.requires.right (Changing-prop c.args.scope.now) (λ (opening, relations, counters, right, k). some_stand relations counters (world g.D.Device.seen opening c.args.self.now) c.args.scope.now k c.requires.stage c.if-scope-eq0.false)) (omega arith)).place in search rules
+
+pub bring-requires-clause-inside : goal.bring-requires-clause-inside
+bring-requires-clause-inside g c = let zero_not = c.if-scope-eq0.false in (returnable_one g.D.Device.seen g.D.Device.may_leave c.args.self.now c.args.scope.now c.index.result.now c.requires.right (∥∥₁_elim c.requires.right (Changing-prop c.args.scope.now) (λ (opening, relations, counters, right, k). some_stand relations counters (world g.D.Device.seen opening c.args.self.now) c.args.scope.now k c.requires.stage c.if-scope-eq0.false)) (omega arith) c.index.ensures).inside

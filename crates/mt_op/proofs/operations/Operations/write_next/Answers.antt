@@ -10,8 +10,9 @@ use Rattle.mt_op.specs.World.{changes_in}
 use Rattle.mt_op.specs.Stepping.{GoesAhead}
 use Rattle.mt_op.specs.declared.answers.Stepped.TheVariants as stepped
 use Rattle.mt_op.proofs.Ahead.{idle_ahead, ahead_behind}
-use Rattle.mt_op.proofs.Staying.{rests_own}
+use Rattle.mt_op.proofs.Known.{one_rests, writes_on}
 use Rattle.mt_op.proofs.Faulting.{no_fault_ok, fault_told, unfailed}
+use Rattle.mt_op.proofs.Known.{known}
 use Rattle.mt_op.proofs.operations.Operations.write_next.Goals as goal
 
 pub returns-in_err-bring : goal.returns-in_err-bring
@@ -35,9 +36,9 @@ returns-then-not-branch g c = let d = g.D.Device in let f = c.bring.ensures in
     }
 
 pub write_there-requires : goal.write_there-requires
-write_there-requires g c = let (opening, relations, counters, right, k) = c.requires.right in let f = c.bring.ensures in let s = c.args.scope.now in
+write_there-requires g c = let f = c.bring.ensures in let s = c.args.scope.now in
     record {
-      right = (opening, relations, counters, f.right opening relations counters right, rests_own relations counters _ _ s (f.rests opening) k);
+      right = one_rests g.D.Device.seen g.D.Device.may_leave c.args.self.now c.bring.new.self s f.right f.rests c.requires.right;
       writing = c.requires.writing;
       more = c.requires.more;
       there = λ x is.
@@ -55,3 +56,9 @@ returns g c = let d = g.D.Device in let f = c.bring.ensures in
       ahead = ahead_behind d.seen d.may_leave d.moment d.left_since d.faults c.args.self.now c.bring.new.self c.args.scope.now f.right f.rests f.moments (ap used f.log) (ap area_size f.log) f.map f.locks c.write_there.new.self c.write_there.new.scope c.write_there.result
           c.write_there.ensures.ahead c.write_there.ensures.device c.write_there.ensures.never (unfailed _ _ c.bring.result _ f.cause c.in_ok-bring.was);
     }
+
+pub bring-requires-clause-kept : goal.bring-requires-clause-kept
+bring-requires-clause-kept g c = (known g.D.Device.seen g.D.Device.may_leave c.args.self.now c.args.scope.now c.requires.right).kept
+
+pub bring-requires-clause-inside : goal.bring-requires-clause-inside
+bring-requires-clause-inside g c = (writes_on g.D.Device.seen g.D.Device.may_leave c.args.self.now c.args.scope.now c.requires.right c.requires.writing).inside c.index.result.now c.requires.more c.index.ensures

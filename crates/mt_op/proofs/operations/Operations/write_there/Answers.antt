@@ -14,6 +14,8 @@ use Rattle.mt_op.proofs.Faulting.{no_fault, no_fault_ok}
 use Rattle.mt_op.proofs.Right.{right_rests, with_store}
 use Rattle.mt_op.proofs.Work.{writing_work}
 use Rattle.mt_op.proofs.Written.{writes_goes, next_short, store_writes, store_stays, writes_right}
+use Rattle.mt_op.proofs.Known.{known}
+use Rattle.mt_op.proofs.Known.{writes_on}
 use Rattle.mt_op.proofs.operations.Operations.write_there.Goals as goal
 
 pub write-requires-clause-short : goal.write-requires-clause-short
@@ -90,3 +92,15 @@ returns g c = let f = c.in_ok-write.ensures in let seen = g.D.Device.seen in let
       never = λ is. absurd cc;
       only_memory = tt;
     }
+
+pub write-requires-clause-kept : goal.write-requires-clause-kept
+write-requires-clause-kept g c = (known g.D.Device.seen g.D.Device.may_leave c.args.self.now c.args.scope.now c.requires.right).kept
+
+pub write-requires-clause-numbers : goal.write-requires-clause-numbers
+write-requires-clause-numbers g c = let k = known g.D.Device.seen g.D.Device.may_leave c.args.self.now c.args.scope.now c.requires.right in (k.txn, k.op)
+
+pub write-requires-clause-unfinished : goal.write-requires-clause-unfinished
+write-requires-clause-unfinished g c = (writes_on g.D.Device.seen g.D.Device.may_leave c.args.self.now c.args.scope.now c.requires.right c.requires.writing).unfinished
+
+pub overflow_add-scope-3 : goal.overflow_add-scope-3
+overflow_add-scope-3 g c = let on = writes_on g.D.Device.seen g.D.Device.may_leave c.args.self.now c.args.scope.now c.requires.right c.requires.writing in let all = on.all_stand in let more = c.requires.more in let few = on.few in omega arith

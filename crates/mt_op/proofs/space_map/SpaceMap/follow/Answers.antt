@@ -1,3 +1,5 @@
+use Rattle.std.proofs.Props.{props}
+use mathlib.Core.Logic.{∥∥₁_elim}
 use Rattle.std.proofs.Common.{◌≡◌, ◌<◌, ◌≤◌, ◌+◌, ℕ, List, All, length, get_or, sym, ap, ◌∙◌, subst}
 use Rattle.mt_base.specs.Edits.{patched}
 use Rattle.mt_base.specs.declared.edits.Edit.{Edit}
@@ -8,8 +10,7 @@ use Rattle.mt_op.proofs.space_map.SpaceMap.follow.Goals as goal
 use Rattle.mt_op.proofs.space_map.SpaceMap.follow.Goals.{then-get-eq-MAP, else-get-eq-MAP}
 
 pub patch-requires : goal.patch-requires
-patch-requires c =
-    let (pages, map, short, whole) = c.requires.short in
+patch-requires c = ∥∥₁_elim c.requires.short (hlevel props) (λ (pages, map, short, whole).
     let same = c.deref-change-items.ensures.value in
     let cs = c.args.changes.now.list.items in
     let d = c.change-item.result in
@@ -17,7 +18,7 @@ patch-requires c =
     let is = c.change-item.is ∙ ap (λ (ds : List PageChange). get_or ds c.loop-change.change-index d) same in
     let here : d.page ≡ 0 = sym c.get.ensures ∙ c.if-get-eq-MAP.true in
     subst (λ (es : List Edit). All (λ (e : Edit). e.start + length e.bytes ≤ 4096) es) (sym c.as_slice.ensures.value)
-    (edits_within cs c.loop-change.change-index d pages lt is short (ap (λ (p : ℕ). length (pages p)) here ∙ ap (λ (bytes : List ℕ). length bytes) map ∙ whole))
+    (edits_within cs c.loop-change.change-index d pages lt is short (ap (λ (p : ℕ). length (pages p)) here ∙ ap (λ (bytes : List ℕ). length bytes) map ∙ whole)))
 
 pub loop-change-preserved : goal.loop-change-preserved
 loop-change-preserved c =

@@ -1,6 +1,7 @@
 use Rattle.std.proofs.Common.{[], refl, sym, append-nil}
 use Rattle.mt_log.specs.Words.{durable}
 use Rattle.mt_pool.proofs.Kept.{each_moment, kept_read}
+use Rattle.mt_pool.proofs.Steady.{steady}
 use Rattle.mt_pool.proofs.store.Store.fetch.Goals as goal
 
 pub returns-clause-kept : goal.returns-clause-kept
@@ -11,3 +12,9 @@ pub returns-clause-moments : goal.returns-clause-moments
 returns-clause-moments g c = λ opening k. let f = c.fetch.ensures in
     each_moment g.D.Device.seen g.D.Device.may_leave g.D.Device.moment g.D.Device.left_since g.met.D.Device.only_now opening c.args.self.now _ k (returns-clause-kept g c opening k) refl refl f.place f.pages refl
     [] (sym (append-nil (durable c.args.self.now.log))) f.time
+
+pub fetch-requires-clause-pool : goal.fetch-requires-clause-pool
+fetch-requires-clause-pool g c = (steady g.D.Device.seen g.D.Device.may_leave c.args.self.now c.requires.kept).frames
+
+pub fetch-requires-clause-shows : goal.fetch-requires-clause-shows
+fetch-requires-clause-shows g c = (steady g.D.Device.seen g.D.Device.may_leave c.args.self.now c.requires.kept).shows

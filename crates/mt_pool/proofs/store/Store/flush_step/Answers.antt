@@ -1,6 +1,7 @@
-use Rattle.std.proofs.Common.{ℕ, [], ◌∙◌, ap, length, refl, sym, subst, append-nil}
+use Rattle.std.proofs.Common.{ℕ, [], ◌∙◌, arith, ap, length, refl, sym, subst, append-nil}
 use Rattle.mt_log.specs.Words.{durable}
 use Rattle.mt_pool.specs.Views.{Cleans, IsWaiting}
+use Rattle.mt_pool.proofs.Steady.{steady}
 use Rattle.mt_pool.proofs.Kept.{each_moment, kept_flush}
 use Rattle.mt_pool.proofs.store.Store.flush_step.Goals as goal
 
@@ -14,7 +15,23 @@ returns-clause-moments g c = λ opening k. let f = c.flush_step.ensures in
     [] (sym (append-nil (durable c.args.self.now.log))) f.time
 
 pub returns-clause-written : goal.returns-clause-written
-returns-clause-written g c = λ p is. subst (λ (n : ℕ). Cleans c.args.self.now.pool c.flush_step.new.self n p) (c.get.ensures ∙ c.requires.kept.1.settled) (c.flush_step.ensures.page p is)
+returns-clause-written g c = λ p is. subst (λ (n : ℕ). Cleans c.args.self.now.pool c.flush_step.new.self n p) (c.get.ensures ∙ (steady g.D.Device.seen g.D.Device.may_leave c.args.self.now c.requires.kept).settled) (c.flush_step.ensures.page p is)
 
 pub returns-clause-barred : goal.returns-clause-barred
-returns-clause-barred g c = λ is. subst (λ (n : ℕ). IsWaiting c.args.self.now.pool n) (c.get.ensures ∙ c.requires.kept.1.settled) (c.flush_step.ensures.forced is)
+returns-clause-barred g c = λ is. subst (λ (n : ℕ). IsWaiting c.args.self.now.pool n) (c.get.ensures ∙ (steady g.D.Device.seen g.D.Device.may_leave c.args.self.now c.requires.kept).settled) (c.flush_step.ensures.forced is)
+
+pub flush_step-requires-clause-pool : goal.flush_step-requires-clause-pool
+flush_step-requires-clause-pool g c = (steady g.D.Device.seen g.D.Device.may_leave c.args.self.now c.requires.kept).frames
+
+pub flush_step-requires-clause-shows : goal.flush_step-requires-clause-shows
+flush_step-requires-clause-shows g c = (steady g.D.Device.seen g.D.Device.may_leave c.args.self.now c.requires.kept).shows
+
+pub returns-clause-page : goal.returns-clause-page
+returns-clause-page g c = λ p is. (returns-clause-written g c p is).1.waited
+
+pub returns-clause-forced : goal.returns-clause-forced
+returns-clause-forced g c = λ is.
+    let k = (steady g.D.Device.seen g.D.Device.may_leave c.args.self.now c.requires.kept) in
+    let waiting = returns-clause-barred g c is in
+    let (f, dirty) = waiting.0 in let (p, holds, some) = k.frames.logged f dirty in
+    let late = waiting.1 f p dirty holds in let within = k.within p (k.frames.names.back f p holds).0 in omega arith

@@ -4,6 +4,7 @@ use Rattle.mt_log.specs.Words.{durable, IsStep}
 use Rattle.mt_log.specs.declared.log.Forced.{Forced}
 use Rattle.mt_pool.specs.Kept.{IsKept, Explains}
 use Rattle.mt_pool.specs.Views.{pages, view}
+use Rattle.mt_pool.proofs.Steady.{steady}
 use Rattle.mt_pool.proofs.Kept.{each_moment, kept_force, joined_more, same_durable}
 use Rattle.mt_pool.proofs.Tied.{views_apart}
 use Rattle.mt_pool.proofs.store.Store.force_step.Goals as goal
@@ -21,7 +22,7 @@ returns-in_err-forced-clause-moments g c = λ opening k. let f = c.force_step.en
 
 pub returns-in_err-forced-clause-views : goal.returns-in_err-forced-clause-views
 returns-in_err-forced-clause-views g c = let s = c.args.self.now in
-    views_apart s.pool _ _ _ _ c.force_step.ensures.rest (inl c.requires.kept.1.apart)
+    views_apart s.pool _ _ _ _ c.force_step.ensures.rest (inl (steady g.D.Device.seen g.D.Device.may_leave c.args.self.now c.requires.kept).apart)
 
 -- the store that is returned
 after : (g : Over) (c : goal.Joined-forced g) → (n : ℕ) × (n ≡ length (durable c.force_step.new.self)) × (c.match-forced.self ≡ record c.args.self.now { device = c.force_step.new.device; log = c.force_step.new.self; settled = n })
@@ -31,7 +32,7 @@ after g c =
     let step = c.in_ok-forced.ensures.step in
     elim c.match-forced.branch [
       | in-Durable w ↦ (w.in-Durable.place, (subst (λ (f : Forced). IsStep old f new) w.in-Durable.is step).6, w.self-is)
-      | in_default w ↦ (c.args.self.now.settled, c.requires.kept.1.settled ∙ sym (ap length (same_durable old new c.in_ok-forced.forced w.in_default.not-Durable step)), w.self-is)
+      | in_default w ↦ (c.args.self.now.settled, (steady g.D.Device.seen g.D.Device.may_leave c.args.self.now c.requires.kept).settled ∙ sym (ap length (same_durable old new c.in_ok-forced.forced w.in_default.not-Durable step)), w.self-is)
     ]
 
 pub returns-clause-kept : goal.returns-clause-kept
@@ -49,4 +50,7 @@ returns-clause-moments g c = λ opening k. let f = c.force_step.ensures in let s
 pub returns-clause-views : goal.returns-clause-views
 returns-clause-views g c = let s = c.args.self.now in let a = after g c in
     subst (λ (t : _). (q : ℕ) → q < pages s.pool → view t.pool (g.D.Device.seen t.device) q ≡ view s.pool (g.D.Device.seen s.device) q) (sym a.2)
-    (views_apart s.pool _ _ _ _ c.force_step.ensures.rest (inl c.requires.kept.1.apart))
+    (views_apart s.pool _ _ _ _ c.force_step.ensures.rest (inl (steady g.D.Device.seen g.D.Device.may_leave c.args.self.now c.requires.kept).apart))
+
+pub force_step-requires : goal.force_step-requires
+force_step-requires g c = record { on = (steady g.D.Device.seen g.D.Device.may_leave c.args.self.now c.requires.kept).on }

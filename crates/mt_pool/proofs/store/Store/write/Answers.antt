@@ -1,7 +1,8 @@
-use Rattle.std.proofs.Common.{◌≡◌, ◌≢◌, ◌∙◌, ◌++◌, [], false, ℕ, List, length, set, refl, sym, ap, subst, arith, length-append, ⊎_elim}
+use Rattle.std.proofs.Common.{◌≡◌, ◌≢◌, ◌≤◌, ◌+◌, ◌∙◌, ◌++◌, [], false, ℕ, List, length, set, refl, sym, ap, subst, arith, length-append, ⊎_elim}
 use Rattle.std.proofs.lemmas.Bool.{cases_eq}
 use Rattle.std.proofs.lemmas.List.Elements.{recursion_from_All}
 use Rattle.std.specs.List.{AllByRecursion}
+use Rattle.std.specs.Prelude.{All}
 use Rattle.mt_base.specs.Edits.{patched, IsShortest}
 use Rattle.mt_base.specs.declared.edits.Edit.{Edit}
 use Rattle.mt_frame.specs.declared.records.Record.{Record}
@@ -16,7 +17,8 @@ use Rattle.mt_pool.specs.Writes.{due_image, records_size, IsLonger, IsUnfinished
 use Rattle.mt_pool.proofs.Kept.{no_call}
 use Rattle.mt_pool.proofs.Logged.{kept_append, kept_write, longer_appended}
 use Rattle.mt_frame.proofs.Redone.{shortest_within, own_redone, other_redone}
-use Rattle.mt_pool.proofs.Writes.{now_records, now_some, now_size, now_pages, now_may, changes_images, ends_nothing, other_pages, view_any}
+use Rattle.mt_pool.proofs.Writes.{view_whole, edits_within, now_records, now_some, now_size, now_pages, now_may, changes_images, ends_nothing, other_pages, view_any}
+use Rattle.mt_pool.proofs.Steady.{steady}
 use Rattle.mt_pool.proofs.store.Store.write.Goals as goal
 
 pub returns-in_err-records-clause-moments : goal.returns-in_err-records-clause-moments
@@ -32,27 +34,27 @@ pub append_all-requires-clause-some : goal.append_all-requires-clause-some
 append_all-requires-clause-some g c =
     let s = c.args.self.now in let r = c.requires in let p = c.in_ok-records.ensures in let seen = g.D.Device.seen s.device in
     let size = p.size seen in
-    let some = now_some g.D.Device.seen g.D.Device.may_leave r.kept.0 s r.kept.1 c.args.txn c.args.op c.args.change.now r.there r.inside r.short r.numbers size in
+    let some = now_some g.D.Device.seen g.D.Device.may_leave s (steady g.D.Device.seen g.D.Device.may_leave s r.kept) c.args.txn c.args.op c.args.change.now r.there r.inside r.short r.numbers size in
     omega (arith, ap length (p.records seen), some)
 
 pub append_all-requires-clause-grammar : goal.append_all-requires-clause-grammar
 append_all-requires-clause-grammar g c =
     let s = c.args.self.now in let r = c.requires in let p = c.in_ok-records.ensures in let seen = g.D.Device.seen s.device in
     let size = p.size seen in
-    subst (AllByRecursion IsRecord) (sym (p.records seen)) (now_records g.D.Device.seen g.D.Device.may_leave r.kept.0 s r.kept.1 c.args.txn c.args.op c.args.change.now r.there r.inside r.short r.numbers size)
+    subst (AllByRecursion IsRecord) (sym (p.records seen)) (now_records g.D.Device.seen g.D.Device.may_leave s (steady g.D.Device.seen g.D.Device.may_leave s r.kept) c.args.txn c.args.op c.args.change.now r.there r.inside r.short r.numbers size)
 
 pub append_all-requires-clause-fits : goal.append_all-requires-clause-fits
 append_all-requires-clause-fits g c =
     let s = c.args.self.now in let r = c.requires in let p = c.in_ok-records.ensures in let seen = g.D.Device.seen s.device in
     let size = p.size seen in
     let fits = r.fits in
-    omega (arith, fits, ap records_size (p.records seen), now_size g.D.Device.seen g.D.Device.may_leave r.kept.0 s r.kept.1 c.args.txn c.args.op c.args.change.now r.there r.inside r.short r.numbers size)
+    omega (arith, fits, ap records_size (p.records seen), now_size g.D.Device.seen g.D.Device.may_leave s (steady g.D.Device.seen g.D.Device.may_leave s r.kept) c.args.txn c.args.op c.args.change.now r.there r.inside r.short r.numbers size)
 
 pub append_all-requires-clause-short : goal.append_all-requires-clause-short
 append_all-requires-clause-short g c =
     let s = c.args.self.now in let r = c.requires in let p = c.in_ok-records.ensures in let seen = g.D.Device.seen s.device in
     let size = p.size seen in
-    omega (arith, r.short.size, ap records_size (p.records seen), now_size g.D.Device.seen g.D.Device.may_leave r.kept.0 s r.kept.1 c.args.txn c.args.op c.args.change.now r.there r.inside r.short r.numbers size)
+    omega (arith, r.short.size, ap records_size (p.records seen), now_size g.D.Device.seen g.D.Device.may_leave s (steady g.D.Device.seen g.D.Device.may_leave s r.kept) c.args.txn c.args.op c.args.change.now r.there r.inside r.short r.numbers size)
 
 pub returns-in_err-place-clause-kept : goal.returns-in_err-place-clause-kept
 returns-in_err-place-clause-kept g c = λ opening k.
@@ -60,8 +62,8 @@ returns-in_err-place-clause-kept g c = λ opening k.
     let size = p.size seen in
     kept_append g.D.Device.seen g.D.Device.may_leave opening s k c.append_all.new.log [] c.in_err-place.ensures.err_longer
     (λ sound. c.append_all.ensures.sound _ sound
-    (subst (AllByRecursion (HasItsPage (pages s.pool))) (sym (p.records seen)) (now_pages g.D.Device.seen g.D.Device.may_leave r.kept.0 s r.kept.1 c.args.txn c.args.op c.args.change.now r.there r.inside r.short r.numbers size))
-    (subst (MayFollow false (appended s.log)) (sym (p.records seen)) (now_may g.D.Device.seen g.D.Device.may_leave r.kept.0 s r.kept.1 c.args.txn c.args.op c.args.change.now r.there r.inside r.short r.numbers size r.unfinished)))
+    (subst (AllByRecursion (HasItsPage (pages s.pool))) (sym (p.records seen)) (now_pages g.D.Device.seen g.D.Device.may_leave s (steady g.D.Device.seen g.D.Device.may_leave s r.kept) c.args.txn c.args.op c.args.change.now r.there r.inside r.short r.numbers size))
+    (subst (MayFollow false (appended s.log)) (sym (p.records seen)) (now_may g.D.Device.seen g.D.Device.may_leave s (steady g.D.Device.seen g.D.Device.may_leave s r.kept) c.args.txn c.args.op c.args.change.now r.there r.inside r.short r.numbers size r.unfinished)))
     (λ q. refl) (λ q. refl)
 
 pub change_all-requires-clause-position : goal.change_all-requires-clause-position
@@ -69,7 +71,7 @@ change_all-requires-clause-position g c =
     let s = c.args.self.now in let r = c.requires in let p = c.in_ok-records.ensures in let seen = g.D.Device.seen s.device in
     let size = p.size seen in
     let e = c.in_ok-place.ensures in
-    let some = now_some g.D.Device.seen g.D.Device.may_leave r.kept.0 s r.kept.1 c.args.txn c.args.op c.args.change.now r.there r.inside r.short r.numbers size in
+    let some = now_some g.D.Device.seen g.D.Device.may_leave s (steady g.D.Device.seen g.D.Device.may_leave s r.kept) c.args.txn c.args.op c.args.change.now r.there r.inside r.short r.numbers size in
     let records = c.in_ok-records.records.items in
     omega (arith, e.place, ap length (longer_appended s.log c.append_all.new.log records e.longer), length-append (appended s.log) records, ap length (p.records seen), some)
 
@@ -84,10 +86,10 @@ returns-clause-kept g c = λ opening k.
     let longer : IsLonger s.log c.append_all.new.log _ = subst (IsLonger s.log c.append_all.new.log) (p.records seen) l.longer in
     kept_write g.D.Device.seen g.D.Device.may_leave opening s k c.append_all.new.log c.change_all.new.self _ page longer
     (λ sound. c.append_all.ensures.sound _ sound
-    (subst (AllByRecursion (HasItsPage (pages s.pool))) (sym (p.records seen)) (now_pages g.D.Device.seen g.D.Device.may_leave r.kept.0 s r.kept.1 c.args.txn c.args.op c.args.change.now r.there r.inside r.short r.numbers size))
-    (subst (MayFollow false (appended s.log)) (sym (p.records seen)) (now_may g.D.Device.seen g.D.Device.may_leave r.kept.0 s r.kept.1 c.args.txn c.args.op c.args.change.now r.there r.inside r.short r.numbers size r.unfinished)))
+    (subst (AllByRecursion (HasItsPage (pages s.pool))) (sym (p.records seen)) (now_pages g.D.Device.seen g.D.Device.may_leave s (steady g.D.Device.seen g.D.Device.may_leave s r.kept) c.args.txn c.args.op c.args.change.now r.there r.inside r.short r.numbers size))
+    (subst (MayFollow false (appended s.log)) (sym (p.records seen)) (now_may g.D.Device.seen g.D.Device.may_leave s (steady g.D.Device.seen g.D.Device.may_leave s r.kept) c.args.txn c.args.op c.args.change.now r.there r.inside r.short r.numbers size r.unfinished)))
     r.inside
-    (now_some g.D.Device.seen g.D.Device.may_leave r.kept.0 s r.kept.1 c.args.txn c.args.op c.args.change.now r.there r.inside r.short r.numbers size)
+    (now_some g.D.Device.seen g.D.Device.may_leave s (steady g.D.Device.seen g.D.Device.may_leave s r.kept) c.args.txn c.args.op c.args.change.now r.there r.inside r.short r.numbers size)
     (changes_images c.args.txn c.args.op page v (patched c.args.change.now.edits.items v) s.pool seen c.args.change.now.edits.items r.short.some)
     (other_pages c.args.txn c.args.op page v (patched c.args.change.now.edits.items v) _ c.args.change.now.edits.items)
     f.pool (f.shows seen k.shows) (f.waits ∙ ap (λ (n : ℕ). set s.pool.waits.items page n) l.place) f.place (ap (λ x. length x.items) f.there) (f.others seen)
@@ -105,7 +107,7 @@ pub returns-clause-used : goal.returns-clause-used
 returns-clause-used g c =
     let s = c.args.self.now in let r = c.requires in let p = c.in_ok-records.ensures in let seen = g.D.Device.seen s.device in
     let size = p.size seen in
-    omega (arith, c.in_ok-place.ensures.used, ap records_size (p.records seen), now_size g.D.Device.seen g.D.Device.may_leave r.kept.0 s r.kept.1 c.args.txn c.args.op c.args.change.now r.there r.inside r.short r.numbers size)
+    omega (arith, c.in_ok-place.ensures.used, ap records_size (p.records seen), now_size g.D.Device.seen g.D.Device.may_leave s (steady g.D.Device.seen g.D.Device.may_leave s r.kept) c.args.txn c.args.op c.args.change.now r.there r.inside r.short r.numbers size)
 
 pub returns-clause-ends_none : goal.returns-clause-ends_none
 returns-clause-ends_none g c = λ t o unfinished.
@@ -129,3 +131,18 @@ returns-clause-redone g c = λ seen q.
     ∙ ap (λ (x : ℕ). redone x (change_records c.args.txn c.args.op page (due_image s.pool page v) v (patched edits v) edits) (view s.pool seen x)) (sym same))
     (λ (differ : q ≢ page). c.change_all.ensures.others seen q differ ∙ sym (other_redone c.args.txn c.args.op page v (patched edits v) q differ (due_image s.pool page v) edits (view s.pool seen q)))
     (cases_eq q page)
+
+pub prepare-requires-clause-pool : goal.prepare-requires-clause-pool
+prepare-requires-clause-pool g c = (steady g.D.Device.seen g.D.Device.may_leave c.args.self.now c.requires.kept).frames
+
+pub change_all-requires-clause-pool : goal.change_all-requires-clause-pool
+change_all-requires-clause-pool g c = (steady g.D.Device.seen g.D.Device.may_leave c.args.self.now c.requires.kept).frames
+
+pub prepare-requires-clause-within : goal.prepare-requires-clause-within
+prepare-requires-clause-within g c = let s = c.args.self.now in let r = c.requires in let page = c.args.change.now.page in let seen = g.D.Device.seen s.device in
+    edits_within (view s.pool seen page) c.args.change.now (view_whole s.pool seen page (steady g.D.Device.seen g.D.Device.may_leave s r.kept).frames r.there) r.short
+
+pub change_all-requires-clause-within : goal.change_all-requires-clause-within
+change_all-requires-clause-within g c = let s = c.args.self.now in let r = c.requires in let page = c.args.change.now.page in let seen = g.D.Device.seen s.device in
+    subst (λ (es : List Edit). All (λ (e : Edit). e.start + length e.bytes ≤ 4096) es) (sym c.deref.ensures.value)
+    (edits_within (view s.pool seen page) c.args.change.now (view_whole s.pool seen page (steady g.D.Device.seen g.D.Device.may_leave s r.kept).frames r.there) r.short)

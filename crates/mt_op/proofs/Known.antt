@@ -1,0 +1,94 @@
+-- What is known of an operation under way, whatever the pages were when the area began and whatever the schema.
+use Rattle.std.proofs.Common.{◌<◌, ◌≤◌, ◌≡◌, ◌⊎◌, inl, inr, ap, subst, sym, ℕ, List, length, Some}
+use Rattle.std.specs.Prelude.{IsSome}
+use Rattle.std.proofs.Math.ListN.{get_or}
+use Rattle.std.proofs.lemmas.List.Elements.{All-get_or}
+use Rattle.std.proofs.Props.{props}
+use mathlib.Core.Logic.{∥∥₁_elim, ∥∥₁_map}
+use Rattle.mt_frame.specs.Grammar.{IsTxn, IsOp}
+use Rattle.mt_log.specs.Words.{appended}
+use Rattle.mt_plock.specs.Releasing.{locks_of}
+use Rattle.mt_pool.specs.Kept.{HasOpening}
+use Rattle.mt_pool.specs.Views.{pages}
+use Rattle.mt_pool.specs.Writes.{IsUnfinished}
+use Rattle.mt_pool.proofs.Steady.{IsSteady, Steady-prop, steady}
+use Rattle.mt_space.specs.Changes.{PageBytes}
+use Rattle.mt_space.specs.declared.changes.PageChange.{PageChange}
+use Rattle.mt_op.specs.World.{looked, changes_in, IsAt, IsWriting}
+use Rattle.mt_op.specs.Moves.{Rests}
+use Rattle.mt_op.specs.Operations.{world, IsRight, IsOneOf, IsOneWithin}
+use Rattle.mt_op.specs.declared.operations.Operations.{Operations}
+use Rattle.mt_op.specs.declared.scope.OpScope.{OpScope}
+use Rattle.mt_op.specs.declared.scope.Stage.TheVariants.{Writing, Taking}
+use Rattle.mt_op.proofs.Staying.{rests_own}
+
+pub record IsKnown {D : Type 0} (seen : D → List ℕ) (may_leave : D → List ℕ → Type 0) (o : Operations D) (s : OpScope) : Type 0 where
+  pub kept : HasOpening seen may_leave o.store
+  pub steady : IsSteady seen may_leave o.store
+  pub txn : IsTxn s.txn
+  pub op : IsOp s.number
+  pub locks : locks_of s.number o.locks ≡ s.guards.items
+  pub whole : (p : ℕ) (bytes : List ℕ) → looked s p ≡ Some bytes → length bytes ≡ 4096
+  pub total : s.seen.total ≡ pages o.store.pool
+  pub inside : (p : ℕ) → IsSome (looked s p) → p < pages o.store.pool
+  pub rooms : length o.rooms.0 ≡ pages o.store.pool
+
+module _ {D : Type 0} (seen : D → List ℕ) (may_leave : D → List ℕ → Type 0) where
+  Known-prop : (o : Operations D) (s : OpScope) → IsProp (IsKnown seen may_leave o s)
+  Known-prop o s = hlevel (props, Steady-prop)
+
+  pub known : (o : Operations D) (s : OpScope) → IsOneOf seen may_leave o s → IsKnown seen may_leave o s
+  known o s one = ∥∥₁_elim one (Known-prop o s) (λ (opening, relations, counters, right, k).
+      let kept : HasOpening seen may_leave o.store = ∣ (opening, right.kept) ∣₁ in
+      record {
+        kept = kept;
+        steady = steady seen may_leave o.store kept;
+        txn = k.txn;
+        op = k.op;
+        locks = k.locks;
+        whole = k.whole;
+        total = k.total;
+        inside = k.inside;
+        rooms = right.rooms;
+      })
+
+  pub one_of : (o : Operations D) (s : OpScope) → IsOneWithin seen may_leave o s → IsOneOf seen may_leave o s
+  one_of o s one = ∥∥₁_map one (λ (opening, relations, counters, right, k, few, some). (opening, relations, counters, right, k))
+
+  pub known_within : (o : Operations D) (s : OpScope) → IsOneWithin seen may_leave o s → IsKnown seen may_leave o s
+  known_within o s one = known o s (one_of o s one)
+
+  -- it stays where nothing changes but what is in frames
+  pub one_rests : (o n : Operations D) (s : OpScope) → ((opening : PageBytes) (relations counters : ℕ) → IsRight seen may_leave opening relations counters o → IsRight seen may_leave opening relations counters n)
+      → ((opening : PageBytes) → Rests (world seen opening o) (world seen opening n)) → IsOneOf seen may_leave o s → IsOneOf seen may_leave n s
+  one_rests o n s stays rests one = ∥∥₁_map one (λ (opening, relations, counters, right, k).
+      (opening, relations, counters, stays opening relations counters right, rests_own relations counters (world seen opening o) (world seen opening n) s (rests opening) k))
+
+-- what is known of one that writes
+pub record IsOn {D : Type 0} (o : Operations D) (s : OpScope) : Type 0 where
+  pub unfinished : IsUnfinished s.txn s.number (appended o.store.log)
+  pub all_stand : s.standing ≡ s.written
+  pub some : s.written ≤ length (changes_in s)
+  pub few : length (changes_in s) ≤ 8
+  pub inside : (c : PageChange) → s.written < length (changes_in s) → c ≡ get_or (changes_in s) s.written c → c.page < pages o.store.pool
+
+pub writes_on : {D : Type 0} (seen : D → List ℕ) (may_leave : D → List ℕ → Type 0) (o : Operations D) (s : OpScope) → IsOneOf seen may_leave o s → s.stage ≡ Writing → IsOn o s
+writes_on seen may_leave o s one writing = ∥∥₁_elim one (hlevel props) (λ (opening, relations, counters, right, k).
+    let at : IsWriting relations counters (world seen opening o) s = subst (IsAt relations counters (world seen opening o) s) writing k.at in
+    record {
+      unfinished = at.unended.unfinished;
+      all_stand = at.all_stand;
+      some = at.some;
+      few = at.plan.few;
+      inside = λ c more is. k.inside c.page (subst (λ (d : PageChange). IsSome (looked s d.page)) (sym is) (All-get_or (λ (d : PageChange). IsSome (looked s d.page)) (changes_in s) s.written c more at.plan.there));
+    })
+
+-- it has come to one stage alone
+pub Changing-prop : (s : OpScope) → IsProp ((s.stage ≡ Writing) ⊎ (s.stage ≡ Taking))
+Changing-prop s = sum_prop (hlevel props) (hlevel props) (λ a b. absurd (cc))
+  where
+    sum_prop : {A B : Type 0} → IsProp A → IsProp B → (A → B → ⊥) → IsProp (A ⊎ B)
+    sum_prop pa pb apart (inl a) (inl b) = ap inl (pa a b)
+    sum_prop pa pb apart (inl a) (inr b) = absurd (apart a b)
+    sum_prop pa pb apart (inr a) (inl b) = absurd (apart b a)
+    sum_prop pa pb apart (inr a) (inr b) = ap inr (pb a b)

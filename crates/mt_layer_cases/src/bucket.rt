@@ -21,37 +21,60 @@ fn page_of_ones() -> [u8; 4096]
 
 #[test]
 fn hashes_are_the_outside_ones(rt: HostRuntime) -> Result<(), Fail> {
-    assert_eq!(rt; hash(b""), 0xcbf2_9ce4_8422_2325);
-    assert_eq!(rt; hash(b"a"), 0xaf63_dc4c_8601_ec8c);
-    assert_eq!(rt; hash(b"b"), 0xaf63_df4c_8601_f1a5);
-    assert_eq!(rt; hash(b"c"), 0xaf63_de4c_8601_eff2);
-    // the low three bits: 4, 5 and 2
-    assert!(rt; has_bit(hash(b"a"), 2) && !has_bit(hash(b"a"), 1) && !has_bit(hash(b"a"), 0));
-    assert!(rt; has_bit(hash(b"b"), 2) && !has_bit(hash(b"b"), 1) && has_bit(hash(b"b"), 0));
-    assert!(rt; !has_bit(hash(b"c"), 2) && has_bit(hash(b"c"), 1) && !has_bit(hash(b"c"), 0));
+    let hashes = [hash(b""), hash(b"a"), hash(b"b"), hash(b"c")];
+    let wanted = [
+        0xcbf2_9ce4_8422_2325,
+        0xaf63_dc4c_8601_ec8c,
+        0xaf63_df4c_8601_f1a5,
+        0xaf63_de4c_8601_eff2,
+    ];
+    assert!(rt; hashes == wanted);
     Ok(())
+}
+
+// The low three bits of a key's hash, the highest first.
+fn low_bits(key: &[u8]) -> [bool; 3] {
+    let hash = hash(key);
+    [has_bit(hash, 2), has_bit(hash, 1), has_bit(hash, 0)]
+}
+
+#[test]
+fn the_low_bits_are_those_of_4_5_and_2(rt: HostRuntime) -> Result<(), Fail> {
+    let bits = [low_bits(b"a"), low_bits(b"b"), low_bits(b"c")];
+    assert!(rt;
+        bits == [
+            [true, false, false],
+            [true, false, true],
+            [false, true, false]
+        ]
+    );
+    Ok(())
+}
+
+// What a page's head says: its depth, how many entries there are, and the next page.
+fn head_of(page: &[u8; 4096]) -> (u8, usize, u16) {
+    (depth(page), count(page), next(page).get())
 }
 
 #[test]
 fn a_head_gives_what_was_set(rt: HostRuntime) -> Result<(), Fail> {
     let mut page = page_of_ones();
-    assert_eq!(rt; depth(&page), 0);
-    assert_eq!(rt; count(&page), 0);
-    assert_eq!(rt; next(&page), PageNo::new(0));
+    assert!(rt; head_of(&page) == (0, 0, 0));
     set_depth(&mut page, 9);
     set_next(&mut page, PageNo::new(1000));
-    assert_eq!(rt; depth(&page), 9);
-    assert_eq!(rt; next(&page), PageNo::new(1000));
+    assert!(rt; head_of(&page) == (9, 0, 1000));
     assert!(rt; &page[4..6] == [0x03, 0xe8].as_slice());
     Ok(())
 }
 
-// Pushes three entries whose relations and keys are like one another.
-fn push_three(rt: &impl Abort, page: &mut [u8; 4096]) {
-    assert!(rt; push(page, RelNo::new(1), b"a", name_of(4, 0)));
-    assert!(rt; push(page, RelNo::new(1), b"ab", name_of(5, 1)));
-    assert!(rt; push(page, RelNo::new(2), b"a", name_of(6, 2)));
-    assert_eq!(rt; count(page), 3);
+// Pushes three entries whose relations and keys are like one another: which had room, and how many there are then.
+fn push_three(page: &mut [u8; 4096]) -> ([bool; 3], usize) {
+    let pushed = [
+        push(page, RelNo::new(1), b"a", name_of(4, 0)),
+        push(page, RelNo::new(1), b"ab", name_of(5, 1)),
+        push(page, RelNo::new(2), b"a", name_of(6, 2)),
+    ];
+    (pushed, count(page))
 }
 
 // That a find of a key answers this name, or none.
@@ -67,59 +90,77 @@ fn expect_found(
     assert_eq!(rt; find(page, RelNo::new(relation), key), name);
 }
 
-fn rename_second(rt: &impl Abort, page: &mut [u8; 4096]) {
-    assert!(rt; set(page, RelNo::new(1), b"ab", name_of(7, 3)));
-    assert!(rt; !set(page, RelNo::new(3), b"a", name_of(7, 3)));
+// Renames the second entry, and one that is not there.
+fn rename_second(page: &mut [u8; 4096]) -> [bool; 2] {
+    [
+        set(page, RelNo::new(1), b"ab", name_of(7, 3)),
+        set(page, RelNo::new(3), b"a", name_of(7, 3)),
+    ]
 }
 
-fn remove_first(rt: &impl Abort, page: &mut [u8; 4096]) {
-    assert!(rt; remove(page, RelNo::new(1), b"a"));
-    assert!(rt; !remove(page, RelNo::new(1), b"a"));
-    assert_eq!(rt; count(page), 2);
+// Removes the first entry, and once more; how many there are then.
+fn remove_first(page: &mut [u8; 4096]) -> ([bool; 2], usize) {
+    let removed = [
+        remove(page, RelNo::new(1), b"a"),
+        remove(page, RelNo::new(1), b"a"),
+    ];
+    (removed, count(page))
 }
 
 #[test]
 fn an_entry_is_found_renamed_and_removed(rt: HostRuntime) -> Result<(), Fail> {
     let mut page = page_of_ones();
-    push_three(&rt, &mut page);
+    assert!(rt; push_three(&mut page) == ([true; 3], 3));
     expect_found(&rt, &page, 1, b"a", Some(name_of(4, 0)));
     expect_found(&rt, &page, 1, b"ab", Some(name_of(5, 1)));
     expect_found(&rt, &page, 2, b"ab", None);
-    rename_second(&rt, &mut page);
+    assert!(rt; rename_second(&mut page) == [true, false]);
     expect_found(&rt, &page, 1, b"ab", Some(name_of(7, 3)));
-    remove_first(&rt, &mut page);
+    assert!(rt; remove_first(&mut page) == ([true, false], 2));
     expect_found(&rt, &page, 1, b"a", None);
     expect_found(&rt, &page, 2, b"a", Some(name_of(6, 2)));
     assert!(rt; check(&page, 3, 64));
     Ok(())
 }
 
+// Pushes the entries of `b`, `a` and `c`.
+fn push_keys(page: &mut [u8; 4096]) -> [bool; 3] {
+    [
+        push(page, RelNo::new(0), b"b", name_of(4, 0)),
+        push(page, RelNo::new(0), b"a", name_of(4, 1)),
+        push(page, RelNo::new(0), b"c", name_of(4, 2)),
+    ]
+}
+
+// Splits a page's entries by bit 0; how many stay, and how many go.
+fn split(page: &mut [u8; 4096], to: &mut [u8; 4096]) -> [usize; 2] {
+    if count(page) + count(to) <= 58 {
+        partition(page, 0, to);
+    }
+    [count(page), count(to)]
+}
+
 #[test]
 fn a_split_goes_by_the_bit_and_keeps_the_order(rt: HostRuntime) -> Result<(), Fail> {
     let mut page = page_of_ones();
     let mut to = page_of_ones();
-    assert!(rt; push(&mut page, RelNo::new(0), b"b", name_of(4, 0)));
-    assert!(rt; push(&mut page, RelNo::new(0), b"a", name_of(4, 1)));
-    assert!(rt; push(&mut page, RelNo::new(0), b"c", name_of(4, 2)));
-    if count(&page) + count(&to) <= 58 {
-        partition(&mut page, 0, &mut to);
-    }
+    assert!(rt; push_keys(&mut page) == [true; 3]);
     // the hash of `b` alone has bit 0
-    assert_eq!(rt; count(&page), 2);
-    assert_eq!(rt; count(&to), 1);
-    assert_eq!(rt; find(&to, RelNo::new(0), b"b"), Some(name_of(4, 0)));
+    assert!(rt; split(&mut page, &mut to) == [2, 1]);
+    expect_found(&rt, &to, 0, b"b", Some(name_of(4, 0)));
     // relation, length and first byte of the first two cells
     assert!(rt; &page[8..11] == [0, 1, b'a'].as_slice());
     assert!(rt; &page[78..81] == [0, 1, b'c'].as_slice());
     Ok(())
 }
 
-fn is_refused(rt: &impl Abort, page: &[u8; 4096], at: usize, byte: u8)
+// Whether a page is refused once this byte is in it.
+fn is_refused(page: &[u8; 4096], at: usize, byte: u8) -> bool
     requires { at < 4096 }
 {
     let mut wrong = *page;
     wrong[at] = byte;
-    assert!(rt; !check(&wrong, 2, 64));
+    !check(&wrong, 2, 64)
 }
 
 #[test]
@@ -127,17 +168,21 @@ fn broken_pages_are_told_apart(rt: HostRuntime) -> Result<(), Fail> {
     let mut page = page_of_ones();
     assert!(rt; push(&mut page, RelNo::new(1), b"ab", name_of(63, 0)));
     assert!(rt; check(&page, 2, 64));
-    // too deep, zeros that are none, too many entries, an overflow page past the last
-    is_refused(&rt, &page, 0, 10);
-    is_refused(&rt, &page, 1, 1);
-    is_refused(&rt, &page, 7, 1);
-    is_refused(&rt, &page, 3, 59);
-    is_refused(&rt, &page, 5, 64);
-    // relation, key and page of the entry, and a byte behind its key
-    is_refused(&rt, &page, 8, 2);
-    is_refused(&rt, &page, 9, 0);
-    is_refused(&rt, &page, 9, 65);
-    is_refused(&rt, &page, 12, 1);
-    is_refused(&rt, &page, 75, 64);
+    for (at, byte) in [
+        // too deep, zeros that are none, too many entries, an overflow page past the last
+        (0, 10),
+        (1, 1),
+        (7, 1),
+        (3, 59),
+        (5, 64),
+        // relation, key and page of the entry, and a byte behind its key
+        (8, 2),
+        (9, 0),
+        (9, 65),
+        (12, 1),
+        (75, 64),
+    ] {
+        assert!(rt; at < 4096 && is_refused(&page, at, byte), "at {at}");
+    }
     Ok(())
 }

@@ -79,42 +79,94 @@ fn each_call_fails_in_turn(rt: HostRuntime) -> Result<(), Fail> {
     Ok(())
 }
 
+/// Four calls of a new file's device.
+fn calls_of_new(rt: &HostRuntime) -> Result<[bool; 4], Refusal> {
+    let mut device = FileDevice::make(rt, PATH, 8)?;
+    Ok(four_calls(&mut device).0)
+}
+
+/// How long the file's device is, and its bytes where there are eight.
+fn opened_again(rt: &HostRuntime) -> Result<(u64, [u8; 8]), Refusal> {
+    let mut device = FileDevice::open(rt, PATH)?;
+    let mut read = [0; 8];
+    if device.len() == 8 {
+        device.read(0, &mut read)?;
+    }
+    Ok((device.len(), read))
+}
+
+/// How long the device of an empty file is.
+fn length_of_empty(rt: &HostRuntime) -> Result<u64, Refusal> {
+    let device = FileDevice::make(rt, PATH, 0)?;
+    Ok(device.len())
+}
+
+/// Whether the file is no device's, nor one of no name.
+fn are_failed(rt: &HostRuntime) -> [bool; 2] {
+    [
+        matches!(FileDevice::open(rt, PATH), Err(Refusal::DeviceFailed)),
+        matches!(FileDevice::make(rt, "", 8), Err(Refusal::DeviceFailed)),
+    ]
+}
+
+/// Whether the file has these bytes.
+fn is_in_file(rt: &HostRuntime, bytes: &[u8]) -> Result<bool, Fail> {
+    let found = fs::read(rt, PATH)?;
+    Ok(found.as_slice() == bytes)
+}
+
 #[test]
 fn a_file_is_written_and_read_again(rt: HostRuntime) -> Result<(), Fail> {
-    let mut device = FileDevice::make(&rt, PATH, 8)?;
-    assert_eq!(rt; four_calls(&mut device).0, [true; 4]);
-    drop(device);
-    assert_eq!(rt;
-        fs::read(&rt, PATH)?.as_slice(),
-        b"\0\0abd\0\0\0".as_slice()
-    );
-    let mut again = FileDevice::open(&rt, PATH)?;
-    assert_eq!(rt; again.len(), 8);
-    let mut read = [0; 8];
-    if again.len() == 8 {
-        again.read(0, &mut read)?;
-    }
-    assert_eq!(rt; &read, b"\0\0abd\0\0\0");
-    let empty = FileDevice::make(&rt, PATH, 0)?;
-    assert_eq!(rt; empty.len(), 0);
+    assert!(rt; calls_of_new(&rt)? == [true; 4]);
+    assert!(rt; is_in_file(&rt, b"\0\0abd\0\0\0")?);
+    assert!(rt; opened_again(&rt)? == (8, *b"\0\0abd\0\0\0"));
+    assert!(rt; length_of_empty(&rt)? == 0);
     fs::remove_file(&rt, PATH)?;
-    assert!(rt; matches!(FileDevice::open(&rt, PATH), Err(Refusal::DeviceFailed)));
-    assert!(rt; matches!(FileDevice::make(&rt, "", 8), Err(Refusal::DeviceFailed)));
+    assert!(rt; are_failed(&rt) == [true; 2]);
     Ok(())
+}
+
+/// A write, then a sync and a read of three bytes once the file is cut to its first two: what each answered, and
+/// the bytes.
+fn calls_of_cut<D: Device>(
+    rt: &HostRuntime,
+    device: &mut D,
+) -> Result<([Result<(), DeviceFault>; 3], [u8; 3]), Fail>
+    requires { 8 ≤ length (D.seen device.old) }
+    ensures { 8 ≤ length (D.seen device.new) }
+{
+    let mut read = [0; 3];
+    let written = device.write_at(0, b"ab");
+    fs::write(rt, CUT_PATH, b"ab".as_slice())?;
+    let calls = [written, device.sync(), device.read(0, &mut read)];
+    Ok((calls, read))
+}
+
+/// A sync and a write once the file is as long again.
+fn calls_of_mended<D: Device>(
+    rt: &HostRuntime,
+    device: &mut D,
+) -> Result<[Result<(), DeviceFault>; 2], Fail>
+    requires { 8 ≤ length (D.seen device.old) }
+{
+    fs::write(rt, CUT_PATH, b"ab012345".as_slice())?;
+    Ok([device.sync(), device.write_at(0, b"c")])
+}
+
+/// The answers of both.
+fn calls_of_both(rt: &HostRuntime) -> Result<([Result<(), DeviceFault>; 5], [u8; 3]), Fail> {
+    let mut device = FileDevice::make(rt, CUT_PATH, 8)?;
+    let (cut, read) = calls_of_cut(rt, &mut device)?;
+    let mended = calls_of_mended(rt, &mut device)?;
+    Ok(([cut[0], cut[1], cut[2], mended[0], mended[1]], read))
 }
 
 #[test]
 fn a_file_cut_short_is_a_fault(rt: HostRuntime) -> Result<(), Fail> {
-    let mut device = FileDevice::make(&rt, CUT_PATH, 8)?;
-    assert_eq!(rt; device.write_at(0, b"ab"), Ok(()));
-    fs::write(&rt, CUT_PATH, b"ab".as_slice())?;
-    assert_eq!(rt; device.sync(), Err(DeviceFault));
-    let mut read = [0; 3];
-    assert_eq!(rt; device.read(0, &mut read), Ok(()));
-    assert_eq!(rt; &read, b"ab\0");
-    fs::write(&rt, CUT_PATH, b"ab012345".as_slice())?;
-    assert_eq!(rt; device.sync(), Err(DeviceFault));
-    assert_eq!(rt; device.write_at(0, b"c"), Err(DeviceFault));
+    let (calls, read) = calls_of_both(&rt)?;
     fs::remove_file(&rt, CUT_PATH)?;
+    let fault = Err(DeviceFault);
+    assert!(rt; calls == [Ok(()), fault, Ok(()), fault, fault]);
+    assert!(rt; &read == b"ab\0");
     Ok(())
 }

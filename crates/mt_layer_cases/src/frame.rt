@@ -1,57 +1,68 @@
 // Texts worked out by hand from the format, and batches that are read and written again.
-use mt_base::{OpNo, TxnNo};
+use mt_base::{OpNo, Refusal, TxnNo};
 use mt_frame::{
     AreaRules, CLOSED_GATE, LoggedOp, MasterSlot, OPEN_GATE, Record, SlotRead, decode_batch,
     decode_body, decode_slot, encode_batch, encode_slot, push_record,
 };
 use std::alloc::Global;
-use std::process::Abort;
 use std::test::Fail;
 
-// The size of the batch that the bytes begin with. Its records, written again, are its bytes.
-fn batch_size(rt: &impl Abort, alloc: Global, bytes: &[u8]) -> Result<usize, Fail> {
+// The size of the batch that the bytes begin with, if its records, written again, are its bytes.
+fn batch_size(alloc: Global, bytes: &[u8]) -> Result<Option<usize>, Fail> {
     let (records, size) = decode_batch(alloc, bytes)?.ok_or("no batch")?;
     let again = encode_batch(alloc, records.as_slice())?;
-    assert!(rt; size <= bytes.len());
-    assert_eq!(rt; again.as_slice(), &bytes[..size]);
-    Ok(size)
+    let is = size <= bytes.len() && again.as_slice() == &bytes[..size];
+    Ok(if is { Some(size) } else { None })
 }
 
-// A batch's head, for a body of fewer than 65536 bytes.
-fn push_head(bytes: &mut Vec<u8>, length: u16) -> Result<(), Fail> {
-    bytes.extend_from_slice(&[OPEN_GATE, 0, 0])?;
+// A batch of a body of fewer than 65536 bytes: its head and the body.
+fn batch_of(alloc: Global, length: u16, body: &[u8]) -> Result<Vec<u8>, Fail> {
+    let mut bytes = Vec::from_slice(alloc, &[OPEN_GATE, 0, 0])?;
     bytes.extend_from_slice(&length.to_be_bytes())?;
-    Ok(())
+    bytes.extend_from_slice(body)?;
+    Ok(bytes)
+}
+
+// The batch of one commit, and the length of its record.
+fn batch_of_commit(alloc: Global) -> Result<(Vec<u8>, usize), Refusal> {
+    let commit = Record::Commit { txn: TxnNo::new(1) };
+    let length = commit.length();
+    let mut records = Vec::new(alloc);
+    records.push(commit)?;
+    Ok((encode_batch(alloc, records.as_slice())?, length))
+}
+
+// How many records are in a body.
+fn count_records(alloc: Global, body: &[u8]) -> Result<usize, Fail> {
+    let records = decode_body(alloc, body)?.ok_or("no body")?;
+    Ok(records.len())
 }
 
 #[test]
 fn writes_a_commit(rt: HostRuntime) -> Result<(), Fail> {
-    let alloc = rt.alloc();
-    let mut records = Vec::new(alloc);
-    records.push(Record::Commit { txn: TxnNo::new(1) })?;
-    let bytes = encode_batch(alloc, records.as_slice())?;
-    assert_eq!(rt;
-        bytes.as_slice(),
-        [0xa5, 0, 0, 0, 9, 4, 0, 0, 0, 0, 0, 0, 0, 1].as_slice()
-    );
-    assert_eq!(rt; records[0].length(), 9);
-    let body = decode_body(alloc, &bytes[5..])?.ok_or("no body")?;
-    assert_eq!(rt; body.len(), 1);
+    let batch = [0xa5, 0, 0, 0, 9, 4, 0, 0, 0, 0, 0, 0, 0, 1];
+    let (bytes, length) = batch_of_commit(rt.alloc())?;
+    assert!(rt; bytes.as_slice() == batch.as_slice() && length == 9);
+    assert!(rt; count_records(rt.alloc(), &batch[5..])? == 1);
     Ok(())
 }
 
-#[test]
-fn appends_a_record(rt: HostRuntime) -> Result<(), Fail> {
-    let mut bytes = Vec::from_slice(rt.alloc(), &[7])?;
+// A byte with the end of a dropped operation behind it.
+fn with_dropped(alloc: Global, first: u8) -> Result<Vec<u8>, Fail> {
+    let mut bytes = Vec::from_slice(alloc, &[first])?;
     let dropped = Record::OpDropped {
         txn: TxnNo::new(1),
         op: OpNo::new(2),
     };
     push_record(&mut bytes, &dropped)?;
-    assert_eq!(rt;
-        bytes.as_slice(),
-        [7, 3, 0, 0, 0, 0, 0, 0, 0, 1, 0, 0, 0, 0, 0, 0, 0, 2].as_slice()
-    );
+    Ok(bytes)
+}
+
+#[test]
+fn appends_a_record(rt: HostRuntime) -> Result<(), Fail> {
+    let wanted = [7, 3, 0, 0, 0, 0, 0, 0, 0, 1, 0, 0, 0, 0, 0, 0, 0, 2];
+    let bytes = with_dropped(rt.alloc(), 7)?;
+    assert!(rt; bytes.as_slice() == wanted.as_slice());
     Ok(())
 }
 
@@ -111,8 +122,8 @@ fn reads_the_end_of_an_insert(rt: HostRuntime) -> Result<(), Fail> {
         0, 1, 0x78,
     ];
     let records = decode_body(rt.alloc(), &body)?.ok_or("no body")?;
-    assert_eq!(rt; records.len(), 1);
-    assert!(rt; is_end_of_insert(&records[0], [1, 1, 0], b"a", b"x"));
+    let is = matches!(records.as_slice(), [end] if is_end_of_insert(end, [1, 1, 0], b"a", b"x"));
+    assert!(rt; is);
     Ok(())
 }
 
@@ -122,9 +133,15 @@ fn reads_a_page_record(rt: HostRuntime) -> Result<(), Fail> {
         1, 0, 0, 0, 0, 0, 0, 0, 1, 0, 0, 0, 0, 0, 0, 0, 2, 0, 2, 0, 0, 0x1f, 0, 1, 6, 7,
     ];
     let records = decode_body(rt.alloc(), &body)?.ok_or("no body")?;
-    assert_eq!(rt; records.len(), 1);
-    assert!(rt; is_page_record(&records[0], [1, 2, 2, 31], &[6], &[7]));
+    let is =
+        matches!(records.as_slice(), [page] if is_page_record(page, [1, 2, 2, 31], &[6], &[7]));
+    assert!(rt; is);
     Ok(())
+}
+
+// Whether there are records of which this is the body.
+fn is_body(alloc: Global, bytes: &[u8]) -> Result<bool, Refusal> {
+    Ok(decode_body(alloc, bytes)?.is_some())
 }
 
 // What is read of one page record, with an edit of one of its bytes.
@@ -149,18 +166,22 @@ fn refuses_broken_page_records(rt: HostRuntime) -> Result<(), Fail> {
         let mut bad = good;
         assert!(rt; at < bad.len());
         bad[at] = byte;
-        let records = decode_body(alloc, &bad)?;
-        assert!(rt; records.is_none(), "at {at}");
+        assert!(rt; !is_body(alloc, &bad)?, "at {at}");
     }
     Ok(())
 }
 
-// Every kind and every operation, in one batch with a closed gate behind it.
-#[test]
-fn reads_every_kind_again(rt: HostRuntime) -> Result<(), Fail> {
-    let alloc = rt.alloc();
-    let name = [0, 0, 0, 0, 0, 0, 0, 1, 0, 0, 0, 0, 0, 0, 0, 2];
-    let no_inverse = [0; 8];
+// The end of operation 2 of transaction 1, which did this.
+fn push_done(body: &mut Vec<u8>, done: &[u8]) -> Result<(), Fail> {
+    body.extend_from_slice(&[2, 0, 0, 0, 0, 0, 0, 0, 1])?;
+    body.extend_from_slice(&[0, 0, 0, 0, 0, 0, 0, 2])?;
+    body.extend_from_slice(&[0; 8])?;
+    body.extend_from_slice(done)?;
+    Ok(())
+}
+
+// A body of every operation and of the other kinds without pages.
+fn body_of_every_kind(alloc: Global) -> Result<Vec<u8>, Fail> {
     let mut body = Vec::new(alloc);
     for done in [
         [1, 63, 1, 0x61, 0, 1, 0x78].as_slice(),
@@ -169,49 +190,75 @@ fn reads_every_kind_again(rt: HostRuntime) -> Result<(), Fail> {
         [4, 127, 0, 0, 0, 0, 0, 0, 0, 1].as_slice(),
         [4, 0, 0xff, 0xff, 0xff, 0x17, 0x2b, 0x5a, 0xf0, 0x00].as_slice(),
     ] {
-        body.push(2)?;
-        body.extend_from_slice(&name)?;
-        body.extend_from_slice(&no_inverse)?;
-        body.extend_from_slice(done)?;
+        push_done(&mut body, done)?;
     }
-    body.push(3)?;
-    body.extend_from_slice(&name)?;
+    body.extend_from_slice(&[3, 0, 0, 0, 0, 0, 0, 0, 1, 0, 0, 0, 0, 0, 0, 0, 2])?;
     body.extend_from_slice(&[4, 0, 0, 1, 0, 0, 0, 0, 0])?;
     body.extend_from_slice(&[5, 0, 0, 0, 0, 0, 0, 0, 9])?;
-    assert_eq!(rt; body.len(), 203);
-    let mut bytes = Vec::new(alloc);
-    push_head(&mut bytes, 203)?;
-    bytes.extend_from_slice(body.as_slice())?;
+    Ok(body)
+}
+
+// Every kind and every operation, in one batch with a closed gate behind it: its body's size and its own.
+fn size_of_every_kind(alloc: Global) -> Result<(usize, Option<usize>), Fail> {
+    let body = body_of_every_kind(alloc)?;
+    let mut bytes = batch_of(alloc, 203, body.as_slice())?;
     bytes.push(CLOSED_GATE)?;
-    assert_eq!(rt; batch_size(&rt, alloc, bytes.as_slice())?, 208);
+    Ok((body.len(), batch_size(alloc, bytes.as_slice())?))
+}
+
+#[test]
+fn reads_every_kind_again(rt: HostRuntime) -> Result<(), Fail> {
+    assert!(rt; size_of_every_kind(rt.alloc())? == (203, Some(208)));
     Ok(())
 }
 
-// Eight records of a whole page each and the longest end, each in a batch of its own.
-#[test]
-fn measures_the_largest_operation(rt: HostRuntime) -> Result<(), Fail> {
-    let alloc = rt.alloc();
-    let mut page = Vec::new(alloc);
-    push_head(&mut page, 12_312)?;
-    page.extend_from_slice(&[1, 0, 0, 0, 0, 0, 0, 0, 1, 0, 0, 0, 0, 0, 0, 0, 1])?;
-    page.extend_from_slice(&[0x0f, 0x9f, 1, 0, 0, 0x10, 0])?;
+// The record of a whole page with its image.
+fn largest_page(alloc: Global) -> Result<Vec<u8>, Fail> {
+    let head = [
+        1, 0, 0, 0, 0, 0, 0, 0, 1, 0, 0, 0, 0, 0, 0, 0, 1, 0x0f, 0x9f, 1, 0, 0, 0x10, 0,
+    ];
+    let mut page = Vec::from_slice(alloc, &head)?;
     page.extend_from_slice(&[3; 4096])?;
     page.extend_from_slice(&[4; 4096])?;
     page.extend_from_slice(&[5; 4096])?;
-    let mut end = Vec::new(alloc);
-    push_head(&mut end, 2_144)?;
-    end.extend_from_slice(&[2, 0, 0, 0, 0, 0, 0, 0, 1, 0, 0, 0, 0, 0, 0, 0, 1])?;
-    end.extend_from_slice(&[0, 0, 0, 0, 0, 0, 0, 0, 2, 63, 64])?;
+    Ok(page)
+}
+
+// The end of an update, of the longest key and values.
+fn longest_end(alloc: Global) -> Result<Vec<u8>, Fail> {
+    let head = [
+        2, 0, 0, 0, 0, 0, 0, 0, 1, 0, 0, 0, 0, 0, 0, 0, 1, 0, 0, 0, 0, 0, 0, 0, 0, 2, 63, 64,
+    ];
+    let mut end = Vec::from_slice(alloc, &head)?;
     end.extend_from_slice(&[6; 64])?;
     end.extend_from_slice(&[4, 0])?;
     end.extend_from_slice(&[7; 1024])?;
     end.extend_from_slice(&[4, 0])?;
     end.extend_from_slice(&[8; 1024])?;
-    let page_size = batch_size(&rt, alloc, page.as_slice())?;
-    let end_size = batch_size(&rt, alloc, end.as_slice())?;
-    assert_eq!(rt; (page_size, end_size), (12_317, 2_149));
-    assert_eq!(rt; 8 * 12_317 + 2_149, 100_685);
+    Ok(end)
+}
+
+// The sizes of their batches.
+fn largest_sizes(alloc: Global) -> Result<[Option<usize>; 2], Fail> {
+    let page = largest_page(alloc)?;
+    let end = longest_end(alloc)?;
+    let page_batch = batch_of(alloc, 12_312, page.as_slice())?;
+    let end_batch = batch_of(alloc, 2_144, end.as_slice())?;
+    let size = batch_size(alloc, page_batch.as_slice())?;
+    Ok([size, batch_size(alloc, end_batch.as_slice())?])
+}
+
+// Eight records of a whole page each and the longest end, each in a batch of its own.
+#[test]
+fn measures_the_largest_operation(rt: HostRuntime) -> Result<(), Fail> {
+    assert!(rt; largest_sizes(rt.alloc())? == [Some(12_317), Some(2_149)]);
+    assert!(rt; 8 * 12_317 + 2_149 == 100_685);
     Ok(())
+}
+
+// Whether the bytes begin with a batch.
+fn is_batch(alloc: Global, bytes: &[u8]) -> Result<bool, Refusal> {
+    Ok(decode_batch(alloc, bytes)?.is_some())
 }
 
 #[test]
@@ -224,31 +271,32 @@ fn refuses_what_is_no_batch(rt: HostRuntime) -> Result<(), Fail> {
         let mut bad = commit;
         assert!(rt; at < bad.len());
         bad[at] = byte;
-        let batch = decode_batch(alloc, &bad)?;
-        assert!(rt; batch.is_none(), "at {at}");
+        assert!(rt; !is_batch(alloc, &bad)?, "at {at}");
     }
-    let batch = decode_batch(alloc, &commit)?;
-    assert!(rt; batch.is_some());
+    assert!(rt; is_batch(alloc, &commit)?);
     Ok(())
 }
 
+const SLOT: MasterSlot = MasterSlot {
+    epoch: 1,
+    area: 0,
+    pages: 64,
+    mib: 4,
+};
+
+const SLOT_TEXT: [u8; 17] = [
+    0xa5, 0x4d, 0x54, 0x4b, 0x31, 0, 0, 0, 0, 0, 0, 0, 1, 0, 0, 0x40, 4,
+];
+
 #[test]
 fn writes_and_reads_slots(rt: HostRuntime) {
-    let slot = MasterSlot {
-        epoch: 1,
-        area: 0,
-        pages: 64,
-        mib: 4,
-    };
-    let text = encode_slot(&slot);
-    assert_eq!(rt;
-        text.as_slice(),
-        [
-            0xa5, 0x4d, 0x54, 0x4b, 0x31, 0, 0, 0, 0, 0, 0, 0, 1, 0, 0, 0x40, 4
-        ]
-        .as_slice()
-    );
-    assert_eq!(rt; decode_slot(&text), SlotRead::Open(slot));
+    let text = encode_slot(&SLOT);
+    assert!(rt; text == SLOT_TEXT);
+    assert!(rt; decode_slot(&text) == SlotRead::Open(SLOT));
+}
+
+#[test]
+fn tells_what_is_no_slot(rt: HostRuntime) {
     for (at, byte, want) in [
         (0, 0, SlotRead::Closed),
         (0, 0xa4, SlotRead::Closed),
@@ -259,10 +307,10 @@ fn writes_and_reads_slots(rt: HostRuntime) {
         (14, 16, SlotRead::Bad),
         (16, 3, SlotRead::Bad),
     ] {
-        let mut bad = text;
+        let mut bad = SLOT_TEXT;
         assert!(rt; at < bad.len());
         bad[at] = byte;
-        assert_eq!(rt; decode_slot(&bad), want, "at {at}");
+        assert!(rt; decode_slot(&bad) == want, "at {at}");
     }
 }
 
@@ -282,10 +330,18 @@ fn may_stand(alloc: Global, body: &[u8]) -> Result<bool, Fail> {
     Ok(rules.admit(false, records.as_slice())?)
 }
 
+// The same of three ends of adds.
+fn may_ends_stand(alloc: Global, ends: [(u8, u8); 3]) -> Result<bool, Fail> {
+    let mut body = Vec::new(alloc);
+    for (op, undoes) in ends {
+        push_end(&mut body, op, undoes)?;
+    }
+    may_stand(alloc, body.as_slice())
+}
+
+// Two forward operations, an inverse of the first, another, and an inverse of an inverse.
 #[test]
-fn tests_the_rules_of_an_area(rt: HostRuntime) -> Result<(), Fail> {
-    let alloc = rt.alloc();
-    // Two forward operations, an inverse of the first, another, and an inverse of an inverse.
+fn tests_the_rules_of_inverses(rt: HostRuntime) -> Result<(), Fail> {
     for (ends, want) in [
         ([(1, 0), (2, 0), (3, 1)], true),
         ([(1, 0), (2, 1), (3, 1)], false),
@@ -293,19 +349,24 @@ fn tests_the_rules_of_an_area(rt: HostRuntime) -> Result<(), Fail> {
         ([(1, 0), (2, 3), (3, 0)], false),
         ([(1, 0), (1, 0), (2, 1)], true),
     ] {
-        let mut body = Vec::new(alloc);
-        for (op, undoes) in ends {
-            push_end(&mut body, op, undoes)?;
-        }
-        assert_eq!(rt; may_stand(alloc, body.as_slice())?, want);
+        assert!(rt; may_ends_stand(rt.alloc(), ends)? == want);
     }
+    Ok(())
+}
+
+#[test]
+fn tests_the_rules_of_an_area(rt: HostRuntime) -> Result<(), Fail> {
     let one = [4, 0, 0, 0, 0, 0, 0, 0, 1];
     let twice = [4, 0, 0, 0, 0, 0, 0, 0, 1, 5, 0, 0, 0, 0, 0, 0, 0, 1];
     let no_image = [
         1, 0, 0, 0, 0, 0, 0, 0, 1, 0, 0, 0, 0, 0, 0, 0, 2, 0, 2, 0, 0, 0x1f, 0, 1, 6, 7,
     ];
-    assert!(rt; may_stand(alloc, &one)?);
-    assert!(rt; !may_stand(alloc, &twice)?);
-    assert!(rt; !may_stand(alloc, &no_image)?);
+    for (body, want) in [
+        (one.as_slice(), true),
+        (twice.as_slice(), false),
+        (no_image.as_slice(), false),
+    ] {
+        assert!(rt; may_stand(rt.alloc(), body)? == want);
+    }
     Ok(())
 }

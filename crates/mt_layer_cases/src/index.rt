@@ -149,54 +149,92 @@ fn asks_for(answer: &Add, number: u16) -> bool {
     }
 }
 
+/// How many pages are free, the directory's bits and its first two pointers, and of page 3 how deep it is, how many
+/// entries it has and which page is behind it.
+fn summary(copies: &Copies) -> [usize; 7] {
+    [
+        free_pages(copies),
+        usize::from(bits(&copies.directory)),
+        usize::from(u16_at(&copies.directory, 8)),
+        usize::from(u16_at(&copies.directory, 10)),
+        usize::from(depth(&copies.third)),
+        count(&copies.third),
+        usize::from(next(&copies.third).get()),
+    ]
+}
+
+/// What came of keys of so many relations, of one more and of another one more: whether there was room, the summary
+/// behind each, and how many entries pages 4 and 5 have behind the second.
+#[derive(Clone, Copy)]
+struct Grown {
+    had_room: [bool; 3],
+    summaries: [[usize; 7]; 3],
+    counts: [usize; 2],
+}
+
+fn add_and_two(alloc: Global, relations: u16, split: bool) -> Result<Grown, AllocError>
+    requires { relations ≤ 250 }
+{
+    let mut copies = formatted();
+    let first = add_all(alloc, &mut copies, relations, split)?;
+    let filled = summary(&copies);
+    let second = add(alloc, &mut copies, relations, split)?;
+    let longer = summary(&copies);
+    let counts = [count(&copies.fourth), count(&copies.fifth)];
+    let third = add(alloc, &mut copies, relations + 1, split)?;
+    let longest = summary(&copies);
+    Ok(Grown {
+        had_room: [first, second, third],
+        summaries: [filled, longer, longest],
+        counts,
+    })
+}
+
 #[test]
 fn a_full_bucket_splits_and_then_chains(rt: HostRuntime) -> Result<(), Fail> {
-    let mut copies = formatted();
-    assert!(rt; add_all(rt.alloc(), &mut copies, 58, true)?);
-    assert_eq!(rt; count(&copies.third), 58);
-    assert_eq!(rt; free_pages(&copies), 60);
-    assert_eq!(rt; bits(&copies.directory), 0);
-
+    let grown = add_and_two(rt.alloc(), 58, true)?;
+    assert!(rt; grown.had_room == [true; 3]);
+    assert!(rt; grown.summaries[0] == [60, 0, 3, 0, 0, 58, 0]);
     // bit 0 of the hash of `a` is 0: no entry moves
-    assert!(rt; add(rt.alloc(), &mut copies, 58, true)?);
-    assert_eq!(rt; bits(&copies.directory), 1);
-    assert_eq!(rt; u16_at(&copies.directory, 8), 3);
-    assert_eq!(rt; u16_at(&copies.directory, 10), 4);
-    assert_eq!(rt; depth(&copies.third), 1);
-    assert_eq!(rt; count(&copies.fourth), 0);
-    assert_eq!(rt; next(&copies.third), PageNo::new(5));
-    assert_eq!(rt; count(&copies.fifth), 1);
-    assert_eq!(rt; free_pages(&copies), 58);
-
-    assert!(rt; add(rt.alloc(), &mut copies, 59, true)?);
-    assert_eq!(rt; free_pages(&copies), 58);
+    assert!(rt; grown.summaries[1] == [58, 1, 3, 4, 1, 58, 5] && grown.counts == [0, 1]);
+    assert!(rt; grown.summaries[2] == [58, 1, 3, 4, 1, 58, 5]);
     Ok(())
 }
 
 #[test]
 fn without_splits_it_chains_at_once(rt: HostRuntime) -> Result<(), Fail> {
-    let mut copies = formatted();
-    assert!(rt; add_all(rt.alloc(), &mut copies, 59, false)?);
-    assert_eq!(rt; bits(&copies.directory), 0);
-    assert_eq!(rt; depth(&copies.third), 0);
-    assert_eq!(rt; next(&copies.third), PageNo::new(4));
-    assert_eq!(rt; count(&copies.fourth), 1);
-    assert_eq!(rt; free_pages(&copies), 59);
-    assert!(rt; add(rt.alloc(), &mut copies, 59, false)?);
-    assert_eq!(rt; free_pages(&copies), 59);
+    let grown = add_and_two(rt.alloc(), 58, false)?;
+    assert!(rt; grown.had_room == [true; 3]);
+    assert!(rt; grown.summaries[1] == [59, 0, 3, 0, 0, 58, 4] && grown.counts[0] == 1);
+    assert!(rt; grown.summaries[2] == [59, 0, 3, 0, 0, 58, 4]);
     Ok(())
+}
+
+/// An index whose pages are full of 174 relations' keys.
+fn full(alloc: Global) -> Result<Option<Copies>, AllocError> {
+    let mut copies = formatted();
+    let had_room = add_all(alloc, &mut copies, 174, false)?;
+    Ok(if had_room { Some(copies) } else { None })
+}
+
+/// What is answered to one key more.
+fn plan_one_more(alloc: Global, copies: &Copies) -> Result<Add, AllocError> {
+    plan_add(alloc, copies, RelNo::new(200), b"a", name_of(6, 0), false)
+}
+
+/// Whether page 6 is asked for, and whether an index without free pages is full.
+fn ask_for_more(alloc: Global, copies: &mut Copies) -> Result<[bool; 2], AllocError> {
+    let asks = asks_for(&plan_one_more(alloc, copies)?, 6);
+    copies.space = filled(&copies.space);
+    let is_full = matches!(plan_one_more(alloc, copies)?, Add::Full);
+    Ok([asks, is_full])
 }
 
 #[test]
 fn a_page_that_is_not_at_hand_is_asked_for(rt: HostRuntime) -> Result<(), Fail> {
-    let mut copies = formatted();
-    assert!(rt; add_all(rt.alloc(), &mut copies, 174, false)?);
-    let name = name_of(6, 0);
-    let needs = plan_add(rt.alloc(), &copies, RelNo::new(200), b"a", name, false)?;
-    assert!(rt; asks_for(&needs, 6));
-    copies.space = filled(&copies.space);
-    let full = plan_add(rt.alloc(), &copies, RelNo::new(200), b"a", name, false)?;
-    assert!(rt; matches!(full, Add::Full));
+    let mut copies = full(rt.alloc())?.ok_or("no room")?;
+    let answers = ask_for_more(rt.alloc(), &mut copies)?;
+    assert!(rt; answers == [true; 2]);
     Ok(())
 }
 
@@ -347,10 +385,8 @@ fn name_in(turn: u16, number: u64) -> Option<RecordName> {
     }
 }
 
-#[test]
-fn a_long_run_agrees_with_a_plain_map(rt: HostRuntime) -> Result<(), Fail> {
-    let mut row = Row::new(rt.alloc())?;
-    let mut names = vec![in rt.alloc(); None; usize::from(PLACES)]?;
+/// Gives random keys a name or none, 20,000 times; answers whether finds always agreed with the plain map.
+fn run(alloc: Global, row: &mut Row, names: &mut [Option<RecordName>]) -> Result<bool, AllocError> {
     let mut seed = 1u64;
     for turn in 0..20_000u16 {
         seed = seed
@@ -359,11 +395,27 @@ fn a_long_run_agrees_with_a_plain_map(rt: HostRuntime) -> Result<(), Fail> {
         let number = seed >> 33;
         let place = (number % u64::from(PLACES)) as u16;
         let name = name_in(turn, number / u64::from(PLACES));
-        assert!(rt; row.turn(rt.alloc(), &mut names, place, &name)?);
+        if !row.turn(alloc, names, place, &name)? {
+            return Ok(false);
+        }
     }
-    assert!(rt; row.is_map(&names));
-    assert!(rt; check(rt.alloc(), &row.pages, RELATIONS)?.is_none());
+    Ok(row.is_map(names))
+}
+
+/// Whether they agreed at each turn and at the end, whether the pages are those of an index, and its directory's bits.
+fn long_run(alloc: Global) -> Result<(bool, bool, Option<u8>), Fail> {
+    let mut row = Row::new(alloc)?;
+    let mut names = vec![in alloc; None; usize::from(PLACES)]?;
+    let agrees = run(alloc, &mut row, &mut names)?;
+    let is_index = check(alloc, &row.pages, RELATIONS)?.is_none();
+    Ok((agrees, is_index, row.pages.get(1).map(|page| bits(page))))
+}
+
+#[test]
+fn a_long_run_agrees_with_a_plain_map(rt: HostRuntime) -> Result<(), Fail> {
+    let (agrees, is_index, bits) = long_run(rt.alloc())?;
+    assert!(rt; agrees && is_index);
     // some 2,650 of 4,000 keys are there, and 32 pages hold 1,856
-    assert!(rt; bits(&row.pages[1]) > 5);
+    assert!(rt; bits.is_some_and(|bits| bits > 5));
     Ok(())
 }

@@ -3,9 +3,8 @@ ghost use Rattle.mt_base.specs.Limits.{IsKey};
 ghost use Rattle.mt_model.specs.Views.{relations_of};
 
 use mt_base::{Bytes, CtrNo, LockMode, Refusal, RelNo};
-use mt_model::{Base, Calls, Committed, Object, Op, Reply};
+use mt_model::{Base, Calls, Committed, Object, Op, Reply, Row};
 use std::alloc::Global;
-use std::process::Abort;
 use std::test::Fail;
 
 /// Puts a row under a key.
@@ -21,35 +20,53 @@ fn put(base: &mut Base, alloc: Global, relation: u16, key: &[u8]) -> Result<(), 
     Ok(())
 }
 
-/// That a base has these rows, by relations and by the bytes of their keys.
-fn expect_rows(rt: &impl Abort, base: &Base) {
-    assert_eq!(rt; base.relations(), 2);
-    let rows = base.rows();
-    assert_eq!(rt; rows.len(), 4);
-    assert_eq!(rt; rows[0].key.as_slice(), b"a".as_slice());
-    assert_eq!(rt; rows[1].key.as_slice(), b"aa".as_slice());
-    assert_eq!(rt; rows[2].key.as_slice(), b"b".as_slice());
-    assert_eq!(rt; rows[3].relation.get(), 1);
+/// Whether these are the rows, by relations and by the bytes of their keys.
+fn are_in_order(rows: &[Row]) -> bool {
+    match rows {
+        [first, second, third, last] => {
+            first.key.as_slice() == b"a".as_slice()
+                && second.key.as_slice() == b"aa".as_slice()
+                && third.key.as_slice() == b"b".as_slice()
+                && last.relation.get() == 1
+        }
+        _ => false,
+    }
+}
+
+/// Puts the rows in another order.
+fn put_all(base: &mut Base, alloc: Global) -> Result<(), Refusal>
+    requires { relations_of base.old ≡ 2 }
+    ensures { relations_of base.new ≡ 2 }
+{
+    put(base, alloc, 1, b"a")?;
+    put(base, alloc, 0, b"b")?;
+    put(base, alloc, 0, b"aa")?;
+    put(base, alloc, 0, b"a")
+}
+
+/// How many relations the copy of a base has, and whether its rows are in order.
+fn rows_of_copy(alloc: Global) -> Result<(u16, bool), Refusal> {
+    let mut base = Base::new(alloc, 2, &[])?;
+    put_all(&mut base, alloc)?;
+    let copy = base.try_clone()?;
+    Ok((copy.relations(), are_in_order(copy.rows())))
 }
 
 #[test]
 fn rows_stand_in_order(rt: HostRuntime) -> Result<(), Fail> {
-    let alloc = rt.alloc();
-    let mut base = Base::new(alloc, 2, &[])?;
-    put(&mut base, alloc, 1, b"a")?;
-    put(&mut base, alloc, 0, b"b")?;
-    put(&mut base, alloc, 0, b"aa")?;
-    put(&mut base, alloc, 0, b"a")?;
-    let copy = base.try_clone()?;
-    expect_rows(&rt, &copy);
+    assert!(rt; rows_of_copy(rt.alloc())? == (2, true));
     Ok(())
+}
+
+/// How many counters a new base has, and the number of the first.
+fn counters_of_new(alloc: Global) -> Result<(usize, i64), Refusal> {
+    let base = Base::new(alloc, 1, &[(-5, 5, 3)])?;
+    Ok((base.counters().len(), base.counter(CtrNo::new(0)).number))
 }
 
 #[test]
 fn a_base_begins_with_its_counters(rt: HostRuntime) -> Result<(), Fail> {
-    let base = Base::new(rt.alloc(), 1, &[(-5, 5, 3)])?;
-    assert_eq!(rt; base.counters().len(), 1);
-    assert_eq!(rt; base.counter(CtrNo::new(0)).number, 3);
+    assert!(rt; counters_of_new(rt.alloc())? == (1, 3));
     Ok(())
 }
 
@@ -61,17 +78,15 @@ fn two_calls(alloc: Global) -> Result<Committed, Refusal> {
     Ok(Committed { session: 1, calls })
 }
 
-/// That they stand in this order.
-fn expect_two_calls(rt: &impl Abort, done: &Committed) {
-    assert_eq!(rt; done.calls.len(), 2);
-    let is = matches!(
+/// Whether they stand in this order.
+fn are_two_calls(done: &Committed) -> bool {
+    matches!(
         done.calls.as_slice(),
         [
             (Op::Add(_, -7), Reply::Done),
             (Op::Read(_), Reply::Value(8))
         ]
-    );
-    assert!(rt; is);
+    )
 }
 
 /// Whether a copy of a transaction's calls equals them.
@@ -83,29 +98,41 @@ fn is_copied(done: &Committed) -> Result<bool, Refusal> {
     Ok(copy.equals(done))
 }
 
+/// Whether the two calls stand in order and are copied, and how many there are.
+fn about_calls(alloc: Global) -> Result<(bool, bool, usize), Refusal> {
+    let done = two_calls(alloc)?;
+    let (are, is) = (are_two_calls(&done), is_copied(&done)?);
+    Ok((are, is, done.calls.into_vec().len()))
+}
+
 #[test]
 fn calls_keep_their_order(rt: HostRuntime) -> Result<(), Fail> {
-    let done = two_calls(rt.alloc())?;
-    expect_two_calls(&rt, &done);
-    assert!(rt; is_copied(&done)?);
-    assert_eq!(rt; done.calls.into_vec().len(), 2);
+    assert!(rt; about_calls(rt.alloc())? == (true, true, 2));
     Ok(())
 }
 
-/// Whether an operation is on this object.
-fn is_on(op: &Op, object: &Object) -> Result<bool, Refusal> {
+/// Whether an operation is on this object, and its mode.
+fn is_on(op: &Op, object: &Object) -> Result<(bool, LockMode), Refusal> {
     let own = op.object()?;
-    Ok(own == *object)
+    Ok((own == *object, op.mode()))
+}
+
+/// The same of a get and of its key.
+fn get_is_on_its_key(alloc: Global) -> Result<(bool, LockMode), Refusal> {
+    let key = Object::Key(RelNo::new(1), Bytes::copy_of(alloc, b"k")?);
+    let get = Op::Get(RelNo::new(1), Bytes::copy_of(alloc, b"k")?);
+    is_on(&get, &key)
+}
+
+/// And of an add and of its counter.
+fn add_is_on_its_counter() -> Result<(bool, LockMode), Refusal> {
+    let add = Op::Add(CtrNo::new(1), 2);
+    is_on(&add, &Object::Counter(CtrNo::new(1)))
 }
 
 #[test]
 fn operations_name_their_objects(rt: HostRuntime) -> Result<(), Fail> {
-    let key = Object::Key(RelNo::new(1), Bytes::copy_of(rt.alloc(), b"k")?);
-    let get = Op::Get(RelNo::new(1), Bytes::copy_of(rt.alloc(), b"k")?);
-    assert!(rt; is_on(&get, &key)?);
-    assert_eq!(rt; get.mode(), LockMode::Read);
-    let add = Op::Add(CtrNo::new(1), 2);
-    assert!(rt; is_on(&add, &Object::Counter(CtrNo::new(1)))?);
-    assert_eq!(rt; add.mode(), LockMode::Add);
+    assert!(rt; get_is_on_its_key(rt.alloc())? == (true, LockMode::Read));
+    assert!(rt; add_is_on_its_counter()? == (true, LockMode::Add));
     Ok(())
 }

@@ -1,48 +1,66 @@
 // Areas written out by hand from the format, and areas that a log has written.
-use crate::log::{append_commit, five_steps, place};
+ghost use Rattle.std.specs.Prelude.{◌≡◌, length, IfOk};
+ghost use Rattle.mt_disk.specs.Memory.{content};
+
+use crate::log::{device_of, memory_left_at, place};
 use mt_base::{Refusal, TxnNo};
 use mt_disk::{Device, FaultDevice, MemDevice};
 use mt_frame::{Record, decode_body};
-use mt_log::{AreaPlace, begin_area, begin_area_with, scan};
+use mt_log::{AreaPlace, Batch, begin_area, begin_area_with, scan};
 use std::alloc::Global;
-use std::process::Abort;
 use std::test::Fail;
 
 /// A device that has these bytes at the area's start and 0xA5 elsewhere.
-fn holding(rt: &impl Abort, alloc: Global, area: &[u8]) -> Result<MemDevice, Fail> {
+fn holding(alloc: Global, area: &[u8]) -> Result<MemDevice, Refusal>
+    ensures { IfOk result (λ device. length (content device) ≡ 64) }
+{
     let mut bytes = vec![in alloc; 0xA5u8; 64]?;
-    assert!(rt; area.len() <= 52);
+    if area.len() > 52 {
+        return Err(Refusal::BadLength);
+    }
     bytes[8..8 + area.len()].copy_from_slice(area);
     Ok(MemDevice::new(alloc, bytes, 4, 64)?)
 }
 
 /// How many batches a scan of the device finds.
-fn batches_in<D: Device>(rt: &impl Abort, alloc: Global, device: &mut D) -> Result<usize, Refusal> {
-    assert_eq!(rt; device.len(), 64);
+fn batches_in<D: Device>(alloc: Global, device: &mut D) -> Result<usize, Refusal> {
+    if device.len() < 60 {
+        return Err(Refusal::BadLength);
+    }
     let found = scan(alloc, device, place(), 64)?;
     Ok(found.len())
 }
 
-fn answer(rt: &impl Abort, alloc: Global, area: &[u8]) -> Result<Result<usize, Refusal>, Fail> {
-    let mut device = holding(rt, alloc, area)?;
-    Ok(batches_in(rt, alloc, &mut device))
+fn answer(alloc: Global, area: &[u8]) -> Result<usize, Refusal> {
+    batches_in(alloc, &mut holding(alloc, area)?)
+}
+
+/// Whether these are the empty first batch and one of a commit behind it, at their places.
+fn are_first_two(batches: &[Batch]) -> bool {
+    let commit = Record::Commit { txn: TxnNo::new(1) };
+    match batches {
+        [first, second] => {
+            first.place == 8
+                && first.records.is_empty()
+                && second.place == 13
+                && second.records.len() == 1
+                && second.records[0].equals(&commit)
+        }
+        _ => false,
+    }
+}
+
+/// Whether a scan finds them in an area.
+fn has_first_two(alloc: Global, area: &[u8]) -> Result<bool, Refusal> {
+    let found = scan(alloc, &mut holding(alloc, area)?, place(), 64)?;
+    Ok(are_first_two(found.as_slice()))
 }
 
 #[test]
 fn reading_ends_at_the_first_closed_gate(rt: HostRuntime) -> Result<(), Fail> {
-    let alloc = rt.alloc();
     let area =
         b"\xa5\0\0\0\0\xa5\0\0\0\x09\x04\0\0\0\0\0\0\0\x01\0\0\0\0\x09\x04\0\0\0\0\0\0\0\x02\0";
-    let mut device = holding(&rt, alloc, area)?;
-    assert_eq!(rt; device.len(), 64);
-    let found = scan(alloc, &mut device, place(), 64)?;
-    assert_eq!(rt; found.len(), 2);
-    assert_eq!(rt; found[0].place, 8);
-    assert_eq!(rt; found[0].records.len(), 0);
-    assert_eq!(rt; found[1].place, 13);
-    assert_eq!(rt; found[1].records.len(), 1);
-    let commit = Record::Commit { txn: TxnNo::new(1) };
-    assert!(rt; found[1].records[0].equals(&commit));
+    assert!(rt; has_first_two(rt.alloc(), area)?);
     Ok(())
 }
 
@@ -74,84 +92,125 @@ const AREAS: [(&[u8], Result<usize, Refusal>); 6] = [
 #[test]
 fn the_first_place_that_breaks_the_grammar_is_named(rt: HostRuntime) -> Result<(), Fail> {
     for (area, wanted) in &AREAS {
-        assert!(rt; answer(&rt, rt.alloc(), area)? == *wanted);
+        assert!(rt; answer(rt.alloc(), area) == *wanted);
     }
     Ok(())
 }
 
+/// How many batches a scan finds over a device that fails at its nth call.
+fn answer_failing(alloc: Global, area: &[u8], n: u64) -> Result<usize, Refusal> {
+    batches_in(alloc, &mut FaultDevice::new(holding(alloc, area)?, n))
+}
+
 #[test]
 fn a_failed_read_is_told(rt: HostRuntime) -> Result<(), Fail> {
-    let alloc = rt.alloc();
     let area = b"\xa5\0\0\0\0\xa5\0\0\0\x09\x04\0\0\0\0\0\0\0\x01\0";
     for n in 1..8 {
-        let mut device = FaultDevice::new(holding(&rt, alloc, area)?, n);
-        assert_eq!(rt;
-            batches_in(&rt, alloc, &mut device),
-            Err(Refusal::DeviceFailed),
+        assert!(rt;
+            answer_failing(rt.alloc(), area, n) == Err(Refusal::DeviceFailed),
             "at {n}"
         );
     }
-    let mut device = FaultDevice::new(holding(&rt, alloc, area)?, 8);
-    assert_eq!(rt; batches_in(&rt, alloc, &mut device), Ok(2));
+    assert!(rt; answer_failing(rt.alloc(), area, 8) == Ok(2));
     Ok(())
 }
 
 /// How many batches are found once the device has failed at its nth call, of which the first six
 /// begin the area and the next four force a batch.
-fn left_at(rt: &impl Abort, alloc: Global, n: u64) -> Result<Result<usize, Refusal>, Fail> {
-    let memory = MemDevice::new(alloc, vec![in alloc; 0u8; 64]?, 4, 64)?;
-    let mut device = FaultDevice::new(memory, n);
-    assert_eq!(rt; device.len(), 64);
-    let mut log = begin_area(alloc, &mut device, place())?;
-    append_commit(&mut log, &device, 1)?;
-    let _ = five_steps(&mut log, &mut device);
-    let mut memory = device.into_inner();
-    Ok(batches_in(rt, alloc, &mut memory))
+fn left_at(alloc: Global, n: u64) -> Result<usize, Refusal> {
+    batches_in(alloc, &mut memory_left_at(alloc, n)?)
 }
 
 #[test]
 fn a_batch_is_found_once_its_gate_is_open(rt: HostRuntime) -> Result<(), Fail> {
     for n in 7..12 {
-        let found = left_at(&rt, rt.alloc(), n)?;
-        assert!(rt; found == Ok(if n < 10 { 1 } else { 2 }));
+        assert!(rt;
+            left_at(rt.alloc(), n) == Ok(if n < 10 { 1 } else { 2 }),
+            "at {n}"
+        );
     }
     Ok(())
+}
+
+/// What is used of an area that is begun over a device that fails at its nth call.
+fn begun_at(alloc: Global, n: u64) -> Result<u64, Refusal> {
+    let mut device = FaultDevice::new(device_of(alloc, 0)?, n);
+    Ok(begin_area(alloc, &mut device, place())?.used())
 }
 
 #[test]
 fn each_call_that_begins_an_area_fails_in_turn(rt: HostRuntime) -> Result<(), Fail> {
-    let alloc = rt.alloc();
     for n in 1..7 {
-        let memory = MemDevice::new(alloc, vec![in alloc; 0u8; 64]?, 4, 64)?;
-        let mut device = FaultDevice::new(memory, n);
-        assert_eq!(rt; device.len(), 64);
-        let answer = begin_area(alloc, &mut device, place()).map(|log| log.used());
-        assert_eq!(rt; answer, Err(Refusal::DeviceFailed), "at {n}");
+        assert!(rt;
+            begun_at(rt.alloc(), n) == Err(Refusal::DeviceFailed),
+            "at {n}"
+        );
     }
     Ok(())
 }
 
-#[test]
-fn an_area_begins_with_images_of_the_devices_pages(rt: HostRuntime) -> Result<(), Fail> {
-    let alloc = rt.alloc();
-    let mut text = vec![in alloc; 0u8; 4120]?;
+/// Where an area lies that one page's image fills.
+fn image_place() -> AreaPlace
+    ensures start { result.start ≡ 8 }
+    ensures end { result.end ≡ 4134 }
+{
+    AreaPlace {
+        start: 8,
+        end: 4134,
+    }
+}
+
+/// Begins an area with the image of page 3, all of zeros. Answers the bytes that are used then, and the image.
+fn begin_with_image(alloc: Global, device: &mut MemDevice) -> Result<(u64, Record), Fail>
+    requires { length (content device.old) ≡ 4134 }
+{
+    let mut text = [0u8; 4120];
     text[0] = 1;
     text[18] = 3;
     text[19] = 1;
-    let images = decode_body(alloc, &text)?.ok_or("no images")?;
-    let place = AreaPlace {
-        start: 8,
-        end: 4134,
-    };
+    let mut images = decode_body(alloc, &text)?.ok_or("no images")?;
+    let log = begin_area_with(alloc, device, image_place(), &images)?;
+    let image = images.pop().ok_or("no image")?;
+    Ok((log.used(), image))
+}
+
+/// What a scan finds for a device of so many pages: how many records are in the only batch, and whether the first is
+/// this one.
+fn only_batch(
+    alloc: Global,
+    device: &mut MemDevice,
+    pages: u16,
+    image: &Record,
+) -> Result<(usize, bool), Refusal> {
+    if device.len() < 4134 {
+        return Err(Refusal::BadLength);
+    }
+    let found = scan(alloc, device, image_place(), pages)?;
+    match found.as_slice() {
+        [first] => match first.records.as_slice() {
+            [record, ..] => Ok((first.records.len(), record.equals(image))),
+            [] => Ok((0, false)),
+        },
+        _ => Ok((0, false)),
+    }
+}
+
+/// The bytes used, and what is found for four pages and for three.
+fn image_scanned(alloc: Global) -> Result<(u64, [Result<(usize, bool), Refusal>; 2]), Fail> {
     let mut device = MemDevice::new(alloc, vec![in alloc; 0u8; 4134]?, 4, 4134)?;
-    assert_eq!(rt; device.len(), 4134);
-    let log = begin_area_with(alloc, &mut device, place, &images)?;
-    assert_eq!(rt; log.used(), 4125);
-    let found = scan(alloc, &mut device, place, 4)?;
-    assert_eq!(rt; found.len(), 1);
-    assert_eq!(rt; found[0].records.len(), 1);
-    assert!(rt; found[0].records[0].equals(&images[0]));
-    let page_past_the_last = scan(alloc, &mut device, place, 3).map(|found| found.len());
-    assert_eq!(rt; page_past_the_last, Err(Refusal::BadFormat(8)));
+    let (used, image) = begin_with_image(alloc, &mut device)?;
+    let found = [
+        only_batch(alloc, &mut device, 4, &image),
+        only_batch(alloc, &mut device, 3, &image),
+    ];
+    Ok((used, found))
+}
+
+#[test]
+fn an_area_begins_with_images_of_the_devices_pages(rt: HostRuntime) -> Result<(), Fail> {
+    let (used, found) = image_scanned(rt.alloc())?;
+    assert!(rt; used == 4125);
+    // page 3 is past the last of three pages
+    assert!(rt; found == [Ok((1, true)), Err(Refusal::BadFormat(8))]);
     Ok(())
 }

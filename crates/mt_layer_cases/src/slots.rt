@@ -1,9 +1,10 @@
-ghost use Rattle.std.specs.Prelude.{◌<◌, ◌≤◌, length};
-ghost use Rattle.mt_slots.specs.Page.{IsShaped, count};
+ghost use Rattle.std.specs.Prelude.{◌≤◌, length};
+ghost use Rattle.mt_slots.specs.Page.{IsShaped};
 
-use mt_base::{RelNo, edits_of};
+use mt_base::ranges::u16_at;
+use mt_base::{Edit, RelNo, edits_of};
 use mt_slots::{check, empty, get, insert, live, remove, replace, room};
-use std::process::Abort;
+use std::alloc::{AllocError, Global};
 use std::test::Fail;
 
 // The bytes of a page that no record lies in are not the page's: they may be anything.
@@ -15,63 +16,119 @@ fn page_of_ones() -> [u8; 4096]
     page
 }
 
-// Puts three records of 1,024 bytes into an empty page.
-fn fill(rt: &impl Abort, page: &mut [u8; 4096])
+// Puts three records of 1,024 bytes into a page, and answers their slots.
+fn fill(page: &mut [u8; 4096]) -> [Option<u16>; 3]
     requires { IsShaped page.old }
-    ensures shaped { IsShaped page.new }
-    ensures slots { 1 < count page.new }
+    ensures { IsShaped page.new }
 {
     let value = [7u8; 1024];
-    assert_eq!(rt; insert(page, RelNo::new(1), b"ab", &value), Some(0));
-    assert_eq!(rt; insert(page, RelNo::new(1), b"ac", &value), Some(1));
-    assert_eq!(rt; insert(page, RelNo::new(1), b"ad", &value), Some(2));
+    [
+        insert(page, RelNo::new(1), b"ab", &value),
+        insert(page, RelNo::new(1), b"ac", &value),
+        insert(page, RelNo::new(1), b"ad", &value),
+    ]
 }
 
-// Puts a record into the slot that is empty.
-fn fill_again(rt: &impl Abort, page: &mut [u8; 4096])
-    requires { IsShaped page.old }
+// The slots of those that fill an empty page.
+const FILLED: [Option<u16>; 3] = [Some(0), Some(1), Some(2)];
+
+// A page that they fill, and the room that was there before and behind it.
+fn filled() -> ([u8; 4096], [Option<u16>; 3], [u16; 2])
+    ensures { IsShaped result.0 }
 {
-    assert_eq!(rt; room(page), 2016);
-    assert_eq!(rt; live(page), 2);
-    assert_eq!(rt; insert(page, RelNo::new(1), b"af", &[7u8; 1024]), Some(1));
-    assert_eq!(rt; room(page), 986);
-    assert_eq!(rt; live(page), 3);
-    assert!(rt; check(page, 2, 1024));
+    let mut page = page_of_ones();
+    let before = room(&page);
+    let slots = fill(&mut page);
+    let left = room(&page);
+    (page, slots, [before, left])
+}
+
+// Whether a page stays as it is where one more is refused.
+fn has_no_room(page: &[u8; 4096]) -> bool
+    requires { IsShaped page.now }
+{
+    let mut same = *page;
+    let slot = insert(&mut same, RelNo::new(1), b"ae", &[7u8; 1024]);
+    slot.is_none() && same == *page
+}
+
+// Takes the record out of slot 1, if there are two slots.
+#[tactic(auto, unfolding(mt_slots::specs::Page::count))]
+fn remove_second(page: &mut [u8; 4096]) -> bool
+    requires { IsShaped page.old }
+    ensures { IsShaped page.new }
+{
+    if u16_at(page, 0) < 2 {
+        return false;
+    }
+    remove(page, 1);
+    true
+}
+
+// Puts a record into the slot that is empty: which one, and the room and how many are live before and behind it.
+fn fill_again(page: &mut [u8; 4096]) -> (Option<u16>, [u16; 4])
+    requires { IsShaped page.old }
+    ensures { IsShaped page.new }
+{
+    let (before, two) = (room(page), live(page));
+    let slot = insert(page, RelNo::new(1), b"af", &[7u8; 1024]);
+    (slot, [before, two, room(page), live(page)])
 }
 
 #[test]
 fn three_long_records_fill_a_page(rt: HostRuntime) -> Result<(), Fail> {
-    let mut page = page_of_ones();
-    assert_eq!(rt; room(&page), 4088);
-    fill(&rt, &mut page);
-    assert_eq!(rt; room(&page), 986);
-    let before = page;
-    assert_eq!(rt; insert(&mut page, RelNo::new(1), b"ae", &[7u8; 1024]), None);
-    assert!(rt; page == before);
-    remove(&mut page, 1);
-    fill_again(&rt, &mut page);
+    let (mut page, slots, rooms) = filled();
+    assert!(rt; slots == FILLED && rooms == [4088, 986]);
+    assert!(rt; has_no_room(&page));
+    assert!(rt; remove_second(&mut page));
+    let (again, counts) = fill_again(&mut page);
+    assert!(rt; again == Some(1) && counts == [2016, 2, 986, 3]);
+    assert!(rt; check(&page, 2, 1024));
     Ok(())
+}
+
+// Puts four short records into a page. Answers their slots, and the page before the last.
+fn insert_four(page: &mut [u8; 4096]) -> ([Option<u16>; 4], [u8; 4096])
+    requires { IsShaped page.old }
+{
+    let first = insert(page, RelNo::new(2), b"a", b"xyz");
+    let second = insert(page, RelNo::new(2), b"b", b"xyz");
+    let third = insert(page, RelNo::new(2), b"c", b"xyz");
+    let before = *page;
+    let fourth = insert(page, RelNo::new(2), b"d", b"xyz");
+    ([first, second, third, fourth], before)
+}
+
+// Whether these are the count's low byte, the four of the slot, and the eight of the record.
+fn are_of_fourth(edits: &[Edit]) -> bool {
+    match edits {
+        [count, slot, entry] => {
+            count.bytes.as_slice() == [4].as_slice()
+                && slot.bytes.as_slice() == [0x0f, 0xe0, 0, 8].as_slice()
+                && entry.bytes.as_slice() == b"\x02\x01\x00\x03dxyz".as_slice()
+                && entry.start == 0x0fe0
+        }
+        _ => false,
+    }
+}
+
+// Whether the edits from the one page to the other are those, and there are none from a page to itself.
+fn differ_by_fourth(
+    alloc: Global,
+    before: &[u8; 4096],
+    page: &[u8; 4096],
+) -> Result<bool, AllocError> {
+    let edits = edits_of(alloc, before, page)?;
+    let none = edits_of(alloc, page, page)?;
+    Ok(none.is_empty() && are_of_fourth(&edits))
 }
 
 #[test]
 fn an_insert_changes_three_short_ranges(rt: HostRuntime) -> Result<(), Fail> {
     let mut page = page_of_ones();
-    assert_eq!(rt; insert(&mut page, RelNo::new(2), b"a", b"xyz"), Some(0));
-    assert_eq!(rt; insert(&mut page, RelNo::new(2), b"b", b"xyz"), Some(1));
-    assert_eq!(rt; insert(&mut page, RelNo::new(2), b"c", b"xyz"), Some(2));
-    let before = page;
-    assert_eq!(rt; insert(&mut page, RelNo::new(2), b"d", b"xyz"), Some(3));
-    // the count's low byte, the four of the slot, and the eight of the record
-    let edits = edits_of(rt.alloc(), &before, &page)?;
-    assert_eq!(rt; edits.len(), 3);
-    assert_eq!(rt; edits[0].bytes.as_slice(), [4].as_slice());
-    assert_eq!(rt; edits[1].bytes.as_slice(), [0x0f, 0xe0, 0, 8].as_slice());
-    assert_eq!(rt;
-        edits[2].bytes.as_slice(),
-        b"\x02\x01\x00\x03dxyz".as_slice()
-    );
-    assert_eq!(rt; edits[2].start, 0x0fe0);
-    assert!(rt; edits_of(rt.alloc(), &page, &page)?.is_empty());
+    let (slots, before) = insert_four(&mut page);
+    assert!(rt; slots == [Some(0), Some(1), Some(2), Some(3)]);
+    assert!(rt; differ_by_fourth(rt.alloc(), &before, &page)?);
     Ok(())
 }
 
@@ -87,18 +144,29 @@ fn replace_first(page: &mut [u8], value: &[u8]) -> bool
     }
 }
 
+// Tries a value of 2,011 bytes in slot 0 and one of 2,010: which fits, and the room behind each.
+fn replace_twice(page: &mut [u8; 4096]) -> ([bool; 2], [u16; 2])
+    requires { IsShaped page.old }
+    ensures { IsShaped page.new }
+{
+    let longer = replace_first(page, &[9u8; 2011]);
+    let before = room(page);
+    let longest = replace_first(page, &[9u8; 2010]);
+    ([longer, longest], [before, room(page)])
+}
+
 #[test]
 fn a_new_value_stays_in_its_slot_where_it_fits(rt: HostRuntime) -> Result<(), Fail> {
-    let mut page = page_of_ones();
-    fill(&rt, &mut page);
+    let (mut page, _, _) = filled();
     // 986 bytes are free and 1,024 are the old value's, so 2,010 fit and one more does not
-    assert!(rt; !replace_first(&mut page, &[9u8; 2011]));
-    assert_eq!(rt; room(&page), 986);
-    assert!(rt; replace_first(&mut page, &[9u8; 2010]));
-    assert_eq!(rt; room(&page), 0);
-    assert!(rt; check(&page, 2, 2010));
-    assert!(rt; !check(&page, 2, 2009));
-    assert!(rt; !check(&page, 1, 2010));
+    let (fit, rooms) = replace_twice(&mut page);
+    assert!(rt; fit == [false, true] && rooms == [986, 0]);
+    let checks = [
+        check(&page, 2, 2010),
+        check(&page, 2, 2009),
+        check(&page, 1, 2010),
+    ];
+    assert!(rt; checks == [true, false, false]);
     Ok(())
 }
 
@@ -111,41 +179,39 @@ fn page_of_two() -> Option<[u8; 4096]> {
     Some(page)
 }
 
+// Whether a page is refused once these bytes are in it.
+fn is_refused(page: &[u8; 4096], bytes: &[(usize, u8)]) -> bool {
+    let mut wrong = *page;
+    for &(at, byte) in bytes {
+        if at < 4096 {
+            wrong[at] = byte;
+        }
+    }
+    !check(&wrong, 1, 3)
+}
+
 #[test]
 fn broken_pages_are_told_apart(rt: HostRuntime) -> Result<(), Fail> {
     let page = page_of_two().ok_or("no room")?;
     assert!(rt; check(&page, 1, 3));
-    // a byte behind the count is not zero
-    let mut wrong = page;
-    wrong[7] = 1;
-    assert!(rt; !check(&wrong, 1, 3));
-    // more slots than the page has bytes for
-    wrong = page;
-    wrong[0] = 4;
-    assert!(rt; !check(&wrong, 1, 3));
-    // a record that begins within the table
-    wrong = page;
-    wrong[8] = 0;
-    wrong[9] = 12;
-    assert!(rt; !check(&wrong, 1, 3));
-    // a record that passes the page's end
-    wrong = page;
-    wrong[8] = 0x0f;
-    wrong[9] = 0xff;
-    assert!(rt; !check(&wrong, 1, 3));
-    // a head that says another length than the record's own
-    wrong = page;
-    wrong[11] = 9;
-    assert!(rt; !check(&wrong, 1, 3));
-    // an empty slot with a place
-    wrong = page;
-    wrong[10] = 0;
-    wrong[11] = 0;
-    assert!(rt; !check(&wrong, 1, 3));
-    // two slots that name one record
-    wrong = page;
-    wrong[12] = wrong[8];
-    wrong[13] = wrong[9];
-    assert!(rt; !check(&wrong, 1, 3));
+    let wrong: [&[(usize, u8)]; 7] = [
+        // a byte behind the count is not zero
+        &[(7, 1)],
+        // more slots than the page has bytes for
+        &[(0, 4)],
+        // a record that begins within the table
+        &[(8, 0), (9, 12)],
+        // a record that passes the page's end
+        &[(8, 0x0f), (9, 0xff)],
+        // a head that says another length than the record's own
+        &[(11, 9)],
+        // an empty slot with a place
+        &[(10, 0), (11, 0)],
+        // two slots that name one record
+        &[(12, page[8]), (13, page[9])],
+    ];
+    for bytes in wrong {
+        assert!(rt; is_refused(&page, bytes), "{bytes:?}");
+    }
     Ok(())
 }

@@ -5,9 +5,9 @@ ghost use Rattle.mt_pool.specs.Kept.{IsKept};
 ghost use Rattle.mt_pool.specs.Views.{pages};
 ghost use Rattle.mt_pool.specs.Writes.{IsUnfinished};
 
-use crate::log::expect_bytes;
+use crate::log::{durable, has_bytes};
 use mt_base::{LogPos, OpNo, PageNo, Refusal, TxnNo, edits_of};
-use mt_disk::{Device, MemDevice};
+use mt_disk::{Device, DeviceFault, MemDevice};
 use mt_frame::Record;
 use mt_log::{AreaPlace, Forced};
 use mt_pool::{Fetched, Flushed, Store};
@@ -140,53 +140,143 @@ fn unstamp<D: Device>(store: &mut Store<D>, page: PageNo) -> bool
     true
 }
 
+/// What a sync of the device answers.
+fn syncs<D: Device>(store: &mut Store<D>) -> Result<(), DeviceFault>
+    requires kept { (opening : ℕ → List ℕ) × IsKept D.seen D.may_leave opening store.old }
+    ensures kept { (opening : ℕ → List ℕ) × IsKept D.seen D.may_leave opening store.new }
+    ensures pages { pages store.new.pool ≡ pages store.old.pool }
+{
+    store.sync()
+}
+
+/// What a fetch of a page answers.
+fn fetches<D: Device>(store: &mut Store<D>, page: PageNo) -> Result<Fetched, DeviceFault>
+    requires kept { (opening : ℕ → List ℕ) × IsKept D.seen D.may_leave opening store.old }
+    requires inside { page < pages store.old.pool }
+    ensures kept { (opening : ℕ → List ℕ) × IsKept D.seen D.may_leave opening store.new }
+    ensures pages { pages store.new.pool ≡ pages store.old.pool }
+{
+    store.fetch(page)
+}
+
+/// What a flush step answers.
+fn flushes<D: Device>(store: &mut Store<D>) -> Result<Flushed, DeviceFault>
+    requires kept { (opening : ℕ → List ℕ) × IsKept D.seen D.may_leave opening store.old }
+    ensures kept { (opening : ℕ → List ℕ) × IsKept D.seen D.may_leave opening store.new }
+    ensures pages { pages store.new.pool ≡ pages store.old.pool }
+{
+    store.flush_step()
+}
+
+/// What came of a page that is written back, and again once its stamp is put back: the steps before and behind it, and
+/// whether the device was synced and the stamp put back between them.
+#[derive(Clone, Copy)]
+struct WrittenBack {
+    first: [Result<bool, Refusal>; 6],
+    is_synced: bool,
+    is_unstamped: bool,
+    second: [Result<bool, Refusal>; 6],
+}
+
+fn write_back<D: Device>(store: &mut Store<D>, page: PageNo) -> WrittenBack
+    requires kept { (opening : ℕ → List ℕ) × IsKept D.seen D.may_leave opening store.old }
+    requires inside { page < pages store.old.pool }
+{
+    let first = six_steps(store);
+    let is_synced = syncs(store).is_ok();
+    let is_unstamped = unstamp(store, page);
+    WrittenBack {
+        first,
+        is_synced,
+        is_unstamped,
+        second: six_steps(store),
+    }
+}
+
+/// What came of page 3, once it was stamped.
+fn stamp_and_write_back(alloc: Global) -> Result<(Fetched, WrittenBack), Refusal> {
+    let mut store = formatted(alloc)?;
+    let page = PageNo::new(3);
+    let stamped = stamp(alloc, &mut store, page)?;
+    Ok((stamped, write_back(&mut store, page)))
+}
+
 #[test]
 fn pages_are_written_back(rt: HostRuntime) -> Result<(), Fail> {
-    let mut store = formatted(rt.alloc())?;
-    let page = PageNo::new(3);
-    assert_eq!(rt; stamp(rt.alloc(), &mut store, page)?, Fetched::There);
+    let (stamped, written) = stamp_and_write_back(rt.alloc())?;
+    let (yes, no) = (Ok(true), Ok(false));
+    assert!(rt; stamped == Fetched::There && written.is_synced && written.is_unstamped);
     // Four steps of a force, the page, and nothing.
-    let first = [Ok(true), Ok(true), Ok(true), Ok(true), Ok(true), Ok(false)];
-    assert_eq!(rt; six_steps(&mut store), first);
-    assert_eq!(rt; store.sync(), Ok(()));
-    assert!(rt; unstamp(&mut store, page));
-    let second = [
-        Ok(true),
-        Ok(false),
-        Ok(false),
-        Ok(false),
-        Ok(false),
-        Ok(false),
-    ];
-    assert_eq!(rt; six_steps(&mut store), second);
+    assert!(rt; written.first == [yes, yes, yes, yes, yes, no]);
+    assert!(rt; written.second == [yes, no, no, no, no, no]);
     Ok(())
+}
+
+/// The place of a record of no page, and what four steps of its force answer.
+fn append_and_force(
+    alloc: Global,
+) -> Result<(Result<LogPos, Refusal>, [Result<Forced, Refusal>; 4]), Refusal> {
+    let mut store = formatted(alloc)?;
+    let place = store.append(Record::Commit { txn: TxnNo::new(1) });
+    Ok((place, four_steps(&mut store)))
 }
 
 #[test]
 fn a_record_of_no_page_waits_for_a_force(rt: HostRuntime) -> Result<(), Fail> {
-    let mut store = formatted(rt.alloc())?;
-    let entry = Record::Commit { txn: TxnNo::new(1) };
-    assert_eq!(rt; store.append(entry), Ok(LogPos::new(1)));
-    let durable = Ok(Forced::Durable(LogPos::new(1)));
-    assert_eq!(rt; four_steps(&mut store), [MORE, MORE, MORE, durable]);
+    let (place, steps) = append_and_force(rt.alloc())?;
+    assert!(rt; place == Ok(LogPos::new(1)));
+    assert!(rt; steps == [MORE, MORE, MORE, durable(1)]);
     Ok(())
+}
+
+/// What a full pool answers: a fetch, a flush, a force's steps, the flush again and the fetch again.
+#[derive(Clone, Copy)]
+struct Full {
+    fetched: [Result<Fetched, DeviceFault>; 2],
+    flushed: [Result<Flushed, DeviceFault>; 2],
+    steps: [Result<Forced, Refusal>; 4],
+}
+
+fn fetch_from_full<D: Device>(store: &mut Store<D>, page: PageNo) -> Full
+    requires kept { (opening : ℕ → List ℕ) × IsKept D.seen D.may_leave opening store.old }
+    requires inside { page < pages store.old.pool }
+{
+    let fetched = fetches(store, page);
+    let flushed = flushes(store);
+    let steps = four_steps(store);
+    let flushed = [flushed, flushes(store)];
+    Full {
+        fetched: [fetched, fetches(store, page)],
+        flushed,
+        steps,
+    }
+}
+
+/// Whether the device has the batch's gate and length and the first record, with page 0 as it was, and page 0 as it is.
+fn has_first_page(device: &MemDevice) -> [bool; 2] {
+    let batch =
+        b"\xa5\0\x02\x03\xc0\x01\0\0\0\0\0\0\0\x01\0\0\0\0\0\0\0\x01\0\0\x01\0\x07\0\x03\x01\x01\x01\x02";
+    let page = b"\x01\x01\x01\x02\0\0\0new\0";
+    [
+        has_bytes(device, 143_365, batch),
+        has_bytes(device, 8192, page),
+    ]
+}
+
+/// Whether the first 32 pages are stamped, what is answered then for the last one, and what the device has.
+fn fill_and_fetch(alloc: Global) -> Result<(bool, Full, [bool; 2]), Refusal> {
+    let mut store = formatted(alloc)?;
+    let are = stamp_all(alloc, &mut store, 32)?;
+    let full = fetch_from_full(&mut store, PageNo::new(32));
+    Ok((are, full, has_first_page(&store.device)))
 }
 
 #[test]
 fn a_full_pool_forces_the_log_before_it_flushes(rt: HostRuntime) -> Result<(), Fail> {
-    let mut store = formatted(rt.alloc())?;
-    let last = PageNo::new(32);
-    assert!(rt; stamp_all(rt.alloc(), &mut store, 32)?);
-    assert!(rt; store.fetch(last) == Ok(Fetched::Flush));
-    assert!(rt; store.flush_step() == Ok(Flushed::Force));
-    let durable = Ok(Forced::Durable(LogPos::new(32)));
-    assert!(rt; four_steps(&mut store) == [MORE, MORE, MORE, durable]);
-    assert!(rt; store.flush_step() == Ok(Flushed::Page(PageNo::new(0))));
-    assert!(rt; store.fetch(last) == Ok(Fetched::There));
-    // The batch's gate and length, and the first record, with page 0 as it was.
-    let batch =
-        b"\xa5\0\x02\x03\xc0\x01\0\0\0\0\0\0\0\x01\0\0\0\0\0\0\0\x01\0\0\x01\0\x07\0\x03\x01\x01\x01\x02";
-    expect_bytes(&rt, &store.device, 143_365, batch);
-    expect_bytes(&rt, &store.device, 8192, b"\x01\x01\x01\x02\0\0\0new\0");
+    let (are_stamped, full, has) = fill_and_fetch(rt.alloc())?;
+    assert!(rt; are_stamped && full.fetched == [Ok(Fetched::Flush), Ok(Fetched::There)]);
+    assert!(rt; full.flushed == [Ok(Flushed::Force), Ok(Flushed::Page(PageNo::new(0)))]);
+    assert!(rt; full.steps == [MORE, MORE, MORE, durable(32)]);
+    assert!(rt; has == [true; 2]);
     Ok(())
 }

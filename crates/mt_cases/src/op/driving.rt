@@ -1,5 +1,5 @@
 // Operations from their begin to their end, one after the other.
-ghost use Rattle.std.specs.Prelude.{◌≡◌, ◌⊎◌, ◌<◌, ◌≤◌, ◌+◌, ◌^◌, ℕ, Ok, Err, Some, None, IfOk, OnOk, OnErr};
+ghost use Rattle.std.specs.Prelude.{◌≡◌, ◌⊎◌, ◌<◌, ◌≤◌, ◌+◌, ◌^◌, ℕ, true, Ok, None, IfOk, OnOk, OnErr};
 ghost use Rattle.std.specs.Bool.{OnTrue};
 ghost use Rattle.mt_log.specs.Words.{used, area_size};
 ghost use Rattle.mt_model.specs.Model.{IsWithin};
@@ -13,6 +13,7 @@ ghost use Rattle.mt_op.specs.declared.scope.Stage.TheVariants.{Planning, Writing
 ghost use Rattle.mt_op.specs.declared.answers.Stepped.TheVariants as stepped;
 ghost use Rattle.mt_op.specs.declared.answers.TakenBack.TheVariants as taken;
 ghost use Rattle.mt_op.specs.declared.scope.OpScope.{OpScope};
+ghost use Rattle.mt_cases.specs.Driving.{HasBegun, HasStepped, HasGone, KeepsClaim};
 ghost use Rattle.mt_cases.specs.declared.op.driving.Acted.TheVariants as acted;
 
 use mt_base::limits::{
@@ -82,10 +83,7 @@ impl<D: Device> Driver<D> {
     // Begins an operation, where there are pages and log bytes for it.
     fn begin(&mut self, alloc: Global, op: &Op, split: bool) -> Result<OpScope, Refusal>
         requires { IsIdle D.seen D.may_leave self.old.last self.old.operations }
-        ensures busy { IfOk result (IsBusy D.seen D.may_leave self.new.operations) }
-        ensures claim { IfOk result (HasClaim self.new.operations) }
-        ensures number { IfOk result (λ s. s.number ≡ self.new.last) }
-        ensures split { IfOk result (λ s. s.split ≡ split) }
+        ensures begun { IfOk result (HasBegun D.seen D.may_leave self.new.last self.new.operations split) }
         ensures err { OnErr result (IsIdle D.seen D.may_leave self.new.last self.new.operations) }
     {
         if self.last >= 1_000_000_000 || !is_within(op) {
@@ -115,10 +113,7 @@ impl<D: Device> Driver<D> {
         requires log { used self.old.operations.store.log + 106624 < area_size self.old.operations.store.log }
         requires within { IsWithin 2 2 op }
         requires few { self.old.last < 1000000000 }
-        ensures busy { IfOk result (IsBusy D.seen D.may_leave self.new.operations) }
-        ensures claim { IfOk result (HasClaim self.new.operations) }
-        ensures number { IfOk result (λ s. s.number ≡ self.new.last) }
-        ensures split { IfOk result (λ s. s.split ≡ split) }
+        ensures begun { IfOk result (HasBegun D.seen D.may_leave self.new.last self.new.operations split) }
         ensures err { OnErr result (IsIdle D.seen D.may_leave self.new.last self.new.operations) }
     {
         let number = self.last + 1;
@@ -191,29 +186,18 @@ fn go<D: Device>(
 ) -> Result<Option<Reply>, Refusal>
     requires busy { IsBusy D.seen D.may_leave operations.old scope.old }
     requires claim { HasClaim operations.old scope.old }
-    ensures busy { IsBusy D.seen D.may_leave operations.new scope.new }
-    ensures number { scope.new.number ≡ scope.old.number }
-    ensures split { scope.new.split ≡ scope.old.split }
-    ensures ready { (reply : Reply) → result ≡ Ok (Some reply) → scope.new.stage ≡ Ready }
-    ensures given { (reply : Reply) → result ≡ Ok (Some reply) → claimed operations.new ≡ 0 }
-    ensures claim { ((reply : Reply) → result ≡ Ok (Some reply) → ⊥) → HasClaim operations.new scope.new }
+    ensures { HasGone D.seen D.may_leave operations.new scope.old scope.new result }
 {
     let mut more = writes;
     for _step in 0..10_000u16 {
         if more == 0 {
             return Ok(None);
         }
-        assert!(rt; scope.stage() == Stage::Planning || scope.stage() == Stage::Writing);
         let left = scope.left();
-        match step(alloc, operations, scope)? {
-            Stepped::Went => {}
-            Stepped::Flush => flush(rt, operations, scope)?,
-            Stepped::Ready(first, second) => {
-                assert!(rt; first.equals(&second));
-                assert!(rt; scope.stage() == Stage::Ready);
-                return Ok(Some(first));
-            }
-            Stepped::Wait(_) | Stepped::Again(_) => panic!(rt; "no other is under way"),
+        match go_once(rt, alloc, operations, scope) {
+            Ok(None) => {}
+            Ok(Some(reply)) => return Ok(Some(reply)),
+            Err(why) => return Err(why),
         }
         // a page that is written takes of its log bytes
         if scope.left() < left {
@@ -223,6 +207,33 @@ fn go<D: Device>(
     panic!(rt; "too many steps")
 }
 
+// Makes one step, or writes a page back so that there is room for it. Answers the reply if it is ready.
+fn go_once<D: Device>(
+    rt: &impl Abort,
+    alloc: Global,
+    operations: &mut Operations<D>,
+    scope: &mut OpScope,
+) -> Result<Option<Reply>, Refusal>
+    requires busy { IsBusy D.seen D.may_leave operations.old scope.old }
+    requires claim { HasClaim operations.old scope.old }
+    ensures { HasGone D.seen D.may_leave operations.new scope.old scope.new result }
+{
+    assert!(rt; scope.stage() == Stage::Planning || scope.stage() == Stage::Writing);
+    match step(alloc, operations, scope)? {
+        Stepped::Went => Ok(None),
+        Stepped::Flush => {
+            flush(rt, operations, scope)?;
+            Ok(None)
+        }
+        Stepped::Ready(first, second) => {
+            assert!(rt; first.equals(&second));
+            assert!(rt; scope.stage() == Stage::Ready);
+            Ok(Some(first))
+        }
+        Stepped::Wait(_) | Stepped::Again(_) => panic!(rt; "no other is under way"),
+    }
+}
+
 // Takes the operation back, whatever it has done.
 fn take_back<D: Device>(
     rt: &impl Abort,
@@ -230,22 +241,37 @@ fn take_back<D: Device>(
     scope: &mut OpScope,
 ) -> Result<(), Refusal>
     requires { IsBusy D.seen D.may_leave operations.old scope.old }
-    ensures busy { IsBusy D.seen D.may_leave operations.new scope.new }
-    ensures number { scope.new.number ≡ scope.old.number }
-    ensures split { scope.new.split ≡ scope.old.split }
+    ensures keeps { KeepsClaim D.seen D.may_leave operations.old operations.new scope.old scope.new }
     ensures cleared { OnOk result (scope.new.stage ≡ Cleared) }
-    ensures claim { HasClaim operations.old scope.old → HasClaim operations.new scope.new }
 {
     for _step in 0..1000u16 {
-        assert!(rt; scope.stage() != Stage::Ready && scope.stage() != Stage::Cleared);
-        match put_back(operations, scope) {
-            Ok(TakenBack::More) | Err(Refusal::NoMemory) => {}
-            Ok(TakenBack::Flush) => flush(rt, operations, scope)?,
-            Ok(TakenBack::Clear) => return Ok(()),
-            Err(why) => return Err(why),
+        if take_back_once(rt, operations, scope)? {
+            return Ok(());
         }
     }
     panic!(rt; "too many steps")
+}
+
+// Puts one page back, or writes one back so that there is room for it. Answers whether all are put back.
+fn take_back_once<D: Device>(
+    rt: &impl Abort,
+    operations: &mut Operations<D>,
+    scope: &mut OpScope,
+) -> Result<bool, Refusal>
+    requires { IsBusy D.seen D.may_leave operations.old scope.old }
+    ensures keeps { KeepsClaim D.seen D.may_leave operations.old operations.new scope.old scope.new }
+    ensures cleared { result ≡ Ok true → scope.new.stage ≡ Cleared }
+{
+    assert!(rt; scope.stage() != Stage::Ready && scope.stage() != Stage::Cleared);
+    match put_back(operations, scope) {
+        Ok(TakenBack::More) | Err(Refusal::NoMemory) => Ok(false),
+        Ok(TakenBack::Flush) => {
+            flush(rt, operations, scope)?;
+            Ok(false)
+        }
+        Ok(TakenBack::Clear) => Ok(true),
+        Err(why) => Err(why),
+    }
 }
 
 // Writes a page back, so that a frame is free; the log is forced for it.
@@ -280,12 +306,7 @@ fn step<D: Device>(
     requires busy { IsBusy D.seen D.may_leave operations.old scope.old }
     requires claim { HasClaim operations.old scope.old }
     requires stage { (scope.old.stage ≡ Planning) ⊎ (scope.old.stage ≡ Writing) }
-    ensures busy { IsBusy D.seen D.may_leave operations.new scope.new }
-    ensures number { scope.new.number ≡ scope.old.number }
-    ensures split { scope.new.split ≡ scope.old.split }
-    ensures claim { ((first second : Reply) → result ≡ Ok (stepped.Ready first second) → ⊥)
-        → HasClaim operations.new scope.new }
-    ensures given { (first second : Reply) → result ≡ Ok (stepped.Ready first second) → claimed operations.new ≡ 0 }
+    ensures { HasStepped D.seen D.may_leave operations.new scope.old scope.new result }
 {
     operations.step(alloc, scope)
 }
@@ -296,11 +317,8 @@ fn put_back<D: Device>(
 ) -> Result<TakenBack, Refusal>
     requires busy { IsBusy D.seen D.may_leave operations.old scope.old }
     requires stage { (scope.old.stage ≡ Planning) ⊎ ((scope.old.stage ≡ Writing) ⊎ (scope.old.stage ≡ Taking)) }
-    ensures busy { IsBusy D.seen D.may_leave operations.new scope.new }
-    ensures number { scope.new.number ≡ scope.old.number }
-    ensures split { scope.new.split ≡ scope.old.split }
+    ensures keeps { KeepsClaim D.seen D.may_leave operations.old operations.new scope.old scope.new }
     ensures clear { result ≡ Ok taken.Clear → scope.new.stage ≡ Cleared }
-    ensures claim { HasClaim operations.old scope.old → HasClaim operations.new scope.new }
 {
     operations.take_back(scope)
 }

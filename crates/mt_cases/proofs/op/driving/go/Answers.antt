@@ -1,22 +1,30 @@
-use Rattle.std.proofs.Common.{◌∙◌, Ok, refl, ap, sym, subst}
-use Rattle.mt_op.specs.Driven.{IsBusy, HasClaim}
+use Rattle.std.proofs.Common.{◌∙◌, subst, ℕ, List, Result, Option}
+use Rattle.mt_base.specs.declared.refusal.Refusal.{Refusal}
+use Rattle.mt_model.specs.declared.operations.Reply.{Reply}
 use Rattle.mt_op.specs.declared.operations.Operations.{Operations}
+use Rattle.mt_op.specs.declared.scope.OpScope.{OpScope}
+use Rattle.mt_cases.specs.Driving.{StaysBusy, HasGone}
 use Rattle.mt_cases.proofs.op.driving.go.Goals as goal
-use Rattle.mt_cases.proofs.op.driving.go.Goals.{in-Went, in-Flush+in_ok-flush-in-Flush}
 
-pub returns-in-Ready-clause-given : goal.returns-in-Ready-clause-given
-returns-in-Ready-clause-given g c = λ reply is. c.step.ensures.given c.in-Ready.first c.in-Ready.second (c.in_ok-step.was ∙ ap Ok c.in-Ready.is)
+-- what was under way before goes on
+stays_then : {D : Type 0} (seen : D → List ℕ) (may_leave : D → List ℕ → Type 0) (m n : Operations D) (s t u : OpScope) → StaysBusy seen may_leave m s t → StaysBusy seen may_leave n t u → StaysBusy seen may_leave n s u
+stays_then seen may_leave m n s t u was is = record { busy = is.busy; number = is.number ∙ was.number; split = is.split ∙ was.split }
 
-pub returns-in-Ready-clause-claim : goal.returns-in-Ready-clause-claim
-returns-in-Ready-clause-claim g c = λ not. absurd (not c.in-Ready.first refl)
+gone_then : {D : Type 0} (seen : D → List ℕ) (may_leave : D → List ℕ → Type 0) (m n : Operations D) (s t u : OpScope) (r : Result (Option Reply) Refusal) → StaysBusy seen may_leave m s t → HasGone seen may_leave n t u r → HasGone seen may_leave n s u r
+gone_then seen may_leave m n s t u r was gone = record { stays = stays_then seen may_leave m n s t u was gone.stays; claim = gone.claim; given = gone.given; ready = gone.ready }
+
+pub returns-in-Ok-Some : goal.returns-in-Ok-Some
+returns-in-Ok-Some g c = let seen = g.D.Device.seen in let may_leave = g.D.Device.may_leave in let n = c.go_once.new.operations in let s = c.args.scope.now in let u = c.go_once.new.scope in
+    subst (λ (r : Result (Option Reply) Refusal). HasGone seen may_leave n s u r) (let is = c.in-Ok-Some.is in let inner = c.in-Ok-Some.field-0-is in cc)
+    (gone_then seen may_leave c.loop-step.operations n s c.loop-step.scope u c.go_once.result c.loop-step.invariant.stays c.go_once.ensures)
+
+pub returns-in-Err : goal.returns-in-Err
+returns-in-Err g c = let seen = g.D.Device.seen in let may_leave = g.D.Device.may_leave in let n = c.go_once.new.operations in let s = c.args.scope.now in let u = c.go_once.new.scope in
+    subst (λ (r : Result (Option Reply) Refusal). HasGone seen may_leave n s u r) c.in-Err.is
+    (gone_then seen may_leave c.loop-step.operations n s c.loop-step.scope u c.go_once.result c.loop-step.invariant.stays c.go_once.ensures)
 
 pub loop-step-preserved : goal.loop-step-preserved
-loop-step-preserved g c = record { busy = kept.0; claim = kept.1; number = c.step.ensures.number ∙ c.loop-step.invariant.number; split = c.step.ensures.split ∙ c.loop-step.invariant.split }
-  where
-    kept : IsBusy g.D.Device.seen g.D.Device.may_leave c.match-branch-2.operations c.step.new.scope × HasClaim c.match-branch-2.operations c.step.new.scope
-    kept = elim c.match-branch-2.branch [
-      | in-Went w ↦ subst (λ (o : Operations g.row.D.Denot). IsBusy g.D.Device.seen g.D.Device.may_leave o c.step.new.scope × HasClaim o c.step.new.scope) (sym w.operations-is)
-          (c.step.ensures.busy, c.step.ensures.claim (λ first second is. let was = c.in_ok-step.was in let went = w.in-Went.is in cc))
-      | in-Flush+in_ok-flush-in-Flush w ↦ subst (λ (o : Operations g.row.D.Denot). IsBusy g.D.Device.seen g.D.Device.may_leave o c.step.new.scope × HasClaim o c.step.new.scope) (sym w.operations-is)
-          (w.flush.ensures.busy, w.flush.ensures.claimed ∙ c.step.ensures.claim (λ first second is. let was = c.in_ok-step.was in let went = w.in-Flush.is in cc))
-    ]
+loop-step-preserved g c = record {
+  stays = stays_then g.D.Device.seen g.D.Device.may_leave c.loop-step.operations c.go_once.new.operations c.args.scope.now c.loop-step.scope c.go_once.new.scope c.loop-step.invariant.stays c.go_once.ensures.stays;
+  claim = c.go_once.ensures.claim (λ reply is. let is-none = c.in-Ok-None.is in let inner = c.in-Ok-None.field-0-is in cc);
+}

@@ -13,17 +13,10 @@ take_back-requires-clause-budget g c = c.requires.busy.budget
 pub take_back-requires-clause-room : goal.take_back-requires-clause-room
 take_back-requires-clause-room g c = c.requires.busy.room
 
-pub returns-clause-busy : goal.returns-clause-busy
-returns-clause-busy g c = let b = c.requires.busy in let e = c.take_back.ensures in let seen = g.D.Device.seen in let o = c.args.operations.now in let n = c.take_back.new.self in let s = c.args.scope.now in let t = c.take_back.new.scope in
-    let went = e.goes b.opening 2 2 b.right b.under in let log = e.log in let area = e.area in let room = b.room in
-    busy_on seen g.D.Device.may_leave o n s t b went.0 (goes_on (world seen b.opening o) (world seen b.opening n) s t went.1) e.budget (omega arith)
-
-pub returns-clause-number : goal.returns-clause-number
-returns-clause-number g c = let b = c.requires.busy in (c.take_back.ensures.goes b.opening 2 2 b.right b.under).1.same.number
-
-pub returns-clause-split : goal.returns-clause-split
-returns-clause-split g c = let b = c.requires.busy in (c.take_back.ensures.goes b.opening 2 2 b.right b.under).1.same.split
-
-pub returns-clause-claim : goal.returns-clause-claim
-returns-clause-claim g c = λ claim. let b = c.requires.busy in let same = (c.take_back.ensures.goes b.opening 2 2 b.right b.under).1.same in
-    c.take_back.ensures.claimed ∙ claim ∙ (λ i. own_needs (sym same.op i) (sym same.split i))
+pub returns-clause-keeps : goal.returns-clause-keeps
+returns-clause-keeps g c = let b = c.requires.busy in let e = c.take_back.ensures in let seen = g.D.Device.seen in let o = c.args.operations.now in let n = c.take_back.new.self in let s = c.args.scope.now in let t = c.take_back.new.scope in
+    let went = e.goes b.opening 2 2 b.right b.under in let log = e.log in let area = e.area in let room = b.room in let same = went.1.same in
+    record {
+      stays = record { busy = busy_on seen g.D.Device.may_leave o n s t b went.0 (goes_on (world seen b.opening o) (world seen b.opening n) s t went.1) e.budget (omega arith); number = same.number; split = same.split };
+      claim = λ claim. e.claimed ∙ claim ∙ (λ i. own_needs (sym same.op i) (sym same.split i));
+    }

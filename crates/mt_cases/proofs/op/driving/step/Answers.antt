@@ -16,27 +16,12 @@ step-requires-clause-budget g c = c.requires.busy.budget
 pub step-requires-clause-room : goal.step-requires-clause-room
 step-requires-clause-room g c = c.requires.busy.room
 
-pub returns-clause-busy : goal.returns-clause-busy
-returns-clause-busy g c = let b = c.requires.busy in let e = c.step.ensures in let seen = g.D.Device.seen in let o = c.args.operations.now in let n = c.step.new.self in let s = c.args.scope.now in let t = c.step.new.scope in
+pub returns : goal.returns
+returns g c = let b = c.requires.busy in let e = c.step.ensures in let seen = g.D.Device.seen in let o = c.args.operations.now in let n = c.step.new.self in let s = c.args.scope.now in let t = c.step.new.scope in
     let went = e.steps b.opening 2 2 b.right b.under (omega arith) (omega arith) in let log = e.log in let area = e.area in let room = b.room in
-    busy_on seen g.D.Device.may_leave o n s t b went.0 (steps_on (world seen b.opening o) (world seen b.opening n) s t c.step.result went.1) e.budget (omega arith)
-
-pub returns-clause-number : goal.returns-clause-number
-returns-clause-number g c = let b = c.requires.busy in let seen = g.D.Device.seen in let o = c.args.operations.now in let n = c.step.new.self in
-    let went = c.step.ensures.steps b.opening 2 2 b.right b.under (omega arith) (omega arith) in
-    (steps_on (world seen b.opening o) (world seen b.opening n) c.args.scope.now c.step.new.scope c.step.result went.1).same.number
-
-pub returns-clause-split : goal.returns-clause-split
-returns-clause-split g c = let b = c.requires.busy in let seen = g.D.Device.seen in let o = c.args.operations.now in let n = c.step.new.self in
-    let went = c.step.ensures.steps b.opening 2 2 b.right b.under (omega arith) (omega arith) in
-    (steps_on (world seen b.opening o) (world seen b.opening n) c.args.scope.now c.step.new.scope c.step.result went.1).same.split
-
-pub returns-clause-claim : goal.returns-clause-claim
-returns-clause-claim g c = λ not. let b = c.requires.busy in let seen = g.D.Device.seen in let o = c.args.operations.now in let n = c.step.new.self in let s = c.args.scope.now in let t = c.step.new.scope in
-    let went = c.step.ensures.steps b.opening 2 2 b.right b.under (omega arith) (omega arith) in
-    let same = (steps_on (world seen b.opening o) (world seen b.opening n) s t c.step.result went.1).same in
-    claim_stays (own_needs s.op s.split) (claimed o) (claimed n) c.step.result c.step.ensures.claims not ∙ c.requires.claim ∙ (λ i. own_needs (sym same.op i) (sym same.split i))
-
-pub returns-clause-given : goal.returns-clause-given
-returns-clause-given g c = λ first second is. let s = c.args.scope.now in
-    claim_goes (own_needs s.op s.split) (claimed c.args.operations.now) (claimed c.step.new.self) c.step.result first second is c.step.ensures.claims c.requires.claim
+    let goes = steps_on (world seen b.opening o) (world seen b.opening n) s t c.step.result went.1 in
+    record {
+      stays = record { busy = busy_on seen g.D.Device.may_leave o n s t b went.0 goes e.budget (omega arith); number = goes.same.number; split = goes.same.split };
+      claim = λ not. claim_stays (own_needs s.op s.split) (claimed o) (claimed n) c.step.result e.claims not ∙ c.requires.claim ∙ (λ i. own_needs (sym goes.same.op i) (sym goes.same.split i));
+      given = λ first second is. claim_goes (own_needs s.op s.split) (claimed o) (claimed n) c.step.result first second is e.claims c.requires.claim;
+    }

@@ -1,11 +1,5 @@
-use Rattle.std.proofs.Common.{◌≡◌}
-use Rattle.mt_op.specs.Driven.{IsBusy, HasClaim}
+use Rattle.mt_cases.specs.Driving.{KeepsClaim}
 use Rattle.mt_cases.proofs.op.driving.take_back.Given as goal
 
 abbrev pub invariant-loop-step : goal.invariant-loop-step
-invariant-loop-step g l = record {
-  busy : IsBusy g.D.Device.seen g.D.Device.may_leave l.operations l.scope;
-  claim : HasClaim l.fn.operations l.fn.scope → HasClaim l.operations l.scope;
-  number : l.scope.number ≡ l.fn.scope.number;
-  split : l.scope.split ≡ l.fn.scope.split;
-}
+invariant-loop-step g l = KeepsClaim g.D.Device.seen g.D.Device.may_leave l.fn.operations l.operations l.fn.scope l.scope

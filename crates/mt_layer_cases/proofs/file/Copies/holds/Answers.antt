@@ -1,4 +1,4 @@
-use Rattle.std.proofs.Common.{◌≡◌, ◌∙◌, sym}
+use Rattle.std.proofs.Common.{◌∙◌, sym}
 use Rattle.mt_file.specs.Copies.{copied, copied_at}
 use Rattle.mt_layer_cases.proofs.file.Copies.holds.Goals as goal
 

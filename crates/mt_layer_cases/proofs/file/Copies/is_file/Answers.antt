@@ -1,4 +1,4 @@
-use Rattle.std.proofs.Common.{rules, ◌<◌, sym, ◌∙◌, below_more, length, arith}
+use Rattle.std.proofs.Common.{rules, sym, ◌∙◌, below_more, arith}
 use Rattle.mt_file.proofs.Whole.{is_file}
 use Rattle.mt_layer_cases.proofs.file.Copies.is_file.Goals as goal
 

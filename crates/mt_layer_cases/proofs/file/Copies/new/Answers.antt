@@ -1,4 +1,4 @@
-use Rattle.std.proofs.Common.{rules, ◌≡◌, ℕ, List, length, arith}
+use Rattle.std.proofs.Common.{rules}
 use Rattle.mt_file.proofs.Whole.{whole_push}
 use Rattle.mt_layer_cases.proofs.file.Copies.new.Goals as goal
 

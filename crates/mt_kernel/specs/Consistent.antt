@@ -166,6 +166,18 @@ pub record IsConsistent {D : Type 0} (seen : D → List ℕ) (may_leave : D → 
   pub told : AreTold k.last k.live.members (appended k.operations.store.log)
   pub claims : claimed k.operations ≡ sum_by pages_of k.running.items + sum_by entry_pages k.live.standing
 
+-- consistent on some base
+abbrev pub IsSound : {D : Type 0} → (D → List ℕ) → (D → List ℕ → Type 0) → Parts D → Type 0
+IsSound seen may_leave k = (origin : Origin) × (base : Base) × IsConsistent seen may_leave origin base k
+
+-- bytes of the log that are used and kept
+abbrev pub log_kept : {D : Type 0} → Parts D → ℕ
+log_kept k = used k.operations.store.log + sum_by left_of k.running.items + k.reserved
+
+-- of the operation at a place
+abbrev pub AtPlace : List Running → ℕ → (Running → Type 0) → Type 0
+AtPlace rs place P = (r : Running) → r ≡ slice_index_or rs place r → P r
+
 -- all operations but the one at a place are under way, and it has come to a stage
 pub record IsAlone {D : Type 0} (seen : D → List ℕ) (origin : Origin) (k : Parts D) (place : ℕ) (r : Running) (come : Stage) : Type 0 where
   pub within : place < length k.running.items
@@ -192,6 +204,10 @@ pub record IsReady {D : Type 0} (seen : D → List ℕ) (may_leave : D → List 
   pub told : IsToldBefore k.last k.live.members (appended k.operations.store.log) r.scope reply
   pub claims : claimed k.operations + own_needs r.scope.op r.scope.split ≡ sum_by pages_of k.running.items + sum_by entry_pages k.live.standing
 
+-- what is at a place is ready, with this reply
+abbrev pub IsReadyAt : {D : Type 0} → (D → List ℕ) → (D → List ℕ → Type 0) → Origin → Base → Parts D → ℕ → Reply → Type 0
+IsReadyAt seen may_leave origin base k place reply = AtPlace k.running.items place (λ r. IsReady seen may_leave origin base k place r reply)
+
 -- The operation at a place is taken back: nothing of it is left but its page locks, and its claims.
 pub record IsCleared {D : Type 0} (seen : D → List ℕ) (may_leave : D → List ℕ → Type 0) (origin : Origin) (base : Base) (k : Parts D) (place : ℕ) (r : Running) : Type 0 where
   pub fit : IsFit seen may_leave origin base k
@@ -200,10 +216,18 @@ pub record IsCleared {D : Type 0} (seen : D → List ℕ) (may_leave : D → Lis
   pub told : AreTold k.last k.live.members (appended k.operations.store.log)
   pub claims : claimed k.operations ≡ sum_by pages_of k.running.items + sum_by entry_pages k.live.standing
 
+-- what is at a place is taken back
+abbrev pub IsClearedAt : {D : Type 0} → (D → List ℕ) → (D → List ℕ → Type 0) → Origin → Base → Parts D → ℕ → Type 0
+IsClearedAt seen may_leave origin base k place = AtPlace k.running.items place (λ r. IsCleared seen may_leave origin base k place r)
+
 -- consistent on a base, in this state of the laws
 pub record IsIn {D : Type 0} (seen : D → List ℕ) (may_leave : D → List ℕ → Type 0) (origin : Origin) (base : Base) (s : State) (k : Parts D) : Type 0 where
   pub consistent : IsConsistent seen may_leave origin base k
   pub state : s ≡ state_of k base
+
+-- in the state in which other parts were
+abbrev pub StaysIn : {D : Type 0} → (D → List ℕ) → (D → List ℕ → Type 0) → Parts D → Parts D → Type 0
+StaysIn seen may_leave k n = (origin : Origin) (base : Base) → IsConsistent seen may_leave origin base k → IsIn seen may_leave origin base (state_of k base) n
 
 -- what a step of the operation at a place leaves, of parts that were in this state
 abbrev pub Advances : {D : Type 0} → (D → List ℕ) → (D → List ℕ → Type 0) → Origin → Base → State → Parts D → ℕ → Result Stepped Refusal → Type 0

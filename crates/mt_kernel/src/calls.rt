@@ -11,7 +11,7 @@ ghost use Rattle.mt_log.specs.Words.{used, area_size};
 ghost use Rattle.mt_model.specs.Model.{Base, IsWithin, object_of};
 ghost use Rattle.mt_model.specs.declared.objects.Object.{Object};
 ghost use Rattle.mt_slock.specs.declared.holders.Holder.{Holder};
-ghost use Rattle.mt_kernel.specs.Consistent.{Origin, state_of, IsConsistent, IsIn, MayRun, MayBeCalled, IsLocked, IsGranted, IsAskedFor, IsCalled, IsRestored, without_call};
+ghost use Rattle.mt_kernel.specs.Consistent.{log_kept, Origin, state_of, IsConsistent, IsIn, MayRun, MayBeCalled, IsLocked, IsGranted, IsAskedFor, IsCalled, IsRestored, without_call};
 ghost use Rattle.mt_kernel.specs.Runs.{left_of};
 ghost use Rattle.mt_kernel.specs.declared.parts.Running.{Running};
 
@@ -76,9 +76,11 @@ impl<D: Device> Parts<D> {
         op: &Op,
         split: bool,
     ) -> Result<Called, Refusal>
-        requires safe { (origin : Origin) × (base : Base) × IsConsistent D.seen D.may_leave origin base self.old × MayBeCalled origin self.old txn op.now }
+        requires safe { (origin : Origin) × (base : Base) × IsConsistent D.seen D.may_leave origin base self.old
+            × MayBeCalled origin self.old txn op.now }
         requires few { self.old.last < 2 ^ 40 }
-        ensures { (origin : Origin) (base : Base) → IsConsistent D.seen D.may_leave origin base self.old → MayBeCalled origin self.old txn op.now
+        ensures { (origin : Origin) (base : Base) → IsConsistent D.seen D.may_leave origin base self.old
+            → MayBeCalled origin self.old txn op.now
             → IsCalled D.seen D.may_leave origin base (state_of self.old base) self.new txn op.now result }
     {
         let own = op.try_clone()?;
@@ -92,8 +94,8 @@ impl<D: Device> Parts<D> {
 
     // Whether the log has room for so many bytes beside those that are kept.
     pub(crate) fn log_takes(&self, bytes: u64) -> bool
-        requires { used self.now.operations.store.log + sum_by left_of self.now.running.items + self.now.reserved < area_size self.now.operations.store.log }
-        ensures takes { OnTrue result (used self.now.operations.store.log + sum_by left_of self.now.running.items + self.now.reserved + bytes < area_size self.now.operations.store.log) }
+        requires { log_kept self.now < area_size self.now.operations.store.log }
+        ensures takes { OnTrue result (log_kept self.now + bytes < area_size self.now.operations.store.log) }
         ensures sum { OnTrue result (self.now.reserved + bytes < 2 ^ 64) }
     {
         let log = self.operations.log();
@@ -109,11 +111,13 @@ impl<D: Device> Parts<D> {
         end: Op,
         split: bool,
     ) -> Result<(), Refusal>
-        requires granted { (origin : Origin) × (base : Base) × (locks : List (Object × List Holder)) × (escrow : Escrowed) × IsGranted D.seen D.may_leave origin base locks escrow self.old txn end }
+        requires granted { (origin : Origin) × (base : Base) × (locks : List (Object × List Holder))
+            × (escrow : Escrowed) × IsGranted D.seen D.may_leave origin base locks escrow self.old txn end }
         requires same { own ≡ end }
         requires room { vec_len self.old.running < vec_capacity self.old.running }
         requires few { self.old.last < 2 ^ 40 }
-        ensures ok { (origin : Origin) (base : Base) (locks : List (Object × List Holder)) (escrow : Escrowed) → IsGranted D.seen D.may_leave origin base locks escrow self.old txn end
+        ensures ok { (origin : Origin) (base : Base) (locks : List (Object × List Holder)) (escrow : Escrowed)
+            → IsGranted D.seen D.may_leave origin base locks escrow self.old txn end
             → OnOk result (IsIn D.seen D.may_leave origin base (called (state_of (without_call locks escrow self.old) base) txn end) self.new) }
         ensures err { OnErr result (IsRestored D.seen D.may_leave self.old self.new) }
     {
@@ -153,11 +157,13 @@ impl<D: Device> Parts<D> {
         end: Op,
         split: bool,
     ) -> Result<(), Refusal>
-        requires locked { (origin : Origin) × (base : Base) × (locks : List (Object × List Holder)) × IsLocked D.seen D.may_leave origin base locks self.old txn op.now }
+        requires locked { (origin : Origin) × (base : Base) × (locks : List (Object × List Holder))
+            × IsLocked D.seen D.may_leave origin base locks self.old txn op.now }
         requires same { (own ≡ op.now) × (end ≡ op.now) }
         requires room { vec_len self.old.running < vec_capacity self.old.running }
         requires few { self.old.last < 2 ^ 40 }
-        ensures ok { (origin : Origin) (base : Base) (locks : List (Object × List Holder)) → IsLocked D.seen D.may_leave origin base locks self.old txn op.now
+        ensures ok { (origin : Origin) (base : Base) (locks : List (Object × List Holder))
+            → IsLocked D.seen D.may_leave origin base locks self.old txn op.now
             → OnOk result (IsIn D.seen D.may_leave origin base (called (state_of (without_call locks self.old.escrow self.old) base) txn op.now) self.new) }
         ensures err { OnErr result (IsRestored D.seen D.may_leave self.old self.new) }
     {
@@ -183,11 +189,13 @@ impl<D: Device> Parts<D> {
         object: Object,
         again: &Object,
     ) -> Result<Called, Refusal>
-        requires safe { (origin : Origin) × (base : Base) × IsConsistent D.seen D.may_leave origin base self.old × MayRun origin self.old txn op.now }
+        requires safe { (origin : Origin) × (base : Base) × IsConsistent D.seen D.may_leave origin base self.old
+            × MayRun origin self.old txn op.now }
         requires same { (own ≡ op.now) × (end ≡ op.now) × (object ≡ object_of op.now) × (again.now ≡ object_of op.now) }
         requires room { vec_len self.old.running < vec_capacity self.old.running }
         requires few { self.old.last < 2 ^ 40 }
-        ensures { (origin : Origin) (base : Base) → IsConsistent D.seen D.may_leave origin base self.old → MayRun origin self.old txn op.now
+        ensures { (origin : Origin) (base : Base) → IsConsistent D.seen D.may_leave origin base self.old
+            → MayRun origin self.old txn op.now
             → IsCalled D.seen D.may_leave origin base (state_of self.old base) self.new txn op.now result }
     {
         let mode = op.mode();

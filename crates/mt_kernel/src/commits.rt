@@ -4,7 +4,7 @@ ghost use Rattle.mt_live.specs.Lives.{member_of};
 ghost use Rattle.mt_live.specs.Machine.{begun, booked};
 ghost use Rattle.mt_live.specs.declared.transactions.TxnState.TheVariants.{Open};
 ghost use Rattle.mt_model.specs.Model.{Base};
-ghost use Rattle.mt_kernel.specs.Consistent.{Origin, state_of, state_in, session_in, IsConsistent, IsIn};
+ghost use Rattle.mt_kernel.specs.Consistent.{IsSound, StaysIn, Origin, state_of, state_in, session_in, IsConsistent, IsIn};
 ghost use Rattle.mt_kernel.specs.Runs.{is_open};
 ghost use Rattle.mt_kernel.specs.declared.parts.Commit.{Commit};
 ghost use Rattle.mt_kernel.specs.declared.parts.Running.{Running};
@@ -28,7 +28,7 @@ impl<D: Device> Parts<D> {
     /// Refused with 11 where the log has no room for its end beside what is kept, else with 1 for want of memory; nothing
     /// has changed then.
     pub fn begin(&mut self, session: u32) -> Result<TxnNo, Refusal>
-        requires safe { (origin : Origin) × (base : Base) × IsConsistent D.seen D.may_leave origin base self.old }
+        requires safe { IsSound D.seen D.may_leave self.old }
         requires few { self.old.live.begun < 2 ^ 40 }
         ensures begun { (origin : Origin) (base : Base) → IsConsistent D.seen D.may_leave origin base self.old
             → OnOk result (IsIn D.seen D.may_leave origin base (begun (state_of self.old base) session) self.new) }
@@ -46,8 +46,7 @@ impl<D: Device> Parts<D> {
     /// Begins to undo an open transaction. It takes no memory.
     pub fn abort_begin(&mut self, txn: TxnNo)
         requires { state_in self.old.live.members txn ≡ Some Open }
-        ensures state { (origin : Origin) (base : Base) → IsConsistent D.seen D.may_leave origin base self.old
-            → IsIn D.seen D.may_leave origin base (state_of self.old base) self.new }
+        ensures state { StaysIn D.seen D.may_leave self.old self.new }
     {
         self.live.set_state(txn, TxnState::Aborting);
     }
@@ -57,11 +56,10 @@ impl<D: Device> Parts<D> {
     ///
     /// Refused with 1 for want of memory; the transaction is at work as before.
     pub fn commit_begin(&mut self, txn: TxnNo) -> Result<usize, Refusal>
-        requires safe { (origin : Origin) × (base : Base) × IsConsistent D.seen D.may_leave origin base self.old }
+        requires safe { IsSound D.seen D.may_leave self.old }
         requires at_work { is_open (member_of self.old.live.members txn) ≡ true }
         requires idle { All (λ (r : Running). r.scope.txn ≢ txn) self.old.running.items }
-        ensures state { (origin : Origin) (base : Base) → IsConsistent D.seen D.may_leave origin base self.old
-            → IsIn D.seen D.may_leave origin base (state_of self.old base) self.new }
+        ensures state { StaysIn D.seen D.may_leave self.old self.new }
     {
         self.commits.reserve(1)?;
         self.book.reserve(self.commits.len() + 1)?;
@@ -72,12 +70,14 @@ impl<D: Device> Parts<D> {
         Ok(self.book.len() + self.commits.len())
     }
 
-    // The first of the commits under way is durable: its calls are the last of the book, its adds move the counters, and
-    // what was kept for its inverses is free.
-    fn leave_first(&mut self) -> TxnNo
-        requires safe { (origin : Origin) × (base : Base) × IsConsistent D.seen D.may_leave origin base self.old }
+    /// Books the first of the commits under way, whose record is durable: its calls are the last of the book, its adds
+    /// move the counters, its locks go, and what was kept for its inverses is free. Answers its transaction. It takes no
+    /// memory.
+    pub fn leave_first(&mut self) -> TxnNo
+        requires safe { IsSound D.seen D.may_leave self.old }
         requires some { (c : Commit) × (cs : List Commit) × (self.old.commits.items ≡ c ∷ cs) }
-        ensures left { (origin : Origin) (base : Base) (c : Commit) (cs : List Commit) → IsConsistent D.seen D.may_leave origin base self.old → self.old.commits.items ≡ c ∷ cs
+        ensures left { (origin : Origin) (base : Base) (c : Commit) (cs : List Commit)
+            → IsConsistent D.seen D.may_leave origin base self.old → self.old.commits.items ≡ c ∷ cs
             → IsIn D.seen D.may_leave origin base (booked (state_of self.old base) c.txn (session_in self.old.live.members c.txn)) self.new × (result ≡ c.txn) × (self.new.commits.items ≡ cs) }
     {
         let reserved = self.reserved;
@@ -92,20 +92,21 @@ impl<D: Device> Parts<D> {
         txn
     }
 
-    // Makes a step of the log's force.
-    fn force_log(&mut self) -> Result<Forced, Refusal>
-        requires safe { (origin : Origin) × (base : Base) × IsConsistent D.seen D.may_leave origin base self.old }
-        ensures state { (origin : Origin) (base : Base) → IsConsistent D.seen D.may_leave origin base self.old
-            → IsIn D.seen D.may_leave origin base (state_of self.old base) self.new }
+    /// Makes a step of the log's force, of one device call. Answers up to which record the log is durable where a force
+    /// has ended.
+    ///
+    /// Refused with 2 where the device has failed.
+    pub fn force_step(&mut self) -> Result<Forced, Refusal>
+        requires safe { IsSound D.seen D.may_leave self.old }
+        ensures state { StaysIn D.seen D.may_leave self.old self.new }
     {
         self.operations.force_step()
     }
 
-    /// Writes a page into its slot, where one waits for no record that is not durable.
+    /// Writes a page into its slot, where one waits for no record that is not durable. The error is the device's.
     pub fn flush_step(&mut self) -> Result<Flushed, DeviceFault>
-        requires safe { (origin : Origin) × (base : Base) × IsConsistent D.seen D.may_leave origin base self.old }
-        ensures state { (origin : Origin) (base : Base) → IsConsistent D.seen D.may_leave origin base self.old
-            → IsIn D.seen D.may_leave origin base (state_of self.old base) self.new }
+        requires safe { IsSound D.seen D.may_leave self.old }
+        ensures state { StaysIn D.seen D.may_leave self.old self.new }
     {
         self.operations.flush_step()
     }

@@ -2,7 +2,7 @@
 ghost use Rattle.std.specs.Prelude.{◌≡◌, ◌≢◌, ◌⊎◌, ◌<◌, ℕ, length, slice_index_or};
 ghost use Rattle.mt_live.specs.Machine.{dropped};
 ghost use Rattle.mt_model.specs.Model.{Base};
-ghost use Rattle.mt_kernel.specs.Consistent.{Origin, state_of, IsConsistent, IsCleared, IsIn, GoesBack};
+ghost use Rattle.mt_kernel.specs.Consistent.{IsSound, IsClearedAt, AtPlace, Origin, state_of, IsConsistent, IsCleared, IsIn, GoesBack};
 ghost use Rattle.mt_kernel.specs.declared.parts.Running.{Running};
 
 use crate::ends::let_go;
@@ -14,23 +14,28 @@ use mt_op::TakenBack;
 use mt_steps::{pages_for, pages_to_undo};
 
 impl<D: Device> Parts<D> {
-    // Makes a step of the taking back of the operation at a place.
-    fn go_back(&mut self, place: usize) -> Result<TakenBack, Refusal>
-        requires safe { (origin : Origin) × (base : Base) × IsConsistent D.seen D.may_leave origin base self.old }
+    /// Makes a step of the taking back of the operation at a place: a page that it wrote is put back. At `Clear` nothing
+    /// of it is left but its page locks and its claims, and it has to be dropped out. The base that the pages hold stays.
+    ///
+    /// Refused with 1 for want of memory, and with 2 where the device has failed.
+    pub fn take_back(&mut self, place: usize) -> Result<TakenBack, Refusal>
+        requires safe { IsSound D.seen D.may_leave self.old }
         requires within { place < length self.old.running.items }
-        ensures { (origin : Origin) (base : Base) → IsConsistent D.seen D.may_leave origin base self.old → GoesBack D.seen D.may_leave origin base (state_of self.old base) self.new place result }
+        ensures { (origin : Origin) (base : Base) → IsConsistent D.seen D.may_leave origin base self.old
+            → GoesBack D.seen D.may_leave origin base (state_of self.old base) self.new place result }
     {
         self.operations.take_back(&mut self.running[place].scope)
     }
 
-    // Drops an operation out that was taken back and is no inverse.
-    fn drop_out(&mut self, place: usize)
-        requires cleared { (origin : Origin) × (base : Base) × ((r : Running) → r ≡ slice_index_or self.old.running.items place r → IsCleared D.seen D.may_leave origin base self.old place r) }
+    /// Drops an operation out that was taken back and is no inverse: its page locks go, and so does what was kept for it
+    /// and for its inverse. Its add, where it is one, is pending no more. It takes no memory.
+    pub fn drop_out(&mut self, place: usize)
+        requires cleared { (origin : Origin) × (base : Base)
+            × IsClearedAt D.seen D.may_leave origin base self.old place }
         requires within { place < length self.old.running.items }
-        requires forward { (r : Running) → r ≡ slice_index_or self.old.running.items place r → r.scope.undoes ≡ 0 }
-        ensures { (origin : Origin) (base : Base) → ((r : Running) → r ≡ slice_index_or self.old.running.items place r → IsCleared D.seen D.may_leave origin base self.old place r)
-            → (r : Running) → r ≡ slice_index_or self.old.running.items place r
-            → IsIn D.seen D.may_leave origin base (dropped (state_of self.old base) r.scope.txn self.new.escrow.pending) self.new }
+        requires forward { AtPlace self.old.running.items place (λ r. r.scope.undoes ≡ 0) }
+        ensures { (origin : Origin) (base : Base) → IsClearedAt D.seen D.may_leave origin base self.old place
+            → AtPlace self.old.running.items place (λ r. IsIn D.seen D.may_leave origin base (dropped (state_of self.old base) r.scope.txn self.new.escrow.pending) self.new) }
     {
         let Running { scope, op } = self.running.remove(place);
         let txn = scope.txn();

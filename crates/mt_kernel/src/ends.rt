@@ -5,7 +5,7 @@ ghost use Rattle.mt_model.specs.declared.pending.Pending.{Pending};
 ghost use Rattle.mt_live.specs.Machine.{ended, undone};
 ghost use Rattle.mt_model.specs.Model.{Base, base_after};
 ghost use Rattle.mt_model.specs.declared.operations.Reply.{Reply};
-ghost use Rattle.mt_kernel.specs.Consistent.{Origin, state_of, IsIn, IsReady};
+ghost use Rattle.mt_kernel.specs.Consistent.{IsReadyAt, AtPlace, Origin, state_of, IsIn, IsReady};
 ghost use Rattle.mt_kernel.specs.declared.parts.Running.{Running};
 
 use crate::parts::{Parts, Running};
@@ -31,12 +31,12 @@ impl<D: Device> Parts<D> {
     // Ends an operation that is ready and no inverse: it stands behind all others, with this reply. Where it did
     // nothing, what was kept for its inverse is free.
     pub(crate) fn note_end(&mut self, place: usize, reply: Reply)
-        requires ready { (origin : Origin) × (base : Base) × ((r : Running) → r ≡ slice_index_or self.old.running.items place r → IsReady D.seen D.may_leave origin base self.old place r reply) }
+        requires ready { (origin : Origin) × (base : Base)
+            × IsReadyAt D.seen D.may_leave origin base self.old place reply }
         requires within { place < length self.old.running.items }
-        requires forward { (r : Running) → r ≡ slice_index_or self.old.running.items place r → r.scope.undoes ≡ 0 }
-        ensures { (origin : Origin) (base : Base) → ((r : Running) → r ≡ slice_index_or self.old.running.items place r → IsReady D.seen D.may_leave origin base self.old place r reply)
-            → (r : Running) → r ≡ slice_index_or self.old.running.items place r
-            → IsIn D.seen D.may_leave origin (base_after base r.scope.op) (ended (state_of self.old base) r.scope.txn r.scope.op) self.new }
+        requires forward { AtPlace self.old.running.items place (λ r. r.scope.undoes ≡ 0) }
+        ensures { (origin : Origin) (base : Base) → IsReadyAt D.seen D.may_leave origin base self.old place reply
+            → AtPlace self.old.running.items place (λ r. IsIn D.seen D.may_leave origin (base_after base r.scope.op) (ended (state_of self.old base) r.scope.txn r.scope.op) self.new) }
     {
         let Running { scope, op } = self.running.remove(place);
         let txn = scope.txn();
@@ -50,12 +50,13 @@ impl<D: Device> Parts<D> {
 
     // Ends an inverse that is ready: what it takes back stands no more, nor what its transaction did behind it.
     pub(crate) fn note_undone(&mut self, place: usize)
-        requires ready { (origin : Origin) × (base : Base) × (reply : Reply) × ((r : Running) → r ≡ slice_index_or self.old.running.items place r → IsReady D.seen D.may_leave origin base self.old place r reply) }
+        requires ready { (origin : Origin) × (base : Base) × (reply : Reply)
+            × IsReadyAt D.seen D.may_leave origin base self.old place reply }
         requires within { place < length self.old.running.items }
-        requires back { (r : Running) → r ≡ slice_index_or self.old.running.items place r → r.scope.undoes ≢ 0 }
-        ensures { (origin : Origin) (base : Base) (reply : Reply) → ((r : Running) → r ≡ slice_index_or self.old.running.items place r → IsReady D.seen D.may_leave origin base self.old place r reply)
-            → (r : Running) → r ≡ slice_index_or self.old.running.items place r
-            → IsIn D.seen D.may_leave origin (base_after base r.scope.op) (undone (state_of self.old base) r.scope.txn r.scope.op self.new.escrow.pending) self.new }
+        requires back { AtPlace self.old.running.items place (λ r. r.scope.undoes ≢ 0) }
+        ensures { (origin : Origin) (base : Base) (reply : Reply)
+            → IsReadyAt D.seen D.may_leave origin base self.old place reply
+            → AtPlace self.old.running.items place (λ r. IsIn D.seen D.may_leave origin (base_after base r.scope.op) (undone (state_of self.old base) r.scope.txn r.scope.op self.new.escrow.pending) self.new) }
     {
         let Running { scope, op } = self.running.remove(place);
         let txn = scope.txn();

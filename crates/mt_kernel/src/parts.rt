@@ -51,7 +51,8 @@ impl<D: Device> Parts<D> {
     pub fn new(alloc: Global, operations: Operations<D>, escrow: Escrow) -> Parts<D>
         requires fresh { IsFresh operations escrow }
         ensures state { (origin : Origin) → IsSchema origin → IsBase origin.first → Holds origin.pages origin.first
-            → IsRight D.seen D.may_leave origin.pages origin.relations origin.counters operations → IsEscrowed origin.counters origin.first escrow
+            → IsRight D.seen D.may_leave origin.pages origin.relations origin.counters operations
+            → IsEscrowed origin.counters origin.first escrow
             → IsIn D.seen D.may_leave origin origin.first (start origin.first) result }
     {
         Parts {

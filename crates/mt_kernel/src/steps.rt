@@ -1,10 +1,10 @@
 // The steps of operations.
-ghost use Rattle.std.specs.Prelude.{◌≡◌, ◌⊎◌, ◌<◌, ℕ, length, slice_index_or};
+ghost use Rattle.std.specs.Prelude.{◌≡◌, ◌≢◌, ◌⊎◌, ◌<◌, ℕ, length, slice_index_or};
 ghost use Rattle.mt_model.specs.Model.{Base};
 ghost use Rattle.mt_op.specs.declared.scope.Stage.TheVariants.{Planning, Writing};
-ghost use Rattle.mt_kernel.specs.Consistent.{Origin, state_of, IsConsistent, Advances};
+ghost use Rattle.mt_kernel.specs.Consistent.{IsSound, AtPlace, Origin, state_of, IsConsistent, Advances};
 ghost use Rattle.mt_op.specs.Moves.{SameOp};
-ghost use Rattle.mt_kernel.specs.Steps.{Steps};
+ghost use Rattle.mt_kernel.specs.Steps.{Steps, UndoSteps};
 ghost use Rattle.mt_kernel.specs.declared.parts.Running.{Running};
 
 use crate::parts::Parts;
@@ -39,12 +39,15 @@ pub enum Stepping {
 impl<D: Device> Parts<D> {
     // Makes a step of the operation at a place.
     fn advance(&mut self, alloc: Global, place: usize) -> Result<Stepped, Refusal>
-        requires safe { (origin : Origin) × (base : Base) × IsConsistent D.seen D.may_leave origin base self.old }
+        requires safe { IsSound D.seen D.may_leave self.old }
         requires within { place < length self.old.running.items }
-        requires stage { (r : Running) → r ≡ slice_index_or self.old.running.items place r → (r.scope.stage ≡ Planning) ⊎ (r.scope.stage ≡ Writing) }
+        requires stage { AtPlace self.old.running.items place (λ r. (r.scope.stage ≡ Planning) ⊎ (r.scope.stage
+            ≡ Writing)) }
         ensures length { length self.new.running.items ≡ length self.old.running.items }
-        ensures same { (r q : Running) → r ≡ slice_index_or self.old.running.items place r → q ≡ slice_index_or self.new.running.items place q → SameOp r.scope q.scope }
-        ensures advances { (origin : Origin) (base : Base) → IsConsistent D.seen D.may_leave origin base self.old → Advances D.seen D.may_leave origin base (state_of self.old base) self.new place result }
+        ensures same { (r q : Running) → r ≡ slice_index_or self.old.running.items place r
+            → q ≡ slice_index_or self.new.running.items place q → SameOp r.scope q.scope }
+        ensures advances { (origin : Origin) (base : Base) → IsConsistent D.seen D.may_leave origin base self.old
+            → Advances D.seen D.may_leave origin base (state_of self.old base) self.new place result }
     {
         self.operations.step(alloc, &mut self.running[place].scope)
     }
@@ -54,15 +57,43 @@ impl<D: Device> Parts<D> {
     ///
     /// Refused with 1 for want of memory, and with 2 where the device has failed; the base is as before.
     pub fn step(&mut self, alloc: Global, place: usize) -> Result<Stepping, Refusal>
-        requires safe { (origin : Origin) × (base : Base) × IsConsistent D.seen D.may_leave origin base self.old }
+        requires safe { IsSound D.seen D.may_leave self.old }
         requires within { place < length self.old.running.items }
-        requires forward { (r : Running) → r ≡ slice_index_or self.old.running.items place r → r.scope.undoes ≡ 0 }
-        requires stage { (r : Running) → r ≡ slice_index_or self.old.running.items place r → (r.scope.stage ≡ Planning) ⊎ (r.scope.stage ≡ Writing) }
-        ensures { (origin : Origin) (base : Base) → IsConsistent D.seen D.may_leave origin base self.old → Steps D.seen D.may_leave origin base self.old self.new place result }
+        requires forward { AtPlace self.old.running.items place (λ r. r.scope.undoes ≡ 0) }
+        requires stage { AtPlace self.old.running.items place (λ r. (r.scope.stage ≡ Planning) ⊎ (r.scope.stage
+            ≡ Writing)) }
+        ensures { (origin : Origin) (base : Base) → IsConsistent D.seen D.may_leave origin base self.old
+            → Steps D.seen D.may_leave origin base self.old self.new place result }
     {
         match self.advance(alloc, place)? {
             Stepped::Ready(reply, answer) => {
                 self.note_end(place, reply);
+                Ok(Stepping::Ended(answer))
+            }
+            Stepped::Went => Ok(Stepping::Going(Going::Went)),
+            Stepped::Wait(holder) => Ok(Stepping::Going(Going::Wait(holder))),
+            Stepped::Again(holder) => Ok(Stepping::Going(Going::Again(holder))),
+            Stepped::Flush => Ok(Stepping::Going(Going::Flush)),
+        }
+    }
+
+    /// Makes a step of an inverse, at a place of those under way. Where it ends, with the model's reply on the base, what it
+    /// takes back stands no more, nor what its transaction did behind that; its add, where it is one, is pending no more.
+    ///
+    /// Refused with 1 for want of memory, and with 2 where the device has failed; the base is as before.
+    pub fn undo_step(&mut self, alloc: Global, place: usize) -> Result<Stepping, Refusal>
+        requires safe { IsSound D.seen D.may_leave self.old }
+        requires within { place < length self.old.running.items }
+        requires back { AtPlace self.old.running.items place (λ r. r.scope.undoes ≢ 0) }
+        requires stage { AtPlace self.old.running.items place (λ r. (r.scope.stage ≡ Planning) ⊎ (r.scope.stage
+            ≡ Writing)) }
+        ensures { (origin : Origin) (base : Base) → IsConsistent D.seen D.may_leave origin base self.old
+            → UndoSteps D.seen D.may_leave origin base self.old self.new place result }
+    {
+        match self.advance(alloc, place)? {
+            Stepped::Ready(reply, answer) => {
+                self.note_undone(place);
+                drop(reply);
                 Ok(Stepping::Ended(answer))
             }
             Stepped::Went => Ok(Stepping::Going(Going::Went)),

@@ -4,7 +4,7 @@ ghost use Rattle.mt_live.specs.Lives.{member_of};
 ghost use Rattle.mt_live.specs.Machine.{gone};
 ghost use Rattle.mt_live.specs.Undoing.{last_effect};
 ghost use Rattle.mt_model.specs.Model.{Base};
-ghost use Rattle.mt_kernel.specs.Consistent.{Origin, state_of, IsConsistent, IsIn};
+ghost use Rattle.mt_kernel.specs.Consistent.{IsSound, StaysIn, Origin, state_of, IsConsistent, IsIn};
 ghost use Rattle.mt_kernel.specs.Runs.{is_open};
 ghost use Rattle.mt_kernel.specs.declared.parts.Running.{Running};
 
@@ -17,15 +17,17 @@ use mt_inverse::inverse_of;
 use std::alloc::Global;
 
 impl<D: Device> Parts<D> {
-    // Begins the inverse of a transaction's last operation that did something; `false` where there is none. It runs on
-    // the pages and the log bytes that were kept for it.
-    fn undo_next(&mut self, alloc: Global, txn: TxnNo) -> Result<bool, Refusal>
-        requires safe { (origin : Origin) × (base : Base) × IsConsistent D.seen D.may_leave origin base self.old }
+    /// Begins the inverse of a transaction's last operation that did something (Weikum 1991); answers `false` where
+    /// there is none. It runs on the pages and the log bytes that were kept for it, under the locks that its transaction
+    /// holds, and splits no bucket.
+    ///
+    /// Refused with 1 for want of memory; nothing has begun then.
+    pub fn undo_begin(&mut self, alloc: Global, txn: TxnNo) -> Result<bool, Refusal>
+        requires safe { IsSound D.seen D.may_leave self.old }
         requires at_work { is_open (member_of self.old.live.members txn) ≡ true }
         requires idle { All (λ (r : Running). r.scope.txn ≢ txn) self.old.running.items }
         requires few { self.old.last < 2 ^ 40 }
-        ensures state { (origin : Origin) (base : Base) → IsConsistent D.seen D.may_leave origin base self.old
-            → IsIn D.seen D.may_leave origin base (state_of self.old base) self.new }
+        ensures state { StaysIn D.seen D.may_leave self.old self.new }
     {
         let Some(last) = self.live.last_to_undo(txn) else {
             return Ok(false);
@@ -46,9 +48,12 @@ impl<D: Device> Parts<D> {
         Ok(true)
     }
 
-    // Ends an abort of which nothing is left to undo: the transaction leaves no trace.
-    fn abort_end(&mut self, txn: TxnNo) -> Result<(), Refusal>
-        requires safe { (origin : Origin) × (base : Base) × IsConsistent D.seen D.may_leave origin base self.old }
+    /// Ends an abort of which nothing is left to undo: its end is appended, the transaction is gone with its locks, and
+    /// leaves no trace.
+    ///
+    /// Refused with 1 for want of memory; the transaction lives then.
+    pub fn abort_end(&mut self, txn: TxnNo) -> Result<(), Refusal>
+        requires safe { IsSound D.seen D.may_leave self.old }
         requires at_work { is_open (member_of self.old.live.members txn) ≡ true }
         requires idle { All (λ (r : Running). r.scope.txn ≢ txn) self.old.running.items }
         requires nothing { last_effect txn self.old.live.standing ≡ None }

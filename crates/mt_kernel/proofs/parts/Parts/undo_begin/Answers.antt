@@ -17,7 +17,7 @@ use Rattle.mt_kernel.proofs.Enough.{undo_enough}
 use Rattle.mt_kernel.proofs.Inverse.{last_has, within_steps, inverse_within, undo_fresh}
 use Rattle.mt_kernel.proofs.Resting.{undoing_in, last_entry}
 use Rattle.mt_kernel.proofs.Rooms.{rooms_in}
-use Rattle.mt_kernel.proofs.parts.Parts.undo_next.Goals as goal
+use Rattle.mt_kernel.proofs.parts.Parts.undo_begin.Goals as goal
 
 pub inverse_of-requires : goal.inverse_of-requires
 inverse_of-requires g c = let (origin, base, safe) = c.requires.safe in let k = c.args.self.now in

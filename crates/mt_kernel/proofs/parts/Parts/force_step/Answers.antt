@@ -1,5 +1,5 @@
 use Rattle.mt_kernel.proofs.Resting.{rests_in}
-use Rattle.mt_kernel.proofs.parts.Parts.force_log.Goals as goal
+use Rattle.mt_kernel.proofs.parts.Parts.force_step.Goals as goal
 
 pub returns : goal.returns
 returns g c = record {

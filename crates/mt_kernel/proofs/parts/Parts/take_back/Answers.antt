@@ -4,7 +4,7 @@ use Rattle.mt_op.specs.Operations.{world}
 use Rattle.mt_kernel.specs.declared.parts.Running.{Running}
 use Rattle.mt_kernel.specs.Runs.{IsRunning}
 use Rattle.mt_kernel.proofs.Dropping.{gone_back}
-use Rattle.mt_kernel.proofs.parts.Parts.go_back.Goals as goal
+use Rattle.mt_kernel.proofs.parts.Parts.take_back.Goals as goal
 
 pub returns : goal.returns
 returns g c = λ origin base safe.
@@ -16,3 +16,8 @@ returns g c = λ origin base safe.
     c.requires.within c.index_mut.ensures.value refl refl safe was.moving
     (record { right = gone.0; goes = gone.1; log = e.log; area = e.area; budget = e.budget; claims = e.claimed; records = e.records; locks = e.locks })
     (λ is. (e.more is).0) (λ is. (e.clear is).0) e.flush e.err
+
+pub take_back-requires-clause-right : goal.take_back-requires-clause-right
+take_back-requires-clause-right g c = let (origin, base, safe) = c.requires.safe in let k = c.args.self.now in let r = c.index_mut.result.now in
+    let was : IsRunning origin.relations origin.counters (world g.D.Device.seen origin.pages k.operations) k.last r = subst (IsRunning origin.relations origin.counters (world g.D.Device.seen origin.pages k.operations) k.last) (sym c.index_mut.ensures.value) (safe.runs c.args.place r c.requires.within) in
+    ∣ (origin.pages, origin.relations, origin.counters, safe.fit.right, was.under) ∣₁

@@ -10,7 +10,7 @@ use Rattle.mt_frame.specs.declared.records.Record.TheVariants as record_of
 use Rattle.mt_frame.specs.History.{some_record, ends_txn, ends_op, finishes, undoes_op}
 use Rattle.mt_live.specs.Adds.{add_before}
 use Rattle.mt_live.specs.Lives.{member_of, has_room}
-use Rattle.mt_live.specs.Machine.{State, committed_base, IsKept, IsAdmitted, called}
+use Rattle.mt_live.specs.Machine.{State, committed_base, IsKept, IsAdmitted, called, ended, undone, dropped, booked}
 use Rattle.mt_live.specs.Entries.{Entry}
 use Rattle.mt_live.specs.Members.{Member, has_inverse}
 use Rattle.mt_live.specs.declared.transactions.TxnState.{TxnState}
@@ -301,3 +301,25 @@ IsAskedFor e t (Insert r k v) = Unit {0}
 IsAskedFor e t (Update r k v) = Unit {0}
 IsAskedFor e t (Delete r k) = Unit {0}
 IsAskedFor e t (Read c) = Unit {0}
+
+-- ---- the events of the laws
+
+-- the operation has ended, on the base that it leaves
+abbrev pub EndsIn : {D : Type 0} → (D → List ℕ) → (D → List ℕ → Type 0) → Origin → Base → Parts D → Parts D → Running → Type 0
+EndsIn seen may_leave origin base k n r = IsIn seen may_leave origin (base_after base r.scope.op) (ended (state_of k base) r.scope.txn r.scope.op) n
+
+-- the inverse has
+abbrev pub UndoesIn : {D : Type 0} → (D → List ℕ) → (D → List ℕ → Type 0) → Origin → Base → Parts D → Parts D → Running → Type 0
+UndoesIn seen may_leave origin base k n r = IsIn seen may_leave origin (base_after base r.scope.op) (undone (state_of k base) r.scope.txn r.scope.op n.escrow.pending) n
+
+-- the operation is dropped
+abbrev pub DropsIn : {D : Type 0} → (D → List ℕ) → (D → List ℕ → Type 0) → Origin → Base → Parts D → Parts D → Running → Type 0
+DropsIn seen may_leave origin base k n r = IsIn seen may_leave origin base (dropped (state_of k base) r.scope.txn n.escrow.pending) n
+
+-- the operation of parts that were without what was granted for it is called
+abbrev pub CallsIn : {D : Type 0} → (D → List ℕ) → (D → List ℕ → Type 0) → Origin → Base → Parts D → Parts D → ℕ → Op → Type 0
+CallsIn seen may_leave origin base k n t op = IsIn seen may_leave origin base (called (state_of k base) t op) n
+
+-- the commit is booked
+abbrev pub BooksIn : {D : Type 0} → (D → List ℕ) → (D → List ℕ → Type 0) → Origin → Base → Parts D → Parts D → Commit → Type 0
+BooksIn seen may_leave origin base k n c = IsIn seen may_leave origin base (booked (state_of k base) c.txn (session_in k.live.members c.txn)) n

@@ -11,7 +11,7 @@ ghost use Rattle.mt_log.specs.Words.{used, area_size};
 ghost use Rattle.mt_model.specs.Model.{Base, IsWithin, object_of};
 ghost use Rattle.mt_model.specs.declared.objects.Object.{Object};
 ghost use Rattle.mt_slock.specs.declared.holders.Holder.{Holder};
-ghost use Rattle.mt_kernel.specs.Consistent.{log_kept, Origin, state_of, IsConsistent, IsIn, MayRun, MayBeCalled, IsLocked, IsGranted, IsAskedFor, IsCalled, IsRestored, without_call};
+ghost use Rattle.mt_kernel.specs.Consistent.{CallsIn, log_kept, Origin, state_of, IsConsistent, IsIn, MayRun, MayBeCalled, IsLocked, IsGranted, IsAskedFor, IsCalled, IsRestored, without_call};
 ghost use Rattle.mt_kernel.specs.Runs.{left_of};
 ghost use Rattle.mt_kernel.specs.declared.parts.Running.{Running};
 
@@ -62,13 +62,13 @@ fn ask(escrow: &mut Escrow, txn: TxnNo, op: &Op) -> Result<(), Refusal>
 }
 
 impl<D: Device> Parts<D> {
-    /// Calls an operation of a transaction at work that runs nothing: it takes the operation's lock, the escrow's leave
-    /// where it is an add, pages and log bytes for it and for its inverse, and starts it. `split` says whether an insert
-    /// may split a bucket of the index.
+    /// Calls an operation of a transaction at work that runs nothing: it takes the operation's lock, the escrow's
+    /// leave where it is an add, pages and log bytes for it and for its inverse, and starts it. `split` says
+    /// whether an insert may split a bucket of the index.
     ///
-    /// It answers [`Called::Wait`] or is refused with 14 as the lock table does, with 9 as the escrow does, with 10 where
-    /// fewer pages are free and not claimed, with 11 where the log has no room beside what is kept, with 1 for want of
-    /// memory. In each of these cases nothing of the call is kept.
+    /// It answers [`Called::Wait`] or is refused with 14 as the lock table does, with 9 as the escrow does, with 10
+    /// where fewer pages are free and not claimed, with 11 where the log has no room beside what is kept, with 1
+    /// for want of memory. In each of these cases nothing of the call is kept.
     pub fn call(
         &mut self,
         alloc: Global,
@@ -118,7 +118,8 @@ impl<D: Device> Parts<D> {
         requires few { self.old.last < 2 ^ 40 }
         ensures ok { (origin : Origin) (base : Base) (locks : List (Object × List Holder)) (escrow : Escrowed)
             → IsGranted D.seen D.may_leave origin base locks escrow self.old txn end
-            → OnOk result (IsIn D.seen D.may_leave origin base (called (state_of (without_call locks escrow self.old) base) txn end) self.new) }
+            → OnOk result
+            (CallsIn D.seen D.may_leave origin base (without_call locks escrow self.old) self.new txn end) }
         ensures err { OnErr result (IsRestored D.seen D.may_leave self.old self.new) }
     {
         let pages = pages_for(&own, split) + pages_to_undo(&own);
@@ -164,7 +165,8 @@ impl<D: Device> Parts<D> {
         requires few { self.old.last < 2 ^ 40 }
         ensures ok { (origin : Origin) (base : Base) (locks : List (Object × List Holder))
             → IsLocked D.seen D.may_leave origin base locks self.old txn op.now
-            → OnOk result (IsIn D.seen D.may_leave origin base (called (state_of (without_call locks self.old.escrow self.old) base) txn op.now) self.new) }
+            → OnOk result
+            (CallsIn D.seen D.may_leave origin base (without_call locks self.old.escrow self.old) self.new txn op.now) }
         ensures err { OnErr result (IsRestored D.seen D.may_leave self.old self.new) }
     {
         ask(&mut self.escrow, txn, op)?;

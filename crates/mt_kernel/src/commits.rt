@@ -4,7 +4,7 @@ ghost use Rattle.mt_live.specs.Lives.{member_of};
 ghost use Rattle.mt_live.specs.Machine.{begun, booked};
 ghost use Rattle.mt_live.specs.declared.transactions.TxnState.TheVariants.{Open};
 ghost use Rattle.mt_model.specs.Model.{Base};
-ghost use Rattle.mt_kernel.specs.Consistent.{IsSound, StaysIn, Origin, state_of, state_in, session_in, IsConsistent, IsIn};
+ghost use Rattle.mt_kernel.specs.Consistent.{BooksIn, IsSound, StaysIn, Origin, state_of, state_in, session_in, IsConsistent, IsIn};
 ghost use Rattle.mt_kernel.specs.Runs.{is_open};
 ghost use Rattle.mt_kernel.specs.declared.parts.Commit.{Commit};
 ghost use Rattle.mt_kernel.specs.declared.parts.Running.{Running};
@@ -25,8 +25,8 @@ const END_LOG_BYTES: u64 = 14;
 impl<D: Device> Parts<D> {
     /// Begins a transaction of this session, open and without operations. Its number is the next one, from 1.
     ///
-    /// Refused with 11 where the log has no room for its end beside what is kept, else with 1 for want of memory; nothing
-    /// has changed then.
+    /// Refused with 11 where the log has no room for its end beside what is kept, else with 1 for want of memory;
+    /// nothing has changed then.
     pub fn begin(&mut self, session: u32) -> Result<TxnNo, Refusal>
         requires safe { IsSound D.seen D.may_leave self.old }
         requires few { self.old.live.begun < 2 ^ 40 }
@@ -51,8 +51,8 @@ impl<D: Device> Parts<D> {
         self.live.set_state(txn, TxnState::Aborting);
     }
 
-    /// Begins the commit of a transaction at work that runs nothing: its Commit is appended, and it is the last of the
-    /// commits under way. Answers its place among all commits, from 1.
+    /// Begins the commit of a transaction at work that runs nothing: its Commit is appended, and it is the last of
+    /// the commits under way. Answers its place among all commits, from 1.
     ///
     /// Refused with 1 for want of memory; the transaction is at work as before.
     pub fn commit_begin(&mut self, txn: TxnNo) -> Result<usize, Refusal>
@@ -70,15 +70,16 @@ impl<D: Device> Parts<D> {
         Ok(self.book.len() + self.commits.len())
     }
 
-    /// Books the first of the commits under way, whose record is durable: its calls are the last of the book, its adds
-    /// move the counters, its locks go, and what was kept for its inverses is free. Answers its transaction. It takes no
-    /// memory.
+    /// Books the first of the commits under way, whose record is durable: its calls are the last of the book, its
+    /// adds move the counters, its locks go, and what was kept for its inverses is free. Answers its transaction.
+    /// It takes no memory.
     pub fn leave_first(&mut self) -> TxnNo
         requires safe { IsSound D.seen D.may_leave self.old }
         requires some { (c : Commit) × (cs : List Commit) × (self.old.commits.items ≡ c ∷ cs) }
         ensures left { (origin : Origin) (base : Base) (c : Commit) (cs : List Commit)
             → IsConsistent D.seen D.may_leave origin base self.old → self.old.commits.items ≡ c ∷ cs
-            → IsIn D.seen D.may_leave origin base (booked (state_of self.old base) c.txn (session_in self.old.live.members c.txn)) self.new × (result ≡ c.txn) × (self.new.commits.items ≡ cs) }
+            → BooksIn D.seen D.may_leave origin base self.old self.new c × (result ≡ c.txn)
+            × (self.new.commits.items ≡ cs) }
     {
         let reserved = self.reserved;
         let Commit { txn, place: _ } = self.commits.remove(0);
@@ -92,8 +93,8 @@ impl<D: Device> Parts<D> {
         txn
     }
 
-    /// Makes a step of the log's force, of one device call. Answers up to which record the log is durable where a force
-    /// has ended.
+    /// Makes a step of the log's force, of one device call. Answers up to which record the log is durable where a
+    /// force has ended.
     ///
     /// Refused with 2 where the device has failed.
     pub fn force_step(&mut self) -> Result<Forced, Refusal>

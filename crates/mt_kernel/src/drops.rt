@@ -2,7 +2,7 @@
 ghost use Rattle.std.specs.Prelude.{◌≡◌, ◌≢◌, ◌⊎◌, ◌<◌, ℕ, length, slice_index_or};
 ghost use Rattle.mt_live.specs.Machine.{dropped};
 ghost use Rattle.mt_model.specs.Model.{Base};
-ghost use Rattle.mt_kernel.specs.Consistent.{IsSound, IsClearedAt, AtPlace, Origin, state_of, IsConsistent, IsCleared, IsIn, GoesBack};
+ghost use Rattle.mt_kernel.specs.Consistent.{DropsIn, IsSound, IsClearedAt, AtPlace, Origin, state_of, IsConsistent, IsCleared, IsIn, GoesBack};
 ghost use Rattle.mt_kernel.specs.declared.parts.Running.{Running};
 
 use crate::ends::let_go;
@@ -14,8 +14,9 @@ use mt_op::TakenBack;
 use mt_steps::{pages_for, pages_to_undo};
 
 impl<D: Device> Parts<D> {
-    /// Makes a step of the taking back of the operation at a place: a page that it wrote is put back. At `Clear` nothing
-    /// of it is left but its page locks and its claims, and it has to be dropped out. The base that the pages hold stays.
+    /// Makes a step of the taking back of the operation at a place: a page that it wrote is put back. At `Clear`
+    /// nothing of it is left but its page locks and its claims, and it has to be dropped out. The base that the
+    /// pages hold stays.
     ///
     /// Refused with 1 for want of memory, and with 2 where the device has failed.
     pub fn take_back(&mut self, place: usize) -> Result<TakenBack, Refusal>
@@ -27,15 +28,15 @@ impl<D: Device> Parts<D> {
         self.operations.take_back(&mut self.running[place].scope)
     }
 
-    /// Drops an operation out that was taken back and is no inverse: its page locks go, and so does what was kept for it
-    /// and for its inverse. Its add, where it is one, is pending no more. It takes no memory.
+    /// Drops an operation out that was taken back and is no inverse: its page locks go, and so does what was kept
+    /// for it and for its inverse. Its add, where it is one, is pending no more. It takes no memory.
     pub fn drop_out(&mut self, place: usize)
         requires cleared { (origin : Origin) × (base : Base)
             × IsClearedAt D.seen D.may_leave origin base self.old place }
         requires within { place < length self.old.running.items }
         requires forward { AtPlace self.old.running.items place (λ r. r.scope.undoes ≡ 0) }
         ensures { (origin : Origin) (base : Base) → IsClearedAt D.seen D.may_leave origin base self.old place
-            → AtPlace self.old.running.items place (λ r. IsIn D.seen D.may_leave origin base (dropped (state_of self.old base) r.scope.txn self.new.escrow.pending) self.new) }
+            → AtPlace self.old.running.items place (λ r. DropsIn D.seen D.may_leave origin base self.old self.new r) }
     {
         let Running { scope, op } = self.running.remove(place);
         let txn = scope.txn();

@@ -46,8 +46,9 @@ pub struct Parts<D: Device> {
 }
 
 impl<D: Device> Parts<D> {
-    /// The parts of a kernel that begins: no transaction lives, and no commit is in the book. The operations are those of
-    /// a log area without records; the counters stand in the escrow as page 2 has them. It takes no memory.
+    /// The parts of a kernel that begins: no transaction lives, and no commit is in the book. The operations are
+    /// those of a log area without records; the counters stand in the escrow as page 2 has them. It takes no
+    /// memory.
     pub fn new(alloc: Global, operations: Operations<D>, escrow: Escrow) -> Parts<D>
         requires fresh { IsFresh operations escrow }
         ensures state { (origin : Origin) → IsSchema origin → IsBase origin.first → Holds origin.pages origin.first

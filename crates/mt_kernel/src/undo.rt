@@ -18,8 +18,8 @@ use std::alloc::Global;
 
 impl<D: Device> Parts<D> {
     /// Begins the inverse of a transaction's last operation that did something (Weikum 1991); answers `false` where
-    /// there is none. It runs on the pages and the log bytes that were kept for it, under the locks that its transaction
-    /// holds, and splits no bucket.
+    /// there is none. It runs on the pages and the log bytes that were kept for it, under the locks that its
+    /// transaction holds, and splits no bucket.
     ///
     /// Refused with 1 for want of memory; nothing has begun then.
     pub fn undo_begin(&mut self, alloc: Global, txn: TxnNo) -> Result<bool, Refusal>
@@ -48,8 +48,8 @@ impl<D: Device> Parts<D> {
         Ok(true)
     }
 
-    /// Ends an abort of which nothing is left to undo: its end is appended, the transaction is gone with its locks, and
-    /// leaves no trace.
+    /// Ends an abort of which nothing is left to undo: its end is appended, the transaction is gone with its locks,
+    /// and leaves no trace.
     ///
     /// Refused with 1 for want of memory; the transaction lives then.
     pub fn abort_end(&mut self, txn: TxnNo) -> Result<(), Refusal>

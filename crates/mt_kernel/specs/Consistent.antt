@@ -178,6 +178,11 @@ log_kept k = used k.operations.store.log + sum_by left_of k.running.items + k.re
 abbrev pub AtPlace : List Running → ℕ → (Running → Type 0) → Type 0
 AtPlace rs place P = (r : Running) → r ≡ slice_index_or rs place r → P r
 
+-- the place of a transaction's operation, if it has one
+abbrev pub IsPlaceOf : List Running → ℕ → Option ℕ → Type 0
+IsPlaceOf rs t (Some place) = (place < length rs) × AtPlace rs place (λ r. r.scope.txn ≡ t)
+IsPlaceOf rs t None = All (λ (r : Running). r.scope.txn ≢ t) rs
+
 -- all operations but the one at a place are under way, and it has come to a stage
 pub record IsAlone {D : Type 0} (seen : D → List ℕ) (origin : Origin) (k : Parts D) (place : ℕ) (r : Running) (come : Stage) : Type 0 where
   pub within : place < length k.running.items

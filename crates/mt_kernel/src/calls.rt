@@ -1,7 +1,6 @@
 // Calls of operations.
 ghost use Rattle.std.specs.Prelude.{◌≡◌, ◌≢◌, ◌<◌, ◌+◌, ◌^◌, ◌++◌, [], ℕ, length, true, All, List, OnOk, OnErr};
 ghost use Rattle.std.specs.Bool.{OnTrue};
-ghost use Rattle.std.specs.Bool.{OnFalse};
 ghost use Rattle.std.specs.List.{sum_by};
 ghost use Rattle.std.specs.Vec.{vec_len, vec_capacity};
 ghost use Rattle.mt_escrow.specs.Seen.{Escrowed};
@@ -11,7 +10,7 @@ ghost use Rattle.mt_log.specs.Words.{used, area_size};
 ghost use Rattle.mt_model.specs.Model.{Base, IsWithin, object_of};
 ghost use Rattle.mt_model.specs.declared.objects.Object.{Object};
 ghost use Rattle.mt_slock.specs.declared.holders.Holder.{Holder};
-ghost use Rattle.mt_kernel.specs.Consistent.{CallsIn, log_kept, Origin, state_of, IsConsistent, IsIn, MayRun, MayBeCalled, IsLocked, IsGranted, IsAskedFor, IsCalled, IsRestored, without_call};
+ghost use Rattle.mt_kernel.specs.Consistent.{CallsIn, log_kept, Origin, state_of, IsConsistent, IsIn, IsPlaceOf, MayRun, MayBeCalled, IsLocked, IsGranted, IsAskedFor, IsCalled, IsRestored, without_call};
 ghost use Rattle.mt_kernel.specs.Runs.{left_of};
 ghost use Rattle.mt_kernel.specs.declared.parts.Running.{Running};
 
@@ -25,18 +24,6 @@ use mt_model::{Object, Op};
 use mt_slock::Asked;
 use mt_steps::{pages_for, pages_to_undo};
 use std::alloc::Global;
-
-// Whether an operation of the transaction is under way.
-pub(crate) fn is_busy(running: &[Running], txn: TxnNo) -> bool
-    ensures { OnFalse result (All (λ (r : Running). r.scope.txn ≢ txn) running.now) }
-{
-    for one in running {
-        if one.scope.txn() == txn {
-            return true;
-        }
-    }
-    false
-}
 
 /// What a call answers that is not refused.
 #[derive(Clone, Copy, PartialEq, Eq, Debug)]
@@ -61,7 +48,26 @@ fn ask(escrow: &mut Escrow, txn: TxnNo, op: &Op) -> Result<(), Refusal>
     Ok(())
 }
 
+// The place of a transaction's operation among those under way, if it has one.
+fn place_in(running: &[Running], txn: TxnNo) -> Option<usize>
+    ensures { IsPlaceOf running.now txn result }
+{
+    for (place, one) in running.iter().enumerate() {
+        if one.scope.txn() == txn {
+            return Some(place);
+        }
+    }
+    None
+}
+
 impl<D: Device> Parts<D> {
+    /// The place of a transaction's operation among those under way; `None` where it runs nothing.
+    pub fn place_of(&self, txn: TxnNo) -> Option<usize>
+        ensures place { IsPlaceOf self.now.running.items txn result }
+    {
+        place_in(self.running.as_slice(), txn)
+    }
+
     /// Calls an operation of a transaction at work that runs nothing: it takes the operation's lock, the escrow's
     /// leave where it is an add, pages and log bytes for it and for its inverse, and starts it. `split` says
     /// whether an insert may split a bucket of the index.

@@ -234,6 +234,10 @@ pub record IsIn {D : Type 0} (seen : D → List ℕ) (may_leave : D → List ℕ
 abbrev pub StaysIn : {D : Type 0} → (D → List ℕ) → (D → List ℕ → Type 0) → Parts D → Parts D → Type 0
 StaysIn seen may_leave k n = (origin : Origin) (base : Base) → IsConsistent seen may_leave origin base k → IsIn seen may_leave origin base (state_of k base) n
 
+-- but for what it does to the operations, nothing has changed
+abbrev pub OnlyOperations : {D : Type 0} → Parts D → Parts D → Type 0
+OnlyOperations k n = n ≡ record k { operations = n.operations }
+
 -- what a step of the operation at a place leaves, of parts that were in this state
 abbrev pub Advances : {D : Type 0} → (D → List ℕ) → (D → List ℕ → Type 0) → Origin → Base → State → Parts D → ℕ → Result Stepped Refusal → Type 0
 Advances seen may_leave origin base s k place (Ok (stepped.Ready first second)) = ((r : Running) → r ≡ slice_index_or k.running.items place r → IsReady seen may_leave origin base k place r first) × (second ≡ first) × (s ≡ state_of k base)

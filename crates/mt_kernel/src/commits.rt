@@ -1,10 +1,14 @@
 // Transactions that begin, commit and leave, and the writes that make commits durable.
-ghost use Rattle.std.specs.Prelude.{◌≡◌, ◌≢◌, ◌<◌, ◌+◌, ◌^◌, ℕ, List, ◌∷◌, true, All, Some, IfOk, OnOk, OnErr};
+ghost use Rattle.std.specs.Prelude.{◌≡◌, ◌≢◌, ◌⊎◌, ◌<◌, ◌+◌, ◌^◌, ℕ, List, ◌∷◌, length, true, All, Some, Ok, IsErr, IfOk, IfErr, OnOk, OnErr};
 ghost use Rattle.mt_live.specs.Lives.{member_of};
 ghost use Rattle.mt_live.specs.Machine.{begun, booked};
 ghost use Rattle.mt_live.specs.declared.transactions.TxnState.TheVariants.{Open};
+ghost use Rattle.mt_disk.specs.Disk.{HasCause};
+ghost use Rattle.mt_log.specs.Words.{durable, has_failed, IsStep};
 ghost use Rattle.mt_model.specs.Model.{Base};
-ghost use Rattle.mt_kernel.specs.Consistent.{BooksIn, IsSound, StaysIn, Origin, state_of, state_in, session_in, IsConsistent, IsIn};
+ghost use Rattle.mt_pool.specs.Views.{IsWaiting, Cleans};
+ghost use Rattle.mt_pool.specs.declared.flushing.Flushed.TheVariants as flushed;
+ghost use Rattle.mt_kernel.specs.Consistent.{BooksIn, IsSound, StaysIn, OnlyOperations, Origin, state_of, state_in, session_in, IsConsistent, IsIn};
 ghost use Rattle.mt_kernel.specs.Runs.{is_open};
 ghost use Rattle.mt_kernel.specs.declared.parts.Commit.{Commit};
 ghost use Rattle.mt_kernel.specs.declared.parts.Running.{Running};
@@ -60,6 +64,8 @@ impl<D: Device> Parts<D> {
         requires at_work { is_open (member_of self.old.live.members txn) ≡ true }
         requires idle { All (λ (r : Running). r.scope.txn ≢ txn) self.old.running.items }
         ensures state { StaysIn D.seen D.may_leave self.old self.new }
+        ensures place { IfOk result (λ place.
+            place ≡ length self.new.book.items + length self.new.commits.items) }
     {
         self.commits.reserve(1)?;
         self.book.reserve(self.commits.len() + 1)?;
@@ -100,6 +106,12 @@ impl<D: Device> Parts<D> {
     pub fn force_step(&mut self) -> Result<Forced, Refusal>
         requires safe { IsSound D.seen D.may_leave self.old }
         ensures state { StaysIn D.seen D.may_leave self.old self.new }
+        ensures rest { OnlyOperations self.old self.new }
+        ensures step { IfOk result (λ forced.
+            IsStep self.old.operations.store.log forced self.new.operations.store.log) }
+        ensures only_device { IfErr result (λ why. why ≡ Refusal.DeviceFailed) }
+        ensures cause { IsErr result → (D.faults self.old.operations.store.device
+            < D.faults self.new.operations.store.device ⊎ (has_failed self.old.operations.store.log ≡ true)) }
     {
         self.operations.force_step()
     }
@@ -108,6 +120,13 @@ impl<D: Device> Parts<D> {
     pub fn flush_step(&mut self) -> Result<Flushed, DeviceFault>
         requires safe { IsSound D.seen D.may_leave self.old }
         ensures state { StaysIn D.seen D.may_leave self.old self.new }
+        ensures rest { OnlyOperations self.old self.new }
+        ensures written { (p : ℕ) → result ≡ Ok (flushed.Page p) → Cleans self.old.operations.store.pool
+            self.new.operations.store.pool (length (durable self.old.operations.store.log)) p }
+        ensures barred { result ≡ Ok flushed.Force
+            → IsWaiting self.old.operations.store.pool (length (durable self.old.operations.store.log)) }
+        ensures cause { HasCause (D.faults self.old.operations.store.device)
+            (D.faults self.new.operations.store.device) result }
     {
         self.operations.flush_step()
     }

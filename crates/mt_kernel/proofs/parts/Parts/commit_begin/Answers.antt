@@ -13,7 +13,7 @@ use Rattle.mt_kernel.proofs.parts.Parts.commit_begin.Goals as goal
 
 pub returns-in_err-reserve-2-clause-state : goal.returns-in_err-reserve-2-clause-state
 returns-in_err-reserve-2-clause-state g c = λ origin base safe. let k = c.args.self.now in let a = c.reserve.ensures in let b = c.reserve-2.ensures in
-      rooms_in g.D.Device.seen g.D.Device.may_leave origin base k (record k { commits = c.reserve.new.self; book = c.reserve-2.new.self }) safe refl a.items b.items b.len b.capacity
+    rooms_in g.D.Device.seen g.D.Device.may_leave origin base k (record k { commits = c.reserve.new.self; book = c.reserve-2.new.self }) safe refl a.items b.items b.len b.capacity
 
 pub append-requires-clause-fits : goal.append-requires-clause-fits
 append-requires-clause-fits g c = let (origin, base, safe) = c.requires.safe in
@@ -21,11 +21,11 @@ append-requires-clause-fits g c = let (origin, base, safe) = c.requires.safe in
 
 pub returns-in_err-place-clause-state : goal.returns-in_err-place-clause-state
 returns-in_err-place-clause-state g c = λ origin base safe. let k = c.args.self.now in let a = c.reserve.ensures in let b = c.reserve-2.ensures in let e = c.append.ensures in let f = c.in_err-place.ensures in
-      let z : Parts g.row.D.Denot = record k { commits = c.reserve.new.self; book = c.reserve-2.new.self } in
-      let roomier = rooms_in g.D.Device.seen g.D.Device.may_leave origin base k z safe refl a.items b.items b.len b.capacity in
-      let same = f.err_used in
-      let rests = rests_in g.D.Device.seen g.D.Device.may_leave origin base z (record z { operations = c.append.new.self }) roomier.consistent (e.right origin.pages origin.relations origin.counters safe.fit.right) (f.rests origin.pages) e.claimed (omega arith) e.area in
-      record { consistent = rests.consistent; state = roomier.state ∙ rests.state }
+    let z : Parts g.row.D.Denot = record k { commits = c.reserve.new.self; book = c.reserve-2.new.self } in
+    let roomier = rooms_in g.D.Device.seen g.D.Device.may_leave origin base k z safe refl a.items b.items b.len b.capacity in
+    let same = f.err_used in
+    let rests = rests_in g.D.Device.seen g.D.Device.may_leave origin base z (record z { operations = c.append.new.self }) roomier.consistent (e.right origin.pages origin.relations origin.counters safe.fit.right) (f.rests origin.pages) e.claimed (omega arith) e.area in
+    record { consistent = rests.consistent; state = roomier.state ∙ rests.state }
 
 pub overflow_sub-self : goal.overflow_sub-self
 overflow_sub-self g c = let (origin, base, safe) = c.requires.safe in
@@ -33,15 +33,15 @@ overflow_sub-self g c = let (origin, base, safe) = c.requires.safe in
 
 pub returns-clause-state : goal.returns-clause-state
 returns-clause-state g c = λ origin base safe. let k = c.args.self.now in let a = c.reserve.ensures in let b = c.reserve-2.ensures in let ok = c.in_ok-reserve-2.ensures in let e = c.append.ensures in let f = c.in_ok-place.ensures in let m = c.set_state.ensures in let p = c.push_reserved.ensures in
-      let seen = g.D.Device.seen in let may_leave = g.D.Device.may_leave in
-      let it : Commit = record { txn = c.args.txn; place = c.in_ok-place.place } in
-      let n : Parts g.row.D.Denot = record k { operations = c.append.new.self; live = c.set_state.new.self; commits = c.push_reserved.new.self; book = c.reserve-2.new.self; reserved = k.reserved - 14 } in
-      let enough = end_enough seen may_leave origin base k c.args.txn safe.fit c.requires.at_work in
-      let records = ap (λ (rs : List Record). length rs) (f.notes origin.pages).records in
-      let more = length_push (appended k.operations.store.log) (record_of.Commit c.args.txn) in
-      let place = f.place in let now = f.used in
-      let pushed : n.commits.items ≡ k.commits.items ++ it ∷ [] = p.items ∙ (λ i. a.items i ++ it ∷ []) in
-      let count = ap (λ (cs : List Commit). length cs) pushed in let count_now = length_push k.commits.items it in
-      let room = ok.ok in let len = c.len.ensures in let same_len = b.len in let old = ap (λ (cs : List Commit). length cs) a.items in
-      committing_in seen may_leave origin base k n it safe c.requires.at_work c.requires.idle (e.right origin.pages origin.relations origin.counters safe.fit.right) (f.notes origin.pages)
-      (λ u ku apart. e.others origin.pages origin.relations origin.counters u ku apart) e.claimed (omega arith) e.area m.member m.begun m.standing m.count pushed (omega arith) b.items (omega arith) (omega arith)
+    let seen = g.D.Device.seen in let may_leave = g.D.Device.may_leave in
+    let it : Commit = record { txn = c.args.txn; place = c.in_ok-place.place } in
+    let n : Parts g.row.D.Denot = record k { operations = c.append.new.self; live = c.set_state.new.self; commits = c.push_reserved.new.self; book = c.reserve-2.new.self; reserved = k.reserved - 14 } in
+    let enough = end_enough seen may_leave origin base k c.args.txn safe.fit c.requires.at_work in
+    let records = ap (λ (rs : List Record). length rs) (f.notes origin.pages).records in
+    let more = length_push (appended k.operations.store.log) (record_of.Commit c.args.txn) in
+    let place = f.place in let now = f.used in
+    let pushed : n.commits.items ≡ k.commits.items ++ it ∷ [] = p.items ∙ (λ i. a.items i ++ it ∷ []) in
+    let count = ap (λ (cs : List Commit). length cs) pushed in let count_now = length_push k.commits.items it in
+    let room = ok.ok in let len = c.len.ensures in let same_len = b.len in let old = ap (λ (cs : List Commit). length cs) a.items in
+    committing_in seen may_leave origin base k n it safe c.requires.at_work c.requires.idle (e.right origin.pages origin.relations origin.counters safe.fit.right) (f.notes origin.pages)
+    (λ u ku apart. e.others origin.pages origin.relations origin.counters u ku apart) e.claimed (omega arith) e.area m.member m.begun m.standing m.count pushed (omega arith) b.items (omega arith) (omega arith)

@@ -5,5 +5,5 @@ use Rattle.mt_kernel.proofs.parts.Parts.flush_step.Goals as goal
 
 pub returns-clause-state : goal.returns-clause-state
 returns-clause-state g c = λ origin base safe. let k = c.args.self.now in let e = c.flush_step.ensures in
-      let same = ap (λ l. used l) e.log in
-      rests_in g.D.Device.seen g.D.Device.may_leave origin base k (record k { operations = c.flush_step.new.self }) safe (e.right origin.pages origin.relations origin.counters safe.fit.right) (e.rests origin.pages) e.claimed (omega arith) (ap (λ l. area_size l) e.log)
+    let same = ap (λ l. used l) e.log in
+    rests_in g.D.Device.seen g.D.Device.may_leave origin base k (record k { operations = c.flush_step.new.self }) safe (e.right origin.pages origin.relations origin.counters safe.fit.right) (e.rests origin.pages) e.claimed (omega arith) (ap (λ l. area_size l) e.log)

@@ -3,4 +3,4 @@ use Rattle.mt_kernel.proofs.parts.Parts.force_step.Goals as goal
 
 pub returns-clause-state : goal.returns-clause-state
 returns-clause-state g c = λ origin base safe. let k = c.args.self.now in let e = c.force_step.ensures in
-      rests_in g.D.Device.seen g.D.Device.may_leave origin base k (record k { operations = c.force_step.new.self }) safe (e.right origin.pages origin.relations origin.counters safe.fit.right) (e.rests origin.pages) e.claimed e.used e.area
+    rests_in g.D.Device.seen g.D.Device.may_leave origin base k (record k { operations = c.force_step.new.self }) safe (e.right origin.pages origin.relations origin.counters safe.fit.right) (e.rests origin.pages) e.claimed e.used e.area

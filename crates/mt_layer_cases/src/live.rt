@@ -1,8 +1,8 @@
-ghost use Rattle.std.specs.Prelude.{ℕ, ◌≡◌, true, IfOk};
-ghost use Rattle.mt_live.specs.Lives.{is_member};
+ghost use Rattle.std.specs.Prelude.{ℕ, ◌≡◌, ◌<◌, true, IfOk, OnOk};
+ghost use Rattle.mt_live.specs.Lives.{is_member, IsAbove, member_of};
 
 use mt_base::{Bytes, CtrNo, OpNo, Refusal, RelNo, TxnNo};
-use mt_live::{Live, TxnState};
+use mt_live::{Effect, Live, TxnState};
 use mt_model::{Op, Reply};
 use std::alloc::Global;
 use std::test::Fail;
@@ -11,6 +11,7 @@ use std::test::Fail;
 fn two_live(alloc: Global) -> Result<(Live, TxnNo, TxnNo), Refusal>
     ensures first { IfOk result (λ r. is_member r.0.members r.1 ≡ true) }
     ensures second { IfOk result (λ r. is_member r.0.members r.2 ≡ true) }
+    ensures above { IfOk result (λ r. (u n : ℕ) → IsAbove n (member_of r.0.members u)) }
 {
     let mut live = Live::new(alloc);
     let first = live.begin(7)?;
@@ -20,8 +21,10 @@ fn two_live(alloc: Global) -> Result<(Live, TxnNo, TxnNo), Refusal>
 
 /// The operation of a number ends in the room that is made for it.
 fn ends(live: &mut Live, txn: TxnNo, operation: u64, op: Op, reply: Reply) -> Result<(), Refusal>
-    requires { is_member live.old.members txn ≡ true }
-    ensures { (u : ℕ) → is_member live.new.members u ≡ is_member live.old.members u }
+    requires there { is_member live.old.members txn ≡ true }
+    requires above { (u : ℕ) → IsAbove operation (member_of live.old.members u) }
+    ensures there { (u : ℕ) → is_member live.new.members u ≡ is_member live.old.members u }
+    ensures above { OnOk result ((u n : ℕ) → operation < n → IsAbove n (member_of live.new.members u)) }
 {
     live.room(txn)?;
     live.note(txn, OpNo::new(operation), op, reply);
@@ -38,8 +41,10 @@ fn goes_back(live: &mut Live, txn: TxnNo)
 
 /// The row under a key is inserted by operation 4, and read by operation 5.
 fn inserts_and_reads(live: &mut Live, txn: TxnNo, alloc: Global) -> Result<(), Refusal>
-    requires { is_member live.old.members txn ≡ true }
-    ensures { (u : ℕ) → is_member live.new.members u ≡ is_member live.old.members u }
+    requires there { is_member live.old.members txn ≡ true }
+    requires above { (u : ℕ) → IsAbove 4 (member_of live.old.members u) }
+    ensures there { (u : ℕ) → is_member live.new.members u ≡ is_member live.old.members u }
+    ensures above { OnOk result ((u n : ℕ) → 5 < n → IsAbove n (member_of live.new.members u)) }
 {
     let relation = RelNo::new(0);
     let key = Bytes::copy_of(alloc, b"k")?;
@@ -53,6 +58,7 @@ fn inserts_and_reads(live: &mut Live, txn: TxnNo, alloc: Global) -> Result<(), R
 fn interleave(live: &mut Live, first: TxnNo, second: TxnNo, alloc: Global) -> Result<(), Refusal>
     requires first { is_member live.old.members first ≡ true }
     requires second { is_member live.old.members second ≡ true }
+    requires above { (u : ℕ) → IsAbove 1 (member_of live.old.members u) }
     ensures { (u : ℕ) → is_member live.new.members u ≡ is_member live.old.members u }
 {
     let counter = CtrNo::new(0);
@@ -92,7 +98,7 @@ fn transactions_interleave(rt: HostRuntime) -> Result<(), Fail> {
 /// The operation that an aborting transaction takes back next: its number, and whether it is an insert or an add.
 fn next_to_undo(live: &Live, txn: TxnNo) -> Option<(u64, bool, bool)> {
     match live.last_to_undo(txn) {
-        Some((number, op, _)) => {
+        Some(Effect { number, op, .. }) => {
             let is_insert = matches!(op, Op::Insert(_, _, _));
             Some((number.get(), is_insert, matches!(op, Op::Add(_, _))))
         }
@@ -102,7 +108,8 @@ fn next_to_undo(live: &Live, txn: TxnNo) -> Option<(u64, bool, bool)> {
 
 /// An insert, a read and an add end, and the transaction begins to abort.
 fn begin_to_abort(live: &mut Live, txn: TxnNo, alloc: Global) -> Result<(), Refusal>
-    requires { is_member live.old.members txn ≡ true }
+    requires there { is_member live.old.members txn ≡ true }
+    requires above { (u : ℕ) → IsAbove 4 (member_of live.old.members u) }
     ensures { (u : ℕ) → is_member live.new.members u ≡ is_member live.old.members u }
 {
     inserts_and_reads(live, txn, alloc)?;

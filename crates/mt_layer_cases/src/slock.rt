@@ -32,12 +32,14 @@ fn holds_key(
     Ok(table.holds(TxnNo::new(txn), &object, mode))
 }
 
-const GRANTED: Result<Asked, Refusal> = Ok(Asked::Granted);
+const GRANTED: Result<Asked, Refusal> = Ok(Asked::Granted { was_held: false });
+
+const HELD_BEFORE: Result<Asked, Refusal> = Ok(Asked::Granted { was_held: true });
 
 /// What the second transaction is answered, beside the first.
 fn beside(is_granted: bool) -> Result<Asked, Refusal> {
     if is_granted {
-        Ok(Asked::Granted)
+        GRANTED
     } else {
         Err(Refusal::Die(TxnNo::new(1)))
     }
@@ -162,7 +164,7 @@ fn several_modes(
 #[test]
 fn a_transaction_holds_several_modes(rt: HostRuntime) -> Result<(), Fail> {
     let (answers, holds, last) = several_modes(rt.alloc())?;
-    assert!(rt; answers == [GRANTED; 4]);
+    assert!(rt; answers == [GRANTED, GRANTED, HELD_BEFORE, GRANTED]);
     assert!(rt; holds == [false, true, false, true] && last == GRANTED);
     Ok(())
 }

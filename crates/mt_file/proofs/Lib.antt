@@ -1,6 +1,7 @@
 pub mod Filed
 mod Moved
 mod Planned
+pub mod Shaped
 mod Slots
 mod Trees
 pub mod Whole

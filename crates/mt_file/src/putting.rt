@@ -27,7 +27,7 @@ pub fn plan_put<V: Pages>(
     value: &[u8],
 ) -> Result<Step, AllocError>
     requires sound { V.is_sound views.now }
-    requires good { (pages : PageBytes) × Agrees (V.at_hand views.now) pages × IsFile pages × IsNamed room pages }
+    requires good { ∥ ((pages : PageBytes) × Agrees (V.at_hand views.now) pages × IsFile pages × IsNamed room pages) ∥₁ }
     requires relation_fits { relation < 256 }
     requires key_fits { IsKey key.now }
     requires value_fits { IsValue value.now }
@@ -52,7 +52,7 @@ pub(crate) fn put<V: Pages>(
     value: &[u8],
 ) -> Result<Step, AllocError>
     requires sound { V.is_sound views.now }
-    requires ready { (pages : PageBytes) × IsReady (V.at_hand views.now) room pages }
+    requires ready { ∥ ((pages : PageBytes) × IsReady (V.at_hand views.now) room pages) ∥₁ }
     requires relation_fits { relation < 256 }
     requires key_fits { length key.now < 256 }
     requires value_fits { length value.now ≤ 1024 }
@@ -81,7 +81,7 @@ fn put_into<V: Pages>(
     value: &[u8],
 ) -> Result<Step, AllocError>
     requires sound { V.is_sound views.now }
-    requires ready { (pages : PageBytes) × IsReady (V.at_hand views.now) (Some page) pages }
+    requires ready { ∥ ((pages : PageBytes) × IsReady (V.at_hand views.now) (Some page) pages) ∥₁ }
     requires relation_fits { relation < 256 }
     requires key_fits { length key.now < 256 }
     requires value_fits { length value.now ≤ 1024 }

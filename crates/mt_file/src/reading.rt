@@ -23,8 +23,8 @@ pub enum Found<'a> {
 /// The record under a name of a page that holds records.
 pub fn plan_read<V: Pages>(views: &V, name: RecordName) -> Found<'_>
     requires sound { V.is_sound views.now }
-    requires good { (pages : PageBytes) × Agrees (V.at_hand views.now) pages × IsFile pages ×
-        (kind pages name.page ≡ 3) }
+    requires good { ∥ ((pages : PageBytes) × Agrees (V.at_hand views.now) pages × IsFile pages
+        × (kind pages name.page ≡ 3)) ∥₁ }
     ensures { (pages : PageBytes) → Agrees (V.at_hand views.now) pages → IsFile pages → kind pages name.page ≡ 3 →
         IsFound (V.at_hand views.now) pages name.page name.slot result }
 {

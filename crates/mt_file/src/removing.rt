@@ -18,8 +18,8 @@ use std::alloc::{AllocError, Global};
 /// bytes, which are open from then on, are left. Never `Full`. The only error is want of memory.
 pub fn plan_remove<V: Pages>(alloc: Global, views: &V, name: RecordName) -> Result<Step, AllocError>
     requires sound { V.is_sound views.now }
-    requires good { (pages : PageBytes) × (r : Row) × Agrees (V.at_hand views.now) pages × IsFile pages ×
-        (record_in pages name.page name.slot ≡ Some r) }
+    requires good { ∥ ((pages : PageBytes) × (r : Row) × Agrees (V.at_hand views.now) pages × IsFile pages
+        × (record_in pages name.page name.slot ≡ Some r)) ∥₁ }
     ensures removal { IfOk result (λ step. (pages : PageBytes) (r : Row) → Agrees (V.at_hand views.now) pages →
         IsFile pages → record_in pages name.page name.slot ≡ Some r → IsRemoval
         (V.at_hand views.now) pages name.page name.slot step) }

@@ -31,8 +31,8 @@ pub fn plan_replace<V: Pages>(
     room: Option<PageNo>,
 ) -> Result<Step, AllocError>
     requires sound { V.is_sound views.now }
-    requires good { (pages : PageBytes) × (r : Row) × Agrees (V.at_hand views.now) pages × IsFile pages ×
-        IsNamed room pages × (record_in pages name.page name.slot ≡ Some r) }
+    requires good { ∥ ((pages : PageBytes) × (r : Row) × Agrees (V.at_hand views.now) pages × IsFile pages
+        × IsNamed room pages × (record_in pages name.page name.slot ≡ Some r)) ∥₁ }
     requires value_fits { IsValue value.now }
     ensures replacement { IfOk result (λ step. (pages : PageBytes) (r : Row) → Agrees (V.at_hand views.now) pages →
         IsFile pages → IsNamed room pages → record_in pages name.page name.slot ≡ Some r →
@@ -83,8 +83,8 @@ fn plan_move<V: Pages>(
     requires sound { V.is_sound views.now }
     requires none { changes.list.items ≡ [] }
     requires there { V.at_hand views.now name.page ≡ Some old.now }
-    requires good { (pages : PageBytes) × (r : Row) × Agrees (V.at_hand views.now) pages × IsFile pages ×
-        IsNamed room pages × (record_in pages name.page name.slot ≡ Some r) }
+    requires good { ∥ ((pages : PageBytes) × (r : Row) × Agrees (V.at_hand views.now) pages × IsFile pages
+        × IsNamed room pages × (record_in pages name.page name.slot ≡ Some r)) ∥₁ }
     requires value_fits { length value.now ≤ 1024 }
     requires outgrown { (r : Row) → held old.now name.slot ≡ Some r → room_of old.now + row_length r < row_length
         (record r { value = value.now }) }

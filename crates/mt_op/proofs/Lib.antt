@@ -29,6 +29,5 @@ pub mod Back
 pub mod Begun
 pub mod Parted
 pub mod Known
-pub mod Shaped
 pub mod Unready
 pub mod Choosing

@@ -1,4 +1,5 @@
 -- A step that goes on does not answer that the operation is ready.
+use Rattle.std.proofs.Props.{props}
 use Rattle.std.specs.Prelude.{◌≡◌, ℕ, Result, Ok, Err}
 use Rattle.mt_base.specs.declared.refusal.Refusal.{Refusal}
 use Rattle.mt_op.specs.World.{World}
@@ -16,6 +17,14 @@ IsUnready (Ok (stepped.Wait holder)) = Unit {0}
 IsUnready (Ok (stepped.Again holder)) = Unit {0}
 IsUnready (Ok stepped.Flush) = Unit {0}
 IsUnready (Err why) = Unit {0}
+
+pub Unready-prop : (r : Result Stepped Refusal) → IsProp (IsUnready r)
+Unready-prop (Ok (stepped.Ready first second)) = hlevel props
+Unready-prop (Ok stepped.Went) = hlevel props
+Unready-prop (Ok (stepped.Wait holder)) = hlevel props
+Unready-prop (Ok (stepped.Again holder)) = hlevel props
+Unready-prop (Ok stepped.Flush) = hlevel props
+Unready-prop (Err why) = hlevel props
 
 pub goes_unready : (relations counters : ℕ) (w z : World) (s t : OpScope) (r : Result Stepped Refusal) → GoesOn relations counters w z s t r → IsUnready r
 goes_unready relations counters w z s t (Ok (stepped.Ready first second)) goes = absurd goes

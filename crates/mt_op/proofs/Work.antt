@@ -14,7 +14,12 @@ use Rattle.mt_space.specs.declared.changes.Changes.{Changes}
 use Rattle.mt_steps.specs.Drafts.{copied, or_below}
 use Rattle.mt_steps.specs.declared.draft.PageCopy.{PageCopy}
 use Rattle.mt_steps.proofs.Drafting.{copied_append, some_value, test_yes}
-use Rattle.mt_steps.specs.Plans.{IsGood, InPages, IsTight, free_pages, own_needs, record_bytes}
+use Rattle.mt_model.specs.Model.{IsWithin}
+use Rattle.mt_space.specs.Changes.{PageBytes}
+use Rattle.mt_space.specs.Rooms.{free_in, free_of}
+use Rattle.mt_op.specs.declared.operations.Operations.{Operations}
+use Rattle.mt_op.specs.Operations.{world, IsRight, claimed}
+use Rattle.mt_steps.specs.Plans.{IsGood, HasPages, InPages, IsTight, free_pages, own_needs, record_bytes}
 use Rattle.mt_op.specs.World.{World, held_in, looked, changes_in, IsWorld, IsUnderWay}
 use Rattle.mt_op.specs.Holds.{Stays, Holds, IsAnew, IsHeld}
 use Rattle.mt_op.specs.Work.{sum_below, writes, is_written, steps_for, work_at, work_of, Works, WorksOn}
@@ -191,6 +196,22 @@ full_work s p planning led =
     let was = planning_work s planning in
     let one : steps_led s.room ≡ 1 = ap steps_led led in
     omega arith
+
+-- what a plan asks of the pages held
+pub plans_over : (relations counters : ℕ) (w : World) (s : OpScope) → s.stage ≡ Planning → IsWorld relations counters w → IsUnderWay relations counters w s → relations ≤ 64
+    → (r : ℕ) × (c : ℕ) × HasPages (looked s) s.room r c s.seen.total × IsWithin r c s.op × (r ≤ 64)
+plans_over relations counters w s planning h k small =
+    let at = planning_of relations counters w s planning k in
+    (relations, counters, (held_in w, at.sees.saw, subst (λ (n : ℕ). IsGood relations counters n (held_in w)) (sym k.total) h.good, λ p is. (at.sees.named p is).2), k.within, small)
+
+-- the pages that are claimed are free in the pages held
+pub claim_free : {D : Type 0} (seen : D → List ℕ) (may_leave : D → List ℕ → Type 0) (opening : PageBytes) (relations counters : ℕ) (o : Operations D) (s : OpScope) → IsRight seen may_leave opening relations counters o
+    → IsUnderWay relations counters (world seen opening o) s → own_needs s.op s.split ≤ claimed o → own_needs s.op s.split ≤ free_pages s.seen.total (held_in (world seen opening o))
+claim_free seen may_leave opening relations counters o s right k claims =
+    let free : free_of o.map.space ≡ free_pages s.seen.total (held_in (world seen opening o)) =
+    ap free_in right.space ∙ ap (λ (n : ℕ). free_pages n (held_in (world seen opening o))) (sym k.total) in
+    let some = right.claims in
+    omega (arith, free, some, claims)
 
 pub led_work : (relations counters : ℕ) (w : World) (s : OpScope) → s.stage ≡ Planning → IsWorld relations counters w → IsUnderWay relations counters w s → own_needs s.op s.split ≤ free_pages s.seen.total (held_in w)
     → InPages (looked s) s.room relations counters s.seen.total (λ pages. (free_pages s.seen.total pages < own_needs s.op s.split) ⊎ IsTight s.room pages (record_bytes s.op)) → work_of (record s { room = None }) < work_of s

@@ -52,10 +52,7 @@ impl<D: Device> Operations<D> {
     /// of them. A step that answers [`Stepped::Went`] leaves less to do, [`Stepped::Again`] adds at most `2 n`
     /// steps, and nothing else adds any.
     pub fn step(&mut self, alloc: Global, scope: &mut OpScope) -> Result<Stepped, Refusal>
-        requires right { (opening : PageBytes) × (relations : ℕ) × (counters : ℕ)
-            × IsRight D.seen D.may_leave opening relations counters self.old
-            × IsUnderWay relations counters (world D.seen opening self.old) scope.old
-            × (relations ≤ 64) × (counters ≤ 128) }
+        requires right { IsOneWithin D.seen D.may_leave self.old scope.old }
         requires claims { own_needs scope.old.op scope.old.split ≤ claimed self.old }
         requires stage { (scope.old.stage ≡ Planning) ⊎ (scope.old.stage ≡ Writing) }
         requires budget { HasBudget scope.old }
@@ -115,10 +112,8 @@ impl<D: Device> Operations<D> {
     // Plans over the pages that the operation has looked at: locks the one that is needed next, or keeps the
     // plan where there is none.
     fn plan_step(&mut self, alloc: Global, scope: &mut OpScope) -> Result<Option<Stepped>, Refusal>
-        requires right { (opening : PageBytes) × (relations : ℕ) × (counters : ℕ)
-            × IsRight D.seen D.may_leave opening relations counters self.old
-            × IsUnderWay relations counters (world D.seen opening self.old) scope.old
-            × (relations ≤ 64) × (own_needs scope.old.op scope.old.split ≤ free_pages scope.old.seen.total (held_in (world D.seen opening self.old))) }
+        requires right { IsOneWithin D.seen D.may_leave self.old scope.old }
+        requires claims { own_needs scope.old.op scope.old.split ≤ claimed self.old }
         requires planning { scope.old.stage ≡ Planning }
         requires budget { HasBudget scope.old }
         ensures { PlansOn D.seen D.may_leave D.moment D.left_since D.faults self.old self.new scope.old scope.new result }

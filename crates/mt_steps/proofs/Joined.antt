@@ -1,15 +1,17 @@
 -- Changes of two plans that name no common page, one behind the other.
-use Rattle.std.proofs.Common.{◌≡◌, ◌||◌, ◌==◌, ℕ, List, [], ◌∷◌, ◌++◌, Bool, true, false, Option, None, Some, length, length-append, refl, ap, sym, ◌∙◌, subst, arith}
+use Rattle.std.proofs.Common.{◌≡◌, ◌||◌, ◌==◌, ℕ, List, [], ◌∷◌, ◌++◌, Bool, true, false, Option, None, Some, length-append, refl, sym, ◌∙◌, subst, arith}
 use Rattle.std.specs.Prelude.{All, IsSome}
+use mathlib.Core.Logic.{∥∥₁_elim}
 use Rattle.std.specs.List.{list_any}
 use Rattle.std.proofs.lemmas.Bool.{eq-eqb}
 use Rattle.std.proofs.lemmas.List.Elements.{All-append, All-head, All-tail}
 use Rattle.mt_model.specs.declared.operations.Reply.{Reply}
 use Rattle.mt_space.specs.declared.changes.PageChange.{PageChange}
-use Rattle.mt_space.specs.Changes.{PageBytes, Agrees, after, replaced, IsUntouched, IsShort, AreShort}
+use Rattle.mt_space.specs.Changes.{PageBytes, Agrees, after, IsUntouched, IsShort, AreShort}
 use Rattle.mt_space.proofs.Changing.{after_untouched}
 use Rattle.mt_steps.specs.Drafts.{AreAtHand, names_page}
 use Rattle.mt_steps.specs.Tells.{IsJoined}
+use Rattle.mt_steps.proofs.Single.{Short-prop}
 
 -- no page of the second list is one of the first
 abbrev AreOff : List PageChange → List PageChange → Type 0
@@ -84,16 +86,17 @@ short_there at_hand (c ∷ cs) a b there one two short = (
     same None is some = absurd cc
     same (Some bytes) is some = one c.page bytes is ∙ sym (two c.page bytes is)
 
-pub joined : (at_hand : ℕ → Option (List ℕ)) (first second changes : List PageChange) (reply : Reply) (pages : PageBytes) → changes ≡ first ++ second → AreOff first second → AreAtHand at_hand first → AreAtHand at_hand second
-    → Agrees at_hand pages → AreShort first pages → AreShort second (after first pages) → IsJoined at_hand first second reply changes reply
-joined at_hand first second changes reply pages is off first_there second_there agrees one two =
+pub joined : (at_hand : ℕ → Option (List ℕ)) (first second changes : List PageChange) (reply : Reply) → changes ≡ first ++ second → AreOff first second → AreAtHand at_hand first → AreAtHand at_hand second
+    → ∥ ((pages : PageBytes) × Agrees at_hand pages × AreShort first pages × AreShort second (after first pages)) ∥₁ → IsJoined at_hand first second reply changes reply
+joined at_hand first second changes reply is off first_there second_there some =
     subst (λ (l : List PageChange). IsJoined at_hand first second reply l reply) (sym is) (record {
       same = refl;
       there = All-append (λ (c : PageChange). IsSome (at_hand c.page)) first second first_there second_there;
       few = omega (arith, length-append first second);
       leads = λ others agree. (
         after_both first second others,
-        short_both first second others off (short_there at_hand first pages others first_there agrees agree one)
-            (short_there at_hand second pages others second_there agrees agree (short_before first second pages off two)),
+        ∥∥₁_elim some (Short-prop (first ++ second) others) (λ (pages, agrees, one, two).
+            short_both first second others off (short_there at_hand first pages others first_there agrees agree one)
+            (short_there at_hand second pages others second_there agrees agree (short_before first second pages off two))),
       );
     })

@@ -11,6 +11,7 @@ mod Adding
 pub mod Picking
 pub mod Repeating
 pub mod Ranged
+pub mod Single
 pub mod Small
 mod Asking
 mod Promised

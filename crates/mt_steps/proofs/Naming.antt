@@ -1,5 +1,5 @@
 -- Which pages become ones of records.
-use Rattle.std.proofs.Common.{◌≡◌, ◌≢◌, ◌⊎◌, inl, inr, ⊎_elim, ℕ, List, [], Bool, false, Option, None, Some, get_or, refl, ap, sym, ◌∙◌, subst, arith}
+use Rattle.std.proofs.Common.{◌≡◌, ◌≢◌, ◌⊎◌, inl, inr, ⊎_elim, ℕ, List, [], Bool, false, Option, Some, get_or, refl, ap, sym, ◌∙◌, subst, arith}
 use Rattle.std.proofs.lemmas.Bool.{cases_eq}
 use Rattle.mt_base.specs.declared.numbers.RecordName.{RecordName}
 use Rattle.mt_bucket.specs.Entries.{Entry}
@@ -14,7 +14,6 @@ use Rattle.mt_file.specs.File.{record_in}
 use Rattle.mt_file.specs.Plans.{IsPut, IsNamed, IsChosen, IsReplacement}
 use Rattle.mt_file.proofs.Filed.{record_kind}
 use Rattle.mt_index.specs.Answers.{Added}
-use Rattle.mt_model.specs.declared.operations.Reply.{Reply}
 use Rattle.mt_steps.specs.declared.act.Act.{Act}
 use Rattle.mt_steps.specs.Acts.{IsPlaced, IsKept, IsMoved, IfMade, InGood, InRoomy}
 use Rattle.mt_steps.specs.Plans.{TakesNamed, IsGivenBack, IsModest, InPages}

@@ -1,5 +1,5 @@
 -- What follows from an answer that is told by cases.
-use Rattle.std.proofs.Common.{◌≡◌, ◌<◌, ◌⊎◌, inr, ℕ, List, Option, None, Some, sym, ap, ◌∙◌}
+use Rattle.std.proofs.Common.{arith, ◌≡◌, ◌<◌, ◌⊎◌, inr, ℕ, List, Option, None, Some, sym, ap, ◌∙◌}
 use Rattle.mt_space.specs.declared.changes.PageChange.{PageChange}
 use Rattle.mt_model.specs.declared.operations.Reply.{Reply}
 use Rattle.mt_steps.specs.declared.act.Act.{Act}
@@ -47,6 +47,13 @@ broken_told at_hand total P F (Lock p mode) told = tt
 broken_told at_hand total P F (Made changes reply) told = tt
 broken_told at_hand total P F Full told = tt
 broken_told at_hand total P F Broken told = told
+
+-- the counters page is one of all
+pub two_inside : (at_hand : ℕ → Option (List ℕ)) (total : ℕ) (act : Act) → 2 < total → IfLock act (λ p mode. (at_hand p ≡ None) × (p ≡ 2)) → IfLock act (λ p mode. (at_hand p ≡ None) × (p < total))
+two_inside at_hand total (Lock p mode) inside asks = let two = asks.1 in (asks.0, omega (arith, inside, two))
+two_inside at_hand total (Made changes reply) inside asks = tt
+two_inside at_hand total Full inside asks = tt
+two_inside at_hand total Broken inside asks = tt
 
 -- what is logged is something
 pub logs_something : {A B : Type 0} (log : Reply → Option A) (reply told : Reply) (x : A) → reply ≡ told → log told ≡ Some x → log reply ≡ None → B

@@ -27,8 +27,8 @@ pub(crate) fn add_to<V: Pages>(
     step: i64,
 ) -> Result<Act, AllocError>
     requires sound { V.is_sound views.now }
-    requires good { (relations counters : ℕ) × (number < counters) × HasCounters
-        (V.at_hand views.now) relations counters }
+    requires good { ∥ ((relations counters : ℕ) × (number < counters)
+        × HasCounters (V.at_hand views.now) relations counters) ∥₁ }
     requires step { IsStep step }
     requires inside { 2 < V.total views.now }
     ensures lock { IfOk result (λ act. IfLock act (λ p mode. (V.at_hand views.now p ≡ None) × (p ≡ 2))) }

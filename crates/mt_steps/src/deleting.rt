@@ -29,7 +29,7 @@ pub(crate) fn delete<V: Pages>(
     key: &[u8],
 ) -> Result<Act, AllocError>
     requires sound { V.is_sound views.now }
-    requires good { (relations : ℕ) × HasGood (V.at_hand views.now) relations (V.total views.now) }
+    requires good { ∥ ((relations : ℕ) × HasGood (V.at_hand views.now) relations (V.total views.now)) ∥₁ }
     requires short { length key.now ≤ 64 }
     ensures lock { IfOk result (λ act. IfLock act (λ p mode. (V.at_hand views.now p ≡ None) ×
         (p < V.total views.now))) }
@@ -66,7 +66,7 @@ fn delete_row<V: Pages>(
     name: &RecordName,
 ) -> Result<Act, AllocError>
     requires sound { V.is_sound views.now }
-    requires good { (relations : ℕ) × HasGood (V.at_hand views.now) relations (V.total views.now) }
+    requires good { ∥ ((relations : ℕ) × HasGood (V.at_hand views.now) relations (V.total views.now)) ∥₁ }
     requires short { length key.now ≤ 64 }
     requires named { InMaps (V.at_hand views.now) (V.total views.now) (λ pages m. m relation key.now ≡ Some name.now) }
     ensures { IfOk result (Tells (V.at_hand views.now) (V.total views.now) (IsDone (V.at_hand views.now)
@@ -103,9 +103,9 @@ fn drop_entry<V: Pages>(
     requires few { length first.list.items ≤ 1 }
     requires seen { IsSome (V.at_hand views.now name.now.page) }
     requires short { length key.now ≤ 64 }
-    requires good { (relations : ℕ) × HasGood (V.at_hand views.now) relations (V.total views.now) ×
-        InGood (V.at_hand views.now) relations (V.total views.now) (λ pages m. (m relation key.now ≡ Some name.now) ×
-        IsTaken pages first.list.items name.now (record { relation = relation; key = key.now; value = old })) }
+    requires good { ∥ ((relations : ℕ) × HasGood (V.at_hand views.now) relations (V.total views.now)
+        × InGood (V.at_hand views.now) relations (V.total views.now) (λ pages m. (m relation key.now ≡ Some name.now)
+        × IsTaken pages first.list.items name.now (record { relation = relation; key = key.now; value = old }))) ∥₁ }
     ensures { IfOk result (Tells (V.at_hand views.now) (V.total views.now) (IsDone (V.at_hand views.now)
         (V.total views.now) 0 false (Delete relation key.now) AnyKept
         (HasTaken first.list.items name.now (record { relation = relation; key = key.now; value = old }))) ⊥) }

@@ -44,8 +44,8 @@ impl<'a, V: Pages> Draft<'a, V> {
         requires sound { V.is_sound self.old.views.now }
         requires copies { AreCopies (V.at_hand self.old.views.now) self.old.copies.items }
         requires there { AreAtHand (shown self.old.copies.items (V.at_hand self.old.views.now)) changes.now.list.items }
-        requires short { (pages : PageBytes) × Agrees (shown self.old.copies.items
-            (V.at_hand self.old.views.now)) pages × AreShort changes.now.list.items pages }
+        requires short { ∥ ((pages : PageBytes) × Agrees (shown self.old.copies.items
+            (V.at_hand self.old.views.now)) pages × AreShort changes.now.list.items pages) ∥₁ }
         ensures copies { AreCopies (V.at_hand self.old.views.now) self.new.copies.items }
         ensures views { self.new.views.now ≡ self.old.views.now }
         ensures same_pages { (p : ℕ) → IsSome (shown self.new.copies.items
@@ -161,8 +161,8 @@ pub(crate) fn merged<V: Pages>(
     requires sound { V.is_sound views.now }
     requires first_there { AreAtHand (V.at_hand views.now) first.now.list.items }
     requires second_there { AreAtHand (V.at_hand views.now) second.now.list.items }
-    requires short { (pages : PageBytes) × Agrees (V.at_hand views.now) pages × AreShort first.now.list.items pages ×
-        AreShort second.now.list.items (after first.now.list.items pages) }
+    requires short { ∥ ((pages : PageBytes) × Agrees (V.at_hand views.now) pages × AreShort first.now.list.items pages
+        × AreShort second.now.list.items (after first.now.list.items pages)) ∥₁ }
     ensures made { IfOk result (λ changes. (pages : PageBytes) → Agrees (V.at_hand views.now) pages →
         after changes.list.items pages ≡ after second.now.list.items (after first.now.list.items pages)) }
     ensures short { IfOk result (λ changes. (pages : PageBytes) → Agrees (V.at_hand views.now) pages →

@@ -24,7 +24,7 @@ pub(crate) fn get<V: Pages>(
     key: &[u8],
 ) -> Result<Act, AllocError>
     requires sound { V.is_sound views.now }
-    requires good { (relations : ℕ) × HasGood (V.at_hand views.now) relations (V.total views.now) }
+    requires good { ∥ ((relations : ℕ) × HasGood (V.at_hand views.now) relations (V.total views.now)) ∥₁ }
     requires short { length key.now ≤ 64 }
     ensures lock { IfOk result (λ act. IfLock act (λ p mode. (V.at_hand views.now p ≡ None) ×
         (p < V.total views.now))) }

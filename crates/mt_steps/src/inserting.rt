@@ -37,7 +37,7 @@ pub(crate) fn insert<V: Pages>(
     split: bool,
 ) -> Result<Act, AllocError>
     requires sound { V.is_sound views.now }
-    requires good { (relations : ℕ) × HasRoomy (V.at_hand views.now) room relations (V.total views.now) }
+    requires good { ∥ ((relations : ℕ) × HasRoomy (V.at_hand views.now) room relations (V.total views.now)) ∥₁ }
     requires relation_fits { relation < 256 }
     requires key_fits { IsKey key.now }
     requires value_fits { IsValue value.now }
@@ -87,7 +87,7 @@ fn insert_new<V: Pages>(
     split: bool,
 ) -> Result<Act, AllocError>
     requires sound { V.is_sound views.now }
-    requires good { (relations : ℕ) × HasRoomy (V.at_hand views.now) room relations (V.total views.now) }
+    requires good { ∥ ((relations : ℕ) × HasRoomy (V.at_hand views.now) room relations (V.total views.now)) ∥₁ }
     requires relation_fits { relation < 256 }
     requires key_fits { IsKey key.now }
     requires value_fits { IsValue value.now }
@@ -125,11 +125,11 @@ fn add_entry<V: Pages>(
     requires seen { IsSome (V.at_hand views.now plan.name.page) }
     requires relation_fits { relation < 256 }
     requires short { length key.now ≤ 64 }
-    requires good { (relations : ℕ) × (room : Option ℕ) × (value : List ℕ) ×
-        HasRoomy (V.at_hand views.now) room relations (V.total views.now) ×
-        InRoomy (V.at_hand views.now) room relations (V.total views.now) (λ pages m.
+    requires good { ∥ ((relations : ℕ) × (room : Option ℕ) × (value : List ℕ)
+        × HasRoomy (V.at_hand views.now) room relations (V.total views.now)
+        × InRoomy (V.at_hand views.now) room relations (V.total views.now) (λ pages m.
         IsPlaced (V.total views.now) pages plan.changes.list.items plan.name
-        (record { relation = relation; key = key.now; value = value })) }
+        (record { relation = relation; key = key.now; value = value }))) ∥₁ }
     ensures { (value : List ℕ) → IfOk result (Tells (V.at_hand views.now) (V.total views.now) (IsDone
         (V.at_hand views.now) (V.total views.now) (cond split 3 2) split (Insert relation key.now value)
         (TakesAlone plan.name.page) (HasPlaced (V.total views.now) plan.changes.list.items plan.name

@@ -35,7 +35,8 @@ pub(crate) fn drafted<'a, V: Pages>(
 ) -> Result<Draft<'a, V>, AllocError>
     requires sound { V.is_sound views.now }
     requires there { AreAtHand (V.at_hand views.now) changes.now.list.items }
-    requires short { (pages : PageBytes) × Agrees (V.at_hand views.now) pages × AreShort changes.now.list.items pages }
+    requires short { ∥ ((pages : PageBytes) × Agrees (V.at_hand views.now) pages
+        × AreShort changes.now.list.items pages) ∥₁ }
     ensures copies { IfOk result (λ d. AreCopies (V.at_hand views.now) d.copies.items) }
     ensures views { IfOk result (λ d. d.views.now ≡ views.now) }
     ensures none { IfOk result (λ d. (p : ℕ) → shown d.copies.items (V.at_hand views.now) p ≡ None →
@@ -59,8 +60,8 @@ pub(crate) fn join<V: Pages>(
     requires sound { V.is_sound views.now }
     requires there { AreAtHand (V.at_hand views.now) first.list.items }
     requires inside { (p : ℕ) → (IsUntouched second.list.items p → ⊥) → p < V.total views.now }
-    requires short { (pages : PageBytes) × Agrees (V.at_hand views.now) pages × AreShort first.list.items pages ×
-        AreShort second.list.items (after first.list.items pages) }
+    requires short { ∥ ((pages : PageBytes) × Agrees (V.at_hand views.now) pages × AreShort first.list.items pages
+        × AreShort second.list.items (after first.list.items pages)) ∥₁ }
     ensures { IfOk result (Tells (V.at_hand views.now) (V.total views.now) (IsJoined
         (V.at_hand views.now) first.list.items second.list.items reply) ⊥) }
 {

@@ -42,8 +42,8 @@ pub fn plan<V: Pages>(
     split: bool,
 ) -> Result<Act, AllocError>
     requires sound { V.is_sound views.now }
-    requires good { (relations : ℕ) × (counters : ℕ) × HasPages (V.at_hand views.now) room relations counters
-        (V.total views.now) × IsWithin relations counters op.now × (relations ≤ 64) }
+    requires good { ∥ ((relations : ℕ) × (counters : ℕ) × HasPages (V.at_hand views.now) room relations counters
+        (V.total views.now) × IsWithin relations counters op.now × (relations ≤ 64)) ∥₁ }
     ensures lock { IfOk result (λ act. IfLock act (λ p mode. (V.at_hand views.now p ≡ None) ×
         (p < V.total views.now))) }
     ensures counters { IfOk result (λ act. IfLock act (AsksCounters op.now)) }

@@ -36,7 +36,7 @@ pub(crate) fn update<V: Pages>(
     value: &[u8],
 ) -> Result<Act, AllocError>
     requires sound { V.is_sound views.now }
-    requires good { (relations : ℕ) × HasRoomy (V.at_hand views.now) room relations (V.total views.now) }
+    requires good { ∥ ((relations : ℕ) × HasRoomy (V.at_hand views.now) room relations (V.total views.now)) ∥₁ }
     requires short { length key.now ≤ 64 }
     requires value_fits { IsValue value.now }
     ensures lock { IfOk result (λ act. IfLock act (λ p mode. (V.at_hand views.now p ≡ None) ×
@@ -85,7 +85,7 @@ fn update_row<V: Pages>(
     name: &RecordName,
 ) -> Result<Act, AllocError>
     requires sound { V.is_sound views.now }
-    requires good { (relations : ℕ) × HasRoomy (V.at_hand views.now) room relations (V.total views.now) }
+    requires good { ∥ ((relations : ℕ) × HasRoomy (V.at_hand views.now) room relations (V.total views.now)) ∥₁ }
     requires short { length key.now ≤ 64 }
     requires value_fits { IsValue value.now }
     requires named { InMaps (V.at_hand views.now) (V.total views.now) (λ pages m. m relation key.now ≡ Some name.now) }
@@ -137,13 +137,13 @@ fn set_entry<V: Pages>(
     requires few { length plan.changes.list.items ≤ 3 }
     requires seen { IsSome (V.at_hand views.now plan.name.page) }
     requires short { length key.now ≤ 64 }
-    requires good { (relations : ℕ) × (room : Option ℕ) × (name : RecordName) × (value : List ℕ) ×
-        HasRoomy (V.at_hand views.now) room relations (V.total views.now) ×
-        InRoomy (V.at_hand views.now) room relations (V.total views.now) (λ pages m.
+    requires good { ∥ ((relations : ℕ) × (room : Option ℕ) × (name : RecordName) × (value : List ℕ)
+        × HasRoomy (V.at_hand views.now) room relations (V.total views.now)
+        × InRoomy (V.at_hand views.now) room relations (V.total views.now) (λ pages m.
         (m relation key.now ≡ Some name) × IsMoved
         (V.total views.now) pages plan.changes.list.items name plan.name
         (record { relation = relation; key = key.now; value = old })
-        (record { relation = relation; key = key.now; value = value })) }
+        (record { relation = relation; key = key.now; value = value }))) ∥₁ }
     ensures { (name : RecordName) (value : List ℕ) → IsSome (V.at_hand views.now name.page) →
         IfOk result (Tells (V.at_hand views.now) (V.total views.now) (IsDone (V.at_hand views.now)
         (V.total views.now) 1 false (Update relation key.now value)

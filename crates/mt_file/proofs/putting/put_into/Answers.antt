@@ -1,10 +1,13 @@
+use mathlib.Core.Logic.{∥∥₁_map}
 use Rattle.std.proofs.Common.{refl, inr}
 use Rattle.mt_file.proofs.Planned.{named_seen, named_shaped, named_full, named_adds, named_roomy, untouched_seen}
 use Rattle.mt_space.specs.Changes.{after}
+use Rattle.mt_file.proofs.Shaped.{shaped_of}
 use Rattle.mt_file.proofs.putting.put_into.Goals as goal
 
 pub insert-requires-clause-shaped : goal.insert-requires-clause-shaped
-insert-requires-clause-shaped g c = named_shaped (g.V.Pages.at_hand c.args.views.now) c.requires.ready.0 c.args.page c.in-Some.old.now c.requires.ready.1 c.in-Some.ensures.some
+insert-requires-clause-shaped g c = shaped_of c.in-Some.old.now (∥∥₁_map c.requires.ready (λ ready.
+    named_shaped (g.V.Pages.at_hand c.args.views.now) ready.0 c.args.page c.in-Some.old.now ready.1 c.in-Some.ensures.some))
 
 pub returns-in_default-insert-clause-put : goal.returns-in_default-insert-clause-put
 returns-in_default-insert-clause-put g c = λ pages ready.

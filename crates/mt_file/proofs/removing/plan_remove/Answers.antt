@@ -1,22 +1,22 @@
+use mathlib.Core.Logic.{∥∥₁_elim, ∥∥₁_map}
 use Rattle.std.proofs.Common.{◌≡◌, ℕ, inr, refl, sym, ap, ◌∙◌}
+use Rattle.std.proofs.Props.{props}
 use Rattle.mt_space.specs.Changes.{after, replaced}
 use Rattle.mt_file.proofs.Planned.{is_held, noted_first, drops_one, none_beside, gives_back}
+use Rattle.mt_file.proofs.Shaped.{shaped_of}
 use Rattle.mt_file.proofs.removing.plan_remove.Goals as goal
 
 pub remove-requires-clause-shaped : goal.remove-requires-clause-shaped
-remove-requires-clause-shaped g c =
-    let good = c.requires.good in
-    (is_held (g.V.Pages.at_hand c.args.views.now) good.0 c.args.name.page c.args.name.slot c.in-Some.old.now good.1 good.2 good.3 good.4 c.in-Some.ensures.some).shaped
+remove-requires-clause-shaped g c = shaped_of c.in-Some.old.now (∥∥₁_map c.requires.good (λ good.
+    (is_held (g.V.Pages.at_hand c.args.views.now) good.0 c.args.name.page c.args.name.slot c.in-Some.old.now good.1 good.2 good.3 good.4 c.in-Some.ensures.some).shaped))
 
 pub remove-requires-clause-there : goal.remove-requires-clause-there
-remove-requires-clause-there g c =
-    let good = c.requires.good in
-    (is_held (g.V.Pages.at_hand c.args.views.now) good.0 c.args.name.page c.args.name.slot c.in-Some.old.now good.1 good.2 good.3 good.4 c.in-Some.ensures.some).there
+remove-requires-clause-there g c = ∥∥₁_elim c.requires.good (hlevel props) (λ good.
+    (is_held (g.V.Pages.at_hand c.args.views.now) good.0 c.args.name.page c.args.name.slot c.in-Some.old.now good.1 good.2 good.3 good.4 c.in-Some.ensures.some).there)
 
 pub with_kind-new_map-requires : goal.with_kind-new_map-requires
-with_kind-new_map-requires g c =
-    let good = c.requires.good in
-    (is_held (g.V.Pages.at_hand c.args.views.now) good.0 c.args.name.page c.args.name.slot c.in-Some.old.now good.1 good.2 good.3 good.4 c.in-Some.ensures.some).within
+with_kind-new_map-requires g c = ∥∥₁_elim c.requires.good (hlevel props) (λ good.
+    (is_held (g.V.Pages.at_hand c.args.views.now) good.0 c.args.name.page c.args.name.slot c.in-Some.old.now good.1 good.2 good.3 good.4 c.in-Some.ensures.some).within)
 
 pub returns-then-live-ne0-clause-removal : goal.returns-then-live-ne0-clause-removal
 returns-then-live-ne0-clause-removal g c = λ pages r agrees file is.

@@ -1,3 +1,5 @@
+use mathlib.Core.Logic.{∥∥₁_elim, ∥∥₁_map}
+use Rattle.std.proofs.Props.{props}
 use Rattle.std.proofs.Common.{[], ◌≡◌, ◌≢◌, ℕ, List, Option, Some, None, refl, sym, ap, subst, ◌∙◌, inl, inr}
 use Rattle.std.proofs.lemmas.Result.{IfOk-weaker}
 use Rattle.mt_space.specs.declared.changes.PageChange.{PageChange}
@@ -8,14 +10,15 @@ use Rattle.mt_file.specs.File.{Moves}
 use Rattle.mt_file.specs.Plans.{IsTooFull, IsPut, IsWhole}
 use Rattle.mt_file.proofs.Filed.{records_not_map}
 use Rattle.mt_file.proofs.Slots.{row_small}
+use Rattle.mt_file.proofs.Shaped.{shaped_of}
 use Rattle.mt_file.proofs.Planned.{is_held, noted_first, drops_one}
 use Rattle.mt_file.proofs.Moved.{moves_whole, ready_mid, apart_mid, moves_on, own_full, named_is, named_is_not, same_row, room_seen}
 use Rattle.mt_file.proofs.replacing.plan_move.Goals as goal
 
 pub get-requires : goal.get-requires
-get-requires g c =
-    let good = c.requires.good in
-    record { shaped = (is_held (g.V.Pages.at_hand c.args.views.now) good.0 c.args.name.page c.args.name.slot c.args.old.now good.1 good.2 good.3 good.5 c.requires.there).shaped }
+get-requires g c = record {
+  shaped = shaped_of c.args.old.now (∥∥₁_map c.requires.good (λ good. (is_held (g.V.Pages.at_hand c.args.views.now) good.0 c.args.name.page c.args.name.slot c.args.old.now good.1 good.2 good.3 good.5 c.requires.there).shaped));
+}
 
 pub returns-in_default-clause-replacement : goal.returns-in_default-clause-replacement
 returns-in_default-clause-replacement g c = λ pages r agrees file named is.
@@ -24,14 +27,15 @@ returns-in_default-clause-replacement g c = λ pages r agrees file named is.
     cc
 
 pub remove-requires-clause-shaped : goal.remove-requires-clause-shaped
-remove-requires-clause-shaped g c =
-    let good = c.requires.good in
-    (is_held (g.V.Pages.at_hand c.args.views.now) good.0 c.args.name.page c.args.name.slot c.args.old.now good.1 good.2 good.3 good.5 c.requires.there).shaped
+remove-requires-clause-shaped g c = shaped_of c.args.old.now (∥∥₁_map c.requires.good (λ good.
+    (is_held (g.V.Pages.at_hand c.args.views.now) good.0 c.args.name.page c.args.name.slot c.args.old.now good.1 good.2 good.3 good.5 c.requires.there).shaped))
 
 pub remove-requires-clause-there : goal.remove-requires-clause-there
-remove-requires-clause-there g c =
-    let good = c.requires.good in
-    (is_held (g.V.Pages.at_hand c.args.views.now) good.0 c.args.name.page c.args.name.slot c.args.old.now good.1 good.2 good.3 good.5 c.requires.there).there
+remove-requires-clause-there g c = ∥∥₁_elim c.requires.good (hlevel props) (λ good.
+    (is_held (g.V.Pages.at_hand c.args.views.now) good.0 c.args.name.page c.args.name.slot c.args.old.now good.1 good.2 good.3 good.5 c.requires.there).there)
+
+pub put-requires-clause-ready : goal.put-requires-clause-ready
+put-requires-clause-ready g c = ∥∥₁_map c.requires.good (λ (pages, r, agrees, file, named, is). (pages, record { file = file; named = named; seen = λ p bytes kept there. agrees p bytes there }))
 
 pub write_whole-requires-clause-relation_fits : goal.write_whole-requires-clause-relation_fits
 write_whole-requires-clause-relation_fits g c = (row_small c.args.old.now c.args.name.slot _ c.fits-old c.in-Some.ensures.found).0

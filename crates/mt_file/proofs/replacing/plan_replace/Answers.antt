@@ -1,3 +1,5 @@
+use mathlib.Core.Logic.{∥∥₁_elim, ∥∥₁_map}
+use Rattle.std.proofs.Props.{props}
 use Rattle.std.proofs.Common.{[], ◌≡◌, ◌≢◌, ℕ, List, refl, sym, ap, subst, inl}
 use Rattle.std.specs.Option.{IsSome}
 use Rattle.mt_space.specs.declared.changes.PageChange.{PageChange}
@@ -6,23 +8,21 @@ use Rattle.mt_slots.specs.Page.{Row}
 use Rattle.mt_file.specs.File.{Stays}
 use Rattle.mt_file.proofs.Planned.{is_held, noted_first}
 use Rattle.mt_file.proofs.Moved.{stays_one, stays_same}
+use Rattle.mt_file.proofs.Shaped.{shaped_of}
 use Rattle.mt_file.proofs.replacing.plan_replace.Goals as goal
 
 pub has_value-requires : goal.has_value-requires
-has_value-requires g c =
-    let good = c.requires.good in
-    (is_held (g.V.Pages.at_hand c.args.views.now) good.0 c.args.name.page c.args.name.slot c.in-Some.old.now good.1 good.2 good.3 good.5 c.in-Some.ensures.some).shaped
+has_value-requires g c = shaped_of c.in-Some.old.now (∥∥₁_map c.requires.good (λ good.
+    (is_held (g.V.Pages.at_hand c.args.views.now) good.0 c.args.name.page c.args.name.slot c.in-Some.old.now good.1 good.2 good.3 good.5 c.in-Some.ensures.some).shaped))
 
 pub replace-requires-clause-shaped : goal.replace-requires-clause-shaped
-replace-requires-clause-shaped g c =
-    let good = c.requires.good in
-    (is_held (g.V.Pages.at_hand c.args.views.now) good.0 c.args.name.page c.args.name.slot c.in-Some.old.now good.1 good.2 good.3 good.5 c.in-Some.ensures.some).shaped
+replace-requires-clause-shaped g c = shaped_of c.in-Some.old.now (∥∥₁_map c.requires.good (λ good.
+    (is_held (g.V.Pages.at_hand c.args.views.now) good.0 c.args.name.page c.args.name.slot c.in-Some.old.now good.1 good.2 good.3 good.5 c.in-Some.ensures.some).shaped))
 
 pub replace-requires-clause-live : goal.replace-requires-clause-live
-replace-requires-clause-live g c =
-    let good = c.requires.good in
+replace-requires-clause-live g c = ∥∥₁_elim c.requires.good (hlevel props) (λ good.
     let held = is_held (g.V.Pages.at_hand c.args.views.now) good.0 c.args.name.page c.args.name.slot c.in-Some.old.now good.1 good.2 good.3 good.5 c.in-Some.ensures.some in
-    subst IsSome (sym held.live) refl
+    subst IsSome (sym held.live) refl)
 
 pub returns-then-has_value-clause-replacement : goal.returns-then-has_value-clause-replacement
 returns-then-has_value-clause-replacement g c = λ pages r agrees file named is.

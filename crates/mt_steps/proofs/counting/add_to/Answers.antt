@@ -1,3 +1,7 @@
+use mathlib.Core.Logic.{∥∥₁_elim}
+use Rattle.std.proofs.Props.{props}
+use Rattle.std.proofs.Math.Dec.{T_prop}
+use Rattle.mt_model.specs.Tables.{IsLimited}
 use Rattle.std.proofs.Common.{arith, ◌≡◌, ◌∙◌, ◌+◌, ℕ, ℤ, List, None, Some, true, false, sym, ap, subst}
 use Rattle.std.specs.Int.{w64}
 use Rattle.std.proofs.lemmas.Int.{to_z-of_z}
@@ -18,6 +22,13 @@ use Rattle.mt_steps.proofs.counting.add_to.Goals as goal
 
 none_some : (x : List ℕ) → None ≡ Some x → ⊥
 none_some x e = cc
+
+pub add-requires-clause-there : goal.add-requires-clause-there
+add-requires-clause-there g c = ∥∥₁_elim c.requires.good (hlevel props) (λ (relations, counters, there, has). let few = has.2.few in omega (arith, there, few))
+
+pub add-requires-clause-limited : goal.add-requires-clause-limited
+add-requires-clause-limited g c = ∥∥₁_elim c.requires.good (hlevel (props, T_prop)) (λ (relations, counters, there, has).
+    subst (λ (page : List ℕ). IsLimited (count_in page c.args.number)) (has.1 2 c.in-Some.old.now (ap (λ (p : ℕ). g.V.Pages.at_hand c.args.views.now p) (sym c.new-page.ensures) ∙ c.in-Some.ensures.some)) (has.2.each c.args.number there))
 
 pub returns-then-not-add-clause-made : goal.returns-then-not-add-clause-made
 returns-then-not-add-clause-made g c = λ relations pages agrees m rows counters there a.

@@ -1,8 +1,11 @@
+use mathlib.Core.Logic.{∥∥₁_elim, ∥∥₁_map}
+use Rattle.std.proofs.Props.{props}
 use Rattle.std.proofs.Common.{◌≡◌, ◌∙◌, inl, refl, ℕ, List, Option, None, Some, sym, ap, arith}
 use Rattle.std.proofs.lemmas.Result.{IfOk-weaker}
 use Rattle.mt_slots.specs.Page.{Row}
 use Rattle.mt_space.specs.Kinds.{kind}
 use Rattle.mt_file.proofs.Filed.{record_kind}
+use Rattle.mt_steps.proofs.Single.{lock_some}
 use Rattle.mt_steps.proofs.Telling.{tells_weaker}
 use Rattle.mt_steps.proofs.Asking.{kind_inside, removal_needs, taken_inside}
 use Rattle.mt_steps.proofs.Rows.{row_of}
@@ -16,52 +19,52 @@ no_row : (x : Row) → None ≡ Some x → ⊥
 no_row x e = cc
 
 pub plan_read-requires-clause-good : goal.plan_read-requires-clause-good
-plan_read-requires-clause-good g c =
-    let good = c.requires.good.1 in
+plan_read-requires-clause-good g c = ∥∥₁_map c.requires.good (λ fact.
+    let good = fact.1 in
     let n = c.args.name.now in
     let named = good.3.named.names c.args.relation c.args.key.now n (c.requires.named good.0 good.1 good.2 good.3.index) in
-    (good.0, good.1, good.3.file, record_kind good.0 n.page n.slot _ named.1)
+    (good.0, good.1, good.3.file, record_kind good.0 n.page n.slot _ named.1))
 
 pub returns-in-Need : goal.returns-in-Need
-returns-in-Need g c =
-    let good = c.requires.good.1 in
+returns-in-Need g c = lock_some (g.V.Pages.at_hand c.args.views.now) (g.V.Pages.total c.args.views.now) _ _ (∥∥₁_map c.requires.good (λ fact.
+    let good = fact.1 in
     let n = c.args.name.now in
     let named = good.3.named.names c.args.relation c.args.key.now n (c.requires.named good.0 good.1 good.2 good.3.index) in
     let three = record_kind good.0 n.page n.slot _ named.1 in
     let told = c.in-Need.ensures good.0 good.1 good.3.file three in
-    (told.0, kind_inside (g.V.Pages.total c.args.views.now) good.0 good.2 c.in-Need.page 3 good.3.index (ap (λ (p : ℕ). kind good.0 p) told.2 ∙ three) (omega arith), inl refl)
+    (told.0, kind_inside (g.V.Pages.total c.args.views.now) good.0 good.2 c.in-Need.page 3 good.3.index (ap (λ (p : ℕ). kind good.0 p) told.2 ∙ three) (omega arith), inl refl)))
 
 pub returns-in-Nothing : goal.returns-in-Nothing
-returns-in-Nothing g c =
-    let good = c.requires.good.1 in
+returns-in-Nothing g c = ∥∥₁_elim c.requires.good (hlevel props) (λ fact.
+    let good = fact.1 in
     let n = c.args.name.now in
     let named = good.3.named.names c.args.relation c.args.key.now n (c.requires.named good.0 good.1 good.2 good.3.index) in
-    no_row _ (sym (c.in-Nothing.ensures good.0 good.1 good.3.file (record_kind good.0 n.page n.slot _ named.1)) ∙ named.1)
+    no_row _ (sym (c.in-Nothing.ensures good.0 good.1 good.3.file (record_kind good.0 n.page n.slot _ named.1)) ∙ named.1))
 
 pub plan_remove-requires-clause-good : goal.plan_remove-requires-clause-good
-plan_remove-requires-clause-good g c =
-    let good = c.requires.good.1 in
+plan_remove-requires-clause-good g c = ∥∥₁_map c.requires.good (λ fact.
+    let good = fact.1 in
     let named = good.3.named.names c.args.relation c.args.key.now c.args.name.now (c.requires.named good.0 good.1 good.2 good.3.index) in
-    (good.0, _, good.1, good.3.file, named.1)
+    (good.0, _, good.1, good.3.file, named.1))
 
 pub returns-in-Need-2 : goal.returns-in-Need-2
-returns-in-Need-2 g c =
-    let good = c.requires.good.1 in
+returns-in-Need-2 g c = lock_some (g.V.Pages.at_hand c.args.views.now) (g.V.Pages.total c.args.views.now) _ _ (∥∥₁_map c.requires.good (λ fact.
+    let good = fact.1 in
     let n = c.args.name.now in
     let named = good.3.named.names c.args.relation c.args.key.now n (c.requires.named good.0 good.1 good.2 good.3.index) in
-    removal_needs (g.V.Pages.at_hand c.args.views.now) (g.V.Pages.total c.args.views.now) good.0 good.2 n.page n.slot c.in-Need-2.page c.in-Need-2.mode c.in_ok-page.field-0 c.in-Need-2.is good.3.index (record_kind good.0 n.page n.slot _ named.1) (c.in_ok-page.ensures.removal good.0 _ good.1 good.3.file named.1)
+    removal_needs (g.V.Pages.at_hand c.args.views.now) (g.V.Pages.total c.args.views.now) good.0 good.2 n.page n.slot c.in-Need-2.page c.in-Need-2.mode c.in_ok-page.field-0 c.in-Need-2.is good.3.index (record_kind good.0 n.page n.slot _ named.1) (c.in_ok-page.ensures.removal good.0 _ good.1 good.3.file named.1)))
 
 pub returns-in-Full : goal.returns-in-Full
-returns-in-Full g c =
-    let good = c.requires.good.1 in
+returns-in-Full g c = ∥∥₁_elim c.requires.good (hlevel props) (λ fact.
+    let good = fact.1 in
     let n = c.args.name.now in
     let named = good.3.named.names c.args.relation c.args.key.now n (c.requires.named good.0 good.1 good.2 good.3.index) in
-    removal_fits (g.V.Pages.at_hand c.args.views.now) good.0 n.page n.slot c.in_ok-page.field-0 c.in-Full.is (c.in_ok-page.ensures.removal good.0 _ good.1 good.3.file named.1)
+    removal_fits (g.V.Pages.at_hand c.args.views.now) good.0 n.page n.slot c.in_ok-page.field-0 c.in-Full.is (c.in_ok-page.ensures.removal good.0 _ good.1 good.3.file named.1))
 
 pub drop_entry-requires-clause-good : goal.drop_entry-requires-clause-good
-drop_entry-requires-clause-good g c = (
-  c.requires.good.0,
-  c.requires.good.1,
+drop_entry-requires-clause-good g c = ∥∥₁_map c.requires.good (λ fact. (
+  fact.0,
+  fact.1,
   λ pages agrees m rows.
       let n = c.args.name.now in
       let is = c.requires.named pages agrees m rows.index in
@@ -69,15 +72,15 @@ drop_entry-requires-clause-good g c = (
       let told = c.in-Record.ensures pages agrees rows.file (record_kind pages n.page n.slot _ named.1) in
       let stood = named.1 ∙ ap (λ (v : List ℕ). row_of c.args.relation c.args.key.now (Some v)) (value_of _ _ _ (sym named.1 ∙ told) ∙ sym c.in_ok-old-in-Record.ensures) in
       (is, removal_takes (g.V.Pages.at_hand c.args.views.now) pages n _ c.in_ok-page.field-0 c.in-Done.plan c.in-Done.is (c.in_ok-page.ensures.removal pages _ agrees rows.file named.1) (c.in_ok-page.ensures.short pages _ agrees rows.file named.1) stood),
-)
+))
 
 pub returns-in-Some : goal.returns-in-Some
-returns-in-Some g c =
-    let good = c.requires.good.1 in
+returns-in-Some g c = lock_some (g.V.Pages.at_hand c.args.views.now) (g.V.Pages.total c.args.views.now) _ _ (∥∥₁_map c.requires.good (λ fact.
+    let good = fact.1 in
     let n = c.args.name.now in
     let named = good.3.named.names c.args.relation c.args.key.now n (c.requires.named good.0 good.1 good.2 good.3.index) in
     let taken = removal_takes (g.V.Pages.at_hand c.args.views.now) good.0 n _ c.in_ok-page.field-0 c.in-Done.plan c.in-Done.is (c.in_ok-page.ensures.removal good.0 _ good.1 good.3.file named.1) (c.in_ok-page.ensures.short good.0 _ good.1 good.3.file named.1) named.1 in
-    (c.in-Some.ensures.some, taken_inside (g.V.Pages.total c.args.views.now) good.0 good.2 c.in-Done.plan.changes.list.items n _ c.in-Some.page good.3.index taken c.in-Some.ensures.named, inl refl)
+    (c.in-Some.ensures.some, taken_inside (g.V.Pages.total c.args.views.now) good.0 good.2 c.in-Done.plan.changes.list.items n _ c.in-Some.page good.3.index taken c.in-Some.ensures.named, inl refl)))
 
 pub returns : goal.returns
 returns g c =

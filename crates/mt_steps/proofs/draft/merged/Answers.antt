@@ -1,9 +1,24 @@
+use mathlib.Core.Logic.{∥∥₁_map}
 use Rattle.std.proofs.Common.{◌∙◌, List, ap, subst, sym}
 use Rattle.std.proofs.lemmas.Result.{IfOk-weaker}
 use Rattle.mt_space.specs.Changes.{Agrees, after}
 use Rattle.mt_steps.specs.declared.draft.PageCopy.{PageCopy}
-use Rattle.mt_steps.specs.Drafts.{drawn}
+use Rattle.mt_steps.specs.Drafts.{drawn, shown}
 use Rattle.mt_steps.proofs.draft.merged.Goals as goal
+
+pub apply-requires-clause-short : goal.apply-requires-clause-short
+apply-requires-clause-short g c = ∥∥₁_map c.requires.short (λ (pages, agrees, one, two).
+    let at_first : Agrees (shown c.new-draft.result.copies.items (g.V.Pages.at_hand c.new-draft.result.views.now)) pages = subst (λ (l : List PageCopy). Agrees (shown l (g.V.Pages.at_hand c.new-draft.result.views.now)) pages) (sym c.new-draft.ensures.none)
+    (subst (λ v. Agrees (g.V.Pages.at_hand v) pages) (sym c.new-draft.ensures.views) agrees) in
+    (pages, at_first, one))
+
+pub apply-requires-2-clause-short : goal.apply-requires-2-clause-short
+apply-requires-2-clause-short g c = ∥∥₁_map c.requires.short (λ (pages, agrees, one, two).
+    let at_first : Agrees (shown c.new-draft.result.copies.items (g.V.Pages.at_hand c.new-draft.result.views.now)) pages = subst (λ (l : List PageCopy). Agrees (shown l (g.V.Pages.at_hand c.new-draft.result.views.now)) pages) (sym c.new-draft.ensures.none)
+    (subst (λ v. Agrees (g.V.Pages.at_hand v) pages) (sym c.new-draft.ensures.views) agrees) in
+    let copies = c.apply.new.self.copies.items in
+    let last = after c.args.first.now.list.items pages in
+    (last, subst (λ v. Agrees (shown copies (g.V.Pages.at_hand v)) last) (sym c.in_ok-apply.ensures.views) (c.in_ok-apply.ensures.agrees pages at_first), two))
 
 pub returns-clause-made : goal.returns-clause-made
 returns-clause-made g c =

@@ -1,3 +1,5 @@
+use mathlib.Core.Logic.{∥∥₁_elim, ∥∥₁_map}
+use Rattle.std.proofs.Props.{props}
 use Rattle.std.proofs.Common.{inl, inr, arith, ◌≡◌, ◌∙◌, ⊎_elim, ℕ, List, Option, None, Some, refl, sym, ap}
 use Rattle.mt_base.specs.declared.modes.Mode.TheVariants.{Read}
 use Rattle.mt_space.specs.Kinds.{kind}
@@ -19,13 +21,14 @@ no_row : (x : Row) → None ≡ Some x → ⊥
 no_row x e = cc
 
 pub returns-in-Need-clause-lock : goal.returns-in-Need-clause-lock
-returns-in-Need-clause-lock g c =
-    let good = c.requires.good.1 in
+returns-in-Need-clause-lock g c = ∥∥₁_elim c.requires.good (hlevel props) (λ fact.
+    let good = fact.1 in
     let asks = c.in-Need.ensures.need in
-    (asks.missing, bucket_inside (g.V.Pages.total c.args.views.now) c.args.key.now good.0 good.2 Read c.in-Need.page c.in-Need.mode good.3.index (asks.role good.0 good.1 good.2 good.3.index))
+    (asks.missing, bucket_inside (g.V.Pages.total c.args.views.now) c.args.key.now good.0 good.2 Read c.in-Need.page c.in-Need.mode good.3.index (asks.role good.0 good.1 good.2 good.3.index)))
 
 pub returns-in-Need-clause-mode : goal.returns-in-Need-clause-mode
-returns-in-Need-clause-mode g c = let good = c.requires.good.1 in ⊎_elim (λ d. d.1) (λ b. b.1) (c.in-Need.ensures.need.role good.0 good.1 good.2 good.3.index)
+returns-in-Need-clause-mode g c = ∥∥₁_elim c.requires.good (hlevel props) (λ fact.
+    let good = fact.1 in ⊎_elim (λ d. d.1) (λ b. b.1) (c.in-Need.ensures.need.role good.0 good.1 good.2 good.3.index))
 
 pub returns-in-Missing-clause-made : goal.returns-in-Missing-clause-made
 returns-in-Missing-clause-made g c = λ relations pages agrees m rows.
@@ -35,26 +38,27 @@ returns-in-Missing-clause-made g c = λ relations pages agrees m rows.
     (λ b held. held) rows)
 
 pub returns-in-Endless-clause-broken : goal.returns-in-Endless-clause-broken
-returns-in-Endless-clause-broken g c = let good = c.requires.good.1 in c.in-Endless.ensures.endless good.0 good.1 good.2 good.3.index
+returns-in-Endless-clause-broken g c = ∥∥₁_elim c.requires.good (hlevel props) (λ fact.
+    let good = fact.1 in c.in-Endless.ensures.endless good.0 good.1 good.2 good.3.index)
 
 pub plan_read-requires-clause-good : goal.plan_read-requires-clause-good
-plan_read-requires-clause-good g c =
-    let good = c.requires.good.1 in
+plan_read-requires-clause-good g c = ∥∥₁_map c.requires.good (λ fact.
+    let good = fact.1 in
     let named = good.3.named.names c.args.relation c.args.key.now c.in-Found.name (c.in-Found.ensures.found good.0 good.1 good.2 good.3.index) in
-    (good.0, good.1, good.3.file, record_kind good.0 c.in-Found.name.page c.in-Found.name.slot _ named.1)
+    (good.0, good.1, good.3.file, record_kind good.0 c.in-Found.name.page c.in-Found.name.slot _ named.1))
 
 pub returns-in-Need-plan_read-clause-lock : goal.returns-in-Need-plan_read-clause-lock
-returns-in-Need-plan_read-clause-lock g c =
-    let good = c.requires.good.1 in
+returns-in-Need-plan_read-clause-lock g c = ∥∥₁_elim c.requires.good (hlevel props) (λ fact.
+    let good = fact.1 in
     let named = good.3.named.names c.args.relation c.args.key.now c.in-Found.name (c.in-Found.ensures.found good.0 good.1 good.2 good.3.index) in
     let told = c.in-Need-plan_read.ensures good.0 good.1 good.3.file (record_kind good.0 c.in-Found.name.page c.in-Found.name.slot _ named.1) in
-    (told.0, kind_inside (g.V.Pages.total c.args.views.now) good.0 good.2 c.in-Need-plan_read.page 3 good.3.index (ap (λ (p : ℕ). kind good.0 p) told.2 ∙ record_kind good.0 c.in-Found.name.page c.in-Found.name.slot _ named.1) (omega arith))
+    (told.0, kind_inside (g.V.Pages.total c.args.views.now) good.0 good.2 c.in-Need-plan_read.page 3 good.3.index (ap (λ (p : ℕ). kind good.0 p) told.2 ∙ record_kind good.0 c.in-Found.name.page c.in-Found.name.slot _ named.1) (omega arith)))
 
 pub returns-in-Need-plan_read-clause-mode : goal.returns-in-Need-plan_read-clause-mode
-returns-in-Need-plan_read-clause-mode g c =
-    let good = c.requires.good.1 in
+returns-in-Need-plan_read-clause-mode g c = ∥∥₁_elim c.requires.good (hlevel props) (λ fact.
+    let good = fact.1 in
     let named = good.3.named.names c.args.relation c.args.key.now c.in-Found.name (c.in-Found.ensures.found good.0 good.1 good.2 good.3.index) in
-    (c.in-Need-plan_read.ensures good.0 good.1 good.3.file (record_kind good.0 c.in-Found.name.page c.in-Found.name.slot _ named.1)).1
+    (c.in-Need-plan_read.ensures good.0 good.1 good.3.file (record_kind good.0 c.in-Found.name.page c.in-Found.name.slot _ named.1)).1)
 
 pub returns-in_ok-value-in-Record-clause-made : goal.returns-in_ok-value-in-Record-clause-made
 returns-in_ok-value-in-Record-clause-made g c = λ relations pages agrees m rows.
@@ -69,19 +73,20 @@ returns-in_ok-value-in-Record-clause-made g c = λ relations pages agrees m rows
     (λ b held. held) rows)
 
 pub returns-in-Nothing-clause-broken : goal.returns-in-Nothing-clause-broken
-returns-in-Nothing-clause-broken g c =
-    let good = c.requires.good.1 in
+returns-in-Nothing-clause-broken g c = ∥∥₁_elim c.requires.good (hlevel props) (λ fact.
+    let good = fact.1 in
     let name = c.in-Found.name in
     let named = good.3.named.names c.args.relation c.args.key.now name (c.in-Found.ensures.found good.0 good.1 good.2 good.3.index) in
     let told = c.in-Nothing.ensures good.0 good.1 good.3.file (record_kind good.0 name.page name.slot _ named.1) in
-    no_row _ (sym told ∙ named.1)
+    no_row _ (sym told ∙ named.1))
 
 pub returns-in-Need-clause-asks : goal.returns-in-Need-clause-asks
 returns-in-Need-clause-asks g c = inl c.in-Need.ensures.need.role
 
 pub returns-in-Need-plan_read-clause-asks : goal.returns-in-Need-plan_read-clause-asks
 returns-in-Need-plan_read-clause-asks g c =
-    let good = c.requires.good.1 in
+    let told : (g.V.Pages.at_hand c.args.views.now c.in-Need-plan_read.page ≡ None) × (c.in-Need-plan_read.mode ≡ Read) × (c.in-Need-plan_read.page ≡ c.in-Found.name.page) = ∥∥₁_elim c.requires.good (hlevel props) (λ fact.
+    let good = fact.1 in
     let named = good.3.named.names c.args.relation c.args.key.now c.in-Found.name (c.in-Found.ensures.found good.0 good.1 good.2 good.3.index) in
-    let told = c.in-Need-plan_read.ensures good.0 good.1 good.3.file (record_kind good.0 c.in-Found.name.page c.in-Found.name.slot _ named.1) in
+    c.in-Need-plan_read.ensures good.0 good.1 good.3.file (record_kind good.0 c.in-Found.name.page c.in-Found.name.slot _ named.1)) in
     inr (c.in-Found.name.slot, λ pages agrees m maps. c.in-Found.ensures.found pages agrees m maps ∙ ap (λ (p : ℕ). Some (record { page = p; slot = c.in-Found.name.slot })) (sym told.2), told.1)

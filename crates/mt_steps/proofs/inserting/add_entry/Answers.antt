@@ -1,4 +1,6 @@
-use Rattle.std.proofs.Common.{refl, cond, ◌≡◌, arith, None, Some, sym, subst}
+use mathlib.Core.Logic.{∥∥₁_elim, ∥∥₁_map}
+use Rattle.std.proofs.Props.{props}
+use Rattle.std.proofs.Common.{◌≤◌, length, refl, cond, ◌≡◌, arith, None, Some, sym, subst}
 use Rattle.mt_bucket.specs.Entries.{Entry}
 use Rattle.mt_space.specs.Changes.{PageBytes, after}
 use Rattle.mt_index.specs.Maps.{alter}
@@ -11,6 +13,7 @@ use Rattle.mt_steps.specs.Plans.{IsModest}
 use Rattle.mt_steps.specs.Drafts.{shown}
 use Rattle.mt_steps.specs.Logged.{logged_of}
 use Rattle.mt_model.specs.declared.operations.Reply.TheVariants.{Done}
+use Rattle.mt_steps.proofs.Single.{lock_some}
 use Rattle.mt_steps.proofs.Telling.{tells_weaker, logs_something}
 use Rattle.mt_steps.proofs.Asking.{add_needs, add_change, add_inside, added_inside, named_differs, few_more}
 use Rattle.mt_steps.proofs.Drafting.{below_some}
@@ -21,51 +24,54 @@ use Rattle.mt_steps.proofs.Naming.{placed_alone, added_alone}
 use Rattle.mt_steps.proofs.inserting.add_entry.Goals as goal
 
 pub returns-in-Endless : goal.returns-in-Endless
-returns-in-Endless g c = λ value.
-    let good = c.requires.good.3 in
-    let placed = c.requires.good.4 good.0 good.1 good.2 good.3 good.4 in
+returns-in-Endless g c = λ value. ∥∥₁_elim c.requires.good (hlevel props) (λ fact.
+    let good = fact.3 in
+    let placed = fact.4 good.0 good.1 good.2 good.3 good.4 in
     let copies = c.in_ok-draft.draft.copies.items in
     let told = subst (λ x. InMaps (shown copies (g.V.Pages.at_hand x)) (g.V.Pages.total x) (λ pages m. ⊥)) c.in_ok-draft.ensures.views (endless_is _ c.in_ok-page.field-0 c.in-Endless.is c.in_ok-page.ensures.endless) in
     told (after c.args.plan.changes.list.items good.0) (c.in_ok-draft.ensures.agrees good.0 good.1) good.2
-    (placed_map c.requires.good.0 (g.V.Pages.total c.args.views.now) good.0 good.2 c.args.plan.changes.list.items c.args.plan.name _ good.3 placed)
+    (placed_map fact.0 (g.V.Pages.total c.args.views.now) good.0 good.2 c.args.plan.changes.list.items c.args.plan.name _ good.3 placed))
+
+pub drafted-requires-clause-short : goal.drafted-requires-clause-short
+drafted-requires-clause-short g c = ∥∥₁_map c.requires.good (λ fact. let good = fact.3 in (good.0, good.1, (fact.4 good.0 good.1 good.2 good.3 good.4).short))
 
 pub join-requires-clause-short : goal.join-requires-clause-short
-join-requires-clause-short g c =
-    let good = c.requires.good.3 in
-    let placed = c.requires.good.4 good.0 good.1 good.2 good.3 good.4 in
+join-requires-clause-short g c = ∥∥₁_map c.requires.good (λ fact.
+    let good = fact.3 in
+    let placed = fact.4 good.0 good.1 good.2 good.3 good.4 in
     let copies = c.in_ok-draft.draft.copies.items in
     let e : Entry = record { relation = c.args.relation; key = c.args.key.now; name = c.args.plan.name } in
     let told = subst (λ x. InMaps (shown copies (g.V.Pages.at_hand x)) (g.V.Pages.total x) (λ pages m. Adds c.args.split (g.V.Pages.total x) e pages c.in-Changes.changes.list.items)) c.in_ok-draft.ensures.views
     (added_is _ c.in_ok-page.field-0 c.in-Changes.changes c.in-Changes.is c.in_ok-page.ensures.added) in
     let adds = told (after c.args.plan.changes.list.items good.0) (c.in_ok-draft.ensures.agrees good.0 good.1) good.2
-    (placed_map c.requires.good.0 (g.V.Pages.total c.args.views.now) good.0 good.2 c.args.plan.changes.list.items c.args.plan.name _ good.3 placed) in
-    (good.0, good.1, placed.short, adds.short)
+    (placed_map fact.0 (g.V.Pages.total c.args.views.now) good.0 good.2 c.args.plan.changes.list.items c.args.plan.name _ good.3 placed) in
+    (good.0, good.1, placed.short, adds.short))
 
 pub returns-in-Need : goal.returns-in-Need
-returns-in-Need g c = λ value.
-    let good = c.requires.good.3 in
-    let placed = c.requires.good.4 good.0 good.1 good.2 good.3 good.4 in
+returns-in-Need g c = λ value. lock_some (g.V.Pages.at_hand c.args.views.now) (g.V.Pages.total c.args.views.now) _ _ (∥∥₁_map c.requires.good (λ fact.
+    let good = fact.3 in
+    let placed = fact.4 good.0 good.1 good.2 good.3 good.4 in
     let first = c.args.plan.changes.list.items in
     let total = g.V.Pages.total c.args.views.now in
-    let between = placed_map c.requires.good.0 total good.0 good.2 first c.args.plan.name _ good.3 placed in
+    let between = placed_map fact.0 total good.0 good.2 first c.args.plan.name _ good.3 placed in
     let asks = subst (λ x. Asks (shown c.in_ok-draft.draft.copies.items (g.V.Pages.at_hand x)) (g.V.Pages.total x) (IsInAdd c.args.split c.args.key.now (g.V.Pages.total x)) c.in-Need.page c.in-Need.mode) c.in_ok-draft.ensures.views
     (add_needs _ c.in_ok-page.field-0 c.in-Need.page c.in-Need.mode c.in-Need.is c.in_ok-page.ensures.need) in
     let role = asks.role (after first good.0) (c.in_ok-draft.ensures.agrees good.0 good.1) good.2 between in
-    (c.in_ok-draft.ensures.none c.in-Need.page asks.missing, add_inside total c.args.split c.args.key.now (after first good.0) good.2 c.in-Need.page c.in-Need.mode between role, add_change total c.args.split c.args.key.now (after first good.0) c.in-Need.page c.in-Need.mode role)
+    (c.in_ok-draft.ensures.none c.in-Need.page asks.missing, add_inside total c.args.split c.args.key.now (after first good.0) good.2 c.in-Need.page c.in-Need.mode between role, add_change total c.args.split c.args.key.now (after first good.0) c.in-Need.page c.in-Need.mode role)))
 
 pub join-requires-clause-inside : goal.join-requires-clause-inside
-join-requires-clause-inside g c = λ p named.
-    let good = c.requires.good.3 in
-    let placed = c.requires.good.4 good.0 good.1 good.2 good.3 good.4 in
+join-requires-clause-inside g c = λ p named. ∥∥₁_elim c.requires.good (hlevel props) (λ fact.
+    let good = fact.3 in
+    let placed = fact.4 good.0 good.1 good.2 good.3 good.4 in
     let first = c.args.plan.changes.list.items in
     let second = c.in-Changes.changes.list.items in
     let total = g.V.Pages.total c.args.views.now in
     let e : Entry = record { relation = c.args.relation; key = c.args.key.now; name = c.args.plan.name } in
-    let between = placed_map c.requires.good.0 total good.0 good.2 first c.args.plan.name _ good.3 placed in
+    let between = placed_map fact.0 total good.0 good.2 first c.args.plan.name _ good.3 placed in
     let told = subst (λ x. InMaps (shown c.in_ok-draft.draft.copies.items (g.V.Pages.at_hand x)) (g.V.Pages.total x) (λ pages m. Adds c.args.split (g.V.Pages.total x) e pages second)) c.in_ok-draft.ensures.views
     (added_is _ c.in_ok-page.field-0 c.in-Changes.changes c.in-Changes.is c.in_ok-page.ensures.added) in
     let adds = told (after first good.0) (c.in_ok-draft.ensures.agrees good.0 good.1) good.2 between in
-    added_inside total (after first good.0) (after second (after first good.0)) good.2 p between adds.added.stays (named_differs second (after first good.0) p adds.short named)
+    added_inside total (after first good.0) (after second (after first good.0)) good.2 p between adds.added.stays (named_differs second (after first good.0) p adds.short named))
 
 pub returns-in-Full : goal.returns-in-Full
 returns-in-Full g c = λ value relations pages agrees m rows placed.
@@ -91,15 +97,15 @@ returns-in-Changes g c = λ value.
     let second = c.in-Changes.changes.list.items in
     let copies = c.in_ok-draft.draft.copies.items in
     let e : Entry = record { relation = c.args.relation; key = c.args.key.now; name = name } in
-    let good = c.requires.good.3 in
-    let stood = c.requires.good.4 good.0 good.1 good.2 good.3 good.4 in
     let told = subst (λ x. InMaps (shown copies (g.V.Pages.at_hand x)) (g.V.Pages.total x) (λ pages m. Adds c.args.split (g.V.Pages.total x) e pages second)) c.in_ok-draft.ensures.views
     (added_is _ c.in_ok-page.field-0 c.in-Changes.changes c.in-Changes.is c.in_ok-page.ensures.added) in
     let told_map = subst (λ x. InMaps (shown copies (g.V.Pages.at_hand x)) (g.V.Pages.total x) (λ pages m. m c.args.relation c.args.key.now ≡ None → AreMap (g.V.Pages.total x) (after second pages) (alter m c.args.relation c.args.key.now (Some name)))) c.in_ok-draft.ensures.views
     (added_is _ c.in_ok-page.field-0 c.in-Changes.changes c.in-Changes.is c.in_ok-page.ensures.map) in
     let told_seen = subst (λ x. InMaps (shown copies (g.V.Pages.at_hand x)) (g.V.Pages.total x) (λ pages m. TakesSeen (shown copies (g.V.Pages.at_hand x)) pages second)) c.in_ok-draft.ensures.views
     (added_is _ c.in_ok-page.field-0 c.in-Changes.changes c.in-Changes.is c.in_ok-page.ensures.seen) in
-    let few = (told (after first good.0) (c.in_ok-draft.ensures.agrees good.0 good.1) good.2 (placed_map c.requires.good.0 total good.0 good.2 first name _ good.3 stood)).few in
+    let few : length second ≤ 5 = ∥∥₁_elim c.requires.good (hlevel props) (λ fact.
+    let good = fact.3 in
+    (told (after first good.0) (c.in_ok-draft.ensures.agrees good.0 good.1) good.2 (placed_map fact.0 total good.0 good.2 first name _ good.3 (fact.4 good.0 good.1 good.2 good.3 good.4))).few) in
     IfOk-weaker c.join.result _ _ (tells_weaker at_hand total _ _ ⊥ _ (λ changes reply joined. record {
       there = joined.there;
       few = few_more _ _ _ 2 5 8 joined.few c.requires.few few (omega arith);

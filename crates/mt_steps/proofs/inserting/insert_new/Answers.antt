@@ -1,3 +1,4 @@
+use mathlib.Core.Logic.{∥∥₁_map}
 use Rattle.std.proofs.Common.{ℕ, [], inl, inr, refl, ⊎_elim, subst, arith}
 use Rattle.std.proofs.lemmas.Result.{IfOk-weaker}
 use Rattle.mt_slots.specs.Page.{Row}
@@ -6,6 +7,7 @@ use Rattle.mt_file.specs.Plans.{IsPut, IsNamed}
 use Rattle.mt_steps.specs.Held.{AreRows}
 use Rattle.mt_index.specs.Maps.{Map}
 use Rattle.mt_space.specs.Changes.{PageBytes, Agrees, after}
+use Rattle.mt_steps.proofs.Single.{lock_some}
 use Rattle.mt_steps.proofs.Telling.{tells_weaker}
 use Rattle.mt_steps.proofs.Asking.{put_needs, placed_inside}
 use Rattle.mt_steps.proofs.Entering.{placed_is}
@@ -13,29 +15,32 @@ use Rattle.mt_steps.proofs.Modest.{insert_needs, too_full}
 use Rattle.mt_steps.proofs.Naming.{alone_named, put_own}
 use Rattle.mt_steps.proofs.inserting.insert_new.Goals as goal
 
+pub plan_put-requires-clause-good : goal.plan_put-requires-clause-good
+plan_put-requires-clause-good g c = ∥∥₁_map c.requires.good (λ fact. let good = fact.1 in (good.0, good.1, good.3.file, good.4))
+
 pub add_entry-requires-clause-good : goal.add_entry-requires-clause-good
-add_entry-requires-clause-good g c =
-    let good = c.requires.good.1 in (
-      c.requires.good.0,
+add_entry-requires-clause-good g c = ∥∥₁_map c.requires.good (λ fact.
+    let good = fact.1 in (
+      fact.0,
       c.args.room,
       c.args.value.now,
       good,
       λ pages agrees m rows named.
-          placed_is (g.V.Pages.at_hand c.args.views.now) c.args.room c.requires.good.0 (g.V.Pages.total c.args.views.now) pages m _ c.in_ok-page.field-0 c.in-Done.plan c.in-Done.is rows named
+          placed_is (g.V.Pages.at_hand c.args.views.now) c.args.room fact.0 (g.V.Pages.total c.args.views.now) pages m _ c.in_ok-page.field-0 c.in-Done.plan c.in-Done.is rows named
           (c.in_ok-page.ensures.put pages agrees rows.file named) (c.in_ok-page.ensures.short pages agrees rows.file named),
-    )
+    ))
 
 pub returns-in-Need : goal.returns-in-Need
-returns-in-Need g c =
-    let good = c.requires.good.1 in
-    put_needs (g.V.Pages.at_hand c.args.views.now) c.args.room (g.V.Pages.total c.args.views.now) good.0 good.2 _ c.in-Need.page c.in-Need.mode c.in_ok-page.field-0 c.in-Need.is good.3.index good.4 (c.in_ok-page.ensures.put good.0 good.1 good.3.file good.4)
+returns-in-Need g c = lock_some (g.V.Pages.at_hand c.args.views.now) (g.V.Pages.total c.args.views.now) _ _ (∥∥₁_map c.requires.good (λ fact.
+    let good = fact.1 in
+    put_needs (g.V.Pages.at_hand c.args.views.now) c.args.room (g.V.Pages.total c.args.views.now) good.0 good.2 _ c.in-Need.page c.in-Need.mode c.in_ok-page.field-0 c.in-Need.is good.3.index good.4 (c.in_ok-page.ensures.put good.0 good.1 good.3.file good.4)))
 
 pub returns-in-Some : goal.returns-in-Some
-returns-in-Some g c =
-    let good = c.requires.good.1 in
-    let placed = placed_is (g.V.Pages.at_hand c.args.views.now) c.args.room c.requires.good.0 (g.V.Pages.total c.args.views.now) good.0 good.2 _ c.in_ok-page.field-0 c.in-Done.plan c.in-Done.is good.3 good.4
+returns-in-Some g c = lock_some (g.V.Pages.at_hand c.args.views.now) (g.V.Pages.total c.args.views.now) _ _ (∥∥₁_map c.requires.good (λ fact.
+    let good = fact.1 in
+    let placed = placed_is (g.V.Pages.at_hand c.args.views.now) c.args.room fact.0 (g.V.Pages.total c.args.views.now) good.0 good.2 _ c.in_ok-page.field-0 c.in-Done.plan c.in-Done.is good.3 good.4
     (c.in_ok-page.ensures.put good.0 good.1 good.3.file good.4) (c.in_ok-page.ensures.short good.0 good.1 good.3.file good.4) in
-    (c.in-Some.ensures.some, placed_inside (g.V.Pages.total c.args.views.now) good.0 good.2 c.in-Done.plan.changes.list.items c.in-Done.plan.name _ c.in-Some.page good.3.index placed c.in-Some.ensures.named, inl refl)
+    (c.in-Some.ensures.some, placed_inside (g.V.Pages.total c.args.views.now) good.0 good.2 c.in-Done.plan.changes.list.items c.in-Done.plan.name _ c.in-Some.page good.3.index placed c.in-Some.ensures.named, inl refl)))
 
 pub returns-in-Full : goal.returns-in-Full
 returns-in-Full g c = λ relations pages agrees m rows named.

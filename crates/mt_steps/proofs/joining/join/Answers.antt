@@ -5,6 +5,5 @@ pub returns-then-are_apart : goal.returns-then-are_apart
 returns-then-are_apart g c =
     let first = c.args.first.list.items in
     let second = c.args.second.list.items in
-    let short = c.requires.short in
-    joined (g.V.Pages.at_hand c.args.views.now) first second c.in_ok-changes.changes.list.items c.args.reply short.0 c.in_ok-changes.ensures
-    (off_by first second c.if-are_apart.ensures) c.requires.there c.in_default.ensures.none short.1 short.2 short.3
+    joined (g.V.Pages.at_hand c.args.views.now) first second c.in_ok-changes.changes.list.items c.args.reply c.in_ok-changes.ensures
+    (off_by first second c.if-are_apart.ensures) c.requires.there c.in_default.ensures.none c.requires.short

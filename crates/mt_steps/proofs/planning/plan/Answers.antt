@@ -1,11 +1,97 @@
-use Rattle.std.proofs.Common.{◌≡◌, ◌<◌, ◌∙◌, sym, ap, subst, rules, to_z, of_z, to_z-of_z, SFits, w64}
+use mathlib.Core.Logic.{∥∥₁_elim, ∥∥₁_map}
+use Rattle.std.proofs.Props.{props}
+use Rattle.std.proofs.Common.{arith, ◌≡◌, ◌<◌, ◌∙◌, sym, ap, subst, rules, to_z, of_z, to_z-of_z, SFits, w64}
 use Rattle.std.proofs.lemmas.Result.{IfOk-weaker}
 use Rattle.mt_model.specs.declared.operations.Op.{Op}
 use Rattle.mt_model.specs.declared.operations.Op.TheVariants.{Get, Insert, Update, Delete, Add, Read}
 use Rattle.mt_model.specs.Model.{IsWithin}
 use Rattle.mt_steps.proofs.Promised.{ok_both, asks_same, rows_planned, whole_planned, good_planned, quiet_planned, counts_planned, read_planned, rows_full, never_full}
+use Rattle.mt_steps.proofs.Telling.{two_inside}
 use Rattle.mt_steps.proofs.Naming.{roomy_told, modest_told, quiet_told}
+use Rattle.mt_steps.proofs.Single.{IsStep-prop}
 use Rattle.mt_steps.proofs.planning.plan.Goals as goal
+
+pub get-requires-clause-good : goal.get-requires-clause-good
+get-requires-clause-good g c = ∥∥₁_map c.requires.good (λ (relations, counters, has, within, few). (relations, (has.0, has.1, has.2.meaning, has.2.rows)))
+
+pub delete-requires-clause-good : goal.delete-requires-clause-good
+delete-requires-clause-good g c = ∥∥₁_map c.requires.good (λ (relations, counters, has, within, few). (relations, (has.0, has.1, has.2.meaning, has.2.rows)))
+
+pub insert-requires-clause-good : goal.insert-requires-clause-good
+insert-requires-clause-good g c = ∥∥₁_map c.requires.good (λ (relations, counters, has, within, few). (relations, (has.0, has.1, has.2.meaning, has.2.rows, has.3)))
+
+pub update-requires-clause-good : goal.update-requires-clause-good
+update-requires-clause-good g c = ∥∥₁_map c.requires.good (λ (relations, counters, has, within, few). (relations, (has.0, has.1, has.2.meaning, has.2.rows, has.3)))
+
+pub add_to-requires-clause-good : goal.add_to-requires-clause-good
+add_to-requires-clause-good g c = ∥∥₁_map c.requires.good (λ (relations, counters, has, within, few).
+    (relations, counters, (subst (λ (o : Op). IsWithin relations counters o) c.in-Add.is within).0, (has.0, has.1, has.2.counts)))
+
+pub get-requires-clause-short : goal.get-requires-clause-short
+get-requires-clause-short g c =
+    let is : Get c.in-Get.relation c.as_slice.result.now ≡ c.args.op.now = ap (Get c.in-Get.relation) c.as_slice.ensures ∙ sym c.in-Get.is in
+    ∥∥₁_elim c.requires.good (hlevel props) (λ (relations, counters, has, within, few). let inside = subst (λ (o : Op). IsWithin relations counters o) (sym is) within in inside.1.1)
+
+pub delete-requires-clause-short : goal.delete-requires-clause-short
+delete-requires-clause-short g c =
+    let is : Delete c.in-Delete.relation c.as_slice-in-Delete.result.now ≡ c.args.op.now = ap (Delete c.in-Delete.relation) c.as_slice-in-Delete.ensures ∙ sym c.in-Delete.is in
+    ∥∥₁_elim c.requires.good (hlevel props) (λ (relations, counters, has, within, few). let inside = subst (λ (o : Op). IsWithin relations counters o) (sym is) within in inside.1.1)
+
+pub insert-requires-clause-relation_fits : goal.insert-requires-clause-relation_fits
+insert-requires-clause-relation_fits g c =
+    let is : Insert c.in-Insert.relation c.as_slice-in-Insert.result.now c.as_slice-in-Insert-2.result.now ≡ c.args.op.now =
+    (λ i. Insert c.in-Insert.relation (c.as_slice-in-Insert.ensures i) (c.as_slice-in-Insert-2.ensures i)) ∙ sym c.in-Insert.is in
+    ∥∥₁_elim c.requires.good (hlevel props) (λ (relations, counters, has, within, few). let inside = subst (λ (o : Op). IsWithin relations counters o) (sym is) within in let below = inside.0 in omega (arith, below, few))
+
+pub insert-requires-clause-key_fits : goal.insert-requires-clause-key_fits
+insert-requires-clause-key_fits g c =
+    let is : Insert c.in-Insert.relation c.as_slice-in-Insert.result.now c.as_slice-in-Insert-2.result.now ≡ c.args.op.now =
+    (λ i. Insert c.in-Insert.relation (c.as_slice-in-Insert.ensures i) (c.as_slice-in-Insert-2.ensures i)) ∙ sym c.in-Insert.is in
+    ∥∥₁_elim c.requires.good (hlevel props) (λ (relations, counters, has, within, few). let inside = subst (λ (o : Op). IsWithin relations counters o) (sym is) within in inside.1)
+
+pub insert-requires-clause-value_fits : goal.insert-requires-clause-value_fits
+insert-requires-clause-value_fits g c =
+    let is : Insert c.in-Insert.relation c.as_slice-in-Insert.result.now c.as_slice-in-Insert-2.result.now ≡ c.args.op.now =
+    (λ i. Insert c.in-Insert.relation (c.as_slice-in-Insert.ensures i) (c.as_slice-in-Insert-2.ensures i)) ∙ sym c.in-Insert.is in
+    ∥∥₁_elim c.requires.good (hlevel props) (λ (relations, counters, has, within, few). let inside = subst (λ (o : Op). IsWithin relations counters o) (sym is) within in inside.2)
+
+pub update-requires-clause-short : goal.update-requires-clause-short
+update-requires-clause-short g c =
+    let is : Update c.in-Update.relation c.as_slice-in-Update.result.now c.as_slice-in-Update-2.result.now ≡ c.args.op.now =
+    (λ i. Update c.in-Update.relation (c.as_slice-in-Update.ensures i) (c.as_slice-in-Update-2.ensures i)) ∙ sym c.in-Update.is in
+    ∥∥₁_elim c.requires.good (hlevel props) (λ (relations, counters, has, within, few). let inside = subst (λ (o : Op). IsWithin relations counters o) (sym is) within in inside.1.1)
+
+pub update-requires-clause-value_fits : goal.update-requires-clause-value_fits
+update-requires-clause-value_fits g c =
+    let is : Update c.in-Update.relation c.as_slice-in-Update.result.now c.as_slice-in-Update-2.result.now ≡ c.args.op.now =
+    (λ i. Update c.in-Update.relation (c.as_slice-in-Update.ensures i) (c.as_slice-in-Update-2.ensures i)) ∙ sym c.in-Update.is in
+    ∥∥₁_elim c.requires.good (hlevel props) (λ (relations, counters, has, within, few). let inside = subst (λ (o : Op). IsWithin relations counters o) (sym is) within in inside.2)
+
+pub add_to-requires-clause-inside : goal.add_to-requires-clause-inside
+add_to-requires-clause-inside g c = ∥∥₁_elim c.requires.good (hlevel props) (λ (relations, counters, has, within, few). has.2.rows.index.within 2 (λ zero. let one = has.2.rows.counters_fixed in omega (arith, one, zero)))
+
+pub read_from-requires-clause-inside : goal.read_from-requires-clause-inside
+read_from-requires-clause-inside g c = ∥∥₁_elim c.requires.good (hlevel props) (λ (relations, counters, has, within, few). has.2.rows.index.within 2 (λ zero. let one = has.2.rows.counters_fixed in omega (arith, one, zero)))
+
+pub read_from-requires-clause-there : goal.read_from-requires-clause-there
+read_from-requires-clause-there g c = ∥∥₁_elim c.requires.good (hlevel props) (λ (relations, counters, has, within, few).
+    let inside : c.in-Read.counter < counters = subst (λ (o : Op). IsWithin relations counters o) c.in-Read.is within in let some = has.2.counts.few in omega (arith, inside, some))
+
+pub add_to-requires-clause-step : goal.add_to-requires-clause-step
+add_to-requires-clause-step g c =
+    let f : SFits w64 c.in-Add.step = search rules in
+    let is : Add c.in-Add.counter (to_z w64 (of_z w64 c.in-Add.step)) ≡ c.args.op.now = ap (Add c.in-Add.counter) (to_z-of_z f) ∙ sym c.in-Add.is in
+    ∥∥₁_elim c.requires.good (IsStep-prop (to_z w64 (of_z w64 c.in-Add.step))) (λ (relations, counters, has, within, few). (subst (λ (o : Op). IsWithin relations counters o) (sym is) within).1)
+
+pub returns-in-Add-clause-lock : goal.returns-in-Add-clause-lock
+returns-in-Add-clause-lock g c =
+    let inside : 2 < g.V.Pages.total c.args.views.now = ∥∥₁_elim c.requires.good (hlevel props) (λ (relations, counters, has, within, few). has.2.rows.index.within 2 (λ zero. let one = has.2.rows.counters_fixed in omega (arith, one, zero))) in
+    IfOk-weaker c.add_to.result _ _ (λ act. two_inside (g.V.Pages.at_hand c.args.views.now) (g.V.Pages.total c.args.views.now) act inside) c.add_to.ensures.lock
+
+pub returns-in-Read-clause-lock : goal.returns-in-Read-clause-lock
+returns-in-Read-clause-lock g c =
+    let inside : 2 < g.V.Pages.total c.args.views.now = ∥∥₁_elim c.requires.good (hlevel props) (λ (relations, counters, has, within, few). has.2.rows.index.within 2 (λ zero. let one = has.2.rows.counters_fixed in omega (arith, one, zero))) in
+    two_inside (g.V.Pages.at_hand c.args.views.now) (g.V.Pages.total c.args.views.now) c.read_from.result inside c.read_from.ensures.lock
 
 pub returns-in-Get-clause-made : goal.returns-in-Get-clause-made
 returns-in-Get-clause-made g c = λ relations counters few within.

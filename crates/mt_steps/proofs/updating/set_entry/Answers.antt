@@ -1,4 +1,6 @@
-use Rattle.std.proofs.Common.{refl, false, ◌≡◌, arith, ◌<◌, ◌∙◌, ℕ, None, Some, sym, subst}
+use mathlib.Core.Logic.{∥∥₁_elim, ∥∥₁_map}
+use Rattle.std.proofs.Props.{props}
+use Rattle.std.proofs.Common.{◌≤◌, length, refl, false, ◌≡◌, arith, ◌<◌, ◌∙◌, ℕ, None, Some, sym, subst}
 use Rattle.std.proofs.lemmas.Result.{IfOk-weaker}
 use Rattle.mt_space.specs.Changes.{PageBytes, after}
 use Rattle.mt_index.specs.Pages.{AreFormed}
@@ -9,6 +11,7 @@ use Rattle.mt_steps.specs.Drafts.{shown}
 use Rattle.mt_base.specs.declared.modes.Mode.TheVariants.{Write}
 use Rattle.mt_steps.specs.Logged.{logged_of}
 use Rattle.mt_model.specs.declared.operations.Reply.TheVariants.{Was}
+use Rattle.mt_steps.proofs.Single.{lock_some}
 use Rattle.mt_steps.proofs.Telling.{tells_weaker, logs_something}
 use Rattle.mt_steps.proofs.Asking.{amend_needs, bucket_inside, bucket_change, amended_inside, named_differs, few_more}
 use Rattle.mt_steps.proofs.Modest.{moved_modest, amended_modest, modest_trans}
@@ -23,58 +26,61 @@ none_some : {A : Type 0} (x : A) → None ≡ Some x → ⊥
 none_some x e = cc
 
 pub returns-in-Missing : goal.returns-in-Missing
-returns-in-Missing g c = λ name value seen.
-    let good = c.requires.good.4 in
-    let placed = c.requires.good.5 good.0 good.1 good.2 good.3 good.4 in
+returns-in-Missing g c = λ name value seen. ∥∥₁_elim c.requires.good (hlevel props) (λ fact.
+    let good = fact.4 in
+    let placed = fact.5 good.0 good.1 good.2 good.3 good.4 in
     let copies = c.in_ok-draft.draft.copies.items in
     let told = subst (λ x. InMaps (shown copies (g.V.Pages.at_hand x)) (g.V.Pages.total x) (λ pages m. m c.args.relation c.args.key.now ≡ None)) c.in_ok-draft.ensures.views (amend_missing_is _ c.in_ok-page.field-0 c.in-Missing.is c.in_ok-page.ensures.missing) in
     none_some _ (sym (told (after c.args.plan.changes.list.items good.0) (c.in_ok-draft.ensures.agrees good.0 good.1) good.2
-    (moved_map c.requires.good.0 (g.V.Pages.total c.args.views.now) good.0 good.2 c.args.plan.changes.list.items c.requires.good.2 c.args.plan.name _ _ good.3 placed.1).0) ∙ placed.0)
+    (moved_map fact.0 (g.V.Pages.total c.args.views.now) good.0 good.2 c.args.plan.changes.list.items fact.2 c.args.plan.name _ _ good.3 placed.1).0) ∙ placed.0))
 
 pub returns-in-Endless : goal.returns-in-Endless
-returns-in-Endless g c = λ name value seen.
-    let good = c.requires.good.4 in
-    let placed = c.requires.good.5 good.0 good.1 good.2 good.3 good.4 in
+returns-in-Endless g c = λ name value seen. ∥∥₁_elim c.requires.good (hlevel props) (λ fact.
+    let good = fact.4 in
+    let placed = fact.5 good.0 good.1 good.2 good.3 good.4 in
     let copies = c.in_ok-draft.draft.copies.items in
     let told = subst (λ x. InMaps (shown copies (g.V.Pages.at_hand x)) (g.V.Pages.total x) (λ pages m. ⊥)) c.in_ok-draft.ensures.views (amend_endless_is _ c.in_ok-page.field-0 c.in-Endless.is c.in_ok-page.ensures.endless) in
     told (after c.args.plan.changes.list.items good.0) (c.in_ok-draft.ensures.agrees good.0 good.1) good.2
-    (moved_map c.requires.good.0 (g.V.Pages.total c.args.views.now) good.0 good.2 c.args.plan.changes.list.items c.requires.good.2 c.args.plan.name _ _ good.3 placed.1).0
+    (moved_map fact.0 (g.V.Pages.total c.args.views.now) good.0 good.2 c.args.plan.changes.list.items fact.2 c.args.plan.name _ _ good.3 placed.1).0)
+
+pub drafted-requires-clause-short : goal.drafted-requires-clause-short
+drafted-requires-clause-short g c = ∥∥₁_map c.requires.good (λ fact. let good = fact.4 in (good.0, good.1, (fact.5 good.0 good.1 good.2 good.3 good.4).1.short))
 
 pub join-requires-clause-short : goal.join-requires-clause-short
-join-requires-clause-short g c =
-    let good = c.requires.good.4 in
-    let placed = c.requires.good.5 good.0 good.1 good.2 good.3 good.4 in
+join-requires-clause-short g c = ∥∥₁_map c.requires.good (λ fact.
+    let good = fact.4 in
+    let placed = fact.5 good.0 good.1 good.2 good.3 good.4 in
     let copies = c.in_ok-draft.draft.copies.items in
     let told = subst (λ x. InMaps (shown copies (g.V.Pages.at_hand x)) (g.V.Pages.total x) (λ pages m. Amends (g.V.Pages.total x) pages c.in-Changes.second.list.items m c.args.relation c.args.key.now (Some c.args.plan.name))) c.in_ok-draft.ensures.views
     (amended_is _ c.in_ok-page.field-0 c.in-Changes.second c.in-Changes.is c.in_ok-page.ensures.set) in
     let amends = told (after c.args.plan.changes.list.items good.0) (c.in_ok-draft.ensures.agrees good.0 good.1) good.2
-    (moved_map c.requires.good.0 (g.V.Pages.total c.args.views.now) good.0 good.2 c.args.plan.changes.list.items c.requires.good.2 c.args.plan.name _ _ good.3 placed.1).0 in
-    (good.0, good.1, placed.1.short, amends.short)
+    (moved_map fact.0 (g.V.Pages.total c.args.views.now) good.0 good.2 c.args.plan.changes.list.items fact.2 c.args.plan.name _ _ good.3 placed.1).0 in
+    (good.0, good.1, placed.1.short, amends.short))
 
 pub returns-in-Need : goal.returns-in-Need
-returns-in-Need g c = λ name value seen.
-    let good = c.requires.good.4 in
-    let placed = c.requires.good.5 good.0 good.1 good.2 good.3 good.4 in
+returns-in-Need g c = λ name value seen. lock_some (g.V.Pages.at_hand c.args.views.now) (g.V.Pages.total c.args.views.now) _ _ (∥∥₁_map c.requires.good (λ fact.
+    let good = fact.4 in
+    let placed = fact.5 good.0 good.1 good.2 good.3 good.4 in
     let first = c.args.plan.changes.list.items in
     let total = g.V.Pages.total c.args.views.now in
-    let between = (moved_map c.requires.good.0 total good.0 good.2 first c.requires.good.2 c.args.plan.name _ _ good.3 placed.1).0 in
+    let between = (moved_map fact.0 total good.0 good.2 first fact.2 c.args.plan.name _ _ good.3 placed.1).0 in
     let asks = subst (λ x. Asks (shown c.in_ok-draft.draft.copies.items (g.V.Pages.at_hand x)) (g.V.Pages.total x) (IsInBucket c.args.key.now Write) c.in-Need.page c.in-Need.mode) c.in_ok-draft.ensures.views
     (amend_needs _ c.in_ok-page.field-0 c.in-Need.page c.in-Need.mode c.in-Need.is c.in_ok-page.ensures.need) in
     let role = asks.role (after first good.0) (c.in_ok-draft.ensures.agrees good.0 good.1) good.2 between in
-    (c.in_ok-draft.ensures.none c.in-Need.page asks.missing, bucket_inside total c.args.key.now (after first good.0) good.2 Write c.in-Need.page c.in-Need.mode between role, bucket_change c.args.key.now (after first good.0) c.in-Need.page c.in-Need.mode role)
+    (c.in_ok-draft.ensures.none c.in-Need.page asks.missing, bucket_inside total c.args.key.now (after first good.0) good.2 Write c.in-Need.page c.in-Need.mode between role, bucket_change c.args.key.now (after first good.0) c.in-Need.page c.in-Need.mode role)))
 
 pub join-requires-clause-inside : goal.join-requires-clause-inside
-join-requires-clause-inside g c = λ p named.
-    let good = c.requires.good.4 in
-    let placed = c.requires.good.5 good.0 good.1 good.2 good.3 good.4 in
+join-requires-clause-inside g c = λ p named. ∥∥₁_elim c.requires.good (hlevel props) (λ fact.
+    let good = fact.4 in
+    let placed = fact.5 good.0 good.1 good.2 good.3 good.4 in
     let first = c.args.plan.changes.list.items in
     let second = c.in-Changes.second.list.items in
     let total = g.V.Pages.total c.args.views.now in
-    let between = (moved_map c.requires.good.0 total good.0 good.2 first c.requires.good.2 c.args.plan.name _ _ good.3 placed.1).0 in
+    let between = (moved_map fact.0 total good.0 good.2 first fact.2 c.args.plan.name _ _ good.3 placed.1).0 in
     let told = subst (λ x. InMaps (shown c.in_ok-draft.draft.copies.items (g.V.Pages.at_hand x)) (g.V.Pages.total x) (λ pages m. Amends (g.V.Pages.total x) pages second m c.args.relation c.args.key.now (Some c.args.plan.name))) c.in_ok-draft.ensures.views
     (amended_is _ c.in_ok-page.field-0 c.in-Changes.second c.in-Changes.is c.in_ok-page.ensures.set) in
     let amends = told (after first good.0) (c.in_ok-draft.ensures.agrees good.0 good.1) good.2 between in
-    amended_inside total (after first good.0) (after second (after first good.0)) good.2 p between amends.others (named_differs second (after first good.0) p amends.short named)
+    amended_inside total (after first good.0) (after second (after first good.0)) good.2 p between amends.others (named_differs second (after first good.0) p amends.short named))
 
 pub returns-in-Changes : goal.returns-in-Changes
 returns-in-Changes g c = λ name value seen.
@@ -84,13 +90,13 @@ returns-in-Changes g c = λ name value seen.
     let to = c.args.plan.name in
     let second = c.in-Changes.second.list.items in
     let copies = c.in_ok-draft.draft.copies.items in
-    let good = c.requires.good.4 in
-    let stood = c.requires.good.5 good.0 good.1 good.2 good.3 good.4 in
     let told = subst (λ x. InMaps (shown copies (g.V.Pages.at_hand x)) (g.V.Pages.total x) (λ pages m. Amends (g.V.Pages.total x) pages second m c.args.relation c.args.key.now (Some to))) c.in_ok-draft.ensures.views
     (amended_is _ c.in_ok-page.field-0 c.in-Changes.second c.in-Changes.is c.in_ok-page.ensures.set) in
     let told_formed = subst (λ x. InMaps (shown copies (g.V.Pages.at_hand x)) (g.V.Pages.total x) (λ pages m. (relations : ℕ) → to.page < g.V.Pages.total x → AreFormed relations (g.V.Pages.total x) pages → AreFormed relations (g.V.Pages.total x) (after second pages))) c.in_ok-draft.ensures.views
     (amended_is _ c.in_ok-page.field-0 c.in-Changes.second c.in-Changes.is c.in_ok-page.ensures.formed) in
-    let one = (told (after first good.0) (c.in_ok-draft.ensures.agrees good.0 good.1) good.2 (moved_map c.requires.good.0 total good.0 good.2 first c.requires.good.2 to _ _ good.3 stood.1).0).one in
+    let one : length second ≤ 1 = ∥∥₁_elim c.requires.good (hlevel props) (λ fact.
+    let good = fact.4 in
+    (told (after first good.0) (c.in_ok-draft.ensures.agrees good.0 good.1) good.2 (moved_map fact.0 total good.0 good.2 first fact.2 to _ _ good.3 (fact.5 good.0 good.1 good.2 good.3 good.4).1).0).one) in
     IfOk-weaker c.join.result _ _ (tells_weaker at_hand total _ _ ⊥ ⊥ (λ changes reply joined. record {
       there = joined.there;
       few = few_more _ _ _ 3 1 8 joined.few c.requires.few one (omega arith);

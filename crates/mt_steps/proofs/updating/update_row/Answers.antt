@@ -1,3 +1,5 @@
+use mathlib.Core.Logic.{∥∥₁_elim, ∥∥₁_map}
+use Rattle.std.proofs.Props.{props}
 use Rattle.std.proofs.Common.{rules, false, ◌≡◌, ◌<◌, inl, inr, arith, ⊎_elim, ◌∙◌, ℕ, List, Option, None, Some, refl, sym, ap, subst}
 use Rattle.std.proofs.lemmas.Result.{IfOk-weaker}
 use Rattle.mt_base.specs.declared.numbers.RecordName.{RecordName}
@@ -8,6 +10,7 @@ use Rattle.mt_model.specs.declared.operations.Op.TheVariants.{Update}
 use Rattle.mt_model.specs.declared.operations.Reply.TheVariants.{Was}
 use Rattle.mt_steps.specs.Acts.{IsMoved}
 use Rattle.mt_steps.specs.Tells.{Does}
+use Rattle.mt_steps.proofs.Single.{lock_some}
 use Rattle.mt_steps.proofs.Telling.{tells_weaker}
 use Rattle.mt_steps.proofs.Asking.{kind_inside, replacement_needs, kept_inside, moved_inside}
 use Rattle.mt_file.specs.declared.step.Step.{Step}
@@ -28,48 +31,48 @@ no_row : (x : Row) → None ≡ Some x → ⊥
 no_row x e = cc
 
 pub plan_read-requires-clause-good : goal.plan_read-requires-clause-good
-plan_read-requires-clause-good g c =
-    let good = c.requires.good.1 in
+plan_read-requires-clause-good g c = ∥∥₁_map c.requires.good (λ fact.
+    let good = fact.1 in
     let n = c.args.name.now in
     let named = good.3.named.names c.args.relation c.args.key.now n (c.requires.named good.0 good.1 good.2 good.3.index) in
-    (good.0, good.1, good.3.file, record_kind good.0 n.page n.slot _ named.1)
+    (good.0, good.1, good.3.file, record_kind good.0 n.page n.slot _ named.1))
 
 pub returns-in-Need : goal.returns-in-Need
-returns-in-Need g c =
-    let good = c.requires.good.1 in
+returns-in-Need g c = lock_some (g.V.Pages.at_hand c.args.views.now) (g.V.Pages.total c.args.views.now) _ _ (∥∥₁_map c.requires.good (λ fact.
+    let good = fact.1 in
     let n = c.args.name.now in
     let named = good.3.named.names c.args.relation c.args.key.now n (c.requires.named good.0 good.1 good.2 good.3.index) in
     let three = record_kind good.0 n.page n.slot _ named.1 in
     let told = c.in-Need.ensures good.0 good.1 good.3.file three in
-    (told.0, kind_inside (g.V.Pages.total c.args.views.now) good.0 good.2 c.in-Need.page 3 good.3.index (ap (λ (p : ℕ). kind good.0 p) told.2 ∙ three) (omega arith), inl refl)
+    (told.0, kind_inside (g.V.Pages.total c.args.views.now) good.0 good.2 c.in-Need.page 3 good.3.index (ap (λ (p : ℕ). kind good.0 p) told.2 ∙ three) (omega arith), inl refl)))
 
 pub returns-in-Nothing : goal.returns-in-Nothing
-returns-in-Nothing g c =
-    let good = c.requires.good.1 in
+returns-in-Nothing g c = ∥∥₁_elim c.requires.good (hlevel props) (λ fact.
+    let good = fact.1 in
     let n = c.args.name.now in
     let named = good.3.named.names c.args.relation c.args.key.now n (c.requires.named good.0 good.1 good.2 good.3.index) in
-    no_row _ (sym (c.in-Nothing.ensures good.0 good.1 good.3.file (record_kind good.0 n.page n.slot _ named.1)) ∙ named.1)
+    no_row _ (sym (c.in-Nothing.ensures good.0 good.1 good.3.file (record_kind good.0 n.page n.slot _ named.1)) ∙ named.1))
 
 pub plan_replace-requires-clause-good : goal.plan_replace-requires-clause-good
-plan_replace-requires-clause-good g c =
-    let good = c.requires.good.1 in
+plan_replace-requires-clause-good g c = ∥∥₁_map c.requires.good (λ fact.
+    let good = fact.1 in
     let named = good.3.named.names c.args.relation c.args.key.now c.args.name.now (c.requires.named good.0 good.1 good.2 good.3.index) in
-    (good.0, _, good.1, good.3.file, good.4, named.1)
+    (good.0, _, good.1, good.3.file, good.4, named.1))
 
 pub returns-in-Need-2 : goal.returns-in-Need-2
-returns-in-Need-2 g c =
-    let good = c.requires.good.1 in
+returns-in-Need-2 g c = lock_some (g.V.Pages.at_hand c.args.views.now) (g.V.Pages.total c.args.views.now) _ _ (∥∥₁_map c.requires.good (λ fact.
+    let good = fact.1 in
     let n = c.args.name.now in
     let named = good.3.named.names c.args.relation c.args.key.now n (c.requires.named good.0 good.1 good.2 good.3.index) in
-    replacement_needs (g.V.Pages.at_hand c.args.views.now) c.args.room (g.V.Pages.total c.args.views.now) good.0 good.2 n _ _ c.in-Need-2.page c.in-Need-2.mode c.in_ok-page.field-0 c.in-Need-2.is good.3.index good.4 (record_kind good.0 n.page n.slot _ named.1) (c.in_ok-page.ensures.replacement good.0 _ good.1 good.3.file good.4 named.1)
+    replacement_needs (g.V.Pages.at_hand c.args.views.now) c.args.room (g.V.Pages.total c.args.views.now) good.0 good.2 n _ _ c.in-Need-2.page c.in-Need-2.mode c.in_ok-page.field-0 c.in-Need-2.is good.3.index good.4 (record_kind good.0 n.page n.slot _ named.1) (c.in_ok-page.ensures.replacement good.0 _ good.1 good.3.file good.4 named.1)))
 
 pub set_entry-requires-clause-good : goal.set_entry-requires-clause-good
-set_entry-requires-clause-good g c = (
-  c.requires.good.0,
+set_entry-requires-clause-good g c = ∥∥₁_map c.requires.good (λ fact. (
+  fact.0,
   c.args.room,
   c.args.name.now,
   c.args.value.now,
-  c.requires.good.1,
+  fact.1,
   λ pages agrees m rows roomy.
       let n = c.args.name.now in
       let old = c.in_ok-old-in-Record.old in
@@ -80,14 +83,14 @@ set_entry-requires-clause-good g c = (
       let r : Row = record { relation = c.args.relation; key = c.args.key.now; value = old } in (
         is,
         has_moved (g.V.Pages.total c.args.views.now) pages c.in-Done.plan n r c.args.value.now c.if-is_name.ensures
-            (replacement_is (g.V.Pages.at_hand c.args.views.now) c.args.room c.requires.good.0 (g.V.Pages.total c.args.views.now) pages m n r c.args.value.now c.in_ok-page.field-0 c.in-Done.plan c.in-Done.is rows roomy
+            (replacement_is (g.V.Pages.at_hand c.args.views.now) c.args.room fact.0 (g.V.Pages.total c.args.views.now) pages m n r c.args.value.now c.in_ok-page.field-0 c.in-Done.plan c.in-Done.is rows roomy
             (c.in_ok-page.ensures.replacement pages r agrees rows.file roomy stood) (c.in_ok-page.ensures.short pages r agrees rows.file roomy stood) stood),
       ),
-)
+))
 
 pub returns-in-Some : goal.returns-in-Some
-returns-in-Some g c =
-    let good = c.requires.good.1 in
+returns-in-Some g c = lock_some (g.V.Pages.at_hand c.args.views.now) (g.V.Pages.total c.args.views.now) _ _ (∥∥₁_map c.requires.good (λ fact.
+    let good = fact.1 in
     let n = c.args.name.now in
     let total = g.V.Pages.total c.args.views.now in
     let changes = c.in-Done.plan.changes.list.items in
@@ -96,11 +99,11 @@ returns-in-Some g c =
       c.in-Some.ensures.some,
       ⊎_elim {C = c.in-Some.page < total}
           (λ kept. kept_inside total good.0 good.2 changes n _ _ c.in-Some.page good.3.index kept.1 c.in-Some.ensures.named)
-          (λ moved. moved_inside total good.0 good.2 changes n c.in-Done.plan.name _ _ c.in-Some.page good.3.index (to_inside c.requires.good.0 total good.0 good.2 changes n c.in-Done.plan.name _ _ good.3 moved) moved c.in-Some.ensures.named)
-          (replacement_is (g.V.Pages.at_hand c.args.views.now) c.args.room c.requires.good.0 total good.0 good.2 n r c.args.value.now c.in_ok-page.field-0 c.in-Done.plan c.in-Done.is good.3 good.4
+          (λ moved. moved_inside total good.0 good.2 changes n c.in-Done.plan.name _ _ c.in-Some.page good.3.index (to_inside fact.0 total good.0 good.2 changes n c.in-Done.plan.name _ _ good.3 moved) moved c.in-Some.ensures.named)
+          (replacement_is (g.V.Pages.at_hand c.args.views.now) c.args.room fact.0 total good.0 good.2 n r c.args.value.now c.in_ok-page.field-0 c.in-Done.plan c.in-Done.is good.3 good.4
           (c.in_ok-page.ensures.replacement good.0 r good.1 good.3.file good.4 named.1) (c.in_ok-page.ensures.short good.0 r good.1 good.3.file good.4 named.1) named.1),
       inl refl,
-    )
+    )))
 
 pub returns-in-Full : goal.returns-in-Full
 returns-in-Full g c = λ relations pages agrees m rows roomy.

@@ -5,7 +5,7 @@ use Rattle.mt_op.proofs.Driving.{busy_on, claim_stays, claim_goes, steps_on}
 use Rattle.mt_cases.proofs.op.driving.step.Goals as goal
 
 pub step-requires-clause-right : goal.step-requires-clause-right
-step-requires-clause-right g c = let b = c.requires.busy in (b.opening, 2, 2, b.right, b.under, omega arith, omega arith)
+step-requires-clause-right g c = let b = c.requires.busy in ∣ (b.opening, 2, 2, b.right, b.under, omega arith, omega arith) ∣₁
 
 pub step-requires-clause-claims : goal.step-requires-clause-claims
 step-requires-clause-claims g c = let claim = c.requires.claim in omega arith

@@ -24,3 +24,6 @@ pub returns-clause-txn : goal.returns-clause-txn
 returns-clause-txn g c = let (opening, a) = c.requires in let seen = g.D.Device.seen in
     let went = c.step.ensures.steps opening 2 2 a.right a.under (omega arith) (omega arith) in
     (steps_on (world seen opening c.args.operations.now) (world seen opening c.step.new.self) c.args.scope.now c.step.new.scope c.step.result went.1).same.txn
+
+pub step-requires-clause-right : goal.step-requires-clause-right
+step-requires-clause-right g c = let (opening, a) = c.requires in ∣ (opening, 2, 2, a.right, a.under, omega arith, omega arith) ∣₁

@@ -13,7 +13,7 @@ use Rattle.mt_kernel.proofs.parts.Parts.advance.Goals as goal
 pub step-requires-clause-right : goal.step-requires-clause-right
 step-requires-clause-right g c = let (origin, base, safe) = c.requires.safe in let k = c.args.self.now in let r = c.index_mut.result.now in
     let was : IsRunning origin.relations origin.counters (world g.D.Device.seen origin.pages k.operations) k.last r = subst (IsRunning origin.relations origin.counters (world g.D.Device.seen origin.pages k.operations) k.last) (sym c.index_mut.ensures.value) (safe.runs c.args.place r c.requires.within) in
-    (origin.pages, origin.relations, origin.counters, safe.fit.right, was.under, safe.fit.schema.few_relations, safe.fit.schema.few_counters)
+    ∣ (origin.pages, origin.relations, origin.counters, safe.fit.right, was.under, safe.fit.schema.few_relations, safe.fit.schema.few_counters) ∣₁
 
 pub step-requires-clause-claims : goal.step-requires-clause-claims
 step-requires-clause-claims g c = let (origin, base, safe) = c.requires.safe in

@@ -14,7 +14,7 @@ use Rattle.mt_op.specs.declared.operations.Operations.{Operations}
 use Rattle.mt_op.proofs.Begun.{IsNotedTo, still_spare, read_then, read_none, read_brought, passed, noted_page, all_noted}
 use Rattle.mt_op.proofs.Stored.{unlogged_shaped}
 use Rattle.mt_op.proofs.Faulting.{unfailed}
-use Rattle.mt_op.proofs.Shaped.{shaped_of}
+use Rattle.mt_file.proofs.Shaped.{shaped_of}
 use Rattle.mt_op.proofs.operations.Operations.note_rooms.Goals as goal
 use Rattle.mt_op.proofs.operations.Operations.note_rooms.Goals.{then-self-from-eq-RECORDS+in_ok-bring+then-branch, else-self-from-eq-RECORDS, else-self-from-eq-RECORDS-via-then-self-from-eq-RECORDS+in_ok-bring+else-branch, else-self-from-eq-RECORDS-via-else-self-from-eq-RECORDS}
 

@@ -1,3 +1,5 @@
+use mathlib.Core.Logic.{∥∥₁_elim, ∥∥₁_map}
+use Rattle.std.proofs.Props.{props}
 use Rattle.std.specs.Prelude.{Err}
 use Rattle.std.proofs.Common.{◌≡◌, None, ◌<◌, ◌⊎◌, inl, refl, sym, subst, ◌∙◌, ap}
 use Rattle.std.proofs.lemmas.Result.{err_from_is_err_and}
@@ -13,7 +15,8 @@ use Rattle.mt_op.specs.World.{looked}
 use Rattle.mt_op.specs.Operations.{world}
 use Rattle.mt_op.specs.Stepping.{LocksPage, PlansOn}
 use Rattle.mt_op.proofs.Choosing.{cause_memory, locked_some, locked_err, refused_plan, unled_goes, reading_of}
-use Rattle.mt_op.proofs.Work.{led_work}
+use Rattle.mt_op.proofs.Work.{led_work, plans_over, claim_free}
+use Rattle.mt_op.proofs.Known.{one_of, known_within}
 use Rattle.mt_op.proofs.Faulting.{no_fault, no_fault_ok}
 use Rattle.mt_op.proofs.operations.Operations.plan_step.Goals as goal
 
@@ -88,8 +91,9 @@ returns-in-Full g c = let d = g.D.Device in let o = c.args.self.now in let s = c
       budget = record { enough = c.requires.budget.enough; reads = c.requires.budget.reads };
       full = λ is. absurd cc;
       stage = λ not. c.requires.planning;
-      work = let (opening, relations, counters, right, k, small, free) = c.requires.right in led_work relations counters (world d.seen opening o) s c.requires.planning right.sound k free
-          (subst (λ (a : Act). IfFull a (InPages (looked s) s.room relations counters s.seen.total (λ pages. (free_pages s.seen.total pages < own_needs s.op s.split) ⊎ IsTight s.room pages (record_bytes s.op)))) c.in-Full.is (c.in_ok-page.ensures.full relations counters small k.within));
+      work = ∥∥₁_elim c.requires.right (hlevel props) (λ (opening, relations, counters, right, k, small, some). led_work relations counters (world d.seen opening o) s c.requires.planning right.sound k
+          (claim_free d.seen d.may_leave opening relations counters o s right k c.requires.claims)
+          (subst (λ (a : Act). IfFull a (InPages (looked s) s.room relations counters s.seen.total (λ pages. (free_pages s.seen.total pages < own_needs s.op s.split) ⊎ IsTight s.room pages (record_bytes s.op)))) c.in-Full.is (c.in_ok-page.ensures.full relations counters small k.within)));
       locks = inl refl;
       scope = tt;
       why = tt;
@@ -97,7 +101,14 @@ returns-in-Full g c = let d = g.D.Device in let o = c.args.self.now in let s = c
     }
 
 pub lock_next-requires-clause-right : goal.lock_next-requires-clause-right
-lock_next-requires-clause-right g c = let (opening, relations, counters, right, k, small, free) = c.requires.right in ∣ (opening, relations, counters, right, k) ∣₁
+lock_next-requires-clause-right g c = one_of g.D.Device.seen g.D.Device.may_leave c.args.self.now c.args.scope.now c.requires.right
 
 pub keep_plan-requires-clause-right : goal.keep_plan-requires-clause-right
-keep_plan-requires-clause-right g c = let (opening, relations, counters, right, k, small, free) = c.requires.right in ∣ (opening, relations, counters, right, k) ∣₁
+keep_plan-requires-clause-right g c = one_of g.D.Device.seen g.D.Device.may_leave c.args.self.now c.args.scope.now c.requires.right
+
+pub plan-requires-clause-sound : goal.plan-requires-clause-sound
+plan-requires-clause-sound g c = (known_within g.D.Device.seen g.D.Device.may_leave c.args.self.now c.args.scope.now c.requires.right).whole
+
+pub plan-requires-clause-good : goal.plan-requires-clause-good
+plan-requires-clause-good g c = ∥∥₁_map c.requires.right (λ (opening, relations, counters, right, k, small, some).
+    plans_over relations counters (world g.D.Device.seen opening c.args.self.now) c.args.scope.now c.requires.planning right.sound k small)

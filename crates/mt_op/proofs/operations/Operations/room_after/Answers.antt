@@ -9,7 +9,7 @@ use Rattle.mt_op.proofs.Following.{after_here, after_other, edits_within}
 use Rattle.std.proofs.lemmas.List.{take_all}
 use Rattle.mt_slots.specs.Page.{IsShaped}
 use Rattle.mt_space.specs.Changes.{after}
-use Rattle.mt_op.proofs.Shaped.{shaped_of}
+use Rattle.mt_file.proofs.Shaped.{shaped_of}
 use Rattle.mt_op.proofs.operations.Operations.room_after.Goals as goal
 use Rattle.mt_op.proofs.operations.Operations.room_after.Goals.{then-eq, else-eq}
 

@@ -1,3 +1,4 @@
+use mathlib.Core.Logic.{∥∥₁_elim, ∥∥₁_map}
 use Rattle.std.proofs.Common.{◌≡◌, ◌∙◌, ap, sym, refl, subst, arith, rules}
 use Rattle.std.specs.Prelude.{Ok, Err}
 use Rattle.std.proofs.lemmas.Result.{err_from_is_err_and}
@@ -7,7 +8,7 @@ use Rattle.mt_op.specs.declared.space_map.SpaceMap.{SpaceMap}
 use Rattle.mt_op.specs.declared.scope.Stage.TheVariants.{Planning}
 use Rattle.mt_op.specs.Operations.{world}
 use Rattle.mt_op.specs.Stepping.{PlansOn}
-use Rattle.mt_op.proofs.Unready.{goes_unready}
+use Rattle.mt_op.proofs.Unready.{IsUnready, Unready-prop, goes_unready}
 use Rattle.mt_op.proofs.Choosing.{MakesStep, room_still, writes_step, stopped_step, planned_step, made_step}
 use Rattle.mt_op.proofs.operations.Operations.step.Goals as goal
 
@@ -61,8 +62,8 @@ pub returns-in-Some : goal.returns-in-Some
 returns-in-Some g c = let d = g.D.Device in let o = c.args.self.now in let s = c.args.scope.now in let n = c.plan_step.new.self in let t = c.plan_step.new.scope in
     let planning : s.stage ≡ Planning = search rules in
     let plans = subst (PlansOn d.seen d.may_leave d.moment d.left_since d.faults o n s t) (c.in_ok-stepped.was ∙ ap Ok c.in-Some.is) c.plan_step.ensures in
-    let (opening, relations, counters, right, k, few, some) = c.requires.right in
-    let unready = goes_unready relations counters (world d.seen opening o) (world d.seen opening n) s t (Ok c.in-Some.stepped) (plans.goes opening relations counters right k few).1 in
+    let unready : IsUnready (Ok c.in-Some.stepped) = ∥∥₁_elim c.requires.right (Unready-prop (Ok c.in-Some.stepped)) (λ (opening, relations, counters, right, k, few, some).
+    goes_unready relations counters (world d.seen opening o) (world d.seen opening n) s t (Ok c.in-Some.stepped) (plans.goes opening relations counters right k few).1) in
     let e = planned_step d.seen d.may_leave d.moment d.left_since d.faults o n s t c.in-Some.stepped planning unready plans in
     record {
       steps = e.steps;
@@ -91,8 +92,8 @@ go_on-requires-in-None g c = let d = g.D.Device in let o = c.args.self.now in le
     let claims = c.requires.claims in
     let stays = ap (λ (m : SpaceMap). reserved_of m.space) plans.map in
     record {
-      right = let (opening, relations, counters, right, k, few, some) = c.requires.right in let gone = plans.goes opening relations counters right k few in
-          ∣ (opening, relations, counters, gone.0, gone.1.own, few, some) ∣₁;
+      right = ∥∥₁_map c.requires.right (λ (opening, relations, counters, right, k, few, some).
+          let gone = plans.goes opening relations counters right k few in (opening, relations, counters, gone.0, gone.1.own, few, some));
       claims = omega (arith, own, claims, stays);
       writing = (plans.made refl).1;
       budget = plans.budget;
@@ -122,6 +123,3 @@ returns-in-None g c = let d = g.D.Device in let o = c.args.self.now in let s = c
       why = e.why;
       faults = e.faults;
     }
-
-pub go_on-requires-clause-right : goal.go_on-requires-clause-right
-go_on-requires-clause-right g c = ∣ c.requires.right ∣₁

@@ -1,3 +1,5 @@
+use mathlib.Core.Logic.{∥∥₁_elim}
+use Rattle.std.proofs.Props.{props}
 use Rattle.std.proofs.Common.{◌≡◌, ◌<◌, ◌+◌, arith, ◌∙◌, ℕ, length, List, Option, get_or, ap, subst, sym}
 use Rattle.std.specs.Prelude.{IsSome}
 use Rattle.std.proofs.lemmas.List.{length-take}
@@ -20,8 +22,9 @@ make-requires-clause-fit g c =
     let lt : i < length list = subst (λ (l : List PageChange). i < length l) value c.loop-change-test.true in
     let same : get_or list i x ≡ x = sym (c.change-item.is ∙ ap (λ (l : List PageChange). get_or l i x) value) in
     let there : IsSome (shown copies below x.page) = subst (λ (y : PageChange). IsSome (shown copies below y.page)) same (All-get_or (λ (y : PageChange). IsSome (shown copies below y.page)) list i x lt c.requires.there) in
-    let short = subst (λ (y : PageChange). IsShort (c.requires.short.0 y.page) y) same (short_at list i x c.requires.short.0 lt c.requires.short.2) in
-    edits_fit (shown copies below) x c.requires.short.0 (shown_whole copies below c.requires.copies (g.V.Pages.whole views c.requires.sound)) there c.requires.short.1 short
+    ∥∥₁_elim c.requires.short (hlevel props) (λ (pages, agrees, all).
+    let short = subst (λ (y : PageChange). IsShort (pages y.page) y) same (short_at list i x pages lt all) in
+    edits_fit (shown copies below) x pages (shown_whole copies below c.requires.copies (g.V.Pages.whole views c.requires.sound)) there agrees short)
 
 pub loop-change-preserved : goal.loop-change-preserved
 loop-change-preserved g c =

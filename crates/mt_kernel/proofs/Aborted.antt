@@ -77,6 +77,7 @@ module _ {D : Type 0} (seen : D → List ℕ) (may_leave : D → List ℕ → Ty
             small = fit.small;
             log = log;
             reserves = fit.reserves;
+            numbers = fit.numbers;
             queued = subst (λ (X : Type 0). X) (λ i. IsQueued k.live.members (sym notes.records i) k.commits.items) (queued_records k.live.members (appended k.operations.store.log) (AbortEnd t ∷ []) k.commits.items fit.queued);
             booked = fit.booked;
             escrowed = fit.escrowed;

@@ -21,7 +21,7 @@ use Rattle.mt_op.specs.Holds.{IsNext, KeepsLocks}
 use Rattle.mt_op.specs.Moves.{SameOp}
 use Rattle.mt_op.specs.Operations.{world, IsRight, HasBudget, Goes, Steps, GivesBack, claimed}
 use Rattle.mt_op.specs.Records.{end_with, end_of, KeepsRecords}
-use Rattle.mt_op.specs.declared.scope.Stage.TheVariants.{Ready}
+use Rattle.mt_op.specs.declared.scope.Stage.TheVariants.{Ready, Taking}
 use Rattle.mt_steps.specs.Logged.{logged_of}
 use Rattle.mt_op.specs.Work.{IsGoing, ComesTo}
 use Rattle.mt_op.specs.World.{World, IsUnderWay, IsOther, held_in}
@@ -34,7 +34,8 @@ use Rattle.mt_space.specs.Changes.{PageBytes}
 use Rattle.mt_slock.specs.Views.{held_of}
 use Rattle.mt_steps.specs.Held.{Holds}
 use Rattle.mt_steps.specs.Plans.{own_needs, undo_pages}
-use Rattle.mt_kernel.specs.Runs.{running_in, AreApart, IsMoving, IsRunning, IsOwned, pages_of, entry_pages, left_of, kept_bytes, taken_bytes}
+use Rattle.mt_live.specs.declared.transactions.TxnState.TheVariants.{Aborting}
+use Rattle.mt_kernel.specs.Runs.{running_in, state_in, AreApart, IsMoving, IsRunning, IsOwned, pages_of, entry_pages, left_of, kept_bytes, taken_bytes}
 use Rattle.mt_kernel.specs.Consistent.{Origin, state_of, IsNumbered, AreTold, IsQueued, IsFit, IsConsistent, IsAlone, IsReady, IsIn, Advances}
 use Rattle.mt_kernel.specs.declared.parts.Parts.{Parts}
 use Rattle.mt_kernel.specs.declared.parts.Running.{Running}
@@ -56,13 +57,19 @@ same_run r q copy same = record { txn = same.txn; number = same.number; op = sam
 going_moves : (s : Stage) → IsGoing s → IsMoving s
 going_moves s g = ⊎_elim (λ p. inl p) (λ w. inr (inl w)) g
 
-pub owned_same : (ms : List Member) (r q : Running) (standing : List Entry) → IsSame r q → IsOwned ms standing r → IsOwned ms standing q
-owned_same ms r q standing same o = record {
+-- one that goes on is not taken back
+going_stays : (s : Stage) → IsGoing s → s ≡ Taking → ⊥
+going_stays s g is = ⊎_elim (λ p. absurd cc) (λ w. absurd cc) g
+
+pub owned_same : (ms : List Member) (r q : Running) (standing : List Entry) → IsSame r q → (q.scope.stage ≡ Taking → (q.scope.undoes ≡ 0) × (state_in ms q.scope.txn ≡ Some Aborting)) → IsOwned ms standing r → IsOwned ms standing q
+owned_same ms r q standing same taken o = record {
   at_work = rw same.txn o.at_work;
   room = λ fore. rw same.txn (o.room (sym same.undoes ∙ fore));
   copy = λ fore. same.copy ∙ o.copy (sym same.undoes ∙ fore) ∙ sym same.op;
   inverse = λ back. let t = o.inverse (λ e. back (same.undoes ∙ e)) in record { named = (λ i. last_operation (member_of ms (same.txn i))) ∙ t.named ∙ ap Some (sym same.undoes); entry = t.entry; last = rw same.txn t.last; inverse = t.inverse ∙ ap Some (sym same.op); copy = same.copy ∙ t.copy; unsplit = same.split ∙ t.unsplit };
   newest = λ fore. subst (λ (X : Type 0). X) (λ i. IsAbove (sym same.number i) (member_of ms (sym same.txn i))) (o.newest (sym same.undoes ∙ fore));
+  taken = taken;
+  aborts = λ back. ap (state_in ms) same.txn ∙ o.aborts (λ is. back (same.undoes ∙ is));
 }
 
 pages_same : (r q : Running) → IsSame r q → pages_of q ≡ pages_of r
@@ -127,8 +134,8 @@ module _ {D : Type 0} (seen : D → List ℕ) (may_leave : D → List ℕ → Ty
 
   pub carried : (k n : Parts D) (place : ℕ) (r q : Running) (more : List Record) → IsConsistent seen may_leave origin base k → place < length k.running.items → r ≡ get_or k.running.items place r → n.running.items ≡ set k.running.items place q → q.op ≡ r.op
       → SameOp r.scope q.scope → used n.operations.store.log + q.scope.left ≡ used k.operations.store.log + r.scope.left → area_size n.operations.store.log ≡ area_size k.operations.store.log → IsRight seen may_leave origin.pages origin.relations origin.counters n.operations
-      → appended n.operations.store.log ≡ appended k.operations.store.log ++ more → (r.scope.number ≤ k.last → IsNumbered k.last k.live.begun k.live.members n.operations.locks (appended n.operations.store.log)) → Carried k n place q
-  carried k n place r q more safe within there items copy same_op log_now area right records numbered =
+      → appended n.operations.store.log ≡ appended k.operations.store.log ++ more → (q.scope.stage ≡ Taking → (q.scope.undoes ≡ 0) × (state_in k.live.members q.scope.txn ≡ Some Aborting)) → (r.scope.number ≤ k.last → IsNumbered k.last k.live.begun k.live.members n.operations.locks (appended n.operations.store.log)) → Carried k n place q
+  carried k n place r q more safe within there items copy same_op log_now area right records taken numbered =
       let fit = safe.fit in
       let same = same_run r q copy same_op in
       let was = safe.runs place r within in
@@ -158,7 +165,7 @@ module _ {D : Type 0} (seen : D → List ℕ) (may_leave : D → List ℕ → Ty
           kept = subst (IsKept origin.first) state fit.kept;
           owned = subst (All (IsOwned k.live.members k.live.standing)) (sym items)
               (all_set (IsOwned k.live.members k.live.standing) k.running.items place q within
-              (owned_same k.live.members r q k.live.standing same (subst (IsOwned k.live.members k.live.standing) r_there (fit.owned place r within))) (λ i d lt apart. fit.owned i d lt));
+              (owned_same k.live.members r q k.live.standing same taken (subst (IsOwned k.live.members k.live.standing) r_there (fit.owned place r within))) (λ i d lt apart. fit.owned i d lt));
           apart = subst (AllPairs AreApart) (sym items) (pairs_set AreApart k.running.items place r q within there
               (λ z a. record { number = λ is. a.number (is ∙ same.number); txn = λ is. a.txn (is ∙ same.txn) })
               (λ z a. record { number = λ is. a.number (sym same.number ∙ is); txn = λ is. a.txn (sym same.txn ∙ is) }) fit.apart);
@@ -166,6 +173,7 @@ module _ {D : Type 0} (seen : D → List ℕ) (may_leave : D → List ℕ → Ty
           small = fit.small;
           log = omega arith;
           reserves = omega arith;
+          numbers = fit.numbers;
           queued = subst (λ (rs : List Record). IsQueued k.live.members rs k.commits.items) (sym records) (queued_records k.live.members (appended k.operations.store.log) more k.commits.items fit.queued);
           booked = fit.booked;
           escrowed = fit.escrowed;
@@ -183,7 +191,7 @@ module _ {D : Type 0} (seen : D → List ℕ) (may_leave : D → List ℕ → Ty
       → HasStepped seen may_leave origin.pages origin.relations origin.counters k.operations n.operations r.scope q.scope res → Goes origin.relations origin.counters (world seen origin.pages k.operations) (world seen origin.pages n.operations) r.scope q.scope
       → IsGoing q.scope.stage → claimed n.operations ≡ claimed k.operations → AddsNoInverse (appended k.operations.store.log) (appended n.operations.store.log) → IsIn seen may_leave origin base (state_of k base) (moved k n)
   goes_in k n place r q res safe within there items copy h g going claims adds =
-      let c = carried k n place r q adds.more safe within there items copy g.same h.log h.area h.right adds.is (λ known. numbered_step k.last k.live.begun k.live.members origin.relations origin.counters (world seen origin.pages k.operations) (world seen origin.pages n.operations) r.scope q.scope res known h.steps h.locks h.records safe.fit.numbered) in
+      let c = carried k n place r q adds.more safe within there items copy g.same h.log h.area h.right adds.is (λ is. absurd (going_stays q.scope.stage going is)) (λ known. numbered_step k.last k.live.begun k.live.members origin.relations origin.counters (world seen origin.pages k.operations) (world seen origin.pages n.operations) r.scope q.scope res known h.steps h.locks h.records safe.fit.numbered) in
       let own : IsRunning origin.relations origin.counters (world seen origin.pages n.operations) k.last q = record { under = g.own; budget = h.budget; number = c.known; moving = going_moves q.scope.stage going } in
       let pages = c.pages in let claims_was = safe.claims in
       record {
@@ -218,7 +226,7 @@ module _ {D : Type 0} (seen : D → List ℕ) (may_leave : D → List ℕ → Ty
       let a = h.steps.0 in
       let same = a.same in
       let ended : appended n.operations.store.log ≡ appended k.operations.store.log ++ end_of r.scope first = a.ended in
-      let c = carried k n place r q (end_of r.scope first) safe within there items copy same h.log h.area h.right ended (λ known. numbered_step k.last k.live.begun k.live.members origin.relations origin.counters (world seen origin.pages k.operations) (world seen origin.pages n.operations) r.scope q.scope (Ok (stepped.Ready first second)) known h.steps h.locks h.records safe.fit.numbered) in
+      let c = carried k n place r q (end_of r.scope first) safe within there items copy same h.log h.area h.right ended (λ is. absurd (let ready = h.stage in cc)) (λ known. numbered_step k.last k.live.begun k.live.members origin.relations origin.counters (world seen origin.pages k.operations) (world seen origin.pages n.operations) r.scope q.scope (Ok (stepped.Ready first second)) known h.steps h.locks h.records safe.fit.numbered) in
       let pages = c.pages in let claims_was = safe.claims in let back = h.claims in
       let needs : own_needs q.scope.op q.scope.split ≡ own_needs r.scope.op r.scope.split = λ i. own_needs (same.op i) (same.split i) in
       let was : IsRunning origin.relations origin.counters (world seen origin.pages k.operations) k.last r = subst (IsRunning origin.relations origin.counters (world seen origin.pages k.operations) k.last) (sym there) (safe.runs place r within) in

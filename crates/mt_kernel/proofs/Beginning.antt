@@ -19,7 +19,7 @@ use Rattle.mt_model.specs.Model.{Base}
 use Rattle.mt_slock.specs.Views.{held_of}
 use Rattle.mt_live.specs.declared.transactions.TxnState.TheVariants.{Open, Committing, Aborting}
 use Rattle.mt_kernel.specs.Runs.{running_in, IsOwned, is_at_work, is_open, entry_pages, entry_bytes, left_of}
-use Rattle.mt_kernel.specs.Consistent.{Origin, state_of, state_in, IsNumbered, IsTold, IsWithinSchema, IsConsistent, IsIn}
+use Rattle.mt_kernel.specs.Consistent.{Origin, state_of, state_in, AreLeft, IsNumbered, IsTold, IsWithinSchema, IsConsistent, IsIn}
 use Rattle.mt_kernel.specs.declared.parts.Parts.{Parts}
 use Rattle.mt_kernel.specs.declared.parts.Running.{Running}
 use Rattle.mt_kernel.proofs.Members.{put_other, changed_keeps}
@@ -58,6 +58,8 @@ owned_as ms new old standing q same stands o = record {
   copy = o.copy;
   inverse = λ back. let e = o.inverse back in record { named = ap last_operation same ∙ e.named; entry = e.entry; last = ap (last_effect q.scope.txn) stands ∙ e.last; inverse = e.inverse; copy = e.copy; unsplit = e.unsplit };
   newest = λ fore. subst (IsAbove q.scope.number) (sym same) (o.newest fore);
+  taken = λ is. let t = o.taken is in (t.0, ap (option_map (λ (m : Member). m.state)) same ∙ t.1);
+  aborts = λ back. ap (option_map (λ (m : Member). m.state)) same ∙ o.aborts back;
 }
 
 roomier : (old new : List Member) (t : ℕ) → IsChanged old new t members.with_room → (u : ℕ) → has_room (member_of old u) ≡ true → has_room (member_of new u) ≡ true
@@ -127,6 +129,7 @@ module _ {D : Type 0} (seen : D → List ℕ) (may_leave : D → List ℕ → Ty
             small = subst (All (IsWithinSchema origin)) (sym standing) fit.small;
             log = log;
             reserves = omega arith;
+            numbers = let left = fit.numbers in omega (arith, left, more, reserved);
             queued = queued_members k.live.members n.live.members (appended k.operations.store.log) k.commits.items (λ u is. states u (u == t) refl is) (λ u is. stated u (u == t) refl is) fit.queued;
             booked = fit.booked;
             escrowed = fit.escrowed;
@@ -158,9 +161,9 @@ module _ {D : Type 0} (seen : D → List ℕ) (may_leave : D → List ℕ → Ty
   pub changed_in : (k n : Parts D) (t : ℕ) (f : Member → Member) → IsConsistent seen may_leave origin base k → IsChanged k.live.members n.live.members t f → n.live.begun ≡ k.live.begun → n.live.standing ≡ k.live.standing → length n.live.members ≡ length k.live.members
       → ((m : Member) → (f m).session ≡ m.session) → ((last : ℕ) (records : List Record) (m : Member) → IsTold last records t m → IsTold last records t (f m)) → ((m : Member) → last_operation (Some (f m)) ≡ last_operation (Some m)) → ((m : Member) → (f m).operations ≡ m.operations)
       → ((u : ℕ) → is_open (member_of n.live.members u) ≡ is_open (member_of k.live.members u)) → ((u : ℕ) → has_room (member_of k.live.members u) ≡ true → has_room (member_of n.live.members u) ≡ true)
-      → ((u : ℕ) → state_in k.live.members u ≡ Some Committing → state_in n.live.members u ≡ Some Committing) → ((u : ℕ) → state_in n.live.members u ≡ Some Committing → state_in k.live.members u ≡ Some Committing)
+      → ((u : ℕ) → state_in k.live.members u ≡ Some Committing → state_in n.live.members u ≡ Some Committing) → ((u : ℕ) → state_in n.live.members u ≡ Some Committing → state_in k.live.members u ≡ Some Committing) → ((u : ℕ) → state_in k.live.members u ≡ Some Aborting → state_in n.live.members u ≡ Some Aborting)
       → IsIn seen may_leave origin base (state_of k base) (record k { live = n.live })
-  changed_in k n t f safe changed begun_same standing count session told last_same same_operations open_same roomy states stated =
+  changed_in k n t f safe changed begun_same standing count session told last_same same_operations open_same roomy states stated aborting =
       let fit = safe.fit in
       let z : Parts D = record k { live = n.live } in
       let state : state_of k base ≡ state_of z base = λ i. record {
@@ -187,6 +190,8 @@ module _ {D : Type 0} (seen : D → List ℕ) (may_leave : D → List ℕ → Ty
               copy = o.copy;
               inverse = λ back. let e = o.inverse back in record { named = changed_keeps last_operation f k.live.members n.live.members t last_same changed u ∙ e.named; entry = e.entry; last = ap (last_effect u) standing ∙ e.last; inverse = e.inverse; copy = e.copy; unsplit = e.unsplit };
               newest = λ fore. changed_above f k.live.members n.live.members t u (get_or k.running.items i d).scope.number same_operations changed (o.newest fore);
+              taken = λ is. let back = o.taken is in (back.0, aborting u back.1);
+              aborts = λ back. aborting u (o.aborts back);
             };
             apart = fit.apart;
             numbered = subst (λ (m : ℕ). IsNumbered k.last m n.live.members k.operations.locks (appended k.operations.store.log)) (sym begun_same) (record {
@@ -201,6 +206,7 @@ module _ {D : Type 0} (seen : D → List ℕ) (may_leave : D → List ℕ → Ty
             small = subst (All (IsWithinSchema origin)) (sym standing) fit.small;
             log = fit.log;
             reserves = omega arith;
+            numbers = subst (λ (m : ℕ). AreLeft k.last m k.reserved) (sym begun_same) fit.numbers;
             queued = queued_members k.live.members n.live.members (appended k.operations.store.log) k.commits.items states stated fit.queued;
             booked = fit.booked;
             escrowed = fit.escrowed;
@@ -219,7 +225,7 @@ module _ {D : Type 0} (seen : D → List ℕ) (may_leave : D → List ℕ → Ty
   roomed_in k n t safe changed begun_same standing count =
       let states : (u : ℕ) → state_in n.live.members u ≡ state_in k.live.members u = changed_keeps (option_map (λ (m : Member). m.state)) members.with_room k.live.members n.live.members t (λ m. refl) changed in
       changed_in k n t members.with_room safe changed begun_same standing count (λ m. refl) (λ last records m told. record { many = told.many; numbers = told.numbers; rising = told.rising; due = told.due }) (λ m. refl) (λ m. refl)
-      (changed_keeps is_open members.with_room k.live.members n.live.members t (λ m. refl) changed) (roomier k.live.members n.live.members t changed) (λ u is. states u ∙ is) (λ u is. sym (states u) ∙ is)
+      (changed_keeps is_open members.with_room k.live.members n.live.members t (λ m. refl) changed) (roomier k.live.members n.live.members t changed) (λ u is. states u ∙ is) (λ u is. sym (states u) ∙ is) (λ u is. states u ∙ is)
 
 -- one that is at work has it
 pub roomed_open : (old new : List Member) (t : ℕ) → is_open (member_of old t) ≡ true → IsChanged old new t members.with_room → (is_open (member_of new t) ≡ true) × (has_room (member_of new t) ≡ true)
@@ -233,20 +239,20 @@ roomed_open old new t at_work changed = (changed_keeps is_open members.with_room
     go (Some m) is = refl
 
 -- one that is open, or has gone to abort, does not commit
-pub reopened_states : (old new : List Member) (t : ℕ) → option_map (λ (m : Member). m.state) (member_of old t) ≡ Some Open → IsChanged old new t (λ m. members.with_state m Aborting) → (u : ℕ) → (state_in old u ≡ Some Committing → state_in new u ≡ Some Committing) × (state_in new u ≡ Some Committing → state_in old u ≡ Some Committing)
+pub reopened_states : (old new : List Member) (t : ℕ) → option_map (λ (m : Member). m.state) (member_of old t) ≡ Some Open → IsChanged old new t (λ m. members.with_state m Aborting) → (u : ℕ) → (state_in old u ≡ Some Committing → state_in new u ≡ Some Committing) × (state_in new u ≡ Some Committing → state_in old u ≡ Some Committing) × (state_in old u ≡ Some Aborting → state_in new u ≡ Some Aborting)
 reopened_states old new t was changed u = go (u == t) refl
   where
     now : (o : Option Member) → option_map (λ (m : Member). m.state) o ≡ Some Open → option_map (λ (m : Member). m.state) (option_map (λ (m : Member). members.with_state m Aborting) o) ≡ Some Aborting
     now None is = absurd cc
     now (Some m) is = refl
 
-    go : (c : Bool) → (u == t) ≡ c → (state_in old u ≡ Some Committing → state_in new u ≡ Some Committing) × (state_in new u ≡ Some Committing → state_in old u ≡ Some Committing)
+    go : (c : Bool) → (u == t) ≡ c → (state_in old u ≡ Some Committing → state_in new u ≡ Some Committing) × (state_in new u ≡ Some Committing → state_in old u ≡ Some Committing) × (state_in old u ≡ Some Aborting → state_in new u ≡ Some Aborting)
     go true is =
         let before : state_in old u ≡ Some Open = ap (λ (v : ℕ). state_in old v) (eqb-true u t is) ∙ was in
         let here : option_map (λ (m : Member). m.state) (put (member_of old) t (option_map (λ (m : Member). members.with_state m Aborting) (member_of old t)) u) ≡ option_map (λ (m : Member). m.state) (option_map (λ (m : Member). members.with_state m Aborting) (member_of old t)) = rw is refl in
         let after : state_in new u ≡ Some Aborting = ap (option_map (λ (m : Member). m.state)) (changed u) ∙ here ∙ now (member_of old t) was in
-        ((λ h. absurd cc), (λ h. absurd cc))
+        ((λ h. absurd cc), (λ h. absurd cc), (λ h. after))
     go false is =
         let here : option_map (λ (m : Member). m.state) (put (member_of old) t (option_map (λ (m : Member). members.with_state m Aborting) (member_of old t)) u) ≡ state_in old u = rw is refl in
         let same : state_in new u ≡ state_in old u = ap (option_map (λ (m : Member). m.state)) (changed u) ∙ here in
-        ((λ h. same ∙ h), (λ h. sym same ∙ h))
+        ((λ h. same ∙ h), (λ h. sym same ∙ h), (λ h. same ∙ h))

@@ -20,6 +20,7 @@ use Rattle.mt_model.specs.declared.operations.Op.{Op}
 use Rattle.mt_model.specs.declared.operations.Op.TheVariants.{Get, Insert, Update, Delete, Add, Read}
 use Rattle.mt_model.specs.Tables.{count_at}
 use Rattle.mt_model.specs.Model.{Base}
+use Rattle.mt_op.proofs.Budget.{area_small}
 use Rattle.mt_op.proofs.Driving.{world_same}
 use Rattle.mt_op.specs.Operations.{world, IsRight, HasBudget, claimed}
 use Rattle.mt_op.specs.World.{World, IsUnderWay, IsFresh, held_in}
@@ -64,7 +65,7 @@ pub record HasBegun {D : Type 0} (seen : D → List ℕ) (may_leave : D → List
   pub planning : s.stage ≡ Planning
 
 -- there are more numbers
-pub numbered_last : (last more begun : ℕ) (ms : List Member) (locks : List PageLock) (records : List Record) → last ≤ more → more ≤ 2 ^ 40 → IsNumbered last begun ms locks records → IsNumbered more begun ms locks records
+pub numbered_last : (last more begun : ℕ) (ms : List Member) (locks : List PageLock) (records : List Record) → last ≤ more → more ≤ 2 ^ 41 → IsNumbered last begun ms locks records → IsNumbered more begun ms locks records
 numbered_last last more begun ms locks records less few k = record {
   locks = All-weaker (λ (l : PageLock). l.op ≤ last) (λ (l : PageLock). l.op ≤ more) (λ l low. omega (arith, low, less)) locks k.locks;
   ops = λ t n above. k.ops t n (omega (arith, above, less));
@@ -141,6 +142,8 @@ module _ {D : Type 0} (seen : D → List ℕ) (may_leave : D → List ℕ → Ty
         room = λ fore. rw h.is_txn may_run.room;
         copy = λ fore. copy ∙ sym h.is_op;
         inverse = λ back. absurd (back h.is_undoes);
+        taken = λ is. absurd (let planning = h.planning in cc);
+        aborts = λ back. absurd (back h.is_undoes);
         newest = λ fore. above_all r.scope.number (member_of k.live.members r.scope.txn) (λ m is i d lt. let low = (safe.told r.scope.txn m is).numbers i d lt in let new = h.is_number in omega (arith, low, new));
       } in
       let pages = sum_by_push pages_of k.running.items r in
@@ -174,6 +177,7 @@ module _ {D : Type 0} (seen : D → List ℕ) (may_leave : D → List ℕ → Ty
             small = fit.small;
             log = subst (λ (X : Type 0). X) (λ i. used (sym h.store i).log + sum_by left_of n.running.items + n.reserved < area_size (sym h.store i).log) less;
             reserves = omega arith;
+            numbers = let small = area_small k.operations.store.log in omega (arith, small, less, few);
             queued = subst (λ (X : Type 0). X) (λ i. IsQueued k.live.members (appended (sym h.store i).log) k.commits.items) fit.queued;
             booked = fit.booked;
             escrowed = record { all = ap length g.committed ∙ fit.escrowed.all; counts = λ c lt. ap (λ (cs : List Count). count_at cs c) g.committed ∙ fit.escrowed.counts c lt };
@@ -204,6 +208,7 @@ module _ {D : Type 0} (seen : D → List ℕ) (may_leave : D → List ℕ → Ty
           small = fit.small;
           log = subst (λ (X : Type 0). X) (λ i. used (sym store i).log + sum_by left_of k.running.items + k.reserved < area_size (sym store i).log) fit.log;
           reserves = fit.reserves;
+          numbers = fit.numbers;
           queued = subst (λ (X : Type 0). X) (λ i. IsQueued k.live.members (appended (sym store i).log) k.commits.items) fit.queued;
           booked = fit.booked;
           escrowed = fit.escrowed;

@@ -106,6 +106,7 @@ module _ {D : Type 0} (seen : D → List ℕ) (may_leave : D → List ℕ → Ty
             small = subst (All (IsWithinSchema origin)) (sym standing) fit.small;
             log = omega arith;
             reserves = omega arith;
+            numbers = let left = fit.numbers in omega (arith, left, begun_same, freed);
             queued = subst (λ (X : Type 0). X) (λ i. IsQueued n.live.members (sym notes.records i) (sym pushed i)) queued;
             booked = room;
             escrowed = subst (λ (X : Type 0). X) (λ i. IsEscrowed origin.counters (after origin.first (sym book i)) k.escrow) fit.escrowed;

@@ -14,6 +14,8 @@ use Rattle.mt_log.specs.Words.{appended, used, area_size}
 use Rattle.mt_model.specs.declared.counters.Count.{Count}
 use Rattle.mt_model.specs.Tables.{count_at}
 use Rattle.mt_model.specs.Model.{Base}
+use Rattle.mt_live.specs.declared.transactions.TxnState.TheVariants.{Aborting}
+use Rattle.mt_op.specs.Moves.{SameOp}
 use Rattle.mt_op.specs.Operations.{world, IsRight, HasBudget, Goes, claimed}
 use Rattle.mt_op.specs.Records.{TellsDropped}
 use Rattle.mt_op.specs.declared.answers.TakenBack.{TakenBack}
@@ -23,7 +25,7 @@ use Rattle.mt_op.specs.declared.scope.OpScope.{OpScope}
 use Rattle.mt_op.specs.declared.scope.Stage.TheVariants.{Cleared, Taking}
 use Rattle.mt_space.specs.Changes.{PageBytes}
 use Rattle.mt_steps.specs.Held.{Holds}
-use Rattle.mt_kernel.specs.Runs.{running_in, IsMoving, IsRunning, IsOwned, undo_bytes, pages_of, kept_bytes, taken_bytes}
+use Rattle.mt_kernel.specs.Runs.{running_in, state_in, IsMoving, IsRunning, IsOwned, undo_bytes, pages_of, kept_bytes, taken_bytes}
 use Rattle.mt_kernel.specs.Consistent.{Origin, state_of, AreTold, IsConsistent, IsCleared, IsIn, GoesBack}
 use Rattle.mt_kernel.specs.declared.parts.Parts.{Parts}
 use Rattle.mt_kernel.specs.declared.parts.Running.{Running}
@@ -85,6 +87,7 @@ module _ {D : Type 0} (seen : D → List ℕ) (may_leave : D → List ℕ → Ty
             small = fit.small;
             log = omega arith;
             reserves = omega arith;
+            numbers = let left_now = fit.numbers in omega (arith, left_now, freed);
             queued = l.queued;
             booked = fit.booked;
             escrowed = record { all = ap length committed ∙ fit.escrowed.all; counts = λ c lt. ap (λ (cs : List Count). count_at cs c) committed ∙ fit.escrowed.counts c lt };
@@ -99,12 +102,16 @@ module _ {D : Type 0} (seen : D → List ℕ) (may_leave : D → List ℕ → Ty
 
   -- ---- a step of the taking back
 
+  still : (k : Parts D) (r q : Running) → SameOp r.scope q.scope → (r.scope.undoes ≡ 0) × (state_in k.live.members r.scope.txn ≡ Some Aborting) → (q.scope.undoes ≡ 0) × (state_in k.live.members q.scope.txn ≡ Some Aborting)
+  still k r q same aborting = (same.undoes ∙ aborting.0, ap (state_in k.live.members) same.txn ∙ aborting.1)
+
   back_in : (k n : Parts D) (place : ℕ) (r q : Running) (res : Result TakenBack Refusal) → IsConsistent seen may_leave origin base k → place < length k.running.items → r ≡ get_or k.running.items place r → n.running.items ≡ set k.running.items place q → q.op ≡ r.op
-      → HasGoneBack seen may_leave origin.pages origin.relations origin.counters k.operations n.operations r.scope q.scope res → IsMoving q.scope.stage → IsIn seen may_leave origin base (state_of k base) (moved k n)
-  back_in k n place r q res safe within there items copy h moving =
+      → HasGoneBack seen may_leave origin.pages origin.relations origin.counters k.operations n.operations r.scope q.scope res → IsMoving q.scope.stage → (q.scope.undoes ≡ 0) × (state_in k.live.members q.scope.txn ≡ Some Aborting) → IsIn seen may_leave origin base (state_of k base) (moved k n)
+  back_in k n place r q res safe within there items copy h moving aborting =
       let g = h.goes in
+      let taken_now : q.scope.stage ≡ Taking → (q.scope.undoes ≡ 0) × (state_in k.live.members q.scope.txn ≡ Some Aborting) = λ is. aborting in
       let adds = adds_dropped r.scope (appended k.operations.store.log) (appended n.operations.store.log) res h.records in
-      let c = carried seen may_leave origin base k n place r q adds.more safe within there items copy g.same h.log h.area h.right adds.is (λ known. numbered_dropped k.last k.live.begun k.live.members r.scope k.operations.locks n.operations.locks (appended k.operations.store.log) (appended n.operations.store.log) res known h.locks h.records safe.fit.numbered) in
+      let c = carried seen may_leave origin base k n place r q adds.more safe within there items copy g.same h.log h.area h.right adds.is taken_now (λ known. numbered_dropped k.last k.live.begun k.live.members r.scope k.operations.locks n.operations.locks (appended k.operations.store.log) (appended n.operations.store.log) res known h.locks h.records safe.fit.numbered) in
       let own : IsRunning origin.relations origin.counters (world seen origin.pages n.operations) k.last q = record { under = g.own; budget = h.budget; number = c.known; moving = moving } in
       let pages = c.pages in let claims_was = safe.claims in let claims = h.claims in
       record {
@@ -123,8 +130,9 @@ module _ {D : Type 0} (seen : D → List ℕ) (may_leave : D → List ℕ → Ty
       → HasGoneBack seen may_leave origin.pages origin.relations origin.counters k.operations n.operations r.scope q.scope (Ok taken.Clear) → q.scope.stage ≡ Cleared → IsCleared seen may_leave origin base (moved k n) place q × (state_of k base ≡ state_of (moved k n) base)
   is_cleared k n place r q safe within there items copy h cleared =
       let g = h.goes in
+      let taken_now : q.scope.stage ≡ Taking → (q.scope.undoes ≡ 0) × (state_in k.live.members q.scope.txn ≡ Some Aborting) = λ is. absurd cc in
       let adds = adds_dropped r.scope (appended k.operations.store.log) (appended n.operations.store.log) (Ok taken.Clear) h.records in
-      let c = carried seen may_leave origin base k n place r q adds.more safe within there items copy g.same h.log h.area h.right adds.is (λ known. numbered_dropped k.last k.live.begun k.live.members r.scope k.operations.locks n.operations.locks (appended k.operations.store.log) (appended n.operations.store.log) (Ok taken.Clear) known h.locks h.records safe.fit.numbered) in
+      let c = carried seen may_leave origin base k n place r q adds.more safe within there items copy g.same h.log h.area h.right adds.is taken_now (λ known. numbered_dropped k.last k.live.begun k.live.members r.scope k.operations.locks n.operations.locks (appended k.operations.store.log) (appended n.operations.store.log) (Ok taken.Clear) known h.locks h.records safe.fit.numbered) in
       let pages = c.pages in let claims_was = safe.claims in let claims = h.claims in (
         record {
           fit = c.fit;
@@ -136,13 +144,13 @@ module _ {D : Type 0} (seen : D → List ℕ) (may_leave : D → List ℕ → Ty
         c.state,
       )
 
-  pub gone_back : (k n : Parts D) (place : ℕ) (r q : Running) (res : Result TakenBack Refusal) → place < length k.running.items → r ≡ get_or k.running.items place r → n.running.items ≡ set k.running.items place q → q.op ≡ r.op → IsConsistent seen may_leave origin base k → IsMoving r.scope.stage
+  pub gone_back : (k n : Parts D) (place : ℕ) (r q : Running) (res : Result TakenBack Refusal) → place < length k.running.items → r ≡ get_or k.running.items place r → n.running.items ≡ set k.running.items place q → q.op ≡ r.op → IsConsistent seen may_leave origin base k → IsMoving r.scope.stage → (r.scope.undoes ≡ 0) × (state_in k.live.members r.scope.txn ≡ Some Aborting)
       → HasGoneBack seen may_leave origin.pages origin.relations origin.counters k.operations n.operations r.scope q.scope res → (res ≡ Ok taken.More → q.scope.stage ≡ Taking) → (res ≡ Ok taken.Clear → q.scope.stage ≡ Cleared) → (res ≡ Ok taken.Flush → q.scope ≡ r.scope) → OnErr res (q.scope ≡ r.scope)
       → GoesBack seen may_leave origin base (state_of k base) (moved k n) place res
-  gone_back k n place r q (Ok taken.More) within there items copy safe moving h more clear flush err = back_in k n place r q (Ok taken.More) safe within there items copy h (inr (inr (more refl)))
-  gone_back k n place r q (Ok taken.Flush) within there items copy safe moving h more clear flush err = back_in k n place r q (Ok taken.Flush) safe within there items copy h (subst (λ (s : OpScope). IsMoving s.stage) (sym (flush refl)) moving)
-  gone_back k n place r q (Err why) within there items copy safe moving h more clear flush err = back_in k n place r q (Err why) safe within there items copy h (subst (λ (s : OpScope). IsMoving s.stage) (sym err) moving)
-  gone_back k n place r q (Ok taken.Clear) within there items copy safe moving h more clear flush err =
+  gone_back k n place r q (Ok taken.More) within there items copy safe moving aborting h more clear flush err = back_in k n place r q (Ok taken.More) safe within there items copy h (inr (inr (more refl))) (still k r q h.goes.same aborting)
+  gone_back k n place r q (Ok taken.Flush) within there items copy safe moving aborting h more clear flush err = back_in k n place r q (Ok taken.Flush) safe within there items copy h (subst (λ (s : OpScope). IsMoving s.stage) (sym (flush refl)) moving) (still k r q h.goes.same aborting)
+  gone_back k n place r q (Err why) within there items copy safe moving aborting h more clear flush err = back_in k n place r q (Err why) safe within there items copy h (subst (λ (s : OpScope). IsMoving s.stage) (sym err) moving) (still k r q h.goes.same aborting)
+  gone_back k n place r q (Ok taken.Clear) within there items copy safe moving aborting h more clear flush err =
       let cleared = is_cleared k n place r q safe within there items copy h (clear refl) in (
         (λ x is.
             let here : q ≡ x = sym (is ∙ ap (λ (rs : List Running). get_or rs place x) items ∙ get_or-set_same k.running.items place q x within) in

@@ -196,3 +196,13 @@ last_cut u t (x ∷ es) apart = go (last_cut u t es apart) (is_some (last_effect
         let away : is_effect u x ≡ false = none_here u x (λ e. apart (e ∙ own)) in
         last_kept u t es apart ∙ sym (ap (λ (c : Bool). last_of (last_effect u es) c x) away ∙ last_skips (last_effect u es) x)
     go rec false false is = refl
+
+-- the last of a transaction's entries that did something, did
+pub last_did : (t : ℕ) (es : List Entry) (e : Entry) → last_effect t es ≡ Some e → is_some (inverse_of e.op e.reply) ≡ true
+last_did t [] e is = absurd cc
+last_did t (x ∷ es) e is = go (last_effect t es) refl (is_effect t x) refl is (λ k. last_did t es e k)
+  where
+    go : (o : Option Entry) → last_effect t es ≡ o → (b : Bool) → is_effect t x ≡ b → last_of o b x ≡ Some e → (last_effect t es ≡ Some e → is_some (inverse_of e.op e.reply) ≡ true) → is_some (inverse_of e.op e.reply) ≡ true
+    go (Some later) was b test k rec = rec (was ∙ k)
+    go None was true test k rec = let same : x ≡ e = cc in let both : is_some (inverse_of x.op x.reply) ≡ true = (and_parts (x.txn == t) (is_some (inverse_of x.op x.reply)) test).1 in ap (λ (y : Entry). is_some (inverse_of y.op y.reply)) (sym same) ∙ both
+    go None was false test k rec = absurd cc

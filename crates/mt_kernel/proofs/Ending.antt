@@ -41,7 +41,7 @@ use Rattle.mt_steps.specs.Held.{Holds}
 use Rattle.mt_steps.specs.Logged.{logged_of}
 use Rattle.mt_steps.specs.Plans.{own_needs, undo_pages}
 use Rattle.mt_kernel.specs.Runs.{running_in, AreApart, IsRunning, IsOwned, is_open, undo_bytes, pages_of, entry_pages, entry_bytes, left_of, kept_bytes, taken_bytes}
-use Rattle.mt_kernel.specs.Consistent.{Origin, state_of, state_in, IsNumbered, IsDue, IsTold, AreTold, IsQueued, IsWithinSchema, IsFit, IsAlone, IsReady, IsIn}
+use Rattle.mt_kernel.specs.Consistent.{Origin, state_of, state_in, AreLeft, IsNumbered, IsDue, IsTold, AreTold, IsQueued, IsWithinSchema, IsFit, IsAlone, IsReady, IsIn}
 use Rattle.mt_kernel.specs.declared.parts.Parts.{Parts}
 use Rattle.mt_kernel.specs.declared.parts.Running.{Running}
 use Rattle.mt_pool.proofs.Logged.{no_records}
@@ -135,6 +135,8 @@ module _ {D : Type 0} (seen : D → List ℕ) (may_leave : D → List ℕ → Ty
         copy = o.copy;
         inverse = λ back. let t = o.inverse back in record { named = ap last_operation same ∙ t.named; entry = t.entry; last = last_push q.scope.txn standing e (λ is. apart.txn (is ∙ own)) ∙ t.last; inverse = t.inverse; copy = t.copy; unsplit = t.unsplit };
         newest = λ fore. subst (IsAbove q.scope.number) (sym same) (o.newest fore);
+        taken = λ is. let t = o.taken is in (t.0, ap (option_map (λ (m : Member). m.state)) same ∙ t.1);
+        aborts = λ back. ap (option_map (λ (m : Member). m.state)) same ∙ o.aborts back;
       }
 
   pub noted_in : (k n : Parts D) (place : ℕ) (r : Running) (reply : Reply) → IsReady seen may_leave origin base k place r reply → r.scope.undoes ≡ 0 → n.running.items ≡ remove k.running.items place
@@ -178,6 +180,7 @@ module _ {D : Type 0} (seen : D → List ℕ) (may_leave : D → List ℕ → Ty
       let more_pages = weighs_push undo_pages k.live.standing e in
       let more_bytes = weighs_push undo_bytes k.live.standing e in
       let less_bytes = weighs_less undo_bytes e in
+      let copied : undo_bytes e.op ≡ undo_bytes r.op = refl in
       let sum_pages : sum_by entry_pages n.live.standing ≡ sum_by entry_pages (k.live.standing ++ e ∷ []) = ap (sum_by entry_pages) standing in
       let sum_bytes : sum_by entry_bytes n.live.standing ≡ sum_by entry_bytes (k.live.standing ++ e ∷ []) = ap (sum_by entry_bytes) standing in
       let undo_p : undo_pages r.op ≡ undo_pages r.scope.op = ap undo_pages copy in
@@ -198,6 +201,7 @@ module _ {D : Type 0} (seen : D → List ℕ) (may_leave : D → List ℕ → Ty
             small = subst (All (IsWithinSchema origin)) (sym standing) (All-push (IsWithinSchema origin) k.live.standing e fit.small (record { op = subst (IsWithin origin.relations origin.counters) (sym copy) alone.own.within; reply = y.small }));
             log = omega arith;
             reserves = omega arith;
+            numbers = let left_now = fit.numbers in omega (arith, left_now, begun, reserves_now, less_bytes, copied);
             queued = queued_members k.live.members n.live.members (appended n.operations.store.log) k.commits.items (λ t is. states t ∙ is) (λ t is. sym (states t) ∙ is) l.queued;
             booked = fit.booked;
             escrowed = fit.escrowed;
@@ -239,6 +243,8 @@ module _ {D : Type 0} (seen : D → List ℕ) (may_leave : D → List ℕ → Ty
         copy = o.copy;
         inverse = λ back. let t = o.inverse back in record { named = ap last_operation same ∙ t.named; entry = t.entry; last = last_cut q.scope.txn r.scope.txn standing apart.txn ∙ t.last; inverse = t.inverse; copy = t.copy; unsplit = t.unsplit };
         newest = λ fore. subst (IsAbove q.scope.number) (sym same) (o.newest fore);
+        taken = λ is. let t = o.taken is in (t.0, ap (option_map (λ (m : Member). m.state)) same ∙ t.1);
+        aborts = λ back. ap (option_map (λ (m : Member). m.state)) same ∙ o.aborts back;
       }
 
   -- the calls that are left were told of before the inverse's end, and it takes none of them back
@@ -313,6 +319,7 @@ module _ {D : Type 0} (seen : D → List ℕ) (may_leave : D → List ℕ → Ty
             small = subst (All (IsWithinSchema origin)) (sym standing) (all_cut (IsWithinSchema origin) r.scope.txn k.live.standing fit.small);
             log = log;
             reserves = omega arith;
+            numbers = subst (λ (v : ℕ). AreLeft k.last v k.reserved) (sym begun) fit.numbers;
             queued = queued_members k.live.members n.live.members (appended n.operations.store.log) k.commits.items (λ u is. states u ∙ is) (λ u is. sym (states u) ∙ is) l.queued;
             booked = fit.booked;
             escrowed = record { all = ap length committed ∙ fit.escrowed.all; counts = λ c lt. ap (λ (cs : List Count). count_at cs c) committed ∙ fit.escrowed.counts c lt };

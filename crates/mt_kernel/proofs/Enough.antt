@@ -27,7 +27,7 @@ use Rattle.mt_kernel.proofs.Effects.{weighs_apart, last_kept}
 use Rattle.mt_kernel.proofs.Reserves.{HasEntry, has_entry, own_last, taken_within, members_many, members_more}
 
 -- one in a state lives
-stated_some : (o : Option Member) → option_map (λ (m : Member). m.state) o ≡ Some Committing → is_some o ≡ true
+pub stated_some : (o : Option Member) → option_map (λ (m : Member). m.state) o ≡ Some Committing → is_some o ≡ true
 stated_some None is = absurd cc
 stated_some (Some m) is = refl
 

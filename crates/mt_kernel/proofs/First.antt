@@ -88,6 +88,7 @@ module _ {D : Type 0} (seen : D → List ℕ) (may_leave : D → List ℕ → Ty
             small = λ i d lt. absurd (omega (arith, lt, no_standing));
             log = omega arith;
             reserves = omega arith;
+            numbers = let last = empty.last in omega (arith, last, reserved);
             queued = subst (λ (X : Type 0). X) (λ i. IsQueued (sym empty.members i) (sym fresh.empty i) (sym empty.commits i)) queued;
             booked = omega arith;
             escrowed = subst (λ (X : Type 0). X) (λ i. IsEscrowed origin.counters (after origin.first (sym empty.book i)) k.escrow) escrowed;

@@ -74,6 +74,8 @@ left_owned ms new standing t q gone apart o =
       copy = o.copy;
       inverse = λ back. let e = o.inverse back in record { named = ap last_operation same ∙ e.named; entry = e.entry; last = last_kept q.scope.txn t standing apart ∙ e.last; inverse = e.inverse; copy = e.copy; unsplit = e.unsplit };
       newest = λ fore. subst (IsAbove q.scope.number) (sym same) (o.newest fore);
+      taken = λ is. let t = o.taken is in (t.0, ap (option_map (λ (m : Member). m.state)) same ∙ t.1);
+      aborts = λ back. ap (option_map (λ (m : Member). m.state)) same ∙ o.aborts back;
     }
 
 left_numbered : (last begun : ℕ) (ms new : List Member) (t : ℕ) (locks : List PageLock) (records : List Record) → ((u : ℕ) → member_of new u ≡ put (member_of ms) t None u) → IsNumbered last begun ms locks records → IsNumbered last begun new locks records
@@ -151,6 +153,7 @@ module _ {D : Type 0} (seen : D → List ℕ) (may_leave : D → List ℕ → Ty
             small = subst (All (IsWithinSchema origin)) (sym standing) (All-filter (λ (e : Entry). others t e.txn) (IsWithinSchema origin) k.live.standing fit.small);
             log = subst (λ (X : Type 0). X) (λ i. used (sym store i).log + sum_by left_of k.running.items + n.reserved < area_size (sym store i).log) log_now;
             reserves = omega arith;
+            numbers = let left = fit.numbers in omega (arith, left, begun, reserved);
             queued = subst (λ (X : Type 0). X) (λ i. IsQueued n.live.members (appended (sym store i).log) (sym rest i)) queued;
             booked = omega arith;
             escrowed = record {
@@ -209,6 +212,7 @@ module _ {D : Type 0} (seen : D → List ℕ) (may_leave : D → List ℕ → Ty
             small = subst (All (IsWithinSchema origin)) (sym standing) (All-filter (λ (e : Entry). others t e.txn) (IsWithinSchema origin) k.live.standing fit.small);
             log = omega arith;
             reserves = omega arith;
+            numbers = let left = fit.numbers in omega (arith, left, begun, reserved);
             queued = queued_members k.live.members n.live.members (appended k.operations.store.log) k.commits.items (λ u is. stays u is) (λ u is. stayed u is) fit.queued;
             booked = fit.booked;
             escrowed = record { all = ap length committed ∙ fit.escrowed.all; counts = λ c lt. ap (λ (cs : List Count). count_at cs c) committed ∙ fit.escrowed.counts c lt };

@@ -5,6 +5,9 @@ pub mod Effects
 pub mod Reserves
 pub mod Enough
 pub mod Rooms
+pub mod Sounds
+pub mod Durables
+pub mod Refusing
 pub mod Entering
 pub mod Inverse
 pub mod Told

@@ -70,6 +70,7 @@ module _ {D : Type 0} (seen : D → List ℕ) (may_leave : D → List ℕ → Ty
             small = fit.small;
             log = fit.log;
             reserves = fit.reserves;
+            numbers = fit.numbers;
             queued = fit.queued;
             booked = fit.booked;
             escrowed = fit.escrowed;

@@ -25,12 +25,18 @@ use Rattle.mt_op.specs.declared.scope.Stage.TheVariants.{Planning}
 use Rattle.mt_space.specs.Changes.{PageBytes}
 use Rattle.mt_slock.specs.Views.{held_of}
 use Rattle.mt_steps.specs.Held.{Holds}
-use Rattle.mt_kernel.specs.Runs.{running_in, is_for, AreApart, IsRunning, IsOwned, is_open, pages_of, left_of, kept_bytes, taken_bytes}
+use Rattle.mt_live.specs.declared.transactions.TxnState.TheVariants.{Aborting}
+use Rattle.mt_kernel.specs.Runs.{running_in, is_for, state_in, AreApart, IsRunning, IsOwned, is_at_work, is_open, pages_of, left_of, kept_bytes, taken_bytes}
 use Rattle.mt_kernel.specs.Consistent.{Origin, state_of, IsNumbered, AreTold, IsQueued, IsConsistent, IsIn}
 use Rattle.mt_kernel.specs.declared.parts.Parts.{Parts}
 use Rattle.mt_kernel.specs.declared.parts.Running.{Running}
 use Rattle.mt_kernel.proofs.Calling.{numbered_last}
 use Rattle.mt_kernel.proofs.Told.{told_last}
+
+-- one that is to be undone is at work
+pub aborting_open : (o : Option Member) → option_map (λ (m : Member). m.state) o ≡ Some Aborting → is_open o ≡ true
+aborting_open None is = absurd cc
+aborting_open (Some m) is = let state : m.state ≡ Aborting = cc in ap is_at_work state
 
 module _ {D : Type 0} (seen : D → List ℕ) (may_leave : D → List ℕ → Type 0) (origin : Origin) (base : Base) where
   pub rests_in : (k n : Parts D) → IsConsistent seen may_leave origin base k → IsRight seen may_leave origin.pages origin.relations origin.counters n.operations → Rests (world seen origin.pages k.operations) (world seen origin.pages n.operations)
@@ -50,6 +56,7 @@ module _ {D : Type 0} (seen : D → List ℕ) (may_leave : D → List ℕ → Ty
             small = fit.small;
             log = omega arith;
             reserves = fit.reserves;
+            numbers = fit.numbers;
             queued = subst (λ (X : Type 0). X) (λ i. IsQueued k.live.members (sym rests.records i) k.commits.items) fit.queued;
             booked = fit.booked;
             escrowed = fit.escrowed;
@@ -67,11 +74,11 @@ module _ {D : Type 0} (seen : D → List ℕ) (may_leave : D → List ℕ → Ty
   running_also (x ∷ xs) r u back = ap (λ (o : Option Op). cond (is_for u x) (Some x.scope.op) o) (running_also xs r u back)
 
   -- an inverse begins, of the last entry of its transaction that did something
-  pub undoing_in : (k n : Parts D) (t : ℕ) (e : Entry) (r : Running) → IsConsistent seen may_leave origin base k → is_open (member_of k.live.members t) ≡ true → All (λ (q : Running). q.scope.txn ≢ t) k.running.items
+  pub undoing_in : (k n : Parts D) (t : ℕ) (e : Entry) (r : Running) → IsConsistent seen may_leave origin base k → state_in k.live.members t ≡ Some Aborting → All (λ (q : Running). q.scope.txn ≢ t) k.running.items
       → last_effect t k.live.standing ≡ Some e → inverse_of e.op e.reply ≡ Some r.scope.op → r.op ≡ e.op → n.running.items ≡ k.running.items ++ r ∷ [] → last_operation (member_of k.live.members t) ≡ Some r.scope.undoes
-      → IsUnderWay origin.relations origin.counters (world seen origin.pages k.operations) r.scope → HasBudget r.scope → r.scope.txn ≡ t → r.scope.number ≡ k.last + 1 → r.scope.undoes ≢ 0 → r.scope.split ≡ false → r.scope.stage ≡ Planning → k.last < 2 ^ 40
+      → IsUnderWay origin.relations origin.counters (world seen origin.pages k.operations) r.scope → HasBudget r.scope → r.scope.txn ≡ t → r.scope.number ≡ k.last + 1 → r.scope.undoes ≢ 0 → r.scope.split ≡ false → r.scope.stage ≡ Planning
       → r.scope.left ≡ 106496 → n.reserved + 106496 ≡ k.reserved → IsIn seen may_leave origin base (state_of k base) (record k { running = n.running; last = k.last + 1; reserved = n.reserved })
-  undoing_in k n t e r safe at_work idle last inverse copy items named under budget txn number back unsplit planning few left freed =
+  undoing_in k n t e r safe aborting idle last inverse copy items named under budget txn number back unsplit planning left freed =
       let fit = safe.fit in
       let z : Parts D = record k { running = n.running; last = k.last + 1; reserved = n.reserved } in
       let runs : (u : ℕ) → running_in k.running.items u ≡ running_in n.running.items u = λ u. sym (running_also k.running.items r u back) ∙ ap (λ (rs : List Running). running_in rs u) (sym items) in
@@ -89,11 +96,13 @@ module _ {D : Type 0} (seen : D → List ℕ) (may_leave : D → List ℕ → Ty
       λ i d lt. let was = safe.runs i d lt in record { under = was.under; budget = was.budget; number = let low = was.number in omega arith; moving = was.moving } in
       let mine : IsRunning origin.relations origin.counters (world seen origin.pages k.operations) (k.last + 1) r = record { under = under; budget = budget; number = omega arith; moving = inl planning } in
       let own : IsOwned k.live.members k.live.standing r = record {
-        at_work = rw txn at_work;
+        at_work = rw txn (aborting_open (member_of k.live.members t) aborting);
         room = λ fore. absurd (back fore);
         copy = λ fore. absurd (back fore);
         inverse = λ b2. record { named = ap (λ (u : ℕ). last_operation (member_of k.live.members u)) txn ∙ named; entry = e; last = rw txn last; inverse = inverse; copy = copy; unsplit = unsplit };
         newest = λ fore. absurd (back fore);
+        taken = λ is. absurd cc;
+        aborts = λ b2. ap (state_in k.live.members) txn ∙ aborting;
       } in
       let pages = sum_by_push pages_of k.running.items r in
       let lefts = sum_by_push left_of k.running.items r in
@@ -119,10 +128,11 @@ module _ {D : Type 0} (seen : D → List ℕ) (may_leave : D → List ℕ → Ty
               number = λ is. let low = (safe.runs i d lt).number in absurd (omega arith);
               txn = λ is. idle i d lt (sym is ∙ txn);
             }));
-            numbered = numbered_last k.last (k.last + 1) k.live.begun k.live.members k.operations.locks (appended k.operations.store.log) (omega arith) (omega (arith, few)) fit.numbered;
+            numbered = numbered_last k.last (k.last + 1) k.live.begun k.live.members k.operations.locks (appended k.operations.store.log) (omega arith) (let left_now = fit.numbers in let begun = fit.numbered.few_transactions in omega (arith, left_now, begun, freed)) fit.numbered;
             small = fit.small;
             log = omega arith;
             reserves = omega arith;
+            numbers = let left_now = fit.numbers in omega (arith, left_now, freed);
             queued = fit.queued;
             booked = fit.booked;
             escrowed = fit.escrowed;

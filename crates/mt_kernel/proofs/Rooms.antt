@@ -48,6 +48,7 @@ module _ {D : Type 0} (seen : D → List ℕ) (may_leave : D → List ℕ → Ty
             small = fit.small;
             log = omega arith;
             reserves = omega arith;
+            numbers = fit.numbers;
             queued = subst (IsQueued k.live.members (appended k.operations.store.log)) (sym commits) fit.queued;
             booked = omega arith;
             escrowed = subst (λ (X : Type 0). X) (λ i. IsEscrowed origin.counters (after origin.first (sym book i)) k.escrow) fit.escrowed;

@@ -43,6 +43,7 @@ use Rattle.mt_steps.specs.Held.{Holds}
 use Rattle.mt_steps.specs.Logged.{HasSmallReply}
 use Rattle.mt_steps.specs.Plans.{own_needs}
 use Rattle.mt_kernel.specs.Runs.{running_in, AreApart, IsRunning, IsOwned, is_open, pages_of, entry_pages, entry_bytes, left_of, kept_bytes, taken_bytes}
+pub use Rattle.mt_kernel.specs.Runs.{state_in}
 use Rattle.mt_kernel.specs.declared.calls.Called.{Called}
 use Rattle.mt_kernel.specs.declared.calls.Called.TheVariants as answer
 use Rattle.mt_kernel.specs.declared.parts.Commit.{Commit}
@@ -79,7 +80,7 @@ pub record IsNumbered (last begun : ℕ) (ms : List Member) (page_locks : List P
   pub ops : (t n : ℕ) → last < n → some_record (ends_op t n) records ≡ false
   pub txns : (t : ℕ) → is_open (member_of ms t) ≡ true → some_record (ends_txn t) records ≡ false
   pub coming : (t : ℕ) → begun < t → some_record (ends_txn t) records ≡ false
-  pub few_operations : last ≤ 2 ^ 40
+  pub few_operations : last ≤ 2 ^ 41
   pub few_transactions : begun ≤ 2 ^ 40
   pub nobody : is_some (member_of ms 0) ≡ false
 
@@ -97,9 +98,6 @@ pub record IsTold (last : ℕ) (records : List Record) (t : ℕ) (m : Member) : 
 
 abbrev pub AreTold : ℕ → List Member → List Record → Type 0
 AreTold last ms records = (t : ℕ) (m : Member) → member_of ms t ≡ Some m → IsTold last records t m
-
-abbrev pub state_in : List Member → ℕ → Option TxnState
-state_in ms t = option_map (λ (m : Member). m.state) (member_of ms t)
 
 abbrev pub session_or : Option Member → ℕ
 session_or None = 0
@@ -128,6 +126,11 @@ pub record IsWithinSchema (origin : Origin) (e : Entry) : Type 0 where
   pub op : IsWithin origin.relations origin.counters e.op
   pub reply : HasSmallReply e.reply
 
+-- The numbers of operations suffice. A call is given one below 2^40; each inverse behind that has its bytes kept, so of such there
+-- are no more than the area and the ends that are kept for transactions have room for.
+abbrev pub AreLeft : ℕ → ℕ → ℕ → Type 0
+AreLeft last begun reserved = 106496 * last + reserved ≤ 106496 * 2 ^ 40 + 67108864 + 128 * begun
+
 -- the counters of the escrow are those of the base that the book leaves
 pub record IsEscrowed (counters : ℕ) (m : Base) (e : Escrowed) : Type 0 where
   pub all : length e.committed ≡ counters
@@ -155,6 +158,7 @@ pub record IsFit {D : Type 0} (seen : D → List ℕ) (may_leave : D → List �
   pub reserves : k.reserved + sum_by taken_bytes k.running.items + 14 * length k.commits.items
       ≡ sum_by kept_bytes k.running.items + sum_by entry_bytes k.live.standing + 128 * length k.live.members
   pub queued : IsQueued k.live.members (appended k.operations.store.log) k.commits.items
+  pub numbers : AreLeft k.last k.live.begun k.reserved
   pub booked : vec_len k.book + length k.commits.items ≤ vec_capacity k.book
   pub escrowed : IsEscrowed origin.counters (committed_base origin.first (state_of k base)) k.escrow
 
@@ -168,7 +172,7 @@ pub record IsConsistent {D : Type 0} (seen : D → List ℕ) (may_leave : D → 
 
 -- consistent on some base
 abbrev pub IsSound : {D : Type 0} → (D → List ℕ) → (D → List ℕ → Type 0) → Parts D → Type 0
-IsSound seen may_leave k = (origin : Origin) × (base : Base) × IsConsistent seen may_leave origin base k
+IsSound seen may_leave k = ∥ ((origin : Origin) × (base : Base) × IsConsistent seen may_leave origin base k) ∥₁
 
 -- bytes of the log that are used and kept
 abbrev pub log_kept : {D : Type 0} → Parts D → ℕ

@@ -1,3 +1,5 @@
 pub mod Runs
 pub mod Consistent
+pub mod Causes
 pub mod Steps
+pub mod Booked

@@ -1,5 +1,6 @@
 -- The operations under way, at most one a transaction, and what is kept for them and for what may have to be undone.
 use Rattle.std.specs.Prelude.{ℕ, ◌≡◌, ◌≢◌, ◌⊎◌, ◌≤◌, ◌+◌, ◌==◌, ◌&&◌, Bool, true, false, cond, if◌then◌else◌, List, [], ◌∷◌, Option, Some, None, is_some}
+use Rattle.std.specs.Option.{option_map}
 use Rattle.mt_live.specs.declared.transactions.TxnState.{TxnState}
 use Rattle.mt_live.specs.declared.transactions.TxnState.TheVariants.{Open, Committing, Aborting}
 use Rattle.mt_live.specs.Entries.{Entry}
@@ -48,6 +49,9 @@ abbrev pub is_open : Option Member → Bool
 is_open None = false
 is_open (Some m) = is_at_work m.state
 
+abbrev pub state_in : List Member → ℕ → Option TxnState
+state_in ms t = option_map (λ (m : Member). m.state) (member_of ms t)
+
 -- the last entry of its transaction that did something, which it takes back, by its operation's number
 pub record TakesBack (ms : List Member) (standing : List Entry) (r : Running) : Type 0 where
   pub named : last_operation (member_of ms r.scope.txn) ≡ Some r.scope.undoes
@@ -57,12 +61,15 @@ pub record TakesBack (ms : List Member) (standing : List Entry) (r : Running) : 
   pub copy : r.op ≡ entry.op
   pub unsplit : r.scope.split ≡ false
 
+-- Only what a transaction that is to be undone has called is taken back, and only of such a one are there inverses.
 pub record IsOwned (ms : List Member) (standing : List Entry) (r : Running) : Type 0 where
   pub at_work : is_open (member_of ms r.scope.txn) ≡ true
   pub room : r.scope.undoes ≡ 0 → has_room (member_of ms r.scope.txn) ≡ true
   pub copy : r.scope.undoes ≡ 0 → r.op ≡ r.scope.op
   pub inverse : r.scope.undoes ≢ 0 → TakesBack ms standing r
   pub newest : r.scope.undoes ≡ 0 → IsAbove r.scope.number (member_of ms r.scope.txn)
+  pub taken : r.scope.stage ≡ Taking → (r.scope.undoes ≡ 0) × (state_in ms r.scope.txn ≡ Some Aborting)
+  pub aborts : r.scope.undoes ≢ 0 → state_in ms r.scope.txn ≡ Some Aborting
 
 -- ---- claims and log bytes
 

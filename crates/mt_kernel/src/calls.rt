@@ -1,6 +1,6 @@
 // Calls of operations.
-ghost use Rattle.std.specs.Prelude.{◌≡◌, ◌≢◌, ◌<◌, ◌+◌, ◌^◌, ◌++◌, [], ℕ, length, true, All, List, OnOk, OnErr};
-ghost use Rattle.std.specs.Bool.{OnTrue};
+ghost use Rattle.std.specs.Prelude.{◌≡◌, ◌≢◌, ◌⊎◌, ◌<◌, ◌≤◌, ◌+◌, ◌^◌, IfErr, ◌++◌, [], ℕ, length, true, All, List, OnOk, OnErr};
+ghost use Rattle.std.specs.Bool.{OnTrue, OnFalse};
 ghost use Rattle.std.specs.List.{sum_by};
 ghost use Rattle.std.specs.Vec.{vec_len, vec_capacity};
 ghost use Rattle.mt_escrow.specs.Seen.{Escrowed};
@@ -11,6 +11,8 @@ ghost use Rattle.mt_model.specs.Model.{Base, IsWithin, object_of};
 ghost use Rattle.mt_model.specs.declared.objects.Object.{Object};
 ghost use Rattle.mt_slock.specs.declared.holders.Holder.{Holder};
 ghost use Rattle.mt_kernel.specs.Consistent.{CallsIn, log_kept, Origin, state_of, IsConsistent, IsIn, IsPlaceOf, MayRun, MayBeCalled, IsLocked, IsGranted, IsAskedFor, IsCalled, IsRestored, without_call};
+ghost use Rattle.mt_kernel.specs.Causes.{HasReserves, IsUnreserved, IsAdmittedBy, IsRefusedBehind, IsAnswered};
+ghost use Rattle.mt_base.specs.declared.refusal.Refusal.{Refusal};
 ghost use Rattle.mt_kernel.specs.Runs.{left_of};
 ghost use Rattle.mt_kernel.specs.declared.parts.Running.{Running};
 
@@ -36,10 +38,12 @@ pub enum Called {
 
 // Asks leave for an operation that is an add.
 fn ask(escrow: &mut Escrow, txn: TxnNo, op: &Op) -> Result<(), Refusal>
-    requires { (relations : ℕ) × IsWithin relations (length escrow.old.committed) op.now }
+    requires within { ∥ ((relations : ℕ) × IsWithin relations (length escrow.old.committed) op.now) ∥₁ }
     ensures granted { OnOk result (escrow.new.pending ≡ escrow.old.pending ++ add_before txn op.now []) }
     ensures committed { escrow.new.committed ≡ escrow.old.committed }
     ensures admitted { OnOk result (IsAskedFor escrow.old txn op.now) }
+    ensures cause { IfErr result (λ why. (why ≡ Refusal.NoMemory)
+        ⊎ ((why ≡ Refusal.Escrow) × ¬ IsAskedFor escrow.old txn op.now)) }
     ensures kept { OnErr result (escrow.new ≡ escrow.old) }
 {
     if let Op::Add(counter, step) = op {
@@ -82,12 +86,15 @@ impl<D: Device> Parts<D> {
         op: &Op,
         split: bool,
     ) -> Result<Called, Refusal>
-        requires safe { (origin : Origin) × (base : Base) × IsConsistent D.seen D.may_leave origin base self.old
-            × MayBeCalled origin self.old txn op.now }
+        requires safe { ∥ ((origin : Origin) × (base : Base) × IsConsistent D.seen D.may_leave origin base self.old
+            × MayBeCalled origin self.old txn op.now) ∥₁ }
         requires few { self.old.last < 2 ^ 40 }
-        ensures { (origin : Origin) (base : Base) → IsConsistent D.seen D.may_leave origin base self.old
+        ensures called { (origin : Origin) (base : Base) → IsConsistent D.seen D.may_leave origin base self.old
             → MayBeCalled origin self.old txn op.now
             → IsCalled D.seen D.may_leave origin base (state_of self.old base) self.new txn op.now result }
+        ensures answer { (origin : Origin) (base : Base) → IsConsistent D.seen D.may_leave origin base self.old
+            → MayBeCalled origin self.old txn op.now
+            → IsAnswered D.seen origin self.old (log_kept self.old) txn op.now split result }
     {
         let own = op.try_clone()?;
         let end = op.try_clone()?;
@@ -102,6 +109,7 @@ impl<D: Device> Parts<D> {
     pub(crate) fn log_takes(&self, bytes: u64) -> bool
         requires { log_kept self.now < area_size self.now.operations.store.log }
         ensures takes { OnTrue result (log_kept self.now + bytes < area_size self.now.operations.store.log) }
+        ensures full { OnFalse result (area_size self.now.operations.store.log ≤ log_kept self.now + bytes) }
         ensures sum { OnTrue result (self.now.reserved + bytes < 2 ^ 64) }
     {
         let log = self.operations.log();
@@ -117,8 +125,8 @@ impl<D: Device> Parts<D> {
         end: Op,
         split: bool,
     ) -> Result<(), Refusal>
-        requires granted { (origin : Origin) × (base : Base) × (locks : List (Object × List Holder))
-            × (escrow : Escrowed) × IsGranted D.seen D.may_leave origin base locks escrow self.old txn end }
+        requires granted { ∥ ((origin : Origin) × (base : Base) × (locks : List (Object × List Holder))
+            × (escrow : Escrowed) × IsGranted D.seen D.may_leave origin base locks escrow self.old txn end) ∥₁ }
         requires same { own ≡ end }
         requires room { vec_len self.old.running < vec_capacity self.old.running }
         requires few { self.old.last < 2 ^ 40 }
@@ -126,6 +134,12 @@ impl<D: Device> Parts<D> {
             → IsGranted D.seen D.may_leave origin base locks escrow self.old txn end
             → OnOk result
             (CallsIn D.seen D.may_leave origin base (without_call locks escrow self.old) self.new txn end) }
+        ensures may { (origin : Origin) (base : Base) (locks : List (Object × List Holder)) (escrow : Escrowed)
+            → IsGranted D.seen D.may_leave origin base locks escrow self.old txn end
+            → OnOk result (HasReserves D.seen origin self.old (log_kept self.old) end split) }
+        ensures cause { (origin : Origin) (base : Base) (locks : List (Object × List Holder)) (escrow : Escrowed)
+            → IsGranted D.seen D.may_leave origin base locks escrow self.old txn end
+            → IfErr result (IsUnreserved D.seen origin self.old (log_kept self.old) end split) }
         ensures err { OnErr result (IsRestored D.seen D.may_leave self.old self.new) }
     {
         let pages = pages_for(&own, split) + pages_to_undo(&own);
@@ -164,8 +178,8 @@ impl<D: Device> Parts<D> {
         end: Op,
         split: bool,
     ) -> Result<(), Refusal>
-        requires locked { (origin : Origin) × (base : Base) × (locks : List (Object × List Holder))
-            × IsLocked D.seen D.may_leave origin base locks self.old txn op.now }
+        requires locked { ∥ ((origin : Origin) × (base : Base) × (locks : List (Object × List Holder))
+            × IsLocked D.seen D.may_leave origin base locks self.old txn op.now) ∥₁ }
         requires same { (own ≡ op.now) × (end ≡ op.now) }
         requires room { vec_len self.old.running < vec_capacity self.old.running }
         requires few { self.old.last < 2 ^ 40 }
@@ -173,6 +187,12 @@ impl<D: Device> Parts<D> {
             → IsLocked D.seen D.may_leave origin base locks self.old txn op.now
             → OnOk result
             (CallsIn D.seen D.may_leave origin base (without_call locks self.old.escrow self.old) self.new txn op.now) }
+        ensures may { (origin : Origin) (base : Base) (locks : List (Object × List Holder))
+            → IsLocked D.seen D.may_leave origin base locks self.old txn op.now
+            → OnOk result (IsAdmittedBy D.seen origin self.old (log_kept self.old) txn op.now split) }
+        ensures cause { (origin : Origin) (base : Base) (locks : List (Object × List Holder))
+            → IsLocked D.seen D.may_leave origin base locks self.old txn op.now
+            → IfErr result (IsRefusedBehind D.seen origin self.old (log_kept self.old) txn op.now split) }
         ensures err { OnErr result (IsRestored D.seen D.may_leave self.old self.new) }
     {
         ask(&mut self.escrow, txn, op)?;
@@ -197,14 +217,17 @@ impl<D: Device> Parts<D> {
         object: Object,
         again: &Object,
     ) -> Result<Called, Refusal>
-        requires safe { (origin : Origin) × (base : Base) × IsConsistent D.seen D.may_leave origin base self.old
-            × MayRun origin self.old txn op.now }
+        requires safe { ∥ ((origin : Origin) × (base : Base) × IsConsistent D.seen D.may_leave origin base self.old
+            × MayRun origin self.old txn op.now) ∥₁ }
         requires same { (own ≡ op.now) × (end ≡ op.now) × (object ≡ object_of op.now) × (again.now ≡ object_of op.now) }
         requires room { vec_len self.old.running < vec_capacity self.old.running }
         requires few { self.old.last < 2 ^ 40 }
-        ensures { (origin : Origin) (base : Base) → IsConsistent D.seen D.may_leave origin base self.old
+        ensures called { (origin : Origin) (base : Base) → IsConsistent D.seen D.may_leave origin base self.old
             → MayRun origin self.old txn op.now
             → IsCalled D.seen D.may_leave origin base (state_of self.old base) self.new txn op.now result }
+        ensures answer { (origin : Origin) (base : Base) → IsConsistent D.seen D.may_leave origin base self.old
+            → MayRun origin self.old txn op.now
+            → IsAnswered D.seen origin self.old (log_kept self.old) txn op.now split result }
     {
         let mode = op.mode();
         match self.locks.ask(txn, object, mode)? {

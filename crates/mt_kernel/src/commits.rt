@@ -1,22 +1,25 @@
 // Transactions that begin, commit and leave, and the writes that make commits durable.
-ghost use Rattle.std.specs.Prelude.{◌≡◌, ◌≢◌, ◌⊎◌, ◌<◌, ◌+◌, ◌^◌, ℕ, List, ◌∷◌, length, true, All, Some, Ok, IsErr, IfOk, IfErr, OnOk, OnErr};
+ghost use Rattle.std.specs.Prelude.{◌≡◌, ◌≢◌, ◌⊎◌, ◌<◌, ◌≤◌, ◌+◌, ◌^◌, ℕ, List, ◌∷◌, ◌++◌, length, drop, true, All, Some, Ok, IsErr, IfOk, IfErr, OnOk, OnErr};
 ghost use Rattle.mt_live.specs.Lives.{member_of};
 ghost use Rattle.mt_live.specs.Machine.{begun, booked};
 ghost use Rattle.mt_live.specs.declared.transactions.TxnState.TheVariants.{Open};
 ghost use Rattle.mt_disk.specs.Disk.{HasCause};
-ghost use Rattle.mt_log.specs.Words.{durable, has_failed, IsStep};
+ghost use Rattle.mt_log.specs.Words.{durable, has_failed, area_size, IsStep};
 ghost use Rattle.mt_model.specs.Model.{Base};
 ghost use Rattle.mt_pool.specs.Views.{IsWaiting, Cleans};
 ghost use Rattle.mt_pool.specs.declared.flushing.Flushed.TheVariants as flushed;
-ghost use Rattle.mt_kernel.specs.Consistent.{BooksIn, IsSound, StaysIn, OnlyOperations, Origin, state_of, state_in, session_in, IsConsistent, IsIn};
+ghost use Rattle.mt_base.specs.declared.refusal.Refusal.{Refusal};
+ghost use Rattle.mt_kernel.specs.Consistent.{log_kept, BooksIn, IsSound, StaysIn, OnlyOperations, Origin, state_of, state_in, session_in, IsConsistent, IsIn};
+ghost use Rattle.mt_kernel.specs.Booked.{booked_each, durable_count, durable_txns};
 ghost use Rattle.mt_kernel.specs.Runs.{is_open};
+ghost use Rattle.std.specs.Vec.{vec_len, vec_capacity};
 ghost use Rattle.mt_kernel.specs.declared.parts.Commit.{Commit};
 ghost use Rattle.mt_kernel.specs.declared.parts.Running.{Running};
 
 use crate::parts::{Commit, Parts};
 use crate::reserving::{all_bytes_kept, all_pages_kept};
 use mt_base::limits::TRANSACTION_LOG_BYTES;
-use mt_base::{Refusal, TxnNo};
+use mt_base::{LogPos, Refusal, TxnNo};
 use mt_disk::{Device, DeviceFault};
 use mt_frame::Record;
 use mt_live::TxnState;
@@ -25,6 +28,19 @@ use mt_pool::Flushed;
 
 // What the Commit of a transaction, or the end of its abort, takes of the log.
 const END_LOG_BYTES: u64 = 14;
+
+// How many of the commits stand before the first whose record is behind this place.
+fn durable_count(commits: &[Commit], place: LogPos) -> usize
+    ensures count { result ≡ durable_count commits.now place }
+    ensures within { result ≤ length commits.now }
+{
+    for (i, one) in commits.iter().enumerate() {
+        if place.get() < one.place.get() {
+            return i;
+        }
+    }
+    commits.len()
+}
 
 impl<D: Device> Parts<D> {
     /// Begins a transaction of this session, open and without operations. Its number is the next one, from 1.
@@ -37,6 +53,9 @@ impl<D: Device> Parts<D> {
         ensures begun { (origin : Origin) (base : Base) → IsConsistent D.seen D.may_leave origin base self.old
             → OnOk result (IsIn D.seen D.may_leave origin base (begun (state_of self.old base) session) self.new) }
         ensures number { IfOk result (λ txn. txn ≡ self.old.live.begun + 1) }
+        ensures may { OnOk result (log_kept self.old + 128 < area_size self.old.operations.store.log) }
+        ensures cause { IfErr result (λ why. (why ≡ Refusal.NoMemory) ⊎ ((why ≡ Refusal.LogFull)
+            × (area_size self.old.operations.store.log ≤ log_kept self.old + 128))) }
         ensures err { OnErr result (self.new ≡ self.old) }
     {
         if !self.log_takes(TRANSACTION_LOG_BYTES) {
@@ -65,7 +84,8 @@ impl<D: Device> Parts<D> {
         requires idle { All (λ (r : Running). r.scope.txn ≢ txn) self.old.running.items }
         ensures state { StaysIn D.seen D.may_leave self.old self.new }
         ensures place { IfOk result (λ place.
-            place ≡ length self.new.book.items + length self.new.commits.items) }
+            place ≡ length self.old.book.items + length self.old.commits.items + 1) }
+        ensures only_memory { IfErr result (λ why. why ≡ Refusal.NoMemory) }
     {
         self.commits.reserve(1)?;
         self.book.reserve(self.commits.len() + 1)?;
@@ -84,8 +104,9 @@ impl<D: Device> Parts<D> {
         requires some { (c : Commit) × (cs : List Commit) × (self.old.commits.items ≡ c ∷ cs) }
         ensures left { (origin : Origin) (base : Base) (c : Commit) (cs : List Commit)
             → IsConsistent D.seen D.may_leave origin base self.old → self.old.commits.items ≡ c ∷ cs
-            → BooksIn D.seen D.may_leave origin base self.old self.new c × (result ≡ c.txn)
-            × (self.new.commits.items ≡ cs) }
+            → BooksIn D.seen D.may_leave origin base self.old self.new c }
+        ensures rest { (c : Commit) (cs : List Commit) → self.old.commits.items ≡ c ∷ cs
+            → (result ≡ c.txn) × (self.new.commits.items ≡ cs) }
     {
         let reserved = self.reserved;
         let Commit { txn, place: _ } = self.commits.remove(0);
@@ -97,6 +118,25 @@ impl<D: Device> Parts<D> {
         self.locks.release(txn);
         self.escrow.commit(txn);
         txn
+    }
+
+    /// Books each of the commits under way whose record is in the log up to this place, in their order, as
+    /// [`Parts::leave_first`] does, and puts their transactions behind the names. It takes no memory.
+    pub fn leave_durable(&mut self, place: LogPos, names: &mut Vec<TxnNo>)
+        requires safe { IsSound D.seen D.may_leave self.old }
+        requires room { vec_len names.old + length self.old.commits.items ≤ vec_capacity names.old }
+        ensures left { (origin : Origin) (base : Base) → IsConsistent D.seen D.may_leave origin base self.old
+            → IsIn D.seen D.may_leave origin base (booked_each (state_of self.old base)
+            (durable_txns self.old.commits.items place)) self.new }
+        ensures names { names.new.items ≡ names.old.items ++ durable_txns self.old.commits.items place }
+        ensures rest { self.new.commits.items
+            ≡ drop (durable_count self.old.commits.items place) self.old.commits.items }
+    {
+        let count = durable_count(self.commits.as_slice(), place);
+        for _booked in 0..count {
+            let txn = self.leave_first();
+            names.push_reserved(txn);
+        }
     }
 
     /// Makes a step of the log's force, of one device call. Answers up to which record the log is durable where a

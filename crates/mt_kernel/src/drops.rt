@@ -1,8 +1,9 @@
 // Operations that are taken back unfinished.
-ghost use Rattle.std.specs.Prelude.{◌≡◌, ◌≢◌, ◌⊎◌, ◌<◌, ℕ, length, slice_index_or};
+ghost use Rattle.std.specs.Prelude.{◌≡◌, ◌≢◌, ◌⊎◌, ◌<◌, ℕ, Some, length, slice_index_or};
 ghost use Rattle.mt_live.specs.Machine.{dropped};
 ghost use Rattle.mt_model.specs.Model.{Base};
-ghost use Rattle.mt_kernel.specs.Consistent.{DropsIn, IsSound, IsClearedAt, AtPlace, Origin, state_of, IsConsistent, IsCleared, IsIn, GoesBack};
+ghost use Rattle.mt_live.specs.declared.transactions.TxnState.TheVariants.{Aborting};
+ghost use Rattle.mt_kernel.specs.Consistent.{DropsIn, state_in, IsSound, IsClearedAt, AtPlace, Origin, state_of, IsConsistent, IsCleared, IsIn, GoesBack};
 ghost use Rattle.mt_kernel.specs.declared.parts.Running.{Running};
 
 use crate::ends::let_go;
@@ -14,7 +15,8 @@ use mt_op::TakenBack;
 use mt_steps::{pages_for, pages_to_undo};
 
 impl<D: Device> Parts<D> {
-    /// Makes a step of the taking back of the operation at a place: a page that it wrote is put back. At `Clear`
+    /// Makes a step of the taking back of the operation at a place, which is no inverse and of a transaction that is
+    /// to be undone: a page that it wrote is put back. At `Clear`
     /// nothing of it is left but its page locks and its claims, and it has to be dropped out. The base that the
     /// pages hold stays.
     ///
@@ -22,6 +24,8 @@ impl<D: Device> Parts<D> {
     pub fn take_back(&mut self, place: usize) -> Result<TakenBack, Refusal>
         requires safe { IsSound D.seen D.may_leave self.old }
         requires within { place < length self.old.running.items }
+        requires aborting { AtPlace self.old.running.items place (λ r. (r.scope.undoes ≡ 0)
+            × (state_in self.old.live.members r.scope.txn ≡ Some Aborting)) }
         ensures { (origin : Origin) (base : Base) → IsConsistent D.seen D.may_leave origin base self.old
             → GoesBack D.seen D.may_leave origin base (state_of self.old base) self.new place result }
     {
@@ -31,8 +35,8 @@ impl<D: Device> Parts<D> {
     /// Drops an operation out that was taken back and is no inverse: its page locks go, and so does what was kept
     /// for it and for its inverse. Its add, where it is one, is pending no more. It takes no memory.
     pub fn drop_out(&mut self, place: usize)
-        requires cleared { (origin : Origin) × (base : Base)
-            × IsClearedAt D.seen D.may_leave origin base self.old place }
+        requires cleared { ∥ ((origin : Origin) × (base : Base)
+            × IsClearedAt D.seen D.may_leave origin base self.old place) ∥₁ }
         requires within { place < length self.old.running.items }
         requires forward { AtPlace self.old.running.items place (λ r. r.scope.undoes ≡ 0) }
         ensures { (origin : Origin) (base : Base) → IsClearedAt D.seen D.may_leave origin base self.old place

@@ -31,8 +31,8 @@ impl<D: Device> Parts<D> {
     // Ends an operation that is ready and no inverse: it stands behind all others, with this reply. Where it did
     // nothing, what was kept for its inverse is free.
     pub(crate) fn note_end(&mut self, place: usize, reply: Reply)
-        requires ready { (origin : Origin) × (base : Base)
-            × IsReadyAt D.seen D.may_leave origin base self.old place reply }
+        requires ready { ∥ ((origin : Origin) × (base : Base)
+            × IsReadyAt D.seen D.may_leave origin base self.old place reply) ∥₁ }
         requires within { place < length self.old.running.items }
         requires forward { AtPlace self.old.running.items place (λ r. r.scope.undoes ≡ 0) }
         ensures { (origin : Origin) (base : Base) → IsReadyAt D.seen D.may_leave origin base self.old place reply
@@ -50,8 +50,8 @@ impl<D: Device> Parts<D> {
 
     // Ends an inverse that is ready: what it takes back stands no more, nor what its transaction did behind it.
     pub(crate) fn note_undone(&mut self, place: usize)
-        requires ready { (origin : Origin) × (base : Base) × (reply : Reply)
-            × IsReadyAt D.seen D.may_leave origin base self.old place reply }
+        requires ready { ∥ ((origin : Origin) × (base : Base) × (reply : Reply)
+            × IsReadyAt D.seen D.may_leave origin base self.old place reply) ∥₁ }
         requires within { place < length self.old.running.items }
         requires back { AtPlace self.old.running.items place (λ r. r.scope.undoes ≢ 0) }
         ensures { (origin : Origin) (base : Base) (reply : Reply)

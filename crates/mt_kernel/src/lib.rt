@@ -15,6 +15,7 @@ mod parts;
 mod reserving;
 mod steps;
 mod undo;
+mod views;
 
 pub use calls::Called;
 pub use parts::{Commit, Parts, Running};

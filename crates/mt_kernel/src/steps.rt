@@ -44,8 +44,8 @@ impl<D: Device> Parts<D> {
         requires stage { AtPlace self.old.running.items place (λ r. (r.scope.stage ≡ Planning) ⊎ (r.scope.stage
             ≡ Writing)) }
         ensures length { length self.new.running.items ≡ length self.old.running.items }
-        ensures same { (r q : Running) → r ≡ slice_index_or self.old.running.items place r
-            → q ≡ slice_index_or self.new.running.items place q → SameOp r.scope q.scope }
+        ensures same { (origin : Origin) (base : Base) → IsConsistent D.seen D.may_leave origin base self.old
+            → (r q : Running) → r ≡ slice_index_or self.old.running.items place r → q ≡ slice_index_or self.new.running.items place q → SameOp r.scope q.scope }
         ensures advances { (origin : Origin) (base : Base) → IsConsistent D.seen D.may_leave origin base self.old
             → Advances D.seen D.may_leave origin base (state_of self.old base) self.new place result }
     {

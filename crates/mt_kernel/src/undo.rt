@@ -1,10 +1,11 @@
 // The inverses of an abort, and its end.
-ghost use Rattle.std.specs.Prelude.{◌≡◌, ◌≢◌, ◌<◌, ◌^◌, ℕ, true, All, None, OnOk, OnErr};
+ghost use Rattle.std.specs.Prelude.{◌≡◌, ◌≢◌, ℕ, true, false, All, None, Some, Ok, IfErr, OnOk, OnErr};
 ghost use Rattle.mt_live.specs.Lives.{member_of};
 ghost use Rattle.mt_live.specs.Machine.{gone};
 ghost use Rattle.mt_live.specs.Undoing.{last_effect};
 ghost use Rattle.mt_model.specs.Model.{Base};
-ghost use Rattle.mt_kernel.specs.Consistent.{IsSound, StaysIn, Origin, state_of, IsConsistent, IsIn};
+ghost use Rattle.mt_live.specs.declared.transactions.TxnState.TheVariants.{Aborting};
+ghost use Rattle.mt_kernel.specs.Consistent.{IsSound, StaysIn, state_in, Origin, state_of, IsConsistent, IsIn};
 ghost use Rattle.mt_kernel.specs.Runs.{is_open};
 ghost use Rattle.mt_kernel.specs.declared.parts.Running.{Running};
 
@@ -17,17 +18,20 @@ use mt_inverse::inverse_of;
 use std::alloc::Global;
 
 impl<D: Device> Parts<D> {
-    /// Begins the inverse of a transaction's last operation that did something (Weikum 1991); answers `false` where
-    /// there is none. It runs on the pages and the log bytes that were kept for it, under the locks that its
+    /// Begins the inverse of the last operation that did something, of a transaction that is to be undone and runs
+    /// nothing (Weikum 1991); answers `false` where there is none. It runs on the pages and the log bytes that were kept for it, under the locks that its
     /// transaction holds, and splits no bucket.
     ///
     /// Refused with 1 for want of memory; nothing has begun then.
     pub fn undo_begin(&mut self, alloc: Global, txn: TxnNo) -> Result<bool, Refusal>
         requires safe { IsSound D.seen D.may_leave self.old }
-        requires at_work { is_open (member_of self.old.live.members txn) ≡ true }
+        requires aborting { state_in self.old.live.members txn ≡ Some Aborting }
         requires idle { All (λ (r : Running). r.scope.txn ≢ txn) self.old.running.items }
-        requires few { self.old.last < 2 ^ 40 }
         ensures state { StaysIn D.seen D.may_leave self.old self.new }
+        ensures nothing { result ≡ Ok false → last_effect txn self.old.live.standing ≡ None }
+        ensures same { result ≡ Ok false → self.new ≡ self.old }
+        ensures live { self.new.live ≡ self.old.live }
+        ensures only_memory { IfErr result (λ why. why ≡ Refusal.NoMemory) }
     {
         let Some(last) = self.live.last_to_undo(txn) else {
             return Ok(false);
@@ -61,6 +65,7 @@ impl<D: Device> Parts<D> {
             → OnOk result (IsIn D.seen D.may_leave origin base (gone (state_of self.old base) txn) self.new) }
         ensures err { (origin : Origin) (base : Base) → IsConsistent D.seen D.may_leave origin base self.old
             → OnErr result (IsIn D.seen D.may_leave origin base (state_of self.old base) self.new) }
+        ensures only_memory { IfErr result (λ why. why ≡ Refusal.NoMemory) }
     {
         self.operations.append(Record::AbortEnd { txn })?;
         self.live.leave(txn);

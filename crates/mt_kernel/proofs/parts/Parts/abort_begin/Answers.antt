@@ -14,5 +14,6 @@ returns g c = record {
       (reopened k.live.members c.set_state.new.self.members c.args.txn was e.member)
       (λ u h. changed_keeps has_room (λ m. with_state m Aborting) k.live.members c.set_state.new.self.members c.args.txn (λ m. refl) e.member u ∙ h)
       (λ u. (reopened_states k.live.members c.set_state.new.self.members c.args.txn was e.member u).0)
-      (λ u. (reopened_states k.live.members c.set_state.new.self.members c.args.txn was e.member u).1);
+      (λ u. (reopened_states k.live.members c.set_state.new.self.members c.args.txn was e.member u).1)
+      (λ u. (reopened_states k.live.members c.set_state.new.self.members c.args.txn was e.member u).2);
 }

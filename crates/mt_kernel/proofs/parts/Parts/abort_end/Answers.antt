@@ -1,3 +1,5 @@
+use mathlib.Core.Logic.{∥∥₁_elim}
+use Rattle.std.proofs.Props.{props}
 use Rattle.std.proofs.Common.{◌≡◌, ◌∙◌, ◌≤◌, ◌-◌, false, refl, sym, ap, subst, arith}
 use Rattle.std.specs.Prelude.{OnErr}
 use Rattle.std.proofs.lemmas.Result.{err_from_is_err_and}
@@ -11,14 +13,17 @@ use Rattle.mt_kernel.proofs.Leaving.{gone_in, gone_closed}
 use Rattle.mt_kernel.proofs.Resting.{rests_in}
 use Rattle.mt_kernel.proofs.Underway.{runs_none}
 use Rattle.mt_live.specs.Lives.{member_of}
+use Rattle.mt_log.specs.Words.{appended}
+use Rattle.mt_kernel.proofs.Sounds.{opening_of, named_of, unended_of}
+use Rattle.mt_kernel.proofs.Aborted.{may_end}
 use Rattle.mt_kernel.proofs.parts.Parts.abort_end.Goals as goal
 
 pub append-requires-clause-fits : goal.append-requires-clause-fits
-append-requires-clause-fits g c = let (origin, base, safe) = c.requires.safe in
-    let enough = end_enough g.D.Device.seen g.D.Device.may_leave origin base c.args.self.now c.args.txn safe.fit c.requires.at_work in let log = safe.fit.log in omega arith
+append-requires-clause-fits g c = ∥∥₁_elim c.requires.safe (hlevel props) (λ (origin, base, safe).
+    let enough = end_enough g.D.Device.seen g.D.Device.may_leave origin base c.args.self.now c.args.txn safe.fit c.requires.at_work in let log = safe.fit.log in omega arith)
 
 pub overflow_sub-self : goal.overflow_sub-self
-overflow_sub-self g c = let (origin, base, safe) = c.requires.safe in end_enough g.D.Device.seen g.D.Device.may_leave origin base c.args.self.now c.args.txn safe.fit c.requires.at_work
+overflow_sub-self g c = ∥∥₁_elim c.requires.safe (hlevel props) (λ (origin, base, safe). end_enough g.D.Device.seen g.D.Device.may_leave origin base c.args.self.now c.args.txn safe.fit c.requires.at_work)
 
 pub returns-in_err-append-clause-err : goal.returns-in_err-append-clause-err
 returns-in_err-append-clause-err g c = λ origin base safe. let p = err_from_is_err_and c.from_residual.result c.from_residual.ensures.1 in let k = c.args.self.now in let e = c.append.ensures in let f = c.in_err-append.ensures in
@@ -40,3 +45,12 @@ returns-clause-gone g c = λ origin base safe. let k = c.args.self.now in let e 
     let ended_now = ended_in seen may_leave origin base z (record z { operations = c.append.new.self }) c.args.txn gone_now.consistent closed (subst (λ n. c.args.txn ≤ n) (sym m.begun) low) c.requires.idle
     (e.right origin.pages origin.relations origin.counters safe.fit.right) (f.notes origin.pages) (λ u ku apart. e.others origin.pages origin.relations origin.counters u ku apart) e.claimed (omega arith) in
     record { consistent = ended_now.consistent; state = gone_now.state ∙ ended_now.state }
+
+pub append-requires-clause-kept : goal.append-requires-clause-kept
+append-requires-clause-kept g c = opening_of g.D.Device.seen g.D.Device.may_leave c.args.self.now c.requires.safe
+
+pub append-requires-clause-grammar : goal.append-requires-clause-grammar
+append-requires-clause-grammar g c = named_of g.D.Device.seen g.D.Device.may_leave c.args.self.now c.requires.safe c.args.txn c.requires.at_work
+
+pub append-requires-clause-rules : goal.append-requires-clause-rules
+append-requires-clause-rules g c = may_end (appended c.args.self.now.operations.store.log) c.args.txn (named_of g.D.Device.seen g.D.Device.may_leave c.args.self.now c.requires.safe c.args.txn c.requires.at_work).0 (unended_of g.D.Device.seen g.D.Device.may_leave c.args.self.now c.requires.safe c.args.txn c.requires.at_work)

@@ -1,3 +1,5 @@
+use mathlib.Core.Logic.{∥∥₁_elim}
+use Rattle.std.proofs.Props.{props}
 use Rattle.std.proofs.Common.{◌≡◌, get_or, arith, refl, sym, ap, subst}
 use Rattle.std.specs.Vec.{with_item}
 use Rattle.std.proofs.Common.{◌∙◌}
@@ -11,27 +13,27 @@ use Rattle.mt_kernel.proofs.Advancing.{advanced, needs_claimed, steps_same}
 use Rattle.mt_kernel.proofs.parts.Parts.advance.Goals as goal
 
 pub step-requires-clause-right : goal.step-requires-clause-right
-step-requires-clause-right g c = let (origin, base, safe) = c.requires.safe in let k = c.args.self.now in let r = c.index_mut.result.now in
+step-requires-clause-right g c = ∥∥₁_elim c.requires.safe (hlevel props) (λ (origin, base, safe). let k = c.args.self.now in let r = c.index_mut.result.now in
     let was : IsRunning origin.relations origin.counters (world g.D.Device.seen origin.pages k.operations) k.last r = subst (IsRunning origin.relations origin.counters (world g.D.Device.seen origin.pages k.operations) k.last) (sym c.index_mut.ensures.value) (safe.runs c.args.place r c.requires.within) in
-    ∣ (origin.pages, origin.relations, origin.counters, safe.fit.right, was.under, safe.fit.schema.few_relations, safe.fit.schema.few_counters) ∣₁
+    ∣ (origin.pages, origin.relations, origin.counters, safe.fit.right, was.under, safe.fit.schema.few_relations, safe.fit.schema.few_counters) ∣₁)
 
 pub step-requires-clause-claims : goal.step-requires-clause-claims
-step-requires-clause-claims g c = let (origin, base, safe) = c.requires.safe in
-    needs_claimed g.D.Device.seen g.D.Device.may_leave origin base c.args.self.now c.args.place c.index_mut.result.now safe c.requires.within c.index_mut.ensures.value
+step-requires-clause-claims g c = ∥∥₁_elim c.requires.safe (hlevel props) (λ (origin, base, safe).
+    needs_claimed g.D.Device.seen g.D.Device.may_leave origin base c.args.self.now c.args.place c.index_mut.result.now safe c.requires.within c.index_mut.ensures.value)
 
 pub step-requires-clause-stage : goal.step-requires-clause-stage
 step-requires-clause-stage g c = c.requires.stage c.index_mut.result.now c.index_mut.ensures.value
 
 pub step-requires-clause-budget : goal.step-requires-clause-budget
-step-requires-clause-budget g c = let (origin, base, safe) = c.requires.safe in let k = c.args.self.now in let r = c.index_mut.result.now in
+step-requires-clause-budget g c = ∥∥₁_elim c.requires.safe (hlevel props) (λ (origin, base, safe). let k = c.args.self.now in let r = c.index_mut.result.now in
     let was : IsRunning origin.relations origin.counters (world g.D.Device.seen origin.pages k.operations) k.last r = subst (IsRunning origin.relations origin.counters (world g.D.Device.seen origin.pages k.operations) k.last) (sym c.index_mut.ensures.value) (safe.runs c.args.place r c.requires.within) in
-    was.budget
+    was.budget)
 
 pub step-requires-clause-room : goal.step-requires-clause-room
-step-requires-clause-room g c = let (origin, base, safe) = c.requires.safe in let k = c.args.self.now in let r = c.index_mut.result.now in
+step-requires-clause-room g c = ∥∥₁_elim c.requires.safe (hlevel props) (λ (origin, base, safe). let k = c.args.self.now in let r = c.index_mut.result.now in
     let part = get_or-le-sum_by left_of k.running.items c.args.place r c.requires.within in
     let mine : left_of (get_or k.running.items c.args.place r) ≡ left_of r = ap left_of (sym c.index_mut.ensures.value) in
-    let log = safe.fit.log in omega (arith, part, mine, log)
+    let log = safe.fit.log in omega (arith, part, mine, log))
 
 pub returns-clause-length : goal.returns-clause-length
 returns-clause-length g c = length-set c.args.self.now.running.items c.args.place (record { scope = c.step.new.scope; op = c.index_mut.result.now.op })
@@ -47,7 +49,7 @@ returns-clause-advances g c = λ origin base safe.
     (record { right = went.0; steps = went.1; log = e.log; area = e.area; budget = e.budget; claims = e.claims; stage = e.stage; records = e.records; locks = e.locks })
 
 pub returns-clause-same : goal.returns-clause-same
-returns-clause-same g c = λ x y at now. let (origin, base, safe) = c.requires.safe in
+returns-clause-same g c = λ origin base safe x y at now.
     let seen = g.D.Device.seen in let k = c.args.self.now in let r = c.index_mut.result.now in let e = c.step.ensures in
     let q : Running = record { scope = c.step.new.scope; op = r.op } in
     let was : IsRunning origin.relations origin.counters (world seen origin.pages k.operations) k.last r = subst (IsRunning origin.relations origin.counters (world seen origin.pages k.operations) k.last) (sym c.index_mut.ensures.value) (safe.runs c.args.place r c.requires.within) in

@@ -1,5 +1,7 @@
 use Rattle.std.proofs.Common.{◌+◌, refl, arith}
 use Rattle.mt_kernel.proofs.Beginning.{begun_in}
+use mathlib.Core.Logic.{∥∥₁_elim}
+use Rattle.std.proofs.Props.{props}
 use Rattle.mt_kernel.proofs.parts.Parts.begin.Goals as goal
 
 pub overflow_add-self : goal.overflow_add-self
@@ -9,3 +11,6 @@ pub returns-clause-begun : goal.returns-clause-begun
 returns-clause-begun g c = λ origin base safe. let e = c.in_ok-txn.ensures in let k = c.args.self.now in
     begun_in g.D.Device.seen g.D.Device.may_leave origin base k (record k { live = c.begin.new.self; reserved = k.reserved + 128 }) c.in_ok-txn.txn c.args.session safe c.requires.few e.number e.begun e.unused e.member e.standing e.count refl
     (let takes = c.if-not-log_takes.ensures.takes in omega arith)
+
+pub log_takes-requires : goal.log_takes-requires
+log_takes-requires g c = ∥∥₁_elim c.requires.safe (hlevel props) (λ (origin, base, safe). safe.fit.log)

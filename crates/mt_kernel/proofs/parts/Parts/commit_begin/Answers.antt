@@ -1,3 +1,5 @@
+use mathlib.Core.Logic.{∥∥₁_elim}
+use Rattle.std.proofs.Props.{props}
 use Rattle.std.proofs.Common.{◌≡◌, ◌∙◌, ◌-◌, ◌++◌, ◌∷◌, [], List, length, refl, ap, arith}
 use Rattle.std.proofs.lemmas.List.{length_push}
 use Rattle.mt_frame.specs.declared.records.Record.{Record}
@@ -9,6 +11,8 @@ use Rattle.mt_kernel.proofs.Enough.{end_enough}
 use Rattle.mt_kernel.proofs.Resting.{rests_in}
 use Rattle.mt_kernel.proofs.Rooms.{rooms_in}
 use Rattle.mt_log.specs.Words.{appended}
+use Rattle.mt_kernel.proofs.Sounds.{opening_of, named_of, unended_of}
+use Rattle.mt_kernel.proofs.Committing.{may_commit}
 use Rattle.mt_kernel.proofs.parts.Parts.commit_begin.Goals as goal
 
 pub returns-in_err-reserve-2-clause-state : goal.returns-in_err-reserve-2-clause-state
@@ -16,8 +20,8 @@ returns-in_err-reserve-2-clause-state g c = λ origin base safe. let k = c.args.
     rooms_in g.D.Device.seen g.D.Device.may_leave origin base k (record k { commits = c.reserve.new.self; book = c.reserve-2.new.self }) safe refl a.items b.items b.len b.capacity
 
 pub append-requires-clause-fits : goal.append-requires-clause-fits
-append-requires-clause-fits g c = let (origin, base, safe) = c.requires.safe in
-    let enough = end_enough g.D.Device.seen g.D.Device.may_leave origin base c.args.self.now c.args.txn safe.fit c.requires.at_work in let log = safe.fit.log in omega arith
+append-requires-clause-fits g c = ∥∥₁_elim c.requires.safe (hlevel props) (λ (origin, base, safe).
+    let enough = end_enough g.D.Device.seen g.D.Device.may_leave origin base c.args.self.now c.args.txn safe.fit c.requires.at_work in let log = safe.fit.log in omega arith)
 
 pub returns-in_err-place-clause-state : goal.returns-in_err-place-clause-state
 returns-in_err-place-clause-state g c = λ origin base safe. let k = c.args.self.now in let a = c.reserve.ensures in let b = c.reserve-2.ensures in let e = c.append.ensures in let f = c.in_err-place.ensures in
@@ -28,8 +32,8 @@ returns-in_err-place-clause-state g c = λ origin base safe. let k = c.args.self
     record { consistent = rests.consistent; state = roomier.state ∙ rests.state }
 
 pub overflow_sub-self : goal.overflow_sub-self
-overflow_sub-self g c = let (origin, base, safe) = c.requires.safe in
-    let enough = end_enough g.D.Device.seen g.D.Device.may_leave origin base c.args.self.now c.args.txn safe.fit c.requires.at_work in omega arith
+overflow_sub-self g c = ∥∥₁_elim c.requires.safe (hlevel props) (λ (origin, base, safe).
+    let enough = end_enough g.D.Device.seen g.D.Device.may_leave origin base c.args.self.now c.args.txn safe.fit c.requires.at_work in omega arith)
 
 pub returns-clause-state : goal.returns-clause-state
 returns-clause-state g c = λ origin base safe. let k = c.args.self.now in let a = c.reserve.ensures in let b = c.reserve-2.ensures in let ok = c.in_ok-reserve-2.ensures in let e = c.append.ensures in let f = c.in_ok-place.ensures in let m = c.set_state.ensures in let p = c.push_reserved.ensures in
@@ -45,3 +49,12 @@ returns-clause-state g c = λ origin base safe. let k = c.args.self.now in let a
     let room = ok.ok in let len = c.len.ensures in let same_len = b.len in let old = ap (λ (cs : List Commit). length cs) a.items in
     committing_in seen may_leave origin base k n it safe c.requires.at_work c.requires.idle (e.right origin.pages origin.relations origin.counters safe.fit.right) (f.notes origin.pages)
     (λ u ku apart. e.others origin.pages origin.relations origin.counters u ku apart) e.claimed (omega arith) e.area m.member m.begun m.standing m.count pushed (omega arith) b.items (omega arith) (omega arith)
+
+pub append-requires-clause-kept : goal.append-requires-clause-kept
+append-requires-clause-kept g c = opening_of g.D.Device.seen g.D.Device.may_leave c.args.self.now c.requires.safe
+
+pub append-requires-clause-grammar : goal.append-requires-clause-grammar
+append-requires-clause-grammar g c = named_of g.D.Device.seen g.D.Device.may_leave c.args.self.now c.requires.safe c.args.txn c.requires.at_work
+
+pub append-requires-clause-rules : goal.append-requires-clause-rules
+append-requires-clause-rules g c = may_commit (appended c.args.self.now.operations.store.log) c.args.txn (named_of g.D.Device.seen g.D.Device.may_leave c.args.self.now c.requires.safe c.args.txn c.requires.at_work).0 (unended_of g.D.Device.seen g.D.Device.may_leave c.args.self.now c.requires.safe c.args.txn c.requires.at_work)

@@ -1,3 +1,5 @@
+use mathlib.Core.Logic.{∥∥₁_elim}
+use Rattle.std.proofs.Props.{props}
 use Rattle.std.proofs.Common.{◌≡◌, ◌∙◌, ◌-◌, ap, sym, subst, arith}
 use Rattle.mt_live.specs.Adds.{GivesBack}
 use Rattle.mt_steps.specs.Plans.{own_needs, undo_pages}
@@ -14,33 +16,33 @@ use Rattle.mt_kernel.specs.declared.parts.Running.{Running}
 use Rattle.mt_kernel.proofs.parts.Parts.drop_out.Goals as goal
 
 pub drop_out-requires-clause-cleared : goal.drop_out-requires-clause-cleared
-drop_out-requires-clause-cleared g c = let (origin, base, cleared) = c.requires.cleared in (cleared c.remove-scope.result c.remove-scope.ensures.value).alone.stage
+drop_out-requires-clause-cleared g c = ∥∥₁_elim c.requires.cleared (hlevel props) (λ (origin, base, cleared). (cleared c.remove-scope.result c.remove-scope.ensures.value).alone.stage)
 
 pub drop_out-requires-clause-right : goal.drop_out-requires-clause-right
-drop_out-requires-clause-right g c = let (origin, base, cleared) = c.requires.cleared in let y = cleared c.remove-scope.result c.remove-scope.ensures.value in ∣ (origin.pages, origin.relations, origin.counters, y.fit.right, y.alone.own) ∣₁
+drop_out-requires-clause-right g c = ∥∥₁_elim c.requires.cleared (hlevel props) (λ (origin, base, cleared). let y = cleared c.remove-scope.result c.remove-scope.ensures.value in ∣ (origin.pages, origin.relations, origin.counters, y.fit.right, y.alone.own) ∣₁)
 
 pub overflow_add-pages : goal.overflow_add-pages
-overflow_add-pages g c = let (origin, base, cleared) = c.requires.cleared in let r = c.remove-scope.result in let y = cleared r c.remove-scope.ensures.value in let k = c.args.self.now in
+overflow_add-pages g c = ∥∥₁_elim c.requires.cleared (hlevel props) (λ (origin, base, cleared). let r = c.remove-scope.result in let y = cleared r c.remove-scope.ensures.value in let k = c.args.self.now in
     let owned : IsOwned k.live.members k.live.standing r = subst (IsOwned k.live.members k.live.standing) (sym y.alone.there) (y.fit.owned c.args.place r y.alone.within) in
     let few = needs_few r.scope.op r.scope.split in
     let copy : undo_pages r.op ≡ undo_pages r.scope.op = ap undo_pages (owned.copy (c.requires.forward r c.remove-scope.ensures.value)) in
     let own : c.pages_for.result ≡ own_needs r.scope.op r.scope.split = c.pages_for.ensures ∙ (λ i. own_needs (c.op.ensures i) (c.split.ensures i)) in
-    let undo = c.pages_to_undo.ensures in omega arith
+    let undo = c.pages_to_undo.ensures in omega arith)
 
 pub give_back-requires : goal.give_back-requires
-give_back-requires g c = let (origin, base, cleared) = c.requires.cleared in let r = c.remove-scope.result in let y = cleared r c.remove-scope.ensures.value in let k = c.args.self.now in
+give_back-requires g c = ∥∥₁_elim c.requires.cleared (hlevel props) (λ (origin, base, cleared). let r = c.remove-scope.result in let y = cleared r c.remove-scope.ensures.value in let k = c.args.self.now in
     let whole = given_back g.D.Device.seen g.D.Device.may_leave origin base k c.args.place r y (c.requires.forward r c.remove-scope.ensures.value) in
     let enough = claimed_enough g.D.Device.seen g.D.Device.may_leave origin base k c.args.place r y in
     let own : c.pages_for.result ≡ own_needs r.scope.op r.scope.split = c.pages_for.ensures ∙ (λ i. own_needs (c.op.ensures i) (c.split.ensures i)) in
-    let undo = c.pages_to_undo.ensures in let same = c.drop_out.ensures.claimed in omega arith
+    let undo = c.pages_to_undo.ensures in let same = c.drop_out.ensures.claimed in omega arith)
 
 pub overflow_sub-self : goal.overflow_sub-self
-overflow_sub-self g c = let (origin, base, cleared) = c.requires.cleared in let r = c.remove-scope.result in let y = cleared r c.remove-scope.ensures.value in let k = c.args.self.now in
+overflow_sub-self g c = ∥∥₁_elim c.requires.cleared (hlevel props) (λ (origin, base, cleared). let r = c.remove-scope.result in let y = cleared r c.remove-scope.ensures.value in let k = c.args.self.now in
     let fore = c.requires.forward r c.remove-scope.ensures.value in
     let owned : IsOwned k.live.members k.live.standing r = subst (IsOwned k.live.members k.live.standing) (sym y.alone.there) (y.fit.owned c.args.place r y.alone.within) in
     let copy : undo_bytes r.op ≡ undo_bytes r.scope.op = ap undo_bytes (owned.copy fore) in
     let enough = kept_enough g.D.Device.seen g.D.Device.may_leave origin base k c.args.place r y.fit y.alone.within y.alone.there fore in
-    let bytes = c.bytes_to_undo.ensures in omega arith
+    let bytes = c.bytes_to_undo.ensures in omega arith)
 
 pub returns : goal.returns
 returns g c = λ origin base cleared x is.

@@ -1,9 +1,13 @@
 use Rattle.std.proofs.Common.{arith, ap}
 use Rattle.mt_log.specs.Words.{used, area_size}
 use Rattle.mt_kernel.proofs.Resting.{rests_in}
+use Rattle.mt_kernel.proofs.Sounds.{opening_of}
 use Rattle.mt_kernel.proofs.parts.Parts.flush_step.Goals as goal
 
 pub returns-clause-state : goal.returns-clause-state
 returns-clause-state g c = λ origin base safe. let k = c.args.self.now in let e = c.flush_step.ensures in
     let same = ap (λ l. used l) e.log in
     rests_in g.D.Device.seen g.D.Device.may_leave origin base k (record k { operations = c.flush_step.new.self }) safe (e.right origin.pages origin.relations origin.counters safe.fit.right) (e.rests origin.pages) e.claimed (omega arith) (ap (λ l. area_size l) e.log)
+
+pub flush_step-requires : goal.flush_step-requires
+flush_step-requires g c = record { kept = opening_of g.D.Device.seen g.D.Device.may_leave c.args.self.now c.requires.safe }

@@ -1,6 +1,10 @@
 use Rattle.mt_kernel.proofs.Resting.{rests_in}
+use Rattle.mt_kernel.proofs.Sounds.{opening_of}
 use Rattle.mt_kernel.proofs.parts.Parts.force_step.Goals as goal
 
 pub returns-clause-state : goal.returns-clause-state
 returns-clause-state g c = λ origin base safe. let k = c.args.self.now in let e = c.force_step.ensures in
     rests_in g.D.Device.seen g.D.Device.may_leave origin base k (record k { operations = c.force_step.new.self }) safe (e.right origin.pages origin.relations origin.counters safe.fit.right) (e.rests origin.pages) e.claimed e.used e.area
+
+pub force_step-requires : goal.force_step-requires
+force_step-requires g c = record { kept = opening_of g.D.Device.seen g.D.Device.may_leave c.args.self.now c.requires.safe }

@@ -1,5 +1,8 @@
-use Rattle.std.proofs.Common.{◌≡◌, ◌∙◌, ◌+◌, ◌-◌, ◌∷◌, refl, sym, ap, subst, arith}
+use mathlib.Core.Logic.{∥∥₁_elim}
+use Rattle.std.proofs.Props.{props}
+use Rattle.std.proofs.Common.{◌≡◌, ◌∙◌, ◌+◌, ◌-◌, ◌∷◌, ℕ, refl, sym, ap, subst, arith}
 use Rattle.std.specs.List.{sum_by}
+use Rattle.mt_live.specs.Lives.{is_member}
 use Rattle.mt_live.specs.Machine.{booked}
 use Rattle.mt_kernel.specs.Consistent.{state_of, session_in, IsIn}
 use Rattle.mt_kernel.specs.Runs.{call_pages, call_bytes}
@@ -7,37 +10,38 @@ use Rattle.mt_kernel.specs.declared.parts.Commit.{Commit}
 use Rattle.mt_kernel.specs.declared.parts.Parts.{Parts}
 use Rattle.mt_kernel.proofs.Firsts.{first_txn, first_is, first_rest, whose, left_sums}
 use Rattle.mt_kernel.proofs.Leaving.{booked_in}
+use Rattle.mt_kernel.proofs.Sounds.{first_lives, first_booked}
 use Rattle.mt_kernel.proofs.parts.Parts.leave_first.Goals as goal
 
 pub all_pages_kept-requires : goal.all_pages_kept-requires
-all_pages_kept-requires g c = let (origin, base, safe) = c.requires.safe in let (first, cs, queue) = c.requires.some in let k = c.args.self.now in
+all_pages_kept-requires g c = ∥∥₁_elim c.requires.safe (hlevel props) (λ (origin, base, safe). let (first, cs, queue) = c.requires.some in let k = c.args.self.now in
     let it = first_txn k.commits.items c.remove-txn.result first cs queue c.remove-txn.ensures.value in
     let s = left_sums g.D.Device.seen g.D.Device.may_leave origin base k c.remove-txn.result.txn first cs safe queue (sym it) c.leave-done.result.calls c.leave-done.ensures.calls in
-    let same = ap (sum_by call_pages) c.as_slice-calls.ensures in let few = s.few in let pages = s.pages in let enough = s.claims in omega arith
+    let same = ap (sum_by call_pages) c.as_slice-calls.ensures in let few = s.few in let pages = s.pages in let enough = s.claims in omega arith)
 
 pub give_back-requires : goal.give_back-requires
-give_back-requires g c = let (origin, base, safe) = c.requires.safe in let (first, cs, queue) = c.requires.some in let k = c.args.self.now in
+give_back-requires g c = ∥∥₁_elim c.requires.safe (hlevel props) (λ (origin, base, safe). let (first, cs, queue) = c.requires.some in let k = c.args.self.now in
     let it = first_txn k.commits.items c.remove-txn.result first cs queue c.remove-txn.ensures.value in
     let s = left_sums g.D.Device.seen g.D.Device.may_leave origin base k c.remove-txn.result.txn first cs safe queue (sym it) c.leave-done.result.calls c.leave-done.ensures.calls in
-    let same = ap (sum_by call_pages) c.as_slice-calls.ensures in let is = c.all_pages_kept.ensures in let pages = s.pages in let enough = s.claims in omega arith
+    let same = ap (sum_by call_pages) c.as_slice-calls.ensures in let is = c.all_pages_kept.ensures in let pages = s.pages in let enough = s.claims in omega arith)
 
 pub all_bytes_kept-requires : goal.all_bytes_kept-requires
-all_bytes_kept-requires g c = let (origin, base, safe) = c.requires.safe in let (first, cs, queue) = c.requires.some in let k = c.args.self.now in
+all_bytes_kept-requires g c = ∥∥₁_elim c.requires.safe (hlevel props) (λ (origin, base, safe). let (first, cs, queue) = c.requires.some in let k = c.args.self.now in
     let it = first_txn k.commits.items c.remove-txn.result first cs queue c.remove-txn.ensures.value in
     let s = left_sums g.D.Device.seen g.D.Device.may_leave origin base k c.remove-txn.result.txn first cs safe queue (sym it) c.leave-done.result.calls c.leave-done.ensures.calls in
-    let same = ap (sum_by call_bytes) c.as_slice-calls.ensures in let bytes = s.bytes in let enough = s.reserved in omega arith
+    let same = ap (sum_by call_bytes) c.as_slice-calls.ensures in let bytes = s.bytes in let enough = s.reserved in omega arith)
 
 pub overflow_add-self : goal.overflow_add-self
-overflow_add-self g c = let (origin, base, safe) = c.requires.safe in let (first, cs, queue) = c.requires.some in let k = c.args.self.now in
+overflow_add-self g c = ∥∥₁_elim c.requires.safe (hlevel props) (λ (origin, base, safe). let (first, cs, queue) = c.requires.some in let k = c.args.self.now in
     let it = first_txn k.commits.items c.remove-txn.result first cs queue c.remove-txn.ensures.value in
     let s = left_sums g.D.Device.seen g.D.Device.may_leave origin base k c.remove-txn.result.txn first cs safe queue (sym it) c.leave-done.result.calls c.leave-done.ensures.calls in
-    let same = ap (sum_by call_bytes) c.as_slice-calls.ensures in let is = c.all_bytes_kept.ensures in let bytes = s.bytes in let enough = s.reserved in omega arith
+    let same = ap (sum_by call_bytes) c.as_slice-calls.ensures in let is = c.all_bytes_kept.ensures in let bytes = s.bytes in let enough = s.reserved in omega arith)
 
 pub overflow_sub-self-2 : goal.overflow_sub-self-2
-overflow_sub-self-2 g c = let (origin, base, safe) = c.requires.safe in let (first, cs, queue) = c.requires.some in let k = c.args.self.now in
+overflow_sub-self-2 g c = ∥∥₁_elim c.requires.safe (hlevel props) (λ (origin, base, safe). let (first, cs, queue) = c.requires.some in let k = c.args.self.now in
     let it = first_txn k.commits.items c.remove-txn.result first cs queue c.remove-txn.ensures.value in
     let s = left_sums g.D.Device.seen g.D.Device.may_leave origin base k c.remove-txn.result.txn first cs safe queue (sym it) c.leave-done.result.calls c.leave-done.ensures.calls in
-    let same = ap (sum_by call_bytes) c.as_slice-calls.ensures in let is = c.all_bytes_kept.ensures in let bytes = s.bytes in let enough = s.reserved in omega arith
+    let same = ap (sum_by call_bytes) c.as_slice-calls.ensures in let is = c.all_bytes_kept.ensures in let bytes = s.bytes in let enough = s.reserved in omega arith)
 
 pub returns : goal.returns
 returns g c = record {
@@ -54,5 +58,14 @@ returns g c = record {
       let booked_now = booked_in seen may_leave origin base k n found cs c.leave-done.result safe queue_found rest p.items p.len p.capacity m.calls m.standing m.member m.begun m.count c.release.ensures.released e.counters e.moved e.pending
       (b.right origin.pages origin.relations origin.counters safe.fit.right) b.store b.locks (omega arith) (omega arith) in
       let session : c.leave-done.result.session ≡ session_in k.live.members found.txn = whose c.leave-done.result.session found.txn k.live.members m.session in
-      ((subst (λ (X : Type 0). X) (λ i. IsIn seen may_leave origin base (booked (state_of k base) (is i).txn ((session ∙ ap (λ (x : Commit). session_in k.live.members x.txn) is) i)) n) booked_now), ap (λ (x : Commit). x.txn) is, rest);
+      subst (λ (X : Type 0). X) (λ i. IsIn seen may_leave origin base (booked (state_of k base) (is i).txn ((session ∙ ap (λ (x : Commit). session_in k.live.members x.txn) is) i)) n) booked_now;
+  rest = λ first cs queue. let k = c.args.self.now in let r = c.remove-txn.ensures in
+      (ap (λ (x : Commit). x.txn) (first_is k.commits.items c.remove-txn.result first cs queue r.value), r.items ∙ first_rest k.commits.items first cs queue);
 }
+
+pub leave-done-requires : goal.leave-done-requires
+leave-done-requires g c = let (first, cs, queue) = c.requires.some in let k = c.args.self.now in
+    ap (λ (t : ℕ). is_member k.live.members t) (first_txn k.commits.items c.remove-txn.result first cs queue c.remove-txn.ensures.value) ∙ first_lives g.D.Device.seen g.D.Device.may_leave c.args.self.now c.requires.safe first cs queue
+
+pub push_reserved-requires : goal.push_reserved-requires
+push_reserved-requires g c = let (first, cs, queue) = c.requires.some in first_booked g.D.Device.seen g.D.Device.may_leave c.args.self.now c.requires.safe first cs queue

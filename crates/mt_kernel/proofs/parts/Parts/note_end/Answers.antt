@@ -1,3 +1,5 @@
+use mathlib.Core.Logic.{∥∥₁_elim}
+use Rattle.std.proofs.Props.{props}
 use Rattle.std.proofs.Common.{◌≡◌, ◌∙◌, ◌++◌, ◌∷◌, [], sym, ap, subst, arith}
 use Rattle.mt_live.specs.Lives.{member_of, has_room, IsChanged, IsAbove}
 use Rattle.mt_live.specs.Members.{with_call}
@@ -14,38 +16,40 @@ use Rattle.mt_steps.specs.Plans.{undo_pages}
 use Rattle.mt_kernel.specs.Consistent.{state_of, IsIn}
 use Rattle.mt_kernel.specs.declared.parts.Parts.{Parts}
 use Rattle.mt_kernel.specs.declared.parts.Running.{Running}
+use Rattle.mt_kernel.proofs.Refusing.{Above-prop}
 use Rattle.mt_kernel.proofs.parts.Parts.note_end.Goals as goal
 
 pub end-requires-clause-ready : goal.end-requires-clause-ready
-end-requires-clause-ready g c = let (origin, base, ready) = c.requires.ready in (ready c.remove-scope.result c.remove-scope.ensures.value).alone.stage
+end-requires-clause-ready g c = ∥∥₁_elim c.requires.ready (hlevel props) (λ (origin, base, ready). (ready c.remove-scope.result c.remove-scope.ensures.value).alone.stage)
 
 pub end-requires-clause-right : goal.end-requires-clause-right
-end-requires-clause-right g c = let (origin, base, ready) = c.requires.ready in let y = ready c.remove-scope.result c.remove-scope.ensures.value in ∣ (origin.pages, origin.relations, origin.counters, y.fit.right, y.alone.own) ∣₁
+end-requires-clause-right g c = ∥∥₁_elim c.requires.ready (hlevel props) (λ (origin, base, ready). let y = ready c.remove-scope.result c.remove-scope.ensures.value in ∣ (origin.pages, origin.relations, origin.counters, y.fit.right, y.alone.own) ∣₁)
 
 pub give_back-requires : goal.give_back-requires
-give_back-requires g c = let (origin, base, ready) = c.requires.ready in let r = c.remove-scope.result in let y = ready r c.remove-scope.ensures.value in let k = c.args.self.now in
+give_back-requires g c = ∥∥₁_elim c.requires.ready (hlevel props) (λ (origin, base, ready). let r = c.remove-scope.result in let y = ready r c.remove-scope.ensures.value in let k = c.args.self.now in
     let fore = c.requires.forward r c.remove-scope.ensures.value in
     let owned : IsOwned k.live.members k.live.standing r = subst (IsOwned k.live.members k.live.standing) (sym y.alone.there) (y.fit.owned c.args.place r y.alone.within) in
     let copy : undo_pages r.op ≡ undo_pages r.scope.op = ap undo_pages (owned.copy fore) in
     let enough = undo_claimed g.D.Device.seen g.D.Device.may_leave origin base k c.args.place r y.alone.within y.alone.there fore y.claims in
-    let pages = c.pages_to_undo.ensures.pages in let same = c.end.ensures.claimed in omega arith
+    let pages = c.pages_to_undo.ensures.pages in let same = c.end.ensures.claimed in omega arith)
 
 pub overflow_sub-self-2 : goal.overflow_sub-self-2
-overflow_sub-self-2 g c = let (origin, base, ready) = c.requires.ready in let r = c.remove-scope.result in let y = ready r c.remove-scope.ensures.value in let k = c.args.self.now in
+overflow_sub-self-2 g c = ∥∥₁_elim c.requires.ready (hlevel props) (λ (origin, base, ready). let r = c.remove-scope.result in let y = ready r c.remove-scope.ensures.value in let k = c.args.self.now in
     let fore = c.requires.forward r c.remove-scope.ensures.value in
     let owned : IsOwned k.live.members k.live.standing r = subst (IsOwned k.live.members k.live.standing) (sym y.alone.there) (y.fit.owned c.args.place r y.alone.within) in
     let copy : undo_bytes r.op ≡ undo_bytes r.scope.op = ap undo_bytes (owned.copy fore) in
     let enough = kept_enough g.D.Device.seen g.D.Device.may_leave origin base k c.args.place r y.fit y.alone.within y.alone.there fore in
-    let bytes = c.bytes_to_undo.ensures in omega arith
+    let bytes = c.bytes_to_undo.ensures in omega arith)
 
 pub note-requires : goal.note-requires
-note-requires g c = let (origin, base, ready) = c.requires.ready in let r = c.remove-scope.result in let y = ready r c.remove-scope.ensures.value in let k = c.args.self.now in
-    let owned : IsOwned k.live.members k.live.standing r = subst (IsOwned k.live.members k.live.standing) (sym y.alone.there) (y.fit.owned c.args.place r y.alone.within) in
-    let fore = c.requires.forward r c.remove-scope.ensures.value in
-    record {
-      room = ap (λ t. has_room (member_of k.live.members t)) c.txn-txn.ensures ∙ owned.room fore;
-      above = subst (λ (X : Type 0). X) (λ i. IsAbove (sym c.number-number.ensures i) (member_of k.live.members (sym c.txn-txn.ensures i))) (owned.newest fore);
-    }
+note-requires g c = record {
+  room = ∥∥₁_elim c.requires.ready (hlevel props) (λ (origin, base, ready). let r = c.remove-scope.result in let y = ready r c.remove-scope.ensures.value in let k = c.args.self.now in
+      let owned : IsOwned k.live.members k.live.standing r = subst (IsOwned k.live.members k.live.standing) (sym y.alone.there) (y.fit.owned c.args.place r y.alone.within) in
+      ap (λ t. has_room (member_of k.live.members t)) c.txn-txn.ensures ∙ owned.room (c.requires.forward r c.remove-scope.ensures.value));
+  above = ∥∥₁_elim c.requires.ready (Above-prop _ _) (λ (origin, base, ready). let r = c.remove-scope.result in let y = ready r c.remove-scope.ensures.value in let k = c.args.self.now in
+      let owned : IsOwned k.live.members k.live.standing r = subst (IsOwned k.live.members k.live.standing) (sym y.alone.there) (y.fit.owned c.args.place r y.alone.within) in
+      subst (λ (X : Type 0). X) (λ i. IsAbove (sym c.number-number.ensures i) (member_of k.live.members (sym c.txn-txn.ensures i))) (owned.newest (c.requires.forward r c.remove-scope.ensures.value)));
+}
 
 pub returns : goal.returns
 returns g c = λ origin base ready x is.

@@ -1,3 +1,5 @@
+use mathlib.Core.Logic.{∥∥₁_elim}
+use Rattle.std.proofs.Props.{props}
 use Rattle.std.proofs.Common.{◌≡◌, ◌∙◌, sym, ap, subst}
 use Rattle.mt_live.specs.Adds.{GivesBack}
 use Rattle.mt_live.specs.Lives.{member_of, is_member, IsChanged}
@@ -15,15 +17,15 @@ use Rattle.mt_kernel.specs.declared.parts.Running.{Running}
 use Rattle.mt_kernel.proofs.parts.Parts.note_undone.Goals as goal
 
 pub end-requires-clause-ready : goal.end-requires-clause-ready
-end-requires-clause-ready g c = let (origin, base, reply, ready) = c.requires.ready in (ready c.remove-scope.result c.remove-scope.ensures.value).alone.stage
+end-requires-clause-ready g c = ∥∥₁_elim c.requires.ready (hlevel props) (λ (origin, base, reply, ready). (ready c.remove-scope.result c.remove-scope.ensures.value).alone.stage)
 
 pub end-requires-clause-right : goal.end-requires-clause-right
-end-requires-clause-right g c = let (origin, base, reply, ready) = c.requires.ready in let y = ready c.remove-scope.result c.remove-scope.ensures.value in ∣ (origin.pages, origin.relations, origin.counters, y.fit.right, y.alone.own) ∣₁
+end-requires-clause-right g c = ∥∥₁_elim c.requires.ready (hlevel props) (λ (origin, base, reply, ready). let y = ready c.remove-scope.result c.remove-scope.ensures.value in ∣ (origin.pages, origin.relations, origin.counters, y.fit.right, y.alone.own) ∣₁)
 
 pub undone-requires : goal.undone-requires
-undone-requires g c = let (origin, base, reply, ready) = c.requires.ready in let r = c.remove-scope.result in let y = ready r c.remove-scope.ensures.value in let k = c.args.self.now in
+undone-requires g c = ∥∥₁_elim c.requires.ready (hlevel props) (λ (origin, base, reply, ready). let r = c.remove-scope.result in let y = ready r c.remove-scope.ensures.value in let k = c.args.self.now in
     let owned : IsOwned k.live.members k.live.standing r = subst (IsOwned k.live.members k.live.standing) (sym y.alone.there) (y.fit.owned c.args.place r y.alone.within) in
-    ap (λ t. is_member k.live.members t) c.txn-txn.ensures ∙ open_some (member_of k.live.members r.scope.txn) owned.at_work
+    ap (λ t. is_member k.live.members t) c.txn-txn.ensures ∙ open_some (member_of k.live.members r.scope.txn) owned.at_work)
 
 pub returns : goal.returns
 returns g c = λ origin base reply ready x is.

@@ -8,6 +8,17 @@ use Rattle.mt_kernel.specs.Consistent.{without_call}
 use Rattle.mt_kernel.specs.Runs.{undo_bytes}
 use Rattle.mt_kernel.specs.declared.parts.Parts.{Parts}
 use Rattle.mt_kernel.proofs.Calling.{called_in, next_fresh, needs_few}
+use mathlib.Core.Logic.{∥∥₁_elim}
+use Rattle.std.proofs.Common.{◌<◌, ◌≤◌, Err}
+use Rattle.std.specs.Prelude.{IfErr}
+use Rattle.std.proofs.Props.{props}
+use Rattle.std.proofs.lemmas.Result.{err_from_is_err_and}
+use Rattle.mt_base.specs.declared.refusal.Refusal.TheVariants as refusal
+use Rattle.mt_pool.proofs.Steady.{steady}
+use Rattle.mt_pool.specs.Same.{Pool-prop}
+use Rattle.mt_kernel.specs.Causes.{IsUnreserved, pages_asked, pages_free}
+use Rattle.mt_kernel.specs.Consistent.{log_kept}
+use Rattle.mt_kernel.proofs.Calling.{txn_named}
 use Rattle.mt_kernel.proofs.parts.Parts.start.Goals as goal
 
 pub overflow_add-pages : goal.overflow_add-pages
@@ -63,3 +74,40 @@ returns-in-Ok-clause-ok g c = λ origin base locks escrow granted.
       is_split = e.named.4;
       planning = e.planning.0;
     }) c.requires.few (ap (λ (x : ℕ). k.reserved + x) bytes) (let takes = c.if-not-takes.ensures.takes in omega arith)
+
+pub log_takes-takes-requires : goal.log_takes-takes-requires
+log_takes-takes-requires g c = ∥∥₁_elim c.requires.granted (hlevel props) (λ (origin, base, locks, escrow, granted). granted.was.fit.log)
+
+pub returns-in_err-claim-clause-cause : goal.returns-in_err-claim-clause-cause
+returns-in_err-claim-clause-cause g c = λ origin base locks escrow granted. let k = c.args.self.now in let seen = g.D.Device.seen in let f = c.in_err-claim.ensures in
+    let p = err_from_is_err_and c.from_residual.result c.from_residual.ensures.1 in
+    let pages : c.pages_for.result + c.pages_to_undo.result ≡ pages_asked c.args.end c.args.split = (λ i. c.pages_for.ensures i + c.pages_to_undo.ensures.pages i) ∙ (λ i. own_needs (c.requires.same i) c.args.split + undo_pages (c.requires.same i)) in
+    subst (λ r. IfErr r (IsUnreserved seen origin k (log_kept k) c.args.end c.args.split)) (sym (p.1 ∙ ap Err (p.2 ∙ f.why)))
+    (subst (λ n. pages_free seen origin k < claimed k.operations + n) pages (f.cause origin.pages origin.relations origin.counters granted.was.fit.right))
+
+pub returns-then-not-takes-clause-cause : goal.returns-then-not-takes-clause-cause
+returns-then-not-takes-clause-cause g c = λ origin base locks escrow granted. let k = c.args.self.now in let seen = g.D.Device.seen in
+    let pages : c.pages_for.result + c.pages_to_undo.result ≡ pages_asked c.args.end c.args.split = (λ i. c.pages_for.ensures i + c.pages_to_undo.ensures.pages i) ∙ (λ i. own_needs (c.requires.same i) c.args.split + undo_pages (c.requires.same i)) in
+    let bytes : c.bytes_to_undo-bytes.result ≡ undo_bytes c.args.end = c.bytes_to_undo-bytes.ensures ∙ ap undo_bytes c.requires.same in
+    let full = c.if-not-takes.ensures.full in (
+      subst (λ n. claimed k.operations + n ≤ pages_free seen origin k) pages (c.in_ok-claim.ensures.fits origin.pages origin.relations origin.counters granted.was.fit.right),
+      omega (arith, bytes, full),
+    )
+
+pub begin_op-requires-clause-pool : goal.begin_op-requires-clause-pool
+begin_op-requires-clause-pool g c = ∥∥₁_elim c.requires.granted (Pool-prop c.claim.new.self.store.pool) (λ (origin, base, locks, escrow, granted).
+    (steady g.D.Device.seen g.D.Device.may_leave c.claim.new.self.store ∣ (origin.pages, (c.claim.ensures.right origin.pages origin.relations origin.counters granted.was.fit.right).kept) ∣₁).frames)
+
+pub begin_op-requires-clause-numbers : goal.begin_op-requires-clause-numbers
+begin_op-requires-clause-numbers g c = ∥∥₁_elim c.requires.granted (hlevel props) (λ (origin, base, locks, escrow, granted).
+    let named = txn_named g.D.Device.seen g.D.Device.may_leave origin base (without_call locks escrow c.args.self.now) c.args.txn granted.was.fit granted.may.at_work in
+    let few = c.requires.few in let is = c.new.ensures in (named, (omega arith, omega arith)))
+
+pub returns-in-Ok-clause-may : goal.returns-in-Ok-clause-may
+returns-in-Ok-clause-may g c = λ origin base locks escrow granted. let k = c.args.self.now in let seen = g.D.Device.seen in
+    let pages : c.pages_for.result + c.pages_to_undo.result ≡ pages_asked c.args.end c.args.split = (λ i. c.pages_for.ensures i + c.pages_to_undo.ensures.pages i) ∙ (λ i. own_needs (c.requires.same i) c.args.split + undo_pages (c.requires.same i)) in
+    let bytes : c.bytes_to_undo-bytes.result ≡ undo_bytes c.args.end = c.bytes_to_undo-bytes.ensures ∙ ap undo_bytes c.requires.same in
+    let takes = c.if-not-takes.ensures.takes in (
+      subst (λ n. claimed k.operations + n ≤ pages_free seen origin k) pages (c.in_ok-claim.ensures.fits origin.pages origin.relations origin.counters granted.was.fit.right),
+      omega (arith, bytes, takes),
+    )

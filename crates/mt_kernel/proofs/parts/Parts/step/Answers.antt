@@ -1,3 +1,5 @@
+use mathlib.Core.Logic.{∥∥₁_elim}
+use Rattle.std.proofs.Props.{props}
 use Rattle.std.proofs.Common.{◌≡◌, ◌∙◌, ◌<◌, Ok, length, get_or, sym, ap, subst, arith}
 use Rattle.std.proofs.lemmas.List.{get_or_default}
 use Rattle.mt_live.specs.Machine.{ended}
@@ -11,7 +13,12 @@ pub note_end-requires-clause-forward : goal.note_end-requires-clause-forward
 note_end-requires-clause-forward g c = λ q now. let items = c.args.self.now.running.items in let place = c.args.place in
     let r : Running = get_or items place q in
     let at : r ≡ get_or items place r = get_or_default items place q r c.requires.within in
-    (c.advance.ensures.same r q at now).undoes ∙ c.requires.forward r at
+    ∥∥₁_elim c.requires.safe (hlevel props) (λ (origin, base, safe). (c.advance.ensures.same origin base safe r q at now).undoes ∙ c.requires.forward r at)
+
+pub note_end-requires-clause-ready : goal.note_end-requires-clause-ready
+note_end-requires-clause-ready g c = ∥∥₁_elim c.requires.safe (hlevel props) (λ (origin, base, safe).
+    let was = c.in_ok-reply.was ∙ ap Ok c.in-Ready.is in
+    ∣ (origin, base, (subst (Advances g.D.Device.seen g.D.Device.may_leave origin base (state_of c.args.self.now base) c.advance.new.self c.args.place) was (c.advance.ensures.advances origin base safe)).0) ∣₁)
 
 pub returns-in-Ready : goal.returns-in-Ready
 returns-in-Ready g c = λ origin base safe x at. let k = c.args.self.now in let place = c.args.place in let seen = g.D.Device.seen in let may_leave = g.D.Device.may_leave in
@@ -21,7 +28,7 @@ returns-in-Ready g c = λ origin base safe x at. let k = c.args.self.now in let 
     let inside : place < length items = let same = c.advance.ensures.length in let within = c.requires.within in omega arith in
     let q : Running = get_or items place x in
     let now : q ≡ get_or items place q = get_or_default items place x q inside in
-    let same : SameOp x.scope q.scope = c.advance.ensures.same x q at now in
+    let same : SameOp x.scope q.scope = c.advance.ensures.same origin base safe x q at now in
     let ready : IsReady seen may_leave origin base c.advance.new.self place q c.in-Ready.reply = made.0 q now in
     let noted = c.note_end.ensures origin base made.0 q now in (
       ap (reply_of base) (sym same.op) ∙ ready.replies ∙ sym made.1,

@@ -1,9 +1,16 @@
+use mathlib.Core.Logic.{∥∥₁_elim}
+use Rattle.std.proofs.Props.{props}
 use Rattle.std.proofs.Common.{refl, sym, subst}
 use Rattle.std.specs.Vec.{with_item}
 use Rattle.mt_op.specs.Operations.{world}
 use Rattle.mt_kernel.specs.declared.parts.Running.{Running}
 use Rattle.mt_kernel.specs.Runs.{IsRunning}
 use Rattle.mt_kernel.proofs.Dropping.{gone_back}
+use mathlib.Core.Logic.{∥∥₁_map}
+use Rattle.std.proofs.Common.{◌≡◌, get_or, ap, arith}
+use Rattle.std.proofs.lemmas.List.Sums.{get_or-le-sum_by}
+use Rattle.mt_kernel.specs.Runs.{left_of}
+use Rattle.mt_kernel.proofs.Sounds.{moving_of}
 use Rattle.mt_kernel.proofs.parts.Parts.take_back.Goals as goal
 
 pub returns : goal.returns
@@ -13,11 +20,27 @@ returns g c = λ origin base safe.
     let was : IsRunning origin.relations origin.counters (world seen origin.pages k.operations) k.last r = subst (IsRunning origin.relations origin.counters (world seen origin.pages k.operations) k.last) (sym c.index_mut.ensures.value) (safe.runs c.args.place r c.requires.within) in
     let gone = e.goes origin.pages origin.relations origin.counters safe.fit.right was.under in
     gone_back seen g.D.Device.may_leave origin base k (record k { operations = c.take_back.new.self; running = with_item k.running c.args.place q }) c.args.place r q c.take_back.result
-    c.requires.within c.index_mut.ensures.value refl refl safe was.moving
+    c.requires.within c.index_mut.ensures.value refl refl safe was.moving (c.requires.aborting r c.index_mut.ensures.value)
     (record { right = gone.0; goes = gone.1; log = e.log; area = e.area; budget = e.budget; claims = e.claimed; records = e.records; locks = e.locks })
     (λ is. (e.more is).0) (λ is. (e.clear is).0) e.flush e.err
 
 pub take_back-requires-clause-right : goal.take_back-requires-clause-right
-take_back-requires-clause-right g c = let (origin, base, safe) = c.requires.safe in let k = c.args.self.now in let r = c.index_mut.result.now in
+take_back-requires-clause-right g c = ∥∥₁_elim c.requires.safe (hlevel props) (λ (origin, base, safe). let k = c.args.self.now in let r = c.index_mut.result.now in
     let was : IsRunning origin.relations origin.counters (world g.D.Device.seen origin.pages k.operations) k.last r = subst (IsRunning origin.relations origin.counters (world g.D.Device.seen origin.pages k.operations) k.last) (sym c.index_mut.ensures.value) (safe.runs c.args.place r c.requires.within) in
-    ∣ (origin.pages, origin.relations, origin.counters, safe.fit.right, was.under) ∣₁
+    ∣ (origin.pages, origin.relations, origin.counters, safe.fit.right, was.under) ∣₁)
+
+pub take_back-requires-clause-stage : goal.take_back-requires-clause-stage
+take_back-requires-clause-stage g c = moving_of c.index_mut.result.now.scope.stage (∥∥₁_map c.requires.safe (λ (origin, base, safe). let k = c.args.self.now in let r = c.index_mut.result.now in
+    let was : IsRunning origin.relations origin.counters (world g.D.Device.seen origin.pages k.operations) k.last r = subst (IsRunning origin.relations origin.counters (world g.D.Device.seen origin.pages k.operations) k.last) (sym c.index_mut.ensures.value) (safe.runs c.args.place r c.requires.within) in
+    was.moving))
+
+pub take_back-requires-clause-budget : goal.take_back-requires-clause-budget
+take_back-requires-clause-budget g c = ∥∥₁_elim c.requires.safe (hlevel props) (λ (origin, base, safe). let k = c.args.self.now in let r = c.index_mut.result.now in
+    let was : IsRunning origin.relations origin.counters (world g.D.Device.seen origin.pages k.operations) k.last r = subst (IsRunning origin.relations origin.counters (world g.D.Device.seen origin.pages k.operations) k.last) (sym c.index_mut.ensures.value) (safe.runs c.args.place r c.requires.within) in
+    was.budget)
+
+pub take_back-requires-clause-room : goal.take_back-requires-clause-room
+take_back-requires-clause-room g c = ∥∥₁_elim c.requires.safe (hlevel props) (λ (origin, base, safe). let k = c.args.self.now in let r = c.index_mut.result.now in
+    let part = get_or-le-sum_by left_of k.running.items c.args.place r c.requires.within in
+    let mine : left_of (get_or k.running.items c.args.place r) ≡ left_of r = ap left_of (sym c.index_mut.ensures.value) in
+    let log = safe.fit.log in omega (arith, part, mine, log))

@@ -1,7 +1,11 @@
 -- What each transaction runs, in a list of operations that changes.
 use Rattle.std.proofs.Common.{◌≡◌, ◌≢◌, ℕ, zero, suc, ◌<◌, ◌==◌, ◌&&◌, Bool, true, false, cond, List, [], ◌∷◌, ◌++◌, length, get_or, set, Option, Some, None, refl, sym, ap, ◌∙◌, subst, arith}
 use Rattle.std.specs.Prelude.{All, AllPairs}
-use Rattle.std.specs.List.{remove}
+use Rattle.std.specs.List.{remove, list_any}
+use Rattle.std.specs.Prelude.{is_some}
+use Rattle.std.proofs.lemmas.List.{get_or_default}
+use Rattle.std.proofs.lemmas.List.Folds.{list_any_at, list_any_none}
+use Rattle.mt_kernel.specs.Consistent.{IsPlaceOf}
 use Rattle.std.proofs.lemmas.Bool.{eq-eqb, eqb-true, ne_eqb, and_left, and_right, and_from}
 use Rattle.std.proofs.lemmas.List.Elements.{All-head, All-tail}
 use Rattle.mt_live.specs.Machine.{put}
@@ -114,3 +118,11 @@ running_push (x ∷ xs) r fore none u = go (is_for r.scope.txn x) refl none (λ 
         last : (c : Bool) → (u == r.scope.txn) ≡ c → cond (is_for u x) (Some x.scope.op) (cond c (Some r.scope.op) (running_in xs u)) ≡ cond c (Some r.scope.op) (cond (is_for u x) (Some x.scope.op) (running_in xs u))
         last true same = let not : is_for u x ≡ false = subst (λ (v : ℕ). is_for v x ≡ false) (sym (eqb-true u r.scope.txn same)) is in rw not refl
         last false same = refl
+
+-- whether there is one of a transaction, from where it is
+pub busy_of : (rs : List Running) (t : ℕ) (place : Option ℕ) → IsPlaceOf rs t place → is_some place ≡ list_any (λ (r : Running). r.scope.txn == t) rs
+busy_of [] t (Some i) k = absurd (let within = k.0 in omega (arith, within))
+busy_of (x ∷ xs) t (Some i) k =
+    let r : Running = get_or (x ∷ xs) i x in
+    sym (list_any_at (λ (q : Running). q.scope.txn == t) (x ∷ xs) i x k.0 (eq-eqb r.scope.txn t (k.1 r (get_or_default (x ∷ xs) i x r k.0))))
+busy_of rs t None k = sym (list_any_none (λ (q : Running). q.scope.txn == t) rs (λ i d lt. ne_eqb (get_or rs i d).scope.txn t (k i d lt)))

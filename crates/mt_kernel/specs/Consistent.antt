@@ -315,6 +315,11 @@ IsAskedFor e t (Update r k v) = Unit {0}
 IsAskedFor e t (Delete r k) = Unit {0}
 IsAskedFor e t (Read c) = Unit {0}
 
+-- whose operation under way has a number, if one has
+abbrev pub IsOwnerOf : List Running → ℕ → Option ℕ → Type 0
+IsOwnerOf rs op (Some t) = (place : ℕ) × (place < length rs) × AtPlace rs place (λ r. (r.scope.number ≡ op) × (r.scope.txn ≡ t))
+IsOwnerOf rs op None = All (λ (r : Running). r.scope.number ≢ op) rs
+
 -- ---- the events of the laws
 
 -- the operation has ended, on the base that it leaves
@@ -328,6 +333,13 @@ UndoesIn seen may_leave origin base k n r = IsIn seen may_leave origin (base_aft
 -- the operation is dropped
 abbrev pub DropsIn : {D : Type 0} → (D → List ℕ) → (D → List ℕ → Type 0) → Origin → Base → Parts D → Parts D → Running → Type 0
 DropsIn seen may_leave origin base k n r = IsIn seen may_leave origin base (dropped (state_of k base) r.scope.txn n.escrow.pending) n
+
+-- a step of its taking back; at its end the operation at the place is dropped
+abbrev pub BacksIn : {D : Type 0} → (D → List ℕ) → (D → List ℕ → Type 0) → Origin → Base → Parts D → Parts D → ℕ → Result TakenBack Refusal → Type 0
+BacksIn seen may_leave origin base k n place (Ok taken.Clear) = AtPlace k.running.items place (λ r. DropsIn seen may_leave origin base k n r)
+BacksIn seen may_leave origin base k n place (Ok taken.More) = IsIn seen may_leave origin base (state_of k base) n
+BacksIn seen may_leave origin base k n place (Ok taken.Flush) = IsIn seen may_leave origin base (state_of k base) n
+BacksIn seen may_leave origin base k n place (Err why) = IsIn seen may_leave origin base (state_of k base) n
 
 -- the operation of parts that were without what was granted for it is called
 abbrev pub CallsIn : {D : Type 0} → (D → List ℕ) → (D → List ℕ → Type 0) → Origin → Base → Parts D → Parts D → ℕ → Op → Type 0

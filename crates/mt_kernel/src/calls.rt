@@ -1,7 +1,7 @@
 // Calls of operations.
-ghost use Rattle.std.specs.Prelude.{◌≡◌, ◌≢◌, ◌⊎◌, ◌<◌, ◌≤◌, ◌+◌, ◌^◌, IfErr, ◌++◌, [], ℕ, length, true, All, List, OnOk, OnErr};
+ghost use Rattle.std.specs.Prelude.{◌≡◌, ◌==◌, is_some, ◌≢◌, ◌⊎◌, ◌<◌, ◌≤◌, ◌+◌, ◌^◌, IfErr, ◌++◌, [], ℕ, length, true, All, List, OnOk, OnErr};
 ghost use Rattle.std.specs.Bool.{OnTrue, OnFalse};
-ghost use Rattle.std.specs.List.{sum_by};
+ghost use Rattle.std.specs.List.{sum_by, list_any};
 ghost use Rattle.std.specs.Vec.{vec_len, vec_capacity};
 ghost use Rattle.mt_escrow.specs.Seen.{Escrowed};
 ghost use Rattle.mt_live.specs.Adds.{add_before};
@@ -68,6 +68,7 @@ impl<D: Device> Parts<D> {
     /// The place of a transaction's operation among those under way; `None` where it runs nothing.
     pub fn place_of(&self, txn: TxnNo) -> Option<usize>
         ensures place { IsPlaceOf self.now.running.items txn result }
+        ensures busy { is_some result ≡ list_any (λ (r : Running). r.scope.txn == txn) self.now.running.items }
     {
         place_in(self.running.as_slice(), txn)
     }

@@ -1,9 +1,11 @@
 // Operations that are taken back unfinished.
-ghost use Rattle.std.specs.Prelude.{◌≡◌, ◌≢◌, ◌⊎◌, ◌<◌, ℕ, Some, length, slice_index_or};
+ghost use Rattle.std.specs.Prelude.{◌≡◌, ◌≢◌, ◌⊎◌, ◌<◌, ℕ, Some, IfErr, length, slice_index_or};
 ghost use Rattle.mt_live.specs.Machine.{dropped};
 ghost use Rattle.mt_model.specs.Model.{Base};
+ghost use Rattle.mt_op.specs.Moves.{SameOp};
+ghost use Rattle.mt_op.specs.Operations.{IsCause};
 ghost use Rattle.mt_live.specs.declared.transactions.TxnState.TheVariants.{Aborting};
-ghost use Rattle.mt_kernel.specs.Consistent.{DropsIn, state_in, IsSound, IsClearedAt, AtPlace, Origin, state_of, IsConsistent, IsCleared, IsIn, GoesBack};
+ghost use Rattle.mt_kernel.specs.Consistent.{BacksIn, DropsIn, state_in, IsSound, IsClearedAt, AtPlace, Origin, state_of, IsConsistent, IsCleared, IsIn, GoesBack};
 ghost use Rattle.mt_kernel.specs.declared.parts.Running.{Running};
 
 use crate::ends::let_go;
@@ -15,26 +17,27 @@ use mt_op::TakenBack;
 use mt_steps::{pages_for, pages_to_undo};
 
 impl<D: Device> Parts<D> {
-    /// Makes a step of the taking back of the operation at a place, which is no inverse and of a transaction that is
-    /// to be undone: a page that it wrote is put back. At `Clear`
-    /// nothing of it is left but its page locks and its claims, and it has to be dropped out. The base that the
-    /// pages hold stays.
-    ///
-    /// Refused with 1 for want of memory, and with 2 where the device has failed.
-    pub fn take_back(&mut self, place: usize) -> Result<TakenBack, Refusal>
+    // Makes a step of the taking back of the operation at a place, which is no inverse and of a transaction that is
+    // to be undone: a page that it wrote is put back. At `Clear` nothing of it is left but its page locks and its
+    // claims. The base that the pages hold stays.
+    fn take_back(&mut self, place: usize) -> Result<TakenBack, Refusal>
         requires safe { IsSound D.seen D.may_leave self.old }
         requires within { place < length self.old.running.items }
         requires aborting { AtPlace self.old.running.items place (λ r. (r.scope.undoes ≡ 0)
             × (state_in self.old.live.members r.scope.txn ≡ Some Aborting)) }
-        ensures { (origin : Origin) (base : Base) → IsConsistent D.seen D.may_leave origin base self.old
+        ensures length { length self.new.running.items ≡ length self.old.running.items }
+        ensures same { (origin : Origin) (base : Base) → IsConsistent D.seen D.may_leave origin base self.old
+            → (r q : Running) → r ≡ slice_index_or self.old.running.items place r → q ≡ slice_index_or self.new.running.items place q → SameOp r.scope q.scope }
+        ensures why { IfErr result IsCause }
+        ensures back { (origin : Origin) (base : Base) → IsConsistent D.seen D.may_leave origin base self.old
             → GoesBack D.seen D.may_leave origin base (state_of self.old base) self.new place result }
     {
         self.operations.take_back(&mut self.running[place].scope)
     }
 
-    /// Drops an operation out that was taken back and is no inverse: its page locks go, and so does what was kept
-    /// for it and for its inverse. Its add, where it is one, is pending no more. It takes no memory.
-    pub fn drop_out(&mut self, place: usize)
+    // Drops an operation out that was taken back and is no inverse: its page locks go, and so does what was kept for
+    // it and for its inverse. Its add, where it is one, is pending no more. It takes no memory.
+    fn drop_out(&mut self, place: usize)
         requires cleared { ∥ ((origin : Origin) × (base : Base)
             × IsClearedAt D.seen D.may_leave origin base self.old place) ∥₁ }
         requires within { place < length self.old.running.items }
@@ -49,5 +52,30 @@ impl<D: Device> Parts<D> {
         self.operations.give_back(pages);
         self.reserved -= bytes_to_undo(&op);
         let_go(&mut self.escrow, txn, &op);
+    }
+
+    /// Makes a step of the taking back of an operation at a place, which is no inverse and of a transaction that is to
+    /// be undone: a page that it wrote is put back. At `Clear` it is dropped out: its page locks go, and so does what
+    /// was kept for it and for its inverse; its add, where it is one, is pending no more. The base that the pages hold
+    /// stays.
+    ///
+    /// Refused with 1 for want of memory, and with 2 where the device has failed; nothing has changed then.
+    pub fn back_step(&mut self, place: usize) -> Result<TakenBack, Refusal>
+        requires safe { IsSound D.seen D.may_leave self.old }
+        requires within { place < length self.old.running.items }
+        requires aborting { AtPlace self.old.running.items place (λ r. (r.scope.undoes ≡ 0)
+            × (state_in self.old.live.members r.scope.txn ≡ Some Aborting)) }
+        ensures back { (origin : Origin) (base : Base) → IsConsistent D.seen D.may_leave origin base self.old
+            → BacksIn D.seen D.may_leave origin base self.old self.new place result }
+        ensures why { IfErr result IsCause }
+    {
+        match self.take_back(place)? {
+            TakenBack::Clear => {
+                self.drop_out(place);
+                Ok(TakenBack::Clear)
+            }
+            TakenBack::More => Ok(TakenBack::More),
+            TakenBack::Flush => Ok(TakenBack::Flush),
+        }
     }
 }

@@ -3,15 +3,27 @@ ghost use Rattle.std.specs.Prelude.{◌≡◌, ◌==◌, ◌<◌, ◌≢◌, ℕ
 ghost use Rattle.std.specs.Option.{option_map};
 ghost use Rattle.mt_live.specs.Lives.{member_of, is_member};
 ghost use Rattle.mt_log.specs.Words.{has_failed};
-ghost use Rattle.mt_kernel.specs.Consistent.{AtPlace};
+ghost use Rattle.mt_kernel.specs.Consistent.{AtPlace, IsOwnerOf};
 ghost use Rattle.mt_kernel.specs.Runs.{state_in};
 ghost use Rattle.mt_kernel.specs.declared.parts.Running.{Running};
 
-use crate::parts::Parts;
+use crate::parts::{Parts, Running};
 use mt_base::{OpNo, TxnNo};
 use mt_disk::Device;
 use mt_live::TxnState;
 use mt_model::Committed;
+
+// The transaction whose operation under way has this number, if there is one.
+fn owner_in(running: &[Running], op: OpNo) -> Option<TxnNo>
+    ensures { IsOwnerOf running.now op result }
+{
+    for (place, one) in running.iter().enumerate() {
+        if one.scope.number() == op {
+            return Some(running[place].scope.txn());
+        }
+    }
+    None
+}
 
 impl<D: Device> Parts<D> {
     /// Whether the device has failed.
@@ -77,5 +89,12 @@ impl<D: Device> Parts<D> {
         ensures { result.now ≡ self.now.book.items }
     {
         self.book.as_slice()
+    }
+
+    /// The transaction whose operation under way has this number, if there is one.
+    pub fn owner(&self, op: OpNo) -> Option<TxnNo>
+        ensures owner { IsOwnerOf self.now.running.items op result }
+    {
+        owner_in(self.running.as_slice(), op)
     }
 }

@@ -20,8 +20,8 @@ note_end-requires-clause-ready g c = ∥∥₁_elim c.requires.safe (hlevel prop
     let was = c.in_ok-reply.was ∙ ap Ok c.in-Ready.is in
     ∣ (origin, base, (subst (Advances g.D.Device.seen g.D.Device.may_leave origin base (state_of c.args.self.now base) c.advance.new.self c.args.place) was (c.advance.ensures.advances origin base safe)).0) ∣₁)
 
-pub returns-in-Ready : goal.returns-in-Ready
-returns-in-Ready g c = λ origin base safe x at. let k = c.args.self.now in let place = c.args.place in let seen = g.D.Device.seen in let may_leave = g.D.Device.may_leave in
+pub returns-in-Ready-clause-steps : goal.returns-in-Ready-clause-steps
+returns-in-Ready-clause-steps g c = λ origin base safe x at. let k = c.args.self.now in let place = c.args.place in let seen = g.D.Device.seen in let may_leave = g.D.Device.may_leave in
     let was = c.in_ok-reply.was ∙ ap Ok c.in-Ready.is in
     let made = subst (Advances seen may_leave origin base (state_of k base) c.advance.new.self place) was (c.advance.ensures.advances origin base safe) in
     let items = c.advance.new.self.running.items in

@@ -11,10 +11,13 @@ use Rattle.std.proofs.Common.{◌≡◌, get_or, ap, arith}
 use Rattle.std.proofs.lemmas.List.Sums.{get_or-le-sum_by}
 use Rattle.mt_kernel.specs.Runs.{left_of}
 use Rattle.mt_kernel.proofs.Sounds.{moving_of}
+use Rattle.std.proofs.Common.{◌∙◌}
+use Rattle.std.proofs.lemmas.List.{length-set, get_or_default, get_or-set_same}
+use Rattle.mt_op.specs.Moves.{SameOp}
 use Rattle.mt_kernel.proofs.parts.Parts.take_back.Goals as goal
 
-pub returns : goal.returns
-returns g c = λ origin base safe.
+pub returns-clause-back : goal.returns-clause-back
+returns-clause-back g c = λ origin base safe.
     let seen = g.D.Device.seen in let k = c.args.self.now in let r = c.index_mut.result.now in let e = c.take_back.ensures in
     let q : Running = record { scope = c.take_back.new.scope; op = r.op } in
     let was : IsRunning origin.relations origin.counters (world seen origin.pages k.operations) k.last r = subst (IsRunning origin.relations origin.counters (world seen origin.pages k.operations) k.last) (sym c.index_mut.ensures.value) (safe.runs c.args.place r c.requires.within) in
@@ -44,3 +47,16 @@ take_back-requires-clause-room g c = ∥∥₁_elim c.requires.safe (hlevel prop
     let part = get_or-le-sum_by left_of k.running.items c.args.place r c.requires.within in
     let mine : left_of (get_or k.running.items c.args.place r) ≡ left_of r = ap left_of (sym c.index_mut.ensures.value) in
     let log = safe.fit.log in omega (arith, part, mine, log))
+
+pub returns-clause-length : goal.returns-clause-length
+returns-clause-length g c = length-set c.args.self.now.running.items c.args.place (record { scope = c.take_back.new.scope; op = c.index_mut.result.now.op })
+
+pub returns-clause-same : goal.returns-clause-same
+returns-clause-same g c = λ origin base safe x y at now.
+    let seen = g.D.Device.seen in let k = c.args.self.now in let r = c.index_mut.result.now in let e = c.take_back.ensures in
+    let q : Running = record { scope = c.take_back.new.scope; op = r.op } in
+    let was : IsRunning origin.relations origin.counters (world seen origin.pages k.operations) k.last r = subst (IsRunning origin.relations origin.counters (world seen origin.pages k.operations) k.last) (sym c.index_mut.ensures.value) (safe.runs c.args.place r c.requires.within) in
+    let gone = e.goes origin.pages origin.relations origin.counters safe.fit.right was.under in
+    let old : r ≡ x = c.index_mut.ensures.value ∙ sym (get_or_default k.running.items c.args.place x r c.requires.within) ∙ sym at in
+    let new : q ≡ y = sym (now ∙ get_or-set_same k.running.items c.args.place q y c.requires.within) in
+    subst (λ (X : Type 0). X) (λ i. SameOp (old i).scope (new i).scope) gone.1.same

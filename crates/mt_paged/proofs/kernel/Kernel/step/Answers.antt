@@ -1,0 +1,27 @@
+use Rattle.std.proofs.Common.{◌∙◌, Ok, ap, subst}
+use Rattle.std.proofs.lemmas.Result.{err_from_is_err_and}
+use Rattle.mt_paged.proofs.Answering.{err_stepped, going_stepped}
+use Rattle.mt_paged.proofs.Showing.{sound_of, step_shown, step_well, forward_of, stage_of, StepShown}
+use Rattle.mt_paged.proofs.kernel.Kernel.step.Goals as goal
+
+pub step-requires-clause-safe : goal.step-requires-clause-safe
+step-requires-clause-safe g c = sound_of g.D.Device.seen g.D.Device.may_leave c.args.self.now.relations c.args.self.now.counters c.args.self.now.parts c.args.self.now.well
+
+pub step-requires-clause-forward : goal.step-requires-clause-forward
+step-requires-clause-forward g c = forward_of g.D.Device.seen g.D.Device.may_leave c.args.self.now.relations c.args.self.now.counters c.args.self.now.parts c.args.txn c.in-Some-place_of.place c.args.self.now.well c.in-Some-place_of.ensures.place.0 c.in-Some-place_of.ensures.place.1 c.in_default.ensures.opened
+
+pub step-requires-clause-stage : goal.step-requires-clause-stage
+step-requires-clause-stage g c = stage_of g.D.Device.seen g.D.Device.may_leave c.args.self.now.relations c.args.self.now.counters c.args.self.now.parts c.args.txn c.in-Some-place_of.place c.args.self.now.well c.in-Some-place_of.ensures.place.0 c.in-Some-place_of.ensures.place.1 c.in_default.ensures.opened
+
+pub invariant_of-self : goal.invariant_of-self
+invariant_of-self g c = record { well = step_well g.D.Device.seen g.D.Device.may_leave c.args.self.now.relations c.args.self.now.counters c.args.self.now.parts c.step.new.self c.in-Some-place_of.place c.step.result c.in-Some-place_of.ensures.place.0 c.step.ensures.steps c.args.self.now.well }
+
+pub returns-in_err-reply-clause-stepped : goal.returns-in_err-reply-clause-stepped
+returns-in_err-reply-clause-stepped g c = λ first s shows. let p = err_from_is_err_and c.from_residual.result c.from_residual.ensures.1 in
+    err_stepped g.D.Device.seen g.D.Device.may_leave first s c.args.txn _ c.from_residual.result p.0 p.1 (subst (StepShown g.D.Device.seen g.D.Device.may_leave c.args.self.now.relations c.args.self.now.counters c.step.new.self first s c.args.txn) (c.in_err-reply.was) (step_shown g.D.Device.seen g.D.Device.may_leave c.args.self.now.relations c.args.self.now.counters c.args.self.now.parts c.step.new.self first s c.args.txn c.in-Some-place_of.place c.step.result c.in-Some-place_of.ensures.place.0 c.in-Some-place_of.ensures.place.1 (forward_of g.D.Device.seen g.D.Device.may_leave c.args.self.now.relations c.args.self.now.counters c.args.self.now.parts c.args.txn c.in-Some-place_of.place c.args.self.now.well c.in-Some-place_of.ensures.place.0 c.in-Some-place_of.ensures.place.1 c.in_default.ensures.opened) c.step.ensures.steps shows))
+
+pub returns-in-Ended-clause-stepped : goal.returns-in-Ended-clause-stepped
+returns-in-Ended-clause-stepped g c = λ first s shows. subst (StepShown g.D.Device.seen g.D.Device.may_leave c.args.self.now.relations c.args.self.now.counters c.step.new.self first s c.args.txn) (c.in_ok-reply.was ∙ ap Ok c.in-Ended.is) (step_shown g.D.Device.seen g.D.Device.may_leave c.args.self.now.relations c.args.self.now.counters c.args.self.now.parts c.step.new.self first s c.args.txn c.in-Some-place_of.place c.step.result c.in-Some-place_of.ensures.place.0 c.in-Some-place_of.ensures.place.1 (forward_of g.D.Device.seen g.D.Device.may_leave c.args.self.now.relations c.args.self.now.counters c.args.self.now.parts c.args.txn c.in-Some-place_of.place c.args.self.now.well c.in-Some-place_of.ensures.place.0 c.in-Some-place_of.ensures.place.1 c.in_default.ensures.opened) c.step.ensures.steps shows)
+
+pub returns-in-Going-clause-stepped : goal.returns-in-Going-clause-stepped
+returns-in-Going-clause-stepped g c = λ first s shows. going_stepped g.D.Device.seen g.D.Device.may_leave first s c.args.txn _ c.stepped.result c.stepped.ensures (subst (StepShown g.D.Device.seen g.D.Device.may_leave c.args.self.now.relations c.args.self.now.counters c.step.new.self first s c.args.txn) (c.in_ok-reply.was ∙ ap Ok c.in-Going.is) (step_shown g.D.Device.seen g.D.Device.may_leave c.args.self.now.relations c.args.self.now.counters c.args.self.now.parts c.step.new.self first s c.args.txn c.in-Some-place_of.place c.step.result c.in-Some-place_of.ensures.place.0 c.in-Some-place_of.ensures.place.1 (forward_of g.D.Device.seen g.D.Device.may_leave c.args.self.now.relations c.args.self.now.counters c.args.self.now.parts c.args.txn c.in-Some-place_of.place c.args.self.now.well c.in-Some-place_of.ensures.place.0 c.in-Some-place_of.ensures.place.1 c.in_default.ensures.opened) c.step.ensures.steps shows))

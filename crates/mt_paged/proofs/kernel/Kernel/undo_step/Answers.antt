@@ -1,0 +1,24 @@
+use Rattle.std.proofs.Common.{◌∙◌, Ok, ap, subst}
+use Rattle.std.proofs.lemmas.Result.{err_from_is_err_and}
+use Rattle.mt_paged.proofs.Answering.{err_aborted, going_aborted}
+use Rattle.mt_paged.proofs.Showing.{sound_of, undo_shown, undo_well, inverse_stage, UndoShown}
+use Rattle.mt_paged.proofs.kernel.Kernel.undo_step.Goals as goal
+
+pub undo_step-requires-clause-safe : goal.undo_step-requires-clause-safe
+undo_step-requires-clause-safe g c = sound_of g.D.Device.seen g.D.Device.may_leave c.args.self.now.relations c.args.self.now.counters c.args.self.now.parts c.args.self.now.well
+
+pub undo_step-requires-clause-stage : goal.undo_step-requires-clause-stage
+undo_step-requires-clause-stage g c = inverse_stage g.D.Device.seen g.D.Device.may_leave c.args.self.now.relations c.args.self.now.counters c.args.self.now.parts c.args.place c.args.self.now.well c.requires.within (λ r there. (c.requires.own r there).1)
+
+pub invariant_of-self : goal.invariant_of-self
+invariant_of-self g c = record { well = undo_well g.D.Device.seen g.D.Device.may_leave c.args.self.now.relations c.args.self.now.counters c.args.self.now.parts c.undo_step.new.self c.args.place c.undo_step.result c.requires.within c.undo_step.ensures.steps c.args.self.now.well }
+
+pub returns-in_err-reply-clause-aborted : goal.returns-in_err-reply-clause-aborted
+returns-in_err-reply-clause-aborted g c = λ first s shows. let p = err_from_is_err_and c.from_residual.result c.from_residual.ensures.1 in
+    err_aborted g.D.Device.seen g.D.Device.may_leave first s c.args.txn _ c.from_residual.result p.0 p.1 (subst (UndoShown g.D.Device.seen g.D.Device.may_leave c.args.self.now.relations c.args.self.now.counters c.undo_step.new.self first s c.args.txn) (c.in_err-reply.was) (undo_shown g.D.Device.seen g.D.Device.may_leave c.args.self.now.relations c.args.self.now.counters c.args.self.now.parts c.undo_step.new.self first s c.args.txn c.args.place c.undo_step.result c.requires.within (λ r there. (c.requires.own r there).0) c.undo_step.ensures.steps shows))
+
+pub returns-in-Ended-clause-aborted : goal.returns-in-Ended-clause-aborted
+returns-in-Ended-clause-aborted g c = λ first s shows. subst (UndoShown g.D.Device.seen g.D.Device.may_leave c.args.self.now.relations c.args.self.now.counters c.undo_step.new.self first s c.args.txn) (c.in_ok-reply.was ∙ ap Ok c.in-Ended.is) (undo_shown g.D.Device.seen g.D.Device.may_leave c.args.self.now.relations c.args.self.now.counters c.args.self.now.parts c.undo_step.new.self first s c.args.txn c.args.place c.undo_step.result c.requires.within (λ r there. (c.requires.own r there).0) c.undo_step.ensures.steps shows)
+
+pub returns-in-Going-clause-aborted : goal.returns-in-Going-clause-aborted
+returns-in-Going-clause-aborted g c = λ first s shows. going_aborted g.D.Device.seen g.D.Device.may_leave first s c.args.txn _ c.going.result c.going.ensures (subst (UndoShown g.D.Device.seen g.D.Device.may_leave c.args.self.now.relations c.args.self.now.counters c.undo_step.new.self first s c.args.txn) (c.in_ok-reply.was ∙ ap Ok c.in-Going.is) (undo_shown g.D.Device.seen g.D.Device.may_leave c.args.self.now.relations c.args.self.now.counters c.args.self.now.parts c.undo_step.new.self first s c.args.txn c.args.place c.undo_step.result c.requires.within (λ r there. (c.requires.own r there).0) c.undo_step.ensures.steps shows))

@@ -1,0 +1,119 @@
+-- Which calls a kernel refuses before it asks locks, escrow, pages and log.
+use Rattle.std.specs.Prelude.{ℕ, ℤ, ◌<◌, ◌+◌, ◌^◌, ◌||◌, ◌&&◌, ◌==◌, nat_lt, nat_le, if◌then◌else◌, Bool, true, false, List, length, Option, Some, None, int_le, pos, neg_ℤ}
+use Rattle.std.specs.List.{list_any}
+use Rattle.mt_base.specs.Limits.{IsKey, IsValue, IsStep}
+use Rattle.mt_base.specs.declared.refusal.Refusal.{Refusal}
+use Rattle.mt_base.specs.declared.refusal.Refusal.TheVariants as refusal
+use Rattle.mt_live.specs.Lives.{calls_of, member_of}
+use Rattle.mt_live.specs.declared.transactions.TxnState.{TxnState}
+use Rattle.mt_live.specs.declared.transactions.TxnState.TheVariants.{Open, Aborting}
+use Rattle.mt_log.specs.Words.{has_failed, area_size}
+use Rattle.mt_model.specs.declared.operations.Op.{Op}
+use Rattle.mt_model.specs.declared.operations.Op.TheVariants.{Get, Insert, Update, Delete, Add, Read}
+use Rattle.mt_kernel.specs.Consistent.{log_kept}
+use Rattle.mt_kernel.specs.Runs.{state_in}
+use Rattle.mt_kernel.specs.declared.parts.Parts.{Parts}
+use Rattle.mt_kernel.specs.declared.parts.Running.{Running}
+
+-- the first of two causes
+abbrev pub first_of : Option Refusal → Option Refusal → Option Refusal
+first_of (Some why) later = Some why
+first_of None later = later
+
+abbrev pub unless : Bool → Refusal → Option Refusal
+unless holds why = if holds then None else Some why
+
+-- why a transaction cannot begin, if it cannot
+abbrev pub begin_cause : {D : Type 0} → Parts D → Option Refusal
+begin_cause k =
+    if has_failed k.operations.store.log then Some refusal.DeviceFailed else
+    if nat_le 64 (length k.live.members) then Some refusal.TooManyTransactions else
+    if nat_le 1000000 (length k.book.items + length k.live.members) || nat_le (2 ^ 40) k.live.begun then Some refusal.BookFull else
+    if nat_lt (log_kept k + 128) (area_size k.operations.store.log) then None else Some refusal.LogFull
+
+-- ---- the transaction
+
+abbrev pub is_open : Option TxnState → Bool
+is_open (Some Open) = true
+is_open _ = false
+
+abbrev pub is_aborting : Option TxnState → Bool
+is_aborting (Some Aborting) = true
+is_aborting _ = false
+
+-- why a call that wants an open transaction is refused
+abbrev pub open_cause : {D : Type 0} → Parts D → ℕ → Option Refusal
+open_cause k t = if has_failed k.operations.store.log then Some refusal.DeviceFailed else unless (is_open (state_in k.live.members t)) refusal.Stranger
+
+-- why a step of an abort is
+abbrev pub abort_cause : {D : Type 0} → Parts D → ℕ → Option Refusal
+abort_cause k t = if has_failed k.operations.store.log then Some refusal.DeviceFailed else unless (is_aborting (state_in k.live.members t)) refusal.Stranger
+
+-- whether an operation of it is under way
+abbrev pub is_busy : {D : Type 0} → Parts D → ℕ → Bool
+is_busy k t = list_any (λ (r : Running). r.scope.txn == t) k.running.items
+
+abbrev pub busy_cause : {D : Type 0} → Parts D → ℕ → Option Refusal
+busy_cause k t = if is_busy k t then Some refusal.Busy else None
+
+abbrev pub step_cause : {D : Type 0} → Parts D → ℕ → Option Refusal
+step_cause k t = first_of (open_cause k t) (unless (is_busy k t) refusal.Stranger)
+
+abbrev pub commit_cause : {D : Type 0} → Parts D → ℕ → Option Refusal
+commit_cause k t = first_of (open_cause k t) (busy_cause k t)
+
+-- it has called as many operations as it may, or 2^40 were called by all
+abbrev pub count_cause : {D : Type 0} → Parts D → ℕ → Option Refusal
+count_cause k t = if nat_le 256 (length (calls_of k.live.members t)) || nat_le (2 ^ 40) k.last then Some refusal.TooManyOperations else None
+
+-- ---- the operation
+
+abbrev pub is_key : List ℕ → Bool
+is_key k = nat_le 1 (length k) && nat_le (length k) 64
+
+abbrev pub is_value : List ℕ → Bool
+is_value v = nat_le (length v) 1024
+
+abbrev pub is_step : ℤ → Bool
+is_step d = (int_le (pos 1) d && int_le d (pos 1000000000000)) || (int_le (neg_ℤ (pos 1000000000000)) d && int_le d (neg_ℤ (pos 1)))
+
+-- its relation or counter is there
+abbrev pub IsNamed : ℕ → ℕ → Op → Type 0
+IsNamed relations counters (Get r k) = r < relations
+IsNamed relations counters (Insert r k v) = r < relations
+IsNamed relations counters (Update r k v) = r < relations
+IsNamed relations counters (Delete r k) = r < relations
+IsNamed relations counters (Add c d) = c < counters
+IsNamed relations counters (Read c) = c < counters
+
+-- its key, value and step lie within their limits
+abbrev pub IsSized : Op → Type 0
+IsSized (Get r k) = IsKey k
+IsSized (Insert r k v) = IsKey k × IsValue v
+IsSized (Update r k v) = IsKey k × IsValue v
+IsSized (Delete r k) = IsKey k
+IsSized (Add c d) = IsStep d
+IsSized (Read c) = Unit {0}
+
+-- no such relation, or no such counter
+abbrev pub name_cause : ℕ → ℕ → Op → Option Refusal
+name_cause relations counters (Get r k) = unless (nat_lt r relations) refusal.NoSuchRelation
+name_cause relations counters (Insert r k v) = unless (nat_lt r relations) refusal.NoSuchRelation
+name_cause relations counters (Update r k v) = unless (nat_lt r relations) refusal.NoSuchRelation
+name_cause relations counters (Delete r k) = unless (nat_lt r relations) refusal.NoSuchRelation
+name_cause relations counters (Add c d) = unless (nat_lt c counters) refusal.NoSuchCounter
+name_cause relations counters (Read c) = unless (nat_lt c counters) refusal.NoSuchCounter
+
+-- a key, a value or a step past its limits
+abbrev pub size_cause : Op → Option Refusal
+size_cause (Get r k) = unless (is_key k) refusal.BadLength
+size_cause (Insert r k v) = unless (is_key k && is_value v) refusal.BadLength
+size_cause (Update r k v) = unless (is_key k && is_value v) refusal.BadLength
+size_cause (Delete r k) = unless (is_key k) refusal.BadLength
+size_cause (Add c d) = unless (is_step d) refusal.BadStep
+size_cause (Read c) = None
+
+-- why a call is refused before its lock is asked for, if it is: the first cause in the order of the tests
+abbrev pub call_cause : {D : Type 0} → ℕ → ℕ → Parts D → ℕ → Op → Option Refusal
+call_cause relations counters k t op =
+    first_of (open_cause k t) (first_of (busy_cause k t) (first_of (count_cause k t) (first_of (name_cause relations counters op) (size_cause op))))

@@ -1,0 +1,4 @@
+pub mod Well
+pub mod Shown
+pub mod Causes
+pub mod Events

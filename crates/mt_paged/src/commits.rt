@@ -1,0 +1,85 @@
+// Commits, the steps that make them durable, and flushes.
+ghost use Rattle.std.specs.Prelude.{◌≡◌, ◌≢◌, ◌⊎◌, ◌<◌, ◌+◌, length, IfOk, IfErr, IsErr, OnOk, OnErr, None, Some, true};
+ghost use Rattle.mt_base.specs.declared.refusal.Refusal.{Refusal};
+ghost use Rattle.mt_live.specs.Machine.{State};
+ghost use Rattle.mt_log.specs.Words.{has_failed};
+ghost use Rattle.mt_model.specs.Model.{Base};
+ghost use Rattle.mt_paged.specs.Causes.{commit_cause};
+ghost use Rattle.mt_paged.specs.Events.{HasForced};
+ghost use Rattle.mt_paged.specs.Shown.{Shows, Stays};
+
+use crate::answers::KernelForced;
+use crate::kernel::Kernel;
+use mt_base::{Refusal, TxnNo};
+use mt_disk::Device;
+use mt_log::Forced;
+use mt_pool::Flushed;
+
+impl<D: Device> Kernel<D> {
+    /// Begins the commit of an open transaction: its Commit is appended, and the force steps that follow make it
+    /// durable. Until then the transaction lives with its locks, and nothing else can be asked of it. Answers its place
+    /// in this opening's order of commits, from 1.
+    ///
+    /// Refused, in this order: 2 where the device has failed, 15 where the transaction is not open, 16 where an
+    /// operation of it is unfinished, 1 for want of memory. The state is as before.
+    pub fn commit_begin(&mut self, txn: TxnNo) -> Result<u64, Refusal>
+        ensures may { OnOk result (commit_cause self.old.parts txn ≡ None) }
+        ensures cause { IfErr result (λ why. why ≢ Refusal.NoMemory → commit_cause self.old.parts txn ≡ Some why) }
+        ensures place { IfOk result (λ place.
+            place ≡ length self.old.parts.book.items + length self.old.parts.commits.items + 1) }
+        ensures state { Stays D.seen D.may_leave self.old self.new }
+    {
+        if let Some(why) = self.open_cause(txn) {
+            return Err(why);
+        }
+        if self.parts.place_of(txn).is_some() {
+            return Err(Refusal::Busy);
+        }
+        let place = self.parts.commit_begin(txn)?;
+        Ok(place as u64)
+    }
+
+    /// Makes a step of a force, with one call of the device: what was appended before its first step becomes durable
+    /// with its last, which answers the transactions whose commits are durable now. They are in the book then, in the
+    /// order of their commits, and live no more.
+    ///
+    /// Refused, in this order: 2 where the device has failed or fails in this call, 1 for want of memory. The state is
+    /// as before.
+    pub fn force_step(&mut self) -> Result<KernelForced, Refusal>
+        ensures why { IfErr result (λ why. why ≢ Refusal.NoMemory → why ≡ Refusal.DeviceFailed) }
+        ensures failed { has_failed self.old.parts.operations.store.log ≡ true → result ≡ Err Refusal.DeviceFailed }
+        ensures forced { (first : Base) (s : State) → Shows D.seen D.may_leave first s self.old
+            → HasForced D.seen D.may_leave first s result self.new }
+    {
+        if self.parts.has_failed() {
+            return Err(Refusal::DeviceFailed);
+        }
+        let mut names = Vec::with_capacity(self.alloc, self.parts.count_commits())?;
+        match self.parts.force_step()? {
+            Forced::More => Ok(KernelForced::More),
+            Forced::Idle => Ok(KernelForced::Idle),
+            Forced::Durable(place) => {
+                self.parts.leave_durable(place, &mut names);
+                Ok(KernelForced::Durable(names))
+            }
+        }
+    }
+
+    /// Writes a page into its slot, where one waits for no record that is not durable; else answers
+    /// [`Flushed::Force`] where a force step has to come first, and [`Flushed::Clean`] where no page is to be written.
+    ///
+    /// Refused with 2 where the device has failed or fails in this call. The state is as before.
+    pub fn flush_step(&mut self) -> Result<Flushed, Refusal>
+        ensures why { IfErr result (λ why. why ≡ Refusal.DeviceFailed) }
+        ensures failed { has_failed self.old.parts.operations.store.log ≡ true → result ≡ Err Refusal.DeviceFailed }
+        ensures state { Stays D.seen D.may_leave self.old self.new }
+    {
+        if self.parts.has_failed() {
+            return Err(Refusal::DeviceFailed);
+        }
+        match self.parts.flush_step() {
+            Ok(flushed) => Ok(flushed),
+            Err(_) => Err(Refusal::DeviceFailed),
+        }
+    }
+}

@@ -1,0 +1,59 @@
+// A kernel over pages.
+ghost use Rattle.std.specs.Prelude.{◌≡◌};
+ghost use Rattle.mt_live.specs.Machine.{start};
+ghost use Rattle.mt_model.specs.Model.{Base};
+ghost use Rattle.mt_kernel.specs.Consistent.{IsFresh};
+ghost use Rattle.mt_paged.specs.Well.{IsWell, Opens, ShowsIn};
+
+use mt_disk::Device;
+use mt_escrow::Escrow;
+use mt_kernel::Parts;
+use mt_model::Committed;
+use mt_op::Operations;
+use std::alloc::Global;
+
+/// A kernel over its pages.
+///
+/// Whatever the schedule of its calls, each state that it shows is one that the laws of mt_live keep: the book is legal
+/// from the first base on, what stands of the live transactions is explained, and the pages hold the base that it
+/// leads to.
+pub struct Kernel<D: Device> {
+    pub(crate) parts: Parts<D>,
+    pub(crate) alloc: Global,
+    // how many there are
+    pub(crate) relations: u16,
+    pub(crate) counters: u16,
+    // whatever the base that the pages hold
+    ghost well: { IsWell D.seen D.may_leave relations counters parts },
+}
+
+impl<D: Device> Kernel<D> {
+    /// A kernel without transactions over operations of a log area without records, whose pages hold a base, which is
+    /// the first of its history; the escrow has that base's counters. It takes no memory.
+    pub fn assemble(
+        alloc: Global,
+        operations: Operations<D>,
+        escrow: Escrow,
+        relations: u16,
+        counters: u16,
+    ) -> Kernel<D>
+        requires fresh { IsFresh operations escrow }
+        requires opens { ∥ ((first : Base) × Opens D.seen D.may_leave operations escrow relations counters first) ∥₁ }
+        ensures shows { (first : Base) → Opens D.seen D.may_leave operations escrow relations counters first
+            → ShowsIn D.seen D.may_leave relations counters first (start first) result.parts }
+    {
+        Kernel {
+            parts: Parts::new(alloc, operations, escrow),
+            alloc,
+            relations,
+            counters,
+        }
+    }
+
+    /// The durable commits of this opening, in their order.
+    pub fn book(&self) -> &[Committed]
+        ensures { result.now ≡ self.now.parts.book.items }
+    {
+        self.parts.book()
+    }
+}

@@ -1,0 +1,57 @@
+// Steps of operations.
+ghost use Rattle.std.specs.Prelude.{◌≡◌, ◌≢◌, IfErr, OnOk, None, Some};
+ghost use Rattle.mt_base.specs.declared.refusal.Refusal.{Refusal};
+ghost use Rattle.mt_live.specs.Machine.{State};
+ghost use Rattle.mt_model.specs.Model.{Base};
+ghost use Rattle.mt_model.specs.declared.operations.Reply.{Reply};
+ghost use Rattle.mt_paged.specs.Causes.{step_cause};
+ghost use Rattle.mt_paged.specs.Events.{HasStepped};
+ghost use Rattle.mt_paged.specs.Shown.{Shows};
+
+use crate::answers::Stepped;
+use crate::kernel::Kernel;
+use mt_base::{Refusal, TxnNo};
+use mt_disk::Device;
+use mt_kernel::{Going, Stepping};
+
+impl<D: Device> Kernel<D> {
+    /// Makes a step of the operation of an open transaction: it locks a page and looks at it, or writes one, or ends.
+    /// Where it ends it has acted once on the base that the pages hold, whatever others have half done, and stands
+    /// behind all that ended before.
+    ///
+    /// Refused, in this order: 2 where the device has failed, 15 where the transaction is not open or has no operation
+    /// under way, 1 for want of memory; and with 2 where the device fails in this step. The state is as before.
+    pub fn step(&mut self, txn: TxnNo) -> Result<Stepped, Refusal>
+        ensures may { OnOk result (step_cause self.old.parts txn ≡ None) }
+        ensures cause { IfErr result (λ why. why ≢ Refusal.NoMemory → why ≢ Refusal.DeviceFailed
+            → step_cause self.old.parts txn ≡ Some why) }
+        ensures stepped { (first : Base) (s : State) → Shows D.seen D.may_leave first s self.old
+            → HasStepped D.seen D.may_leave first s txn result self.new }
+    {
+        if let Some(why) = self.open_cause(txn) {
+            return Err(why);
+        }
+        let Some(place) = self.parts.place_of(txn) else {
+            return Err(Refusal::Stranger);
+        };
+        match self.parts.step(self.alloc, place)? {
+            Stepping::Ended(reply) => Ok(Stepped::Replied(reply)),
+            Stepping::Going(going) => Ok(self.stepped(going)),
+        }
+    }
+
+    // What a step answers where its operation goes on.
+    fn stepped(&self, going: Going) -> Stepped
+        ensures { (reply : Reply) → result ≡ Stepped.Replied reply → ⊥ }
+    {
+        match going {
+            Going::Went => Stepped::Went,
+            Going::Wait(holder) => match self.parts.owner(holder) {
+                Some(other) => Stepped::Wait(other),
+                None => Stepped::Again,
+            },
+            Going::Again(_) => Stepped::Again,
+            Going::Flush => Stepped::Flush,
+        }
+    }
+}

@@ -306,7 +306,7 @@ module _ {D : Type 0} (seen : D → List ℕ) (may_leave : D → List ℕ → Ty
         steps = λ opening relations counters right k few some.
             let gone = p.goes opening relations counters right k few in
             let ended = a.steps opening relations counters gone.0 gone.1.own few some in
-            (ended.0, steps_then relations counters (world seen opening o) (world seen opening n) (world seen opening z) s t u r (ap (λ (l : Log). appended l) p.log) gone.1 ended.1);
+            (ended.0, steps_then relations counters (world seen opening o) (world seen opening n) (world seen opening z) s t u r (ap (λ (l : Log). appended l) p.log) p.scope.room gone.1 ended.1);
         moments = λ opening kept. subst (λ (x : Operations D). IsKept seen may_leave opening x.store → LeavesOnly moment left_since x.store.device z.store.device (Explains opening x.store)) made.0 (a.moments opening) kept;
         log = a.log ∙ (λ i. used (p.log i) + p.left i);
         area = a.area ∙ ap (λ (l : Log). area_size l) p.log;

@@ -8,8 +8,9 @@ use Rattle.mt_disk.specs.Disk.{LeavesOnly}
 use Rattle.mt_pool.specs.Kept.{Explains}
 use Rattle.mt_pool.specs.declared.store.Store.{Store}
 use Rattle.mt_base.specs.declared.modes.Mode.TheVariants.{Read}
+use Rattle.mt_space.specs.Changes.{after}
 use Rattle.mt_steps.specs.Acts.{IfLock, IfMade, IfFull}
-use Rattle.mt_steps.specs.Plans.{AsksCounters, AsksRow, InPages, IsPlanned, IsTight, free_pages, own_needs, record_bytes}
+use Rattle.mt_steps.specs.Plans.{AsksCounters, AsksRow, InPages, IsPlanned, TakesPages, IsTight, free_pages, own_needs, record_bytes}
 use Rattle.mt_steps.specs.declared.act.Act.{Act}
 use Rattle.mt_op.specs.World.{looked}
 use Rattle.mt_op.specs.Operations.{world}
@@ -58,6 +59,10 @@ lock_next-requires-clause-asked g c = let s = c.args.scope.now in (
 pub keep_plan-requires-clause-planned : goal.keep_plan-requires-clause-planned
 keep_plan-requires-clause-planned g c = let s = c.args.scope.now in λ relations counters small within.
     subst (λ (a : Act). IfMade a (λ changes reply. InPages (looked s) s.room relations counters s.seen.total (λ pages. IsPlanned relations counters s.seen.total (looked s) pages changes s.op s.split reply))) c.in-Made.is (c.in_ok-page.ensures.made relations counters small within)
+
+pub keep_plan-requires-clause-takes : goal.keep_plan-requires-clause-takes
+keep_plan-requires-clause-takes g c = let s = c.args.scope.now in λ relations counters small within.
+    subst (λ (a : Act). IfMade a (λ changes reply. InPages (looked s) s.room relations counters s.seen.total (λ pages. TakesPages s.room s.op pages (after changes pages)))) c.in-Made.is (c.in_ok-page.ensures.takes relations counters small within)
 
 pub returns-in-Made : goal.returns-in-Made
 returns-in-Made g c = let d = g.D.Device in let o = c.args.self.now in let s = c.args.scope.now in let f = c.keep_plan.ensures in

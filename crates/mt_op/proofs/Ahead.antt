@@ -112,6 +112,7 @@ module _ {D : Type 0} (seen : D → List ℕ) (may_leave : D → List ℕ → Ty
     work = idle_works s r idle;
     records = same_records s (appended o.store.log) (appended m.store.log) r records;
     locks = locks;
+    room = refl;
     asks = idle_asks r idle;
     err = idle_err s r idle;
     flush = λ is. refl;
@@ -138,6 +139,7 @@ module _ {D : Type 0} (seen : D → List ℕ) (may_leave : D → List ℕ → Ty
     work = a.work;
     records = subst (λ (rs : List Record). KeepsRecords t rs (appended n.store.log) r) records a.records;
     locks = a.locks ∙ locks;
+    room = a.room;
     asks = a.asks;
     err = a.err;
     flush = a.flush;

@@ -246,7 +246,7 @@ module _ {D : Type 0} (seen : D → List ℕ) (may_leave : D → List ℕ → Ty
     work = a.work;
     records = a.records;
     locks = same_keeps s.number (IsNext s) o.locks n.locks r a.asks a.locks;
-    scope = ahead_scope s t r a.asks a.err a.flush;
+    scope = ahead_scope s t r a.room a.asks a.err a.flush;
     writing = λ writing. a.locks;
     went = λ writing. a.went;
     why = a.why;
@@ -317,7 +317,7 @@ module _ {D : Type 0} (seen : D → List ℕ) (may_leave : D → List ℕ → Ty
         work = works_behind s t u r p.work same.total a.work;
         records = subst (λ (l : Log). KeepsRecords u (appended l) (appended z.store.log) r) p.log a.records;
         locks = same_keeps s.number (IsNext s) o.locks z.locks r a.asks (a.locks ∙ p.locks);
-        scope = made_scope s t u r p.scope a.asks a.err a.flush;
+        scope = made_scope s t u r p.scope a.room a.asks a.err a.flush;
         writing = λ writing. absurd (not_writing s planning writing);
         went = λ writing. absurd (not_writing s planning writing);
         why = a.why;

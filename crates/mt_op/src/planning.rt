@@ -170,6 +170,7 @@ impl<D: Device> Operations<D> {
         ensures unlocked { IfSome result (λ p. All (λ l. l.page ≢ p) self.now.locks) }
         ensures roomy { IfSome result (λ p. bytes_put scope.now.op ≤ get_or self.now.rooms.0 p 0) }
         ensures puts { IfSome result (λ p. only_reads scope.now.op ≡ false) }
+        ensures unled { IfSome result (λ p. scope.now.room ≡ None) }
     {
         let bytes = record_bytes(&scope.op)?;
         let room = self.rooms.with_room(bytes)?;

@@ -1,7 +1,7 @@
 use mathlib.Core.Logic.{∥∥₁_elim, ∥∥₁_map}
 use Rattle.std.proofs.Props.{props}
 use Rattle.std.specs.Prelude.{Err}
-use Rattle.std.proofs.Common.{◌≡◌, None, ◌<◌, ◌⊎◌, inl, refl, sym, subst, ◌∙◌, ap}
+use Rattle.std.proofs.Common.{◌≡◌, None, ◌<◌, ◌⊎◌, inl, inr, refl, sym, subst, ◌∙◌, ap}
 use Rattle.std.proofs.lemmas.Result.{err_from_is_err_and}
 use Rattle.mt_pool.proofs.Kept.{no_call}
 use Rattle.mt_disk.specs.Disk.{LeavesOnly}
@@ -16,7 +16,7 @@ use Rattle.mt_op.specs.World.{looked}
 use Rattle.mt_op.specs.Operations.{world}
 use Rattle.mt_op.specs.Stepping.{LocksPage, PlansOn}
 use Rattle.mt_op.proofs.Choosing.{cause_memory, locked_some, locked_err, refused_plan, unled_goes, reading_of}
-use Rattle.mt_op.proofs.Work.{led_work, plans_over, claim_free}
+use Rattle.mt_op.proofs.Work.{led_work, led_misled, plans_over, claim_free}
 use Rattle.mt_op.proofs.Known.{one_of, known_within}
 use Rattle.mt_op.proofs.Faulting.{no_fault, no_fault_ok}
 use Rattle.mt_op.proofs.operations.Operations.plan_step.Goals as goal
@@ -100,7 +100,12 @@ returns-in-Full g c = let d = g.D.Device in let o = c.args.self.now in let s = c
           (claim_free d.seen d.may_leave opening relations counters o s right k c.requires.claims)
           (subst (λ (a : Act). IfFull a (InPages (looked s) s.room relations counters s.seen.total (λ pages. (free_pages s.seen.total pages < own_needs s.op s.split) ⊎ IsTight s.room pages (record_bytes s.op)))) c.in-Full.is (c.in_ok-page.ensures.full relations counters small k.within)));
       locks = inl refl;
-      scope = tt;
+      scope = inr (inr (
+        refl,
+        ∥∥₁_elim c.requires.right (hlevel props) (λ (opening, relations, counters, right, k, small, some). led_misled relations counters (world d.seen opening o) s c.requires.planning right.sound k
+            (claim_free d.seen d.may_leave opening relations counters o s right k c.requires.claims)
+            (subst (λ (a : Act). IfFull a (InPages (looked s) s.room relations counters s.seen.total (λ pages. (free_pages s.seen.total pages < own_needs s.op s.split) ⊎ IsTight s.room pages (record_bytes s.op)))) c.in-Full.is (c.in_ok-page.ensures.full relations counters small k.within))),
+      ));
       why = tt;
       faults = no_fault_ok _ _ _ refl;
     }

@@ -112,6 +112,7 @@ module _ {D : Type 0} (seen : D → List ℕ) (may_leave : D → List ℕ → Ty
     work = idle_works s r idle;
     records = same_records s (appended o.store.log) (appended m.store.log) r records;
     locks = locks;
+    room = refl;
     asks = idle_asks r idle;
     err = idle_err s r idle;
     flush = λ is. refl;
@@ -126,7 +127,7 @@ module _ {D : Type 0} (seen : D → List ℕ) (may_leave : D → List ℕ → Ty
     steps = λ opening relations counters ok k few some.
         let w = world seen opening o in let x = world seen opening m in
         let gone = a.steps opening relations counters (right opening relations counters ok) (rests_own relations counters w x s (rests opening) k) few some in
-        (gone.0, steps_then relations counters w x (world seen opening n) s s t r (rests opening).records (rests_goes_as relations counters w x s (rests opening) k) gone.1);
+        (gone.0, steps_then relations counters w x (world seen opening n) s s t r (rests opening).records refl (rests_goes_as relations counters w x s (rests opening) k) gone.1);
     moments = λ opening kept. subst (λ (d : D). LeavesOnly moment left_since o.store.device d (Explains opening o.store)) (sym device) (moments opening kept);
     log = a.log ∙ ap (λ (n : ℕ). n + s.left) spent;
     area = a.area ∙ area;
@@ -138,6 +139,7 @@ module _ {D : Type 0} (seen : D → List ℕ) (may_leave : D → List ℕ → Ty
     work = a.work;
     records = subst (λ (rs : List Record). KeepsRecords t rs (appended n.store.log) r) records a.records;
     locks = a.locks ∙ locks;
+    room = a.room;
     asks = a.asks;
     err = a.err;
     flush = a.flush;

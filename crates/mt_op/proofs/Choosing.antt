@@ -246,7 +246,7 @@ module _ {D : Type 0} (seen : D → List ℕ) (may_leave : D → List ℕ → Ty
     work = a.work;
     records = a.records;
     locks = same_keeps s.number (IsNext s) o.locks n.locks r a.asks a.locks;
-    scope = ahead_scope s t r a.asks a.err a.flush;
+    scope = ahead_scope s t r a.room a.asks a.err a.flush;
     writing = λ writing. a.locks;
     went = λ writing. a.went;
     why = a.why;
@@ -306,7 +306,7 @@ module _ {D : Type 0} (seen : D → List ℕ) (may_leave : D → List ℕ → Ty
         steps = λ opening relations counters right k few some.
             let gone = p.goes opening relations counters right k few in
             let ended = a.steps opening relations counters gone.0 gone.1.own few some in
-            (ended.0, steps_then relations counters (world seen opening o) (world seen opening n) (world seen opening z) s t u r (ap (λ (l : Log). appended l) p.log) gone.1 ended.1);
+            (ended.0, steps_then relations counters (world seen opening o) (world seen opening n) (world seen opening z) s t u r (ap (λ (l : Log). appended l) p.log) p.scope.room gone.1 ended.1);
         moments = λ opening kept. subst (λ (x : Operations D). IsKept seen may_leave opening x.store → LeavesOnly moment left_since x.store.device z.store.device (Explains opening x.store)) made.0 (a.moments opening) kept;
         log = a.log ∙ (λ i. used (p.log i) + p.left i);
         area = a.area ∙ ap (λ (l : Log). area_size l) p.log;
@@ -317,7 +317,7 @@ module _ {D : Type 0} (seen : D → List ℕ) (may_leave : D → List ℕ → Ty
         work = works_behind s t u r p.work same.total a.work;
         records = subst (λ (l : Log). KeepsRecords u (appended l) (appended z.store.log) r) p.log a.records;
         locks = same_keeps s.number (IsNext s) o.locks z.locks r a.asks (a.locks ∙ p.locks);
-        scope = made_scope s t u r p.scope a.asks a.err a.flush;
+        scope = made_scope s t u r p.scope a.room a.asks a.err a.flush;
         writing = λ writing. absurd (not_writing s planning writing);
         went = λ writing. absurd (not_writing s planning writing);
         why = a.why;

@@ -7,13 +7,13 @@ use Rattle.mt_model.specs.declared.operations.Op.{Op}
 use Rattle.mt_model.specs.declared.operations.Reply.{Reply}
 use Rattle.mt_model.specs.Model.{reply_of, base_after}
 use Rattle.mt_plock.specs.Holding.{lock_of}
-use Rattle.mt_space.specs.Changes.{PageBytes, IsUntouched}
+use Rattle.mt_space.specs.Changes.{PageBytes, IsUntouched, after}
 use Rattle.mt_space.specs.declared.changes.Changes.{Changes}
 use Rattle.mt_space.specs.declared.changes.PageChange.{PageChange}
 use Rattle.mt_steps.specs.Drafts.{AreAtHand}
 use Rattle.mt_steps.specs.Held.{Holds}
 use Rattle.mt_steps.specs.Logged.{logged_of}
-use Rattle.mt_steps.specs.Plans.{InPages, IsPlanned}
+use Rattle.mt_steps.specs.Plans.{InPages, IsPlanned, TakesPages}
 use Rattle.mt_op.specs.World.{World, held_in, looked, IsWorld, IsUnderWay, IsOther}
 use Rattle.mt_op.specs.Moves.{SameOp}
 use Rattle.mt_op.specs.Operations.{Goes, Acts, GoesOn, Steps, IsPlannedOn}
@@ -45,14 +45,15 @@ module _ (relations counters : ℕ) where
       → AreAtHand (looked s) changes.list.items → length changes.list.items ≤ 8 → (logged_of s.op reply ≡ None → changes.list.items ≡ [])
       → All (λ (c : PageChange). Contains s.guards.items (lock_of s.number c.page Write)) changes.list.items
       → InPages (looked s) s.room relations counters s.seen.total (λ pages. IsPlanned relations counters s.seen.total (looked s) pages changes.list.items s.op s.split reply)
+      → InPages (looked s) s.room relations counters s.seen.total (λ pages. TakesPages s.room s.op pages (after changes.list.items pages))
       → Goes relations counters w w s (record s { changes = changes; reply = Some reply; stage = Writing })
-  keeps_plan w s changes reply h k planning there few quiet locked planned =
+  keeps_plan w s changes reply h k planning there few quiet locked planned takes =
       let t : OpScope = record s { changes = changes; reply = Some reply; stage = Writing } in
       let at = planning_of relations counters w s planning k in
       let op : SameOp s t = record { txn = refl; number = refl; op = refl; undoes = refl; split = refl; total = refl } in
       record {
         own = plans relations counters w s t h k planning op refl refl refl
-            (record { reply = reply; replies = refl; planned = planned; there = there; quiet = quiet; few = few; locked = locked }) refl at.none_written at.none_standing;
+            (record { reply = reply; replies = refl; planned = planned; takes = takes; there = there; quiet = quiet; few = few; locked = locked }) refl at.none_written at.none_standing;
         others = λ u ku other. ku;
         held = refl;
         same = op;
@@ -67,10 +68,11 @@ module _ (relations counters : ℕ) where
     same = then_same s t u f.same g.same;
   }
 
-  acts_then : (w m z : World) (s t u : OpScope) (reply : Reply) → m.records ≡ w.records → Goes relations counters w m s t → Acts relations counters m z t u reply → Acts relations counters w z s u reply
-  acts_then w m z s t u reply records f g = record {
+  acts_then : (w m z : World) (s t u : OpScope) (reply : Reply) → m.records ≡ w.records → t.room ≡ s.room → Goes relations counters w m s t → Acts relations counters m z t u reply → Acts relations counters w z s u reply
+  acts_then w m z s t u reply records room f g = record {
     own = g.own;
     others = λ v kv other. g.others v (f.others v kv other) (same_other s t v f.same other);
+    takes = subst (λ (X : Type 0). X) (λ i. TakesPages (room i) (f.same.op i) (f.held i) (held_in z)) g.takes;
     small = g.small;
     replies = λ b holds. ap (reply_of b) (sym f.same.op) ∙ g.replies b (subst (λ (h : PageBytes). Holds h b) (sym f.held) holds);
     base = λ b holds. subst (λ (o : Op). Holds (held_in z) (base_after b o)) f.same.op (g.base b (subst (λ (h : PageBytes). Holds h b) (sym f.held) holds));
@@ -78,13 +80,13 @@ module _ (relations counters : ℕ) where
     same = then_same s t u f.same g.same;
   }
 
-  pub steps_then : (w m z : World) (s t u : OpScope) (r : Result Stepped Refusal) → m.records ≡ w.records → Goes relations counters w m s t → Steps relations counters m z t u r → Steps relations counters w z s u r
-  steps_then w m z s t u (Ok (stepped.Ready first second)) records f g = (acts_then w m z s t u first records f g.0, g.1)
-  steps_then w m z s t u (Ok stepped.Went) records f g = goes_then w m z s t u f g
-  steps_then w m z s t u (Ok (stepped.Wait holder)) records f g = goes_then w m z s t u f g
-  steps_then w m z s t u (Ok (stepped.Again holder)) records f g = goes_then w m z s t u f g
-  steps_then w m z s t u (Ok stepped.Flush) records f g = goes_then w m z s t u f g
-  steps_then w m z s t u (Err why) records f g = goes_then w m z s t u f g
+  pub steps_then : (w m z : World) (s t u : OpScope) (r : Result Stepped Refusal) → m.records ≡ w.records → t.room ≡ s.room → Goes relations counters w m s t → Steps relations counters m z t u r → Steps relations counters w z s u r
+  steps_then w m z s t u (Ok (stepped.Ready first second)) records room f g = (acts_then w m z s t u first records room f g.0, g.1)
+  steps_then w m z s t u (Ok stepped.Went) records room f g = goes_then w m z s t u f g
+  steps_then w m z s t u (Ok (stepped.Wait holder)) records room f g = goes_then w m z s t u f g
+  steps_then w m z s t u (Ok (stepped.Again holder)) records room f g = goes_then w m z s t u f g
+  steps_then w m z s t u (Ok stepped.Flush) records room f g = goes_then w m z s t u f g
+  steps_then w m z s t u (Err why) records room f g = goes_then w m z s t u f g
 
   pub on_steps : (w z : World) (s t : OpScope) (r : Result Stepped Refusal) → GoesOn relations counters w z s t r → Steps relations counters w z s t r
   on_steps w z s t (Ok (stepped.Ready first second)) g = absurd g

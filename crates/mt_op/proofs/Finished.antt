@@ -20,7 +20,7 @@ use Rattle.mt_steps.specs.Drafts.{copied}
 use Rattle.mt_steps.specs.Held.{Holds}
 use Rattle.mt_steps.specs.Logged.{logged_of}
 use Rattle.mt_space.specs.Rooms.{mapped, free_in, free_of, reserved_of}
-use Rattle.mt_steps.specs.Plans.{IsPlanned, free_pages, own_needs}
+use Rattle.mt_steps.specs.Plans.{IsPlanned, TakesPages, free_pages, own_needs}
 use Rattle.mt_steps.specs.declared.copies.Copies.{Copies}
 use Rattle.mt_op.specs.World.{World, held_in, looked, changes_in, IsWorld, IsOpen, IsWriting, IsAt, IsUnderWay, IsOther}
 use Rattle.mt_op.specs.Moves.{Notes, SameOp}
@@ -35,7 +35,7 @@ use Rattle.mt_file.specs.Rooms.{fits_of, AreRooms}
 use Rattle.mt_space.proofs.Changing.{after_untouched}
 use Rattle.mt_op.specs.Room.{HasRooms}
 use Rattle.mt_op.proofs.Planned.{some_or_none, not_at_hand}
-use Rattle.mt_op.proofs.Writing.{planned_held}
+use Rattle.mt_op.proofs.Writing.{planned_held, takes_held}
 
 -- its end may stand in the log
 pub end_stands : (w : World) (s : OpScope) (done : LoggedOp) → IsTxn s.txn → IsOpen w s → may_stand false w.records (OpEnd s.txn s.number s.undoes done) ≡ true
@@ -61,6 +61,9 @@ module _ (relations counters : ℕ) (w : World) (s : OpScope) (reply : Reply) (h
   pub planned_reply : IsPlanned relations counters w.total (looked s) (held_in w) (changes_in s) s.op s.split reply
   planned_reply = subst (IsPlanned relations counters w.total (looked s) (held_in w) (changes_in s) s.op s.split) same_reply (planned_held relations counters w s now.plan h k now.sees)
 
+  pub takes_now : TakesPages s.room s.op (held_in w) (after (changes_in s) (held_in w))
+  takes_now = takes_held relations counters w s now.plan h k now.sees
+
   pub nothing_changes : logged_of s.op reply ≡ None → changes_in s ≡ []
   nothing_changes none = now.plan.quiet (ap (logged_of s.op) same_reply ∙ none)
 
@@ -68,12 +71,13 @@ module _ (relations counters : ℕ) (w : World) (s : OpScope) (reply : Reply) (h
   open_still = now.unended
 
 -- the pages held take its changes
-acts : (relations counters : ℕ) (w z : World) (s t : OpScope) (reply : Reply) → IsPlanned relations counters w.total (looked s) (held_in w) (changes_in s) s.op s.split reply → held_in z ≡ after (changes_in s) (held_in w)
+acts : (relations counters : ℕ) (w z : World) (s t : OpScope) (reply : Reply) → IsPlanned relations counters w.total (looked s) (held_in w) (changes_in s) s.op s.split reply → TakesPages s.room s.op (held_in w) (after (changes_in s) (held_in w)) → held_in z ≡ after (changes_in s) (held_in w)
     → IsUnderWay relations counters z t → ((u : OpScope) → IsUnderWay relations counters w u → IsOther s u → IsUnderWay relations counters z u) → z.records ≡ w.records ++ end_of s reply → SameOp s t → Acts relations counters w z s t reply
-acts relations counters w z s t reply plan held own others ended same = record {
+acts relations counters w z s t reply plan takes held own others ended same = record {
   own = own;
   others = others;
   replies = plan.replies;
+  takes = subst (TakesPages s.room s.op (held_in w)) (sym held) takes;
   small = plan.small;
   base = λ b holds. subst (λ (f : PageBytes). Holds f (base_after b s.op)) (sym held) (plan.base b holds);
   ended = ended;
@@ -185,6 +189,9 @@ module _ {D : Type 0} (seen : D → List ℕ) (may_leave : D → List ℕ → Ty
   planned : IsPlanned relations counters w.total (looked s) (held_in w) (changes_in s) s.op s.split reply
   planned = planned_reply relations counters w s reply right.sound k stage is
 
+  takes : TakesPages s.room s.op (held_in w) (after (changes_in s) (held_in w))
+  takes = takes_now relations counters w s reply right.sound k stage is
+
   same : SameOp s t
   same = record {
     txn = ap (λ (x : OpScope). x.txn) moves;
@@ -247,7 +254,7 @@ module _ {D : Type 0} (seen : D → List ℕ) (may_leave : D → List ℕ → Ty
           rooms = rooms ∙ right.rooms ∙ total;
           noted = subst (AreRooms n.rooms.0) (sym (ap held_in moved ∙ e.1)) fits;
         },
-        acts relations counters w (world seen opening n) s t reply planned (ap held_in moved ∙ e.1)
+        acts relations counters w (world seen opening n) s t reply planned takes (ap held_in moved ∙ e.1)
             (subst (λ (x : World). IsUnderWay relations counters x t) (sym moved) (own_ends relations counters w z s done noted right.sound k stage all t same guards copies ready))
             (λ u ku other. subst (λ (x : World). IsUnderWay relations counters x u) (sym moved) (others_end relations counters w z s done noted right.sound k stage all u ku other))
             (ap (λ (x : World). x.records) moved ∙ noted.records ∙ ap (λ (d : Option LoggedOp). w.records ++ end_with s.txn s.number s.undoes d) (sym due)) same,
@@ -272,7 +279,7 @@ module _ {D : Type 0} (seen : D → List ℕ) (may_leave : D → List ℕ → Ty
           rooms = rooms ∙ right.rooms ∙ total;
           noted = subst (AreRooms n.rooms.0) (sym (ap held_in moved ∙ sym held)) fits;
         },
-        acts relations counters w (world seen opening n) s t reply planned (ap held_in moved ∙ sym held)
+        acts relations counters w (world seen opening n) s t reply planned takes (ap held_in moved ∙ sym held)
             (subst (λ (x : World). IsUnderWay relations counters x t) (sym moved) (own_ends_quietly relations counters w s right.sound k stage none t same guards copies ready))
             (λ u ku other. subst (λ (x : World). IsUnderWay relations counters x u) (sym moved) ku)
             (ap (λ (x : World). x.records) moved ∙ sym (append-nil w.records) ∙ ap (λ (d : Option LoggedOp). w.records ++ end_with s.txn s.number s.undoes d) (sym quiet)) same,

@@ -1,13 +1,14 @@
 -- The locks of all operations, the operation itself and the records of the log, behind a step of it.
-use Rattle.std.proofs.Common.{◌≡◌, ◌∙◌, ℕ, List, inl, inr, refl, sym, subst, Option}
+use Rattle.std.proofs.Common.{◌≡◌, ◌⊎◌, ◌∙◌, ℕ, List, inl, inr, refl, sym, ap, subst, Option, None, Some}
 use Rattle.std.specs.Prelude.{Result, Ok, Err, OnErr}
 use Rattle.mt_base.specs.declared.modes.Mode.{Mode}
 use Rattle.mt_base.specs.declared.refusal.Refusal.{Refusal}
 use Rattle.mt_frame.specs.declared.records.Record.{Record}
 use Rattle.mt_plock.specs.declared.guards.PageLock.{PageLock}
-use Rattle.mt_op.specs.World.{World}
+use Rattle.mt_base.specs.declared.modes.Mode.TheVariants.{Write}
+use Rattle.mt_op.specs.World.{World, looked}
 use Rattle.mt_op.specs.Moves.{SameOp}
-use Rattle.mt_op.specs.Holds.{Stays, IsAnew, IsMade, IsHeld, AsksNothing, KeepsLocks, KeepsLocksOn, KeepsScope, KeepsScopeOn}
+use Rattle.mt_op.specs.Holds.{Stays, IsAnew, IsMade, IsHeld, AsksNothing, KeepsLocks, KeepsLocksOn, KeepsRoom, KeepsScope, KeepsScopeOn}
 use Rattle.mt_op.specs.Records.{KeepsRecords}
 use Rattle.mt_op.specs.declared.answers.Stepped.{Stepped}
 use Rattle.mt_op.specs.declared.answers.Stepped.TheVariants as stepped
@@ -81,7 +82,7 @@ anew_then s m t f changes g = record {
 }
 
 pub held_scope : (w z : World) (s m t : OpScope) (p : ℕ) (mode : Mode) (r : Result Stepped Refusal) → Stays s m → m.changes ≡ s.changes → IsHeld w z m t p mode r → KeepsScope s t r
-held_scope w z s m t p mode (Ok stepped.Went) f changes h = tt
+held_scope w z s m t p mode (Ok stepped.Went) f changes h = inl (h.1.room ∙ f.plan.room)
 held_scope w z s m t p mode (Ok (stepped.Wait holder)) f changes h = stays_then s m t f h.1
 held_scope w z s m t p mode (Ok (stepped.Again holder)) f changes h = anew_then s m t f changes h.1
 held_scope w z s m t p mode (Ok stepped.Flush) f changes h = absurd h
@@ -96,30 +97,39 @@ err_scope_on s t r why is keeps = subst (KeepsScopeOn s t) (sym is) keeps
 
 -- where it asks for nothing
 pub same_scope : (s : OpScope) (r : Result Stepped Refusal) → AsksNothing r → KeepsScope s s r
-same_scope s (Ok stepped.Went) none = tt
+same_scope s (Ok stepped.Went) none = inl refl
 same_scope s (Ok (stepped.Wait holder)) none = absurd none
 same_scope s (Ok (stepped.Again holder)) none = absurd none
 same_scope s (Ok stepped.Flush) none = inl (stays_same s)
-same_scope s (Ok (stepped.Ready first second)) none = tt
+same_scope s (Ok (stepped.Ready first second)) none = refl
 same_scope s (Err why) none = inl (stays_same s)
 
 -- it writes, or ends
-pub ahead_scope : (s t : OpScope) (r : Result Stepped Refusal) → AsksNothing r → OnErr r (t ≡ s) → (r ≡ Ok stepped.Flush → t ≡ s) → KeepsScope s t r
-ahead_scope s t (Ok stepped.Went) none err flush = tt
-ahead_scope s t (Ok (stepped.Wait holder)) none err flush = absurd none
-ahead_scope s t (Ok (stepped.Again holder)) none err flush = absurd none
-ahead_scope s t (Ok stepped.Flush) none err flush = inl (subst (Stays s) (sym (flush refl)) (stays_same s))
-ahead_scope s t (Ok (stepped.Ready first second)) none err flush = tt
-ahead_scope s t (Err why) none err flush = inl (subst (Stays s) (sym err) (stays_same s))
+pub ahead_scope : (s t : OpScope) (r : Result Stepped Refusal) → t.room ≡ s.room → AsksNothing r → OnErr r (t ≡ s) → (r ≡ Ok stepped.Flush → t ≡ s) → KeepsScope s t r
+ahead_scope s t (Ok stepped.Went) room none err flush = inl room
+ahead_scope s t (Ok (stepped.Wait holder)) room none err flush = absurd none
+ahead_scope s t (Ok (stepped.Again holder)) room none err flush = absurd none
+ahead_scope s t (Ok stepped.Flush) room none err flush = inl (subst (Stays s) (sym (flush refl)) (stays_same s))
+ahead_scope s t (Ok (stepped.Ready first second)) room none err flush = room
+ahead_scope s t (Err why) room none err flush = inl (subst (Stays s) (sym err) (stays_same s))
 
 -- the same behind a plan that was made
-pub made_scope : (s t u : OpScope) (r : Result Stepped Refusal) → IsMade s t → AsksNothing r → OnErr r (u ≡ t) → (r ≡ Ok stepped.Flush → u ≡ t) → KeepsScope s u r
-made_scope s t u (Ok stepped.Went) made none err flush = tt
-made_scope s t u (Ok (stepped.Wait holder)) made none err flush = absurd none
-made_scope s t u (Ok (stepped.Again holder)) made none err flush = absurd none
-made_scope s t u (Ok stepped.Flush) made none err flush = inr (subst (IsMade s) (sym (flush refl)) made)
-made_scope s t u (Ok (stepped.Ready first second)) made none err flush = tt
-made_scope s t u (Err why) made none err flush = inr (subst (IsMade s) (sym err) made)
+pub made_scope : (s t u : OpScope) (r : Result Stepped Refusal) → IsMade s t → u.room ≡ t.room → AsksNothing r → OnErr r (u ≡ t) → (r ≡ Ok stepped.Flush → u ≡ t) → KeepsScope s u r
+made_scope s t u (Ok stepped.Went) made room none err flush = inl (room ∙ made.room)
+made_scope s t u (Ok (stepped.Wait holder)) made room none err flush = absurd none
+made_scope s t u (Ok (stepped.Again holder)) made room none err flush = absurd none
+made_scope s t u (Ok stepped.Flush) made room none err flush = inr (subst (IsMade s) (sym (flush refl)) made)
+made_scope s t u (Ok (stepped.Ready first second)) made room none err flush = room ∙ made.room
+made_scope s t u (Err why) made room none err flush = inr (subst (IsMade s) (sym err) made)
+
+-- it is led to the page that is locked
+pub room_kept : (s t : OpScope) (room : Option ℕ) (p : ℕ) (mode : Mode) (K : Type 0) → t.room ≡ room → (room ≡ s.room) ⊎ ((room ≡ Some p) × (mode ≡ Write) × K) → (room ≡ s.room) ⊎ (s.room ≡ None) → looked s p ≡ None → KeepsRoom s t
+room_kept s t room p mode K is (inl same) unled new = inl (is ∙ same)
+room_kept s t room p mode K is (inr led) (inl same) new = inl (is ∙ same)
+room_kept s t room p mode K is (inr led) (inr none) new = inr (inl (none, λ q at. subst (λ (x : ℕ). looked s x ≡ None) (only p q (sym led.0 ∙ sym is ∙ at)) new))
+  where
+    only : (a b : ℕ) → Some a ≡ Some b → a ≡ b
+    only a b e = ap (λ (o : Option ℕ). elim o [ None ↦ a | Some x ↦ x ]) e
 
 -- ---- records
 

@@ -11,13 +11,13 @@ use Rattle.mt_model.specs.declared.operations.Reply.{Reply}
 use Rattle.mt_plock.specs.declared.guards.PageLock.{PageLock}
 use Rattle.mt_plock.specs.Holding.{lock_of, AreTogether}
 use Rattle.mt_plock.specs.Releasing.{locks_of}
-use Rattle.mt_space.specs.Changes.{PageBytes, Agrees}
+use Rattle.mt_space.specs.Changes.{PageBytes, Agrees, after}
 use Rattle.mt_space.specs.declared.changes.PageChange.{PageChange}
 use Rattle.mt_space.specs.Kinds.{kind}
 use Rattle.mt_file.specs.Plans.{IsNamed}
 use Rattle.mt_steps.specs.Drafts.{copied, AreAtHand}
 use Rattle.mt_steps.specs.Logged.{logged_of}
-use Rattle.mt_steps.specs.Plans.{IsGood, IsPlanned}
+use Rattle.mt_steps.specs.Plans.{IsGood, IsPlanned, TakesPages}
 use Rattle.mt_steps.specs.declared.draft.PageCopy.{PageCopy}
 use Rattle.mt_steps.specs.Repeated.{Repeated, held, by, on, repeat, logged, IsRepeated}
 use Rattle.mt_steps.proofs.Drafting.{some_is}
@@ -208,11 +208,17 @@ module _ (relations counters : ℕ) where
   Plans total copies room changes op split reply =
       (pages : PageBytes) → Agrees (copied copies) pages → IsGood relations counters total pages → IsNamed room pages → IsPlanned relations counters total (copied copies) pages changes op split reply
 
+  -- and which pages they take and give back
+  abbrev Gives : ℕ → List PageCopy → Option ℕ → List PageChange → Op → Type 0
+  Gives total copies room changes op =
+      (pages : PageBytes) → Agrees (copied copies) pages → IsGood relations counters total pages → IsNamed room pages → TakesPages room op pages (after changes pages)
+
   pub plan_same : (s t : OpScope) → SamePlan s t → HasPlan relations counters s → HasPlan relations counters t
   plan_same s t same k = record {
     reply = k.reply;
     replies = same.reply ∙ k.replies;
     planned = subst (λ (X : Type 0). X) (λ i. Plans (sym same.op.total i) (sym same.seen i) (sym same.room i) (sym same.changes i) (sym same.op.op i) (sym same.op.split i) k.reply) k.planned;
+    takes = subst (λ (X : Type 0). X) (λ i. Gives (sym same.op.total i) (sym same.seen i) (sym same.room i) (sym same.changes i) (sym same.op.op i)) k.takes;
     there = subst (λ (X : Type 0). X) (λ i. AreAtHand (copied (sym same.seen i)) (sym same.changes i)) k.there;
     quiet = subst (λ (X : Type 0). X) (λ i. logged_of (sym same.op.op i) k.reply ≡ None → sym same.changes i ≡ []) k.quiet;
     few = subst (λ (cs : List PageChange). length cs ≤ 8) (sym same.changes) k.few;

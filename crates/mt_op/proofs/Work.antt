@@ -14,20 +14,22 @@ use Rattle.mt_space.specs.declared.changes.Changes.{Changes}
 use Rattle.mt_steps.specs.Drafts.{copied, or_below}
 use Rattle.mt_steps.specs.declared.draft.PageCopy.{PageCopy}
 use Rattle.mt_steps.proofs.Drafting.{copied_append, some_value, test_yes}
+use Rattle.mt_file.specs.Rooms.{fits_of}
 use Rattle.mt_model.specs.Model.{IsWithin}
 use Rattle.mt_space.specs.Changes.{PageBytes}
 use Rattle.mt_space.specs.Rooms.{free_in, free_of}
 use Rattle.mt_op.specs.declared.operations.Operations.{Operations}
 use Rattle.mt_op.specs.Operations.{world, IsRight, claimed}
 use Rattle.mt_steps.specs.Plans.{IsGood, HasPages, InPages, IsTight, free_pages, own_needs, record_bytes}
-use Rattle.mt_op.specs.World.{World, held_in, looked, changes_in, IsWorld, IsUnderWay}
-use Rattle.mt_op.specs.Holds.{Stays, Holds, IsAnew, IsHeld}
+use Rattle.mt_op.specs.World.{World, held_in, looked, looked_bytes, changes_in, IsWorld, IsUnderWay}
+use Rattle.mt_op.specs.Holds.{Stays, Holds, IsAnew, IsHeld, IsMisled}
 use Rattle.mt_op.specs.Work.{sum_below, writes, is_written, steps_for, work_at, work_of, Works, WorksOn}
 use Rattle.mt_op.specs.declared.answers.Stepped.{Stepped}
 use Rattle.mt_op.specs.declared.answers.Stepped.TheVariants as stepped
 use Rattle.mt_op.specs.declared.scope.OpScope.{OpScope}
 use Rattle.mt_op.specs.declared.scope.Stage.TheVariants.{Planning, Writing}
 use Rattle.mt_op.proofs.Going.{planning_of}
+use Rattle.mt_op.proofs.Writing.{held_as_seen}
 
 -- ---- sums
 
@@ -222,6 +224,23 @@ led_work relations counters w s planning h k free full =
       | inl few ↦ absurd (omega arith)
       | inr tight ↦ full_work s tight.0 planning tight.1
     ]
+
+-- and does not take its record
+pub led_misled : (relations counters : ℕ) (w : World) (s : OpScope) → s.stage ≡ Planning → IsWorld relations counters w → IsUnderWay relations counters w s → own_needs s.op s.split ≤ free_pages s.seen.total (held_in w)
+    → InPages (looked s) s.room relations counters s.seen.total (λ pages. (free_pages s.seen.total pages < own_needs s.op s.split) ⊎ IsTight s.room pages (record_bytes s.op)) → IsMisled s
+led_misled relations counters w s planning h k free full p led =
+    let at = planning_of relations counters w s planning k in
+    let good = subst (λ (n : ℕ). IsGood relations counters n (held_in w)) (sym k.total) h.good in
+    elim (full (held_in w) at.sees.saw good (λ p is. (at.sees.named p is).2)) [
+      | inl few ↦ absurd (omega arith)
+      | inr tight ↦
+          let same : tight.0 ≡ p = only tight.0 p (sym tight.1 ∙ led) in
+          let bytes : held_in w p ≡ looked_bytes s p = held_as_seen w s p at.sees (at.sees.named p led).0 in
+          subst (λ (page : List ℕ). fits_of page < record_bytes s.op) bytes (subst (λ (x : ℕ). fits_of (held_in w x) < record_bytes s.op) same tight.2)
+    ]
+  where
+    only : (a b : ℕ) → Some a ≡ Some b → a ≡ b
+    only a b e = ap (λ (o : Option ℕ). elim o [ None ↦ a | Some x ↦ x ]) e
 
 -- its plan is made
 pub planned_work : (s t : OpScope) → s.stage ≡ Planning → t.stage ≡ Writing → length (changes_in t) ≤ 8 → work_of t ≤ work_of s

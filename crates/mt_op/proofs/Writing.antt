@@ -13,12 +13,12 @@ use Rattle.mt_frame.specs.History.{some_record, ends_txn, ends_op, finishes, und
 use Rattle.mt_plock.specs.declared.guards.PageLock.{PageLock}
 use Rattle.mt_plock.specs.Holding.{lock_of, AreTogether}
 use Rattle.mt_plock.specs.Releasing.{locks_of}
-use Rattle.mt_space.specs.Changes.{PageBytes, IsUntouched, IsShort, AreShort}
+use Rattle.mt_space.specs.Changes.{PageBytes, IsUntouched, IsShort, AreShort, after}
 use Rattle.mt_frame.specs.PageRecords.{change_records}
 use Rattle.mt_space.specs.declared.changes.PageChange.{PageChange}
 use Rattle.mt_space.specs.Kinds.{kind}
 use Rattle.mt_steps.specs.Drafts.{copied, or_bytes}
-use Rattle.mt_steps.specs.Plans.{IsGood, IsPlanned}
+use Rattle.mt_steps.specs.Plans.{IsGood, IsPlanned, TakesPages}
 use Rattle.mt_steps.specs.Repeated.{Repeated, Change, held, by, but, on, redo, put_back, changed, ranges_of, changes_of}
 use Rattle.mt_steps.specs.declared.draft.PageCopy.{PageCopy}
 use Rattle.mt_steps.proofs.Drafting.{some_value, short_at, named_at}
@@ -76,6 +76,9 @@ module _ (relations counters : ℕ) where
   planned_held w s plan h k sees =
       subst (λ (n : ℕ). IsPlanned relations counters n (looked s) (held_in w) (changes_in s) s.op s.split plan.reply) k.total
       (plan.planned (held_in w) sees.saw (subst (λ (n : ℕ). IsGood relations counters n (held_in w)) (sym k.total) h.good) (λ p is. (sees.named p is).2))
+
+  pub takes_held : (w : World) (s : OpScope) (plan : HasPlan relations counters s) → IsWorld relations counters w → IsUnderWay relations counters w s → Sees w s → TakesPages s.room s.op (held_in w) (after (changes_in s) (held_in w))
+  takes_held w s plan h k sees = plan.takes (held_in w) sees.saw (subst (λ (n : ℕ). IsGood relations counters n (held_in w)) (sym k.total) h.good) (λ p is. (sees.named p is).2)
 
   pub next_of : (w : World) (s : OpScope) (c : PageChange) → IsWorld relations counters w → IsUnderWay relations counters w s → s.stage ≡ Writing → s.written < length (changes_in s) → c ≡ get_or (changes_in s) s.written c → IsNext w s c
   next_of w s c h k stage lt is = record {

@@ -10,8 +10,9 @@ use Rattle.mt_plock.specs.declared.guards.PageLock.{PageLock}
 use Rattle.mt_plock.specs.Releasing.{locks_without}
 use Rattle.mt_space.specs.Changes.{IsUntouched}
 use Rattle.mt_space.specs.declared.changes.PageChange.{PageChange}
-use Rattle.mt_steps.specs.Plans.{InPages, IsPlanned, AsksCounters, AsksRow}
-use Rattle.mt_op.specs.World.{World, looked}
+use Rattle.mt_file.specs.Rooms.{fits_of}
+use Rattle.mt_steps.specs.Plans.{InPages, IsPlanned, AsksCounters, AsksRow, record_bytes}
+use Rattle.mt_op.specs.World.{World, looked, looked_bytes}
 use Rattle.mt_op.specs.Moves.{SameOp, SamePlan, Locks, Rests, Leaves}
 use Rattle.mt_op.specs.Operations.{only_reads}
 use Rattle.mt_op.specs.declared.scope.OpScope.{OpScope}
@@ -141,14 +142,24 @@ KeepsLocksOn op Next old new (Err why) = new ≡ old
 
 -- ---- the operation itself
 
+-- the page that it was led to, as it looked at it, does not take its record
+abbrev pub IsMisled : OpScope → Type 0
+IsMisled s = (p : ℕ) → s.room ≡ Some p → fits_of (looked_bytes s p) < record_bytes s.op
+
+-- It is led to the page that it was led to; or it was led to none, and is led to one that it had not looked at; or that page
+-- does not take its record, and it is led to none.
+abbrev pub KeepsRoom : OpScope → OpScope → Type 0
+KeepsRoom s t = (t.room ≡ s.room) ⊎ (((s.room ≡ None) × ((p : ℕ) → t.room ≡ Some p → looked s p ≡ None)) ⊎ ((t.room ≡ None) × IsMisled s))
+
 -- It stays where it waits; where it begins anew it is as at its beginning. Where it needs a frame or is refused it
--- stays, unless its plan was made in this step.
+-- stays, unless its plan was made in this step. It forgets the page that it was led to only where that does not take its
+-- record.
 abbrev pub KeepsScope : OpScope → OpScope → Result Stepped Refusal → Type 0
-KeepsScope s t (Ok stepped.Went) = Unit {0}
+KeepsScope s t (Ok stepped.Went) = KeepsRoom s t
 KeepsScope s t (Ok (stepped.Wait holder)) = Stays s t
 KeepsScope s t (Ok (stepped.Again holder)) = IsAnew s t
 KeepsScope s t (Ok stepped.Flush) = Stays s t ⊎ IsMade s t
-KeepsScope s t (Ok (stepped.Ready first second)) = Unit {0}
+KeepsScope s t (Ok (stepped.Ready first second)) = t.room ≡ s.room
 KeepsScope s t (Err why) = Stays s t ⊎ IsMade s t
 
 abbrev pub KeepsScopeOn : OpScope → OpScope → Result (Option Stepped) Refusal → Type 0

@@ -14,6 +14,7 @@ use Rattle.mt_pool.specs.Views.{view, pages}
 use Rattle.mt_space.specs.Rooms.{mapped, free_of, reserved_of}
 use Rattle.mt_steps.specs.Held.{Holds}
 use Rattle.mt_steps.specs.Logged.{HasSmallReply}
+use Rattle.mt_steps.specs.Plans.{TakesPages}
 use Rattle.mt_op.specs.World.{World, held_in, IsWorld, IsUnderWay, IsOther, changes_in}
 use Rattle.mt_op.specs.Moves.{SameOp}
 use Rattle.mt_op.specs.Records.{end_of}
@@ -96,12 +97,14 @@ pub record Goes (relations counters : ℕ) (w z : World) (s t : OpScope) : Type 
   pub same : SameOp s t
 
 -- The operation acts once on the base that the pages hold, whatever the others have half done, with this reply, whose
--- value is within its limit; and nothing but its end is appended.
+-- value is within its limit; pages are taken only where it needs one, and its record goes into the page that it was led
+-- to, or into a free one where it was led to none; and nothing but its end is appended.
 pub record Acts (relations counters : ℕ) (w z : World) (s t : OpScope) (reply : Reply) : Type 0 where
   pub own : IsUnderWay relations counters z t
   pub others : (u : OpScope) → IsUnderWay relations counters w u → IsOther s u → IsUnderWay relations counters z u
   pub replies : (b : Base) → Holds (held_in w) b → reply_of b s.op ≡ reply
   pub base : (b : Base) → Holds (held_in w) b → Holds (held_in z) (base_after b s.op)
+  pub takes : TakesPages s.room s.op (held_in w) (held_in z)
   pub small : HasSmallReply reply
   pub ended : z.records ≡ w.records ++ end_of s reply
   pub same : SameOp s t

@@ -37,6 +37,7 @@ pub record GoesAhead {D : Type 0} (seen : D → List ℕ) (may_leave : D → Lis
   pub work : Works s t r
   pub records : KeepsRecords t (appended o.store.log) (appended n.store.log) r
   pub locks : n.locks ≡ o.locks
+  pub room : t.room ≡ s.room
   pub asks : AsksNothing r
   pub err : OnErr r (t ≡ s)
   pub flush : r ≡ Ok stepped.Flush → t ≡ s

@@ -11,14 +11,14 @@ use Rattle.mt_model.specs.declared.operations.Reply.{Reply}
 use Rattle.mt_plock.specs.declared.guards.PageLock.{PageLock}
 use Rattle.mt_plock.specs.Holding.{lock_of, AreTogether}
 use Rattle.mt_plock.specs.Releasing.{locks_of}
-use Rattle.mt_space.specs.Changes.{PageBytes, Agrees}
+use Rattle.mt_space.specs.Changes.{PageBytes, Agrees, after}
 use Rattle.mt_pool.specs.Writes.{IsUnfinished}
 use Rattle.mt_space.specs.declared.changes.PageChange.{PageChange}
 use Rattle.mt_space.specs.Kinds.{kind}
 use Rattle.mt_file.specs.Plans.{IsNamed}
 use Rattle.mt_steps.specs.Drafts.{copied, or_bytes, AreAtHand}
 use Rattle.mt_steps.specs.Logged.{logged_of}
-use Rattle.mt_steps.specs.Plans.{IsGood, IsPlanned}
+use Rattle.mt_steps.specs.Plans.{IsGood, IsPlanned, TakesPages}
 use Rattle.mt_steps.specs.Repeated.{Repeated, Change, logged, held, by, changes_of, IsRepeated}
 use Rattle.mt_op.specs.declared.scope.OpScope.{OpScope}
 use Rattle.mt_op.specs.declared.scope.Stage.{Stage}
@@ -75,12 +75,14 @@ HasNothing w s = by s.number (unfinished_in w) ≡ []
 abbrev pub HasWritten : World → OpScope → Type 0
 HasWritten w s = by s.number (unfinished_in w) ≡ changes_of s.number (take s.written (changes_in s)) (looked_bytes s)
 
--- Its changes are one act on whatever good pages agree with those that it looked at; it has looked at each page
+-- Its changes are one act on whatever good pages agree with those that it looked at, and take pages only where it needs
+-- one, for its record none but the page that it was led to; it has looked at each page
 -- that changes, and locked it to write.
 pub record HasPlan (relations counters : ℕ) (s : OpScope) : Type 0 where
   pub reply : Reply
   pub replies : s.reply ≡ Some reply
   pub planned : (pages : PageBytes) → Agrees (looked s) pages → IsGood relations counters s.seen.total pages → IsNamed s.room pages → IsPlanned relations counters s.seen.total (looked s) pages (changes_in s) s.op s.split reply
+  pub takes : (pages : PageBytes) → Agrees (looked s) pages → IsGood relations counters s.seen.total pages → IsNamed s.room pages → TakesPages s.room s.op pages (after (changes_in s) pages)
   pub there : AreAtHand (looked s) (changes_in s)
   pub quiet : logged_of s.op reply ≡ None → changes_in s ≡ []
   pub few : length (changes_in s) ≤ 8

@@ -106,6 +106,7 @@ impl<D: Device> Operations<D> {
         requires next { IsToLook scope.old page mode }
         requires led { (room ≡ scope.old.room)
             ⊎ ((room ≡ Some page) × (mode ≡ Write) × (get_or self.old.map.kinds page 0 ≡ 3)) }
+        requires unled { (room ≡ scope.old.room) ⊎ (scope.old.room ≡ None) }
         ensures { LocksPage D.seen D.may_leave D.moment D.left_since D.faults self.old self.new scope.old scope.new
             result }
     {
@@ -128,6 +129,7 @@ impl<D: Device> Operations<D> {
         requires next { IsToLook scope.old page mode }
         requires led { (room ≡ scope.old.room)
             ⊎ ((room ≡ Some page) × (mode ≡ Write) × (get_or self.old.map.kinds page 0 ≡ 3)) }
+        requires unled { (room ≡ scope.old.room) ⊎ (scope.old.room ≡ None) }
         requires there { IsThere self.old.store.pool page }
         ensures goes { (opening : PageBytes) (relations counters : ℕ)
             → IsRight D.seen D.may_leave opening relations counters self.old

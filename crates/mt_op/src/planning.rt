@@ -7,10 +7,10 @@ ghost use Rattle.mt_disk.specs.Disk.{LeavesOnly};
 ghost use Rattle.mt_model.specs.Model.{IsWithin};
 ghost use Rattle.mt_log.specs.Words.{appended, used, area_size};
 ghost use Rattle.mt_plock.specs.Holding.{lock_of};
-ghost use Rattle.mt_space.specs.Changes.{PageBytes, IsUntouched};
+ghost use Rattle.mt_space.specs.Changes.{PageBytes, after, IsUntouched};
 ghost use Rattle.mt_pool.specs.Kept.{IsKept, Explains};
 ghost use Rattle.mt_pool.specs.Views.{IsFull};
-ghost use Rattle.mt_steps.specs.Plans.{own_needs, free_pages, record_bytes as bytes_put, InPages, IsPlanned};
+ghost use Rattle.mt_steps.specs.Plans.{own_needs, free_pages, record_bytes as bytes_put, InPages, IsPlanned, TakesPages};
 ghost use Rattle.mt_op.specs.World.{IsUnderWay, looked, held_in};
 ghost use Rattle.mt_op.specs.Operations.{world, IsRight, IsOneOf, IsOneWithin, Steps, GivesBack, IsPlannedOn, HasBudget, only_reads, IsCause, claimed};
 ghost use Rattle.mt_op.specs.Holds.{IsNext, IsAsked, IsToLook, KeepsLocks, KeepsLocksOn, KeepsScope, KeepsScopeOn};
@@ -47,6 +47,10 @@ impl<D: Device> Operations<D> {
     /// to read it. A row's operation looks for its key first: in the directory, to read it, and in the key's chain. Where
     /// the plan asks for the space map, a page with room for the record may be tried first, to write it. Or a lock is
     /// asked for, to write it, on a page that the plan changes.
+    ///
+    /// A record goes into the page of records that was tried first and takes it, or into a free page where none was. A
+    /// free page is taken only for such a record, or for its entry where the key's bucket is full; and only a page of
+    /// records is given back.
     ///
     /// How many steps: over `n` pages an operation that nobody is in the way of is ready after at most `2 n + 9`
     /// of them. A step that answers [`Stepped::Went`] leaves less to do, [`Stepped::Again`] adds at most `2 n`
@@ -166,6 +170,7 @@ impl<D: Device> Operations<D> {
         ensures unlocked { IfSome result (λ p. All (λ l. l.page ≢ p) self.now.locks) }
         ensures roomy { IfSome result (λ p. bytes_put scope.now.op ≤ get_or self.now.rooms.0 p 0) }
         ensures puts { IfSome result (λ p. only_reads scope.now.op ≡ false) }
+        ensures unled { IfSome result (λ p. scope.now.room ≡ None) }
     {
         let bytes = record_bytes(&scope.op)?;
         let room = self.rooms.with_room(bytes)?;
@@ -197,6 +202,9 @@ impl<D: Device> Operations<D> {
             → InPages (looked scope.old) scope.old.room relations counters scope.old.seen.total
             (λ pages. IsPlanned relations counters scope.old.seen.total (looked scope.old) pages changes.list.items
             scope.old.op scope.old.split reply) }
+        requires takes { (relations counters : ℕ) → relations ≤ 64 → IsWithin relations counters scope.old.op
+            → InPages (looked scope.old) scope.old.room relations counters scope.old.seen.total
+            (λ pages. TakesPages scope.old.room scope.old.op pages (after changes.list.items pages)) }
         requires budget { HasBudget scope.old }
         ensures goes { (opening : PageBytes) (relations counters : ℕ)
             → IsRight D.seen D.may_leave opening relations counters self.old

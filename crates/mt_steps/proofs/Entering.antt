@@ -108,14 +108,17 @@ is_zero n e = (Decides-eqb n 0).0 (sym e)
 pub first_inside : (total : ℕ) (pages : PageBytes) (p : ℕ) → IsFirstFree (mapped (pages 0) total) p → p < total
 first_inside total pages p first = (mapped_inside (pages 0) total p first.within).0
 
+pub free_chosen : (total : ℕ) (pages : PageBytes) (p : ℕ) → IsFirstFree (mapped (pages 0) total) p → kind pages p ≡ 0
+free_chosen total pages p is =
+    let inside = mapped_inside (pages 0) total p is.within in
+    is_zero (kind pages p) (sym is.free ∙ mapped_at (pages 0) total p inside.0 inside.1)
+
 -- the page is one of records, or a free one
 pub chosen : (room : Option ℕ) (relations total : ℕ) (pages : PageBytes) (m : Map) (p : ℕ) → AreRows relations total pages m → IsNamed room pages → IsChosen room total pages p → ((kind pages p ≡ 3) ⊎ (kind pages p ≡ 0)) × (p < total)
 chosen (Some q) relations total pages m p rows named is =
     let three : kind pages p ≡ 3 = ap (λ (n : ℕ). kind pages n) is ∙ named q refl in
     (inl three, rows.index.within p (λ z. let w : kind pages p ≡ 0 = z in omega (arith, three, w)))
-chosen None relations total pages m p rows named is =
-    let inside = mapped_inside (pages 0) total p is.within in
-    (inr (is_zero (kind pages p) (sym is.free ∙ mapped_at (pages 0) total p inside.0 inside.1)), inside.0)
+chosen None relations total pages m p rows named is = (inr (free_chosen total pages p is), first_inside total pages p is)
 
 pub placed_is : (at_hand : ℕ → Option (List ℕ)) (room : Option ℕ) (relations total : ℕ) (pages : PageBytes) (m : Map) (row : Row) (answer : Step) (plan : Plan) → answer ≡ step.Done plan → AreRows relations total pages m → IsNamed room pages
     → IsPut at_hand room total [] pages row answer → IsShortPlan pages answer → IsPlaced total pages plan.changes.list.items plan.name row

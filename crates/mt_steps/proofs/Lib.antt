@@ -20,5 +20,6 @@ pub mod Formatting
 mod Telling
 mod LoggedOps
 mod Undoing
+mod Crowding
 mod Naming
 mod Joined

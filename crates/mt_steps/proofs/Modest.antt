@@ -50,7 +50,7 @@ drops_empties old new p s drops q none = ⊎_elim {C = HasNoRecord old q}
     (cases_eq q p)
 
 -- a page that loses a record still holds records, or is free
-drops_left : (old new : PageBytes) (p s : ℕ) → Drops old new p s → (kind new p ≡ 3) ⊎ (kind new p ≡ 0)
+pub drops_left : (old new : PageBytes) (p s : ℕ) → Drops old new p s → (kind new p ≡ 3) ⊎ (kind new p ≡ 0)
 drops_left old new p s drops = ⊎_elim {C = (kind new p ≡ 3) ⊎ (kind new p ≡ 0)}
     (λ (three : kind new p ≡ 3). inl three)
     (λ (other : kind new p ≢ 3). inr (drops.last (λ t ne. go t ne (record_in old p t) refl other)))

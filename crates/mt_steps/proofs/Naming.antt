@@ -1,8 +1,7 @@
--- Which pages become ones of records.
-use Rattle.std.proofs.Common.{◌≡◌, ◌≢◌, ◌⊎◌, inl, inr, ⊎_elim, ℕ, List, [], Bool, false, Option, Some, get_or, refl, ap, sym, ◌∙◌, subst, arith}
+-- Which pages an operation takes and gives back, and where its record stands then.
+use Rattle.std.proofs.Common.{◌≡◌, ◌≢◌, ◌⊎◌, inl, inr, ⊎_elim, ℕ, List, [], Bool, Option, None, Some, get_or, refl, ap, sym, ◌∙◌, subst, arith}
 use Rattle.std.proofs.lemmas.Bool.{cases_eq}
 use Rattle.mt_base.specs.declared.numbers.RecordName.{RecordName}
-use Rattle.mt_bucket.specs.Entries.{Entry}
 use Rattle.mt_slots.specs.Page.{Row}
 use Rattle.mt_space.specs.declared.changes.PageChange.{PageChange}
 use Rattle.mt_space.specs.Changes.{PageBytes, after}
@@ -11,98 +10,253 @@ use Rattle.mt_file.specs.declared.step.Step.{Step}
 use Rattle.mt_file.specs.declared.step.Step.TheVariants as step
 use Rattle.mt_file.specs.declared.step.Plan.{Plan}
 use Rattle.mt_file.specs.File.{record_in}
-use Rattle.mt_file.specs.Plans.{IsPut, IsNamed, IsChosen, IsReplacement}
+use Rattle.mt_file.specs.Plans.{IsPut, IsNamed, IsChosen, IsOutgrown, IsReplacement}
 use Rattle.mt_file.proofs.Filed.{record_kind}
 use Rattle.mt_index.specs.Answers.{Added}
+use Rattle.mt_index.specs.Maps.{Map}
+use Rattle.mt_index.specs.Pages.{state_of, AreMap, LeavesIndex}
+use Rattle.mt_model.specs.declared.operations.Op.{Op}
+use Rattle.mt_model.specs.declared.operations.Op.TheVariants.{Insert, Update}
+use Rattle.mt_steps.specs.Held.{AreNamed, AreRows}
 use Rattle.mt_steps.specs.declared.act.Act.{Act}
-use Rattle.mt_steps.specs.Acts.{IsPlaced, IsKept, IsMoved, IfMade, InGood, InRoomy}
-use Rattle.mt_steps.specs.Plans.{TakesNamed, IsGivenBack, IsModest, InPages}
-use Rattle.mt_steps.specs.Tells.{TakesAlone}
-use Rattle.mt_steps.proofs.Entering.{made_weaker}
+use Rattle.mt_steps.specs.Acts.{IsPlaced, IsTaken, IsKept, IsMoved, IfMade, InGood, InRoomy}
+use Rattle.mt_steps.specs.Plans.{HasStood, IsInto, NeedsPlace, NeedsEntry, TakesPages, IsGivenBack, InPages}
+use Rattle.mt_steps.specs.Tells.{TakesNone, TakesAlone}
+use Rattle.mt_steps.proofs.Apart.{StaysFile, records_stay, add_stays}
+use Rattle.mt_steps.proofs.Crowding.{way_crowded, crowded_before}
+use Rattle.mt_steps.proofs.Entering.{made_weaker, free_chosen}
+use Rattle.mt_steps.proofs.Modest.{drops_left}
+use Rattle.mt_steps.proofs.Rows.{name_cases, some_row, some_name}
 
--- ---- none
+no_row : (row : Row) → None ≡ Some row → ⊥
+no_row row e = cc
 
-pub quiet_named : (room : Option ℕ) (pages : PageBytes) (changes : List PageChange) → changes ≡ [] → TakesNamed room pages (after changes pages)
-quiet_named room pages changes none = subst (λ (l : List PageChange). TakesNamed room pages (after l pages)) (sym none) (λ q is p three. three)
+-- ---- no page is taken
 
-given_named : (room : Option ℕ) (pages pages2 : PageBytes) → ((p : ℕ) → IsGivenBack (kind pages p) (kind pages2 p)) → TakesNamed room pages pages2
-given_named room pages pages2 gives q is p three = ⊎_elim
-    (λ (same : kind pages2 p ≡ kind pages p). sym same ∙ three)
-    (λ gone. let zero = gone.1 in absurd (omega (arith, three, zero)))
-    (gives p)
+-- where pages are only given back, and each record stands where its key's record stood
+pub given_none : (pages pages2 : PageBytes) → ((p : ℕ) → IsGivenBack (kind pages p) (kind pages2 p)) → ((p s : ℕ) (row : Row) → record_in pages2 p s ≡ Some row → HasStood pages p row.relation row.key) → TakesNone pages pages2
+given_none pages pages2 gives stands = record {
+  stands = stands;
+  free = λ p zero. ⊎_elim {C = kind pages2 p ≡ 0} (λ same. same ∙ zero) (λ gone. gone.1) (gives p);
+  given = λ p some. gives p;
+}
 
-pub kept_named : (room : Option ℕ) (pages : PageBytes) (changes : List PageChange) (n : RecordName) (old row : Row) → IsKept pages changes n old row → TakesNamed room pages (after changes pages)
-kept_named room pages changes n old row kept q is p three = sym (kept.stays.kinds p) ∙ three
+-- where the records are the same
+pub same_none : (pages pages2 : PageBytes) → ((p : ℕ) → IsGivenBack (kind pages p) (kind pages2 p)) → ((p s : ℕ) → record_in pages2 p s ≡ record_in pages p s) → TakesNone pages pages2
+same_none pages pages2 gives same = given_none pages pages2 gives (λ p s row is. (s, row.value, sym (same p s) ∙ is))
 
--- ---- one
+pub quiet_none : (pages : PageBytes) (changes : List PageChange) → changes ≡ [] → TakesNone pages (after changes pages)
+quiet_none pages changes none = subst (λ (l : List PageChange). TakesNone pages (after l pages)) (sym none) (same_none pages pages (λ p. inl refl) (λ p s. refl))
 
-pub placed_alone : (total : ℕ) (pages : PageBytes) (changes : List PageChange) (name : RecordName) (row : Row) → IsPlaced total pages changes name row → TakesAlone name.page pages (after changes pages)
-placed_alone total pages changes name row placed p three = ⊎_elim {C = (kind pages p ≡ 3) ⊎ (p ≡ name.page)}
-    (λ (here : p ≡ name.page). inr here)
-    (λ (away : p ≢ name.page). inl (sym (placed.adds.touches.kinds p away) ∙ three))
+-- a record less, and its entry
+pub taken_none : (pages mid last : PageBytes) (n : RecordName) (changes : List PageChange) (row : Row) → mid ≡ after changes pages → IsTaken pages changes n row → StaysFile mid last → ((p : ℕ) → IsGivenBack (kind pages p) (kind last p)) → TakesNone pages last
+taken_none pages mid last n changes row is taken kept gives = given_none pages last gives (λ p s other stands.
+    let at_mid : record_in (after changes pages) p s ≡ Some other = ap (λ (f : PageBytes). record_in f p s) (sym is) ∙ sym (records_stay mid last kept p s) ∙ stands in
+    ⊎_elim {C = HasStood pages p other.relation other.key}
+    (λ here. absurd (no_row other (sym taken.drops.puts.here ∙ (λ i. record_in (after changes pages) (sym here.0 i) (sym here.1 i)) ∙ at_mid)))
+    (λ away. (s, other.value, sym (taken.drops.puts.elsewhere p s away) ∙ at_mid))
+    (name_cases p s n.page n.slot))
+
+stood_as : (pages : PageBytes) (p q r r2 : ℕ) (k k2 : List ℕ) → p ≡ q → r2 ≡ r → k2 ≡ k → HasStood pages q r k → HasStood pages p r2 k2
+stood_as pages p q r r2 k k2 page relation key stood =
+    (stood.0, stood.1, (λ i. record_in pages (page i) stood.0) ∙ stood.2 ∙ (λ i. Some (record { relation = sym relation i; key = sym key i; value = stood.1 })))
+
+-- another record under the same name
+pub kept_none : (pages : PageBytes) (changes : List PageChange) (n : RecordName) (r : ℕ) (k v w : List ℕ) → IsKept pages changes n (record { relation = r; key = k; value = v }) (record { relation = r; key = k; value = w }) → TakesNone pages (after changes pages)
+kept_none pages changes n r k v w kept = given_none pages (after changes pages) (λ p. inl (kept.stays.kinds p)) (λ p s other stands. ⊎_elim {C = HasStood pages p other.relation other.key}
+    (λ here.
+    let same = some_row (record { relation = r; key = k; value = w }) other (sym kept.stays.puts.here ∙ (λ i. record_in (after changes pages) (sym here.0 i) (sym here.1 i)) ∙ stands) in
+    stood_as pages p n.page r other.relation k other.key here.0 (sym (ap (λ (x : Row). x.relation) same)) (sym (ap (λ (x : Row). x.key) same)) (n.slot, v, kept.stood))
+    (λ away. (s, other.value, sym (kept.stays.puts.elsewhere p s away) ∙ stands))
+    (name_cases p s n.page n.slot))
+
+pub none_takes : (room : Option ℕ) (op : Op) (pages pages2 : PageBytes) → TakesNone pages pages2 → TakesPages room op pages pages2
+none_takes room op pages pages2 none = record {
+  stands = λ p s row is. inr (none.stands p s row is);
+  taken = λ p zero some. absurd (some (none.free p zero));
+  given = none.given;
+}
+
+-- ---- one page is
+
+pub placed_kinds : (total : ℕ) (pages : PageBytes) (changes : List PageChange) (name : RecordName) (row : Row) → IsPlaced total pages changes name row → (p : ℕ) → kind pages p ≢ 0 → kind (after changes pages) p ≡ kind pages p
+placed_kinds total pages changes name row placed p some = ⊎_elim {C = kind (after changes pages) p ≡ kind pages p}
+    (λ (here : p ≡ name.page).
+    ap (λ (x : ℕ). kind (after changes pages) x) here ∙ placed.adds.own
+    ∙ sym (⊎_elim {C = kind pages p ≡ 3} (λ three. ap (λ (x : ℕ). kind pages x) here ∙ three) (λ zero. absurd (some (ap (λ (x : ℕ). kind pages x) here ∙ zero))) placed.was))
+    (λ (away : p ≢ name.page). placed.adds.touches.kinds p away)
     (cases_eq p name.page)
 
-pub moved_alone : (total : ℕ) (pages : PageBytes) (changes : List PageChange) (n to : RecordName) (old row : Row) → IsMoved total pages changes n to old row → TakesAlone to.page pages (after changes pages)
-moved_alone total pages changes n to old row moved p three = ⊎_elim {C = (kind pages p ≡ 3) ⊎ (p ≡ to.page)}
-    (λ (here : p ≡ to.page). inr here)
-    (λ (away : p ≢ to.page). inl (⊎_elim {C = kind pages p ≡ 3}
-    (λ (own : p ≡ n.page). ap (λ (x : ℕ). kind pages x) own ∙ record_kind pages n.page n.slot old moved.stood)
-    (λ (other : p ≢ n.page). sym (moved.moves.drops.touches.kinds p other) ∙ sym (moved.moves.adds.touches.kinds p away) ∙ three)
-    (cases_eq p n.page)))
-    (cases_eq p to.page)
+pub placed_alone : (total : ℕ) (pages : PageBytes) (changes : List PageChange) (name : RecordName) (row : Row) (op : Op) → IsPlaced total pages changes name row → TakesAlone name.page row.relation row.key op pages (after changes pages)
+placed_alone total pages changes name row op placed = record {
+  stands = λ p s other stands. ⊎_elim {C = ((p ≡ name.page) × (other.relation ≡ row.relation) × (other.key ≡ row.key)) ⊎ HasStood pages p other.relation other.key}
+      (λ here.
+      let same = some_row row other (sym placed.adds.puts.here ∙ (λ i. record_in mid (sym here.0 i) (sym here.1 i)) ∙ stands) in
+      inl (here.0, sym (ap (λ (x : Row). x.relation) same), sym (ap (λ (x : Row). x.key) same)))
+      (λ away. inr (s, other.value, sym (placed.adds.puts.elsewhere p s away) ∙ stands))
+      (name_cases p s name.page name.slot);
+  taken = λ p zero some. ⊎_elim {C = ((kind mid p ≡ 3) × (p ≡ name.page)) ⊎ ((kind mid p ≡ 2) × NeedsEntry op pages)}
+      (λ (here : p ≡ name.page). inl (ap (λ (x : ℕ). kind mid x) here ∙ placed.adds.own, here))
+      (λ (away : p ≢ name.page). absurd (some (placed.adds.touches.kinds p away ∙ zero)))
+      (cases_eq p name.page);
+  given = λ p some. inl (placed_kinds total pages changes name row placed p some);
+}
+  where
+    mid : PageBytes
+    mid = after changes pages
 
--- the index takes none of records
-pub added_alone : (split : Bool) (total q : ℕ) (e : Entry) (pages mid last : PageBytes) → Added split total e mid last → TakesAlone q pages mid → TakesAlone q pages last
-added_alone split total q e pages mid last added alone p three = ⊎_elim {C = (kind pages p ≡ 3) ⊎ (p ≡ q)}
-    (λ (free : kind mid p ≡ 0). let two = (added.stays.taken p free (λ (zero : kind last p ≡ 0). omega (arith, three, zero))).0 in absurd (omega (arith, three, two)))
-    (λ (some : kind mid p ≢ 0). alone p (sym (added.stays.kinds p some) ∙ three))
-    (cases_eq (kind mid p) 0)
+pub moved_alone : (total : ℕ) (pages : PageBytes) (changes : List PageChange) (n to : RecordName) (old row : Row) (op : Op) → IsMoved total pages changes n to old row → TakesAlone to.page row.relation row.key op pages (after changes pages)
+moved_alone total pages changes n to old row op moved = record {
+  stands = λ p s other stands. ⊎_elim {C = ((p ≡ to.page) × (other.relation ≡ row.relation) × (other.key ≡ row.key)) ⊎ HasStood pages p other.relation other.key}
+      (λ here.
+      let same = some_row row other (sym moved.moves.adds.puts.here ∙ (λ i. record_in mid (sym here.0 i) (sym here.1 i)) ∙ stands) in
+      inl (here.0, sym (ap (λ (x : Row). x.relation) same), sym (ap (λ (x : Row). x.key) same)))
+      (λ away.
+      let before : record_in between p s ≡ Some other = sym (moved.moves.adds.puts.elsewhere p s away) ∙ stands in
+      ⊎_elim {C = ((p ≡ to.page) × (other.relation ≡ row.relation) × (other.key ≡ row.key)) ⊎ HasStood pages p other.relation other.key}
+      (λ gone. absurd (no_row other (sym moved.moves.drops.puts.here ∙ (λ i. record_in between (sym gone.0 i) (sym gone.1 i)) ∙ before)))
+      (λ apart. inr (s, other.value, sym (moved.moves.drops.puts.elsewhere p s apart) ∙ before))
+      (name_cases p s n.page n.slot))
+      (name_cases p s to.page to.slot);
+  taken = λ p zero some. ⊎_elim {C = ((kind mid p ≡ 3) × (p ≡ to.page)) ⊎ ((kind mid p ≡ 2) × NeedsEntry op pages)}
+      (λ (here : p ≡ to.page). inl (ap (λ (x : ℕ). kind mid x) here ∙ moved.moves.adds.own, here))
+      (λ (away : p ≢ to.page). absurd (some (moved.moves.adds.touches.kinds p away ∙ moved.moves.drops.touches.kinds p (not_from p zero) ∙ zero)))
+      (cases_eq p to.page);
+  given = λ p some. ⊎_elim {C = IsGivenBack (kind pages p) (kind mid p)}
+      (λ (here : p ≡ to.page). inl (ap (λ (x : ℕ). kind mid x) here ∙ moved.moves.adds.own ∙ sym (into p here some)))
+      (λ (away : p ≢ to.page). ⊎_elim {C = IsGivenBack (kind pages p) (kind mid p)}
+      (λ (own : p ≡ n.page). from p own (moved.moves.adds.touches.kinds p away))
+      (λ (other : p ≢ n.page). inl (moved.moves.adds.touches.kinds p away ∙ moved.moves.drops.touches.kinds p other))
+      (cases_eq p n.page))
+      (cases_eq p to.page);
+}
+  where
+    mid : PageBytes
+    mid = after changes pages
 
-pub amended_alone : (q : ℕ) (pages mid last : PageBytes) → kind mid 0 ≡ 1 → ((p : ℕ) → kind mid p ≢ 2 → last p ≡ mid p) → TakesAlone q pages mid → TakesAlone q pages last
-amended_alone q pages mid last space others alone p three =
+    between : PageBytes
+    between = moved.moves.between
+
+    three : kind pages n.page ≡ 3
+    three = record_kind pages n.page n.slot old moved.stood
+
+    not_from : (p : ℕ) → kind pages p ≡ 0 → p ≢ n.page
+    not_from p zero same = let k : kind pages p ≡ kind pages n.page = ap (λ (x : ℕ). kind pages x) same in omega (arith, zero, three, k)
+
+    into : (p : ℕ) → p ≡ to.page → kind pages p ≢ 0 → kind pages p ≡ 3
+    into p here some = ⊎_elim {C = kind pages p ≡ 3}
+        (λ (same : to.page ≡ n.page). ap (λ (x : ℕ). kind pages x) (here ∙ same) ∙ three)
+        (λ other. ⊎_elim {C = kind pages p ≡ 3}
+        (λ (is : kind pages to.page ≡ 3). ap (λ (x : ℕ). kind pages x) here ∙ is)
+        (λ (zero : kind pages to.page ≡ 0). absurd (some (ap (λ (x : ℕ). kind pages x) here ∙ zero)))
+        other.0)
+        moved.was
+
+    from : (p : ℕ) → p ≡ n.page → kind mid p ≡ kind between p → IsGivenBack (kind pages p) (kind mid p)
+    from p own same =
+        let was : kind pages p ≡ 3 = ap (λ (x : ℕ). kind pages x) own ∙ three in
+        let now : kind mid p ≡ kind between n.page = same ∙ ap (λ (x : ℕ). kind between x) own in
+        ⊎_elim {C = IsGivenBack (kind pages p) (kind mid p)} (λ still. inl (now ∙ still ∙ sym was)) (λ gone. inr (was, now ∙ gone)) (drops_left pages between n.page n.slot moved.moves.drops)
+
+-- and the index takes others where the key's bucket is full
+pub added_alone : (split : Bool) (total relations q r : ℕ) (k v : List ℕ) (to : RecordName) (pages mid last : PageBytes) (m : Map) → AreRows relations total pages m → LeavesIndex total pages mid → AreMap total mid m → ((p : ℕ) → kind pages p ≢ 0 → kind mid p ≡ kind pages p)
+    → Added split total (record { relation = r; key = k; name = to }) mid last → TakesAlone q r k (Insert r k v) pages mid → TakesAlone q r k (Insert r k v) pages last
+added_alone split total relations q r k v to pages mid last m rows leaves between same_kinds added alone = record {
+  stands = λ p s other stands. alone.stands p s other (sym (records_stay mid last kept p s) ∙ stands);
+  taken = λ p zero some. ⊎_elim {C = ((kind last p ≡ 3) × (p ≡ q)) ⊎ ((kind last p ≡ 2) × NeedsEntry (Insert r k v) pages)}
+      (λ (free : kind mid p ≡ 0). inr (
+        (added.stays.taken p free some).0,
+        crowded_before total pages mid m k rows.index leaves (way_crowded split (record { relation = r; key = k; name = to }) (state_of mid) (state_of last) added.way p free some),
+      ))
+      (λ (filled : kind mid p ≢ 0).
+      let same = added.stays.kinds p filled in
+      ⊎_elim {C = ((kind last p ≡ 3) × (p ≡ q)) ⊎ ((kind last p ≡ 2) × NeedsEntry (Insert r k v) pages)}
+      (λ own. inl (same ∙ own.0, own.1))
+      (λ entry. inr (same ∙ entry.0, entry.1))
+      (alone.taken p zero filled))
+      (cases_eq (kind mid p) 0);
+  given = λ p some. inl (added.stays.kinds p (λ (zero : kind mid p ≡ 0). some (sym (same_kinds p some) ∙ zero)) ∙ same_kinds p some);
+}
+  where
+    kept : StaysFile mid last
+    kept = add_stays total mid last between.space_fixed between.directory_fixed added.stays
+
+pub amended_alone : (q r : ℕ) (k : List ℕ) (op : Op) (pages mid last : PageBytes) → kind mid 0 ≡ 1 → StaysFile mid last → ((p : ℕ) → kind mid p ≢ 2 → last p ≡ mid p) → TakesAlone q r k op pages mid → TakesAlone q r k op pages last
+amended_alone q r k op pages mid last space kept others alone =
     let map : last 0 ≡ mid 0 = others 0 (λ two. let k : kind mid 0 ≡ 2 = two in omega (arith, space, k)) in
-    alone p (sym (ap (λ (bytes : List ℕ). get_or bytes p 0) map) ∙ three)
+    let kinds : (p : ℕ) → kind mid p ≡ kind last p = λ p. sym (ap (λ (bytes : List ℕ). get_or bytes p 0) map) in
+    record {
+      stands = λ p s other stands. alone.stands p s other (sym (records_stay mid last kept p s) ∙ stands);
+      taken = λ p zero some. subst (λ (n : ℕ). ((n ≡ 3) × (p ≡ q)) ⊎ ((n ≡ 2) × NeedsEntry op pages)) (kinds p) (alone.taken p zero (λ (none : kind mid p ≡ 0). some (sym (kinds p) ∙ none)));
+      given = λ p some. subst (IsGivenBack (kind pages p)) (kinds p) (alone.given p some);
+    }
 
--- ---- where a page is named, it is that one
+-- ---- that page is the one for the record
 
-pub alone_named : (room : Option ℕ) (to : ℕ) (pages last : PageBytes) → ((q : ℕ) → room ≡ Some q → kind pages to ≡ 3) → TakesAlone to pages last → TakesNamed room pages last
-alone_named room to pages last own alone q is p three = ⊎_elim
-    (λ (stood : kind pages p ≡ 3). stood)
-    (λ (here : p ≡ to). ap (λ (x : ℕ). kind pages x) here ∙ own q is)
-    (alone p three)
+pub alone_takes : (room : Option ℕ) (op : Op) (q r : ℕ) (k : List ℕ) (pages last : PageBytes) → IsNamed room pages → (IsInto room pages q × NeedsPlace op pages) ⊎ HasStood pages q r k → TakesAlone q r k op pages last → TakesPages room op pages last
+alone_takes room op q r k pages last named place alone = record {
+  stands = λ p s row is. ⊎_elim {C = (IsInto room pages p × NeedsPlace op pages) ⊎ HasStood pages p row.relation row.key}
+      (λ here. ⊎_elim {C = (IsInto room pages p × NeedsPlace op pages) ⊎ HasStood pages p row.relation row.key}
+      (λ into. inl (subst (IsInto room pages) (sym here.0) into.0, into.1))
+      (λ stood. inr (stood_as pages p q r row.relation k row.key here.0 here.1 here.2 stood))
+      place)
+      (λ stood. inr stood)
+      (alone.stands p s row is);
+  taken = λ p zero some. ⊎_elim {C = ((kind last p ≡ 3) × (room ≡ None) × NeedsPlace op pages) ⊎ ((kind last p ≡ 2) × NeedsEntry op pages)}
+      (λ own. let new = newly room named (ap (λ (x : ℕ). kind pages x) (sym own.1) ∙ zero) place in inl (own.0, new.0, new.1))
+      (λ entry. inr entry)
+      (alone.taken p zero some);
+  given = alone.given;
+}
+  where
+    newly : (o : Option ℕ) → IsNamed o pages → kind pages q ≡ 0 → (IsInto o pages q × NeedsPlace op pages) ⊎ HasStood pages q r k → (o ≡ None) × NeedsPlace op pages
+    newly None is zero (inl into) = (refl, into.1)
+    newly (Some x) is zero (inl into) = absurd (let three : kind pages q ≡ 3 = ap (λ (y : ℕ). kind pages y) into.0 ∙ is x refl in omega (arith, zero, three))
+    newly o is zero (inr stood) = absurd (let three : kind pages q ≡ 3 = record_kind pages q stood.0 (record { relation = r; key = k; value = stood.1 }) stood.2 in omega (arith, zero, three))
 
-chosen_own : (room : Option ℕ) (total p : ℕ) (pages : PageBytes) → IsNamed room pages → IsChosen room total pages p → (q : ℕ) → room ≡ Some q → kind pages p ≡ 3
-chosen_own room total p pages named is q some =
-    let here : p ≡ q = subst (λ (r : Option ℕ). IsChosen r total pages p) some is in
-    ap (λ (x : ℕ). kind pages x) here ∙ named q some
+into_chosen : (room : Option ℕ) (total : ℕ) (pages : PageBytes) (p : ℕ) → IsChosen room total pages p → IsInto room pages p
+into_chosen (Some q) total pages p is = is
+into_chosen None total pages p is = free_chosen total pages p is
 
-pub put_own : (at_hand : ℕ → Option (List ℕ)) (room : Option ℕ) (total : ℕ) (pages : PageBytes) (row : Row) (answer : Step) (plan : Plan) → answer ≡ step.Done plan → IsNamed room pages → IsPut at_hand room total [] pages row answer
-    → (q : ℕ) → room ≡ Some q → kind pages plan.name.page ≡ 3
-put_own at_hand room total pages row answer plan is named told = chosen_own room total plan.name.page pages named (subst (λ (s : Step). IsPut at_hand room total [] pages row s) is told).1
+-- of a put
+pub put_place : (at_hand : ℕ → Option (List ℕ)) (room : Option ℕ) (total : ℕ) (pages : PageBytes) (row : Row) (answer : Step) (plan : Plan) → answer ≡ step.Done plan → IsPut at_hand room total [] pages row answer
+    → IsInto room pages plan.name.page
+put_place at_hand room total pages row answer plan is told = into_chosen room total pages plan.name.page (subst (λ (s : Step). IsPut at_hand room total [] pages row s) is told).1
 
-pub moved_own : (at_hand : ℕ → Option (List ℕ)) (room : Option ℕ) (total : ℕ) (pages : PageBytes) (n : RecordName) (r row : Row) (answer : Step) (plan : Plan) → answer ≡ step.Done plan → IsNamed room pages → record_in pages n.page n.slot ≡ Some r
-    → IsReplacement at_hand room total pages n.page n.slot r row answer → (q : ℕ) → room ≡ Some q → kind pages plan.name.page ≡ 3
-moved_own at_hand room total pages n r row answer plan is named stood told q some =
-    let three : kind pages n.page ≡ 3 = record_kind pages n.page n.slot r stood in
-    ⊎_elim {C = kind pages plan.name.page ≡ 3}
-    (λ same. ap (λ (x : ℕ). kind pages x) same.0 ∙ three)
-    (λ moved. ⊎_elim {C = kind pages plan.name.page ≡ 3}
-    (λ (here : plan.name.page ≡ n.page). ap (λ (x : ℕ). kind pages x) here ∙ three)
-    (λ chosen. chosen_own room total plan.name.page pages named chosen.0 q some)
+-- of a replacement
+needs_place : (pages : PageBytes) (m : Map) (n : RecordName) (r : ℕ) (k v w : List ℕ) → AreNamed pages m → m r k ≡ Some n → record_in pages n.page n.slot ≡ Some (record { relation = r; key = k; value = v })
+    → IsOutgrown pages n.page (record { relation = r; key = k; value = v }) (record { relation = r; key = k; value = w }) → NeedsPlace (Update r k w) pages
+needs_place pages m n r k v w named is stood outgrown p s old there =
+    let same = some_name n (record { page = p; slot = s }) (sym is ∙ named.named p s (record { relation = r; key = k; value = old }) there) in
+    let page : n.page ≡ p = ap (λ (x : RecordName). x.page) same in
+    let slot : n.slot ≡ s = ap (λ (x : RecordName). x.slot) same in
+    let row = some_row (record { relation = r; key = k; value = v }) (record { relation = r; key = k; value = old }) (sym stood ∙ (λ i. record_in pages (page i) (slot i)) ∙ there) in
+    subst (λ (x : Row). IsOutgrown pages p x (record { relation = r; key = k; value = w })) row (subst (λ (x : ℕ). IsOutgrown pages x (record { relation = r; key = k; value = v }) (record { relation = r; key = k; value = w })) page outgrown)
+
+pub moved_place : (at_hand : ℕ → Option (List ℕ)) (room : Option ℕ) (relations total : ℕ) (pages : PageBytes) (m : Map) (n : RecordName) (r : ℕ) (k v w : List ℕ) (answer : Step) (plan : Plan) → answer ≡ step.Done plan → AreRows relations total pages m → m r k ≡ Some n
+    → record_in pages n.page n.slot ≡ Some (record { relation = r; key = k; value = v }) → IsReplacement at_hand room total pages n.page n.slot (record { relation = r; key = k; value = v }) (record { relation = r; key = k; value = w }) answer
+    → (IsInto room pages plan.name.page × NeedsPlace (Update r k w) pages) ⊎ HasStood pages plan.name.page r k
+moved_place at_hand room relations total pages m n r k v w answer plan is rows names stood told =
+    let own : plan.name.page ≡ n.page → HasStood pages plan.name.page r k = λ same. (n.slot, v, ap (λ (x : ℕ). record_in pages x n.slot) same ∙ stood) in
+    ⊎_elim {C = (IsInto room pages plan.name.page × NeedsPlace (Update r k w) pages) ⊎ HasStood pages plan.name.page r k}
+    (λ same. inr (own same.0))
+    (λ moved. ⊎_elim {C = (IsInto room pages plan.name.page × NeedsPlace (Update r k w) pages) ⊎ HasStood pages plan.name.page r k}
+    (λ here. inr (own here))
+    (λ to. inl (into_chosen room total pages plan.name.page to.0, needs_place pages m n r k v w rows.named names stood moved.0))
     moved.1)
-    (subst (λ (s : Step). IsReplacement at_hand room total pages n.page n.slot r row s) is told).0
+    (subst (λ (s : Step). IsReplacement at_hand room total pages n.page n.slot (record { relation = r; key = k; value = v }) (record { relation = r; key = k; value = w }) s) is told).0
 
 -- ---- of an answer
 
--- no page becomes one of records but the named one
-abbrev Named : ℕ → ℕ → ℕ → (ℕ → Option (List ℕ)) → Option ℕ → Act → Type 0
-Named relations counters total at_hand room act = IfMade act (λ changes reply. InPages at_hand room relations counters total (λ pages. TakesNamed room pages (after changes pages)))
+abbrev Takes : ℕ → ℕ → ℕ → (ℕ → Option (List ℕ)) → Option ℕ → Op → Act → Type 0
+Takes relations counters total at_hand room op act = IfMade act (λ changes reply. InPages at_hand room relations counters total (λ pages. TakesPages room op pages (after changes pages)))
 
-pub roomy_told : (relations counters total : ℕ) (at_hand : ℕ → Option (List ℕ)) (room : Option ℕ) (act : Act) → IfMade act (λ changes reply. InRoomy at_hand room relations total (λ pages m. TakesNamed room pages (after changes pages))) → Named relations counters total at_hand room act
-roomy_told relations counters total at_hand room act told = made_weaker act _ _ (λ changes reply told pages agrees good named. told pages agrees good.meaning good.rows named) told
+pub roomy_told : (relations counters total : ℕ) (at_hand : ℕ → Option (List ℕ)) (room : Option ℕ) (op known : Op) (act : Act) → known ≡ op → IfMade act (λ changes reply. InRoomy at_hand room relations total (λ pages m. TakesPages room known pages (after changes pages)))
+    → Takes relations counters total at_hand room op act
+roomy_told relations counters total at_hand room op known act same told = made_weaker act _ _ (λ changes reply told pages agrees good named. subst (λ (o : Op). TakesPages room o pages (after changes pages)) same (told pages agrees good.meaning good.rows named)) told
 
-pub modest_told : (relations counters total : ℕ) (at_hand : ℕ → Option (List ℕ)) (room : Option ℕ) (act : Act) → IfMade act (λ changes reply. InGood at_hand relations total (λ pages m. IsModest at_hand total 0 false pages (after changes pages))) → Named relations counters total at_hand room act
-modest_told relations counters total at_hand room act told = made_weaker act _ _ (λ changes reply modest pages agrees good named. given_named room pages (after changes pages) ((modest pages agrees good.meaning good.rows).gives refl)) told
+pub none_told : (relations counters total : ℕ) (at_hand : ℕ → Option (List ℕ)) (room : Option ℕ) (op : Op) (act : Act) → IfMade act (λ changes reply. InGood at_hand relations total (λ pages m. TakesNone pages (after changes pages))) → Takes relations counters total at_hand room op act
+none_told relations counters total at_hand room op act told = made_weaker act _ _ (λ changes reply told pages agrees good named. none_takes room op pages (after changes pages) (told pages agrees good.meaning good.rows)) told
 
-pub quiet_told : (relations counters total : ℕ) (at_hand : ℕ → Option (List ℕ)) (room : Option ℕ) (act : Act) → IfMade act (λ changes reply. changes ≡ []) → Named relations counters total at_hand room act
-quiet_told relations counters total at_hand room act told = made_weaker act _ _ (λ changes reply none pages agrees good named. quiet_named room pages changes none) told
+pub quiet_told : (relations counters total : ℕ) (at_hand : ℕ → Option (List ℕ)) (room : Option ℕ) (op : Op) (act : Act) → IfMade act (λ changes reply. changes ≡ []) → Takes relations counters total at_hand room op act
+quiet_told relations counters total at_hand room op act told = made_weaker act _ _ (λ changes reply none pages agrees good named. none_takes room op pages (after changes pages) (quiet_none pages changes none)) told

@@ -36,19 +36,19 @@ key_cases r k s l = go ((r == s) && bytes_eq k l) refl
 pub key_same : (r : ℕ) (k : List ℕ) (s : ℕ) (l : List ℕ) → r ≡ s → k ≡ l → ((r == s) && bytes_eq k l) ≡ true
 key_same r k s l a b = and_from (r == s) (bytes_eq k l) ((Decides-eqb r s).1 a) ((bytes_decides k l).1 b)
 
-name_cases : (q t p s : ℕ) → ((q ≡ p) × (t ≡ s)) ⊎ ((q ≢ p) ⊎ (t ≢ s))
+pub name_cases : (q t p s : ℕ) → ((q ≡ p) × (t ≡ s)) ⊎ ((q ≢ p) ⊎ (t ≢ s))
 name_cases q t p s = ⊎_elim
     (λ (a : q ≡ p). ⊎_elim (λ (b : t ≡ s). inl (a, b)) (λ (b : t ≢ s). inr (inr b)) (cases_eq t s))
     (λ (a : q ≢ p). inr (inl a))
     (cases_eq q p)
 
-some_row : (x y : Row) → Some x ≡ Some y → x ≡ y
+pub some_row : (x y : Row) → Some x ≡ Some y → x ≡ y
 some_row x y e = ap (λ (o : Option Row). elim o [ None ↦ x | Some z ↦ z ]) e
 
 some_value : (x y : List ℕ) → Some x ≡ Some y → x ≡ y
 some_value x y e = ap (λ (o : Option (List ℕ)). elim o [ None ↦ x | Some z ↦ z ]) e
 
-some_name : (x y : RecordName) → Some x ≡ Some y → x ≡ y
+pub some_name : (x y : RecordName) → Some x ≡ Some y → x ≡ y
 some_name x y e = ap (λ (o : Option RecordName). elim o [ None ↦ x | Some z ↦ z ]) e
 
 -- the parts of a record of a known key

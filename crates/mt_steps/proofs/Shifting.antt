@@ -160,7 +160,7 @@ replacement_is at_hand room relations total pages m n r w answer plan is rows na
     go : IsReplaced room total pages (after plan.changes.list.items pages) n.page n.slot r (record r { value = w }) plan.name.page plan.name.slot
         → (((plan.name.page ≡ n.page) × (plan.name.slot ≡ n.slot)) × IsKept pages plan.changes.list.items n r (record r { value = w })) ⊎ IsMoved total pages plan.changes.list.items n plan.name r (record r { value = w })
     go (inl same) = inl ((same.0, same.1), record { stood = stood; stays = same.2; short = shorts })
-    go (inr moved) = inr (record { stood = stood; moves = moved.2; was = ⊎_elim (λ (e : plan.name.page ≡ n.page). inl e) (λ (c : IsChosen room total pages plan.name.page × IsRoomy room pages (row_length (record r { value = w }))). inr (chosen room relations total pages m plan.name.page rows named c.0)) moved.1; short = shorts })
+    go (inr moved) = inr (record { stood = stood; moves = moved.2; outgrown = moved.0; was = ⊎_elim (λ (e : plan.name.page ≡ n.page). inl e) (λ (c : IsChosen room total pages plan.name.page × IsRoomy room pages (row_length (record r { value = w }))). inr (chosen room relations total pages m plan.name.page rows named c.0)) moved.1; short = shorts })
 
 -- the page that it moves to is one of them
 pub to_inside : (relations total : ℕ) (pages : PageBytes) (m : Map) (changes : List PageChange) (n to : RecordName) (old row : Row) → AreRows relations total pages m → IsMoved total pages changes n to old row → to.page < total

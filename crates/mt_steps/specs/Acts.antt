@@ -8,7 +8,7 @@ use Rattle.mt_space.specs.declared.changes.PageChange.{PageChange}
 use Rattle.mt_space.specs.Changes.{PageBytes, Agrees, after, AreShort}
 use Rattle.mt_space.specs.Kinds.{kind}
 use Rattle.mt_file.specs.File.{record_in, Adds, Drops, Stays, Moves}
-use Rattle.mt_file.specs.Plans.{IsNamed}
+use Rattle.mt_file.specs.Plans.{IsNamed, IsOutgrown}
 use Rattle.mt_index.specs.Maps.{Map}
 use Rattle.mt_model.specs.declared.operations.Op.{Op}
 use Rattle.mt_model.specs.declared.operations.Reply.{Reply}
@@ -87,9 +87,10 @@ pub record IsKept (pages : PageBytes) (changes : List PageChange) (name : Record
   pub stays : Stays pages (after changes pages) name.page name.slot row
   pub short : AreShort changes pages
 
--- or has moved, within its page or to one of records or a free one
+-- or has moved, since its page has no room for it, within its page or to one of records or a free one
 pub record IsMoved (total : ℕ) (pages : PageBytes) (changes : List PageChange) (name to : RecordName) (old row : Row) : Type 0 where
   pub stood : record_in pages name.page name.slot ≡ Some old
   pub moves : Moves pages (after changes pages) name.page name.slot to.page to.slot row
+  pub outgrown : IsOutgrown pages name.page old row
   pub was : (to.page ≡ name.page) ⊎ (((kind pages to.page ≡ 3) ⊎ (kind pages to.page ≡ 0)) × (to.page < total))
   pub short : AreShort changes pages

@@ -1,6 +1,7 @@
 -- What the plan of any operation promises.
-use Rattle.std.specs.Prelude.{◌≡◌, ◌⊎◌, ℕ, ◌+◌, ◌<◌, ◌≤◌, Bool, false, cond, List, Option, Some, None}
-use Rattle.mt_slots.specs.Page.{row_length}
+use Rattle.std.specs.Prelude.{◌≡◌, ◌≢◌, ◌⊎◌, ℕ, ◌+◌, ◌<◌, ◌≤◌, Bool, false, cond, List, Option, Some, None}
+use Rattle.mt_bucket.specs.Hash.{hash}
+use Rattle.mt_slots.specs.Page.{Row, row_length}
 use Rattle.mt_space.specs.Changes.{PageBytes, Agrees, after, AreShort}
 use Rattle.mt_space.specs.declared.changes.PageChange.{PageChange}
 use Rattle.mt_space.specs.Kinds.{kind}
@@ -9,10 +10,13 @@ use Rattle.mt_base.specs.declared.numbers.RecordName.{RecordName}
 use Rattle.mt_base.specs.declared.modes.Mode.{Mode}
 use Rattle.mt_base.specs.declared.modes.Mode.TheVariants.{Read as ToRead, Write as ToWrite}
 use Rattle.mt_file.specs.File.{record_in}
-use Rattle.mt_file.specs.Plans.{IsNamed}
+use Rattle.mt_file.specs.Plans.{IsNamed, IsOutgrown}
 use Rattle.mt_file.specs.Rooms.{fits_of}
 use Rattle.mt_index.specs.Answers.{InMaps, IsInBucket}
-use Rattle.mt_index.specs.Maps.{Map}
+use Rattle.mt_index.specs.Index.{Linked, named}
+use Rattle.mt_index.specs.Maps.{Map, Each}
+use Rattle.mt_index.specs.Pages.{state_of}
+use Rattle.mt_index.specs.Rule.{IsFull}
 use Rattle.mt_model.specs.declared.operations.Op.{Op}
 use Rattle.mt_model.specs.declared.operations.Op.TheVariants.{Get, Insert, Update, Delete, Add, Read}
 use Rattle.mt_model.specs.declared.operations.Reply.{Reply}
@@ -80,10 +84,6 @@ AsksCounters _ p mode = Unit {0}
 abbrev pub LooksFor : (ℕ → Option (List ℕ)) → ℕ → List ℕ → Mode → ℕ → Mode → Type 0
 LooksFor at_hand total key in_bucket p mode = InMaps at_hand total (λ pages m. IsInBucket key in_bucket pages p mode)
 
--- where a page is named for a record, no page becomes one of records
-abbrev pub TakesNamed : Option ℕ → PageBytes → PageBytes → Type 0
-TakesNamed room pages pages2 = (q : ℕ) → room ≡ Some q → (p : ℕ) → kind pages2 p ≡ 3 → kind pages p ≡ 3
-
 -- what is at hand shows that a key has no record, or which one it has
 abbrev pub IsMissing : (ℕ → Option (List ℕ)) → ℕ → ℕ → List ℕ → Type 0
 IsMissing at_hand total r k = InMaps at_hand total (λ pages m. m r k ≡ None)
@@ -111,6 +111,41 @@ AsksRow at_hand total _ p mode = Unit {0}
 -- a page keeps its kind, or is one of records that is given back
 abbrev pub IsGivenBack : ℕ → ℕ → Type 0
 IsGivenBack old new = (new ≡ old) ⊎ ((old ≡ 3) × (new ≡ 0))
+
+-- ---- which pages an operation takes and gives back
+
+-- a record of this relation and key stood in the page
+abbrev pub HasStood : PageBytes → ℕ → ℕ → List ℕ → Type 0
+HasStood pages p r k = (s : ℕ) × (v : List ℕ) × (record_in pages p s ≡ Some (record { relation = r; key = k; value = v }))
+
+-- the page for a record: the named one, or one that was free where none is named
+abbrev pub IsInto : Option ℕ → PageBytes → ℕ → Type 0
+IsInto (Some q) pages p = p ≡ q
+IsInto None pages p = kind pages p ≡ 0
+
+-- a record that needs a place: of an insert, or of an update where its page has no room for it
+abbrev pub NeedsPlace : Op → PageBytes → Type 0
+NeedsPlace (Insert r k v) pages = Unit {0}
+NeedsPlace (Update r k v) pages = (p s : ℕ) (old : List ℕ) → record_in pages p s ≡ Some (record { relation = r; key = k; value = old })
+    → IsOutgrown pages p (record { relation = r; key = k; value = old }) (record { relation = r; key = k; value = v })
+NeedsPlace _ pages = ⊥
+
+-- each page of a key's bucket is full
+abbrev pub IsCrowded : List ℕ → PageBytes → Type 0
+IsCrowded key pages = (ns : List ℕ) → Linked (state_of pages).node (named (state_of pages) (hash key)) ns → Each (IsFull (state_of pages)) ns
+
+-- an entry that needs a page: of an insert whose key's bucket is full
+abbrev pub NeedsEntry : Op → PageBytes → Type 0
+NeedsEntry (Insert r k v) pages = IsCrowded k pages
+NeedsEntry _ pages = ⊥
+
+-- Each record stands in a page where its key's record stood, or, if it needs a place, in the page for it. A free page
+-- is taken only for a record that needs a place, where no page is named, or for an entry that needs a page. Of the other
+-- pages, only one of records is given back, and each keeps its kind else.
+pub record TakesPages (room : Option ℕ) (op : Op) (pages pages2 : PageBytes) : Type 0 where
+  pub stands : (p s : ℕ) (row : Row) → record_in pages2 p s ≡ Some row → (IsInto room pages p × NeedsPlace op pages) ⊎ HasStood pages p row.relation row.key
+  pub taken : (p : ℕ) → kind pages p ≡ 0 → kind pages2 p ≢ 0 → ((kind pages2 p ≡ 3) × (room ≡ None) × NeedsPlace op pages) ⊎ ((kind pages2 p ≡ 2) × NeedsEntry op pages)
+  pub given : (p : ℕ) → kind pages p ≢ 0 → IsGivenBack (kind pages p) (kind pages2 p)
 
 -- A page that is not at hand keeps its kind, at most so many free pages are taken, and where none may be, pages of
 -- records are given back and no other changes its kind; the directory changes only where a bucket may split, and no page

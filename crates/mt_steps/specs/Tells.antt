@@ -1,10 +1,11 @@
 -- What the plans of rows answer, each by one definition.
-use Rattle.std.specs.Prelude.{◌≡◌, ◌⊎◌, ◌+◌, ◌<◌, ◌≤◌, ℕ, Bool, List, [], length, Option, None, Some}
+use Rattle.std.specs.Prelude.{◌≡◌, ◌≢◌, ◌⊎◌, ◌+◌, ◌<◌, ◌≤◌, ℕ, Bool, List, [], length, Option, None, Some}
 use Rattle.mt_base.specs.declared.numbers.RecordName.{RecordName}
 use Rattle.mt_slots.specs.Page.{Row, Fits}
 use Rattle.mt_space.specs.declared.changes.PageChange.{PageChange}
 use Rattle.mt_space.specs.Changes.{PageBytes, Agrees, after, AreShort}
 use Rattle.mt_space.specs.Kinds.{kind}
+use Rattle.mt_file.specs.File.{record_in}
 use Rattle.mt_file.specs.Plans.{IsNamed}
 use Rattle.mt_index.specs.Maps.{Map}
 use Rattle.mt_model.specs.declared.operations.Op.{Op}
@@ -14,7 +15,7 @@ use Rattle.mt_steps.specs.Drafts.{AreAtHand}
 use Rattle.mt_steps.specs.declared.act.Act.{Act}
 use Rattle.mt_steps.specs.declared.act.Act.TheVariants.{Lock, Made, Full, Broken}
 use Rattle.mt_steps.specs.Acts.{IsAct, IsPlaced, IsTaken, IsMoved}
-use Rattle.mt_steps.specs.Plans.{IsForChange, IsModest}
+use Rattle.mt_steps.specs.Plans.{IsForChange, IsGivenBack, HasStood, NeedsEntry, IsModest}
 use Rattle.mt_steps.specs.Logged.{logged_of}
 
 -- an answer by cases: a page that is not at hand, changes and a reply of which this holds, or that this is why it is full
@@ -47,13 +48,17 @@ pub record IsDone (at_hand : ℕ → Option (List ℕ)) (total needs : ℕ) (spl
 
 -- ---- what is kept of the pages
 
--- any
-abbrev pub AnyKept : PageBytes → PageBytes → Type 0
-AnyKept pages pages2 = Unit {0}
+-- each record stands in a page where its key's record stood, and no page is taken
+pub record TakesNone (pages pages2 : PageBytes) : Type 0 where
+  pub stands : (p s : ℕ) (row : Row) → record_in pages2 p s ≡ Some row → HasStood pages p row.relation row.key
+  pub free : (p : ℕ) → kind pages p ≡ 0 → kind pages2 p ≡ 0
+  pub given : (p : ℕ) → kind pages p ≢ 0 → IsGivenBack (kind pages p) (kind pages2 p)
 
--- no page but this one becomes one of records
-abbrev pub TakesAlone : ℕ → PageBytes → PageBytes → Type 0
-TakesAlone q pages pages2 = (p : ℕ) → kind pages2 p ≡ 3 → (kind pages p ≡ 3) ⊎ (p ≡ q)
+-- the same but for the record of one key, which stands in page q: that page may be taken for it
+pub record TakesAlone (q r : ℕ) (k : List ℕ) (op : Op) (pages pages2 : PageBytes) : Type 0 where
+  pub stands : (p s : ℕ) (row : Row) → record_in pages2 p s ≡ Some row → ((p ≡ q) × (row.relation ≡ r) × (row.key ≡ k)) ⊎ HasStood pages p row.relation row.key
+  pub taken : (p : ℕ) → kind pages p ≡ 0 → kind pages2 p ≢ 0 → ((kind pages2 p ≡ 3) × (p ≡ q)) ⊎ ((kind pages2 p ≡ 2) × NeedsEntry op pages)
+  pub given : (p : ℕ) → kind pages p ≢ 0 → IsGivenBack (kind pages p) (kind pages2 p)
 
 -- ---- which pages are so
 

@@ -9,6 +9,7 @@ ghost use Rattle.mt_steps.specs.Counters.{AreCounters};
 ghost use Rattle.mt_steps.specs.Plans.{IsModest};
 ghost use Rattle.mt_steps.specs.Acts.{HasCounters, InGood, IfLock, IfMade, IfFull, IfBroken, IsAct};
 ghost use Rattle.mt_steps.specs.Logged.{logged_of};
+ghost use Rattle.mt_steps.specs.Tells.{TakesNone};
 
 use crate::act::Act;
 use crate::counters::{add, counter};
@@ -45,6 +46,8 @@ pub(crate) fn add_to<V: Pages>(
     ensures modest { (relations : ℕ) → IfOk result (λ act. IfMade act (λ changes reply.
         InGood (V.at_hand views.now) relations (V.total views.now) (λ pages m.
         IsModest (V.at_hand views.now) (V.total views.now) 0 false pages (after changes pages)))) }
+    ensures takes { (relations : ℕ) → IfOk result (λ act. IfMade act (λ changes reply.
+        InGood (V.at_hand views.now) relations (V.total views.now) (λ pages m. TakesNone pages (after changes pages)))) }
     ensures full { IfOk result (λ act. IfFull act ⊥) }
     ensures broken { IfOk result (λ act. IfBroken act ⊥) }
 {

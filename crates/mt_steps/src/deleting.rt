@@ -7,7 +7,7 @@ ghost use Rattle.mt_steps.specs.Drafts.{AreAtHand};
 ghost use Rattle.mt_steps.specs.Acts.{HasGood, InGood, IfLock, IfMade, IfFull, IfBroken, IsAct, IsTaken};
 ghost use Rattle.mt_steps.specs.Plans.{AsksRow, IsModest};
 ghost use Rattle.mt_steps.specs.Logged.{logged_of};
-ghost use Rattle.mt_steps.specs.Tells.{Tells, IsDone, IsAny, AnyKept, HasTaken};
+ghost use Rattle.mt_steps.specs.Tells.{Tells, IsDone, IsAny, TakesNone, HasTaken};
 
 use crate::act::Act;
 use crate::draft::first_missing;
@@ -42,6 +42,8 @@ pub(crate) fn delete<V: Pages>(
     ensures modest { (relations : ℕ) → IfOk result (λ act. IfMade act (λ changes reply.
         InGood (V.at_hand views.now) relations (V.total views.now) (λ pages m.
         IsModest (V.at_hand views.now) (V.total views.now) 0 false pages (after changes pages)))) }
+    ensures takes { (relations : ℕ) → IfOk result (λ act. IfMade act (λ changes reply.
+        InGood (V.at_hand views.now) relations (V.total views.now) (λ pages m. TakesNone pages (after changes pages)))) }
     ensures full { IfOk result (λ act. IfFull act ⊥) }
     ensures there { IfOk result (λ act. IfMade act (λ changes reply. AreAtHand (V.at_hand views.now) changes)) }
     ensures few { IfOk result (λ act. IfMade act (λ changes reply. length changes ≤ 8)) }
@@ -70,7 +72,7 @@ fn delete_row<V: Pages>(
     requires short { length key.now ≤ 64 }
     requires named { InMaps (V.at_hand views.now) (V.total views.now) (λ pages m. m relation key.now ≡ Some name.now) }
     ensures { IfOk result (Tells (V.at_hand views.now) (V.total views.now) (IsDone (V.at_hand views.now)
-        (V.total views.now) 0 false (Delete relation key.now) AnyKept IsAny) ⊥) }
+        (V.total views.now) 0 false (Delete relation key.now) TakesNone IsAny) ⊥) }
 {
     let old = match plan_read(views, *name) {
         Found::Need(page, _) => return Ok(Act::Lock(page, Mode::Write)),
@@ -107,7 +109,7 @@ fn drop_entry<V: Pages>(
         × InGood (V.at_hand views.now) relations (V.total views.now) (λ pages m. (m relation key.now ≡ Some name.now)
         × IsTaken pages first.list.items name.now (record { relation = relation; key = key.now; value = old }))) ∥₁ }
     ensures { IfOk result (Tells (V.at_hand views.now) (V.total views.now) (IsDone (V.at_hand views.now)
-        (V.total views.now) 0 false (Delete relation key.now) AnyKept
+        (V.total views.now) 0 false (Delete relation key.now) TakesNone
         (HasTaken first.list.items name.now (record { relation = relation; key = key.now; value = old }))) ⊥) }
 {
     let draft = drafted(alloc, views, &first)?;

@@ -7,7 +7,7 @@ ghost use Rattle.mt_model.specs.declared.operations.Op.TheVariants.{Insert};
 ghost use Rattle.mt_index.specs.Answers.{InMaps};
 ghost use Rattle.mt_steps.specs.Drafts.{AreAtHand};
 ghost use Rattle.mt_steps.specs.Acts.{HasRoomy, InRoomy, IfLock, IfMade, IfFull, IfBroken, IsAct, IsPlaced};
-ghost use Rattle.mt_steps.specs.Plans.{free_pages, IsTight, AsksRow, TakesNamed, IsModest};
+ghost use Rattle.mt_steps.specs.Plans.{free_pages, IsTight, AsksRow, TakesPages, IsModest};
 ghost use Rattle.mt_steps.specs.Logged.{logged_of};
 ghost use Rattle.mt_steps.specs.Tells.{Tells, IsDone, TakesRow, TakesAlone, HasPlaced};
 ghost use Rattle.mt_index.specs.Maps.{Map};
@@ -59,10 +59,10 @@ pub(crate) fn insert<V: Pages>(
         (record { relation = relation; key = key.now; value = value.now }) → IfOk result (λ act.
         IfMade act (λ changes reply. InRoomy (V.at_hand views.now) room relations (V.total views.now) (λ pages m.
         IsModest (V.at_hand views.now) (V.total views.now) (cond split 3 2) split pages (after changes pages)))) }
-    ensures named { (relations : ℕ) → Fits relations 1024
+    ensures takes { (relations : ℕ) → Fits relations 1024
         (record { relation = relation; key = key.now; value = value.now }) → IfOk result (λ act.
         IfMade act (λ changes reply. InRoomy (V.at_hand views.now) room relations (V.total views.now) (λ pages m.
-        TakesNamed room pages (after changes pages)))) }
+        TakesPages room (Insert relation key.now value.now) pages (after changes pages)))) }
     ensures full { (relations : ℕ) → IfOk result (λ act. IfFull act (InRoomy (V.at_hand views.now) room relations
         (V.total views.now) (λ pages m. (free_pages (V.total views.now) pages < cond split 3 2) ⊎
         IsTight room pages (row_length (record { relation = relation; key = key.now; value = value.now }))))) }
@@ -94,7 +94,8 @@ fn insert_new<V: Pages>(
     requires missing { InMaps (V.at_hand views.now) (V.total views.now) (λ pages m. m relation key.now ≡ None) }
     ensures { IfOk result (Tells (V.at_hand views.now) (V.total views.now) (IsDone (V.at_hand views.now)
         (V.total views.now) (cond split 3 2) split (Insert relation key.now value.now)
-        (TakesNamed room) (TakesRow room (record { relation = relation; key = key.now; value = value.now })))
+        (TakesPages room (Insert relation key.now value.now))
+        (TakesRow room (record { relation = relation; key = key.now; value = value.now })))
         ((relations : ℕ) → InRoomy (V.at_hand views.now) room relations (V.total views.now) (λ pages m.
         (free_pages (V.total views.now) pages < cond split 3 2) ⊎ IsTight room pages (row_length
         (record { relation = relation; key = key.now; value = value.now }))))) }
@@ -132,7 +133,8 @@ fn add_entry<V: Pages>(
         (record { relation = relation; key = key.now; value = value }))) ∥₁ }
     ensures { (value : List ℕ) → IfOk result (Tells (V.at_hand views.now) (V.total views.now) (IsDone
         (V.at_hand views.now) (V.total views.now) (cond split 3 2) split (Insert relation key.now value)
-        (TakesAlone plan.name.page) (HasPlaced (V.total views.now) plan.changes.list.items plan.name
+        (TakesAlone plan.name.page relation key.now (Insert relation key.now value))
+        (HasPlaced (V.total views.now) plan.changes.list.items plan.name
         (record { relation = relation; key = key.now; value = value })))
         ((relations : ℕ) (pages : PageBytes) → Agrees (V.at_hand views.now) pages → (m : Map) →
         AreRows relations (V.total views.now) pages m →

@@ -7,7 +7,7 @@ ghost use Rattle.mt_model.specs.declared.operations.Reply.{Reply};
 ghost use Rattle.mt_space.specs.Changes.{after};
 ghost use Rattle.mt_steps.specs.Drafts.{AreAtHand};
 ghost use Rattle.mt_steps.specs.Acts.{IfLock, IfMade, IfFull, IfBroken};
-ghost use Rattle.mt_steps.specs.Plans.{free_pages, own_needs, undo_pages, record_bytes, AsksCounters, AsksRow, TakesNamed, IsReading, IsTight, HasPages, InPages, IsPlanned};
+ghost use Rattle.mt_steps.specs.Plans.{free_pages, own_needs, undo_pages, record_bytes, AsksCounters, AsksRow, TakesPages, IsReading, IsTight, HasPages, InPages, IsPlanned};
 ghost use Rattle.mt_steps.specs.Logged.{logged_of};
 
 use crate::act::Act;
@@ -53,10 +53,10 @@ pub fn plan<V: Pages>(
         IfOk result (λ act. IfMade act (λ changes reply.
         InPages (V.at_hand views.now) room relations counters (V.total views.now) (λ pages.
         IsPlanned relations counters (V.total views.now) (V.at_hand views.now) pages changes op.now split reply))) }
-    ensures named { (relations counters : ℕ) → relations ≤ 64 → IsWithin relations counters op.now →
+    ensures takes { (relations counters : ℕ) → relations ≤ 64 → IsWithin relations counters op.now →
         IfOk result (λ act. IfMade act (λ changes reply.
         InPages (V.at_hand views.now) room relations counters (V.total views.now) (λ pages.
-        TakesNamed room pages (after changes pages)))) }
+        TakesPages room op.now pages (after changes pages)))) }
     ensures there { IfOk result (λ act. IfMade act (λ changes reply. AreAtHand (V.at_hand views.now) changes)) }
     ensures few { IfOk result (λ act. IfMade act (λ changes reply. length changes ≤ 8)) }
     ensures quiet { IsReading op.now → IfOk result (λ act. IfMade act (λ changes reply. changes ≡ [])) }

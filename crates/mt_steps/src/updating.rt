@@ -8,7 +8,7 @@ ghost use Rattle.mt_index.specs.Answers.{InMaps};
 ghost use Rattle.mt_model.specs.declared.operations.Op.TheVariants.{Update};
 ghost use Rattle.mt_steps.specs.Drafts.{AreAtHand};
 ghost use Rattle.mt_steps.specs.Acts.{HasRoomy, InRoomy, IfLock, IfMade, IfFull, IfBroken, IsAct, IsMoved};
-ghost use Rattle.mt_steps.specs.Plans.{free_pages, IsTight, AsksRow, TakesNamed, IsModest};
+ghost use Rattle.mt_steps.specs.Plans.{free_pages, IsTight, AsksRow, TakesPages, IsModest};
 ghost use Rattle.mt_steps.specs.Logged.{logged_of};
 ghost use Rattle.mt_steps.specs.Tells.{Tells, IsDone, TakesRow, TakesAlone, HasMoved};
 
@@ -57,10 +57,10 @@ pub(crate) fn update<V: Pages>(
         (record { relation = relation; key = key.now; value = value.now }) → IfOk result (λ act.
         IfMade act (λ changes reply. InRoomy (V.at_hand views.now) room relations (V.total views.now) (λ pages m.
         IsModest (V.at_hand views.now) (V.total views.now) 1 false pages (after changes pages)))) }
-    ensures named { (relations : ℕ) → Fits relations 1024
+    ensures takes { (relations : ℕ) → Fits relations 1024
         (record { relation = relation; key = key.now; value = value.now }) → IfOk result (λ act.
         IfMade act (λ changes reply. InRoomy (V.at_hand views.now) room relations (V.total views.now) (λ pages m.
-        TakesNamed room pages (after changes pages)))) }
+        TakesPages room (Update relation key.now value.now) pages (after changes pages)))) }
     ensures full { (relations : ℕ) → IfOk result (λ act. IfFull act (InRoomy (V.at_hand views.now) room relations
         (V.total views.now) (λ pages m. (free_pages (V.total views.now) pages < 1) ⊎
         IsTight room pages (row_length (record { relation = relation; key = key.now; value = value.now }))))) }
@@ -91,7 +91,8 @@ fn update_row<V: Pages>(
     requires named { InMaps (V.at_hand views.now) (V.total views.now) (λ pages m. m relation key.now ≡ Some name.now) }
     ensures { IfOk result (Tells (V.at_hand views.now) (V.total views.now) (IsDone (V.at_hand views.now)
         (V.total views.now) 1 false (Update relation key.now value.now)
-        (TakesNamed room) (TakesRow room (record { relation = relation; key = key.now; value = value.now })))
+        (TakesPages room (Update relation key.now value.now))
+        (TakesRow room (record { relation = relation; key = key.now; value = value.now })))
         ((relations : ℕ) → InRoomy (V.at_hand views.now) room relations (V.total views.now) (λ pages m.
         (free_pages (V.total views.now) pages < 1) ⊎ IsTight room pages (row_length
         (record { relation = relation; key = key.now; value = value.now }))))) }
@@ -147,7 +148,8 @@ fn set_entry<V: Pages>(
     ensures { (name : RecordName) (value : List ℕ) → IsSome (V.at_hand views.now name.page) →
         IfOk result (Tells (V.at_hand views.now) (V.total views.now) (IsDone (V.at_hand views.now)
         (V.total views.now) 1 false (Update relation key.now value)
-        (TakesAlone plan.name.page) (HasMoved (V.total views.now) plan.changes.list.items name plan.name
+        (TakesAlone plan.name.page relation key.now (Update relation key.now value))
+        (HasMoved (V.total views.now) plan.changes.list.items name plan.name
         (record { relation = relation; key = key.now; value = old })
         (record { relation = relation; key = key.now; value = value }))) ⊥) }
 {

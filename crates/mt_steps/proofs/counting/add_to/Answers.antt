@@ -2,7 +2,7 @@ use mathlib.Core.Logic.{∥∥₁_elim}
 use Rattle.std.proofs.Props.{props}
 use Rattle.std.proofs.Math.Dec.{T_prop}
 use Rattle.mt_model.specs.Tables.{IsLimited}
-use Rattle.std.proofs.Common.{arith, ◌≡◌, ◌∙◌, ◌+◌, ℕ, ℤ, List, None, Some, true, false, sym, ap, subst}
+use Rattle.std.proofs.Common.{arith, inl, get_or, ◌≡◌, ◌∙◌, ◌+◌, ℕ, ℤ, List, None, Some, true, false, sym, ap, subst}
 use Rattle.std.specs.Int.{w64}
 use Rattle.std.proofs.lemmas.Int.{to_z-of_z}
 use Rattle.mt_base.specs.Ranges.{Torn}
@@ -18,6 +18,9 @@ use Rattle.mt_space.proofs.Changing.{replaced_other}
 use Rattle.mt_steps.proofs.Modest.{modest_nothing, modest_same, file_empties}
 use Rattle.mt_steps.proofs.Asking.{all_at_hand}
 use Rattle.mt_steps.proofs.Adding.{file_kept, adds_done, adds_nothing}
+use Rattle.mt_steps.specs.Tells.{TakesNone}
+use Rattle.mt_steps.proofs.Apart.{records_stay}
+use Rattle.mt_steps.proofs.Naming.{quiet_none, same_none}
 use Rattle.mt_steps.proofs.counting.add_to.Goals as goal
 
 none_some : (x : List ℕ) → None ≡ Some x → ⊥
@@ -86,3 +89,19 @@ returns-clause-modest g c = λ relations pages agrees m rows.
 
 pub returns-in_default-clause-lock : goal.returns-in_default-clause-lock
 returns-in_default-clause-lock g c = (c.in_default.ensures.none, c.new-page.ensures)
+
+pub returns-then-not-add-clause-takes : goal.returns-then-not-add-clause-takes
+returns-then-not-add-clause-takes g c = λ relations pages agrees m rows. quiet_none pages c.new-changes.result.list.items c.new-changes.ensures
+
+pub returns-clause-takes : goal.returns-clause-takes
+returns-clause-takes g c = λ relations pages agrees m rows.
+    let p = c.new-page.result in
+    let list = c.new-changes.result.list.items in
+    let last = after c.note.new.self.list.items pages in
+    let at_page : pages p ≡ c.in-Some.old.now = agrees p c.in-Some.old.now c.in-Some.ensures.some in
+    let empty : after list pages ≡ pages = ap (λ (l : List PageChange). after l pages) c.new-changes.ensures in
+    let two = c.new-page.ensures in
+    let made : last ≡ replaced 2 c.add.new.page pages = c.in_ok-note.ensures.noted pages (ap (λ (f : PageBytes). f p) empty ∙ at_page) ∙ ap (replaced p c.add.new.page) empty ∙ ap (λ (n : ℕ). replaced n c.add.new.page pages) two in
+    let kept = file_kept relations (g.V.Pages.total c.args.views.now) pages m c.add.new.page rows in
+    subst (TakesNone pages) (sym made) (same_none pages (replaced 2 c.add.new.page pages)
+    (λ q. inl (ap (λ (map : List ℕ). get_or map q 0) (replaced_other 2 0 c.add.new.page pages (omega arith)))) (records_stay pages (replaced 2 c.add.new.page pages) kept))

@@ -12,6 +12,7 @@ use Rattle.mt_steps.proofs.Asking.{bucket_inside, looks_to_write}
 use Rattle.mt_steps.proofs.Modest.{modest_nothing}
 use Rattle.mt_steps.specs.Acts.{IsAct}
 use Rattle.mt_steps.proofs.Leaving.{missing_already}
+use Rattle.mt_steps.proofs.Naming.{quiet_none}
 use Rattle.mt_steps.proofs.deleting.delete.Goals as goal
 
 pub returns-in-Missing-clause-made : goal.returns-in-Missing-clause-made
@@ -62,3 +63,9 @@ returns-in-Need-clause-asks g c = inl (λ pages agrees m maps.
 
 pub returns-in-Found-clause-asks : goal.returns-in-Found-clause-asks
 returns-in-Found-clause-asks g c = IfOk-weaker c.delete_row.result _ _ (asks_told (g.V.Pages.at_hand c.args.views.now) (g.V.Pages.total c.args.views.now) _ _ _ _ (c.in-Found.name, c.in-Found.ensures.found)) c.delete_row.ensures
+
+pub returns-in-Missing-clause-takes : goal.returns-in-Missing-clause-takes
+returns-in-Missing-clause-takes g c = λ relations pages agrees m rows. quiet_none pages c.new.result.list.items c.new.ensures
+
+pub returns-in-Found-clause-takes : goal.returns-in-Found-clause-takes
+returns-in-Found-clause-takes g c = λ relations. IfOk-weaker c.delete_row.result _ _ (made_told (g.V.Pages.at_hand c.args.views.now) (g.V.Pages.total c.args.views.now) _ _ _ (λ changes reply done pages agrees m rows. (done.does relations pages agrees m rows tt).keeps)) c.delete_row.ensures

@@ -17,6 +17,9 @@ use Rattle.mt_steps.proofs.Asking.{amend_needs, bucket_inside, bucket_change, am
 use Rattle.mt_steps.proofs.Modest.{taken_modest, amended_modest, modest_trans}
 use Rattle.mt_steps.specs.Plans.{IsModest}
 use Rattle.mt_steps.proofs.Leaving.{amended_is, amend_missing_is, amend_endless_is, taken_map, taken_form, left}
+use Rattle.mt_steps.specs.Tells.{TakesNone}
+use Rattle.mt_steps.proofs.Acting.{amends_file}
+use Rattle.mt_steps.proofs.Naming.{taken_none}
 use Rattle.mt_steps.proofs.deleting.drop_entry.Goals as goal
 
 none_some : {A : Type 0} (x : A) → None ≡ Some x → ⊥
@@ -105,13 +108,14 @@ returns-in-Changes g c =
           let draft_agrees = c.in_ok-draft.ensures.agrees pages agrees in
           let amends = told mid draft_agrees m between in
           let formed = told_formed mid draft_agrees m between relations (taken_form relations total pages m first c.args.name.now _ rows taken) in
+          let modest = modest_trans at_hand total 0 0 false pages mid last (taken_modest at_hand relations total false pages m first c.args.name.now _ rows c.requires.seen taken)
+          (amended_modest at_hand total false mid last m between amends.others) in
           let led = joined.leads pages agrees in record {
             act = subst (λ (next : PageBytes). IsAct relations total pages next (Delete c.args.relation c.args.key.now) reply) (sym led.0)
                 (left relations total pages last m first c.args.name.now c.args.relation c.args.key.now c.args.old reply rows so.0 taken amends.map amends.others formed joined.same);
             short = led.1;
-            modest = subst (λ (next : PageBytes). IsModest at_hand total 0 false pages next) (sym led.0)
-                (modest_trans at_hand total 0 0 false pages mid last (taken_modest at_hand relations total false pages m first c.args.name.now _ rows c.requires.seen taken)
-                (amended_modest at_hand total false mid last m between amends.others));
-            keeps = tt;
+            modest = subst (IsModest at_hand total 0 false pages) (sym led.0) modest;
+            keeps = subst (TakesNone pages) (sym led.0)
+                (taken_none pages mid last c.args.name.now first _ refl taken (amends_file mid last between.space_fixed amends.others) (modest.gives refl));
           };
     }) (λ no. no)) c.join.ensures

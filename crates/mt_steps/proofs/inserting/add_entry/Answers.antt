@@ -18,9 +18,9 @@ use Rattle.mt_steps.proofs.Telling.{tells_weaker, logs_something}
 use Rattle.mt_steps.proofs.Asking.{add_needs, add_change, add_inside, added_inside, named_differs, few_more}
 use Rattle.mt_steps.proofs.Drafting.{below_some}
 use Rattle.mt_steps.proofs.Modest.{placed_modest, added_modest, modest_trans, modest_more, insert_needs, shortage_few}
-use Rattle.mt_steps.proofs.Entering.{added_is, full_is, endless_is, placed_map, entered}
+use Rattle.mt_steps.proofs.Entering.{added_is, full_is, endless_is, placed_map, placed_leaves, entered}
 use Rattle.mt_steps.specs.Tells.{TakesAlone}
-use Rattle.mt_steps.proofs.Naming.{placed_alone, added_alone}
+use Rattle.mt_steps.proofs.Naming.{placed_kinds, placed_alone, added_alone}
 use Rattle.mt_steps.proofs.inserting.add_entry.Goals as goal
 
 pub returns-in-Endless : goal.returns-in-Endless
@@ -127,7 +127,8 @@ returns-in-Changes g c = λ value.
                 (modest_more at_hand total _ (cond c.args.split 3 2) c.args.split pages last (insert_needs c.args.split)
                 (modest_trans at_hand total 1 (cond c.args.split 2 1) c.args.split pages mid last (placed_modest at_hand relations total c.args.split pages m first name _ rows c.requires.seen placed)
                 (added_modest at_hand c.args.split total e mid last m between (λ p free some. below_some copies at_hand p c.in_ok-draft.ensures.copies (seen p free some)) adds.added)));
-            keeps = subst (λ (next : PageBytes). TakesAlone name.page pages next) (sym led.0)
-                (added_alone c.args.split total name.page e pages mid last adds.added (placed_alone total pages first name _ placed));
+            keeps = subst (TakesAlone name.page c.args.relation c.args.key.now (Insert c.args.relation c.args.key.now value) pages) (sym led.0)
+                (added_alone c.args.split total relations name.page c.args.relation c.args.key.now value name pages mid last m rows (placed_leaves relations total pages m first name _ rows placed) between
+                (placed_kinds total pages first name _ placed) adds.added (placed_alone total pages first name _ _ placed));
           };
     }) (λ no. absurd no)) c.join.ensures

@@ -8,7 +8,7 @@ use Rattle.mt_model.specs.declared.operations.Reply.TheVariants.{Exists}
 use Rattle.mt_base.specs.declared.modes.Mode.TheVariants.{Read}
 use Rattle.std.proofs.lemmas.Result.{IfOk-weaker}
 use Rattle.mt_steps.proofs.Telling.{lock_told, asks_told, made_told, full_told, broken_told}
-use Rattle.mt_steps.proofs.Naming.{quiet_named}
+use Rattle.mt_steps.proofs.Naming.{quiet_none, none_takes}
 use Rattle.mt_steps.proofs.Asking.{bucket_inside, looks_to_write}
 use Rattle.mt_steps.proofs.Modest.{modest_nothing}
 use Rattle.mt_steps.specs.Acts.{IsAct}
@@ -64,8 +64,9 @@ returns-in-Need-clause-asks g c = inl (λ pages agrees m maps.
 pub returns-in-Missing-clause-asks : goal.returns-in-Missing-clause-asks
 returns-in-Missing-clause-asks g c = IfOk-weaker c.insert_new.result _ _ (asks_told (g.V.Pages.at_hand c.args.views.now) (g.V.Pages.total c.args.views.now) _ _ _ _ c.in-Missing.ensures.missing) c.insert_new.ensures
 
-pub returns-in-Found-clause-named : goal.returns-in-Found-clause-named
-returns-in-Found-clause-named g c = λ relations fits pages agrees m rows named. quiet_named c.args.room pages c.new.result.list.items c.new.ensures
+pub returns-in-Found-clause-takes : goal.returns-in-Found-clause-takes
+returns-in-Found-clause-takes g c = λ relations fits pages agrees m rows named.
+    none_takes c.args.room (Insert c.args.relation c.args.key.now c.args.value.now) pages (after c.new.result.list.items pages) (quiet_none pages c.new.result.list.items c.new.ensures)
 
-pub returns-in-Missing-clause-named : goal.returns-in-Missing-clause-named
-returns-in-Missing-clause-named g c = λ relations fits. IfOk-weaker c.insert_new.result _ _ (made_told (g.V.Pages.at_hand c.args.views.now) (g.V.Pages.total c.args.views.now) _ _ _ (λ changes reply done pages agrees m rows named. (done.does relations pages agrees m rows (fits, named)).keeps)) c.insert_new.ensures
+pub returns-in-Missing-clause-takes : goal.returns-in-Missing-clause-takes
+returns-in-Missing-clause-takes g c = λ relations fits. IfOk-weaker c.insert_new.result _ _ (made_told (g.V.Pages.at_hand c.args.views.now) (g.V.Pages.total c.args.views.now) _ _ _ (λ changes reply done pages agrees m rows named. (done.does relations pages agrees m rows (fits, named)).keeps)) c.insert_new.ensures

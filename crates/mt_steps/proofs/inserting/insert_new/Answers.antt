@@ -2,6 +2,7 @@ use mathlib.Core.Logic.{∥∥₁_map}
 use Rattle.std.proofs.Common.{ℕ, [], inl, inr, refl, ⊎_elim, subst, arith}
 use Rattle.std.proofs.lemmas.Result.{IfOk-weaker}
 use Rattle.mt_slots.specs.Page.{Row}
+use Rattle.mt_model.specs.declared.operations.Op.TheVariants.{Insert}
 use Rattle.mt_file.specs.declared.step.Step.{Step}
 use Rattle.mt_file.specs.Plans.{IsPut, IsNamed}
 use Rattle.mt_steps.specs.Held.{AreRows}
@@ -12,7 +13,7 @@ use Rattle.mt_steps.proofs.Telling.{tells_weaker}
 use Rattle.mt_steps.proofs.Asking.{put_needs, placed_inside}
 use Rattle.mt_steps.proofs.Entering.{placed_is}
 use Rattle.mt_steps.proofs.Modest.{insert_needs, too_full}
-use Rattle.mt_steps.proofs.Naming.{alone_named, put_own}
+use Rattle.mt_steps.proofs.Naming.{alone_takes, put_place}
 use Rattle.mt_steps.proofs.inserting.insert_new.Goals as goal
 
 pub plan_put-requires-clause-good : goal.plan_put-requires-clause-good
@@ -65,7 +66,7 @@ returns g c =
             act = d.act;
             short = d.short;
             modest = d.modest;
-            keeps = alone_named c.args.room c.in-Done.plan.name.page pages (after changes pages)
-                (put_own at_hand c.args.room total pages _ c.in_ok-page.field-0 c.in-Done.plan c.in-Done.is so.1 (c.in_ok-page.ensures.put pages agrees rows.file so.1)) d.keeps;
+            keeps = alone_takes c.args.room (Insert c.args.relation c.args.key.now c.args.value.now) c.in-Done.plan.name.page c.args.relation c.args.key.now pages (after changes pages) so.1
+                (inl (put_place at_hand c.args.room total pages _ c.in_ok-page.field-0 c.in-Done.plan c.in-Done.is (c.in_ok-page.ensures.put pages agrees rows.file so.1), tt)) d.keeps;
           };
     }) (λ full relations pages agrees m rows named. inl (full relations pages agrees m rows (put relations pages agrees m rows named)))) (c.add_entry.ensures c.args.value.now)

@@ -7,7 +7,7 @@ use Rattle.mt_model.specs.declared.operations.Op.TheVariants.{Get, Insert, Updat
 use Rattle.mt_model.specs.Model.{IsWithin}
 use Rattle.mt_steps.proofs.Promised.{ok_both, asks_same, rows_planned, whole_planned, good_planned, quiet_planned, counts_planned, read_planned, rows_full, never_full}
 use Rattle.mt_steps.proofs.Telling.{two_inside}
-use Rattle.mt_steps.proofs.Naming.{roomy_told, modest_told, quiet_told}
+use Rattle.mt_steps.proofs.Naming.{roomy_told, none_told, quiet_told}
 use Rattle.mt_steps.proofs.Single.{IsStep-prop}
 use Rattle.mt_steps.proofs.planning.plan.Goals as goal
 
@@ -189,34 +189,34 @@ returns-in-Delete-clause-rows g c =
     let is : Delete c.in-Delete.relation c.as_slice-in-Delete.result.now ≡ c.args.op.now = ap (Delete c.in-Delete.relation) c.as_slice-in-Delete.ensures ∙ sym c.in-Delete.is in
     asks_same (g.V.Pages.at_hand c.args.views.now) (g.V.Pages.total c.args.views.now) _ c.args.op.now c.delete.result is c.delete.ensures.asks
 
-pub returns-in-Insert-clause-named : goal.returns-in-Insert-clause-named
-returns-in-Insert-clause-named g c = λ relations counters few within.
+pub returns-in-Insert-clause-takes : goal.returns-in-Insert-clause-takes
+returns-in-Insert-clause-takes g c = λ relations counters few within.
     let is : Insert c.in-Insert.relation c.as_slice-in-Insert.result.now c.as_slice-in-Insert-2.result.now ≡ c.args.op.now =
     (λ i. Insert c.in-Insert.relation (c.as_slice-in-Insert.ensures i) (c.as_slice-in-Insert-2.ensures i)) ∙ sym c.in-Insert.is in
     let inside = subst (λ (o : Op). IsWithin relations counters o) (sym is) within in
-    IfOk-weaker c.insert.result _ _ (λ act. roomy_told relations counters (g.V.Pages.total c.args.views.now) (g.V.Pages.at_hand c.args.views.now) c.args.room act)
-    (c.insert.ensures.named relations (record { relation = inside.0; key = inside.1; value = inside.2 }))
+    IfOk-weaker c.insert.result _ _ (λ act. roomy_told relations counters (g.V.Pages.total c.args.views.now) (g.V.Pages.at_hand c.args.views.now) c.args.room c.args.op.now _ act is)
+    (c.insert.ensures.takes relations (record { relation = inside.0; key = inside.1; value = inside.2 }))
 
-pub returns-in-Update-clause-named : goal.returns-in-Update-clause-named
-returns-in-Update-clause-named g c = λ relations counters few within.
+pub returns-in-Update-clause-takes : goal.returns-in-Update-clause-takes
+returns-in-Update-clause-takes g c = λ relations counters few within.
     let is : Update c.in-Update.relation c.as_slice-in-Update.result.now c.as_slice-in-Update-2.result.now ≡ c.args.op.now =
     (λ i. Update c.in-Update.relation (c.as_slice-in-Update.ensures i) (c.as_slice-in-Update-2.ensures i)) ∙ sym c.in-Update.is in
     let inside = subst (λ (o : Op). IsWithin relations counters o) (sym is) within in
-    IfOk-weaker c.update.result _ _ (λ act. roomy_told relations counters (g.V.Pages.total c.args.views.now) (g.V.Pages.at_hand c.args.views.now) c.args.room act)
-    (c.update.ensures.named relations (record { relation = inside.0; key = inside.1; value = inside.2 }))
+    IfOk-weaker c.update.result _ _ (λ act. roomy_told relations counters (g.V.Pages.total c.args.views.now) (g.V.Pages.at_hand c.args.views.now) c.args.room c.args.op.now _ act is)
+    (c.update.ensures.takes relations (record { relation = inside.0; key = inside.1; value = inside.2 }))
 
-pub returns-in-Delete-clause-named : goal.returns-in-Delete-clause-named
-returns-in-Delete-clause-named g c = λ relations counters few within.
-    IfOk-weaker c.delete.result _ _ (λ act. modest_told relations counters (g.V.Pages.total c.args.views.now) (g.V.Pages.at_hand c.args.views.now) c.args.room act) (c.delete.ensures.modest relations)
+pub returns-in-Delete-clause-takes : goal.returns-in-Delete-clause-takes
+returns-in-Delete-clause-takes g c = λ relations counters few within.
+    IfOk-weaker c.delete.result _ _ (λ act. none_told relations counters (g.V.Pages.total c.args.views.now) (g.V.Pages.at_hand c.args.views.now) c.args.room c.args.op.now act) (c.delete.ensures.takes relations)
 
-pub returns-in-Add-clause-named : goal.returns-in-Add-clause-named
-returns-in-Add-clause-named g c = λ relations counters few within.
-    IfOk-weaker c.add_to.result _ _ (λ act. modest_told relations counters (g.V.Pages.total c.args.views.now) (g.V.Pages.at_hand c.args.views.now) c.args.room act) (c.add_to.ensures.modest relations)
+pub returns-in-Add-clause-takes : goal.returns-in-Add-clause-takes
+returns-in-Add-clause-takes g c = λ relations counters few within.
+    IfOk-weaker c.add_to.result _ _ (λ act. none_told relations counters (g.V.Pages.total c.args.views.now) (g.V.Pages.at_hand c.args.views.now) c.args.room c.args.op.now act) (c.add_to.ensures.takes relations)
 
-pub returns-in-Get-clause-named : goal.returns-in-Get-clause-named
-returns-in-Get-clause-named g c = λ relations counters few within.
-    IfOk-weaker c.get.result _ _ (λ act. quiet_told relations counters (g.V.Pages.total c.args.views.now) (g.V.Pages.at_hand c.args.views.now) c.args.room act) c.get.ensures.quiet
+pub returns-in-Get-clause-takes : goal.returns-in-Get-clause-takes
+returns-in-Get-clause-takes g c = λ relations counters few within.
+    IfOk-weaker c.get.result _ _ (λ act. quiet_told relations counters (g.V.Pages.total c.args.views.now) (g.V.Pages.at_hand c.args.views.now) c.args.room c.args.op.now act) c.get.ensures.quiet
 
-pub returns-in-Read-clause-named : goal.returns-in-Read-clause-named
-returns-in-Read-clause-named g c = λ relations counters few within.
-    quiet_told relations counters (g.V.Pages.total c.args.views.now) (g.V.Pages.at_hand c.args.views.now) c.args.room c.read_from.result c.read_from.ensures.quiet
+pub returns-in-Read-clause-takes : goal.returns-in-Read-clause-takes
+returns-in-Read-clause-takes g c = λ relations counters few within.
+    quiet_told relations counters (g.V.Pages.total c.args.views.now) (g.V.Pages.at_hand c.args.views.now) c.args.room c.args.op.now c.read_from.result c.read_from.ensures.quiet

@@ -19,6 +19,7 @@ use Rattle.mt_steps.specs.Plans.{IsModest}
 use Rattle.mt_steps.proofs.Leaving.{amended_is, amend_missing_is, amend_endless_is}
 use Rattle.mt_steps.proofs.Shifting.{moved_map, moved_act, to_inside}
 use Rattle.mt_steps.specs.Tells.{TakesAlone}
+use Rattle.mt_steps.proofs.Acting.{amends_file}
 use Rattle.mt_steps.proofs.Naming.{moved_alone, amended_alone}
 use Rattle.mt_steps.proofs.updating.set_entry.Goals as goal
 
@@ -116,7 +117,7 @@ returns-in-Changes g c = λ name value seen.
             modest = subst (λ (next : PageBytes). IsModest at_hand total 1 false pages next) (sym led.0)
                 (modest_trans at_hand total 1 0 false pages mid last (moved_modest at_hand relations total false pages m first name to _ _ rows seen c.requires.seen moved)
                 (amended_modest at_hand total false mid last m between.0 amends.others));
-            keeps = subst (λ (next : PageBytes). TakesAlone to.page pages next) (sym led.0)
-                (amended_alone to.page pages mid last between.0.space_fixed amends.others (moved_alone total pages first name to _ _ moved));
+            keeps = subst (TakesAlone to.page c.args.relation c.args.key.now (Update c.args.relation c.args.key.now value) pages) (sym led.0)
+                (amended_alone to.page c.args.relation c.args.key.now _ pages mid last between.0.space_fixed (amends_file mid last between.0.space_fixed amends.others) amends.others (moved_alone total pages first name to _ _ _ moved));
           };
     }) (λ no. no)) c.join.ensures

@@ -20,8 +20,8 @@ use Rattle.std.specs.Prelude.{IsSome}
 use Rattle.mt_steps.proofs.Rows.{row_of}
 use Rattle.mt_steps.proofs.Shifting.{replacement_is, kept_act, moved_here, has_moved, to_inside}
 use Rattle.mt_space.specs.Changes.{after}
-use Rattle.mt_steps.specs.Plans.{TakesNamed}
-use Rattle.mt_steps.proofs.Naming.{kept_named, alone_named, moved_own, moved_alone}
+use Rattle.mt_steps.specs.Plans.{TakesPages}
+use Rattle.mt_steps.proofs.Naming.{kept_none, none_takes, alone_takes, moved_place, moved_alone}
 use Rattle.mt_steps.proofs.updating.update_row.Goals as goal
 
 value_of : (k v : List ℕ) (x : Row) {r : ℕ} → Some (record { relation = r; key = k; value = v }) ≡ Some x → v ≡ x.value
@@ -137,21 +137,21 @@ returns-then-is_name g c = record {
       let w : Row = record { relation = c.args.relation; key = c.args.key.now; value = c.args.value.now } in
       let changes = c.in-Done.plan.changes.list.items in
       let seen = subst (λ (x : Step). IfDone x (λ plan. IsSome (at_hand n.page) × IsSome (at_hand plan.name.page))) c.in-Done.is c.in_ok-page.ensures.seen in
-      ⊎_elim {C = Does at_hand relations total 1 false (Update c.args.relation c.args.key.now c.args.value.now) (TakesNamed c.args.room) pages changes (Was old)}
+      ⊎_elim {C = Does at_hand relations total 1 false (Update c.args.relation c.args.key.now c.args.value.now) (TakesPages c.args.room (Update c.args.relation c.args.key.now c.args.value.now)) pages changes (Was old)}
       (λ kept. record {
         act = kept_act relations total pages m changes n c.args.relation c.args.key.now old c.args.value.now (Was old) rows is so.0 kept.1 refl;
         short = kept.1.short;
         modest = kept_modest at_hand relations total false pages m changes n _ _ rows kept.1;
-        keeps = kept_named c.args.room pages changes n _ _ kept.1;
+        keeps = none_takes c.args.room _ pages (after changes pages) (kept_none pages changes n c.args.relation c.args.key.now old c.args.value.now kept.1);
       })
       (λ moved.
       let here : IsMoved total pages changes n n r w = subst (λ (to : RecordName). IsMoved total pages changes n to r w) c.if-is_name.ensures moved in record {
         act = moved_here relations total pages m changes n c.args.relation c.args.key.now old c.args.value.now (Was old) rows is so.0 here refl;
         short = here.short;
         modest = moved_modest at_hand relations total false pages m changes n c.in-Done.plan.name _ _ rows seen.0 seen.1 moved;
-        keeps = alone_named c.args.room c.in-Done.plan.name.page pages (after changes pages)
-            (moved_own at_hand c.args.room total pages n r w c.in_ok-page.field-0 c.in-Done.plan c.in-Done.is so.1 stood (c.in_ok-page.ensures.replacement pages r agrees rows.file so.1 stood))
-            (moved_alone total pages changes n c.in-Done.plan.name _ _ moved);
+        keeps = alone_takes c.args.room (Update c.args.relation c.args.key.now c.args.value.now) c.in-Done.plan.name.page c.args.relation c.args.key.now pages (after changes pages) so.1
+            (moved_place at_hand c.args.room relations total pages m n c.args.relation c.args.key.now old c.args.value.now c.in_ok-page.field-0 c.in-Done.plan c.in-Done.is rows is stood (c.in_ok-page.ensures.replacement pages r agrees rows.file so.1 stood))
+            (moved_alone total pages changes n c.in-Done.plan.name _ _ _ moved);
       })
       (replacement_is at_hand c.args.room relations total pages m n r c.args.value.now c.in_ok-page.field-0 c.in-Done.plan c.in-Done.is rows so.1
       (c.in_ok-page.ensures.replacement pages r agrees rows.file so.1 stood) (c.in_ok-page.ensures.short pages r agrees rows.file so.1 stood) stood);
@@ -184,7 +184,8 @@ returns g c =
             act = d.act;
             short = d.short;
             modest = d.modest;
-            keeps = alone_named c.args.room c.in-Done.plan.name.page pages (after changes pages)
-                (moved_own at_hand c.args.room total pages n r (record r { value = c.args.value.now }) c.in_ok-page.field-0 c.in-Done.plan c.in-Done.is so.1 stood (c.in_ok-page.ensures.replacement pages r agrees rows.file so.1 stood)) d.keeps;
+            keeps = alone_takes c.args.room (Update c.args.relation c.args.key.now c.args.value.now) c.in-Done.plan.name.page c.args.relation c.args.key.now pages (after changes pages) so.1
+                (moved_place at_hand c.args.room relations total pages m n c.args.relation c.args.key.now old c.args.value.now c.in_ok-page.field-0 c.in-Done.plan c.in-Done.is rows is stood (c.in_ok-page.ensures.replacement pages r agrees rows.file so.1 stood))
+                d.keeps;
           };
     }) (λ no. absurd no)) (c.set_entry.ensures n c.args.value.now seen.0)

@@ -248,6 +248,10 @@ returns g c = let d = g.D.Device in let seen = d.seen in let o = c.args.self.now
           | in-Some+in_ok-append_end w ↦ ap (λ (x : Operations g.row.D.Denot). x.locks) w.self-is ∙ w.append_end.ensures.locks
           | in_default w ↦ ap (λ (x : Operations g.row.D.Denot). x.locks) w.self-is
         ];
+        room = elim c.match-done.branch [
+          | in-Some+in_ok-append_end w ↦ ap (λ (t : OpScope). t.room) (w.scope-is ∙ w.append_end.ensures.scope)
+          | in_default w ↦ ap (λ (t : OpScope). t.room) w.scope-is
+        ];
         asks = tt;
         err = tt;
         flush = λ e. absurd cc;

@@ -40,7 +40,7 @@ pub returns-clause-goes : goal.returns-clause-goes
 returns-clause-goes g c = λ opening relations counters right k small. let r = c.requires in
     let list = c.args.changes.list.items in
     let locked = subst (λ (gs : List PageLock). All (λ (x : PageChange). Contains gs (lock_of c.args.scope.now.number x.page Write)) list) c.as_slice.ensures.value c.in_default.ensures in
-    (right, keeps_plan relations counters (world g.D.Device.seen opening c.args.self.now) c.args.scope.now c.args.changes c.args.reply right.sound k r.planning r.there r.few r.quiet locked (r.planned relations counters small k.within))
+    (right, keeps_plan relations counters (world g.D.Device.seen opening c.args.self.now) c.args.scope.now c.args.changes c.args.reply right.sound k r.planning r.there r.few r.quiet locked (r.planned relations counters small k.within) (r.takes relations counters small k.within))
 
 pub returns-in_err-stepped-clause-work : goal.returns-in_err-stepped-clause-work
 returns-in_err-stepped-clause-work g c =

@@ -12,7 +12,7 @@ use Rattle.mt_op.specs.Holds.{IsNext, IsHeld}
 use Rattle.mt_op.proofs.Asking.{asked_right}
 use Rattle.mt_op.proofs.Going.{rests_goes, rests_same, unlocked_goes_on, locks_goes, stays_roomy, goes_on_since, goes_since, planning_stays, err_goes_on, ok_same, there_whole}
 use Rattle.mt_op.proofs.Work.{stays_work, locks_work, err_works, unlocked_works, works_behind}
-use Rattle.mt_op.proofs.Keeping.{held_keeps, err_keeps, held_scope, err_scope, stays_then}
+use Rattle.mt_op.proofs.Keeping.{held_keeps, err_keeps, held_scope, err_scope, stays_then, room_kept}
 use Rattle.mt_space.specs.Changes.{PageBytes}
 use Rattle.mt_op.proofs.Known.{known}
 use Rattle.mt_op.proofs.operations.Operations.look.Goals as goal
@@ -131,6 +131,9 @@ returns-in-Went-clause-locks g c = let opening : PageBytes = λ p. [] in
     let w = world seen opening c.args.self.now in let z = world seen opening c.hold.new.self in
     let went : c.hold.result ≡ Ok stepped.Went = c.in_ok-other.was ∙ ap Ok c.in-Went.is in
     held_keeps (IsNext s) w z m c.hold.new.scope c.args.page c.args.mode (Ok stepped.Went) (inl c.requires.next) (subst (IsHeld w z m c.hold.new.scope c.args.page c.args.mode) went (c.hold.ensures.held opening))
+
+pub returns-in-Went-clause-scope : goal.returns-in-Went-clause-scope
+returns-in-Went-clause-scope g c = room_kept c.args.scope.now (record c.hold.new.scope { room = c.args.room; seen = c.put.new.self }) c.args.room c.args.page c.args.mode _ refl c.requires.led c.requires.unled c.requires.next.new
 
 pub returns-in_err-reserve-clause-scope : goal.returns-in_err-reserve-clause-scope
 returns-in_err-reserve-clause-scope g c = let s = c.args.scope.now in let f = c.reserve.ensures in

@@ -1,21 +1,22 @@
 use mathlib.Core.Logic.{∥∥₁_elim, ∥∥₁_map}
 use Rattle.std.proofs.Props.{props}
 use Rattle.std.specs.Prelude.{Err}
-use Rattle.std.proofs.Common.{◌≡◌, None, ◌<◌, ◌⊎◌, inl, refl, sym, subst, ◌∙◌, ap}
+use Rattle.std.proofs.Common.{◌≡◌, None, ◌<◌, ◌⊎◌, inl, inr, refl, sym, subst, ◌∙◌, ap}
 use Rattle.std.proofs.lemmas.Result.{err_from_is_err_and}
 use Rattle.mt_pool.proofs.Kept.{no_call}
 use Rattle.mt_disk.specs.Disk.{LeavesOnly}
 use Rattle.mt_pool.specs.Kept.{Explains}
 use Rattle.mt_pool.specs.declared.store.Store.{Store}
 use Rattle.mt_base.specs.declared.modes.Mode.TheVariants.{Read}
+use Rattle.mt_space.specs.Changes.{after}
 use Rattle.mt_steps.specs.Acts.{IfLock, IfMade, IfFull}
-use Rattle.mt_steps.specs.Plans.{AsksCounters, AsksRow, InPages, IsPlanned, IsTight, free_pages, own_needs, record_bytes}
+use Rattle.mt_steps.specs.Plans.{AsksCounters, AsksRow, InPages, IsPlanned, TakesPages, IsTight, free_pages, own_needs, record_bytes}
 use Rattle.mt_steps.specs.declared.act.Act.{Act}
 use Rattle.mt_op.specs.World.{looked}
 use Rattle.mt_op.specs.Operations.{world}
 use Rattle.mt_op.specs.Stepping.{LocksPage, PlansOn}
 use Rattle.mt_op.proofs.Choosing.{cause_memory, locked_some, locked_err, refused_plan, unled_goes, reading_of}
-use Rattle.mt_op.proofs.Work.{led_work, plans_over, claim_free}
+use Rattle.mt_op.proofs.Work.{led_work, led_misled, plans_over, claim_free}
 use Rattle.mt_op.proofs.Known.{one_of, known_within}
 use Rattle.mt_op.proofs.Faulting.{no_fault, no_fault_ok}
 use Rattle.mt_op.proofs.operations.Operations.plan_step.Goals as goal
@@ -59,6 +60,10 @@ pub keep_plan-requires-clause-planned : goal.keep_plan-requires-clause-planned
 keep_plan-requires-clause-planned g c = let s = c.args.scope.now in λ relations counters small within.
     subst (λ (a : Act). IfMade a (λ changes reply. InPages (looked s) s.room relations counters s.seen.total (λ pages. IsPlanned relations counters s.seen.total (looked s) pages changes s.op s.split reply))) c.in-Made.is (c.in_ok-page.ensures.made relations counters small within)
 
+pub keep_plan-requires-clause-takes : goal.keep_plan-requires-clause-takes
+keep_plan-requires-clause-takes g c = let s = c.args.scope.now in λ relations counters small within.
+    subst (λ (a : Act). IfMade a (λ changes reply. InPages (looked s) s.room relations counters s.seen.total (λ pages. TakesPages s.room s.op pages (after changes pages)))) c.in-Made.is (c.in_ok-page.ensures.takes relations counters small within)
+
 pub returns-in-Made : goal.returns-in-Made
 returns-in-Made g c = let d = g.D.Device in let o = c.args.self.now in let s = c.args.scope.now in let f = c.keep_plan.ensures in
     record {
@@ -95,7 +100,12 @@ returns-in-Full g c = let d = g.D.Device in let o = c.args.self.now in let s = c
           (claim_free d.seen d.may_leave opening relations counters o s right k c.requires.claims)
           (subst (λ (a : Act). IfFull a (InPages (looked s) s.room relations counters s.seen.total (λ pages. (free_pages s.seen.total pages < own_needs s.op s.split) ⊎ IsTight s.room pages (record_bytes s.op)))) c.in-Full.is (c.in_ok-page.ensures.full relations counters small k.within)));
       locks = inl refl;
-      scope = tt;
+      scope = inr (inr (
+        refl,
+        ∥∥₁_elim c.requires.right (hlevel props) (λ (opening, relations, counters, right, k, small, some). led_misled relations counters (world d.seen opening o) s c.requires.planning right.sound k
+            (claim_free d.seen d.may_leave opening relations counters o s right k c.requires.claims)
+            (subst (λ (a : Act). IfFull a (InPages (looked s) s.room relations counters s.seen.total (λ pages. (free_pages s.seen.total pages < own_needs s.op s.split) ⊎ IsTight s.room pages (record_bytes s.op)))) c.in-Full.is (c.in_ok-page.ensures.full relations counters small k.within))),
+      ));
       why = tt;
       faults = no_fault_ok _ _ _ refl;
     }

@@ -79,6 +79,7 @@ returns g c = let f = c.in_ok-write.ensures in let seen = g.D.Device.seen in let
         records = let page = view o.store.pool (seen o.store.device) d.page in
             inr (d, due_image o.store.pool d.page page, page, subst (λ (x : PageChange). Contains (changes_in s) x) (sym c.index-change.ensures) (Contains-get_or (changes_in s) s.written d c.requires.more), f.appended);
         locks = refl;
+        room = refl;
         asks = tt;
         err = tt;
         flush = λ is. absurd cc;

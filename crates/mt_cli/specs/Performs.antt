@@ -19,7 +19,7 @@ use Rattle.mt_server.specs.declared.running.RunFault.TheVariants as run
 use Rattle.mt_server.specs.Answers.{AppendsFront}
 use Rattle.mt_cli.specs.CommandLines.{IsCommandOf}
 use Rattle.mt_server.specs.Scripts.{IsScript, IsRefusedFor}
-use Rattle.mt_server.specs.Runs.{HasRun, IsCutRun, line_of}
+use Rattle.mt_server.specs.Runs.{HasRun, IsCutRun, IsEndedFor, line_of}
 
 -- two relations without rows, and one counter from 0 to 10 that starts at 5
 pub record IsFirstBase (base : code.Base) : Type 0 where
@@ -83,10 +83,10 @@ fault_of run.Output = Output
 fault_of (run.Refused why) = Refused why
 
 -- why these lines did not run to their end: nothing is written where no kernel is made, and else the
--- run was cut short
+-- run was cut short, for want of memory, by its device or by the output
 pub data IsCutTrial (lines : List Line) (was now : Option (List ℕ)) : Fault → Type 0 where
   unmade : (why : Refusal) → IsUnmade why → Keeps was now → IsCutTrial lines was now (Refused why)
-  cut : (s z : State) (why : RunFault) (fault : Fault) → IsFirst s → IsCutRun 1 s lines was now z why → fault ≡ fault_of why → IsCutTrial lines was now fault
+  cut : (s z : State) (why : RunFault) (fault : Fault) → IsFirst s → IsCutRun 1 s lines was now z why → IsEndedFor z why → fault ≡ fault_of why → IsCutTrial lines was now fault
 
 -- why a script of these bytes was not run to its end: nothing is written where it is not read
 pub data IsUntried (bytes was now : Option (List ℕ)) : Fault → Type 0 where

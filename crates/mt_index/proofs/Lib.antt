@@ -19,6 +19,7 @@ mod Listing
 mod Marks
 mod Settled
 mod Sounds
+mod Breaking
 mod Made
 pub mod Notes
 pub mod Free

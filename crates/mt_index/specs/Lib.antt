@@ -9,3 +9,4 @@ pub mod Checks
 pub mod Halves
 pub mod Copies
 pub mod Laws
+pub mod Broken

@@ -2,6 +2,7 @@
 ghost use Rattle.std.specs.Prelude.{◌≡◌, ◌≢◌, ◌<◌, ◌≤◌, ◌^◌, ℕ, length, get_or, MatchOption, MatchBool};
 ghost use Rattle.mt_index.specs.Pages.{depth_in, pointer_at};
 ghost use Rattle.mt_index.specs.Checks.{AreWhole, bytes_of, AreKinds, ArePointers, IsMarked, AreMarked, Marks, IsStuck, IsSound, CanFollow, CannotFollow};
+ghost use Rattle.mt_index.specs.Broken.{IsAstray};
 
 use crate::directory::{depth, pointer_of};
 use crate::reading::{is_bucket, page_at};
@@ -18,8 +19,8 @@ pub(crate) fn mark_buckets(pages: &[[u8; 4096]], homes: &mut [u16]) -> Option<Pa
     requires none { (n : ℕ) → get_or homes.old n 0 ≡ 0 }
     ensures size { length homes.new ≡ length homes.old }
     ensures done { MatchOption result (AreMarked (bytes_of pages.now) homes.new (2 ^ depth_in
-        (bytes_of pages.now 1))) (λ p. (relations : ℕ) → IsSound relations (length pages.now) (bytes_of pages.now) →
-        ⊥) }
+        (bytes_of pages.now 1))) (λ p. IsAstray (length pages.now) (bytes_of pages.now) p × ((relations : ℕ) →
+        IsSound relations (length pages.now) (bytes_of pages.now) → ⊥)) }
 {
     let directory = page_at(pages, PageNo::new(DIRECTORY));
     for i in 0..1usize << depth(directory) {

@@ -1,9 +1,10 @@
 // A reading of any pages: whether they are an index.
-ghost use Rattle.std.specs.Prelude.{◌≡◌, ◌+◌, ◌<◌, ◌≤◌, ℕ, [], length, get_or, IfOk, MatchBool, MatchOption};
+ghost use Rattle.std.specs.Prelude.{◌≡◌, ◌+◌, ◌<◌, ◌≤◌, ℕ, [], length, get_or, IfOk, IfSome, MatchBool, MatchOption};
 ghost use Rattle.mt_bucket.specs.Page.{IsBucket};
 ghost use Rattle.mt_space.specs.Kinds.{kind};
 ghost use Rattle.mt_index.specs.Pages.{IsDirectory};
 ghost use Rattle.mt_index.specs.Checks.{AreWhole, bytes_of, IsSound, AreKinds, AreBuckets, ArePointers};
+ghost use Rattle.mt_index.specs.Broken.{IsBroken};
 
 use crate::checking::{are_zero, check_directory};
 use crate::marking::mark_buckets;
@@ -15,7 +16,7 @@ use mt_space::pages::{BUCKET, DIRECTORY, FIXED, MAP};
 use std::alloc::{AllocError, Global};
 
 /// Reads any pages, all of a device of a schema of so many relations: `None` where they are an index, each
-/// byte of the directory and of the bucket pages as it has to be, and else a page at which they are not.
+/// byte of the directory and of the bucket pages as it has to be, and else a page that breaks a rule.
 ///
 /// Each bucket page stands once in one chain; a bucket is named by just the pointers of its pattern, and
 /// holds keys of that pattern; no relation and key is there twice. The only error is want of memory.
@@ -25,8 +26,10 @@ pub fn check(
     relations: u16,
 ) -> Result<Option<PageNo>, AllocError>
     requires whole { AreWhole pages.now }
-    ensures { IfOk result (λ broken. MatchOption broken (IsSound relations (length pages.now) (bytes_of pages.now))
-        (λ p. IsSound relations (length pages.now) (bytes_of pages.now) → ⊥)) }
+    ensures found { IfOk result (λ broken. MatchOption broken (IsSound relations (length pages.now)
+        (bytes_of pages.now)) (λ p. IsSound relations (length pages.now) (bytes_of pages.now) → ⊥)) }
+    ensures named { IfOk result (λ broken. IfSome broken (λ p. IsBroken relations (length pages.now)
+        (bytes_of pages.now) p)) }
 {
     if !are_kinds(pages) {
         return Ok(Some(PageNo::new(MAP)));
@@ -54,8 +57,9 @@ fn first_misplaced(pages: &[[u8; 4096]], homes: &mut [u16], relations: u16) -> O
     requires pointers { ArePointers (bytes_of pages.now) }
     requires size { length homes.old ≡ length pages.now }
     requires none { (n : ℕ) → get_or homes.old n 0 ≡ 0 }
-    ensures { MatchOption result (IsSound relations (length pages.now) (bytes_of pages.now)) (λ p.
+    ensures found { MatchOption result (IsSound relations (length pages.now) (bytes_of pages.now)) (λ p.
         IsSound relations (length pages.now) (bytes_of pages.now) → ⊥) }
+    ensures named { IfSome result (λ p. IsBroken relations (length pages.now) (bytes_of pages.now) p) }
 {
     if let Some(page) = mark_buckets(pages, homes) {
         return Some(page);
@@ -99,7 +103,7 @@ fn first_malformed(pages: &[[u8; 4096]], relations: u16) -> Option<PageNo>
     requires whole { AreWhole pages.now }
     requires kinds { AreKinds (length pages.now) (bytes_of pages.now) }
     ensures { MatchOption result (AreBuckets relations (length pages.now) (bytes_of pages.now)) (λ p.
-        AreBuckets relations (length pages.now) (bytes_of pages.now) → ⊥) }
+        (kind (bytes_of pages.now) p ≡ 2) × (IsBucket relations (length pages.now) (bytes_of pages.now p) → ⊥)) }
 {
     let total = pages.len() as u16;
     for number in 0..total {

@@ -3,3 +3,7 @@ mod PlayLemmas
 mod RunLemmas
 mod ScriptLemmas
 mod TextLemmas
+mod AloneLemmas
+mod CauseLemmas
+mod ForceLemmas
+mod EndLemmas

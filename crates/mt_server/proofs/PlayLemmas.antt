@@ -117,12 +117,12 @@ pub record Waits (b : Base) (book : List Committed) (c : Committing) (m : State)
   pub nobody : m.live ≡ []
   pub where_is : ((m.committing ≡ c ∷ []) × (m.book ≡ book)) ⊎ ((m.committing ≡ []) × (m.book ≡ book ++ committed_of c ∷ []))
 
-drop_none : (k : ℕ) (cs : List Committing) → cs ≡ [] → drop k cs ≡ []
+pub drop_none : (k : ℕ) (cs : List Committing) → cs ≡ [] → drop k cs ≡ []
 drop_none zero [] e = refl
 drop_none (suc k) [] e = refl
 drop_none k (c ∷ cs) e = absurd cc
 
-take_none : (k : ℕ) (cs : List Committing) → cs ≡ [] → take k cs ≡ []
+pub take_none : (k : ℕ) (cs : List Committing) → cs ≡ [] → take k cs ≡ []
 take_none zero [] e = refl
 take_none (suc k) [] e = refl
 take_none k (c ∷ cs) e = absurd cc

@@ -1,5 +1,5 @@
 -- A script run on a kernel, line by line.
-use Rattle.std.specs.Prelude.{ℕ, ◌≡◌, ◌≢◌, ◌+◌, ◌⊎◌, List, [], ◌∷◌, ◌++◌, length, Option, Some, None, Contains}
+use Rattle.std.specs.Prelude.{ℕ, ◌≡◌, ◌≢◌, ◌<◌, ◌≤◌, ◌+◌, ◌⊎◌, true, List, [], ◌∷◌, ◌++◌, length, Option, Some, None, Contains}
 use Rattle.std.specs.Io.KnownBytes.{Appends}
 use Rattle.mt_base.specs.declared.refusal.Refusal.{Refusal}
 use Rattle.mt_base.specs.declared.refusal.Refusal.TheVariants as refusal
@@ -13,6 +13,9 @@ use Rattle.mt_txn.specs.Aborts.{HasBegunAbort, IsAbortStepped}
 use Rattle.mt_txn.specs.declared.answers.KernelForced.{KernelForced}
 use Rattle.mt_txn.specs.declared.answers.KernelForced.TheVariants as forced
 use Rattle.mt_txn.specs.declared.answers.AbortStepped.TheVariants as stepped
+use Rattle.mt_txn.specs.declared.live.Committing.{Committing}
+use Rattle.mt_txn.specs.declared.live.Phase.TheVariants.{Open}
+use Rattle.mt_txn.specs.Party.{Party}
 use Rattle.mt_server.specs.declared.lines.Line.{Line}
 use Rattle.mt_server.specs.declared.lines.Line.TheVariants.{Begin, Call, Commit, Abort}
 use Rattle.mt_server.specs.declared.answers.Answer.{Answer}
@@ -120,6 +123,37 @@ pub record HasRun (session : ℕ) (s : State) (lines : List Line) (was now : Opt
       × Appends was now (transcript_text (answers ++ last))
       × ((b : Base) → IsKept b s → lives s ≡ 0 → IsModelRun session s lines answers z)
 
+-- ---- why a run is given up
+
+-- nobody lives but the transaction that is open, if one is
+abbrev pub IsOnly : List Party → Option ℕ → Type 0
+IsOnly ls None = ls ≡ []
+IsOnly ls (Some t) = (l : Party) × (ls ≡ l ∷ []) × (l.number ≡ t) × (l.phase ≡ Open)
+
+pub record IsAlone (s : State) (live : Option ℕ) : Type 0 where
+  pub committing : s.committing ≡ []
+  pub only : IsOnly s.live live
+
+-- a step is given up for want of memory, or since the device has failed
+abbrev pub IsGivenUpFor : State → Refusal → Type 0
+IsGivenUpFor z why = why ≢ refusal.NoMemory → (why ≡ refusal.DeviceFailed) × (z.failed ≡ true)
+
+-- and a run for the same, or since the writer failed
+abbrev pub IsEndedFor : State → RunFault → Type 0
+IsEndedFor z fault.Output = Unit {0}
+IsEndedFor z (fault.Refused why) = IsGivenUpFor z why
+
+-- so many force steps make the commit of t durable, at most, which is the only one that is begun: four
+-- behind a force that its record is not part of
+pub record IsDue (s : State) (t steps : ℕ) : Type 0 where
+  pub commit : Committing
+  pub only : s.committing ≡ commit ∷ []
+  pub number : commit.number ≡ t
+  pub waits : s.durable < commit.place
+  pub logged : commit.place ≤ length s.appended
+  pub left : ((s.force_left ≡ 0) × (4 ≤ steps)) ⊎ (((0 < s.force_left) × (commit.place ≤ s.batched) × (s.force_left ≤ steps))
+      ⊎ ((0 < s.force_left) × (s.force_left + 4 ≤ steps)))
+
 -- ---- a run that was cut short
 
 -- a transaction that is open is aborted
@@ -167,7 +201,7 @@ IsHalted s (Some t) line z = IsHaltedWithin s t line z
 abbrev pub IsLeft : State → Option ℕ → State → RunFault → Type 0
 IsLeft m live z fault.Output = Leaves m live z
 IsLeft m None z (fault.Refused why) = ⊥
-IsLeft m (Some t) z (fault.Refused why) = IsAbortHalted m t why z
+IsLeft m (Some t) z (fault.Refused why) = IsAbortHalted m t why z × (IsAlone m (Some t) → IsGivenUpFor z why)
 
 -- that the device failed is written, or a beginning of that
 abbrev pub IsFailureTold : Option (List ℕ) → Option (List ℕ) → RunFault → Type 0
@@ -175,13 +209,12 @@ IsFailureTold old new fault.Output = AppendsFront old new (line_of (Refused refu
 IsFailureTold old new (fault.Refused why) = (why ≡ refusal.DeviceFailed) × Appends old new (line_of (Refused refusal.DeviceFailed))
 
 -- nothing is written of another refusal
-abbrev pub IsUntold : Option (List ℕ) → Option (List ℕ) → RunFault → Type 0
-IsUntold old new fault.Output = ⊥
-IsUntold old new (fault.Refused why) = (why ≢ refusal.DeviceFailed) × Appends old new []
+abbrev pub IsUntold : Option (List ℕ) → Option (List ℕ) → Refusal → RunFault → Type 0
+IsUntold old new refused why = (refused ≢ refusal.DeviceFailed) × (why ≡ fault.Refused refused) × Appends old new []
 
--- how a run ends that was given up
-abbrev pub IsStopped : Option (List ℕ) → Option (List ℕ) → RunFault → Type 0
-IsStopped old new why = IsFailureTold old new why ⊎ IsUntold old new why
+-- how a run ends that was given up for this refusal
+abbrev pub IsStopped : Option (List ℕ) → Option (List ℕ) → Refusal → RunFault → Type 0
+IsStopped old new refused why = ((refused ≡ refusal.DeviceFailed) × IsFailureTold old new why) ⊎ IsUntold old new refused why
 
 -- a run ended at a line so: a beginning of the answer was written, or the answer was that the device
 -- failed, or the line was given up
@@ -190,12 +223,14 @@ pub data IsCut (session : ℕ) (s : State) (was : Option ℕ) (line : Line) (old
       → IsCut session s was line old new z why
   failed : (live : Option ℕ) (why : RunFault) → IsAnswered session s was line (Refused refusal.DeviceFailed) z live → IsFailureTold old new why
       → IsCut session s was line old new z why
-  halted : (why : RunFault) → IsHalted s was line z → IsStopped old new why → IsCut session s was line old new z why
+  halted : (refused : Refusal) (why : RunFault) → IsHalted s was line z → (IsAlone s was → IsGivenUpFor z refused) → IsStopped old new refused why
+      → IsCut session s was line old new z why
 
 -- why a run ended while the transaction that was open at the script's end was aborted
 pub data IsCutAtEnd (s : State) (t : ℕ) (old new : Option (List ℕ)) (z : State) : RunFault → Type 0 where
   unheard_end : IsAborted s t z → AppendsFront old new (line_of Aborted) → IsCutAtEnd s t old new z fault.Output
-  halted_end : (refused : Refusal) (why : RunFault) → IsAbortHalted s t refused z → IsStopped old new why → IsCutAtEnd s t old new z why
+  halted_end : (refused : Refusal) (why : RunFault) → IsAbortHalted s t refused z → (IsAlone s (Some t) → IsGivenUpFor z refused) → IsStopped old new refused why
+      → IsCutAtEnd s t old new z why
 
 -- a line's answer was written, and the device had not failed
 pub record IsTold (session : ℕ) (s : State) (was : Option ℕ) (line : Line) (old new : Option (List ℕ)) (z : State) (live : Option ℕ) : Type 0 where

@@ -1,12 +1,13 @@
 // A script, run by itself on a kernel.
-ghost use Rattle.std.specs.Prelude.{◌≡◌, ◌↔◌, IsTrue, IfOk, IfErr, OnOk, OnErr};
+ghost use Rattle.std.specs.Prelude.{◌≡◌, ◌≢◌, ◌≤◌, ◌↔◌, IsTrue, IfOk, IfErr, OnOk, OnErr, None, Some};
 ghost use Rattle.mt_base.specs.declared.refusal.Refusal.{Refusal};
-ghost use Rattle.mt_txn.specs.State.{state_of, HasCalled};
-ghost use Rattle.mt_txn.specs.Ends.{HasEnded, IsStepped};
+ghost use Rattle.mt_txn.specs.State.{state_of, lives, HasCalled};
+ghost use Rattle.mt_txn.specs.Ends.{HasEnded, IsStepped, step_cause};
 ghost use Rattle.mt_txn.specs.Commits.{IsForced};
-ghost use Rattle.mt_txn.specs.Aborts.{IsAbortStepped};
+ghost use Rattle.mt_txn.specs.Aborts.{IsAbortStepped, abort_cause};
+ghost use Rattle.mt_txn.specs.Work.{work_left, LowersWork, LowersAbortWork};
 ghost use Rattle.mt_server.specs.declared.answers.Answer.{Answer};
-ghost use Rattle.mt_server.specs.Runs.{IsCallAnswered, HasMadeDurable, IsCommitAnswered, Undoes, HasUndoneAll, IsAborted, IsAbortAnswered, IsAnsweredOutside, IsAnsweredWithin, IsAnswered, IsForceRefused, IsForceHalted, IsCommitHalted, IsUndoHalted, IsAbortHalted, IsHaltedWithin, IsHalted, IsLeft, IsFailureTold, IsStopped, IsTold, IsEnded, IsCut, IsCutAtEnd, IsCutRun, HasRunLines, HasRun, open_after};
+ghost use Rattle.mt_server.specs.Runs.{IsCallAnswered, HasMadeDurable, IsCommitAnswered, Undoes, HasUndoneAll, IsAborted, IsAbortAnswered, IsAnsweredOutside, IsAnsweredWithin, IsAnswered, IsForceRefused, IsForceHalted, IsCommitHalted, IsUndoHalted, IsAbortHalted, IsHaltedWithin, IsHalted, IsLeft, IsFailureTold, IsStopped, IsTold, IsEnded, IsCut, IsCutAtEnd, IsCutRun, HasRunLines, HasRun, open_after, IsAlone, IsDue, IsGivenUpFor, IsEndedFor};
 
 use crate::answers::{Answer, write_answer};
 use crate::lines::Line;
@@ -21,9 +22,14 @@ use thiserror::Error;
 /// How often a step that found no memory is asked again.
 const ASKED_AGAIN: usize = 8;
 
-/// The most steps that one answer of a script takes: of each of 256 inverses and one end, two for
-/// each page and ten more.
-const MOST_STEPS: usize = (2 * 4000 + 10) * 257;
+/// The most steps of one operation: its work is at most two a page and nine more.
+const OPERATION_STEPS: usize = 2 * 4000 + 10;
+
+/// The most force steps until a commit is durable: of a force that is under way, and of its own.
+const FORCE_STEPS: usize = 8;
+
+/// The most steps of an abort: its work is at most 256, and one step ends it.
+const ABORT_STEPS: usize = 257;
 
 /// Why a script did not run to its end.
 #[derive(Debug, Drop, Error)]
@@ -41,6 +47,9 @@ pub enum RunFault {
 /// A step, asked for again where it finds no memory.
 fn ask_step<D: Device>(kernel: &mut Kernel<D>, txn: TxnNo) -> Result<Stepped, Refusal>
     ensures ended { IfOk result (λ stepped. IsStepped (state_of kernel.old) txn stepped (state_of kernel.new)) }
+    ensures work { IfOk result (λ stepped. LowersWork stepped (work_left (state_of kernel.old) txn)
+        (work_left (state_of kernel.new) txn)) }
+    ensures cause { IfErr result (λ why. why ≢ Refusal.NoMemory → step_cause (state_of kernel.old) txn ≡ Some why) }
     ensures err { OnErr result (state_of kernel.new ≡ state_of kernel.old) }
 {
     for _ in 0..ASKED_AGAIN {
@@ -56,6 +65,7 @@ fn ask_step<D: Device>(kernel: &mut Kernel<D>, txn: TxnNo) -> Result<Stepped, Re
 fn ask_force<D: Device>(kernel: &mut Kernel<D>) -> Result<KernelForced, Refusal>
     ensures forced { IfOk result (λ forced. IsForced (state_of kernel.old) forced (state_of kernel.new)) }
     ensures err { OnErr result (IsForceRefused (state_of kernel.old) (state_of kernel.new)) }
+    ensures cause { IfErr result (IsGivenUpFor (state_of kernel.new)) }
 {
     for _ in 0..ASKED_AGAIN {
         match kernel.force_step() {
@@ -69,6 +79,10 @@ fn ask_force<D: Device>(kernel: &mut Kernel<D>) -> Result<KernelForced, Refusal>
 /// A step of an abort, asked for again where it finds no memory.
 fn ask_abort<D: Device>(kernel: &mut Kernel<D>, txn: TxnNo) -> Result<AbortStepped, Refusal>
     ensures stepped { IfOk result (λ stepped. IsAbortStepped (state_of kernel.old) txn stepped (state_of kernel.new)) }
+    ensures work { IfOk result (λ stepped. LowersAbortWork stepped (work_left (state_of kernel.old) txn)
+        (work_left (state_of kernel.new) txn)) }
+    ensures cause { IfErr result (λ why. why ≢ Refusal.NoMemory → abort_cause (state_of kernel.old) txn ≡ Some why) }
+    ensures may { OnOk result (abort_cause (state_of kernel.old) txn ≡ None) }
     ensures err { OnErr result (state_of kernel.new ≡ state_of kernel.old) }
 {
     for _ in 0..ASKED_AGAIN {
@@ -80,13 +94,15 @@ fn ask_abort<D: Device>(kernel: &mut Kernel<D>, txn: TxnNo) -> Result<AbortStepp
     kernel.abort_step(txn)
 }
 
-/// Takes an operation that was begun to its reply. Refused by `NoMemory` and `DeviceFailed`, and by
-/// `Busy` where a lock was in the way, which in a run alone none is.
+/// Takes an operation that was begun to its reply: each step leaves less of its work. Refused as its
+/// steps are, and by `Busy` where a lock was in the way, which in a run alone none is.
 fn step_to_reply<D: Device>(kernel: &mut Kernel<D>, txn: TxnNo) -> Result<Reply, Refusal>
+    requires work { work_left (state_of kernel.old) txn ≤ 8009 }
     ensures ended { IfOk result (λ reply. HasEnded (state_of kernel.old) txn reply (state_of kernel.new)) }
+    ensures cause { IfErr result (λ why. why ≢ Refusal.NoMemory → step_cause (state_of kernel.old) txn ≡ Some why) }
     ensures err { OnErr result (state_of kernel.new ≡ state_of kernel.old) }
 {
-    for _ in 0..MOST_STEPS {
+    for _step in 0..OPERATION_STEPS {
         match ask_step(kernel, txn)? {
             Stepped::Replied(reply) => return Ok(reply),
             Stepped::Wait(_) => return Err(Refusal::Busy),
@@ -96,13 +112,14 @@ fn step_to_reply<D: Device>(kernel: &mut Kernel<D>, txn: TxnNo) -> Result<Reply,
             }
         }
     }
-    Err(Refusal::Busy)
+    unreachable!()
 }
 
 /// Makes one operation in a transaction.
 fn call<D: Device>(kernel: &mut Kernel<D>, txn: TxnNo, op: &Op) -> Result<Answer, Refusal>
     ensures answered { IfOk result (λ answer. IsCallAnswered (state_of kernel.old) txn op.now answer
         (state_of kernel.new)) }
+    ensures cause { IfErr result (IsGivenUpFor (state_of kernel.new)) }
     ensures err { OnErr result (HasCalled (state_of kernel.old) txn op.now (state_of kernel.new)) }
 {
     let Ok(copy) = op.try_clone() else {
@@ -118,12 +135,13 @@ fn call<D: Device>(kernel: &mut Kernel<D>, txn: TxnNo, op: &Op) -> Result<Answer
     }
 }
 
-/// Makes force steps until a commit is durable.
+/// Makes force steps until a commit is durable. Where it is the only one, each step leaves one less.
 fn force_commit<D: Device>(kernel: &mut Kernel<D>, txn: TxnNo) -> Result<(), Refusal>
     ensures durable { OnOk result (HasMadeDurable (state_of kernel.old) txn (state_of kernel.new)) }
+    ensures cause { IfErr result (λ why. IsDue (state_of kernel.old) txn 8 → IsGivenUpFor (state_of kernel.new) why) }
     ensures err { OnErr result (IsForceHalted (state_of kernel.old) (state_of kernel.new)) }
 {
-    for _ in 0..MOST_STEPS {
+    for _step in 0..FORCE_STEPS {
         match ask_force(kernel)? {
             KernelForced::Durable(named) => {
                 if named.contains(&txn) {
@@ -140,6 +158,8 @@ fn force_commit<D: Device>(kernel: &mut Kernel<D>, txn: TxnNo) -> Result<(), Ref
 /// Commits a transaction.
 fn commit<D: Device>(kernel: &mut Kernel<D>, txn: TxnNo) -> Result<Answer, Refusal>
     ensures answered { IfOk result (λ answer. IsCommitAnswered (state_of kernel.old) txn answer (state_of kernel.new)) }
+    ensures cause { IfErr result (λ why. IsAlone (state_of kernel.old) (Some txn) → IsGivenUpFor
+        (state_of kernel.new) why) }
     ensures err { OnErr result (IsCommitHalted (state_of kernel.old) txn (state_of kernel.new)) }
 {
     match kernel.commit_begin(txn) {
@@ -151,12 +171,14 @@ fn commit<D: Device>(kernel: &mut Kernel<D>, txn: TxnNo) -> Result<Answer, Refus
     }
 }
 
-/// Takes an abort that was begun to its end.
+/// Takes an abort that was begun to its end: each step leaves less of its work. Refused as its steps are.
 fn undo<D: Device>(kernel: &mut Kernel<D>, txn: TxnNo) -> Result<(), Refusal>
+    requires work { work_left (state_of kernel.old) txn ≤ 256 }
     ensures undone { OnOk result (HasUndoneAll (state_of kernel.old) txn (state_of kernel.new)) }
+    ensures cause { IfErr result (λ why. why ≢ Refusal.NoMemory → abort_cause (state_of kernel.old) txn ≡ Some why) }
     ensures err { OnErr result (Undoes txn (state_of kernel.old) (state_of kernel.new)) }
 {
-    for _ in 0..MOST_STEPS {
+    for _step in 0..ABORT_STEPS {
         match ask_abort(kernel, txn)? {
             AbortStepped::Ended => return Ok(()),
             AbortStepped::More => {}
@@ -165,12 +187,13 @@ fn undo<D: Device>(kernel: &mut Kernel<D>, txn: TxnNo) -> Result<(), Refusal>
             }
         }
     }
-    Err(Refusal::Busy)
+    unreachable!()
 }
 
 /// Aborts a transaction, where a line asks for it.
 fn abort<D: Device>(kernel: &mut Kernel<D>, txn: TxnNo) -> Result<Answer, Refusal>
     ensures answered { IfOk result (λ answer. IsAbortAnswered (state_of kernel.old) txn answer (state_of kernel.new)) }
+    ensures cause { IfErr result (IsGivenUpFor (state_of kernel.new)) }
     ensures err { OnErr result (IsUndoHalted (state_of kernel.old) txn (state_of kernel.new)) }
 {
     match kernel.abort_begin(txn) {
@@ -185,6 +208,8 @@ fn abort<D: Device>(kernel: &mut Kernel<D>, txn: TxnNo) -> Result<Answer, Refusa
 /// Aborts the transaction that is open, where the run ends.
 fn end_open<D: Device>(kernel: &mut Kernel<D>, txn: TxnNo) -> Result<(), Refusal>
     ensures aborted { OnOk result (IsAborted (state_of kernel.old) txn (state_of kernel.new)) }
+    ensures cause { IfErr result (λ why. IsAlone (state_of kernel.old) (Some txn) → IsGivenUpFor
+        (state_of kernel.new) why) }
     ensures err { IfErr result (λ why. IsAbortHalted (state_of kernel.old) txn why (state_of kernel.new)) }
 {
     kernel.abort_begin(txn)?;
@@ -216,6 +241,8 @@ fn answer_within<D: Device>(
 ) -> Result<Answer, Refusal>
     ensures answered { IfOk result (λ answer. IsAnsweredWithin (state_of kernel.old) txn line.now answer
         (state_of kernel.new)) }
+    ensures cause { IfErr result (λ why. IsAlone (state_of kernel.old) (Some txn) → IsGivenUpFor
+        (state_of kernel.new) why) }
     ensures err { OnErr result (IsHaltedWithin (state_of kernel.old) txn line.now (state_of kernel.new)) }
 {
     match line {
@@ -245,6 +272,7 @@ fn answer<D: Device>(
 ) -> Result<(Answer, Option<TxnNo>), Refusal>
     ensures answered { IfOk result (λ told. IsAnswered session (state_of kernel.old) live line.now told.0
         (state_of kernel.new) told.1) }
+    ensures cause { IfErr result (λ why. IsAlone (state_of kernel.old) live → IsGivenUpFor (state_of kernel.new) why) }
     ensures err { OnErr result (IsHalted (state_of kernel.old) live line.now (state_of kernel.new)) }
 {
     match live {
@@ -282,7 +310,7 @@ fn end_failed<W: Write>(writer: &mut W) -> RunFault
 
 /// Answers how the run ends after a step that was refused. That the device failed is written.
 fn end_refused<W: Write>(writer: &mut W, refusal: Refusal) -> RunFault
-    ensures { IsStopped (W.contents writer.old) (W.contents writer.new) result }
+    ensures { IsStopped (W.contents writer.old) (W.contents writer.new) refusal result }
 {
     match refusal {
         Refusal::DeviceFailed => end_failed(writer),
@@ -368,7 +396,7 @@ fn run_lines<D: Device, W: Write>(
 ///
 /// A step that finds no memory is asked again, up to eight times. After `Output` a beginning of the
 /// transcript is written and the transaction that lived is aborted; after refusal 1 it stands as it
-/// was; refusal 2 is the last line.
+/// was; refusal 2 is the last line, and the device has failed. There is no other refusal.
 pub fn run_alone<D: Device, W: Write>(
     kernel: &mut Kernel<D>,
     session: u32,
@@ -379,6 +407,7 @@ pub fn run_alone<D: Device, W: Write>(
         (W.contents writer.new) (state_of kernel.new)) }
     ensures cut { IfErr result (IsCutRun session (state_of kernel.old) script.now.lines.items (W.contents writer.old)
         (W.contents writer.new) (state_of kernel.new)) }
+    ensures why { IfErr result (λ fault. lives (state_of kernel.old) ≡ 0 → IsEndedFor (state_of kernel.new) fault) }
 {
     match run_lines(kernel, session, script.lines(), writer)? {
         Some(txn) => end_live(kernel, txn, writer),

@@ -1,0 +1,4 @@
+mod Calls
+mod Counters
+mod Formed
+mod Zeros

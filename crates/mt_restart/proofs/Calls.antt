@@ -1,6 +1,6 @@
 -- What device calls leave.
 use Rattle.std.proofs.Common.{ℕ, ◌+◌, ◌≤◌, List, Result, Ok, Err, OnOk}
-use Rattle.mt_disk.proofs.Frame.{torn_within, torn_trans, follows_trans}
+use Rattle.mt_disk.proofs.Frame.{torn_refl, torn_within, torn_trans, follows_trans}
 use Rattle.mt_restart.specs.Formats.{Tears}
 
 -- what holds in any case
@@ -14,6 +14,10 @@ on_ok (Ok x) f a = f a
 on_ok (Err e) f a = tt
 
 module _ {D : Type 0} (seen : D → List ℕ) (may : D → List ℕ → Type 0) where
+  -- no call
+  pub tears_none : (at n : ℕ) (d : D) → Tears seen may at n d d
+  tears_none at n d = record { now = torn_refl at n (seen d); later = λ c left. (c, left, torn_refl at n c) }
+
   -- one behind the other
   pub tears_both : (at n : ℕ) (old mid new : D) → Tears seen may at n old mid → Tears seen may at n mid new → Tears seen may at n old new
   tears_both at n old mid new first second = record {

@@ -128,10 +128,10 @@ module _ (s : Schema) (c : List ℕ) (has : HasFirstPages s c) where
         rules = (tt, tt);
       }
 
-  pub formatted_as : Has c 0 (slot_text (first_slot s)) → get_or c 4096 0 ≡ 0 → Has c (pages_end s) empty_area → IsFormattedAs s c
+  pub formatted_as : Has c 0 (slot_text (first_slot s)) → (get_or c 4096 0 ≢ 165) → Has c (pages_end s) empty_area → IsFormattedAs s c
   formatted_as master shut area = record {
     master = master;
-    other = λ gate. omega arith;
+    other = shut;
     area = area_held area;
     pages = formatted;
     base = holds;

@@ -1,4 +1,5 @@
 mod Calls
 mod Counters
 mod Formed
+mod Shut
 mod Zeros

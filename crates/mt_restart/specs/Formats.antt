@@ -1,5 +1,5 @@
 -- A device as it is formatted.
-use Rattle.std.specs.Prelude.{◌≡◌, ◌≢◌, ◌<◌, ◌≤◌, ℕ, List, [], ◌∷◌, length}
+use Rattle.std.specs.Prelude.{◌≡◌, ◌≢◌, ◌⊎◌, ◌<◌, ◌≤◌, ℕ, List, [], ◌∷◌, length, drop}
 use Rattle.std.proofs.Math.ListN.{get_or}
 use Rattle.mt_bucket.specs.Page.{depth_of, next_of, entries, IsBucket}
 use Rattle.mt_disk.specs.Disk.{Has, Torn, Follows}
@@ -82,3 +82,33 @@ pub record IsFormattedAs (s : Schema) (c : List ℕ) : Type 0 where
 pub record Tears {D : Type 0} (seen : D → List ℕ) (may_leave : D → List ℕ → Type 0) (at n : ℕ) (old new : D) : Type 0 where
   pub now : Torn at n (seen old) (seen new)
   pub later : Follows (Torn at n) (may_leave old) (may_leave new)
+
+-- only the gates of the master slots may be others
+pub record GatesTorn (old new : List ℕ) : Type 0 where
+  pub size : length new ≡ length old
+  pub rest : (i : ℕ) → i ≢ 0 → i ≢ 4096 → get_or new i 0 ≡ get_or old i 0
+
+-- one of these contents, but for the gates of the master slots
+abbrev pub ButForGates : (List ℕ → Type 0) → List ℕ → Type 0
+ButForGates contents c = (d : List ℕ) × contents d × GatesTorn d c
+
+-- no master slot is open
+pub record IsShut (c : List ℕ) : Type 0 where
+  pub first : get_or c 0 0 ≢ 165
+  pub second : get_or c 4096 0 ≢ 165
+
+-- all is there but the open gate
+pub record IsReady (s : Schema) (c : List ℕ) : Type 0 where
+  pub shut : IsShut c
+  pub slot : Has c 1 (drop 1 (slot_text (first_slot s)))
+  pub pages : HasFirstPages s c
+  pub area : Has c (pages_end s) empty_area
+
+-- formatted, or not to be read at all
+abbrev pub IsFormattedOrShut : Schema → List ℕ → Type 0
+IsFormattedOrShut s c = IsShut c ⊎ IsFormattedAs s c
+
+-- What a crash leaves of a device while it is formatted: one of these contents, but for the gates of the master slots; then no
+-- open master slot; at last the schema's format.
+abbrev pub FormatBegins : Schema → (List ℕ → Type 0) → List ℕ → Type 0
+FormatBegins s contents c = ButForGates contents c ⊎ IsFormattedOrShut s c

@@ -1,26 +1,45 @@
-use Rattle.std.proofs.Common.{◌∙◌, inl, inr, arith}
-use Rattle.mt_disk.specs.Disk.{Has}
-use Rattle.mt_disk.proofs.Frame.{has_torn, get_torn}
-use Rattle.mt_frame.specs.SlotText.{slot_text}
-use Rattle.mt_restart.proofs.Calls.{on_ok}
-use Rattle.mt_restart.proofs.Formed.{pages_kept, formatted_as}
-use Rattle.mt_restart.specs.Formats.{first_slot, empty_area}
+use Rattle.std.proofs.Common.{inl, inr, arith}
+use Rattle.mt_disk.proofs.Frame.{has_torn, runs_both, leaves_more}
+use Rattle.mt_restart.proofs.Formed.{pages_kept}
+use Rattle.mt_restart.proofs.Shut.{shut_follows}
+use Rattle.mt_restart.specs.Formats.{IsReady, FormatBegins, empty_area}
 use Rattle.mt_restart.specs.Schemas.{pages_end}
 use Rattle.mt_restart.proofs.formatting.write_all.Goals as goal
 
-pub returns-clause-formatted : goal.returns-clause-formatted
-returns-clause-formatted g c =
+-- all is there but the open gate
+ready : (g : _) (c : goal.After-open_gate g) → IsReady c.args.schema.now (g.D.Device.seen c.write_slot.new.device)
+ready g c =
     let seen = g.D.Device.seen in
+    let may = g.D.Device.may_leave in
     let s = c.args.schema.now in
-    let first = seen c.close_slots.new.device in
-    let mid = seen c.write_content.new.device in
-    let last = seen c.open_slot.new.device in
+    let first = c.close_slots.new.device in
+    let mid = c.write_content.new.device in
+    let last = c.write_slot.new.device in
+    let torn = c.write_slot.ensures.tears in
     let content = c.in_ok-write_content.ensures in
-    let torn = c.open_slot.ensures.tears.now in
-    on_ok c.open_slot.result
-    (λ (slot : Has last 0 (slot_text (first_slot s))). formatted_as s last
-    (pages_kept s 0 17 mid last torn (inr (omega arith)) content.pages)
-    slot
-    (get_torn 0 17 4096 mid last torn (inr (omega arith)) ∙ get_torn 8192 _ 4096 first mid c.write_content.ensures.tears.now (inl (omega arith)) ∙ c.in_ok-close_slots.ensures.closed)
-    (has_torn 0 17 (pages_end s) empty_area mid last content.area torn (inr (omega arith))))
-    c.open_slot.ensures.slot
+    record {
+      shut = shut_follows 1 16 (may mid) (may last) (omega arith) (inl (omega arith)) torn.later (shut_follows 8192 _ (may first) (may mid) (omega arith) (inr (omega arith)) c.write_content.ensures.tears.later c.in_ok-close_slots.ensures.shut) (seen last) (g.met.D.Device.present last);
+      slot = c.in_ok-write_slot.ensures.slot;
+      pages = pages_kept s 1 16 (seen mid) (seen last) torn.now (inr (omega arith)) content.pages;
+      area = has_torn 1 16 (pages_end s) empty_area (seen mid) (seen last) content.area torn.now (inr (omega arith));
+    }
+
+pub returns-clause-formatted : goal.returns-clause-formatted
+returns-clause-formatted g c = c.open_gate.ensures.formatted c.args.schema.now (ready g c)
+
+pub returns-clause-moments : goal.returns-clause-moments
+returns-clause-moments g c =
+    let m = g.D.Device.moment in
+    let l = g.D.Device.left_since in
+    let s = c.args.schema.now in
+    let old = c.args.device.now in
+    let first = c.close_slots.new.device in
+    let mid = c.write_content.new.device in
+    let last = c.write_slot.new.device in
+    let new = c.open_gate.new.device in
+    let P = FormatBegins s (g.D.Device.may_leave old) in
+    runs_both m l old last new P
+    (runs_both m l old mid last P
+    (runs_both m l old first mid P (leaves_more m l old first _ P c.close_slots.ensures.moments (λ k torn. inl torn)) (leaves_more m l first mid _ P c.write_content.ensures.moments (λ k shut. inr (inl shut))))
+    (leaves_more m l mid last _ P c.write_slot.ensures.moments (λ k shut. inr (inl shut))))
+    (leaves_more m l last new _ P (c.open_gate.ensures.moments s (ready g c)) (λ k now. inr now))

@@ -16,7 +16,7 @@ use Rattle.mt_steps.specs.Held.{Holds}
 use Rattle.mt_steps.proofs.Formatting.{formatted_holds}
 use Rattle.mt_restart.specs.declared.schema.Schema.{Schema}
 use Rattle.mt_restart.specs.Formats.{IsFirstMap, IsFirstPage, HasFirstPages, IsFormattedAs, empty_area, first_slot}
-use Rattle.mt_restart.specs.Schemas.{pages_in, relations_in, counters_in, first_base, pages_end, area_end}
+use Rattle.mt_restart.specs.Schemas.{pages_in, relations_in, counters_in, first_base, pages_end, area_end, device_bytes}
 
 -- ---- pages in their slots
 
@@ -128,8 +128,9 @@ module _ (s : Schema) (c : List ℕ) (has : HasFirstPages s c) where
         rules = (tt, tt);
       }
 
-  pub formatted_as : Has c 0 (slot_text (first_slot s)) → (get_or c 4096 0 ≢ 165) → Has c (pages_end s) empty_area → IsFormattedAs s c
-  formatted_as master shut area = record {
+  pub formatted_as : device_bytes s ≤ length c → Has c 0 (slot_text (first_slot s)) → (get_or c 4096 0 ≢ 165) → Has c (pages_end s) empty_area → IsFormattedAs s c
+  formatted_as long master shut area = record {
+    long = long;
     master = master;
     other = shut;
     area = area_held area;

@@ -51,7 +51,7 @@ pub opened : (s : Schema) (old new : List ℕ) → IsReady s old → Torn 0 1 ol
 opened s old new ready t is =
     let behind : Has new 1 (drop 1 (slot_text (first_slot s))) = has_torn 0 1 1 (drop 1 (slot_text (first_slot s))) old new ready.slot t (inr (omega arith)) in
     let within = behind.within in
-    formatted_as s new (pages_kept s 0 1 old new t (inr (omega arith)) ready.pages)
+    formatted_as s new (pages_kept s 0 1 old new t (inr (omega arith)) ready.pages) (let long = ready.long in let size = t.size in omega (arith, long, size))
     (has_append new 0 (165 ∷ []) (drop 1 (slot_text (first_slot s))) (has_one new 0 165 (omega arith) is) behind)
     (λ gate. ready.shut.second (sym (get_torn 0 1 4096 old new t (inr (omega arith))) ∙ gate))
     (has_torn 0 1 (pages_end s) empty_area old new ready.area t (inr (omega arith)))

@@ -13,7 +13,7 @@ use Rattle.mt_steps.specs.Counters.{AreCounters, count_in}
 use Rattle.mt_steps.specs.Formatted.{IsFormatted}
 use Rattle.mt_steps.specs.Held.{Holds}
 use Rattle.mt_restart.specs.declared.schema.Schema.{Schema}
-use Rattle.mt_restart.specs.Schemas.{pages_in, mib_in, relations_in, counters_in, first_base, pages_end, area_end}
+use Rattle.mt_restart.specs.Schemas.{pages_in, mib_in, relations_in, counters_in, first_base, pages_end, area_end, device_bytes}
 
 -- ---- its pages
 
@@ -69,6 +69,7 @@ empty_area = 165 ∷ 0 ∷ 0 ∷ 0 ∷ 0 ∷ 0 ∷ []
 -- The content of a device of this schema: master slot 0 rules, as the other one's gate is closed; log area 0 has nothing but its
 -- empty first batch; and the pages, of which those behind the first four are zero, hold the schema's first base.
 pub record IsFormattedAs (s : Schema) (c : List ℕ) : Type 0 where
+  pub long : device_bytes s ≤ length c
   pub master : Has c 0 (slot_text (first_slot s))
   pub other : get_or c 4096 0 ≢ 165
   pub area : HoldsBatches c (pages_end s) (area_end s) (pages_in s) ([] ∷ [])
@@ -99,6 +100,7 @@ pub record IsShut (c : List ℕ) : Type 0 where
 
 -- all is there but the open gate
 pub record IsReady (s : Schema) (c : List ℕ) : Type 0 where
+  pub long : device_bytes s ≤ length c
   pub shut : IsShut c
   pub slot : Has c 1 (drop 1 (slot_text (first_slot s)))
   pub pages : HasFirstPages s c

@@ -17,7 +17,11 @@ ready g c =
     let last = c.write_slot.new.device in
     let torn = c.write_slot.ensures.tears in
     let content = c.in_ok-write_content.ensures in
+    let size = torn.now.size in
+    let size2 = c.write_content.ensures.tears.now.size in
+    let size3 = c.close_slots.ensures.tears.now.size in
     record {
+      long = let long = c.requires in omega (arith, long, size, size2, size3);
       shut = shut_follows 1 16 (may mid) (may last) (omega arith) (inl (omega arith)) torn.later (shut_follows 8192 _ (may first) (may mid) (omega arith) (inr (omega arith)) c.write_content.ensures.tears.later c.in_ok-close_slots.ensures.shut) (seen last) (g.met.D.Device.present last);
       slot = c.in_ok-write_slot.ensures.slot;
       pages = pages_kept s 1 16 (seen mid) (seen last) torn.now (inr (omega arith)) content.pages;

@@ -1,3 +1,4 @@
+mod Begun
 mod Calls
 mod Counters
 mod Formed

@@ -7,6 +7,7 @@
 
 mod first_pages;
 mod formatting;
+mod opening;
 mod schema;
 
 pub use formatting::format;

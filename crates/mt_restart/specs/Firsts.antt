@@ -1,9 +1,11 @@
 -- What is begun over a device that is formatted.
 use Rattle.std.specs.Prelude.{◌≡◌, ◌≤◌, ◌+◌, ◌*◌, ℕ, List, [], ◌∷◌, length}
+use Rattle.mt_escrow.specs.Seen.{Escrowed}
 use Rattle.mt_log.specs.Sound.{IsSound}
 use Rattle.mt_log.specs.Words.{appended, durable, in_flight, waiting, used, area_size, area_start, stands_at}
 use Rattle.mt_log.specs.declared.log.Log.{Log}
 use Rattle.mt_log.specs.declared.stage.Stage.TheVariants.{Idle}
+use Rattle.mt_model.specs.Model.{IsBase}
 use Rattle.mt_op.specs.Begun.{ShowsOpening}
 use Rattle.mt_op.specs.Operations.{IsRight, claimed}
 use Rattle.mt_op.specs.declared.operations.Operations.{Operations}
@@ -12,7 +14,8 @@ use Rattle.mt_pool.specs.Kept.{IsKept}
 use Rattle.mt_pool.specs.Views.{IsPool, Shows, view, waits_for, pages, frames}
 use Rattle.mt_pool.specs.declared.pool.Pool.{Pool}
 use Rattle.mt_pool.specs.declared.store.Store.{Store}
-use Rattle.mt_restart.specs.Schemas.{pages_in, mib_in, relations_in, counters_in, pages_end, area_end}
+use Rattle.mt_restart.specs.Formats.{IsFormattedAs}
+use Rattle.mt_restart.specs.Schemas.{pages_in, mib_in, relations_in, counters_in, first_base, pages_end, area_end}
 use Rattle.mt_restart.specs.declared.schema.Schema.{Schema}
 
 -- its first area, with nothing but the empty first batch
@@ -55,3 +58,12 @@ pub record AreFirst {D : Type 0} (seen : D → List ℕ) (may_leave : D → List
   pub empty : appended o.store.log ≡ []
   pub head : used o.store.log ≡ 5
   pub size : area_size o.store.log ≡ mib_in s * 1048576
+
+-- Operations over a device that was formatted, and an escrow of the schema's counters: they begin on pages that hold its first base.
+pub record AreFresh {D : Type 0} (seen : D → List ℕ) (may_leave : D → List ℕ → Type 0) (s : Schema) (o : Operations D) (e : Escrowed) : Type 0 where
+  pub device : D
+  pub formatted : IsFormattedAs s (seen device)
+  pub operations : AreFirst seen may_leave s device o
+  pub bounds : IsBase (first_base s)
+  pub committed : e.committed ≡ counters_in s
+  pub pending : e.pending ≡ []

@@ -1,14 +1,16 @@
 // What is begun over a device that is formatted.
-ghost use Rattle.std.specs.Prelude.{◌≡◌, ◌⊎◌, ◌<◌, IfOk, IfErr};
+ghost use Rattle.std.specs.Prelude.{◌≡◌, ◌⊎◌, ◌<◌, length, IfOk, IfErr};
 ghost use Rattle.mt_base.specs.declared.refusal.Refusal.{Refusal};
 ghost use Rattle.mt_disk.specs.Disk.{Only};
-ghost use Rattle.mt_restart.specs.Firsts.{IsFirstLog, IsFirstPool, IsFirstStore, AreFirst};
+ghost use Rattle.mt_restart.specs.Firsts.{IsFirstLog, IsFirstPool, IsFirstStore, AreFirst, AreFresh};
 ghost use Rattle.mt_restart.specs.Formats.{IsFormattedAs};
+ghost use Rattle.mt_restart.specs.Schemas.{device_bytes};
 
-use crate::Schema;
+use crate::{Schema, format};
 use mt_base::limits::MASTER_BYTES;
 use mt_base::{LogPos, Refusal};
 use mt_disk::Device;
+use mt_escrow::Escrow;
 use mt_log::{AreaPlace, Log};
 use mt_op::{NotOpened, Operations};
 use mt_pool::{NotBegun, Pool, Store};
@@ -72,5 +74,35 @@ pub(crate) fn first_operations<D: Device + Drop>(
             refusal,
             device: store.device,
         }),
+    }
+}
+
+// Formats a device, and begins operations over it and an escrow of the schema's counters. What takes memory and can be made
+// before the device is written is made before. Each refusal hands the device back.
+pub(crate) fn fresh_parts<D: Device + Drop>(
+    alloc: Global,
+    device: D,
+    schema: &Schema,
+    frames: usize,
+) -> Result<(Operations<D>, Escrow), NotBegun<D>>
+    requires frames { 0 < frames }
+    ensures fresh { IfOk result (λ parts. AreFresh D.seen D.may_leave schema.now parts.0 parts.1) }
+    ensures cause { IfErr result (λ gone. (gone.refusal ≡ Refusal.NoMemory)
+        ⊎ ((gone.refusal ≡ Refusal.BadLength) × (length (D.seen device) < device_bytes schema.now)
+        ⊎ (gone.refusal ≡ Refusal.DeviceFailed) × (D.faults device < D.faults gone.device))) }
+{
+    let mut device = device;
+    schema.base.keeps_bounds();
+    let escrow = match Escrow::new(alloc, schema.counters()) {
+        Ok(escrow) => escrow,
+        Err(refusal) => return Err(NotBegun { refusal, device }),
+    };
+    match format(&mut device, schema) {
+        Ok(()) => {}
+        Err(refusal) => return Err(NotBegun { refusal, device }),
+    }
+    match first_operations(alloc, device, schema, frames) {
+        Ok(operations) => Ok((operations, escrow)),
+        Err(gone) => Err(gone),
     }
 }

@@ -10,4 +10,6 @@ mod common;
 #[cfg(test)]
 mod op;
 #[cfg(test)]
+mod restart;
+#[cfg(test)]
 mod txn;

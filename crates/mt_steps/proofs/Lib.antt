@@ -1,7 +1,7 @@
 mod Rows
 mod Apart
 mod Acting
-mod Numbers
+pub mod Numbers
 pub mod Drafting
 mod Entering
 mod Leaving

@@ -1,0 +1,6 @@
+mod Begun
+mod Calls
+mod Counters
+mod Formed
+mod Shut
+mod Zeros

@@ -1,0 +1,69 @@
+-- What is begun over a device that is formatted.
+use Rattle.std.specs.Prelude.{◌≡◌, ◌≤◌, ◌+◌, ◌*◌, ℕ, List, [], ◌∷◌, length}
+use Rattle.mt_escrow.specs.Seen.{Escrowed}
+use Rattle.mt_log.specs.Sound.{IsSound}
+use Rattle.mt_log.specs.Words.{appended, durable, in_flight, waiting, used, area_size, area_start, stands_at}
+use Rattle.mt_log.specs.declared.log.Log.{Log}
+use Rattle.mt_log.specs.declared.stage.Stage.TheVariants.{Idle}
+use Rattle.mt_model.specs.Model.{IsBase}
+use Rattle.mt_op.specs.Begun.{ShowsOpening}
+use Rattle.mt_op.specs.Operations.{IsRight, claimed}
+use Rattle.mt_op.specs.declared.operations.Operations.{Operations}
+use Rattle.mt_pool.specs.Images.{slot}
+use Rattle.mt_pool.specs.Kept.{IsKept}
+use Rattle.mt_pool.specs.Views.{IsPool, Shows, view, waits_for, pages, frames}
+use Rattle.mt_pool.specs.declared.pool.Pool.{Pool}
+use Rattle.mt_pool.specs.declared.store.Store.{Store}
+use Rattle.mt_restart.specs.Formats.{IsFormattedAs}
+use Rattle.mt_restart.specs.Schemas.{pages_in, mib_in, relations_in, counters_in, first_base, pages_end, area_end}
+use Rattle.mt_restart.specs.declared.schema.Schema.{Schema}
+
+-- its first area, with nothing but the empty first batch
+pub record IsFirstLog (s : Schema) (log : Log) : Type 0 where
+  pub stands : stands_at log ≡ (pages_end s, area_end s, pages_end s + 5, [] ∷ [], [], Idle)
+  pub start : area_start log ≡ pages_end s
+  pub size : area_size log ≡ mib_in s * 1048576
+  pub none : durable log ≡ []
+  pub flying : in_flight log ≡ []
+  pub waits : waiting log ≡ []
+  pub head : used log ≡ 5
+  pub sound : IsSound (pages_in s) log
+
+-- each page in its slot, and none in a frame
+pub record IsFirstPool (s : Schema) (frame_count : ℕ) (pool : Pool) : Type 0 where
+  pub sound : IsPool pool
+  pub shows : (c : List ℕ) → pages_end s ≤ length c → Shows pool c
+  pub views : (c : List ℕ) (q : ℕ) → view pool c q ≡ slot 8192 c q
+  pub waits : (q : ℕ) → waits_for pool q ≡ 0
+  pub place : pool.place ≡ 8192
+  pub page_count : pages pool ≡ pages_in s
+  pub many : frames pool ≡ frame_count
+
+-- a store over the device, with both
+pub record IsFirstStore {D : Type 0} (seen : D → List ℕ) (may_leave : D → List ℕ → Type 0) (s : Schema) (frame_count : ℕ) (device : D) (store : Store D) : Type 0 where
+  pub same : store.device ≡ device
+  pub kept : IsKept seen may_leave (slot 8192 (seen device)) store
+  pub shows : ShowsOpening seen (slot 8192 (seen device)) store
+  pub empty : appended store.log ≡ []
+  pub head : used store.log ≡ 5
+  pub size : area_size store.log ≡ mib_in s * 1048576
+  pub page_count : pages store.pool ≡ pages_in s
+  pub many : frames store.pool ≡ frame_count
+
+-- operations over it, of which none is under way
+pub record AreFirst {D : Type 0} (seen : D → List ℕ) (may_leave : D → List ℕ → Type 0) (s : Schema) (device : D) (o : Operations D) : Type 0 where
+  pub right : IsRight seen may_leave (slot 8192 (seen device)) (relations_in s) (length (counters_in s)) o
+  pub locks : o.locks ≡ []
+  pub unclaimed : claimed o ≡ 0
+  pub empty : appended o.store.log ≡ []
+  pub head : used o.store.log ≡ 5
+  pub size : area_size o.store.log ≡ mib_in s * 1048576
+
+-- Operations over a device that was formatted, and an escrow of the schema's counters: they begin on pages that hold its first base.
+pub record AreFresh {D : Type 0} (seen : D → List ℕ) (may_leave : D → List ℕ → Type 0) (s : Schema) (o : Operations D) (e : Escrowed) : Type 0 where
+  pub device : D
+  pub formatted : IsFormattedAs s (seen device)
+  pub operations : AreFirst seen may_leave s device o
+  pub bounds : IsBase (first_base s)
+  pub committed : e.committed ≡ counters_in s
+  pub pending : e.pending ≡ []

@@ -1,0 +1,116 @@
+-- A device as it is formatted.
+use Rattle.std.specs.Prelude.{◌≡◌, ◌≢◌, ◌⊎◌, ◌<◌, ◌≤◌, ℕ, List, [], ◌∷◌, length, drop}
+use Rattle.std.proofs.Math.ListN.{get_or}
+use Rattle.mt_bucket.specs.Page.{depth_of, next_of, entries, IsBucket}
+use Rattle.mt_disk.specs.Disk.{Has, Torn, Follows}
+use Rattle.mt_frame.specs.declared.slots.MasterSlot.{MasterSlot}
+use Rattle.mt_frame.specs.SlotText.{slot_text}
+use Rattle.mt_index.specs.Pages.{AreZero, IsDirectory, depth_in, pointer_at}
+use Rattle.mt_log.specs.Holds.{HoldsBatches}
+use Rattle.mt_model.specs.Tables.{count_at}
+use Rattle.mt_pool.specs.Images.{slot}
+use Rattle.mt_steps.specs.Counters.{AreCounters, count_in}
+use Rattle.mt_steps.specs.Formatted.{IsFormatted}
+use Rattle.mt_steps.specs.Held.{Holds}
+use Rattle.mt_restart.specs.declared.schema.Schema.{Schema}
+use Rattle.mt_restart.specs.Schemas.{pages_in, mib_in, relations_in, counters_in, first_base, pages_end, area_end, device_bytes}
+
+-- ---- its pages
+
+-- pages 0 to 2 are fixed, page 3 is a bucket, and the others are free
+pub record IsFirstMap (map : List ℕ) : Type 0 where
+  pub size : length map ≡ 4096
+  pub space : get_or map 0 0 ≡ 1
+  pub directory : get_or map 1 0 ≡ 1
+  pub counters : get_or map 2 0 ≡ 1
+  pub bucket : get_or map 3 0 ≡ 2
+  pub free : AreZero map 4 4096
+
+-- its one pointer is to page 3
+pub record IsFirstDirectory (page : List ℕ) : Type 0 where
+  pub formed : IsDirectory page
+  pub no_bits : depth_in page ≡ 0
+  pub pointer : pointer_at page 0 ≡ 3
+
+-- the counters of the schema, each at its start
+pub record IsFirstCounters (s : Schema) (page : List ℕ) : Type 0 where
+  pub formed : AreCounters (relations_in s) (length (counters_in s)) page
+  pub starts : (c : ℕ) → c < length (counters_in s) → count_in page c ≡ count_at (counters_in s) c
+
+-- no entry, and no page behind it
+pub record IsFirstBucket (s : Schema) (page : List ℕ) : Type 0 where
+  pub formed : IsBucket (relations_in s) (pages_in s) page
+  pub depth : depth_of page ≡ 0
+  pub next : next_of page ≡ 0
+  pub none : entries page ≡ []
+
+-- each of the first four pages, and a page behind them
+pub record IsFirstPage (s : Schema) (p : ℕ) (page : List ℕ) : Type 0 where
+  pub map : p ≡ 0 → IsFirstMap page
+  pub directory : p ≡ 1 → IsFirstDirectory page
+  pub counters : p ≡ 2 → IsFirstCounters s page
+  pub bucket : p ≡ 3 → IsFirstBucket s page
+  pub zeros : 4 ≤ p → AreZero page 0 4096
+
+-- the pages of the device are, as its slots have them
+abbrev pub HasFirstPages : Schema → List ℕ → Type 0
+HasFirstPages s c = (p : ℕ) → p < pages_in s → IsFirstPage s p (slot 8192 c p)
+
+-- ---- the whole of it
+
+-- the first opening, whose log is in area 0
+abbrev pub first_slot : Schema → MasterSlot
+first_slot s = record { epoch = 1; area = 0; pages = pages_in s; mib = mib_in s }
+
+-- an empty open batch and a closed gate
+abbrev pub empty_area : List ℕ
+empty_area = 165 ∷ 0 ∷ 0 ∷ 0 ∷ 0 ∷ 0 ∷ []
+
+-- The content of a device of this schema: master slot 0 rules, as the other one's gate is closed; log area 0 has nothing but its
+-- empty first batch; and the pages, of which those behind the first four are zero, hold the schema's first base.
+pub record IsFormattedAs (s : Schema) (c : List ℕ) : Type 0 where
+  pub long : device_bytes s ≤ length c
+  pub master : Has c 0 (slot_text (first_slot s))
+  pub other : get_or c 4096 0 ≢ 165
+  pub area : HoldsBatches c (pages_end s) (area_end s) (pages_in s) ([] ∷ [])
+  pub pages : IsFormatted (relations_in s) (length (counters_in s)) (pages_in s) (slot 8192 c)
+  pub base : Holds (slot 8192 c) (first_base s)
+  pub zeros : (p : ℕ) → 4 ≤ p → p < pages_in s → AreZero (slot 8192 c p) 0 4096
+
+-- ---- how it comes to be
+
+-- the n bytes from `at` on may have become any bytes, and so in whatever a crash leaves
+pub record Tears {D : Type 0} (seen : D → List ℕ) (may_leave : D → List ℕ → Type 0) (at n : ℕ) (old new : D) : Type 0 where
+  pub now : Torn at n (seen old) (seen new)
+  pub later : Follows (Torn at n) (may_leave old) (may_leave new)
+
+-- only the gates of the master slots may be others
+pub record GatesTorn (old new : List ℕ) : Type 0 where
+  pub size : length new ≡ length old
+  pub rest : (i : ℕ) → i ≢ 0 → i ≢ 4096 → get_or new i 0 ≡ get_or old i 0
+
+-- one of these contents, but for the gates of the master slots
+abbrev pub ButForGates : (List ℕ → Type 0) → List ℕ → Type 0
+ButForGates contents c = (d : List ℕ) × contents d × GatesTorn d c
+
+-- no master slot is open
+pub record IsShut (c : List ℕ) : Type 0 where
+  pub first : get_or c 0 0 ≢ 165
+  pub second : get_or c 4096 0 ≢ 165
+
+-- all is there but the open gate
+pub record IsReady (s : Schema) (c : List ℕ) : Type 0 where
+  pub long : device_bytes s ≤ length c
+  pub shut : IsShut c
+  pub slot : Has c 1 (drop 1 (slot_text (first_slot s)))
+  pub pages : HasFirstPages s c
+  pub area : Has c (pages_end s) empty_area
+
+-- formatted, or not to be read at all
+abbrev pub IsFormattedOrShut : Schema → List ℕ → Type 0
+IsFormattedOrShut s c = IsShut c ⊎ IsFormattedAs s c
+
+-- What a crash leaves of a device while it is formatted: one of these contents, but for the gates of the master slots; then no
+-- open master slot; at last the schema's format.
+abbrev pub FormatBegins : Schema → (List ℕ → Type 0) → List ℕ → Type 0
+FormatBegins s contents c = ButForGates contents c ⊎ IsFormattedOrShut s c

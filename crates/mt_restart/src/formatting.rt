@@ -1,0 +1,153 @@
+// The formatting of a device, in the order of its calls.
+ghost use Rattle.std.specs.Prelude.{◌≡◌, ◌⊎◌, ◌+◌, ◌*◌, ◌<◌, ◌≤◌, ℕ, List, length, drop, Err, IfErr, OnOk};
+ghost use Rattle.mt_base.specs.declared.refusal.Refusal.{Refusal};
+ghost use Rattle.mt_disk.specs.Disk.{Has, Only, Torn, Follows, LeavesOnly, HasCause};
+ghost use Rattle.mt_frame.specs.SlotText.{slot_text};
+ghost use Rattle.mt_restart.specs.Formats.{HasFirstPages, IsFormattedAs, IsFormattedOrShut, IsReady, IsShut, ButForGates, FormatBegins, Tears, empty_area, first_slot};
+ghost use Rattle.mt_restart.specs.Schemas.{pages_in, pages_end, device_bytes};
+ghost use Rattle.mt_restart.specs.declared.schema.Schema.{Schema};
+
+use crate::Schema;
+use crate::first_pages::page_of;
+use mt_base::Refusal;
+use mt_base::limits::MASTER_BYTES;
+use mt_disk::{Device, DeviceFault};
+use mt_frame::{CLOSED_GATE, MasterSlot, OPEN_GATE, encode_slot};
+use mt_log::AreaPlace;
+
+// Where the two master slots lie.
+const FIRST_SLOT: u64 = 0;
+
+const SECOND_SLOT: u64 = 4096;
+
+// The first opening of a device.
+const FIRST_EPOCH: u64 = 1;
+
+// Closes the gates of both master slots for good: two writes and a sync.
+fn close_slots<D: Device>(device: &mut D) -> Result<(), DeviceFault>
+    requires { 8192 ≤ length (D.seen device.old) }
+    ensures shut { OnOk result ((c : List ℕ) → D.may_leave device.new c → IsShut c) }
+    ensures moments { LeavesOnly D.moment D.left_since device.old device.new (ButForGates (D.may_leave device.old)) }
+    ensures tears { Tears D.seen D.may_leave 0 8192 device.old device.new }
+    ensures cause { HasCause (D.faults device.old) (D.faults device.new) result }
+{
+    device.write_at(FIRST_SLOT, &[CLOSED_GATE])?;
+    device.write_at(SECOND_SLOT, &[CLOSED_GATE])?;
+    device.sync()
+}
+
+// Writes every page into its slot: a write for each.
+fn write_pages<D: Device>(device: &mut D, schema: &Schema) -> Result<(), DeviceFault>
+    requires long { pages_end schema.now ≤ length (D.seen device.old) }
+    requires shut { (c : List ℕ) → D.may_leave device.old c → IsShut c }
+    ensures pages { OnOk result (HasFirstPages schema.now (D.seen device.new)) }
+    ensures moments { LeavesOnly D.moment D.left_since device.old device.new IsShut }
+    ensures tears { Tears D.seen D.may_leave 8192 (4096 * pages_in schema.now) device.old device.new }
+    ensures cause { HasCause (D.faults device.old) (D.faults device.new) result }
+{
+    for number in 0..schema.pages {
+        let page = page_of(schema, number);
+        device.write_at(MASTER_BYTES + 4096 * u64::from(number), &page)?;
+    }
+    Ok(())
+}
+
+// Makes the pages and an empty first log area durable: a write for each page, one for the area, and a sync.
+fn write_content<D: Device>(device: &mut D, schema: &Schema) -> Result<(), DeviceFault>
+    requires long { device_bytes schema.now ≤ length (D.seen device.old) }
+    requires shut { (c : List ℕ) → D.may_leave device.old c → IsShut c }
+    ensures pages { OnOk result (HasFirstPages schema.now (D.seen device.new)) }
+    ensures area { OnOk result (Has (D.seen device.new) (pages_end schema.now) empty_area) }
+    ensures moments { LeavesOnly D.moment D.left_since device.old device.new IsShut }
+    ensures tears { Tears D.seen D.may_leave 8192 (4096 * pages_in schema.now + 6) device.old device.new }
+    ensures cause { HasCause (D.faults device.old) (D.faults device.new) result }
+{
+    write_pages(device, schema)?;
+    let area = AreaPlace::of(schema.pages, schema.area_mib, false);
+    device.write_at(area.start, &[OPEN_GATE, 0, 0, 0, 0, CLOSED_GATE])?;
+    device.sync()
+}
+
+// Makes what stands behind the first master slot's gate durable: a write and a sync.
+fn write_slot<D: Device>(device: &mut D, schema: &Schema) -> Result<(), DeviceFault>
+    requires long { 8192 ≤ length (D.seen device.old) }
+    requires shut { (c : List ℕ) → D.may_leave device.old c → IsShut c }
+    ensures slot { OnOk result (Has (D.seen device.new) 1 (drop 1 (slot_text (first_slot schema.now)))) }
+    ensures durable { OnOk result (Only (D.seen device.new) (D.may_leave device.new)) }
+    ensures moments { LeavesOnly D.moment D.left_since device.old device.new IsShut }
+    ensures tears { Tears D.seen D.may_leave 1 16 device.old device.new }
+    ensures cause { HasCause (D.faults device.old) (D.faults device.new) result }
+{
+    let slot = encode_slot(&MasterSlot {
+        epoch: FIRST_EPOCH,
+        area: 0,
+        pages: schema.pages,
+        mib: schema.area_mib,
+    });
+    device.write_at(FIRST_SLOT + 1, &slot[1..])?;
+    device.sync()
+}
+
+// Opens the first master slot's gate: a write and a sync.
+fn open_gate<D: Device>(device: &mut D) -> Result<(), DeviceFault>
+    requires long { 8192 ≤ length (D.seen device.old) }
+    requires durable { Only (D.seen device.old) (D.may_leave device.old) }
+    ensures formatted { (s : Schema) → IsReady s (D.seen device.old)
+        → OnOk result (IsFormattedAs s (D.seen device.new)) }
+    ensures durable { OnOk result (Only (D.seen device.new) (D.may_leave device.new)) }
+    ensures moments { (s : Schema) → IsReady s (D.seen device.old)
+        → LeavesOnly D.moment D.left_since device.old device.new (IsFormattedOrShut s) }
+    ensures tears { Tears D.seen D.may_leave 0 1 device.old device.new }
+    ensures cause { HasCause (D.faults device.old) (D.faults device.new) result }
+{
+    device.write_at(FIRST_SLOT, &[OPEN_GATE])?;
+    device.sync()
+}
+
+// Formats a device that is long enough.
+fn write_all<D: Device>(device: &mut D, schema: &Schema) -> Result<(), DeviceFault>
+    requires { device_bytes schema.now ≤ length (D.seen device.old) }
+    ensures formatted { OnOk result (IsFormattedAs schema.now (D.seen device.new)) }
+    ensures durable { OnOk result (Only (D.seen device.new) (D.may_leave device.new)) }
+    ensures moments { LeavesOnly D.moment D.left_since device.old device.new
+        (FormatBegins schema.now (D.may_leave device.old)) }
+    ensures tears { Tears D.seen D.may_leave 0 (device_bytes schema.now) device.old device.new }
+    ensures cause { HasCause (D.faults device.old) (D.faults device.new) result }
+{
+    close_slots(device)?;
+    write_content(device, schema)?;
+    write_slot(device, schema)?;
+    open_gate(device)
+}
+
+/// Formats a device with a schema, whatever it held: closes the gates of both master slots, and syncs; writes every
+/// page and an empty first log area, and syncs; writes the first master slot behind its gate, and syncs; opens
+/// the gate, and syncs. It takes no memory.
+///
+/// Then the device holds the schema's first base, whatever a crash leaves. A crash in this call leaves what it might
+/// have left before, but for the gates of the master slots; or no open master slot; or the schema's format.
+///
+/// A device that is shorter than the schema needs is refused with [`Refusal::BadLength`], before any call of it. The
+/// only other refusal is [`Refusal::DeviceFailed`], where the device failed in this call. Of a longer device the
+/// bytes behind those that the schema needs are as before in any case.
+pub fn format<D: Device>(device: &mut D, schema: &Schema) -> Result<(), Refusal>
+    ensures formatted { OnOk result (IsFormattedAs schema.now (D.seen device.new)) }
+    ensures durable { OnOk result (Only (D.seen device.new) (D.may_leave device.new)) }
+    // Whenever a crash comes in this call.
+    ensures moments { LeavesOnly D.moment D.left_since device.old device.new
+        (FormatBegins schema.now (D.may_leave device.old)) }
+    ensures quiet { OnOk result (D.faults device.new ≡ D.faults device.old) }
+    ensures short { length (D.seen device.old) < device_bytes schema.now
+        → (result ≡ Err Refusal.BadLength) × (device.new ≡ device.old) }
+    ensures cause { IfErr result (λ why.
+        (why ≡ Refusal.BadLength) × (length (D.seen device.old) < device_bytes schema.now)
+        ⊎ (why ≡ Refusal.DeviceFailed) × (D.faults device.old < D.faults device.new)) }
+    ensures rest { Torn 0 (device_bytes schema.now) (D.seen device.old) (D.seen device.new) }
+    ensures elsewhere { Follows (Torn 0 (device_bytes schema.now)) (D.may_leave device.old) (D.may_leave device.new) }
+{
+    if device.len() < schema.device_len() {
+        return Err(Refusal::BadLength);
+    }
+    write_all(device, schema)?;
+    Ok(())
+}

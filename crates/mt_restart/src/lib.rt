@@ -1,0 +1,14 @@
+//! How a device comes to be one of this program's: what it is formatted with, and its format. Nothing of a log is read
+//! here, and no transaction lives.
+//!
+//! A [`Schema`] says how many pages, relations and counters there are, and how large a log area is. After
+//! [`format`] the device's pages hold a base without rows whose counters are at their starts.
+#![tactic(auto)]
+
+mod first_pages;
+mod formatting;
+mod opening;
+mod schema;
+
+pub use formatting::format;
+pub use schema::Schema;

@@ -336,8 +336,9 @@ impl<D: Device> Operations<D> {
         Ok(())
     }
 
-    // Spends an operation without a trace in locks, since all goes with it.
-    fn give_up(&mut self, scope: OpScope)
+    /// Gives an operation up, for who lets all operations go, as [`Operations::into_device`] does: nothing of it is taken
+    /// back, and no other operation can be stepped then. Pages and log stay as they are. It takes no memory.
+    pub fn give_up(&mut self, scope: OpScope)
         ensures store { self.new.store ≡ self.old.store }
     {
         let OpScope {

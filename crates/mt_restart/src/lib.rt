@@ -1,5 +1,5 @@
-//! How a device comes to be one of this program's: what it is formatted with, and its format. Nothing of a log is read
-//! here, and no transaction lives.
+//! How a device comes to be one of this program's: what it is formatted with, its format, and the kernel over it. Nothing
+//! of a log is read here.
 //!
 //! A [`Schema`] says how many pages, relations and counters there are, and how large a log area is. After
 //! [`format`] the device's pages hold a base without rows whose counters are at their starts.
@@ -7,8 +7,10 @@
 
 mod first_pages;
 mod formatting;
+mod fresh;
 mod opening;
 mod schema;
 
 pub use formatting::format;
+pub use fresh::fresh;
 pub use schema::Schema;

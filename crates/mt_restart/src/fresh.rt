@@ -1,0 +1,42 @@
+// A kernel over a device that is formatted for it.
+ghost use Rattle.std.specs.Prelude.{◌≡◌, ◌⊎◌, ◌<◌, length, IfOk, IfErr};
+ghost use Rattle.mt_base.specs.declared.refusal.Refusal.{Refusal};
+ghost use Rattle.mt_live.specs.Machine.{start};
+ghost use Rattle.mt_paged.specs.Shown.{Shows};
+ghost use Rattle.mt_restart.specs.Schemas.{device_bytes, first_base};
+
+use crate::Schema;
+use crate::opening::fresh_parts;
+use mt_base::Refusal;
+use mt_disk::Device;
+use mt_paged::Kernel;
+use std::alloc::Global;
+
+/// Formats a device by the schema, and gives a kernel over it that keeps so many pages in frames: no transaction lives,
+/// the book is empty, and the pages hold no row and each counter at its start.
+///
+/// Refused, in this order, with the device: 1 for want of memory, 5 where the device is shorter than
+/// [`Schema::device_len`], 2 where it failed. After 5 nothing is written; after 1 or 2 it may be formatted or not.
+pub fn fresh<D: Device + Drop>(
+    alloc: Global,
+    device: D,
+    schema: &Schema,
+    frames: usize,
+) -> Result<Kernel<D>, (Refusal, D)>
+    requires frames { 0 < frames }
+    ensures shows { IfOk result (Shows D.seen D.may_leave (first_base schema.now) (start (first_base schema.now))) }
+    ensures cause { IfErr result (λ gone. (gone.0 ≡ Refusal.NoMemory)
+        ⊎ ((gone.0 ≡ Refusal.BadLength) × (length (D.seen device) < device_bytes schema.now)
+        ⊎ (gone.0 ≡ Refusal.DeviceFailed) × (D.faults device < D.faults gone.1))) }
+{
+    match fresh_parts(alloc, device, schema, frames) {
+        Ok((operations, escrow)) => Ok(Kernel::assemble(
+            alloc,
+            operations,
+            escrow,
+            schema.relations(),
+            schema.counters().len() as u16,
+        )),
+        Err(gone) => Err((gone.refusal, gone.device)),
+    }
+}

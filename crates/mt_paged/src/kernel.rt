@@ -3,7 +3,7 @@ ghost use Rattle.std.specs.Prelude.{◌≡◌};
 ghost use Rattle.mt_live.specs.Machine.{start};
 ghost use Rattle.mt_model.specs.Model.{Base};
 ghost use Rattle.mt_kernel.specs.Consistent.{IsFresh};
-ghost use Rattle.mt_paged.specs.Well.{IsWell, Opens, ShowsIn};
+ghost use Rattle.mt_paged.specs.Well.{IsWell, Opens};
 
 use mt_disk::Device;
 use mt_escrow::Escrow;
@@ -28,6 +28,8 @@ pub struct Kernel<D: Device> {
 }
 
 impl<D: Device> Kernel<D> {
+    ghost use Rattle.mt_paged.specs.Shown.{Shows};
+
     /// A kernel without transactions over operations of a log area without records, whose pages hold a base, which is
     /// the first of its history; the escrow has that base's counters. It takes no memory.
     pub fn assemble(
@@ -40,7 +42,7 @@ impl<D: Device> Kernel<D> {
         requires fresh { IsFresh operations escrow }
         requires opens { ∥ ((first : Base) × Opens D.seen D.may_leave operations escrow relations counters first) ∥₁ }
         ensures shows { (first : Base) → Opens D.seen D.may_leave operations escrow relations counters first
-            → ShowsIn D.seen D.may_leave relations counters first (start first) result.parts }
+            → Shows D.seen D.may_leave first (start first) result }
     {
         Kernel {
             parts: Parts::new(alloc, operations, escrow),

@@ -4,3 +4,4 @@ mod Counters
 mod Formed
 mod Shut
 mod Zeros
+pub mod Assembled

@@ -5,12 +5,12 @@
 //! [`format`] the device's pages hold a base without rows whose counters are at their starts.
 #![tactic(auto)]
 
+mod assembling;
 mod first_pages;
 mod formatting;
-mod fresh;
 mod opening;
 mod schema;
 
+pub use assembling::fresh;
 pub use formatting::format;
-pub use fresh::fresh;
 pub use schema::Schema;

@@ -1,5 +1,5 @@
 -- What asking for a page lock does to an operation.
-use Rattle.std.specs.Prelude.{◌≡◌, ◌⊎◌, ◌<◌, ◌≤◌, ◌++◌, ◌∷◌, [], ℕ, List, Option, None, Some, IsSome, Result, Ok, Err, Contains, true, false}
+use Rattle.std.specs.Prelude.{◌≡◌, ◌⊎◌, ◌<◌, ◌≤◌, ◌++◌, ◌∷◌, [], ℕ, List, Option, None, Some, IsSome, Result, Ok, Err, Contains, true, false, get_or}
 use Rattle.mt_base.specs.declared.modes.Mode.{Mode}
 use Rattle.mt_base.specs.declared.modes.Mode.TheVariants.{Read, Write}
 use Rattle.mt_base.specs.declared.refusal.Refusal.{Refusal}
@@ -72,16 +72,17 @@ pub record IsMade (s t : OpScope) : Type 0 where
 abbrev pub IsAsked : OpScope → ℕ → Mode → Type 0
 IsAsked s p mode = AsksCounters s.op p mode × AsksRow (looked s) s.seen.total s.op p mode
 
--- It puts a record, and its plan asks for the space map: a page of records is tried first, to write it.
-abbrev pub IsTried : OpScope → Mode → Type 0
-IsTried s mode = ((first : Mode) × IsAsked s 0 first) × (mode ≡ Write) × (only_reads s.op ≡ false)
+-- It puts a record, and its plan asks for the space map: a page of records that is noted to take it is tried first, to
+-- write it.
+abbrev pub IsTried : List ℕ → OpScope → ℕ → Mode → Type 0
+IsTried noted s p mode = ((first : Mode) × IsAsked s 0 first) × (mode ≡ Write) × (only_reads s.op ≡ false) × (record_bytes s.op ≤ get_or noted p 0)
 
 -- a page that it has not looked at, and that its plan asks for, or one that is tried first; where it only reads, to read it
-pub record IsToLook (s : OpScope) (p : ℕ) (mode : Mode) : Type 0 where
+pub record IsToLook (noted : List ℕ) (s : OpScope) (p : ℕ) (mode : Mode) : Type 0 where
   pub new : looked s p ≡ None
   pub inside : p < s.seen.total
   pub reads : only_reads s.op ≡ true → mode ≡ Read
-  pub asked : IsAsked s p mode ⊎ IsTried s mode
+  pub asked : IsAsked s p mode ⊎ IsTried noted s p mode
 
 -- a page that it has looked at and not locked to write, and that its plan changes: to write it
 pub record IsToWrite (s : OpScope) (p : ℕ) (mode : Mode) : Type 0 where
@@ -94,8 +95,8 @@ pub record IsToWrite (s : OpScope) (p : ℕ) (mode : Mode) : Type 0 where
   pub reads : only_reads s.op ≡ true → changes ≡ []
   pub touched : IsUntouched changes p → ⊥
 
-abbrev pub IsNext : OpScope → ℕ → Mode → Type 0
-IsNext s p mode = IsToLook s p mode ⊎ IsToWrite s p mode
+abbrev pub IsNext : List ℕ → OpScope → ℕ → Mode → Type 0
+IsNext noted s p mode = IsToLook noted s p mode ⊎ IsToWrite s p mode
 
 -- The smallest operation with a lock in its way is larger than it, and so is every other such.
 abbrev pub IsAwaited : List PageLock → PageLock → ℕ → Type 0

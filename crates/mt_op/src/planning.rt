@@ -45,8 +45,8 @@ impl<D: Device> Operations<D> {
     ///
     /// A lock is asked for on a page that the plan asks for and that was not looked at, by an operation that only reads
     /// to read it. A row's operation looks for its key first: in the directory, to read it, and in the key's chain. Where
-    /// the plan asks for the space map, a page with room for the record may be tried first, to write it. Or a lock is
-    /// asked for, to write it, on a page that the plan changes.
+    /// the plan asks for the space map, a page that is noted to take the record may be tried first, to write it. Or a lock
+    /// is asked for, to write it, on a page that the plan changes.
     ///
     /// A record goes into the page of records that was tried first and takes it, or into a free page where none was. A
     /// free page is taken only for such a record, or for its entry where the key's bucket is full; and only a page of
@@ -78,7 +78,7 @@ impl<D: Device> Operations<D> {
         ensures stage { ComesTo scope.new.stage result }
         ensures work { Works scope.old scope.new result }
         ensures records { KeepsRecords scope.new (appended self.old.store.log) (appended self.new.store.log) result }
-        ensures locks { KeepsLocks scope.old.number (IsNext scope.old) self.old.locks self.new.locks result }
+        ensures locks { KeepsLocks scope.old.number (IsNext self.old.rooms.0 scope.old) self.old.locks self.new.locks result }
         ensures scope { KeepsScope scope.old scope.new result }
         ensures writing { scope.old.stage ≡ Writing → self.new.locks ≡ self.old.locks }
         // Where the plan is made, a page more is written then.
@@ -146,7 +146,7 @@ impl<D: Device> Operations<D> {
     ) -> Result<Stepped, Refusal>
         requires right { IsOneOf D.seen D.may_leave self.old scope.old }
         requires planning { scope.old.stage ≡ Planning }
-        requires next { IsToLook scope.old page mode }
+        requires next { IsToLook self.old.rooms.0 scope.old page mode }
         requires asked { IsAsked scope.old page mode }
         ensures { LocksPage D.seen D.may_leave D.moment D.left_since D.faults self.old self.new scope.old scope.new
             result }
@@ -218,7 +218,7 @@ impl<D: Device> Operations<D> {
         ensures never { result ≡ Ok (Some stepped.Flush) → ⊥ }
         ensures stage { (result ≡ Ok None → ⊥) → scope.new.stage ≡ Planning }
         ensures work { WorksOn scope.old scope.new result }
-        ensures locks { KeepsLocksOn scope.old.number (IsNext scope.old) self.old.locks self.new.locks result }
+        ensures locks { KeepsLocksOn scope.old.number (IsNext self.old.rooms.0 scope.old) self.old.locks self.new.locks result }
         ensures scope { KeepsScopeOn scope.old scope.new result }
         ensures only_memory { IfErr result (λ why. why ≡ Refusal.NoMemory) }
     {

@@ -112,25 +112,25 @@ returns-in_err-other-clause-locks g c = let opening : PageBytes = λ p. [] in
     let seen = g.D.Device.seen in let s = c.args.scope.now in
     let p = err_from_is_err_and c.from_residual-in_err-other.result c.from_residual-in_err-other.ensures.1 in
     let h = subst (IsHeld (world seen opening c.args.self.now) (world seen opening c.hold.new.self) (record s { seen = c.reserve.new.self }) c.hold.new.scope c.args.page c.args.mode) c.in_err-other.was (c.hold.ensures.held opening) in
-    err_keeps s.number (IsNext s) c.args.self.now.locks c.hold.new.self.locks c.from_residual-in_err-other.result p.0 p.1 h.0.locks
+    err_keeps s.number (IsNext c.args.self.now.rooms.0 s) c.args.self.now.locks c.hold.new.self.locks c.from_residual-in_err-other.result p.0 p.1 h.0.locks
 
 pub returns-in_err-reserve-clause-locks : goal.returns-in_err-reserve-clause-locks
 returns-in_err-reserve-clause-locks g c =
     let p = err_from_is_err_and c.from_residual.result c.from_residual.ensures.1 in
-    err_keeps c.args.scope.now.number (IsNext c.args.scope.now) c.args.self.now.locks c.args.self.now.locks c.from_residual.result p.0 p.1 refl
+    err_keeps c.args.scope.now.number (IsNext c.args.self.now.rooms.0 c.args.scope.now) c.args.self.now.locks c.args.self.now.locks c.from_residual.result p.0 p.1 refl
 
 pub returns-in_default-clause-locks : goal.returns-in_default-clause-locks
 returns-in_default-clause-locks g c = let opening : PageBytes = λ p. [] in
     let seen = g.D.Device.seen in let s = c.args.scope.now in let m = record s { seen = c.reserve.new.self } in
     let w = world seen opening c.args.self.now in let z = world seen opening c.hold.new.self in
-    held_keeps (IsNext s) w z m c.hold.new.scope c.args.page c.args.mode (Ok c.in_ok-other.other) (inl c.requires.next) (subst (IsHeld w z m c.hold.new.scope c.args.page c.args.mode) c.in_ok-other.was (c.hold.ensures.held opening))
+    held_keeps (IsNext c.args.self.now.rooms.0 s) w z m c.hold.new.scope c.args.page c.args.mode (Ok c.in_ok-other.other) (inl c.requires.next) (subst (IsHeld w z m c.hold.new.scope c.args.page c.args.mode) c.in_ok-other.was (c.hold.ensures.held opening))
 
 pub returns-in-Went-clause-locks : goal.returns-in-Went-clause-locks
 returns-in-Went-clause-locks g c = let opening : PageBytes = λ p. [] in
     let seen = g.D.Device.seen in let s = c.args.scope.now in let m = record s { seen = c.reserve.new.self } in
     let w = world seen opening c.args.self.now in let z = world seen opening c.hold.new.self in
     let went : c.hold.result ≡ Ok stepped.Went = c.in_ok-other.was ∙ ap Ok c.in-Went.is in
-    held_keeps (IsNext s) w z m c.hold.new.scope c.args.page c.args.mode (Ok stepped.Went) (inl c.requires.next) (subst (IsHeld w z m c.hold.new.scope c.args.page c.args.mode) went (c.hold.ensures.held opening))
+    held_keeps (IsNext c.args.self.now.rooms.0 s) w z m c.hold.new.scope c.args.page c.args.mode (Ok stepped.Went) (inl c.requires.next) (subst (IsHeld w z m c.hold.new.scope c.args.page c.args.mode) went (c.hold.ensures.held opening))
 
 pub returns-in-Went-clause-scope : goal.returns-in-Went-clause-scope
 returns-in-Went-clause-scope g c = room_kept c.args.scope.now (record c.hold.new.scope { room = c.args.room; seen = c.put.new.self }) c.args.room c.args.page c.args.mode _ refl c.requires.led c.requires.unled c.requires.next.new

@@ -1,7 +1,8 @@
 -- Which way an add goes, and that the map is what it is to be.
-use Rattle.std.proofs.Common.{◌≡◌, ◌≢◌, ℕ, ◌<◌, ⊎_elim, Bool, true, false, List, [], ◌∷◌, length, Option, Some, None, Result, Ok, Err, IfOk, refl, ap, sym, ◌∙◌, arith}
+use Rattle.std.proofs.Common.{◌≡◌, ◌≢◌, ℕ, ◌<◌, ⊎_elim, Bool, true, false, List, [], ◌∷◌, length, Option, Some, None, Result, Ok, Err, IfOk, refl, ap, sym, ◌∙◌, arith, ◌⊎◌, inl, inr}
 use Rattle.std.proofs.lemmas.Bool.{cases_eq}
 use Rattle.std.specs.declared.alloc.AllocError.{AllocError}
+use Rattle.mt_base.specs.declared.modes.Mode.{Mode}
 use Rattle.mt_bucket.specs.Entries.{Entry}
 use Rattle.mt_bucket.specs.Hash.{hash}
 use Rattle.mt_bucket.specs.Page.{depth_of}
@@ -12,7 +13,7 @@ use Rattle.mt_index.specs.Index.{Node, named}
 use Rattle.mt_index.specs.Steps.{Walk}
 use Rattle.mt_index.specs.Rule.{MaySplit}
 use Rattle.mt_index.specs.Pages.{node_of, state_of, AreMap}
-use Rattle.mt_index.specs.Answers.{InMaps, IsEnd, Added, Adds, TakesSeen, IsPlanned, IfAdded}
+use Rattle.mt_index.specs.Answers.{InMaps, Asks, IsEnd, IsInAdd, IsDueInAdd, Added, Adds, TakesSeen, IsPlanned, AddNeeds, IfAdded}
 use Rattle.mt_index.specs.declared.answers.Add.{Add}
 use Rattle.mt_index.specs.declared.answers.Add.TheVariants as add
 use Rattle.mt_index.proofs.Keeping.{add_kept}
@@ -86,3 +87,26 @@ planned_seen at_hand total split e (Ok (add.Need q mode)) p = tt
 planned_seen at_hand total split e (Ok add.Full) p = tt
 planned_seen at_hand total split e (Ok add.Endless) p = tt
 planned_seen at_hand total split e (Err w) p = tt
+
+-- the page that is needed, and that it is due
+pub planned_due : (at_hand : ℕ → Option (List ℕ)) (total : ℕ) (split : Bool) (e : Entry) (r : Result Add AllocError) → IfOk r (IsPlanned at_hand total split e)
+    → IfOk r (λ x. AddNeeds x (Asks at_hand total (IsDueInAdd split e.key total)))
+planned_due at_hand total split e (Ok (add.Changes changes)) p = tt
+planned_due at_hand total split e (Ok (add.Need q mode)) p = p
+planned_due at_hand total split e (Ok add.Full) p = tt
+planned_due at_hand total split e (Ok add.Endless) p = tt
+planned_due at_hand total split e (Err w) p = tt
+
+due_in_add : (split : Bool) (key : List ℕ) (total : ℕ) (pages : PageBytes) (p : ℕ) (mode : Mode) → IsDueInAdd split key total pages p mode → IsInAdd split key total pages p mode
+due_in_add split key total pages p mode (inl bucket) = inl bucket
+due_in_add split key total pages p mode (inr (none, writes, inl map)) = inr (inl map, writes)
+due_in_add split key total pages p mode (inr (none, writes, inr (inl d))) = inr (inr (inl (d.0, d.1)), writes)
+due_in_add split key total pages p mode (inr (none, writes, inr (inr takes))) = inr (inr (inr (takes.free, takes.within)), writes)
+
+pub planned_need : (at_hand : ℕ → Option (List ℕ)) (total : ℕ) (split : Bool) (e : Entry) (r : Result Add AllocError) → IfOk r (IsPlanned at_hand total split e)
+    → IfOk r (λ x. AddNeeds x (Asks at_hand total (IsInAdd split e.key total)))
+planned_need at_hand total split e (Ok (add.Changes changes)) p = tt
+planned_need at_hand total split e (Ok (add.Need q mode)) p = record { missing = p.missing; role = λ pages agree m a. due_in_add split e.key total pages q mode (p.role pages agree m a) }
+planned_need at_hand total split e (Ok add.Full) p = tt
+planned_need at_hand total split e (Ok add.Endless) p = tt
+planned_need at_hand total split e (Err w) p = tt

@@ -12,7 +12,7 @@ use Rattle.mt_index.specs.declared.answers.Amend.{Amend}
 use Rattle.mt_index.specs.declared.answers.Amend.TheVariants as amend
 use Rattle.mt_index.specs.Index.{kept_low, kept_high}
 use Rattle.mt_index.specs.Steps.{OnChain}
-use Rattle.mt_index.specs.Rule.{IsFull, MaySplit, Way}
+use Rattle.mt_index.specs.Rule.{IsFull, MaySplit, IsSmallest, Way}
 use Rattle.mt_space.specs.Changes.{PageBytes, Agrees, after, AreShort}
 use Rattle.mt_space.specs.Kinds.{kind}
 use Rattle.mt_index.specs.Pages.{state_of, AreMap, Passed, AreFormed}
@@ -199,12 +199,29 @@ IsInAdd split key total pages p mode =
     IsInBucket key Write pages p mode
     ⊎ (((p ≡ 0) ⊎ (((p ≡ 1) × (split ≡ true)) ⊎ ((kind pages p ≡ 0) × (p < total)))) × (mode ≡ Write))
 
+-- no page of the key's bucket has room
+abbrev pub HasNoRoom : List ℕ → PageBytes → Type 0
+HasNoRoom key pages = (last : ℕ) × (alone : Bool) × IsEnd key pages last alone
+
+-- a page may be taken: each smaller one that is free is the first free one, and goes to a split
+pub record MayTake (split : Bool) (key : List ℕ) (total : ℕ) (pages : PageBytes) (q : ℕ) : Type 0 where
+  pub free : kind pages q ≡ 0
+  pub within : q < total
+  pub before : (n : ℕ) → n < q → kind pages n ≡ 0 → (split ≡ true) × MaySplit key (state_of pages) × IsSmallest (state_of pages) n
+
+-- each of these only where the bucket has no room: the map of the space; the directory where it splits; a page
+-- that it then takes
+abbrev pub IsDueInAdd : Bool → List ℕ → ℕ → PageBytes → ℕ → Mode → Type 0
+IsDueInAdd split key total pages p mode =
+    IsInBucket key Write pages p mode
+    ⊎ (HasNoRoom key pages × (mode ≡ Write) × ((p ≡ 0) ⊎ (((p ≡ 1) × (split ≡ true) × MaySplit key (state_of pages)) ⊎ MayTake split key total pages p)))
+
 -- each page that is taken is at hand
 abbrev pub TakesSeen : (ℕ → Option (List ℕ)) → PageBytes → List PageChange → Type 0
 TakesSeen at_hand pages changes = (p : ℕ) → kind pages p ≡ 0 → kind (after changes pages) p ≢ 0 → IsSome (at_hand p)
 
 abbrev pub IsPlanned : (ℕ → Option (List ℕ)) → ℕ → Bool → Entry → Add → Type 0
-IsPlanned at_hand total split e (add.Need p mode) = Asks at_hand total (IsInAdd split e.key total) p mode
+IsPlanned at_hand total split e (add.Need p mode) = Asks at_hand total (IsDueInAdd split e.key total) p mode
 IsPlanned at_hand total split e (add.Changes changes) = InMaps at_hand total (λ pages m. Adds split total e pages changes.list.items × TakesSeen at_hand pages changes.list.items)
 IsPlanned at_hand total split e add.Full = InMaps at_hand total (λ pages m. Shortage split total e pages)
 IsPlanned at_hand total split e add.Endless = InMaps at_hand total (λ pages m. ⊥)

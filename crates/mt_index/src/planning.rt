@@ -3,7 +3,7 @@ ghost use Rattle.std.specs.Prelude.{◌≡◌, ◌≤◌, ◌<◌, length, Some,
 ghost use Rattle.mt_space.specs.Changes.{after};
 ghost use Rattle.mt_index.specs.Maps.{alter};
 ghost use Rattle.mt_index.specs.Pages.{AreMap};
-ghost use Rattle.mt_index.specs.Answers.{InMaps, Asks, IsInAdd, Adds, TakesSeen, Shortage, IsPlanned, AddNeeds, IfAdded, AddFull, AddEndless};
+ghost use Rattle.mt_index.specs.Answers.{InMaps, Asks, IsInAdd, IsDueInAdd, Adds, TakesSeen, Shortage, IsPlanned, AddNeeds, IfAdded, AddFull, AddEndless};
 
 use crate::adding::{plan_chain, plan_put};
 use crate::answers::{Add, Spot};
@@ -22,8 +22,8 @@ use std::alloc::{AllocError, Global};
 /// into its half, or as where no split is due: into the free page of the smallest number, chained behind. So at
 /// most two pages are taken, and five change.
 ///
-/// The directory is needed for read, and for write where it is to change; pages of the bucket, the map of the
-/// space and pages to be taken are needed for write. `Full` is answered just where no page is free, or just one
+/// The directory is needed for read, and for write where it is to change; pages of the bucket are needed for write,
+/// and the map of the space and pages to be taken only where the bucket has no room. `Full` is answered just where no page is free, or just one
 /// where a split takes it and its half has no room. A relation's number is below 256. The only error is want
 /// of memory.
 pub fn plan_add<V: Pages>(
@@ -39,6 +39,8 @@ pub fn plan_add<V: Pages>(
     requires short { length key.now ≤ 64 }
     ensures need { IfOk result (λ add. AddNeeds add (Asks (V.at_hand views.now) (V.total views.now)
         (IsInAdd split key.now (V.total views.now)))) }
+    ensures due { IfOk result (λ add. AddNeeds add (Asks (V.at_hand views.now) (V.total views.now)
+        (IsDueInAdd split key.now (V.total views.now)))) }
     ensures added { IfOk result (λ add. IfAdded add (λ changes. InMaps (V.at_hand views.now) (V.total views.now)
         (λ pages m.
         Adds split (V.total views.now) (record { relation = relation; key = key.now; name = name }) pages changes))) }

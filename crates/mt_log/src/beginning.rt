@@ -1,5 +1,5 @@
 // The beginning of an area: an empty first batch, forced as any other behind a gate that is closed.
-ghost use Rattle.std.specs.Prelude.{◌≡◌, ◌⊎◌, ◌+◌, ◌-◌, ◌<◌, ◌≤◌, ◌^◌, ◌++◌, ◌∷◌, [], ℕ, List, true, false, length, vec_capacity, slice_index, IfOk, IfErr, OnOk, IsErr, Err};
+ghost use Rattle.std.specs.Prelude.{◌≡◌, ◌⊎◌, ◌+◌, ◌-◌, ◌<◌, ◌≤◌, ◌^◌, ◌++◌, ◌∷◌, [], ℕ, List, true, false, length, vec_capacity, slice_index, IfOk, IfErr, IsErrOf, OnOk, IsErr, Err};
 ghost use Rattle.std.specs.List.{AllByRecursion};
 ghost use Rattle.mt_base.specs.declared.refusal.Refusal.{Refusal};
 ghost use Rattle.mt_disk.specs.Disk.{Torn, Follows, Elapses, LeavesOnly, HasCause};
@@ -137,6 +137,7 @@ pub fn begin_area<D: Device>(
     ensures rest { Torn place.start (place.end - place.start) (D.seen device.old) (D.seen device.new) }
     ensures cause { IfErr result (λ why. (why ≡ Refusal.NoMemory) ⊎ (why ≡ Refusal.DeviceFailed)
         × (D.faults device.old < D.faults device.new)) }
+    ensures memory { IsErrOf result Refusal.NoMemory → device.new ≡ device.old }
 {
     begin_area_with(alloc, device, place, &[])
 }
@@ -182,6 +183,7 @@ pub fn begin_area_with<D: Device>(
     ensures rest { Torn place.start (place.end - place.start) (D.seen device.old) (D.seen device.new) }
     ensures cause { IfErr result (λ why. (why ≡ Refusal.NoMemory) ⊎ (why ≡ Refusal.DeviceFailed)
         × (D.faults device.old < D.faults device.new)) }
+    ensures memory { IsErrOf result Refusal.NoMemory → device.new ≡ device.old }
 {
     let mut log = before_first(alloc, place, images)?;
     close_gate(device, place.start)?;

@@ -175,6 +175,9 @@ impl Log {
         ensures quiet { IsOk result → D.faults device.new ≡ D.faults device.old }
         ensures only_device { IfErr result (λ why. why ≡ Refusal.DeviceFailed) }
         ensures err_durable { OnErr result (durable self.new ≡ durable self.old) }
+        // No call at all where the device has failed before, nor where every record is durable.
+        ensures failed_still { has_failed self.old ≡ true → device.new ≡ device.old }
+        ensures idle_still { calls_left self.old ≡ 0 → waiting self.old ≡ [] → device.new ≡ device.old }
         // At most one device call, within the area, for what others keep on the device.
         ensures time { Elapses (D.moment device.old) (D.moment device.new) (D.left_since device.old)
             (D.left_since device.new) (D.may_leave device.new) }

@@ -2,7 +2,7 @@
 ghost use Rattle.std.specs.Prelude.{◌≡◌, ◌≢◌, ◌⊎◌, ◌<◌, ◌≤◌, ◌+◌, ◌-◌, ◌*◌, ◌++◌, ◌∷◌, [], ℕ, List, length, take, drop, set, get_or, None, false, true, IsOk, IsErr, OnOk, OnErr, IfOk, IfErr, Ok};
 ghost use Rattle.mt_base.specs.Edits.{patched, log_size};
 ghost use Rattle.mt_base.specs.declared.refusal.Refusal.{Refusal};
-ghost use Rattle.mt_disk.specs.Disk.{Torn, Only, LeavesOnly, HasCause};
+ghost use Rattle.mt_disk.specs.Disk.{Torn, Only, LeavesOnly, Elapses, HasCause};
 ghost use Rattle.mt_log.specs.Area.{TornFrom};
 ghost use Rattle.mt_pool.specs.Begun.{Begins, device_after};
 ghost use Rattle.mt_frame.specs.Grammar.{IsRecord, IsOfPage, IsTxn, IsOp};
@@ -84,6 +84,8 @@ impl<D: Device> Store<D> {
         ensures frames { IfOk result (λ store. frames_of store.pool ≡ frames) }
         ensures cause { IfErr result (λ gone. (gone.refusal ≡ Refusal.NoMemory)
             ⊎ (gone.refusal ≡ Refusal.DeviceFailed) × (D.faults device < D.faults gone.device)) }
+        // Where memory was wanting no byte has changed.
+        ensures memory { IfErr result (λ gone. gone.refusal ≡ Refusal.NoMemory → D.seen gone.device ≡ D.seen device) }
         // Whenever a crash comes in this call, it leaves what it might have left before, but for the area.
         ensures moments { LeavesOnly D.moment D.left_since device (device_after result)
             (TornFrom (D.may_leave device) area.start (area.end - area.start)) }
@@ -118,6 +120,7 @@ fn parts<D: Device>(
         (record { device = device.new; log = parts.0; pool = parts.1; settled = 0 })) }
     ensures cause { IfErr result (λ why. (why ≡ Refusal.NoMemory) ⊎ (why ≡ Refusal.DeviceFailed)
         × (D.faults device.old < D.faults device.new)) }
+    ensures memory { IfErr result (λ why. why ≡ Refusal.NoMemory → D.seen device.new ≡ D.seen device.old) }
     ensures moments { LeavesOnly D.moment D.left_since device.old device.new
         (TornFrom (D.may_leave device.old) area.start (area.end - area.start)) }
     ensures rest { Torn area.start (area.end - area.start) (D.seen device.old) (D.seen device.new) }
@@ -146,6 +149,9 @@ impl<D: Device> Store<D> {
             → IsKept D.seen D.may_leave opening self.new }
         ensures moments { (opening : ℕ → List ℕ) → IsKept D.seen D.may_leave opening self.old
             → LeavesOnly D.moment D.left_since self.old.device self.new.device (Explains opening self.old) }
+        // At most one device call.
+        ensures time { Elapses (D.moment self.old.device) (D.moment self.new.device) (D.left_since self.old.device)
+            (D.left_since self.new.device) (D.may_leave self.new.device) }
         ensures views { (q : ℕ) → q < pages self.old.pool
             → view self.new.pool (D.seen self.new.device) q ≡ view self.old.pool (D.seen self.old.device) q }
         ensures pool { self.new.pool ≡ self.old.pool }
@@ -184,6 +190,9 @@ impl<D: Device> Store<D> {
             → IsKept D.seen D.may_leave opening self.new }
         ensures moments { (opening : ℕ → List ℕ) → IsKept D.seen D.may_leave opening self.old
             → LeavesOnly D.moment D.left_since self.old.device self.new.device (Explains opening self.old) }
+        // At most one device call.
+        ensures time { Elapses (D.moment self.old.device) (D.moment self.new.device) (D.left_since self.old.device)
+            (D.left_since self.new.device) (D.may_leave self.new.device) }
         ensures views { (q : ℕ) → view self.new.pool (D.seen self.new.device) q ≡ view self.old.pool
             (D.seen self.old.device) q }
         ensures log { self.new.log ≡ self.old.log }
@@ -215,6 +224,9 @@ impl<D: Device> Store<D> {
             → IsKept D.seen D.may_leave opening self.new }
         ensures moments { (opening : ℕ → List ℕ) → IsKept D.seen D.may_leave opening self.old
             → LeavesOnly D.moment D.left_since self.old.device self.new.device (Explains opening self.old) }
+        // At most one device call.
+        ensures time { Elapses (D.moment self.old.device) (D.moment self.new.device) (D.left_since self.old.device)
+            (D.left_since self.new.device) (D.may_leave self.new.device) }
         ensures views { (q : ℕ) → view self.new.pool (D.seen self.new.device) q ≡ view self.old.pool
             (D.seen self.old.device) q }
         ensures there { result ≡ Ok fetched.There → IsThere self.new.pool page }
@@ -362,6 +374,9 @@ impl<D: Device> Store<D> {
             → IsKept D.seen D.may_leave opening self.new }
         ensures moments { (opening : ℕ → List ℕ) → IsKept D.seen D.may_leave opening self.old
             → LeavesOnly D.moment D.left_since self.old.device self.new.device (Explains opening self.old) }
+        // At most one device call.
+        ensures time { Elapses (D.moment self.old.device) (D.moment self.new.device) (D.left_since self.old.device)
+            (D.left_since self.new.device) (D.may_leave self.new.device) }
         ensures views { (q : ℕ) → q < pages self.old.pool
             → view self.new.pool (D.seen self.new.device) q ≡ view self.old.pool (D.seen self.old.device) q }
         ensures there { self.new.pool.of_page ≡ self.old.pool.of_page }

@@ -14,6 +14,12 @@ use Rattle.mt_index.proofs.OnePage.{no_bucket}
 use Rattle.mt_index.proofs.Placing.{Chained, fresh_off, taken_is, seen_at, chain_last, chain_smallest, chain_stays, chain_formed}
 use Rattle.mt_index.proofs.adding.plan_chain.Goals as goal
 
+pub returns-in_default : goal.returns-in_default
+returns-in_default g c split no_split = record {
+  missing = ap (g.V.Pages.at_hand c.args.views.now) (c.new-in_default.ensures ∙ sym c.new.ensures) ∙ c.in_default.ensures.none;
+  role = λ pages agree m a. let end = c.requires.end pages agree m a in inr ((c.args.last, end.0, end.1), refl, inl c.new-in_default.ensures);
+}
+
 pub returns-in_default-page : goal.returns-in_default-page
 returns-in_default-page g c split no_split = record {
   missing = c.in_default-page.ensures.none;
@@ -41,7 +47,8 @@ returns-in_default-page-2 g c split no_split = record {
   role = λ pages agree m a.
       let space : pages 0 ≡ c.in-Some.space.now = subst (λ (p : ℕ). pages p ≡ c.in-Some.space.now) c.new.ensures (agree c.new.result c.in-Some.space.now c.in-Some.ensures.some) in
       let f : Fresh (pages 0) (g.V.Pages.total c.args.views.now) c.in-Some-first_free.fresh = rw (space, ← c.count.ensures) (fresh c.in-Some.space.now c.count.result c.in-Some-first_free.fresh c.in-Some-first_free.ensures.first) in
-      inr (inr (inr (f.free, f.within)), refl);
+      let end = c.requires.end pages agree m a in
+      inr ((c.args.last, end.0, end.1), refl, inr (inr (record { free = f.free; within = f.within; before = λ n lt free. absurd (f.first n lt free) })));
 }
 
 pub returns : goal.returns

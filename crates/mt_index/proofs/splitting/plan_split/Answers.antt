@@ -8,11 +8,27 @@ use Rattle.mt_index.proofs.Composing.{unput, full_half, due_end, put_pages, put_
 use Rattle.std.proofs.lemmas.Bool.{cases_eq}
 use Rattle.mt_space.specs.Changes.{after}
 use Rattle.mt_index.specs.Answers.{Adds}
+use Rattle.mt_index.specs.Pages.{state_of}
+use Rattle.mt_index.specs.Rule.{IsSmallest}
 use Rattle.mt_index.proofs.Placing.{taken_is, seen_at}
 use Rattle.mt_index.specs.Halves.{AreHalves, PutsInHalf, Links, changed}
 use Rattle.mt_index.specs.declared.splitting.Halves.{Halves}
 use Rattle.mt_index.proofs.Notes.{notes_more}
 use Rattle.mt_index.proofs.splitting.plan_split.Goals as goal
+
+pub returns-in_default : goal.returns-in_default
+returns-in_default g c = record {
+  missing = ap (g.V.Pages.at_hand c.args.views.now) (c.new-in_default.ensures ∙ sym c.new.ensures) ∙ c.in_default.ensures.none;
+  role = λ pages agree m a. let due = c.requires.due pages agree m a in
+      inr ((c.args.bucket, true, due_end (g.V.Pages.total c.args.views.now) pages m c.args.key.now c.args.bucket a due.0 due.1), refl, inl c.new-in_default.ensures);
+}
+
+pub returns-in_default-page : goal.returns-in_default-page
+returns-in_default-page g c = record {
+  missing = ap (g.V.Pages.at_hand c.args.views.now) (c.new-in_default-page.ensures ∙ sym c.new-2.ensures) ∙ c.in_default-page.ensures.none;
+  role = λ pages agree m a. let due = c.requires.due pages agree m a in
+      inr ((c.args.bucket, true, due_end (g.V.Pages.total c.args.views.now) pages m c.args.key.now c.args.bucket a due.0 due.1), refl, inr (inl (c.new-in_default-page.ensures, refl, due.0)));
+}
 
 pub returns-in_default-first_free : goal.returns-in_default-first_free
 returns-in_default-first_free g c pages agree m a =
@@ -34,7 +50,8 @@ returns-in_default-page-2 g c = record {
   role = λ pages agree m a.
       let space : pages 0 ≡ c.in-Some.space.now = subst (λ (p : ℕ). pages p ≡ c.in-Some.space.now) c.new.ensures (agree c.new.result c.in-Some.space.now c.in-Some.ensures.some) in
       let f : Fresh (pages 0) (g.V.Pages.total c.args.views.now) c.in-Some-first_free.fresh = rw (space, ← c.count.ensures) (fresh c.in-Some.space.now c.count.result c.in-Some-first_free.fresh c.in-Some-first_free.ensures.first) in
-      inr (inr (inr (f.free, f.within)), refl);
+      let due = c.requires.due pages agree m a in
+      inr ((c.args.bucket, true, due_end (g.V.Pages.total c.args.views.now) pages m c.args.key.now c.args.bucket a due.0 due.1), refl, inr (inr (record { free = f.free; within = f.within; before = λ n lt free. absurd (f.first n lt free) })));
 }
 
 pub returns-then-put : goal.returns-then-put
@@ -112,7 +129,17 @@ returns-in_default-page-3 g c = record {
       let same = unput t e c.halve-halves.result c.put.new.self p in
       let s : Fresh c.halve-halves.result.space total c.in-Some-first_free-2.overflow = subst (λ (x : Halves). Fresh x.space total c.in-Some-first_free-2.overflow) same
       (rw (← c.count-2.ensures) (fresh c.put.new.self.space c.count-2.result c.in-Some-first_free-2.overflow c.in-Some-first_free-2.ensures.first)) in
-      inr (inr (inr (second_free total pages m e b q c.halve-halves.result a due.0 due.1 f w c.in-Some-first_free-2.overflow s, s.within)), refl);
+      inr (
+        (c.args.bucket, true, due_end (g.V.Pages.total c.args.views.now) pages m c.args.key.now c.args.bucket a due.0 due.1),
+        refl,
+        inr (inr (record {
+          free = second_free total pages m e b q c.halve-halves.result a due.0 due.1 f w c.in-Some-first_free-2.overflow s;
+          within = s.within;
+          before = λ n lt free.
+              let here : n ≡ q = taken_is q n (pages 0) c.halve-halves.result.space w.taken free (s.first n lt) in
+              (refl, due.0, subst (IsSmallest (state_of pages)) (sym here) (f.free, f.first));
+        })),
+      );
 }
 
 pub returns : goal.returns

@@ -340,3 +340,11 @@ module _ {D : Type 0} (seen : D → List ℕ) (may_leave : D → List ℕ → Ty
           (told_changed k.last t.was (t.was ++ end_of r.scope reply) k.live.members n.live.members r.scope.txn taken_back
           (λ m is was. undone_told k.last t.was (end_of r.scope reply) r.scope.txn r.scope.undoes m (ap last_operation (sym is) ∙ named) (λ v apart. end_undoes_other r.scope.txn v r.scope.txn r.scope.number r.scope.undoes (logged_of r.scope.op reply) apart) was)
           (λ u m apart was. told_on_more k.last t.was (end_of r.scope reply) u m (λ v. end_undoes_txn u v r.scope.txn r.scope.number r.scope.undoes (logged_of r.scope.op reply) (λ is. apart (sym is))) was) changed t.told)
+
+-- one whose calls are cut is in its state
+pub taken_state : (m : Member) → (taken_back m).state ≡ m.state
+taken_state m = go (last_place m.calls)
+  where
+    go : (o : Option ℕ) → (cut_to m o).state ≡ m.state
+    go None = refl
+    go (Some n) = refl

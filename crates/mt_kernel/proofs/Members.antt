@@ -4,7 +4,10 @@ use Rattle.std.specs.Option.{option_map}
 use Rattle.std.proofs.lemmas.Bool.{eqb-true, ne_eqb}
 use Rattle.mt_live.specs.Lives.{member_of, IsChanged}
 use Rattle.mt_live.specs.Machine.{put}
-use Rattle.mt_live.specs.Members.{Member}
+use Rattle.std.specs.Prelude.{is_some}
+use Rattle.mt_live.specs.Members.{Member, with_state}
+use Rattle.mt_live.specs.declared.transactions.TxnState.{TxnState}
+use Rattle.mt_kernel.specs.Runs.{state_in}
 
 pub put_other : {A : Type 0} (f : ℕ → A) (t : ℕ) (x : A) (u : ℕ) → u ≢ t → put f t x u ≡ f u
 put_other f t x u apart = let away = ne_eqb u t apart in rw away refl
@@ -24,3 +27,23 @@ changed_keeps h f old new t keeps changed u = ap h (changed u) ∙ go (u == t) r
 -- of another one
 pub changed_other : (f : Member → Member) (old new : List Member) (t : ℕ) → IsChanged old new t f → (u : ℕ) → u ≢ t → member_of new u ≡ member_of old u
 changed_other f old new t changed u apart = changed u ∙ put_other (member_of old) t (option_map f (member_of old t)) u apart
+
+-- the states, where each member keeps its own
+pub states_kept : (f : Member → Member) (old new : List Member) (t : ℕ) → ((m : Member) → (f m).state ≡ m.state) → IsChanged old new t f → (u : ℕ) → state_in new u ≡ state_in old u
+states_kept f old new t keeps changed u = changed_keeps (option_map (λ (m : Member). m.state)) f old new t (λ m. ap Some (keeps m)) changed u
+
+-- where one is another member, or none any more
+pub states_put : (old new : List Member) (t : ℕ) (x : Option Member) → ((u : ℕ) → member_of new u ≡ put (member_of old) t x u) → (u : ℕ) → state_in new u ≡ put (state_in old) t (option_map (λ (m : Member). m.state) x) u
+states_put old new t x members u = ap (option_map (λ (m : Member). m.state)) (members u) ∙ go (u == t)
+  where
+    go : (c : Bool) → option_map (λ (m : Member). m.state) (cond c x (member_of old u)) ≡ cond c (option_map (λ (m : Member). m.state) x) (state_in old u)
+    go true = refl
+    go false = refl
+
+-- where one that lives is in another state
+pub states_set : (old new : List Member) (t : ℕ) (state : TxnState) → is_some (member_of old t) ≡ true → IsChanged old new t (λ m. with_state m state) → (u : ℕ) → state_in new u ≡ put (state_in old) t (Some state) u
+states_set old new t state lives changed u = states_put old new t (option_map (λ m. with_state m state) (member_of old t)) changed u ∙ (λ i. put (state_in old) t (now (member_of old t) lives i) u)
+  where
+    now : (o : Option Member) → is_some o ≡ true → option_map (λ (m : Member). m.state) (option_map (λ m. with_state m state) o) ≡ Some state
+    now None is = absurd cc
+    now (Some m) is = refl

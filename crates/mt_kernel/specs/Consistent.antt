@@ -10,7 +10,7 @@ use Rattle.mt_frame.specs.declared.records.Record.TheVariants as record_of
 use Rattle.mt_frame.specs.History.{some_record, ends_txn, ends_op, finishes, undoes_op}
 use Rattle.mt_live.specs.Adds.{add_before}
 use Rattle.mt_live.specs.Lives.{member_of, has_room}
-use Rattle.mt_live.specs.Machine.{State, committed_base, IsKept, IsAdmitted, called, ended, undone, dropped, booked}
+use Rattle.mt_live.specs.Machine.{State, put, committed_base, IsKept, IsAdmitted, called, ended, undone, dropped, booked}
 use Rattle.mt_live.specs.Entries.{Entry}
 use Rattle.mt_live.specs.Members.{Member, has_inverse}
 use Rattle.mt_live.specs.declared.transactions.TxnState.{TxnState}
@@ -169,6 +169,13 @@ pub record IsConsistent {D : Type 0} (seen : D → List ℕ) (may_leave : D → 
   pub runs : All (IsRunning origin.relations origin.counters (world seen origin.pages k.operations) k.last) k.running.items
   pub told : AreTold k.last k.live.members (appended k.operations.store.log)
   pub claims : claimed k.operations ≡ sum_by pages_of k.running.items + sum_by entry_pages k.live.standing
+
+-- each transaction is open, commits or is to be undone as before; but for one, which is in this state
+abbrev pub SameStates : {D : Type 0} → Parts D → Parts D → Type 0
+SameStates k n = (u : ℕ) → state_in n.live.members u ≡ state_in k.live.members u
+
+abbrev pub SetsState : {D : Type 0} → Parts D → Parts D → ℕ → Option TxnState → Type 0
+SetsState k n t x = (u : ℕ) → state_in n.live.members u ≡ put (state_in k.live.members) t x u
 
 -- consistent on some base
 abbrev pub IsSound : {D : Type 0} → (D → List ℕ) → (D → List ℕ → Type 0) → Parts D → Type 0

@@ -10,7 +10,7 @@ ghost use Rattle.mt_log.specs.Words.{used, area_size};
 ghost use Rattle.mt_model.specs.Model.{Base, IsWithin, object_of};
 ghost use Rattle.mt_model.specs.declared.objects.Object.{Object};
 ghost use Rattle.mt_slock.specs.declared.holders.Holder.{Holder};
-ghost use Rattle.mt_kernel.specs.Consistent.{CallsIn, log_kept, Origin, state_of, IsConsistent, IsIn, IsPlaceOf, MayRun, MayBeCalled, IsLocked, IsGranted, IsAskedFor, IsCalled, IsRestored, without_call};
+ghost use Rattle.mt_kernel.specs.Consistent.{SameStates, CallsIn, log_kept, Origin, state_of, IsConsistent, IsIn, IsPlaceOf, MayRun, MayBeCalled, IsLocked, IsGranted, IsAskedFor, IsCalled, IsRestored, without_call};
 ghost use Rattle.mt_kernel.specs.Causes.{HasReserves, IsUnreserved, IsAdmittedBy, IsRefusedBehind, IsAnswered};
 ghost use Rattle.mt_base.specs.declared.refusal.Refusal.{Refusal};
 ghost use Rattle.mt_kernel.specs.Runs.{left_of};
@@ -96,6 +96,7 @@ impl<D: Device> Parts<D> {
         ensures answer { (origin : Origin) (base : Base) → IsConsistent D.seen D.may_leave origin base self.old
             → MayBeCalled origin self.old txn op.now
             → IsAnswered D.seen origin self.old (log_kept self.old) txn op.now split result }
+        ensures states { SameStates self.old self.new }
     {
         let own = op.try_clone()?;
         let end = op.try_clone()?;
@@ -142,6 +143,7 @@ impl<D: Device> Parts<D> {
             → IsGranted D.seen D.may_leave origin base locks escrow self.old txn end
             → IfErr result (IsUnreserved D.seen origin self.old (log_kept self.old) end split) }
         ensures err { OnErr result (IsRestored D.seen D.may_leave self.old self.new) }
+        ensures live { self.new.live ≡ self.old.live }
     {
         let pages = pages_for(&own, split) + pages_to_undo(&own);
         let bytes = bytes_to_undo(&own);
@@ -195,6 +197,7 @@ impl<D: Device> Parts<D> {
             → IsLocked D.seen D.may_leave origin base locks self.old txn op.now
             → IfErr result (IsRefusedBehind D.seen origin self.old (log_kept self.old) txn op.now split) }
         ensures err { OnErr result (IsRestored D.seen D.may_leave self.old self.new) }
+        ensures live { self.new.live ≡ self.old.live }
     {
         ask(&mut self.escrow, txn, op)?;
         match self.start(alloc, txn, own, end, split) {
@@ -229,6 +232,7 @@ impl<D: Device> Parts<D> {
         ensures answer { (origin : Origin) (base : Base) → IsConsistent D.seen D.may_leave origin base self.old
             → MayRun origin self.old txn op.now
             → IsAnswered D.seen origin self.old (log_kept self.old) txn op.now split result }
+        ensures live { self.new.live ≡ self.old.live }
     {
         let mode = op.mode();
         match self.locks.ask(txn, object, mode)? {

@@ -1,15 +1,15 @@
 // Transactions that begin, commit and leave, and the writes that make commits durable.
-ghost use Rattle.std.specs.Prelude.{◌≡◌, ◌≢◌, ◌⊎◌, ◌<◌, ◌≤◌, ◌+◌, ◌^◌, ℕ, List, ◌∷◌, ◌++◌, length, drop, true, All, Some, Ok, IsErr, IfOk, IfErr, OnOk, OnErr};
+ghost use Rattle.std.specs.Prelude.{◌≡◌, ◌≢◌, ◌⊎◌, ◌<◌, ◌≤◌, ◌+◌, ◌^◌, ℕ, List, ◌∷◌, ◌++◌, [], length, drop, true, All, Some, Ok, IsErr, IfOk, IfErr, OnOk, OnErr};
 ghost use Rattle.mt_live.specs.Lives.{member_of};
 ghost use Rattle.mt_live.specs.Machine.{begun, booked};
-ghost use Rattle.mt_live.specs.declared.transactions.TxnState.TheVariants.{Open};
+ghost use Rattle.mt_live.specs.declared.transactions.TxnState.TheVariants.{Open, Committing, Aborting};
 ghost use Rattle.mt_disk.specs.Disk.{HasCause};
 ghost use Rattle.mt_log.specs.Words.{durable, has_failed, area_size, IsStep};
 ghost use Rattle.mt_model.specs.Model.{Base};
 ghost use Rattle.mt_pool.specs.Views.{IsWaiting, Cleans};
 ghost use Rattle.mt_pool.specs.declared.flushing.Flushed.TheVariants as flushed;
 ghost use Rattle.mt_base.specs.declared.refusal.Refusal.{Refusal};
-ghost use Rattle.mt_kernel.specs.Consistent.{log_kept, BooksIn, IsSound, StaysIn, OnlyOperations, Origin, state_of, state_in, session_in, IsConsistent, IsIn};
+ghost use Rattle.mt_kernel.specs.Consistent.{log_kept, SameStates, SetsState, BooksIn, IsSound, StaysIn, OnlyOperations, Origin, state_of, state_in, session_in, IsConsistent, IsIn};
 ghost use Rattle.mt_kernel.specs.Booked.{booked_each, durable_count, durable_txns};
 ghost use Rattle.mt_kernel.specs.Runs.{is_open};
 ghost use Rattle.std.specs.Vec.{vec_len, vec_capacity};
@@ -56,6 +56,7 @@ impl<D: Device> Parts<D> {
         ensures may { OnOk result (log_kept self.old + 128 < area_size self.old.operations.store.log) }
         ensures cause { IfErr result (λ why. (why ≡ Refusal.NoMemory) ⊎ ((why ≡ Refusal.LogFull)
             × (area_size self.old.operations.store.log ≤ log_kept self.old + 128))) }
+        ensures opened { IfOk result (λ txn. SetsState self.old self.new txn (Some Open)) }
         ensures err { OnErr result (self.new ≡ self.old) }
     {
         if !self.log_takes(TRANSACTION_LOG_BYTES) {
@@ -70,6 +71,8 @@ impl<D: Device> Parts<D> {
     pub fn abort_begin(&mut self, txn: TxnNo)
         requires { state_in self.old.live.members txn ≡ Some Open }
         ensures state { StaysIn D.seen D.may_leave self.old self.new }
+        ensures aborts { SetsState self.old self.new txn (Some Aborting) }
+        ensures running { self.new.running ≡ self.old.running }
     {
         self.live.set_state(txn, TxnState::Aborting);
     }
@@ -85,6 +88,10 @@ impl<D: Device> Parts<D> {
         ensures state { StaysIn D.seen D.may_leave self.old self.new }
         ensures place { IfOk result (λ place.
             place ≡ length self.old.book.items + length self.old.commits.items + 1) }
+        ensures queue { OnOk result ((c : Commit) × (c.txn ≡ txn)
+            × (self.new.commits.items ≡ self.old.commits.items ++ c ∷ [])) }
+        ensures commits { OnOk result (SetsState self.old self.new txn (Some Committing)) }
+        ensures err { OnErr result (SameStates self.old self.new) }
         ensures only_memory { IfErr result (λ why. why ≡ Refusal.NoMemory) }
     {
         self.commits.reserve(1)?;

@@ -25,6 +25,7 @@ impl<D: Device> Parts<D> {
         requires within { place < length self.old.running.items }
         requires aborting { AtPlace self.old.running.items place (λ r. (r.scope.undoes ≡ 0)
             × (state_in self.old.live.members r.scope.txn ≡ Some Aborting)) }
+        ensures live { self.new.live ≡ self.old.live }
         ensures length { length self.new.running.items ≡ length self.old.running.items }
         ensures same { (origin : Origin) (base : Base) → IsConsistent D.seen D.may_leave origin base self.old
             → (r q : Running) → r ≡ slice_index_or self.old.running.items place r → q ≡ slice_index_or self.new.running.items place q → SameOp r.scope q.scope }
@@ -42,7 +43,8 @@ impl<D: Device> Parts<D> {
             × IsClearedAt D.seen D.may_leave origin base self.old place) ∥₁ }
         requires within { place < length self.old.running.items }
         requires forward { AtPlace self.old.running.items place (λ r. r.scope.undoes ≡ 0) }
-        ensures { (origin : Origin) (base : Base) → IsClearedAt D.seen D.may_leave origin base self.old place
+        ensures live { self.new.live ≡ self.old.live }
+        ensures drops { (origin : Origin) (base : Base) → IsClearedAt D.seen D.may_leave origin base self.old place
             → AtPlace self.old.running.items place (λ r. DropsIn D.seen D.may_leave origin base self.old self.new r) }
     {
         let Running { scope, op } = self.running.remove(place);
@@ -67,6 +69,7 @@ impl<D: Device> Parts<D> {
             × (state_in self.old.live.members r.scope.txn ≡ Some Aborting)) }
         ensures back { (origin : Origin) (base : Base) → IsConsistent D.seen D.may_leave origin base self.old
             → BacksIn D.seen D.may_leave origin base self.old self.new place result }
+        ensures live { self.new.live ≡ self.old.live }
         ensures why { IfErr result IsCause }
     {
         match self.take_back(place)? {

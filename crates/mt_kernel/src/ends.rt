@@ -5,7 +5,7 @@ ghost use Rattle.mt_model.specs.declared.pending.Pending.{Pending};
 ghost use Rattle.mt_live.specs.Machine.{ended, undone};
 ghost use Rattle.mt_model.specs.Model.{Base, base_after};
 ghost use Rattle.mt_model.specs.declared.operations.Reply.{Reply};
-ghost use Rattle.mt_kernel.specs.Consistent.{EndsIn, UndoesIn, IsReadyAt, AtPlace, Origin, state_of, IsIn, IsReady};
+ghost use Rattle.mt_kernel.specs.Consistent.{SameStates, EndsIn, UndoesIn, IsReadyAt, AtPlace, Origin, state_of, IsIn, IsReady};
 ghost use Rattle.mt_kernel.specs.declared.parts.Running.{Running};
 
 use crate::parts::{Parts, Running};
@@ -35,7 +35,8 @@ impl<D: Device> Parts<D> {
             × IsReadyAt D.seen D.may_leave origin base self.old place reply) ∥₁ }
         requires within { place < length self.old.running.items }
         requires forward { AtPlace self.old.running.items place (λ r. r.scope.undoes ≡ 0) }
-        ensures { (origin : Origin) (base : Base) → IsReadyAt D.seen D.may_leave origin base self.old place reply
+        ensures states { SameStates self.old self.new }
+        ensures ends { (origin : Origin) (base : Base) → IsReadyAt D.seen D.may_leave origin base self.old place reply
             → AtPlace self.old.running.items place (λ r. EndsIn D.seen D.may_leave origin base self.old self.new r) }
     {
         let Running { scope, op } = self.running.remove(place);
@@ -54,7 +55,8 @@ impl<D: Device> Parts<D> {
             × IsReadyAt D.seen D.may_leave origin base self.old place reply) ∥₁ }
         requires within { place < length self.old.running.items }
         requires back { AtPlace self.old.running.items place (λ r. r.scope.undoes ≢ 0) }
-        ensures { (origin : Origin) (base : Base) (reply : Reply)
+        ensures states { SameStates self.old self.new }
+        ensures ends { (origin : Origin) (base : Base) (reply : Reply)
             → IsReadyAt D.seen D.may_leave origin base self.old place reply
             → AtPlace self.old.running.items place (λ r. UndoesIn D.seen D.may_leave origin base self.old self.new r) }
     {

@@ -2,7 +2,7 @@
 ghost use Rattle.std.specs.Prelude.{◌≡◌, ◌≢◌, ◌⊎◌, ◌<◌, ℕ, IfErr, length, slice_index_or};
 ghost use Rattle.mt_model.specs.Model.{Base};
 ghost use Rattle.mt_op.specs.declared.scope.Stage.TheVariants.{Planning, Writing};
-ghost use Rattle.mt_kernel.specs.Consistent.{IsSound, AtPlace, Origin, state_of, IsConsistent, Advances};
+ghost use Rattle.mt_kernel.specs.Consistent.{SameStates, IsSound, AtPlace, Origin, state_of, IsConsistent, Advances};
 ghost use Rattle.mt_op.specs.Moves.{SameOp};
 ghost use Rattle.mt_op.specs.Operations.{IsCause};
 ghost use Rattle.mt_kernel.specs.Steps.{Steps, UndoSteps};
@@ -47,6 +47,7 @@ impl<D: Device> Parts<D> {
         ensures length { length self.new.running.items ≡ length self.old.running.items }
         ensures same { (origin : Origin) (base : Base) → IsConsistent D.seen D.may_leave origin base self.old
             → (r q : Running) → r ≡ slice_index_or self.old.running.items place r → q ≡ slice_index_or self.new.running.items place q → SameOp r.scope q.scope }
+        ensures live { self.new.live ≡ self.old.live }
         ensures why { IfErr result IsCause }
         ensures advances { (origin : Origin) (base : Base) → IsConsistent D.seen D.may_leave origin base self.old
             → Advances D.seen D.may_leave origin base (state_of self.old base) self.new place result }
@@ -65,6 +66,7 @@ impl<D: Device> Parts<D> {
         requires forward { AtPlace self.old.running.items place (λ r. r.scope.undoes ≡ 0) }
         requires stage { AtPlace self.old.running.items place (λ r. (r.scope.stage ≡ Planning) ⊎ (r.scope.stage
             ≡ Writing)) }
+        ensures states { SameStates self.old self.new }
         ensures why { IfErr result IsCause }
         ensures steps { (origin : Origin) (base : Base) → IsConsistent D.seen D.may_leave origin base self.old
             → Steps D.seen D.may_leave origin base self.old self.new place result }
@@ -92,6 +94,7 @@ impl<D: Device> Parts<D> {
         requires back { AtPlace self.old.running.items place (λ r. r.scope.undoes ≢ 0) }
         requires stage { AtPlace self.old.running.items place (λ r. (r.scope.stage ≡ Planning) ⊎ (r.scope.stage
             ≡ Writing)) }
+        ensures states { SameStates self.old self.new }
         ensures why { IfErr result IsCause }
         ensures steps { (origin : Origin) (base : Base) → IsConsistent D.seen D.may_leave origin base self.old
             → UndoSteps D.seen D.may_leave origin base self.old self.new place result }

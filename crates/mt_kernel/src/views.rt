@@ -1,16 +1,13 @@
 // What a kernel asks of its parts.
 ghost use Rattle.std.specs.Prelude.{◌≡◌, ◌==◌, ◌<◌, ◌≢◌, ℕ, length, Some, true, not};
-ghost use Rattle.std.specs.Option.{option_map};
-ghost use Rattle.mt_live.specs.Lives.{member_of, is_member};
-ghost use Rattle.mt_log.specs.Words.{has_failed};
 ghost use Rattle.mt_kernel.specs.Consistent.{AtPlace, IsOwnerOf};
-ghost use Rattle.mt_kernel.specs.Runs.{state_in};
 ghost use Rattle.mt_kernel.specs.declared.parts.Running.{Running};
 
 use crate::parts::{Parts, Running};
 use mt_base::{OpNo, TxnNo};
 use mt_disk::Device;
-use mt_live::TxnState;
+use mt_live::Live;
+use mt_log::Log;
 use mt_model::Committed;
 
 // The transaction whose operation under way has this number, if there is one.
@@ -26,25 +23,18 @@ fn owner_in(running: &[Running], op: OpNo) -> Option<TxnNo>
 }
 
 impl<D: Device> Parts<D> {
-    /// Whether the device has failed.
-    pub fn has_failed(&self) -> bool
-        ensures { result ≡ has_failed self.now.operations.store.log }
+    /// The transactions that live, lent.
+    pub fn live(&self) -> &Live
+        ensures { result.now ≡ self.now.live }
     {
-        self.operations.log().has_failed()
+        &self.live
     }
 
-    /// How many transactions live, those that commit counted too.
-    pub fn count_live(&self) -> usize
-        ensures { result ≡ length self.now.live.members }
+    /// The log, lent.
+    pub fn log(&self) -> &Log
+        ensures { result.now ≡ self.now.operations.store.log }
     {
-        self.live.count()
-    }
-
-    /// How many transactions have begun.
-    pub fn begun(&self) -> u64
-        ensures { result ≡ self.now.live.begun }
-    {
-        self.live.begun()
+        self.operations.log()
     }
 
     /// The number of the operation that began last.
@@ -59,21 +49,6 @@ impl<D: Device> Parts<D> {
         ensures { result ≡ length self.now.commits.items }
     {
         self.commits.len()
-    }
-
-    /// The state of a transaction, if it lives.
-    pub fn state(&self, txn: TxnNo) -> Option<TxnState>
-        ensures { result ≡ state_in self.now.live.members txn }
-    {
-        self.live.state(txn)
-    }
-
-    /// How many operations of a live transaction have ended and stand.
-    pub fn count_ended(&self, txn: TxnNo) -> usize
-        requires { is_member self.now.live.members txn ≡ true }
-        ensures { Some result ≡ option_map (λ m. length m.calls) (member_of self.now.live.members txn) }
-    {
-        self.live.count_ended(txn)
     }
 
     /// Whether the operation at a place is an inverse.

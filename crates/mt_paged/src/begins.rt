@@ -26,14 +26,14 @@ impl<D: Device> Kernel<D> {
             → OnOk result (Shows D.seen D.may_leave first (begun s session) self.new) }
         ensures err { OnErr result (self.new.parts ≡ self.old.parts) }
     {
-        if self.parts.has_failed() {
+        if self.parts.log().has_failed() {
             return Err(Refusal::DeviceFailed);
         }
-        let lives = self.parts.count_live();
+        let lives = self.parts.live().count();
         if MAX_LIVE <= lives {
             return Err(Refusal::TooManyTransactions);
         }
-        if MAX_COMMITS <= self.parts.book().len() + lives || MAX_BEGUN <= self.parts.begun() {
+        if MAX_COMMITS <= self.parts.book().len() + lives || MAX_BEGUN <= self.parts.live().begun() {
             return Err(Refusal::BookFull);
         }
         self.parts.begin(session)

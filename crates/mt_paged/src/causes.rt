@@ -62,10 +62,10 @@ impl<D: Device> Kernel<D> {
         ensures cause { result ≡ open_cause self.now.parts txn }
         ensures opened { IfNone result (state_in self.now.parts.live.members txn ≡ Some Open) }
     {
-        if self.parts.has_failed() {
+        if self.parts.log().has_failed() {
             return Some(Refusal::DeviceFailed);
         }
-        match self.parts.state(txn) {
+        match self.parts.live().state(txn) {
             Some(TxnState::Open) => None,
             _ => Some(Refusal::Stranger),
         }
@@ -76,10 +76,10 @@ impl<D: Device> Kernel<D> {
         ensures cause { result ≡ abort_cause self.now.parts txn }
         ensures aborting { IfNone result (state_in self.now.parts.live.members txn ≡ Some Aborting) }
     {
-        if self.parts.has_failed() {
+        if self.parts.log().has_failed() {
             return Some(Refusal::DeviceFailed);
         }
-        match self.parts.state(txn) {
+        match self.parts.live().state(txn) {
             Some(TxnState::Aborting) => None,
             _ => Some(Refusal::Stranger),
         }
@@ -91,7 +91,7 @@ impl<D: Device> Kernel<D> {
         ensures cause { result ≡ count_cause self.now.parts txn }
         ensures few { IfNone result (self.now.parts.last < 2 ^ 40) }
     {
-        if MAX_OPERATIONS <= self.parts.count_ended(txn) || MAX_BEGUN <= self.parts.last() {
+        if MAX_OPERATIONS <= self.parts.live().count_ended(txn) || MAX_BEGUN <= self.parts.last() {
             Some(Refusal::TooManyOperations)
         } else {
             None

@@ -51,7 +51,7 @@ impl<D: Device> Kernel<D> {
         ensures forced { (first : Base) (s : State) → Shows D.seen D.may_leave first s self.old
             → HasForced D.seen D.may_leave first s result self.new }
     {
-        if self.parts.has_failed() {
+        if self.parts.log().has_failed() {
             return Err(Refusal::DeviceFailed);
         }
         let mut names = Vec::with_capacity(self.alloc, self.parts.count_commits())?;
@@ -74,7 +74,7 @@ impl<D: Device> Kernel<D> {
         ensures failed { has_failed self.old.parts.operations.store.log ≡ true → result ≡ Err Refusal.DeviceFailed }
         ensures state { Stays D.seen D.may_leave self.old self.new }
     {
-        if self.parts.has_failed() {
+        if self.parts.log().has_failed() {
             return Err(Refusal::DeviceFailed);
         }
         match self.parts.flush_step() {

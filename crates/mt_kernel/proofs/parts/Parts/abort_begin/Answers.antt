@@ -3,17 +3,20 @@ use Rattle.mt_live.specs.Lives.{has_room}
 use Rattle.mt_live.specs.Members.{with_state}
 use Rattle.mt_live.specs.declared.transactions.TxnState.TheVariants.{Aborting}
 use Rattle.mt_kernel.proofs.Beginning.{changed_in, reopened, reopened_states}
-use Rattle.mt_kernel.proofs.Members.{changed_keeps}
+use Rattle.mt_kernel.proofs.Members.{changed_keeps, states_set}
+use Rattle.mt_kernel.proofs.Beginning.{there_open}
+use Rattle.mt_live.specs.Lives.{member_of}
 use Rattle.mt_kernel.proofs.parts.Parts.abort_begin.Goals as goal
 
-pub returns : goal.returns
-returns g c = record {
-  state = λ origin base safe. let e = c.set_state.ensures in let k = c.args.self.now in let was = c.requires in
-      changed_in g.D.Device.seen g.D.Device.may_leave origin base k (record k { live = c.set_state.new.self }) c.args.txn (λ m. with_state m Aborting) safe e.member e.begun e.standing e.count (λ m. refl)
-      (λ last records m told. record { many = told.many; numbers = told.numbers; rising = told.rising; due = told.due }) (λ m. refl) (λ m. refl)
-      (reopened k.live.members c.set_state.new.self.members c.args.txn was e.member)
-      (λ u h. changed_keeps has_room (λ m. with_state m Aborting) k.live.members c.set_state.new.self.members c.args.txn (λ m. refl) e.member u ∙ h)
-      (λ u. (reopened_states k.live.members c.set_state.new.self.members c.args.txn was e.member u).0)
-      (λ u. (reopened_states k.live.members c.set_state.new.self.members c.args.txn was e.member u).1)
-      (λ u. (reopened_states k.live.members c.set_state.new.self.members c.args.txn was e.member u).2);
-}
+pub returns-clause-state : goal.returns-clause-state
+returns-clause-state g c = λ origin base safe. let e = c.set_state.ensures in let k = c.args.self.now in let was = c.requires in
+    changed_in g.D.Device.seen g.D.Device.may_leave origin base k (record k { live = c.set_state.new.self }) c.args.txn (λ m. with_state m Aborting) safe e.member e.begun e.standing e.count (λ m. refl)
+    (λ last records m told. record { many = told.many; numbers = told.numbers; rising = told.rising; due = told.due }) (λ m. refl) (λ m. refl)
+    (reopened k.live.members c.set_state.new.self.members c.args.txn was e.member)
+    (λ u h. changed_keeps has_room (λ m. with_state m Aborting) k.live.members c.set_state.new.self.members c.args.txn (λ m. refl) e.member u ∙ h)
+    (λ u. (reopened_states k.live.members c.set_state.new.self.members c.args.txn was e.member u).0)
+    (λ u. (reopened_states k.live.members c.set_state.new.self.members c.args.txn was e.member u).1)
+    (λ u. (reopened_states k.live.members c.set_state.new.self.members c.args.txn was e.member u).2)
+
+pub returns-clause-aborts : goal.returns-clause-aborts
+returns-clause-aborts g c = let k = c.args.self.now in states_set k.live.members c.set_state.new.self.members c.args.txn Aborting (there_open (member_of k.live.members c.args.txn) c.requires) c.set_state.ensures.member

@@ -31,5 +31,5 @@ returns-in-Clear-clause-back g c = λ origin base safe x at. let k = c.args.self
     let q : Running = get_or items place x in
     let now : q ≡ get_or items place q = get_or_default items place x q inside in
     let same : SameOp x.scope q.scope = c.take_back.ensures.same origin base safe x q at now in
-    let gone = c.drop_out.ensures origin base made.0 q now in
+    let gone = c.drop_out.ensures.drops origin base made.0 q now in
     subst (λ (X : Type 0). X) (λ i. IsIn seen may_leave origin base (dropped (sym made.1 i) (same.txn i) c.drop_out.new.self.escrow.pending) c.drop_out.new.self) gone

@@ -2,6 +2,9 @@ use Rattle.std.proofs.Common.{◌+◌, refl, arith}
 use Rattle.mt_kernel.proofs.Beginning.{begun_in}
 use mathlib.Core.Logic.{∥∥₁_elim}
 use Rattle.std.proofs.Props.{props}
+use Rattle.std.specs.Prelude.{Some}
+use Rattle.mt_live.specs.Members.{fresh}
+use Rattle.mt_kernel.proofs.Members.{states_put}
 use Rattle.mt_kernel.proofs.parts.Parts.begin.Goals as goal
 
 pub overflow_add-self : goal.overflow_add-self
@@ -14,3 +17,6 @@ returns-clause-begun g c = λ origin base safe. let e = c.in_ok-txn.ensures in l
 
 pub log_takes-requires : goal.log_takes-requires
 log_takes-requires g c = ∥∥₁_elim c.requires.safe (hlevel props) (λ (origin, base, safe). safe.fit.log)
+
+pub returns-clause-opened : goal.returns-clause-opened
+returns-clause-opened g c = states_put c.args.self.now.live.members c.begin.new.self.members c.in_ok-txn.txn (Some (fresh c.in_ok-txn.txn c.args.session)) c.in_ok-txn.ensures.member

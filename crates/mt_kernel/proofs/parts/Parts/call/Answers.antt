@@ -16,6 +16,10 @@ use Rattle.mt_kernel.specs.Causes.{IsAnswered}
 use Rattle.mt_kernel.specs.Consistent.{log_kept}
 use Rattle.mt_kernel.specs.Runs.{left_of}
 use Rattle.mt_kernel.proofs.Calling.{open_some}
+use Rattle.std.proofs.Common.{◌∙◌}
+use Rattle.mt_live.specs.Members.{with_room}
+use Rattle.mt_kernel.specs.Runs.{state_in}
+use Rattle.mt_kernel.proofs.Members.{states_kept}
 use Rattle.mt_kernel.proofs.parts.Parts.call.Goals as goal
 
 pub lock-requires-clause-safe : goal.lock-requires-clause-safe
@@ -51,3 +55,12 @@ returns-clause-answer g c = λ origin base safe may. let k = c.args.self.now in 
     let kept : log_kept n ≡ log_kept k = ap (λ (rs : List Running). used k.operations.store.log + sum_by left_of rs + k.reserved) a.items in
     subst (λ m. IsAnswered g.D.Device.seen origin k m c.args.txn c.args.op.now c.args.split c.lock.result) kept
     (c.lock.ensures.answer origin base ready.consistent (prepared_may g.D.Device.seen g.D.Device.may_leave origin base k n c.args.txn c.args.op.now may e.member a.items))
+
+pub returns-clause-states : goal.returns-clause-states
+returns-clause-states g c = λ u. ap (λ (l : Lives). state_in l.members u) c.lock.ensures.live ∙ states_kept with_room c.args.self.now.live.members c.room.new.self.members c.args.txn (λ m. refl) c.in_ok-room.ensures.member u
+
+pub returns-in_err-reserve-clause-states : goal.returns-in_err-reserve-clause-states
+returns-in_err-reserve-clause-states g c = λ u. states_kept with_room c.args.self.now.live.members c.room.new.self.members c.args.txn (λ m. refl) c.in_ok-room.ensures.member u
+
+pub returns-in_err-room-clause-states : goal.returns-in_err-room-clause-states
+returns-in_err-room-clause-states g c = λ u. ap (λ (l : Lives). state_in l.members u) c.in_err-room.ensures.err

@@ -13,6 +13,10 @@ use Rattle.mt_kernel.proofs.Rooms.{rooms_in}
 use Rattle.mt_log.specs.Words.{appended}
 use Rattle.mt_kernel.proofs.Sounds.{opening_of, named_of, unended_of}
 use Rattle.mt_kernel.proofs.Committing.{may_commit}
+use Rattle.mt_kernel.proofs.Calling.{open_some}
+use Rattle.mt_kernel.proofs.Members.{states_set}
+use Rattle.mt_live.specs.Lives.{member_of}
+use Rattle.mt_live.specs.declared.transactions.TxnState.TheVariants.{Committing}
 use Rattle.mt_kernel.proofs.parts.Parts.commit_begin.Goals as goal
 
 pub returns-in_err-reserve-2-clause-state : goal.returns-in_err-reserve-2-clause-state
@@ -58,3 +62,9 @@ append-requires-clause-grammar g c = named_of g.D.Device.seen g.D.Device.may_lea
 
 pub append-requires-clause-rules : goal.append-requires-clause-rules
 append-requires-clause-rules g c = may_commit (appended c.args.self.now.operations.store.log) c.args.txn (named_of g.D.Device.seen g.D.Device.may_leave c.args.self.now c.requires.safe c.args.txn c.requires.at_work).0 (unended_of g.D.Device.seen g.D.Device.may_leave c.args.self.now c.requires.safe c.args.txn c.requires.at_work)
+
+pub returns-clause-commits : goal.returns-clause-commits
+returns-clause-commits g c = let k = c.args.self.now in states_set k.live.members c.set_state.new.self.members c.args.txn Committing (open_some (member_of k.live.members c.args.txn) c.requires.at_work) c.set_state.ensures.member
+
+pub returns-clause-queue : goal.returns-clause-queue
+returns-clause-queue g c = let it : Commit = record { txn = c.args.txn; place = c.in_ok-place.place } in (it, refl, c.push_reserved.ensures.items ∙ ap (λ (cs : List Commit). cs ++ it ∷ []) c.reserve.ensures.items)

@@ -44,8 +44,8 @@ overflow_sub-self g c = ∥∥₁_elim c.requires.cleared (hlevel props) (λ (or
     let enough = kept_enough g.D.Device.seen g.D.Device.may_leave origin base k c.args.place r y.fit y.alone.within y.alone.there fore in
     let bytes = c.bytes_to_undo.ensures in omega arith)
 
-pub returns : goal.returns
-returns g c = λ origin base cleared x is.
+pub returns-clause-drops : goal.returns-clause-drops
+returns-clause-drops g c = λ origin base cleared x is.
     let r = c.remove-scope.result in let y = cleared r c.remove-scope.ensures.value in let e = c.drop_out.ensures in let f = c.give_back.ensures in let k = c.args.self.now in let seen = g.D.Device.seen in
     let fore = c.requires.forward r c.remove-scope.ensures.value in
     let owned : IsOwned k.live.members k.live.standing r = subst (IsOwned k.live.members k.live.standing) (sym y.alone.there) (y.fit.owned c.args.place r y.alone.within) in

@@ -1,6 +1,6 @@
 use mathlib.Core.Logic.{∥∥₁_elim}
 use Rattle.std.proofs.Props.{props}
-use Rattle.std.proofs.Common.{◌≡◌, ◌∙◌, ◌++◌, ◌∷◌, [], sym, ap, subst, arith}
+use Rattle.std.proofs.Common.{refl, ◌≡◌, ◌∙◌, ◌++◌, ◌∷◌, [], sym, ap, subst, arith}
 use Rattle.mt_live.specs.Lives.{member_of, has_room, IsChanged, IsAbove}
 use Rattle.mt_live.specs.Members.{with_call}
 use Rattle.mt_kernel.proofs.Effects.{weighs_less}
@@ -17,6 +17,8 @@ use Rattle.mt_kernel.specs.Consistent.{state_of, IsIn}
 use Rattle.mt_kernel.specs.declared.parts.Parts.{Parts}
 use Rattle.mt_kernel.specs.declared.parts.Running.{Running}
 use Rattle.mt_kernel.proofs.Refusing.{Above-prop}
+use Rattle.mt_kernel.proofs.Members.{states_kept}
+use Rattle.mt_live.specs.Members.{with_call}
 use Rattle.mt_kernel.proofs.parts.Parts.note_end.Goals as goal
 
 pub end-requires-clause-ready : goal.end-requires-clause-ready
@@ -51,8 +53,8 @@ note-requires g c = record {
       subst (λ (X : Type 0). X) (λ i. IsAbove (sym c.number-number.ensures i) (member_of k.live.members (sym c.txn-txn.ensures i))) (owned.newest (c.requires.forward r c.remove-scope.ensures.value)));
 }
 
-pub returns : goal.returns
-returns g c = λ origin base ready x is.
+pub returns-clause-ends : goal.returns-clause-ends
+returns-clause-ends g c = λ origin base ready x is.
     let r = c.remove-scope.result in let y = ready r c.remove-scope.ensures.value in let e = c.end.ensures in let f = c.give_back.ensures in let m = c.note.ensures in let k = c.args.self.now in
     let seen = g.D.Device.seen in
     let fore = c.requires.forward r c.remove-scope.ensures.value in
@@ -75,3 +77,6 @@ returns g c = λ origin base ready x is.
     (noted_in seen g.D.Device.may_leave origin base k n c.args.place r c.args.reply y fore c.remove-scope.ensures.items ended_now (omega arith) (omega arith)
     (m.standing ∙ (λ i. k.live.standing ++ record { txn = c.txn-txn.ensures i; op = r.op; reply = c.args.reply } ∷ []))
     (subst (λ (X : Type 0). X) (λ i. IsChanged k.live.members c.note.new.self.members (c.txn-txn.ensures i) (λ z. with_call z (c.number-number.ensures i) (r.op, c.args.reply))) m.member) m.begun m.count)
+
+pub returns-clause-states : goal.returns-clause-states
+returns-clause-states g c = λ u. states_kept (λ m. with_call m c.number-number.result (c.remove-scope.result.op, c.args.reply)) c.args.self.now.live.members c.note.new.self.members c.txn-txn.result (λ m. refl) c.note.ensures.member u

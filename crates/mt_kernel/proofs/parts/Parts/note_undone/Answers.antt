@@ -14,6 +14,8 @@ use Rattle.mt_model.specs.Model.{base_after}
 use Rattle.mt_kernel.specs.Consistent.{state_of, IsIn}
 use Rattle.mt_kernel.specs.declared.parts.Parts.{Parts}
 use Rattle.mt_kernel.specs.declared.parts.Running.{Running}
+use Rattle.mt_kernel.proofs.Members.{states_kept}
+use Rattle.mt_kernel.proofs.Ending.{taken_state}
 use Rattle.mt_kernel.proofs.parts.Parts.note_undone.Goals as goal
 
 pub end-requires-clause-ready : goal.end-requires-clause-ready
@@ -27,8 +29,8 @@ undone-requires g c = ∥∥₁_elim c.requires.ready (hlevel props) (λ (origin
     let owned : IsOwned k.live.members k.live.standing r = subst (IsOwned k.live.members k.live.standing) (sym y.alone.there) (y.fit.owned c.args.place r y.alone.within) in
     ap (λ t. is_member k.live.members t) c.txn-txn.ensures ∙ open_some (member_of k.live.members r.scope.txn) owned.at_work)
 
-pub returns : goal.returns
-returns g c = λ origin base reply ready x is.
+pub returns-clause-ends : goal.returns-clause-ends
+returns-clause-ends g c = λ origin base reply ready x is.
     let r = c.remove-scope.result in let y = ready r c.remove-scope.ensures.value in let e = c.end.ensures in let f = c.undone.ensures in let k = c.args.self.now in
     let seen = g.D.Device.seen in
     let n : Parts g.row.D.Denot = record k { operations = c.end.new.self; live = c.undone.new.self; running = c.remove-scope.new.self; escrow = c.let_go.new.escrow } in
@@ -39,3 +41,6 @@ returns g c = λ origin base reply ready x is.
     (f.standing ∙ (λ i. cut_back (c.txn-txn.ensures i) k.live.standing))
     (subst (λ (X : Type 0). X) (λ i. IsChanged k.live.members c.undone.new.self.members (c.txn-txn.ensures i) taken_back) f.member) f.begun f.count
     (subst (λ (X : Type 0). X) (λ i. GivesBack (c.txn-txn.ensures i) r.op k.escrow.pending c.let_go.new.escrow.pending) c.let_go.ensures.given) c.let_go.ensures.committed)
+
+pub returns-clause-states : goal.returns-clause-states
+returns-clause-states g c = λ u. states_kept taken_back c.args.self.now.live.members c.undone.new.self.members c.txn-txn.result taken_state c.undone.ensures.member u

@@ -30,7 +30,7 @@ returns-in-Ready-clause-steps g c = λ origin base safe x at. let k = c.args.sel
     let now : q ≡ get_or items place q = get_or_default items place x q inside in
     let same : SameOp x.scope q.scope = c.advance.ensures.same origin base safe x q at now in
     let ready : IsReady seen may_leave origin base c.advance.new.self place q c.in-Ready.reply = made.0 q now in
-    let noted = c.note_end.ensures origin base made.0 q now in (
+    let noted = c.note_end.ensures.ends origin base made.0 q now in (
       ap (reply_of base) (sym same.op) ∙ ready.replies ∙ sym made.1,
       subst (λ (X : Type 0). X) (λ i. IsIn seen may_leave origin (base_after base (same.op i)) (ended (sym made.2 i) (same.txn i) (same.op i)) c.note_end.new.self) noted,
     )

@@ -16,7 +16,7 @@ use Rattle.mt_steps.specs.Held.{Holds}
 use Rattle.mt_steps.proofs.Formatting.{formatted_holds}
 use Rattle.mt_restart.specs.declared.schema.Schema.{Schema}
 use Rattle.mt_restart.specs.Formats.{IsFirstMap, IsFirstPage, HasFirstPages, IsFormattedAs, empty_area, first_slot}
-use Rattle.mt_restart.specs.Schemas.{pages_in, relations_in, counters_in, first_base, pages_end, area_end, device_bytes}
+use Rattle.mt_restart.specs.Schemas.{pages_in, relations_in, counters_in, schema_base, pages_end, area_end, device_bytes}
 
 -- ---- pages in their slots
 
@@ -100,14 +100,14 @@ module _ (s : Schema) (c : List ℕ) (has : HasFirstPages s c) where
         counts = n.formed;
       }
 
-  no_row : (r : ℕ) (k : List ℕ) → (first_base s).rows r k ≡ None
+  no_row : (r : ℕ) (k : List ℕ) → (schema_base s).rows r k ≡ None
   no_row r k = none (rows_of s.base) s.no_rows
     where
       none : (rows : List Row) → length rows ≡ 0 → value_at rows r k ≡ None
       none [] is = refl
       none (x ∷ xs) is = absurd (omega arith)
 
-  holds : Holds (slot 8192 c) (first_base s)
+  holds : Holds (slot 8192 c) (schema_base s)
   holds =
       let h = formatted_holds (relations_in s) (length (counters_in s)) (pages_in s) (slot 8192 c) formatted in
       let n = (first 2 (omega arith)).counters refl in

@@ -15,7 +15,7 @@ use Rattle.mt_pool.specs.Views.{IsPool, Shows, view, waits_for, pages, frames}
 use Rattle.mt_pool.specs.declared.pool.Pool.{Pool}
 use Rattle.mt_pool.specs.declared.store.Store.{Store}
 use Rattle.mt_restart.specs.Formats.{IsFormattedAs}
-use Rattle.mt_restart.specs.Schemas.{pages_in, mib_in, relations_in, counters_in, first_base, pages_end, area_end}
+use Rattle.mt_restart.specs.Schemas.{pages_in, mib_in, relations_in, counters_in, schema_base, pages_end, area_end}
 use Rattle.mt_restart.specs.declared.schema.Schema.{Schema}
 
 -- its first area, with nothing but the empty first batch
@@ -64,6 +64,6 @@ pub record AreFresh {D : Type 0} (seen : D → List ℕ) (may_leave : D → List
   pub device : D
   pub formatted : IsFormattedAs s (seen device)
   pub operations : AreFirst seen may_leave s device o
-  pub bounds : IsBase (first_base s)
+  pub bounds : IsBase (schema_base s)
   pub committed : e.committed ≡ counters_in s
   pub pending : e.pending ≡ []

@@ -13,7 +13,7 @@ use Rattle.mt_steps.specs.Counters.{AreCounters, count_in}
 use Rattle.mt_steps.specs.Formatted.{IsFormatted}
 use Rattle.mt_steps.specs.Held.{Holds}
 use Rattle.mt_restart.specs.declared.schema.Schema.{Schema}
-use Rattle.mt_restart.specs.Schemas.{pages_in, mib_in, relations_in, counters_in, first_base, pages_end, area_end, device_bytes}
+use Rattle.mt_restart.specs.Schemas.{pages_in, mib_in, relations_in, counters_in, schema_base, pages_end, area_end, device_bytes}
 
 -- ---- its pages
 
@@ -74,7 +74,7 @@ pub record IsFormattedAs (s : Schema) (c : List ℕ) : Type 0 where
   pub other : get_or c 4096 0 ≢ 165
   pub area : HoldsBatches c (pages_end s) (area_end s) (pages_in s) ([] ∷ [])
   pub pages : IsFormatted (relations_in s) (length (counters_in s)) (pages_in s) (slot 8192 c)
-  pub base : Holds (slot 8192 c) (first_base s)
+  pub base : Holds (slot 8192 c) (schema_base s)
   pub zeros : (p : ℕ) → 4 ≤ p → p < pages_in s → AreZero (slot 8192 c p) 0 4096
 
 -- ---- how it comes to be

@@ -21,8 +21,8 @@ abbrev pub counters_in : Schema → List Count
 counters_in s = counters_of s.base
 
 -- no rows, and each counter at its start
-abbrev pub first_base : Schema → Base
-first_base s = base_of s.base
+abbrev pub schema_base : Schema → Base
+schema_base s = base_of s.base
 
 -- the bytes of a device of it
 abbrev pub device_bytes : Schema → ℕ

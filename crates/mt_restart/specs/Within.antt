@@ -3,7 +3,7 @@ use Rattle.std.specs.Prelude.{ℕ, ℤ, List, All, length}
 use Rattle.mt_base.specs.Limits.{IsPageCount, IsAreaSize, IsRelationCount, IsCounterCount, IsCounter}
 
 -- numbers and counters, each a low bound, a high bound and a start, all within their limits
-pub record IsSchema (page_count mib relation_count : ℕ) (bounds : List (ℤ × ℤ × ℤ)) : Type 0 where
+pub record IsWithinLimits (page_count mib relation_count : ℕ) (bounds : List (ℤ × ℤ × ℤ)) : Type 0 where
   pub pages : IsPageCount page_count
   pub area : IsAreaSize mib
   pub relations : IsRelationCount relation_count

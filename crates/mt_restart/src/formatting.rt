@@ -58,6 +58,7 @@ fn write_content<D: Device>(device: &mut D, schema: &Schema) -> Result<(), Devic
     requires shut { (c : List ℕ) → D.may_leave device.old c → IsShut c }
     ensures pages { OnOk result (HasFirstPages schema.now (D.seen device.new)) }
     ensures area { OnOk result (Has (D.seen device.new) (pages_end schema.now) empty_area) }
+    ensures durable { OnOk result (Only (D.seen device.new) (D.may_leave device.new)) }
     ensures moments { LeavesOnly D.moment D.left_since device.old device.new IsShut }
     ensures tears { Tears D.seen D.may_leave 8192 (4096 * pages_in schema.now + 6) device.old device.new }
     ensures cause { HasCause (D.faults device.old) (D.faults device.new) result }

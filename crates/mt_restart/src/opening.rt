@@ -77,8 +77,8 @@ pub(crate) fn first_operations<D: Device + Drop>(
     }
 }
 
-// Formats a device, and begins operations over it and an escrow of the schema's counters. What takes memory and can be made
-// before the device is written is made before. Each refusal hands the device back.
+// Formats a device, and begins operations over it and an escrow of the schema's counters. What takes memory and can be
+// made before the device is written is made before. Each refusal hands the device back.
 pub(crate) fn fresh_parts<D: Device + Drop>(
     alloc: Global,
     device: D,

@@ -4,7 +4,7 @@ ghost use Rattle.mt_base.specs.Limits.{IsPageCount, IsAreaSize, IsRelationCount,
 ghost use Rattle.mt_base.specs.declared.refusal.Refusal.{Refusal};
 ghost use Rattle.mt_model.specs.Tables.{AreLimited, started};
 ghost use Rattle.mt_model.specs.Views.{rows_of, counters_of, relations_of};
-ghost use Rattle.mt_restart.specs.Within.{IsSchema};
+ghost use Rattle.mt_restart.specs.Within.{IsWithinLimits};
 
 use mt_base::Refusal;
 use mt_base::limits::{
@@ -44,8 +44,8 @@ fn counters_fit(counters: &[(i64, i64, i64)]) -> bool
 
 // Whether all of it lies within the limits.
 fn is_schema(pages: u16, area_mib: u8, relations: u16, counters: &[(i64, i64, i64)]) -> bool
-    ensures { MatchBool result (IsSchema pages area_mib relations counters.now)
-        (IsSchema pages area_mib relations counters.now → ⊥) }
+    ensures { MatchBool result (IsWithinLimits pages area_mib relations counters.now)
+        (IsWithinLimits pages area_mib relations counters.now → ⊥) }
 {
     page_count_fits(pages)
         && area_size_fits(area_mib)
@@ -71,10 +71,10 @@ impl Schema {
         ensures area { IfOk result (λ schema. mib_in schema ≡ area_mib) }
         ensures relations { IfOk result (λ schema. relations_in schema ≡ relations) }
         ensures counters { IfOk result (λ schema. counters_in schema ≡ map started counters.now) }
-        ensures within { IsOk result → IsSchema pages area_mib relations counters.now }
+        ensures within { IsOk result → IsWithinLimits pages area_mib relations counters.now }
         ensures cause { IfErr result (λ why.
-            (why ≡ Refusal.BadLength) × (IsSchema pages area_mib relations counters.now → ⊥)
-            ⊎ (why ≡ Refusal.NoMemory) × IsSchema pages area_mib relations counters.now) }
+            (why ≡ Refusal.BadLength) × (IsWithinLimits pages area_mib relations counters.now → ⊥)
+            ⊎ (why ≡ Refusal.NoMemory) × IsWithinLimits pages area_mib relations counters.now) }
     {
         if !is_schema(pages, area_mib, relations, counters) {
             return Err(Refusal::BadLength);

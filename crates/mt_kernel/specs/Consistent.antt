@@ -177,6 +177,9 @@ SameStates k n = (u : ℕ) → state_in n.live.members u ≡ state_in k.live.mem
 abbrev pub SetsState : {D : Type 0} → Parts D → Parts D → ℕ → Option TxnState → Type 0
 SetsState k n t x = (u : ℕ) → state_in n.live.members u ≡ put (state_in k.live.members) t x u
 
+abbrev pub SameStatesBut : {D : Type 0} → Parts D → Parts D → ℕ → Type 0
+SameStatesBut k n t = (u : ℕ) → u ≢ t → state_in n.live.members u ≡ state_in k.live.members u
+
 -- consistent on some base
 abbrev pub IsSound : {D : Type 0} → (D → List ℕ) → (D → List ℕ → Type 0) → Parts D → Type 0
 IsSound seen may_leave k = ∥ ((origin : Origin) × (base : Base) × IsConsistent seen may_leave origin base k) ∥₁

@@ -112,6 +112,7 @@ impl<D: Device> Parts<D> {
         ensures left { (origin : Origin) (base : Base) (c : Commit) (cs : List Commit)
             → IsConsistent D.seen D.may_leave origin base self.old → self.old.commits.items ≡ c ∷ cs
             → BooksIn D.seen D.may_leave origin base self.old self.new c }
+        ensures store { self.new.operations.store ≡ self.old.operations.store }
         ensures rest { (c : Commit) (cs : List Commit) → self.old.commits.items ≡ c ∷ cs
             → (result ≡ c.txn) × (self.new.commits.items ≡ cs) }
     {
@@ -135,6 +136,7 @@ impl<D: Device> Parts<D> {
         ensures left { (origin : Origin) (base : Base) → IsConsistent D.seen D.may_leave origin base self.old
             → IsIn D.seen D.may_leave origin base (booked_each (state_of self.old base)
             (durable_txns self.old.commits.items place)) self.new }
+        ensures store { self.new.operations.store ≡ self.old.operations.store }
         ensures names { names.new.items ≡ names.old.items ++ durable_txns self.old.commits.items place }
         ensures rest { self.new.commits.items
             ≡ drop (durable_count self.old.commits.items place) self.old.commits.items }

@@ -3,6 +3,7 @@ ghost use Rattle.std.specs.Prelude.{◌≡◌, ◌≢◌, ◌⊎◌, ◌<◌, �
 ghost use Rattle.mt_live.specs.Machine.{dropped};
 ghost use Rattle.mt_model.specs.Model.{Base};
 ghost use Rattle.mt_op.specs.Moves.{SameOp};
+ghost use Rattle.mt_op.specs.Faults.{TellsFaults};
 ghost use Rattle.mt_op.specs.Operations.{IsCause};
 ghost use Rattle.mt_live.specs.declared.transactions.TxnState.TheVariants.{Aborting};
 ghost use Rattle.mt_kernel.specs.Consistent.{BacksIn, DropsIn, state_in, IsSound, IsClearedAt, AtPlace, Origin, state_of, IsConsistent, IsCleared, IsIn, GoesBack};
@@ -30,6 +31,8 @@ impl<D: Device> Parts<D> {
         ensures same { (origin : Origin) (base : Base) → IsConsistent D.seen D.may_leave origin base self.old
             → (r q : Running) → r ≡ slice_index_or self.old.running.items place r → q ≡ slice_index_or self.new.running.items place q → SameOp r.scope q.scope }
         ensures why { IfErr result IsCause }
+        ensures faults { TellsFaults (D.faults self.old.operations.store.device)
+            (D.faults self.new.operations.store.device) result }
         ensures back { (origin : Origin) (base : Base) → IsConsistent D.seen D.may_leave origin base self.old
             → GoesBack D.seen D.may_leave origin base (state_of self.old base) self.new place result }
     {
@@ -43,6 +46,7 @@ impl<D: Device> Parts<D> {
             × IsClearedAt D.seen D.may_leave origin base self.old place) ∥₁ }
         requires within { place < length self.old.running.items }
         requires forward { AtPlace self.old.running.items place (λ r. r.scope.undoes ≡ 0) }
+        ensures store { self.new.operations.store ≡ self.old.operations.store }
         ensures live { self.new.live ≡ self.old.live }
         ensures drops { (origin : Origin) (base : Base) → IsClearedAt D.seen D.may_leave origin base self.old place
             → AtPlace self.old.running.items place (λ r. DropsIn D.seen D.may_leave origin base self.old self.new r) }
@@ -71,6 +75,8 @@ impl<D: Device> Parts<D> {
             → BacksIn D.seen D.may_leave origin base self.old self.new place result }
         ensures live { self.new.live ≡ self.old.live }
         ensures why { IfErr result IsCause }
+        ensures faults { TellsFaults (D.faults self.old.operations.store.device)
+            (D.faults self.new.operations.store.device) result }
     {
         match self.take_back(place)? {
             TakenBack::Clear => {

@@ -35,6 +35,7 @@ impl<D: Device> Parts<D> {
             × IsReadyAt D.seen D.may_leave origin base self.old place reply) ∥₁ }
         requires within { place < length self.old.running.items }
         requires forward { AtPlace self.old.running.items place (λ r. r.scope.undoes ≡ 0) }
+        ensures store { self.new.operations.store ≡ self.old.operations.store }
         ensures states { SameStates self.old self.new }
         ensures ends { (origin : Origin) (base : Base) → IsReadyAt D.seen D.may_leave origin base self.old place reply
             → AtPlace self.old.running.items place (λ r. EndsIn D.seen D.may_leave origin base self.old self.new r) }
@@ -55,6 +56,7 @@ impl<D: Device> Parts<D> {
             × IsReadyAt D.seen D.may_leave origin base self.old place reply) ∥₁ }
         requires within { place < length self.old.running.items }
         requires back { AtPlace self.old.running.items place (λ r. r.scope.undoes ≢ 0) }
+        ensures store { self.new.operations.store ≡ self.old.operations.store }
         ensures states { SameStates self.old self.new }
         ensures ends { (origin : Origin) (base : Base) (reply : Reply)
             → IsReadyAt D.seen D.may_leave origin base self.old place reply

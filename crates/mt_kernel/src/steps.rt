@@ -4,6 +4,7 @@ ghost use Rattle.mt_model.specs.Model.{Base};
 ghost use Rattle.mt_op.specs.declared.scope.Stage.TheVariants.{Planning, Writing};
 ghost use Rattle.mt_kernel.specs.Consistent.{SameStates, IsSound, AtPlace, Origin, state_of, IsConsistent, Advances};
 ghost use Rattle.mt_op.specs.Moves.{SameOp};
+ghost use Rattle.mt_op.specs.Faults.{TellsFaults};
 ghost use Rattle.mt_op.specs.Operations.{IsCause};
 ghost use Rattle.mt_kernel.specs.Steps.{Steps, UndoSteps};
 ghost use Rattle.mt_kernel.specs.declared.parts.Running.{Running};
@@ -49,6 +50,8 @@ impl<D: Device> Parts<D> {
             → (r q : Running) → r ≡ slice_index_or self.old.running.items place r → q ≡ slice_index_or self.new.running.items place q → SameOp r.scope q.scope }
         ensures live { self.new.live ≡ self.old.live }
         ensures why { IfErr result IsCause }
+        ensures faults { TellsFaults (D.faults self.old.operations.store.device)
+            (D.faults self.new.operations.store.device) result }
         ensures advances { (origin : Origin) (base : Base) → IsConsistent D.seen D.may_leave origin base self.old
             → Advances D.seen D.may_leave origin base (state_of self.old base) self.new place result }
     {
@@ -68,6 +71,8 @@ impl<D: Device> Parts<D> {
             ≡ Writing)) }
         ensures states { SameStates self.old self.new }
         ensures why { IfErr result IsCause }
+        ensures faults { TellsFaults (D.faults self.old.operations.store.device)
+            (D.faults self.new.operations.store.device) result }
         ensures steps { (origin : Origin) (base : Base) → IsConsistent D.seen D.may_leave origin base self.old
             → Steps D.seen D.may_leave origin base self.old self.new place result }
     {
@@ -96,6 +101,8 @@ impl<D: Device> Parts<D> {
             ≡ Writing)) }
         ensures states { SameStates self.old self.new }
         ensures why { IfErr result IsCause }
+        ensures faults { TellsFaults (D.faults self.old.operations.store.device)
+            (D.faults self.new.operations.store.device) result }
         ensures steps { (origin : Origin) (base : Base) → IsConsistent D.seen D.may_leave origin base self.old
             → UndoSteps D.seen D.may_leave origin base self.old self.new place result }
     {

@@ -1,11 +1,13 @@
 // The inverses of an abort, and its end.
-ghost use Rattle.std.specs.Prelude.{◌≡◌, ◌≢◌, ℕ, true, false, All, None, Some, Ok, IfErr, OnOk, OnErr};
+ghost use Rattle.std.specs.Prelude.{◌≡◌, ◌≢◌, ◌++◌, ◌∷◌, [], ℕ, true, false, All, None, Some, Ok, IfErr, OnOk, OnErr};
+ghost use Rattle.mt_frame.specs.declared.records.Record.TheVariants.{AbortEnd};
 ghost use Rattle.mt_live.specs.Lives.{member_of};
+ghost use Rattle.mt_log.specs.Words.{appended};
 ghost use Rattle.mt_live.specs.Machine.{gone};
 ghost use Rattle.mt_live.specs.Undoing.{last_effect};
 ghost use Rattle.mt_model.specs.Model.{Base};
 ghost use Rattle.mt_live.specs.declared.transactions.TxnState.TheVariants.{Aborting};
-ghost use Rattle.mt_kernel.specs.Consistent.{IsSound, StaysIn, state_in, Origin, state_of, IsConsistent, IsIn};
+ghost use Rattle.mt_kernel.specs.Consistent.{IsSound, SameStatesBut, StaysIn, state_in, Origin, state_of, IsConsistent, IsIn};
 ghost use Rattle.mt_kernel.specs.Runs.{is_open};
 ghost use Rattle.mt_kernel.specs.declared.parts.Running.{Running};
 
@@ -30,6 +32,7 @@ impl<D: Device> Parts<D> {
         ensures state { StaysIn D.seen D.may_leave self.old self.new }
         ensures nothing { result ≡ Ok false → last_effect txn self.old.live.standing ≡ None }
         ensures same { result ≡ Ok false → self.new ≡ self.old }
+        ensures store { self.new.operations.store ≡ self.old.operations.store }
         ensures live { self.new.live ≡ self.old.live }
         ensures only_memory { IfErr result (λ why. why ≡ Refusal.NoMemory) }
     {
@@ -63,6 +66,9 @@ impl<D: Device> Parts<D> {
         requires nothing { last_effect txn self.old.live.standing ≡ None }
         ensures gone { (origin : Origin) (base : Base) → IsConsistent D.seen D.may_leave origin base self.old
             → OnOk result (IsIn D.seen D.may_leave origin base (gone (state_of self.old base) txn) self.new) }
+        ensures ended { OnOk result (appended self.new.operations.store.log
+            ≡ appended self.old.operations.store.log ++ AbortEnd txn ∷ []) }
+        ensures others { SameStatesBut self.old self.new txn }
         ensures err { (origin : Origin) (base : Base) → IsConsistent D.seen D.may_leave origin base self.old
             → OnErr result (IsIn D.seen D.may_leave origin base (state_of self.old base) self.new) }
         ensures only_memory { IfErr result (λ why. why ≡ Refusal.NoMemory) }

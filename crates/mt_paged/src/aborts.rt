@@ -1,11 +1,11 @@
 // Aborts, by the inverses of what was done.
-ghost use Rattle.std.specs.Prelude.{◌≡◌, ◌≢◌, ◌<◌, length, All, IfErr, OnOk, OnErr, None, Some};
+ghost use Rattle.std.specs.Prelude.{◌≡◌, ◌≢◌, ◌<◌, length, All, IfOk, IfErr, OnOk, OnErr, None, Some};
 ghost use Rattle.mt_base.specs.declared.refusal.Refusal.{Refusal};
 ghost use Rattle.mt_live.specs.Machine.{State};
 ghost use Rattle.mt_model.specs.Model.{Base};
 ghost use Rattle.mt_live.specs.declared.transactions.TxnState.TheVariants.{Aborting};
 ghost use Rattle.mt_op.specs.Operations.{IsCause};
-ghost use Rattle.mt_kernel.specs.Consistent.{AtPlace};
+ghost use Rattle.mt_kernel.specs.Consistent.{AtPlace, SameStates, SetsState};
 ghost use Rattle.mt_kernel.specs.Runs.{state_in};
 ghost use Rattle.mt_kernel.specs.declared.parts.Running.{Running};
 ghost use Rattle.mt_paged.specs.Causes.{abort_cause, open_cause};
@@ -29,6 +29,7 @@ impl<D: Device> Kernel<D> {
         ensures may { OnOk result (open_cause self.old.parts txn ≡ None) }
         ensures cause { IfErr result (λ why. open_cause self.old.parts txn ≡ Some why) }
         ensures state { Stays D.seen D.may_leave self.old self.new }
+        ensures aborts { OnOk result (SetsState self.old.parts self.new.parts txn (Some Aborting)) }
         ensures err { OnErr result (self.new ≡ self.old) }
     {
         if let Some(why) = self.open_cause(txn) {
@@ -44,6 +45,7 @@ impl<D: Device> Kernel<D> {
         requires own { AtPlace self.old.parts.running.items place (λ r. (r.scope.txn ≡ txn) × (r.scope.undoes ≡ 0)) }
         requires aborting { state_in self.old.parts.live.members txn ≡ Some Aborting }
         ensures why { IfErr result IsCause }
+        ensures states { IfOk result (λ stepped. stepped ≢ AbortStepped.Ended → SameStates self.old.parts self.new.parts) }
         ensures aborted { (first : Base) (s : State) → Shows D.seen D.may_leave first s self.old
             → HasAborted D.seen D.may_leave first s txn result self.new }
     {
@@ -59,6 +61,7 @@ impl<D: Device> Kernel<D> {
         requires within { place < length self.old.parts.running.items }
         requires own { AtPlace self.old.parts.running.items place (λ r. (r.scope.txn ≡ txn) × (r.scope.undoes ≢ 0)) }
         ensures why { IfErr result IsCause }
+        ensures states { IfOk result (λ stepped. stepped ≢ AbortStepped.Ended → SameStates self.old.parts self.new.parts) }
         ensures aborted { (first : Base) (s : State) → Shows D.seen D.may_leave first s self.old
             → HasAborted D.seen D.may_leave first s txn result self.new }
     {
@@ -91,6 +94,7 @@ impl<D: Device> Kernel<D> {
         requires idle { All (λ (r : Running). r.scope.txn ≢ txn) self.old.parts.running.items }
         requires aborting { state_in self.old.parts.live.members txn ≡ Some Aborting }
         ensures why { IfErr result IsCause }
+        ensures states { IfOk result (λ stepped. stepped ≢ AbortStepped.Ended → SameStates self.old.parts self.new.parts) }
         ensures aborted { (first : Base) (s : State) → Shows D.seen D.may_leave first s self.old
             → HasAborted D.seen D.may_leave first s txn result self.new }
     {
@@ -111,6 +115,7 @@ impl<D: Device> Kernel<D> {
         ensures may { OnOk result (abort_cause self.old.parts txn ≡ None) }
         ensures cause { IfErr result (λ why. why ≢ Refusal.NoMemory → why ≢ Refusal.DeviceFailed
             → abort_cause self.old.parts txn ≡ Some why) }
+        ensures states { IfOk result (λ stepped. stepped ≢ AbortStepped.Ended → SameStates self.old.parts self.new.parts) }
         ensures aborted { (first : Base) (s : State) → Shows D.seen D.may_leave first s self.old
             → HasAborted D.seen D.may_leave first s txn result self.new }
     {

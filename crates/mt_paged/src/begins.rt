@@ -3,6 +3,8 @@ ghost use Rattle.std.specs.Prelude.{◌≡◌, ◌≢◌, ◌+◌, ◌^◌, IfOk
 ghost use Rattle.mt_base.specs.declared.refusal.Refusal.{Refusal};
 ghost use Rattle.mt_live.specs.Machine.{State, begun};
 ghost use Rattle.mt_model.specs.Model.{Base};
+ghost use Rattle.mt_live.specs.declared.transactions.TxnState.TheVariants.{Open};
+ghost use Rattle.mt_kernel.specs.Consistent.{SetsState};
 ghost use Rattle.mt_paged.specs.Causes.{begin_cause};
 ghost use Rattle.mt_paged.specs.Shown.{Shows};
 
@@ -24,6 +26,7 @@ impl<D: Device> Kernel<D> {
         ensures cause { IfErr result (λ why. why ≢ Refusal.NoMemory → begin_cause self.old.parts ≡ Some why) }
         ensures begun { (first : Base) (s : State) → Shows D.seen D.may_leave first s self.old
             → OnOk result (Shows D.seen D.may_leave first (begun s session) self.new) }
+        ensures opened { IfOk result (λ txn. SetsState self.old.parts self.new.parts txn (Some Open)) }
         ensures err { OnErr result (self.new.parts ≡ self.old.parts) }
     {
         if self.parts.log().has_failed() {
@@ -33,7 +36,9 @@ impl<D: Device> Kernel<D> {
         if MAX_LIVE <= lives {
             return Err(Refusal::TooManyTransactions);
         }
-        if MAX_COMMITS <= self.parts.book().len() + lives || MAX_BEGUN <= self.parts.live().begun() {
+        if MAX_COMMITS <= self.parts.book().len() + lives
+            || MAX_BEGUN <= self.parts.live().begun()
+        {
             return Err(Refusal::BookFull);
         }
         self.parts.begin(session)

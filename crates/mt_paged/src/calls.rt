@@ -3,6 +3,7 @@ ghost use Rattle.std.specs.Prelude.{◌≡◌, None, Some, Err};
 ghost use Rattle.mt_base.specs.declared.refusal.Refusal.{Refusal};
 ghost use Rattle.mt_live.specs.Machine.{State};
 ghost use Rattle.mt_model.specs.Model.{Base};
+ghost use Rattle.mt_kernel.specs.Consistent.{SameStates};
 ghost use Rattle.mt_paged.specs.Causes.{call_cause};
 ghost use Rattle.mt_paged.specs.Events.{HasCalled, IsAnsweredBy};
 ghost use Rattle.mt_paged.specs.Shown.{Shows};
@@ -29,6 +30,7 @@ impl<D: Device> Kernel<D> {
             → result ≡ Err why }
         ensures answer { call_cause self.old.relations self.old.counters self.old.parts txn op ≡ None
             → IsAnsweredBy D.seen D.may_leave self.old txn op result }
+        ensures states { SameStates self.old.parts self.new.parts }
         ensures called { (first : Base) (s : State) → Shows D.seen D.may_leave first s self.old
             → HasCalled D.seen D.may_leave first s txn op result self.new }
     {

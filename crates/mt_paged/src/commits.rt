@@ -1,9 +1,12 @@
 // Commits, the steps that make them durable, and flushes.
-ghost use Rattle.std.specs.Prelude.{◌≡◌, ◌≢◌, ◌⊎◌, ◌<◌, ◌+◌, length, IfOk, IfErr, IsErr, OnOk, OnErr, None, Some, true};
+ghost use Rattle.std.specs.Prelude.{◌≡◌, ◌≢◌, ◌+◌, ◌++◌, ◌∷◌, [], length, IfOk, IfErr, IsErr, OnOk, OnErr, None, Some, true};
 ghost use Rattle.mt_base.specs.declared.refusal.Refusal.{Refusal};
 ghost use Rattle.mt_live.specs.Machine.{State};
 ghost use Rattle.mt_log.specs.Words.{has_failed};
 ghost use Rattle.mt_model.specs.Model.{Base};
+ghost use Rattle.mt_live.specs.declared.transactions.TxnState.TheVariants.{Committing};
+ghost use Rattle.mt_kernel.specs.Consistent.{SameStates, SetsState};
+ghost use Rattle.mt_kernel.specs.declared.parts.Commit.{Commit};
 ghost use Rattle.mt_paged.specs.Causes.{commit_cause};
 ghost use Rattle.mt_paged.specs.Events.{HasForced};
 ghost use Rattle.mt_paged.specs.Shown.{Shows, Stays};
@@ -28,6 +31,10 @@ impl<D: Device> Kernel<D> {
         ensures place { IfOk result (λ place.
             place ≡ length self.old.parts.book.items + length self.old.parts.commits.items + 1) }
         ensures state { Stays D.seen D.may_leave self.old self.new }
+        ensures queue { OnOk result ((c : Commit) × (c.txn ≡ txn)
+            × (self.new.parts.commits.items ≡ self.old.parts.commits.items ++ c ∷ [])) }
+        ensures commits { OnOk result (SetsState self.old.parts self.new.parts txn (Some Committing)) }
+        ensures err { OnErr result (SameStates self.old.parts self.new.parts) }
     {
         if let Some(why) = self.open_cause(txn) {
             return Err(why);

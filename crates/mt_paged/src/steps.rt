@@ -4,6 +4,7 @@ ghost use Rattle.mt_base.specs.declared.refusal.Refusal.{Refusal};
 ghost use Rattle.mt_live.specs.Machine.{State};
 ghost use Rattle.mt_model.specs.Model.{Base};
 ghost use Rattle.mt_model.specs.declared.operations.Reply.{Reply};
+ghost use Rattle.mt_kernel.specs.Consistent.{SameStates};
 ghost use Rattle.mt_paged.specs.Causes.{step_cause};
 ghost use Rattle.mt_paged.specs.Events.{HasStepped};
 ghost use Rattle.mt_paged.specs.Shown.{Shows};
@@ -25,6 +26,7 @@ impl<D: Device> Kernel<D> {
         ensures may { OnOk result (step_cause self.old.parts txn ≡ None) }
         ensures cause { IfErr result (λ why. why ≢ Refusal.NoMemory → why ≢ Refusal.DeviceFailed
             → step_cause self.old.parts txn ≡ Some why) }
+        ensures states { SameStates self.old.parts self.new.parts }
         ensures stepped { (first : Base) (s : State) → Shows D.seen D.may_leave first s self.old
             → HasStepped D.seen D.may_leave first s txn result self.new }
     {

@@ -8,7 +8,7 @@ use Rattle.mt_op.specs.declared.operations.Operations.{Operations}
 use Rattle.mt_pool.specs.Images.{slot}
 use Rattle.mt_paged.specs.Well.{IsOrigin, IsOpening, Opens}
 use Rattle.mt_restart.specs.Firsts.{AreFresh}
-use Rattle.mt_restart.specs.Schemas.{relations_in, counters_in, first_base}
+use Rattle.mt_restart.specs.Schemas.{relations_in, counters_in, schema_base}
 use Rattle.mt_restart.specs.declared.schema.Schema.{Schema}
 
 module _ {D : Type 0} (seen : D → List ℕ) (may_leave : D → List ℕ → Type 0) (s : Schema) (o : Operations D) (e : Escrowed) (fresh : AreFresh seen may_leave s o e) where
@@ -21,10 +21,10 @@ module _ {D : Type 0} (seen : D → List ℕ) (may_leave : D → List ℕ → Ty
     pending = fresh.pending;
   }
 
-  pub opens_of : (relations counters : ℕ) → relations_in s ≡ relations → length (counters_in s) ≡ counters → Opens seen may_leave o e relations counters (first_base s)
+  pub opens_of : (relations counters : ℕ) → relations_in s ≡ relations → length (counters_in s) ≡ counters → Opens seen may_leave o e relations counters (schema_base s)
   opens_of relations counters same_relations same_counters =
       ∣ (
-        record { first = first_base s; pages = slot 8192 (seen fresh.device); relations = relations_in s; counters = length (counters_in s) },
+        record { first = schema_base s; pages = slot 8192 (seen fresh.device); relations = relations_in s; counters = length (counters_in s) },
         record { relations_are = same_relations; counters_are = same_counters; first_is = refl },
         record {
           schema = record { few_relations = s.relation_count.1; few_counters = s.counter_count };

@@ -3,7 +3,7 @@ ghost use Rattle.std.specs.Prelude.{◌≡◌, ◌⊎◌, ◌<◌, length, IfOk,
 ghost use Rattle.mt_base.specs.declared.refusal.Refusal.{Refusal};
 ghost use Rattle.mt_live.specs.Machine.{start};
 ghost use Rattle.mt_paged.specs.Shown.{Shows};
-ghost use Rattle.mt_restart.specs.Schemas.{device_bytes, first_base};
+ghost use Rattle.mt_restart.specs.Schemas.{device_bytes, schema_base};
 
 use crate::Schema;
 use crate::opening::fresh_parts;
@@ -24,7 +24,7 @@ pub fn fresh<D: Device + Drop>(
     frames: usize,
 ) -> Result<Kernel<D>, (Refusal, D)>
     requires frames { 0 < frames }
-    ensures shows { IfOk result (Shows D.seen D.may_leave (first_base schema.now) (start (first_base schema.now))) }
+    ensures shows { IfOk result (Shows D.seen D.may_leave (schema_base schema.now) (start (schema_base schema.now))) }
     ensures cause { IfErr result (λ gone. (gone.0 ≡ Refusal.NoMemory)
         ⊎ ((gone.0 ≡ Refusal.BadLength) × (length (D.seen device) < device_bytes schema.now)
         ⊎ (gone.0 ≡ Refusal.DeviceFailed) × (D.faults device < D.faults gone.1))) }

@@ -5,7 +5,7 @@ use Rattle.mt_live.specs.Machine.{start}
 use Rattle.mt_model.specs.declared.counters.Count.{Count}
 use Rattle.mt_paged.specs.Shown.{Shows}
 use Rattle.mt_restart.proofs.Assembled.{opens_of, fresh_of}
-use Rattle.mt_restart.specs.Schemas.{first_base, counters_in}
+use Rattle.mt_restart.specs.Schemas.{schema_base, counters_in}
 use Rattle.mt_restart.proofs.assembling.fresh.Goals as goal
 
 pub overflow_cast-counters : goal.overflow_cast-counters
@@ -15,7 +15,7 @@ pub assemble-requires-clause-fresh : goal.assemble-requires-clause-fresh
 assemble-requires-clause-fresh g c = fresh_of g.D.Device.seen g.D.Device.may_leave c.args.schema.now c.in-Ok.operations c.in-Ok.escrow c.in-Ok.ensures.fresh
 
 pub assemble-requires-clause-opens : goal.assemble-requires-clause-opens
-assemble-requires-clause-opens g c = ∣ (first_base c.args.schema.now, opens_of g.D.Device.seen g.D.Device.may_leave c.args.schema.now c.in-Ok.operations c.in-Ok.escrow c.in-Ok.ensures.fresh c.relations.result (length c.counters.result.now) (sym c.relations.ensures) (ap (λ (cs : List Count). length cs) (sym c.counters.ensures.counters))) ∣₁
+assemble-requires-clause-opens g c = ∣ (schema_base c.args.schema.now, opens_of g.D.Device.seen g.D.Device.may_leave c.args.schema.now c.in-Ok.operations c.in-Ok.escrow c.in-Ok.ensures.fresh c.relations.result (length c.counters.result.now) (sym c.relations.ensures) (ap (λ (cs : List Count). length cs) (sym c.counters.ensures.counters))) ∣₁
 
 pub returns-in-Ok-clause-shows : goal.returns-in-Ok-clause-shows
-returns-in-Ok-clause-shows g c = c.assemble.ensures.shows (first_base c.args.schema.now) (opens_of g.D.Device.seen g.D.Device.may_leave c.args.schema.now c.in-Ok.operations c.in-Ok.escrow c.in-Ok.ensures.fresh c.relations.result (length c.counters.result.now) (sym c.relations.ensures) (ap (λ (cs : List Count). length cs) (sym c.counters.ensures.counters)))
+returns-in-Ok-clause-shows g c = c.assemble.ensures.shows (schema_base c.args.schema.now) (opens_of g.D.Device.seen g.D.Device.may_leave c.args.schema.now c.in-Ok.operations c.in-Ok.escrow c.in-Ok.ensures.fresh c.relations.result (length c.counters.result.now) (sym c.relations.ensures) (ap (λ (cs : List Count). length cs) (sym c.counters.ensures.counters)))

@@ -1,5 +1,8 @@
 use mathlib.Core.Logic.{∥∥₁_elim}
 use Rattle.std.proofs.Props.{props}
+use Rattle.std.specs.Prelude.{[], None}
+use Rattle.mt_kernel.proofs.Members.{put_other, states_put}
+use Rattle.mt_kernel.specs.Runs.{state_in}
 use Rattle.std.proofs.Common.{◌≡◌, ◌∙◌, ◌≤◌, ◌-◌, false, refl, sym, ap, subst, arith}
 use Rattle.std.specs.Prelude.{OnErr}
 use Rattle.std.proofs.lemmas.Result.{err_from_is_err_and}
@@ -54,3 +57,9 @@ append-requires-clause-grammar g c = named_of g.D.Device.seen g.D.Device.may_lea
 
 pub append-requires-clause-rules : goal.append-requires-clause-rules
 append-requires-clause-rules g c = may_end (appended c.args.self.now.operations.store.log) c.args.txn (named_of g.D.Device.seen g.D.Device.may_leave c.args.self.now c.requires.safe c.args.txn c.requires.at_work).0 (unended_of g.D.Device.seen g.D.Device.may_leave c.args.self.now c.requires.safe c.args.txn c.requires.at_work)
+
+pub returns-clause-ended : goal.returns-clause-ended
+returns-clause-ended g c = (c.in_ok-append.ensures.notes (λ p. [])).records
+
+pub returns-clause-others : goal.returns-clause-others
+returns-clause-others g c = λ u apart. let k = c.args.self.now in states_put k.live.members c.leave.new.self.members c.args.txn None c.leave.ensures.member u ∙ put_other (state_in k.live.members) c.args.txn None u apart

@@ -10,6 +10,7 @@ pub loop-booked-init : goal.loop-booked-init
 loop-booked-init g c = let within = c.durable_count-count.ensures.within in let same = ap (λ (xs : List Commit). length xs) c.as_slice.ensures.value in let room = c.requires.room in record {
   left = record { state = λ origin base safe. record { consistent = safe; state = refl }; leaves = refl; tells = sym (append-nil c.args.names.now.items) };
   room = omega arith;
+  store = refl;
   count = omega arith;
 }
 
@@ -35,6 +36,7 @@ loop-booked-preserved g c = let k = c.args.self.now in let d : Commit = record {
     let own = e.rest (get_or k.commits.items at d) (drop (suc at) k.commits.items) queue in record {
       left = left_more g.D.Device.seen g.D.Device.may_leave k c.loop-booked.self c.leave_first-txn.new.self at c.leave_first-txn.result c.args.names.now.items c.loop-booked.names.items c.push_reserved.new.self.items d was.left within e.left own p.items;
       room = let room = was.room in let len = p.len in let capacity = p.capacity in omega arith;
+      store = e.store ∙ was.store;
       count = was.count;
     }
 
@@ -47,3 +49,6 @@ returns-clause-names g c = let k = c.args.self.now in c.loop-booked.invariant.le
 
 pub returns-clause-rest : goal.returns-clause-rest
 returns-clause-rest g c = let k = c.args.self.now in c.loop-booked.invariant.left.leaves ∙ ap (λ n. drop n k.commits.items) (let last = c.loop-booked.auto._booked-end in let done = c.loop-booked-test.false in let all : c.loop-booked._booked ≡ c.durable_count-count.result = omega arith in all ∙ c.durable_count-count.ensures.count ∙ ap (λ (xs : List Commit). durable_count xs c.args.place) c.as_slice.ensures.value)
+
+pub returns-clause-store : goal.returns-clause-store
+returns-clause-store g c = c.loop-booked.invariant.store

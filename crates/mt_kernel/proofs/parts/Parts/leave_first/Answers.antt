@@ -59,6 +59,7 @@ returns g c = record {
       (b.right origin.pages origin.relations origin.counters safe.fit.right) b.store b.locks (omega arith) (omega arith) in
       let session : c.leave-done.result.session ≡ session_in k.live.members found.txn = whose c.leave-done.result.session found.txn k.live.members m.session in
       subst (λ (X : Type 0). X) (λ i. IsIn seen may_leave origin base (booked (state_of k base) (is i).txn ((session ∙ ap (λ (x : Commit). session_in k.live.members x.txn) is) i)) n) booked_now;
+  store = c.give_back.ensures.store;
   rest = λ first cs queue. let k = c.args.self.now in let r = c.remove-txn.ensures in
       (ap (λ (x : Commit). x.txn) (first_is k.commits.items c.remove-txn.result first cs queue r.value), r.items ∙ first_rest k.commits.items first cs queue);
 }

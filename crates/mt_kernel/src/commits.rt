@@ -170,6 +170,7 @@ impl<D: Device> Parts<D> {
         requires safe { IsSound D.seen D.may_leave self.old }
         ensures state { StaysIn D.seen D.may_leave self.old self.new }
         ensures rest { OnlyOperations self.old self.new }
+        ensures log { self.new.operations.store.log ≡ self.old.operations.store.log }
         ensures written { (p : ℕ) → result ≡ Ok (flushed.Page p) → Cleans self.old.operations.store.pool
             self.new.operations.store.pool (length (durable self.old.operations.store.log)) p }
         ensures barred { result ≡ Ok flushed.Force

@@ -1,5 +1,5 @@
 -- Which calls a kernel refuses before it asks locks, escrow, pages and log.
-use Rattle.std.specs.Prelude.{ℕ, ℤ, ◌<◌, ◌+◌, ◌^◌, ◌||◌, ◌&&◌, ◌==◌, nat_lt, nat_le, if◌then◌else◌, Bool, true, false, List, length, Option, Some, None, int_le, pos, neg_ℤ}
+use Rattle.std.specs.Prelude.{ℕ, ℤ, ◌≡◌, ◌⊎◌, ◌<◌, ◌+◌, ◌^◌, ◌||◌, ◌&&◌, ◌==◌, nat_lt, nat_le, if◌then◌else◌, Bool, true, false, List, length, Option, Some, None, int_le, pos, neg_ℤ}
 use Rattle.std.specs.List.{list_any}
 use Rattle.mt_base.specs.Limits.{IsKey, IsValue, IsStep}
 use Rattle.mt_base.specs.declared.refusal.Refusal.{Refusal}
@@ -30,6 +30,14 @@ begin_cause k =
     if nat_le 64 (length k.live.members) then Some refusal.TooManyTransactions else
     if nat_le 1000000 (length k.book.items + length k.live.members) || nat_le (2 ^ 40) k.live.begun then Some refusal.BookFull else
     if nat_lt (log_kept k + 128) (area_size k.operations.store.log) then None else Some refusal.LogFull
+
+-- the device failed in this call
+abbrev pub IsFault : {D : Type 0} → (D → ℕ) → Parts D → Parts D → Refusal → Type 0
+IsFault failures k n why = (why ≡ refusal.DeviceFailed) × (failures k.operations.store.device < failures n.operations.store.device)
+
+-- it failed in this call, or before
+abbrev pub IsFailure : {D : Type 0} → (D → ℕ) → Parts D → Parts D → Refusal → Type 0
+IsFailure failures k n why = ((has_failed k.operations.store.log ≡ true) × (why ≡ refusal.DeviceFailed)) ⊎ IsFault failures k n why
 
 -- ---- the transaction
 

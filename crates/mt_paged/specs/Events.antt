@@ -1,5 +1,5 @@
 -- What the calls do to the state that a kernel shows.
-use Rattle.std.specs.Prelude.{ℕ, ◌≡◌, true, List, Option, Some, None, Result, Ok, Err}
+use Rattle.std.specs.Prelude.{ℕ, ◌≡◌, true, drop, List, Option, Some, None, Result, Ok, Err}
 use Rattle.mt_base.specs.declared.refusal.Refusal.{Refusal}
 use Rattle.mt_disk.specs.declared.device.Device.{Ghosts}
 use Rattle.mt_live.specs.Machine.{State, called, ended, dropped, undone, gone}
@@ -7,7 +7,11 @@ use Rattle.mt_live.specs.Undoing.{last_effect}
 use Rattle.mt_model.specs.Model.{Base, reply_of, base_after}
 use Rattle.mt_model.specs.declared.operations.Op.{Op}
 use Rattle.mt_model.specs.declared.pending.Pending.{Pending}
-use Rattle.mt_kernel.specs.Booked.{booked_each}
+use Rattle.mt_kernel.specs.Booked.{booked_each, durable_count, durable_txns}
+use Rattle.mt_kernel.specs.declared.parts.Commit.{Commit}
+use Rattle.mt_log.specs.Words.{IsStep}
+use Rattle.mt_log.specs.declared.log.Log.{Log}
+use Rattle.mt_log.specs.declared.log.Forced.TheVariants as log
 use Rattle.mt_kernel.specs.Causes.{IsAnswered}
 use Rattle.mt_kernel.specs.Consistent.{Origin, IsConsistent, IsIn, log_kept}
 use Rattle.mt_kernel.specs.declared.calls.Called.{Called}
@@ -49,6 +53,13 @@ HasForced seen may_leave first s (Ok forced.More) n = Shows seen may_leave first
 HasForced seen may_leave first s (Ok forced.Idle) n = Shows seen may_leave first s n
 HasForced seen may_leave first s (Ok (forced.Durable names)) n = Shows seen may_leave first (booked_each s names.items) n
 HasForced seen may_leave first s (Err why) n = Shows seen may_leave first s n
+
+-- What a step of a force did to the log and to the commits under way. Those that it names are durable now: their records lie up to
+-- where the log is durable; and no other commit left.
+abbrev pub IsForcedBy : Log → List Commit → KernelForced → Log → List Commit → Type 0
+IsForcedBy old cs forced.More new ds = IsStep old log.More new × (ds ≡ cs)
+IsForcedBy old cs forced.Idle new ds = IsStep old log.Idle new × (ds ≡ cs)
+IsForcedBy old cs (forced.Durable names) new ds = (place : ℕ) × IsStep old (log.Durable place) new × (names.items ≡ durable_txns cs place) × (ds ≡ drop (durable_count cs place) cs)
 
 -- What a step of an abort that goes on may lead to: the state as it was; its operation dropped, or its last effect undone.
 pub data IsBack (s : State) (t : ℕ) : State → Type 0 where

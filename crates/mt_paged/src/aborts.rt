@@ -1,14 +1,13 @@
 // Aborts, by the inverses of what was done.
-ghost use Rattle.std.specs.Prelude.{◌≡◌, ◌≢◌, ◌<◌, length, All, IfOk, IfErr, OnOk, OnErr, None, Some};
+ghost use Rattle.std.specs.Prelude.{◌≡◌, ◌≢◌, ◌⊎◌, ◌<◌, length, All, IfOk, IfErr, OnOk, OnErr, None, Some};
 ghost use Rattle.mt_base.specs.declared.refusal.Refusal.{Refusal};
 ghost use Rattle.mt_live.specs.Machine.{State};
 ghost use Rattle.mt_model.specs.Model.{Base};
 ghost use Rattle.mt_live.specs.declared.transactions.TxnState.TheVariants.{Aborting};
-ghost use Rattle.mt_op.specs.Operations.{IsCause};
 ghost use Rattle.mt_kernel.specs.Consistent.{AtPlace, SameStates, SetsState};
 ghost use Rattle.mt_kernel.specs.Runs.{state_in};
 ghost use Rattle.mt_kernel.specs.declared.parts.Running.{Running};
-ghost use Rattle.mt_paged.specs.Causes.{abort_cause, open_cause};
+ghost use Rattle.mt_paged.specs.Causes.{IsFault, abort_cause, open_cause};
 ghost use Rattle.mt_paged.specs.Events.{HasAborted};
 ghost use Rattle.mt_paged.specs.Shown.{Shows, Stays};
 
@@ -44,7 +43,7 @@ impl<D: Device> Kernel<D> {
         requires within { place < length self.old.parts.running.items }
         requires own { AtPlace self.old.parts.running.items place (λ r. (r.scope.txn ≡ txn) × (r.scope.undoes ≡ 0)) }
         requires aborting { state_in self.old.parts.live.members txn ≡ Some Aborting }
-        ensures why { IfErr result IsCause }
+        ensures why { IfErr result (λ why. why ≢ Refusal.NoMemory → IsFault D.faults self.old.parts self.new.parts why) }
         ensures states { IfOk result (λ stepped. stepped ≢ AbortStepped.Ended → SameStates self.old.parts self.new.parts) }
         ensures aborted { (first : Base) (s : State) → Shows D.seen D.may_leave first s self.old
             → HasAborted D.seen D.may_leave first s txn result self.new }
@@ -60,7 +59,7 @@ impl<D: Device> Kernel<D> {
     fn undo_step(&mut self, txn: TxnNo, place: usize) -> Result<AbortStepped, Refusal>
         requires within { place < length self.old.parts.running.items }
         requires own { AtPlace self.old.parts.running.items place (λ r. (r.scope.txn ≡ txn) × (r.scope.undoes ≢ 0)) }
-        ensures why { IfErr result IsCause }
+        ensures why { IfErr result (λ why. why ≢ Refusal.NoMemory → IsFault D.faults self.old.parts self.new.parts why) }
         ensures states { IfOk result (λ stepped. stepped ≢ AbortStepped.Ended → SameStates self.old.parts self.new.parts) }
         ensures aborted { (first : Base) (s : State) → Shows D.seen D.may_leave first s self.old
             → HasAborted D.seen D.may_leave first s txn result self.new }
@@ -93,7 +92,7 @@ impl<D: Device> Kernel<D> {
     fn undo_next(&mut self, txn: TxnNo) -> Result<AbortStepped, Refusal>
         requires idle { All (λ (r : Running). r.scope.txn ≢ txn) self.old.parts.running.items }
         requires aborting { state_in self.old.parts.live.members txn ≡ Some Aborting }
-        ensures why { IfErr result IsCause }
+        ensures why { IfErr result (λ why. why ≢ Refusal.NoMemory → IsFault D.faults self.old.parts self.new.parts why) }
         ensures states { IfOk result (λ stepped. stepped ≢ AbortStepped.Ended → SameStates self.old.parts self.new.parts) }
         ensures aborted { (first : Base) (s : State) → Shows D.seen D.may_leave first s self.old
             → HasAborted D.seen D.may_leave first s txn result self.new }
@@ -113,8 +112,8 @@ impl<D: Device> Kernel<D> {
     /// of memory; and with 2 where the device fails in this step. The step may be asked again after 1.
     pub fn abort_step(&mut self, txn: TxnNo) -> Result<AbortStepped, Refusal>
         ensures may { OnOk result (abort_cause self.old.parts txn ≡ None) }
-        ensures cause { IfErr result (λ why. why ≢ Refusal.NoMemory → why ≢ Refusal.DeviceFailed
-            → abort_cause self.old.parts txn ≡ Some why) }
+        ensures cause { IfErr result (λ why. why ≢ Refusal.NoMemory → (abort_cause self.old.parts txn ≡ Some why)
+            ⊎ IsFault D.faults self.old.parts self.new.parts why) }
         ensures states { IfOk result (λ stepped. stepped ≢ AbortStepped.Ended → SameStates self.old.parts self.new.parts) }
         ensures aborted { (first : Base) (s : State) → Shows D.seen D.may_leave first s self.old
             → HasAborted D.seen D.may_leave first s txn result self.new }

@@ -1,14 +1,16 @@
 // Commits, the steps that make them durable, and flushes.
-ghost use Rattle.std.specs.Prelude.{◌≡◌, ◌≢◌, ◌+◌, ◌++◌, ◌∷◌, [], length, IfOk, IfErr, IsErr, OnOk, OnErr, None, Some, true};
+ghost use Rattle.std.specs.Prelude.{◌≡◌, ◌≢◌, ◌+◌, ◌++◌, ◌∷◌, [], ℕ, length, Ok, IfOk, IfErr, IsErr, OnOk, OnErr, None, Some, true};
 ghost use Rattle.mt_base.specs.declared.refusal.Refusal.{Refusal};
 ghost use Rattle.mt_live.specs.Machine.{State};
-ghost use Rattle.mt_log.specs.Words.{has_failed};
+ghost use Rattle.mt_log.specs.Words.{durable, has_failed};
 ghost use Rattle.mt_model.specs.Model.{Base};
+ghost use Rattle.mt_pool.specs.Views.{IsWaiting, Cleans};
+ghost use Rattle.mt_pool.specs.declared.flushing.Flushed.TheVariants as flushed;
 ghost use Rattle.mt_live.specs.declared.transactions.TxnState.TheVariants.{Committing};
 ghost use Rattle.mt_kernel.specs.Consistent.{SameStates, SetsState};
 ghost use Rattle.mt_kernel.specs.declared.parts.Commit.{Commit};
-ghost use Rattle.mt_paged.specs.Causes.{commit_cause};
-ghost use Rattle.mt_paged.specs.Events.{HasForced};
+ghost use Rattle.mt_paged.specs.Causes.{IsFailure, commit_cause};
+ghost use Rattle.mt_paged.specs.Events.{HasForced, IsForcedBy};
 ghost use Rattle.mt_paged.specs.Shown.{Shows, Stays};
 
 use crate::answers::KernelForced;
@@ -53,7 +55,10 @@ impl<D: Device> Kernel<D> {
     /// Refused, in this order: 2 where the device has failed or fails in this call, 1 for want of memory. The state is
     /// as before.
     pub fn force_step(&mut self) -> Result<KernelForced, Refusal>
-        ensures why { IfErr result (λ why. why ≢ Refusal.NoMemory → why ≡ Refusal.DeviceFailed) }
+        ensures cause { IfErr result (λ why. why ≢ Refusal.NoMemory
+            → IsFailure D.faults self.old.parts self.new.parts why) }
+        ensures log { IfOk result (λ forced. IsForcedBy self.old.parts.operations.store.log
+            self.old.parts.commits.items forced self.new.parts.operations.store.log self.new.parts.commits.items) }
         ensures failed { has_failed self.old.parts.operations.store.log ≡ true → result ≡ Err Refusal.DeviceFailed }
         ensures forced { (first : Base) (s : State) → Shows D.seen D.may_leave first s self.old
             → HasForced D.seen D.may_leave first s result self.new }
@@ -77,7 +82,13 @@ impl<D: Device> Kernel<D> {
     ///
     /// Refused with 2 where the device has failed or fails in this call. The state is as before.
     pub fn flush_step(&mut self) -> Result<Flushed, Refusal>
-        ensures why { IfErr result (λ why. why ≡ Refusal.DeviceFailed) }
+        ensures cause { IfErr result (IsFailure D.faults self.old.parts self.new.parts) }
+        ensures written { (p : ℕ) → result ≡ Ok (flushed.Page p)
+            → Cleans self.old.parts.operations.store.pool self.new.parts.operations.store.pool
+            (length (durable self.old.parts.operations.store.log)) p }
+        ensures barred { result ≡ Ok flushed.Force
+            → IsWaiting self.old.parts.operations.store.pool (length (durable self.old.parts.operations.store.log)) }
+        ensures log { self.new.parts.operations.store.log ≡ self.old.parts.operations.store.log }
         ensures failed { has_failed self.old.parts.operations.store.log ≡ true → result ≡ Err Refusal.DeviceFailed }
         ensures state { Stays D.seen D.may_leave self.old self.new }
     {

@@ -1,11 +1,11 @@
 // Steps of operations.
-ghost use Rattle.std.specs.Prelude.{◌≡◌, ◌≢◌, IfErr, OnOk, None, Some};
+ghost use Rattle.std.specs.Prelude.{◌≡◌, ◌≢◌, ◌⊎◌, IfErr, OnOk, None, Some};
 ghost use Rattle.mt_base.specs.declared.refusal.Refusal.{Refusal};
 ghost use Rattle.mt_live.specs.Machine.{State};
 ghost use Rattle.mt_model.specs.Model.{Base};
 ghost use Rattle.mt_model.specs.declared.operations.Reply.{Reply};
 ghost use Rattle.mt_kernel.specs.Consistent.{SameStates};
-ghost use Rattle.mt_paged.specs.Causes.{step_cause};
+ghost use Rattle.mt_paged.specs.Causes.{IsFault, step_cause};
 ghost use Rattle.mt_paged.specs.Events.{HasStepped};
 ghost use Rattle.mt_paged.specs.Shown.{Shows};
 
@@ -24,8 +24,8 @@ impl<D: Device> Kernel<D> {
     /// under way, 1 for want of memory; and with 2 where the device fails in this step. The state is as before.
     pub fn step(&mut self, txn: TxnNo) -> Result<Stepped, Refusal>
         ensures may { OnOk result (step_cause self.old.parts txn ≡ None) }
-        ensures cause { IfErr result (λ why. why ≢ Refusal.NoMemory → why ≢ Refusal.DeviceFailed
-            → step_cause self.old.parts txn ≡ Some why) }
+        ensures cause { IfErr result (λ why. why ≢ Refusal.NoMemory → (step_cause self.old.parts txn ≡ Some why)
+            ⊎ IsFault D.faults self.old.parts self.new.parts why) }
         ensures states { SameStates self.old.parts self.new.parts }
         ensures stepped { (first : Base) (s : State) → Shows D.seen D.may_leave first s self.old
             → HasStepped D.seen D.may_leave first s txn result self.new }

@@ -7,6 +7,7 @@ pub mod Enough
 pub mod Rooms
 pub mod Sounds
 pub mod Durables
+pub mod Laboring
 pub mod Refusing
 pub mod Entering
 pub mod Inverse

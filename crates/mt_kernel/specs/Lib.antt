@@ -2,4 +2,5 @@ pub mod Runs
 pub mod Consistent
 pub mod Causes
 pub mod Steps
+pub mod Work
 pub mod Booked

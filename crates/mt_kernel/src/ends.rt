@@ -1,5 +1,6 @@
 // The ends of operations that are ready.
 ghost use Rattle.std.specs.Prelude.{◌≡◌, ◌≢◌, ◌<◌, ◌++◌, [], ℕ, List, length, slice_index_or};
+ghost use Rattle.std.specs.List.{remove};
 ghost use Rattle.mt_live.specs.Adds.{GivesBack, add_before};
 ghost use Rattle.mt_model.specs.declared.pending.Pending.{Pending};
 ghost use Rattle.mt_live.specs.Machine.{ended, undone};
@@ -35,6 +36,7 @@ impl<D: Device> Parts<D> {
             × IsReadyAt D.seen D.may_leave origin base self.old place reply) ∥₁ }
         requires within { place < length self.old.running.items }
         requires forward { AtPlace self.old.running.items place (λ r. r.scope.undoes ≡ 0) }
+        ensures items { self.new.running.items ≡ remove self.old.running.items place }
         ensures store { self.new.operations.store ≡ self.old.operations.store }
         ensures states { SameStates self.old self.new }
         ensures ends { (origin : Origin) (base : Base) → IsReadyAt D.seen D.may_leave origin base self.old place reply
@@ -56,6 +58,7 @@ impl<D: Device> Parts<D> {
             × IsReadyAt D.seen D.may_leave origin base self.old place reply) ∥₁ }
         requires within { place < length self.old.running.items }
         requires back { AtPlace self.old.running.items place (λ r. r.scope.undoes ≢ 0) }
+        ensures items { self.new.running.items ≡ remove self.old.running.items place }
         ensures store { self.new.operations.store ≡ self.old.operations.store }
         ensures states { SameStates self.old self.new }
         ensures ends { (origin : Origin) (base : Base) (reply : Reply)

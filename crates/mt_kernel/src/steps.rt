@@ -4,6 +4,9 @@ ghost use Rattle.mt_model.specs.Model.{Base};
 ghost use Rattle.mt_op.specs.declared.scope.Stage.TheVariants.{Planning, Writing};
 ghost use Rattle.mt_kernel.specs.Consistent.{SameStates, IsSound, AtPlace, Origin, state_of, IsConsistent, Advances};
 ghost use Rattle.mt_op.specs.Moves.{SameOp};
+ghost use Rattle.mt_op.specs.Work.{Works};
+ghost use Rattle.mt_pool.specs.Views.{pages};
+ghost use Rattle.mt_kernel.specs.Work.{Lowers, steps_in};
 ghost use Rattle.mt_op.specs.Faults.{TellsFaults};
 ghost use Rattle.mt_op.specs.Operations.{IsCause};
 ghost use Rattle.mt_kernel.specs.Steps.{Steps, UndoSteps};
@@ -49,6 +52,8 @@ impl<D: Device> Parts<D> {
         ensures same { (origin : Origin) (base : Base) → IsConsistent D.seen D.may_leave origin base self.old
             → (r q : Running) → r ≡ slice_index_or self.old.running.items place r → q ≡ slice_index_or self.new.running.items place q → SameOp r.scope q.scope }
         ensures live { self.new.live ≡ self.old.live }
+        ensures works { (r q : Running) → r ≡ slice_index_or self.old.running.items place r
+            → q ≡ slice_index_or self.new.running.items place q → Works r.scope q.scope result }
         ensures why { IfErr result IsCause }
         ensures faults { TellsFaults (D.faults self.old.operations.store.device)
             (D.faults self.new.operations.store.device) result }
@@ -69,6 +74,8 @@ impl<D: Device> Parts<D> {
         requires forward { AtPlace self.old.running.items place (λ r. r.scope.undoes ≡ 0) }
         requires stage { AtPlace self.old.running.items place (λ r. (r.scope.stage ≡ Planning) ⊎ (r.scope.stage
             ≡ Writing)) }
+        ensures work { AtPlace self.old.running.items place (λ r. Lowers (pages self.old.operations.store.pool) result
+            (steps_in self.old.running.items r.scope.txn) (steps_in self.new.running.items r.scope.txn)) }
         ensures states { SameStates self.old self.new }
         ensures why { IfErr result IsCause }
         ensures faults { TellsFaults (D.faults self.old.operations.store.device)
@@ -99,6 +106,8 @@ impl<D: Device> Parts<D> {
         requires back { AtPlace self.old.running.items place (λ r. r.scope.undoes ≢ 0) }
         requires stage { AtPlace self.old.running.items place (λ r. (r.scope.stage ≡ Planning) ⊎ (r.scope.stage
             ≡ Writing)) }
+        ensures work { AtPlace self.old.running.items place (λ r. Lowers (pages self.old.operations.store.pool) result
+            (steps_in self.old.running.items r.scope.txn) (steps_in self.new.running.items r.scope.txn)) }
         ensures states { SameStates self.old self.new }
         ensures why { IfErr result IsCause }
         ensures faults { TellsFaults (D.faults self.old.operations.store.device)

@@ -10,6 +10,7 @@ use Rattle.mt_op.specs.Operations.{world}
 use Rattle.mt_kernel.specs.declared.parts.Running.{Running}
 use Rattle.mt_kernel.specs.Runs.{IsRunning, left_of}
 use Rattle.mt_kernel.proofs.Advancing.{advanced, needs_claimed, steps_same}
+use Rattle.mt_op.specs.Work.{Works}
 use Rattle.mt_kernel.proofs.parts.Parts.advance.Goals as goal
 
 pub step-requires-clause-right : goal.step-requires-clause-right
@@ -57,3 +58,11 @@ returns-clause-same g c = λ origin base safe x y at now.
     let old : r ≡ x = c.index_mut.ensures.value ∙ sym (get_or_default k.running.items c.args.place x r c.requires.within) ∙ sym at in
     let new : q ≡ y = sym (now ∙ get_or-set_same k.running.items c.args.place q y c.requires.within) in
     subst (λ (X : Type 0). X) (λ i. SameOp (old i).scope (new i).scope) (steps_same origin.relations origin.counters (world seen origin.pages k.operations) (world seen origin.pages c.step.new.self) r.scope q.scope c.step.result went.1)
+
+pub returns-clause-works : goal.returns-clause-works
+returns-clause-works g c = λ x y at now.
+    let k = c.args.self.now in let r = c.index_mut.result.now in
+    let q : Running = record { scope = c.step.new.scope; op = r.op } in
+    let old : r ≡ x = c.index_mut.ensures.value ∙ sym (get_or_default k.running.items c.args.place x r c.requires.within) ∙ sym at in
+    let new : q ≡ y = sym (now ∙ get_or-set_same k.running.items c.args.place q y c.requires.within) in
+    subst (λ (X : Type 0). X) (λ i. Works (old i).scope (new i).scope c.step.result) c.step.ensures.work

@@ -7,6 +7,13 @@ use Rattle.mt_model.specs.Model.{reply_of, base_after}
 use Rattle.mt_op.specs.Moves.{SameOp}
 use Rattle.mt_kernel.specs.Consistent.{state_of, IsReady, IsIn, Advances}
 use Rattle.mt_kernel.specs.declared.parts.Running.{Running}
+use Rattle.std.proofs.Common.{◌+◌, ◌≤◌, List}
+use Rattle.std.specs.List.{remove}
+use Rattle.mt_op.specs.Operations.{world}
+use Rattle.mt_op.specs.Work.{Works}
+use Rattle.mt_kernel.specs.Runs.{IsRunning}
+use Rattle.mt_kernel.specs.Work.{steps_in}
+use Rattle.mt_kernel.proofs.Laboring.{steps_at, steps_removed, some_left, both_at}
 use Rattle.mt_kernel.proofs.parts.Parts.step.Goals as goal
 
 pub note_end-requires-clause-forward : goal.note_end-requires-clause-forward
@@ -34,3 +41,70 @@ returns-in-Ready-clause-steps g c = λ origin base safe x at. let k = c.args.sel
       ap (reply_of base) (sym same.op) ∙ ready.replies ∙ sym made.1,
       subst (λ (X : Type 0). X) (λ i. IsIn seen may_leave origin (base_after base (same.op i)) (ended (sym made.2 i) (same.txn i) (same.op i)) c.note_end.new.self) noted,
     )
+
+pub returns-in-Ready-clause-work : goal.returns-in-Ready-clause-work
+returns-in-Ready-clause-work g c = λ x at. ∥∥₁_elim c.requires.safe (hlevel props) (λ (origin, base, safe).
+    let k = c.args.self.now in let place = c.args.place in let seen = g.D.Device.seen in let may_leave = g.D.Device.may_leave in
+    let was = c.in_ok-reply.was ∙ ap Ok c.in-Ready.is in
+    let made = subst (Advances seen may_leave origin base (state_of k base) c.advance.new.self place) was (c.advance.ensures.advances origin base safe) in
+    let items = c.advance.new.self.running.items in
+    let inside : place < length items = let same = c.advance.ensures.length in let within = c.requires.within in omega arith in
+    let q : Running = get_or items place x in
+    let now : q ≡ get_or items place q = get_or_default items place x q inside in
+    let same : SameOp x.scope q.scope = c.advance.ensures.same origin base safe x q at now in
+    let less = subst (Works x.scope q.scope) was (c.advance.ensures.works x q at now) in
+    let apart = (made.0 q now).fit.apart in
+    let gone : steps_in c.note_end.new.self.running.items x.scope.txn ≡ 0 = ap (λ (rs : List Running). steps_in rs x.scope.txn) c.note_end.ensures.items ∙ ap (steps_in (remove items place)) (sym same.txn) ∙ steps_removed items place q inside now apart in
+    let before = steps_at k.running.items place x c.requires.within at safe.fit.apart in let some = some_left x.scope (c.requires.stage x at) in (omega (arith, before, some), gone))
+
+pub returns-in-Went-clause-work : goal.returns-in-Went-clause-work
+returns-in-Went-clause-work g c = λ x at. ∥∥₁_elim c.requires.safe (hlevel props) (λ (origin, base, safe).
+    let k = c.args.self.now in let place = c.args.place in let seen = g.D.Device.seen in let may_leave = g.D.Device.may_leave in
+    let was = c.in_ok-reply.was ∙ ap Ok c.in-Went.is in
+    let made = subst (Advances seen may_leave origin base (state_of k base) c.advance.new.self place) was (c.advance.ensures.advances origin base safe) in
+    let items = c.advance.new.self.running.items in
+    let inside : place < length items = let same = c.advance.ensures.length in let within = c.requires.within in omega arith in
+    let q : Running = get_or items place x in
+    let now : q ≡ get_or items place q = get_or_default items place x q inside in
+    let same : SameOp x.scope q.scope = c.advance.ensures.same origin base safe x q at now in
+    let less = subst (Works x.scope q.scope) was (c.advance.ensures.works x q at now) in
+    let both = both_at k.running.items items place x q c.requires.within at safe.fit.apart inside now made.consistent.fit.apart same.txn in let b = both.0 in let a = both.1 in omega (arith, less, a, b))
+
+pub returns-in-Wait-clause-work : goal.returns-in-Wait-clause-work
+returns-in-Wait-clause-work g c = λ x at. ∥∥₁_elim c.requires.safe (hlevel props) (λ (origin, base, safe).
+    let k = c.args.self.now in let place = c.args.place in let seen = g.D.Device.seen in let may_leave = g.D.Device.may_leave in
+    let was = c.in_ok-reply.was ∙ ap Ok c.in-Wait.is in
+    let made = subst (Advances seen may_leave origin base (state_of k base) c.advance.new.self place) was (c.advance.ensures.advances origin base safe) in
+    let items = c.advance.new.self.running.items in
+    let inside : place < length items = let same = c.advance.ensures.length in let within = c.requires.within in omega arith in
+    let q : Running = get_or items place x in
+    let now : q ≡ get_or items place q = get_or_default items place x q inside in
+    let same : SameOp x.scope q.scope = c.advance.ensures.same origin base safe x q at now in
+    let less = subst (Works x.scope q.scope) was (c.advance.ensures.works x q at now) in
+    let both = both_at k.running.items items place x q c.requires.within at safe.fit.apart inside now made.consistent.fit.apart same.txn in let b = both.0 in let a = both.1 in omega (arith, less, a, b))
+
+pub returns-in-Again-clause-work : goal.returns-in-Again-clause-work
+returns-in-Again-clause-work g c = λ x at. ∥∥₁_elim c.requires.safe (hlevel props) (λ (origin, base, safe).
+    let k = c.args.self.now in let place = c.args.place in let seen = g.D.Device.seen in let may_leave = g.D.Device.may_leave in
+    let was = c.in_ok-reply.was ∙ ap Ok c.in-Again.is in
+    let made = subst (Advances seen may_leave origin base (state_of k base) c.advance.new.self place) was (c.advance.ensures.advances origin base safe) in
+    let items = c.advance.new.self.running.items in
+    let inside : place < length items = let same = c.advance.ensures.length in let within = c.requires.within in omega arith in
+    let q : Running = get_or items place x in
+    let now : q ≡ get_or items place q = get_or_default items place x q inside in
+    let same : SameOp x.scope q.scope = c.advance.ensures.same origin base safe x q at now in
+    let less = subst (Works x.scope q.scope) was (c.advance.ensures.works x q at now) in
+    let both = both_at k.running.items items place x q c.requires.within at safe.fit.apart inside now made.consistent.fit.apart same.txn in let b = both.0 in let a = both.1 in let total = (subst (IsRunning origin.relations origin.counters (world seen origin.pages k.operations) k.last) (sym at) (safe.runs place x c.requires.within)).under.total in omega (arith, less, a, b, total))
+
+pub returns-in-Flush-clause-work : goal.returns-in-Flush-clause-work
+returns-in-Flush-clause-work g c = λ x at. ∥∥₁_elim c.requires.safe (hlevel props) (λ (origin, base, safe).
+    let k = c.args.self.now in let place = c.args.place in let seen = g.D.Device.seen in let may_leave = g.D.Device.may_leave in
+    let was = c.in_ok-reply.was ∙ ap Ok c.in-Flush.is in
+    let made = subst (Advances seen may_leave origin base (state_of k base) c.advance.new.self place) was (c.advance.ensures.advances origin base safe) in
+    let items = c.advance.new.self.running.items in
+    let inside : place < length items = let same = c.advance.ensures.length in let within = c.requires.within in omega arith in
+    let q : Running = get_or items place x in
+    let now : q ≡ get_or items place q = get_or_default items place x q inside in
+    let same : SameOp x.scope q.scope = c.advance.ensures.same origin base safe x q at now in
+    let less = subst (Works x.scope q.scope) was (c.advance.ensures.works x q at now) in
+    let both = both_at k.running.items items place x q c.requires.within at safe.fit.apart inside now made.consistent.fit.apart same.txn in let b = both.0 in let a = both.1 in omega (arith, less, a, b))

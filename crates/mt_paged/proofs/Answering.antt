@@ -1,5 +1,5 @@
 -- What the calls' answers say of the state that a kernel shows.
-use Rattle.std.proofs.Common.{◌≡◌, ◌≢◌, ℕ, List, Option, Some, Result, Ok, Err, true, refl, sym, subst, ◌∙◌}
+use Rattle.std.proofs.Common.{⊎_elim, arith, ◌≤◌, ◌+◌, ◌*◌, ◌≡◌, ◌≢◌, ℕ, List, Option, Some, Result, Ok, Err, true, refl, sym, subst, ◌∙◌}
 use Rattle.std.specs.Prelude.{All, OnOk, OnErr}
 use mathlib.Core.Logic.{∥∥₁_map}
 use Rattle.mt_base.specs.declared.refusal.Refusal.{Refusal}
@@ -21,6 +21,9 @@ use Rattle.mt_paged.specs.Causes.{IsNamed, IsSized}
 use Rattle.mt_paged.specs.Events.{HasCalled, HasStepped, HasForced, HasAborted}
 use Rattle.mt_paged.specs.Events.IsBack.{stands}
 use Rattle.mt_paged.specs.Shown.{Shows}
+use Rattle.mt_kernel.specs.Work.{LeavesSteps}
+use Rattle.mt_kernel.specs.declared.steps.Going.{Going}
+use Rattle.mt_paged.specs.Work.{IsToldAs, LowersSteps}
 use Rattle.mt_paged.specs.Well.{IsOrigin, IsWell, ShowsIn}
 use Rattle.mt_paged.specs.declared.answers.AbortStepped.{AbortStepped}
 use Rattle.mt_paged.specs.declared.answers.AbortStepped.TheVariants as abort
@@ -33,12 +36,12 @@ module _ {D : Type 0} {g : Ghosts D} (seen : D → List ℕ) (may_leave : D → 
   pub err_stepped : (t : ℕ) (n : Kernel D g) (r : Result Stepped Refusal) (y : Refusal) → r ≡ Err y → Shows seen may_leave first s n → HasStepped seen may_leave first s t r n
   err_stepped t n r y is shows = subst (λ x. HasStepped seen may_leave first s t x n) (sym is) shows
 
-  pub going_stepped : (t : ℕ) (n : Kernel D g) (x : Stepped) → ((reply : Reply) → x ≡ step.Replied reply → ⊥) → Shows seen may_leave first s n → HasStepped seen may_leave first s t (Ok x) n
-  going_stepped t n (step.Replied reply) not shows = absurd (not reply refl)
-  going_stepped t n step.Went not shows = shows
-  going_stepped t n (step.Wait other) not shows = shows
-  going_stepped t n step.Again not shows = shows
-  going_stepped t n step.Flush not shows = shows
+  pub going_stepped : (t : ℕ) (n : Kernel D g) (rs : List Running) (gone : Going) (x : Stepped) → IsToldAs rs gone x → Shows seen may_leave first s n → HasStepped seen may_leave first s t (Ok x) n
+  going_stepped t n rs gone (step.Replied reply) told shows = absurd told
+  going_stepped t n rs gone step.Went told shows = shows
+  going_stepped t n rs gone (step.Wait other) told shows = shows
+  going_stepped t n rs gone step.Again told shows = shows
+  going_stepped t n rs gone step.Flush told shows = shows
 
   pub err_forced : (n : Kernel D g) (r : Result KernelForced Refusal) (y : Refusal) → r ≡ Err y → Shows seen may_leave first s n → HasForced seen may_leave first s r n
   err_forced n r y is shows = subst (λ x. HasForced seen may_leave first s x n) (sym is) shows
@@ -87,3 +90,14 @@ pub call_answers : {D : Type 0} {g : Ghosts D} (seen : D → List ℕ) (may_leav
 call_answers seen may_leave first s t op (Ok call.Started) n shows = shows
 call_answers seen may_leave first s t op (Ok (call.Wait holder)) n shows = shows
 call_answers seen may_leave first s t op (Err why) n shows = shows
+
+-- ---- the steps that are left
+
+pub going_lowers : (rs : List Running) (pages before now : ℕ) (gone : Going) (x : Stepped) → IsToldAs rs gone x → LeavesSteps pages gone before now → LowersSteps pages x before now
+going_lowers rs pages before now gone (step.Replied reply) told less = absurd told
+going_lowers rs pages before now gone step.Went told less = subst (λ g. LeavesSteps pages g before now) told less
+going_lowers rs pages before now gone (step.Wait other) told less = subst (λ g. LeavesSteps pages g before now) told.1 less
+going_lowers rs pages before now gone step.Flush told less = subst (λ g. LeavesSteps pages g before now) told less
+going_lowers rs pages before now gone step.Again told less = ⊎_elim
+    (λ waits. let few : now ≤ before = subst (λ g. LeavesSteps pages g before now) waits.0 less in omega arith)
+    (λ again. subst (λ g. LeavesSteps pages g before now) again less) told.1

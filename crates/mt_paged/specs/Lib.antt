@@ -2,3 +2,4 @@ pub mod Well
 pub mod Shown
 pub mod Causes
 pub mod Events
+pub mod Work

@@ -1,9 +1,11 @@
 // Steps of operations.
-ghost use Rattle.std.specs.Prelude.{◌≡◌, ◌≢◌, ◌⊎◌, IfErr, OnOk, None, Some};
+ghost use Rattle.std.specs.Prelude.{◌≡◌, ◌≢◌, ◌⊎◌, IfOk, IfErr, OnOk, None, Some};
 ghost use Rattle.mt_base.specs.declared.refusal.Refusal.{Refusal};
 ghost use Rattle.mt_live.specs.Machine.{State};
 ghost use Rattle.mt_model.specs.Model.{Base};
-ghost use Rattle.mt_model.specs.declared.operations.Reply.{Reply};
+ghost use Rattle.mt_pool.specs.Views.{pages};
+ghost use Rattle.mt_kernel.specs.Work.{steps_in};
+ghost use Rattle.mt_paged.specs.Work.{IsToldAs, LowersSteps};
 ghost use Rattle.mt_kernel.specs.Consistent.{SameStates};
 ghost use Rattle.mt_paged.specs.Causes.{IsFault, step_cause};
 ghost use Rattle.mt_paged.specs.Events.{HasStepped};
@@ -26,6 +28,8 @@ impl<D: Device> Kernel<D> {
         ensures may { OnOk result (step_cause self.old.parts txn ≡ None) }
         ensures cause { IfErr result (λ why. why ≢ Refusal.NoMemory → (step_cause self.old.parts txn ≡ Some why)
             ⊎ IsFault D.faults self.old.parts self.new.parts why) }
+        ensures work { IfOk result (λ stepped. LowersSteps (pages self.old.parts.operations.store.pool) stepped
+            (steps_in self.old.parts.running.items txn) (steps_in self.new.parts.running.items txn)) }
         ensures states { SameStates self.old.parts self.new.parts }
         ensures stepped { (first : Base) (s : State) → Shows D.seen D.may_leave first s self.old
             → HasStepped D.seen D.may_leave first s txn result self.new }
@@ -44,7 +48,7 @@ impl<D: Device> Kernel<D> {
 
     // What a step answers where its operation goes on.
     fn stepped(&self, going: Going) -> Stepped
-        ensures { (reply : Reply) → result ≡ Stepped.Replied reply → ⊥ }
+        ensures { IsToldAs self.now.parts.running.items going result }
     {
         match going {
             Going::Went => Stepped::Went,

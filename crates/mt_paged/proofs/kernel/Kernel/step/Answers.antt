@@ -1,3 +1,10 @@
+use Rattle.std.specs.Prelude.{Result}
+use Rattle.mt_base.specs.declared.refusal.Refusal.{Refusal}
+use Rattle.mt_kernel.specs.Work.{Lowers, steps_in}
+use Rattle.mt_kernel.specs.declared.steps.Stepping.{Stepping}
+use Rattle.mt_pool.specs.Views.{pages}
+use Rattle.mt_paged.proofs.Answering.{going_lowers}
+use Rattle.mt_paged.proofs.Showing.{at_place}
 use Rattle.std.proofs.Common.{◌∙◌, Ok, ap, subst}
 use Rattle.std.proofs.lemmas.Result.{err_from_is_err_and}
 use Rattle.mt_paged.proofs.Answering.{err_stepped, going_stepped}
@@ -24,4 +31,16 @@ pub returns-in-Ended-clause-stepped : goal.returns-in-Ended-clause-stepped
 returns-in-Ended-clause-stepped g c = λ first s shows. subst (StepShown g.D.Device.seen g.D.Device.may_leave c.args.self.now.relations c.args.self.now.counters c.step.new.self first s c.args.txn) (c.in_ok-reply.was ∙ ap Ok c.in-Ended.is) (step_shown g.D.Device.seen g.D.Device.may_leave c.args.self.now.relations c.args.self.now.counters c.args.self.now.parts c.step.new.self first s c.args.txn c.in-Some-place_of.place c.step.result c.in-Some-place_of.ensures.place.0 c.in-Some-place_of.ensures.place.1 (forward_of g.D.Device.seen g.D.Device.may_leave c.args.self.now.relations c.args.self.now.counters c.args.self.now.parts c.args.txn c.in-Some-place_of.place c.args.self.now.well c.in-Some-place_of.ensures.place.0 c.in-Some-place_of.ensures.place.1 c.in_default.ensures.opened) c.step.ensures.steps shows)
 
 pub returns-in-Going-clause-stepped : goal.returns-in-Going-clause-stepped
-returns-in-Going-clause-stepped g c = λ first s shows. going_stepped g.D.Device.seen g.D.Device.may_leave first s c.args.txn _ c.stepped.result c.stepped.ensures (subst (StepShown g.D.Device.seen g.D.Device.may_leave c.args.self.now.relations c.args.self.now.counters c.step.new.self first s c.args.txn) (c.in_ok-reply.was ∙ ap Ok c.in-Going.is) (step_shown g.D.Device.seen g.D.Device.may_leave c.args.self.now.relations c.args.self.now.counters c.args.self.now.parts c.step.new.self first s c.args.txn c.in-Some-place_of.place c.step.result c.in-Some-place_of.ensures.place.0 c.in-Some-place_of.ensures.place.1 (forward_of g.D.Device.seen g.D.Device.may_leave c.args.self.now.relations c.args.self.now.counters c.args.self.now.parts c.args.txn c.in-Some-place_of.place c.args.self.now.well c.in-Some-place_of.ensures.place.0 c.in-Some-place_of.ensures.place.1 c.in_default.ensures.opened) c.step.ensures.steps shows))
+returns-in-Going-clause-stepped g c = λ first s shows. going_stepped g.D.Device.seen g.D.Device.may_leave first s c.args.txn _ _ c.in-Going.going c.stepped.result c.stepped.ensures (subst (StepShown g.D.Device.seen g.D.Device.may_leave c.args.self.now.relations c.args.self.now.counters c.step.new.self first s c.args.txn) (c.in_ok-reply.was ∙ ap Ok c.in-Going.is) (step_shown g.D.Device.seen g.D.Device.may_leave c.args.self.now.relations c.args.self.now.counters c.args.self.now.parts c.step.new.self first s c.args.txn c.in-Some-place_of.place c.step.result c.in-Some-place_of.ensures.place.0 c.in-Some-place_of.ensures.place.1 (forward_of g.D.Device.seen g.D.Device.may_leave c.args.self.now.relations c.args.self.now.counters c.args.self.now.parts c.args.txn c.in-Some-place_of.place c.args.self.now.well c.in-Some-place_of.ensures.place.0 c.in-Some-place_of.ensures.place.1 c.in_default.ensures.opened) c.step.ensures.steps shows))
+
+pub returns-in-Ended-clause-work : goal.returns-in-Ended-clause-work
+returns-in-Ended-clause-work g c = let k = c.args.self.now.parts in let n = c.step.new.self in let all = pages k.operations.store.pool in
+    let at = at_place k.running.items c.in-Some-place_of.place c.in-Some-place_of.ensures.place.0 in
+    let lowers = subst (λ t. Lowers all c.step.result (steps_in k.running.items t) (steps_in n.running.items t)) (c.in-Some-place_of.ensures.place.1 at.0 at.1) (c.step.ensures.work at.0 at.1) in
+    subst (λ (r : Result Stepping Refusal). Lowers all r (steps_in k.running.items c.args.txn) (steps_in n.running.items c.args.txn)) (c.in_ok-reply.was ∙ ap Ok c.in-Ended.is) lowers
+
+pub returns-in-Going-clause-work : goal.returns-in-Going-clause-work
+returns-in-Going-clause-work g c = let k = c.args.self.now.parts in let n = c.step.new.self in let all = pages k.operations.store.pool in
+    let at = at_place k.running.items c.in-Some-place_of.place c.in-Some-place_of.ensures.place.0 in
+    let lowers = subst (λ t. Lowers all c.step.result (steps_in k.running.items t) (steps_in n.running.items t)) (c.in-Some-place_of.ensures.place.1 at.0 at.1) (c.step.ensures.work at.0 at.1) in
+    going_lowers n.running.items all (steps_in k.running.items c.args.txn) (steps_in n.running.items c.args.txn) c.in-Going.going c.stepped.result c.stepped.ensures (subst (λ (r : Result Stepping Refusal). Lowers all r (steps_in k.running.items c.args.txn) (steps_in n.running.items c.args.txn)) (c.in_ok-reply.was ∙ ap Ok c.in-Going.is) lowers)

@@ -43,8 +43,10 @@ impl<D: Device> Kernel<D> {
         requires within { place < length self.old.parts.running.items }
         requires own { AtPlace self.old.parts.running.items place (λ r. (r.scope.txn ≡ txn) × (r.scope.undoes ≡ 0)) }
         requires aborting { state_in self.old.parts.live.members txn ≡ Some Aborting }
-        ensures why { IfErr result (λ why. why ≢ Refusal.NoMemory → IsFault D.faults self.old.parts self.new.parts why) }
-        ensures states { IfOk result (λ stepped. stepped ≢ AbortStepped.Ended → SameStates self.old.parts self.new.parts) }
+        ensures why { IfErr result (λ why. why ≢ Refusal.NoMemory
+            → IsFault D.faults self.old.parts self.new.parts why) }
+        ensures states { IfOk result (λ stepped. stepped ≢ AbortStepped.Ended
+            → SameStates self.old.parts self.new.parts) }
         ensures aborted { (first : Base) (s : State) → Shows D.seen D.may_leave first s self.old
             → HasAborted D.seen D.may_leave first s txn result self.new }
     {
@@ -59,8 +61,10 @@ impl<D: Device> Kernel<D> {
     fn undo_step(&mut self, txn: TxnNo, place: usize) -> Result<AbortStepped, Refusal>
         requires within { place < length self.old.parts.running.items }
         requires own { AtPlace self.old.parts.running.items place (λ r. (r.scope.txn ≡ txn) × (r.scope.undoes ≢ 0)) }
-        ensures why { IfErr result (λ why. why ≢ Refusal.NoMemory → IsFault D.faults self.old.parts self.new.parts why) }
-        ensures states { IfOk result (λ stepped. stepped ≢ AbortStepped.Ended → SameStates self.old.parts self.new.parts) }
+        ensures why { IfErr result (λ why. why ≢ Refusal.NoMemory
+            → IsFault D.faults self.old.parts self.new.parts why) }
+        ensures states { IfOk result (λ stepped. stepped ≢ AbortStepped.Ended
+            → SameStates self.old.parts self.new.parts) }
         ensures aborted { (first : Base) (s : State) → Shows D.seen D.may_leave first s self.old
             → HasAborted D.seen D.may_leave first s txn result self.new }
     {
@@ -92,8 +96,10 @@ impl<D: Device> Kernel<D> {
     fn undo_next(&mut self, txn: TxnNo) -> Result<AbortStepped, Refusal>
         requires idle { All (λ (r : Running). r.scope.txn ≢ txn) self.old.parts.running.items }
         requires aborting { state_in self.old.parts.live.members txn ≡ Some Aborting }
-        ensures why { IfErr result (λ why. why ≢ Refusal.NoMemory → IsFault D.faults self.old.parts self.new.parts why) }
-        ensures states { IfOk result (λ stepped. stepped ≢ AbortStepped.Ended → SameStates self.old.parts self.new.parts) }
+        ensures why { IfErr result (λ why. why ≢ Refusal.NoMemory
+            → IsFault D.faults self.old.parts self.new.parts why) }
+        ensures states { IfOk result (λ stepped. stepped ≢ AbortStepped.Ended
+            → SameStates self.old.parts self.new.parts) }
         ensures aborted { (first : Base) (s : State) → Shows D.seen D.may_leave first s self.old
             → HasAborted D.seen D.may_leave first s txn result self.new }
     {
@@ -114,7 +120,8 @@ impl<D: Device> Kernel<D> {
         ensures may { OnOk result (abort_cause self.old.parts txn ≡ None) }
         ensures cause { IfErr result (λ why. why ≢ Refusal.NoMemory → (abort_cause self.old.parts txn ≡ Some why)
             ⊎ IsFault D.faults self.old.parts self.new.parts why) }
-        ensures states { IfOk result (λ stepped. stepped ≢ AbortStepped.Ended → SameStates self.old.parts self.new.parts) }
+        ensures states { IfOk result (λ stepped. stepped ≢ AbortStepped.Ended
+            → SameStates self.old.parts self.new.parts) }
         ensures aborted { (first : Base) (s : State) → Shows D.seen D.may_leave first s self.old
             → HasAborted D.seen D.may_leave first s txn result self.new }
     {

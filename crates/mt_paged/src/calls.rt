@@ -26,8 +26,8 @@ impl<D: Device> Kernel<D> {
     /// Where a younger transaction is in the way, it answers [`Called::Wait`]. Refusal 1 is for want of memory, at
     /// the point where it is wanted. In each of these cases nothing of the call is kept.
     pub fn call(&mut self, txn: TxnNo, op: Op) -> Result<Called, Refusal>
-        ensures early { (why : Refusal) → call_cause self.old.relations self.old.counters self.old.parts txn op ≡ Some why
-            → result ≡ Err why }
+        ensures early { (why : Refusal)
+            → call_cause self.old.relations self.old.counters self.old.parts txn op ≡ Some why → result ≡ Err why }
         ensures answer { call_cause self.old.relations self.old.counters self.old.parts txn op ≡ None
             → IsAnsweredBy D.seen D.may_leave self.old txn op result }
         ensures states { SameStates self.old.parts self.new.parts }

@@ -8,9 +8,10 @@ use Rattle.std.proofs.lemmas.List.{get_or_default}
 use mathlib.Core.Logic.{∥∥₁_elim, ∥∥₁_map}
 use Rattle.mt_base.specs.declared.refusal.Refusal.{Refusal}
 use Rattle.mt_live.specs.Lives.{member_of}
-use Rattle.mt_live.specs.Machine.{State, called, ended, dropped, undone}
+use Rattle.mt_live.specs.Machine.{State, IsKept, called, ended, dropped, undone}
 use Rattle.mt_live.specs.Members.{Member}
 use Rattle.mt_live.specs.declared.transactions.TxnState.TheVariants.{Open, Aborting}
+use Rattle.mt_model.specs.History.{IsLegal}
 use Rattle.mt_model.specs.Model.{Base, reply_of, base_after, IsWithin}
 use Rattle.mt_model.specs.declared.operations.Op.{Op}
 use Rattle.mt_model.specs.declared.operations.Op.TheVariants.{Get, Insert, Update, Delete, Add, Read}
@@ -90,6 +91,14 @@ module _ {D : Type 0} (seen : D → List ℕ) (may_leave : D → List ℕ → Ty
   -- an inverse is not taken back
   pub inverse_stage : (k : Parts D) (place : ℕ) → IsWell seen may_leave relations counters k → place < length k.running.items → AtPlace k.running.items place (λ r. r.scope.undoes ≢ 0) → AtPlace k.running.items place (λ r. (r.scope.stage ≡ Planning) ⊎ (r.scope.stage ≡ Writing))
   inverse_stage k place well within back r there = going_of r.scope.stage (∥∥₁_map well (λ (origin, base, is, safe). let mine = own_of k place r within there origin base safe in (mine.1, λ taking. back r there (mine.0.taken taking).0)))
+
+  -- ---- what is kept
+
+  pub kept_of : (k : Parts D) (first : Base) (s : State) → ShowsIn seen may_leave relations counters first s k → ∥ IsKept first s ∥₁
+  kept_of k first s shows = ∥∥₁_map shows (λ (origin, base, is, x). subst (λ (X : Type 0). X) (λ i. IsKept (is.first_is i) (sym x.state i)) x.consistent.fit.kept)
+
+  pub legal_of : (k : Parts D) (first : Base) (s : State) → ShowsIn seen may_leave relations counters first s k → ∥ ((s.book ≡ k.book.items) × IsLegal first k.book.items) ∥₁
+  legal_of k first s shows = ∥∥₁_map shows (λ (origin, base, is, x). (ap (λ (z : State). z.book) x.state, subst (λ (b : Base). IsLegal b k.book.items) is.first_is x.consistent.fit.kept.legal))
 
   -- ---- events
 

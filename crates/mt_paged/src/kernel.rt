@@ -1,6 +1,7 @@
 // A kernel over pages.
 ghost use Rattle.std.specs.Prelude.{◌≡◌};
-ghost use Rattle.mt_live.specs.Machine.{start};
+ghost use Rattle.mt_live.specs.Machine.{State, start, IsKept};
+ghost use Rattle.mt_model.specs.History.{IsLegal};
 ghost use Rattle.mt_model.specs.Model.{Base};
 ghost use Rattle.mt_kernel.specs.Consistent.{IsFresh};
 ghost use Rattle.mt_paged.specs.Well.{IsWell, Opens};
@@ -52,12 +53,22 @@ impl<D: Device> Kernel<D> {
         }
     }
 
-    /// The durable commits of this opening, in their order.
+    /// The durable commits of this opening, in their order. They are those of the state that the kernel shows, and
+    /// legal from its first base on: each transaction replied as it does alone behind those before it.
     pub fn book(&self) -> &[Committed]
-        ensures { result.now ≡ self.now.parts.book.items }
+        ensures book { result.now ≡ self.now.parts.book.items }
+        ensures legal { (first : Base) (s : State) → Shows D.seen D.may_leave first s self.now
+            → ∥ ((s.book ≡ result.now) × IsLegal first result.now) ∥₁ }
     {
         self.parts.book()
     }
+
+    /// Whatever state a kernel shows, the laws of mt_live keep it: its book is legal, what stands of its live
+    /// transactions is explained on what the book leaves, whoever is struck out, and leads to the base that the pages
+    /// hold.
+    pub fn shows_what_is_kept(&self)
+        ensures { (first : Base) (s : State) → Shows D.seen D.may_leave first s self.now → ∥ IsKept first s ∥₁ }
+    {}
 }
 
 impl<D: Device + Drop> Kernel<D> {

@@ -2,6 +2,7 @@
 ghost use Rattle.std.specs.Prelude.{◌≤◌};
 
 mod driving;
+mod random;
 
 use driving::{Told, aborted, called, committed, kernel_of, put_away, run, stepped};
 use mt_base::{Bytes, CtrNo, Refusal, RelNo, TxnNo};

@@ -10,6 +10,8 @@ mod common;
 #[cfg(test)]
 mod op;
 #[cfg(test)]
+mod paged;
+#[cfg(test)]
 mod restart;
 #[cfg(test)]
 mod txn;

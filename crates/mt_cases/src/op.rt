@@ -4,10 +4,10 @@ ghost use Rattle.mt_base.specs.Limits.{IsPageCount, IsAreaSize};
 ghost use Rattle.mt_disk.specs.Memory.{content, MayLeave};
 ghost use Rattle.mt_op.specs.Driven.{IsIdle};
 
-mod driving;
+pub mod driving;
 mod format;
 mod interleaving;
-mod random;
+pub mod random;
 mod taking;
 
 use driving::{Acted, Driver};

@@ -14,7 +14,7 @@ use std::alloc::{AllocError, Global};
 use std::process::Abort;
 use std::test::Fail;
 
-// A generator of numbers.
+/// A generator of numbers.
 #[derive(Drop)]
 pub struct Numbers {
     state: u64,
@@ -25,8 +25,8 @@ impl Numbers {
         Numbers { state: seed }
     }
 
-    // The next number, below this one.
-    fn below(&mut self, end: u64) -> u64
+    /// The next number, below this one.
+    pub fn below(&mut self, end: u64) -> u64
         requires { 0 < end }
         ensures { result < end }
     {

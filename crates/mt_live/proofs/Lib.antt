@@ -9,6 +9,7 @@ pub mod Locking
 pub mod AddLemmas
 pub mod Keeping
 pub mod Schedule
+pub mod Alone
 pub mod Witness
 pub mod Failures
 pub mod Lasts

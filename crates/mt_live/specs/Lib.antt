@@ -8,3 +8,4 @@ pub mod Witness
 pub mod Counterexamples
 pub mod Members
 pub mod Lives
+pub mod Alone

@@ -1,6 +1,7 @@
 //! Laws of live transactions: why strict commuting locks, escrow and inverses explain every state.
 //! Each is a function with an empty body, whose contract is the law.
 ghost use Rattle.mt_live.specs.Laws.{BeginKeeps, CallKeeps, EndKeeps, DropKeeps, GivingBackKeeps, CommitKeeps, CommitMovesCounters, InverseKeeps, AbortKeeps, AbortLeavesNoTrace, KeptIsExplained, SoundIsExplained, SetMovesInFront, TransactionsMoveInFront, StartIsKept, EventKeeps, EveryScheduleIsRight, EmptyHoldsBook, NobodyLeavesNothing};
+ghost use Rattle.mt_live.specs.Alone.{BeginsAlone, AloneHolds, AloneIsFree, AloneActs, AloneCommits, AloneLeaves};
 ghost use Rattle.mt_live.specs.Witness.{RunTakesPlace};
 
 /// A transaction that begins changes nothing of what is kept.
@@ -75,6 +76,18 @@ pub fn every_schedule_is_right()
 pub fn an_empty_kernel_holds_its_book()
     ensures base { EmptyHoldsBook }
     ensures nobody { NobodyLeavesNothing }
+{}
+
+/// A transaction that lives alone acts as the model: nobody is in its way; each of its operations replies as on the base
+/// that the book and its calls before leave; its commit puts just these calls behind the book; and when it is gone
+/// nobody lives.
+pub fn one_alone_acts_as_the_model()
+    ensures begins { BeginsAlone }
+    ensures holds { AloneHolds }
+    ensures free { AloneIsFree }
+    ensures acts { AloneActs }
+    ensures commits { AloneCommits }
+    ensures leaves { AloneLeaves }
 {}
 
 /// The conditions of the events can be met: a run in which each takes place.

@@ -1,2 +1,3 @@
 pub mod Showing
+pub mod Living
 pub mod Answering

@@ -1,9 +1,13 @@
 // A kernel over pages.
-ghost use Rattle.std.specs.Prelude.{◌≡◌};
-ghost use Rattle.mt_live.specs.Machine.{State, start, IsKept};
+ghost use Rattle.std.specs.Prelude.{◌≡◌, ◌≢◌, ℕ, [], None, Some, true, false, is_some};
+ghost use Rattle.mt_live.specs.Machine.{State, start, IsKept, is_live};
+ghost use Rattle.mt_live.specs.declared.transactions.TxnState.TheVariants.{Open, Committing};
 ghost use Rattle.mt_model.specs.History.{IsLegal};
 ghost use Rattle.mt_model.specs.Model.{Base};
+ghost use Rattle.mt_model.specs.declared.operations.Op.{Op};
 ghost use Rattle.mt_kernel.specs.Consistent.{IsFresh};
+ghost use Rattle.mt_kernel.specs.Runs.{state_in};
+ghost use Rattle.mt_paged.specs.Causes.{is_busy};
 ghost use Rattle.mt_paged.specs.Well.{IsWell, Opens};
 
 use mt_disk::Device;
@@ -68,6 +72,20 @@ impl<D: Device> Kernel<D> {
     /// hold.
     pub fn shows_what_is_kept(&self)
         ensures { (first : Base) (s : State) → Shows D.seen D.may_leave first s self.now → ∥ IsKept first s ∥₁ }
+    {}
+
+    /// Whatever state a kernel shows tells who lives, and who runs an operation; and where nobody commits, no commit is
+    /// under way.
+    pub fn shows_who_lives(&self)
+        ensures lives { (first : Base) (s : State) → Shows D.seen D.may_leave first s self.now
+            → (t : ℕ) → is_live s t ≡ is_some (state_in self.now.parts.live.members t) }
+        ensures runs { (first : Base) (s : State) → Shows D.seen D.may_leave first s self.now
+            → (t : ℕ) (op : Op) → s.running t ≡ Some op → is_busy self.now.parts t ≡ true }
+        ensures idle { (first : Base) (s : State) → Shows D.seen D.may_leave first s self.now
+            → (t : ℕ) → state_in self.now.parts.live.members t ≡ Some Open → s.running t ≡ None
+            → is_busy self.now.parts t ≡ false }
+        ensures commits { ((t : ℕ) → state_in self.now.parts.live.members t ≢ Some Committing)
+            → self.now.parts.commits.items ≡ [] }
     {}
 }
 

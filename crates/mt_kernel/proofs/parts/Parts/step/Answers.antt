@@ -1,13 +1,13 @@
 use mathlib.Core.Logic.{∥∥₁_elim}
 use Rattle.std.proofs.Props.{props}
-use Rattle.std.proofs.Common.{◌≡◌, ◌∙◌, ◌<◌, Result, Ok, Err, length, get_or, sym, ap, subst, arith}
+use Rattle.std.proofs.Common.{◌≡◌, ◌∙◌, ◌<◌, Result, Ok, length, get_or, sym, ap, subst, arith}
 use Rattle.std.proofs.lemmas.List.{get_or_default}
 use Rattle.mt_live.specs.Machine.{ended}
 use Rattle.mt_model.specs.Model.{reply_of, base_after}
 use Rattle.mt_op.specs.Moves.{SameOp}
 use Rattle.mt_kernel.specs.Consistent.{state_of, IsReady, IsIn, Advances}
 use Rattle.mt_kernel.specs.declared.parts.Running.{Running}
-use Rattle.std.proofs.Common.{◌+◌, ◌≤◌, List}
+use Rattle.std.proofs.Common.{◌≤◌, List}
 use Rattle.std.specs.List.{remove}
 use Rattle.mt_op.specs.Operations.{world}
 use Rattle.mt_op.specs.Work.{Works}

@@ -33,15 +33,15 @@ abbrev pub IsOfOther : List Running → ℕ → ℕ → Type 0
 IsOfOther rs t number = (u : ℕ) × (u ≢ t) × IsOwnerOf rs number (Some u)
 
 -- An operation of t waits, or begins anew, only for one of another transaction.
-abbrev pub IsForOther : List Running → ℕ → Going → Type 0
-IsForOther rs t going.Went = ⊤
-IsForOther rs t (going.Wait holder) = IsOfOther rs t holder
-IsForOther rs t (going.Again holder) = IsOfOther rs t holder
-IsForOther rs t going.Flush = ⊤
+abbrev pub AwaitsOther : List Running → ℕ → Going → Type 0
+AwaitsOther rs t going.Went = ⊤
+AwaitsOther rs t (going.Wait holder) = IsOfOther rs t holder
+AwaitsOther rs t (going.Again holder) = IsOfOther rs t holder
+AwaitsOther rs t going.Flush = ⊤
 
 abbrev pub NamesOther : List Running → ℕ → Result Stepping Refusal → Type 0
 NamesOther rs t (Ok (Ended reply)) = ⊤
-NamesOther rs t (Ok (GoingOn g)) = IsForOther rs t g
+NamesOther rs t (Ok (GoingOn g)) = AwaitsOther rs t g
 NamesOther rs t (Err why) = ⊤
 
 -- as the step of the operations tells it

@@ -1,5 +1,5 @@
 -- Who is waited for.
-use Rattle.std.proofs.Common.{◌≡◌, ⊎_elim, ◌⊎◌, ◌<◌, ℕ, List, length, true, is_some, Option, Some, None, refl, sym, subst}
+use Rattle.std.proofs.Common.{◌≡◌, ⊎_elim, ◌⊎◌, ◌<◌, ℕ, List, length, true, is_some, Option, Some, None, refl, subst}
 use Rattle.std.proofs.Props.{props}
 use Rattle.std.specs.Option.{option_map}
 use mathlib.Core.Logic.{∥∥₁_elim, ∥∥₁_map}

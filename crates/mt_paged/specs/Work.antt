@@ -1,5 +1,5 @@
 -- The steps that are left, and who is waited for.
-use Rattle.std.specs.Prelude.{ℕ, ◌≡◌, ◌≢◌, ◌⊎◌, ◌<◌, ◌≤◌, ◌+◌, ◌*◌, true, is_some, List, Option, Some, None, Result, Ok, Err, ⊤}
+use Rattle.std.specs.Prelude.{ℕ, ◌≡◌, ◌≢◌, ◌⊎◌, ◌<◌, ◌≤◌, ◌+◌, ◌*◌, true, is_some, List, Some, None, Result, Ok, Err, ⊤}
 use Rattle.mt_base.specs.declared.refusal.Refusal.{Refusal}
 use Rattle.mt_live.specs.Lives.{member_of}
 use Rattle.mt_live.specs.Members.{Member}

@@ -20,7 +20,8 @@ use mt_kernel::{Going, Stepping};
 impl<D: Device> Kernel<D> {
     /// Makes a step of the operation of an open transaction: it locks a page and looks at it, or writes one, or ends.
     /// Where it ends it has acted once on the base that the pages hold, whatever others have half done, and stands
-    /// behind all that ended before.
+    /// behind all that ended before. It waits, or begins anew, only for another transaction that lives: one that is
+    /// alone does neither.
     ///
     /// Refused, in this order: 2 where the device has failed, 15 where the transaction is not open or has no operation
     /// under way, 1 for want of memory; and with 2 where the device fails in this step. The state is as before.

@@ -1,5 +1,5 @@
 -- The steps that a transaction's operation under way has left.
-use Rattle.std.specs.Prelude.{ℕ, ◌≡◌, ◌<◌, ◌≤◌, ◌+◌, ◌*◌, ◌==◌, cond, List, [], ◌∷◌, Result, Ok, Err, ⊤}
+use Rattle.std.specs.Prelude.{ℕ, ◌≡◌, ◌<◌, ◌≤◌, ◌+◌, ◌*◌, ◌==◌, cond, List, [], ◌∷◌, Result, Ok, Err}
 use Rattle.mt_base.specs.declared.refusal.Refusal.{Refusal}
 use Rattle.mt_op.specs.Work.{work_of}
 use Rattle.mt_kernel.specs.declared.parts.Running.{Running}
@@ -20,8 +20,8 @@ LeavesSteps pages (going.Wait holder) before now = now ≤ before
 LeavesSteps pages (going.Again holder) before now = now ≤ before + 2 * pages
 LeavesSteps pages going.Flush before now = now ≤ before
 
--- one that ended leaves none
+-- one that ended leaves none, and one that is refused leaves no more
 abbrev pub Lowers : ℕ → Result Stepping Refusal → ℕ → ℕ → Type 0
 Lowers pages (Ok (Ended reply)) before now = (0 < before) × (now ≡ 0)
 Lowers pages (Ok (GoingOn g)) before now = LeavesSteps pages g before now
-Lowers pages (Err why) before now = ⊤
+Lowers pages (Err why) before now = now ≤ before

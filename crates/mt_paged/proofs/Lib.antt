@@ -1,3 +1,4 @@
 pub mod Showing
 pub mod Living
 pub mod Answering
+pub mod Barring

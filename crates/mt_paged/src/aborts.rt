@@ -9,8 +9,8 @@ ghost use Rattle.mt_kernel.specs.Runs.{state_in};
 ghost use Rattle.mt_kernel.specs.declared.parts.Running.{Running};
 ghost use Rattle.mt_paged.specs.Causes.{IsFault, abort_cause, open_cause};
 ghost use Rattle.mt_paged.specs.Events.{HasAborted};
-ghost use Rattle.mt_paged.specs.Shown.{Shows, Stays};
 ghost use Rattle.mt_paged.specs.Work.{IsAbortToldAs, IsAbortForOther};
+ghost use Rattle.mt_paged.specs.Shown.{SameSchema, Shows, Stays};
 
 use crate::answers::AbortStepped;
 use crate::kernel::Kernel;
@@ -31,6 +31,7 @@ impl<D: Device> Kernel<D> {
         ensures state { Stays D.seen D.may_leave self.old self.new }
         ensures aborts { OnOk result (SetsState self.old.parts self.new.parts txn (Some Aborting)) }
         ensures err { OnErr result (self.new ≡ self.old) }
+        ensures schema { SameSchema self.old self.new }
     {
         if let Some(why) = self.open_cause(txn) {
             return Err(why);
@@ -49,6 +50,7 @@ impl<D: Device> Kernel<D> {
         ensures states { IfOk result (λ stepped. stepped ≢ AbortStepped.Ended
             → SameStates self.old.parts self.new.parts) }
         ensures other { IfOk result (λ stepped. IsAbortForOther self.old.parts.live.members txn stepped) }
+        ensures schema { SameSchema self.old self.new }
         ensures aborted { (first : Base) (s : State) → Shows D.seen D.may_leave first s self.old
             → HasAborted D.seen D.may_leave first s txn result self.new }
     {
@@ -68,6 +70,7 @@ impl<D: Device> Kernel<D> {
         ensures states { IfOk result (λ stepped. stepped ≢ AbortStepped.Ended
             → SameStates self.old.parts self.new.parts) }
         ensures other { IfOk result (λ stepped. IsAbortForOther self.old.parts.live.members txn stepped) }
+        ensures schema { SameSchema self.old self.new }
         ensures aborted { (first : Base) (s : State) → Shows D.seen D.may_leave first s self.old
             → HasAborted D.seen D.may_leave first s txn result self.new }
     {
@@ -104,6 +107,7 @@ impl<D: Device> Kernel<D> {
         ensures states { IfOk result (λ stepped. stepped ≢ AbortStepped.Ended
             → SameStates self.old.parts self.new.parts) }
         ensures other { IfOk result (λ stepped. IsAbortForOther self.old.parts.live.members txn stepped) }
+        ensures schema { SameSchema self.old self.new }
         ensures aborted { (first : Base) (s : State) → Shows D.seen D.may_leave first s self.old
             → HasAborted D.seen D.may_leave first s txn result self.new }
     {
@@ -128,6 +132,8 @@ impl<D: Device> Kernel<D> {
         ensures states { IfOk result (λ stepped. stepped ≢ AbortStepped.Ended
             → SameStates self.old.parts self.new.parts) }
         ensures other { IfOk result (λ stepped. IsAbortForOther self.old.parts.live.members txn stepped) }
+        ensures unmoved { (why : Refusal) → abort_cause self.old.parts txn ≡ Some why → self.new ≡ self.old }
+        ensures schema { SameSchema self.old self.new }
         ensures aborted { (first : Base) (s : State) → Shows D.seen D.may_leave first s self.old
             → HasAborted D.seen D.may_leave first s txn result self.new }
     {

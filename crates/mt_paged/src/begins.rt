@@ -6,7 +6,7 @@ ghost use Rattle.mt_model.specs.Model.{Base};
 ghost use Rattle.mt_live.specs.declared.transactions.TxnState.TheVariants.{Open};
 ghost use Rattle.mt_kernel.specs.Consistent.{SetsState};
 ghost use Rattle.mt_paged.specs.Causes.{begin_cause};
-ghost use Rattle.mt_paged.specs.Shown.{Shows};
+ghost use Rattle.mt_paged.specs.Shown.{SameSchema, Shows};
 
 use crate::kernel::Kernel;
 use mt_base::limits::{MAX_BEGUN, MAX_COMMITS, MAX_LIVE};
@@ -28,6 +28,7 @@ impl<D: Device> Kernel<D> {
             → OnOk result (Shows D.seen D.may_leave first (begun s session) self.new) }
         ensures opened { IfOk result (λ txn. SetsState self.old.parts self.new.parts txn (Some Open)) }
         ensures err { OnErr result (self.new.parts ≡ self.old.parts) }
+        ensures schema { SameSchema self.old self.new }
     {
         if self.parts.log().has_failed() {
             return Err(Refusal::DeviceFailed);

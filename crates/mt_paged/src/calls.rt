@@ -6,7 +6,7 @@ ghost use Rattle.mt_model.specs.Model.{Base};
 ghost use Rattle.mt_kernel.specs.Consistent.{SameStates};
 ghost use Rattle.mt_paged.specs.Causes.{call_cause};
 ghost use Rattle.mt_paged.specs.Events.{HasCalled, IsAnsweredBy};
-ghost use Rattle.mt_paged.specs.Shown.{Shows};
+ghost use Rattle.mt_paged.specs.Shown.{SameSchema, Shows};
 
 use crate::kernel::Kernel;
 use mt_base::{Refusal, TxnNo};
@@ -33,6 +33,9 @@ impl<D: Device> Kernel<D> {
         ensures states { SameStates self.old.parts self.new.parts }
         ensures called { (first : Base) (s : State) → Shows D.seen D.may_leave first s self.old
             → HasCalled D.seen D.may_leave first s txn op result self.new }
+        ensures unmoved { (why : Refusal)
+            → call_cause self.old.relations self.old.counters self.old.parts txn op ≡ Some why → self.new ≡ self.old }
+        ensures schema { SameSchema self.old self.new }
     {
         if let Some(why) = self.call_cause(txn, &op) {
             return Err(why);

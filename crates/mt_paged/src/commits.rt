@@ -11,7 +11,7 @@ ghost use Rattle.mt_kernel.specs.Consistent.{SameStates, SetsState};
 ghost use Rattle.mt_kernel.specs.declared.parts.Commit.{Commit};
 ghost use Rattle.mt_paged.specs.Causes.{IsFailure, commit_cause};
 ghost use Rattle.mt_paged.specs.Events.{HasForced, IsForcedBy};
-ghost use Rattle.mt_paged.specs.Shown.{Shows, Stays};
+ghost use Rattle.mt_paged.specs.Shown.{SameSchema, Shows, Stays};
 
 use crate::answers::KernelForced;
 use crate::kernel::Kernel;
@@ -37,6 +37,8 @@ impl<D: Device> Kernel<D> {
             × (self.new.parts.commits.items ≡ self.old.parts.commits.items ++ c ∷ [])) }
         ensures commits { OnOk result (SetsState self.old.parts self.new.parts txn (Some Committing)) }
         ensures err { OnErr result (SameStates self.old.parts self.new.parts) }
+        ensures unmoved { (why : Refusal) → commit_cause self.old.parts txn ≡ Some why → self.new ≡ self.old }
+        ensures schema { SameSchema self.old self.new }
     {
         if let Some(why) = self.open_cause(txn) {
             return Err(why);
@@ -59,9 +61,11 @@ impl<D: Device> Kernel<D> {
             → IsFailure D.faults self.old.parts self.new.parts why) }
         ensures log { IfOk result (λ forced. IsForcedBy self.old.parts.operations.store.log
             self.old.parts.commits.items forced self.new.parts.operations.store.log self.new.parts.commits.items) }
-        ensures failed { has_failed self.old.parts.operations.store.log ≡ true → result ≡ Err Refusal.DeviceFailed }
+        ensures failed { has_failed self.old.parts.operations.store.log ≡ true
+            → (result ≡ Err Refusal.DeviceFailed) × (self.new ≡ self.old) }
         ensures forced { (first : Base) (s : State) → Shows D.seen D.may_leave first s self.old
             → HasForced D.seen D.may_leave first s result self.new }
+        ensures schema { SameSchema self.old self.new }
     {
         if self.parts.log().has_failed() {
             return Err(Refusal::DeviceFailed);
@@ -89,8 +93,10 @@ impl<D: Device> Kernel<D> {
         ensures barred { result ≡ Ok flushed.Force
             → IsWaiting self.old.parts.operations.store.pool (length (durable self.old.parts.operations.store.log)) }
         ensures log { self.new.parts.operations.store.log ≡ self.old.parts.operations.store.log }
-        ensures failed { has_failed self.old.parts.operations.store.log ≡ true → result ≡ Err Refusal.DeviceFailed }
+        ensures failed { has_failed self.old.parts.operations.store.log ≡ true
+            → (result ≡ Err Refusal.DeviceFailed) × (self.new ≡ self.old) }
         ensures state { Stays D.seen D.may_leave self.old self.new }
+        ensures schema { SameSchema self.old self.new }
     {
         if self.parts.log().has_failed() {
             return Err(Refusal::DeviceFailed);

@@ -9,7 +9,7 @@ ghost use Rattle.mt_paged.specs.Work.{IsToldAs, IsForOther, LowersSteps};
 ghost use Rattle.mt_kernel.specs.Consistent.{SameStates};
 ghost use Rattle.mt_paged.specs.Causes.{IsFault, step_cause};
 ghost use Rattle.mt_paged.specs.Events.{HasStepped};
-ghost use Rattle.mt_paged.specs.Shown.{Shows};
+ghost use Rattle.mt_paged.specs.Shown.{SameSchema, Shows};
 
 use crate::answers::Stepped;
 use crate::kernel::Kernel;
@@ -33,6 +33,8 @@ impl<D: Device> Kernel<D> {
             (steps_in self.old.parts.running.items txn) (steps_in self.new.parts.running.items txn) }
         ensures other { IfOk result (λ stepped. IsForOther self.old.parts.live.members txn stepped) }
         ensures states { SameStates self.old.parts self.new.parts }
+        ensures unmoved { (why : Refusal) → step_cause self.old.parts txn ≡ Some why → self.new ≡ self.old }
+        ensures schema { SameSchema self.old self.new }
         ensures stepped { (first : Base) (s : State) → Shows D.seen D.may_leave first s self.old
             → HasStepped D.seen D.may_leave first s txn result self.new }
     {

@@ -1,13 +1,17 @@
 -- What is known of parts that are sound, whatever the base.
-use Rattle.std.proofs.Common.{◌≡◌, ◌<◌, ◌≤◌, ◌+◌, ◌^◌, ◌∷◌, ℕ, List, true, false, is_some, Option, Some, inl, inr, ⊎_elim, refl, sym, ap, subst, arith}
+use Rattle.std.proofs.Common.{◌≡◌, ◌<◌, ◌≤◌, ◌+◌, ◌^◌, ◌==◌, ◌∷◌, ◌∙◌, ℕ, List, Bool, true, false, cond, is_some, Option, None, Some, inl, inr, ⊎_elim, refl, sym, ap, subst, arith}
 use Rattle.std.proofs.Props.{props}
-use Rattle.std.specs.Prelude.{All, vec_len, length}
+use Rattle.std.specs.Prelude.{◌≢◌, All, vec_len, length}
+use Rattle.std.specs.Option.{option_map}
 use Rattle.std.specs.Vec.{vec_capacity}
+use Rattle.std.proofs.lemmas.Bool.{eqb-true}
 use Rattle.std.proofs.lemmas.List.Elements.{All-head}
 use mathlib.Core.Logic.{∥∥₁_elim, ∥∥₁_map}
 use Rattle.mt_frame.specs.Grammar.{IsTxn}
 use Rattle.mt_frame.specs.History.{some_record, ends_txn}
 use Rattle.mt_live.specs.Lives.{member_of}
+use Rattle.mt_live.specs.Machine.{put}
+use Rattle.mt_live.specs.Members.{Member}
 use Rattle.mt_live.specs.declared.transactions.TxnState.TheVariants.{Committing}
 use Rattle.mt_log.specs.Words.{appended}
 use Rattle.mt_op.specs.declared.scope.Stage.{Stage}
@@ -50,6 +54,15 @@ module _ {D : Type 0} (seen : D → List ℕ) (may_leave : D → List ℕ → Ty
   pub first_lives : (c : Commit) (cs : List Commit) → k.commits.items ≡ c ∷ cs → is_some (member_of k.live.members c.txn) ≡ true
   first_lives c cs queue = ∥∥₁_elim sound (hlevel props) (λ (origin, base, safe).
       stated_some (member_of k.live.members c.txn) (All-head (λ (x : Commit). state_in k.live.members x.txn ≡ Some Committing) c cs (subst (All (λ (x : Commit). state_in k.live.members x.txn ≡ Some Committing)) queue safe.fit.queued.each)))
+
+  -- where the first of the commits leaves, each that does not commit is in the state in which it was
+  pub first_leaves : (now : List Member) (c : Commit) (cs : List Commit) → k.commits.items ≡ c ∷ cs → ((u : ℕ) → member_of now u ≡ put (member_of k.live.members) c.txn None u) → (u : ℕ) → state_in k.live.members u ≢ Some Committing → state_in now u ≡ state_in k.live.members u
+  first_leaves now c cs queue member u other = ap (option_map (λ (m : Member). m.state)) (member u) ∙ go (u == c.txn) refl
+    where
+      go : (b : Bool) → (u == c.txn) ≡ b → option_map (λ (m : Member). m.state) (put (member_of k.live.members) c.txn None u) ≡ state_in k.live.members u
+      go true own = absurd (∥∥₁_elim sound (hlevel props) (λ (origin, base, safe).
+          other (ap (state_in k.live.members) (eqb-true u c.txn own) ∙ All-head (λ (x : Commit). state_in k.live.members x.txn ≡ Some Committing) c cs (subst (All (λ (x : Commit). state_in k.live.members x.txn ≡ Some Committing)) queue safe.fit.queued.each))))
+      go false apart = ap (λ (b : Bool). option_map (λ (m : Member). m.state) (cond b None (member_of k.live.members u))) apart
 
   pub first_booked : (c : Commit) (cs : List Commit) → k.commits.items ≡ c ∷ cs → vec_len k.book < vec_capacity k.book
   first_booked c cs queue = ∥∥₁_elim sound (hlevel props) (λ (origin, base, safe). let room = safe.fit.booked in let some = ap (λ (xs : List Commit). length xs) queue in omega arith)

@@ -181,6 +181,17 @@ SetsState k n t x = (u : ℕ) → state_in n.live.members u ≡ put (state_in k.
 abbrev pub SameStatesBut : {D : Type 0} → Parts D → Parts D → ℕ → Type 0
 SameStatesBut k n t = (u : ℕ) → u ≢ t → state_in n.live.members u ≡ state_in k.live.members u
 
+-- each that does not commit is in the state in which it was
+abbrev pub SameUncommitted : {D : Type 0} → Parts D → Parts D → Type 0
+SameUncommitted k n = (u : ℕ) → state_in k.live.members u ≢ Some Committing → state_in n.live.members u ≡ state_in k.live.members u
+
+-- with these operations under way, and these commits
+abbrev pub SameRunning : {D : Type 0} → Parts D → Parts D → Type 0
+SameRunning k n = n.running.items ≡ k.running.items
+
+abbrev pub SameCommits : {D : Type 0} → Parts D → Parts D → Type 0
+SameCommits k n = n.commits.items ≡ k.commits.items
+
 -- consistent on some base
 abbrev pub IsSound : {D : Type 0} → (D → List ℕ) → (D → List ℕ → Type 0) → Parts D → Type 0
 IsSound seen may_leave k = ∥ ((origin : Origin) × (base : Base) × IsConsistent seen may_leave origin base k) ∥₁

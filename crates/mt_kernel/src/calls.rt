@@ -1,5 +1,5 @@
 // Calls of operations.
-ghost use Rattle.std.specs.Prelude.{◌≡◌, ◌==◌, is_some, ◌≢◌, ◌⊎◌, ◌<◌, ◌≤◌, ◌+◌, ◌^◌, IfErr, ◌++◌, [], ℕ, length, true, All, List, OnOk, OnErr};
+ghost use Rattle.std.specs.Prelude.{◌≡◌, ◌==◌, is_some, ◌≢◌, ◌⊎◌, ◌<◌, ◌≤◌, ◌+◌, ◌*◌, ◌^◌, IfErr, ◌++◌, [], ℕ, length, true, All, List, OnOk, OnErr};
 ghost use Rattle.std.specs.Bool.{OnTrue, OnFalse};
 ghost use Rattle.std.specs.List.{sum_by, list_any};
 ghost use Rattle.std.specs.Vec.{vec_len, vec_capacity};
@@ -9,11 +9,13 @@ ghost use Rattle.mt_live.specs.Machine.{called};
 ghost use Rattle.mt_log.specs.Words.{used, area_size};
 ghost use Rattle.mt_model.specs.Model.{Base, IsWithin, object_of};
 ghost use Rattle.mt_model.specs.declared.objects.Object.{Object};
+ghost use Rattle.mt_pool.specs.Views.{pages};
 ghost use Rattle.mt_slock.specs.declared.holders.Holder.{Holder};
-ghost use Rattle.mt_kernel.specs.Consistent.{SameStates, CallsIn, log_kept, Origin, state_of, IsConsistent, IsIn, IsPlaceOf, MayRun, MayBeCalled, IsLocked, IsGranted, IsAskedFor, IsCalled, IsRestored, without_call};
+ghost use Rattle.mt_kernel.specs.Consistent.{SameCommits, SameStates, CallsIn, log_kept, Origin, state_of, IsConsistent, IsIn, IsPlaceOf, MayRun, MayBeCalled, IsLocked, IsGranted, IsAskedFor, IsCalled, IsRestored, without_call};
 ghost use Rattle.mt_kernel.specs.Causes.{HasReserves, IsUnreserved, IsAdmittedBy, IsRefusedBehind, IsAnswered};
 ghost use Rattle.mt_base.specs.declared.refusal.Refusal.{Refusal};
 ghost use Rattle.mt_kernel.specs.Runs.{left_of};
+ghost use Rattle.mt_kernel.specs.Work.{CallRuns, RunsBehind};
 ghost use Rattle.mt_kernel.specs.declared.parts.Running.{Running};
 
 use crate::ends::let_go;
@@ -97,6 +99,10 @@ impl<D: Device> Parts<D> {
             → MayBeCalled origin self.old txn op.now
             → IsAnswered D.seen origin self.old (log_kept self.old) txn op.now split result }
         ensures states { SameStates self.old self.new }
+        ensures runs { CallRuns txn (2 * pages self.old.operations.store.pool + 9) self.old.running.items
+            self.new.running.items result }
+        ensures same_commits { SameCommits self.old self.new }
+        ensures store { self.new.operations.store ≡ self.old.operations.store }
     {
         let own = op.try_clone()?;
         let end = op.try_clone()?;
@@ -144,6 +150,10 @@ impl<D: Device> Parts<D> {
             → IfErr result (IsUnreserved D.seen origin self.old (log_kept self.old) end split) }
         ensures err { OnErr result (IsRestored D.seen D.may_leave self.old self.new) }
         ensures live { self.new.live ≡ self.old.live }
+        ensures runs { OnOk result (RunsBehind txn (2 * pages self.old.operations.store.pool + 9)
+            self.old.running.items self.new.running.items) }
+        ensures same_commits { SameCommits self.old self.new }
+        ensures store { self.new.operations.store ≡ self.old.operations.store }
     {
         let pages = pages_for(&own, split) + pages_to_undo(&own);
         let bytes = bytes_to_undo(&own);
@@ -198,6 +208,10 @@ impl<D: Device> Parts<D> {
             → IfErr result (IsRefusedBehind D.seen origin self.old (log_kept self.old) txn op.now split) }
         ensures err { OnErr result (IsRestored D.seen D.may_leave self.old self.new) }
         ensures live { self.new.live ≡ self.old.live }
+        ensures runs { OnOk result (RunsBehind txn (2 * pages self.old.operations.store.pool + 9)
+            self.old.running.items self.new.running.items) }
+        ensures same_commits { SameCommits self.old self.new }
+        ensures store { self.new.operations.store ≡ self.old.operations.store }
     {
         ask(&mut self.escrow, txn, op)?;
         match self.start(alloc, txn, own, end, split) {
@@ -233,6 +247,10 @@ impl<D: Device> Parts<D> {
             → MayRun origin self.old txn op.now
             → IsAnswered D.seen origin self.old (log_kept self.old) txn op.now split result }
         ensures live { self.new.live ≡ self.old.live }
+        ensures runs { CallRuns txn (2 * pages self.old.operations.store.pool + 9) self.old.running.items
+            self.new.running.items result }
+        ensures same_commits { SameCommits self.old self.new }
+        ensures store { self.new.operations.store ≡ self.old.operations.store }
     {
         let mode = op.mode();
         match self.locks.ask(txn, object, mode)? {

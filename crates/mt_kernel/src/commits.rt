@@ -1,15 +1,15 @@
 // Transactions that begin, commit and leave, and the writes that make commits durable.
-ghost use Rattle.std.specs.Prelude.{◌≡◌, ◌≢◌, ◌⊎◌, ◌<◌, ◌≤◌, ◌+◌, ◌^◌, ℕ, List, ◌∷◌, ◌++◌, [], length, drop, true, All, Some, Ok, IsErr, IfOk, IfErr, OnOk, OnErr};
+ghost use Rattle.std.specs.Prelude.{◌≡◌, ◌≢◌, ◌⊎◌, ◌<◌, ◌≤◌, ◌+◌, ◌^◌, ℕ, List, ◌∷◌, ◌++◌, [], length, drop, get_or, false, true, All, Some, Ok, IsErr, IfOk, IfErr, OnOk, OnErr};
 ghost use Rattle.mt_live.specs.Lives.{member_of};
 ghost use Rattle.mt_live.specs.Machine.{begun, booked};
 ghost use Rattle.mt_live.specs.declared.transactions.TxnState.TheVariants.{Open, Committing, Aborting};
 ghost use Rattle.mt_disk.specs.Disk.{HasCause};
-ghost use Rattle.mt_log.specs.Words.{durable, has_failed, area_size, IsStep};
+ghost use Rattle.mt_log.specs.Words.{appended, durable, has_failed, area_size, IsStep};
 ghost use Rattle.mt_model.specs.Model.{Base};
-ghost use Rattle.mt_pool.specs.Views.{IsWaiting, Cleans};
+ghost use Rattle.mt_pool.specs.Views.{IsWaiting, Cleans, to_flush};
 ghost use Rattle.mt_pool.specs.declared.flushing.Flushed.TheVariants as flushed;
 ghost use Rattle.mt_base.specs.declared.refusal.Refusal.{Refusal};
-ghost use Rattle.mt_kernel.specs.Consistent.{log_kept, SameStates, SetsState, BooksIn, IsSound, StaysIn, OnlyOperations, Origin, state_of, state_in, session_in, IsConsistent, IsIn};
+ghost use Rattle.mt_kernel.specs.Consistent.{log_kept, SameCommits, SameRunning, SameStates, SameUncommitted, SetsState, BooksIn, IsSound, StaysIn, OnlyOperations, Origin, state_of, state_in, session_in, IsConsistent, IsIn};
 ghost use Rattle.mt_kernel.specs.Booked.{booked_each, durable_count, durable_txns};
 ghost use Rattle.mt_kernel.specs.Runs.{is_open};
 ghost use Rattle.std.specs.Vec.{vec_len, vec_capacity};
@@ -57,6 +57,8 @@ impl<D: Device> Parts<D> {
         ensures cause { IfErr result (λ why. (why ≡ Refusal.NoMemory) ⊎ ((why ≡ Refusal.LogFull)
             × (area_size self.old.operations.store.log ≤ log_kept self.old + 128))) }
         ensures opened { IfOk result (λ txn. SetsState self.old self.new txn (Some Open)) }
+        ensures same_running { SameRunning self.old self.new }
+        ensures same_commits { SameCommits self.old self.new }
         ensures err { OnErr result (self.new ≡ self.old) }
     {
         if !self.log_takes(TRANSACTION_LOG_BYTES) {
@@ -73,6 +75,7 @@ impl<D: Device> Parts<D> {
         ensures state { StaysIn D.seen D.may_leave self.old self.new }
         ensures aborts { SetsState self.old self.new txn (Some Aborting) }
         ensures running { self.new.running ≡ self.old.running }
+        ensures same_commits { SameCommits self.old self.new }
     {
         self.live.set_state(txn, TxnState::Aborting);
     }
@@ -91,7 +94,8 @@ impl<D: Device> Parts<D> {
         ensures queue { OnOk result ((c : Commit) × (c.txn ≡ txn)
             × (self.new.commits.items ≡ self.old.commits.items ++ c ∷ [])) }
         ensures commits { OnOk result (SetsState self.old self.new txn (Some Committing)) }
-        ensures err { OnErr result (SameStates self.old self.new) }
+        ensures err { OnErr result (SameStates self.old self.new × SameCommits self.old self.new) }
+        ensures same_running { SameRunning self.old self.new }
         ensures only_memory { IfErr result (λ why. why ≡ Refusal.NoMemory) }
     {
         self.commits.reserve(1)?;
@@ -115,6 +119,8 @@ impl<D: Device> Parts<D> {
         ensures store { self.new.operations.store ≡ self.old.operations.store }
         ensures rest { (c : Commit) (cs : List Commit) → self.old.commits.items ≡ c ∷ cs
             → (result ≡ c.txn) × (self.new.commits.items ≡ cs) }
+        ensures running { self.new.running ≡ self.old.running }
+        ensures states { SameUncommitted self.old self.new }
     {
         let reserved = self.reserved;
         let Commit { txn, place: _ } = self.commits.remove(0);
@@ -140,6 +146,8 @@ impl<D: Device> Parts<D> {
         ensures names { names.new.items ≡ names.old.items ++ durable_txns self.old.commits.items place }
         ensures rest { self.new.commits.items
             ≡ drop (durable_count self.old.commits.items place) self.old.commits.items }
+        ensures running { self.new.running ≡ self.old.running }
+        ensures states { SameUncommitted self.old self.new }
     {
         let count = durable_count(self.commits.as_slice(), place);
         for _booked in 0..count {
@@ -175,6 +183,12 @@ impl<D: Device> Parts<D> {
             self.new.operations.store.pool (length (durable self.old.operations.store.log)) p }
         ensures barred { result ≡ Ok flushed.Force
             → IsWaiting self.old.operations.store.pool (length (durable self.old.operations.store.log)) }
+        ensures fewer { (p : ℕ) → result ≡ Ok (flushed.Page p)
+            → to_flush self.new.operations.store.pool + 1 ≡ to_flush self.old.operations.store.pool }
+        ensures forced { result ≡ Ok flushed.Force → length (durable self.old.operations.store.log)
+            < length (appended self.old.operations.store.log) }
+        ensures nothing { result ≡ Ok flushed.Clean
+            → (f : ℕ) → get_or self.new.operations.store.pool.dirty.items f false ≡ false }
         ensures cause { HasCause (D.faults self.old.operations.store.device)
             (D.faults self.new.operations.store.device) result }
     {

@@ -11,6 +11,8 @@ loop-booked-init g c = let within = c.durable_count-count.ensures.within in let 
   left = record { state = λ origin base safe. record { consistent = safe; state = refl }; leaves = refl; tells = sym (append-nil c.args.names.now.items) };
   room = omega arith;
   store = refl;
+  running = refl;
+  states = λ u other. refl;
   count = omega arith;
 }
 
@@ -37,6 +39,8 @@ loop-booked-preserved g c = let k = c.args.self.now in let d : Commit = record {
       left = left_more g.D.Device.seen g.D.Device.may_leave k c.loop-booked.self c.leave_first-txn.new.self at c.leave_first-txn.result c.args.names.now.items c.loop-booked.names.items c.push_reserved.new.self.items d was.left within e.left own p.items;
       room = let room = was.room in let len = p.len in let capacity = p.capacity in omega arith;
       store = e.store ∙ was.store;
+      running = e.running ∙ was.running;
+      states = λ u other. e.states u (λ commits. other (sym (was.states u other) ∙ commits)) ∙ was.states u other;
       count = was.count;
     }
 
@@ -52,3 +56,9 @@ returns-clause-rest g c = let k = c.args.self.now in c.loop-booked.invariant.lef
 
 pub returns-clause-store : goal.returns-clause-store
 returns-clause-store g c = c.loop-booked.invariant.store
+
+pub returns-clause-running : goal.returns-clause-running
+returns-clause-running g c = c.loop-booked.invariant.running
+
+pub returns-clause-states : goal.returns-clause-states
+returns-clause-states g c = c.loop-booked.invariant.states

@@ -1,4 +1,5 @@
 use Rattle.std.proofs.Common.{◌≡◌, ◌+◌, ◌-◌, ◌≤◌, length, vec_len, vec_capacity}
+use Rattle.mt_kernel.specs.Consistent.{SameUncommitted}
 use Rattle.mt_kernel.proofs.Durables.{HaveLeft}
 use Rattle.mt_kernel.proofs.parts.Parts.leave_durable.Given as goal
 
@@ -7,5 +8,7 @@ invariant-loop-booked g l = record {
   left : HaveLeft g.D.Device.seen g.D.Device.may_leave l.initial.self l.self l._booked l.initial.names.items l.names.items;
   room : vec_len l.names + (length l.initial.self.commits.items - l._booked) ≤ vec_capacity l.names;
   store : l.self.operations.store ≡ l.initial.self.operations.store;
+  running : l.self.running ≡ l.initial.self.running;
+  states : SameUncommitted l.initial.self l.self;
   count : l.count ≤ length l.initial.self.commits.items;
 }

@@ -1,4 +1,4 @@
-use Rattle.std.proofs.Common.{◌≡◌, ◌∙◌, ◌+◌, ℕ, refl, ap, sym, subst, arith}
+use Rattle.std.proofs.Common.{◌≡◌, ◌∙◌, ◌+◌, ◌*◌, ℕ, refl, ap, sym, subst, arith}
 use Rattle.mt_model.specs.Model.{IsWithin}
 use Rattle.mt_op.proofs.Driving.{fresh_same}
 use Rattle.mt_op.specs.Operations.{world, claimed}
@@ -7,6 +7,7 @@ use Rattle.mt_steps.specs.Plans.{own_needs, undo_pages}
 use Rattle.mt_kernel.specs.Consistent.{without_call}
 use Rattle.mt_kernel.specs.Runs.{undo_bytes}
 use Rattle.mt_kernel.specs.declared.parts.Parts.{Parts}
+use Rattle.mt_kernel.specs.declared.parts.Running.{Running}
 use Rattle.mt_kernel.proofs.Calling.{called_in, next_fresh, needs_few}
 use mathlib.Core.Logic.{∥∥₁_elim}
 use Rattle.std.proofs.Common.{◌<◌, ◌≤◌, Err}
@@ -16,6 +17,7 @@ use Rattle.std.proofs.lemmas.Result.{err_from_is_err_and}
 use Rattle.mt_base.specs.declared.refusal.Refusal.TheVariants as refusal
 use Rattle.mt_pool.proofs.Steady.{steady}
 use Rattle.mt_pool.specs.Same.{Pool-prop}
+use Rattle.mt_pool.specs.Views.{pages}
 use Rattle.mt_kernel.specs.Causes.{IsUnreserved, pages_asked, pages_free}
 use Rattle.mt_kernel.specs.Consistent.{log_kept}
 use Rattle.mt_kernel.proofs.Calling.{txn_named}
@@ -111,3 +113,11 @@ returns-in-Ok-clause-may g c = λ origin base locks escrow granted. let k = c.ar
       subst (λ n. claimed k.operations + n ≤ pages_free seen origin k) pages (c.in_ok-claim.ensures.fits origin.pages origin.relations origin.counters granted.was.fit.right),
       omega (arith, bytes, takes),
     )
+
+pub returns-in-Ok-clause-runs : goal.returns-in-Ok-clause-runs
+returns-in-Ok-clause-runs g c = let e = c.in-Ok.ensures in let r : Running = record { scope = c.in-Ok.scope; op = c.args.end } in (
+  r,
+  e.named.0,
+  e.work ∙ ap (λ n. 2 * n + 9) (ap (λ o. pages o.pool) c.claim.ensures.store),
+  c.push_reserved.ensures.items,
+)

@@ -4,7 +4,8 @@ ghost use Rattle.mt_live.specs.Lives.{member_of};
 ghost use Rattle.mt_live.specs.Machine.{begun, booked};
 ghost use Rattle.mt_live.specs.declared.transactions.TxnState.TheVariants.{Open, Committing, Aborting};
 ghost use Rattle.mt_disk.specs.Disk.{HasCause};
-ghost use Rattle.mt_log.specs.Words.{durable, has_failed, area_size, IsStep};
+ghost use Rattle.mt_log.specs.Words.{appended, durable, in_flight, waiting, calls_left, has_failed, area_size, IsStep};
+ghost use Rattle.mt_frame.specs.declared.records.Record.TheVariants as record_of;
 ghost use Rattle.mt_model.specs.Model.{Base};
 ghost use Rattle.mt_pool.specs.Views.{IsWaiting, Cleans};
 ghost use Rattle.mt_pool.specs.declared.flushing.Flushed.TheVariants as flushed;
@@ -89,7 +90,13 @@ impl<D: Device> Parts<D> {
         ensures place { IfOk result (λ place.
             place ≡ length self.old.book.items + length self.old.commits.items + 1) }
         ensures queue { OnOk result ((c : Commit) × (c.txn ≡ txn)
+            × (c.place ≡ length (appended self.new.operations.store.log))
             × (self.new.commits.items ≡ self.old.commits.items ++ c ∷ [])) }
+        ensures waits { OnOk result (waiting self.new.operations.store.log
+            ≡ waiting self.old.operations.store.log ++ record_of.Commit txn ∷ []) }
+        ensures durable { durable self.new.operations.store.log ≡ durable self.old.operations.store.log }
+        ensures in_flight { in_flight self.new.operations.store.log ≡ in_flight self.old.operations.store.log }
+        ensures calls { calls_left self.new.operations.store.log ≡ calls_left self.old.operations.store.log }
         ensures commits { OnOk result (SetsState self.old self.new txn (Some Committing)) }
         ensures err { OnErr result (SameStates self.old self.new) }
         ensures only_memory { IfErr result (λ why. why ≡ Refusal.NoMemory) }

@@ -2,7 +2,8 @@
 ghost use Rattle.std.specs.Prelude.{◌≡◌, ◌≢◌, ◌+◌, ◌++◌, ◌∷◌, [], ℕ, length, Ok, IfOk, IfErr, IsErr, OnOk, OnErr, None, Some, true};
 ghost use Rattle.mt_base.specs.declared.refusal.Refusal.{Refusal};
 ghost use Rattle.mt_live.specs.Machine.{State};
-ghost use Rattle.mt_log.specs.Words.{durable, has_failed};
+ghost use Rattle.mt_log.specs.Words.{appended, durable, in_flight, waiting, calls_left, has_failed};
+ghost use Rattle.mt_frame.specs.declared.records.Record.TheVariants as record_of;
 ghost use Rattle.mt_model.specs.Model.{Base};
 ghost use Rattle.mt_pool.specs.Views.{IsWaiting, Cleans};
 ghost use Rattle.mt_pool.specs.declared.flushing.Flushed.TheVariants as flushed;
@@ -34,7 +35,13 @@ impl<D: Device> Kernel<D> {
             place ≡ length self.old.parts.book.items + length self.old.parts.commits.items + 1) }
         ensures state { Stays D.seen D.may_leave self.old self.new }
         ensures queue { OnOk result ((c : Commit) × (c.txn ≡ txn)
+            × (c.place ≡ length (appended self.new.parts.operations.store.log))
             × (self.new.parts.commits.items ≡ self.old.parts.commits.items ++ c ∷ [])) }
+        ensures waits { OnOk result (waiting self.new.parts.operations.store.log
+            ≡ waiting self.old.parts.operations.store.log ++ record_of.Commit txn ∷ []) }
+        ensures durable { durable self.new.parts.operations.store.log ≡ durable self.old.parts.operations.store.log }
+        ensures in_flight { in_flight self.new.parts.operations.store.log ≡ in_flight self.old.parts.operations.store.log }
+        ensures calls { calls_left self.new.parts.operations.store.log ≡ calls_left self.old.parts.operations.store.log }
         ensures commits { OnOk result (SetsState self.old.parts self.new.parts txn (Some Committing)) }
         ensures err { OnErr result (SameStates self.old.parts self.new.parts) }
     {

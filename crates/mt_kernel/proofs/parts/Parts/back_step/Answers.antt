@@ -1,6 +1,6 @@
 use mathlib.Core.Logic.{∥∥₁_elim, ∥∥₁_map}
 use Rattle.std.proofs.Props.{props}
-use Rattle.std.proofs.Common.{◌≡◌, ◌∙◌, ◌<◌, ◌≤◌, ◌+◌, Ok, length, get_or, sym, ap, subst, arith}
+use Rattle.std.proofs.Common.{◌≡◌, ◌∙◌, ◌<◌, ◌≤◌, Ok, length, get_or, sym, ap, subst, arith}
 use Rattle.std.specs.Prelude.{Result}
 use Rattle.std.proofs.lemmas.Result.{err_from_is_err_and}
 use Rattle.mt_base.specs.declared.refusal.Refusal.{Refusal}
@@ -10,7 +10,7 @@ use Rattle.mt_pool.specs.Views.{pages}
 use Rattle.mt_kernel.specs.Work.{LeavesStanding, LowersBack, effects_left, undo_steps}
 use Rattle.mt_kernel.proofs.Undoing.{moved_of, total_at, forward_moved, undo_removed, abort_at, fore_with}
 use Rattle.std.proofs.lemmas.List.{get_or_default}
-use Rattle.mt_live.specs.Machine.{State, dropped}
+use Rattle.mt_live.specs.Machine.{dropped}
 use Rattle.mt_op.specs.Moves.{SameOp}
 use Rattle.mt_kernel.specs.Consistent.{state_of, IsIn, GoesBack}
 use Rattle.mt_kernel.specs.declared.parts.Running.{Running}

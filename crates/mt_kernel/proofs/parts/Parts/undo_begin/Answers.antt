@@ -1,6 +1,6 @@
 use mathlib.Core.Logic.{∥∥₁_elim}
 use Rattle.std.proofs.Props.{props}
-use Rattle.std.proofs.Common.{◌≡◌, ◌≢◌, ◌∙◌, ◌<◌, ◌≤◌, ◌+◌, ◌-◌, ◌*◌, ◌++◌, ◌∷◌, [], List, true, false, None, Some, refl, ap, sym, subst, arith}
+use Rattle.std.proofs.Common.{◌≡◌, ◌≢◌, ◌∙◌, ◌+◌, ◌-◌, ◌*◌, ◌++◌, ◌∷◌, [], List, true, false, None, Some, refl, ap, sym, subst, arith}
 use Rattle.std.specs.Prelude.{is_some, All}
 use Rattle.mt_inverse.specs.Steps.{IsWithinSteps}
 use Rattle.mt_live.specs.Lives.{member_of}

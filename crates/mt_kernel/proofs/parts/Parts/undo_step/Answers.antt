@@ -7,7 +7,7 @@ use Rattle.mt_model.specs.Model.{reply_of, base_after}
 use Rattle.mt_op.specs.Moves.{SameOp}
 use Rattle.mt_kernel.specs.Consistent.{state_of, IsReady, IsIn, Advances}
 use Rattle.mt_kernel.specs.declared.parts.Running.{Running}
-use Rattle.std.proofs.Common.{◌+◌, ◌≤◌, List}
+use Rattle.std.proofs.Common.{◌≤◌, List}
 use Rattle.std.specs.List.{remove}
 use Rattle.mt_op.specs.Operations.{world}
 use Rattle.mt_op.specs.Work.{Works}

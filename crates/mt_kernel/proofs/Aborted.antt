@@ -24,7 +24,7 @@ use Rattle.mt_op.specs.declared.scope.OpScope.{OpScope}
 use Rattle.mt_pool.proofs.Logged.{no_records}
 use Rattle.mt_space.specs.Changes.{PageBytes}
 use Rattle.mt_steps.specs.Held.{Holds}
-use Rattle.mt_kernel.specs.Runs.{is_open, left_of}
+use Rattle.mt_kernel.specs.Runs.{AreHeldBy, is_open, left_of}
 use Rattle.mt_kernel.specs.Consistent.{Origin, state_of, IsNumbered, AreTold, IsQueued, IsConsistent, IsIn}
 use Rattle.mt_kernel.proofs.Told.{told_more}
 use Rattle.mt_kernel.proofs.Queued.{queued_records}
@@ -74,6 +74,7 @@ module _ {D : Type 0} (seen : D → List ℕ) (may_leave : D → List ℕ → Ty
             owned = fit.owned;
             apart = fit.apart;
             numbered = subst (λ (X : Type 0). X) (λ i. IsNumbered k.last k.live.begun k.live.members (sym notes.locks i) (sym notes.records i)) numbered;
+            locked = subst (AreHeldBy k.running.items) (sym notes.locks) fit.locked;
             small = fit.small;
             log = log;
             reserves = fit.reserves;

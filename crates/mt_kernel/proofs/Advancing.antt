@@ -35,12 +35,13 @@ use Rattle.mt_slock.specs.Views.{held_of}
 use Rattle.mt_steps.specs.Held.{Holds}
 use Rattle.mt_steps.specs.Plans.{own_needs, undo_pages}
 use Rattle.mt_live.specs.declared.transactions.TxnState.TheVariants.{Aborting}
-use Rattle.mt_kernel.specs.Runs.{running_in, state_in, AreApart, IsMoving, IsRunning, IsOwned, pages_of, entry_pages, left_of, kept_bytes, taken_bytes}
+use Rattle.mt_kernel.specs.Runs.{running_in, state_in, AreApart, AreHeldBy, IsMoving, IsRunning, IsOwned, pages_of, entry_pages, left_of, kept_bytes, taken_bytes}
 use Rattle.mt_kernel.specs.Consistent.{Origin, state_of, IsNumbered, AreTold, IsQueued, IsFit, IsConsistent, IsAlone, IsReady, IsIn, Advances}
 use Rattle.mt_kernel.specs.declared.parts.Parts.{Parts}
 use Rattle.mt_kernel.specs.declared.parts.Running.{Running}
 use Rattle.mt_kernel.proofs.Lists.{all_set, pair_at, pairs_set}
 use Rattle.mt_kernel.proofs.Underway.{IsSame, apart_flip, running_set}
+use Rattle.mt_kernel.proofs.Holders.{way_at, held_set, held_step}
 use Rattle.mt_kernel.proofs.Numbers.{AddsNoInverse, adds_none, adds_pages, numbered_step}
 use Rattle.mt_kernel.proofs.Effects.{weighs_last, inverse_pages}
 use Rattle.mt_kernel.proofs.Inverses.{none_undone}
@@ -134,8 +135,8 @@ module _ {D : Type 0} (seen : D → List ℕ) (may_leave : D → List ℕ → Ty
 
   pub carried : (k n : Parts D) (place : ℕ) (r q : Running) (more : List Record) → IsConsistent seen may_leave origin base k → place < length k.running.items → r ≡ get_or k.running.items place r → n.running.items ≡ set k.running.items place q → q.op ≡ r.op
       → SameOp r.scope q.scope → used n.operations.store.log + q.scope.left ≡ used k.operations.store.log + r.scope.left → area_size n.operations.store.log ≡ area_size k.operations.store.log → IsRight seen may_leave origin.pages origin.relations origin.counters n.operations
-      → appended n.operations.store.log ≡ appended k.operations.store.log ++ more → (q.scope.stage ≡ Taking → (q.scope.undoes ≡ 0) × (state_in k.live.members q.scope.txn ≡ Some Aborting)) → (r.scope.number ≤ k.last → IsNumbered k.last k.live.begun k.live.members n.operations.locks (appended n.operations.store.log)) → Carried k n place q
-  carried k n place r q more safe within there items copy same_op log_now area right records taken numbered =
+      → appended n.operations.store.log ≡ appended k.operations.store.log ++ more → (q.scope.stage ≡ Taking → (q.scope.undoes ≡ 0) × (state_in k.live.members q.scope.txn ≡ Some Aborting)) → (r.scope.number ≤ k.last → IsNumbered k.last k.live.begun k.live.members n.operations.locks (appended n.operations.store.log)) → AreHeldBy k.running.items n.operations.locks → Carried k n place q
+  carried k n place r q more safe within there items copy same_op log_now area right records taken numbered locked =
       let fit = safe.fit in
       let same = same_run r q copy same_op in
       let was = safe.runs place r within in
@@ -170,6 +171,7 @@ module _ {D : Type 0} (seen : D → List ℕ) (may_leave : D → List ℕ → Ty
               (λ z a. record { number = λ is. a.number (is ∙ same.number); txn = λ is. a.txn (is ∙ same.txn) })
               (λ z a. record { number = λ is. a.number (sym same.number ∙ is); txn = λ is. a.txn (sym same.txn ∙ is) }) fit.apart);
           numbered = numbered known;
+          locked = subst (λ (rs : List Running). AreHeldBy rs n.operations.locks) (sym items) (held_set k.running.items place r q n.operations.locks within there same.number locked);
           small = fit.small;
           log = omega arith;
           reserves = omega arith;
@@ -191,7 +193,8 @@ module _ {D : Type 0} (seen : D → List ℕ) (may_leave : D → List ℕ → Ty
       → HasStepped seen may_leave origin.pages origin.relations origin.counters k.operations n.operations r.scope q.scope res → Goes origin.relations origin.counters (world seen origin.pages k.operations) (world seen origin.pages n.operations) r.scope q.scope
       → IsGoing q.scope.stage → claimed n.operations ≡ claimed k.operations → AddsNoInverse (appended k.operations.store.log) (appended n.operations.store.log) → IsIn seen may_leave origin base (state_of k base) (moved k n)
   goes_in k n place r q res safe within there items copy h g going claims adds =
-      let c = carried k n place r q adds.more safe within there items copy g.same h.log h.area h.right adds.is (λ is. absurd (going_stays q.scope.stage going is)) (λ known. numbered_step k.last k.live.begun k.live.members k.operations.rooms.0 origin.relations origin.counters (world seen origin.pages k.operations) (world seen origin.pages n.operations) r.scope q.scope res known h.steps h.locks h.records safe.fit.numbered) in
+      let c = carried k n place r q adds.more safe within there items copy g.same h.log h.area h.right adds.is (λ is. absurd (going_stays q.scope.stage going is)) (λ known. numbered_step k.last k.live.begun k.live.members k.operations.rooms.0 origin.relations origin.counters (world seen origin.pages k.operations) (world seen origin.pages n.operations) r.scope q.scope res known h.steps h.locks h.records safe.fit.numbered)
+      (held_step k.running.items r.scope.number (IsNext k.operations.rooms.0 r.scope) k.operations.locks n.operations.locks res (way_at k.running.items place r within there) h.locks safe.fit.locked) in
       let own : IsRunning origin.relations origin.counters (world seen origin.pages n.operations) k.last q = record { under = g.own; budget = h.budget; number = c.known; moving = going_moves q.scope.stage going } in
       let pages = c.pages in let claims_was = safe.claims in
       record {
@@ -226,7 +229,8 @@ module _ {D : Type 0} (seen : D → List ℕ) (may_leave : D → List ℕ → Ty
       let a = h.steps.0 in
       let same = a.same in
       let ended : appended n.operations.store.log ≡ appended k.operations.store.log ++ end_of r.scope first = a.ended in
-      let c = carried k n place r q (end_of r.scope first) safe within there items copy same h.log h.area h.right ended (λ is. absurd (let ready = h.stage in cc)) (λ known. numbered_step k.last k.live.begun k.live.members k.operations.rooms.0 origin.relations origin.counters (world seen origin.pages k.operations) (world seen origin.pages n.operations) r.scope q.scope (Ok (stepped.Ready first second)) known h.steps h.locks h.records safe.fit.numbered) in
+      let c = carried k n place r q (end_of r.scope first) safe within there items copy same h.log h.area h.right ended (λ is. absurd (let ready = h.stage in cc)) (λ known. numbered_step k.last k.live.begun k.live.members k.operations.rooms.0 origin.relations origin.counters (world seen origin.pages k.operations) (world seen origin.pages n.operations) r.scope q.scope (Ok (stepped.Ready first second)) known h.steps h.locks h.records safe.fit.numbered)
+      (subst (AreHeldBy k.running.items) (sym h.locks) safe.fit.locked) in
       let pages = c.pages in let claims_was = safe.claims in let back = h.claims in
       let needs : own_needs q.scope.op q.scope.split ≡ own_needs r.scope.op r.scope.split = λ i. own_needs (same.op i) (same.split i) in
       let was : IsRunning origin.relations origin.counters (world seen origin.pages k.operations) k.last r = subst (IsRunning origin.relations origin.counters (world seen origin.pages k.operations) k.last) (sym there) (safe.runs place r within) in

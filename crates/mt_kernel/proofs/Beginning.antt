@@ -126,6 +126,7 @@ module _ {D : Type 0} (seen : D → List ℕ) (may_leave : D → List ℕ → Ty
               few_transactions = omega (arith, few);
               nobody = ap is_some (new 0 ∙ put_other (member_of k.live.members) t (Some (members.fresh t session)) 0 (λ is. absurd (omega (arith, is, number)))) ∙ fit.numbered.nobody;
             });
+            locked = fit.locked;
             small = subst (All (IsWithinSchema origin)) (sym standing) fit.small;
             log = log;
             reserves = omega arith;
@@ -203,6 +204,7 @@ module _ {D : Type 0} (seen : D → List ℕ) (may_leave : D → List ℕ → Ty
               few_transactions = fit.numbered.few_transactions;
               nobody = changed_keeps is_some f k.live.members n.live.members t (λ m. refl) changed 0 ∙ fit.numbered.nobody;
             });
+            locked = fit.locked;
             small = subst (All (IsWithinSchema origin)) (sym standing) fit.small;
             log = fit.log;
             reserves = omega arith;

@@ -33,11 +33,12 @@ use Rattle.mt_space.specs.Changes.{PageBytes}
 use Rattle.mt_slock.specs.declared.holders.Holder.{Holder}
 use Rattle.mt_steps.specs.Held.{Holds}
 use Rattle.mt_steps.specs.Plans.{own_needs, undo_pages}
-use Rattle.mt_kernel.specs.Runs.{running_in, AreApart, IsRunning, IsOwned, is_open, undo_bytes, pages_of, left_of, kept_bytes, taken_bytes}
+use Rattle.mt_kernel.specs.Runs.{running_in, AreApart, AreHeldBy, IsRunning, IsOwned, is_open, undo_bytes, pages_of, left_of, kept_bytes, taken_bytes}
 use Rattle.mt_kernel.specs.Consistent.{Origin, state_of, IsNumbered, AreTold, IsQueued, IsFit, IsConsistent, IsGranted, IsIn}
 use Rattle.mt_kernel.specs.declared.parts.Parts.{Parts}
 use Rattle.mt_kernel.specs.declared.parts.Running.{Running}
 use Rattle.mt_kernel.proofs.Underway.{runs_none, running_push}
+use Rattle.mt_kernel.proofs.Holders.{held_push}
 use Rattle.mt_kernel.proofs.Numbers.{fresh}
 use Rattle.mt_kernel.proofs.Told.{told_last}
 
@@ -174,6 +175,7 @@ module _ {D : Type 0} (seen : D → List ℕ) (may_leave : D → List ℕ → Ty
               txn = λ is. may_run.idle i d lt (sym is ∙ h.is_txn);
             }));
             numbered = subst (λ (X : Type 0). X) (λ i. IsNumbered (k.last + 1) k.live.begun k.live.members (sym h.locks i) (appended (sym h.store i).log)) (numbered_last k.last (k.last + 1) k.live.begun k.live.members k.operations.locks (appended k.operations.store.log) (omega arith) (omega (arith, few)) fit.numbered);
+            locked = subst (λ (X : Type 0). X) (λ i. AreHeldBy (sym items i) (sym h.locks i)) (held_push k.running.items r k.operations.locks fit.locked);
             small = fit.small;
             log = subst (λ (X : Type 0). X) (λ i. used (sym h.store i).log + sum_by left_of n.running.items + n.reserved < area_size (sym h.store i).log) less;
             reserves = omega arith;
@@ -205,6 +207,7 @@ module _ {D : Type 0} (seen : D → List ℕ) (may_leave : D → List ℕ → Ty
           owned = fit.owned;
           apart = fit.apart;
           numbered = subst (λ (X : Type 0). X) (λ i. IsNumbered k.last k.live.begun k.live.members (sym locks i) (appended (sym store i).log)) fit.numbered;
+          locked = subst (AreHeldBy k.running.items) (sym locks) fit.locked;
           small = fit.small;
           log = subst (λ (X : Type 0). X) (λ i. used (sym store i).log + sum_by left_of k.running.items + k.reserved < area_size (sym store i).log) fit.log;
           reserves = fit.reserves;

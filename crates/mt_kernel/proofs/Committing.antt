@@ -23,7 +23,7 @@ use Rattle.mt_pool.proofs.Logged.{no_records}
 use Rattle.mt_space.specs.Changes.{PageBytes}
 use Rattle.mt_slock.specs.Views.{held_of}
 use Rattle.mt_steps.specs.Held.{Holds}
-use Rattle.mt_kernel.specs.Runs.{running_in, is_at_work, is_open, entry_pages, entry_bytes}
+use Rattle.mt_kernel.specs.Runs.{running_in, AreHeldBy, is_at_work, is_open, entry_pages, entry_bytes}
 use Rattle.mt_kernel.specs.Consistent.{Origin, state_of, IsNumbered, AreTold, IsQueued, IsWithinSchema, IsEscrowed, IsConsistent, IsIn}
 use Rattle.mt_kernel.specs.declared.parts.Parts.{Parts}
 use Rattle.mt_kernel.specs.declared.parts.Running.{Running}
@@ -103,6 +103,7 @@ module _ {D : Type 0} (seen : D → List ℕ) (may_leave : D → List ℕ → Ty
             owned = λ i d lt. owned_as k.live.members n.live.members k.live.standing n.live.standing (get_or k.running.items i d) (other (get_or k.running.items i d).scope.txn (idle i d lt)) standing (fit.owned i d lt);
             apart = fit.apart;
             numbered = subst (λ (X : Type 0). X) (λ i. IsNumbered k.last (sym begun_same i) n.live.members (sym notes.locks i) (sym notes.records i)) numbered;
+            locked = subst (AreHeldBy k.running.items) (sym notes.locks) fit.locked;
             small = subst (All (IsWithinSchema origin)) (sym standing) fit.small;
             log = omega arith;
             reserves = omega arith;

@@ -25,7 +25,7 @@ use Rattle.mt_op.specs.declared.scope.OpScope.{OpScope}
 use Rattle.mt_op.specs.declared.scope.Stage.TheVariants.{Cleared, Taking}
 use Rattle.mt_space.specs.Changes.{PageBytes}
 use Rattle.mt_steps.specs.Held.{Holds}
-use Rattle.mt_kernel.specs.Runs.{running_in, state_in, IsMoving, IsRunning, IsOwned, undo_bytes, pages_of, kept_bytes, taken_bytes}
+use Rattle.mt_kernel.specs.Runs.{running_in, state_in, AreHeldBy, IsMoving, IsRunning, IsOwned, undo_bytes, pages_of, kept_bytes, taken_bytes}
 use Rattle.mt_kernel.specs.Consistent.{Origin, state_of, AreTold, IsConsistent, IsCleared, IsIn, GoesBack}
 use Rattle.mt_kernel.specs.declared.parts.Parts.{Parts}
 use Rattle.mt_kernel.specs.declared.parts.Running.{Running}
@@ -84,6 +84,7 @@ module _ {D : Type 0} (seen : D → List ℕ) (may_leave : D → List ℕ → Ty
             owned = subst (All (IsOwned k.live.members k.live.standing)) (sym items) (all_remove (IsOwned k.live.members k.live.standing) k.running.items place alone.within (λ i d lt apart. fit.owned i d lt));
             apart = l.apart;
             numbered = l.numbered;
+            locked = l.locked;
             small = fit.small;
             log = omega arith;
             reserves = omega arith;
@@ -111,7 +112,8 @@ module _ {D : Type 0} (seen : D → List ℕ) (may_leave : D → List ℕ → Ty
       let g = h.goes in
       let taken_now : q.scope.stage ≡ Taking → (q.scope.undoes ≡ 0) × (state_in k.live.members q.scope.txn ≡ Some Aborting) = λ is. aborting in
       let adds = adds_dropped r.scope (appended k.operations.store.log) (appended n.operations.store.log) res h.records in
-      let c = carried seen may_leave origin base k n place r q adds.more safe within there items copy g.same h.log h.area h.right adds.is taken_now (λ known. numbered_dropped k.last k.live.begun k.live.members r.scope k.operations.locks n.operations.locks (appended k.operations.store.log) (appended n.operations.store.log) res known h.locks h.records safe.fit.numbered) in
+      let c = carried seen may_leave origin base k n place r q adds.more safe within there items copy g.same h.log h.area h.right adds.is taken_now (λ known. numbered_dropped k.last k.live.begun k.live.members r.scope k.operations.locks n.operations.locks (appended k.operations.store.log) (appended n.operations.store.log) res known h.locks h.records safe.fit.numbered)
+      (subst (AreHeldBy k.running.items) (sym h.locks) safe.fit.locked) in
       let own : IsRunning origin.relations origin.counters (world seen origin.pages n.operations) k.last q = record { under = g.own; budget = h.budget; number = c.known; moving = moving } in
       let pages = c.pages in let claims_was = safe.claims in let claims = h.claims in
       record {
@@ -132,7 +134,8 @@ module _ {D : Type 0} (seen : D → List ℕ) (may_leave : D → List ℕ → Ty
       let g = h.goes in
       let taken_now : q.scope.stage ≡ Taking → (q.scope.undoes ≡ 0) × (state_in k.live.members q.scope.txn ≡ Some Aborting) = λ is. absurd cc in
       let adds = adds_dropped r.scope (appended k.operations.store.log) (appended n.operations.store.log) (Ok taken.Clear) h.records in
-      let c = carried seen may_leave origin base k n place r q adds.more safe within there items copy g.same h.log h.area h.right adds.is taken_now (λ known. numbered_dropped k.last k.live.begun k.live.members r.scope k.operations.locks n.operations.locks (appended k.operations.store.log) (appended n.operations.store.log) (Ok taken.Clear) known h.locks h.records safe.fit.numbered) in
+      let c = carried seen may_leave origin base k n place r q adds.more safe within there items copy g.same h.log h.area h.right adds.is taken_now (λ known. numbered_dropped k.last k.live.begun k.live.members r.scope k.operations.locks n.operations.locks (appended k.operations.store.log) (appended n.operations.store.log) (Ok taken.Clear) known h.locks h.records safe.fit.numbered)
+      (subst (AreHeldBy k.running.items) (sym h.locks) safe.fit.locked) in
       let pages = c.pages in let claims_was = safe.claims in let claims = h.claims in (
         record {
           fit = c.fit;

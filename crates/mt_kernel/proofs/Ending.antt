@@ -40,13 +40,14 @@ use Rattle.mt_slock.specs.Views.{held_of}
 use Rattle.mt_steps.specs.Held.{Holds}
 use Rattle.mt_steps.specs.Logged.{logged_of}
 use Rattle.mt_steps.specs.Plans.{own_needs, undo_pages}
-use Rattle.mt_kernel.specs.Runs.{running_in, AreApart, IsRunning, IsOwned, is_open, undo_bytes, pages_of, entry_pages, entry_bytes, left_of, kept_bytes, taken_bytes}
+use Rattle.mt_kernel.specs.Runs.{running_in, AreApart, AreHeldBy, IsRunning, IsOwned, is_open, undo_bytes, pages_of, entry_pages, entry_bytes, left_of, kept_bytes, taken_bytes}
 use Rattle.mt_kernel.specs.Consistent.{Origin, state_of, state_in, AreLeft, IsNumbered, IsDue, IsTold, AreTold, IsQueued, IsWithinSchema, IsFit, IsAlone, IsReady, IsIn}
 use Rattle.mt_kernel.specs.declared.parts.Parts.{Parts}
 use Rattle.mt_kernel.specs.declared.parts.Running.{Running}
 use Rattle.mt_pool.proofs.Logged.{no_records}
 use Rattle.mt_kernel.proofs.Lists.{all_remove, pair_at}
 use Rattle.mt_kernel.proofs.Underway.{apart_flip, running_at, running_remove, running_back, running_without}
+use Rattle.mt_kernel.proofs.Holders.{held_without}
 use Rattle.mt_kernel.proofs.Numbers.{numbered_without}
 use Rattle.mt_kernel.proofs.Effects.{last_push, last_cut, weighs_push, weighs_cut, weighs_less, inverse_pages, inverse_bytes, all_cut}
 use Rattle.mt_kernel.proofs.Members.{changed_keeps, changed_other}
@@ -80,6 +81,7 @@ module _ {D : Type 0} (seen : D → List ℕ) (may_leave : D → List ℕ → Ty
     pub runs : All (IsRunning origin.relations origin.counters (world seen origin.pages n.operations) k.last) n.running.items
     pub apart : AllPairs AreApart n.running.items
     pub numbered : IsNumbered k.last k.live.begun k.live.members n.operations.locks (appended n.operations.store.log)
+    pub locked : AreHeldBy n.running.items n.operations.locks
     pub pages : sum_by pages_of n.running.items + pages_of r ≡ sum_by pages_of k.running.items
     pub keeps : sum_by kept_bytes n.running.items + kept_bytes r ≡ sum_by kept_bytes k.running.items
     pub takes : sum_by taken_bytes n.running.items + taken_bytes r ≡ sum_by taken_bytes k.running.items
@@ -112,6 +114,7 @@ module _ {D : Type 0} (seen : D → List ℕ) (may_leave : D → List ℕ → Ty
             record { under = h.others (get_or k.running.items i d).scope was.under ((other_at k place r stage fit y i d lt apart).number); budget = was.budget; number = was.number; moving = was.moving }));
         apart = subst (AllPairs AreApart) (sym items) (all_pairs_remove AreApart k.running.items place y.within fit.apart);
         numbered = subst (λ (X : Type 0). X) (λ i. IsNumbered k.last k.live.begun k.live.members (sym h.locks i) (appended (sym h.store i).log)) (numbered_without k.last k.live.begun k.live.members r.scope.number k.operations.locks (appended k.operations.store.log) fit.numbered);
+        locked = subst (λ (X : Type 0). X) (λ i. AreHeldBy (sym items i) (sym h.locks i)) (held_without k.running.items place r k.operations.locks y.within y.there fit.locked);
         pages = omega arith;
         keeps = omega arith;
         takes = omega arith;
@@ -198,6 +201,7 @@ module _ {D : Type 0} (seen : D → List ℕ) (may_leave : D → List ℕ → Ty
             apart = l.apart;
             numbered = subst (λ (m : ℕ). IsNumbered k.last m n.live.members n.operations.locks (appended n.operations.store.log)) (sym begun)
                 (numbered_members k.last k.live.begun k.live.members n.live.members n.operations.locks (appended n.operations.store.log) open_same (changed_keeps is_some (λ m. with_call m r.scope.number (r.op, reply)) k.live.members n.live.members r.scope.txn (λ m. refl) changed 0) l.numbered);
+            locked = l.locked;
             small = subst (All (IsWithinSchema origin)) (sym standing) (All-push (IsWithinSchema origin) k.live.standing e fit.small (record { op = subst (IsWithin origin.relations origin.counters) (sym copy) alone.own.within; reply = y.small }));
             log = omega arith;
             reserves = omega arith;
@@ -316,6 +320,7 @@ module _ {D : Type 0} (seen : D → List ℕ) (may_leave : D → List ℕ → Ty
             apart = l.apart;
             numbered = subst (λ (m : ℕ). IsNumbered k.last m n.live.members n.operations.locks (appended n.operations.store.log)) (sym begun)
                 (numbered_members k.last k.live.begun k.live.members n.live.members n.operations.locks (appended n.operations.store.log) open_same (changed_keeps is_some taken_back k.live.members n.live.members r.scope.txn (λ m. cut_keeps is_some (λ x v. refl) m (last_place m.calls)) changed 0) l.numbered);
+            locked = l.locked;
             small = subst (All (IsWithinSchema origin)) (sym standing) (all_cut (IsWithinSchema origin) r.scope.txn k.live.standing fit.small);
             log = log;
             reserves = omega arith;

@@ -13,6 +13,7 @@ use Rattle.mt_model.specs.History.{after}
 use Rattle.mt_model.specs.Locks.{no_locks}
 use Rattle.mt_model.specs.Model.{IsBase}
 use Rattle.mt_op.specs.Operations.{IsRight}
+use Rattle.mt_plock.specs.declared.guards.PageLock.{PageLock}
 use Rattle.mt_slock.specs.Views.{held_of}
 use Rattle.mt_steps.specs.Held.{Holds}
 use Rattle.mt_steps.specs.Repeated.{held, logged}
@@ -85,6 +86,7 @@ module _ {D : Type 0} (seen : D → List ℕ) (may_leave : D → List ℕ → Ty
             owned = λ i d lt. absurd (omega (arith, lt, no_running));
             apart = λ i j d less lt. absurd (omega (arith, lt, no_running));
             numbered = subst (λ (X : Type 0). X) (λ i. IsNumbered (sym empty.last i) (sym empty.begun i) (sym empty.members i) (sym fresh.locks i) (sym fresh.empty i)) numbered;
+            locked = λ i d lt. absurd (let none = ap (λ (ls : List PageLock). length ls) fresh.locks in omega (arith, lt, none));
             small = λ i d lt. absurd (omega (arith, lt, no_standing));
             log = omega arith;
             reserves = omega arith;

@@ -29,7 +29,7 @@ use Rattle.mt_model.specs.Model.{Base}
 use Rattle.mt_plock.specs.declared.guards.PageLock.{PageLock}
 use Rattle.mt_frame.specs.declared.records.Record.{Record}
 use Rattle.mt_slock.specs.Views.{held_of}
-use Rattle.mt_kernel.specs.Runs.{running_in, is_at_work, IsOwned, is_open, entry_pages, entry_bytes, undo_bytes, left_of}
+use Rattle.mt_kernel.specs.Runs.{running_in, AreHeldBy, is_at_work, IsOwned, is_open, entry_pages, entry_bytes, undo_bytes, left_of}
 use Rattle.mt_steps.specs.Plans.{undo_pages}
 use Rattle.mt_kernel.specs.Consistent.{Origin, state_of, state_in, IsNumbered, AreTold, IsQueued, IsWithinSchema, IsFit, IsConsistent, IsIn}
 use Rattle.mt_kernel.specs.declared.parts.Parts.{Parts}
@@ -150,6 +150,7 @@ module _ {D : Type 0} (seen : D → List ℕ) (may_leave : D → List ℕ → Ty
             owned = subst (λ (es : List Entry). All (IsOwned n.live.members es) k.running.items) (sym standing) (λ i d lt. left_owned k.live.members n.live.members k.live.standing t (get_or k.running.items i d) members (none i d lt) (fit.owned i d lt));
             apart = fit.apart;
             numbered = subst (λ (X : Type 0). X) (λ i. IsNumbered k.last (sym begun i) n.live.members (sym page_locks i) (appended (sym store i).log)) (left_numbered k.last k.live.begun k.live.members n.live.members t k.operations.locks (appended k.operations.store.log) members fit.numbered);
+            locked = subst (AreHeldBy k.running.items) (sym page_locks) fit.locked;
             small = subst (All (IsWithinSchema origin)) (sym standing) (All-filter (λ (e : Entry). others t e.txn) (IsWithinSchema origin) k.live.standing fit.small);
             log = subst (λ (X : Type 0). X) (λ i. used (sym store i).log + sum_by left_of k.running.items + n.reserved < area_size (sym store i).log) log_now;
             reserves = omega arith;
@@ -209,6 +210,7 @@ module _ {D : Type 0} (seen : D → List ℕ) (may_leave : D → List ℕ → Ty
             owned = subst (λ (es : List Entry). All (IsOwned n.live.members es) k.running.items) (sym standing) (λ i d lt. left_owned k.live.members n.live.members k.live.standing t (get_or k.running.items i d) members (none i d lt) (fit.owned i d lt));
             apart = fit.apart;
             numbered = subst (λ (m : ℕ). IsNumbered k.last m n.live.members k.operations.locks (appended k.operations.store.log)) (sym begun) (left_numbered k.last k.live.begun k.live.members n.live.members t k.operations.locks (appended k.operations.store.log) members fit.numbered);
+            locked = fit.locked;
             small = subst (All (IsWithinSchema origin)) (sym standing) (All-filter (λ (e : Entry). others t e.txn) (IsWithinSchema origin) k.live.standing fit.small);
             log = omega arith;
             reserves = omega arith;

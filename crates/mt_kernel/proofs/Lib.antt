@@ -1,5 +1,6 @@
 pub mod Lists
 pub mod Underway
+pub mod Holders
 pub mod Numbers
 pub mod Effects
 pub mod Reserves

@@ -67,6 +67,7 @@ module _ {D : Type 0} (seen : D → List ℕ) (may_leave : D → List ℕ → Ty
             owned = fit.owned;
             apart = fit.apart;
             numbered = fit.numbered;
+            locked = fit.locked;
             small = fit.small;
             log = fit.log;
             reserves = fit.reserves;

@@ -26,11 +26,12 @@ use Rattle.mt_space.specs.Changes.{PageBytes}
 use Rattle.mt_slock.specs.Views.{held_of}
 use Rattle.mt_steps.specs.Held.{Holds}
 use Rattle.mt_live.specs.declared.transactions.TxnState.TheVariants.{Aborting}
-use Rattle.mt_kernel.specs.Runs.{running_in, is_for, state_in, AreApart, IsRunning, IsOwned, is_at_work, is_open, pages_of, left_of, kept_bytes, taken_bytes}
+use Rattle.mt_kernel.specs.Runs.{running_in, is_for, state_in, AreApart, AreHeldBy, IsRunning, IsOwned, is_at_work, is_open, pages_of, left_of, kept_bytes, taken_bytes}
 use Rattle.mt_kernel.specs.Consistent.{Origin, state_of, IsNumbered, AreTold, IsQueued, IsConsistent, IsIn}
 use Rattle.mt_kernel.specs.declared.parts.Parts.{Parts}
 use Rattle.mt_kernel.specs.declared.parts.Running.{Running}
 use Rattle.mt_kernel.proofs.Calling.{numbered_last}
+use Rattle.mt_kernel.proofs.Holders.{held_push}
 use Rattle.mt_kernel.proofs.Told.{told_last}
 
 -- one that is to be undone is at work
@@ -53,6 +54,7 @@ module _ {D : Type 0} (seen : D → List ℕ) (may_leave : D → List ℕ → Ty
             owned = fit.owned;
             apart = fit.apart;
             numbered = subst (λ (X : Type 0). X) (λ i. IsNumbered k.last k.live.begun k.live.members (sym rests.locks i) (sym rests.records i)) fit.numbered;
+            locked = subst (AreHeldBy k.running.items) (sym rests.locks) fit.locked;
             small = fit.small;
             log = omega arith;
             reserves = fit.reserves;
@@ -129,6 +131,7 @@ module _ {D : Type 0} (seen : D → List ℕ) (may_leave : D → List ℕ → Ty
               txn = λ is. idle i d lt (sym is ∙ txn);
             }));
             numbered = numbered_last k.last (k.last + 1) k.live.begun k.live.members k.operations.locks (appended k.operations.store.log) (omega arith) (let left_now = fit.numbers in let begun = fit.numbered.few_transactions in omega (arith, left_now, begun, freed)) fit.numbered;
+            locked = subst (λ (rs : List Running). AreHeldBy rs k.operations.locks) (sym items) (held_push k.running.items r k.operations.locks fit.locked);
             small = fit.small;
             log = omega arith;
             reserves = omega arith;

@@ -12,10 +12,11 @@ use Rattle.mt_model.specs.History.{after}
 use Rattle.mt_model.specs.Model.{Base}
 use Rattle.mt_op.specs.Operations.{world}
 use Rattle.mt_slock.specs.Views.{held_of}
-use Rattle.mt_kernel.specs.Runs.{running_in, AreApart, IsRunning, IsOwned, pages_of, left_of, kept_bytes, taken_bytes}
+use Rattle.mt_kernel.specs.Runs.{running_in, AreApart, AreHeldBy, IsRunning, IsOwned, pages_of, left_of, kept_bytes, taken_bytes}
 use Rattle.mt_kernel.specs.Consistent.{Origin, state_of, IsQueued, IsEscrowed, IsConsistent, IsIn}
 use Rattle.mt_kernel.specs.declared.parts.Commit.{Commit}
 use Rattle.mt_kernel.specs.declared.parts.Parts.{Parts}
+use Rattle.mt_kernel.specs.declared.parts.Running.{Running}
 
 module _ {D : Type 0} (seen : D → List ℕ) (may_leave : D → List ℕ → Type 0) (origin : Origin) (base : Base) where
   pub rooms_in : (k n : Parts D) → IsConsistent seen may_leave origin base k → n.running.items ≡ k.running.items → n.commits.items ≡ k.commits.items → n.book.items ≡ k.book.items → vec_len n.book ≡ vec_len k.book → vec_capacity k.book ≤ vec_capacity n.book
@@ -45,6 +46,7 @@ module _ {D : Type 0} (seen : D → List ℕ) (may_leave : D → List ℕ → Ty
             owned = subst (All (IsOwned k.live.members k.live.standing)) (sym running) fit.owned;
             apart = subst (AllPairs AreApart) (sym running) fit.apart;
             numbered = fit.numbered;
+            locked = subst (λ (rs : List Running). AreHeldBy rs k.operations.locks) (sym running) fit.locked;
             small = fit.small;
             log = omega arith;
             reserves = omega arith;

@@ -42,7 +42,7 @@ use Rattle.mt_slock.specs.declared.holders.Holder.{Holder}
 use Rattle.mt_steps.specs.Held.{Holds}
 use Rattle.mt_steps.specs.Logged.{HasSmallReply}
 use Rattle.mt_steps.specs.Plans.{own_needs}
-use Rattle.mt_kernel.specs.Runs.{running_in, AreApart, IsRunning, IsOwned, is_open, pages_of, entry_pages, entry_bytes, left_of, kept_bytes, taken_bytes}
+use Rattle.mt_kernel.specs.Runs.{running_in, AreApart, AreHeldBy, IsRunning, IsOwned, is_open, pages_of, entry_pages, entry_bytes, left_of, kept_bytes, taken_bytes}
 pub use Rattle.mt_kernel.specs.Runs.{state_in}
 use Rattle.mt_kernel.specs.declared.calls.Called.{Called}
 use Rattle.mt_kernel.specs.declared.calls.Called.TheVariants as answer
@@ -145,7 +145,7 @@ pub record IsFresh {D : Type 0} (o : Operations D) (e : Escrowed) : Type 0 where
   pub pending : e.pending ≡ []
 
 -- What the parts keep of one another, whatever one of the operations is about: the laws' state is kept; each operation is its
--- transaction's only one; numbers are used once; the log has room for what may still have to be appended.
+-- transaction's only one; each page lock is of one of them; numbers are used once; the log has room for what may still have to be appended.
 pub record IsFit {D : Type 0} (seen : D → List ℕ) (may_leave : D → List ℕ → Type 0) (origin : Origin) (base : Base) (k : Parts D) : Type 0 where
   pub schema : IsSchema origin
   pub right : IsRight seen may_leave origin.pages origin.relations origin.counters k.operations
@@ -153,6 +153,7 @@ pub record IsFit {D : Type 0} (seen : D → List ℕ) (may_leave : D → List �
   pub owned : All (IsOwned k.live.members k.live.standing) k.running.items
   pub apart : AllPairs AreApart k.running.items
   pub numbered : IsNumbered k.last k.live.begun k.live.members k.operations.locks (appended k.operations.store.log)
+  pub locked : AreHeldBy k.running.items k.operations.locks
   pub small : All (IsWithinSchema origin) k.live.standing
   pub log : used k.operations.store.log + sum_by left_of k.running.items + k.reserved < area_size k.operations.store.log
   pub reserves : k.reserved + sum_by taken_bytes k.running.items + 14 * length k.commits.items

@@ -1,5 +1,6 @@
 -- The operations under way, at most one a transaction, and what is kept for them and for what may have to be undone.
-use Rattle.std.specs.Prelude.{ℕ, ◌≡◌, ◌≢◌, ◌⊎◌, ◌≤◌, ◌+◌, ◌==◌, ◌&&◌, Bool, true, false, cond, if◌then◌else◌, List, [], ◌∷◌, Option, Some, None, is_some}
+use Rattle.std.specs.Prelude.{ℕ, ◌≡◌, ◌≢◌, ◌⊎◌, ◌≤◌, ◌+◌, ◌==◌, ◌&&◌, Bool, true, false, cond, if◌then◌else◌, List, [], ◌∷◌, Option, Some, None, is_some, All}
+use Rattle.std.specs.List.{list_any}
 use Rattle.std.specs.Option.{option_map}
 use Rattle.mt_live.specs.declared.transactions.TxnState.{TxnState}
 use Rattle.mt_live.specs.declared.transactions.TxnState.TheVariants.{Open, Committing, Aborting}
@@ -14,6 +15,7 @@ use Rattle.mt_op.specs.Operations.{HasBudget, only_reads}
 use Rattle.mt_op.specs.World.{World, IsUnderWay, IsOther}
 use Rattle.mt_op.specs.declared.scope.Stage.{Stage}
 use Rattle.mt_op.specs.declared.scope.Stage.TheVariants.{Planning, Writing, Taking}
+use Rattle.mt_plock.specs.declared.guards.PageLock.{PageLock}
 use Rattle.mt_steps.specs.Plans.{own_needs, undo_pages}
 use Rattle.mt_kernel.specs.declared.parts.Running.{Running}
 
@@ -27,6 +29,14 @@ running_in (r ∷ rs) t = cond (is_for t r) (Some r.scope.op) (running_in rs t)
 
 abbrev pub AreApart : Running → Running → Type 0
 AreApart r q = IsOther r.scope q.scope
+
+-- an operation under way has this number
+abbrev pub is_under_way : List Running → ℕ → Bool
+is_under_way rs number = list_any (λ (r : Running). r.scope.number == number) rs
+
+-- each page lock is of an operation under way
+abbrev pub AreHeldBy : List Running → List PageLock → Type 0
+AreHeldBy rs locks = All (λ (l : PageLock). is_under_way rs l.op ≡ true) locks
 
 abbrev pub IsMoving : Stage → Type 0
 IsMoving stage = (stage ≡ Planning) ⊎ ((stage ≡ Writing) ⊎ (stage ≡ Taking))

@@ -28,11 +28,11 @@ LeavesSteps pages (going.Wait holder) before now = now ≤ before
 LeavesSteps pages (going.Again holder) before now = now ≤ before + 2 * pages
 LeavesSteps pages going.Flush before now = now ≤ before
 
--- one that ended leaves none
+-- one that ended leaves none, and one that is refused leaves no more
 abbrev pub Lowers : ℕ → Result Stepping Refusal → ℕ → ℕ → Type 0
 Lowers pages (Ok (Ended reply)) before now = (0 < before) × (now ≡ 0)
 Lowers pages (Ok (GoingOn g)) before now = LeavesSteps pages g before now
-Lowers pages (Err why) before now = ⊤
+Lowers pages (Err why) before now = now ≤ before
 
 -- ---- an abort
 

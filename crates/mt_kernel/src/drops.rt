@@ -31,7 +31,8 @@ impl<D: Device> Parts<D> {
         ensures live { self.new.live ≡ self.old.live }
         ensures length { length self.new.running.items ≡ length self.old.running.items }
         ensures same { (origin : Origin) (base : Base) → IsConsistent D.seen D.may_leave origin base self.old
-            → (r q : Running) → r ≡ slice_index_or self.old.running.items place r → q ≡ slice_index_or self.new.running.items place q → SameOp r.scope q.scope }
+            → (r q : Running) → r ≡ slice_index_or self.old.running.items place r
+            → q ≡ slice_index_or self.new.running.items place q → SameOp r.scope q.scope }
         ensures puts { (r q : Running) → r ≡ slice_index_or self.old.running.items place r
             → q ≡ slice_index_or self.new.running.items place q → LeavesStanding r.scope q.scope result }
         ensures why { IfErr result IsCause }

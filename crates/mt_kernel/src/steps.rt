@@ -9,7 +9,7 @@ ghost use Rattle.mt_pool.specs.Views.{pages};
 ghost use Rattle.mt_kernel.specs.Work.{Lowers, LowersUndo, steps_in, undo_steps};
 ghost use Rattle.mt_op.specs.Faults.{TellsFaults};
 ghost use Rattle.mt_op.specs.Operations.{IsCause};
-ghost use Rattle.mt_kernel.specs.Steps.{Steps, UndoSteps};
+ghost use Rattle.mt_kernel.specs.Steps.{Steps, UndoSteps, TellsOther, NamesOther};
 ghost use Rattle.mt_kernel.specs.declared.parts.Running.{Running};
 
 use crate::parts::Parts;
@@ -50,7 +50,8 @@ impl<D: Device> Parts<D> {
             ≡ Writing)) }
         ensures length { length self.new.running.items ≡ length self.old.running.items }
         ensures same { (origin : Origin) (base : Base) → IsConsistent D.seen D.may_leave origin base self.old
-            → (r q : Running) → r ≡ slice_index_or self.old.running.items place r → q ≡ slice_index_or self.new.running.items place q → SameOp r.scope q.scope }
+            → (r q : Running) → r ≡ slice_index_or self.old.running.items place r
+            → q ≡ slice_index_or self.new.running.items place q → SameOp r.scope q.scope }
         ensures live { self.new.live ≡ self.old.live }
         ensures works { (r q : Running) → r ≡ slice_index_or self.old.running.items place r
             → q ≡ slice_index_or self.new.running.items place q → Works r.scope q.scope result }
@@ -59,13 +60,15 @@ impl<D: Device> Parts<D> {
             (D.faults self.new.operations.store.device) result }
         ensures advances { (origin : Origin) (base : Base) → IsConsistent D.seen D.may_leave origin base self.old
             → Advances D.seen D.may_leave origin base (state_of self.old base) self.new place result }
+        ensures other { (origin : Origin) (base : Base) → IsConsistent D.seen D.may_leave origin base self.old
+            → AtPlace self.old.running.items place (λ r. TellsOther self.new.running.items r.scope.txn result) }
     {
         self.operations.step(alloc, &mut self.running[place].scope)
     }
 
     /// Makes a step of an operation that is no inverse, at a place of those under way. Where it ends it has acted
     /// once on the base that the pages hold, and stands behind all others with the model's reply; else it leaves
-    /// that base.
+    /// that base. It waits, or begins anew, only for an operation of another transaction.
     ///
     /// Refused with 1 for want of memory, and with 2 where the device has failed; the base is as before.
     pub fn step(&mut self, alloc: Global, place: usize) -> Result<Stepping, Refusal>
@@ -82,6 +85,8 @@ impl<D: Device> Parts<D> {
             (D.faults self.new.operations.store.device) result }
         ensures steps { (origin : Origin) (base : Base) → IsConsistent D.seen D.may_leave origin base self.old
             → Steps D.seen D.may_leave origin base self.old self.new place result }
+        ensures other { (origin : Origin) (base : Base) → IsConsistent D.seen D.may_leave origin base self.old
+            → AtPlace self.old.running.items place (λ r. NamesOther self.new.running.items r.scope.txn result) }
     {
         match self.advance(alloc, place)? {
             Stepped::Ready(reply, answer) => {
@@ -97,7 +102,7 @@ impl<D: Device> Parts<D> {
 
     /// Makes a step of an inverse, at a place of those under way. Where it ends, with the model's reply on the
     /// base, what it takes back stands no more, nor what its transaction did behind that; its add, where it is one,
-    /// is pending no more.
+    /// is pending no more. It waits, or begins anew, only for an operation of another transaction.
     ///
     /// Refused with 1 for want of memory, and with 2 where the device has failed; the base is as before.
     pub fn undo_step(&mut self, alloc: Global, place: usize) -> Result<Stepping, Refusal>
@@ -116,6 +121,8 @@ impl<D: Device> Parts<D> {
             (D.faults self.new.operations.store.device) result }
         ensures steps { (origin : Origin) (base : Base) → IsConsistent D.seen D.may_leave origin base self.old
             → UndoSteps D.seen D.may_leave origin base self.old self.new place result }
+        ensures other { (origin : Origin) (base : Base) → IsConsistent D.seen D.may_leave origin base self.old
+            → AtPlace self.old.running.items place (λ r. NamesOther self.new.running.items r.scope.txn result) }
     {
         match self.advance(alloc, place)? {
             Stepped::Ready(reply, answer) => {
@@ -124,8 +131,8 @@ impl<D: Device> Parts<D> {
                 Ok(Stepping::Ended(answer))
             }
             Stepped::Went => Ok(Stepping::Going(Going::Went)),
-            Stepped::Wait(holder) => Ok(Stepping::Going(Going::Wait(holder))),
-            Stepped::Again(holder) => Ok(Stepping::Going(Going::Again(holder))),
+            Stepped::Wait(other) => Ok(Stepping::Going(Going::Wait(other))),
+            Stepped::Again(other) => Ok(Stepping::Going(Going::Again(other))),
             Stepped::Flush => Ok(Stepping::Going(Going::Flush)),
         }
     }

@@ -93,7 +93,7 @@ call_answers seen may_leave first s t op (Err why) n shows = shows
 
 -- ---- the steps that are left
 
-pub going_lowers : (rs : List Running) (pages before now : ℕ) (gone : Going) (x : Stepped) → IsToldAs rs gone x → LeavesSteps pages gone before now → LowersSteps pages x before now
+pub going_lowers : (rs : List Running) (pages before now : ℕ) (gone : Going) (x : Stepped) → IsToldAs rs gone x → LeavesSteps pages gone before now → LowersSteps pages (Ok x) before now
 going_lowers rs pages before now gone (step.Replied reply) told less = absurd told
 going_lowers rs pages before now gone step.Went told less = subst (λ g. LeavesSteps pages g before now) told less
 going_lowers rs pages before now gone (step.Wait other) told less = subst (λ g. LeavesSteps pages g before now) told.1 less

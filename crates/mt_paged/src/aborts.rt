@@ -10,6 +10,7 @@ ghost use Rattle.mt_kernel.specs.declared.parts.Running.{Running};
 ghost use Rattle.mt_paged.specs.Causes.{IsFault, abort_cause, open_cause};
 ghost use Rattle.mt_paged.specs.Events.{HasAborted};
 ghost use Rattle.mt_paged.specs.Shown.{Shows, Stays};
+ghost use Rattle.mt_paged.specs.Work.{IsAbortToldAs, IsAbortForOther};
 
 use crate::answers::AbortStepped;
 use crate::kernel::Kernel;
@@ -47,6 +48,7 @@ impl<D: Device> Kernel<D> {
             → IsFault D.faults self.old.parts self.new.parts why) }
         ensures states { IfOk result (λ stepped. stepped ≢ AbortStepped.Ended
             → SameStates self.old.parts self.new.parts) }
+        ensures other { IfOk result (λ stepped. IsAbortForOther self.old.parts.live.members txn stepped) }
         ensures aborted { (first : Base) (s : State) → Shows D.seen D.may_leave first s self.old
             → HasAborted D.seen D.may_leave first s txn result self.new }
     {
@@ -65,6 +67,7 @@ impl<D: Device> Kernel<D> {
             → IsFault D.faults self.old.parts self.new.parts why) }
         ensures states { IfOk result (λ stepped. stepped ≢ AbortStepped.Ended
             → SameStates self.old.parts self.new.parts) }
+        ensures other { IfOk result (λ stepped. IsAbortForOther self.old.parts.live.members txn stepped) }
         ensures aborted { (first : Base) (s : State) → Shows D.seen D.may_leave first s self.old
             → HasAborted D.seen D.may_leave first s txn result self.new }
     {
@@ -79,7 +82,7 @@ impl<D: Device> Kernel<D> {
 
     // What a step of an abort answers where its inverse goes on.
     fn going(&self, going: Going) -> AbortStepped
-        ensures { (result ≡ AbortStepped.Ended) → ⊥ }
+        ensures { IsAbortToldAs self.now.parts.running.items going result }
     {
         match going {
             Going::Went => AbortStepped::More,
@@ -100,6 +103,7 @@ impl<D: Device> Kernel<D> {
             → IsFault D.faults self.old.parts self.new.parts why) }
         ensures states { IfOk result (λ stepped. stepped ≢ AbortStepped.Ended
             → SameStates self.old.parts self.new.parts) }
+        ensures other { IfOk result (λ stepped. IsAbortForOther self.old.parts.live.members txn stepped) }
         ensures aborted { (first : Base) (s : State) → Shows D.seen D.may_leave first s self.old
             → HasAborted D.seen D.may_leave first s txn result self.new }
     {
@@ -112,7 +116,8 @@ impl<D: Device> Kernel<D> {
 
     /// Makes one step of an abort. The operation under way, if there is one, is taken back first, a page a step; then
     /// each operation that did anything is undone by its inverse, the last one first (Weikum 1991), a step of the
-    /// inverse a step; then the end is logged, and the transaction lives no more.
+    /// inverse a step; then the end is logged, and the transaction lives no more. A step waits, or begins anew, only for
+    /// another transaction that lives.
     ///
     /// Refused, in this order: 2 where the device has failed, 15 where the transaction is not being undone, 1 for want
     /// of memory; and with 2 where the device fails in this step. The step may be asked again after 1.
@@ -122,6 +127,7 @@ impl<D: Device> Kernel<D> {
             ⊎ IsFault D.faults self.old.parts self.new.parts why) }
         ensures states { IfOk result (λ stepped. stepped ≢ AbortStepped.Ended
             → SameStates self.old.parts self.new.parts) }
+        ensures other { IfOk result (λ stepped. IsAbortForOther self.old.parts.live.members txn stepped) }
         ensures aborted { (first : Base) (s : State) → Shows D.seen D.may_leave first s self.old
             → HasAborted D.seen D.may_leave first s txn result self.new }
     {

@@ -5,7 +5,7 @@ ghost use Rattle.mt_live.specs.Machine.{State};
 ghost use Rattle.mt_model.specs.Model.{Base};
 ghost use Rattle.mt_pool.specs.Views.{pages};
 ghost use Rattle.mt_kernel.specs.Work.{steps_in};
-ghost use Rattle.mt_paged.specs.Work.{IsToldAs, LowersSteps};
+ghost use Rattle.mt_paged.specs.Work.{IsToldAs, IsForOther, LowersSteps};
 ghost use Rattle.mt_kernel.specs.Consistent.{SameStates};
 ghost use Rattle.mt_paged.specs.Causes.{IsFault, step_cause};
 ghost use Rattle.mt_paged.specs.Events.{HasStepped};
@@ -20,7 +20,8 @@ use mt_kernel::{Going, Stepping};
 impl<D: Device> Kernel<D> {
     /// Makes a step of the operation of an open transaction: it locks a page and looks at it, or writes one, or ends.
     /// Where it ends it has acted once on the base that the pages hold, whatever others have half done, and stands
-    /// behind all that ended before.
+    /// behind all that ended before. It waits, or begins anew, only for another transaction that lives: one that is
+    /// alone does neither.
     ///
     /// Refused, in this order: 2 where the device has failed, 15 where the transaction is not open or has no operation
     /// under way, 1 for want of memory; and with 2 where the device fails in this step. The state is as before.
@@ -28,8 +29,9 @@ impl<D: Device> Kernel<D> {
         ensures may { OnOk result (step_cause self.old.parts txn ≡ None) }
         ensures cause { IfErr result (λ why. why ≢ Refusal.NoMemory → (step_cause self.old.parts txn ≡ Some why)
             ⊎ IsFault D.faults self.old.parts self.new.parts why) }
-        ensures work { IfOk result (λ stepped. LowersSteps (pages self.old.parts.operations.store.pool) stepped
-            (steps_in self.old.parts.running.items txn) (steps_in self.new.parts.running.items txn)) }
+        ensures work { LowersSteps (pages self.old.parts.operations.store.pool) result
+            (steps_in self.old.parts.running.items txn) (steps_in self.new.parts.running.items txn) }
+        ensures other { IfOk result (λ stepped. IsForOther self.old.parts.live.members txn stepped) }
         ensures states { SameStates self.old.parts self.new.parts }
         ensures stepped { (first : Base) (s : State) → Shows D.seen D.may_leave first s self.old
             → HasStepped D.seen D.may_leave first s txn result self.new }

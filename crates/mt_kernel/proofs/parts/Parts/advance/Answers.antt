@@ -1,6 +1,6 @@
 use mathlib.Core.Logic.{∥∥₁_elim}
 use Rattle.std.proofs.Props.{props}
-use Rattle.std.proofs.Common.{◌≡◌, get_or, arith, refl, sym, ap, subst}
+use Rattle.std.proofs.Common.{◌≡◌, get_or, set, arith, refl, sym, ap, subst}
 use Rattle.std.specs.Vec.{with_item}
 use Rattle.std.proofs.Common.{◌∙◌}
 use Rattle.std.proofs.lemmas.List.{length-set, get_or_default, get_or-set_same}
@@ -11,6 +11,9 @@ use Rattle.mt_kernel.specs.declared.parts.Running.{Running}
 use Rattle.mt_kernel.specs.Runs.{IsRunning, left_of}
 use Rattle.mt_kernel.proofs.Advancing.{advanced, needs_claimed, steps_same}
 use Rattle.mt_op.specs.Work.{Works}
+use Rattle.mt_op.specs.Holds.{IsNext}
+use Rattle.mt_kernel.specs.Steps.{TellsOther}
+use Rattle.mt_kernel.proofs.Holders.{tells_other}
 use Rattle.mt_kernel.proofs.parts.Parts.advance.Goals as goal
 
 pub step-requires-clause-right : goal.step-requires-clause-right
@@ -66,3 +69,11 @@ returns-clause-works g c = λ x y at now.
     let old : r ≡ x = c.index_mut.ensures.value ∙ sym (get_or_default k.running.items c.args.place x r c.requires.within) ∙ sym at in
     let new : q ≡ y = sym (now ∙ get_or-set_same k.running.items c.args.place q y c.requires.within) in
     subst (λ (X : Type 0). X) (λ i. Works (old i).scope (new i).scope c.step.result) c.step.ensures.work
+
+pub returns-clause-other : goal.returns-clause-other
+returns-clause-other g c = λ origin base safe x at.
+    let k = c.args.self.now in let r = c.index_mut.result.now in
+    let q : Running = record { scope = c.step.new.scope; op = r.op } in
+    let old : r ≡ x = c.index_mut.ensures.value ∙ sym (get_or_default k.running.items c.args.place x r c.requires.within) ∙ sym at in
+    subst (λ (y : Running). TellsOther (set k.running.items c.args.place q) y.scope.txn c.step.result) old
+    (tells_other k.running.items c.args.place r q (IsNext k.operations.rooms.0 r.scope) k.operations.locks c.step.new.self.locks c.step.result c.requires.within c.index_mut.ensures.value safe.fit.apart safe.fit.locked c.step.ensures.locks)

@@ -1,18 +1,23 @@
 use mathlib.Core.Logic.{∥∥₁_elim}
 use Rattle.std.proofs.Props.{props}
-use Rattle.std.proofs.Common.{◌≡◌, ◌∙◌, ◌<◌, Ok, length, get_or, sym, ap, subst, arith}
+use Rattle.std.proofs.Common.{◌≡◌, ◌∙◌, ◌<◌, Result, Ok, length, get_or, sym, ap, subst, arith}
 use Rattle.std.proofs.lemmas.List.{get_or_default}
 use Rattle.mt_live.specs.Machine.{ended}
 use Rattle.mt_model.specs.Model.{reply_of, base_after}
 use Rattle.mt_op.specs.Moves.{SameOp}
 use Rattle.mt_kernel.specs.Consistent.{state_of, IsReady, IsIn, Advances}
 use Rattle.mt_kernel.specs.declared.parts.Running.{Running}
-use Rattle.std.proofs.Common.{◌+◌, ◌≤◌, List}
+use Rattle.std.proofs.Common.{◌≤◌, List}
 use Rattle.std.specs.List.{remove}
 use Rattle.mt_op.specs.Operations.{world}
 use Rattle.mt_op.specs.Work.{Works}
 use Rattle.mt_kernel.specs.Runs.{IsRunning}
-use Rattle.mt_kernel.specs.Work.{steps_in}
+use Rattle.mt_kernel.specs.Work.{Lowers, steps_in}
+use Rattle.mt_kernel.specs.Steps.{NamesOther, TellsOther}
+use Rattle.mt_kernel.specs.declared.steps.Stepping.{Stepping}
+use Rattle.mt_base.specs.declared.refusal.Refusal.{Refusal}
+use Rattle.mt_pool.specs.Views.{pages}
+use Rattle.std.proofs.lemmas.Result.{err_from_is_err_and}
 use Rattle.mt_kernel.proofs.Laboring.{steps_at, steps_removed, some_left, both_at}
 use Rattle.mt_kernel.proofs.parts.Parts.step.Goals as goal
 
@@ -108,3 +113,30 @@ returns-in-Flush-clause-work g c = λ x at. ∥∥₁_elim c.requires.safe (hlev
     let same : SameOp x.scope q.scope = c.advance.ensures.same origin base safe x q at now in
     let less = subst (Works x.scope q.scope) was (c.advance.ensures.works x q at now) in
     let both = both_at k.running.items items place x q c.requires.within at safe.fit.apart inside now made.consistent.fit.apart same.txn in let b = both.0 in let a = both.1 in omega (arith, less, a, b))
+
+pub returns-in_err-reply-clause-work : goal.returns-in_err-reply-clause-work
+returns-in_err-reply-clause-work g c = λ x at.
+    let k = c.args.self.now in let place = c.args.place in let seen = g.D.Device.seen in let may_leave = g.D.Device.may_leave in
+    let items = c.advance.new.self.running.items in
+    let p = err_from_is_err_and c.from_residual.result c.from_residual.ensures.1 in
+    let few : steps_in items x.scope.txn ≤ steps_in k.running.items x.scope.txn = ∥∥₁_elim c.requires.safe (hlevel props) (λ (origin, base, safe).
+    let was = c.in_err-reply.was in
+    let made = subst (Advances seen may_leave origin base (state_of k base) c.advance.new.self place) was (c.advance.ensures.advances origin base safe) in
+    let inside : place < length items = let same = c.advance.ensures.length in let within = c.requires.within in omega arith in
+    let q : Running = get_or items place x in
+    let now : q ≡ get_or items place q = get_or_default items place x q inside in
+    let same : SameOp x.scope q.scope = c.advance.ensures.same origin base safe x q at now in
+    let less = subst (Works x.scope q.scope) was (c.advance.ensures.works x q at now) in
+    let both = both_at k.running.items items place x q c.requires.within at safe.fit.apart inside now made.consistent.fit.apart same.txn in let b = both.0 in let a = both.1 in omega (arith, less, a, b)) in
+    subst (λ (res : Result Stepping Refusal). Lowers (pages k.operations.store.pool) res (steps_in k.running.items x.scope.txn) (steps_in items x.scope.txn)) (sym p.1) few
+
+pub returns-in_err-reply-clause-other : goal.returns-in_err-reply-clause-other
+returns-in_err-reply-clause-other g c = λ origin base safe x at.
+    let p = err_from_is_err_and c.from_residual.result c.from_residual.ensures.1 in
+    subst (λ (res : Result Stepping Refusal). NamesOther c.advance.new.self.running.items x.scope.txn res) (sym p.1) tt
+
+pub returns-in-Wait-clause-other : goal.returns-in-Wait-clause-other
+returns-in-Wait-clause-other g c = λ origin base safe x at. subst (TellsOther c.advance.new.self.running.items x.scope.txn) (c.in_ok-reply.was ∙ ap Ok c.in-Wait.is) (c.advance.ensures.other origin base safe x at)
+
+pub returns-in-Again-clause-other : goal.returns-in-Again-clause-other
+returns-in-Again-clause-other g c = λ origin base safe x at. subst (TellsOther c.advance.new.self.running.items x.scope.txn) (c.in_ok-reply.was ∙ ap Ok c.in-Again.is) (c.advance.ensures.other origin base safe x at)

@@ -4,8 +4,13 @@ use Rattle.mt_kernel.specs.Work.{Lowers, steps_in}
 use Rattle.mt_kernel.specs.declared.steps.Stepping.{Stepping}
 use Rattle.mt_pool.specs.Views.{pages}
 use Rattle.mt_paged.proofs.Answering.{going_lowers}
+use Rattle.mt_paged.proofs.Barring.{step_other}
+use Rattle.mt_paged.specs.Work.{LowersSteps}
+use Rattle.mt_paged.specs.declared.answers.Stepped.{Stepped}
+use Rattle.mt_kernel.specs.Consistent.{AtPlace}
+use Rattle.mt_kernel.specs.Steps.{Steps, NamesOther}
 use Rattle.mt_paged.proofs.Showing.{at_place}
-use Rattle.std.proofs.Common.{◌∙◌, Ok, ap, subst}
+use Rattle.std.proofs.Common.{◌∙◌, ◌≤◌, Ok, sym, ap, subst}
 use Rattle.std.proofs.lemmas.Result.{err_from_is_err_and}
 use Rattle.mt_paged.proofs.Answering.{err_stepped, going_stepped}
 use Rattle.mt_paged.proofs.Showing.{sound_of, step_shown, step_well, forward_of, stage_of, StepShown}
@@ -44,3 +49,23 @@ returns-in-Going-clause-work g c = let k = c.args.self.now.parts in let n = c.st
     let at = at_place k.running.items c.in-Some-place_of.place c.in-Some-place_of.ensures.place.0 in
     let lowers = subst (λ t. Lowers all c.step.result (steps_in k.running.items t) (steps_in n.running.items t)) (c.in-Some-place_of.ensures.place.1 at.0 at.1) (c.step.ensures.work at.0 at.1) in
     going_lowers n.running.items all (steps_in k.running.items c.args.txn) (steps_in n.running.items c.args.txn) c.in-Going.going c.stepped.result c.stepped.ensures (subst (λ (r : Result Stepping Refusal). Lowers all r (steps_in k.running.items c.args.txn) (steps_in n.running.items c.args.txn)) (c.in_ok-reply.was ∙ ap Ok c.in-Going.is) lowers)
+
+pub returns-in_err-reply-clause-work : goal.returns-in_err-reply-clause-work
+returns-in_err-reply-clause-work g c = let k = c.args.self.now.parts in let n = c.step.new.self in let all = pages k.operations.store.pool in
+    let at = at_place k.running.items c.in-Some-place_of.place c.in-Some-place_of.ensures.place.0 in
+    let p = err_from_is_err_and c.from_residual.result c.from_residual.ensures.1 in
+    let lowers = subst (λ t. Lowers all c.step.result (steps_in k.running.items t) (steps_in n.running.items t)) (c.in-Some-place_of.ensures.place.1 at.0 at.1) (c.step.ensures.work at.0 at.1) in
+    let few : steps_in n.running.items c.args.txn ≤ steps_in k.running.items c.args.txn = subst (λ (r : Result Stepping Refusal). Lowers all r (steps_in k.running.items c.args.txn) (steps_in n.running.items c.args.txn)) c.in_err-reply.was lowers in
+    subst (λ (r : Result Stepped Refusal). LowersSteps all r (steps_in k.running.items c.args.txn) (steps_in n.running.items c.args.txn)) (sym p.1) few
+
+pub returns-in-Going-clause-other : goal.returns-in-Going-clause-other
+returns-in-Going-clause-other g c = let k = c.args.self.now.parts in let n = c.step.new.self in let place = c.in-Some-place_of.place in
+    let seen = g.D.Device.seen in let may_leave = g.D.Device.may_leave in
+    let was = c.in_ok-reply.was ∙ ap Ok c.in-Going.is in
+    step_other seen may_leave c.args.self.now.relations c.args.self.now.counters k n c.args.txn place c.in-Going.going c.stepped.result c.in-Some-place_of.ensures.place.1
+    (record {
+      within = c.in-Some-place_of.ensures.place.0;
+      states = c.step.ensures.states;
+      consistent = λ origin base safe. (subst (Steps seen may_leave origin base k n place) was (c.step.ensures.steps origin base safe)).consistent;
+      names = λ origin base safe. subst (λ (r : Result Stepping Refusal). AtPlace k.running.items place (λ q. NamesOther n.running.items q.scope.txn r)) was (c.step.ensures.other origin base safe);
+    }) c.args.self.now.well c.stepped.ensures

@@ -1,6 +1,12 @@
 use Rattle.std.proofs.Common.{◌∙◌, Ok, ap, subst}
 use Rattle.std.proofs.lemmas.Result.{err_from_is_err_and}
+use Rattle.std.specs.Prelude.{Result}
+use Rattle.mt_base.specs.declared.refusal.Refusal.{Refusal}
+use Rattle.mt_kernel.specs.Consistent.{AtPlace}
+use Rattle.mt_kernel.specs.Steps.{UndoSteps, NamesOther}
+use Rattle.mt_kernel.specs.declared.steps.Stepping.{Stepping}
 use Rattle.mt_paged.proofs.Answering.{err_aborted, going_aborted}
+use Rattle.mt_paged.proofs.Barring.{abort_goes, abort_other}
 use Rattle.mt_paged.proofs.Showing.{sound_of, undo_shown, undo_well, inverse_stage, UndoShown}
 use Rattle.mt_paged.proofs.kernel.Kernel.undo_step.Goals as goal
 
@@ -21,4 +27,16 @@ pub returns-in-Ended-clause-aborted : goal.returns-in-Ended-clause-aborted
 returns-in-Ended-clause-aborted g c = λ first s shows. subst (UndoShown g.D.Device.seen g.D.Device.may_leave c.args.self.now.relations c.args.self.now.counters c.undo_step.new.self first s c.args.txn) (c.in_ok-reply.was ∙ ap Ok c.in-Ended.is) (undo_shown g.D.Device.seen g.D.Device.may_leave c.args.self.now.relations c.args.self.now.counters c.args.self.now.parts c.undo_step.new.self first s c.args.txn c.args.place c.undo_step.result c.requires.within (λ r there. (c.requires.own r there).0) c.undo_step.ensures.steps shows)
 
 pub returns-in-Going-clause-aborted : goal.returns-in-Going-clause-aborted
-returns-in-Going-clause-aborted g c = λ first s shows. going_aborted g.D.Device.seen g.D.Device.may_leave first s c.args.txn _ c.going.result c.going.ensures (subst (UndoShown g.D.Device.seen g.D.Device.may_leave c.args.self.now.relations c.args.self.now.counters c.undo_step.new.self first s c.args.txn) (c.in_ok-reply.was ∙ ap Ok c.in-Going.is) (undo_shown g.D.Device.seen g.D.Device.may_leave c.args.self.now.relations c.args.self.now.counters c.args.self.now.parts c.undo_step.new.self first s c.args.txn c.args.place c.undo_step.result c.requires.within (λ r there. (c.requires.own r there).0) c.undo_step.ensures.steps shows))
+returns-in-Going-clause-aborted g c = λ first s shows. going_aborted g.D.Device.seen g.D.Device.may_leave first s c.args.txn _ c.going.result (abort_goes _ _ _ c.going.ensures) (subst (UndoShown g.D.Device.seen g.D.Device.may_leave c.args.self.now.relations c.args.self.now.counters c.undo_step.new.self first s c.args.txn) (c.in_ok-reply.was ∙ ap Ok c.in-Going.is) (undo_shown g.D.Device.seen g.D.Device.may_leave c.args.self.now.relations c.args.self.now.counters c.args.self.now.parts c.undo_step.new.self first s c.args.txn c.args.place c.undo_step.result c.requires.within (λ r there. (c.requires.own r there).0) c.undo_step.ensures.steps shows))
+
+pub returns-in-Going-clause-other : goal.returns-in-Going-clause-other
+returns-in-Going-clause-other g c = let k = c.args.self.now.parts in let n = c.undo_step.new.self in let place = c.args.place in
+    let seen = g.D.Device.seen in let may_leave = g.D.Device.may_leave in
+    let was = c.in_ok-reply.was ∙ ap Ok c.in-Going.is in
+    abort_other seen may_leave c.args.self.now.relations c.args.self.now.counters k n c.args.txn place c.in-Going.going c.going.result (λ r there. (c.requires.own r there).0)
+    (record {
+      within = c.requires.within;
+      states = c.undo_step.ensures.states;
+      consistent = λ origin base safe. (subst (UndoSteps seen may_leave origin base k n place) was (c.undo_step.ensures.steps origin base safe)).consistent;
+      names = λ origin base safe. subst (λ (r : Result Stepping Refusal). AtPlace k.running.items place (λ q. NamesOther n.running.items q.scope.txn r)) was (c.undo_step.ensures.other origin base safe);
+    }) c.args.self.now.well c.going.ensures

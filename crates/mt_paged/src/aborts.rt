@@ -6,11 +6,13 @@ ghost use Rattle.mt_model.specs.Model.{Base};
 ghost use Rattle.mt_live.specs.declared.transactions.TxnState.TheVariants.{Aborting};
 ghost use Rattle.mt_kernel.specs.Consistent.{AtPlace, SameStates, SetsState};
 ghost use Rattle.mt_kernel.specs.Runs.{state_in};
+ghost use Rattle.mt_kernel.specs.Work.{undo_steps};
+ghost use Rattle.mt_pool.specs.Views.{pages};
 ghost use Rattle.mt_kernel.specs.declared.parts.Running.{Running};
 ghost use Rattle.mt_paged.specs.Causes.{IsFault, abort_cause, open_cause};
 ghost use Rattle.mt_paged.specs.Events.{HasAborted};
 ghost use Rattle.mt_paged.specs.Shown.{Shows, Stays};
-ghost use Rattle.mt_paged.specs.Work.{IsAbortToldAs, IsAbortForOther};
+ghost use Rattle.mt_paged.specs.Work.{IsAbortToldAs, IsAbortForOther, LowersAbort};
 
 use crate::answers::AbortStepped;
 use crate::kernel::Kernel;
@@ -48,6 +50,8 @@ impl<D: Device> Kernel<D> {
             → IsFault D.faults self.old.parts self.new.parts why) }
         ensures states { IfOk result (λ stepped. stepped ≢ AbortStepped.Ended
             → SameStates self.old.parts self.new.parts) }
+        ensures work { LowersAbort (pages self.old.parts.operations.store.pool) result
+            (undo_steps self.old.parts txn) (undo_steps self.new.parts txn) }
         ensures other { IfOk result (λ stepped. IsAbortForOther self.old.parts.live.members txn stepped) }
         ensures aborted { (first : Base) (s : State) → Shows D.seen D.may_leave first s self.old
             → HasAborted D.seen D.may_leave first s txn result self.new }
@@ -67,6 +71,8 @@ impl<D: Device> Kernel<D> {
             → IsFault D.faults self.old.parts self.new.parts why) }
         ensures states { IfOk result (λ stepped. stepped ≢ AbortStepped.Ended
             → SameStates self.old.parts self.new.parts) }
+        ensures work { LowersAbort (pages self.old.parts.operations.store.pool) result
+            (undo_steps self.old.parts txn) (undo_steps self.new.parts txn) }
         ensures other { IfOk result (λ stepped. IsAbortForOther self.old.parts.live.members txn stepped) }
         ensures aborted { (first : Base) (s : State) → Shows D.seen D.may_leave first s self.old
             → HasAborted D.seen D.may_leave first s txn result self.new }
@@ -103,6 +109,8 @@ impl<D: Device> Kernel<D> {
             → IsFault D.faults self.old.parts self.new.parts why) }
         ensures states { IfOk result (λ stepped. stepped ≢ AbortStepped.Ended
             → SameStates self.old.parts self.new.parts) }
+        ensures work { LowersAbort (pages self.old.parts.operations.store.pool) result
+            (undo_steps self.old.parts txn) (undo_steps self.new.parts txn) }
         ensures other { IfOk result (λ stepped. IsAbortForOther self.old.parts.live.members txn stepped) }
         ensures aborted { (first : Base) (s : State) → Shows D.seen D.may_leave first s self.old
             → HasAborted D.seen D.may_leave first s txn result self.new }
@@ -119,6 +127,9 @@ impl<D: Device> Kernel<D> {
     /// inverse a step; then the end is logged, and the transaction lives no more. A step waits, or begins anew, only for
     /// another transaction that lives.
     ///
+    /// How many steps: each that answers [`AbortStepped::More`] lowers what the abort has left, and the end comes where
+    /// nothing is left. [`AbortStepped::Again`] adds two steps a page at most.
+    ///
     /// Refused, in this order: 2 where the device has failed, 15 where the transaction is not being undone, 1 for want
     /// of memory; and with 2 where the device fails in this step. The step may be asked again after 1.
     pub fn abort_step(&mut self, txn: TxnNo) -> Result<AbortStepped, Refusal>
@@ -127,6 +138,8 @@ impl<D: Device> Kernel<D> {
             ⊎ IsFault D.faults self.old.parts self.new.parts why) }
         ensures states { IfOk result (λ stepped. stepped ≢ AbortStepped.Ended
             → SameStates self.old.parts self.new.parts) }
+        ensures work { LowersAbort (pages self.old.parts.operations.store.pool) result
+            (undo_steps self.old.parts txn) (undo_steps self.new.parts txn) }
         ensures other { IfOk result (λ stepped. IsAbortForOther self.old.parts.live.members txn stepped) }
         ensures aborted { (first : Base) (s : State) → Shows D.seen D.may_leave first s self.old
             → HasAborted D.seen D.may_leave first s txn result self.new }

@@ -1,15 +1,19 @@
 -- The steps that an abort has left.
-use Rattle.std.proofs.Common.{◌≡◌, ◌≢◌, ℕ, zero, suc, ◌<◌, ◌+◌, ◌-◌, ◌*◌, ◌==◌, Bool, true, false, cond, not, if◌then◌else◌, List, [], ◌∷◌, ◌++◌, length, get_or, Option, Some, None, Result, Ok, Err, is_some, refl, sym, ap, ◌∙◌, arith}
+use Rattle.std.proofs.Common.{◌≡◌, ◌≢◌, ◌⊎◌, ⊎_elim, ℕ, zero, suc, ◌<◌, ◌≤◌, ◌&&◌, ◌+◌, ◌-◌, ◌*◌, ◌==◌, Bool, true, false, cond, not, if◌then◌else◌, List, [], ◌∷◌, ◌++◌, length, get_or, Option, Some, None, Result, Ok, Err, is_some, refl, sym, ap, ◌∙◌, arith}
 use Rattle.std.specs.Prelude.{All, AllPairs, OnErr}
-use Rattle.std.specs.List.{remove}
-use Rattle.std.proofs.lemmas.Bool.{eq-eqb, ne_eqb}
+use Rattle.std.specs.List.{remove, sum_by}
+use Rattle.std.proofs.Math.Nat.{suc-mul}
+use Rattle.std.proofs.lemmas.Bool.{eq-eqb, eqb-true, ne_eqb, cases_eq}
 use Rattle.std.proofs.lemmas.List.{get_or_default}
 use Rattle.std.proofs.lemmas.List.Elements.{All-head, All-tail}
 use Rattle.std.proofs.lemmas.List.Sums.{sum_by-cons}
 use Rattle.mt_base.specs.declared.refusal.Refusal.{Refusal}
 use Rattle.mt_live.specs.Entries.{Entry, kept}
-use Rattle.mt_live.specs.Undoing.{others, is_effect, last_of, last_effect, cut_back}
-use Rattle.mt_model.specs.Model.{Base}
+use Rattle.mt_live.specs.Undoing.{only, others, is_effect, last_of, last_effect, cut_back}
+use Rattle.mt_live.specs.declared.transactions.TxnState.TheVariants.{Open, Aborting}
+use Rattle.mt_model.specs.Model.{Base, inverse_of}
+use Rattle.mt_op.proofs.Restored.{few_stand}
+use Rattle.mt_op.specs.Operations.{world}
 use Rattle.mt_op.specs.Moves.{SameOp}
 use Rattle.mt_op.specs.Work.{work_of}
 use Rattle.mt_op.specs.declared.answers.TakenBack.{TakenBack}
@@ -18,8 +22,8 @@ use Rattle.mt_op.specs.declared.scope.OpScope.{OpScope}
 use Rattle.mt_pool.specs.Views.{pages}
 use Rattle.mt_live.specs.Lives.{Lives}
 use Rattle.mt_kernel.specs.Consistent.{Origin, IsConsistent}
-use Rattle.mt_kernel.specs.Runs.{AreApart}
-use Rattle.mt_kernel.specs.Work.{effect_steps, effects_left, steps_with, abort_steps, undo_steps, LeavesStanding}
+use Rattle.mt_kernel.specs.Runs.{AreApart, state_in}
+use Rattle.mt_kernel.specs.Work.{effect_steps, effects_left, steps_with, abort_steps, undo_steps, most_steps, LeavesStanding}
 use Rattle.mt_kernel.specs.declared.parts.Parts.{Parts}
 use Rattle.mt_kernel.specs.declared.parts.Running.{Running}
 use Rattle.mt_kernel.proofs.Lists.{pairs_head, pairs_tail, pair_at, all_remove}
@@ -173,3 +177,44 @@ puts_back s t (Ok taken.More) more flush err = more refl
 puts_back s t (Ok taken.Clear) more flush err = tt
 puts_back s t (Ok taken.Flush) more flush err = ap (λ (x : OpScope). x.standing) (flush refl)
 puts_back s t (Err why) more flush err = ap (λ (x : OpScope). x.standing) err
+
+-- ---- how many there are at most
+
+-- each entry of a transaction is an effect or nothing
+few_of : (f : Entry → ℕ) (t w : ℕ) → ((e : Entry) → f e ≤ cond (e.txn == t) w 0) → (es : List Entry) → sum_by f es ≤ length (kept (only t) es) * w
+few_of f t w each [] = omega arith
+few_of f t w each (x ∷ es) = go (x.txn == t) (each x) (few_of f t w each es)
+  where
+    go : (c : Bool) → f x ≤ cond c w 0 → sum_by f es ≤ length (kept (only t) es) * w → sum_by f (x ∷ es) ≤ length (cond c (x ∷ kept (only t) es) (kept (only t) es)) * w
+    go true here rest = let whole = sum_by-cons f x es in let one = suc-mul (length (kept (only t) es)) w in omega (arith, here, rest, whole, one)
+    go false here rest = let whole = sum_by-cons f x es in omega (arith, here, rest, whole)
+
+effect_of : (all t : ℕ) (e : Entry) → effect_steps all t e ≤ cond (e.txn == t) (2 * all + 10) 0
+effect_of all t e = go (e.txn == t) (is_some (inverse_of e.op e.reply))
+  where
+    go : (a b : Bool) → (if a && b then 2 * all + 10 else 0) ≤ cond a (2 * all + 10) 0
+    go true true = omega arith
+    go true false = omega arith
+    go false b = omega arith
+
+-- none of its operations under way is an inverse
+under_way : (all effects t : ℕ) (rs : List Running) → All (λ (r : Running). r.scope.txn ≡ t → (r.scope.undoes ≡ 0) × (r.scope.standing ≤ 8)) rs → abort_steps all rs t effects ≤ effects + 9
+under_way all effects t [] each = omega arith
+under_way all effects t (x ∷ xs) each = go (x.scope.txn == t) refl (under_way all effects t xs (All-tail (λ (r : Running). r.scope.txn ≡ t → (r.scope.undoes ≡ 0) × (r.scope.standing ≤ 8)) x xs each))
+  where
+    go : (c : Bool) → (x.scope.txn == t) ≡ c → abort_steps all xs t effects ≤ effects + 9 → cond c (steps_with all x effects) (abort_steps all xs t effects) ≤ effects + 9
+    go true is rest = let own = All-head (λ (r : Running). r.scope.txn ≡ t → (r.scope.undoes ≡ 0) × (r.scope.standing ≤ 8)) x xs each (eqb-true x.scope.txn t is) in let with = fore_with all effects x own.0 in let few = own.1 in omega (arith, with, few)
+    go false is rest = rest
+
+most_of : (steps effects n w : ℕ) → steps ≤ effects + 9 → effects ≤ n * w → 10 ≤ w → steps ≤ (n + 1) * w
+most_of steps effects n w few within wide = let one = suc-mul n w in let same : (n + 1) * w ≡ suc n * w = ap (λ (m : ℕ). m * w) (omega arith) in omega (arith, few, within, wide, one, same)
+
+module _ {D : Type 0} (seen : D → List ℕ) (may_leave : D → List ℕ → Type 0) (origin : Origin) (base : Base) where
+  pub few_steps : (k : Parts D) (t : ℕ) → IsConsistent seen may_leave origin base k → state_in k.live.members t ≡ Some Open → undo_steps k t ≤ most_steps k t
+  few_steps k t safe opened =
+      let all = pages k.operations.store.pool in let effects = effects_left all k.live.standing t in
+      let each : All (λ (r : Running). r.scope.txn ≡ t → (r.scope.undoes ≡ 0) × (r.scope.standing ≤ 8)) k.running.items = λ i d lt own. let r = get_or k.running.items i d in (
+        ⊎_elim (λ (fore : r.scope.undoes ≡ 0). fore) (λ (back : r.scope.undoes ≡ 0 → ⊥). let now : Some Open ≡ Some Aborting = sym opened ∙ ap (state_in k.live.members) (sym own) ∙ (safe.fit.owned i d lt).aborts back in absurd cc) (cases_eq r.scope.undoes 0),
+        few_stand origin.relations origin.counters (world seen origin.pages k.operations) r.scope (safe.runs i d lt).under (safe.runs i d lt).moving,
+      ) in
+      most_of (undo_steps k t) effects (length (kept (only t) k.live.standing)) (2 * all + 10) (under_way all effects t k.running.items each) (few_of (effect_steps all t) t (2 * all + 10) (effect_of all t) k.live.standing) (omega arith)

@@ -1,9 +1,9 @@
 -- The steps that a transaction's operation under way has left, and those that its abort has.
-use Rattle.std.specs.Prelude.{ℕ, ◌≡◌, ◌<◌, ◌≤◌, ◌+◌, ◌-◌, ◌*◌, ◌==◌, cond, if◌then◌else◌, List, [], ◌∷◌, Result, Ok, Err, ⊤}
+use Rattle.std.specs.Prelude.{ℕ, ◌≡◌, ◌<◌, ◌≤◌, ◌+◌, ◌-◌, ◌*◌, ◌==◌, cond, if◌then◌else◌, List, [], ◌∷◌, length, Result, Ok, Err, ⊤}
 use Rattle.std.specs.List.{sum_by}
 use Rattle.mt_base.specs.declared.refusal.Refusal.{Refusal}
-use Rattle.mt_live.specs.Entries.{Entry}
-use Rattle.mt_live.specs.Undoing.{is_effect}
+use Rattle.mt_live.specs.Entries.{Entry, kept}
+use Rattle.mt_live.specs.Undoing.{only, is_effect}
 use Rattle.mt_op.specs.Work.{work_of}
 use Rattle.mt_op.specs.declared.answers.TakenBack.{TakenBack}
 use Rattle.mt_op.specs.declared.answers.TakenBack.TheVariants as taken
@@ -54,6 +54,10 @@ abort_steps pages (r ∷ rs) t effects = cond (r.scope.txn == t) (steps_with pag
 -- how many steps the abort of a transaction makes at most before its end, if nobody is in its way
 abbrev pub undo_steps : {D : Type 0} → Parts D → ℕ → ℕ
 undo_steps k t = abort_steps (pages k.operations.store.pool) k.running.items t (effects_left (pages k.operations.store.pool) k.live.standing t)
+
+-- what that is at most: the steps of an effect for each of its operations that stand, and for the one under way
+abbrev pub most_steps : {D : Type 0} → Parts D → ℕ → ℕ
+most_steps k t = (length (kept (only t) k.live.standing) + 1) * (2 * pages k.operations.store.pool + 10)
 
 -- what a step of an inverse leaves of them
 abbrev pub LowersUndo : ℕ → Result Stepping Refusal → ℕ → ℕ → Type 0

@@ -13,6 +13,7 @@ ghost use Rattle.mt_base.specs.declared.refusal.Refusal.{Refusal};
 ghost use Rattle.mt_kernel.specs.Consistent.{log_kept, SameStates, SetsState, BooksIn, IsSound, StaysIn, OnlyOperations, Origin, state_of, state_in, session_in, IsConsistent, IsIn};
 ghost use Rattle.mt_kernel.specs.Booked.{booked_each, durable_count, durable_txns};
 ghost use Rattle.mt_kernel.specs.Runs.{is_open};
+ghost use Rattle.mt_kernel.specs.Work.{most_steps, undo_steps};
 ghost use Rattle.std.specs.Vec.{vec_len, vec_capacity};
 ghost use Rattle.mt_kernel.specs.declared.parts.Commit.{Commit};
 ghost use Rattle.mt_kernel.specs.declared.parts.Running.{Running};
@@ -74,6 +75,8 @@ impl<D: Device> Parts<D> {
         ensures state { StaysIn D.seen D.may_leave self.old self.new }
         ensures aborts { SetsState self.old self.new txn (Some Aborting) }
         ensures running { self.new.running ≡ self.old.running }
+        ensures few { (origin : Origin) (base : Base) → IsConsistent D.seen D.may_leave origin base self.old
+            → undo_steps self.new txn ≤ most_steps self.old txn }
     {
         self.live.set_state(txn, TxnState::Aborting);
     }

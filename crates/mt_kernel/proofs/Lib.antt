@@ -9,6 +9,7 @@ pub mod Rooms
 pub mod Sounds
 pub mod Durables
 pub mod Laboring
+pub mod Undoing
 pub mod Refusing
 pub mod Entering
 pub mod Inverse

@@ -1,9 +1,17 @@
--- The steps that a transaction's operation under way has left.
-use Rattle.std.specs.Prelude.{ℕ, ◌≡◌, ◌<◌, ◌≤◌, ◌+◌, ◌*◌, ◌==◌, ◌++◌, cond, List, [], ◌∷◌, Result, Ok, Err}
+-- The steps that a transaction's operation under way has left, and those that its abort has.
+use Rattle.std.specs.Prelude.{ℕ, ◌≡◌, ◌<◌, ◌≤◌, ◌+◌, ◌-◌, ◌*◌, ◌==◌, ◌++◌, cond, if◌then◌else◌, List, [], ◌∷◌, length, Result, Ok, Err, ⊤}
+use Rattle.std.specs.List.{sum_by}
 use Rattle.mt_base.specs.declared.refusal.Refusal.{Refusal}
+use Rattle.mt_live.specs.Entries.{Entry, kept}
+use Rattle.mt_live.specs.Undoing.{only, is_effect}
 use Rattle.mt_op.specs.Work.{work_of}
 use Rattle.mt_kernel.specs.declared.calls.Called.{Called}
 use Rattle.mt_kernel.specs.declared.calls.Called.TheVariants as answer
+use Rattle.mt_op.specs.declared.answers.TakenBack.{TakenBack}
+use Rattle.mt_op.specs.declared.answers.TakenBack.TheVariants as taken
+use Rattle.mt_op.specs.declared.scope.OpScope.{OpScope}
+use Rattle.mt_pool.specs.Views.{pages}
+use Rattle.mt_kernel.specs.declared.parts.Parts.{Parts}
 use Rattle.mt_kernel.specs.declared.parts.Running.{Running}
 use Rattle.mt_kernel.specs.declared.steps.Going.{Going}
 use Rattle.mt_kernel.specs.declared.steps.Going.TheVariants as going
@@ -37,3 +45,48 @@ abbrev pub CallRuns : ℕ → ℕ → List Running → List Running → Result C
 CallRuns t steps old new (Ok answer.Started) = RunsBehind t steps old new
 CallRuns t steps old new (Ok (answer.Wait holder)) = new ≡ old
 CallRuns t steps old new (Err why) = new ≡ old
+
+-- ---- an abort
+
+-- An effect of a transaction is undone in these: its inverse begins, and makes two a page and nine at most.
+abbrev pub effect_steps : ℕ → ℕ → Entry → ℕ
+effect_steps pages t e = if is_effect t e then 2 * pages + 10 else 0
+
+abbrev pub effects_left : ℕ → List Entry → ℕ → ℕ
+effects_left pages es t = sum_by (effect_steps pages t) es
+
+-- An operation that is no inverse is put back, a page a step, and dropped out. An inverse stands for one of the effects.
+abbrev pub steps_with : ℕ → Running → ℕ → ℕ
+steps_with pages r effects = cond (r.scope.undoes == 0) (r.scope.standing + 1 + effects) (work_of r.scope + (effects - (2 * pages + 10)))
+
+abbrev pub abort_steps : ℕ → List Running → ℕ → ℕ → ℕ
+abort_steps pages [] t effects = effects
+abort_steps pages (r ∷ rs) t effects = cond (r.scope.txn == t) (steps_with pages r effects) (abort_steps pages rs t effects)
+
+-- how many steps the abort of a transaction makes at most before its end, if nobody is in its way
+abbrev pub undo_steps : {D : Type 0} → Parts D → ℕ → ℕ
+undo_steps k t = abort_steps (pages k.operations.store.pool) k.running.items t (effects_left (pages k.operations.store.pool) k.live.standing t)
+
+-- what that is at most: the steps of an effect for each of its operations that stand, and for the one under way
+abbrev pub most_steps : {D : Type 0} → Parts D → ℕ → ℕ
+most_steps k t = (length (kept (only t) k.live.standing) + 1) * (2 * pages k.operations.store.pool + 10)
+
+-- what a step of an inverse leaves of them
+abbrev pub LowersUndo : ℕ → Result Stepping Refusal → ℕ → ℕ → Type 0
+LowersUndo pages (Ok (Ended reply)) before now = now < before
+LowersUndo pages (Ok (GoingOn g)) before now = LeavesSteps pages g before now
+LowersUndo pages (Err why) before now = now ≤ before
+
+-- a step of a taking back
+abbrev pub LowersBack : Result TakenBack Refusal → ℕ → ℕ → Type 0
+LowersBack (Ok taken.More) before now = now < before
+LowersBack (Ok taken.Clear) before now = now < before
+LowersBack (Ok taken.Flush) before now = now ≤ before
+LowersBack (Err why) before now = now ≤ before
+
+-- which puts one page back, or none
+abbrev pub LeavesStanding : OpScope → OpScope → Result TakenBack Refusal → Type 0
+LeavesStanding s t (Ok taken.More) = t.standing + 1 ≡ s.standing
+LeavesStanding s t (Ok taken.Clear) = ⊤
+LeavesStanding s t (Ok taken.Flush) = t.standing ≡ s.standing
+LeavesStanding s t (Err why) = t.standing ≡ s.standing

@@ -4,7 +4,8 @@ ghost use Rattle.mt_live.specs.Lives.{member_of};
 ghost use Rattle.mt_live.specs.Machine.{begun, booked};
 ghost use Rattle.mt_live.specs.declared.transactions.TxnState.TheVariants.{Open, Committing, Aborting};
 ghost use Rattle.mt_disk.specs.Disk.{HasCause};
-ghost use Rattle.mt_log.specs.Words.{appended, durable, has_failed, area_size, IsStep};
+ghost use Rattle.mt_log.specs.Words.{appended, durable, in_flight, waiting, calls_left, has_failed, area_size, IsStep};
+ghost use Rattle.mt_frame.specs.declared.records.Record.TheVariants as record_of;
 ghost use Rattle.mt_model.specs.Model.{Base};
 ghost use Rattle.mt_pool.specs.Views.{IsWaiting, Cleans, to_flush};
 ghost use Rattle.mt_pool.specs.declared.flushing.Flushed.TheVariants as flushed;
@@ -12,6 +13,7 @@ ghost use Rattle.mt_base.specs.declared.refusal.Refusal.{Refusal};
 ghost use Rattle.mt_kernel.specs.Consistent.{log_kept, SameCommits, SameRunning, SameStates, SameUncommitted, SetsState, BooksIn, IsSound, StaysIn, OnlyOperations, Origin, state_of, state_in, session_in, IsConsistent, IsIn};
 ghost use Rattle.mt_kernel.specs.Booked.{booked_each, durable_count, durable_txns};
 ghost use Rattle.mt_kernel.specs.Runs.{is_open};
+ghost use Rattle.mt_kernel.specs.Work.{most_steps, undo_steps};
 ghost use Rattle.std.specs.Vec.{vec_len, vec_capacity};
 ghost use Rattle.mt_kernel.specs.declared.parts.Commit.{Commit};
 ghost use Rattle.mt_kernel.specs.declared.parts.Running.{Running};
@@ -76,6 +78,8 @@ impl<D: Device> Parts<D> {
         ensures aborts { SetsState self.old self.new txn (Some Aborting) }
         ensures running { self.new.running ≡ self.old.running }
         ensures same_commits { SameCommits self.old self.new }
+        ensures few { (origin : Origin) (base : Base) → IsConsistent D.seen D.may_leave origin base self.old
+            → undo_steps self.new txn ≤ most_steps self.old txn }
     {
         self.live.set_state(txn, TxnState::Aborting);
     }
@@ -92,7 +96,13 @@ impl<D: Device> Parts<D> {
         ensures place { IfOk result (λ place.
             place ≡ length self.old.book.items + length self.old.commits.items + 1) }
         ensures queue { OnOk result ((c : Commit) × (c.txn ≡ txn)
+            × (c.place ≡ length (appended self.new.operations.store.log))
             × (self.new.commits.items ≡ self.old.commits.items ++ c ∷ [])) }
+        ensures waits { OnOk result (waiting self.new.operations.store.log
+            ≡ waiting self.old.operations.store.log ++ record_of.Commit txn ∷ []) }
+        ensures durable { durable self.new.operations.store.log ≡ durable self.old.operations.store.log }
+        ensures in_flight { in_flight self.new.operations.store.log ≡ in_flight self.old.operations.store.log }
+        ensures calls { calls_left self.new.operations.store.log ≡ calls_left self.old.operations.store.log }
         ensures commits { OnOk result (SetsState self.old self.new txn (Some Committing)) }
         ensures err { OnErr result (SameStates self.old self.new × SameCommits self.old self.new) }
         ensures same_running { SameRunning self.old self.new }

@@ -1,5 +1,6 @@
 // Operations that are taken back unfinished.
 ghost use Rattle.std.specs.Prelude.{◌≡◌, ◌≢◌, ◌⊎◌, ◌<◌, ℕ, Some, IfErr, length, slice_index_or};
+ghost use Rattle.std.specs.List.{remove};
 ghost use Rattle.mt_live.specs.Machine.{dropped};
 ghost use Rattle.mt_model.specs.Model.{Base};
 ghost use Rattle.mt_op.specs.Moves.{SameOp};
@@ -7,6 +8,7 @@ ghost use Rattle.mt_op.specs.Faults.{TellsFaults};
 ghost use Rattle.mt_op.specs.Operations.{IsCause};
 ghost use Rattle.mt_live.specs.declared.transactions.TxnState.TheVariants.{Aborting};
 ghost use Rattle.mt_kernel.specs.Consistent.{BacksIn, DropsIn, state_in, IsSound, IsClearedAt, AtPlace, Origin, state_of, IsConsistent, IsCleared, IsIn, GoesBack};
+ghost use Rattle.mt_kernel.specs.Work.{LeavesStanding, LowersBack, undo_steps};
 ghost use Rattle.mt_kernel.specs.declared.parts.Running.{Running};
 
 use crate::ends::let_go;
@@ -31,6 +33,8 @@ impl<D: Device> Parts<D> {
         ensures same { (origin : Origin) (base : Base) → IsConsistent D.seen D.may_leave origin base self.old
             → (r q : Running) → r ≡ slice_index_or self.old.running.items place r
             → q ≡ slice_index_or self.new.running.items place q → SameOp r.scope q.scope }
+        ensures puts { (r q : Running) → r ≡ slice_index_or self.old.running.items place r
+            → q ≡ slice_index_or self.new.running.items place q → LeavesStanding r.scope q.scope result }
         ensures why { IfErr result IsCause }
         ensures faults { TellsFaults (D.faults self.old.operations.store.device)
             (D.faults self.new.operations.store.device) result }
@@ -47,6 +51,7 @@ impl<D: Device> Parts<D> {
             × IsClearedAt D.seen D.may_leave origin base self.old place) ∥₁ }
         requires within { place < length self.old.running.items }
         requires forward { AtPlace self.old.running.items place (λ r. r.scope.undoes ≡ 0) }
+        ensures items { self.new.running.items ≡ remove self.old.running.items place }
         ensures store { self.new.operations.store ≡ self.old.operations.store }
         ensures live { self.new.live ≡ self.old.live }
         ensures drops { (origin : Origin) (base : Base) → IsClearedAt D.seen D.may_leave origin base self.old place
@@ -74,6 +79,8 @@ impl<D: Device> Parts<D> {
             × (state_in self.old.live.members r.scope.txn ≡ Some Aborting)) }
         ensures back { (origin : Origin) (base : Base) → IsConsistent D.seen D.may_leave origin base self.old
             → BacksIn D.seen D.may_leave origin base self.old self.new place result }
+        ensures lowers { AtPlace self.old.running.items place (λ r. LowersBack result
+            (undo_steps self.old r.scope.txn) (undo_steps self.new r.scope.txn)) }
         ensures live { self.new.live ≡ self.old.live }
         ensures why { IfErr result IsCause }
         ensures faults { TellsFaults (D.faults self.old.operations.store.device)

@@ -6,7 +6,7 @@ ghost use Rattle.mt_kernel.specs.Consistent.{SameStates, IsSound, AtPlace, Origi
 ghost use Rattle.mt_op.specs.Moves.{SameOp};
 ghost use Rattle.mt_op.specs.Work.{Works};
 ghost use Rattle.mt_pool.specs.Views.{pages};
-ghost use Rattle.mt_kernel.specs.Work.{Lowers, steps_in};
+ghost use Rattle.mt_kernel.specs.Work.{Lowers, LowersUndo, steps_in, undo_steps};
 ghost use Rattle.mt_op.specs.Faults.{TellsFaults};
 ghost use Rattle.mt_op.specs.Operations.{IsCause};
 ghost use Rattle.mt_kernel.specs.Steps.{Steps, UndoSteps, TellsOther, NamesOther};
@@ -113,6 +113,8 @@ impl<D: Device> Parts<D> {
             ≡ Writing)) }
         ensures work { AtPlace self.old.running.items place (λ r. Lowers (pages self.old.operations.store.pool) result
             (steps_in self.old.running.items r.scope.txn) (steps_in self.new.running.items r.scope.txn)) }
+        ensures lowers { AtPlace self.old.running.items place (λ r. LowersUndo (pages self.old.operations.store.pool)
+            result (undo_steps self.old r.scope.txn) (undo_steps self.new r.scope.txn)) }
         ensures states { SameStates self.old self.new }
         ensures why { IfErr result IsCause }
         ensures faults { TellsFaults (D.faults self.old.operations.store.device)

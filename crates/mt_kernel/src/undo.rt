@@ -1,5 +1,5 @@
 // The inverses of an abort, and its end.
-ghost use Rattle.std.specs.Prelude.{◌≡◌, ◌≢◌, ◌++◌, ◌∷◌, [], ℕ, true, false, All, None, Some, Ok, IfErr, OnOk, OnErr};
+ghost use Rattle.std.specs.Prelude.{◌≡◌, ◌≢◌, ◌<◌, ◌≤◌, ◌++◌, ◌∷◌, [], ℕ, true, false, All, None, Some, Ok, IfErr, OnOk, OnErr};
 ghost use Rattle.mt_frame.specs.declared.records.Record.TheVariants.{AbortEnd};
 ghost use Rattle.mt_live.specs.Lives.{member_of};
 ghost use Rattle.mt_log.specs.Words.{appended};
@@ -9,6 +9,7 @@ ghost use Rattle.mt_model.specs.Model.{Base};
 ghost use Rattle.mt_live.specs.declared.transactions.TxnState.TheVariants.{Aborting};
 ghost use Rattle.mt_kernel.specs.Consistent.{IsSound, SameStatesBut, StaysIn, state_in, Origin, state_of, IsConsistent, IsIn};
 ghost use Rattle.mt_kernel.specs.Runs.{is_open};
+ghost use Rattle.mt_kernel.specs.Work.{undo_steps};
 ghost use Rattle.mt_kernel.specs.declared.parts.Running.{Running};
 
 use crate::parts::{Parts, Running};
@@ -32,6 +33,8 @@ impl<D: Device> Parts<D> {
         ensures state { StaysIn D.seen D.may_leave self.old self.new }
         ensures nothing { result ≡ Ok false → last_effect txn self.old.live.standing ≡ None }
         ensures same { result ≡ Ok false → self.new ≡ self.old }
+        ensures fewer { result ≡ Ok true → undo_steps self.new txn < undo_steps self.old txn }
+        ensures err_left { OnErr result (undo_steps self.new txn ≤ undo_steps self.old txn) }
         ensures store { self.new.operations.store ≡ self.old.operations.store }
         ensures live { self.new.live ≡ self.old.live }
         ensures only_memory { IfErr result (λ why. why ≡ Refusal.NoMemory) }
@@ -69,6 +72,8 @@ impl<D: Device> Parts<D> {
         ensures ended { OnOk result (appended self.new.operations.store.log
             ≡ appended self.old.operations.store.log ++ AbortEnd txn ∷ []) }
         ensures others { SameStatesBut self.old self.new txn }
+        ensures none_left { OnOk result (undo_steps self.old txn ≡ 0) }
+        ensures err_left { OnErr result (undo_steps self.new txn ≤ undo_steps self.old txn) }
         ensures err { (origin : Origin) (base : Base) → IsConsistent D.seen D.may_leave origin base self.old
             → OnErr result (IsIn D.seen D.may_leave origin base (state_of self.old base) self.new) }
         ensures only_memory { IfErr result (λ why. why ≡ Refusal.NoMemory) }

@@ -1,10 +1,10 @@
 // The operations of one kernel over their pages.
-ghost use Rattle.std.specs.Prelude.{◌≡◌, ◌≢◌, ◌⊎◌, ◌<◌, ◌≤◌, ◌+◌, ◌*◌, [], ℕ, length, get_or, replicate, false, true, Ok, if◌then◌else◌, IsOk, IsErr, IfOk, IfErr, OnOk, OnErr};
+ghost use Rattle.std.specs.Prelude.{◌≡◌, ◌≢◌, ◌⊎◌, ◌<◌, ◌≤◌, ◌+◌, ◌*◌, ◌++◌, ◌∷◌, [], ℕ, length, get_or, replicate, false, true, Ok, if◌then◌else◌, IsOk, IsErr, IfOk, IfErr, OnOk, OnErr};
 ghost use Rattle.mt_disk.specs.Disk.{LeavesOnly, HasCause};
 ghost use Rattle.mt_frame.specs.Grammar.{IsTxn, IsOp, IsRecord};
 ghost use Rattle.mt_frame.specs.History.{may_stand, txn_of};
 ghost use Rattle.mt_frame.specs.Lengths.{record_length};
-ghost use Rattle.mt_log.specs.Words.{appended, durable, used, area_size, has_failed, IsStep};
+ghost use Rattle.mt_log.specs.Words.{appended, durable, in_flight, waiting, used, area_size, calls_left, has_failed, IsStep};
 ghost use Rattle.mt_model.specs.Model.{IsWithin};
 ghost use Rattle.mt_space.specs.Changes.{PageBytes};
 ghost use Rattle.mt_pool.specs.Kept.{IsKept, HasOpening, Explains};
@@ -251,6 +251,10 @@ impl<D: Device> Operations<D> {
             → IsUnderWay relations counters (world D.seen opening self.old) u → u.txn ≢ txn_of entry
             → IsUnderWay relations counters (world D.seen opening self.new) u }
         ensures place { IfOk result (λ place. place ≡ length (appended self.new.store.log)) }
+        ensures waits { OnOk result (waiting self.new.store.log ≡ waiting self.old.store.log ++ entry ∷ []) }
+        ensures durable { durable self.new.store.log ≡ durable self.old.store.log }
+        ensures in_flight { in_flight self.new.store.log ≡ in_flight self.old.store.log }
+        ensures calls { calls_left self.new.store.log ≡ calls_left self.old.store.log }
         ensures used { OnOk result (used self.new.store.log ≡ used self.old.store.log + 5 + record_length entry) }
         ensures err_used { OnErr result (used self.new.store.log ≡ used self.old.store.log) }
         ensures area { area_size self.new.store.log ≡ area_size self.old.store.log }

@@ -1,6 +1,6 @@
 -- What the calls' answers say of the state that a kernel shows.
-use Rattle.std.proofs.Common.{⊎_elim, arith, ◌≤◌, ◌+◌, ◌*◌, ◌≡◌, ◌≢◌, ℕ, List, Option, Some, Result, Ok, Err, true, refl, sym, subst, ◌∙◌}
-use Rattle.std.specs.Prelude.{All, OnOk, OnErr}
+use Rattle.std.proofs.Common.{⊎_elim, arith, ◌≤◌, ◌≡◌, ◌≢◌, ℕ, List, Some, Result, Ok, Err, refl, sym, subst}
+use Rattle.std.specs.Prelude.{All}
 use mathlib.Core.Logic.{∥∥₁_map}
 use Rattle.mt_base.specs.declared.refusal.Refusal.{Refusal}
 use Rattle.mt_disk.specs.declared.device.Device.{Ghosts}
@@ -9,7 +9,6 @@ use Rattle.mt_live.specs.Machine.{State, called}
 use Rattle.mt_live.specs.declared.transactions.TxnState.TheVariants.{Open}
 use Rattle.mt_model.specs.Model.{Base, IsWithin}
 use Rattle.mt_model.specs.declared.operations.Op.{Op}
-use Rattle.mt_model.specs.declared.operations.Reply.{Reply}
 use Rattle.mt_kernel.specs.Consistent.{Origin, state_of, IsConsistent, IsIn, MayBeCalled, IsCalled}
 use Rattle.mt_kernel.specs.Runs.{state_in}
 use Rattle.mt_kernel.specs.declared.calls.Called.{Called}
@@ -23,7 +22,7 @@ use Rattle.mt_paged.specs.Events.IsBack.{stands}
 use Rattle.mt_paged.specs.Shown.{Shows}
 use Rattle.mt_kernel.specs.Work.{LeavesSteps}
 use Rattle.mt_kernel.specs.declared.steps.Going.{Going}
-use Rattle.mt_paged.specs.Work.{IsToldAs, LowersSteps}
+use Rattle.mt_paged.specs.Work.{IsToldAs, LowersSteps, IsAbortToldAs, LowersAbort}
 use Rattle.mt_paged.specs.Well.{IsOrigin, IsWell, ShowsIn}
 use Rattle.mt_paged.specs.declared.answers.AbortStepped.{AbortStepped}
 use Rattle.mt_paged.specs.declared.answers.AbortStepped.TheVariants as abort
@@ -99,5 +98,15 @@ going_lowers rs pages before now gone step.Went told less = subst (λ g. LeavesS
 going_lowers rs pages before now gone (step.Wait other) told less = subst (λ g. LeavesSteps pages g before now) told.1 less
 going_lowers rs pages before now gone step.Flush told less = subst (λ g. LeavesSteps pages g before now) told less
 going_lowers rs pages before now gone step.Again told less = ⊎_elim
+    (λ waits. let few : now ≤ before = subst (λ g. LeavesSteps pages g before now) waits.0 less in omega arith)
+    (λ again. subst (λ g. LeavesSteps pages g before now) again less) told.1
+
+-- of an abort
+pub going_left : (rs : List Running) (pages before now : ℕ) (gone : Going) (x : AbortStepped) → IsAbortToldAs rs gone x → LeavesSteps pages gone before now → LowersAbort pages (Ok x) before now
+going_left rs pages before now gone abort.Ended told less = absurd told
+going_left rs pages before now gone abort.More told less = subst (λ g. LeavesSteps pages g before now) told less
+going_left rs pages before now gone (abort.Wait other) told less = subst (λ g. LeavesSteps pages g before now) told.1 less
+going_left rs pages before now gone abort.Flush told less = subst (λ g. LeavesSteps pages g before now) told less
+going_left rs pages before now gone abort.Again told less = ⊎_elim
     (λ waits. let few : now ≤ before = subst (λ g. LeavesSteps pages g before now) waits.0 less in omega arith)
     (λ again. subst (λ g. LeavesSteps pages g before now) again less) told.1

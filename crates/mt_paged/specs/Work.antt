@@ -62,3 +62,13 @@ LowersSteps pages (Ok (step.Wait other)) before now = now ≤ before
 LowersSteps pages (Ok step.Again) before now = now ≤ before + 2 * pages
 LowersSteps pages (Ok step.Flush) before now = now ≤ before
 LowersSteps pages (Err why) before now = now ≤ before
+
+-- A step of an abort that went on leaves fewer of its steps, and the end comes where none are left. One that begins anew may leave more,
+-- by two a page at most; every other, and one that is refused, leaves no more.
+abbrev pub LowersAbort : ℕ → Result AbortStepped Refusal → ℕ → ℕ → Type 0
+LowersAbort pages (Ok abort.More) before now = now < before
+LowersAbort pages (Ok (abort.Wait other)) before now = now ≤ before
+LowersAbort pages (Ok abort.Again) before now = now ≤ before + 2 * pages
+LowersAbort pages (Ok abort.Flush) before now = now ≤ before
+LowersAbort pages (Ok abort.Ended) before now = before ≡ 0
+LowersAbort pages (Err why) before now = now ≤ before

@@ -4,13 +4,15 @@ ghost use Rattle.mt_base.specs.declared.refusal.Refusal.{Refusal};
 ghost use Rattle.mt_live.specs.Machine.{State};
 ghost use Rattle.mt_model.specs.Model.{Base};
 ghost use Rattle.mt_live.specs.declared.transactions.TxnState.TheVariants.{Aborting};
-ghost use Rattle.mt_kernel.specs.Consistent.{AtPlace, SameStates, SetsState};
+ghost use Rattle.mt_kernel.specs.Consistent.{AtPlace, SameCommits, SameRunning, SameStates, SetsState};
 ghost use Rattle.mt_kernel.specs.Runs.{state_in};
+ghost use Rattle.mt_kernel.specs.Work.{undo_steps};
+ghost use Rattle.mt_pool.specs.Views.{pages};
 ghost use Rattle.mt_kernel.specs.declared.parts.Running.{Running};
 ghost use Rattle.mt_paged.specs.Causes.{IsFault, abort_cause, open_cause};
 ghost use Rattle.mt_paged.specs.Events.{HasAborted};
-ghost use Rattle.mt_paged.specs.Work.{IsAbortToldAs, IsAbortForOther};
 ghost use Rattle.mt_paged.specs.Shown.{SameSchema, Shows, Stays};
+ghost use Rattle.mt_paged.specs.Work.{IsAbortToldAs, IsAbortForOther, LowersAbort};
 
 use crate::answers::AbortStepped;
 use crate::kernel::Kernel;
@@ -30,6 +32,8 @@ impl<D: Device> Kernel<D> {
         ensures cause { IfErr result (λ why. open_cause self.old.parts txn ≡ Some why) }
         ensures state { Stays D.seen D.may_leave self.old self.new }
         ensures aborts { OnOk result (SetsState self.old.parts self.new.parts txn (Some Aborting)) }
+        ensures running { SameRunning self.old.parts self.new.parts }
+        ensures commits { SameCommits self.old.parts self.new.parts }
         ensures err { OnErr result (self.new ≡ self.old) }
         ensures schema { SameSchema self.old self.new }
     {
@@ -49,6 +53,8 @@ impl<D: Device> Kernel<D> {
             → IsFault D.faults self.old.parts self.new.parts why) }
         ensures states { IfOk result (λ stepped. stepped ≢ AbortStepped.Ended
             → SameStates self.old.parts self.new.parts) }
+        ensures work { LowersAbort (pages self.old.parts.operations.store.pool) result
+            (undo_steps self.old.parts txn) (undo_steps self.new.parts txn) }
         ensures other { IfOk result (λ stepped. IsAbortForOther self.old.parts.live.members txn stepped) }
         ensures schema { SameSchema self.old self.new }
         ensures aborted { (first : Base) (s : State) → Shows D.seen D.may_leave first s self.old
@@ -69,6 +75,8 @@ impl<D: Device> Kernel<D> {
             → IsFault D.faults self.old.parts self.new.parts why) }
         ensures states { IfOk result (λ stepped. stepped ≢ AbortStepped.Ended
             → SameStates self.old.parts self.new.parts) }
+        ensures work { LowersAbort (pages self.old.parts.operations.store.pool) result
+            (undo_steps self.old.parts txn) (undo_steps self.new.parts txn) }
         ensures other { IfOk result (λ stepped. IsAbortForOther self.old.parts.live.members txn stepped) }
         ensures schema { SameSchema self.old self.new }
         ensures aborted { (first : Base) (s : State) → Shows D.seen D.may_leave first s self.old
@@ -106,6 +114,8 @@ impl<D: Device> Kernel<D> {
             → IsFault D.faults self.old.parts self.new.parts why) }
         ensures states { IfOk result (λ stepped. stepped ≢ AbortStepped.Ended
             → SameStates self.old.parts self.new.parts) }
+        ensures work { LowersAbort (pages self.old.parts.operations.store.pool) result
+            (undo_steps self.old.parts txn) (undo_steps self.new.parts txn) }
         ensures other { IfOk result (λ stepped. IsAbortForOther self.old.parts.live.members txn stepped) }
         ensures schema { SameSchema self.old self.new }
         ensures aborted { (first : Base) (s : State) → Shows D.seen D.may_leave first s self.old
@@ -123,6 +133,9 @@ impl<D: Device> Kernel<D> {
     /// inverse a step; then the end is logged, and the transaction lives no more. A step waits, or begins anew, only for
     /// another transaction that lives.
     ///
+    /// How many steps: each that answers [`AbortStepped::More`] lowers what the abort has left, and the end comes where
+    /// nothing is left. [`AbortStepped::Again`] adds two steps a page at most.
+    ///
     /// Refused, in this order: 2 where the device has failed, 15 where the transaction is not being undone, 1 for want
     /// of memory; and with 2 where the device fails in this step. The step may be asked again after 1.
     pub fn abort_step(&mut self, txn: TxnNo) -> Result<AbortStepped, Refusal>
@@ -131,6 +144,8 @@ impl<D: Device> Kernel<D> {
             ⊎ IsFault D.faults self.old.parts self.new.parts why) }
         ensures states { IfOk result (λ stepped. stepped ≢ AbortStepped.Ended
             → SameStates self.old.parts self.new.parts) }
+        ensures work { LowersAbort (pages self.old.parts.operations.store.pool) result
+            (undo_steps self.old.parts txn) (undo_steps self.new.parts txn) }
         ensures other { IfOk result (λ stepped. IsAbortForOther self.old.parts.live.members txn stepped) }
         ensures unmoved { (why : Refusal) → abort_cause self.old.parts txn ≡ Some why → self.new ≡ self.old }
         ensures schema { SameSchema self.old self.new }

@@ -4,7 +4,7 @@ ghost use Rattle.mt_base.specs.declared.refusal.Refusal.{Refusal};
 ghost use Rattle.mt_live.specs.Machine.{State, begun};
 ghost use Rattle.mt_model.specs.Model.{Base};
 ghost use Rattle.mt_live.specs.declared.transactions.TxnState.TheVariants.{Open};
-ghost use Rattle.mt_kernel.specs.Consistent.{SetsState};
+ghost use Rattle.mt_kernel.specs.Consistent.{SameCommits, SameRunning, SetsState};
 ghost use Rattle.mt_paged.specs.Causes.{begin_cause};
 ghost use Rattle.mt_paged.specs.Shown.{SameSchema, Shows};
 
@@ -27,6 +27,8 @@ impl<D: Device> Kernel<D> {
         ensures begun { (first : Base) (s : State) → Shows D.seen D.may_leave first s self.old
             → OnOk result (Shows D.seen D.may_leave first (begun s session) self.new) }
         ensures opened { IfOk result (λ txn. SetsState self.old.parts self.new.parts txn (Some Open)) }
+        ensures running { SameRunning self.old.parts self.new.parts }
+        ensures commits { SameCommits self.old.parts self.new.parts }
         ensures err { OnErr result (self.new.parts ≡ self.old.parts) }
         ensures schema { SameSchema self.old self.new }
     {

@@ -1,9 +1,11 @@
 // Calls of operations.
-ghost use Rattle.std.specs.Prelude.{◌≡◌, None, Some, Err};
+ghost use Rattle.std.specs.Prelude.{◌≡◌, ◌+◌, ◌*◌, None, Some, Err};
 ghost use Rattle.mt_base.specs.declared.refusal.Refusal.{Refusal};
 ghost use Rattle.mt_live.specs.Machine.{State};
 ghost use Rattle.mt_model.specs.Model.{Base};
-ghost use Rattle.mt_kernel.specs.Consistent.{SameStates};
+ghost use Rattle.mt_kernel.specs.Consistent.{SameCommits, SameStates};
+ghost use Rattle.mt_kernel.specs.Work.{CallRuns};
+ghost use Rattle.mt_pool.specs.Views.{pages};
 ghost use Rattle.mt_paged.specs.Causes.{call_cause};
 ghost use Rattle.mt_paged.specs.Events.{HasCalled, IsAnsweredBy};
 ghost use Rattle.mt_paged.specs.Shown.{SameSchema, Shows};
@@ -31,6 +33,10 @@ impl<D: Device> Kernel<D> {
         ensures answer { call_cause self.old.relations self.old.counters self.old.parts txn op ≡ None
             → IsAnsweredBy D.seen D.may_leave self.old txn op result }
         ensures states { SameStates self.old.parts self.new.parts }
+        ensures runs { CallRuns txn (2 * pages self.old.parts.operations.store.pool + 9) self.old.parts.running.items
+            self.new.parts.running.items result }
+        ensures commits { SameCommits self.old.parts self.new.parts }
+        ensures store { self.new.parts.operations.store ≡ self.old.parts.operations.store }
         ensures called { (first : Base) (s : State) → Shows D.seen D.may_leave first s self.old
             → HasCalled D.seen D.may_leave first s txn op result self.new }
         ensures unmoved { (why : Refusal)

@@ -1,13 +1,14 @@
 // Commits, the steps that make them durable, and flushes.
-ghost use Rattle.std.specs.Prelude.{◌≡◌, ◌≢◌, ◌+◌, ◌++◌, ◌∷◌, [], ℕ, length, Ok, IfOk, IfErr, IsErr, OnOk, OnErr, None, Some, true};
+ghost use Rattle.std.specs.Prelude.{◌≡◌, ◌≢◌, ◌<◌, ◌+◌, ◌++◌, ◌∷◌, [], ℕ, length, get_or, Ok, Err, IfOk, IfErr, IsErr, OnOk, OnErr, None, Some, false, true};
 ghost use Rattle.mt_base.specs.declared.refusal.Refusal.{Refusal};
 ghost use Rattle.mt_live.specs.Machine.{State};
-ghost use Rattle.mt_log.specs.Words.{durable, has_failed};
+ghost use Rattle.mt_log.specs.Words.{appended, durable, in_flight, waiting, calls_left, has_failed};
+ghost use Rattle.mt_frame.specs.declared.records.Record.TheVariants as record_of;
 ghost use Rattle.mt_model.specs.Model.{Base};
-ghost use Rattle.mt_pool.specs.Views.{IsWaiting, Cleans};
+ghost use Rattle.mt_pool.specs.Views.{IsWaiting, Cleans, to_flush};
 ghost use Rattle.mt_pool.specs.declared.flushing.Flushed.TheVariants as flushed;
 ghost use Rattle.mt_live.specs.declared.transactions.TxnState.TheVariants.{Committing};
-ghost use Rattle.mt_kernel.specs.Consistent.{SameStates, SetsState};
+ghost use Rattle.mt_kernel.specs.Consistent.{OnlyOperations, SameCommits, SameRunning, SameStates, SameUncommitted, SetsState};
 ghost use Rattle.mt_kernel.specs.declared.parts.Commit.{Commit};
 ghost use Rattle.mt_paged.specs.Causes.{IsFailure, commit_cause};
 ghost use Rattle.mt_paged.specs.Events.{HasForced, IsForcedBy};
@@ -34,9 +35,17 @@ impl<D: Device> Kernel<D> {
             place ≡ length self.old.parts.book.items + length self.old.parts.commits.items + 1) }
         ensures state { Stays D.seen D.may_leave self.old self.new }
         ensures queue { OnOk result ((c : Commit) × (c.txn ≡ txn)
+            × (c.place ≡ length (appended self.new.parts.operations.store.log))
             × (self.new.parts.commits.items ≡ self.old.parts.commits.items ++ c ∷ [])) }
+        ensures waits { OnOk result (waiting self.new.parts.operations.store.log
+            ≡ waiting self.old.parts.operations.store.log ++ record_of.Commit txn ∷ []) }
+        ensures durable { durable self.new.parts.operations.store.log ≡ durable self.old.parts.operations.store.log }
+        ensures in_flight { in_flight self.new.parts.operations.store.log ≡ in_flight self.old.parts.operations.store.log }
+        ensures calls { calls_left self.new.parts.operations.store.log ≡ calls_left self.old.parts.operations.store.log }
         ensures commits { OnOk result (SetsState self.old.parts self.new.parts txn (Some Committing)) }
-        ensures err { OnErr result (SameStates self.old.parts self.new.parts) }
+        ensures running { SameRunning self.old.parts self.new.parts }
+        ensures err { OnErr result (SameStates self.old.parts self.new.parts
+            × SameCommits self.old.parts self.new.parts) }
         ensures unmoved { (why : Refusal) → commit_cause self.old.parts txn ≡ Some why → self.new ≡ self.old }
         ensures schema { SameSchema self.old self.new }
     {
@@ -63,6 +72,11 @@ impl<D: Device> Kernel<D> {
             self.old.parts.commits.items forced self.new.parts.operations.store.log self.new.parts.commits.items) }
         ensures failed { has_failed self.old.parts.operations.store.log ≡ true
             → (result ≡ Err Refusal.DeviceFailed) × (self.new ≡ self.old) }
+        ensures running { SameRunning self.old.parts self.new.parts }
+        ensures states { SameUncommitted self.old.parts self.new.parts }
+        ensures err { OnErr result (SameStates self.old.parts self.new.parts
+            × SameCommits self.old.parts self.new.parts) }
+        ensures memory { result ≡ Err Refusal.NoMemory → self.new ≡ self.old }
         ensures forced { (first : Base) (s : State) → Shows D.seen D.may_leave first s self.old
             → HasForced D.seen D.may_leave first s result self.new }
         ensures schema { SameSchema self.old self.new }
@@ -92,6 +106,13 @@ impl<D: Device> Kernel<D> {
             (length (durable self.old.parts.operations.store.log)) p }
         ensures barred { result ≡ Ok flushed.Force
             → IsWaiting self.old.parts.operations.store.pool (length (durable self.old.parts.operations.store.log)) }
+        ensures waits { result ≡ Ok flushed.Force → length (durable self.old.parts.operations.store.log)
+            < length (appended self.old.parts.operations.store.log) }
+        ensures fewer { (p : ℕ) → result ≡ Ok (flushed.Page p)
+            → to_flush self.new.parts.operations.store.pool + 1 ≡ to_flush self.old.parts.operations.store.pool }
+        ensures nothing { result ≡ Ok flushed.Clean
+            → (f : ℕ) → get_or self.new.parts.operations.store.pool.dirty.items f false ≡ false }
+        ensures rest { OnlyOperations self.old.parts self.new.parts }
         ensures log { self.new.parts.operations.store.log ≡ self.old.parts.operations.store.log }
         ensures failed { has_failed self.old.parts.operations.store.log ≡ true
             → (result ≡ Err Refusal.DeviceFailed) × (self.new ≡ self.old) }

@@ -8,7 +8,7 @@ ghost use Rattle.mt_pool.specs.Begun.{Begins, device_after};
 ghost use Rattle.mt_frame.specs.Grammar.{IsRecord, IsOfPage, IsTxn, IsOp};
 ghost use Rattle.mt_frame.specs.History.{may_stand};
 ghost use Rattle.mt_frame.specs.Lengths.{record_length};
-ghost use Rattle.mt_log.specs.Words.{durable, waiting, appended, used, area_size, calls_left, has_failed, IsStep, Moves};
+ghost use Rattle.mt_log.specs.Words.{durable, in_flight, waiting, appended, used, area_size, calls_left, has_failed, IsStep, Moves};
 ghost use Rattle.mt_log.specs.declared.log.Forced.{Forced};
 ghost use Rattle.mt_log.specs.declared.log.Forced.TheVariants as forced;
 ghost use Rattle.mt_pool.specs.Images.{slot};
@@ -281,6 +281,10 @@ impl<D: Device> Store<D> {
         ensures appended { OnOk result (appended self.new.log ≡ appended self.old.log ++ entry ∷ []) }
         ensures place { IfOk result (λ place. place ≡ length (appended self.new.log)) }
         ensures used { OnOk result (used self.new.log ≡ used self.old.log + 5 + record_length entry) }
+        ensures waits { OnOk result (waiting self.new.log ≡ waiting self.old.log ++ entry ∷ []) }
+        ensures durable { durable self.new.log ≡ durable self.old.log }
+        ensures in_flight { in_flight self.new.log ≡ in_flight self.old.log }
+        ensures calls { calls_left self.new.log ≡ calls_left self.old.log }
         ensures err_appended { OnErr result (appended self.new.log ≡ appended self.old.log) }
         ensures err_used { OnErr result (used self.new.log ≡ used self.old.log) }
         ensures area { area_size self.new.log ≡ area_size self.old.log }

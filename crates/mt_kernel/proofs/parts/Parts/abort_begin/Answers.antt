@@ -6,6 +6,12 @@ use Rattle.mt_kernel.proofs.Beginning.{changed_in, reopened, reopened_states}
 use Rattle.mt_kernel.proofs.Members.{changed_keeps, states_set}
 use Rattle.mt_kernel.proofs.Beginning.{there_open}
 use Rattle.mt_live.specs.Lives.{member_of}
+use Rattle.std.proofs.Common.{◌≤◌, subst}
+use Rattle.mt_kernel.specs.Work.{abort_steps, effects_left, most_steps}
+use Rattle.mt_pool.specs.Views.{pages}
+use Rattle.mt_live.specs.Entries.{Entry}
+use Rattle.std.proofs.Common.{List, sym}
+use Rattle.mt_kernel.proofs.Undoing.{few_steps}
 use Rattle.mt_kernel.proofs.parts.Parts.abort_begin.Goals as goal
 
 pub returns-clause-state : goal.returns-clause-state
@@ -20,3 +26,8 @@ returns-clause-state g c = λ origin base safe. let e = c.set_state.ensures in l
 
 pub returns-clause-aborts : goal.returns-clause-aborts
 returns-clause-aborts g c = let k = c.args.self.now in states_set k.live.members c.set_state.new.self.members c.args.txn Aborting (there_open (member_of k.live.members c.args.txn) c.requires) c.set_state.ensures.member
+
+pub returns-clause-few : goal.returns-clause-few
+returns-clause-few g c = λ origin base safe. let k = c.args.self.now in let all = pages k.operations.store.pool in
+    subst (λ (es : List Entry). abort_steps all k.running.items c.args.txn (effects_left all es c.args.txn) ≤ most_steps k c.args.txn) (sym c.set_state.ensures.standing)
+    (few_steps g.D.Device.seen g.D.Device.may_leave origin base k c.args.txn safe c.requires)

@@ -19,6 +19,9 @@ use Rattle.mt_live.specs.Lives.{member_of}
 use Rattle.mt_log.specs.Words.{appended}
 use Rattle.mt_kernel.proofs.Sounds.{opening_of, named_of, unended_of}
 use Rattle.mt_kernel.proofs.Aborted.{may_end}
+use Rattle.mt_pool.specs.Views.{pages}
+use Rattle.mt_kernel.specs.Work.{abort_steps, effects_left, undo_steps}
+use Rattle.mt_kernel.proofs.Undoing.{undo_idle, none_left}
 use Rattle.mt_kernel.proofs.parts.Parts.abort_end.Goals as goal
 
 pub append-requires-clause-fits : goal.append-requires-clause-fits
@@ -63,3 +66,14 @@ returns-clause-ended g c = (c.in_ok-append.ensures.notes (λ p. [])).records
 
 pub returns-clause-others : goal.returns-clause-others
 returns-clause-others g c = λ u apart. let k = c.args.self.now in states_put k.live.members c.leave.new.self.members c.args.txn None c.leave.ensures.member u ∙ put_other (state_in k.live.members) c.args.txn None u apart
+
+pub returns-clause-none_left : goal.returns-clause-none_left
+returns-clause-none_left g c = let k = c.args.self.now in undo_idle k c.args.txn c.requires.idle ∙ none_left (pages k.operations.store.pool) c.args.txn k.live.standing c.requires.nothing
+
+pub returns-in_err-append-clause-err_left : goal.returns-in_err-append-clause-err_left
+returns-in_err-append-clause-err_left g c = let k = c.args.self.now in let p = err_from_is_err_and c.from_residual.result c.from_residual.ensures.1 in
+    let n : Parts g.row.D.Denot = record k { operations = c.append.new.self } in
+    let size = (c.in_err-append.ensures.rests (λ p. [])).area.total in
+    let same : undo_steps n c.args.txn ≡ undo_steps k c.args.txn = λ i. abort_steps (size i) k.running.items c.args.txn (effects_left (size i) k.live.standing c.args.txn) in
+    let few : undo_steps n c.args.txn ≤ undo_steps k c.args.txn = omega arith in
+    subst (λ r. OnErr r (undo_steps n c.args.txn ≤ undo_steps k c.args.txn)) (sym p.1) few

@@ -67,4 +67,4 @@ pub returns-clause-commits : goal.returns-clause-commits
 returns-clause-commits g c = let k = c.args.self.now in states_set k.live.members c.set_state.new.self.members c.args.txn Committing (open_some (member_of k.live.members c.args.txn) c.requires.at_work) c.set_state.ensures.member
 
 pub returns-clause-queue : goal.returns-clause-queue
-returns-clause-queue g c = let it : Commit = record { txn = c.args.txn; place = c.in_ok-place.place } in (it, refl, c.push_reserved.ensures.items ∙ ap (λ (cs : List Commit). cs ++ it ∷ []) c.reserve.ensures.items)
+returns-clause-queue g c = let it : Commit = record { txn = c.args.txn; place = c.in_ok-place.place } in (it, refl, c.in_ok-place.ensures.place, c.push_reserved.ensures.items ∙ ap (λ (cs : List Commit). cs ++ it ∷ []) c.reserve.ensures.items)

@@ -14,6 +14,8 @@ use Rattle.mt_kernel.proofs.Sounds.{moving_of}
 use Rattle.std.proofs.Common.{◌∙◌}
 use Rattle.std.proofs.lemmas.List.{length-set, get_or_default, get_or-set_same}
 use Rattle.mt_op.specs.Moves.{SameOp}
+use Rattle.mt_kernel.specs.Work.{LeavesStanding}
+use Rattle.mt_kernel.proofs.Undoing.{puts_back}
 use Rattle.mt_kernel.proofs.parts.Parts.take_back.Goals as goal
 
 pub returns-clause-back : goal.returns-clause-back
@@ -60,3 +62,11 @@ returns-clause-same g c = λ origin base safe x y at now.
     let old : r ≡ x = c.index_mut.ensures.value ∙ sym (get_or_default k.running.items c.args.place x r c.requires.within) ∙ sym at in
     let new : q ≡ y = sym (now ∙ get_or-set_same k.running.items c.args.place q y c.requires.within) in
     subst (λ (X : Type 0). X) (λ i. SameOp (old i).scope (new i).scope) gone.1.same
+
+pub returns-clause-puts : goal.returns-clause-puts
+returns-clause-puts g c = λ x y at now.
+    let k = c.args.self.now in let r = c.index_mut.result.now in let e = c.take_back.ensures in
+    let q : Running = record { scope = c.take_back.new.scope; op = r.op } in
+    let old : r ≡ x = c.index_mut.ensures.value ∙ sym (get_or_default k.running.items c.args.place x r c.requires.within) ∙ sym at in
+    let new : q ≡ y = sym (now ∙ get_or-set_same k.running.items c.args.place q y c.requires.within) in
+    subst (λ (X : Type 0). X) (λ i. LeavesStanding (old i).scope (new i).scope c.take_back.result) (puts_back r.scope q.scope c.take_back.result (λ is. (e.more is).1) e.flush e.err)

@@ -1,7 +1,7 @@
 use mathlib.Core.Logic.{∥∥₁_elim}
 use Rattle.std.proofs.Props.{props}
-use Rattle.std.proofs.Common.{◌≡◌, ◌≢◌, ◌∙◌, ◌+◌, ◌-◌, ◌++◌, ◌∷◌, [], List, true, false, None, Some, refl, ap, sym, subst, arith}
-use Rattle.std.specs.Prelude.{is_some}
+use Rattle.std.proofs.Common.{◌≡◌, ◌≢◌, ◌∙◌, ◌+◌, ◌-◌, ◌*◌, ◌++◌, ◌∷◌, [], List, true, false, None, Some, refl, ap, sym, subst, arith}
+use Rattle.std.specs.Prelude.{is_some, All}
 use Rattle.mt_inverse.specs.Steps.{IsWithinSteps}
 use Rattle.mt_live.specs.Lives.{member_of}
 use Rattle.mt_live.specs.Members.{last_operation}
@@ -21,6 +21,10 @@ use Rattle.mt_kernel.proofs.Resting.{undoing_in, last_entry, aborting_open}
 use Rattle.mt_kernel.proofs.Rooms.{rooms_in}
 use Rattle.mt_kernel.proofs.Sounds.{steady_of, few_of}
 use Rattle.mt_kernel.proofs.Refusing.{Steps-prop}
+use Rattle.mt_op.specs.Work.{work_of}
+use Rattle.mt_pool.specs.Views.{pages}
+use Rattle.mt_kernel.specs.Work.{effects_left, undo_steps}
+use Rattle.mt_kernel.proofs.Undoing.{undo_idle, undo_begun, cut_left}
 use Rattle.mt_kernel.proofs.parts.Parts.undo_begin.Goals as goal
 
 pub inverse_of-requires : goal.inverse_of-requires
@@ -83,3 +87,18 @@ returns-in_default-2-clause-nothing g c = λ is. let k = c.args.self.now in
     let did : is_some (inverse_of x.0.op x.0.reply) ≡ true = last_did c.args.txn k.live.standing x.0 x.1 in
     let none : inverse_of x.0.op x.0.reply ≡ None = (λ i. inverse_of (x.2 i) (x.3 i)) ∙ sym c.in_ok-inverse.ensures.inverse ∙ c.in_default-2.is in
     let here : is_some (inverse_of x.0.op x.0.reply) ≡ false = ap is_some none in absurd cc
+
+pub returns-clause-fewer : goal.returns-clause-fewer
+returns-clause-fewer g c = λ is. let k = c.args.self.now in let e = c.in_ok-scope.ensures in let s = c.in_ok-scope.scope in let t = c.args.txn in
+    let x = last_entry (last_effect t k.live.standing) c.in-Some.last.op.now c.in-Some.last.reply.now c.in-Some.ensures.last in
+    let r : Running = record { scope = s; op = c.in_ok-op.op } in let all = pages k.operations.store.pool in
+    let back : s.undoes ≢ 0 = ∥∥₁_elim c.requires.safe (hlevel props) (λ (origin, base, safe).
+    let number : last_operation (member_of k.live.members t) ≡ Some c.in-Some.last.number = sym c.in-Some.ensures.number in
+    let due = undo_fresh g.D.Device.seen g.D.Device.may_leave origin base k t (k.last + 1) c.in-Some.last.number safe (aborting_open (member_of k.live.members t) c.requires.aborting) (omega arith) number in
+    λ zero. due.1 (sym c.get-undoes.ensures ∙ sym e.named.3 ∙ zero)) in
+    let n : Parts g.row.D.Denot = record k { running = c.push_reserved.new.self; reserved = k.reserved - 106496 } in
+    let items = c.push_reserved.ensures.items ∙ ap (λ (rs : List Running). rs ++ r ∷ []) c.reserve.ensures.items in
+    let now = undo_begun k n r (subst (λ u. All (λ (q : Running). q.scope.txn ≢ u) k.running.items) (sym e.named.0) c.requires.idle) back items refl refl in
+    let own : undo_steps n t ≡ work_of s + (effects_left all k.live.standing t - (2 * all + 10)) = subst (λ u. undo_steps n u ≡ work_of s + (effects_left all k.live.standing u - (2 * all + 10))) e.named.0 now in
+    let before = undo_idle k t c.requires.idle in let work = e.work in
+    let cut = cut_left all t k.live.standing x.0 x.1 in omega (arith, own, before, work, cut)

@@ -1,6 +1,6 @@
 use mathlib.Core.Logic.{∥∥₁_elim}
 use Rattle.std.proofs.Props.{props}
-use Rattle.std.proofs.Common.{◌≡◌, ◌∙◌, ◌<◌, Result, Ok, length, get_or, sym, ap, subst, arith}
+use Rattle.std.proofs.Common.{◌≡◌, ◌∙◌, ◌<◌, Ok, length, get_or, sym, ap, subst, arith}
 use Rattle.std.proofs.lemmas.List.{get_or_default}
 use Rattle.mt_live.specs.Machine.{undone}
 use Rattle.mt_model.specs.Model.{reply_of, base_after}
@@ -12,12 +12,17 @@ use Rattle.std.specs.List.{remove}
 use Rattle.mt_op.specs.Operations.{world}
 use Rattle.mt_op.specs.Work.{Works}
 use Rattle.mt_kernel.specs.Runs.{IsRunning}
-use Rattle.mt_kernel.specs.Work.{Lowers, steps_in}
+use Rattle.mt_kernel.specs.Work.{Lowers, steps_in, undo_steps, effects_left, LowersUndo}
 use Rattle.mt_kernel.specs.Steps.{NamesOther, TellsOther}
-use Rattle.mt_kernel.specs.declared.steps.Stepping.{Stepping}
 use Rattle.mt_base.specs.declared.refusal.Refusal.{Refusal}
-use Rattle.mt_pool.specs.Views.{pages}
+use Rattle.mt_kernel.specs.declared.steps.Stepping.{Stepping}
+use Rattle.std.specs.Prelude.{Result}
 use Rattle.std.proofs.lemmas.Result.{err_from_is_err_and}
+use Rattle.mt_live.specs.Undoing.{cut_back}
+use Rattle.mt_live.specs.Machine.{State}
+use Rattle.mt_pool.specs.Views.{pages}
+use Rattle.mt_kernel.specs.Runs.{IsOwned}
+use Rattle.mt_kernel.proofs.Undoing.{moved_of, total_at, inverse_moved, undo_removed, cut_left, abort_at, back_with}
 use Rattle.mt_kernel.proofs.Laboring.{steps_at, steps_removed, some_left, both_at}
 use Rattle.mt_kernel.proofs.parts.Parts.undo_step.Goals as goal
 
@@ -113,6 +118,80 @@ returns-in-Flush-clause-work g c = λ x at. ∥∥₁_elim c.requires.safe (hlev
     let same : SameOp x.scope q.scope = c.advance.ensures.same origin base safe x q at now in
     let less = subst (Works x.scope q.scope) was (c.advance.ensures.works x q at now) in
     let both = both_at k.running.items items place x q c.requires.within at safe.fit.apart inside now made.consistent.fit.apart same.txn in let b = both.0 in let a = both.1 in omega (arith, less, a, b))
+
+pub returns-in-Went-clause-lowers : goal.returns-in-Went-clause-lowers
+returns-in-Went-clause-lowers g c = λ x at. ∥∥₁_elim c.requires.safe (hlevel props) (λ (origin, base, safe).
+    let k = c.args.self.now in let n = c.advance.new.self in let place = c.args.place in let seen = g.D.Device.seen in let may_leave = g.D.Device.may_leave in
+    let was = c.in_ok-reply.was ∙ ap Ok c.in-Went.is in
+    let made = subst (Advances seen may_leave origin base (state_of k base) n place) was (c.advance.ensures.advances origin base safe) in
+    let m = moved_of seen may_leave origin base k n place x safe made.consistent c.requires.within at c.advance.ensures.length (λ q now. c.advance.ensures.same origin base safe x q at now) c.advance.ensures.live in
+    let q : Running = get_or n.running.items place x in
+    let less = subst (Works x.scope q.scope) was (c.advance.ensures.works x q at m.now) in
+    let both = inverse_moved k n place x q m (c.requires.back x at) in let b = both.0 in let a = both.1 in omega arith)
+
+pub returns-in-Wait-clause-lowers : goal.returns-in-Wait-clause-lowers
+returns-in-Wait-clause-lowers g c = λ x at. ∥∥₁_elim c.requires.safe (hlevel props) (λ (origin, base, safe).
+    let k = c.args.self.now in let n = c.advance.new.self in let place = c.args.place in let seen = g.D.Device.seen in let may_leave = g.D.Device.may_leave in
+    let was = c.in_ok-reply.was ∙ ap Ok c.in-Wait.is in
+    let made = subst (Advances seen may_leave origin base (state_of k base) n place) was (c.advance.ensures.advances origin base safe) in
+    let m = moved_of seen may_leave origin base k n place x safe made.consistent c.requires.within at c.advance.ensures.length (λ q now. c.advance.ensures.same origin base safe x q at now) c.advance.ensures.live in
+    let q : Running = get_or n.running.items place x in
+    let less = subst (Works x.scope q.scope) was (c.advance.ensures.works x q at m.now) in
+    let both = inverse_moved k n place x q m (c.requires.back x at) in let b = both.0 in let a = both.1 in omega arith)
+
+pub returns-in-Again-clause-lowers : goal.returns-in-Again-clause-lowers
+returns-in-Again-clause-lowers g c = λ x at. ∥∥₁_elim c.requires.safe (hlevel props) (λ (origin, base, safe).
+    let k = c.args.self.now in let n = c.advance.new.self in let place = c.args.place in let seen = g.D.Device.seen in let may_leave = g.D.Device.may_leave in
+    let was = c.in_ok-reply.was ∙ ap Ok c.in-Again.is in
+    let made = subst (Advances seen may_leave origin base (state_of k base) n place) was (c.advance.ensures.advances origin base safe) in
+    let m = moved_of seen may_leave origin base k n place x safe made.consistent c.requires.within at c.advance.ensures.length (λ q now. c.advance.ensures.same origin base safe x q at now) c.advance.ensures.live in
+    let q : Running = get_or n.running.items place x in
+    let less = subst (Works x.scope q.scope) was (c.advance.ensures.works x q at m.now) in
+    let both = inverse_moved k n place x q m (c.requires.back x at) in let b = both.0 in let a = both.1 in let total = m.total in omega arith)
+
+pub returns-in-Flush-clause-lowers : goal.returns-in-Flush-clause-lowers
+returns-in-Flush-clause-lowers g c = λ x at. ∥∥₁_elim c.requires.safe (hlevel props) (λ (origin, base, safe).
+    let k = c.args.self.now in let n = c.advance.new.self in let place = c.args.place in let seen = g.D.Device.seen in let may_leave = g.D.Device.may_leave in
+    let was = c.in_ok-reply.was ∙ ap Ok c.in-Flush.is in
+    let made = subst (Advances seen may_leave origin base (state_of k base) n place) was (c.advance.ensures.advances origin base safe) in
+    let m = moved_of seen may_leave origin base k n place x safe made.consistent c.requires.within at c.advance.ensures.length (λ q now. c.advance.ensures.same origin base safe x q at now) c.advance.ensures.live in
+    let q : Running = get_or n.running.items place x in
+    let less = subst (Works x.scope q.scope) was (c.advance.ensures.works x q at m.now) in
+    let both = inverse_moved k n place x q m (c.requires.back x at) in let b = both.0 in let a = both.1 in omega arith)
+
+pub returns-in_err-reply-clause-lowers : goal.returns-in_err-reply-clause-lowers
+returns-in_err-reply-clause-lowers g c = λ x at. let k = c.args.self.now in let n = c.advance.new.self in let place = c.args.place in let seen = g.D.Device.seen in let may_leave = g.D.Device.may_leave in
+    let few : undo_steps n x.scope.txn ≤ undo_steps k x.scope.txn = ∥∥₁_elim c.requires.safe (hlevel props) (λ (origin, base, safe).
+    let made = subst (Advances seen may_leave origin base (state_of k base) n place) c.in_err-reply.was (c.advance.ensures.advances origin base safe) in
+    let m = moved_of seen may_leave origin base k n place x safe made.consistent c.requires.within at c.advance.ensures.length (λ q now. c.advance.ensures.same origin base safe x q at now) c.advance.ensures.live in
+    let q : Running = get_or n.running.items place x in
+    let less = subst (Works x.scope q.scope) c.in_err-reply.was (c.advance.ensures.works x q at m.now) in
+    let both = inverse_moved k n place x q m (c.requires.back x at) in let b = both.0 in let a = both.1 in omega arith) in
+    let p = err_from_is_err_and c.from_residual.result c.from_residual.ensures.1 in
+    subst (λ (r : Result Stepping Refusal). LowersUndo (pages k.operations.store.pool) r (undo_steps k x.scope.txn) (undo_steps n x.scope.txn)) (sym p.1) few
+
+pub returns-in-Ready-clause-lowers : goal.returns-in-Ready-clause-lowers
+returns-in-Ready-clause-lowers g c = λ x at. ∥∥₁_elim c.requires.safe (hlevel props) (λ (origin, base, safe).
+    let k = c.args.self.now in let z = c.advance.new.self in let n = c.note_undone.new.self in let place = c.args.place in let seen = g.D.Device.seen in let may_leave = g.D.Device.may_leave in
+    let was = c.in_ok-reply.was ∙ ap Ok c.in-Ready.is in
+    let made = subst (Advances seen may_leave origin base (state_of k base) z place) was (c.advance.ensures.advances origin base safe) in
+    let items = z.running.items in
+    let inside : place < length items = let same = c.advance.ensures.length in let within = c.requires.within in omega arith in
+    let q : Running = get_or items place x in
+    let now : q ≡ get_or items place q = get_or_default items place x q inside in
+    let same : SameOp x.scope q.scope = c.advance.ensures.same origin base safe x q at now in
+    let ready : IsReady seen may_leave origin base z place q c.in-Ready.reply = made.0 q now in
+    let noted = c.note_undone.ensures.ends origin base c.in-Ready.reply made.0 q now in
+    let all = pages k.operations.store.pool in let t = x.scope.txn in
+    let size : pages n.operations.store.pool ≡ all = ap (λ o. pages o.pool) c.note_undone.ensures.store ∙ sym ready.alone.own.total ∙ same.total ∙ total_at seen may_leave origin base k place x safe c.requires.within at in
+    let standing : n.live.standing ≡ cut_back t k.live.standing = sym (ap (λ (s : State). s.standing) noted.state) ∙ (λ i. cut_back (same.txn i) ((c.advance.ensures.live i).standing)) in
+    let gone = undo_removed n items place t all q (cut_back t k.live.standing) inside now ready.fit.apart same.txn c.note_undone.ensures.items size standing in
+    let owned : IsOwned k.live.members k.live.standing x = subst (IsOwned k.live.members k.live.standing) (sym at) (safe.fit.owned place x c.requires.within) in
+    let back = c.requires.back x at in let takes = owned.inverse back in
+    let cut = cut_left all t k.live.standing takes.entry takes.last in
+    let effects = effects_left all k.live.standing t in
+    let before = abort_at all effects k.running.items place x c.requires.within at safe.fit.apart ∙ back_with all effects x back in
+    let some = some_left x.scope (c.requires.stage x at) in omega (arith, before, some, gone, cut))
 
 pub returns-in_err-reply-clause-work : goal.returns-in_err-reply-clause-work
 returns-in_err-reply-clause-work g c = λ x at.

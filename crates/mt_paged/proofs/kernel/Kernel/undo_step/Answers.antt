@@ -5,9 +5,15 @@ use Rattle.mt_base.specs.declared.refusal.Refusal.{Refusal}
 use Rattle.mt_kernel.specs.Consistent.{AtPlace}
 use Rattle.mt_kernel.specs.Steps.{UndoSteps, NamesOther}
 use Rattle.mt_kernel.specs.declared.steps.Stepping.{Stepping}
-use Rattle.mt_paged.proofs.Answering.{err_aborted, going_aborted}
+use Rattle.mt_paged.proofs.Answering.{err_aborted, going_aborted, going_left}
 use Rattle.mt_paged.proofs.Barring.{abort_goes, abort_other}
 use Rattle.mt_paged.proofs.Showing.{sound_of, undo_shown, undo_well, inverse_stage, UndoShown}
+use Rattle.std.proofs.Common.{◌≤◌, sym}
+use Rattle.mt_pool.specs.Views.{pages}
+use Rattle.mt_kernel.specs.Work.{LowersUndo, undo_steps}
+use Rattle.mt_paged.proofs.Showing.{at_place}
+use Rattle.mt_paged.specs.Work.{LowersAbort}
+use Rattle.mt_paged.specs.declared.answers.AbortStepped.{AbortStepped}
 use Rattle.mt_paged.proofs.kernel.Kernel.undo_step.Goals as goal
 
 pub undo_step-requires-clause-safe : goal.undo_step-requires-clause-safe
@@ -40,3 +46,26 @@ returns-in-Going-clause-other g c = let k = c.args.self.now.parts in let n = c.u
       consistent = λ origin base safe. (subst (UndoSteps seen may_leave origin base k n place) was (c.undo_step.ensures.steps origin base safe)).consistent;
       names = λ origin base safe. subst (λ (r : Result Stepping Refusal). AtPlace k.running.items place (λ q. NamesOther n.running.items q.scope.txn r)) was (c.undo_step.ensures.other origin base safe);
     }) c.args.self.now.well c.going.ensures
+
+pub returns-in-Ended-clause-work : goal.returns-in-Ended-clause-work
+returns-in-Ended-clause-work g c =
+    let k = c.args.self.now.parts in let n = c.undo_step.new.self in let all = pages k.operations.store.pool in
+    let at = at_place k.running.items c.args.place c.requires.within in
+    let lowers = subst (λ t. LowersUndo all c.undo_step.result (undo_steps k t) (undo_steps n t)) (c.requires.own at.0 at.1).0 (c.undo_step.ensures.lowers at.0 at.1) in
+    subst (λ (r : Result Stepping Refusal). LowersUndo all r (undo_steps k c.args.txn) (undo_steps n c.args.txn)) (c.in_ok-reply.was ∙ ap Ok c.in-Ended.is) lowers
+
+pub returns-in-Going-clause-work : goal.returns-in-Going-clause-work
+returns-in-Going-clause-work g c =
+    let k = c.args.self.now.parts in let n = c.undo_step.new.self in let all = pages k.operations.store.pool in
+    let at = at_place k.running.items c.args.place c.requires.within in
+    let lowers = subst (λ t. LowersUndo all c.undo_step.result (undo_steps k t) (undo_steps n t)) (c.requires.own at.0 at.1).0 (c.undo_step.ensures.lowers at.0 at.1) in
+    going_left n.running.items all (undo_steps k c.args.txn) (undo_steps n c.args.txn) c.in-Going.going c.going.result c.going.ensures (subst (λ (r : Result Stepping Refusal). LowersUndo all r (undo_steps k c.args.txn) (undo_steps n c.args.txn)) (c.in_ok-reply.was ∙ ap Ok c.in-Going.is) lowers)
+
+pub returns-in_err-reply-clause-work : goal.returns-in_err-reply-clause-work
+returns-in_err-reply-clause-work g c =
+    let k = c.args.self.now.parts in let n = c.undo_step.new.self in let all = pages k.operations.store.pool in
+    let at = at_place k.running.items c.args.place c.requires.within in
+    let lowers = subst (λ t. LowersUndo all c.undo_step.result (undo_steps k t) (undo_steps n t)) (c.requires.own at.0 at.1).0 (c.undo_step.ensures.lowers at.0 at.1) in
+    let few : undo_steps n c.args.txn ≤ undo_steps k c.args.txn = subst (λ (r : Result Stepping Refusal). LowersUndo all r (undo_steps k c.args.txn) (undo_steps n c.args.txn)) c.in_err-reply.was lowers in
+    let p = err_from_is_err_and c.from_residual.result c.from_residual.ensures.1 in
+    subst (λ (r : Result AbortStepped Refusal). LowersAbort all r (undo_steps k c.args.txn) (undo_steps n c.args.txn)) (sym p.1) few

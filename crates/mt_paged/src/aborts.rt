@@ -1,12 +1,12 @@
 // Aborts, by the inverses of what was done.
-ghost use Rattle.std.specs.Prelude.{◌≡◌, ◌≢◌, ◌⊎◌, ◌<◌, length, All, IfOk, IfErr, OnOk, OnErr, None, Some};
+ghost use Rattle.std.specs.Prelude.{◌≡◌, ◌≢◌, ◌⊎◌, ◌<◌, ◌≤◌, length, All, IfOk, IfErr, OnOk, OnErr, None, Some};
 ghost use Rattle.mt_base.specs.declared.refusal.Refusal.{Refusal};
 ghost use Rattle.mt_live.specs.Machine.{State};
 ghost use Rattle.mt_model.specs.Model.{Base};
 ghost use Rattle.mt_live.specs.declared.transactions.TxnState.TheVariants.{Aborting};
 ghost use Rattle.mt_kernel.specs.Consistent.{AtPlace, SameCommits, SameRunning, SameStates, SetsState};
 ghost use Rattle.mt_kernel.specs.Runs.{state_in};
-ghost use Rattle.mt_kernel.specs.Work.{undo_steps};
+ghost use Rattle.mt_kernel.specs.Work.{most_steps, undo_steps};
 ghost use Rattle.mt_pool.specs.Views.{pages};
 ghost use Rattle.mt_kernel.specs.declared.parts.Running.{Running};
 ghost use Rattle.mt_paged.specs.Causes.{IsFault, abort_cause, open_cause};
@@ -23,7 +23,8 @@ use mt_op::TakenBack;
 
 impl<D: Device> Kernel<D> {
     /// Begins to undo an open transaction, whether an operation of it is unfinished or not; abort steps bring it to its
-    /// end. It takes no memory.
+    /// end. Where nobody is in the way they are, over n pages, at most 2 n + 10 for each operation of it that stands or
+    /// is under way, and the end. It takes no memory.
     ///
     /// Refused, in this order: 2 where the device has failed, 15 where the transaction is not open. Nothing has
     /// changed then.
@@ -34,6 +35,7 @@ impl<D: Device> Kernel<D> {
         ensures aborts { OnOk result (SetsState self.old.parts self.new.parts txn (Some Aborting)) }
         ensures running { SameRunning self.old.parts self.new.parts }
         ensures commits { SameCommits self.old.parts self.new.parts }
+        ensures work { OnOk result (undo_steps self.new.parts txn ≤ most_steps self.old.parts txn) }
         ensures err { OnErr result (self.new ≡ self.old) }
         ensures schema { SameSchema self.old self.new }
     {

@@ -4,6 +4,7 @@ use Rattle.mt_base.specs.declared.refusal.Refusal.{Refusal}
 use Rattle.mt_model.specs.Model.{Base, reply_of}
 use Rattle.mt_op.specs.declared.answers.Stepped.{Stepped}
 use Rattle.mt_op.specs.declared.answers.Stepped.TheVariants as stepped
+use Rattle.mt_pool.specs.Views.{IsFull}
 use Rattle.mt_kernel.specs.Consistent.{Origin, state_of, IsIn, EndsIn, UndoesIn, IsOwnerOf}
 use Rattle.mt_kernel.specs.declared.parts.Parts.{Parts}
 use Rattle.mt_kernel.specs.declared.parts.Running.{Running}
@@ -25,6 +26,10 @@ UndoSteps seen may_leave origin base k n place (Ok (Ended reply)) = (r : Running
     → (reply_of base r.scope.op ≡ reply) × UndoesIn seen may_leave origin base k n r
 UndoSteps seen may_leave origin base k n place (Ok (GoingOn going)) = IsIn seen may_leave origin base (state_of k base) n
 UndoSteps seen may_leave origin base k n place (Err why) = IsIn seen may_leave origin base (state_of k base) n
+
+-- Every frame holds a page that is yet to be flushed; pages, locks and log are as they were.
+abbrev pub WantsFrame : {D : Type 0} → Parts D → Parts D → Type 0
+WantsFrame k n = IsFull k.operations.store.pool × (n.operations ≡ k.operations)
 
 -- ---- who is in the way
 

@@ -1,5 +1,5 @@
 // Operations that are taken back unfinished.
-ghost use Rattle.std.specs.Prelude.{◌≡◌, ◌≢◌, ◌⊎◌, ◌<◌, ℕ, Some, IfErr, length, slice_index_or};
+ghost use Rattle.std.specs.Prelude.{◌≡◌, ◌≢◌, ◌⊎◌, ◌<◌, ℕ, Ok, Some, IfErr, length, slice_index_or};
 ghost use Rattle.std.specs.List.{remove};
 ghost use Rattle.mt_live.specs.Machine.{dropped};
 ghost use Rattle.mt_model.specs.Model.{Base};
@@ -8,6 +8,7 @@ ghost use Rattle.mt_op.specs.Faults.{TellsFaults};
 ghost use Rattle.mt_op.specs.Operations.{IsCause};
 ghost use Rattle.mt_live.specs.declared.transactions.TxnState.TheVariants.{Aborting};
 ghost use Rattle.mt_kernel.specs.Consistent.{BacksIn, DropsIn, state_in, IsSound, IsClearedAt, AtPlace, Origin, state_of, IsConsistent, IsCleared, IsIn, GoesBack};
+ghost use Rattle.mt_kernel.specs.Steps.{WantsFrame};
 ghost use Rattle.mt_kernel.specs.Work.{LeavesStanding, LowersBack, undo_steps};
 ghost use Rattle.mt_kernel.specs.declared.parts.Running.{Running};
 
@@ -29,6 +30,8 @@ impl<D: Device> Parts<D> {
         requires aborting { AtPlace self.old.running.items place (λ r. (r.scope.undoes ≡ 0)
             × (state_in self.old.live.members r.scope.txn ≡ Some Aborting)) }
         ensures live { self.new.live ≡ self.old.live }
+        ensures commits { self.new.commits ≡ self.old.commits }
+        ensures full { result ≡ Ok TakenBack.Flush → WantsFrame self.old self.new }
         ensures length { length self.new.running.items ≡ length self.old.running.items }
         ensures same { (origin : Origin) (base : Base) → IsConsistent D.seen D.may_leave origin base self.old
             → (r q : Running) → r ≡ slice_index_or self.old.running.items place r
@@ -54,6 +57,7 @@ impl<D: Device> Parts<D> {
         ensures items { self.new.running.items ≡ remove self.old.running.items place }
         ensures store { self.new.operations.store ≡ self.old.operations.store }
         ensures live { self.new.live ≡ self.old.live }
+        ensures commits { self.new.commits ≡ self.old.commits }
         ensures drops { (origin : Origin) (base : Base) → IsClearedAt D.seen D.may_leave origin base self.old place
             → AtPlace self.old.running.items place (λ r. DropsIn D.seen D.may_leave origin base self.old self.new r) }
     {
@@ -82,6 +86,8 @@ impl<D: Device> Parts<D> {
         ensures lowers { AtPlace self.old.running.items place (λ r. LowersBack result
             (undo_steps self.old r.scope.txn) (undo_steps self.new r.scope.txn)) }
         ensures live { self.new.live ≡ self.old.live }
+        ensures commits { self.new.commits ≡ self.old.commits }
+        ensures full { result ≡ Ok TakenBack.Flush → WantsFrame self.old self.new }
         ensures why { IfErr result IsCause }
         ensures faults { TellsFaults (D.faults self.old.operations.store.device)
             (D.faults self.new.operations.store.device) result }

@@ -39,6 +39,7 @@ impl<D: Device> Parts<D> {
         ensures items { self.new.running.items ≡ remove self.old.running.items place }
         ensures store { self.new.operations.store ≡ self.old.operations.store }
         ensures states { SameStates self.old self.new }
+        ensures commits { self.new.commits ≡ self.old.commits }
         ensures ends { (origin : Origin) (base : Base) → IsReadyAt D.seen D.may_leave origin base self.old place reply
             → AtPlace self.old.running.items place (λ r. EndsIn D.seen D.may_leave origin base self.old self.new r) }
     {
@@ -61,6 +62,7 @@ impl<D: Device> Parts<D> {
         ensures items { self.new.running.items ≡ remove self.old.running.items place }
         ensures store { self.new.operations.store ≡ self.old.operations.store }
         ensures states { SameStates self.old self.new }
+        ensures commits { self.new.commits ≡ self.old.commits }
         ensures ends { (origin : Origin) (base : Base) (reply : Reply)
             → IsReadyAt D.seen D.may_leave origin base self.old place reply
             → AtPlace self.old.running.items place (λ r. UndoesIn D.seen D.may_leave origin base self.old self.new r) }

@@ -1,5 +1,5 @@
 // The steps of operations.
-ghost use Rattle.std.specs.Prelude.{◌≡◌, ◌≢◌, ◌⊎◌, ◌<◌, ℕ, IfErr, length, slice_index_or};
+ghost use Rattle.std.specs.Prelude.{◌≡◌, ◌≢◌, ◌⊎◌, ◌<◌, ℕ, Ok, IfErr, length, slice_index_or};
 ghost use Rattle.mt_model.specs.Model.{Base};
 ghost use Rattle.mt_op.specs.declared.scope.Stage.TheVariants.{Planning, Writing};
 ghost use Rattle.mt_kernel.specs.Consistent.{SameStates, IsSound, AtPlace, Origin, state_of, IsConsistent, Advances};
@@ -9,7 +9,7 @@ ghost use Rattle.mt_pool.specs.Views.{pages};
 ghost use Rattle.mt_kernel.specs.Work.{Lowers, LowersUndo, steps_in, undo_steps};
 ghost use Rattle.mt_op.specs.Faults.{TellsFaults};
 ghost use Rattle.mt_op.specs.Operations.{IsCause};
-ghost use Rattle.mt_kernel.specs.Steps.{Steps, UndoSteps, TellsOther, NamesOther};
+ghost use Rattle.mt_kernel.specs.Steps.{Steps, UndoSteps, TellsOther, NamesOther, WantsFrame};
 ghost use Rattle.mt_kernel.specs.declared.parts.Running.{Running};
 
 use crate::parts::Parts;
@@ -53,6 +53,8 @@ impl<D: Device> Parts<D> {
             → (r q : Running) → r ≡ slice_index_or self.old.running.items place r
             → q ≡ slice_index_or self.new.running.items place q → SameOp r.scope q.scope }
         ensures live { self.new.live ≡ self.old.live }
+        ensures commits { self.new.commits ≡ self.old.commits }
+        ensures full { result ≡ Ok Stepped.Flush → WantsFrame self.old self.new }
         ensures works { (r q : Running) → r ≡ slice_index_or self.old.running.items place r
             → q ≡ slice_index_or self.new.running.items place q → Works r.scope q.scope result }
         ensures why { IfErr result IsCause }
@@ -80,6 +82,8 @@ impl<D: Device> Parts<D> {
         ensures work { AtPlace self.old.running.items place (λ r. Lowers (pages self.old.operations.store.pool) result
             (steps_in self.old.running.items r.scope.txn) (steps_in self.new.running.items r.scope.txn)) }
         ensures states { SameStates self.old self.new }
+        ensures commits { self.new.commits ≡ self.old.commits }
+        ensures full { result ≡ Ok (Stepping.Going Going.Flush) → WantsFrame self.old self.new }
         ensures why { IfErr result IsCause }
         ensures faults { TellsFaults (D.faults self.old.operations.store.device)
             (D.faults self.new.operations.store.device) result }
@@ -116,6 +120,8 @@ impl<D: Device> Parts<D> {
         ensures lowers { AtPlace self.old.running.items place (λ r. LowersUndo (pages self.old.operations.store.pool)
             result (undo_steps self.old r.scope.txn) (undo_steps self.new r.scope.txn)) }
         ensures states { SameStates self.old self.new }
+        ensures commits { self.new.commits ≡ self.old.commits }
+        ensures full { result ≡ Ok (Stepping.Going Going.Flush) → WantsFrame self.old self.new }
         ensures why { IfErr result IsCause }
         ensures faults { TellsFaults (D.faults self.old.operations.store.device)
             (D.faults self.new.operations.store.device) result }

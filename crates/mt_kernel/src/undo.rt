@@ -7,7 +7,7 @@ ghost use Rattle.mt_live.specs.Machine.{gone};
 ghost use Rattle.mt_live.specs.Undoing.{last_effect};
 ghost use Rattle.mt_model.specs.Model.{Base};
 ghost use Rattle.mt_live.specs.declared.transactions.TxnState.TheVariants.{Aborting};
-ghost use Rattle.mt_kernel.specs.Consistent.{IsSound, SameStatesBut, StaysIn, state_in, Origin, state_of, IsConsistent, IsIn};
+ghost use Rattle.mt_kernel.specs.Consistent.{IsSound, SameStates, SameStatesBut, StaysIn, state_in, Origin, state_of, IsConsistent, IsIn};
 ghost use Rattle.mt_kernel.specs.Runs.{is_open};
 ghost use Rattle.mt_kernel.specs.Work.{undo_steps};
 ghost use Rattle.mt_kernel.specs.declared.parts.Running.{Running};
@@ -37,6 +37,7 @@ impl<D: Device> Parts<D> {
         ensures err_left { OnErr result (undo_steps self.new txn ≤ undo_steps self.old txn) }
         ensures store { self.new.operations.store ≡ self.old.operations.store }
         ensures live { self.new.live ≡ self.old.live }
+        ensures commits { self.new.commits ≡ self.old.commits }
         ensures only_memory { IfErr result (λ why. why ≡ Refusal.NoMemory) }
     {
         let Some(last) = self.live.last_to_undo(txn) else {
@@ -72,6 +73,9 @@ impl<D: Device> Parts<D> {
         ensures ended { OnOk result (appended self.new.operations.store.log
             ≡ appended self.old.operations.store.log ++ AbortEnd txn ∷ []) }
         ensures others { SameStatesBut self.old self.new txn }
+        ensures out { OnOk result (state_in self.new.live.members txn ≡ None) }
+        ensures err_states { OnErr result (SameStates self.old self.new) }
+        ensures commits { self.new.commits ≡ self.old.commits }
         ensures none_left { OnOk result (undo_steps self.old txn ≡ 0) }
         ensures err_left { OnErr result (undo_steps self.new txn ≤ undo_steps self.old txn) }
         ensures err { (origin : Origin) (base : Base) → IsConsistent D.seen D.may_leave origin base self.old

@@ -1,11 +1,12 @@
 // Aborts, by the inverses of what was done.
-ghost use Rattle.std.specs.Prelude.{◌≡◌, ◌≢◌, ◌⊎◌, ◌<◌, ◌≤◌, length, All, IfOk, IfErr, OnOk, OnErr, None, Some};
+ghost use Rattle.std.specs.Prelude.{◌≡◌, ◌≢◌, ◌⊎◌, ◌<◌, ◌≤◌, length, All, Ok, IfOk, IfErr, OnOk, OnErr, None, Some};
 ghost use Rattle.mt_base.specs.declared.refusal.Refusal.{Refusal};
 ghost use Rattle.mt_live.specs.Machine.{State};
 ghost use Rattle.mt_model.specs.Model.{Base};
 ghost use Rattle.mt_live.specs.declared.transactions.TxnState.TheVariants.{Aborting};
-ghost use Rattle.mt_kernel.specs.Consistent.{AtPlace, SameCommits, SameRunning, SameStates, SetsState};
+ghost use Rattle.mt_kernel.specs.Consistent.{AtPlace, SameCommits, SameRunning, SameStates, SameStatesBut, SetsState};
 ghost use Rattle.mt_kernel.specs.Runs.{state_in};
+ghost use Rattle.mt_kernel.specs.Steps.{WantsFrame};
 ghost use Rattle.mt_kernel.specs.Work.{most_steps, undo_steps};
 ghost use Rattle.mt_pool.specs.Views.{pages};
 ghost use Rattle.mt_kernel.specs.declared.parts.Running.{Running};
@@ -58,6 +59,11 @@ impl<D: Device> Kernel<D> {
         ensures work { LowersAbort (pages self.old.parts.operations.store.pool) result
             (undo_steps self.old.parts txn) (undo_steps self.new.parts txn) }
         ensures other { IfOk result (λ stepped. IsAbortForOther self.old.parts.live.members txn stepped) }
+        ensures full { result ≡ Ok AbortStepped.Flush → WantsFrame self.old.parts self.new.parts }
+        ensures commits { SameCommits self.old.parts self.new.parts }
+        ensures err_states { OnErr result (SameStates self.old.parts self.new.parts) }
+        ensures out { result ≡ Ok AbortStepped.Ended → (state_in self.new.parts.live.members txn ≡ None)
+            × SameStatesBut self.old.parts self.new.parts txn }
         ensures schema { SameSchema self.old self.new }
         ensures aborted { (first : Base) (s : State) → Shows D.seen D.may_leave first s self.old
             → HasAborted D.seen D.may_leave first s txn result self.new }
@@ -80,6 +86,11 @@ impl<D: Device> Kernel<D> {
         ensures work { LowersAbort (pages self.old.parts.operations.store.pool) result
             (undo_steps self.old.parts txn) (undo_steps self.new.parts txn) }
         ensures other { IfOk result (λ stepped. IsAbortForOther self.old.parts.live.members txn stepped) }
+        ensures full { result ≡ Ok AbortStepped.Flush → WantsFrame self.old.parts self.new.parts }
+        ensures commits { SameCommits self.old.parts self.new.parts }
+        ensures err_states { OnErr result (SameStates self.old.parts self.new.parts) }
+        ensures out { result ≡ Ok AbortStepped.Ended → (state_in self.new.parts.live.members txn ≡ None)
+            × SameStatesBut self.old.parts self.new.parts txn }
         ensures schema { SameSchema self.old self.new }
         ensures aborted { (first : Base) (s : State) → Shows D.seen D.may_leave first s self.old
             → HasAborted D.seen D.may_leave first s txn result self.new }
@@ -119,6 +130,11 @@ impl<D: Device> Kernel<D> {
         ensures work { LowersAbort (pages self.old.parts.operations.store.pool) result
             (undo_steps self.old.parts txn) (undo_steps self.new.parts txn) }
         ensures other { IfOk result (λ stepped. IsAbortForOther self.old.parts.live.members txn stepped) }
+        ensures full { result ≡ Ok AbortStepped.Flush → WantsFrame self.old.parts self.new.parts }
+        ensures commits { SameCommits self.old.parts self.new.parts }
+        ensures err_states { OnErr result (SameStates self.old.parts self.new.parts) }
+        ensures out { result ≡ Ok AbortStepped.Ended → (state_in self.new.parts.live.members txn ≡ None)
+            × SameStatesBut self.old.parts self.new.parts txn }
         ensures schema { SameSchema self.old self.new }
         ensures aborted { (first : Base) (s : State) → Shows D.seen D.may_leave first s self.old
             → HasAborted D.seen D.may_leave first s txn result self.new }
@@ -132,8 +148,8 @@ impl<D: Device> Kernel<D> {
 
     /// Makes one step of an abort. The operation under way, if there is one, is taken back first, a page a step; then
     /// each operation that did anything is undone by its inverse, the last one first (Weikum 1991), a step of the
-    /// inverse a step; then the end is logged, and the transaction lives no more. A step waits, or begins anew, only for
-    /// another transaction that lives.
+    /// inverse a step; then the end is logged, and the transaction lives no more. A step waits, or begins anew, only
+    /// for another transaction that lives.
     ///
     /// How many steps: each that answers [`AbortStepped::More`] lowers what the abort has left, and the end comes where
     /// nothing is left. [`AbortStepped::Again`] adds two steps a page at most.
@@ -149,6 +165,11 @@ impl<D: Device> Kernel<D> {
         ensures work { LowersAbort (pages self.old.parts.operations.store.pool) result
             (undo_steps self.old.parts txn) (undo_steps self.new.parts txn) }
         ensures other { IfOk result (λ stepped. IsAbortForOther self.old.parts.live.members txn stepped) }
+        ensures full { result ≡ Ok AbortStepped.Flush → WantsFrame self.old.parts self.new.parts }
+        ensures commits { SameCommits self.old.parts self.new.parts }
+        ensures err_states { OnErr result (SameStates self.old.parts self.new.parts) }
+        ensures out { result ≡ Ok AbortStepped.Ended → (state_in self.new.parts.live.members txn ≡ None)
+            × SameStatesBut self.old.parts self.new.parts txn }
         ensures unmoved { (why : Refusal) → abort_cause self.old.parts txn ≡ Some why → self.new ≡ self.old }
         ensures schema { SameSchema self.old self.new }
         ensures aborted { (first : Base) (s : State) → Shows D.seen D.may_leave first s self.old

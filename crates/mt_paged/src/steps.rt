@@ -1,12 +1,13 @@
 // Steps of operations.
-ghost use Rattle.std.specs.Prelude.{◌≡◌, ◌≢◌, ◌⊎◌, IfOk, IfErr, OnOk, None, Some};
+ghost use Rattle.std.specs.Prelude.{◌≡◌, ◌≢◌, ◌⊎◌, Ok, IfOk, IfErr, OnOk, None, Some};
 ghost use Rattle.mt_base.specs.declared.refusal.Refusal.{Refusal};
 ghost use Rattle.mt_live.specs.Machine.{State};
 ghost use Rattle.mt_model.specs.Model.{Base};
 ghost use Rattle.mt_pool.specs.Views.{pages};
+ghost use Rattle.mt_kernel.specs.Steps.{WantsFrame};
 ghost use Rattle.mt_kernel.specs.Work.{steps_in};
 ghost use Rattle.mt_paged.specs.Work.{IsToldAs, IsForOther, LowersSteps};
-ghost use Rattle.mt_kernel.specs.Consistent.{SameStates};
+ghost use Rattle.mt_kernel.specs.Consistent.{SameCommits, SameStates};
 ghost use Rattle.mt_paged.specs.Causes.{IsFault, step_cause};
 ghost use Rattle.mt_paged.specs.Events.{HasStepped};
 ghost use Rattle.mt_paged.specs.Shown.{SameSchema, Shows};
@@ -31,6 +32,8 @@ impl<D: Device> Kernel<D> {
             ⊎ IsFault D.faults self.old.parts self.new.parts why) }
         ensures work { LowersSteps (pages self.old.parts.operations.store.pool) result
             (steps_in self.old.parts.running.items txn) (steps_in self.new.parts.running.items txn) }
+        ensures full { result ≡ Ok Stepped.Flush → WantsFrame self.old.parts self.new.parts }
+        ensures commits { SameCommits self.old.parts self.new.parts }
         ensures other { IfOk result (λ stepped. IsForOther self.old.parts.live.members txn stepped) }
         ensures states { SameStates self.old.parts self.new.parts }
         ensures unmoved { (why : Refusal) → step_cause self.old.parts txn ≡ Some why → self.new ≡ self.old }

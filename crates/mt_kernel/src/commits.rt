@@ -174,6 +174,7 @@ impl<D: Device> Parts<D> {
         requires safe { IsSound D.seen D.may_leave self.old }
         ensures state { StaysIn D.seen D.may_leave self.old self.new }
         ensures rest { OnlyOperations self.old self.new }
+        ensures appended { appended self.new.operations.store.log ≡ appended self.old.operations.store.log }
         ensures step { IfOk result (λ forced.
             IsStep self.old.operations.store.log forced self.new.operations.store.log) }
         ensures only_device { IfErr result (λ why. why ≡ Refusal.DeviceFailed) }

@@ -279,6 +279,7 @@ impl<D: Device> Operations<D> {
             → LeavesOnly D.moment D.left_since self.old.store.device self.new.store.device
             (Explains opening self.old.store) }
         ensures claimed { claimed self.new ≡ claimed self.old }
+        ensures appended { appended self.new.store.log ≡ appended self.old.store.log }
         ensures step { IfOk result (λ forced. IsStep self.old.store.log forced self.new.store.log) }
         ensures used { used self.new.store.log ≤ used self.old.store.log }
         ensures area { area_size self.new.store.log ≡ area_size self.old.store.log }

@@ -70,6 +70,8 @@ impl<D: Device> Kernel<D> {
     pub fn force_step(&mut self) -> Result<KernelForced, Refusal>
         ensures cause { IfErr result (λ why. why ≢ Refusal.NoMemory
             → IsFailure D.faults self.old.parts self.new.parts why) }
+        ensures appended { appended self.new.parts.operations.store.log
+            ≡ appended self.old.parts.operations.store.log }
         ensures log { IfOk result (λ forced. IsForcedBy self.old.parts.operations.store.log
             self.old.parts.commits.items forced self.new.parts.operations.store.log self.new.parts.commits.items) }
         ensures failed { has_failed self.old.parts.operations.store.log ≡ true

@@ -116,8 +116,8 @@ impl<D: Device> Kernel<D> {
 
     /// Makes one step of an abort. The operation under way, if there is one, is taken back first, a page a step; then
     /// each operation that did anything is undone by its inverse, the last one first (Weikum 1991), a step of the
-    /// inverse a step; then the end is logged, and the transaction lives no more. A step waits, or begins anew, only for
-    /// another transaction that lives.
+    /// inverse a step; then the end is logged, and the transaction lives no more. A step waits, or begins anew, only
+    /// for another transaction that lives.
     ///
     /// Refused, in this order: 2 where the device has failed, 15 where the transaction is not being undone, 1 for want
     /// of memory; and with 2 where the device fails in this step. The step may be asked again after 1.

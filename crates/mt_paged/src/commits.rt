@@ -40,8 +40,10 @@ impl<D: Device> Kernel<D> {
         ensures waits { OnOk result (waiting self.new.parts.operations.store.log
             ≡ waiting self.old.parts.operations.store.log ++ record_of.Commit txn ∷ []) }
         ensures durable { durable self.new.parts.operations.store.log ≡ durable self.old.parts.operations.store.log }
-        ensures in_flight { in_flight self.new.parts.operations.store.log ≡ in_flight self.old.parts.operations.store.log }
-        ensures calls { calls_left self.new.parts.operations.store.log ≡ calls_left self.old.parts.operations.store.log }
+        ensures in_flight { in_flight self.new.parts.operations.store.log
+            ≡ in_flight self.old.parts.operations.store.log }
+        ensures calls { calls_left self.new.parts.operations.store.log
+            ≡ calls_left self.old.parts.operations.store.log }
         ensures commits { OnOk result (SetsState self.old.parts self.new.parts txn (Some Committing)) }
         ensures err { OnErr result (SameStates self.old.parts self.new.parts) }
     {

@@ -21,6 +21,7 @@ pub mod Advancing
 pub mod Ending
 pub mod Calling
 pub mod Leaving
+pub mod Lessening
 pub mod First
 pub mod Firsts
 pub mod Dropping

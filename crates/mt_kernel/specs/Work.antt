@@ -67,6 +67,10 @@ abort_steps pages (r ∷ rs) t effects = cond (r.scope.txn == t) (steps_with pag
 abbrev pub undo_steps : {D : Type 0} → Parts D → ℕ → ℕ
 undo_steps k t = abort_steps (pages k.operations.store.pool) k.running.items t (effects_left (pages k.operations.store.pool) k.live.standing t)
 
+-- where none of them grows
+abbrev pub LeavesUndo : {D : Type 0} → Parts D → Parts D → Type 0
+LeavesUndo k n = (t : ℕ) → undo_steps n t ≤ undo_steps k t
+
 -- what that is at most: the steps of an effect for each of its operations that stand, and for the one under way
 abbrev pub most_steps : {D : Type 0} → Parts D → ℕ → ℕ
 most_steps k t = (length (kept (only t) k.live.standing) + 1) * (2 * pages k.operations.store.pool + 10)

@@ -13,7 +13,7 @@ ghost use Rattle.mt_base.specs.declared.refusal.Refusal.{Refusal};
 ghost use Rattle.mt_kernel.specs.Consistent.{log_kept, SameCommits, SameRunning, SameStates, SameUncommitted, SetsState, BooksIn, IsSound, StaysIn, OnlyOperations, Origin, state_of, state_in, session_in, IsConsistent, IsIn};
 ghost use Rattle.mt_kernel.specs.Booked.{booked_each, durable_count, durable_txns};
 ghost use Rattle.mt_kernel.specs.Runs.{is_open};
-ghost use Rattle.mt_kernel.specs.Work.{most_steps, undo_steps};
+ghost use Rattle.mt_kernel.specs.Work.{LeavesUndo, most_steps, undo_steps};
 ghost use Rattle.std.specs.Vec.{vec_len, vec_capacity};
 ghost use Rattle.mt_kernel.specs.declared.parts.Commit.{Commit};
 ghost use Rattle.mt_kernel.specs.declared.parts.Running.{Running};
@@ -131,6 +131,7 @@ impl<D: Device> Parts<D> {
             → (result ≡ c.txn) × (self.new.commits.items ≡ cs) }
         ensures running { self.new.running ≡ self.old.running }
         ensures states { SameUncommitted self.old self.new }
+        ensures undo { LeavesUndo self.old self.new }
     {
         let reserved = self.reserved;
         let Commit { txn, place: _ } = self.commits.remove(0);
@@ -158,6 +159,7 @@ impl<D: Device> Parts<D> {
             ≡ drop (durable_count self.old.commits.items place) self.old.commits.items }
         ensures running { self.new.running ≡ self.old.running }
         ensures states { SameUncommitted self.old self.new }
+        ensures undo { LeavesUndo self.old self.new }
     {
         let count = durable_count(self.commits.as_slice(), place);
         for _booked in 0..count {
@@ -174,6 +176,7 @@ impl<D: Device> Parts<D> {
         requires safe { IsSound D.seen D.may_leave self.old }
         ensures state { StaysIn D.seen D.may_leave self.old self.new }
         ensures rest { OnlyOperations self.old self.new }
+        ensures pool { self.new.operations.store.pool ≡ self.old.operations.store.pool }
         ensures appended { appended self.new.operations.store.log ≡ appended self.old.operations.store.log }
         ensures step { IfOk result (λ forced.
             IsStep self.old.operations.store.log forced self.new.operations.store.log) }
@@ -190,6 +193,7 @@ impl<D: Device> Parts<D> {
         ensures state { StaysIn D.seen D.may_leave self.old self.new }
         ensures rest { OnlyOperations self.old self.new }
         ensures log { self.new.operations.store.log ≡ self.old.operations.store.log }
+        ensures there { self.new.operations.store.pool.of_page ≡ self.old.operations.store.pool.of_page }
         ensures written { (p : ℕ) → result ≡ Ok (flushed.Page p) → Cleans self.old.operations.store.pool
             self.new.operations.store.pool (length (durable self.old.operations.store.log)) p }
         ensures barred { result ≡ Ok flushed.Force

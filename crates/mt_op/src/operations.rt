@@ -278,6 +278,7 @@ impl<D: Device> Operations<D> {
         ensures moments { (opening : PageBytes) → IsKept D.seen D.may_leave opening self.old.store
             → LeavesOnly D.moment D.left_since self.old.store.device self.new.store.device
             (Explains opening self.old.store) }
+        ensures pool { self.new.store.pool ≡ self.old.store.pool }
         ensures claimed { claimed self.new ≡ claimed self.old }
         ensures appended { appended self.new.store.log ≡ appended self.old.store.log }
         ensures step { IfOk result (λ forced. IsStep self.old.store.log forced self.new.store.log) }
@@ -304,6 +305,7 @@ impl<D: Device> Operations<D> {
             (Explains opening self.old.store) }
         ensures claimed { claimed self.new ≡ claimed self.old }
         ensures log { self.new.store.log ≡ self.old.store.log }
+        ensures there { self.new.store.pool.of_page ≡ self.old.store.pool.of_page }
         ensures written { (p : ℕ) → result ≡ Ok (flushed.Page p) → Cleans self.old.store.pool self.new.store.pool
             (length (durable self.old.store.log)) p }
         ensures barred { result ≡ Ok flushed.Force → IsWaiting self.old.store.pool (length (durable self.old.store.log)) }

@@ -9,6 +9,7 @@ ghost use Rattle.mt_pool.specs.Views.{IsWaiting, Cleans, to_flush};
 ghost use Rattle.mt_pool.specs.declared.flushing.Flushed.TheVariants as flushed;
 ghost use Rattle.mt_live.specs.declared.transactions.TxnState.TheVariants.{Committing};
 ghost use Rattle.mt_kernel.specs.Consistent.{OnlyOperations, SameCommits, SameRunning, SameStates, SameUncommitted, SetsState};
+ghost use Rattle.mt_kernel.specs.Work.{LeavesUndo};
 ghost use Rattle.mt_kernel.specs.declared.parts.Commit.{Commit};
 ghost use Rattle.mt_paged.specs.Causes.{IsFailure, commit_cause};
 ghost use Rattle.mt_paged.specs.Events.{HasForced, IsForcedBy};
@@ -70,6 +71,7 @@ impl<D: Device> Kernel<D> {
     pub fn force_step(&mut self) -> Result<KernelForced, Refusal>
         ensures cause { IfErr result (λ why. why ≢ Refusal.NoMemory
             → IsFailure D.faults self.old.parts self.new.parts why) }
+        ensures pool { self.new.parts.operations.store.pool ≡ self.old.parts.operations.store.pool }
         ensures appended { appended self.new.parts.operations.store.log
             ≡ appended self.old.parts.operations.store.log }
         ensures log { IfOk result (λ forced. IsForcedBy self.old.parts.operations.store.log
@@ -78,6 +80,7 @@ impl<D: Device> Kernel<D> {
             → (result ≡ Err Refusal.DeviceFailed) × (self.new ≡ self.old) }
         ensures running { SameRunning self.old.parts self.new.parts }
         ensures states { SameUncommitted self.old.parts self.new.parts }
+        ensures undo { LeavesUndo self.old.parts self.new.parts }
         ensures err { OnErr result (SameStates self.old.parts self.new.parts
             × SameCommits self.old.parts self.new.parts) }
         ensures memory { result ≡ Err Refusal.NoMemory → self.new ≡ self.old }
@@ -118,6 +121,9 @@ impl<D: Device> Kernel<D> {
             → (f : ℕ) → get_or self.new.parts.operations.store.pool.dirty.items f false ≡ false }
         ensures rest { OnlyOperations self.old.parts self.new.parts }
         ensures log { self.new.parts.operations.store.log ≡ self.old.parts.operations.store.log }
+        ensures there { self.new.parts.operations.store.pool.of_page
+            ≡ self.old.parts.operations.store.pool.of_page }
+        ensures undo { LeavesUndo self.old.parts self.new.parts }
         ensures failed { has_failed self.old.parts.operations.store.log ≡ true
             → (result ≡ Err Refusal.DeviceFailed) × (self.new ≡ self.old) }
         ensures state { Stays D.seen D.may_leave self.old self.new }

@@ -48,6 +48,7 @@ impl<D: Device> Kernel<D> {
         requires opens { ∥ ((first : Base) × Opens D.seen D.may_leave operations escrow relations counters first) ∥₁ }
         ensures shows { (first : Base) → Opens D.seen D.may_leave operations escrow relations counters first
             → Shows D.seen D.may_leave first (start first) result }
+        ensures schema { (result.relations ≡ relations) × (result.counters ≡ counters) }
     {
         Kernel {
             parts: Parts::new(alloc, operations, escrow),

@@ -3,7 +3,7 @@ ghost use Rattle.std.specs.Prelude.{◌≡◌, ◌⊎◌, ◌<◌, length, IfOk,
 ghost use Rattle.mt_base.specs.declared.refusal.Refusal.{Refusal};
 ghost use Rattle.mt_live.specs.Machine.{start};
 ghost use Rattle.mt_paged.specs.Shown.{Shows};
-ghost use Rattle.mt_restart.specs.Schemas.{device_bytes, schema_base};
+ghost use Rattle.mt_restart.specs.Schemas.{counters_in, device_bytes, relations_in, schema_base};
 
 use crate::Schema;
 use crate::opening::fresh_parts;
@@ -25,6 +25,8 @@ pub fn fresh<D: Device + Drop>(
 ) -> Result<Kernel<D>, (Refusal, D)>
     requires frames { 0 < frames }
     ensures shows { IfOk result (Shows D.seen D.may_leave (schema_base schema.now) (start (schema_base schema.now))) }
+    ensures schema { IfOk result (λ kernel. (kernel.relations ≡ relations_in schema.now)
+        × (kernel.counters ≡ length (counters_in schema.now))) }
     ensures cause { IfErr result (λ gone. (gone.0 ≡ Refusal.NoMemory)
         ⊎ ((gone.0 ≡ Refusal.BadLength) × (length (D.seen device) < device_bytes schema.now)
         ⊎ (gone.0 ≡ Refusal.DeviceFailed) × (D.faults device < D.faults gone.1))) }

@@ -13,6 +13,7 @@ loop-booked-init g c = let within = c.durable_count-count.ensures.within in let 
   store = refl;
   running = refl;
   states = λ u other. refl;
+  undo = λ u. omega arith;
   count = omega arith;
 }
 
@@ -41,6 +42,7 @@ loop-booked-preserved g c = let k = c.args.self.now in let d : Commit = record {
       store = e.store ∙ was.store;
       running = e.running ∙ was.running;
       states = λ u other. e.states u (λ commits. other (sym (was.states u other) ∙ commits)) ∙ was.states u other;
+      undo = λ u. let less = e.undo u in let before = was.undo u in omega (arith, less, before);
       count = was.count;
     }
 
@@ -62,3 +64,6 @@ returns-clause-running g c = c.loop-booked.invariant.running
 
 pub returns-clause-states : goal.returns-clause-states
 returns-clause-states g c = c.loop-booked.invariant.states
+
+pub returns-clause-undo : goal.returns-clause-undo
+returns-clause-undo g c = c.loop-booked.invariant.undo

@@ -4,12 +4,14 @@ use Rattle.std.proofs.Common.{◌≡◌, ◌∙◌, ◌+◌, ◌-◌, ◌∷◌,
 use Rattle.std.specs.List.{sum_by}
 use Rattle.mt_live.specs.Lives.{is_member, member_of}
 use Rattle.mt_live.specs.Machine.{booked, put}
+use Rattle.mt_live.specs.Undoing.{others}
 use Rattle.mt_kernel.specs.Consistent.{state_of, session_in, IsIn}
 use Rattle.mt_kernel.specs.Runs.{call_pages, call_bytes}
 use Rattle.mt_kernel.specs.declared.parts.Commit.{Commit}
 use Rattle.mt_kernel.specs.declared.parts.Parts.{Parts}
 use Rattle.mt_kernel.proofs.Firsts.{first_txn, first_is, first_rest, whose, left_sums}
 use Rattle.mt_kernel.proofs.Leaving.{booked_in}
+use Rattle.mt_kernel.proofs.Lessening.{undo_leaves}
 use Rattle.mt_kernel.proofs.Sounds.{first_lives, first_booked, first_leaves}
 use Rattle.mt_kernel.proofs.parts.Parts.leave_first.Goals as goal
 
@@ -63,6 +65,9 @@ returns g c = record {
   rest = λ first cs queue. let k = c.args.self.now in let r = c.remove-txn.ensures in
       (ap (λ (x : Commit). x.txn) (first_is k.commits.items c.remove-txn.result first cs queue r.value), r.items ∙ first_rest k.commits.items first cs queue);
   running = refl;
+  undo = let k = c.args.self.now in
+      let n : Parts g.row.D.Denot = record k { operations = c.give_back.new.self; live = c.leave-done.new.self; book = c.push_reserved.new.self; locks = c.release.new.self; escrow = c.commit.new.self; commits = c.remove-txn.new.self; reserved = k.reserved - (114 + c.all_bytes_kept.result) } in
+      undo_leaves k n (others c.remove-txn.result.txn) c.give_back.ensures.store refl c.leave-done.ensures.standing;
   states = let (first, cs, queue) = c.requires.some in let k = c.args.self.now in
       let it : c.remove-txn.result.txn ≡ first.txn = ap (λ (x : Commit). x.txn) (first_is k.commits.items c.remove-txn.result first cs queue c.remove-txn.ensures.value) in
       first_leaves g.D.Device.seen g.D.Device.may_leave k c.requires.safe c.leave-done.new.self.members first cs queue (λ u. c.leave-done.ensures.member u ∙ ap (λ (t : ℕ). put (member_of k.live.members) t None u) it);

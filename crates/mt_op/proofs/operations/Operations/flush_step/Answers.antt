@@ -12,6 +12,7 @@ returns g c = let f = c.flush_step.ensures in let seen = g.D.Device.seen in
       moments = f.moments;
       claimed = refl;
       log = f.log;
+      there = f.there;
       written = f.written;
       barred = f.barred;
       fewer = f.fewer;

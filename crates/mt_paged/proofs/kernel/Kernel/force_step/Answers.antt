@@ -1,7 +1,9 @@
-use Rattle.std.proofs.Common.{◌++◌, ◌∙◌, ℕ, List, ap, sym, subst}
+use Rattle.std.proofs.Common.{◌++◌, ◌∙◌, ℕ, List, ap, sym, subst, arith}
 use Rattle.std.proofs.lemmas.Result.{err_from_is_err_and}
 use Rattle.mt_kernel.specs.Booked.{booked_each, durable_txns}
+use Rattle.mt_pool.specs.declared.pool.Pool.{Pool}
 use Rattle.mt_paged.specs.Well.{ShowsIn}
+use Rattle.mt_kernel.proofs.Lessening.{undo_same}
 use Rattle.mt_paged.proofs.Answering.{err_forced}
 use Rattle.mt_paged.proofs.Showing.{sound_of, led, well_led, stays_led}
 use Rattle.mt_paged.proofs.kernel.Kernel.force_step.Goals as goal
@@ -37,3 +39,15 @@ returns-in-Idle-clause-forced g c = λ first s shows. led g.D.Device.seen g.D.De
 pub returns-in-Durable-clause-forced : goal.returns-in-Durable-clause-forced
 returns-in-Durable-clause-forced g c = λ first s shows. subst (λ (ts : List ℕ). ShowsIn g.D.Device.seen g.D.Device.may_leave c.args.self.now.relations c.args.self.now.counters first (booked_each s ts) c.leave_durable.new.self) (sym (c.leave_durable.ensures.names ∙ ap (λ (ts : List ℕ). ts ++ durable_txns c.force_step.new.self.commits.items c.in-Durable.place) c.in_ok-names.ensures.items))
     (led g.D.Device.seen g.D.Device.may_leave c.args.self.now.relations c.args.self.now.counters c.force_step.new.self c.leave_durable.new.self (λ z. booked_each z (durable_txns c.force_step.new.self.commits.items c.in-Durable.place)) first s (λ origin base safe. (base, c.leave_durable.ensures.left origin base safe)) (led g.D.Device.seen g.D.Device.may_leave c.args.self.now.relations c.args.self.now.counters c.args.self.now.parts c.force_step.new.self (λ z. z) first s (stays_led g.D.Device.seen g.D.Device.may_leave c.args.self.now.relations c.args.self.now.counters c.args.self.now.parts c.force_step.new.self c.force_step.ensures.state) shows))
+
+pub returns-in_err-force_step-clause-undo : goal.returns-in_err-force_step-clause-undo
+returns-in_err-force_step-clause-undo g c = undo_same c.args.self.now.parts c.force_step.new.self c.force_step.ensures.rest (ap (λ (p : Pool). p.of_page) c.force_step.ensures.pool)
+
+pub returns-in-More-clause-undo : goal.returns-in-More-clause-undo
+returns-in-More-clause-undo g c = undo_same c.args.self.now.parts c.force_step.new.self c.force_step.ensures.rest (ap (λ (p : Pool). p.of_page) c.force_step.ensures.pool)
+
+pub returns-in-Idle-clause-undo : goal.returns-in-Idle-clause-undo
+returns-in-Idle-clause-undo g c = undo_same c.args.self.now.parts c.force_step.new.self c.force_step.ensures.rest (ap (λ (p : Pool). p.of_page) c.force_step.ensures.pool)
+
+pub returns-in-Durable-clause-undo : goal.returns-in-Durable-clause-undo
+returns-in-Durable-clause-undo g c = λ t. let later = c.leave_durable.ensures.undo t in let before = undo_same c.args.self.now.parts c.force_step.new.self c.force_step.ensures.rest (ap (λ (p : Pool). p.of_page) c.force_step.ensures.pool) t in omega (arith, later, before)

@@ -279,7 +279,7 @@ fn run_both(
     second: &Script,
 ) -> Result<Both, Fail> {
     let alloc = rt.alloc();
-    let mut kernel = kernel_over(alloc, device_of(alloc, 4)?, 4)?;
+    let mut kernel = kernel_over(alloc, device_of(alloc)?)?;
     let taken = Vec::new(alloc);
     let mut narrow = Narrow { room: 12, taken };
     let unheard = run_alone(&mut kernel, 1, first, &mut narrow);
@@ -325,16 +325,22 @@ struct Failing {
     out: Vec<u8>,
 }
 
-/// Runs a script over a device that fails at a call.
+/// Runs a script over a device that fails at a call, which may be one of the format.
 fn run_failing(
     rt: &(impl Abort + AllocGlobal),
     script: &Script,
     call: u64,
 ) -> Result<Failing, Fail> {
     let alloc = rt.alloc();
-    let device = FaultDevice::new(device_of(alloc, 4)?, call);
-    let mut kernel = kernel_over(alloc, device, 4)?;
+    let device = FaultDevice::new(device_of(alloc)?, call);
     let mut out = Vec::new(alloc);
+    let mut kernel = match kernel_over(alloc, device) {
+        Ok(kernel) => kernel,
+        Err(why) => {
+            let ran = Err(RunFault::Refused(why));
+            return Ok(Failing { ran, out });
+        }
+    };
     let ran = run_alone(&mut kernel, 1, script, &mut out);
     put_away(kernel);
     Ok(Failing { ran, out })
@@ -358,16 +364,28 @@ fn expect_committed(rt: &(impl Abort + AllocGlobal), failing: &Failing) {
     );
 }
 
+/// The first call of the device that is made no more: those of the format, which are 73 for 64 pages, and those of
+/// the run are before it.
+fn first_unmade(rt: &(impl Abort + AllocGlobal), script: &Script) -> Result<u64, Fail> {
+    for call in 74..120u64 {
+        if run_failing(rt, script, call)?.ran.is_ok() {
+            return Ok(call);
+        }
+    }
+    Ok(74)
+}
+
 #[test]
 fn a_failing_device_ends_the_run(rt: HostRuntime) -> Result<(), Fail> {
     let mut bytes = b"begin\ninsert 0 a x\ncommit\n".as_slice();
     let script = read_script(rt.alloc(), &mut bytes)?;
-    // six calls begin the area, four more make the commit durable
-    for call in 7..11 {
+    let unmade = first_unmade(&rt, &script)?;
+    // the last four make the commit durable
+    for call in unmade.saturating_sub(4)..unmade {
         let failing = run_failing(&rt, &script, call)?;
         expect_failed(&rt, &failing);
     }
-    let well = run_failing(&rt, &script, 11)?;
+    let well = run_failing(&rt, &script, unmade)?;
     expect_committed(&rt, &well);
     Ok(())
 }

@@ -12,6 +12,6 @@ mod op;
 #[cfg(test)]
 mod paged;
 #[cfg(test)]
-mod restart;
+mod refusals;
 #[cfg(test)]
-mod txn;
+mod restart;

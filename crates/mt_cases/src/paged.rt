@@ -1,10 +1,11 @@
 // The kernel over pages: worked rows, and random schedules.
 ghost use Rattle.std.specs.Prelude.{◌≤◌};
 
-mod driving;
+pub mod driving;
 mod random;
 
-use driving::{Told, aborted, called, committed, kernel_of, put_away, run, stepped};
+use crate::common::put_away;
+use driving::{Told, aborted, called, committed, kernel_of, run, stepped};
 use mt_base::{Bytes, CtrNo, Refusal, RelNo, TxnNo};
 use mt_disk::MemDevice;
 use mt_model::Op;

@@ -1,13 +1,14 @@
 -- What the program's commands do.
-use Rattle.std.specs.Prelude.{ℕ, pos, ◌≡◌, ◌⊎◌, List, [], ◌∷◌, length, Option, Some, None, IfSome, option_map, string_bytes, codes}
+use Rattle.std.specs.Prelude.{ℕ, pos, ◌≡◌, ◌⊎◌, List, [], ◌∷◌, ◌++◌, length, Option, Some, None, IfSome, option_map, string_bytes, codes}
 use Rattle.std.specs.Io.KnownBytes.{Appends, Keeps}
 use Rattle.mt_base.specs.declared.refusal.Refusal.{Refusal}
 use Rattle.mt_base.specs.declared.refusal.Refusal.TheVariants as refusal
-use Rattle.mt_log.specs.declared.log.Log.{Log}
-use Rattle.mt_model.specs.declared.tables.Base as code
-use Rattle.mt_model.specs.Views.{relations_of, rows_of, counters_of}
-use Rattle.mt_txn.specs.State.{State, fresh_state}
-use Rattle.mt_txn.specs.Kept.{IsKept}
+use Rattle.mt_disk.specs.declared.device.Device.{Ghosts}
+use Rattle.mt_model.specs.Views.{rows_of}
+use Rattle.mt_paged.specs.declared.kernel.Kernel.{Kernel}
+use Rattle.mt_restart.specs.Schemas.{counters_in, device_bytes, relations_in}
+use Rattle.mt_restart.specs.declared.schema.Schema.{Schema}
+use Rattle.mt_server.specs.declared.answers.Answer.{Answer}
 use Rattle.mt_server.specs.declared.lines.Line.{Line}
 use Rattle.mt_server.specs.declared.answers.Answer.TheVariants.{Refused as RefusedLine}
 use Rattle.mt_cli.specs.declared.command.Command.{Command}
@@ -16,25 +17,44 @@ use Rattle.mt_cli.specs.declared.performing.Fault.{Fault}
 use Rattle.mt_cli.specs.declared.performing.Fault.TheVariants.{Output, Refused}
 use Rattle.mt_server.specs.declared.running.RunFault.{RunFault}
 use Rattle.mt_server.specs.declared.running.RunFault.TheVariants as run
-use Rattle.mt_server.specs.Answers.{AppendsFront}
+use Rattle.mt_server.specs.Answers.{AppendsFront, answer_text, transcript_text}
+use Rattle.mt_server.specs.Driven.{IsBeside}
+use Rattle.mt_server.specs.Plays.{Play, Runs}
 use Rattle.mt_cli.specs.CommandLines.{IsCommandOf}
 use Rattle.mt_server.specs.Scripts.{IsScript, IsRefusedFor}
-use Rattle.mt_server.specs.Runs.{HasRun, IsCutRun, IsEndedFor, line_of}
+use Rattle.mt_server.specs.Runs.{IsToldFor, last_line}
 
 -- two relations without rows, and one counter from 0 to 10 that starts at 5
-pub record IsFirstBase (base : code.Base) : Type 0 where
-  pub relations : relations_of base ≡ 2
-  pub rows : length (rows_of base) ≡ 0
-  pub counters : counters_of base ≡ record { low = pos 0; high = pos 10; number = pos 5 } ∷ []
+pub record IsFirstSchema (schema : Schema) : Type 0 where
+  pub relations : relations_in schema ≡ 2
+  pub rows : length (rows_of schema.base) ≡ 0
+  pub counters : counters_in schema ≡ record { low = pos 0; high = pos 10; number = pos 5 } ∷ []
+  pub long : device_bytes schema ≡ 8658944
 
--- a kernel without transactions over that base, as `try` begins
-pub record IsFirst (s : State) : Type 0 where
-  pub fresh : (base : code.Base) × (log : Log) × IsFirstBase base × (s ≡ fresh_state base log)
-  pub kept : IsKept s.held s
+-- the model as `try` begins on it, for its one session: no rows, that counter, and nothing committed
+pub record IsFirst (p : Play) : Type 0 where
+  pub session : p.session ≡ 1
+  pub rows : (r : ℕ) (k : List ℕ) → p.base.rows r k ≡ None
+  pub counter : p.base.counts 0 ≡ record { low = pos 0; high = pos 10; number = pos 5 }
+  pub book : p.book ≡ []
+  pub nothing : p.under_way ≡ None
 
--- `try` ran these lines on it, and wrote their transcript
+-- a kernel stands beside it
+pub record StandsFirst {D : Type 0} {g : Ghosts D} (seen : D → List ℕ) (may_leave : D → List ℕ → Type 0) (k : Kernel D g) : Type 0 where
+  pub play : Play
+  pub first : IsFirst play
+  pub beside : IsBeside seen may_leave play None k
+  pub relations : k.relations ≡ 2
+  pub counters : k.counters ≡ 1
+
+-- `try` ran these lines on it, each was answered as the model does or refused, and the texts of the answers were written
 pub record HasTried (lines : List Line) (was now : Option (List ℕ)) : Type 0 where
-  pub ran : (s z : State) × IsFirst s × HasRun 1 s lines was now z
+  pub play : Play
+  pub first : IsFirst play
+  pub answers : List Answer
+  pub last : Play
+  pub ran : Runs 2 1 play lines answers last
+  pub told : Appends was now (transcript_text (answers ++ last_line last.under_way))
 
 -- those that the bytes spell, where they are known
 pub record IsTried (bytes was now : Option (List ℕ)) : Type 0 where
@@ -65,7 +85,7 @@ IsWordsDone words known input was now = (command : Command) × IsCommandOf words
 -- the line that tells of a fault
 abbrev pub fault_line : Fault → List ℕ
 fault_line Output = codes "the output cannot be written\n"
-fault_line (Refused why) = line_of (RefusedLine why)
+fault_line (Refused why) = answer_text (RefusedLine why) ++ 10 ∷ []
 
 -- such a line was written, or a beginning of it
 abbrev pub IsTold : Option (List ℕ) → Option (List ℕ) → Type 0
@@ -82,11 +102,29 @@ abbrev pub fault_of : RunFault → Fault
 fault_of run.Output = Output
 fault_of (run.Refused why) = Refused why
 
+-- a run is cut short by the output, for want of memory, or since the device failed
+abbrev pub IsEndedBy : RunFault → Type 0
+IsEndedBy run.Output = Unit {0}
+IsEndedBy (run.Refused why) = IsUnmade why
+
+-- the first of these lines were answered, and their answers are written, or a beginning of them
+pub record IsShort (lines : List Line) (was now : Option (List ℕ)) (why : RunFault) : Type 0 where
+  pub play : Play
+  pub first : IsFirst play
+  pub before : List Line
+  pub rest : List Line
+  pub split : lines ≡ before ++ rest
+  pub answers : List Answer
+  pub last : Play
+  pub ran : Runs 2 1 play before answers last
+  pub told : IsToldFor was now answers why
+  pub ended : IsEndedBy why
+
 -- why these lines did not run to their end: nothing is written where no kernel is made, and else the
--- run was cut short, for want of memory, by its device or by the output
+-- run was cut short
 pub data IsCutTrial (lines : List Line) (was now : Option (List ℕ)) : Fault → Type 0 where
   unmade : (why : Refusal) → IsUnmade why → Keeps was now → IsCutTrial lines was now (Refused why)
-  cut : (s z : State) (why : RunFault) (fault : Fault) → IsFirst s → IsCutRun 1 s lines was now z why → IsEndedFor z why → fault ≡ fault_of why → IsCutTrial lines was now fault
+  cut : (why : RunFault) (fault : Fault) → IsShort lines was now why → fault ≡ fault_of why → IsCutTrial lines was now fault
 
 -- why a script of these bytes was not run to its end: nothing is written where it is not read
 pub data IsUntried (bytes was now : Option (List ℕ)) : Fault → Type 0 where

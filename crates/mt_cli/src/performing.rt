@@ -1,14 +1,11 @@
 // The commands, done.
-ghost use Rattle.std.specs.Prelude.{◌≡◌, ◌≢◌, ◌≤◌, ℕ, List, Some, IfOk, IfErr, IfSome, IsOk, MatchResult, OnOk, OnErr, length, map, option_map};
-ghost use Rattle.mt_base.specs.Limits.{IsValue};
+ghost use Rattle.std.specs.Prelude.{◌≡◌, ◌≢◌, ◌≤◌, IfOk, IfErr, IfSome, IsOk, MatchResult, OnOk, OnErr, length, map, option_map};
 ghost use Rattle.mt_disk.specs.Memory.{content};
-ghost use Rattle.mt_model.specs.Views.{base_of, relations_of, counters_of};
-ghost use Rattle.mt_txn.specs.State.{state_of};
 ghost use Rattle.mt_server.specs.Answers.{AppendsFront};
 ghost use Rattle.mt_server.specs.Scripts.{IsScript};
 ghost use Rattle.mt_cli.specs.CommandLines.{IsMistaken};
 ghost use Rattle.mt_cli.specs.declared.performing.Fault.{Fault};
-ghost use Rattle.mt_cli.specs.Performs.{IsFirstBase, IsFirst, HasTried, IsTried, IsUnread, IsUnmade, IsCutTrial, IsUntried, IsDone, IsWordsDone, IsGivenUp, IsWordsGivenUp, IsTold, source_of, script_source, fault_line};
+ghost use Rattle.mt_cli.specs.Performs.{IsFirstSchema, StandsFirst, HasTried, IsTried, IsUnread, IsUnmade, IsCutTrial, IsUntried, IsDone, IsWordsDone, IsGivenUp, IsWordsGivenUp, IsTold, source_of, script_source, fault_line};
 ghost use Rattle.std.specs.Io.KnownBytes.{Appends, Keeps};
 
 use crate::command::{CliFault, Command, command_of};
@@ -16,10 +13,9 @@ use crate::folder::Folder;
 use mt_base::Refusal;
 use mt_base::limits::device_bytes;
 use mt_disk::{Device, MemDevice};
-use mt_log::{AreaPlace, begin_area};
-use mt_model::Base;
+use mt_paged::Kernel;
+use mt_restart::{Schema, fresh};
 use mt_server::{Answer, RunFault, Script, ScriptFault, put, read_script, run_alone, write_answer};
-use mt_txn::Kernel;
 use std::alloc::Global;
 use std::io::{Read, Write};
 
@@ -44,8 +40,11 @@ const RELATIONS: u16 = 2;
 /// Low, high and start of its counters.
 const COUNTERS: [(i64, i64, i64); 1] = [(0, 10, 5)];
 
-/// Writes without a sync that its device has room for, and the bytes in them.
-const WRITES: usize = 16;
+/// Pages that its kernel keeps in frames: all of them.
+const FRAMES: usize = 64;
+
+/// Writes without a sync that its device has room for, and the bytes in them. A format writes each page, and the log.
+const WRITES: usize = 80;
 
 const WRITTEN_BYTES: usize = 8_400_000;
 
@@ -99,15 +98,12 @@ fn script_of<F: Folder, I: Read>(
     }
 }
 
-/// The base of the schema that `try` runs on.
-fn first_base(alloc: Global) -> Result<Base, Refusal>
-    ensures values { IfOk result (λ base. (r : ℕ) (k v : List ℕ) → (base_of base).rows r k ≡ Some v → IsValue v) }
-    ensures relations { IfOk result (λ base. relations_of base ≤ 64) }
-    ensures counters { IfOk result (λ base. length (counters_of base) ≤ 128) }
-    ensures first { IfOk result IsFirstBase }
+/// The schema that `try` runs on.
+fn first_schema(alloc: Global) -> Result<Schema, Refusal>
+    ensures first { IfOk result IsFirstSchema }
     ensures unmade { IfErr result IsUnmade }
 {
-    Ok(Base::new(alloc, RELATIONS, &COUNTERS)?)
+    Schema::new(alloc, PAGES, AREA_MIB, RELATIONS, &COUNTERS)
 }
 
 /// A device in memory of the size that `try` runs on, all of its bytes 0.
@@ -120,33 +116,31 @@ fn first_device(alloc: Global) -> Result<MemDevice, Refusal>
     Ok(MemDevice::new(alloc, bytes, WRITES, WRITTEN_BYTES)?)
 }
 
-/// A kernel with the schema that `try` has, over a device, with nothing committed.
-fn kernel_over<D: Device + Drop>(alloc: Global, mut device: D) -> Result<Kernel<D>, Refusal>
+/// A kernel with the schema that `try` has, over a device that is formatted for it, with nothing committed.
+fn kernel_over<D: Device + Drop>(alloc: Global, device: D) -> Result<Kernel<D>, Refusal>
     requires { 8658944 ≤ length (D.seen device) }
-    ensures first { IfOk result (λ kernel. IsFirst (state_of kernel)) }
+    ensures first { IfOk result (StandsFirst D.seen D.may_leave) }
     ensures unmade { IfErr result IsUnmade }
 {
-    let base = first_base(alloc)?;
-    let place = AreaPlace::of(PAGES, AREA_MIB, false);
-    let log = begin_area(alloc, &mut device, place)?;
-    Ok(Kernel::assemble(alloc, device, log, base))
+    let schema = first_schema(alloc)?;
+    match fresh(alloc, device, &schema, FRAMES) {
+        Ok(kernel) => Ok(kernel),
+        Err((refusal, _device)) => Err(refusal),
+    }
 }
 
-/// The kernel that `try` runs on: over a device in memory, with nothing committed.
-fn first_kernel(alloc: Global) -> Result<Kernel<MemDevice>, Refusal>
-    ensures first { IfOk result (λ kernel. IsFirst (state_of kernel)) }
-    ensures unmade { IfErr result IsUnmade }
-{
-    let device = first_device(alloc)?;
-    kernel_over(alloc, device)
-}
-
-/// Runs a script over a device in memory, and writes its transcript.
-fn try_script<O: Write>(alloc: Global, script: &Script, out: &mut O) -> Result<(), Fault>
+/// Runs a script over a device, and writes its transcript.
+fn run_over<D: Device + Drop, O: Write>(
+    alloc: Global,
+    device: D,
+    script: &Script,
+    out: &mut O,
+) -> Result<(), Fault>
+    requires { 8658944 ≤ length (D.seen device) }
     ensures tried { OnOk result (HasTried script.now.lines.items (O.contents out.old) (O.contents out.new)) }
     ensures cut { IfErr result (IsCutTrial script.now.lines.items (O.contents out.old) (O.contents out.new)) }
 {
-    let mut kernel = match first_kernel(alloc) {
+    let mut kernel = match kernel_over(alloc, device) {
         Ok(kernel) => kernel,
         Err(refusal) => return Err(Fault::Refused(refusal)),
     };
@@ -156,6 +150,17 @@ fn try_script<O: Write>(alloc: Global, script: &Script, out: &mut O) -> Result<(
         Ok(()) => Ok(()),
         Err(RunFault::Output) => Err(Fault::Output),
         Err(RunFault::Refused(refusal)) => Err(Fault::Refused(refusal)),
+    }
+}
+
+/// Runs a script over a device in memory, and writes its transcript.
+fn try_script<O: Write>(alloc: Global, script: &Script, out: &mut O) -> Result<(), Fault>
+    ensures tried { OnOk result (HasTried script.now.lines.items (O.contents out.old) (O.contents out.new)) }
+    ensures cut { IfErr result (IsCutTrial script.now.lines.items (O.contents out.old) (O.contents out.new)) }
+{
+    match first_device(alloc) {
+        Ok(device) => run_over(alloc, device, script, out),
+        Err(refusal) => Err(Fault::Refused(refusal)),
     }
 }
 

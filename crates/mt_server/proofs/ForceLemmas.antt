@@ -1,148 +1,118 @@
--- How many force steps a commit takes that is the only one.
-use Rattle.std.proofs.Common.{◌≡◌, ◌≤◌, ◌<◌, ◌+◌, ◌⊎◌, ◌==◌, get_or, inl, inr, suc, zero, ℕ, Bool, true, false, cond, List, [], ◌∷◌, ◌++◌, Option, Some, None, length, map, take, drop, refl, ap, ap₂, sym, subst, ◌∙◌, arith, Contains, length-append, ⊎_elim}
-use Rattle.std.specs.Prelude.{not, nat_lt}
-use Rattle.std.proofs.lemmas.Bool.{cases_lt, le-ltb, lt-ltb}
-use Rattle.std.proofs.lemmas.List.Elements.{Contains-push}
-use Rattle.std.proofs.lemmas.List.Folds.{list_any_at}
-use Rattle.std.proofs.lemmas.Bool.Decides.{Decides-eqb}
-use Rattle.std.specs.List.{list_any}
-use Rattle.mt_frame.specs.declared.records.Record.{Record}
-use Rattle.mt_frame.specs.declared.records.Record.TheVariants.{Commit}
-use Rattle.mt_log.specs.Words.{durable, in_flight, waiting, appended, calls_left, calls_after}
-use Rattle.mt_log.specs.declared.log.Log.{Log}
-use Rattle.mt_log.specs.declared.stage.Step.TheVariants.{WriteBody, SyncBody, WriteGate, SyncGate}
-use Rattle.mt_log.specs.declared.stage.Stage.{Stage}
-use Rattle.mt_log.specs.declared.stage.Stage.TheVariants.{Idle, Forcing, Failed}
-use Rattle.mt_txn.specs.Party.{Party}
-use Rattle.mt_txn.specs.Parties.{committing_of}
-use Rattle.mt_txn.specs.declared.live.Committing.{Committing}
-use Rattle.mt_txn.specs.State.{State}
-use Rattle.mt_txn.specs.Commits.{HasBegunCommit, GoesOn, IsSettled, durable_count}
-use Rattle.mt_server.specs.Runs.{IsAlone, IsDue}
-use Rattle.mt_server.proofs.AloneLemmas.{set_only}
+-- What flushes and force steps leave, and why a step is given up.
+use Rattle.std.proofs.Common.{◌≡◌, ◌≢◌, ◌⊎◌, ℕ, inl, inr, Bool, true, false, List, [], Option, Some, None, Result, Ok, Err, refl, sym, ap, ◌∙◌, subst, arith}
+use Rattle.std.specs.Prelude.{IfOk, IfErr, if◌then◌else◌}
+use Rattle.std.proofs.lemmas.Result.{IfErr-weaker}
+use mathlib.Core.Logic.{∥∥₁_map}
+use Rattle.mt_base.specs.declared.refusal.Refusal.{Refusal}
+use Rattle.mt_base.specs.declared.refusal.Refusal.TheVariants as refusal
+use Rattle.mt_disk.specs.declared.device.Device.{Ghosts}
+use Rattle.mt_live.specs.Machine.{State}
+use Rattle.mt_log.specs.Words.{has_failed}
+use Rattle.mt_model.specs.Model.{Base}
+use Rattle.mt_kernel.specs.Booked.{booked_each, durable_txns}
+use Rattle.mt_kernel.specs.Consistent.{OnlyOperations}
+use Rattle.mt_kernel.specs.Runs.{state_in}
+use Rattle.mt_kernel.specs.Work.{LeavesUndo}
+use Rattle.mt_kernel.specs.declared.parts.Commit.{Commit}
+use Rattle.mt_kernel.specs.declared.parts.Parts.{Parts}
+use Rattle.mt_paged.proofs.Living.{no_commits}
+use Rattle.mt_paged.specs.Causes.{IsFailure, IsFault}
+use Rattle.mt_paged.specs.Events.{HasForced, IsForcedBy}
+use Rattle.mt_paged.specs.Shown.{Shows, Stays}
+use Rattle.mt_paged.specs.Well.{IsWell}
+use Rattle.mt_paged.specs.declared.answers.KernelForced.{KernelForced}
+use Rattle.mt_paged.specs.declared.answers.KernelForced.TheVariants as forced
+use Rattle.mt_paged.specs.declared.kernel.Kernel.{Kernel}
+use Rattle.mt_server.specs.Driven.{Eases, Fails, HasBroken, IsForcing, NobodyCommits}
 
--- ---- what is so of every log
+-- ---- why a step is given up
 
-pub few_durable : (log : Log) → length (durable log) ≤ length (appended log)
-few_durable log = omega (arith, length-append (durable log) (in_flight log ++ waiting log))
+module _ {D : Type 0} {g : Ghosts D} (faults : D → ℕ) where
+  -- the device failed, in this call or before it
+  pub fails_of : (k n : Kernel D g) (why : Refusal) → (has_failed k.parts.operations.store.log ≡ true → n ≡ k) → (why ≢ refusal.NoMemory → IsFailure faults k.parts n.parts why) → Fails faults n why
+  fails_of k n why stands cause other = go (cause other)
+    where
+      go : IsFailure faults k.parts n.parts why → (why ≡ refusal.DeviceFailed) × HasBroken faults n
+      go (inl before) = (before.1, inl (ap (λ (x : Kernel D g). has_failed x.parts.operations.store.log) (stands before.0) ∙ before.0))
+      go (inr now) = (now.0, inr (let more = now.1 in omega (arith, more)))
 
-few_calls : (stage : Stage) → calls_after stage ≤ 4
-few_calls Idle = omega arith
-few_calls (Forcing WriteBody) = omega arith
-few_calls (Forcing SyncBody) = omega arith
-few_calls (Forcing WriteGate) = omega arith
-few_calls (Forcing SyncGate) = omega arith
-few_calls Failed = omega arith
+  -- a cause that is none but that
+  pub fails_for : (k n : Kernel D g) (why : Refusal) (c : Option Refusal) → c ≡ (if has_failed k.parts.operations.store.log then Some refusal.DeviceFailed else None) → ((y : Refusal) → c ≡ Some y → n ≡ k)
+      → (why ≢ refusal.NoMemory → (c ≡ Some why) ⊎ IsFault faults k.parts n.parts why) → Fails faults n why
+  fails_for k n why c is stands cause = fails_of k n why (λ failed. stands refusal.DeviceFailed (is ∙ ap (λ (b : Bool). if b then Some refusal.DeviceFailed else None) failed)) (λ other. go (cause other))
+    where
+      told : (b : Bool) → has_failed k.parts.operations.store.log ≡ b → (if b then Some refusal.DeviceFailed else None) ≡ Some why → IsFailure faults k.parts n.parts why
+      told true failed e = inl (failed, cc)
+      told false failed e = absurd cc
 
-pub few_left : (log : Log) → calls_left log ≤ 4
-unfolding calls_left
-few_left log = few_calls log.stage
+      go : (c ≡ Some why) ⊎ IsFault faults k.parts n.parts why → IsFailure faults k.parts n.parts why
+      go (inl e) = told (has_failed k.parts.operations.store.log) refl (sym is ∙ e)
+      go (inr fault) = inr fault
 
--- ---- a commit that was begun alone
+  pub failing : (k n : Kernel D g) {T : Type 0} (r : Result T Refusal) → (has_failed k.parts.operations.store.log ≡ true → n ≡ k) → IfErr r (λ why. why ≢ refusal.NoMemory → IsFailure faults k.parts n.parts why) → IfErr r (Fails faults n)
+  failing k n r stands cause = IfErr-weaker r (λ why. why ≢ refusal.NoMemory → IsFailure faults k.parts n.parts why) (Fails faults n) (λ why this. fails_of k n why stands this) cause
 
-pub due_start : (s m : State) (t : ℕ) → IsAlone s (Some t) → s.durable ≤ length s.appended → s.force_left ≤ 4 → HasBegunCommit s t m → IsDue m t 8
-due_start s m t alone few short begun = record {
-  commit = c;
-  only = begun.moved.6 ∙ ap (λ cs. cs ++ c ∷ []) alone.committing;
-  number = ap (λ (y : Party). y.number) (set_only s.live begun.moved.0 begun.moved.1 alone.only.0 alone.only.0 alone.only.1 begun.moved.3 begun.moved.4).0 ∙ alone.only.2;
-  waits = omega (arith, few, same_durable, longer);
-  logged = omega arith;
-  left = left (cases_lt 0 m.force_left);
-}
-  where
-    c : Committing
-    c = committing_of begun.moved.1 (length m.appended)
+-- ---- what eases
 
-    same_durable : m.durable ≡ s.durable
-    same_durable = ap (λ (x : State). x.durable) begun.rest
+none_named : (cs : List Commit) (pos : ℕ) → cs ≡ [] → durable_txns cs pos ≡ []
+none_named cs pos none = ap (λ (x : List Commit). durable_txns x pos) none
 
-    same_left : m.force_left ≡ s.force_left
-    same_left = ap (λ (x : State). x.force_left) begun.rest
+module _ {D : Type 0} {g : Ghosts D} (seen : D → List ℕ) (may_leave : D → List ℕ → Type 0) where
+  pub well_of : (k : Kernel D g) (first : Base) (s : State) → Shows seen may_leave first s k → IsWell seen may_leave k.relations k.counters k.parts
+  well_of k first s shows = ∥∥₁_map shows (λ (origin, base, is, x). (origin, base, record { relations_are = is.relations_are; counters_are = is.counters_are; first_is = refl }, x.consistent))
 
-    longer : length m.appended ≡ length s.appended + 1
-    longer = ap (λ (rs : List Record). length rs) begun.appended ∙ length-append s.appended (Commit t ∷ [])
+  pub eases_none : (k : Kernel D g) → Eases seen may_leave k k
+  eases_none k = record { state = λ first s shows. shows; states = λ u. refl; running = refl; undo = λ t. omega arith }
 
-    left : (0 < m.force_left) ⊎ (m.force_left ≤ 0) → ((m.force_left ≡ 0) × (4 ≤ 8)) ⊎ (((0 < m.force_left) × (c.place ≤ m.batched) × (m.force_left ≤ 8)) ⊎ ((0 < m.force_left) × (m.force_left + 4 ≤ 8)))
-    left (inl some) = inr (inr (some, omega (arith, same_left, short)))
-    left (inr none) = inl (omega (arith, none), omega arith)
+  pub eases_then : (k m n : Kernel D g) → Eases seen may_leave k m → Eases seen may_leave m n → Eases seen may_leave k n
+  eases_then k m n a b = record {
+    state = λ first s shows. b.state first s (a.state first s shows);
+    states = λ u. b.states u ∙ a.states u;
+    running = b.running ∙ a.running;
+    undo = λ t. let x = a.undo t in let y = b.undo t in omega (arith, x, y);
+  }
 
--- a step that goes on leaves one less
-pub due_more : (m z : State) (t n : ℕ) → IsDue m t (suc n) → GoesOn m z → IsDue z t n
-due_more m z t n due goes = record {
-  commit = due.commit;
-  only = ap (λ (x : State). x.committing) goes.rest ∙ due.only;
-  number = due.number;
-  waits = omega (arith, due.waits, same_durable);
-  logged = omega (arith, due.logged, same_appended);
-  left = left due.left;
-}
-  where
-    p : ℕ
-    p = due.commit.place
+  pub nobody_after : (k n : Kernel D g) → NobodyCommits k → Eases seen may_leave k n → NobodyCommits n
+  nobody_after k n nobody e t is = nobody t (sym (e.states t) ∙ is)
 
-    same_durable : z.durable ≡ m.durable
-    same_durable = ap (λ (x : State). x.durable) goes.rest
+  pub eases_flush : (k n : Kernel D g) → Stays seen may_leave k n → OnlyOperations k.parts n.parts → LeavesUndo k.parts n.parts → Eases seen may_leave k n
+  eases_flush k n stays only undo = record {
+    state = stays;
+    states = λ u. ap (λ (x : Parts D). state_in x.live.members u) only;
+    running = ap (λ (x : Parts D). x.running.items) only;
+    undo = undo;
+  }
 
-    same_appended : length z.appended ≡ length m.appended
-    same_appended = ap (λ (x : State). length x.appended) goes.rest
-
-    left : ((m.force_left ≡ 0) × (4 ≤ suc n)) ⊎ (((0 < m.force_left) × (p ≤ m.batched) × (m.force_left ≤ suc n)) ⊎ ((0 < m.force_left) × (m.force_left + 4 ≤ suc n)))
-        → ((z.force_left ≡ 0) × (4 ≤ n)) ⊎ (((0 < z.force_left) × (p ≤ z.batched) × (z.force_left ≤ n)) ⊎ ((0 < z.force_left) × (z.force_left + 4 ≤ n)))
-    left (inl w) = let g = goes.first w.0 in let b = g.0 in let f = g.1 in let few = w.1 in let logged = due.logged in inr (inl (omega (arith, f), omega (arith, b, logged), omega (arith, f, few)))
-    left (inr (inl w)) = let g = goes.later w.0 in let b = g.0 in let f = g.1 in let some = g.2 in let in_batch = w.1 in let few = w.2 in inr (inl (some, omega (arith, b, in_batch), omega (arith, f, few)))
-    left (inr (inr w)) = let g = goes.later w.0 in let f = g.1 in let some = g.2 in let few = w.1 in inr (inr (some, omega (arith, f, few)))
-
--- a number that a search does not find is none of a list
-pub unnamed : (ns : List ℕ) (t : ℕ) (found : Bool) → found ≡ list_any (λ y. y == t) ns → found ≡ false → Contains ns t → ⊥
-unnamed ns t found is none has =
-    let some : list_any (λ y. y == t) ns ≡ true = list_any_at (λ y. y == t) ns has.0 t has.1 ((Decides-eqb (get_or ns has.0 t) t).1 has.2) in
-    let wrong : true ≡ false = sym some ∙ (sym is ∙ none) in absurd cc
-
--- and so does one that makes a batch durable which it is not part of
-pub due_settled : (m z : State) (t n : ℕ) (names : List ℕ) → IsDue m t (suc n) → IsSettled m names z → (Contains names t → ⊥) → IsDue z t n
-due_settled m z t n names due settled unnamed = by (cases_lt z.durable due.commit.place)
-  where
-    c : Committing
-    c = due.commit
-
-    count : ℕ
-    count = durable_count m.committing z.durable
-
-    by : (z.durable < c.place) ⊎ (c.place ≤ z.durable) → IsDue z t n
-    by (inr booked) = absurd (
-        let test : nat_lt z.durable c.place ≡ false = le-ltb z.durable c.place booked in
-        let one : durable_count (c ∷ []) z.durable ≡ 1 = ap (λ (b : Bool). cond (not b) (1 + 0) 0) test in
-        let all : count ≡ 1 = ap (λ (cs : List Committing). durable_count cs z.durable) due.only ∙ one in
-        let taken : names ≡ c.number ∷ [] = settled.named ∙ ap₂ (λ (k : ℕ) (cs : List Committing). map (λ (x : Committing). x.number) (take k cs)) all due.only in
-        unnamed (subst (λ (ns : List ℕ). Contains ns t) (sym (taken ∙ ap (λ (k : ℕ). k ∷ []) due.number)) (Contains-push [] t))
-        )
-    by (inl waits) = record {
-      commit = c;
-      only =
-          let test : nat_lt z.durable c.place ≡ true = lt-ltb z.durable c.place waits in
-          let zero_of : durable_count (c ∷ []) z.durable ≡ 0 = ap (λ (b : Bool). cond (not b) (1 + 0) 0) test in
-          let all : count ≡ 0 = ap (λ (cs : List Committing). durable_count cs z.durable) due.only ∙ zero_of in
-          settled.left ∙ ap₂ (λ (k : ℕ) (cs : List Committing). drop k cs) all due.only;
-      number = due.number;
-      waits = waits;
-      logged = omega (arith, due.logged, ap (λ (x : State). length x.appended) settled.rest);
-      left = left due.left;
-    }
+  module _ (faults : D → ℕ) where
+    forced_stays : (k n : Kernel D g) (r : Result KernelForced Refusal) → NobodyCommits k → IsForcing seen may_leave faults k r n → Stays seen may_leave k n
+    forced_stays k n r nobody f first s shows = go r (f.forced first s shows) f.log
       where
-        left : ((m.force_left ≡ 0) × (4 ≤ suc n)) ⊎ (((0 < m.force_left) × (c.place ≤ m.batched) × (m.force_left ≤ suc n)) ⊎ ((0 < m.force_left) × (m.force_left + 4 ≤ suc n)))
-            → ((z.force_left ≡ 0) × (4 ≤ n)) ⊎ (((0 < z.force_left) × (c.place ≤ z.batched) × (z.force_left ≤ n)) ⊎ ((0 < z.force_left) × (z.force_left + 4 ≤ n)))
-        left (inl w) = absurd (let none = w.0 in let last = settled.last.0 in omega (arith, none, last))
-        left (inr (inl w)) = absurd (let in_batch = w.1 in let d = settled.durable in omega (arith, in_batch, d, waits))
-        left (inr (inr w)) = let last = settled.last.0 in let few = w.1 in inl (settled.last.1, omega (arith, last, few))
+        none : k.parts.commits.items ≡ []
+        none = no_commits seen may_leave k.relations k.counters k.parts (well_of k first s shows) nobody
 
--- while it is due there is something to force, and a step left
-pub due_forces : (m : State) (t n : ℕ) → IsDue m t n → m.durable ≡ length m.appended → ⊥
-due_forces m t n due all = omega (arith, due.waits, due.logged, all)
+        go : (x : Result KernelForced Refusal) → HasForced seen may_leave first s x n
+            → IfOk x (λ y. IsForcedBy k.parts.operations.store.log k.parts.commits.items y n.parts.operations.store.log n.parts.commits.items) → Shows seen may_leave first s n
+        go (Err why) did log = did
+        go (Ok forced.More) did log = did
+        go (Ok forced.Idle) did log = did
+        go (Ok (forced.Durable names)) did log =
+            let nobody_named : names.items ≡ [] = log.2 ∙ none_named k.parts.commits.items log.0 none in
+            subst (λ (ts : List ℕ). Shows seen may_leave first (booked_each s ts) n) nobody_named did
 
-pub due_end : (m : State) (t : ℕ) → IsDue m t 0 → ⊥
-due_end m t due = go due.left
-  where
-    go : ((m.force_left ≡ 0) × (4 ≤ 0)) ⊎ (((0 < m.force_left) × (due.commit.place ≤ m.batched) × (m.force_left ≤ 0)) ⊎ ((0 < m.force_left) × (m.force_left + 4 ≤ 0))) → ⊥
-    go (inl w) = let few = w.1 in omega (arith, few)
-    go (inr (inl w)) = let some = w.0 in let few = w.2 in omega (arith, some, few)
-    go (inr (inr w)) = let few = w.1 in omega (arith, few)
+    pub eases_force : (k n : Kernel D g) (r : Result KernelForced Refusal) → NobodyCommits k → IsForcing seen may_leave faults k r n → Eases seen may_leave k n
+    eases_force k n r nobody f = record {
+      state = forced_stays k n r nobody f;
+      states = λ u. f.states u (nobody u);
+      running = f.running;
+      undo = f.undo;
+    }
+
+    -- a flush, and a force behind it
+    pub eased_more : (k m x n : Kernel D g) (r : Result KernelForced Refusal) → (NobodyCommits k → Eases seen may_leave k m) → Stays seen may_leave m x → OnlyOperations m.parts x.parts → LeavesUndo m.parts x.parts
+        → IsForcing seen may_leave faults x r n → NobodyCommits k → Eases seen may_leave k n
+    eased_more k m x n r before stays only undo f nobody =
+        let to_x = eases_then k m x (before nobody) (eases_flush m x stays only undo) in
+        eases_then k x n to_x (eases_force x n r (nobody_after k x nobody to_x) f)
+
+    pub eased_flush : (k m x : Kernel D g) → (NobodyCommits k → Eases seen may_leave k m) → Stays seen may_leave m x → OnlyOperations m.parts x.parts → LeavesUndo m.parts x.parts → NobodyCommits k → Eases seen may_leave k x
+    eased_flush k m x before stays only undo nobody = eases_then k m x (before nobody) (eases_flush m x stays only undo)

@@ -1,9 +1,10 @@
 mod LineLemmas
-mod PlayLemmas
-mod RunLemmas
 mod ScriptLemmas
 mod TextLemmas
-mod AloneLemmas
-mod CauseLemmas
-mod ForceLemmas
-mod EndLemmas
+pub mod ForceLemmas
+pub mod DueLemmas
+pub mod DriveLemmas
+pub mod UndoLemmas
+pub mod TurnLemmas
+pub mod CallLemmas
+pub mod RunLemmas

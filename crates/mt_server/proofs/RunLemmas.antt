@@ -1,84 +1,233 @@
--- A line put behind those that ran.
-use Rattle.std.proofs.Common.{◌≡◌, ◌<◌, suc, ℕ, List, [], ◌∷◌, ◌++◌, Option, Some, None, length, take, drop, get_or, refl, ap, sym, subst, ◌∙◌, append_assoc, append-nil, take-append-drop}
+-- Lines that ran, one behind the other, and how a run ends.
+use Rattle.std.proofs.Common.{◌≡◌, ◌<◌, inl, inr, suc, ℕ, List, [], ◌∷◌, ◌++◌, Option, Some, None, length, take, drop, get_or, refl, ap, sym, subst, ◌∙◌, append_assoc, append-nil, take-append-drop}
 use Rattle.std.specs.Io.KnownBytes.{Appends}
 use Rattle.std.proofs.KnownBytes.{Appends-nil, Appends-trans}
 use Rattle.std.proofs.Math.Seq.{take-suc, drop-cons}
-use Rattle.mt_txn.specs.State.{State}
+use mathlib.Core.Logic.{∥∥₁_map}
+use Rattle.mt_base.specs.declared.refusal.Refusal.{Refusal}
+use Rattle.mt_base.specs.declared.refusal.Refusal.TheVariants as refusal
+use Rattle.mt_disk.specs.declared.device.Device.{Ghosts}
+use Rattle.mt_model.specs.History.{Call}
+use Rattle.mt_paged.specs.declared.kernel.Kernel.{Kernel}
 use Rattle.mt_server.specs.declared.lines.Line.{Line}
+use Rattle.mt_server.specs.declared.lines.Line.TheVariants as line
 use Rattle.mt_server.specs.declared.answers.Answer.{Answer}
-use Rattle.mt_server.specs.declared.answers.Answer.TheVariants.{Aborted}
+use Rattle.mt_server.specs.declared.answers.Answer.TheVariants.{Aborted, Refused}
 use Rattle.mt_server.specs.declared.running.RunFault.{RunFault}
-use Rattle.mt_server.specs.Answers.{answer_text, transcript_text}
-use Rattle.mt_server.proofs.PlayLemmas.{model_run}
-use Rattle.mt_server.specs.Runs.{Runs, starts, goes_on, IsTold, IsEnded, IsCut, IsCutAtEnd, IsCutRun, at_line, at_end, HasRunLines, HasRun, line_of}
+use Rattle.mt_server.specs.declared.running.RunFault.TheVariants as fault
+use Rattle.mt_server.specs.Answers.{AppendsFront, answer_text, transcript_text}
+use Rattle.mt_server.specs.Driven.{IsBeside, IsGivenUp, IsResting}
+use Rattle.mt_server.specs.Plays.{Play, IsTurn, acts, refuses, Runs, starts, goes_on, after_at, put_off}
+use Rattle.mt_server.specs.Runs.{HasRun, HasRunLines, IsAnswered, IsCutAtEnd, IsCutShort, IsEnded, IsEndedFor, nothing, aborted, failed, IsLeftFor, IsStopped, IsToldFor, failure_line, last_line}
+use Rattle.mt_server.proofs.TextLemmas.{front_then}
 
-pub text_push : (answers : List Answer) (answer : Answer) → transcript_text (answers ++ answer ∷ []) ≡ transcript_text answers ++ line_of answer
+-- ---- texts
+
+text_joined : (as' bs : List Answer) → transcript_text (as' ++ bs) ≡ transcript_text as' ++ transcript_text bs
 unfolding transcript_text
-text_push [] answer = refl
-text_push (a ∷ answers) answer =
-    ap (λ t. answer_text a ++ 10 ∷ t) (text_push answers answer) ∙ sym (append_assoc (answer_text a) (10 ∷ transcript_text answers) (line_of answer))
+text_joined [] bs = refl
+text_joined (a ∷ as') bs = ap (λ (t : List ℕ). answer_text a ++ 10 ∷ t) (text_joined as' bs) ∙ sym (append_assoc (answer_text a) (10 ∷ transcript_text as') (transcript_text bs))
 
-pub no_lines : (session : ℕ) (s : State) (a : Option (List ℕ)) → HasRunLines session s [] a a s None
+pub text_one : (a : Answer) → transcript_text (a ∷ []) ≡ answer_text a ++ 10 ∷ []
 unfolding transcript_text
-no_lines session s a = record { run = ([], starts, Appends-nil a) }
+text_one a = refl
 
-pub line_more : (session : ℕ) (s m z : State) (lines : List Line) (i : ℕ) (line : Line) (was live : Option ℕ) (a b c : Option (List ℕ)) → i < length lines → line ≡ get_or lines i line
-    → HasRunLines session s (take i lines) a b m was → IsTold session m was line b c z live → HasRunLines session s (take (suc i) lines) a c z live
-line_more session s m z lines i line was live a b c lt is ran told =
-    let r = ran.run in
-    let t = told.told in
-    let next = goes_on (take i lines) r.0 m z was live line t.0 r.1 t.1 t.2 in
-    let all : take i lines ++ line ∷ [] ≡ take (suc i) lines = ap (λ x. take i lines ++ x ∷ []) is ∙ sym (take-suc lines i line lt) in
-    let text = Appends-trans a b c (transcript_text r.0) (line_of t.0) r.2 t.3 in
-    record {
-      run = (
-        r.0 ++ t.0 ∷ [],
-        subst (λ ls. Runs session s ls (r.0 ++ t.0 ∷ []) z live) all next,
-        subst (Appends a c) (sym (text_push r.0 t.0)) text,
-      );
-    }
+text_none : (a : Option (List ℕ)) → Appends a a (transcript_text [])
+unfolding transcript_text
+text_none a = Appends-nil a
 
-pub line_cut : (session : ℕ) (s m z : State) (lines : List Line) (i : ℕ) (line : Line) (was : Option ℕ) (a b c : Option (List ℕ)) (why : RunFault) → i < length lines → line ≡ get_or lines i line
-    → HasRunLines session s (take i lines) a b m was → IsCut session m was line b c z why → IsCutRun session s lines a c z why
-line_cut session s m z lines i line was a b c why lt is ran cut =
-    let r = ran.run in
-    let all : lines ≡ take i lines ++ line ∷ drop (suc i) lines =
-    sym (take-append-drop i lines) ∙ ap (λ t. take i lines ++ t) (drop-cons lines i line lt) ∙ ap (λ x. take i lines ++ x ∷ drop (suc i) lines) (sym is) in
-    at_line (take i lines) (drop (suc i) lines) line r.0 m was b why all r.1 r.2 cut
+appends_all : (a b c : Option (List ℕ)) (xs ys : List Answer) → Appends a b (transcript_text xs) → Appends b c (transcript_text ys) → Appends a c (transcript_text (xs ++ ys))
+appends_all a b c xs ys p q = subst (Appends a c) (sym (text_joined xs ys)) (Appends-trans a b c (transcript_text xs) (transcript_text ys) p q)
 
-pub ended_run : (session : ℕ) (s m z : State) (lines : List Line) (t : ℕ) (a b c : Option (List ℕ)) → HasRunLines session s lines a b m (Some t) → IsEnded m t b c z → HasRun session s lines a c z
-ended_run session s m z lines t a b c ran ended =
-    let r = ran.run in
-    let text = Appends-trans a b c (transcript_text r.0) (line_of Aborted) r.2 ended.told in
-    record {
-      run = (
-        r.0,
-        Aborted ∷ [],
-        m,
-        Some t,
-        r.1,
-        (ended.aborted, refl),
-        subst (Appends a c) (sym (text_push r.0 Aborted)) text,
-        λ base kept idle. model_run base session s m z lines r.0 (Aborted ∷ []) (Some t) kept idle r.1 (ended.aborted, refl),
-      );
-    }
+appends_front : (a b c : Option (List ℕ)) (xs ys : List Answer) → Appends a b (transcript_text xs) → AppendsFront b c (transcript_text ys) → AppendsFront a c (transcript_text (xs ++ ys))
+appends_front a b c xs ys p q = subst (AppendsFront a c) (ap (λ (t : List ℕ). transcript_text xs ++ t) (append-nil (transcript_text ys)) ∙ sym (text_joined xs ys)) (front_then a b c (transcript_text xs) (transcript_text ys) [] p q)
 
-pub closed_run : (session : ℕ) (s z : State) (lines : List Line) (a b : Option (List ℕ)) → HasRunLines session s lines a b z None → HasRun session s lines a b z
-closed_run session s z lines a b ran =
-    let r = ran.run in
-    record {
-      run = (
-        r.0,
-        [],
-        z,
-        None,
-        r.1,
-        (refl, refl),
-        subst (λ as'. Appends a b (transcript_text as')) (sym (append-nil r.0)) r.2,
-        λ base kept idle. model_run base session s z z lines r.0 [] None kept idle r.1 (refl, refl),
-      );
-    }
+-- of the device's failure alone there is a line
+no_line : (y : Refusal) → (y ≡ refusal.DeviceFailed → ⊥) → failure_line y ≡ []
+no_line refusal.DeviceFailed other = absurd (other refl)
+no_line y other = refl
 
-pub end_cut : (session : ℕ) (s m z : State) (lines : List Line) (t : ℕ) (a b c : Option (List ℕ)) (why : RunFault) → HasRunLines session s lines a b m (Some t) → IsCutAtEnd m t b c z why
-    → IsCutRun session s lines a c z why
-end_cut session s m z lines t a b c why ran cut = let r = ran.run in at_end r.0 m t b why r.1 r.2 cut
+pub silent : (a : Option (List ℕ)) (y : Refusal) → (y ≡ refusal.DeviceFailed → ⊥) → Appends a a (transcript_text (failure_line y))
+silent a y other = subst (λ (t : List Answer). Appends a a (transcript_text t)) (sym (no_line y other)) (text_none a)
+
+-- what ends a run behind answers, behind those before them
+told_behind : (a b c : Option (List ℕ)) (xs ys : List Answer) (why : RunFault) → Appends a b (transcript_text xs) → IsToldFor b c ys why → IsToldFor a c (xs ++ ys) why
+told_behind a b c xs ys fault.Output before (last, is, front) = (last, is, subst (λ (t : List Answer). AppendsFront a c (transcript_text t)) (sym (append_assoc xs ys last)) (appends_front a b c xs (ys ++ last) before front))
+told_behind a b c xs ys (fault.Refused why) before (inl all) = inl (subst (λ (t : List Answer). Appends a c (transcript_text t)) (sym (append_assoc xs ys (failure_line why))) (appends_all a b c xs (ys ++ failure_line why) before all))
+told_behind a b c xs ys (fault.Refused why) before (inr front) = inr (appends_front a b c xs ys before front)
+
+stopped_told : (was now : Option (List ℕ)) (y : Refusal) (why : RunFault) → IsStopped was now y why → IsToldFor was now [] why
+stopped_told was now y fault.Output (is, front) = (Refused refusal.DeviceFailed ∷ [], failed, subst (λ (x : Refusal). AppendsFront was now (transcript_text (failure_line x))) is front)
+stopped_told was now y (fault.Refused why) (is, all) = inl (subst (λ (x : Refusal). Appends was now (transcript_text (failure_line x))) (sym is) all)
+
+-- ---- turns
+
+after_session : (p : Play) (u : Option (List Call)) (l : Line) → (after_at p u l).session ≡ p.session
+after_session p None line.Begin = refl
+after_session p None (line.Call op) = refl
+after_session p None line.Commit = refl
+after_session p None line.Abort = refl
+after_session p (Some calls) line.Begin = refl
+after_session p (Some calls) (line.Call op) = refl
+after_session p (Some calls) line.Commit = refl
+after_session p (Some calls) line.Abort = refl
+
+turn_session : (relations counters : ℕ) (p q : Play) (l : Line) (a : Answer) → IsTurn relations counters p l a q → q.session ≡ p.session
+turn_session relations counters p _ l _ (acts none) = after_session p p.under_way l
+turn_session relations counters p _ l _ (refuses why cause) = refl
+
+runs_session : (relations counters : ℕ) (p q : Play) (ls : List Line) (as' : List Answer) → Runs relations counters p ls as' q → q.session ≡ p.session
+runs_session relations counters p _ _ _ starts = refl
+runs_session relations counters p _ _ _ (goes_on lines answers m q line answer before turn) = turn_session relations counters m q line answer turn ∙ runs_session relations counters p m lines answers before
+
+runs_then : (relations counters : ℕ) (p m q : Play) (ls ms : List Line) (as' bs : List Answer) → Runs relations counters p ls as' m → Runs relations counters m ms bs q → Runs relations counters p (ls ++ ms) (as' ++ bs) q
+runs_then relations counters p m _ ls _ as' _ first starts = subst (λ (X : Type 0). X) (λ i. Runs relations counters p (sym (append-nil ls) i) (sym (append-nil as') i) m) first
+runs_then relations counters p m _ ls _ as' _ first (goes_on lines answers k q line answer before turn) =
+    subst (λ (X : Type 0). X) (λ i. Runs relations counters p (append_assoc ls lines (line ∷ []) i) (append_assoc as' answers (answer ∷ []) i) q)
+    (goes_on (ls ++ lines) (as' ++ answers) k q line answer (runs_then relations counters p m k ls lines as' answers first before) turn)
+
+-- ---- a line
+
+module _ {D : Type 0} {g : Ghosts D} (seen : D → List ℕ) (may_leave : D → List ℕ → Type 0) (faults : D → ℕ) (p : Play) (relations counters : ℕ) where
+  pub line_told : (l : Line) (a : Answer) (live : Option ℕ) (was now : Option (List ℕ)) (n : Kernel D g) → IsAnswered seen may_leave faults p relations counters l a live n → Appends was now (answer_text a ++ 10 ∷ [])
+      → HasRunLines seen may_leave p relations counters (l ∷ []) was now live n
+  line_told l a live was now n (q, turn, beside) text = record {
+    answers = a ∷ [];
+    play = q;
+    ran = goes_on [] [] p q l a starts turn;
+    told = subst (Appends was now) (sym (text_one a)) text;
+    beside = beside;
+  }
+
+  pub line_unheard : (l : Line) (a : Answer) (live : Option ℕ) (was now : Option (List ℕ)) (m n : Kernel D g) (why : RunFault) → IsAnswered seen may_leave faults p relations counters l a live m → AppendsFront was now (answer_text a ++ 10 ∷ [])
+      → ((q : Play) → IsBeside seen may_leave q live m → IsLeftFor seen may_leave faults q n why) → IsCutShort seen may_leave faults p relations counters (l ∷ []) was now n why
+  line_unheard l a live was now m n why (q, turn, beside) front left = record {
+    before = l ∷ [];
+    rest = [];
+    split = refl;
+    answers = a ∷ [];
+    play = q;
+    ran = goes_on [] [] p q l a starts turn;
+    told = told why (subst (AppendsFront was now) (sym (text_one a)) front);
+    left = left q beside;
+  }
+    where
+      told : (x : RunFault) → AppendsFront was now (transcript_text (a ∷ [])) → IsToldFor was now (a ∷ []) x
+      told fault.Output f = ([], nothing, f)
+      told (fault.Refused y) f = inr f
+
+  -- it was given up
+  stopped_left : (n : Kernel D g) (was now : Option (List ℕ)) (y : Refusal) (why : RunFault) → IsGivenUp seen may_leave faults p n y → IsStopped was now y why → IsLeftFor seen may_leave faults p n why
+  stopped_left n was now y fault.Output (left, fails) (is, front) = inr (left, (fails (λ e. let wrong : refusal.DeviceFailed ≡ refusal.NoMemory = sym is ∙ e in cc)).1)
+  stopped_left n was now y (fault.Refused why) given (is, all) = subst (IsGivenUp seen may_leave faults p n) (sym is) given
+
+  pub line_stopped : (l : Line) (y : Refusal) (was now : Option (List ℕ)) (n : Kernel D g) (why : RunFault) → IsGivenUp seen may_leave faults p n y → IsStopped was now y why → IsCutShort seen may_leave faults p relations counters (l ∷ []) was now n why
+  line_stopped l y was now n why given stopped = record {
+    before = [];
+    rest = l ∷ [];
+    split = refl;
+    answers = [];
+    play = p;
+    ran = starts;
+    told = stopped_told was now y why stopped;
+    left = stopped_left n was now y why given stopped;
+  }
+
+  -- ---- lines
+
+  pub no_lines : (a : Option (List ℕ)) (n : Kernel D g) → IsBeside seen may_leave p None n → HasRunLines seen may_leave p relations counters [] a a None n
+  no_lines a n beside = record { answers = []; play = p; ran = starts; told = text_none a; beside = beside }
+
+  pub line_more : (session : ℕ) (lines : List Line) (i : ℕ) (l : Line) (live now : Option ℕ) (a b c : Option (List ℕ)) (m n : Kernel D g) → p.session ≡ session → i < length lines → l ≡ get_or lines i l
+      → HasRunLines seen may_leave p relations counters (take i lines) a b live m → (m.relations ≡ relations) × (m.counters ≡ counters)
+      → ((q : Play) → q.session ≡ session → IsBeside seen may_leave q live m → HasRunLines seen may_leave q m.relations m.counters (l ∷ []) b c now n) → HasRunLines seen may_leave p relations counters (take (suc i) lines) a c now n
+  line_more session lines i l live now a b c m n own lt is ran schema next =
+      let x = next ran.play (runs_session relations counters p ran.play (take i lines) ran.answers ran.ran ∙ own) ran.beside in
+      let one : Runs relations counters ran.play (l ∷ []) x.answers x.play = subst (λ (X : Type 0). X) (λ j. Runs (schema.0 j) (schema.1 j) ran.play (l ∷ []) x.answers x.play) x.ran in
+      let all : take i lines ++ l ∷ [] ≡ take (suc i) lines = ap (λ (y : Line). take i lines ++ y ∷ []) is ∙ sym (take-suc lines i l lt) in
+      record {
+        answers = ran.answers ++ x.answers;
+        play = x.play;
+        ran = subst (λ (ls : List Line). Runs relations counters p ls (ran.answers ++ x.answers) x.play) all (runs_then relations counters p ran.play x.play (take i lines) (l ∷ []) ran.answers x.answers ran.ran one);
+        told = appends_all a b c ran.answers x.answers ran.told x.told;
+        beside = x.beside;
+      }
+
+  cut_behind : (ls ms rest lines : List Line) (live : Option ℕ) (a b c : Option (List ℕ)) (m n : Kernel D g) (why : RunFault) → lines ≡ ls ++ (ms ++ rest) → (ran : HasRunLines seen may_leave p relations counters ls a b live m)
+      → IsCutShort seen may_leave faults ran.play relations counters ms b c n why → IsCutShort seen may_leave faults p relations counters lines a c n why
+  cut_behind ls ms rest lines live a b c m n why whole ran x = record {
+    before = ls ++ x.before;
+    rest = x.rest ++ rest;
+    split = whole ∙ ap (λ (t : List Line). ls ++ (t ++ rest)) x.split ∙ ap (λ (t : List Line). ls ++ t) (append_assoc x.before x.rest rest) ∙ sym (append_assoc ls x.before (x.rest ++ rest));
+    answers = ran.answers ++ x.answers;
+    play = x.play;
+    ran = runs_then relations counters p ran.play x.play ls x.before ran.answers x.answers ran.ran x.ran;
+    told = told_behind a b c ran.answers x.answers why ran.told x.told;
+    left = x.left;
+  }
+
+  pub line_cut : (session : ℕ) (lines : List Line) (i : ℕ) (l : Line) (live : Option ℕ) (a b c : Option (List ℕ)) (m n : Kernel D g) (why : RunFault) → p.session ≡ session → i < length lines → l ≡ get_or lines i l
+      → HasRunLines seen may_leave p relations counters (take i lines) a b live m → (m.relations ≡ relations) × (m.counters ≡ counters)
+      → ((q : Play) → q.session ≡ session → IsBeside seen may_leave q live m → IsCutShort seen may_leave faults q m.relations m.counters (l ∷ []) b c n why) → IsCutShort seen may_leave faults p relations counters lines a c n why
+  line_cut session lines i l live a b c m n why own lt is ran schema cut =
+      let x = cut ran.play (runs_session relations counters p ran.play (take i lines) ran.answers ran.ran ∙ own) ran.beside in
+      let here : IsCutShort seen may_leave faults ran.play relations counters (l ∷ []) b c n why = subst (λ (X : Type 0). X) (λ j. IsCutShort seen may_leave faults ran.play (schema.0 j) (schema.1 j) (l ∷ []) b c n why) x in
+      let whole : lines ≡ take i lines ++ (l ∷ [] ++ drop (suc i) lines) =
+      sym (take-append-drop i lines) ∙ ap (λ (t : List Line). take i lines ++ t) (drop-cons lines i l lt) ∙ ap (λ (y : Line). take i lines ++ y ∷ drop (suc i) lines) (sym is) in
+      cut_behind (take i lines) (l ∷ []) (drop (suc i) lines) lines live a b c m n why whole ran here
+
+  -- ---- the script's end
+
+  pub closed_run : (lines : List Line) (a b : Option (List ℕ)) (n : Kernel D g) → HasRunLines seen may_leave p relations counters lines a b None n → HasRun seen may_leave p relations counters lines a b n
+  closed_run lines a b n ran = record {
+    answers = ran.answers;
+    play = ran.play;
+    ran = ran.ran;
+    told =
+        let none : ran.answers ++ last_line ran.play.under_way ≡ ran.answers = ap (λ (u : Option (List Call)). ran.answers ++ last_line u) ran.beside.nothing ∙ append-nil ran.answers in
+        subst (λ (t : List Answer). Appends a b (transcript_text t)) (sym none) ran.told;
+    beside = record { shown = ∥∥₁_map ran.beside.shown (λ (first, s, shows, (played, nobody)). (first, s, shows, (record { book = played.book; base = played.base }, nobody))); nothing = refl };
+  }
+
+  pub ended_run : (lines : List Line) (t : ℕ) (a b c : Option (List ℕ)) (m n : Kernel D g) → HasRunLines seen may_leave p relations counters lines a b (Some t) m → ((q : Play) → IsBeside seen may_leave q (Some t) m → IsEnded seen may_leave q b c n)
+      → HasRun seen may_leave p relations counters lines a c n
+  ended_run lines t a b c m n ran ended =
+      let e = ended ran.play ran.beside in
+      record {
+        answers = ran.answers;
+        play = ran.play;
+        ran = ran.ran;
+        told = subst (λ (u : Option (List Call)). Appends a c (transcript_text (ran.answers ++ last_line u))) (sym ran.beside.1) (appends_all a b c ran.answers (Aborted ∷ []) ran.told e.told);
+        beside = e.beside;
+      }
+
+  pub end_cut : (lines : List Line) (t : ℕ) (a b c : Option (List ℕ)) (m n : Kernel D g) (why : RunFault) → HasRunLines seen may_leave p relations counters lines a b (Some t) m
+      → ((q : Play) → IsBeside seen may_leave q (Some t) m → IsCutAtEnd seen may_leave faults q b c n why) → IsCutShort seen may_leave faults p relations counters lines a c n why
+  end_cut lines t a b c m n why ran cut =
+      let e = cut ran.play ran.beside in
+      record {
+        before = lines;
+        rest = [];
+        split = sym (append-nil lines);
+        answers = ran.answers;
+        play = ran.play;
+        ran = ran.ran;
+        told = subst (λ (t : List Answer). IsToldFor a c t why) (append-nil ran.answers) (told_behind a b c ran.answers [] why ran.told e.told);
+        left = e.left;
+      }
+
+  pub end_stopped : (y : Refusal) (was now : Option (List ℕ)) (n : Kernel D g) (why : RunFault) → IsGivenUp seen may_leave faults p n y → IsStopped was now y why → IsCutAtEnd seen may_leave faults p was now n why
+  end_stopped y was now n why given stopped = record { told = stopped_told was now y why stopped; left = stopped_left n was now y why given stopped }
+
+  pub end_unwritten : (was now : Option (List ℕ)) (n : Kernel D g) → IsResting seen may_leave (put_off p) n → AppendsFront was now (answer_text Aborted ++ 10 ∷ []) → IsCutAtEnd seen may_leave faults p was now n fault.Output
+  end_unwritten was now n rests front = record { told = (Aborted ∷ [], aborted, subst (AppendsFront was now) (sym (text_one Aborted)) front); left = inl rests }
+
+  pub end_written : (was now : Option (List ℕ)) (n : Kernel D g) → IsResting seen may_leave (put_off p) n → Appends was now (answer_text Aborted ++ 10 ∷ []) → IsEnded seen may_leave p was now n
+  end_written was now n rests text = record { told = subst (Appends was now) (sym (text_one Aborted)) text; beside = rests }
+
+  pub left_resting : (n : Kernel D g) → IsResting seen may_leave p n → IsResting seen may_leave (put_off p) n
+  left_resting n r = record { shown = ∥∥₁_map r.shown (λ (first, s, shows, (played, nobody)). (first, s, shows, (record { book = played.book; base = played.base }, nobody))); nothing = refl }
+
+  pub cut_ended : (lines : List Line) (a b : Option (List ℕ)) (n : Kernel D g) (why : RunFault) → IsCutShort seen may_leave faults p relations counters lines a b n why → IsEndedFor faults n why
+  cut_ended lines a b n fault.Output cut = tt
+  cut_ended lines a b n (fault.Refused y) cut = cut.left.1

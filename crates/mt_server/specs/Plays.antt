@@ -1,17 +1,21 @@
 -- A script run on the model: on a base alone, behind the commits of a book, one operation after the other.
-use Rattle.std.specs.Prelude.{ℕ, ◌≡◌, ◌+◌, Bool, true, false, cond, List, [], ◌∷◌, ◌++◌, length, map, Option, Some, None}
+use Rattle.std.specs.Prelude.{ℕ, ◌≡◌, ◌⊎◌, ◌+◌, Bool, true, false, List, [], ◌∷◌, ◌++◌, length, Option, Some, None, ⊤}
+use Rattle.mt_base.specs.declared.refusal.Refusal.{Refusal}
 use Rattle.mt_base.specs.declared.refusal.Refusal.TheVariants as refusal
 use Rattle.mt_model.specs.declared.history.Committed.{Committed}
+use Rattle.mt_model.specs.declared.operations.Op.{Op}
+use Rattle.mt_model.specs.declared.operations.Op.TheVariants.{Get, Insert, Update, Delete, Add, Read}
 use Rattle.mt_model.specs.Model.{Base, reply_of}
 use Rattle.mt_model.specs.History.{Call, run}
-use Rattle.mt_txn.specs.State.{State, lives}
+use Rattle.mt_paged.specs.Causes.{first_of, name_cause, size_cause}
 use Rattle.mt_server.specs.declared.lines.Line.{Line}
 use Rattle.mt_server.specs.declared.lines.Line.TheVariants as line
 use Rattle.mt_server.specs.declared.answers.Answer.{Answer}
 use Rattle.mt_server.specs.declared.answers.Answer.TheVariants.{Begun, Replied, Committed as CommittedAt, Aborted, Refused}
 
--- what the commits leave, the commits, and the calls of the transaction that is open, if one is
+-- whose script it is, what the commits leave, the commits, and the calls of the transaction that is open, if one is
 pub record Play : Type 0 where
+  pub session : ℕ
   pub base : Base
   pub book : List Committed
   pub under_way : Option (List Call)
@@ -29,59 +33,78 @@ answer_at p (Some calls) (line.Call op) = Replied (reply_of (run p.base calls) o
 answer_at p (Some calls) line.Commit = CommittedAt (length p.book + 1)
 answer_at p (Some calls) line.Abort = Aborted
 
--- and what it is then: a commit keeps what the calls left, an abort throws it away
-abbrev pub after_at : ℕ → Play → Option (List Call) → Line → Play
-after_at session p None line.Begin = record p { under_way = Some [] }
-after_at session p None (line.Call op) = p
-after_at session p None line.Commit = p
-after_at session p None line.Abort = p
-after_at session p (Some calls) line.Begin = p
-after_at session p (Some calls) (line.Call op) = record p { under_way = Some (calls ++ (op, reply_of (run p.base calls) op) ∷ []) }
-after_at session p (Some calls) line.Commit = record {
+-- a call more; all of them committed; and none
+abbrev pub with_call : Play → List Call → Op → Play
+with_call p calls op = record p { under_way = Some (calls ++ (op, reply_of (run p.base calls) op) ∷ []) }
+
+abbrev pub committed : Play → List Call → Play
+committed p calls = record p {
   base = run p.base calls;
-  book = p.book ++ record { session = session; calls = calls } ∷ [];
+  book = p.book ++ record { session = p.session; calls = calls } ∷ [];
   under_way = None;
 }
-after_at session p (Some calls) line.Abort = record p { under_way = None }
 
--- ---- lines
+abbrev pub put_off : Play → Play
+put_off p = record p { under_way = None }
 
--- the model's answers to lines, and what it is behind the last
-abbrev pub model_answers : ℕ → Play → List Line → List Answer
-model_answers session p [] = []
-model_answers session p (l ∷ ls) = answer_at p p.under_way l ∷ model_answers session (after_at session p p.under_way l) ls
+-- what it is behind the line: a commit keeps what the calls left, an abort throws it away
+abbrev pub after_at : Play → Option (List Call) → Line → Play
+after_at p None line.Begin = record p { under_way = Some [] }
+after_at p None (line.Call op) = p
+after_at p None line.Commit = p
+after_at p None line.Abort = p
+after_at p (Some calls) line.Begin = p
+after_at p (Some calls) (line.Call op) = with_call p calls op
+after_at p (Some calls) line.Commit = committed p calls
+after_at p (Some calls) line.Abort = put_off p
 
-abbrev pub model_after : ℕ → Play → List Line → Play
-model_after session p [] = p
-model_after session p (l ∷ ls) = model_after session (after_at session p p.under_way l) ls
+-- ---- refusals
+
+-- why an operation is refused whatever the pages hold, if it is: no such relation or counter, or past its limits
+abbrev pub fault_at : ℕ → ℕ → Option (List Call) → Line → Option Refusal
+fault_at relations counters (Some calls) (line.Call op) = first_of (name_cause relations counters op) (size_cause op)
+fault_at relations counters _ line = None
+
+abbrev pub is_add : Op → Bool
+is_add (Add c d) = true
+is_add (Get r k) = false
+is_add (Insert r k v) = false
+is_add (Update r k v) = false
+is_add (Delete r k) = false
+is_add (Read c) = false
+
+-- What may be wanting to a begin: memory, room in the book, bytes of the log. To an operation: memory, numbers, pages, bytes of the
+-- log, and to an add the leave of escrow. To a commit: memory.
+abbrev pub IsBeginWant : Refusal → Type 0
+IsBeginWant refusal.NoMemory = ⊤
+IsBeginWant refusal.BookFull = ⊤
+IsBeginWant refusal.LogFull = ⊤
+IsBeginWant _ = ⊥
+
+abbrev pub IsCallWant : Op → Refusal → Type 0
+IsCallWant op refusal.NoMemory = ⊤
+IsCallWant op refusal.TooManyOperations = ⊤
+IsCallWant op refusal.Escrow = is_add op ≡ true
+IsCallWant op refusal.NoRoom = ⊤
+IsCallWant op refusal.LogFull = ⊤
+IsCallWant op _ = ⊥
+
+abbrev pub IsWant : Option (List Call) → Line → Refusal → Type 0
+IsWant None line.Begin why = IsBeginWant why
+IsWant (Some calls) (line.Call op) why = IsCallWant op why
+IsWant (Some calls) line.Commit why = why ≡ refusal.NoMemory
+IsWant _ _ why = ⊥
 
 -- ---- a run
 
-abbrev pub is_refused : Answer → Bool
-is_refused (Refused why) = true
-is_refused _ = false
+-- A line is answered as the model does. Or it is refused, and nothing comes of it: for its fault, or for a want.
+pub data IsTurn (relations counters : ℕ) (p : Play) (line : Line) : Answer → Play → Type 0 where
+  acts : fault_at relations counters p.under_way line ≡ None → IsTurn relations counters p line (answer_at p p.under_way line) (after_at p p.under_way line)
+  refuses : (why : Refusal) → (fault_at relations counters p.under_way line ≡ Some why) ⊎ IsWant p.under_way line why → IsTurn relations counters p line (Refused why) p
 
--- the lines that were not refused, with their answers
-abbrev pub heard : List Line → List Answer → List (Line × Answer)
-heard [] answers = []
-heard (l ∷ ls) [] = []
-heard (l ∷ ls) (a ∷ as') = cond (is_refused a) (heard ls as') ((l, a) ∷ heard ls as')
-
-abbrev pub lines_heard : List Line → List Answer → List Line
-lines_heard ls as' = map (λ (h : Line × Answer). h.0) (heard ls as')
-
-abbrev pub answers_heard : List Line → List Answer → List Answer
-answers_heard ls as' = map (λ (h : Line × Answer). h.1) (heard ls as')
-
--- a kernel without transactions, as the model begins on it
-abbrev pub play_of : State → Play
-play_of s = record { base = s.held; book = s.book; under_way = None }
-
--- With the refused lines struck out, the answers are the model's from the held base and the length of the
--- book; the book is the model's, so it grew by just the transactions that committed; the held base is what
--- they left; and none lives.
-pub record IsModelRun (session : ℕ) (s : State) (lines : List Line) (answers : List Answer) (z : State) : Type 0 where
-  pub replies : answers_heard lines answers ≡ model_answers session (play_of s) (lines_heard lines answers)
-  pub book : z.book ≡ (model_after session (play_of s) (lines_heard lines answers)).book
-  pub held : z.held ≡ (model_after session (play_of s) (lines_heard lines answers)).base
-  pub idle : lives z ≡ 0
+-- lines, each with its answer, one after the other
+pub data Runs (relations counters : ℕ) (p : Play) : List Line → List Answer → Play → Type 0 where
+  starts : Runs relations counters p [] [] p
+  goes_on : (lines : List Line) (answers : List Answer) (m q : Play) (line : Line) (answer : Answer)
+      → Runs relations counters p lines answers m → IsTurn relations counters m line answer q
+      → Runs relations counters p (lines ++ line ∷ []) (answers ++ answer ∷ []) q

@@ -6,9 +6,12 @@
 #![tactic(auto)]
 
 mod answers;
+mod driving;
+mod forcing;
 mod lines;
 mod reader;
 mod running;
+mod turns;
 
 pub use answers::{Answer, Unheard, put, write_answer};
 pub use lines::{Line, line_of};

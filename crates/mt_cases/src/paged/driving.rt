@@ -50,11 +50,6 @@ pub fn kernel_of(
     }
 }
 
-/// Lets a kernel go, with its device.
-pub fn put_away<D: Device + Drop>(kernel: Kernel<D>) {
-    let _device = kernel.into_device();
-}
-
 fn told_of(reply: &Reply) -> Told {
     match reply {
         Reply::Found(value) => Told::Found(value.len()),

@@ -1,7 +1,8 @@
 // Transactions whose steps are mixed at random, and the serial model in the order of their commits.
 ghost use Rattle.std.specs.Prelude.{◌<◌};
 
-use super::driving::{Told, committed, kernel_of, put_away, run};
+use super::driving::{Told, committed, kernel_of, run};
+use crate::common::put_away;
 use crate::op::driving::is_within;
 use crate::op::random::Numbers;
 use mt_base::{Bytes, CtrNo, Refusal, RelNo, TxnNo};

@@ -1,11 +1,17 @@
-use Rattle.mt_server.specs.Runs.{unheard, failed, halted}
+use Rattle.mt_server.proofs.RunLemmas.{line_stopped, line_told, line_unheard}
 use Rattle.mt_server.proofs.running.run_line.Goals as goal
 
 pub returns-in-Err-clause-cut : goal.returns-in-Err-clause-cut
-returns-in-Err-clause-cut g c = halted c.in-Err.refusal _ c.in-Err.ensures.err c.in-Err.ensures.cause c.end_refused.ensures
+returns-in-Err-clause-cut g c = λ p own b.
+    let D = g.D.Device in
+    line_stopped D.seen D.may_leave D.faults p c.args.kernel.now.relations c.args.kernel.now.counters c.args.line.now c.in-Err.refusal _ _ c.answer.new.kernel _ (c.in-Err.ensures.answers p own b) c.end_refused.ensures
 
-pub returns-then-is_failure-clause-cut : goal.returns-then-is_failure-clause-cut
-returns-then-is_failure-clause-cut g c = failed c.in-Ok.told.1 _ (rw (c.is_failure.ensures.0 c.if-is_failure.true) at c.in-Ok.ensures.answered) c.end_failed.ensures
+pub returns-in-Ok-write_answer-clause-told : goal.returns-in-Ok-write_answer-clause-told
+returns-in-Ok-write_answer-clause-told g c = λ p own b.
+    let D = g.D.Device in
+    line_told D.seen D.may_leave D.faults p c.args.kernel.now.relations c.args.kernel.now.counters c.args.line.now c.in-Ok.told.0 c.in-Ok.told.1 _ _ c.answer.new.kernel (c.in-Ok.ensures.answers p own b) c.in-Ok-write_answer.ensures.all
 
 pub returns-clause-cut : goal.returns-clause-cut
-returns-clause-cut g c = unheard c.in-Ok.told.0 _ c.in-Ok.told.1 _ c.in-Ok.ensures.answered c.in-Err-write_answer.ensures.front c.end_unheard.ensures
+returns-clause-cut g c = λ p own b.
+    let D = g.D.Device in
+    line_unheard D.seen D.may_leave D.faults p c.args.kernel.now.relations c.args.kernel.now.counters c.args.line.now c.in-Ok.told.0 c.in-Ok.told.1 _ _ c.answer.new.kernel c.end_unheard.new.kernel _ (c.in-Ok.ensures.answers p own b) c.in-Err-write_answer.ensures.front c.end_unheard.ensures.left

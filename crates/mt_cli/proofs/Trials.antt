@@ -1,0 +1,87 @@
+-- A trial, from its first schema on.
+use Rattle.std.proofs.Common.{◌≡◌, ◌∙◌, inl, inr, ℕ, List, [], ◌∷◌, length, Option, None, refl, ap, subst}
+use Rattle.mt_base.specs.declared.refusal.Refusal.TheVariants as refusal
+use Rattle.mt_disk.specs.declared.device.Device.{Ghosts}
+use Rattle.mt_live.specs.Machine.{start}
+use Rattle.mt_model.specs.declared.counters.Count.{Count}
+use Rattle.mt_model.specs.declared.rows.Row.{Row}
+use Rattle.mt_model.specs.Rows.{value_at}
+use Rattle.mt_model.specs.Tables.{count_at}
+use Rattle.mt_model.specs.Views.{rows_of}
+use Rattle.mt_paged.specs.Shown.{Shows}
+use Rattle.mt_paged.specs.declared.kernel.Kernel.{Kernel}
+use Rattle.mt_restart.specs.Schemas.{counters_in, relations_in, schema_base}
+use Rattle.mt_restart.specs.declared.schema.Schema.{Schema}
+use Rattle.mt_server.specs.declared.lines.Line.{Line}
+use Rattle.mt_server.specs.declared.running.RunFault.{RunFault}
+use Rattle.mt_server.specs.declared.running.RunFault.TheVariants as run
+use Rattle.mt_server.specs.Driven.{IsBeside}
+use Rattle.mt_server.specs.Plays.{Play, Runs}
+use Rattle.mt_server.specs.Runs.{HasRun, IsCutShort, IsEndedFor}
+use Rattle.mt_cli.specs.Performs.{HasTried, IsEndedBy, IsFirst, IsFirstSchema, IsShort, StandsFirst}
+
+first_play : Schema → Play
+first_play schema = record { session = 1; base = schema_base schema; book = []; under_way = None }
+
+no_rows : (rs : List Row) (r : ℕ) (k : List ℕ) → length rs ≡ 0 → value_at rs r k ≡ None
+no_rows [] r k none = refl
+no_rows (x ∷ xs) r k none = absurd cc
+
+is_first : (schema : Schema) → IsFirstSchema schema → IsFirst (first_play schema)
+unfolding first_play
+is_first schema first = record {
+  session = refl;
+  rows = λ r k. no_rows (rows_of schema.base) r k first.rows;
+  counter = ap (λ (ns : List Count). count_at ns 0) first.counters;
+  book = refl;
+  nothing = refl;
+}
+
+module _ {D : Type 0} {g : Ghosts D} (seen : D → List ℕ) (may_leave : D → List ℕ → Type 0) where
+  pub stands_first : (schema : Schema) (k : Kernel D g) → IsFirstSchema schema → Shows seen may_leave (schema_base schema) (start (schema_base schema)) k → (k.relations ≡ relations_in schema) × (k.counters ≡ length (counters_in schema))
+      → StandsFirst seen may_leave k
+  unfolding first_play
+  stands_first schema k first shows made = record {
+    play = first_play schema;
+    first = is_first schema first;
+    beside = record { shown = ∣ (schema_base schema, start (schema_base schema), shows, (record { book = refl; base = refl }, λ u. refl)) ∣₁; nothing = refl };
+    relations = made.0 ∙ first.relations;
+    counters = made.1 ∙ ap (λ (ns : List Count). length ns) first.counters;
+  }
+
+  pub tried_of : (k n : Kernel D g) (lines : List Line) (was now : Option (List ℕ)) → StandsFirst seen may_leave k
+      → ((p : Play) → p.session ≡ 1 → IsBeside seen may_leave p None k → HasRun seen may_leave p k.relations k.counters lines was now n) → HasTried lines was now
+  tried_of k n lines was now at ran =
+      let x = ran at.play at.first.session at.beside in
+      record {
+        play = at.play;
+        first = at.first;
+        answers = x.answers;
+        last = x.play;
+        ran = subst (λ (X : Type 0). X) (λ i. Runs (at.relations i) (at.counters i) at.play lines x.answers x.play) x.ran;
+        told = x.told;
+      }
+
+  module _ (faults : D → ℕ) where
+    ended_by : (n : Kernel D g) (why : RunFault) → IsEndedFor faults n why → IsEndedBy why
+    ended_by n run.Output ended = tt
+    ended_by n (run.Refused refusal.NoMemory) ended = inl refl
+    ended_by n (run.Refused y) ended = inr (ended (λ e. cc)).0
+
+    pub short_of : (k n : Kernel D g) (lines : List Line) (was now : Option (List ℕ)) (why : RunFault) → StandsFirst seen may_leave k
+        → ((p : Play) → p.session ≡ 1 → IsBeside seen may_leave p None k → IsCutShort seen may_leave faults p k.relations k.counters lines was now n why)
+        → ((p : Play) → p.session ≡ 1 → IsBeside seen may_leave p None k → IsEndedFor faults n why) → IsShort lines was now why
+    short_of k n lines was now why at cut ended =
+        let x = cut at.play at.first.session at.beside in
+        record {
+          play = at.play;
+          first = at.first;
+          before = x.before;
+          rest = x.rest;
+          split = x.split;
+          answers = x.answers;
+          last = x.play;
+          ran = subst (λ (X : Type 0). X) (λ i. Runs (at.relations i) (at.counters i) at.play x.before x.answers x.play) x.ran;
+          told = x.told;
+          ended = ended_by n why (ended at.play at.first.session at.beside);
+        }

@@ -1,0 +1,11 @@
+use Rattle.mt_paged.specs.Shown.{SameSchema}
+use Rattle.mt_server.specs.Driven.{IsGoing}
+use Rattle.mt_server.specs.Plays.{Play}
+use Rattle.mt_server.proofs.DriveLemmas.{GoesBy}
+use Rattle.mt_server.proofs.driving.ask_abort.Given as goal
+
+abbrev pub invariant-loop : goal.invariant-loop
+invariant-loop g l = record {
+  goes : (p : Play) → IsGoing g.D.Device.seen g.D.Device.may_leave p l.txn l.initial.kernel → GoesBy g.D.Device.seen g.D.Device.may_leave g.D.Device.faults p l.txn l.initial.kernel l.kernel;
+  schema : SameSchema l.initial.kernel l.kernel;
+}

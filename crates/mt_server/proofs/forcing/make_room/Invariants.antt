@@ -1,0 +1,9 @@
+use Rattle.mt_paged.specs.Shown.{SameSchema}
+use Rattle.mt_server.specs.Driven.{Eases, NobodyCommits}
+use Rattle.mt_server.proofs.forcing.make_room.Given as goal
+
+abbrev pub invariant-loop : goal.invariant-loop
+invariant-loop g l = record {
+  eases : NobodyCommits l.initial.kernel → Eases g.D.Device.seen g.D.Device.may_leave l.initial.kernel l.kernel;
+  schema : SameSchema l.initial.kernel l.kernel;
+}

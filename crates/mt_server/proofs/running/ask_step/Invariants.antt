@@ -1,6 +1,0 @@
-use Rattle.std.proofs.Common.{◌≡◌}
-use Rattle.mt_txn.specs.State.{state_of}
-use Rattle.mt_server.proofs.running.ask_step.Given as goal
-
-abbrev pub invariant-loop : goal.invariant-loop
-invariant-loop g l = state_of l.kernel ≡ state_of l.initial.kernel

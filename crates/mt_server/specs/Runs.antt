@@ -49,6 +49,10 @@ IsStopped was now refused fault.Output = (refused ≡ refusal.DeviceFailed) × A
 IsStopped was now refused (fault.Refused why) = (why ≡ refused) × Appends was now (transcript_text (failure_line refused))
 
 module _ {D : Type 0} {g : Ghosts D} (seen : D → List ℕ) (may_leave : D → List ℕ → Type 0) where
+  -- It holds beside whatever play of this session the kernel stands at.
+  abbrev pub BesideEach : ℕ → Option ℕ → Kernel D g → (Play → Type 0) → Type 0
+  BesideEach session live k Promises = (p : Play) → p.session ≡ session → IsBeside seen may_leave p live k → Promises p
+
   -- The lines ran, and the texts of the answers were written, a line each.
   pub record HasRunLines (p : Play) (relations counters : ℕ) (lines : List Line) (was now : Option (List ℕ)) (live : Option ℕ) (n : Kernel D g) : Type 0 where
     pub answers : List Answer

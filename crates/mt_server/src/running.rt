@@ -4,7 +4,7 @@ ghost use Rattle.mt_base.specs.declared.refusal.Refusal.{Refusal};
 ghost use Rattle.mt_paged.specs.Shown.{SameSchema};
 ghost use Rattle.mt_server.specs.Driven.{IsBeside};
 ghost use Rattle.mt_server.specs.Plays.{Play};
-ghost use Rattle.mt_server.specs.Runs.{HasRun, HasRunLines, IsCutAtEnd, IsCutShort, IsEnded, IsEndedFor, IsLeftFor, IsStopped};
+ghost use Rattle.mt_server.specs.Runs.{BesideEach, HasRun, HasRunLines, IsCutAtEnd, IsCutShort, IsEnded, IsEndedFor, IsLeftFor, IsStopped};
 
 use crate::answers::{Answer, write_answer};
 use crate::lines::Line;
@@ -72,12 +72,12 @@ fn run_line<D: Device, W: Write>(
     line: &Line,
     writer: &mut W,
 ) -> Result<Option<TxnNo>, RunFault>
-    ensures told { IfOk result (λ now. (p : Play) → p.session ≡ session → IsBeside D.seen D.may_leave p live kernel.old
-        → HasRunLines D.seen D.may_leave p kernel.old.relations kernel.old.counters (line.now ∷ [])
-        (W.contents writer.old) (W.contents writer.new) now kernel.new) }
-    ensures cut { IfErr result (λ why. (p : Play) → p.session ≡ session → IsBeside D.seen D.may_leave p live kernel.old
-        → IsCutShort D.seen D.may_leave D.faults p kernel.old.relations kernel.old.counters (line.now ∷ [])
-        (W.contents writer.old) (W.contents writer.new) kernel.new why) }
+    ensures told { IfOk result (λ now. BesideEach D.seen D.may_leave session live kernel.old
+        (λ p. HasRunLines D.seen D.may_leave p kernel.old.relations kernel.old.counters (line.now ∷ [])
+        (W.contents writer.old) (W.contents writer.new) now kernel.new)) }
+    ensures cut { IfErr result (λ why. BesideEach D.seen D.may_leave session live kernel.old
+        (λ p. IsCutShort D.seen D.may_leave D.faults p kernel.old.relations kernel.old.counters (line.now ∷ [])
+        (W.contents writer.old) (W.contents writer.new) kernel.new why)) }
     ensures schema { SameSchema kernel.old kernel.new }
 {
     let told = match answer(kernel, session, live, line) {
@@ -97,12 +97,12 @@ fn run_lines<D: Device, W: Write>(
     lines: &[Line],
     writer: &mut W,
 ) -> Result<Option<TxnNo>, RunFault>
-    ensures ran { IfOk result (λ live. (p : Play) → p.session ≡ session → IsBeside D.seen D.may_leave p None kernel.old
-        → HasRunLines D.seen D.may_leave p kernel.old.relations kernel.old.counters lines.now
-        (W.contents writer.old) (W.contents writer.new) live kernel.new) }
-    ensures cut { IfErr result (λ why. (p : Play) → p.session ≡ session → IsBeside D.seen D.may_leave p None kernel.old
-        → IsCutShort D.seen D.may_leave D.faults p kernel.old.relations kernel.old.counters lines.now
-        (W.contents writer.old) (W.contents writer.new) kernel.new why) }
+    ensures ran { IfOk result (λ live. BesideEach D.seen D.may_leave session None kernel.old
+        (λ p. HasRunLines D.seen D.may_leave p kernel.old.relations kernel.old.counters lines.now
+        (W.contents writer.old) (W.contents writer.new) live kernel.new)) }
+    ensures cut { IfErr result (λ why. BesideEach D.seen D.may_leave session None kernel.old
+        (λ p. IsCutShort D.seen D.may_leave D.faults p kernel.old.relations kernel.old.counters lines.now
+        (W.contents writer.old) (W.contents writer.new) kernel.new why)) }
     ensures schema { SameSchema kernel.old kernel.new }
 {
     let mut live = None;
@@ -149,14 +149,14 @@ pub fn run_alone<D: Device, W: Write>(
     script: &Script,
     writer: &mut W,
 ) -> Result<(), RunFault>
-    ensures ran { OnOk result ((p : Play) → p.session ≡ session → IsBeside D.seen D.may_leave p None kernel.old
-        → HasRun D.seen D.may_leave p kernel.old.relations kernel.old.counters script.now.lines.items
-        (W.contents writer.old) (W.contents writer.new) kernel.new) }
-    ensures cut { IfErr result (λ why. (p : Play) → p.session ≡ session → IsBeside D.seen D.may_leave p None kernel.old
-        → IsCutShort D.seen D.may_leave D.faults p kernel.old.relations kernel.old.counters script.now.lines.items
-        (W.contents writer.old) (W.contents writer.new) kernel.new why) }
-    ensures why { IfErr result (λ why. (p : Play) → p.session ≡ session → IsBeside D.seen D.may_leave p None kernel.old
-        → IsEndedFor D.faults kernel.new why) }
+    ensures ran { OnOk result (BesideEach D.seen D.may_leave session None kernel.old
+        (λ p. HasRun D.seen D.may_leave p kernel.old.relations kernel.old.counters script.now.lines.items
+        (W.contents writer.old) (W.contents writer.new) kernel.new)) }
+    ensures cut { IfErr result (λ why. BesideEach D.seen D.may_leave session None kernel.old
+        (λ p. IsCutShort D.seen D.may_leave D.faults p kernel.old.relations kernel.old.counters script.now.lines.items
+        (W.contents writer.old) (W.contents writer.new) kernel.new why)) }
+    ensures why { IfErr result (λ why. BesideEach D.seen D.may_leave session None kernel.old
+        (λ p. IsEndedFor D.faults kernel.new why)) }
 {
     match run_lines(kernel, session, script.lines(), writer)? {
         Some(txn) => end_live(kernel, txn, writer),

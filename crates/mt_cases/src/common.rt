@@ -2,7 +2,7 @@
 use mt_base::Refusal;
 use mt_base::limits::device_bytes;
 use mt_disk::{Device, MemDevice};
-use mt_paged::Kernel;
+use mt_txn::Kernel;
 use mt_restart::{Schema, fresh};
 use std::alloc::Global;
 

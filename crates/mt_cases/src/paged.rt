@@ -9,7 +9,7 @@ use driving::{Told, aborted, called, committed, kernel_of, run, stepped};
 use mt_base::{Bytes, CtrNo, Refusal, RelNo, TxnNo};
 use mt_disk::MemDevice;
 use mt_model::Op;
-use mt_paged::Kernel;
+use mt_txn::Kernel;
 use std::alloc::Global;
 use std::test::Fail;
 

@@ -6,7 +6,7 @@ use crate::paged::driving::{Told, run};
 use mt_base::{Bytes, CtrNo, Refusal, RelNo, TxnNo};
 use mt_disk::{Device, FaultDevice, MemDevice};
 use mt_model::Op;
-use mt_paged::{Kernel, KernelForced, Stepped};
+use mt_txn::{Kernel, KernelForced, Stepped};
 use std::alloc::Global;
 use std::process::Abort;
 use std::test::Fail;

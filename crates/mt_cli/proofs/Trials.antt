@@ -1,5 +1,6 @@
 -- A trial, from its first schema on.
 use Rattle.std.proofs.Common.{◌≡◌, ◌∙◌, inl, inr, ℕ, List, [], ◌∷◌, length, Option, None, refl, ap, subst}
+use Rattle.mt_base.specs.declared.refusal.Refusal.{Refusal}
 use Rattle.mt_base.specs.declared.refusal.Refusal.TheVariants as refusal
 use Rattle.mt_disk.specs.declared.device.Device.{Ghosts}
 use Rattle.mt_live.specs.Machine.{start}
@@ -8,16 +9,17 @@ use Rattle.mt_model.specs.declared.rows.Row.{Row}
 use Rattle.mt_model.specs.Rows.{value_at}
 use Rattle.mt_model.specs.Tables.{count_at}
 use Rattle.mt_model.specs.Views.{rows_of}
-use Rattle.mt_paged.specs.Shown.{Shows}
-use Rattle.mt_paged.specs.declared.kernel.Kernel.{Kernel}
+use Rattle.mt_txn.specs.Shown.{Shows}
+use Rattle.mt_txn.specs.declared.kernel.Kernel.{Kernel}
 use Rattle.mt_restart.specs.Schemas.{counters_in, relations_in, schema_base}
 use Rattle.mt_restart.specs.declared.schema.Schema.{Schema}
 use Rattle.mt_server.specs.declared.lines.Line.{Line}
+use Rattle.mt_server.specs.declared.answers.Answer.{Answer}
 use Rattle.mt_server.specs.declared.running.RunFault.{RunFault}
 use Rattle.mt_server.specs.declared.running.RunFault.TheVariants as run
 use Rattle.mt_server.specs.Driven.{IsBeside}
-use Rattle.mt_server.specs.Plays.{Play, Runs}
-use Rattle.mt_server.specs.Runs.{HasRun, IsCutShort, IsEndedFor}
+use Rattle.mt_server.specs.Plays.{Play, IsTurn, acts, refuses, Runs, starts, goes_on, HasPlayed}
+use Rattle.mt_server.specs.Runs.{HasRun, HasTurned, IsCutShort, IsEndedFor}
 use Rattle.mt_cli.specs.Performs.{HasTried, IsEndedBy, IsFirst, IsFirstSchema, IsShort, StandsFirst}
 
 first_play : Schema → Play
@@ -37,6 +39,12 @@ is_first schema first = record {
   nothing = refl;
 }
 
+-- what was wanted is not known of the model
+turn_of : {IsDue : Line → Refusal → Type 0} → (relations counters : ℕ) (p q : Play) (l : Line) (a : Answer) → IsTurn relations counters IsDue p l a q → IsTurn relations counters (λ line why. Unit {0}) p l a q
+turn_of relations counters p _ l _ (acts none) = acts none
+turn_of relations counters p _ l _ (refuses why (inl fault)) = refuses why (inl fault)
+turn_of relations counters p _ l _ (refuses why (inr (want, due))) = refuses why (inr (want, tt))
+
 module _ {D : Type 0} {g : Ghosts D} (seen : D → List ℕ) (may_leave : D → List ℕ → Type 0) where
   pub stands_first : (schema : Schema) (k : Kernel D g) → IsFirstSchema schema → Shows seen may_leave (schema_base schema) (start (schema_base schema)) k → (k.relations ≡ relations_in schema) × (k.counters ≡ length (counters_in schema))
       → StandsFirst seen may_leave k
@@ -49,8 +57,22 @@ module _ {D : Type 0} {g : Ghosts D} (seen : D → List ℕ) (may_leave : D → 
     counters = made.1 ∙ ap (λ (ns : List Count). length ns) first.counters;
   }
 
+  -- a run of a kernel of two relations and one counter is one of the model
+  schema_kept : (s e : Play × Kernel D g) (ls : List Line) (as' : List Answer) → Runs (HasTurned seen may_leave) s ls as' e → (e.1.relations ≡ s.1.relations) × (e.1.counters ≡ s.1.counters)
+  schema_kept s _ _ _ starts = (refl, refl)
+  schema_kept s _ _ _ (goes_on lines answers m e line answer before t) =
+      let kept = schema_kept s m lines answers before in (t.schema.0 ∙ kept.0, t.schema.1 ∙ kept.1)
+
+  played : (s e : Play × Kernel D g) (ls : List Line) (as' : List Answer) → s.1.relations ≡ 2 → s.1.counters ≡ 1 → Runs (HasTurned seen may_leave) s ls as' e → HasPlayed 2 1 s.0 ls as' e.0
+  played s _ _ _ relations counters starts = starts
+  played s _ _ _ relations counters (goes_on lines answers m e line answer before t) =
+      let kept = schema_kept s m lines answers before in
+      let own = turn_of m.1.relations m.1.counters m.0 e.0 line answer t.turn in
+      goes_on lines answers m.0 e.0 line answer (played s m lines answers relations counters before)
+      (subst (λ (X : Type 0). X) (λ i. IsTurn ((kept.0 ∙ relations) i) ((kept.1 ∙ counters) i) (λ line why. Unit {0}) m.0 line answer e.0) own)
+
   pub tried_of : (k n : Kernel D g) (lines : List Line) (was now : Option (List ℕ)) → StandsFirst seen may_leave k
-      → ((p : Play) → p.session ≡ 1 → IsBeside seen may_leave p None k → HasRun seen may_leave p k.relations k.counters lines was now n) → HasTried lines was now
+      → ((p : Play) → p.session ≡ 1 → IsBeside seen may_leave p None k → HasRun seen may_leave p k lines was now n) → HasTried lines was now
   tried_of k n lines was now at ran =
       let x = ran at.play at.first.session at.beside in
       record {
@@ -58,7 +80,7 @@ module _ {D : Type 0} {g : Ghosts D} (seen : D → List ℕ) (may_leave : D → 
         first = at.first;
         answers = x.answers;
         last = x.play;
-        ran = subst (λ (X : Type 0). X) (λ i. Runs (at.relations i) (at.counters i) at.play lines x.answers x.play) x.ran;
+        ran = played (at.play, k) (x.play, x.last) lines x.answers at.relations at.counters x.ran;
         told = x.told;
       }
 
@@ -69,7 +91,7 @@ module _ {D : Type 0} {g : Ghosts D} (seen : D → List ℕ) (may_leave : D → 
     ended_by n (run.Refused y) ended = inr (ended (λ e. cc)).0
 
     pub short_of : (k n : Kernel D g) (lines : List Line) (was now : Option (List ℕ)) (why : RunFault) → StandsFirst seen may_leave k
-        → ((p : Play) → p.session ≡ 1 → IsBeside seen may_leave p None k → IsCutShort seen may_leave faults p k.relations k.counters lines was now n why)
+        → ((p : Play) → p.session ≡ 1 → IsBeside seen may_leave p None k → IsCutShort seen may_leave faults p k lines was now n why)
         → ((p : Play) → p.session ≡ 1 → IsBeside seen may_leave p None k → IsEndedFor faults n why) → IsShort lines was now why
     short_of k n lines was now why at cut ended =
         let x = cut at.play at.first.session at.beside in
@@ -81,7 +103,7 @@ module _ {D : Type 0} {g : Ghosts D} (seen : D → List ℕ) (may_leave : D → 
           split = x.split;
           answers = x.answers;
           last = x.play;
-          ran = subst (λ (X : Type 0). X) (λ i. Runs (at.relations i) (at.counters i) at.play x.before x.answers x.play) x.ran;
+          ran = played (at.play, k) (x.play, x.last) x.before x.answers at.relations at.counters x.ran;
           told = x.told;
           ended = ended_by n why (ended at.play at.first.session at.beside);
         }

@@ -5,7 +5,7 @@ use Rattle.mt_base.specs.declared.refusal.Refusal.{Refusal}
 use Rattle.mt_base.specs.declared.refusal.Refusal.TheVariants as refusal
 use Rattle.mt_disk.specs.declared.device.Device.{Ghosts}
 use Rattle.mt_model.specs.Views.{rows_of}
-use Rattle.mt_paged.specs.declared.kernel.Kernel.{Kernel}
+use Rattle.mt_txn.specs.declared.kernel.Kernel.{Kernel}
 use Rattle.mt_restart.specs.Schemas.{counters_in, device_bytes, relations_in}
 use Rattle.mt_restart.specs.declared.schema.Schema.{Schema}
 use Rattle.mt_server.specs.declared.answers.Answer.{Answer}
@@ -19,7 +19,7 @@ use Rattle.mt_server.specs.declared.running.RunFault.{RunFault}
 use Rattle.mt_server.specs.declared.running.RunFault.TheVariants as run
 use Rattle.mt_server.specs.Answers.{AppendsFront, answer_text, transcript_text}
 use Rattle.mt_server.specs.Driven.{IsBeside}
-use Rattle.mt_server.specs.Plays.{Play, Runs}
+use Rattle.mt_server.specs.Plays.{Play, HasPlayed}
 use Rattle.mt_cli.specs.CommandLines.{IsCommandOf}
 use Rattle.mt_server.specs.Scripts.{IsScript, IsRefusedFor}
 use Rattle.mt_server.specs.Runs.{IsToldFor, last_line}
@@ -53,7 +53,7 @@ pub record HasTried (lines : List Line) (was now : Option (List ℕ)) : Type 0 w
   pub first : IsFirst play
   pub answers : List Answer
   pub last : Play
-  pub ran : Runs 2 1 play lines answers last
+  pub ran : HasPlayed 2 1 play lines answers last
   pub told : Appends was now (transcript_text (answers ++ last_line last.under_way))
 
 -- those that the bytes spell, where they are known
@@ -116,7 +116,7 @@ pub record IsShort (lines : List Line) (was now : Option (List ℕ)) (why : RunF
   pub split : lines ≡ before ++ rest
   pub answers : List Answer
   pub last : Play
-  pub ran : Runs 2 1 play before answers last
+  pub ran : HasPlayed 2 1 play before answers last
   pub told : IsToldFor was now answers why
   pub ended : IsEndedBy why
 

@@ -6,7 +6,7 @@ use Rattle.mt_model.specs.Tables.{count_at}
 use Rattle.mt_model.specs.declared.counters.Count.{Count}
 use Rattle.mt_op.specs.declared.operations.Operations.{Operations}
 use Rattle.mt_pool.specs.Images.{slot}
-use Rattle.mt_paged.specs.Well.{IsOrigin, IsOpening, Opens}
+use Rattle.mt_txn.specs.Well.{IsOrigin, IsOpening, Opens}
 use Rattle.mt_restart.specs.Firsts.{AreFresh}
 use Rattle.mt_restart.specs.Schemas.{relations_in, counters_in, schema_base}
 use Rattle.mt_restart.specs.declared.schema.Schema.{Schema}

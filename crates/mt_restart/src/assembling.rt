@@ -2,14 +2,14 @@
 ghost use Rattle.std.specs.Prelude.{◌≡◌, ◌⊎◌, ◌<◌, length, IfOk, IfErr};
 ghost use Rattle.mt_base.specs.declared.refusal.Refusal.{Refusal};
 ghost use Rattle.mt_live.specs.Machine.{start};
-ghost use Rattle.mt_paged.specs.Shown.{Shows};
+ghost use Rattle.mt_txn.specs.Shown.{Shows};
 ghost use Rattle.mt_restart.specs.Schemas.{counters_in, device_bytes, relations_in, schema_base};
 
 use crate::Schema;
 use crate::opening::fresh_parts;
 use mt_base::Refusal;
 use mt_disk::Device;
-use mt_paged::Kernel;
+use mt_txn::Kernel;
 use std::alloc::Global;
 
 /// Formats a device by the schema, and gives a kernel over it that keeps so many pages in frames: no transaction lives,

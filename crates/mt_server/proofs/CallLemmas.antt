@@ -28,16 +28,16 @@ use Rattle.mt_kernel.specs.declared.calls.Called.{Called}
 use Rattle.mt_kernel.specs.declared.calls.Called.TheVariants as call
 use Rattle.mt_kernel.specs.declared.parts.Parts.{Parts}
 use Rattle.mt_kernel.specs.declared.parts.Running.{Running}
-use Rattle.mt_paged.proofs.Showing.{kept_of}
-use Rattle.mt_paged.specs.Causes.{call_cause, count_cause, first_of, is_key, is_step, is_value, name_cause, size_cause, unless}
-use Rattle.mt_paged.specs.Events.{HasCalled, IsAnsweredBy}
-use Rattle.mt_paged.specs.Shown.{Shows}
-use Rattle.mt_paged.specs.declared.kernel.Kernel.{Kernel}
+use Rattle.mt_txn.proofs.Showing.{kept_of}
+use Rattle.mt_txn.specs.Causes.{call_cause, count_cause, first_of, is_key, is_step, is_value, name_cause, size_cause, unless}
+use Rattle.mt_txn.specs.Events.{HasCalled, IsAnsweredBy}
+use Rattle.mt_txn.specs.Shown.{Shows}
+use Rattle.mt_txn.specs.declared.kernel.Kernel.{Kernel}
 use Rattle.mt_server.specs.declared.answers.Answer.TheVariants.{Replied, Refused}
 use Rattle.mt_server.specs.declared.lines.Line.TheVariants as line
 use Rattle.mt_server.proofs.TurnLemmas.{answered_refused, left_of, opened_idle, opened_stays, open_is, turn_acts}
 use Rattle.mt_server.proofs.UndoLemmas.{pages_few}
-use Rattle.mt_server.specs.Driven.{HasBroken, IsCalling, IsOpened}
+use Rattle.mt_server.specs.Driven.{HasBroken, IsCalling, IsDueTo, IsOpened, IsTested}
 use Rattle.mt_server.specs.Plays.{Play, IsTurn, is_add, with_call, IsCallWant}
 use Rattle.mt_server.specs.Runs.{IsAnsweredOr, refused_as}
 
@@ -175,10 +175,10 @@ module _ {D : Type 0} {g : Ghosts D} (seen : D → List ℕ) (may_leave : D → 
   )
 
   pub call_replied : (n : Kernel D g) (reply : Reply) → p.under_way ≡ Some calls → fault ≡ None → (reply ≡ reply_of (run p.base calls) op) × IsOpened seen may_leave p t (calls ++ (op, reply_of (run p.base calls) op) ∷ []) n
-      → IsAnsweredOr seen may_leave faults p k.relations k.counters (line.Call op) (Ok (Replied reply, Some t)) n
+      → IsAnsweredOr seen may_leave faults p k (Some t) (line.Call op) (Ok (Replied reply, Some t)) n
   call_replied n reply under none (is, opened) = (
     with_call p calls op,
-    subst (λ (x : Reply). IsTurn k.relations k.counters p (line.Call op) (Replied x) (with_call p calls op)) (sym is) (turn_acts k.relations k.counters p (Some calls) (line.Call op) under none),
+    subst (λ (x : Reply). IsTurn k.relations k.counters (IsDueTo seen may_leave k (Some t)) p (line.Call op) (Replied x) (with_call p calls op)) (sym is) (turn_acts k.relations k.counters p (Some calls) (line.Call op) under none),
     (
       calls ++ (op, reply_of (run p.base calls) op) ∷ [],
       refl,
@@ -192,12 +192,12 @@ module _ {D : Type 0} {g : Ghosts D} (seen : D → List ℕ) (may_leave : D → 
   pub call_refused : (n : Kernel D g) (r : Result Called Refusal) (why : Refusal) → r ≡ Err why → p.under_way ≡ Some calls → IsOpened seen may_leave p t calls k
       → ((y : Refusal) → call_cause k.relations k.counters k.parts t op ≡ Some y → r ≡ Err y) → (call_cause k.relations k.counters k.parts t op ≡ None → IsAnsweredBy seen may_leave k t op r)
       → ((y : Refusal) → call_cause k.relations k.counters k.parts t op ≡ Some y → n ≡ k) → ((first : Base) (s : State) → Shows seen may_leave first s k → HasCalled seen may_leave first s t op r n) → SameStates k.parts n.parts
-      → IsAnsweredOr seen may_leave faults p k.relations k.counters (line.Call op) (refused_as why (Some t)) n
+      → IsAnsweredOr seen may_leave faults p k (Some t) (line.Call op) (refused_as why (Some t)) n
   call_refused n r why is under o early answer unmoved did states =
       let stays = subst (λ (x : Result Called Refusal). (first : Base) (s : State) → Shows seen may_leave first s k → HasCalled seen may_leave first s t op x n) is did in
       let now = opened_stays seen may_leave faults p t calls k n o stays (states t) in
       let told = go (call_cause k.relations k.counters k.parts t op) refl in
-      answered_refused seen may_leave faults k.relations k.counters p (Some calls) (line.Call op) (Some t) n why under (calls, under, now) (left_of seen may_leave faults p (Some t) n (calls, under, now))
+      answered_refused seen may_leave faults p (Some calls) (line.Call op) (Some t) k n why under (calls, under, now) (left_of seen may_leave faults p (Some t) n (calls, under, now))
       (λ e. broken told e) (λ other. wants told other)
     where
       Told : Type 0
@@ -220,10 +220,18 @@ module _ {D : Type 0} {g : Ghosts D} (seen : D → List ℕ) (may_leave : D → 
       broken (inl x) e = x.1
       broken (inr x) e = absurd (x.0 e)
 
-      wants : Told → why ≢ refusal.DeviceFailed → (fault ≡ Some why) ⊎ IsCallWant op why
+      tested : (c : Option Refusal) → call_cause k.relations k.counters k.parts t op ≡ c → IsTested seen may_leave k (Some t) (line.Call op) why
+      tested None e = inr (e, subst (IsAnsweredBy seen may_leave k t op) is (answer e))
+      tested (Some y) e = inl (let same : y ≡ why = let both : ◌≡◌ {A = Result Called Refusal} (Err y) (Err why) = sym (early y e) ∙ is in cc in e ∙ ap (λ (x : Refusal). Some x) same)
+
+      due : (fault ≡ Some why) ⊎ IsCallWant op why → (fault ≡ Some why) ⊎ (IsCallWant op why × IsDueTo seen may_leave k (Some t) (line.Call op) why)
+      due (inl x) = inl x
+      due (inr want) = inr (want, inr (tested (call_cause k.relations k.counters k.parts t op) refl))
+
+      wants : Told → why ≢ refusal.DeviceFailed → (fault ≡ Some why) ⊎ (IsCallWant op why × IsDueTo seen may_leave k (Some t) (line.Call op) why)
       wants (inl x) other = absurd (other x.0)
-      wants (inr x) other = x.1
+      wants (inr x) other = due x.1
 
   -- no memory was had for a copy of it
-  pub call_wanting : p.under_way ≡ Some calls → IsOpened seen may_leave p t calls k → IsAnsweredOr seen may_leave faults p k.relations k.counters (line.Call op) (Ok (Refused refusal.NoMemory, Some t)) k
-  call_wanting under o = answered_refused seen may_leave faults k.relations k.counters p (Some calls) (line.Call op) (Some t) k refusal.NoMemory under (calls, under, o) (left_of seen may_leave faults p (Some t) k (calls, under, o)) (λ e. absurd cc) (λ other. inr tt)
+  pub call_wanting : p.under_way ≡ Some calls → IsOpened seen may_leave p t calls k → IsAnsweredOr seen may_leave faults p k (Some t) (line.Call op) (Ok (Refused refusal.NoMemory, Some t)) k
+  call_wanting under o = answered_refused seen may_leave faults p (Some calls) (line.Call op) (Some t) k k refusal.NoMemory under (calls, under, o) (left_of seen may_leave faults p (Some t) k (calls, under, o)) (λ e. absurd cc) (λ other. inr (tt, inl refl))

@@ -25,18 +25,18 @@ use Rattle.mt_kernel.specs.Consistent.{SameStates}
 use Rattle.mt_kernel.specs.Runs.{state_in}
 use Rattle.mt_kernel.specs.Work.{steps_in, undo_steps}
 use Rattle.mt_kernel.specs.declared.parts.Running.{Running}
-use Rattle.mt_paged.proofs.Living.{busy_of}
-use Rattle.mt_paged.specs.Causes.{IsFault, abort_cause, is_aborting, is_busy, is_open, step_cause, unless, first_of}
-use Rattle.mt_paged.specs.Events.{HasStepped, HasAborted}
-use Rattle.mt_paged.specs.Events.{IsBack}
-use Rattle.mt_paged.specs.Events.IsBack.{stands, drops, undoes}
-use Rattle.mt_paged.specs.Shown.{Shows, Stays}
-use Rattle.mt_paged.specs.Work.{IsAnother, IsForOther, IsAbortForOther, LowersSteps, LowersAbort}
-use Rattle.mt_paged.specs.declared.answers.Stepped.{Stepped}
-use Rattle.mt_paged.specs.declared.answers.Stepped.TheVariants as step
-use Rattle.mt_paged.specs.declared.answers.AbortStepped.{AbortStepped}
-use Rattle.mt_paged.specs.declared.answers.AbortStepped.TheVariants as abort
-use Rattle.mt_paged.specs.declared.kernel.Kernel.{Kernel}
+use Rattle.mt_txn.proofs.Living.{busy_of}
+use Rattle.mt_txn.specs.Causes.{IsFault, abort_cause, is_aborting, is_busy, is_open, step_cause, unless, first_of}
+use Rattle.mt_txn.specs.Events.{HasStepped, HasAborted}
+use Rattle.mt_txn.specs.Events.{IsBack}
+use Rattle.mt_txn.specs.Events.IsBack.{stands, drops, undoes}
+use Rattle.mt_txn.specs.Shown.{Shows, Stays}
+use Rattle.mt_txn.specs.Work.{IsAnother, IsForOther, IsAbortForOther, LowersSteps, LowersAbort}
+use Rattle.mt_txn.specs.declared.answers.Stepped.{Stepped}
+use Rattle.mt_txn.specs.declared.answers.Stepped.TheVariants as step
+use Rattle.mt_txn.specs.declared.answers.AbortStepped.{AbortStepped}
+use Rattle.mt_txn.specs.declared.answers.AbortStepped.TheVariants as abort
+use Rattle.mt_txn.specs.declared.kernel.Kernel.{Kernel}
 use Rattle.mt_server.proofs.ForceLemmas.{fails_for}
 use Rattle.mt_server.specs.Driven.{Eases, Fails, IsCalling, IsGivenUp, IsGoing, IsMoved, IsBacked, IsOpened, IsPlayed, IsUndone, NobodyCommits, ShowsOne}
 use Rattle.mt_server.specs.Plays.{Play}

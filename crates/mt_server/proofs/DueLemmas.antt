@@ -22,9 +22,9 @@ use Rattle.mt_model.specs.History.{Call, run}
 use Rattle.mt_model.specs.Model.{Base}
 use Rattle.mt_kernel.specs.Booked.{booked_each, durable_count, durable_txns, or_zero, session_at}
 use Rattle.mt_kernel.specs.declared.parts.Commit.{Commit}
-use Rattle.mt_paged.specs.Shown.{Shows}
-use Rattle.mt_paged.specs.declared.answers.KernelForced.TheVariants as forced
-use Rattle.mt_paged.specs.declared.kernel.Kernel.{Kernel}
+use Rattle.mt_txn.specs.Shown.{Shows}
+use Rattle.mt_txn.specs.declared.answers.KernelForced.TheVariants as forced
+use Rattle.mt_txn.specs.declared.kernel.Kernel.{Kernel}
 use Rattle.mt_server.specs.Driven.{IsDueIn, IsEnding, IsForcing, IsGivenUp, IsResting}
 use Rattle.mt_server.specs.Plays.{Play, committed}
 

@@ -15,14 +15,14 @@ use Rattle.mt_kernel.specs.Runs.{state_in}
 use Rattle.mt_kernel.specs.Work.{LeavesUndo}
 use Rattle.mt_kernel.specs.declared.parts.Commit.{Commit}
 use Rattle.mt_kernel.specs.declared.parts.Parts.{Parts}
-use Rattle.mt_paged.proofs.Living.{no_commits}
-use Rattle.mt_paged.specs.Causes.{IsFailure, IsFault}
-use Rattle.mt_paged.specs.Events.{HasForced, IsForcedBy}
-use Rattle.mt_paged.specs.Shown.{Shows, Stays}
-use Rattle.mt_paged.specs.Well.{IsWell}
-use Rattle.mt_paged.specs.declared.answers.KernelForced.{KernelForced}
-use Rattle.mt_paged.specs.declared.answers.KernelForced.TheVariants as forced
-use Rattle.mt_paged.specs.declared.kernel.Kernel.{Kernel}
+use Rattle.mt_txn.proofs.Living.{no_commits}
+use Rattle.mt_txn.specs.Causes.{IsFailure, IsFault}
+use Rattle.mt_txn.specs.Events.{HasForced, IsForcedBy}
+use Rattle.mt_txn.specs.Shown.{Shows, Stays}
+use Rattle.mt_txn.specs.Well.{IsWell}
+use Rattle.mt_txn.specs.declared.answers.KernelForced.{KernelForced}
+use Rattle.mt_txn.specs.declared.answers.KernelForced.TheVariants as forced
+use Rattle.mt_txn.specs.declared.kernel.Kernel.{Kernel}
 use Rattle.mt_server.specs.Driven.{Eases, Fails, HasBroken, IsForcing, NobodyCommits}
 
 -- ---- why a step is given up

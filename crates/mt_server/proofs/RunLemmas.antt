@@ -8,7 +8,7 @@ use Rattle.mt_base.specs.declared.refusal.Refusal.{Refusal}
 use Rattle.mt_base.specs.declared.refusal.Refusal.TheVariants as refusal
 use Rattle.mt_disk.specs.declared.device.Device.{Ghosts}
 use Rattle.mt_model.specs.History.{Call}
-use Rattle.mt_paged.specs.declared.kernel.Kernel.{Kernel}
+use Rattle.mt_txn.specs.declared.kernel.Kernel.{Kernel}
 use Rattle.mt_server.specs.declared.lines.Line.{Line}
 use Rattle.mt_server.specs.declared.lines.Line.TheVariants as line
 use Rattle.mt_server.specs.declared.answers.Answer.{Answer}
@@ -16,9 +16,10 @@ use Rattle.mt_server.specs.declared.answers.Answer.TheVariants.{Aborted, Refused
 use Rattle.mt_server.specs.declared.running.RunFault.{RunFault}
 use Rattle.mt_server.specs.declared.running.RunFault.TheVariants as fault
 use Rattle.mt_server.specs.Answers.{AppendsFront, answer_text, transcript_text}
-use Rattle.mt_server.specs.Driven.{IsBeside, IsGivenUp, IsResting}
+use Rattle.mt_txn.specs.Shown.{SameSchema}
+use Rattle.mt_server.specs.Driven.{IsBeside, IsDueTo, IsGivenUp, IsResting}
 use Rattle.mt_server.specs.Plays.{Play, IsTurn, acts, refuses, Runs, starts, goes_on, after_at, put_off}
-use Rattle.mt_server.specs.Runs.{HasRun, HasRunLines, IsAnswered, IsCutAtEnd, IsCutShort, IsEnded, IsEndedFor, nothing, aborted, failed, IsLeftFor, IsStopped, IsToldFor, failure_line, last_line}
+use Rattle.mt_server.specs.Runs.{HasRun, HasRunLines, HasTurned, IsAnswered, IsCutAtEnd, IsCutShort, IsEnded, IsEndedFor, nothing, aborted, failed, IsLeftFor, IsStopped, IsToldFor, failure_line, last_line}
 use Rattle.mt_server.proofs.TextLemmas.{front_then}
 
 -- ---- texts
@@ -72,62 +73,72 @@ after_session p (Some calls) (line.Call op) = refl
 after_session p (Some calls) line.Commit = refl
 after_session p (Some calls) line.Abort = refl
 
-turn_session : (relations counters : ℕ) (p q : Play) (l : Line) (a : Answer) → IsTurn relations counters p l a q → q.session ≡ p.session
+turn_session : {IsDue : Line → Refusal → Type 0} → (relations counters : ℕ) (p q : Play) (l : Line) (a : Answer) → IsTurn relations counters IsDue p l a q → q.session ≡ p.session
 turn_session relations counters p _ l _ (acts none) = after_session p p.under_way l
 turn_session relations counters p _ l _ (refuses why cause) = refl
 
-runs_session : (relations counters : ℕ) (p q : Play) (ls : List Line) (as' : List Answer) → Runs relations counters p ls as' q → q.session ≡ p.session
-runs_session relations counters p _ _ _ starts = refl
-runs_session relations counters p _ _ _ (goes_on lines answers m q line answer before turn) = turn_session relations counters m q line answer turn ∙ runs_session relations counters p m lines answers before
-
-runs_then : (relations counters : ℕ) (p m q : Play) (ls ms : List Line) (as' bs : List Answer) → Runs relations counters p ls as' m → Runs relations counters m ms bs q → Runs relations counters p (ls ++ ms) (as' ++ bs) q
-runs_then relations counters p m _ ls _ as' _ first starts = subst (λ (X : Type 0). X) (λ i. Runs relations counters p (sym (append-nil ls) i) (sym (append-nil as') i) m) first
-runs_then relations counters p m _ ls _ as' _ first (goes_on lines answers k q line answer before turn) =
-    subst (λ (X : Type 0). X) (λ i. Runs relations counters p (append_assoc ls lines (line ∷ []) i) (append_assoc as' answers (answer ∷ []) i) q)
-    (goes_on (ls ++ lines) (as' ++ answers) k q line answer (runs_then relations counters p m k ls lines as' answers first before) turn)
+runs_then : {S : Type 0} {Turn : S → Line → Answer → S → Type 0} → (s m e : S) (ls ms : List Line) (as' bs : List Answer) → Runs Turn s ls as' m → Runs Turn m ms bs e → Runs Turn s (ls ++ ms) (as' ++ bs) e
+runs_then {Turn = Turn} s m _ ls _ as' _ first starts = subst (λ (X : Type 0). X) (λ i. Runs Turn s (sym (append-nil ls) i) (sym (append-nil as') i) m) first
+runs_then {Turn = Turn} s m _ ls _ as' _ first (goes_on lines answers k e line answer before turn) =
+    subst (λ (X : Type 0). X) (λ i. Runs Turn s (append_assoc ls lines (line ∷ []) i) (append_assoc as' answers (answer ∷ []) i) e)
+    (goes_on (ls ++ lines) (as' ++ answers) k e line answer (runs_then s m k ls lines as' answers first before) turn)
 
 -- ---- a line
 
-module _ {D : Type 0} {g : Ghosts D} (seen : D → List ℕ) (may_leave : D → List ℕ → Type 0) (faults : D → ℕ) (p : Play) (relations counters : ℕ) where
-  pub line_told : (l : Line) (a : Answer) (live : Option ℕ) (was now : Option (List ℕ)) (n : Kernel D g) → IsAnswered seen may_leave faults p relations counters l a live n → Appends was now (answer_text a ++ 10 ∷ [])
-      → HasRunLines seen may_leave p relations counters (l ∷ []) was now live n
-  line_told l a live was now n (q, turn, beside) text = record {
-    answers = a ∷ [];
+module _ {D : Type 0} {g : Ghosts D} (seen : D → List ℕ) (may_leave : D → List ℕ → Type 0) (faults : D → ℕ) (p : Play) (k : Kernel D g) where
+  -- the kernels of a run, each beside its play
+  abbrev Turned : Play × Kernel D g → List Line → List Answer → Play × Kernel D g → Type 0
+  Turned = Runs (HasTurned seen may_leave)
+
+  runs_session : (s e : Play × Kernel D g) (ls : List Line) (as' : List Answer) → Turned s ls as' e → e.0.session ≡ s.0.session
+  runs_session s _ _ _ starts = refl
+  runs_session s _ _ _ (goes_on lines answers m e line answer before t) = turn_session m.1.relations m.1.counters m.0 e.0 line answer t.turn ∙ runs_session s m lines answers before
+
+  turned : (l : Line) (a : Answer) (live : Option ℕ) (q : Play) (n : Kernel D g) → IsBeside seen may_leave p live k → IsTurn k.relations k.counters (IsDueTo seen may_leave k live) p l a q → SameSchema k n
+      → Turned (p, k) (l ∷ []) (a ∷ []) (q, n)
+  turned l a live q n at turn schema = goes_on [] [] (p, k) (q, n) l a starts (record { live = live; beside = at; turn = turn; schema = schema })
+
+  pub line_told : (l : Line) (told : Answer × Option ℕ) (live : Option ℕ) (was now : Option (List ℕ)) (n : Kernel D g) → IsBeside seen may_leave p live k → SameSchema k n → IsAnswered seen may_leave p k live l told n → Appends was now (answer_text told.0 ++ 10 ∷ [])
+      → HasRunLines seen may_leave p k (l ∷ []) was now told.1 n
+  line_told l told live was now n at schema (q, turn, beside) text = record {
+    answers = told.0 ∷ [];
     play = q;
-    ran = goes_on [] [] p q l a starts turn;
-    told = subst (Appends was now) (sym (text_one a)) text;
+    ran = turned l told.0 live q n at turn schema;
+    told = subst (Appends was now) (sym (text_one told.0)) text;
     beside = beside;
   }
 
-  pub line_unheard : (l : Line) (a : Answer) (live : Option ℕ) (was now : Option (List ℕ)) (m n : Kernel D g) (why : RunFault) → IsAnswered seen may_leave faults p relations counters l a live m → AppendsFront was now (answer_text a ++ 10 ∷ [])
-      → ((q : Play) → IsBeside seen may_leave q live m → IsLeftFor seen may_leave faults q n why) → IsCutShort seen may_leave faults p relations counters (l ∷ []) was now n why
-  line_unheard l a live was now m n why (q, turn, beside) front left = record {
+  pub line_unheard : (l : Line) (told : Answer × Option ℕ) (live : Option ℕ) (was now : Option (List ℕ)) (m n : Kernel D g) (why : RunFault) → IsBeside seen may_leave p live k → SameSchema k m → IsAnswered seen may_leave p k live l told m
+      → AppendsFront was now (answer_text told.0 ++ 10 ∷ []) → ((q : Play) → IsBeside seen may_leave q told.1 m → IsLeftFor seen may_leave faults q n why) → IsCutShort seen may_leave faults p k (l ∷ []) was now n why
+  line_unheard l told live was now m n why at schema (q, turn, beside) front left = record {
     before = l ∷ [];
     rest = [];
     split = refl;
-    answers = a ∷ [];
+    answers = told.0 ∷ [];
     play = q;
-    ran = goes_on [] [] p q l a starts turn;
-    told = told why (subst (AppendsFront was now) (sym (text_one a)) front);
+    last = m;
+    ran = turned l told.0 live q m at turn schema;
+    told = ends why (subst (AppendsFront was now) (sym (text_one told.0)) front);
     left = left q beside;
   }
     where
-      told : (x : RunFault) → AppendsFront was now (transcript_text (a ∷ [])) → IsToldFor was now (a ∷ []) x
-      told fault.Output f = ([], nothing, f)
-      told (fault.Refused y) f = inr f
+      ends : (x : RunFault) → AppendsFront was now (transcript_text (told.0 ∷ [])) → IsToldFor was now (told.0 ∷ []) x
+      ends fault.Output f = ([], nothing, f)
+      ends (fault.Refused y) f = inr f
 
   -- it was given up
   stopped_left : (n : Kernel D g) (was now : Option (List ℕ)) (y : Refusal) (why : RunFault) → IsGivenUp seen may_leave faults p n y → IsStopped was now y why → IsLeftFor seen may_leave faults p n why
   stopped_left n was now y fault.Output (left, fails) (is, front) = inr (left, (fails (λ e. let wrong : refusal.DeviceFailed ≡ refusal.NoMemory = sym is ∙ e in cc)).1)
   stopped_left n was now y (fault.Refused why) given (is, all) = subst (IsGivenUp seen may_leave faults p n) (sym is) given
 
-  pub line_stopped : (l : Line) (y : Refusal) (was now : Option (List ℕ)) (n : Kernel D g) (why : RunFault) → IsGivenUp seen may_leave faults p n y → IsStopped was now y why → IsCutShort seen may_leave faults p relations counters (l ∷ []) was now n why
+  pub line_stopped : (l : Line) (y : Refusal) (was now : Option (List ℕ)) (n : Kernel D g) (why : RunFault) → IsGivenUp seen may_leave faults p n y → IsStopped was now y why → IsCutShort seen may_leave faults p k (l ∷ []) was now n why
   line_stopped l y was now n why given stopped = record {
     before = [];
     rest = l ∷ [];
     split = refl;
     answers = [];
     play = p;
+    last = k;
     ran = starts;
     told = stopped_told was now y why stopped;
     left = stopped_left n was now y why given stopped;
@@ -135,53 +146,53 @@ module _ {D : Type 0} {g : Ghosts D} (seen : D → List ℕ) (may_leave : D → 
 
   -- ---- lines
 
-  pub no_lines : (a : Option (List ℕ)) (n : Kernel D g) → IsBeside seen may_leave p None n → HasRunLines seen may_leave p relations counters [] a a None n
-  no_lines a n beside = record { answers = []; play = p; ran = starts; told = text_none a; beside = beside }
+  pub no_lines : (a : Option (List ℕ)) → IsBeside seen may_leave p None k → HasRunLines seen may_leave p k [] a a None k
+  no_lines a beside = record { answers = []; play = p; ran = starts; told = text_none a; beside = beside }
 
   pub line_more : (session : ℕ) (lines : List Line) (i : ℕ) (l : Line) (live now : Option ℕ) (a b c : Option (List ℕ)) (m n : Kernel D g) → p.session ≡ session → i < length lines → l ≡ get_or lines i l
-      → HasRunLines seen may_leave p relations counters (take i lines) a b live m → (m.relations ≡ relations) × (m.counters ≡ counters)
-      → ((q : Play) → q.session ≡ session → IsBeside seen may_leave q live m → HasRunLines seen may_leave q m.relations m.counters (l ∷ []) b c now n) → HasRunLines seen may_leave p relations counters (take (suc i) lines) a c now n
-  line_more session lines i l live now a b c m n own lt is ran schema next =
-      let x = next ran.play (runs_session relations counters p ran.play (take i lines) ran.answers ran.ran ∙ own) ran.beside in
-      let one : Runs relations counters ran.play (l ∷ []) x.answers x.play = subst (λ (X : Type 0). X) (λ j. Runs (schema.0 j) (schema.1 j) ran.play (l ∷ []) x.answers x.play) x.ran in
+      → HasRunLines seen may_leave p k (take i lines) a b live m
+      → ((q : Play) → q.session ≡ session → IsBeside seen may_leave q live m → HasRunLines seen may_leave q m (l ∷ []) b c now n) → HasRunLines seen may_leave p k (take (suc i) lines) a c now n
+  line_more session lines i l live now a b c m n own lt is ran next =
+      let x = next ran.play (runs_session (p, k) (ran.play, m) (take i lines) ran.answers ran.ran ∙ own) ran.beside in
       let all : take i lines ++ l ∷ [] ≡ take (suc i) lines = ap (λ (y : Line). take i lines ++ y ∷ []) is ∙ sym (take-suc lines i l lt) in
       record {
         answers = ran.answers ++ x.answers;
         play = x.play;
-        ran = subst (λ (ls : List Line). Runs relations counters p ls (ran.answers ++ x.answers) x.play) all (runs_then relations counters p ran.play x.play (take i lines) (l ∷ []) ran.answers x.answers ran.ran one);
+        ran = subst (λ (ls : List Line). Turned (p, k) ls (ran.answers ++ x.answers) (x.play, n)) all (runs_then (p, k) (ran.play, m) (x.play, n) (take i lines) (l ∷ []) ran.answers x.answers ran.ran x.ran);
         told = appends_all a b c ran.answers x.answers ran.told x.told;
         beside = x.beside;
       }
 
-  cut_behind : (ls ms rest lines : List Line) (live : Option ℕ) (a b c : Option (List ℕ)) (m n : Kernel D g) (why : RunFault) → lines ≡ ls ++ (ms ++ rest) → (ran : HasRunLines seen may_leave p relations counters ls a b live m)
-      → IsCutShort seen may_leave faults ran.play relations counters ms b c n why → IsCutShort seen may_leave faults p relations counters lines a c n why
+  cut_behind : (ls ms rest lines : List Line) (live : Option ℕ) (a b c : Option (List ℕ)) (m n : Kernel D g) (why : RunFault) → lines ≡ ls ++ (ms ++ rest) → (ran : HasRunLines seen may_leave p k ls a b live m)
+      → IsCutShort seen may_leave faults ran.play m ms b c n why → IsCutShort seen may_leave faults p k lines a c n why
   cut_behind ls ms rest lines live a b c m n why whole ran x = record {
     before = ls ++ x.before;
     rest = x.rest ++ rest;
     split = whole ∙ ap (λ (t : List Line). ls ++ (t ++ rest)) x.split ∙ ap (λ (t : List Line). ls ++ t) (append_assoc x.before x.rest rest) ∙ sym (append_assoc ls x.before (x.rest ++ rest));
     answers = ran.answers ++ x.answers;
     play = x.play;
-    ran = runs_then relations counters p ran.play x.play ls x.before ran.answers x.answers ran.ran x.ran;
+    last = x.last;
+    ran = runs_then (p, k) (ran.play, m) (x.play, x.last) ls x.before ran.answers x.answers ran.ran x.ran;
     told = told_behind a b c ran.answers x.answers why ran.told x.told;
     left = x.left;
   }
 
   pub line_cut : (session : ℕ) (lines : List Line) (i : ℕ) (l : Line) (live : Option ℕ) (a b c : Option (List ℕ)) (m n : Kernel D g) (why : RunFault) → p.session ≡ session → i < length lines → l ≡ get_or lines i l
-      → HasRunLines seen may_leave p relations counters (take i lines) a b live m → (m.relations ≡ relations) × (m.counters ≡ counters)
-      → ((q : Play) → q.session ≡ session → IsBeside seen may_leave q live m → IsCutShort seen may_leave faults q m.relations m.counters (l ∷ []) b c n why) → IsCutShort seen may_leave faults p relations counters lines a c n why
-  line_cut session lines i l live a b c m n why own lt is ran schema cut =
-      let x = cut ran.play (runs_session relations counters p ran.play (take i lines) ran.answers ran.ran ∙ own) ran.beside in
-      let here : IsCutShort seen may_leave faults ran.play relations counters (l ∷ []) b c n why = subst (λ (X : Type 0). X) (λ j. IsCutShort seen may_leave faults ran.play (schema.0 j) (schema.1 j) (l ∷ []) b c n why) x in
+      → HasRunLines seen may_leave p k (take i lines) a b live m
+      → ((q : Play) → q.session ≡ session → IsBeside seen may_leave q live m → IsCutShort seen may_leave faults q m (l ∷ []) b c n why) → IsCutShort seen may_leave faults p k lines a c n why
+  line_cut session lines i l live a b c m n why own lt is ran cut =
+      let x = cut ran.play (runs_session (p, k) (ran.play, m) (take i lines) ran.answers ran.ran ∙ own) ran.beside in
       let whole : lines ≡ take i lines ++ (l ∷ [] ++ drop (suc i) lines) =
       sym (take-append-drop i lines) ∙ ap (λ (t : List Line). take i lines ++ t) (drop-cons lines i l lt) ∙ ap (λ (y : Line). take i lines ++ y ∷ drop (suc i) lines) (sym is) in
-      cut_behind (take i lines) (l ∷ []) (drop (suc i) lines) lines live a b c m n why whole ran here
+      cut_behind (take i lines) (l ∷ []) (drop (suc i) lines) lines live a b c m n why whole ran x
 
   -- ---- the script's end
 
-  pub closed_run : (lines : List Line) (a b : Option (List ℕ)) (n : Kernel D g) → HasRunLines seen may_leave p relations counters lines a b None n → HasRun seen may_leave p relations counters lines a b n
+  pub closed_run : (lines : List Line) (a b : Option (List ℕ)) (n : Kernel D g) → HasRunLines seen may_leave p k lines a b None n → HasRun seen may_leave p k lines a b n
   closed_run lines a b n ran = record {
     answers = ran.answers;
     play = ran.play;
+    last = n;
     ran = ran.ran;
     told =
         let none : ran.answers ++ last_line ran.play.under_way ≡ ran.answers = ap (λ (u : Option (List Call)). ran.answers ++ last_line u) ran.beside.nothing ∙ append-nil ran.answers in
@@ -189,20 +200,21 @@ module _ {D : Type 0} {g : Ghosts D} (seen : D → List ℕ) (may_leave : D → 
     beside = record { shown = ∥∥₁_map ran.beside.shown (λ (first, s, shows, (played, nobody)). (first, s, shows, (record { book = played.book; base = played.base }, nobody))); nothing = refl };
   }
 
-  pub ended_run : (lines : List Line) (t : ℕ) (a b c : Option (List ℕ)) (m n : Kernel D g) → HasRunLines seen may_leave p relations counters lines a b (Some t) m → ((q : Play) → IsBeside seen may_leave q (Some t) m → IsEnded seen may_leave q b c n)
-      → HasRun seen may_leave p relations counters lines a c n
+  pub ended_run : (lines : List Line) (t : ℕ) (a b c : Option (List ℕ)) (m n : Kernel D g) → HasRunLines seen may_leave p k lines a b (Some t) m → ((q : Play) → IsBeside seen may_leave q (Some t) m → IsEnded seen may_leave q b c n)
+      → HasRun seen may_leave p k lines a c n
   ended_run lines t a b c m n ran ended =
       let e = ended ran.play ran.beside in
       record {
         answers = ran.answers;
         play = ran.play;
+        last = m;
         ran = ran.ran;
         told = subst (λ (u : Option (List Call)). Appends a c (transcript_text (ran.answers ++ last_line u))) (sym ran.beside.1) (appends_all a b c ran.answers (Aborted ∷ []) ran.told e.told);
         beside = e.beside;
       }
 
-  pub end_cut : (lines : List Line) (t : ℕ) (a b c : Option (List ℕ)) (m n : Kernel D g) (why : RunFault) → HasRunLines seen may_leave p relations counters lines a b (Some t) m
-      → ((q : Play) → IsBeside seen may_leave q (Some t) m → IsCutAtEnd seen may_leave faults q b c n why) → IsCutShort seen may_leave faults p relations counters lines a c n why
+  pub end_cut : (lines : List Line) (t : ℕ) (a b c : Option (List ℕ)) (m n : Kernel D g) (why : RunFault) → HasRunLines seen may_leave p k lines a b (Some t) m
+      → ((q : Play) → IsBeside seen may_leave q (Some t) m → IsCutAtEnd seen may_leave faults q b c n why) → IsCutShort seen may_leave faults p k lines a c n why
   end_cut lines t a b c m n why ran cut =
       let e = cut ran.play ran.beside in
       record {
@@ -211,6 +223,7 @@ module _ {D : Type 0} {g : Ghosts D} (seen : D → List ℕ) (may_leave : D → 
         split = sym (append-nil lines);
         answers = ran.answers;
         play = ran.play;
+        last = m;
         ran = ran.ran;
         told = subst (λ (t : List Answer). IsToldFor a c t why) (append-nil ran.answers) (told_behind a b c ran.answers [] why ran.told e.told);
         left = e.left;
@@ -228,6 +241,6 @@ module _ {D : Type 0} {g : Ghosts D} (seen : D → List ℕ) (may_leave : D → 
   pub left_resting : (n : Kernel D g) → IsResting seen may_leave p n → IsResting seen may_leave (put_off p) n
   left_resting n r = record { shown = ∥∥₁_map r.shown (λ (first, s, shows, (played, nobody)). (first, s, shows, (record { book = played.book; base = played.base }, nobody))); nothing = refl }
 
-  pub cut_ended : (lines : List Line) (a b : Option (List ℕ)) (n : Kernel D g) (why : RunFault) → IsCutShort seen may_leave faults p relations counters lines a b n why → IsEndedFor faults n why
+  pub cut_ended : (lines : List Line) (a b : Option (List ℕ)) (n : Kernel D g) (why : RunFault) → IsCutShort seen may_leave faults p k lines a b n why → IsEndedFor faults n why
   cut_ended lines a b n fault.Output cut = tt
   cut_ended lines a b n (fault.Refused y) cut = cut.left.1

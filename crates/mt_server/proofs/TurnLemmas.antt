@@ -28,12 +28,12 @@ use Rattle.mt_kernel.specs.Work.{undo_steps}
 use Rattle.mt_kernel.specs.declared.parts.Commit.{Commit}
 use Rattle.mt_kernel.specs.declared.parts.Parts.{Parts}
 use Rattle.mt_kernel.specs.declared.parts.Running.{Running}
-use Rattle.mt_paged.proofs.Living.{idle_of, no_commits}
-use Rattle.mt_paged.proofs.Showing.{kept_of}
-use Rattle.mt_paged.specs.Causes.{begin_cause, commit_cause, first_of, is_busy, is_open, open_cause, unless}
-use Rattle.mt_paged.specs.Shown.{SameSchema, Shows, Stays}
-use Rattle.mt_paged.specs.Well.{ShowsIn}
-use Rattle.mt_paged.specs.declared.kernel.Kernel.{Kernel}
+use Rattle.mt_txn.proofs.Living.{idle_of, no_commits}
+use Rattle.mt_txn.proofs.Showing.{kept_of}
+use Rattle.mt_txn.specs.Causes.{begin_cause, commit_cause, first_of, is_busy, is_open, open_cause, unless}
+use Rattle.mt_txn.specs.Shown.{SameSchema, Shows, Stays}
+use Rattle.mt_txn.specs.Well.{ShowsIn}
+use Rattle.mt_txn.specs.declared.kernel.Kernel.{Kernel}
 use Rattle.mt_server.specs.declared.answers.Answer.TheVariants.{Begun, Committed, Refused}
 use Rattle.mt_server.specs.declared.lines.Line.{Line}
 use Rattle.mt_server.specs.declared.lines.Line.TheVariants as line
@@ -41,17 +41,20 @@ use Rattle.mt_server.proofs.DriveLemmas.{nobody_commits, nobody_there}
 use Rattle.mt_server.proofs.DueLemmas.{due_start}
 use Rattle.mt_server.proofs.ForceLemmas.{fails_for, well_of}
 use Rattle.mt_server.proofs.UndoLemmas.{undo_few}
-use Rattle.mt_server.specs.Driven.{Fails, HasBroken, IsBeside, IsEnding, IsGivenUp, IsGoing, IsLeft, IsOpened, IsResting, NobodyCommits}
+use Rattle.mt_server.specs.Driven.{Fails, HasBroken, IsBeside, IsDueTo, IsEnding, IsGivenUp, IsGoing, IsLeft, IsOpened, IsResting, IsTested, NobodyCommits}
 use Rattle.mt_server.specs.Plays.{Play, IsTurn, acts, refuses, after_at, answer_at, committed, fault_at, IsBeginWant, IsWant}
 use Rattle.mt_server.specs.Runs.{IsAnsweredOr, refused_as}
 
 -- ---- a turn, by what is under way
 
-pub turn_acts : (relations counters : ℕ) (p : Play) (u : Option (List Call)) (l : Line) → p.under_way ≡ u → fault_at relations counters u l ≡ None → IsTurn relations counters p l (answer_at p u l) (after_at p u l)
-turn_acts relations counters p u l is = subst (λ (v : Option (List Call)). fault_at relations counters v l ≡ None → IsTurn relations counters p l (answer_at p v l) (after_at p v l)) is acts
+pub turn_acts : {IsDue : Line → Refusal → Type 0} → (relations counters : ℕ) (p : Play) (u : Option (List Call)) (l : Line) → p.under_way ≡ u → fault_at relations counters u l ≡ None
+    → IsTurn relations counters IsDue p l (answer_at p u l) (after_at p u l)
+turn_acts {IsDue = IsDue} relations counters p u l is = subst (λ (v : Option (List Call)). fault_at relations counters v l ≡ None → IsTurn relations counters IsDue p l (answer_at p v l) (after_at p v l)) is acts
 
-turn_refuses : (relations counters : ℕ) (p : Play) (u : Option (List Call)) (l : Line) (why : Refusal) → p.under_way ≡ u → (fault_at relations counters u l ≡ Some why) ⊎ IsWant u l why → IsTurn relations counters p l (Refused why) p
-turn_refuses relations counters p u l why is = subst (λ (v : Option (List Call)). (fault_at relations counters v l ≡ Some why) ⊎ IsWant v l why → IsTurn relations counters p l (Refused why) p) is (refuses why)
+turn_refuses : {IsDue : Line → Refusal → Type 0} → (relations counters : ℕ) (p : Play) (u : Option (List Call)) (l : Line) (why : Refusal) → p.under_way ≡ u → (fault_at relations counters u l ≡ Some why) ⊎ (IsWant u l why × IsDue l why)
+    → IsTurn relations counters IsDue p l (Refused why) p
+turn_refuses {IsDue = IsDue} relations counters p u l why is =
+    subst (λ (v : Option (List Call)). (fault_at relations counters v l ≡ Some why) ⊎ (IsWant v l why × IsDue l why) → IsTurn relations counters IsDue p l (Refused why) p) is (refuses why)
 
 no_member : (o : Option Member) → option_map (λ (m : Member). m.session) o ≡ None → o ≡ None
 no_member None is = refl
@@ -81,11 +84,16 @@ waits_in l before r is =
 
 module _ {D : Type 0} {g : Ghosts D} (seen : D → List ℕ) (may_leave : D → List ℕ → Type 0) (faults : D → ℕ) where
   -- a refusal is an answer, unless the device has failed
-  pub answered_refused : (relations counters : ℕ) (p : Play) (u : Option (List Call)) (l : Line) (live : Option ℕ) (n : Kernel D g) (why : Refusal) → p.under_way ≡ u → IsBeside seen may_leave p live n → IsLeft seen may_leave p n
-      → (why ≡ refusal.DeviceFailed → HasBroken faults n) → (why ≢ refusal.DeviceFailed → (fault_at relations counters u l ≡ Some why) ⊎ IsWant u l why)
-      → IsAnsweredOr seen may_leave faults p relations counters l (refused_as why live) n
-  answered_refused relations counters p u l live n refusal.DeviceFailed under beside left broken wants = (left, λ other. (refl, broken refl))
-  answered_refused relations counters p u l live n why under beside left broken wants = (p, turn_refuses relations counters p u l _ under (wants (λ e. cc)), beside)
+  pub answered_refused : (p : Play) (u : Option (List Call)) (l : Line) (live : Option ℕ) (k n : Kernel D g) (why : Refusal) → p.under_way ≡ u → IsBeside seen may_leave p live n → IsLeft seen may_leave p n
+      → (why ≡ refusal.DeviceFailed → HasBroken faults n) → (why ≢ refusal.DeviceFailed → (fault_at k.relations k.counters u l ≡ Some why) ⊎ (IsWant u l why × IsDueTo seen may_leave k live l why))
+      → IsAnsweredOr seen may_leave faults p k live l (refused_as why live) n
+  answered_refused p u l live k n refusal.DeviceFailed under beside left broken wants = (left, λ other. (refl, broken refl))
+  answered_refused p u l live k n why under beside left broken wants = (p, turn_refuses k.relations k.counters p u l _ under (wants (λ e. cc)), beside)
+
+  -- memory alone is wanted without a test
+  due_of : (k : Kernel D g) (live : Option ℕ) (l : Line) (why : Refusal) → (why ≢ refusal.NoMemory → IsTested seen may_leave k live l why) → IsDueTo seen may_leave k live l why
+  due_of k live l refusal.NoMemory tested = inl refl
+  due_of k live l why tested = inr (tested (λ e. cc))
 
   -- ---- transports
 
@@ -152,14 +160,15 @@ module _ {D : Type 0} {g : Ghosts D} (seen : D → List ℕ) (may_leave : D → 
           by false false e = cc
 
   pub begin_refused : (p : Play) (k n : Kernel D g) (why : Refusal) → IsResting seen may_leave p k → n.parts ≡ k.parts → SameSchema k n → (why ≢ refusal.NoMemory → begin_cause k.parts ≡ Some why)
-      → IsAnsweredOr seen may_leave faults p k.relations k.counters line.Begin (refused_as why None) n
+      → IsAnsweredOr seen may_leave faults p k None line.Begin (refused_as why None) n
   begin_refused p k n why r same schema cause =
       let none = resting_few p k r in
       let now = resting_stays p k n r (parts_stay k n same schema) in
-      answered_refused k.relations k.counters p None line.Begin None n why r.nothing now (left_of p None n now) (λ is. begin_broken k n why none same is cause) (λ other. inr (begin_wants k why none other cause))
+      answered_refused p None line.Begin None k n why r.nothing now (left_of p None n now) (λ is. begin_broken k n why none same is cause)
+      (λ other. inr (begin_wants k why none other cause, due_of k None line.Begin why cause))
 
   pub begin_done : (p : Play) (k n : Kernel D g) (session txn : ℕ) → p.session ≡ session → IsResting seen may_leave p k → txn ≡ k.parts.live.begun + 1 → ((first : Base) (s : State) → Shows seen may_leave first s k → Shows seen may_leave first (begun s session) n)
-      → SetsState k.parts n.parts txn (Some Open) → IsAnsweredOr seen may_leave faults p k.relations k.counters line.Begin (Ok (Begun, Some txn)) n
+      → SetsState k.parts n.parts txn (Some Open) → IsAnsweredOr seen may_leave faults p k None line.Begin (Ok (Begun, Some txn)) n
   begin_done p k n session txn own r number did opened = (
     record p { under_way = Some [] },
     turn_acts k.relations k.counters p None line.Begin r.nothing refl,
@@ -207,12 +216,12 @@ module _ {D : Type 0} {g : Ghosts D} (seen : D → List ℕ) (may_leave : D → 
   }
 
   pub commit_done : (p : Play) (k n : Kernel D g) (t place : ℕ) (calls : List Call) → p.under_way ≡ Some calls → IsOpened seen may_leave p t calls k → place ≡ length k.parts.book.items + length k.parts.commits.items + 1 → IsResting seen may_leave (committed p calls) n
-      → IsAnsweredOr seen may_leave faults p k.relations k.counters line.Commit (Ok (Committed place, None)) n
+      → IsAnsweredOr seen may_leave faults p k (Some t) line.Commit (Ok (Committed place, None)) n
   commit_done p k n t place calls under o is ended =
       let many : length k.parts.commits.items ≡ 0 = ap (λ (cs : List Commit). length cs) (none_of p k t calls o) in
       let book = book_of p k t calls o in
       let at : length p.book + 1 ≡ place = omega (arith, is, many, book) in
-      (committed p calls, subst (λ (i : ℕ). IsTurn k.relations k.counters p line.Commit (Committed i) (committed p calls)) at (turn_acts k.relations k.counters p (Some calls) line.Commit under refl), ended)
+      (committed p calls, subst (λ (i : ℕ). IsTurn k.relations k.counters (IsDueTo seen may_leave k (Some t)) p line.Commit (Committed i) (committed p calls)) at (turn_acts k.relations k.counters p (Some calls) line.Commit under refl), ended)
 
   commit_cause_is : (k : Kernel D g) (t : ℕ) → state_in k.parts.live.members t ≡ Some Open → is_busy k.parts t ≡ false → commit_cause k.parts t ≡ (if has_failed k.parts.operations.store.log then Some refusal.DeviceFailed else None)
   commit_cause_is k t state idle = ap₂ (λ (o : Option TxnState) (b : Bool). first_of (if has_failed k.parts.operations.store.log then Some refusal.DeviceFailed else unless (is_open o) refusal.Stranger) (if b then Some refusal.Busy else None)) state idle ∙ by (has_failed k.parts.operations.store.log)
@@ -226,12 +235,12 @@ module _ {D : Type 0} {g : Ghosts D} (seen : D → List ℕ) (may_leave : D → 
   failing_want n why fails other = absurd (other (fails (λ e. cc)).0)
 
   pub commit_refused : (p : Play) (k n : Kernel D g) (t : ℕ) (calls : List Call) (why : Refusal) → p.under_way ≡ Some calls → IsOpened seen may_leave p t calls k → Stays seen may_leave k n → SameStates k.parts n.parts
-      → (why ≢ refusal.NoMemory → commit_cause k.parts t ≡ Some why) → ((y : Refusal) → commit_cause k.parts t ≡ Some y → n ≡ k) → IsAnsweredOr seen may_leave faults p k.relations k.counters line.Commit (refused_as why (Some t)) n
+      → (why ≢ refusal.NoMemory → commit_cause k.parts t ≡ Some why) → ((y : Refusal) → commit_cause k.parts t ≡ Some y → n ≡ k) → IsAnsweredOr seen may_leave faults p k (Some t) line.Commit (refused_as why (Some t)) n
   commit_refused p k n t calls why under o stays states cause unmoved =
       let now = opened_stays p t calls k n o stays (states t) in
       let fails = open_failed k n t why (commit_cause k.parts t) (commit_cause_is k t o.state (opened_idle p t calls k o)) unmoved cause in
-      answered_refused k.relations k.counters p (Some calls) line.Commit (Some t) n why under (calls, under, now) (left_of p (Some t) n (calls, under, now))
-      (λ is. (fails (λ e. let wrong : refusal.DeviceFailed ≡ refusal.NoMemory = sym is ∙ e in cc)).1) (λ other. inr (failing_want n why fails other))
+      answered_refused p (Some calls) line.Commit (Some t) k n why under (calls, under, now) (left_of p (Some t) n (calls, under, now))
+      (λ is. (fails (λ e. let wrong : refusal.DeviceFailed ≡ refusal.NoMemory = sym is ∙ e in cc)).1) (λ other. let want = failing_want n why fails other in inr (want, inl want))
 
   -- ---- an abort
 
@@ -255,7 +264,7 @@ module _ {D : Type 0} {g : Ghosts D} (seen : D → List ℕ) (may_leave : D → 
   )
 
 -- without a transaction there is nothing to call, to commit or to abort
-pub stranger : (relations counters : ℕ) (p : Play) (l : Line) → p.under_way ≡ None → ((op : Op) × (l ≡ line.Call op)) ⊎ ((l ≡ line.Commit) ⊎ (l ≡ line.Abort)) → IsTurn relations counters p l (Refused refusal.Stranger) p
-stranger relations counters p l none (inl (op, is)) = subst (λ (x : Line). IsTurn relations counters p x (Refused refusal.Stranger) p) (sym is) (turn_acts relations counters p None (line.Call op) none refl)
-stranger relations counters p l none (inr (inl is)) = subst (λ (x : Line). IsTurn relations counters p x (Refused refusal.Stranger) p) (sym is) (turn_acts relations counters p None line.Commit none refl)
-stranger relations counters p l none (inr (inr is)) = subst (λ (x : Line). IsTurn relations counters p x (Refused refusal.Stranger) p) (sym is) (turn_acts relations counters p None line.Abort none refl)
+pub stranger : {IsDue : Line → Refusal → Type 0} → (relations counters : ℕ) (p : Play) (l : Line) → p.under_way ≡ None → ((op : Op) × (l ≡ line.Call op)) ⊎ ((l ≡ line.Commit) ⊎ (l ≡ line.Abort)) → IsTurn relations counters IsDue p l (Refused refusal.Stranger) p
+stranger {IsDue = IsDue} relations counters p l none (inl (op, is)) = subst (λ (x : Line). IsTurn relations counters IsDue p x (Refused refusal.Stranger) p) (sym is) (turn_acts relations counters p None (line.Call op) none refl)
+stranger {IsDue = IsDue} relations counters p l none (inr (inl is)) = subst (λ (x : Line). IsTurn relations counters IsDue p x (Refused refusal.Stranger) p) (sym is) (turn_acts relations counters p None line.Commit none refl)
+stranger {IsDue = IsDue} relations counters p l none (inr (inr is)) = subst (λ (x : Line). IsTurn relations counters IsDue p x (Refused refusal.Stranger) p) (sym is) (turn_acts relations counters p None line.Abort none refl)

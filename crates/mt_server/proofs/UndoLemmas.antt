@@ -21,10 +21,10 @@ use Rattle.mt_kernel.specs.Runs.{entry_bytes, is_open, kept_bytes, taken_bytes}
 use Rattle.mt_kernel.specs.Work.{abort_steps, effect_steps, effects_left, undo_steps}
 use Rattle.mt_kernel.specs.declared.parts.Commit.{Commit}
 use Rattle.mt_kernel.specs.declared.parts.Running.{Running}
-use Rattle.mt_paged.proofs.Living.{no_commits}
-use Rattle.mt_paged.specs.Causes.{is_busy}
-use Rattle.mt_paged.specs.Shown.{Shows}
-use Rattle.mt_paged.specs.declared.kernel.Kernel.{Kernel}
+use Rattle.mt_txn.proofs.Living.{no_commits}
+use Rattle.mt_txn.specs.Causes.{is_busy}
+use Rattle.mt_txn.specs.Shown.{Shows}
+use Rattle.mt_txn.specs.declared.kernel.Kernel.{Kernel}
 use Rattle.mt_server.proofs.ForceLemmas.{well_of}
 use Rattle.mt_server.specs.Driven.{NobodyCommits}
 

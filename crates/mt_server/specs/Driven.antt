@@ -16,14 +16,17 @@ use Rattle.mt_kernel.specs.Consistent.{SameCommits, SameRunning, SameStates, Sam
 use Rattle.mt_kernel.specs.Runs.{state_in}
 use Rattle.mt_kernel.specs.Work.{LeavesUndo, steps_in, undo_steps}
 use Rattle.mt_kernel.specs.declared.parts.Commit.{Commit}
-use Rattle.mt_paged.specs.Events.{HasForced, IsForcedBy}
-use Rattle.mt_paged.specs.Shown.{Shows, Stays}
-use Rattle.mt_paged.specs.declared.answers.KernelForced.{KernelForced}
-use Rattle.mt_paged.specs.declared.answers.Stepped.{Stepped}
-use Rattle.mt_paged.specs.declared.answers.Stepped.TheVariants as step
-use Rattle.mt_paged.specs.declared.answers.AbortStepped.{AbortStepped}
-use Rattle.mt_paged.specs.declared.answers.AbortStepped.TheVariants as abort
-use Rattle.mt_paged.specs.declared.kernel.Kernel.{Kernel}
+use Rattle.mt_txn.specs.Causes.{begin_cause, call_cause}
+use Rattle.mt_txn.specs.Events.{HasForced, IsAnsweredBy, IsForcedBy}
+use Rattle.mt_txn.specs.Shown.{Shows, Stays}
+use Rattle.mt_txn.specs.declared.answers.KernelForced.{KernelForced}
+use Rattle.mt_txn.specs.declared.answers.Stepped.{Stepped}
+use Rattle.mt_txn.specs.declared.answers.Stepped.TheVariants as step
+use Rattle.mt_txn.specs.declared.answers.AbortStepped.{AbortStepped}
+use Rattle.mt_txn.specs.declared.answers.AbortStepped.TheVariants as abort
+use Rattle.mt_txn.specs.declared.kernel.Kernel.{Kernel}
+use Rattle.mt_server.specs.declared.lines.Line.{Line}
+use Rattle.mt_server.specs.declared.lines.Line.TheVariants as line
 use Rattle.mt_server.specs.Plays.{Play, committed, put_off}
 
 -- the book and what it leaves are the model's
@@ -94,6 +97,17 @@ module _ {D : Type 0} {g : Ghosts D} (seen : D → List ℕ) (may_leave : D → 
     pub state : state_in k.parts.live.members t ≡ Some Aborting
 
   -- ---- refusals
+
+  -- the tests by which it refuses a begin, and an operation: those of the call, and else what locks, escrow, pages and log say
+  abbrev pub IsTested : Kernel D g → Option ℕ → Line → Refusal → Type 0
+  IsTested k None line.Begin why = begin_cause k.parts ≡ Some why
+  IsTested k (Some t) (line.Call op) why =
+      (call_cause k.relations k.counters k.parts t op ≡ Some why) ⊎ ((call_cause k.relations k.counters k.parts t op ≡ None) × IsAnsweredBy seen may_leave k t op (Err why))
+  IsTested k live line why = ⊥
+
+  -- A want of this kernel: memory, or what its tests say.
+  abbrev pub IsDueTo : Kernel D g → Option ℕ → Line → Refusal → Type 0
+  IsDueTo k live line why = (why ≡ refusal.NoMemory) ⊎ IsTested k live line why
 
   -- only frames were flushed, and the log was forced
   pub record Eases (k n : Kernel D g) : Type 0 where

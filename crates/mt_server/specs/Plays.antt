@@ -7,7 +7,7 @@ use Rattle.mt_model.specs.declared.operations.Op.{Op}
 use Rattle.mt_model.specs.declared.operations.Op.TheVariants.{Get, Insert, Update, Delete, Add, Read}
 use Rattle.mt_model.specs.Model.{Base, reply_of}
 use Rattle.mt_model.specs.History.{Call, run}
-use Rattle.mt_paged.specs.Causes.{first_of, name_cause, size_cause}
+use Rattle.mt_txn.specs.Causes.{first_of, name_cause, size_cause}
 use Rattle.mt_server.specs.declared.lines.Line.{Line}
 use Rattle.mt_server.specs.declared.lines.Line.TheVariants as line
 use Rattle.mt_server.specs.declared.answers.Answer.{Answer}
@@ -97,14 +97,19 @@ IsWant _ _ why = ⊥
 
 -- ---- a run
 
--- A line is answered as the model does. Or it is refused, and nothing comes of it: for its fault, or for a want.
-pub data IsTurn (relations counters : ℕ) (p : Play) (line : Line) : Answer → Play → Type 0 where
-  acts : fault_at relations counters p.under_way line ≡ None → IsTurn relations counters p line (answer_at p p.under_way line) (after_at p p.under_way line)
-  refuses : (why : Refusal) → (fault_at relations counters p.under_way line ≡ Some why) ⊎ IsWant p.under_way line why → IsTurn relations counters p line (Refused why) p
+-- A line is answered as the model does. Or it is refused, and nothing comes of it: for its fault, or for a want that is due.
+pub data IsTurn (relations counters : ℕ) (IsDue : Line → Refusal → Type 0) (p : Play) (line : Line) : Answer → Play → Type 0 where
+  acts : fault_at relations counters p.under_way line ≡ None → IsTurn relations counters IsDue p line (answer_at p p.under_way line) (after_at p p.under_way line)
+  refuses : (why : Refusal) → (fault_at relations counters p.under_way line ≡ Some why) ⊎ (IsWant p.under_way line why × IsDue line why)
+      → IsTurn relations counters IsDue p line (Refused why) p
 
--- lines, each with its answer, one after the other
-pub data Runs (relations counters : ℕ) (p : Play) : List Line → List Answer → Play → Type 0 where
-  starts : Runs relations counters p [] [] p
-  goes_on : (lines : List Line) (answers : List Answer) (m q : Play) (line : Line) (answer : Answer)
-      → Runs relations counters p lines answers m → IsTurn relations counters m line answer q
-      → Runs relations counters p (lines ++ line ∷ []) (answers ++ answer ∷ []) q
+-- lines, each with its answer, one after the other, from one place to another
+pub data Runs {S : Type 0} (Turn : S → Line → Answer → S → Type 0) (start : S) : List Line → List Answer → S → Type 0 where
+  starts : Runs Turn start [] [] start
+  goes_on : (lines : List Line) (answers : List Answer) (mid end : S) (line : Line) (answer : Answer)
+      → Runs Turn start lines answers mid → Turn mid line answer end
+      → Runs Turn start (lines ++ line ∷ []) (answers ++ answer ∷ []) end
+
+-- so on the model, whose wants nothing is known of
+abbrev pub HasPlayed : ℕ → ℕ → Play → List Line → List Answer → Play → Type 0
+HasPlayed relations counters = Runs (IsTurn relations counters (λ line why. Unit {0}))

@@ -5,14 +5,15 @@ use Rattle.mt_base.specs.declared.refusal.Refusal.{Refusal}
 use Rattle.mt_base.specs.declared.refusal.Refusal.TheVariants as refusal
 use Rattle.mt_disk.specs.declared.device.Device.{Ghosts}
 use Rattle.mt_model.specs.History.{Call}
-use Rattle.mt_paged.specs.declared.kernel.Kernel.{Kernel}
+use Rattle.mt_txn.specs.Shown.{SameSchema}
+use Rattle.mt_txn.specs.declared.kernel.Kernel.{Kernel}
 use Rattle.mt_server.specs.declared.lines.Line.{Line}
 use Rattle.mt_server.specs.declared.answers.Answer.{Answer}
 use Rattle.mt_server.specs.declared.answers.Answer.TheVariants.{Aborted, Refused}
 use Rattle.mt_server.specs.declared.running.RunFault.{RunFault}
 use Rattle.mt_server.specs.declared.running.RunFault.TheVariants as fault
 use Rattle.mt_server.specs.Answers.{AppendsFront, transcript_text}
-use Rattle.mt_server.specs.Driven.{IsLeft, IsBeside, IsGivenUp, HasBroken, Fails}
+use Rattle.mt_server.specs.Driven.{IsLeft, IsBeside, IsDueTo, IsGivenUp, HasBroken, Fails}
 use Rattle.mt_server.specs.Plays.{Play, IsTurn, Runs, put_off}
 
 -- ---- ends
@@ -53,19 +54,27 @@ module _ {D : Type 0} {g : Ghosts D} (seen : D → List ℕ) (may_leave : D → 
   abbrev pub BesideEach : ℕ → Option ℕ → Kernel D g → (Play → Type 0) → Type 0
   BesideEach session live k Promises = (p : Play) → p.session ≡ session → IsBeside seen may_leave p live k → Promises p
 
+  -- A turn of a kernel beside a play: what it refuses is due there.
+  pub record HasTurned (start : Play × Kernel D g) (line : Line) (answer : Answer) (end : Play × Kernel D g) : Type 0 where
+    pub live : Option ℕ
+    pub beside : IsBeside seen may_leave start.0 live start.1
+    pub turn : IsTurn start.1.relations start.1.counters (IsDueTo seen may_leave start.1 live) start.0 line answer end.0
+    pub schema : SameSchema start.1 end.1
+
   -- The lines ran, and the texts of the answers were written, a line each.
-  pub record HasRunLines (p : Play) (relations counters : ℕ) (lines : List Line) (was now : Option (List ℕ)) (live : Option ℕ) (n : Kernel D g) : Type 0 where
+  pub record HasRunLines (p : Play) (k : Kernel D g) (lines : List Line) (was now : Option (List ℕ)) (live : Option ℕ) (n : Kernel D g) : Type 0 where
     pub answers : List Answer
     pub play : Play
-    pub ran : Runs relations counters p lines answers play
+    pub ran : Runs HasTurned (p, k) lines answers (play, n)
     pub told : Appends was now (transcript_text answers)
     pub beside : IsBeside seen may_leave play live n
 
   -- The script ran to its end; a transaction that was open there is aborted, and that was written too; nobody lives.
-  pub record HasRun (p : Play) (relations counters : ℕ) (lines : List Line) (was now : Option (List ℕ)) (n : Kernel D g) : Type 0 where
+  pub record HasRun (p : Play) (k : Kernel D g) (lines : List Line) (was now : Option (List ℕ)) (n : Kernel D g) : Type 0 where
     pub answers : List Answer
     pub play : Play
-    pub ran : Runs relations counters p lines answers play
+    pub last : Kernel D g
+    pub ran : Runs HasTurned (p, k) lines answers (play, last)
     pub told : Appends was now (transcript_text (answers ++ last_line play.under_way))
     pub beside : IsBeside seen may_leave (put_off play) None n
 
@@ -77,41 +86,44 @@ module _ {D : Type 0} {g : Ghosts D} (seen : D → List ℕ) (may_leave : D → 
   IsLeftFor q n (fault.Refused why) = IsGivenUp seen may_leave faults q n why
 
   -- The run ended early: these of its lines had their answers, of which the last may be unheard.
-  pub record IsCutShort (p : Play) (relations counters : ℕ) (lines : List Line) (was now : Option (List ℕ)) (n : Kernel D g) (why : RunFault) : Type 0 where
+  pub record IsCutShort (p : Play) (k : Kernel D g) (lines : List Line) (was now : Option (List ℕ)) (n : Kernel D g) (why : RunFault) : Type 0 where
     pub before : List Line
     pub rest : List Line
     pub split : lines ≡ before ++ rest
     pub answers : List Answer
     pub play : Play
-    pub ran : Runs relations counters p before answers play
+    pub last : Kernel D g
+    pub ran : Runs (HasTurned seen may_leave) (p, k) before answers (play, last)
     pub told : IsToldFor was now answers why
     pub left : IsLeftFor play n why
 
+module _ {D : Type 0} {g : Ghosts D} (seen : D → List ℕ) (may_leave : D → List ℕ → Type 0) where
   -- ---- a line
 
   -- the kernel answered it, and this transaction is open then
-  abbrev pub IsAnswered : Play → ℕ → ℕ → Line → Answer → Option ℕ → Kernel D g → Type 0
-  IsAnswered p relations counters line answer live n = (q : Play) × IsTurn relations counters p line answer q × IsBeside seen may_leave q live n
+  abbrev pub IsAnswered : Play → Kernel D g → Option ℕ → Line → Answer × Option ℕ → Kernel D g → Type 0
+  IsAnswered p k live line told n = (q : Play) × IsTurn k.relations k.counters (IsDueTo seen may_leave k live) p line told.0 q × IsBeside seen may_leave q told.1 n
 
+module _ {D : Type 0} {g : Ghosts D} (seen : D → List ℕ) (may_leave : D → List ℕ → Type 0) (faults : D → ℕ) where
   -- or gave it up
-  abbrev pub IsAnsweredOr : Play → ℕ → ℕ → Line → Result (Answer × Option ℕ) Refusal → Kernel D g → Type 0
-  IsAnsweredOr p relations counters line (Ok told) n = IsAnswered p relations counters line told.0 told.1 n
-  IsAnsweredOr p relations counters line (Err why) n = IsGivenUp seen may_leave faults p n why
+  abbrev pub IsAnsweredOr : Play → Kernel D g → Option ℕ → Line → Result (Answer × Option ℕ) Refusal → Kernel D g → Type 0
+  IsAnsweredOr p k live line (Ok told) n = IsAnswered seen may_leave p k live line told n
+  IsAnsweredOr p k live line (Err why) n = IsGivenUp seen may_leave faults p n why
 
   -- beside whatever play of this session
   abbrev pub Answers : ℕ → Kernel D g → Option ℕ → Line → Result (Answer × Option ℕ) Refusal → Kernel D g → Type 0
-  Answers session k live line result n = (p : Play) → p.session ≡ session → IsBeside seen may_leave p live k → IsAnsweredOr p k.relations k.counters line result n
+  Answers session k live line result n = (p : Play) → p.session ≡ session → IsBeside seen may_leave p live k → IsAnsweredOr p k live line result n
 
   -- within a transaction, that is open then unless it has ended
   abbrev pub AnswersWithin : Kernel D g → ℕ → Line → Result (Answer × Option ℕ) Refusal → Kernel D g → Type 0
-  AnswersWithin k t line result n = (p : Play) → IsBeside seen may_leave p (Some t) k → IsAnsweredOr p k.relations k.counters line result n
+  AnswersWithin k t line result n = (p : Play) → IsBeside seen may_leave p (Some t) k → IsAnsweredOr p k (Some t) line result n
 
   -- ---- the script's end
 
   -- why a run ended early while the transaction that was open there was aborted
   pub record IsCutAtEnd (p : Play) (was now : Option (List ℕ)) (n : Kernel D g) (why : RunFault) : Type 0 where
     pub told : IsToldFor was now [] why
-    pub left : IsLeftFor p n why
+    pub left : IsLeftFor seen may_leave faults p n why
 
 module _ {D : Type 0} {g : Ghosts D} (seen : D → List ℕ) (may_leave : D → List ℕ → Type 0) where
   -- it was aborted, and that was written

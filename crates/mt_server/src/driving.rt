@@ -1,13 +1,13 @@
 // Operations taken to their replies, and aborts to their ends.
 ghost use Rattle.std.specs.Prelude.{◌≡◌, ◌↔◌, IsTrue, Ok};
-ghost use Rattle.mt_paged.specs.Shown.{SameSchema};
+ghost use Rattle.mt_txn.specs.Shown.{SameSchema};
 ghost use Rattle.mt_server.specs.Driven.{HasBacked, HasMoved, HasReplied, HasUndone};
 
 use crate::forcing::{ASKED_AGAIN, make_room, wants_memory};
 use mt_base::{Refusal, TxnNo};
 use mt_disk::Device;
 use mt_model::Reply;
-use mt_paged::{AbortStepped, Kernel, Stepped};
+use mt_txn::{AbortStepped, Kernel, Stepped};
 
 /// The most steps of one operation that is alone: two a page, nine more, and its end.
 const OPERATION_STEPS: usize = 2 * 4000 + 10;

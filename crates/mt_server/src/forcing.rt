@@ -1,12 +1,12 @@
 // Forces, and room in the frames.
 ghost use Rattle.std.specs.Prelude.{◌≡◌, ◌↔◌, Err, IfErr, IsTrue};
 ghost use Rattle.mt_base.specs.declared.refusal.Refusal.{Refusal};
-ghost use Rattle.mt_paged.specs.Shown.{SameSchema};
+ghost use Rattle.mt_txn.specs.Shown.{SameSchema};
 ghost use Rattle.mt_server.specs.Driven.{Eases, Fails, HasCommitted, IsForcing, NobodyCommits};
 
 use mt_base::{Refusal, TxnNo};
 use mt_disk::Device;
-use mt_paged::{Kernel, KernelForced};
+use mt_txn::{Kernel, KernelForced};
 use mt_pool::Flushed;
 
 /// How often a step that found no memory, or no frame, is asked again.

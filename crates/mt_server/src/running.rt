@@ -1,7 +1,7 @@
 // A script, run by itself on a kernel.
 ghost use Rattle.std.specs.Prelude.{◌≡◌, [], ◌∷◌, IfOk, IfErr, OnOk, None, Some};
 ghost use Rattle.mt_base.specs.declared.refusal.Refusal.{Refusal};
-ghost use Rattle.mt_paged.specs.Shown.{SameSchema};
+ghost use Rattle.mt_txn.specs.Shown.{SameSchema};
 ghost use Rattle.mt_server.specs.Driven.{IsBeside};
 ghost use Rattle.mt_server.specs.Plays.{Play};
 ghost use Rattle.mt_server.specs.Runs.{BesideEach, HasRun, HasRunLines, IsCutAtEnd, IsCutShort, IsEnded, IsEndedFor, IsLeftFor, IsStopped};
@@ -12,7 +12,7 @@ use crate::reader::Script;
 use crate::turns::{answer, undo_open};
 use mt_base::{Refusal, TxnNo};
 use mt_disk::Device;
-use mt_paged::Kernel;
+use mt_txn::Kernel;
 use std::io::Write;
 use thiserror::Error;
 
@@ -73,10 +73,10 @@ fn run_line<D: Device, W: Write>(
     writer: &mut W,
 ) -> Result<Option<TxnNo>, RunFault>
     ensures told { IfOk result (λ now. BesideEach D.seen D.may_leave session live kernel.old
-        (λ p. HasRunLines D.seen D.may_leave p kernel.old.relations kernel.old.counters (line.now ∷ [])
+        (λ p. HasRunLines D.seen D.may_leave p kernel.old (line.now ∷ [])
         (W.contents writer.old) (W.contents writer.new) now kernel.new)) }
     ensures cut { IfErr result (λ why. BesideEach D.seen D.may_leave session live kernel.old
-        (λ p. IsCutShort D.seen D.may_leave D.faults p kernel.old.relations kernel.old.counters (line.now ∷ [])
+        (λ p. IsCutShort D.seen D.may_leave D.faults p kernel.old (line.now ∷ [])
         (W.contents writer.old) (W.contents writer.new) kernel.new why)) }
     ensures schema { SameSchema kernel.old kernel.new }
 {
@@ -98,10 +98,10 @@ fn run_lines<D: Device, W: Write>(
     writer: &mut W,
 ) -> Result<Option<TxnNo>, RunFault>
     ensures ran { IfOk result (λ live. BesideEach D.seen D.may_leave session None kernel.old
-        (λ p. HasRunLines D.seen D.may_leave p kernel.old.relations kernel.old.counters lines.now
+        (λ p. HasRunLines D.seen D.may_leave p kernel.old lines.now
         (W.contents writer.old) (W.contents writer.new) live kernel.new)) }
     ensures cut { IfErr result (λ why. BesideEach D.seen D.may_leave session None kernel.old
-        (λ p. IsCutShort D.seen D.may_leave D.faults p kernel.old.relations kernel.old.counters lines.now
+        (λ p. IsCutShort D.seen D.may_leave D.faults p kernel.old lines.now
         (W.contents writer.old) (W.contents writer.new) kernel.new why)) }
     ensures schema { SameSchema kernel.old kernel.new }
 {
@@ -150,10 +150,10 @@ pub fn run_alone<D: Device, W: Write>(
     writer: &mut W,
 ) -> Result<(), RunFault>
     ensures ran { OnOk result (BesideEach D.seen D.may_leave session None kernel.old
-        (λ p. HasRun D.seen D.may_leave p kernel.old.relations kernel.old.counters script.now.lines.items
+        (λ p. HasRun D.seen D.may_leave p kernel.old script.now.lines.items
         (W.contents writer.old) (W.contents writer.new) kernel.new)) }
     ensures cut { IfErr result (λ why. BesideEach D.seen D.may_leave session None kernel.old
-        (λ p. IsCutShort D.seen D.may_leave D.faults p kernel.old.relations kernel.old.counters script.now.lines.items
+        (λ p. IsCutShort D.seen D.may_leave D.faults p kernel.old script.now.lines.items
         (W.contents writer.old) (W.contents writer.new) kernel.new why)) }
     ensures why { IfErr result (λ why. BesideEach D.seen D.may_leave session None kernel.old
         (λ p. IsEndedFor D.faults kernel.new why)) }

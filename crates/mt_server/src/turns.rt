@@ -1,6 +1,6 @@
 // What the kernel answers to the lines of a script.
 ghost use Rattle.std.specs.Prelude.{◌≡◌, None, Some};
-ghost use Rattle.mt_paged.specs.Shown.{SameSchema};
+ghost use Rattle.mt_txn.specs.Shown.{SameSchema};
 ghost use Rattle.mt_server.specs.Driven.{HasAborted};
 ghost use Rattle.mt_server.specs.Runs.{Answers, AnswersWithin, refused_as};
 ghost use Rattle.mt_server.specs.declared.lines.Line.TheVariants as line;
@@ -12,7 +12,7 @@ use crate::lines::Line;
 use mt_base::{Refusal, TxnNo};
 use mt_disk::Device;
 use mt_model::Op;
-use mt_paged::{Called, Kernel};
+use mt_txn::{Called, Kernel};
 
 /// An answer, and the transaction that is open then; or the refusal for which the line is given up.
 pub type Turn = Result<(Answer, Option<TxnNo>), Refusal>;

@@ -4,7 +4,7 @@ ghost use Rattle.std.specs.Prelude.{◌<◌};
 use mt_base::{Refusal, TxnNo};
 use mt_disk::{Device, MemDevice};
 use mt_model::{Op, Reply};
-use mt_paged::{AbortStepped, Called, Kernel, KernelForced, Stepped};
+use mt_txn::{AbortStepped, Called, Kernel, KernelForced, Stepped};
 use mt_pool::Flushed;
 use mt_restart::{Schema, fresh};
 use std::alloc::Global;

@@ -1,7 +1,7 @@
 use Rattle.std.proofs.Common.{refl}
 use Rattle.std.proofs.KnownBytes.{Keeps-refl}
 use Rattle.mt_server.specs.declared.running.RunFault.TheVariants.{Output, Refused}
-use Rattle.mt_cli.proofs.Trials.{short_of}
+use Rattle.mt_cli.proofs.Trials.{short_of, tried_of}
 use Rattle.mt_cli.specs.Performs.{unmade, cut}
 use Rattle.mt_cli.proofs.performing.run_over.Goals as goal
 
@@ -19,3 +19,8 @@ returns-clause-cut g c =
     let D = g.D.Device in
     cut (Refused c.in-Err-Refused.refusal) _ (short_of D.seen D.may_leave D.faults c.in-Ok.kernel c.run_alone-ran.new.kernel c.args.script.now.lines.items _ _ (Refused c.in-Err-Refused.refusal) c.in-Ok.ensures.first
     (rw c.in-Err-Refused.field-0-is at c.in-Err-Refused.ensures.cut) (rw c.in-Err-Refused.field-0-is at c.in-Err-Refused.ensures.why)) refl
+
+pub returns-in-Ok-ran-clause-tried : goal.returns-in-Ok-ran-clause-tried
+returns-in-Ok-ran-clause-tried g c =
+    let D = g.D.Device in
+    tried_of D.seen D.may_leave c.in-Ok.kernel c.run_alone-ran.new.kernel c.args.script.now.lines.items _ _ c.in-Ok.ensures.first c.in-Ok-ran.ensures.ran

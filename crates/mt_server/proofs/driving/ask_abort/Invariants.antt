@@ -1,4 +1,4 @@
-use Rattle.mt_paged.specs.Shown.{SameSchema}
+use Rattle.mt_txn.specs.Shown.{SameSchema}
 use Rattle.mt_server.specs.Driven.{IsGoing}
 use Rattle.mt_server.specs.Plays.{Play}
 use Rattle.mt_server.proofs.DriveLemmas.{GoesBy}

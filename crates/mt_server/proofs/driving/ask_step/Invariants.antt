@@ -1,7 +1,7 @@
 use Rattle.std.proofs.Common.{List}
 use Rattle.mt_model.specs.History.{Call}
 use Rattle.mt_model.specs.declared.operations.Op.{Op}
-use Rattle.mt_paged.specs.Shown.{SameSchema}
+use Rattle.mt_txn.specs.Shown.{SameSchema}
 use Rattle.mt_server.specs.Driven.{IsCalling}
 use Rattle.mt_server.specs.Plays.{Play}
 use Rattle.mt_server.proofs.DriveLemmas.{StandsBy}

@@ -2,7 +2,7 @@ use Rattle.std.proofs.Common.{◌+◌, ◌≤◌, List}
 use Rattle.mt_kernel.specs.Work.{steps_in}
 use Rattle.mt_model.specs.History.{Call}
 use Rattle.mt_model.specs.declared.operations.Op.{Op}
-use Rattle.mt_paged.specs.Shown.{SameSchema}
+use Rattle.mt_txn.specs.Shown.{SameSchema}
 use Rattle.mt_server.specs.Driven.{IsCalling}
 use Rattle.mt_server.specs.Plays.{Play}
 use Rattle.mt_server.proofs.driving.step_to_reply.Given as goal

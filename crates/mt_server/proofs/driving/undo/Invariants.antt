@@ -1,6 +1,6 @@
 use Rattle.std.proofs.Common.{◌+◌, ◌≤◌}
 use Rattle.mt_kernel.specs.Work.{undo_steps}
-use Rattle.mt_paged.specs.Shown.{SameSchema}
+use Rattle.mt_txn.specs.Shown.{SameSchema}
 use Rattle.mt_server.specs.Driven.{IsGoing}
 use Rattle.mt_server.specs.Plays.{Play}
 use Rattle.mt_server.proofs.driving.undo.Given as goal

@@ -1,6 +1,6 @@
 use Rattle.std.proofs.Common.{◌-◌, List}
 use Rattle.mt_model.specs.History.{Call}
-use Rattle.mt_paged.specs.Shown.{SameSchema}
+use Rattle.mt_txn.specs.Shown.{SameSchema}
 use Rattle.mt_server.specs.Driven.{IsEnding}
 use Rattle.mt_server.specs.Plays.{Play}
 use Rattle.mt_server.proofs.forcing.force_commit.Given as goal

@@ -1,4 +1,4 @@
-use Rattle.mt_paged.specs.Shown.{SameSchema}
+use Rattle.mt_txn.specs.Shown.{SameSchema}
 use Rattle.mt_server.specs.Driven.{Eases, NobodyCommits}
 use Rattle.mt_server.proofs.forcing.make_room.Given as goal
 

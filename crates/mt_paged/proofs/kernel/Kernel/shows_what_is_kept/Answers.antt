@@ -1,9 +1,0 @@
-use mathlib.Core.Logic.{∥∥₁_map}
-use Rattle.std.proofs.Common.{sym, subst}
-use Rattle.mt_live.specs.Machine.{State, IsKept}
-use Rattle.mt_model.specs.Model.{Base}
-use Rattle.mt_paged.proofs.Showing.{kept_of}
-use Rattle.mt_paged.proofs.kernel.Kernel.shows_what_is_kept.Goals as goal
-
-pub returns : goal.returns
-returns g c = λ first s shows. kept_of g.D.Device.seen g.D.Device.may_leave c.args.self.now.relations c.args.self.now.counters c.args.self.now.parts first s shows

@@ -1,0 +1,79 @@
+-- Who lives, who runs an operation, and which commits are under way, as a state tells it.
+use Rattle.std.proofs.Common.{◌≡◌, ◌≢◌, ◌<◌, ◌==◌, ◌&&◌, ◌||◌, ◌∷◌, [], ℕ, Bool, true, false, cond, List, length, get_or, Option, Some, None, is_some, ⊎_elim, refl, sym, ap, ◌∙◌, subst, arith}
+use Rattle.std.proofs.Props.{props}
+use Rattle.std.specs.Prelude.{All}
+use Rattle.std.specs.List.{list_any}
+use Rattle.std.specs.Option.{option_map}
+use Rattle.std.proofs.lemmas.Bool.{cases_eq, eqb-true}
+use Rattle.std.proofs.lemmas.List.Elements.{All-tail}
+use mathlib.Core.Logic.{∥∥₁_elim}
+use Rattle.mt_live.specs.Lives.{member_of}
+use Rattle.mt_live.specs.Machine.{State, is_live}
+use Rattle.mt_live.specs.Members.{Member}
+use Rattle.mt_live.specs.declared.transactions.TxnState.TheVariants.{Open, Committing, Aborting}
+use Rattle.mt_model.specs.Model.{Base}
+use Rattle.mt_model.specs.declared.operations.Op.{Op}
+use Rattle.mt_kernel.specs.Consistent.{state_of}
+use Rattle.mt_kernel.specs.Runs.{running_in, state_in, is_for}
+use Rattle.mt_kernel.specs.declared.parts.Commit.{Commit}
+use Rattle.mt_kernel.specs.declared.parts.Parts.{Parts}
+use Rattle.mt_kernel.specs.declared.parts.Running.{Running}
+use Rattle.mt_txn.specs.Causes.{is_busy}
+use Rattle.mt_txn.specs.Well.{IsWell, ShowsIn}
+
+-- ---- of lists
+
+alike : {A B : Type 0} (f : Member → A) (g : Member → B) (o : Option Member) → is_some (option_map f o) ≡ is_some (option_map g o)
+alike f g None = refl
+alike f g (Some m) = refl
+
+runs_in : (rs : List Running) (t : ℕ) (op : Op) → running_in rs t ≡ Some op → list_any (λ (r : Running). r.scope.txn == t) rs ≡ true
+runs_in [] t op is = absurd cc
+runs_in (r ∷ rs) t op is = go (r.scope.txn == t) refl (runs_in rs t op)
+  where
+    go : (b : Bool) → (r.scope.txn == t) ≡ b → (running_in rs t ≡ Some op → list_any (λ (q : Running). q.scope.txn == t) rs ≡ true) → list_any (λ (q : Running). q.scope.txn == t) (r ∷ rs) ≡ true
+    go true its later = ap (λ (b : Bool). b || list_any (λ (q : Running). q.scope.txn == t) rs) its
+    go false other later =
+        let rest : running_in rs t ≡ Some op = ap (λ (b : Bool). cond (b && (r.scope.undoes == 0)) (Some r.scope.op) (running_in rs t)) (sym other) ∙ is in
+        ap (λ (b : Bool). b || list_any (λ (q : Running). q.scope.txn == t) rs) other ∙ later rest
+
+rests_in : (rs : List Running) (t : ℕ) → All (λ (r : Running). r.scope.txn ≡ t → (r.scope.undoes == 0) ≡ true) rs → running_in rs t ≡ None → list_any (λ (r : Running). r.scope.txn == t) rs ≡ false
+rests_in [] t fore none = refl
+rests_in (r ∷ rs) t fore none = go (r.scope.txn == t) refl (rests_in rs t (All-tail (λ (q : Running). q.scope.txn ≡ t → (q.scope.undoes == 0) ≡ true) r rs fore))
+  where
+    go : (b : Bool) → (r.scope.txn == t) ≡ b → (running_in rs t ≡ None → list_any (λ (q : Running). q.scope.txn == t) rs ≡ false) → list_any (λ (q : Running). q.scope.txn == t) (r ∷ rs) ≡ false
+    go true its later =
+        let forward : (r.scope.undoes == 0) ≡ true = fore 0 r (omega arith) (eqb-true r.scope.txn t its) in
+        let own : is_for t r ≡ true = ap (λ (b : Bool). b && (r.scope.undoes == 0)) its ∙ forward in
+        let e : Some r.scope.op ≡ None = ap (λ (b : Bool). cond b (Some r.scope.op) (running_in rs t)) (sym own) ∙ none in absurd cc
+    go false other later =
+        let rest : running_in rs t ≡ None = ap (λ (b : Bool). cond (b && (r.scope.undoes == 0)) (Some r.scope.op) (running_in rs t)) (sym other) ∙ none in
+        ap (λ (b : Bool). b || list_any (λ (q : Running). q.scope.txn == t) rs) other ∙ later rest
+
+-- ---- of a kernel
+
+module _ {D : Type 0} (seen : D → List ℕ) (may_leave : D → List ℕ → Type 0) (relations counters : ℕ) where
+  pub lives_of : (k : Parts D) (first : Base) (s : State) → ShowsIn seen may_leave relations counters first s k → (t : ℕ) → is_live s t ≡ is_some (state_in k.live.members t)
+  lives_of k first s shows t = ∥∥₁_elim shows (hlevel props) (λ (origin, base, is, x).
+      ap (λ (z : State). is_live z t) x.state ∙ alike (λ (m : Member). m.session) (λ (m : Member). m.state) (member_of k.live.members t))
+
+  pub busy_of : (k : Parts D) (first : Base) (s : State) → ShowsIn seen may_leave relations counters first s k → (t : ℕ) (op : Op) → s.running t ≡ Some op → is_busy k t ≡ true
+  busy_of k first s shows t op runs = ∥∥₁_elim shows (hlevel props) (λ (origin, base, is, x).
+      runs_in k.running.items t op (ap (λ (z : State). z.running t) (sym x.state) ∙ runs))
+
+  pub idle_of : (k : Parts D) (first : Base) (s : State) → ShowsIn seen may_leave relations counters first s k → (t : ℕ) → state_in k.live.members t ≡ Some Open → s.running t ≡ None → is_busy k t ≡ false
+  idle_of k first s shows t opened none = ∥∥₁_elim shows (hlevel props) (λ (origin, base, is, x).
+      rests_in k.running.items t (λ i d lt own. fore (get_or k.running.items i d) own (x.consistent.fit.owned i d lt).aborts) (ap (λ (z : State). z.running t) (sym x.state) ∙ none))
+    where
+      fore : (r : Running) → r.scope.txn ≡ t → (r.scope.undoes ≢ 0 → state_in k.live.members r.scope.txn ≡ Some Aborting) → (r.scope.undoes == 0) ≡ true
+      fore r own aborts = ⊎_elim (λ (forward : r.scope.undoes ≡ 0). ap (λ (n : ℕ). n == 0) forward)
+          (λ (back : r.scope.undoes ≢ 0). let now : Some Open ≡ Some Aborting = sym opened ∙ ap (state_in k.live.members) (sym own) ∙ aborts back in absurd cc) (cases_eq r.scope.undoes 0)
+
+  pub no_commits : (k : Parts D) → IsWell seen may_leave relations counters k → ((t : ℕ) → state_in k.live.members t ≢ Some Committing) → k.commits.items ≡ []
+  no_commits k well nobody = go k.commits.items refl
+    where
+      go : (cs : List Commit) → k.commits.items ≡ cs → k.commits.items ≡ []
+      go [] is = is
+      go (c ∷ cs) is = absurd (∥∥₁_elim well (hlevel props) (λ (origin, base, is_origin, safe).
+          let each : All (λ (d : Commit). state_in k.live.members d.txn ≡ Some Committing) (c ∷ cs) = subst (All (λ (d : Commit). state_in k.live.members d.txn ≡ Some Committing)) is safe.fit.queued.each in
+          nobody c.txn (each 0 c (omega arith))))

@@ -1,0 +1,13 @@
+use mathlib.Core.Logic.{∥∥₁_elim}
+use Rattle.std.proofs.Props.{props}
+use Rattle.mt_txn.proofs.Showing.{led, well_led, stays_led}
+use Rattle.mt_txn.proofs.kernel.Kernel.abort_begin.Goals as goal
+
+pub invariant_of-self : goal.invariant_of-self
+invariant_of-self g c = record { well = well_led g.D.Device.seen g.D.Device.may_leave c.args.self.now.relations c.args.self.now.counters c.args.self.now.parts c.abort_begin.new.self (λ z. z) (stays_led g.D.Device.seen g.D.Device.may_leave c.args.self.now.relations c.args.self.now.counters c.args.self.now.parts c.abort_begin.new.self c.abort_begin.ensures.state) c.args.self.now.well }
+
+pub returns-clause-state : goal.returns-clause-state
+returns-clause-state g c = λ first s shows. led g.D.Device.seen g.D.Device.may_leave c.args.self.now.relations c.args.self.now.counters c.args.self.now.parts c.abort_begin.new.self (λ z. z) first s (stays_led g.D.Device.seen g.D.Device.may_leave c.args.self.now.relations c.args.self.now.counters c.args.self.now.parts c.abort_begin.new.self c.abort_begin.ensures.state) shows
+
+pub returns-clause-work : goal.returns-clause-work
+returns-clause-work g c = ∥∥₁_elim c.args.self.now.well (hlevel props) (λ (origin, base, is, safe). c.abort_begin.ensures.few origin base safe)

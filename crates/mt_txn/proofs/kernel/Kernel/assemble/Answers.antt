@@ -1,0 +1,19 @@
+use Rattle.std.proofs.Common.{refl, subst}
+use mathlib.Core.Logic.{∥∥₁_elim, ∥∥₁_map, ∥∥₁_prop}
+use Rattle.mt_live.specs.Machine.{start}
+use Rattle.mt_model.specs.Model.{Base}
+use Rattle.mt_kernel.specs.Consistent.{IsIn}
+use Rattle.mt_txn.proofs.kernel.Kernel.assemble.Goals as goal
+
+pub invariant_of-result : goal.invariant_of-result
+invariant_of-result g c = record {
+  well = ∥∥₁_elim c.requires.opens ∥∥₁_prop (λ (first, o). ∥∥₁_map o (λ (origin, is, y).
+      (origin, origin.first, record { relations_are = is.relations_are; counters_are = is.counters_are; first_is = refl }, (c.new.ensures.state origin y.schema y.bounds y.holds y.right y.escrowed).consistent)));
+}
+
+pub returns : goal.returns
+returns g c = record {
+  shows = λ first o. ∥∥₁_map o (λ (origin, is, y).
+      (origin, origin.first, is, subst (λ (b : Base). IsIn g.D.Device.seen g.D.Device.may_leave origin origin.first (start b) c.new.result) is.first_is (c.new.ensures.state origin y.schema y.bounds y.holds y.right y.escrowed)));
+  schema = (refl, refl);
+}

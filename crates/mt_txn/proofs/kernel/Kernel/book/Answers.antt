@@ -1,0 +1,11 @@
+use mathlib.Core.Logic.{∥∥₁_map}
+use Rattle.std.proofs.Common.{◌≡◌, ◌∙◌, List, ap, sym, subst}
+use Rattle.mt_live.specs.Machine.{State, IsKept}
+use Rattle.mt_model.specs.History.{IsLegal}
+use Rattle.mt_model.specs.declared.history.Committed.{Committed}
+use Rattle.mt_txn.proofs.Showing.{legal_of}
+use Rattle.mt_txn.proofs.kernel.Kernel.book.Goals as goal
+
+pub returns-clause-legal : goal.returns-clause-legal
+returns-clause-legal g c = λ first s shows. subst (λ (b : List Committed). ∥ ((s.book ≡ b) × IsLegal first b) ∥₁) (sym c.book.ensures)
+    (legal_of g.D.Device.seen g.D.Device.may_leave c.args.self.now.relations c.args.self.now.counters c.args.self.now.parts first s shows)

@@ -1,0 +1,66 @@
+use Rattle.std.proofs.lemmas.Result.{err_from_is_err_and}
+use Rattle.mt_txn.proofs.Answering.{err_aborted}
+use Rattle.mt_txn.proofs.Showing.{sound_of, back_shown, back_well, back_stands, BackShown}
+use Rattle.std.proofs.Common.{◌∙◌, Ok, ap, subst}
+use Rattle.mt_kernel.specs.Runs.{state_in}
+use Rattle.std.proofs.Common.{◌≤◌, sym}
+use Rattle.std.specs.Prelude.{Result}
+use Rattle.mt_base.specs.declared.refusal.Refusal.{Refusal}
+use Rattle.mt_op.specs.declared.answers.TakenBack.{TakenBack}
+use Rattle.mt_pool.specs.Views.{pages}
+use Rattle.mt_kernel.specs.Work.{LowersBack, undo_steps}
+use Rattle.mt_txn.proofs.Showing.{at_place}
+use Rattle.mt_txn.specs.Work.{LowersAbort}
+use Rattle.mt_txn.specs.declared.answers.AbortStepped.{AbortStepped}
+use Rattle.mt_txn.proofs.kernel.Kernel.go_back.Goals as goal
+
+pub back_step-requires-clause-safe : goal.back_step-requires-clause-safe
+back_step-requires-clause-safe g c = sound_of g.D.Device.seen g.D.Device.may_leave c.args.self.now.relations c.args.self.now.counters c.args.self.now.parts c.args.self.now.well
+
+pub back_step-requires-clause-aborting : goal.back_step-requires-clause-aborting
+back_step-requires-clause-aborting g c = λ r there. let own = c.requires.own r there in (own.1, ap (state_in c.args.self.now.parts.live.members) own.0 ∙ c.requires.aborting)
+
+pub invariant_of-self : goal.invariant_of-self
+invariant_of-self g c = record { well = back_well g.D.Device.seen g.D.Device.may_leave c.args.self.now.relations c.args.self.now.counters c.args.self.now.parts c.back_step.new.self c.args.place c.back_step.result c.requires.within c.back_step.ensures.back c.args.self.now.well }
+
+pub returns-in_err-back_step-clause-aborted : goal.returns-in_err-back_step-clause-aborted
+returns-in_err-back_step-clause-aborted g c = λ first s shows. let p = err_from_is_err_and c.from_residual.result c.from_residual.ensures.1 in
+    err_aborted g.D.Device.seen g.D.Device.may_leave first s c.args.txn _ c.from_residual.result p.0 p.1 (subst (BackShown g.D.Device.seen g.D.Device.may_leave c.args.self.now.relations c.args.self.now.counters c.back_step.new.self first s c.args.txn) c.in_err-back_step.was (back_shown g.D.Device.seen g.D.Device.may_leave c.args.self.now.relations c.args.self.now.counters c.args.self.now.parts c.back_step.new.self first s c.args.txn c.args.place c.back_step.result c.requires.within (λ r there. (c.requires.own r there).0) c.back_step.ensures.back shows))
+
+pub returns-in-More-clause-aborted : goal.returns-in-More-clause-aborted
+returns-in-More-clause-aborted g c = λ first s shows. back_stands g.D.Device.seen g.D.Device.may_leave c.args.self.now.relations c.args.self.now.counters c.back_step.new.self first s c.args.txn (subst (BackShown g.D.Device.seen g.D.Device.may_leave c.args.self.now.relations c.args.self.now.counters c.back_step.new.self first s c.args.txn) (c.in_ok-back_step.was ∙ ap Ok c.in-More.is)
+    (back_shown g.D.Device.seen g.D.Device.may_leave c.args.self.now.relations c.args.self.now.counters c.args.self.now.parts c.back_step.new.self first s c.args.txn c.args.place c.back_step.result c.requires.within (λ r there. (c.requires.own r there).0) c.back_step.ensures.back shows))
+
+pub returns-in-Flush-clause-aborted : goal.returns-in-Flush-clause-aborted
+returns-in-Flush-clause-aborted g c = λ first s shows. subst (BackShown g.D.Device.seen g.D.Device.may_leave c.args.self.now.relations c.args.self.now.counters c.back_step.new.self first s c.args.txn) (c.in_ok-back_step.was ∙ ap Ok c.in-Flush.is)
+    (back_shown g.D.Device.seen g.D.Device.may_leave c.args.self.now.relations c.args.self.now.counters c.args.self.now.parts c.back_step.new.self first s c.args.txn c.args.place c.back_step.result c.requires.within (λ r there. (c.requires.own r there).0) c.back_step.ensures.back shows)
+
+pub returns-in-Clear-clause-aborted : goal.returns-in-Clear-clause-aborted
+returns-in-Clear-clause-aborted g c = λ first s shows. subst (BackShown g.D.Device.seen g.D.Device.may_leave c.args.self.now.relations c.args.self.now.counters c.back_step.new.self first s c.args.txn) (c.in_ok-back_step.was ∙ ap Ok c.in-Clear.is)
+    (back_shown g.D.Device.seen g.D.Device.may_leave c.args.self.now.relations c.args.self.now.counters c.args.self.now.parts c.back_step.new.self first s c.args.txn c.args.place c.back_step.result c.requires.within (λ r there. (c.requires.own r there).0) c.back_step.ensures.back shows)
+
+pub returns-in-More-clause-work : goal.returns-in-More-clause-work
+returns-in-More-clause-work g c = let k = c.args.self.now.parts in let n = c.back_step.new.self in
+    let at = at_place k.running.items c.args.place c.requires.within in
+    let lowers = subst (λ t. LowersBack c.back_step.result (undo_steps k t) (undo_steps n t)) (c.requires.own at.0 at.1).0 (c.back_step.ensures.lowers at.0 at.1) in
+    subst (λ (r : Result TakenBack Refusal). LowersBack r (undo_steps k c.args.txn) (undo_steps n c.args.txn)) (c.in_ok-back_step.was ∙ ap Ok c.in-More.is) lowers
+
+pub returns-in-Flush-clause-work : goal.returns-in-Flush-clause-work
+returns-in-Flush-clause-work g c = let k = c.args.self.now.parts in let n = c.back_step.new.self in
+    let at = at_place k.running.items c.args.place c.requires.within in
+    let lowers = subst (λ t. LowersBack c.back_step.result (undo_steps k t) (undo_steps n t)) (c.requires.own at.0 at.1).0 (c.back_step.ensures.lowers at.0 at.1) in
+    subst (λ (r : Result TakenBack Refusal). LowersBack r (undo_steps k c.args.txn) (undo_steps n c.args.txn)) (c.in_ok-back_step.was ∙ ap Ok c.in-Flush.is) lowers
+
+pub returns-in-Clear-clause-work : goal.returns-in-Clear-clause-work
+returns-in-Clear-clause-work g c = let k = c.args.self.now.parts in let n = c.back_step.new.self in
+    let at = at_place k.running.items c.args.place c.requires.within in
+    let lowers = subst (λ t. LowersBack c.back_step.result (undo_steps k t) (undo_steps n t)) (c.requires.own at.0 at.1).0 (c.back_step.ensures.lowers at.0 at.1) in
+    subst (λ (r : Result TakenBack Refusal). LowersBack r (undo_steps k c.args.txn) (undo_steps n c.args.txn)) (c.in_ok-back_step.was ∙ ap Ok c.in-Clear.is) lowers
+
+pub returns-in_err-back_step-clause-work : goal.returns-in_err-back_step-clause-work
+returns-in_err-back_step-clause-work g c = let k = c.args.self.now.parts in let n = c.back_step.new.self in
+    let at = at_place k.running.items c.args.place c.requires.within in
+    let lowers = subst (λ t. LowersBack c.back_step.result (undo_steps k t) (undo_steps n t)) (c.requires.own at.0 at.1).0 (c.back_step.ensures.lowers at.0 at.1) in
+    let few : undo_steps n c.args.txn ≤ undo_steps k c.args.txn = subst (λ (r : Result TakenBack Refusal). LowersBack r (undo_steps k c.args.txn) (undo_steps n c.args.txn)) c.in_err-back_step.was lowers in
+    let p = err_from_is_err_and c.from_residual.result c.from_residual.ensures.1 in
+    subst (λ (r : Result AbortStepped Refusal). LowersAbort (pages k.operations.store.pool) r (undo_steps k c.args.txn) (undo_steps n c.args.txn)) (sym p.1) few

@@ -1,0 +1,69 @@
+use mathlib.Core.Logic.{∥∥₁_map}
+use Rattle.std.proofs.Common.{◌∙◌, Ok, ap}
+use Rattle.mt_live.specs.Machine.{State, gone}
+use Rattle.mt_live.specs.Undoing.{last_effect}
+use Rattle.mt_txn.proofs.Showing.{well_either}
+use Rattle.std.proofs.lemmas.Result.{err_from_is_err_and}
+use Rattle.mt_txn.proofs.Answering.{err_aborted}
+use Rattle.mt_txn.proofs.Showing.{sound_of, led, well_led, stays_led, back_stands}
+use Rattle.std.proofs.Common.{◌≡◌, ◌≤◌, sym, subst}
+use Rattle.std.specs.Prelude.{Result}
+use Rattle.mt_base.specs.declared.refusal.Refusal.{Refusal}
+use Rattle.mt_pool.specs.Views.{pages}
+use Rattle.mt_kernel.specs.Work.{undo_steps}
+use Rattle.mt_kernel.specs.declared.parts.Parts.{Parts}
+use Rattle.mt_txn.specs.Work.{LowersAbort}
+use Rattle.mt_txn.specs.declared.answers.AbortStepped.{AbortStepped}
+use Rattle.mt_txn.proofs.kernel.Kernel.undo_next.Goals as goal
+
+pub undo_begin-requires-clause-safe : goal.undo_begin-requires-clause-safe
+undo_begin-requires-clause-safe g c = sound_of g.D.Device.seen g.D.Device.may_leave c.args.self.now.relations c.args.self.now.counters c.args.self.now.parts c.args.self.now.well
+
+pub invariant_of-self : goal.invariant_of-self
+invariant_of-self g c = record { well = well_led g.D.Device.seen g.D.Device.may_leave c.args.self.now.relations c.args.self.now.counters c.args.self.now.parts c.undo_begin.new.self (λ z. z) (stays_led g.D.Device.seen g.D.Device.may_leave c.args.self.now.relations c.args.self.now.counters c.args.self.now.parts c.undo_begin.new.self c.undo_begin.ensures.state) c.args.self.now.well }
+
+pub returns-in_err-undo_begin-clause-aborted : goal.returns-in_err-undo_begin-clause-aborted
+returns-in_err-undo_begin-clause-aborted g c = λ first s shows. let p = err_from_is_err_and c.from_residual.result c.from_residual.ensures.1 in
+    err_aborted g.D.Device.seen g.D.Device.may_leave first s c.args.txn _ c.from_residual.result p.0 p.1 (led g.D.Device.seen g.D.Device.may_leave c.args.self.now.relations c.args.self.now.counters c.args.self.now.parts c.undo_begin.new.self (λ z. z) first s (stays_led g.D.Device.seen g.D.Device.may_leave c.args.self.now.relations c.args.self.now.counters c.args.self.now.parts c.undo_begin.new.self c.undo_begin.ensures.state) shows)
+
+pub invariant_of-self-then-branch : goal.invariant_of-self-then-branch
+invariant_of-self-then-branch g c = record { well = well_led g.D.Device.seen g.D.Device.may_leave c.args.self.now.relations c.args.self.now.counters c.args.self.now.parts c.undo_begin.new.self (λ z. z) (stays_led g.D.Device.seen g.D.Device.may_leave c.args.self.now.relations c.args.self.now.counters c.args.self.now.parts c.undo_begin.new.self c.undo_begin.ensures.state) c.args.self.now.well }
+
+pub returns-then-branch-clause-aborted : goal.returns-then-branch-clause-aborted
+returns-then-branch-clause-aborted g c = λ first s shows. back_stands g.D.Device.seen g.D.Device.may_leave c.args.self.now.relations c.args.self.now.counters c.undo_begin.new.self first s c.args.txn (led g.D.Device.seen g.D.Device.may_leave c.args.self.now.relations c.args.self.now.counters c.args.self.now.parts c.undo_begin.new.self (λ z. z) first s (stays_led g.D.Device.seen g.D.Device.may_leave c.args.self.now.relations c.args.self.now.counters c.args.self.now.parts c.undo_begin.new.self c.undo_begin.ensures.state) shows)
+
+pub abort_end-requires-clause-safe : goal.abort_end-requires-clause-safe
+abort_end-requires-clause-safe g c = sound_of g.D.Device.seen g.D.Device.may_leave c.args.self.now.relations c.args.self.now.counters c.undo_begin.new.self (well_led g.D.Device.seen g.D.Device.may_leave c.args.self.now.relations c.args.self.now.counters c.args.self.now.parts c.undo_begin.new.self (λ z. z) (stays_led g.D.Device.seen g.D.Device.may_leave c.args.self.now.relations c.args.self.now.counters c.args.self.now.parts c.undo_begin.new.self c.undo_begin.ensures.state) c.args.self.now.well)
+
+pub invariant_of-self-2 : goal.invariant_of-self-2
+invariant_of-self-2 g c = record { well = well_either g.D.Device.seen g.D.Device.may_leave c.args.self.now.relations c.args.self.now.counters c.undo_begin.new.self c.abort_end.new.self (λ s. gone s c.args.txn) c.abort_end.result c.abort_end.ensures.gone c.abort_end.ensures.err (well_led g.D.Device.seen g.D.Device.may_leave c.args.self.now.relations c.args.self.now.counters c.args.self.now.parts c.undo_begin.new.self (λ z. z) (stays_led g.D.Device.seen g.D.Device.may_leave c.args.self.now.relations c.args.self.now.counters c.args.self.now.parts c.undo_begin.new.self c.undo_begin.ensures.state) c.args.self.now.well) }
+
+pub returns-in_err-abort_end-clause-aborted : goal.returns-in_err-abort_end-clause-aborted
+returns-in_err-abort_end-clause-aborted g c = λ first s shows. let p = err_from_is_err_and c.from_residual-in_err-abort_end.result c.from_residual-in_err-abort_end.ensures.1 in
+    err_aborted g.D.Device.seen g.D.Device.may_leave first s c.args.txn _ c.from_residual-in_err-abort_end.result p.0 p.1 (led g.D.Device.seen g.D.Device.may_leave c.args.self.now.relations c.args.self.now.counters c.undo_begin.new.self c.abort_end.new.self (λ z. z) first s (λ origin base safe. (base, c.in_err-abort_end.ensures.err origin base safe)) (led g.D.Device.seen g.D.Device.may_leave c.args.self.now.relations c.args.self.now.counters c.args.self.now.parts c.undo_begin.new.self (λ z. z) first s (stays_led g.D.Device.seen g.D.Device.may_leave c.args.self.now.relations c.args.self.now.counters c.args.self.now.parts c.undo_begin.new.self c.undo_begin.ensures.state) shows))
+
+pub returns-clause-aborted : goal.returns-clause-aborted
+returns-clause-aborted g c = λ first s shows. (
+  led g.D.Device.seen g.D.Device.may_leave c.args.self.now.relations c.args.self.now.counters c.undo_begin.new.self c.abort_end.new.self (λ z. gone z c.args.txn) first s (λ origin base safe. (base, c.in_ok-abort_end.ensures.gone origin base safe)) (led g.D.Device.seen g.D.Device.may_leave c.args.self.now.relations c.args.self.now.counters c.args.self.now.parts c.undo_begin.new.self (λ z. z) first s (stays_led g.D.Device.seen g.D.Device.may_leave c.args.self.now.relations c.args.self.now.counters c.args.self.now.parts c.undo_begin.new.self c.undo_begin.ensures.state) shows),
+  ∥∥₁_map shows (λ (origin, base, is, x). ap (λ (z : State). last_effect c.args.txn z.standing) x.state ∙ c.undo_begin.ensures.nothing (c.in_ok-undo_begin.was ∙ ap Ok c.if-branch.false)),
+)
+
+pub returns-in_err-undo_begin-clause-work : goal.returns-in_err-undo_begin-clause-work
+returns-in_err-undo_begin-clause-work g c = let k = c.args.self.now.parts in let n = c.undo_begin.new.self in
+    let p = err_from_is_err_and c.from_residual.result c.from_residual.ensures.1 in
+    subst (λ (r : Result AbortStepped Refusal). LowersAbort (pages k.operations.store.pool) r (undo_steps k c.args.txn) (undo_steps n c.args.txn)) (sym p.1) c.in_err-undo_begin.ensures.err_left
+
+pub returns-then-branch-clause-work : goal.returns-then-branch-clause-work
+returns-then-branch-clause-work g c = c.undo_begin.ensures.fewer (c.in_ok-undo_begin.was ∙ ap Ok c.if-branch.true)
+
+pub returns-in_err-abort_end-clause-work : goal.returns-in_err-abort_end-clause-work
+returns-in_err-abort_end-clause-work g c = let k = c.args.self.now.parts in let n = c.abort_end.new.self in
+    let p = err_from_is_err_and c.from_residual-in_err-abort_end.result c.from_residual-in_err-abort_end.ensures.1 in
+    let same : c.undo_begin.new.self ≡ k = c.undo_begin.ensures.same (c.in_ok-undo_begin.was ∙ ap Ok c.if-branch.false) in
+    let few : undo_steps n c.args.txn ≤ undo_steps k c.args.txn = subst (λ (x : Parts g.row.D.Denot). undo_steps n c.args.txn ≤ undo_steps x c.args.txn) same c.in_err-abort_end.ensures.err_left in
+    subst (λ (r : Result AbortStepped Refusal). LowersAbort (pages k.operations.store.pool) r (undo_steps k c.args.txn) (undo_steps n c.args.txn)) (sym p.1) few
+
+pub returns-clause-work : goal.returns-clause-work
+returns-clause-work g c =
+    let same : c.undo_begin.new.self ≡ c.args.self.now.parts = c.undo_begin.ensures.same (c.in_ok-undo_begin.was ∙ ap Ok c.if-branch.false) in
+    ap (λ (x : Parts g.row.D.Denot). undo_steps x c.args.txn) (sym same) ∙ c.in_ok-abort_end.ensures.none_left

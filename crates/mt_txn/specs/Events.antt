@@ -1,0 +1,77 @@
+-- What the calls do to the state that a kernel shows.
+use Rattle.std.specs.Prelude.{ℕ, ◌≡◌, true, drop, List, Option, Some, None, Result, Ok, Err}
+use Rattle.mt_base.specs.declared.refusal.Refusal.{Refusal}
+use Rattle.mt_disk.specs.declared.device.Device.{Ghosts}
+use Rattle.mt_live.specs.Machine.{State, called, ended, dropped, undone, gone}
+use Rattle.mt_live.specs.Undoing.{last_effect}
+use Rattle.mt_model.specs.Model.{Base, reply_of, base_after}
+use Rattle.mt_model.specs.declared.operations.Op.{Op}
+use Rattle.mt_model.specs.declared.pending.Pending.{Pending}
+use Rattle.mt_kernel.specs.Booked.{booked_each, durable_count, durable_txns}
+use Rattle.mt_kernel.specs.declared.parts.Commit.{Commit}
+use Rattle.mt_log.specs.Words.{IsStep}
+use Rattle.mt_log.specs.declared.log.Log.{Log}
+use Rattle.mt_log.specs.declared.log.Forced.TheVariants as log
+use Rattle.mt_kernel.specs.Causes.{IsAnswered}
+use Rattle.mt_kernel.specs.Consistent.{Origin, IsConsistent, IsIn, log_kept}
+use Rattle.mt_kernel.specs.declared.calls.Called.{Called}
+use Rattle.mt_kernel.specs.declared.calls.Called.TheVariants as call
+use Rattle.mt_kernel.specs.declared.parts.Parts.{Parts}
+use Rattle.mt_txn.specs.Shown.{Shows}
+use Rattle.mt_txn.specs.Well.{IsOrigin}
+use Rattle.mt_txn.specs.declared.answers.AbortStepped.{AbortStepped}
+use Rattle.mt_txn.specs.declared.answers.AbortStepped.TheVariants as abort
+use Rattle.mt_txn.specs.declared.answers.KernelForced.{KernelForced}
+use Rattle.mt_txn.specs.declared.answers.KernelForced.TheVariants as forced
+use Rattle.mt_txn.specs.declared.answers.Stepped.{Stepped}
+use Rattle.mt_txn.specs.declared.answers.Stepped.TheVariants as step
+use Rattle.mt_txn.specs.declared.kernel.Kernel.{Kernel}
+
+-- What locks, escrow, pages and log say to a call that asks them, in this order.
+abbrev pub IsAnsweredBy : {D : Type 0} → {g : Ghosts D} → (D → List ℕ) → (D → List ℕ → Type 0) → Kernel D g → ℕ → Op → Result Called Refusal → Type 0
+IsAnsweredBy seen may_leave k t op result =
+    ∥ ((origin : Origin) × (base : Base) × IsOrigin k.relations k.counters origin.first origin × IsConsistent seen may_leave origin base k.parts × IsAnswered seen origin k.parts (log_kept k.parts) t op true result) ∥₁
+
+-- what a call that answered this left, of a kernel in this state: only one that is started changes it
+abbrev pub HasCalled : {D : Type 0} → {g : Ghosts D} → (D → List ℕ) → (D → List ℕ → Type 0) → Base → State → ℕ → Op → Result Called Refusal → Kernel D g → Type 0
+HasCalled seen may_leave first s t op (Ok call.Started) n = Shows seen may_leave first (called s t op) n
+HasCalled seen may_leave first s t op (Ok (call.Wait holder)) n = Shows seen may_leave first s n
+HasCalled seen may_leave first s t op (Err why) n = Shows seen may_leave first s n
+
+-- what a step did: one that replied has acted once on the base that the pages held, as the model does, and has ended
+abbrev pub HasStepped : {D : Type 0} → {g : Ghosts D} → (D → List ℕ) → (D → List ℕ → Type 0) → Base → State → ℕ → Result Stepped Refusal → Kernel D g → Type 0
+HasStepped seen may_leave first s t (Ok (step.Replied reply)) n = (op : Op) → s.running t ≡ Some op → Shows seen may_leave first (ended s t op) n × ∥ reply_of s.base op ≡ reply ∥₁
+HasStepped seen may_leave first s t (Ok step.Went) n = Shows seen may_leave first s n
+HasStepped seen may_leave first s t (Ok (step.Wait other)) n = Shows seen may_leave first s n
+HasStepped seen may_leave first s t (Ok step.Again) n = Shows seen may_leave first s n
+HasStepped seen may_leave first s t (Ok step.Flush) n = Shows seen may_leave first s n
+HasStepped seen may_leave first s t (Err why) n = Shows seen may_leave first s n
+
+-- what a step of a force did: the transactions that it names are in the book, one after the other, and live no more
+abbrev pub HasForced : {D : Type 0} → {g : Ghosts D} → (D → List ℕ) → (D → List ℕ → Type 0) → Base → State → Result KernelForced Refusal → Kernel D g → Type 0
+HasForced seen may_leave first s (Ok forced.More) n = Shows seen may_leave first s n
+HasForced seen may_leave first s (Ok forced.Idle) n = Shows seen may_leave first s n
+HasForced seen may_leave first s (Ok (forced.Durable names)) n = Shows seen may_leave first (booked_each s names.items) n
+HasForced seen may_leave first s (Err why) n = Shows seen may_leave first s n
+
+-- What a step of a force did to the log and to the commits under way. Those that it names are durable now: their records lie up to
+-- where the log is durable; and no other commit left.
+abbrev pub IsForcedBy : Log → List Commit → KernelForced → Log → List Commit → Type 0
+IsForcedBy old cs forced.More new ds = IsStep old log.More new × (ds ≡ cs)
+IsForcedBy old cs forced.Idle new ds = IsStep old log.Idle new × (ds ≡ cs)
+IsForcedBy old cs (forced.Durable names) new ds = (place : ℕ) × IsStep old (log.Durable place) new × (names.items ≡ durable_txns cs place) × (ds ≡ drop (durable_count cs place) cs)
+
+-- What a step of an abort that goes on may lead to: the state as it was; its operation dropped, or its last effect undone.
+pub data IsBack (s : State) (t : ℕ) : State → Type 0 where
+  stands : IsBack s t s
+  drops : (ps : List Pending) → IsBack s t (dropped s t ps)
+  undoes : (i : Op) (ps : List Pending) → IsBack s t (undone s t i ps)
+
+-- what a step of the abort of t did
+abbrev pub HasAborted : {D : Type 0} → {g : Ghosts D} → (D → List ℕ) → (D → List ℕ → Type 0) → Base → State → ℕ → Result AbortStepped Refusal → Kernel D g → Type 0
+HasAborted seen may_leave first s t (Ok abort.More) n = ∥ ((z : State) × IsBack s t z × Shows seen may_leave first z n) ∥₁
+HasAborted seen may_leave first s t (Ok (abort.Wait other)) n = Shows seen may_leave first s n
+HasAborted seen may_leave first s t (Ok abort.Again) n = Shows seen may_leave first s n
+HasAborted seen may_leave first s t (Ok abort.Flush) n = Shows seen may_leave first s n
+HasAborted seen may_leave first s t (Ok abort.Ended) n = Shows seen may_leave first (gone s t) n × ∥ last_effect t s.standing ≡ None ∥₁
+HasAborted seen may_leave first s t (Err why) n = Shows seen may_leave first s n

@@ -1,0 +1,74 @@
+-- The steps that are left, and who is waited for.
+use Rattle.std.specs.Prelude.{ℕ, ◌≡◌, ◌≢◌, ◌⊎◌, ◌<◌, ◌≤◌, ◌+◌, ◌*◌, true, is_some, List, Some, None, Result, Ok, Err, ⊤}
+use Rattle.mt_base.specs.declared.refusal.Refusal.{Refusal}
+use Rattle.mt_live.specs.Lives.{member_of}
+use Rattle.mt_live.specs.Members.{Member}
+use Rattle.mt_kernel.specs.Consistent.{IsOwnerOf}
+use Rattle.mt_kernel.specs.declared.parts.Running.{Running}
+use Rattle.mt_kernel.specs.declared.steps.Going.{Going}
+use Rattle.mt_kernel.specs.declared.steps.Going.TheVariants as going
+use Rattle.mt_txn.specs.declared.answers.AbortStepped.{AbortStepped}
+use Rattle.mt_txn.specs.declared.answers.AbortStepped.TheVariants as abort
+use Rattle.mt_txn.specs.declared.answers.Stepped.{Stepped}
+use Rattle.mt_txn.specs.declared.answers.Stepped.TheVariants as step
+
+-- What a step answers of an operation that goes on. It names the transaction whose operation holds the page; where none has that
+-- operation, it is asked again.
+abbrev pub IsToldAs : List Running → Going → Stepped → Type 0
+IsToldAs rs g (step.Replied reply) = ⊥
+IsToldAs rs g step.Went = g ≡ going.Went
+IsToldAs rs g (step.Wait other) = (holder : ℕ) × (g ≡ going.Wait holder) × IsOwnerOf rs holder (Some other)
+IsToldAs rs g step.Again = (holder : ℕ) × (((g ≡ going.Wait holder) × IsOwnerOf rs holder None) ⊎ (g ≡ going.Again holder))
+IsToldAs rs g step.Flush = g ≡ going.Flush
+
+-- what a step of an abort answers of an inverse that goes on
+abbrev pub IsAbortToldAs : List Running → Going → AbortStepped → Type 0
+IsAbortToldAs rs g abort.More = g ≡ going.Went
+IsAbortToldAs rs g (abort.Wait other) = (holder : ℕ) × (g ≡ going.Wait holder) × IsOwnerOf rs holder (Some other)
+IsAbortToldAs rs g abort.Again = (holder : ℕ) × (((g ≡ going.Wait holder) × IsOwnerOf rs holder None) ⊎ (g ≡ going.Again holder))
+IsAbortToldAs rs g abort.Flush = g ≡ going.Flush
+IsAbortToldAs rs g abort.Ended = ⊥
+
+-- ---- who is waited for
+
+-- another transaction than t, which lives
+abbrev pub IsAnother : List Member → ℕ → ℕ → Type 0
+IsAnother ms t u = (u ≢ t) × (is_some (member_of ms u) ≡ true)
+
+-- A step of t waits, or begins anew, only for another transaction that lives.
+abbrev pub IsForOther : List Member → ℕ → Stepped → Type 0
+IsForOther ms t (step.Replied reply) = ⊤
+IsForOther ms t step.Went = ⊤
+IsForOther ms t (step.Wait other) = IsAnother ms t other
+IsForOther ms t step.Again = ∥ ((u : ℕ) × IsAnother ms t u) ∥₁
+IsForOther ms t step.Flush = ⊤
+
+-- and so does a step of its abort
+abbrev pub IsAbortForOther : List Member → ℕ → AbortStepped → Type 0
+IsAbortForOther ms t abort.More = ⊤
+IsAbortForOther ms t (abort.Wait other) = IsAnother ms t other
+IsAbortForOther ms t abort.Again = ∥ ((u : ℕ) × IsAnother ms t u) ∥₁
+IsAbortForOther ms t abort.Flush = ⊤
+IsAbortForOther ms t abort.Ended = ⊤
+
+-- ---- the steps that are left
+
+-- What a step that answered this leaves of a transaction's steps, over so many pages: going on and ending lower them, beginning anew
+-- raises them by two a page at most, and a step that waits or is refused leaves no more.
+abbrev pub LowersSteps : ℕ → Result Stepped Refusal → ℕ → ℕ → Type 0
+LowersSteps pages (Ok (step.Replied reply)) before now = (0 < before) × (now ≡ 0)
+LowersSteps pages (Ok step.Went) before now = now < before
+LowersSteps pages (Ok (step.Wait other)) before now = now ≤ before
+LowersSteps pages (Ok step.Again) before now = now ≤ before + 2 * pages
+LowersSteps pages (Ok step.Flush) before now = now ≤ before
+LowersSteps pages (Err why) before now = now ≤ before
+
+-- A step of an abort that went on leaves fewer of its steps, and the end comes where none are left. One that begins anew may leave more,
+-- by two a page at most; every other, and one that is refused, leaves no more.
+abbrev pub LowersAbort : ℕ → Result AbortStepped Refusal → ℕ → ℕ → Type 0
+LowersAbort pages (Ok abort.More) before now = now < before
+LowersAbort pages (Ok (abort.Wait other)) before now = now ≤ before
+LowersAbort pages (Ok abort.Again) before now = now ≤ before + 2 * pages
+LowersAbort pages (Ok abort.Flush) before now = now ≤ before
+LowersAbort pages (Ok abort.Ended) before now = before ≡ 0
+LowersAbort pages (Err why) before now = now ≤ before

@@ -1,0 +1,190 @@
+// Aborts, by the inverses of what was done.
+ghost use Rattle.std.specs.Prelude.{◌≡◌, ◌≢◌, ◌⊎◌, ◌<◌, ◌≤◌, length, All, Ok, IfOk, IfErr, OnOk, OnErr, None, Some};
+ghost use Rattle.mt_base.specs.declared.refusal.Refusal.{Refusal};
+ghost use Rattle.mt_live.specs.Machine.{State};
+ghost use Rattle.mt_model.specs.Model.{Base};
+ghost use Rattle.mt_live.specs.declared.transactions.TxnState.TheVariants.{Aborting};
+ghost use Rattle.mt_kernel.specs.Consistent.{AtPlace, SameCommits, SameRunning, SameStates, SameStatesBut, SetsState};
+ghost use Rattle.mt_kernel.specs.Runs.{state_in};
+ghost use Rattle.mt_kernel.specs.Steps.{WantsFrame};
+ghost use Rattle.mt_kernel.specs.Work.{most_steps, undo_steps};
+ghost use Rattle.mt_pool.specs.Views.{pages};
+ghost use Rattle.mt_kernel.specs.declared.parts.Running.{Running};
+ghost use Rattle.mt_txn.specs.Causes.{IsFault, abort_cause, open_cause};
+ghost use Rattle.mt_txn.specs.Events.{HasAborted};
+ghost use Rattle.mt_txn.specs.Shown.{SameSchema, Shows, Stays};
+ghost use Rattle.mt_txn.specs.Work.{IsAbortToldAs, IsAbortForOther, LowersAbort};
+
+use crate::answers::AbortStepped;
+use crate::kernel::Kernel;
+use mt_base::{Refusal, TxnNo};
+use mt_disk::Device;
+use mt_kernel::{Going, Stepping};
+use mt_op::TakenBack;
+
+impl<D: Device> Kernel<D> {
+    /// Begins to undo an open transaction, whether an operation of it is unfinished or not; abort steps bring it to its
+    /// end. Where nobody is in the way they are, over n pages, at most 2 n + 10 for each operation of it that stands or
+    /// is under way, and the end. It takes no memory.
+    ///
+    /// Refused, in this order: 2 where the device has failed, 15 where the transaction is not open. Nothing has
+    /// changed then.
+    pub fn abort_begin(&mut self, txn: TxnNo) -> Result<(), Refusal>
+        ensures may { OnOk result (open_cause self.old.parts txn ≡ None) }
+        ensures cause { IfErr result (λ why. open_cause self.old.parts txn ≡ Some why) }
+        ensures state { Stays D.seen D.may_leave self.old self.new }
+        ensures aborts { OnOk result (SetsState self.old.parts self.new.parts txn (Some Aborting)) }
+        ensures running { SameRunning self.old.parts self.new.parts }
+        ensures commits { SameCommits self.old.parts self.new.parts }
+        ensures work { OnOk result (undo_steps self.new.parts txn ≤ most_steps self.old.parts txn) }
+        ensures err { OnErr result (self.new ≡ self.old) }
+        ensures schema { SameSchema self.old self.new }
+    {
+        if let Some(why) = self.open_cause(txn) {
+            return Err(why);
+        }
+        self.parts.abort_begin(txn);
+        Ok(())
+    }
+
+    // Takes the operation at a place back a step, which is no inverse.
+    fn go_back(&mut self, txn: TxnNo, place: usize) -> Result<AbortStepped, Refusal>
+        requires within { place < length self.old.parts.running.items }
+        requires own { AtPlace self.old.parts.running.items place (λ r. (r.scope.txn ≡ txn) × (r.scope.undoes ≡ 0)) }
+        requires aborting { state_in self.old.parts.live.members txn ≡ Some Aborting }
+        ensures why { IfErr result (λ why. why ≢ Refusal.NoMemory
+            → IsFault D.faults self.old.parts self.new.parts why) }
+        ensures states { IfOk result (λ stepped. stepped ≢ AbortStepped.Ended
+            → SameStates self.old.parts self.new.parts) }
+        ensures work { LowersAbort (pages self.old.parts.operations.store.pool) result
+            (undo_steps self.old.parts txn) (undo_steps self.new.parts txn) }
+        ensures other { IfOk result (λ stepped. IsAbortForOther self.old.parts.live.members txn stepped) }
+        ensures full { result ≡ Ok AbortStepped.Flush → WantsFrame self.old.parts self.new.parts }
+        ensures commits { SameCommits self.old.parts self.new.parts }
+        ensures err_states { OnErr result (SameStates self.old.parts self.new.parts) }
+        ensures out { result ≡ Ok AbortStepped.Ended → (state_in self.new.parts.live.members txn ≡ None)
+            × SameStatesBut self.old.parts self.new.parts txn }
+        ensures schema { SameSchema self.old self.new }
+        ensures aborted { (first : Base) (s : State) → Shows D.seen D.may_leave first s self.old
+            → HasAborted D.seen D.may_leave first s txn result self.new }
+    {
+        match self.parts.back_step(place)? {
+            TakenBack::More => Ok(AbortStepped::More),
+            TakenBack::Flush => Ok(AbortStepped::Flush),
+            TakenBack::Clear => Ok(AbortStepped::More),
+        }
+    }
+
+    // Makes a step of the inverse at a place.
+    fn undo_step(&mut self, txn: TxnNo, place: usize) -> Result<AbortStepped, Refusal>
+        requires within { place < length self.old.parts.running.items }
+        requires own { AtPlace self.old.parts.running.items place (λ r. (r.scope.txn ≡ txn) × (r.scope.undoes ≢ 0)) }
+        ensures why { IfErr result (λ why. why ≢ Refusal.NoMemory
+            → IsFault D.faults self.old.parts self.new.parts why) }
+        ensures states { IfOk result (λ stepped. stepped ≢ AbortStepped.Ended
+            → SameStates self.old.parts self.new.parts) }
+        ensures work { LowersAbort (pages self.old.parts.operations.store.pool) result
+            (undo_steps self.old.parts txn) (undo_steps self.new.parts txn) }
+        ensures other { IfOk result (λ stepped. IsAbortForOther self.old.parts.live.members txn stepped) }
+        ensures full { result ≡ Ok AbortStepped.Flush → WantsFrame self.old.parts self.new.parts }
+        ensures commits { SameCommits self.old.parts self.new.parts }
+        ensures err_states { OnErr result (SameStates self.old.parts self.new.parts) }
+        ensures out { result ≡ Ok AbortStepped.Ended → (state_in self.new.parts.live.members txn ≡ None)
+            × SameStatesBut self.old.parts self.new.parts txn }
+        ensures schema { SameSchema self.old self.new }
+        ensures aborted { (first : Base) (s : State) → Shows D.seen D.may_leave first s self.old
+            → HasAborted D.seen D.may_leave first s txn result self.new }
+    {
+        match self.parts.undo_step(self.alloc, place)? {
+            Stepping::Ended(reply) => {
+                drop(reply);
+                Ok(AbortStepped::More)
+            }
+            Stepping::Going(going) => Ok(self.going(going)),
+        }
+    }
+
+    // What a step of an abort answers where its inverse goes on.
+    fn going(&self, going: Going) -> AbortStepped
+        ensures { IsAbortToldAs self.now.parts.running.items going result }
+    {
+        match going {
+            Going::Went => AbortStepped::More,
+            Going::Wait(holder) => match self.parts.owner(holder) {
+                Some(other) => AbortStepped::Wait(other),
+                None => AbortStepped::Again,
+            },
+            Going::Again(_) => AbortStepped::Again,
+            Going::Flush => AbortStepped::Flush,
+        }
+    }
+
+    // Begins the next inverse of a transaction that is to be undone and runs nothing, or ends its abort.
+    fn undo_next(&mut self, txn: TxnNo) -> Result<AbortStepped, Refusal>
+        requires idle { All (λ (r : Running). r.scope.txn ≢ txn) self.old.parts.running.items }
+        requires aborting { state_in self.old.parts.live.members txn ≡ Some Aborting }
+        ensures why { IfErr result (λ why. why ≢ Refusal.NoMemory
+            → IsFault D.faults self.old.parts self.new.parts why) }
+        ensures states { IfOk result (λ stepped. stepped ≢ AbortStepped.Ended
+            → SameStates self.old.parts self.new.parts) }
+        ensures work { LowersAbort (pages self.old.parts.operations.store.pool) result
+            (undo_steps self.old.parts txn) (undo_steps self.new.parts txn) }
+        ensures other { IfOk result (λ stepped. IsAbortForOther self.old.parts.live.members txn stepped) }
+        ensures full { result ≡ Ok AbortStepped.Flush → WantsFrame self.old.parts self.new.parts }
+        ensures commits { SameCommits self.old.parts self.new.parts }
+        ensures err_states { OnErr result (SameStates self.old.parts self.new.parts) }
+        ensures out { result ≡ Ok AbortStepped.Ended → (state_in self.new.parts.live.members txn ≡ None)
+            × SameStatesBut self.old.parts self.new.parts txn }
+        ensures schema { SameSchema self.old self.new }
+        ensures aborted { (first : Base) (s : State) → Shows D.seen D.may_leave first s self.old
+            → HasAborted D.seen D.may_leave first s txn result self.new }
+    {
+        if self.parts.undo_begin(self.alloc, txn)? {
+            return Ok(AbortStepped::More);
+        }
+        self.parts.abort_end(txn)?;
+        Ok(AbortStepped::Ended)
+    }
+
+    /// Makes one step of an abort. The operation under way, if there is one, is taken back first, a page a step; then
+    /// each operation that did anything is undone by its inverse, the last one first (Weikum 1991), a step of the
+    /// inverse a step; then the end is logged, and the transaction lives no more. A step waits, or begins anew, only
+    /// for another transaction that lives.
+    ///
+    /// How many steps: each that answers [`AbortStepped::More`] lowers what the abort has left, and the end comes where
+    /// nothing is left. [`AbortStepped::Again`] adds two steps a page at most.
+    ///
+    /// Refused, in this order: 2 where the device has failed, 15 where the transaction is not being undone, 1 for want
+    /// of memory; and with 2 where the device fails in this step. The step may be asked again after 1.
+    pub fn abort_step(&mut self, txn: TxnNo) -> Result<AbortStepped, Refusal>
+        ensures may { OnOk result (abort_cause self.old.parts txn ≡ None) }
+        ensures cause { IfErr result (λ why. why ≢ Refusal.NoMemory → (abort_cause self.old.parts txn ≡ Some why)
+            ⊎ IsFault D.faults self.old.parts self.new.parts why) }
+        ensures states { IfOk result (λ stepped. stepped ≢ AbortStepped.Ended
+            → SameStates self.old.parts self.new.parts) }
+        ensures work { LowersAbort (pages self.old.parts.operations.store.pool) result
+            (undo_steps self.old.parts txn) (undo_steps self.new.parts txn) }
+        ensures other { IfOk result (λ stepped. IsAbortForOther self.old.parts.live.members txn stepped) }
+        ensures full { result ≡ Ok AbortStepped.Flush → WantsFrame self.old.parts self.new.parts }
+        ensures commits { SameCommits self.old.parts self.new.parts }
+        ensures err_states { OnErr result (SameStates self.old.parts self.new.parts) }
+        ensures out { result ≡ Ok AbortStepped.Ended → (state_in self.new.parts.live.members txn ≡ None)
+            × SameStatesBut self.old.parts self.new.parts txn }
+        ensures unmoved { (why : Refusal) → abort_cause self.old.parts txn ≡ Some why → self.new ≡ self.old }
+        ensures schema { SameSchema self.old self.new }
+        ensures aborted { (first : Base) (s : State) → Shows D.seen D.may_leave first s self.old
+            → HasAborted D.seen D.may_leave first s txn result self.new }
+    {
+        if let Some(why) = self.abort_cause(txn) {
+            return Err(why);
+        }
+        let Some(place) = self.parts.place_of(txn) else {
+            return self.undo_next(txn);
+        };
+        if self.parts.is_inverse(place) {
+            self.undo_step(txn, place)
+        } else {
+            self.go_back(txn, place)
+        }
+    }
+}

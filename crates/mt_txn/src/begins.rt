@@ -1,0 +1,49 @@
+// Transactions that begin.
+ghost use Rattle.std.specs.Prelude.{◌≡◌, ◌≢◌, ◌+◌, ◌^◌, IfOk, IfErr, OnOk, OnErr, None, Some};
+ghost use Rattle.mt_base.specs.declared.refusal.Refusal.{Refusal};
+ghost use Rattle.mt_live.specs.Machine.{State, begun};
+ghost use Rattle.mt_model.specs.Model.{Base};
+ghost use Rattle.mt_live.specs.declared.transactions.TxnState.TheVariants.{Open};
+ghost use Rattle.mt_kernel.specs.Consistent.{SameCommits, SameRunning, SetsState};
+ghost use Rattle.mt_txn.specs.Causes.{begin_cause};
+ghost use Rattle.mt_txn.specs.Shown.{SameSchema, Shows};
+
+use crate::kernel::Kernel;
+use mt_base::limits::{MAX_BEGUN, MAX_COMMITS, MAX_LIVE};
+use mt_base::{Refusal, TxnNo};
+use mt_disk::Device;
+
+impl<D: Device> Kernel<D> {
+    /// Begins a transaction of this session, and answers its number. It keeps the log bytes of its end and logs
+    /// nothing.
+    ///
+    /// Refused, in this order: 2 where the device has failed, 13 where 64 transactions live, 12 where the book's
+    /// commits and those that live make 1,000,000 or 2^40 were begun, 11 where the log has too few bytes left, 1 for
+    /// want of memory. Nothing has changed then.
+    pub fn begin(&mut self, session: u32) -> Result<TxnNo, Refusal>
+        ensures number { IfOk result (λ txn. txn ≡ self.old.parts.live.begun + 1) }
+        ensures may { OnOk result (begin_cause self.old.parts ≡ None) }
+        ensures cause { IfErr result (λ why. why ≢ Refusal.NoMemory → begin_cause self.old.parts ≡ Some why) }
+        ensures begun { (first : Base) (s : State) → Shows D.seen D.may_leave first s self.old
+            → OnOk result (Shows D.seen D.may_leave first (begun s session) self.new) }
+        ensures opened { IfOk result (λ txn. SetsState self.old.parts self.new.parts txn (Some Open)) }
+        ensures running { SameRunning self.old.parts self.new.parts }
+        ensures commits { SameCommits self.old.parts self.new.parts }
+        ensures err { OnErr result (self.new.parts ≡ self.old.parts) }
+        ensures schema { SameSchema self.old self.new }
+    {
+        if self.parts.log().has_failed() {
+            return Err(Refusal::DeviceFailed);
+        }
+        let lives = self.parts.live().count();
+        if MAX_LIVE <= lives {
+            return Err(Refusal::TooManyTransactions);
+        }
+        if MAX_COMMITS <= self.parts.book().len() + lives
+            || MAX_BEGUN <= self.parts.live().begun()
+        {
+            return Err(Refusal::BookFull);
+        }
+        self.parts.begin(session)
+    }
+}

@@ -1,0 +1,51 @@
+// Calls of operations.
+ghost use Rattle.std.specs.Prelude.{◌≡◌, ◌+◌, ◌*◌, None, Some, Err};
+ghost use Rattle.mt_base.specs.declared.refusal.Refusal.{Refusal};
+ghost use Rattle.mt_live.specs.Machine.{State};
+ghost use Rattle.mt_model.specs.Model.{Base};
+ghost use Rattle.mt_kernel.specs.Consistent.{SameCommits, SameStates};
+ghost use Rattle.mt_kernel.specs.Work.{CallRuns};
+ghost use Rattle.mt_pool.specs.Views.{pages};
+ghost use Rattle.mt_txn.specs.Causes.{call_cause};
+ghost use Rattle.mt_txn.specs.Events.{HasCalled, IsAnsweredBy};
+ghost use Rattle.mt_txn.specs.Shown.{SameSchema, Shows};
+
+use crate::kernel::Kernel;
+use mt_base::{Refusal, TxnNo};
+use mt_disk::Device;
+use mt_kernel::Called;
+use mt_model::Op;
+
+impl<D: Device> Kernel<D> {
+    /// Calls an operation in an open transaction; [`Kernel::step`] brings it to its end. It takes the operation's
+    /// lock, escrow's leave where it is an add, and pages and log bytes for the operation and for its inverse.
+    ///
+    /// Refused, in this order: 2 where the device has failed, 15 where the transaction is not open, 16 where an
+    /// operation of it is unfinished, 17 where 256 operations of it have ended or 2^40 were called by all, 6 or 7
+    /// where the relation or the counter is not there, 5 or 8 where a key, a value or a step is past its limits, 14
+    /// where an older transaction holds a lock in the way, 9 where some choice of the pending adds would leave the
+    /// counter's bounds, 10 where too few pages are free and not claimed, 11 where the log has too few bytes left.
+    /// Where a younger transaction is in the way, it answers [`Called::Wait`]. Refusal 1 is for want of memory, at
+    /// the point where it is wanted. In each of these cases nothing of the call is kept.
+    pub fn call(&mut self, txn: TxnNo, op: Op) -> Result<Called, Refusal>
+        ensures early { (why : Refusal)
+            → call_cause self.old.relations self.old.counters self.old.parts txn op ≡ Some why → result ≡ Err why }
+        ensures answer { call_cause self.old.relations self.old.counters self.old.parts txn op ≡ None
+            → IsAnsweredBy D.seen D.may_leave self.old txn op result }
+        ensures states { SameStates self.old.parts self.new.parts }
+        ensures runs { CallRuns txn (2 * pages self.old.parts.operations.store.pool + 9) self.old.parts.running.items
+            self.new.parts.running.items result }
+        ensures commits { SameCommits self.old.parts self.new.parts }
+        ensures store { self.new.parts.operations.store ≡ self.old.parts.operations.store }
+        ensures called { (first : Base) (s : State) → Shows D.seen D.may_leave first s self.old
+            → HasCalled D.seen D.may_leave first s txn op result self.new }
+        ensures unmoved { (why : Refusal)
+            → call_cause self.old.relations self.old.counters self.old.parts txn op ≡ Some why → self.new ≡ self.old }
+        ensures schema { SameSchema self.old self.new }
+    {
+        if let Some(why) = self.call_cause(txn, &op) {
+            return Err(why);
+        }
+        self.parts.call(self.alloc, txn, &op, true)
+    }
+}

@@ -1,0 +1,124 @@
+// Why calls are refused, before they ask locks, escrow, pages and log.
+ghost use Rattle.std.specs.Prelude.{◌≡◌, ◌≢◌, ◌<◌, ◌^◌, All, IfNone, None, Some, false, true};
+ghost use Rattle.mt_kernel.specs.Runs.{state_in};
+ghost use Rattle.mt_kernel.specs.declared.parts.Running.{Running};
+ghost use Rattle.mt_live.specs.declared.transactions.TxnState.TheVariants.{Open, Aborting};
+ghost use Rattle.mt_txn.specs.Causes.{IsNamed, IsSized, abort_cause, call_cause, count_cause, name_cause, open_cause, size_cause};
+
+use crate::kernel::Kernel;
+use mt_base::limits::{MAX_BEGUN, MAX_OPERATIONS, key_fits, step_fits, value_fits};
+use mt_base::{Refusal, TxnNo};
+use mt_disk::Device;
+use mt_live::TxnState;
+use mt_model::Op;
+
+// Why a key, a value or a step is past its limits, if one is.
+fn size_cause(op: &Op) -> Option<Refusal>
+    ensures cause { result ≡ size_cause op.now }
+    ensures sized { IfNone result (IsSized op.now) }
+{
+    match op {
+        Op::Get(_, key) | Op::Delete(_, key) if !key_fits(key.as_slice()) => Some(
+            Refusal::BadLength,
+        ),
+        Op::Insert(_, key, value) | Op::Update(_, key, value)
+            if !key_fits(key.as_slice()) || !value_fits(value.as_slice()) => {
+            Some(Refusal::BadLength)
+        }
+        Op::Add(_, step) if !step_fits(*step) => Some(Refusal::BadStep),
+        _ => None,
+    }
+}
+
+// Why the operation names no relation or counter of so many, if it names none.
+fn name_cause(relations: u16, counters: u16, op: &Op) -> Option<Refusal>
+    ensures cause { result ≡ name_cause relations counters op.now }
+    ensures named { IfNone result (IsNamed relations counters op.now) }
+{
+    match op {
+        Op::Get(relation, _)
+        | Op::Insert(relation, _, _)
+        | Op::Update(relation, _, _)
+        | Op::Delete(relation, _) => {
+            if relation.get() < relations {
+                None
+            } else {
+                Some(Refusal::NoSuchRelation)
+            }
+        }
+        Op::Add(counter, _) | Op::Read(counter) => {
+            if counter.get() < counters {
+                None
+            } else {
+                Some(Refusal::NoSuchCounter)
+            }
+        }
+    }
+}
+
+impl<D: Device> Kernel<D> {
+    // Why a call that wants an open transaction is refused, if it is.
+    pub(crate) fn open_cause(&self, txn: TxnNo) -> Option<Refusal>
+        ensures cause { result ≡ open_cause self.now.parts txn }
+        ensures opened { IfNone result (state_in self.now.parts.live.members txn ≡ Some Open) }
+    {
+        if self.parts.log().has_failed() {
+            return Some(Refusal::DeviceFailed);
+        }
+        match self.parts.live().state(txn) {
+            Some(TxnState::Open) => None,
+            _ => Some(Refusal::Stranger),
+        }
+    }
+
+    // Why a step of an abort is refused, if it is.
+    pub(crate) fn abort_cause(&self, txn: TxnNo) -> Option<Refusal>
+        ensures cause { result ≡ abort_cause self.now.parts txn }
+        ensures aborting { IfNone result (state_in self.now.parts.live.members txn ≡ Some Aborting) }
+    {
+        if self.parts.log().has_failed() {
+            return Some(Refusal::DeviceFailed);
+        }
+        match self.parts.live().state(txn) {
+            Some(TxnState::Aborting) => None,
+            _ => Some(Refusal::Stranger),
+        }
+    }
+
+    // Why an open transaction can call no further operation, if it cannot.
+    fn count_cause(&self, txn: TxnNo) -> Option<Refusal>
+        requires opened { state_in self.now.parts.live.members txn ≡ Some Open }
+        ensures cause { result ≡ count_cause self.now.parts txn }
+        ensures few { IfNone result (self.now.parts.last < 2 ^ 40) }
+    {
+        if MAX_OPERATIONS <= self.parts.live().count_ended(txn) || MAX_BEGUN <= self.parts.last() {
+            Some(Refusal::TooManyOperations)
+        } else {
+            None
+        }
+    }
+
+    // Why a call is refused before its lock is asked for, if it is.
+    pub(crate) fn call_cause(&self, txn: TxnNo, op: &Op) -> Option<Refusal>
+        ensures cause { result ≡ call_cause self.now.relations self.now.counters self.now.parts txn op.now }
+        ensures opened { IfNone result (state_in self.now.parts.live.members txn ≡ Some Open) }
+        ensures idle { IfNone result (All (λ (r : Running). r.scope.txn ≢ txn) self.now.parts.running.items) }
+        ensures few { IfNone result (self.now.parts.last < 2 ^ 40) }
+        ensures named { IfNone result (IsNamed self.now.relations self.now.counters op.now) }
+        ensures sized { IfNone result (IsSized op.now) }
+    {
+        if let Some(why) = self.open_cause(txn) {
+            return Some(why);
+        }
+        if self.parts.place_of(txn).is_some() {
+            return Some(Refusal::Busy);
+        }
+        if let Some(why) = self.count_cause(txn) {
+            return Some(why);
+        }
+        if let Some(why) = name_cause(self.relations, self.counters, op) {
+            return Some(why);
+        }
+        size_cause(op)
+    }
+}

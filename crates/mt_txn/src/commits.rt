@@ -1,0 +1,140 @@
+// Commits, the steps that make them durable, and flushes.
+ghost use Rattle.std.specs.Prelude.{◌≡◌, ◌≢◌, ◌<◌, ◌+◌, ◌++◌, ◌∷◌, [], ℕ, length, get_or, Ok, Err, IfOk, IfErr, IsErr, OnOk, OnErr, None, Some, false, true};
+ghost use Rattle.mt_base.specs.declared.refusal.Refusal.{Refusal};
+ghost use Rattle.mt_live.specs.Machine.{State};
+ghost use Rattle.mt_log.specs.Words.{appended, durable, in_flight, waiting, calls_left, has_failed};
+ghost use Rattle.mt_frame.specs.declared.records.Record.TheVariants as record_of;
+ghost use Rattle.mt_model.specs.Model.{Base};
+ghost use Rattle.mt_pool.specs.Views.{IsWaiting, Cleans, to_flush};
+ghost use Rattle.mt_pool.specs.declared.flushing.Flushed.TheVariants as flushed;
+ghost use Rattle.mt_live.specs.declared.transactions.TxnState.TheVariants.{Committing};
+ghost use Rattle.mt_kernel.specs.Consistent.{OnlyOperations, SameCommits, SameRunning, SameStates, SameUncommitted, SetsState};
+ghost use Rattle.mt_kernel.specs.Work.{LeavesUndo};
+ghost use Rattle.mt_kernel.specs.declared.parts.Commit.{Commit};
+ghost use Rattle.mt_txn.specs.Causes.{IsFailure, commit_cause};
+ghost use Rattle.mt_txn.specs.Events.{HasForced, IsForcedBy};
+ghost use Rattle.mt_txn.specs.Shown.{SameSchema, Shows, Stays};
+
+use crate::answers::KernelForced;
+use crate::kernel::Kernel;
+use mt_base::{Refusal, TxnNo};
+use mt_disk::Device;
+use mt_log::Forced;
+use mt_pool::Flushed;
+
+impl<D: Device> Kernel<D> {
+    /// Begins the commit of an open transaction: its Commit is appended, and the force steps that follow make it
+    /// durable. Until then the transaction lives with its locks, and nothing else can be asked of it. Answers its place
+    /// in this opening's order of commits, from 1.
+    ///
+    /// Refused, in this order: 2 where the device has failed, 15 where the transaction is not open, 16 where an
+    /// operation of it is unfinished, 1 for want of memory. The state is as before.
+    pub fn commit_begin(&mut self, txn: TxnNo) -> Result<u64, Refusal>
+        ensures may { OnOk result (commit_cause self.old.parts txn ≡ None) }
+        ensures cause { IfErr result (λ why. why ≢ Refusal.NoMemory → commit_cause self.old.parts txn ≡ Some why) }
+        ensures place { IfOk result (λ place.
+            place ≡ length self.old.parts.book.items + length self.old.parts.commits.items + 1) }
+        ensures state { Stays D.seen D.may_leave self.old self.new }
+        ensures queue { OnOk result ((c : Commit) × (c.txn ≡ txn)
+            × (c.place ≡ length (appended self.new.parts.operations.store.log))
+            × (self.new.parts.commits.items ≡ self.old.parts.commits.items ++ c ∷ [])) }
+        ensures waits { OnOk result (waiting self.new.parts.operations.store.log
+            ≡ waiting self.old.parts.operations.store.log ++ record_of.Commit txn ∷ []) }
+        ensures durable { durable self.new.parts.operations.store.log ≡ durable self.old.parts.operations.store.log }
+        ensures in_flight { in_flight self.new.parts.operations.store.log
+            ≡ in_flight self.old.parts.operations.store.log }
+        ensures calls { calls_left self.new.parts.operations.store.log
+            ≡ calls_left self.old.parts.operations.store.log }
+        ensures commits { OnOk result (SetsState self.old.parts self.new.parts txn (Some Committing)) }
+        ensures running { SameRunning self.old.parts self.new.parts }
+        ensures err { OnErr result (SameStates self.old.parts self.new.parts
+            × SameCommits self.old.parts self.new.parts) }
+        ensures unmoved { (why : Refusal) → commit_cause self.old.parts txn ≡ Some why → self.new ≡ self.old }
+        ensures schema { SameSchema self.old self.new }
+    {
+        if let Some(why) = self.open_cause(txn) {
+            return Err(why);
+        }
+        if self.parts.place_of(txn).is_some() {
+            return Err(Refusal::Busy);
+        }
+        let place = self.parts.commit_begin(txn)?;
+        Ok(place as u64)
+    }
+
+    /// Makes a step of a force, with one call of the device: what was appended before its first step becomes durable
+    /// with its last, which answers the transactions whose commits are durable now. They are in the book then, in the
+    /// order of their commits, and live no more.
+    ///
+    /// Refused, in this order: 2 where the device has failed or fails in this call, 1 for want of memory. The state is
+    /// as before.
+    pub fn force_step(&mut self) -> Result<KernelForced, Refusal>
+        ensures cause { IfErr result (λ why. why ≢ Refusal.NoMemory
+            → IsFailure D.faults self.old.parts self.new.parts why) }
+        ensures pool { self.new.parts.operations.store.pool ≡ self.old.parts.operations.store.pool }
+        ensures appended { appended self.new.parts.operations.store.log
+            ≡ appended self.old.parts.operations.store.log }
+        ensures log { IfOk result (λ forced. IsForcedBy self.old.parts.operations.store.log
+            self.old.parts.commits.items forced self.new.parts.operations.store.log self.new.parts.commits.items) }
+        ensures failed { has_failed self.old.parts.operations.store.log ≡ true
+            → (result ≡ Err Refusal.DeviceFailed) × (self.new ≡ self.old) }
+        ensures running { SameRunning self.old.parts self.new.parts }
+        ensures states { SameUncommitted self.old.parts self.new.parts }
+        ensures undo { LeavesUndo self.old.parts self.new.parts }
+        ensures err { OnErr result (SameStates self.old.parts self.new.parts
+            × SameCommits self.old.parts self.new.parts) }
+        ensures memory { result ≡ Err Refusal.NoMemory → self.new ≡ self.old }
+        ensures forced { (first : Base) (s : State) → Shows D.seen D.may_leave first s self.old
+            → HasForced D.seen D.may_leave first s result self.new }
+        ensures schema { SameSchema self.old self.new }
+    {
+        if self.parts.log().has_failed() {
+            return Err(Refusal::DeviceFailed);
+        }
+        let mut names = Vec::with_capacity(self.alloc, self.parts.count_commits())?;
+        match self.parts.force_step()? {
+            Forced::More => Ok(KernelForced::More),
+            Forced::Idle => Ok(KernelForced::Idle),
+            Forced::Durable(place) => {
+                self.parts.leave_durable(place, &mut names);
+                Ok(KernelForced::Durable(names))
+            }
+        }
+    }
+
+    /// Writes a page into its slot, where one waits for no record that is not durable; else answers
+    /// [`Flushed::Force`] where a force step has to come first, and [`Flushed::Clean`] where no page is to be written.
+    ///
+    /// Refused with 2 where the device has failed or fails in this call. The state is as before.
+    pub fn flush_step(&mut self) -> Result<Flushed, Refusal>
+        ensures cause { IfErr result (IsFailure D.faults self.old.parts self.new.parts) }
+        ensures written { (p : ℕ) → result ≡ Ok (flushed.Page p)
+            → Cleans self.old.parts.operations.store.pool self.new.parts.operations.store.pool
+            (length (durable self.old.parts.operations.store.log)) p }
+        ensures barred { result ≡ Ok flushed.Force
+            → IsWaiting self.old.parts.operations.store.pool (length (durable self.old.parts.operations.store.log)) }
+        ensures waits { result ≡ Ok flushed.Force → length (durable self.old.parts.operations.store.log)
+            < length (appended self.old.parts.operations.store.log) }
+        ensures fewer { (p : ℕ) → result ≡ Ok (flushed.Page p)
+            → to_flush self.new.parts.operations.store.pool + 1 ≡ to_flush self.old.parts.operations.store.pool }
+        ensures nothing { result ≡ Ok flushed.Clean
+            → (f : ℕ) → get_or self.new.parts.operations.store.pool.dirty.items f false ≡ false }
+        ensures rest { OnlyOperations self.old.parts self.new.parts }
+        ensures log { self.new.parts.operations.store.log ≡ self.old.parts.operations.store.log }
+        ensures there { self.new.parts.operations.store.pool.of_page
+            ≡ self.old.parts.operations.store.pool.of_page }
+        ensures undo { LeavesUndo self.old.parts self.new.parts }
+        ensures failed { has_failed self.old.parts.operations.store.log ≡ true
+            → (result ≡ Err Refusal.DeviceFailed) × (self.new ≡ self.old) }
+        ensures state { Stays D.seen D.may_leave self.old self.new }
+        ensures schema { SameSchema self.old self.new }
+    {
+        if self.parts.log().has_failed() {
+            return Err(Refusal::DeviceFailed);
+        }
+        match self.parts.flush_step() {
+            Ok(flushed) => Ok(flushed),
+            Err(_) => Err(Refusal::DeviceFailed),
+        }
+    }
+}

@@ -1,0 +1,106 @@
+// A kernel over pages.
+ghost use Rattle.std.specs.Prelude.{◌≡◌, ◌≢◌, ℕ, [], None, Some, true, false, is_some};
+ghost use Rattle.mt_live.specs.Machine.{State, start, IsKept, is_live};
+ghost use Rattle.mt_live.specs.declared.transactions.TxnState.TheVariants.{Open, Committing};
+ghost use Rattle.mt_model.specs.History.{IsLegal};
+ghost use Rattle.mt_model.specs.Model.{Base};
+ghost use Rattle.mt_model.specs.declared.operations.Op.{Op};
+ghost use Rattle.mt_kernel.specs.Consistent.{IsFresh};
+ghost use Rattle.mt_kernel.specs.Runs.{state_in};
+ghost use Rattle.mt_txn.specs.Causes.{is_busy};
+ghost use Rattle.mt_txn.specs.Well.{IsWell, Opens};
+
+use mt_disk::Device;
+use mt_escrow::Escrow;
+use mt_kernel::Parts;
+use mt_model::Committed;
+use mt_op::Operations;
+use std::alloc::Global;
+
+/// A kernel over its pages.
+///
+/// Whatever the schedule of its calls, each state that it shows is one that the laws of mt_live keep: the book is legal
+/// from the first base on, what stands of the live transactions is explained, and the pages hold the base that it
+/// leads to.
+pub struct Kernel<D: Device> {
+    pub(crate) parts: Parts<D>,
+    pub(crate) alloc: Global,
+    // how many there are
+    pub(crate) relations: u16,
+    pub(crate) counters: u16,
+    // whatever the base that the pages hold
+    ghost well: { IsWell D.seen D.may_leave relations counters parts },
+}
+
+impl<D: Device> Kernel<D> {
+    ghost use Rattle.mt_txn.specs.Shown.{Shows};
+
+    /// A kernel without transactions over operations of a log area without records, whose pages hold a base, which is
+    /// the first of its history; the escrow has that base's counters. It takes no memory.
+    pub fn assemble(
+        alloc: Global,
+        operations: Operations<D>,
+        escrow: Escrow,
+        relations: u16,
+        counters: u16,
+    ) -> Kernel<D>
+        requires fresh { IsFresh operations escrow }
+        requires opens { ∥ ((first : Base) × Opens D.seen D.may_leave operations escrow relations counters first) ∥₁ }
+        ensures shows { (first : Base) → Opens D.seen D.may_leave operations escrow relations counters first
+            → Shows D.seen D.may_leave first (start first) result }
+        ensures schema { (result.relations ≡ relations) × (result.counters ≡ counters) }
+    {
+        Kernel {
+            parts: Parts::new(alloc, operations, escrow),
+            alloc,
+            relations,
+            counters,
+        }
+    }
+
+    /// The durable commits of this opening, in their order. They are those of the state that the kernel shows, and
+    /// legal from its first base on: each transaction replied as it does alone behind those before it.
+    pub fn book(&self) -> &[Committed]
+        ensures book { result.now ≡ self.now.parts.book.items }
+        ensures legal { (first : Base) (s : State) → Shows D.seen D.may_leave first s self.now
+            → ∥ ((s.book ≡ result.now) × IsLegal first result.now) ∥₁ }
+    {
+        self.parts.book()
+    }
+
+    /// Whatever state a kernel shows, the laws of mt_live keep it: its book is legal, what stands of its live
+    /// transactions is explained on what the book leaves, whoever is struck out, and leads to the base that the pages
+    /// hold.
+    pub fn shows_what_is_kept(&self)
+        ensures { (first : Base) (s : State) → Shows D.seen D.may_leave first s self.now → ∥ IsKept first s ∥₁ }
+    {}
+
+    /// Whatever state a kernel shows tells who lives, and who runs an operation; and where nobody commits, no commit is
+    /// under way.
+    pub fn shows_who_lives(&self)
+        ensures lives { (first : Base) (s : State) → Shows D.seen D.may_leave first s self.now
+            → (t : ℕ) → is_live s t ≡ is_some (state_in self.now.parts.live.members t) }
+        ensures runs { (first : Base) (s : State) → Shows D.seen D.may_leave first s self.now
+            → (t : ℕ) (op : Op) → s.running t ≡ Some op → is_busy self.now.parts t ≡ true }
+        ensures idle { (first : Base) (s : State) → Shows D.seen D.may_leave first s self.now
+            → (t : ℕ) → state_in self.now.parts.live.members t ≡ Some Open → s.running t ≡ None
+            → is_busy self.now.parts t ≡ false }
+        ensures commits { ((t : ℕ) → state_in self.now.parts.live.members t ≢ Some Committing)
+            → self.now.parts.commits.items ≡ [] }
+    {}
+}
+
+impl<D: Device + Drop> Kernel<D> {
+    /// The device, for another opening. What lived is gone, and nothing of it is taken back. It takes no memory.
+    pub fn into_device(self) -> D
+        ensures { result ≡ self.parts.operations.store.device }
+    {
+        let Kernel {
+            parts,
+            alloc: _,
+            relations: _,
+            counters: _,
+        } = self;
+        parts.into_device()
+    }
+}

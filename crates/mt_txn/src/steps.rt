@@ -1,0 +1,70 @@
+// Steps of operations.
+ghost use Rattle.std.specs.Prelude.{◌≡◌, ◌≢◌, ◌⊎◌, Ok, IfOk, IfErr, OnOk, None, Some};
+ghost use Rattle.mt_base.specs.declared.refusal.Refusal.{Refusal};
+ghost use Rattle.mt_live.specs.Machine.{State};
+ghost use Rattle.mt_model.specs.Model.{Base};
+ghost use Rattle.mt_pool.specs.Views.{pages};
+ghost use Rattle.mt_kernel.specs.Steps.{WantsFrame};
+ghost use Rattle.mt_kernel.specs.Work.{steps_in};
+ghost use Rattle.mt_txn.specs.Work.{IsToldAs, IsForOther, LowersSteps};
+ghost use Rattle.mt_kernel.specs.Consistent.{SameCommits, SameStates};
+ghost use Rattle.mt_txn.specs.Causes.{IsFault, step_cause};
+ghost use Rattle.mt_txn.specs.Events.{HasStepped};
+ghost use Rattle.mt_txn.specs.Shown.{SameSchema, Shows};
+
+use crate::answers::Stepped;
+use crate::kernel::Kernel;
+use mt_base::{Refusal, TxnNo};
+use mt_disk::Device;
+use mt_kernel::{Going, Stepping};
+
+impl<D: Device> Kernel<D> {
+    /// Makes a step of the operation of an open transaction: it locks a page and looks at it, or writes one, or ends.
+    /// Where it ends it has acted once on the base that the pages hold, whatever others have half done, and stands
+    /// behind all that ended before. It waits, or begins anew, only for another transaction that lives: one that is
+    /// alone does neither.
+    ///
+    /// Refused, in this order: 2 where the device has failed, 15 where the transaction is not open or has no operation
+    /// under way, 1 for want of memory; and with 2 where the device fails in this step. The state is as before.
+    pub fn step(&mut self, txn: TxnNo) -> Result<Stepped, Refusal>
+        ensures may { OnOk result (step_cause self.old.parts txn ≡ None) }
+        ensures cause { IfErr result (λ why. why ≢ Refusal.NoMemory → (step_cause self.old.parts txn ≡ Some why)
+            ⊎ IsFault D.faults self.old.parts self.new.parts why) }
+        ensures work { LowersSteps (pages self.old.parts.operations.store.pool) result
+            (steps_in self.old.parts.running.items txn) (steps_in self.new.parts.running.items txn) }
+        ensures full { result ≡ Ok Stepped.Flush → WantsFrame self.old.parts self.new.parts }
+        ensures commits { SameCommits self.old.parts self.new.parts }
+        ensures other { IfOk result (λ stepped. IsForOther self.old.parts.live.members txn stepped) }
+        ensures states { SameStates self.old.parts self.new.parts }
+        ensures unmoved { (why : Refusal) → step_cause self.old.parts txn ≡ Some why → self.new ≡ self.old }
+        ensures schema { SameSchema self.old self.new }
+        ensures stepped { (first : Base) (s : State) → Shows D.seen D.may_leave first s self.old
+            → HasStepped D.seen D.may_leave first s txn result self.new }
+    {
+        if let Some(why) = self.open_cause(txn) {
+            return Err(why);
+        }
+        let Some(place) = self.parts.place_of(txn) else {
+            return Err(Refusal::Stranger);
+        };
+        match self.parts.step(self.alloc, place)? {
+            Stepping::Ended(reply) => Ok(Stepped::Replied(reply)),
+            Stepping::Going(going) => Ok(self.stepped(going)),
+        }
+    }
+
+    // What a step answers where its operation goes on.
+    fn stepped(&self, going: Going) -> Stepped
+        ensures { IsToldAs self.now.parts.running.items going result }
+    {
+        match going {
+            Going::Went => Stepped::Went,
+            Going::Wait(holder) => match self.parts.owner(holder) {
+                Some(other) => Stepped::Wait(other),
+                None => Stepped::Again,
+            },
+            Going::Again(_) => Stepped::Again,
+            Going::Flush => Stepped::Flush,
+        }
+    }
+}

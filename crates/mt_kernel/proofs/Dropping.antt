@@ -26,7 +26,7 @@ use Rattle.mt_op.specs.declared.scope.Stage.TheVariants.{Cleared, Taking}
 use Rattle.mt_space.specs.Changes.{PageBytes}
 use Rattle.mt_steps.specs.Held.{Holds}
 use Rattle.mt_kernel.specs.Runs.{running_in, state_in, AreHeldBy, IsMoving, IsRunning, IsOwned, undo_bytes, pages_of, kept_bytes, taken_bytes}
-use Rattle.mt_kernel.specs.Consistent.{Origin, state_of, AreTold, IsConsistent, IsCleared, IsIn, GoesBack}
+use Rattle.mt_kernel.specs.Consistent.{Origin, state_of, AreTold, DropsIn, IsConsistent, IsCleared, IsIn, GoesBack}
 use Rattle.mt_kernel.specs.declared.parts.Parts.{Parts}
 use Rattle.mt_kernel.specs.declared.parts.Running.{Running}
 use Rattle.mt_kernel.proofs.Lists.{all_remove, all_set}
@@ -51,7 +51,7 @@ module _ {D : Type 0} (seen : D → List ℕ) (may_leave : D → List ℕ → Ty
   pub dropped_in : (k n : Parts D) (place : ℕ) (r : Running) → IsCleared seen may_leave origin base k place r → r.scope.undoes ≡ 0 → n.running.items ≡ remove k.running.items place
       → HasEnded seen may_leave origin.pages origin.relations origin.counters k.operations n.operations r.scope → claimed n.operations + pages_of r ≡ claimed k.operations → n.reserved + undo_bytes r.scope.op ≡ k.reserved
       → GivesBack r.scope.txn r.scope.op k.escrow.pending n.escrow.pending → n.escrow.committed ≡ k.escrow.committed
-      → IsIn seen may_leave origin base (dropped (state_of k base) r.scope.txn n.escrow.pending) (record k { operations = n.operations; running = n.running; escrow = n.escrow; reserved = n.reserved })
+      → DropsIn seen may_leave origin base (state_of k base) (record k { operations = n.operations; running = n.running; escrow = n.escrow; reserved = n.reserved }) r.scope.txn
   dropped_in k n place r y fore items h back freed given committed =
       let fit = y.fit in let alone = y.alone in
       let z : Parts D = record k { operations = n.operations; running = n.running; escrow = n.escrow; reserved = n.reserved } in
@@ -76,29 +76,34 @@ module _ {D : Type 0} (seen : D → List ℕ) (may_leave : D → List ℕ → Ty
       let taken_r : taken_bytes r ≡ 0 = rw test refl in
       let claims = y.claims in let reserves = fit.reserves in let log = l.log in
       record {
-        consistent = record {
-          fit = record {
-            schema = fit.schema;
-            right = h.right;
-            kept = subst (IsKept origin.first) state (kept_dropped origin.first s r.scope.txn r.scope.op n.escrow.pending fit.kept runs given);
-            owned = subst (All (IsOwned k.live.members k.live.standing)) (sym items) (all_remove (IsOwned k.live.members k.live.standing) k.running.items place alone.within (λ i d lt apart. fit.owned i d lt));
-            apart = l.apart;
-            numbered = l.numbered;
-            locked = l.locked;
-            small = fit.small;
-            log = omega arith;
-            reserves = omega arith;
-            numbers = let left_now = fit.numbers in omega (arith, left_now, freed);
-            queued = l.queued;
-            booked = fit.booked;
-            escrowed = record { all = ap length committed ∙ fit.escrowed.all; counts = λ c lt. ap (λ (cs : List Count). count_at cs c) committed ∙ fit.escrowed.counts c lt };
+        op = r.scope.op;
+        runs = runs;
+        given = given;
+        leads = record {
+          consistent = record {
+            fit = record {
+              schema = fit.schema;
+              right = h.right;
+              kept = subst (IsKept origin.first) state (kept_dropped origin.first s r.scope.txn r.scope.op n.escrow.pending fit.kept runs given);
+              owned = subst (All (IsOwned k.live.members k.live.standing)) (sym items) (all_remove (IsOwned k.live.members k.live.standing) k.running.items place alone.within (λ i d lt apart. fit.owned i d lt));
+              apart = l.apart;
+              numbered = l.numbered;
+              locked = l.locked;
+              small = fit.small;
+              log = omega arith;
+              reserves = omega arith;
+              numbers = let left_now = fit.numbers in omega (arith, left_now, freed);
+              queued = l.queued;
+              booked = fit.booked;
+              escrowed = record { all = ap length committed ∙ fit.escrowed.all; counts = λ c lt. ap (λ (cs : List Count). count_at cs c) committed ∙ fit.escrowed.counts c lt };
+            };
+            holds = subst (λ (p : PageBytes). Holds p base) (sym h.held) y.holds;
+            runs = l.runs;
+            told = subst (λ (X : Type 0). X) (λ i. AreTold k.last k.live.members (appended (sym h.store i).log)) y.told;
+            claims = omega arith;
           };
-          holds = subst (λ (p : PageBytes). Holds p base) (sym h.held) y.holds;
-          runs = l.runs;
-          told = subst (λ (X : Type 0). X) (λ i. AreTold k.last k.live.members (appended (sym h.store i).log)) y.told;
-          claims = omega arith;
+          state = state;
         };
-        state = state;
       }
 
   -- ---- a step of the taking back

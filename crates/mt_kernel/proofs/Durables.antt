@@ -1,5 +1,5 @@
 -- Commits that are booked one after the other.
-use Rattle.std.proofs.Common.{◌≡◌, ℕ, ◌<◌, ◌≤◌, ◌+◌, ◌-◌, ◌++◌, ◌∷◌, [], ◌∙◌, List, Option, Some, None, suc, length, take, drop, get_or, map, refl, ap, sym, subst, append_assoc, add-one, arith, length-drop}
+use Rattle.std.proofs.Common.{◌≡◌, ℕ, ◌<◌, ◌+◌, ◌++◌, ◌∷◌, [], ◌∙◌, List, Option, Some, None, suc, length, take, drop, get_or, refl, ap, sym, subst, append_assoc, add-one}
 use Rattle.std.specs.Option.{option_map}
 use Rattle.std.proofs.Math.Seq.{drop-cons}
 use Rattle.std.proofs.lemmas.List.{map_more}

@@ -41,7 +41,7 @@ use Rattle.mt_steps.specs.Held.{Holds}
 use Rattle.mt_steps.specs.Logged.{logged_of}
 use Rattle.mt_steps.specs.Plans.{own_needs, undo_pages}
 use Rattle.mt_kernel.specs.Runs.{running_in, AreApart, AreHeldBy, IsRunning, IsOwned, is_open, undo_bytes, pages_of, entry_pages, entry_bytes, left_of, kept_bytes, taken_bytes}
-use Rattle.mt_kernel.specs.Consistent.{Origin, state_of, state_in, AreLeft, IsNumbered, IsDue, IsTold, AreTold, IsQueued, IsWithinSchema, IsFit, IsAlone, IsReady, IsIn}
+use Rattle.mt_kernel.specs.Consistent.{Origin, state_of, state_in, AreLeft, IsNumbered, IsDue, IsTold, AreTold, IsQueued, IsWithinSchema, IsFit, IsAlone, IsReady, IsIn, UndoesIn}
 use Rattle.mt_kernel.specs.declared.parts.Parts.{Parts}
 use Rattle.mt_kernel.specs.declared.parts.Running.{Running}
 use Rattle.mt_pool.proofs.Logged.{no_records}
@@ -266,7 +266,7 @@ module _ {D : Type 0} (seen : D → List ℕ) (may_leave : D → List ℕ → Ty
       → HasEnded seen may_leave origin.pages origin.relations origin.counters k.operations n.operations r.scope → claimed n.operations ≡ claimed k.operations
       → n.live.standing ≡ cut_back r.scope.txn k.live.standing → IsChanged k.live.members n.live.members r.scope.txn taken_back → n.live.begun ≡ k.live.begun → length n.live.members ≡ length k.live.members
       → GivesBack r.scope.txn r.op k.escrow.pending n.escrow.pending → n.escrow.committed ≡ k.escrow.committed
-      → IsIn seen may_leave origin (base_after base r.scope.op) (undone (state_of k base) r.scope.txn r.scope.op n.escrow.pending) (record k { operations = n.operations; running = n.running; live = n.live; escrow = n.escrow })
+      → UndoesIn seen may_leave origin base (state_of k base) (record k { operations = n.operations; running = n.running; live = n.live; escrow = n.escrow }) r.scope.txn r.scope.op
   undone_in k n place r reply y back items h claims_now standing changed begun count given committed =
       let fit = y.fit in let alone = y.alone in
       let z : Parts D = record k { operations = n.operations; running = n.running; live = n.live; escrow = n.escrow } in
@@ -309,32 +309,39 @@ module _ {D : Type 0} (seen : D → List ℕ) (may_leave : D → List ℕ → Ty
       let sum_bytes : sum_by entry_bytes n.live.standing ≡ sum_by entry_bytes (cut_back r.scope.txn k.live.standing) = ap (sum_by entry_bytes) standing in
       let claims = y.claims in let reserves = fit.reserves in let log = l.log in
       record {
-        consistent = record {
-          fit = record {
-            schema = fit.schema;
-            right = h.right;
-            kept = subst (IsKept origin.first) state (kept_undone origin.first s r.scope.txn t.entry r.scope.op n.escrow.pending fit.kept idle t.last t.inverse given_entry);
-            owned = subst (λ (X : Type 0). X) (λ i. All (IsOwned n.live.members (sym standing i)) (sym items i))
-                (all_remove (IsOwned n.live.members (cut_back r.scope.txn k.live.standing)) k.running.items place alone.within (λ i d lt apart.
-                undone_owned k.live.members n.live.members k.live.standing r (get_or k.running.items i d) (other_at k place r Ready fit alone i d lt apart) changed (fit.owned i d lt)));
-            apart = l.apart;
-            numbered = subst (λ (m : ℕ). IsNumbered k.last m n.live.members n.operations.locks (appended n.operations.store.log)) (sym begun)
-                (numbered_members k.last k.live.begun k.live.members n.live.members n.operations.locks (appended n.operations.store.log) open_same (changed_keeps is_some taken_back k.live.members n.live.members r.scope.txn (λ m. cut_keeps is_some (λ x v. refl) m (last_place m.calls)) changed 0) l.numbered);
-            locked = l.locked;
-            small = subst (All (IsWithinSchema origin)) (sym standing) (all_cut (IsWithinSchema origin) r.scope.txn k.live.standing fit.small);
-            log = log;
-            reserves = omega arith;
-            numbers = subst (λ (v : ℕ). AreLeft k.last v k.reserved) (sym begun) fit.numbers;
-            queued = queued_members k.live.members n.live.members (appended n.operations.store.log) k.commits.items (λ u is. states u ∙ is) (λ u is. sym (states u) ∙ is) l.queued;
-            booked = fit.booked;
-            escrowed = record { all = ap length committed ∙ fit.escrowed.all; counts = λ c lt. ap (λ (cs : List Count). count_at cs c) committed ∙ fit.escrowed.counts c lt };
+        last = t.entry;
+        idle = idle;
+        effect = t.last;
+        inverts = t.inverse;
+        given = given_entry;
+        leads = record {
+          consistent = record {
+            fit = record {
+              schema = fit.schema;
+              right = h.right;
+              kept = subst (IsKept origin.first) state (kept_undone origin.first s r.scope.txn t.entry r.scope.op n.escrow.pending fit.kept idle t.last t.inverse given_entry);
+              owned = subst (λ (X : Type 0). X) (λ i. All (IsOwned n.live.members (sym standing i)) (sym items i))
+                  (all_remove (IsOwned n.live.members (cut_back r.scope.txn k.live.standing)) k.running.items place alone.within (λ i d lt apart.
+                  undone_owned k.live.members n.live.members k.live.standing r (get_or k.running.items i d) (other_at k place r Ready fit alone i d lt apart) changed (fit.owned i d lt)));
+              apart = l.apart;
+              numbered = subst (λ (m : ℕ). IsNumbered k.last m n.live.members n.operations.locks (appended n.operations.store.log)) (sym begun)
+                  (numbered_members k.last k.live.begun k.live.members n.live.members n.operations.locks (appended n.operations.store.log) open_same (changed_keeps is_some taken_back k.live.members n.live.members r.scope.txn (λ m. cut_keeps is_some (λ x v. refl) m (last_place m.calls)) changed 0) l.numbered);
+              locked = l.locked;
+              small = subst (All (IsWithinSchema origin)) (sym standing) (all_cut (IsWithinSchema origin) r.scope.txn k.live.standing fit.small);
+              log = log;
+              reserves = omega arith;
+              numbers = subst (λ (v : ℕ). AreLeft k.last v k.reserved) (sym begun) fit.numbers;
+              queued = queued_members k.live.members n.live.members (appended n.operations.store.log) k.commits.items (λ u is. states u ∙ is) (λ u is. sym (states u) ∙ is) l.queued;
+              booked = fit.booked;
+              escrowed = record { all = ap length committed ∙ fit.escrowed.all; counts = λ c lt. ap (λ (cs : List Count). count_at cs c) committed ∙ fit.escrowed.counts c lt };
+            };
+            holds = subst (λ (p : PageBytes). Holds p (base_after base r.scope.op)) (sym h.held) y.holds;
+            runs = l.runs;
+            told = told_of t.named;
+            claims = omega arith;
           };
-          holds = subst (λ (p : PageBytes). Holds p (base_after base r.scope.op)) (sym h.held) y.holds;
-          runs = l.runs;
-          told = told_of t.named;
-          claims = omega arith;
+          state = state;
         };
-        state = state;
       }
     where
       told_of : last_operation (member_of k.live.members r.scope.txn) ≡ Some r.scope.undoes → AreTold k.last n.live.members (appended n.operations.store.log)

@@ -1,8 +1,7 @@
 -- Why a call is refused, from why its parts are.
-use Rattle.std.proofs.Common.{◌≡◌, ◌<◌, ◌+◌, ℕ, Bool, List, Result, Err, ap, arith}
+use Rattle.std.proofs.Common.{ℕ, Bool, List, ap, arith}
 use Rattle.std.specs.Prelude.{ℤ}
 use Rattle.std.proofs.Props.{props}
-use Rattle.mt_base.specs.declared.modes.LockMode.{LockMode}
 use Rattle.mt_base.specs.declared.refusal.Refusal.{Refusal}
 use Rattle.mt_base.specs.declared.refusal.Refusal.TheVariants as refusal
 use Rattle.mt_base.specs.Limits.{IsStep}

@@ -1,5 +1,5 @@
 -- What is known of parts that are sound, whatever the base.
-use Rattle.std.proofs.Common.{◌≡◌, ◌<◌, ◌≤◌, ◌+◌, ◌^◌, ◌==◌, ◌∷◌, ◌∙◌, ℕ, List, Bool, true, false, cond, is_some, Option, None, Some, inl, inr, ⊎_elim, refl, sym, ap, subst, arith}
+use Rattle.std.proofs.Common.{◌≡◌, ◌<◌, ◌≤◌, ◌^◌, ◌==◌, ◌∷◌, ◌∙◌, ℕ, List, Bool, true, false, cond, is_some, None, Some, inl, inr, ⊎_elim, refl, ap, subst, arith}
 use Rattle.std.proofs.Props.{props}
 use Rattle.std.specs.Prelude.{◌≢◌, All, vec_len, length}
 use Rattle.std.specs.Option.{option_map}

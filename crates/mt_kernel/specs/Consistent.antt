@@ -8,10 +8,11 @@ use Rattle.mt_escrow.specs.Seen.{Escrowed, CanStand, add_of}
 use Rattle.mt_frame.specs.declared.records.Record.{Record}
 use Rattle.mt_frame.specs.declared.records.Record.TheVariants as record_of
 use Rattle.mt_frame.specs.History.{some_record, ends_txn, ends_op, finishes, undoes_op}
-use Rattle.mt_live.specs.Adds.{add_before}
+use Rattle.mt_live.specs.Adds.{add_before, GivesBack}
 use Rattle.mt_live.specs.Lives.{member_of, has_room}
 use Rattle.mt_live.specs.Machine.{State, put, committed_base, IsKept, IsAdmitted, called, ended, undone, dropped, booked}
 use Rattle.mt_live.specs.Entries.{Entry}
+use Rattle.mt_live.specs.Undoing.{last_effect}
 use Rattle.mt_live.specs.Members.{Member, has_inverse}
 use Rattle.mt_live.specs.declared.transactions.TxnState.{TxnState}
 use Rattle.mt_live.specs.declared.transactions.TxnState.TheVariants.{Committing}
@@ -22,7 +23,7 @@ use Rattle.mt_model.specs.declared.operations.Op.TheVariants.{Get, Insert, Updat
 use Rattle.mt_model.specs.declared.objects.Object.{Object}
 use Rattle.mt_model.specs.History.{after, Call}
 use Rattle.mt_model.specs.Locks.{with_lock, IsFree}
-use Rattle.mt_model.specs.Model.{Base, reply_of, base_after, object_of, mode_of, IsWithin}
+use Rattle.mt_model.specs.Model.{Base, reply_of, base_after, inverse_of, object_of, mode_of, IsWithin}
 use Rattle.mt_model.specs.Tables.{count_at}
 use Rattle.mt_op.specs.Operations.{world, IsRight, claimed}
 use Rattle.mt_op.specs.Records.{end_of}
@@ -348,17 +349,25 @@ IsOwnerOf rs op None = All (λ (r : Running). r.scope.number ≢ op) rs
 abbrev pub EndsIn : {D : Type 0} → (D → List ℕ) → (D → List ℕ → Type 0) → Origin → Base → Parts D → Parts D → Running → Type 0
 EndsIn seen may_leave origin base k n r = IsIn seen may_leave origin (base_after base r.scope.op) (ended (state_of k base) r.scope.txn r.scope.op) n
 
--- the inverse has
-abbrev pub UndoesIn : {D : Type 0} → (D → List ℕ) → (D → List ℕ → Type 0) → Origin → Base → Parts D → Parts D → Running → Type 0
-UndoesIn seen may_leave origin base k n r = IsIn seen may_leave origin (base_after base r.scope.op) (undone (state_of k base) r.scope.txn r.scope.op n.escrow.pending) n
+-- the inverse has, of the last effect of its transaction, whose add is given back where it is one
+pub record UndoesIn {D : Type 0} (seen : D → List ℕ) (may_leave : D → List ℕ → Type 0) (origin : Origin) (base : Base) (s : State) (n : Parts D) (t : ℕ) (inverse : Op) : Type 0 where
+  pub last : Entry
+  pub idle : s.running t ≡ None
+  pub effect : last_effect t s.standing ≡ Some last
+  pub inverts : inverse_of last.op last.reply ≡ Some inverse
+  pub given : GivesBack t last.op s.pending n.escrow.pending
+  pub leads : IsIn seen may_leave origin (base_after base inverse) (undone s t inverse n.escrow.pending) n
 
--- the operation is dropped
-abbrev pub DropsIn : {D : Type 0} → (D → List ℕ) → (D → List ℕ → Type 0) → Origin → Base → Parts D → Parts D → Running → Type 0
-DropsIn seen may_leave origin base k n r = IsIn seen may_leave origin base (dropped (state_of k base) r.scope.txn n.escrow.pending) n
+-- what the transaction runs is dropped, and its add is given back where it is one
+pub record DropsIn {D : Type 0} (seen : D → List ℕ) (may_leave : D → List ℕ → Type 0) (origin : Origin) (base : Base) (s : State) (n : Parts D) (t : ℕ) : Type 0 where
+  pub op : Op
+  pub runs : s.running t ≡ Some op
+  pub given : GivesBack t op s.pending n.escrow.pending
+  pub leads : IsIn seen may_leave origin base (dropped s t n.escrow.pending) n
 
 -- a step of its taking back; at its end the operation at the place is dropped
 abbrev pub BacksIn : {D : Type 0} → (D → List ℕ) → (D → List ℕ → Type 0) → Origin → Base → Parts D → Parts D → ℕ → Result TakenBack Refusal → Type 0
-BacksIn seen may_leave origin base k n place (Ok taken.Clear) = AtPlace k.running.items place (λ r. DropsIn seen may_leave origin base k n r)
+BacksIn seen may_leave origin base k n place (Ok taken.Clear) = AtPlace k.running.items place (λ r. DropsIn seen may_leave origin base (state_of k base) n r.scope.txn)
 BacksIn seen may_leave origin base k n place (Ok taken.More) = IsIn seen may_leave origin base (state_of k base) n
 BacksIn seen may_leave origin base k n place (Ok taken.Flush) = IsIn seen may_leave origin base (state_of k base) n
 BacksIn seen may_leave origin base k n place (Err why) = IsIn seen may_leave origin base (state_of k base) n

@@ -23,7 +23,7 @@ Steps seen may_leave origin base k n place (Err why) = IsIn seen may_leave origi
 -- It ends, with the model's reply, and what it takes back stands no more; or the base and all that stands are as before.
 abbrev pub UndoSteps : {D : Type 0} → (D → List ℕ) → (D → List ℕ → Type 0) → Origin → Base → Parts D → Parts D → ℕ → Result Stepping Refusal → Type 0
 UndoSteps seen may_leave origin base k n place (Ok (Ended reply)) = (r : Running) → r ≡ slice_index_or k.running.items place r
-    → (reply_of base r.scope.op ≡ reply) × UndoesIn seen may_leave origin base k n r
+    → (reply_of base r.scope.op ≡ reply) × UndoesIn seen may_leave origin base (state_of k base) n r.scope.txn r.scope.op
 UndoSteps seen may_leave origin base k n place (Ok (GoingOn going)) = IsIn seen may_leave origin base (state_of k base) n
 UndoSteps seen may_leave origin base k n place (Err why) = IsIn seen may_leave origin base (state_of k base) n
 

@@ -59,7 +59,8 @@ impl<D: Device> Parts<D> {
         ensures live { self.new.live ≡ self.old.live }
         ensures commits { self.new.commits ≡ self.old.commits }
         ensures drops { (origin : Origin) (base : Base) → IsClearedAt D.seen D.may_leave origin base self.old place
-            → AtPlace self.old.running.items place (λ r. DropsIn D.seen D.may_leave origin base self.old self.new r) }
+            → AtPlace self.old.running.items place (λ r. DropsIn D.seen D.may_leave origin base
+            (state_of self.old base) self.new r.scope.txn) }
     {
         let Running { scope, op } = self.running.remove(place);
         let txn = scope.txn();

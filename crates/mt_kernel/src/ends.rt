@@ -65,7 +65,8 @@ impl<D: Device> Parts<D> {
         ensures commits { self.new.commits ≡ self.old.commits }
         ensures ends { (origin : Origin) (base : Base) (reply : Reply)
             → IsReadyAt D.seen D.may_leave origin base self.old place reply
-            → AtPlace self.old.running.items place (λ r. UndoesIn D.seen D.may_leave origin base self.old self.new r) }
+            → AtPlace self.old.running.items place (λ r. UndoesIn D.seen D.may_leave origin base
+            (state_of self.old base) self.new r.scope.txn r.scope.op) }
     {
         let Running { scope, op } = self.running.remove(place);
         let txn = scope.txn();

@@ -191,8 +191,8 @@ module _ {D : Type 0} {g : Ghosts D} (seen : D → List ℕ) (may_leave : D → 
 
 undone_back : (p : Play) (t : ℕ) (first : Base) (s z : State) → IsBack s t z → IsUndone first p t s → IsUndone first p t z
 undone_back p t first s _ stands u = u
-undone_back p t first s _ (drops ps) u = record { played = record { book = u.played.book; base = u.played.base }; others = u.others }
-undone_back p t first s _ (undoes i ps) u = record { played = record { book = u.played.book; base = u.played.base }; others = u.others }
+undone_back p t first s _ (drops op ps runs given) u = record { played = record { book = u.played.book; base = u.played.base }; others = u.others }
+undone_back p t first s _ (undoes last i ps idle effect inverts given) u = record { played = record { book = u.played.book; base = u.played.base }; others = u.others }
 
 module _ {D : Type 0} {g : Ghosts D} (seen : D → List ℕ) (may_leave : D → List ℕ → Type 0) (faults : D → ℕ) (p : Play) (t : ℕ) where
   going_stays : (k n : Kernel D g) → IsGoing seen may_leave p t k → Stays seen may_leave k n → SameStates k.parts n.parts → IsGoing seen may_leave p t n

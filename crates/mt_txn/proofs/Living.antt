@@ -1,5 +1,5 @@
 -- Who lives, who runs an operation, and which commits are under way, as a state tells it.
-use Rattle.std.proofs.Common.{◌≡◌, ◌≢◌, ◌<◌, ◌==◌, ◌&&◌, ◌||◌, ◌∷◌, [], ℕ, Bool, true, false, cond, List, length, get_or, Option, Some, None, is_some, ⊎_elim, refl, sym, ap, ◌∙◌, subst, arith}
+use Rattle.std.proofs.Common.{◌≡◌, ◌≢◌, ◌==◌, ◌&&◌, ◌||◌, ◌∷◌, [], ℕ, Bool, true, false, cond, List, get_or, Option, Some, None, is_some, ⊎_elim, refl, sym, ap, ◌∙◌, subst, arith}
 use Rattle.std.proofs.Props.{props}
 use Rattle.std.specs.Prelude.{All}
 use Rattle.std.specs.List.{list_any}
@@ -13,7 +13,6 @@ use Rattle.mt_live.specs.Members.{Member}
 use Rattle.mt_live.specs.declared.transactions.TxnState.TheVariants.{Open, Committing, Aborting}
 use Rattle.mt_model.specs.Model.{Base}
 use Rattle.mt_model.specs.declared.operations.Op.{Op}
-use Rattle.mt_kernel.specs.Consistent.{state_of}
 use Rattle.mt_kernel.specs.Runs.{running_in, state_in, is_for}
 use Rattle.mt_kernel.specs.declared.parts.Commit.{Commit}
 use Rattle.mt_kernel.specs.declared.parts.Parts.{Parts}

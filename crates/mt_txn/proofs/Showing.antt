@@ -1,14 +1,13 @@
 -- What a kernel shows once its parts have met an event, and what it asks of them.
-use Rattle.std.proofs.Common.{◌≡◌, ◌≢◌, ◌⊎◌, ◌<◌, ◌+◌, ◌^◌, ◌==◌, ◌∷◌, [], ℕ, Bool, true, false, List, length, get_or, Option, Some, None, Result, Ok, Err, inl, inr, ⊎_elim, refl, sym, ap, ◌∙◌, subst, arith}
+use Rattle.std.proofs.Common.{◌≡◌, ◌≢◌, ◌⊎◌, ◌<◌, ◌∷◌, [], ℕ, true, List, length, get_or, Option, Some, None, Result, Ok, Err, inl, inr, ⊎_elim, refl, sym, ap, ◌∙◌, subst, arith}
 use Rattle.std.proofs.Props.{props}
-use Rattle.std.specs.Prelude.{All, OnOk, OnErr}
+use Rattle.std.specs.Prelude.{OnOk, OnErr}
 use Rattle.std.specs.Option.{option_map}
 use Rattle.std.proofs.lemmas.Bool.{cases_eq}
 use Rattle.std.proofs.lemmas.List.{get_or_default}
 use mathlib.Core.Logic.{∥∥₁_elim, ∥∥₁_map}
 use Rattle.mt_base.specs.declared.refusal.Refusal.{Refusal}
-use Rattle.mt_live.specs.Lives.{member_of}
-use Rattle.mt_live.specs.Machine.{State, IsKept, called, ended, dropped, undone}
+use Rattle.mt_live.specs.Machine.{State, IsKept, ended, dropped, undone}
 use Rattle.mt_live.specs.Members.{Member}
 use Rattle.mt_live.specs.declared.transactions.TxnState.TheVariants.{Open, Aborting}
 use Rattle.mt_model.specs.History.{IsLegal}
@@ -20,7 +19,7 @@ use Rattle.mt_op.specs.declared.answers.TakenBack.TheVariants as taken
 use Rattle.mt_op.specs.declared.scope.Stage.{Stage}
 use Rattle.mt_op.specs.declared.scope.Stage.TheVariants.{Planning, Writing, Ready, Taking, Cleared}
 use Rattle.mt_kernel.proofs.Underway.{running_at}
-use Rattle.mt_kernel.specs.Consistent.{Origin, state_of, AtPlace, IsConsistent, IsSound, IsIn, BacksIn, StaysIn}
+use Rattle.mt_kernel.specs.Consistent.{Origin, state_of, AtPlace, IsConsistent, IsSound, IsIn, BacksIn, DropsIn, UndoesIn, StaysIn}
 use Rattle.mt_kernel.specs.Runs.{running_in, state_in, is_at_work, is_open, IsMoving, IsOwned, IsRunning}
 use Rattle.mt_kernel.specs.Steps.{Steps, UndoSteps}
 use Rattle.mt_kernel.specs.declared.parts.Parts.{Parts}
@@ -31,7 +30,7 @@ use Rattle.mt_op.specs.Operations.{world}
 use Rattle.mt_txn.specs.Causes.{IsNamed, IsSized}
 use Rattle.mt_txn.specs.Events.{IsBack}
 use Rattle.mt_txn.specs.Events.IsBack.{stands, drops, undoes}
-use Rattle.mt_txn.specs.Well.{IsOrigin, IsWell, ShowsIn}
+use Rattle.mt_txn.specs.Well.{IsWell, ShowsIn}
 
 -- ---- one of the operations under way
 
@@ -185,18 +184,19 @@ module _ {D : Type 0} (seen : D → List ℕ) (may_leave : D → List ℕ → Ty
   undo_shown k n first s t place (Ok (Going going)) within own go shows = led k n (λ z. z) first s (λ origin base safe. (base, go origin base safe)) shows
   undo_shown k n first s t place (Err why) within own go shows = led k n (λ z. z) first s (λ origin base safe. (base, go origin base safe)) shows
   undo_shown k n first s t place (Ok (Ended reply)) within own go shows = let at = at_place k.running.items place within in let r = at.0 in
-      ∣ (
+      ∥∥₁_map shows (λ (origin, base, is, x).
+      let u = subst (λ (X : Type 0). X) (λ i. UndoesIn seen may_leave origin base (sym x.state i) n (own r at.1 i) r.scope.op) (go origin base x.consistent r at.1).1 in (
         undone s t r.scope.op n.escrow.pending,
-        undoes r.scope.op n.escrow.pending,
-        ∥∥₁_map shows (λ (origin, base, is, x). (origin, base_after base r.scope.op, is, subst (λ (X : Type 0). X) (λ i. IsIn seen may_leave origin (base_after base r.scope.op) (undone (sym x.state i) (own r at.1 i) r.scope.op n.escrow.pending) n) (go origin base x.consistent r at.1).1)),
-      ) ∣₁
+        undoes u.last r.scope.op n.escrow.pending u.idle u.effect u.inverts u.given,
+        ∣ (origin, base_after base r.scope.op, is, u.leads) ∣₁,
+      ))
 
   pub undo_well : (k n : Parts D) (place : ℕ) (res : Result Stepping Refusal) → place < length k.running.items
       → ((origin : Origin) (base : Base) → IsConsistent seen may_leave origin base k → UndoSteps seen may_leave origin base k n place res) → IsWell seen may_leave relations counters k → IsWell seen may_leave relations counters n
   undo_well k n place (Ok (Going going)) within go well = well_led k n (λ z. z) (λ origin base safe. (base, go origin base safe)) well
   undo_well k n place (Err why) within go well = well_led k n (λ z. z) (λ origin base safe. (base, go origin base safe)) well
   undo_well k n place (Ok (Ended reply)) within go well = let at = at_place k.running.items place within in
-      ∥∥₁_map well (λ (origin, base, is, safe). (origin, base_after base at.0.scope.op, is, (go origin base safe at.0 at.1).1.consistent))
+      ∥∥₁_map well (λ (origin, base, is, safe). (origin, base_after base at.0.scope.op, is, (go origin base safe at.0 at.1).1.leads.consistent))
 
   abbrev pub BackShown : Parts D → Base → State → ℕ → Result TakenBack Refusal → Type 0
   BackShown n first s t (Ok taken.Clear) = ShowsBack n first s t
@@ -210,11 +210,12 @@ module _ {D : Type 0} (seen : D → List ℕ) (may_leave : D → List ℕ → Ty
   back_shown k n first s t place (Ok taken.Flush) within own go shows = led k n (λ z. z) first s (λ origin base safe. (base, go origin base safe)) shows
   back_shown k n first s t place (Err why) within own go shows = led k n (λ z. z) first s (λ origin base safe. (base, go origin base safe)) shows
   back_shown k n first s t place (Ok taken.Clear) within own go shows = let at = at_place k.running.items place within in
-      ∣ (
+      ∥∥₁_map shows (λ (origin, base, is, x).
+      let d = subst (λ (X : Type 0). X) (λ i. DropsIn seen may_leave origin base (sym x.state i) n (own at.0 at.1 i)) (go origin base x.consistent at.0 at.1) in (
         dropped s t n.escrow.pending,
-        drops n.escrow.pending,
-        ∥∥₁_map shows (λ (origin, base, is, x). (origin, base, is, subst (λ (X : Type 0). X) (λ i. IsIn seen may_leave origin base (dropped (sym x.state i) (own at.0 at.1 i) n.escrow.pending) n) (go origin base x.consistent at.0 at.1))),
-      ) ∣₁
+        drops d.op n.escrow.pending d.runs d.given,
+        ∣ (origin, base, is, d.leads) ∣₁,
+      ))
 
   pub back_well : (k n : Parts D) (place : ℕ) (res : Result TakenBack Refusal) → place < length k.running.items
       → ((origin : Origin) (base : Base) → IsConsistent seen may_leave origin base k → BacksIn seen may_leave origin base k n place res) → IsWell seen may_leave relations counters k → IsWell seen may_leave relations counters n
@@ -222,4 +223,4 @@ module _ {D : Type 0} (seen : D → List ℕ) (may_leave : D → List ℕ → Ty
   back_well k n place (Ok taken.Flush) within go well = well_led k n (λ z. z) (λ origin base safe. (base, go origin base safe)) well
   back_well k n place (Err why) within go well = well_led k n (λ z. z) (λ origin base safe. (base, go origin base safe)) well
   back_well k n place (Ok taken.Clear) within go well = let at = at_place k.running.items place within in
-      ∥∥₁_map well (λ (origin, base, is, safe). (origin, base, is, (go origin base safe at.0 at.1).consistent))
+      ∥∥₁_map well (λ (origin, base, is, safe). (origin, base, is, (go origin base safe at.0 at.1).leads.consistent))

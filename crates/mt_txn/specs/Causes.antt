@@ -4,7 +4,7 @@ use Rattle.std.specs.List.{list_any}
 use Rattle.mt_base.specs.Limits.{IsKey, IsValue, IsStep}
 use Rattle.mt_base.specs.declared.refusal.Refusal.{Refusal}
 use Rattle.mt_base.specs.declared.refusal.Refusal.TheVariants as refusal
-use Rattle.mt_live.specs.Lives.{calls_of, member_of}
+use Rattle.mt_live.specs.Lives.{calls_of}
 use Rattle.mt_live.specs.declared.transactions.TxnState.{TxnState}
 use Rattle.mt_live.specs.declared.transactions.TxnState.TheVariants.{Open, Aborting}
 use Rattle.mt_log.specs.Words.{has_failed, area_size}

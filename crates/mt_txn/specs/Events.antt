@@ -1,10 +1,12 @@
 -- What the calls do to the state that a kernel shows.
-use Rattle.std.specs.Prelude.{ℕ, ◌≡◌, true, drop, List, Option, Some, None, Result, Ok, Err}
+use Rattle.std.specs.Prelude.{ℕ, ◌≡◌, true, drop, List, Some, None, Result, Ok, Err}
 use Rattle.mt_base.specs.declared.refusal.Refusal.{Refusal}
 use Rattle.mt_disk.specs.declared.device.Device.{Ghosts}
+use Rattle.mt_live.specs.Adds.{GivesBack}
+use Rattle.mt_live.specs.Entries.{Entry}
 use Rattle.mt_live.specs.Machine.{State, called, ended, dropped, undone, gone}
 use Rattle.mt_live.specs.Undoing.{last_effect}
-use Rattle.mt_model.specs.Model.{Base, reply_of, base_after}
+use Rattle.mt_model.specs.Model.{Base, reply_of, inverse_of}
 use Rattle.mt_model.specs.declared.operations.Op.{Op}
 use Rattle.mt_model.specs.declared.pending.Pending.{Pending}
 use Rattle.mt_kernel.specs.Booked.{booked_each, durable_count, durable_txns}
@@ -13,10 +15,9 @@ use Rattle.mt_log.specs.Words.{IsStep}
 use Rattle.mt_log.specs.declared.log.Log.{Log}
 use Rattle.mt_log.specs.declared.log.Forced.TheVariants as log
 use Rattle.mt_kernel.specs.Causes.{IsAnswered}
-use Rattle.mt_kernel.specs.Consistent.{Origin, IsConsistent, IsIn, log_kept}
+use Rattle.mt_kernel.specs.Consistent.{Origin, IsConsistent, log_kept}
 use Rattle.mt_kernel.specs.declared.calls.Called.{Called}
 use Rattle.mt_kernel.specs.declared.calls.Called.TheVariants as call
-use Rattle.mt_kernel.specs.declared.parts.Parts.{Parts}
 use Rattle.mt_txn.specs.Shown.{Shows}
 use Rattle.mt_txn.specs.Well.{IsOrigin}
 use Rattle.mt_txn.specs.declared.answers.AbortStepped.{AbortStepped}
@@ -61,11 +62,13 @@ IsForcedBy old cs forced.More new ds = IsStep old log.More new × (ds ≡ cs)
 IsForcedBy old cs forced.Idle new ds = IsStep old log.Idle new × (ds ≡ cs)
 IsForcedBy old cs (forced.Durable names) new ds = (place : ℕ) × IsStep old (log.Durable place) new × (names.items ≡ durable_txns cs place) × (ds ≡ drop (durable_count cs place) cs)
 
--- What a step of an abort that goes on may lead to: the state as it was; its operation dropped, or its last effect undone.
+-- What a step of an abort that goes on may lead to: the state as it was; what its transaction runs dropped; or the last effect of its
+-- transaction undone by the inverse of that. With either goes the add, where it was one, and no other.
 pub data IsBack (s : State) (t : ℕ) : State → Type 0 where
   stands : IsBack s t s
-  drops : (ps : List Pending) → IsBack s t (dropped s t ps)
-  undoes : (i : Op) (ps : List Pending) → IsBack s t (undone s t i ps)
+  drops : (op : Op) (ps : List Pending) → s.running t ≡ Some op → GivesBack t op s.pending ps → IsBack s t (dropped s t ps)
+  undoes : (last : Entry) (inverse : Op) (ps : List Pending) → s.running t ≡ None → last_effect t s.standing ≡ Some last
+      → inverse_of last.op last.reply ≡ Some inverse → GivesBack t last.op s.pending ps → IsBack s t (undone s t inverse ps)
 
 -- what a step of the abort of t did
 abbrev pub HasAborted : {D : Type 0} → {g : Ghosts D} → (D → List ℕ) → (D → List ℕ → Type 0) → Base → State → ℕ → Result AbortStepped Refusal → Kernel D g → Type 0

@@ -1,4 +1,4 @@
-use Rattle.std.proofs.Common.{◌≡◌, true, nat_lt, sym, subst, arith, length, []}
+use Rattle.std.proofs.Common.{◌≡◌, true, nat_lt, sym, subst, arith, length}
 use Rattle.std.proofs.lemmas.Bool.{lt-ltb}
 use Rattle.std.proofs.lemmas.List.Sums.{position_or_len_is}
 use Rattle.mt_kernel.specs.declared.parts.Commit.{Commit}

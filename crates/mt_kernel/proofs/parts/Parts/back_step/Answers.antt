@@ -10,9 +10,8 @@ use Rattle.mt_pool.specs.Views.{pages}
 use Rattle.mt_kernel.specs.Work.{LeavesStanding, LowersBack, effects_left, undo_steps}
 use Rattle.mt_kernel.proofs.Undoing.{moved_of, total_at, forward_moved, undo_removed, abort_at, fore_with}
 use Rattle.std.proofs.lemmas.List.{get_or_default}
-use Rattle.mt_live.specs.Machine.{dropped}
 use Rattle.mt_op.specs.Moves.{SameOp}
-use Rattle.mt_kernel.specs.Consistent.{state_of, IsIn, GoesBack}
+use Rattle.mt_kernel.specs.Consistent.{state_of, DropsIn, GoesBack}
 use Rattle.mt_kernel.specs.declared.parts.Running.{Running}
 use Rattle.mt_kernel.proofs.parts.Parts.back_step.Goals as goal
 
@@ -40,7 +39,7 @@ returns-in-Clear-clause-back g c = λ origin base safe x at. let k = c.args.self
     let now : q ≡ get_or items place q = get_or_default items place x q inside in
     let same : SameOp x.scope q.scope = c.take_back.ensures.same origin base safe x q at now in
     let gone = c.drop_out.ensures.drops origin base made.0 q now in
-    subst (λ (X : Type 0). X) (λ i. IsIn seen may_leave origin base (dropped (sym made.1 i) (same.txn i) c.drop_out.new.self.escrow.pending) c.drop_out.new.self) gone
+    subst (λ (X : Type 0). X) (λ i. DropsIn seen may_leave origin base (sym made.1 i) c.drop_out.new.self (same.txn i)) gone
 
 pub returns-in-More-clause-lowers : goal.returns-in-More-clause-lowers
 returns-in-More-clause-lowers g c = λ x at. ∥∥₁_elim c.requires.safe (hlevel props) (λ (origin, base, safe).

@@ -9,8 +9,7 @@ use Rattle.mt_kernel.proofs.Dropping.{dropped_in, given_back, claimed_enough}
 use Rattle.mt_kernel.proofs.Ending.{ended_given}
 use Rattle.mt_kernel.proofs.Enough.{kept_enough}
 use Rattle.std.proofs.lemmas.List.{get_or_default}
-use Rattle.mt_live.specs.Machine.{dropped}
-use Rattle.mt_kernel.specs.Consistent.{state_of, IsIn}
+use Rattle.mt_kernel.specs.Consistent.{state_of, DropsIn}
 use Rattle.mt_kernel.specs.declared.parts.Parts.{Parts}
 use Rattle.mt_kernel.specs.declared.parts.Running.{Running}
 use Rattle.mt_kernel.proofs.parts.Parts.drop_out.Goals as goal
@@ -61,6 +60,6 @@ returns-clause-drops g c = λ origin base cleared x is.
     let copy : undo_bytes r.op ≡ undo_bytes r.scope.op = ap undo_bytes (owned.copy fore) in
     let bytes = c.bytes_to_undo.ensures in
     let here : r ≡ x = c.remove-scope.ensures.value ∙ sym (get_or_default k.running.items c.args.place x r y.alone.within) ∙ sym is in
-    subst (λ (z : Running). IsIn seen g.D.Device.may_leave origin base (dropped (state_of k base) z.scope.txn n.escrow.pending) n) here
+    subst (λ (z : Running). DropsIn seen g.D.Device.may_leave origin base (state_of k base) n z.scope.txn) here
     (dropped_in seen g.D.Device.may_leave origin base k n c.args.place r y fore c.remove-scope.ensures.items ended (omega arith) (omega arith)
     (subst (λ (X : Type 0). X) (λ i. GivesBack (c.txn-txn.ensures i) (owned.copy fore i) k.escrow.pending c.let_go.new.escrow.pending) c.let_go.ensures.given) c.let_go.ensures.committed)

@@ -8,7 +8,7 @@ use Rattle.mt_slock.specs.Views.{held_of}
 use Rattle.mt_slock.specs.declared.table.Asked.TheVariants.{Granted, Wait}
 use Rattle.mt_kernel.proofs.Locked.{locked_from, relocked_in, restored_in, restored_out}
 use Rattle.mt_kernel.specs.Consistent.{log_kept}
-use Rattle.mt_kernel.proofs.Refusing.{refused_call, barred_call}
+use Rattle.mt_kernel.proofs.Refusing.{refused_call}
 use Rattle.mt_kernel.proofs.parts.Parts.lock.Goals as goal
 
 pub admit-requires-clause-locked : goal.admit-requires-clause-locked

@@ -9,9 +9,7 @@ use Rattle.mt_kernel.proofs.Calling.{open_some}
 use Rattle.mt_kernel.proofs.Ending.{undone_in}
 use Rattle.mt_kernel.specs.Runs.{IsOwned}
 use Rattle.std.proofs.lemmas.List.{get_or_default}
-use Rattle.mt_live.specs.Machine.{undone}
-use Rattle.mt_model.specs.Model.{base_after}
-use Rattle.mt_kernel.specs.Consistent.{state_of, IsIn}
+use Rattle.mt_kernel.specs.Consistent.{state_of, UndoesIn}
 use Rattle.mt_kernel.specs.declared.parts.Parts.{Parts}
 use Rattle.mt_kernel.specs.declared.parts.Running.{Running}
 use Rattle.mt_kernel.proofs.Members.{states_kept}
@@ -35,7 +33,7 @@ returns-clause-ends g c = λ origin base reply ready x is.
     let seen = g.D.Device.seen in
     let n : Parts g.row.D.Denot = record k { operations = c.end.new.self; live = c.undone.new.self; running = c.remove-scope.new.self; escrow = c.let_go.new.escrow } in
     let here : r ≡ x = c.remove-scope.ensures.value ∙ sym (get_or_default k.running.items c.args.place x r y.alone.within) ∙ sym is in
-    subst (λ (z : Running). IsIn seen g.D.Device.may_leave origin (base_after base z.scope.op) (undone (state_of k base) z.scope.txn z.scope.op n.escrow.pending) n) here
+    subst (λ (z : Running). UndoesIn seen g.D.Device.may_leave origin base (state_of k base) n z.scope.txn z.scope.op) here
     (undone_in seen g.D.Device.may_leave origin base k n c.args.place r reply y (c.requires.back r c.remove-scope.ensures.value) c.remove-scope.ensures.items
     (record { right = e.right origin.pages origin.relations origin.counters y.fit.right y.alone.own; held = e.held origin.pages; others = λ u ku other. e.others origin.pages origin.relations origin.counters u ku other; locks = e.locks; store = e.store }) e.claimed
     (f.standing ∙ (λ i. cut_back (c.txn-txn.ensures i) k.live.standing))

@@ -1,4 +1,4 @@
-use Rattle.std.proofs.Common.{List, Option, ℕ, subst}
+use Rattle.std.proofs.Common.{List, subst}
 use Rattle.mt_kernel.specs.Consistent.{IsPlaceOf}
 use Rattle.mt_kernel.specs.declared.parts.Running.{Running}
 use Rattle.mt_kernel.proofs.Underway.{busy_of}

@@ -14,7 +14,6 @@ use Rattle.std.proofs.Common.{◌<◌, ◌≤◌, Err}
 use Rattle.std.specs.Prelude.{IfErr}
 use Rattle.std.proofs.Props.{props}
 use Rattle.std.proofs.lemmas.Result.{err_from_is_err_and}
-use Rattle.mt_base.specs.declared.refusal.Refusal.TheVariants as refusal
 use Rattle.mt_pool.proofs.Steady.{steady}
 use Rattle.mt_pool.specs.Same.{Pool-prop}
 use Rattle.mt_pool.specs.Views.{pages}

@@ -2,10 +2,9 @@ use mathlib.Core.Logic.{∥∥₁_elim}
 use Rattle.std.proofs.Props.{props}
 use Rattle.std.proofs.Common.{◌≡◌, ◌∙◌, ◌<◌, Ok, length, get_or, sym, ap, subst, arith}
 use Rattle.std.proofs.lemmas.List.{get_or_default}
-use Rattle.mt_live.specs.Machine.{undone}
-use Rattle.mt_model.specs.Model.{reply_of, base_after}
+use Rattle.mt_model.specs.Model.{reply_of}
 use Rattle.mt_op.specs.Moves.{SameOp}
-use Rattle.mt_kernel.specs.Consistent.{state_of, IsReady, IsIn, Advances}
+use Rattle.mt_kernel.specs.Consistent.{state_of, IsReady, UndoesIn, Advances}
 use Rattle.mt_kernel.specs.declared.parts.Running.{Running}
 use Rattle.std.proofs.Common.{◌≤◌, List}
 use Rattle.std.specs.List.{remove}
@@ -49,7 +48,7 @@ returns-in-Ready-clause-steps g c = λ origin base safe x at. let k = c.args.sel
     let ready : IsReady seen may_leave origin base c.advance.new.self place q c.in-Ready.reply = made.0 q now in
     let noted = c.note_undone.ensures.ends origin base c.in-Ready.reply made.0 q now in (
       ap (reply_of base) (sym same.op) ∙ ready.replies ∙ sym made.1,
-      subst (λ (X : Type 0). X) (λ i. IsIn seen may_leave origin (base_after base (same.op i)) (undone (sym made.2 i) (same.txn i) (same.op i) c.note_undone.new.self.escrow.pending) c.note_undone.new.self) noted,
+      subst (λ (X : Type 0). X) (λ i. UndoesIn seen may_leave origin base (sym made.2 i) c.note_undone.new.self (same.txn i) (same.op i)) noted,
     )
 
 pub returns-in-Ready-clause-work : goal.returns-in-Ready-clause-work
@@ -184,7 +183,7 @@ returns-in-Ready-clause-lowers g c = λ x at. ∥∥₁_elim c.requires.safe (hl
     let noted = c.note_undone.ensures.ends origin base c.in-Ready.reply made.0 q now in
     let all = pages k.operations.store.pool in let t = x.scope.txn in
     let size : pages n.operations.store.pool ≡ all = ap (λ o. pages o.pool) c.note_undone.ensures.store ∙ sym ready.alone.own.total ∙ same.total ∙ total_at seen may_leave origin base k place x safe c.requires.within at in
-    let standing : n.live.standing ≡ cut_back t k.live.standing = sym (ap (λ (s : State). s.standing) noted.state) ∙ (λ i. cut_back (same.txn i) ((c.advance.ensures.live i).standing)) in
+    let standing : n.live.standing ≡ cut_back t k.live.standing = sym (ap (λ (s : State). s.standing) noted.leads.state) ∙ (λ i. cut_back (same.txn i) ((c.advance.ensures.live i).standing)) in
     let gone = undo_removed n items place t all q (cut_back t k.live.standing) inside now ready.fit.apart same.txn c.note_undone.ensures.items size standing in
     let owned : IsOwned k.live.members k.live.standing x = subst (IsOwned k.live.members k.live.standing) (sym at) (safe.fit.owned place x c.requires.within) in
     let back = c.requires.back x at in let takes = owned.inverse back in

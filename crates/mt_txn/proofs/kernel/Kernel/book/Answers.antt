@@ -1,6 +1,4 @@
-use mathlib.Core.Logic.{∥∥₁_map}
-use Rattle.std.proofs.Common.{◌≡◌, ◌∙◌, List, ap, sym, subst}
-use Rattle.mt_live.specs.Machine.{State, IsKept}
+use Rattle.std.proofs.Common.{◌≡◌, List, sym, subst}
 use Rattle.mt_model.specs.History.{IsLegal}
 use Rattle.mt_model.specs.declared.history.Committed.{Committed}
 use Rattle.mt_txn.proofs.Showing.{legal_of}

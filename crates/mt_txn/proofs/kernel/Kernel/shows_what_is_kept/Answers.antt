@@ -1,7 +1,3 @@
-use mathlib.Core.Logic.{∥∥₁_map}
-use Rattle.std.proofs.Common.{sym, subst}
-use Rattle.mt_live.specs.Machine.{State, IsKept}
-use Rattle.mt_model.specs.Model.{Base}
 use Rattle.mt_txn.proofs.Showing.{kept_of}
 use Rattle.mt_txn.proofs.kernel.Kernel.shows_what_is_kept.Goals as goal
 

@@ -2,8 +2,8 @@
 use mt_base::Refusal;
 use mt_base::limits::device_bytes;
 use mt_disk::{Device, MemDevice};
-use mt_txn::Kernel;
 use mt_restart::{Schema, fresh};
+use mt_txn::Kernel;
 use std::alloc::Global;
 
 /// A device in memory of 64 pages and of log areas of 4 MiB, all of its bytes 0.

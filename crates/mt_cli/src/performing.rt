@@ -13,9 +13,9 @@ use crate::folder::Folder;
 use mt_base::Refusal;
 use mt_base::limits::device_bytes;
 use mt_disk::{Device, MemDevice};
-use mt_txn::Kernel;
 use mt_restart::{Schema, fresh};
 use mt_server::{Answer, RunFault, Script, ScriptFault, put, read_script, run_alone, write_answer};
+use mt_txn::Kernel;
 use std::alloc::Global;
 use std::io::{Read, Write};
 

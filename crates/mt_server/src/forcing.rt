@@ -6,8 +6,8 @@ ghost use Rattle.mt_server.specs.Driven.{Eases, Fails, HasCommitted, IsForcing, 
 
 use mt_base::{Refusal, TxnNo};
 use mt_disk::Device;
-use mt_txn::{Kernel, KernelForced};
 use mt_pool::Flushed;
+use mt_txn::{Kernel, KernelForced};
 
 /// How often a step that found no memory, or no frame, is asked again.
 pub(crate) const ASKED_AGAIN: usize = 8;

@@ -8,8 +8,8 @@ use crate::op::random::Numbers;
 use mt_base::{Bytes, CtrNo, Refusal, RelNo, TxnNo};
 use mt_disk::MemDevice;
 use mt_model::{Base, Calls, Committed, Op, Reply};
-use mt_txn::{AbortStepped, Called, Kernel, KernelForced, Stepped};
 use mt_pool::Flushed;
+use mt_txn::{AbortStepped, Called, Kernel, KernelForced, Stepped};
 use std::alloc::Global;
 use std::test::Fail;
 

@@ -1,0 +1,216 @@
+-- What an event does, from what its call says.
+use Rattle.std.proofs.Common.{◌≡◌, ◌≢◌, ◌+◌, ◌⊎◌, inl, inr, ℕ, Bool, true, false, List, [], Option, Some, None, Result, Ok, Err, refl, ap, sym, subst, ◌∙◌}
+use Rattle.std.specs.Prelude.{if◌then◌else◌}
+use mathlib.Core.Logic.{∥∥₁_elim, ∥∥₁_map}
+use Rattle.std.proofs.Props.{props}
+use Rattle.mt_base.specs.declared.refusal.Refusal.{Refusal}
+use Rattle.mt_base.specs.declared.refusal.Refusal.TheVariants as refusal
+use Rattle.mt_disk.specs.declared.device.Device.{Ghosts}
+use Rattle.mt_kernel.specs.Consistent.{OnlyOperations, SameCommits, SameStates, SameStatesBut}
+use Rattle.mt_kernel.specs.Runs.{state_in}
+use Rattle.mt_kernel.specs.declared.calls.Called.{Called}
+use Rattle.mt_kernel.specs.declared.calls.Called.TheVariants as call
+use Rattle.mt_kernel.specs.declared.parts.Parts.{Parts}
+use Rattle.mt_live.specs.Machine.{State, begun, called, ended, gone}
+use Rattle.mt_live.specs.declared.transactions.TxnState.{TxnState}
+use Rattle.mt_live.specs.declared.transactions.TxnState.TheVariants.{Open, Committing as IsCommitting, Aborting as IsAborting}
+use Rattle.mt_log.specs.Words.{has_failed}
+use Rattle.mt_model.specs.Model.{Base}
+use Rattle.mt_model.specs.declared.operations.Op.{Op}
+use Rattle.mt_model.specs.declared.operations.Reply.{Reply}
+use Rattle.mt_pool.specs.declared.flushing.Flushed.{Flushed as FlushTold}
+use Rattle.mt_pool.specs.declared.flushing.Flushed.TheVariants as flush
+use Rattle.mt_txn.proofs.Living.{idle_of}
+use Rattle.mt_txn.specs.Causes.{begin_cause, call_cause, first_of, is_busy, is_open, unless}
+use Rattle.mt_txn.specs.Events.{HasAborted, HasCalled, HasForced, HasStepped, IsAnsweredBy, IsBack}
+use Rattle.mt_txn.specs.Events.IsBack.{stands, drops as drops_back, undoes as undoes_back}
+use Rattle.mt_txn.specs.Shown.{SameSchema, Shows, Stays}
+use Rattle.mt_txn.specs.Well.{ShowsIn}
+use Rattle.mt_txn.specs.declared.answers.AbortStepped.{AbortStepped}
+use Rattle.mt_txn.specs.declared.answers.AbortStepped.TheVariants as abort
+use Rattle.mt_txn.specs.declared.answers.KernelForced.{KernelForced}
+use Rattle.mt_txn.specs.declared.answers.KernelForced.TheVariants as forced
+use Rattle.mt_txn.specs.declared.answers.Stepped.{Stepped as StepTold}
+use Rattle.mt_txn.specs.declared.answers.Stepped.TheVariants as step
+use Rattle.mt_txn.specs.declared.kernel.Kernel.{Kernel}
+use Rattle.mt_world.specs.Acts.{Act}
+use Rattle.mt_world.specs.Moves.{IsStill, Moves}
+use Rattle.mt_world.specs.Moves.IsStill.{is_refused, call_waits, step_went, step_waits, step_again, step_full, abort_went, abort_waits, abort_again, abort_full, force_went, force_idle}
+use Rattle.mt_world.specs.Moves.Moves.{stays, begins, calls, ends, drops, undoes, aborts, books}
+use Rattle.mt_world.specs.Due.{IsBacked, IsCaused, IsDue, IsFlushed, IsStepped, SamePhases, SetsPhases}
+use Rattle.mt_world.specs.Schedules.{HasMade}
+use Rattle.mt_world.specs.declared.events.Answer.{Answer}
+use Rattle.mt_world.specs.declared.events.Answer.TheVariants.{Begun, Called as CalledAs, Stepped, Backed, Forced, Refused}
+use Rattle.mt_world.specs.declared.events.Event.{Event}
+use Rattle.mt_world.specs.declared.events.Event.TheVariants.{Begin, Call, Step, AbortStep, Force}
+
+-- ---- causes
+
+pub caused : (c : Option Refusal) (why : Refusal) → (why ≢ refusal.NoMemory → c ≡ Some why) → IsCaused c why
+caused c refusal.NoMemory cause = inl refl
+caused c why cause = inr (cause (λ e. cc))
+
+pub caused_or : {F : Type 0} → (c : Option Refusal) (why : Refusal) → (why ≢ refusal.NoMemory → (c ≡ Some why) ⊎ F) → IsCaused c why ⊎ F
+caused_or c refusal.NoMemory cause = inl (inl refl)
+caused_or c why cause = by (cause (λ e. cc))
+  where
+    by : {F : Type 0} → {w : Refusal} → (c ≡ Some w) ⊎ F → IsCaused c w ⊎ F
+    by (inl is) = inl (inr is)
+    by (inr fault) = inr fault
+
+pub wanting_or : {F : Type 0} → (why : Refusal) → (why ≢ refusal.NoMemory → F) → (why ≡ refusal.NoMemory) ⊎ F
+wanting_or refusal.NoMemory cause = inl refl
+wanting_or why cause = inr (cause (λ e. cc))
+
+-- a step is not refused only of an open transaction that runs an operation
+both_hold : (failed opened busy : Bool) → first_of (if failed then Some refusal.DeviceFailed else unless opened refusal.Stranger) (unless busy refusal.Stranger) ≡ None → (opened ≡ true) × (busy ≡ true)
+both_hold true opened busy none = absurd cc
+both_hold false false busy none = absurd cc
+both_hold false true false none = absurd cc
+both_hold false true true none = (refl, refl)
+
+open_state : (o : Option TxnState) → is_open o ≡ true → o ≡ Some Open
+open_state None is = absurd cc
+open_state (Some Open) is = refl
+open_state (Some IsCommitting) is = absurd cc
+open_state (Some IsAborting) is = absurd cc
+
+-- ---- events
+
+-- a step of an abort leads where its answer says
+back_moves : (t : ℕ) (s z : State) → IsBack s t z → (acts : List Act) × Moves s (AbortStep t) (Backed abort.More) acts z
+back_moves t s _ stands = ([], stays _ _ (abort_went t))
+back_moves t s _ (drops_back op ps runs given) = ([], drops t op ps runs given)
+back_moves t s _ (undoes_back last inverse ps idle effect inverts given) = (_, undoes t last inverse ps idle effect inverts given)
+
+module _ {D : Type 0} {g : Ghosts D} (seen : D → List ℕ) (may_leave : D → List ℕ → Type 0) (faults : D → ℕ) (k n : Kernel D g) where
+  abbrev Leads : Base → State → Event → Answer → Type 0
+  Leads first s event answer = ∥ ((acts : List Act) × (z : State) × Moves s event answer acts z × Shows seen may_leave first z n) ∥₁
+
+  still : (event : Event) (answer : Answer) (first : Base) (s : State) → IsStill event answer → Shows seen may_leave first s n → Leads first s event answer
+  still event answer first s is shows = ∣ ([], s, stays event answer is, shows) ∣₁
+
+  -- nothing comes of it
+  pub still_made : (event : Event) (answer : Answer) → IsStill event answer → Stays seen may_leave k n → IsDue seen may_leave faults k event answer n → SetsPhases k event answer n → SameSchema k n
+      → HasMade seen may_leave faults k event answer n
+  still_made event answer is same due phases schema = record { leads = λ first s shows. still event answer first s is (same first s shows); due = due; phases = phases; schema = schema }
+
+  pub parts_stay : n.parts ≡ k.parts → SameSchema k n → Stays seen may_leave k n
+  parts_stay same schema first s shows = subst (λ (X : Type 0). X) (λ i. At (sym schema.0 i) (sym schema.1 i) (sym same i)) shows
+    where
+      At : ℕ → ℕ → Parts D → Type 0
+      At relations counters parts = ShowsIn seen may_leave relations counters first s parts
+
+  -- ---- a begin
+
+  pub begin_made : (session txn : ℕ) → txn ≡ k.parts.live.begun + 1 → begin_cause k.parts ≡ None → ((first : Base) (s : State) → Shows seen may_leave first s k → Shows seen may_leave first (begun s session) n)
+      → SetsPhases k (Begin session) (Begun txn) n → SameSchema k n
+      → HasMade seen may_leave faults k (Begin session) (Begun txn) n
+  begin_made session txn number may did phases schema = record {
+    leads = λ first s shows. ∣ ([], begun s session, subst (λ (t : ℕ). Moves s (Begin session) (Begun t) [] (begun s session)) (next_is first s shows) (begins session), did first s shows) ∣₁;
+    due = may;
+    phases = phases;
+    schema = schema;
+  }
+    where
+      next_is : (first : Base) (s : State) → Shows seen may_leave first s k → s.next ≡ txn
+      next_is first s shows = ∥∥₁_elim shows (hlevel props) (λ (origin, base, is, x). ap (λ (z : State). z.next) x.state ∙ sym number)
+
+  -- ---- a call
+
+  abbrev Cause : ℕ → Op → Option Refusal
+  Cause t op = call_cause k.relations k.counters k.parts t op
+
+  uncaused : (t : ℕ) (op : Op) (told : Called) → ((why : Refusal) → Cause t op ≡ Some why → ◌≡◌ {A = Result Called Refusal} (Ok told) (Err why)) → Cause t op ≡ None
+  uncaused t op told early = go (Cause t op) refl
+    where
+      go : (c : Option Refusal) → Cause t op ≡ c → c ≡ None
+      go None e = refl
+      go (Some why) e = absurd (let wrong : ◌≡◌ {A = Result Called Refusal} (Ok told) (Err why) = early why e in cc)
+
+  pub call_made : (t : ℕ) (op : Op) (told : Called) → ((why : Refusal) → Cause t op ≡ Some why → ◌≡◌ {A = Result Called Refusal} (Ok told) (Err why)) → (Cause t op ≡ None → IsAnsweredBy seen may_leave k t op (Ok told))
+      → ((first : Base) (s : State) → Shows seen may_leave first s k → HasCalled seen may_leave first s t op (Ok told) n) → SamePhases k n → SameSchema k n → HasMade seen may_leave faults k (Call t op) (CalledAs told) n
+  call_made t op told early answer did phases schema =
+      let none = uncaused t op told early in
+      record { leads = λ first s shows. leads told first s (did first s shows); due = (none, answer none); phases = phases; schema = schema }
+    where
+      leads : (told : Called) (first : Base) (s : State) → HasCalled seen may_leave first s t op (Ok told) n → Leads first s (Call t op) (CalledAs told)
+      leads call.Started first s shows = ∣ ([], called s t op, calls t op, shows) ∣₁
+      leads (call.Wait holder) first s shows = still (Call t op) (CalledAs (call.Wait holder)) first s (call_waits t op holder) shows
+
+  pub call_refused : (t : ℕ) (op : Op) (why : Refusal) → ((y : Refusal) → Cause t op ≡ Some y → ◌≡◌ {A = Result Called Refusal} (Err why) (Err y)) → (Cause t op ≡ None → IsAnsweredBy seen may_leave k t op (Err why))
+      → ((first : Base) (s : State) → Shows seen may_leave first s k → HasCalled seen may_leave first s t op (Err why) n) → SamePhases k n → SameSchema k n → HasMade seen may_leave faults k (Call t op) (Refused why) n
+  call_refused t op why early answer did phases schema = still_made (Call t op) (Refused why) (is_refused (Call t op) why) did (go (Cause t op) refl) phases schema
+    where
+      go : (c : Option Refusal) → Cause t op ≡ c → IsDue seen may_leave faults k (Call t op) (Refused why) n
+      go None e = inr (e, answer e)
+      go (Some y) e = inl (inr (e ∙ (let both : ◌≡◌ {A = Result Called Refusal} (Err why) (Err y) = early y e in let same : y ≡ why = cc in ap (λ (x : Refusal). Some x) same)))
+
+  -- ---- a step
+
+  pub step_made : (t : ℕ) (told : StepTold) → IsStepped k t told n → ((first : Base) (s : State) → Shows seen may_leave first s k → HasStepped seen may_leave first s t (Ok told) n) → SamePhases k n → SameSchema k n
+      → HasMade seen may_leave faults k (Step t) (Stepped told) n
+  step_made t told due did phases schema = record { leads = λ first s shows. leads told first s shows (did first s shows); due = due; phases = phases; schema = schema }
+    where
+      ends_with : (reply : Reply) (first : Base) (s : State) → Shows seen may_leave first s k → (o : Option Op) → s.running t ≡ o → HasStepped seen may_leave first s t (Ok (step.Replied reply)) n → Leads first s (Step t) (Stepped (step.Replied reply))
+      ends_with reply first s shows None none did =
+          let holds = both_hold (has_failed k.parts.operations.store.log) (is_open (state_in k.parts.live.members t)) (is_busy k.parts t) due.may in
+          let idle = idle_of seen may_leave k.relations k.counters k.parts first s shows t (open_state (state_in k.parts.live.members t) holds.0) none in
+          absurd (let wrong : true ≡ false = sym holds.1 ∙ idle in cc)
+      ends_with reply first s shows (Some op) runs did =
+          let ended_so = did op runs in
+          ∥∥₁_map ended_so.1 (λ is.
+          subst (λ (r : Reply). (acts : List Act) × (z : State) × Moves s (Step t) (Stepped (step.Replied r)) acts z × Shows seen may_leave first z n) is (_, ended s t op, ends t op runs, ended_so.0))
+
+      leads : (told : StepTold) (first : Base) (s : State) → Shows seen may_leave first s k → HasStepped seen may_leave first s t (Ok told) n → Leads first s (Step t) (Stepped told)
+      leads (step.Replied reply) first s shows did = ends_with reply first s shows (s.running t) refl did
+      leads step.Went first s shows did = still (Step t) (Stepped step.Went) first s (step_went t) did
+      leads (step.Wait other) first s shows did = still (Step t) (Stepped (step.Wait other)) first s (step_waits t other) did
+      leads step.Again first s shows did = still (Step t) (Stepped step.Again) first s (step_again t) did
+      leads step.Flush first s shows did = still (Step t) (Stepped step.Flush) first s (step_full t) did
+
+  -- ---- a step of an abort
+
+  pub back_made : (t : ℕ) (told : AbortStepped) → IsBacked k t told n → ((first : Base) (s : State) → Shows seen may_leave first s k → HasAborted seen may_leave first s t (Ok told) n) → SetsPhases k (AbortStep t) (Backed told) n → SameSchema k n
+      → HasMade seen may_leave faults k (AbortStep t) (Backed told) n
+  back_made t told due did phases schema = record { leads = λ first s shows. leads told first s (did first s shows); due = due; phases = phases; schema = schema }
+    where
+      leads : (told : AbortStepped) (first : Base) (s : State) → HasAborted seen may_leave first s t (Ok told) n → Leads first s (AbortStep t) (Backed told)
+      leads abort.More first s did = ∥∥₁_map did (λ (z, back, shows). let moves = back_moves t s z back in (moves.0, z, moves.1, shows))
+      leads (abort.Wait other) first s did = still (AbortStep t) (Backed (abort.Wait other)) first s (abort_waits t other) did
+      leads abort.Again first s did = still (AbortStep t) (Backed abort.Again) first s (abort_again t) did
+      leads abort.Flush first s did = still (AbortStep t) (Backed abort.Flush) first s (abort_full t) did
+      leads abort.Ended first s did = ∥∥₁_map did.1 (λ nothing. ([], gone s t, aborts t nothing, did.0))
+
+  pub back_phases : (t : ℕ) (told : AbortStepped) → (told ≢ abort.Ended → SameStates k.parts n.parts) → SameCommits k.parts n.parts
+      → (told ≡ abort.Ended → (state_in n.parts.live.members t ≡ None) × SameStatesBut k.parts n.parts t) → SetsPhases k (AbortStep t) (Backed told) n
+  back_phases t abort.More same commits out = (same (λ e. cc), commits)
+  back_phases t (abort.Wait other) same commits out = (same (λ e. cc), commits)
+  back_phases t abort.Again same commits out = (same (λ e. cc), commits)
+  back_phases t abort.Flush same commits out = (same (λ e. cc), commits)
+  back_phases t abort.Ended same commits out = let gone = out refl in (gone.0, gone.1, commits)
+
+  -- ---- a step of a force, and a flush
+
+  pub rest_phases : OnlyOperations k.parts n.parts → SamePhases k n
+  rest_phases same = (λ u. ap (λ (x : Parts D). state_in x.live.members u) same, ap (λ (x : Parts D). x.commits.items) same)
+
+  pub parts_phases : n.parts ≡ k.parts → SamePhases k n
+  parts_phases same = (λ u. ap (λ (x : Parts D). state_in x.live.members u) same, ap (λ (x : Parts D). x.commits.items) same)
+
+  pub kernel_phases : n ≡ k → SamePhases k n
+  kernel_phases same = parts_phases (ap (λ (x : Kernel D g). x.parts) same)
+
+  pub flush_told : (told : FlushTold) → ((p : ℕ) → told ≡ flush.Page p → IsFlushed k (flush.Page p) n) → (told ≡ flush.Force → IsFlushed k flush.Force n) → (told ≡ flush.Clean → IsFlushed k flush.Clean n) → IsFlushed k told n
+  flush_told (flush.Page p) written barred nothing = written p refl
+  flush_told flush.Force written barred nothing = barred refl
+  flush_told flush.Clean written barred nothing = nothing refl
+
+  pub force_made : (told : KernelForced) → ((first : Base) (s : State) → Shows seen may_leave first s k → HasForced seen may_leave first s (Ok told) n) → IsDue seen may_leave faults k Force (Forced told) n → SetsPhases k Force (Forced told) n → SameSchema k n
+      → HasMade seen may_leave faults k Force (Forced told) n
+  force_made told did due phases schema = record { leads = λ first s shows. leads told first s (did first s shows); due = due; phases = phases; schema = schema }
+    where
+      leads : (told : KernelForced) (first : Base) (s : State) → HasForced seen may_leave first s (Ok told) n → Leads first s Force (Forced told)
+      leads forced.More first s did = still Force (Forced forced.More) first s force_went did
+      leads forced.Idle first s did = still Force (Forced forced.Idle) first s force_idle did
+      leads (forced.Durable names) first s did = ∣ ([], _, books names, did) ∣₁

@@ -1,0 +1,4 @@
+pub mod Acts
+pub mod Moves
+pub mod Due
+pub mod Schedules

@@ -1,0 +1,57 @@
+-- What an event does to the state that a kernel shows, by what it is answered.
+use Rattle.std.specs.Prelude.{ℕ, ◌≡◌, true, false, List, [], ◌∷◌, Some, None, Vec}
+use Rattle.std.specs.Global.{Global}
+use Rattle.mt_base.specs.declared.refusal.Refusal.{Refusal}
+use Rattle.mt_kernel.specs.Booked.{booked_each}
+use Rattle.mt_kernel.specs.declared.calls.Called.TheVariants as call
+use Rattle.mt_live.specs.Adds.{GivesBack}
+use Rattle.mt_live.specs.Entries.{Entry}
+use Rattle.mt_live.specs.Machine.{State, begun, called, ended, dropped, undone, gone}
+use Rattle.mt_live.specs.Undoing.{last_effect}
+use Rattle.mt_model.specs.Model.{inverse_of, reply_of}
+use Rattle.mt_model.specs.declared.operations.Op.{Op}
+use Rattle.mt_model.specs.declared.pending.Pending.{Pending}
+use Rattle.mt_pool.specs.declared.flushing.Flushed.{Flushed as FlushTold}
+use Rattle.mt_txn.specs.declared.answers.AbortStepped.TheVariants as abort
+use Rattle.mt_txn.specs.declared.answers.KernelForced.TheVariants as forced
+use Rattle.mt_txn.specs.declared.answers.Stepped.TheVariants as step
+use Rattle.mt_world.specs.Acts.{Act}
+use Rattle.mt_world.specs.declared.events.Answer.{Answer}
+use Rattle.mt_world.specs.declared.events.Answer.TheVariants.{Begun, Called, Stepped, Committing, Aborting, Backed, Forced, Flushed, Refused}
+use Rattle.mt_world.specs.declared.events.Event.{Event}
+use Rattle.mt_world.specs.declared.events.Event.TheVariants.{Begin, Call, Step, Commit, AbortBegin, AbortStep, Force, Flush}
+
+-- An answer at which the state stays: a refusal, something in the way, or a part of a step's work.
+pub data IsStill : Event → Answer → Type 0 where
+  is_refused : (event : Event) (why : Refusal) → IsStill event (Refused why)
+  call_waits : (t : ℕ) (op : Op) (holder : ℕ) → IsStill (Call t op) (Called (call.Wait holder))
+  step_went : (t : ℕ) → IsStill (Step t) (Stepped step.Went)
+  step_waits : (t other : ℕ) → IsStill (Step t) (Stepped (step.Wait other))
+  step_again : (t : ℕ) → IsStill (Step t) (Stepped step.Again)
+  step_full : (t : ℕ) → IsStill (Step t) (Stepped step.Flush)
+  commit_begun : (t place : ℕ) → IsStill (Commit t) (Committing place)
+  abort_begun : (t : ℕ) → IsStill (AbortBegin t) Aborting
+  abort_went : (t : ℕ) → IsStill (AbortStep t) (Backed abort.More)
+  abort_waits : (t other : ℕ) → IsStill (AbortStep t) (Backed (abort.Wait other))
+  abort_again : (t : ℕ) → IsStill (AbortStep t) (Backed abort.Again)
+  abort_full : (t : ℕ) → IsStill (AbortStep t) (Backed abort.Flush)
+  force_went : IsStill Force (Forced forced.More)
+  force_idle : IsStill Force (Forced forced.Idle)
+  flushed : (told : FlushTold) → IsStill Flush (Flushed told)
+
+-- An event with its answer leads from a state to another, with what ended in it: one operation at most.
+pub data Moves (s : State) : Event → Answer → List Act → State → Type 0 where
+  stays : (event : Event) (answer : Answer) → IsStill event answer → Moves s event answer [] s
+  begins : (session : ℕ) → Moves s (Begin session) (Begun s.next) [] (begun s session)
+  calls : (t : ℕ) (op : Op) → Moves s (Call t op) (Called call.Started) [] (called s t op)
+  ends : (t : ℕ) (op : Op) → s.running t ≡ Some op
+      → Moves s (Step t) (Stepped (step.Replied (reply_of s.base op)))
+      (record { txn = t; op = op; reply = reply_of s.base op; undoes = false } ∷ []) (ended s t op)
+  drops : (t : ℕ) (op : Op) (ps : List Pending) → s.running t ≡ Some op → GivesBack t op s.pending ps
+      → Moves s (AbortStep t) (Backed abort.More) [] (dropped s t ps)
+  undoes : (t : ℕ) (last : Entry) (inverse : Op) (ps : List Pending) → s.running t ≡ None
+      → last_effect t s.standing ≡ Some last → inverse_of last.op last.reply ≡ Some inverse → GivesBack t last.op s.pending ps
+      → Moves s (AbortStep t) (Backed abort.More)
+      (record { txn = t; op = inverse; reply = reply_of s.base inverse; undoes = true } ∷ []) (undone s t inverse ps)
+  aborts : (t : ℕ) → last_effect t s.standing ≡ None → Moves s (AbortStep t) (Backed abort.Ended) [] (gone s t)
+  books : (names : Vec ℕ Global) → Moves s Force (Forced (forced.Durable names)) [] (booked_each s names.items)

@@ -1,0 +1,50 @@
+-- Any list of events, made on a kernel one after the other.
+use Rattle.std.specs.Prelude.{ℕ, ◌≡◌, List, [], ◌∷◌, ◌++◌}
+use Rattle.mt_disk.specs.declared.device.Device.{Ghosts}
+use Rattle.mt_live.specs.Entries.{IsExplained}
+use Rattle.mt_live.specs.Machine.{State, committed_base, start}
+use Rattle.mt_model.specs.History.{IsActed, IsLegal, run}
+use Rattle.mt_model.specs.Model.{Base}
+use Rattle.mt_txn.specs.Shown.{SameSchema, Shows}
+use Rattle.mt_txn.specs.declared.kernel.Kernel.{Kernel}
+use Rattle.mt_world.specs.Acts.{Act, calls_in}
+use Rattle.mt_world.specs.Due.{IsDue, SetsPhases}
+use Rattle.mt_world.specs.Moves.{Moves}
+use Rattle.mt_world.specs.declared.events.Answer.{Answer}
+use Rattle.mt_world.specs.declared.events.Event.{Event}
+
+module _ {D : Type 0} {g : Ghosts D} (seen : D → List ℕ) (may_leave : D → List ℕ → Type 0) (faults : D → ℕ) where
+  -- An event led a kernel to another, whatever state it showed.
+  pub record HasMade (k : Kernel D g) (event : Event) (answer : Answer) (n : Kernel D g) : Type 0 where
+    pub leads : (first : Base) (s : State) → Shows seen may_leave first s k
+        → ∥ ((acts : List Act) × (z : State) × Moves s event answer acts z × Shows seen may_leave first z n) ∥₁
+    pub due : IsDue seen may_leave faults k event answer n
+    pub phases : SetsPhases k event answer n
+    pub schema : SameSchema k n
+
+  -- An event led a kernel in this state to another in that, with what ended in it.
+  pub record IsMade (first : Base) (s : State) (k : Kernel D g) (event : Event) (answer : Answer) (acts : List Act) (z : State) (n : Kernel D g) : Type 0 where
+    pub moves : Moves s event answer acts z
+    pub due : IsDue seen may_leave faults k event answer n
+    pub phases : SetsPhases k event answer n
+    pub schema : SameSchema k n
+    pub shows : Shows seen may_leave first z n
+
+  -- One after the other, from a kernel on this base without transactions on: what ended, the state that is shown then, and the kernel.
+  pub data Makes (first : Base) : List Event → List Answer → List Act → State → Kernel D g → Type 0 where
+    starts : (k : Kernel D g) → Shows seen may_leave first (start first) k → Makes first [] [] [] (start first) k
+    goes_on : (events : List Event) (answers : List Answer) (acts more : List Act) (s z : State) (k n : Kernel D g) (event : Event) (answer : Answer)
+        → Makes first events answers acts s k → IsMade first s k event answer more z n
+        → Makes first (events ++ event ∷ []) (answers ++ answer ∷ []) (acts ++ more) z n
+
+  -- What ended replied as the model does, one operation after the other, and leads to the base that the pages hold. The book is what its
+  -- transactions do alone, one after the other. What stands of the others is explained, whoever of them is struck out.
+  pub record HasRun (first : Base) (events : List Event) (answers : List Answer) (n : Kernel D g) : Type 0 where
+    pub acts : List Act
+    pub state : State
+    pub made : Makes first events answers acts state n
+    pub shows : Shows seen may_leave first state n
+    pub acted : IsActed first (calls_in acts)
+    pub held : run first (calls_in acts) ≡ state.base
+    pub legal : IsLegal first state.book
+    pub explained : IsExplained (committed_base first state) state.standing state.base

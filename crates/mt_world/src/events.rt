@@ -1,0 +1,49 @@
+// What is asked of a kernel, and what it answers.
+use mt_base::{Refusal, TxnNo};
+use mt_model::Op;
+use mt_pool::Flushed;
+use mt_txn::{AbortStepped, Called, KernelForced, Stepped};
+
+/// What is asked of a kernel: each event is one of its calls.
+#[derive(Debug, Drop)]
+pub enum Event {
+    /// A transaction of this session begins.
+    Begin(u32),
+    /// An open transaction calls an operation.
+    Call(TxnNo, Op),
+    /// The operation of a transaction makes a step.
+    Step(TxnNo),
+    /// The commit of an open transaction begins.
+    Commit(TxnNo),
+    /// The abort of an open transaction begins.
+    AbortBegin(TxnNo),
+    /// An abort makes a step.
+    AbortStep(TxnNo),
+    /// The log is forced a step further.
+    Force,
+    /// A frame is flushed.
+    Flush,
+}
+
+/// What the kernel's call answers to an event.
+#[derive(Debug, Drop)]
+pub enum Answer {
+    /// The transaction with this number has begun.
+    Begun(TxnNo),
+    /// The operation is started, or waits for a lock.
+    Called(Called),
+    /// What the operation's step came to.
+    Stepped(Stepped),
+    /// The commit has this place in the opening's order, once its record is durable.
+    Committing(u64),
+    /// The transaction is to be undone.
+    Aborting,
+    /// What the abort's step came to.
+    Backed(AbortStepped),
+    /// What the force's step came to.
+    Forced(KernelForced),
+    /// What was flushed.
+    Flushed(Flushed),
+    /// The call was refused, and the state is as before.
+    Refused(Refusal),
+}

@@ -1,0 +1,13 @@
+//! Whatever the schedule: events are made in any order, each by the kernel's call of its name, and each is answered.
+//!
+//! [`run_schedule`] is what the other crates come to. Its clause `ran` says of every list of events: each operation that
+//! ended acted once on the model, in the order of the ends; the book is what its transactions do alone, one after the
+//! other; and what stands of the others is explained, whoever of them is struck out.
+#![tactic(auto)]
+
+mod events;
+mod making;
+mod schedules;
+
+pub use events::{Answer, Event};
+pub use schedules::run_schedule;

@@ -20,7 +20,8 @@ use mt_steps::pages_to_undo;
 // Where the operation is an add, the last such add of the transaction is pending no more.
 pub(crate) fn let_go(escrow: &mut Escrow, txn: TxnNo, op: &Op)
     ensures given { GivesBack txn op.now escrow.old.pending escrow.new.pending }
-    ensures last { (ps : List Pending) → escrow.old.pending ≡ ps ++ add_before txn op.now [] → escrow.new.pending ≡ ps }
+    ensures last { (ps : List Pending) → escrow.old.pending ≡ ps ++ add_before txn op.now []
+        → escrow.new.pending ≡ ps }
     ensures committed { escrow.new.committed ≡ escrow.old.committed }
 {
     if let Op::Add(counter, step) = op {

@@ -50,7 +50,8 @@ impl<D: Device> Kernel<D> {
     // Takes the operation at a place back a step, which is no inverse.
     fn go_back(&mut self, txn: TxnNo, place: usize) -> Result<AbortStepped, Refusal>
         requires within { place < length self.old.parts.running.items }
-        requires own { AtPlace self.old.parts.running.items place (λ r. (r.scope.txn ≡ txn) × (r.scope.undoes ≡ 0)) }
+        requires own { AtPlace self.old.parts.running.items place
+            (λ r. (r.scope.txn ≡ txn) × (r.scope.undoes ≡ 0)) }
         requires aborting { state_in self.old.parts.live.members txn ≡ Some Aborting }
         ensures why { IfErr result (λ why. why ≢ Refusal.NoMemory
             → IsFault D.faults self.old.parts self.new.parts why) }
@@ -78,7 +79,8 @@ impl<D: Device> Kernel<D> {
     // Makes a step of the inverse at a place.
     fn undo_step(&mut self, txn: TxnNo, place: usize) -> Result<AbortStepped, Refusal>
         requires within { place < length self.old.parts.running.items }
-        requires own { AtPlace self.old.parts.running.items place (λ r. (r.scope.txn ≡ txn) × (r.scope.undoes ≢ 0)) }
+        requires own { AtPlace self.old.parts.running.items place
+            (λ r. (r.scope.txn ≡ txn) × (r.scope.undoes ≢ 0)) }
         ensures why { IfErr result (λ why. why ≢ Refusal.NoMemory
             → IsFault D.faults self.old.parts self.new.parts why) }
         ensures states { IfOk result (λ stepped. stepped ≢ AbortStepped.Ended

@@ -31,7 +31,8 @@ impl<D: Device> Kernel<D> {
     /// operation of it is unfinished, 1 for want of memory. The state is as before.
     pub fn commit_begin(&mut self, txn: TxnNo) -> Result<u64, Refusal>
         ensures may { OnOk result (commit_cause self.old.parts txn ≡ None) }
-        ensures cause { IfErr result (λ why. why ≢ Refusal.NoMemory → commit_cause self.old.parts txn ≡ Some why) }
+        ensures cause { IfErr result (λ why. why ≢ Refusal.NoMemory
+            → commit_cause self.old.parts txn ≡ Some why) }
         ensures place { IfOk result (λ place.
             place ≡ length self.old.parts.book.items + length self.old.parts.commits.items + 1) }
         ensures state { Stays D.seen D.may_leave self.old self.new }

@@ -45,7 +45,8 @@ impl<D: Device> Kernel<D> {
         counters: u16,
     ) -> Kernel<D>
         requires fresh { IsFresh operations escrow }
-        requires opens { ∥ ((first : Base) × Opens D.seen D.may_leave operations escrow relations counters first) ∥₁ }
+        requires opens { ∥ ((first : Base)
+            × Opens D.seen D.may_leave operations escrow relations counters first) ∥₁ }
         ensures shows { (first : Base) → Opens D.seen D.may_leave operations escrow relations counters first
             → Shows D.seen D.may_leave first (start first) result }
         ensures schema { (result.relations ≡ relations) × (result.counters ≡ counters) }
@@ -72,7 +73,8 @@ impl<D: Device> Kernel<D> {
     /// transactions is explained on what the book leaves, whoever is struck out, and leads to the base that the pages
     /// hold.
     pub fn shows_what_is_kept(&self)
-        ensures { (first : Base) (s : State) → Shows D.seen D.may_leave first s self.now → ∥ IsKept first s ∥₁ }
+        ensures { (first : Base) (s : State) → Shows D.seen D.may_leave first s self.now
+            → ∥ IsKept first s ∥₁ }
     {}
 
     /// Whatever state a kernel shows tells who lives, and who runs an operation; and where nobody commits, no commit is

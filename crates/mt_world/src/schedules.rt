@@ -3,8 +3,8 @@ ghost use Rattle.std.specs.Prelude.{◌≡◌, ◌⊎◌, ◌<◌, ◌≤◌, �
 ghost use Rattle.std.specs.Vec.{vec_capacity};
 ghost use Rattle.mt_base.specs.declared.refusal.Refusal.{Refusal};
 ghost use Rattle.mt_live.specs.Machine.{start};
-ghost use Rattle.mt_restart.specs.Schemas.{device_bytes, schema_base};
-ghost use Rattle.mt_txn.specs.Shown.{Shows};
+ghost use Rattle.mt_restart.specs.Schemas.{counters_in, device_bytes, relations_in, schema_base};
+ghost use Rattle.mt_txn.specs.Shown.{SameSchema, Shows};
 ghost use Rattle.mt_model.specs.Model.{Base};
 ghost use Rattle.mt_world.specs.Schedules.{HasRun};
 
@@ -23,8 +23,9 @@ const FRAMES: usize = 64;
 fn make_all<D: Device>(kernel: &mut Kernel<D>, events: &[Event], answers: &mut Vec<Answer>)
     requires none { answers.old.items ≡ [] }
     requires room { vec_len answers.old + length events.now ≤ vec_capacity answers.old }
-    ensures { (first : Base) → Shows D.seen D.may_leave first (start first) kernel.old
+    ensures ran { (first : Base) → Shows D.seen D.may_leave first (start first) kernel.old
         → ∥ HasRun D.seen D.may_leave D.faults first events.now answers.new.items kernel.new ∥₁ }
+    ensures schema { SameSchema kernel.old kernel.new }
 {
     for event in events {
         answers.push_reserved(make(kernel, event));
@@ -49,6 +50,8 @@ pub fn run_schedule<D: Device + Drop>(
 ) -> Result<(Kernel<D>, Vec<Answer>), (Refusal, D)>
     ensures ran { IfOk result (λ made. ∥ HasRun D.seen D.may_leave D.faults (schema_base schema.now) events.now
         made.1.items made.0 ∥₁) }
+    ensures schema { IfOk result (λ made. (made.0.relations ≡ relations_in schema.now)
+        × (made.0.counters ≡ length (counters_in schema.now))) }
     ensures cause { IfErr result (λ gone. (gone.0 ≡ Refusal.NoMemory)
         ⊎ ((gone.0 ≡ Refusal.BadLength) × (length (D.seen device) < device_bytes schema.now)
         ⊎ (gone.0 ≡ Refusal.DeviceFailed) × (D.faults device < D.faults gone.1))) }

@@ -442,3 +442,82 @@ fn the_examples_have_their_transcripts(rt: HostRuntime) -> Result<(), Fail> {
     }
     Ok(())
 }
+
+/// That a schedule of these events has these answers.
+fn expect_answers(
+    rt: &(impl Abort + AllocGlobal),
+    events: &[u8],
+    answers: &[u8],
+) -> Result<(), Fail> {
+    let ran = run(rt, &["schedule", "s"], events)?;
+    expect_ran(rt, &ran, 0, answers, b"");
+    Ok(())
+}
+
+#[test]
+fn the_example_schedules_have_their_transcripts(rt: HostRuntime) -> Result<(), Fail> {
+    // the files of `examples/`, in the order counter, locks
+    let cases: [(&[u8], &[u8]); 2] = [
+        (
+            b"begin 1\nbegin 2\ncall 2 add 0 1\ncall 1 add 0 1\nstep 1\nstep 2\nstep 1\nstep 1\nstep 2\nstep 2\nstep 2\ncall 1 add 0 1\ncall 2 add 0 1\nstep 1\nstep 2\nstep 1\nstep 1\nstep 2\nstep 2\nstep 2\ncommit 2\ncommit 1\nforce\nforce\nforce\nforce\n",
+            b"begun 1\nbegun 2\nstarted\nstarted\nwent\nwait 1\nwent\ndone\nwent\nwent\ndone\nstarted\nstarted\nwent\nagain\nwent\ndone\nwent\nwent\ndone\ncommitting 1\ncommitting 2\nmore\nmore\nmore\ndurable 2 1\n",
+        ),
+        (
+            b"begin 1\nbegin 2\ncall 1 insert 0 a x\nstep 1\nstep 1\nstep 1\nstep 1\nstep 1\nstep 1\nstep 1\nstep 1\ncall 2 get 0 a\ncall 2 insert 0 b y\nstep 2\nstep 2\nstep 2\nstep 2\nstep 2\nstep 2\ncall 1 get 0 b\ncommit 2\nforce\nforce\nforce\nforce\ncall 1 get 0 b\nstep 1\nstep 1\nstep 1\nstep 1\n",
+            b"begun 1\nbegun 2\nstarted\nwent\nwent\nwent\nwent\nwent\nwent\nwent\ndone\nrefused 14 Die\nstarted\nwent\nwent\nwent\nwent\nwent\ndone\nwait 2\ncommitting 1\nmore\nmore\nmore\ndurable 2\nstarted\nwent\nwent\nwent\nfound y\n",
+        ),
+    ];
+    for (events, answers) in cases {
+        expect_answers(&rt, events, answers)?;
+    }
+    Ok(())
+}
+
+#[test]
+fn a_bad_event_is_named(rt: HostRuntime) -> Result<(), Fail> {
+    let cases: [(&[u8], &[u8]); 5] = [
+        (b"begin 1\nbegin\nstep 1\n", b"refused 18 BadLine 2\n"),
+        (b"begin 4294967296\n", b"refused 18 BadLine 1\n"),
+        (
+            b"begin 1\nforce\ncall 1 fetch 0 a\n",
+            b"refused 18 BadLine 3\n",
+        ),
+        (b"begin 1\nstep 01\n", b"refused 18 BadLine 2\n"),
+        (b"flush 1\n", b"refused 18 BadLine 1\n"),
+    ];
+    for (events, told) in cases {
+        let ran = run(&rt, &["schedule", "s"], events)?;
+        expect_ran(&rt, &ran, 1, b"", told);
+    }
+    Ok(())
+}
+
+#[test]
+fn worked_schedules_have_their_answers(rt: HostRuntime) -> Result<(), Fail> {
+    let cases: [(&[u8], &[u8]); 4] = [
+        // an add that another's abort could put out of bounds is refused until that abort has ended
+        (
+            b"begin 1\nbegin 2\ncall 1 add 0 -5\nstep 1\nstep 1\nstep 1\ncall 2 add 0 -1\ncall 2 add 0 6\nabort 1\nundo 1\nundo 1\nundo 1\nundo 1\nundo 1\ncall 2 add 0 -1\nstep 2\nstep 2\nstep 2\ncommit 2\nforce\nforce\nforce\nforce\nbegin 1\ncall 3 read 0\nstep 3\nstep 3\n",
+            b"begun 1\nbegun 2\nstarted\nwent\nwent\ndone\nrefused 9 Escrow\nrefused 9 Escrow\naborting\nmore\nmore\nmore\nmore\nended\nstarted\nwent\nwent\ndone\ncommitting 1\nmore\nmore\nmore\ndurable 2\nbegun 3\nstarted\nwent\nvalue 4\n",
+        ),
+        // a transaction's own adds are counted singly
+        (
+            b"begin 1\nbegin 2\ncall 1 add 0 5\nstep 1\nstep 1\nstep 1\ncall 1 add 0 -5\nstep 1\nstep 1\nstep 1\ncall 2 add 0 1\n",
+            b"begun 1\nbegun 2\nstarted\nwent\nwent\ndone\nstarted\nwent\nwent\ndone\nrefused 9 Escrow\n",
+        ),
+        // an abort leaves what another has committed
+        (
+            b"begin 1\nbegin 2\ncall 1 add 0 2\nstep 1\nstep 1\nstep 1\ncall 2 add 0 3\nstep 2\nstep 2\nstep 2\ncommit 2\nforce\nforce\nforce\nforce\nabort 1\nundo 1\nundo 1\nundo 1\nundo 1\nundo 1\nbegin 1\ncall 3 read 0\nstep 3\nstep 3\n",
+            b"begun 1\nbegun 2\nstarted\nwent\nwent\ndone\nstarted\nwent\nwent\ndone\ncommitting 1\nmore\nmore\nmore\ndurable 2\naborting\nmore\nmore\nmore\nmore\nended\nbegun 3\nstarted\nwent\nvalue 8\n",
+        ),
+        // an add makes three steps
+        (
+            b"begin 1\ncall 1 add 0 1\nstep 1\nstep 1\nstep 1\n",
+            b"begun 1\nstarted\nwent\nwent\ndone\n",
+        ),
+    ];
+    for (events, answers) in cases {
+        expect_answers(&rt, events, answers)?;
+    }
+    Ok(())
+}

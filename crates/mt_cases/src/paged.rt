@@ -259,6 +259,104 @@ fn the_smaller_operation_waits_and_the_larger_gives_way(rt: HostRuntime) -> Resu
     Ok(())
 }
 
+// ---- what a survey tells
+
+/// The depth, the free pages, the numbers of rows and counters, and the number of the first counter.
+type Surveyed = (u8, u16, usize, usize, i64);
+
+fn surveyed(kernel: &mut Kernel<MemDevice>) -> Result<Surveyed, Refusal> {
+    let survey = kernel.survey()?;
+    let counters = survey.base.counters();
+    let number = match counters.first() {
+        Some(count) => count.number,
+        None => 0,
+    };
+    Ok((
+        survey.depth,
+        survey.free,
+        survey.base.rows().len(),
+        counters.len(),
+        number,
+    ))
+}
+
+/// Whether the row of this place has this key and the value `x`.
+fn has_row(kernel: &mut Kernel<MemDevice>, place: usize, key: &[u8]) -> Result<bool, Refusal> {
+    let survey = kernel.survey()?;
+    match survey.base.rows().get(place) {
+        Some(row) => Ok(
+            row.relation.get() == 0
+                && row.key.as_slice() == key
+                && row.value.as_slice() == b"x".as_slice(),
+        ),
+        None => Ok(false),
+    }
+}
+
+// Surveys before a transaction, while it lives, and behind its commit.
+fn survey_in_turn(
+    alloc: Global,
+    kernel: &mut Kernel<MemDevice>,
+) -> Result<[Result<Surveyed, Refusal>; 3], Refusal> {
+    let before = surveyed(kernel);
+    let txn = kernel.begin(1)?;
+    let _second = run(kernel, txn, insert(alloc, b"b")?);
+    let _first = run(kernel, txn, insert(alloc, b"a")?);
+    let _add = run(kernel, txn, add(2));
+    let busy = surveyed(kernel);
+    let _committed = committed(kernel, txn);
+    Ok([before, busy, surveyed(kernel)])
+}
+
+#[test]
+fn a_survey_tells_what_the_pages_hold(rt: HostRuntime) -> Result<(), Fail> {
+    let mut kernel = small_kernel(rt.alloc())?;
+    let told = survey_in_turn(rt.alloc(), &mut kernel);
+    let first = has_row(&mut kernel, 0, b"a");
+    let second = has_row(&mut kernel, 1, b"b");
+    put_away(kernel);
+    let busy = Err(Refusal::Busy);
+    assert!(rt; told? == [Ok((0, 60, 0, 1, 5)), busy, Ok((0, 59, 2, 1, 7))]);
+    assert!(rt; first? && second?);
+    Ok(())
+}
+
+// Commits so many inserts, each of another key in a transaction of its own, from this number on.
+fn insert_from(
+    alloc: Global,
+    kernel: &mut Kernel<MemDevice>,
+    from: u8,
+    up_to: u8,
+) -> Result<bool, Refusal>
+    requires { up_to ≤ 100 }
+{
+    let mut done = true;
+    for number in from..up_to {
+        let txn = kernel.begin(1)?;
+        let told = run(kernel, txn, insert(alloc, &key_of(number))?);
+        let _committed = committed(kernel, txn);
+        done = done && told == Told::Done;
+    }
+    Ok(done)
+}
+
+// The depths behind 58 inserts and behind 59.
+fn split_once(alloc: Global, kernel: &mut Kernel<MemDevice>) -> Result<(bool, u8, u8), Refusal> {
+    let most = insert_from(alloc, kernel, 0, 58)?;
+    let before = kernel.survey()?.depth;
+    let last = insert_from(alloc, kernel, 58, 59)?;
+    Ok((most && last, before, kernel.survey()?.depth))
+}
+
+#[test]
+fn the_directory_doubles_at_the_59th_key(rt: HostRuntime) -> Result<(), Fail> {
+    let mut kernel = small_kernel(rt.alloc())?;
+    let depths = split_once(rt.alloc(), &mut kernel);
+    put_away(kernel);
+    assert!(rt; depths? == (true, 0, 1));
+    Ok(())
+}
+
 // ---- what is kept of the log and of the pages
 
 // Adds 1 until that is refused, with no force between: how many were done, and what the next told.
@@ -284,7 +382,7 @@ fn the_log_takes_38_adds_of_a_transaction(rt: HostRuntime) -> Result<(), Fail> {
 
 /// The key of a number, of two digits.
 fn key_of(number: u8) -> [u8; 2]
-    requires { number ≤ 29 }
+    requires { number ≤ 99 }
 {
     [b'0' + number / 10, b'0' + number % 10]
 }

@@ -1,3 +1,6 @@
 pub mod CommandLines
+pub mod Events
 pub mod Folders
 pub mod Performs
+pub mod Tellings
+pub mod WholeEvents

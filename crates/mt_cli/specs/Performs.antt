@@ -6,13 +6,13 @@ use Rattle.mt_base.specs.declared.refusal.Refusal.TheVariants as refusal
 use Rattle.mt_disk.specs.declared.device.Device.{Ghosts}
 use Rattle.mt_model.specs.Views.{rows_of}
 use Rattle.mt_txn.specs.declared.kernel.Kernel.{Kernel}
-use Rattle.mt_restart.specs.Schemas.{counters_in, device_bytes, relations_in}
+use Rattle.mt_restart.specs.Schemas.{counters_in, device_bytes, relations_in, schema_base}
 use Rattle.mt_restart.specs.declared.schema.Schema.{Schema}
 use Rattle.mt_server.specs.declared.answers.Answer.{Answer}
 use Rattle.mt_server.specs.declared.lines.Line.{Line}
 use Rattle.mt_server.specs.declared.answers.Answer.TheVariants.{Refused as RefusedLine}
 use Rattle.mt_cli.specs.declared.command.Command.{Command}
-use Rattle.mt_cli.specs.declared.command.Command.TheVariants.{Try, Show}
+use Rattle.mt_cli.specs.declared.command.Command.TheVariants.{Try, Schedule, Show}
 use Rattle.mt_cli.specs.declared.performing.Fault.{Fault}
 use Rattle.mt_cli.specs.declared.performing.Fault.TheVariants.{Output, Refused}
 use Rattle.mt_server.specs.declared.running.RunFault.{RunFault}
@@ -21,8 +21,15 @@ use Rattle.mt_server.specs.Answers.{AppendsFront, answer_text, transcript_text}
 use Rattle.mt_server.specs.Driven.{IsBeside}
 use Rattle.mt_server.specs.Plays.{Play, HasPlayed}
 use Rattle.mt_cli.specs.CommandLines.{IsCommandOf}
-use Rattle.mt_server.specs.Scripts.{IsScript, IsRefusedFor}
+use Rattle.mt_cli.specs.Events.{IsEvent, IsSchedule, event_text}
+use Rattle.mt_cli.specs.Tellings.{told_lines}
+use Rattle.mt_server.specs.Grammars.{AreRefusedFor}
+use Rattle.mt_server.specs.Lines.{line_text, IsInGrammar}
+use Rattle.mt_server.specs.Scripts.{IsScript}
 use Rattle.mt_server.specs.Runs.{IsToldFor, last_line}
+use Rattle.mt_world.specs.Schedules.{HasRun}
+use Rattle.mt_world.specs.declared.events.Answer.{Answer as Told}
+use Rattle.mt_world.specs.declared.events.Event.{Event}
 
 -- two relations without rows, and one counter from 0 to 10 that starts at 5
 pub record IsFirstSchema (schema : Schema) : Type 0 where
@@ -60,27 +67,45 @@ pub record HasTried (lines : List Line) (was now : Option (List ℕ)) : Type 0 w
 pub record IsTried (bytes was now : Option (List ℕ)) : Type 0 where
   pub tried : (lines : List Line) × IfSome bytes (λ bs. IsScript bs lines) × HasTried lines was now
 
--- why the script is not read: the bytes are no script, or could not be had, or memory was wanting
-abbrev pub IsUnread : Option (List ℕ) → Refusal → Type 0
-IsUnread bytes why = IfSome bytes (λ bs. (why ≡ refusal.DeviceFailed) ⊎ IsRefusedFor bs why)
+-- a kernel over such a device, formatted for that schema, answered these events so, and did what the answers say
+pub record HaveRun {D : Type 0} (g : Ghosts D) (events : List Event) (answers : List Told) : Type 0 where
+  pub schema : Schema
+  pub first : IsFirstSchema schema
+  pub kernel : Kernel D g
+  pub ran : ∥ HasRun g.seen g.may_leave g.faults (schema_base schema) events answers kernel ∥₁
 
--- the bytes of a script, where they are known: of the file of its name, or else of the input
+-- those that the bytes spell, where they are known, and the texts of the answers were written
+pub record IsScheduled {D : Type 0} (g : Ghosts D) (bytes was now : Option (List ℕ)) : Type 0 where
+  pub events : List Event
+  pub spelled : IfSome bytes (λ bs. IsSchedule bs events)
+  pub answers : List Told
+  pub ran : HaveRun g events answers
+  pub told : Appends was now (told_lines answers)
+
+-- why lines are not read: the bytes are none of the grammar, or could not be had, or memory was wanting
+module _ {L : Type 0} (text : L → List ℕ) (IsIn : L → Type 0) where
+  abbrev pub IsUnread : Option (List ℕ) → Refusal → Type 0
+  IsUnread bytes why = IfSome bytes (λ bs. (why ≡ refusal.DeviceFailed) ⊎ AreRefusedFor text IsIn bs why)
+
+-- the bytes of a script or a schedule, where they are known: of the file of its name, or else of the input
 abbrev pub source_of : (List ℕ → Option (List ℕ)) → Option (List ℕ) → Option (List ℕ) → Option (List ℕ)
 source_of known None input = input
 source_of known (Some name) input = known name
 
 abbrev pub script_source : (List ℕ → Option (List ℕ)) → Command → Option (List ℕ) → Option (List ℕ)
 script_source known (Try script) input = source_of known (option_map string_bytes script) input
+script_source known (Schedule file) input = source_of known (option_map string_bytes file) input
 script_source known (Show text) input = None
 
--- what a command leaves on the output once it is done; the bytes are its script's, where they are known
-abbrev pub IsDone : Command → Option (List ℕ) → Option (List ℕ) → Option (List ℕ) → Type 0
-IsDone (Try script) bytes was now = IsTried bytes was now
-IsDone (Show text) bytes was now = Appends was now (string_bytes text)
+-- what a command leaves on the output once it is done; the bytes are its script's or schedule's, where they are known
+abbrev pub IsDone : {D : Type 0} → Ghosts D → Command → Option (List ℕ) → Option (List ℕ) → Option (List ℕ) → Type 0
+IsDone g (Try script) bytes was now = IsTried bytes was now
+IsDone g (Schedule file) bytes was now = IsScheduled g bytes was now
+IsDone g (Show text) bytes was now = Appends was now (string_bytes text)
 
 -- and what the command that words name leaves there
-abbrev pub IsWordsDone : List (List ℕ) → (List ℕ → Option (List ℕ)) → Option (List ℕ) → Option (List ℕ) → Option (List ℕ) → Type 0
-IsWordsDone words known input was now = (command : Command) × IsCommandOf words command × IsDone command (script_source known command input) was now
+abbrev pub IsWordsDone : {D : Type 0} → Ghosts D → List (List ℕ) → (List ℕ → Option (List ℕ)) → Option (List ℕ) → Option (List ℕ) → Option (List ℕ) → Type 0
+IsWordsDone g words known input was now = (command : Command) × IsCommandOf words command × IsDone g command (script_source known command input) was now
 
 -- the line that tells of a fault
 abbrev pub fault_line : Fault → List ℕ
@@ -128,22 +153,31 @@ pub data IsCutTrial (lines : List Line) (was now : Option (List ℕ)) : Fault �
 
 -- why a script of these bytes was not run to its end: nothing is written where it is not read
 pub data IsUntried (bytes was now : Option (List ℕ)) : Fault → Type 0 where
-  unread : (why : Refusal) → IsUnread bytes why → Keeps was now → IsUntried bytes was now (Refused why)
+  unread : (why : Refusal) → IsUnread line_text IsInGrammar bytes why → Keeps was now → IsUntried bytes was now (Refused why)
   untried : (lines : List Line) (fault : Fault) → IfSome bytes (λ bs. IsScript bs lines) → IsCutTrial lines was now fault → IsUntried bytes was now fault
 
+-- why a schedule of these bytes did not run to its end: nothing is written where it is not read or no kernel is made,
+-- and else the output failed within the texts of the answers
+pub data IsUnscheduled {D : Type 0} (g : Ghosts D) (bytes was now : Option (List ℕ)) : Fault → Type 0 where
+  unspelled : (why : Refusal) → IsUnread event_text IsEvent bytes why → Keeps was now → IsUnscheduled g bytes was now (Refused why)
+  unbegun : (why : Refusal) → IsUnmade why → Keeps was now → IsUnscheduled g bytes was now (Refused why)
+  unheard : (events : List Event) (answers : List Told) → IfSome bytes (λ bs. IsSchedule bs events) → HaveRun g events answers
+      → AppendsFront was now (told_lines answers) → IsUnscheduled g bytes was now Output
+
 -- what a command that ended with this fault left on the output
-abbrev pub IsUndone : Command → Option (List ℕ) → Option (List ℕ) → Option (List ℕ) → Fault → Type 0
-IsUndone (Try script) bytes was now fault = IsUntried bytes was now fault
-IsUndone (Show text) bytes was now fault = (fault ≡ Output) × AppendsFront was now (string_bytes text)
+abbrev pub IsUndone : {D : Type 0} → Ghosts D → Command → Option (List ℕ) → Option (List ℕ) → Option (List ℕ) → Fault → Type 0
+IsUndone g (Try script) bytes was now fault = IsUntried bytes was now fault
+IsUndone g (Schedule file) bytes was now fault = IsUnscheduled g bytes was now fault
+IsUndone g (Show text) bytes was now fault = (fault ≡ Output) × AppendsFront was now (string_bytes text)
 
 -- A command ended with a fault, or it was done and the output could not be flushed. The error output has a
 -- line that tells of it, or a beginning of that line.
-pub record IsGivenUp (command : Command) (bytes was now old new : Option (List ℕ)) : Type 0 where
-  pub given_up : (fault : Fault) × (mid : Option (List ℕ)) × (IsUndone command bytes was mid fault ⊎ (IsDone command bytes was mid × (fault ≡ Output)))
+pub record IsGivenUp {D : Type 0} (g : Ghosts D) (command : Command) (bytes was now old new : Option (List ℕ)) : Type 0 where
+  pub given_up : (fault : Fault) × (mid : Option (List ℕ)) × (IsUndone g command bytes was mid fault ⊎ (IsDone g command bytes was mid × (fault ≡ Output)))
       × Keeps mid now × AppendsFront old new (fault_line fault)
 
 -- and so did the command that words name, or memory was wanting to read them
-abbrev pub IsWordsGivenUp : List (List ℕ) → (List ℕ → Option (List ℕ)) → Option (List ℕ) → Option (List ℕ) → Option (List ℕ) → Option (List ℕ) → Option (List ℕ) → Type 0
-IsWordsGivenUp words known input was now old new =
-    ((command : Command) × IsCommandOf words command × IsGivenUp command (script_source known command input) was now old new)
+abbrev pub IsWordsGivenUp : {D : Type 0} → Ghosts D → List (List ℕ) → (List ℕ → Option (List ℕ)) → Option (List ℕ) → Option (List ℕ) → Option (List ℕ) → Option (List ℕ) → Option (List ℕ) → Type 0
+IsWordsGivenUp g words known input was now old new =
+    ((command : Command) × IsCommandOf words command × IsGivenUp g command (script_source known command input) was now old new)
     ⊎ (Keeps was now × AppendsFront old new (fault_line (Refused refusal.NoMemory)))

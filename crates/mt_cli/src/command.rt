@@ -1,7 +1,7 @@
 // The command line, read by `clap`.
 ghost use Rattle.std.specs.Prelude.{◌≡◌, List, IfOk, IfErr, map, option_map, string_bytes};
 ghost use Rattle.clap.specs.Words.{Text, app_of, subcommand_rows_of};
-ghost use Rattle.mt_cli.specs.CommandLines.{bare, program, script_in, IsCommandOf, IsFaultAt, IsFaultOf};
+ghost use Rattle.mt_cli.specs.CommandLines.{bare, program, IsCommandOf, IsEntered, IsFaultAt, IsFaultOf};
 
 use clap::error::ErrorKind;
 use clap::{Arg, ArgMatches, Command as Parser};
@@ -14,6 +14,8 @@ use thiserror::Error;
 pub enum Command {
     /// Runs one script over a device in memory, from this file, or from standard input.
     Try { script: Option<String> },
+    /// Runs a schedule of events over a device in memory, from this file, or from standard input.
+    Schedule { file: Option<String> },
     /// Prints this text: the help or the version.
     Show { text: String },
 }
@@ -63,11 +65,20 @@ fn parser<'a>(alloc: Global) -> Result<Parser<'a>, AllocError>
     let trial = Parser::new(alloc, "try")
         .about("Run one script over a device in memory and print its transcript")
         .arg(script)?;
-    bare(alloc).subcommand(trial)
+    let file = Arg::new(alloc, "file")
+        .value_name("FILE")
+        .help("The schedule's file; without it, standard input");
+    let scheduling = Parser::new(alloc, "schedule")
+        .about("Run events of several transactions over a device in memory and print their answers")
+        .arg(file)?;
+    let parser = bare(alloc).subcommand(trial)?;
+    parser.subcommand(scheduling)
 }
 
-const EXAMPLES: &str =
-    "Examples:\n  mtk try bank.script\n  printf 'begin\\ninsert 0 a x\\ncommit\\n' | mtk try";
+const EXAMPLES: &str = "Examples:
+  mtk try bank.script
+  printf 'begin\\ninsert 0 a x\\ncommit\\n' | mtk try
+  printf 'begin 1\\ncall 1 add 0 1\\nstep 1\\n' | mtk schedule";
 
 /// A text, in memory of its own.
 fn copied(alloc: Global, text: Option<&str>) -> Result<Option<String>, AllocError>
@@ -79,13 +90,21 @@ fn copied(alloc: Global, text: Option<&str>) -> Result<Option<String>, AllocErro
     }
 }
 
-/// The script that a parse found.
-fn script_of(alloc: Global, matches: &ArgMatches) -> Result<Option<String>, AllocError>
-    ensures { IfOk result (λ script. option_map string_bytes script ≡ script_in (subcommand_rows_of matches.now)) }
+/// The command that a parse found.
+fn entered(alloc: Global, matches: &ArgMatches) -> Result<Command, AllocError>
+    ensures { IfOk result (IsEntered (subcommand_rows_of matches.now)) }
 {
     match matches.subcommand() {
-        Some((_, found)) => copied(alloc, found.get_str("script")),
-        None => Ok(None),
+        Some((name, found)) => {
+            if name == "schedule" {
+                let file = copied(alloc, found.get_str("file"))?;
+                Ok(Command::Schedule { file })
+            } else {
+                let script = copied(alloc, found.get_str("script"))?;
+                Ok(Command::Try { script })
+            }
+        }
+        None => Ok(Command::Try { script: None }),
     }
 }
 
@@ -114,8 +133,8 @@ pub fn command_of(alloc: Global, words: &[&str]) -> Result<Command, CliFault>
     let parser = parser(alloc)?;
     match parser.try_get_matches_from(words) {
         Ok(matches) => {
-            let script = script_of(alloc, &matches)?;
-            Ok(Command::Try { script })
+            let command = entered(alloc, &matches)?;
+            Ok(command)
         }
         Err(error) => shown(alloc, &error),
     }

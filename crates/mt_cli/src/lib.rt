@@ -5,6 +5,8 @@
 mod command;
 mod folder;
 mod performing;
+mod schedules;
+mod telling;
 
 pub use command::{CliFault, Command, command_of};
 pub use folder::{DiskFolder, Folder, MemFolder};

@@ -2,20 +2,26 @@
 ghost use Rattle.std.specs.Prelude.{◌≡◌, ◌≢◌, ◌≤◌, IfOk, IfErr, IfSome, IsOk, MatchResult, OnOk, OnErr, length, map, option_map};
 ghost use Rattle.mt_disk.specs.Memory.{content};
 ghost use Rattle.mt_server.specs.Answers.{AppendsFront};
-ghost use Rattle.mt_server.specs.Scripts.{IsScript};
+ghost use Rattle.mt_server.specs.Grammars.{AreLines};
 ghost use Rattle.mt_cli.specs.CommandLines.{IsMistaken};
 ghost use Rattle.mt_cli.specs.declared.performing.Fault.{Fault};
-ghost use Rattle.mt_cli.specs.Performs.{IsFirstSchema, StandsFirst, HasTried, IsTried, IsUnread, IsUnmade, IsCutTrial, IsUntried, IsDone, IsWordsDone, IsGivenUp, IsWordsGivenUp, IsTold, source_of, script_source, fault_line};
+ghost use Rattle.mt_cli.specs.Performs.{IsFirstSchema, StandsFirst, HasTried, HaveRun, IsTried, IsScheduled, IsUnread, IsUnmade, IsCutTrial, IsUntried, IsUnscheduled, IsDone, IsUndone, IsWordsDone, IsGivenUp, IsWordsGivenUp, IsTold, source_of, script_source, fault_line};
 ghost use Rattle.std.specs.Io.KnownBytes.{Appends, Keeps};
 
 use crate::command::{CliFault, Command, command_of};
 use crate::folder::Folder;
+use crate::schedules::ScheduleGrammar;
+use crate::telling::write_all_told;
 use mt_base::Refusal;
 use mt_base::limits::device_bytes;
 use mt_disk::{Device, MemDevice};
 use mt_restart::{Schema, fresh};
-use mt_server::{Answer, RunFault, Script, ScriptFault, put, read_script, run_alone, write_answer};
+use mt_server::{
+    Answer, Grammar, RunFault, Script, ScriptFault, ScriptGrammar, put, read_lines, run_alone,
+    write_answer,
+};
 use mt_txn::Kernel;
+use mt_world::{Event, run_schedule};
 use std::alloc::Global;
 use std::io::{Read, Write};
 
@@ -70,29 +76,29 @@ fn tell<E: Write>(err: &mut E, fault: &Fault)
     };
 }
 
-/// The script of this name, or the one on standard input where there is no name.
-fn script_of<F: Folder, I: Read>(
+/// The lines of the file of this name, or those on standard input where there is no name.
+fn lines_of<G: Grammar, F: Folder, I: Read>(
     alloc: Global,
     folder: &mut F,
     name: Option<&str>,
     input: &mut I,
-) -> Result<Script, Refusal>
-    ensures script { IfOk result (λ script. IfSome
+) -> Result<Vec<G::Line>, Refusal>
+    ensures lines { IfOk result (λ lines. IfSome
         (source_of (F.known folder.old) (option_map (λ n. n.now) name.entry) (I.remaining input.old))
-        (λ bytes. IsScript bytes script.lines.items)) }
-    ensures unread { IfErr result (IsUnread
+        (λ bytes. AreLines G.text G.IsIn bytes lines.items)) }
+    ensures unread { IfErr result (IsUnread G.text G.IsIn
         (source_of (F.known folder.old) (option_map (λ n. n.now) name.entry) (I.remaining input.old))) }
 {
     let read = match name {
         Some(name) => {
             let bytes = folder.script(name)?;
             let mut rest = bytes.as_slice();
-            read_script(alloc, &mut rest)
+            read_lines::<G, &[u8]>(alloc, &mut rest)
         }
-        None => read_script(alloc, input),
+        None => read_lines::<G, I>(alloc, input),
     };
     match read {
-        Ok(script) => Ok(script),
+        Ok(lines) => Ok(lines),
         Err(ScriptFault::Input) => Err(Refusal::DeviceFailed),
         Err(ScriptFault::Refused(refusal)) => Err(refusal),
     }
@@ -179,8 +185,65 @@ fn perform_try<F: Folder, I: Read, O: Write>(
         (source_of (F.known folder.old) (option_map (λ n. n.now) name.entry) (I.remaining input.old))
         (O.contents out.old) (O.contents out.new)) }
 {
-    match script_of(alloc, folder, name, input) {
-        Ok(script) => try_script(alloc, &script, out),
+    match lines_of::<ScriptGrammar, F, I>(alloc, folder, name, input) {
+        Ok(lines) => try_script(alloc, &Script::new(lines), out),
+        Err(refusal) => Err(Fault::Refused(refusal)),
+    }
+}
+
+/// Runs events over a device, and gives an answer of each.
+fn answers_over<D: Device + Drop>(
+    alloc: Global,
+    device: D,
+    events: &[Event],
+) -> Result<Vec<mt_world::Answer>, Refusal>
+    requires { 8658944 ≤ length (D.seen device) }
+    ensures ran { IfOk result (λ answers. HaveRun D.Device events.now answers.items) }
+    ensures unmade { IfErr result IsUnmade }
+{
+    let schema = first_schema(alloc)?;
+    match run_schedule(alloc, device, &schema, events) {
+        Ok((kernel, answers)) => {
+            let _device = kernel.into_device();
+            Ok(answers)
+        }
+        Err((refusal, _device)) => Err(refusal),
+    }
+}
+
+/// Runs events over a device in memory, and gives an answer of each.
+fn answers_of(alloc: Global, events: &[Event]) -> Result<Vec<mt_world::Answer>, Refusal>
+    ensures ran { IfOk result (λ answers. HaveRun ⟦<MemDevice as Device>⟧ events.now answers.items) }
+    ensures unmade { IfErr result IsUnmade }
+{
+    let device = first_device(alloc)?;
+    answers_over(alloc, device, events)
+}
+
+/// Does `schedule`: reads the whole schedule, runs it, and then writes the answers.
+fn perform_schedule<F: Folder, I: Read, O: Write>(
+    alloc: Global,
+    folder: &mut F,
+    name: Option<&str>,
+    input: &mut I,
+    out: &mut O,
+) -> Result<(), Fault>
+    ensures scheduled { OnOk result (IsScheduled ⟦<MemDevice as Device>⟧
+        (source_of (F.known folder.old) (option_map (λ n. n.now) name.entry) (I.remaining input.old))
+        (O.contents out.old) (O.contents out.new)) }
+    ensures unscheduled { IfErr result (IsUnscheduled ⟦<MemDevice as Device>⟧
+        (source_of (F.known folder.old) (option_map (λ n. n.now) name.entry) (I.remaining input.old))
+        (O.contents out.old) (O.contents out.new)) }
+{
+    let events = match lines_of::<ScheduleGrammar, F, I>(alloc, folder, name, input) {
+        Ok(events) => events,
+        Err(refusal) => return Err(Fault::Refused(refusal)),
+    };
+    match answers_of(alloc, events.as_slice()) {
+        Ok(answers) => match write_all_told(out, answers.as_slice()) {
+            Ok(()) => Ok(()),
+            Err(_) => Err(Fault::Output),
+        },
         Err(refusal) => Err(Fault::Refused(refusal)),
     }
 }
@@ -216,13 +279,41 @@ fn show<O: Write>(text: &str, out: &mut O) -> Result<(), Fault>
     }
 }
 
+/// Does a command.
+fn do_command<F: Folder, I: Read, O: Write>(
+    alloc: Global,
+    command: &Command,
+    folder: &mut F,
+    input: &mut I,
+    out: &mut O,
+) -> Result<(), Fault>
+    ensures done { OnOk result (IsDone ⟦<MemDevice as Device>⟧ command.now
+        (script_source (F.known folder.old) command.now (I.remaining input.old)) (O.contents out.old)
+        (O.contents out.new)) }
+    ensures undone { IfErr result (IsUndone ⟦<MemDevice as Device>⟧ command.now
+        (script_source (F.known folder.old) command.now (I.remaining input.old)) (O.contents out.old)
+        (O.contents out.new)) }
+{
+    match command {
+        Command::Try { script: Some(name) } => {
+            perform_try(alloc, folder, Some(name.as_str()), input, out)
+        }
+        Command::Try { script: None } => perform_try(alloc, folder, None, input, out),
+        Command::Schedule { file: Some(name) } => {
+            perform_schedule(alloc, folder, Some(name.as_str()), input, out)
+        }
+        Command::Schedule { file: None } => perform_schedule(alloc, folder, None, input, out),
+        Command::Show { text } => show(text.as_str(), out),
+    }
+}
+
 /// Does a command, and answers the status of the program:
 ///
 /// - 0: it was done. Refusals within a transcript count as done.
 /// - 1: it was refused, and the refusal's text is on `err`; or `out` could not be written. An input
 ///   that cannot be read, and a file that is not there or cannot be read, is refusal 2.
 ///
-/// A script is read whole before any of it runs.
+/// A script or a schedule is read whole before any of it runs.
 pub fn perform<F: Folder, I: Read, O: Write, E: Write>(
     alloc: Global,
     command: &Command,
@@ -231,21 +322,15 @@ pub fn perform<F: Folder, I: Read, O: Write, E: Write>(
     out: &mut O,
     err: &mut E,
 ) -> u8
-    ensures done { result ≡ 0 → IsDone command.now
+    ensures done { result ≡ 0 → IsDone ⟦<MemDevice as Device>⟧ command.now
         (script_source (F.known folder.old) command.now (I.remaining input.old)) (O.contents out.old)
         (O.contents out.new) × (err.new ≡ err.old) }
     ensures told { result ≢ 0 → (result ≡ 1) × IsTold (E.contents err.old) (E.contents err.new) }
-    ensures given_up { result ≢ 0 → IsGivenUp command.now
+    ensures given_up { result ≢ 0 → IsGivenUp ⟦<MemDevice as Device>⟧ command.now
         (script_source (F.known folder.old) command.now (I.remaining input.old)) (O.contents out.old)
         (O.contents out.new) (E.contents err.old) (E.contents err.new) }
 {
-    let done = match command {
-        Command::Try { script: Some(name) } => {
-            perform_try(alloc, folder, Some(name.as_str()), input, out)
-        }
-        Command::Try { script: None } => perform_try(alloc, folder, None, input, out),
-        Command::Show { text } => show(text.as_str(), out),
-    };
+    let done = do_command(alloc, command, folder, input, out);
     finish(done, out, err)
 }
 
@@ -260,11 +345,12 @@ pub fn perform_words<F: Folder, I: Read, O: Write, E: Write>(
     err: &mut E,
 ) -> u8
     ensures status { result ≤ 2 }
-    ensures done { result ≡ 0 → IsWordsDone (map (λ word. word.now) words.now) (F.known folder.old)
-        (I.remaining input.old) (O.contents out.old) (O.contents out.new) }
+    ensures done { result ≡ 0 → IsWordsDone ⟦<MemDevice as Device>⟧ (map (λ word. word.now) words.now)
+        (F.known folder.old) (I.remaining input.old) (O.contents out.old) (O.contents out.new) }
     ensures told { result ≡ 1 → IsTold (E.contents err.old) (E.contents err.new) }
-    ensures given_up { result ≡ 1 → IsWordsGivenUp (map (λ word. word.now) words.now) (F.known folder.old)
-        (I.remaining input.old) (O.contents out.old) (O.contents out.new) (E.contents err.old) (E.contents err.new) }
+    ensures given_up { result ≡ 1 → IsWordsGivenUp ⟦<MemDevice as Device>⟧ (map (λ word. word.now) words.now)
+        (F.known folder.old) (I.remaining input.old) (O.contents out.old) (O.contents out.new)
+        (E.contents err.old) (E.contents err.new) }
     ensures misused { result ≡ 2 → IsMistaken (map (λ word. word.now) words.now) × (out.new ≡ out.old) }
 {
     match command_of(alloc, words) {

@@ -12,7 +12,8 @@ use Rattle.mt_space.specs.Kinds.{kind}
 use Rattle.mt_space.specs.Rooms.{mapped, IsFirstFree}
 use Rattle.mt_file.specs.File.{record_in, IsFile, Drops, Stays, Moves}
 use Rattle.mt_file.specs.Rooms.{fits_of}
-use Rattle.mt_file.specs.Plans.{IsNamed, IsReady, IsApart, IsChosen, IsLooked, IsTooFull, IsRoomy, IsPut, IsOutgrown, IsReplacement, IsWhole}
+use Rattle.mt_file.specs.Plans.{IsNamed, IsReady, IsApart, IsChosen, IsLooked, IsTooFull, IsRoomy, IsPut, IsOutgrown, IsReplacement, IsWhole, IfDone}
+use Rattle.mt_file.specs.declared.step.Plan.{Plan}
 use Rattle.mt_file.specs.declared.step.Step.{Step}
 use Rattle.mt_file.specs.declared.step.Step.TheVariants.{Need, Done, Full}
 use Rattle.mt_file.proofs.Filed.{records_not_map, kind_kept, file_one, adds_new, Taken, drops_last, stays_in}
@@ -165,3 +166,10 @@ same_row pages p s old r k held is = let both : Some r ≡ Some k = sym held.liv
 
 pub room_seen : (pages : PageBytes) (p s : ℕ) (old : List ℕ) (r row : Row) → IsHeld pages p s old r → room_of old + row_length r < row_length row → IsOutgrown pages p r row
 room_seen pages p s old r row held over = subst (λ (m : List ℕ). room_of m + row_length r < row_length row) (sym held.seen) over
+
+-- ---- of a plan that is made
+
+pub done_weaker : (step : Step) (P Q : Plan → Type 0) → ((plan : Plan) → P plan → Q plan) → IfDone step P → IfDone step Q
+done_weaker (Need p mode) P Q f told = tt
+done_weaker (Done plan) P Q f told = f plan told
+done_weaker Full P Q f told = tt

@@ -79,6 +79,10 @@ IfDone _ P = Unit {0}
 abbrev pub IsFew : ℕ → Step → Type 0
 IsFew n step = IfDone step (λ plan. length plan.changes.list.items ≤ n)
 
+-- its changes are of pages at hand, and of those that were to change before
+abbrev pub IsSeen : (ℕ → Option (List ℕ)) → List PageChange → Step → Type 0
+IsSeen at_hand before step = IfDone step (λ plan. (p : ℕ) → at_hand p ≡ None → IsUntouched before p → IsUntouched plan.changes.list.items p)
+
 -- ---- a removal
 
 -- the answer of a removal: the map is asked for only where the page is given back

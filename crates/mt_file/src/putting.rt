@@ -5,7 +5,7 @@ ghost use Rattle.mt_space.specs.Changes.{PageBytes, Agrees, after};
 ghost use Rattle.mt_slots.specs.Page.{Row, IsShaped, slot as held};
 ghost use Rattle.mt_space.specs.Kinds.{kind};
 ghost use Rattle.mt_file.specs.File.{IsFile};
-ghost use Rattle.mt_file.specs.Plans.{IsNamed, IsReady, IsApart, IsPut, IsShortPlan, IfDone, IsFew};
+ghost use Rattle.mt_file.specs.Plans.{IsNamed, IsReady, IsApart, IsPut, IsShortPlan, IfDone, IsFew, IsSeen};
 
 use crate::step::{Plan, Step};
 use mt_base::{Mode, PageNo, RecordName, RelNo};
@@ -16,7 +16,7 @@ use std::alloc::{AllocError, Global};
 
 /// Plans to put a record into the page `room`, which holds records; into a new page, the smallest free one,
 /// where no page is named. One record more stands under a name that held nothing, and no other changes.
-/// `Full` exactly where the page that is named has no room, or none is named and none is free. A page that
+/// `Full` if and only if the page that is named has no room, or none is named and none is free. A page that
 /// is taken is written whole, since the bytes of a free page are open. The only error is want of memory.
 pub fn plan_put<V: Pages>(
     alloc: Global,
@@ -27,7 +27,8 @@ pub fn plan_put<V: Pages>(
     value: &[u8],
 ) -> Result<Step, AllocError>
     requires sound { V.is_sound views.now }
-    requires good { ∥ ((pages : PageBytes) × Agrees (V.at_hand views.now) pages × IsFile pages × IsNamed room pages) ∥₁ }
+    requires good { ∥ ((pages : PageBytes) × Agrees (V.at_hand views.now) pages × IsFile pages
+        × IsNamed room pages) ∥₁ }
     requires relation_fits { relation < 256 }
     requires key_fits { IsKey key.now }
     requires value_fits { IsValue value.now }
@@ -38,11 +39,12 @@ pub fn plan_put<V: Pages>(
         IsNamed room pages → IsShortPlan pages step) }
     ensures few { IfOk result (IsFew (2)) }
     ensures seen { IfOk result (λ step. IfDone step (λ plan. IsSome (V.at_hand views.now plan.name.page))) }
+    ensures there { IfOk result (IsSeen (V.at_hand views.now) []) }
 {
     put(views, Changes::new(alloc), room, relation, key, value)
 }
 
-// The same after some changes, none of which is of a page that changes here.
+// Plans to put a record after some changes, none of which is of a page that changes here.
 pub(crate) fn put<V: Pages>(
     views: &V,
     changes: Changes,
@@ -64,6 +66,7 @@ pub(crate) fn put<V: Pages>(
         (after changes.list.items pages) → IsApart room changes.list.items pages → IsShortPlan pages step) }
     ensures few { IfOk result (IsFew (length changes.list.items + 2)) }
     ensures seen { IfOk result (λ step. IfDone step (λ plan. IsSome (V.at_hand views.now plan.name.page))) }
+    ensures there { IfOk result (IsSeen (V.at_hand views.now) changes.list.items) }
 {
     match room {
         Some(page) => put_into(views, changes, page, relation, key, value),
@@ -93,6 +96,7 @@ fn put_into<V: Pages>(
         (after changes.list.items pages) → IsApart (Some page) changes.list.items pages → IsShortPlan pages step) }
     ensures few { IfOk result (IsFew (length changes.list.items + 2)) }
     ensures seen { IfOk result (λ step. IfDone step (λ plan. IsSome (V.at_hand views.now plan.name.page))) }
+    ensures there { IfOk result (IsSeen (V.at_hand views.now) changes.list.items) }
 {
     let Some(old) = views.page(page) else {
         return Ok(Step::Need(page, Mode::Write));
@@ -128,6 +132,7 @@ fn put_new<V: Pages>(
         (after changes.list.items pages) → IsApart None changes.list.items pages → IsShortPlan pages step) }
     ensures few { IfOk result (IsFew (length changes.list.items + 2)) }
     ensures seen { IfOk result (λ step. IfDone step (λ plan. IsSome (V.at_hand views.now plan.name.page))) }
+    ensures there { IfOk result (IsSeen (V.at_hand views.now) changes.list.items) }
 {
     let map_page = PageNo::new(MAP);
     let Some(map) = views.page(map_page) else {

@@ -1,9 +1,9 @@
 // A record less.
-ghost use Rattle.std.specs.Prelude.{◌≡◌, ℕ, Some, IfOk, IsSome};
+ghost use Rattle.std.specs.Prelude.{◌≡◌, ℕ, [], Some, IfOk, IsSome};
 ghost use Rattle.mt_space.specs.Changes.{PageBytes, Agrees};
 ghost use Rattle.mt_slots.specs.Page.{Row};
 ghost use Rattle.mt_file.specs.File.{IsFile, record_in};
-ghost use Rattle.mt_file.specs.Plans.{IsRemoval, IsShortPlan, IfDone, IsFew};
+ghost use Rattle.mt_file.specs.Plans.{IsRemoval, IsShortPlan, IfDone, IsFew, IsSeen};
 
 use crate::putting::with_kind;
 use crate::step::{Plan, Step};
@@ -27,6 +27,7 @@ pub fn plan_remove<V: Pages>(alloc: Global, views: &V, name: RecordName) -> Resu
         IsFile pages → record_in pages name.page name.slot ≡ Some r → IsShortPlan pages step) }
     ensures few { IfOk result (IsFew 1) }
     ensures seen { IfOk result (λ step. IfDone step (λ plan. IsSome (V.at_hand views.now name.page))) }
+    ensures there { IfOk result (IsSeen (V.at_hand views.now) []) }
 {
     let Some(old) = views.page(name.page) else {
         return Ok(Step::Need(name.page, Mode::Write));

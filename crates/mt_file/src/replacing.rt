@@ -2,11 +2,11 @@
 ghost use Rattle.std.specs.Prelude.{◌≡◌, ◌≢◌, ◌+◌, ◌<◌, ◌≤◌, ℕ, [], length, Some, IfOk, IsSome, MatchBool};
 ghost use Rattle.std.specs.Bool.{OnTrue, OnFalse};
 ghost use Rattle.mt_base.specs.Limits.{IsValue};
-ghost use Rattle.mt_space.specs.Changes.{PageBytes, Agrees, after, AreShort};
+ghost use Rattle.mt_space.specs.Changes.{PageBytes, Agrees, after, AreShort, IsUntouched};
 ghost use Rattle.mt_slots.specs.Page.{Row, IsShaped, slot as held, room_of, row_length};
 ghost use Rattle.mt_space.specs.Kinds.{kind};
 ghost use Rattle.mt_file.specs.File.{IsFile, record_in};
-ghost use Rattle.mt_file.specs.Plans.{IsNamed, IsReplacement, IsShortPlan, IsWhole, IfDone, IsFew};
+ghost use Rattle.mt_file.specs.Plans.{IsNamed, IsReplacement, IsShortPlan, IsWhole, IfDone, IsFew, IsSeen};
 
 use crate::putting::{page_of_one, put};
 use crate::step::{Plan, Step};
@@ -18,8 +18,8 @@ use std::alloc::{AllocError, Global};
 /// Plans to give the record under a name another value. It stays under its name where its page has room
 /// for it: where its new length is no more than the page's room and its old length. Else it moves: it is
 /// taken away there, and put into the page `room`, which holds records, or into a new one where no page is
-/// named. The same bytes change nothing. `Full` exactly where it would move, and the page that is named has
-/// no room, or none is named and none is free. The only error is want of memory.
+/// named. The same bytes change nothing. `Full` if and only if it would move, and the page that is named
+/// has no room, or none is named and none is free. The only error is want of memory.
 ///
 /// A record that is alone in its page has room there but for a table of slots longer than its records can
 /// have made it. Then the page is given back and at once taken again: it is written whole.
@@ -43,6 +43,7 @@ pub fn plan_replace<V: Pages>(
     ensures few { IfOk result (IsFew 3) }
     ensures seen { IfOk result (λ step. IfDone step (λ plan. IsSome (V.at_hand views.now name.page) ×
         IsSome (V.at_hand views.now plan.name.page))) }
+    ensures there { IfOk result (IsSeen (V.at_hand views.now) []) }
 {
     let Some(old) = views.page(name.page) else {
         return Ok(Step::Need(name.page, Mode::Write));
@@ -71,7 +72,7 @@ fn has_value(page: &[u8], slot: u16, value: &[u8]) -> bool
     }
 }
 
-// The same where the record's page has no room for it.
+// Plans to move the record out of its page, which has no room for the new value.
 fn plan_move<V: Pages>(
     views: &V,
     mut changes: Changes,
@@ -98,6 +99,7 @@ fn plan_move<V: Pages>(
     ensures few { IfOk result (IsFew 3) }
     ensures seen { IfOk result (λ step. IfDone step (λ plan. IsSome (V.at_hand views.now name.page) ×
         IsSome (V.at_hand views.now plan.name.page))) }
+    ensures there { IfOk result (IsSeen (V.at_hand views.now) []) }
 {
     let RecordName { page, slot } = name;
     let Some(row) = get(old, slot) else {
@@ -138,6 +140,7 @@ fn write_whole(
     ensures short { IfOk result (λ plan. (pages : PageBytes) → pages page ≡ old.now →
         AreShort plan.changes.list.items pages) }
     ensures few { IfOk result (λ plan. length plan.changes.list.items ≤ 1) }
+    ensures others { IfOk result (λ plan. (p : ℕ) → p ≢ page → IsUntouched plan.changes.list.items p) }
 {
     let (new, slot) = page_of_one(relation, key, value);
     changes.note(page, old, &new)?;

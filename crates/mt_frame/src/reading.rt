@@ -356,7 +356,7 @@ fn batch_of(alloc: Global, bytes: &[u8]) -> Result<(Vec<Record>, usize), ReadErr
     Ok((records, 5 + body.len()))
 }
 
-/// The records of a batch's body, or `None` exactly where it is no row of whole records. The only
+/// The records of a batch's body, or `None` if and only if it is no row of whole records. The only
 /// refusal is [`Refusal::NoMemory`].
 pub fn decode_body(alloc: Global, bytes: &[u8]) -> Result<Option<Vec<Record>>, Refusal>
     ensures found { IfOk result (λ o. IfSome o (λ records. IsBody bytes.now records.items)) }

@@ -1,12 +1,12 @@
 -- What a reading finds wrong is a rule that a page breaks.
 use Rattle.std.proofs.Common.{◌≡◌, ◌≢◌, ℕ, ◌<◌, ◌≤◌, ◌^◌, List, length, get_or, ap, sym, ◌∙◌, subst, arith, ◌⊎◌, inl, inr}
-use Rattle.mt_bucket.specs.Page.{depth_of, count_of}
+use Rattle.mt_bucket.specs.Page.{depth_of}
 use Rattle.mt_space.specs.Changes.{PageBytes}
 use Rattle.mt_space.specs.Kinds.{kind}
 use Rattle.mt_index.specs.Maps.{Each}
 use Rattle.mt_index.specs.Index.{Node}
-use Rattle.mt_index.specs.Pages.{depth_in, pointer_at, node_of}
-use Rattle.mt_index.specs.Checks.{IsOn, IsMember, IsMarked, AreMarked, IsStuck, IsSettled, IsAlone}
+use Rattle.mt_index.specs.Pages.{depth_in, pointer_at, node_of, IsOn}
+use Rattle.mt_index.specs.Checks.{IsMember, IsMarked, AreMarked, IsStuck, IsSettled, IsAlone}
 use Rattle.mt_index.specs.Broken.{IsAstray, IsPlaced}
 use Rattle.mt_index.proofs.Sounds.{first_each, met}
 

@@ -170,8 +170,8 @@ module _ (total : ℕ) (pages : PageBytes) (m : Map) (e : Entry) (b q : ℕ) (h 
             (put_first total mid pages2 m e side new split_is there turn (rw is p.head) (rw is p.pushed));
         stays = stays_trans total pages mid pages2 (split_stays total pages mid b q is_bucket splits) (put_stays total mid pages2 side new off two turn);
         directory = λ none. absurd cc;
-        formed = λ relations fits formed. turns_formed relations total mid pages2 side new off turn
-            (λ bucket. p.kept relations total fits.relation fits.some fits.place (subst (IsBucket relations total) is bucket)) (split_formed relations total pages mid m b q a is_bucket splits formed);
+        formed = λ relations fits formed. turns_formed relations total mid pages2 side new off turn (rw is p.head)
+            (λ bucket. p.kept relations total fits.relation fits.some fits.place (subst (IsBucket relations total) is bucket)) (split_formed relations total pages mid m e.key b q a is_bucket splits halved formed);
       }
 
   -- ---- behind it
@@ -192,13 +192,13 @@ module _ (total : ℕ) (pages : PageBytes) (m : Map) (e : Entry) (b q : ℕ) (h 
         one = λ _. refl;
         more = λ other. absurd cc;
       } in
+      let at_end = chain_last total mid pages2 m e z q2 true split_is end chained in
       record {
-        way = SplitChained (state_of mid) q (depth_of (pages b)) z q2 refl may (chain_smallest total pages q f) halved (chain_smallest total mid q2 chained.fresh)
-            (chain_last total mid pages2 m e z q2 true split_is end chained);
+        way = SplitChained (state_of mid) q (depth_of (pages b)) z q2 refl may (chain_smallest total pages q f) halved (chain_smallest total mid q2 chained.fresh) at_end;
         stays = stays_trans total pages mid pages2 (split_stays total pages mid b q is_bucket splits) (chain_stays total mid pages2 m e z q2 split_is two chained);
         directory = λ none. absurd cc;
-        formed = λ relations fits formed. chain_formed relations total mid pages2 m e z q2 split_is two chained
-            (λ shallow. new relations (subst (λ (n : ℕ). n ≤ 9) (ap depth_of is ∙ half_depth t) shallow) fits) (last relations) (split_formed relations total pages mid m b q a is_bucket splits formed);
+        formed = λ relations fits formed. chain_formed relations total mid pages2 m e z q2 split_is two chained at_end
+            (λ shallow. new relations (subst (λ (n : ℕ). n ≤ 9) (ap depth_of is ∙ half_depth t) shallow) fits) (last relations) (split_formed relations total pages mid m e.key b q a is_bucket splits halved formed);
       }
 
   pub put_added : (t : Bool) → high (depth_of (pages b)) (hash e.key) ≡ t → (h2 : Halves) → PutsInHalf t true e h h2 → (changes : List PageChange) → Notes (changed h2) pages changes → Added true total e pages (after changes pages)

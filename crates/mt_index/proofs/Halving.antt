@@ -19,6 +19,7 @@ use Rattle.mt_index.proofs.Doubling.{directory_doubled, repointed}
 use Rattle.mt_index.proofs.Keeping.{half_kept}
 use Rattle.mt_index.proofs.Overflow.{named_taken}
 use Rattle.mt_index.proofs.Free.{Fresh}
+use Rattle.mt_index.proofs.Chaining.{split_chained, chained_in, chained_of}
 use Rattle.mt_index.proofs.OnePage.{no_bucket}
 use Rattle.mt_index.proofs.Placing.{fresh_off}
 
@@ -187,10 +188,12 @@ rewired_formed b q l old new w f = record {
     g : IsDirectory w.between
     g = ⊎_elim (λ (d : (l ≡ depth_in old) × Doubled old w.between). d.1.formed f) (λ (d : (l ≢ depth_in old) × (w.between ≡ old)). subst IsDirectory (sym d.1) f) w.first
 
-pub split_formed : (relations total : ℕ) (pages mid : PageBytes) (m : Map) (b q : ℕ) → AreMap total pages m → kind pages b ≡ 2 → Splits total b q pages mid → AreFormed relations total pages → AreFormed relations total mid
-split_formed relations total pages mid m b q a two w f = record {
+pub split_formed : (relations total : ℕ) (pages mid : PageBytes) (m : Map) (key : List ℕ) (b q : ℕ) → AreMap total pages m → kind pages b ≡ 2 → Splits total b q pages mid → Halved key q (depth_of (pages b)) (state_of pages) (state_of mid)
+    → AreFormed relations total pages → AreFormed relations total mid
+split_formed relations total pages mid m key b q a two w halved f = record {
   directory = rewired_formed b q (depth_of (pages b)) (pages 1) (mid 1) w.wires f.directory;
   buckets = λ p is. bucket p is (cases_eq p q) (cases_eq p b);
+  chained = chained_of mid (split_chained key q (depth_of (pages b)) (state_of pages) (state_of mid) m a.index halved (chained_in pages f.chained));
 }
   where
     bucket : (p : ℕ) → kind mid p ≡ 2 → (p ≡ q) ⊎ (p ≡ q → ⊥) → (p ≡ b) ⊎ (p ≡ b → ⊥) → IsBucket relations total (mid p)

@@ -10,8 +10,8 @@ use Rattle.mt_space.specs.Kinds.{kind}
 use Rattle.mt_index.specs.Maps.{Each, Once, Agree}
 use Rattle.mt_index.specs.Buckets.{lookup}
 use Rattle.mt_index.specs.Index.{Node, State, named, Linked, IsTree, entries_of}
-use Rattle.mt_index.specs.Pages.{depth_in, pointer_at, node_of, state_of, IsDirectory}
-use Rattle.mt_index.specs.Checks.{IsOn, IsSound, AreKinds, AreBuckets, ArePointers, IsMember, IsMarked, AreMarked, IsFinite, IsSettled, entry_at}
+use Rattle.mt_index.specs.Pages.{depth_in, pointer_at, node_of, state_of, IsDirectory, IsOn}
+use Rattle.mt_index.specs.Checks.{IsSound, AreKinds, AreBuckets, ArePointers, IsMember, IsMarked, AreMarked, IsFinite, IsSettled, entry_at}
 use Rattle.mt_index.proofs.Lists.{each_map}
 use Rattle.mt_index.proofs.Bits.{high_low, agree_from_mod, mod_from_agree}
 use Rattle.mt_index.proofs.Chains.{linked_at, entries_parts}
@@ -50,7 +50,13 @@ mod_mod h g l le = mod_from_agree l (h % 2 ^ g) h (low_agree l le)
 pub made_sound : (relations total : ℕ) (pages : PageBytes) (homes : List ℕ) → AreKinds total pages → IsDirectory (pages 1) → AreBuckets relations total pages → ArePointers pages → AreMarked pages homes (2 ^ depth_in (pages 1))
     → ((p : ℕ) → kind pages p ≡ 2 → IsSettled pages homes p) → IsSound relations total pages
 made_sound relations total pages homes kinds directory buckets pointers marked settled = record {
-  formed = record { directory = directory; buckets = buckets };
+  formed = record {
+    directory = directory;
+    buckets = buckets;
+    chained = λ p two.
+        let b = marked.back p (settled p two).home in
+        (b.0, subst (λ (q : ℕ). IsOn pages q p) (sym (is_pointer b.0 b.1)) b.3);
+  };
   meaning = lookup (named s) (λ b. entries_of s.node (chain b));
   map = record {
     index = record { size = pointers_length (pages 1) 8 (2 ^ g); tree = tree };
@@ -59,9 +65,6 @@ made_sound relations total pages homes kinds directory buckets pointers marked s
     within = kinds.within;
     few = kinds.few;
   };
-  chained = λ p two.
-      let b = marked.back p (settled p two).home in
-      (b.0, subst (λ (q : ℕ). IsOn pages q p) (sym (is_pointer b.0 b.1)) b.3);
 }
   where
     s : State

@@ -8,8 +8,8 @@ use Rattle.mt_space.specs.Kinds.{kind}
 use Rattle.mt_index.specs.Maps.{Each}
 use Rattle.mt_index.specs.Index.{Node, Linked}
 use Rattle.mt_index.specs.Steps.{Walk}
-use Rattle.mt_index.specs.Pages.{pointer_at, node_of}
-use Rattle.mt_index.specs.Checks.{IsOn, IsMember, IsMarked, AreMarked, Marks, IsStuck, CannotFollow}
+use Rattle.mt_index.specs.Pages.{pointer_at, node_of, IsOn}
+use Rattle.mt_index.specs.Checks.{IsMember, IsMarked, AreMarked, Marks, IsStuck, CannotFollow}
 use Rattle.mt_index.proofs.Lists.{each_map}
 use Rattle.mt_index.proofs.Overflow.{each_push}
 use Rattle.mt_index.proofs.Looking.{walk_more}

@@ -16,6 +16,7 @@ use Rattle.mt_space.specs.Changes.{replaced}
 use Rattle.mt_space.proofs.Changing.{replaced_here, replaced_other}
 use Rattle.mt_index.proofs.Lists.{at_parts}
 use Rattle.mt_index.proofs.Keeping.{drop_kept, set_kept}
+use Rattle.mt_index.proofs.Chaining.{page_chained, chained_in, chained_of}
 use Rattle.mt_index.proofs.Passing.{passed_kind, passed_on}
 
 pub turns : (p : ℕ) (new : List ℕ) (pages pages2 : PageBytes) → pages2 ≡ replaced p new pages → Turns p new pages pages2
@@ -58,10 +59,11 @@ same_space total pages pages2 m m2 a same index = record {
 }
 
 pub turns_formed : (relations total : ℕ) (pages pages2 : PageBytes) (p : ℕ) (new : List ℕ) → (0 ≢ p) × (1 ≢ p) → Turns p new pages pages2
-    → (IsBucket relations total (pages p) → IsBucket relations total new) → AreFormed relations total pages → AreFormed relations total pages2
-turns_formed relations total pages pages2 p new off t kept f = record {
+    → KeepsHead (pages p) new → (IsBucket relations total (pages p) → IsBucket relations total new) → AreFormed relations total pages → AreFormed relations total pages2
+turns_formed relations total pages pages2 p new off t head kept f = record {
   directory = subst IsDirectory (sym (t.others 1 off.1)) f.directory;
   buckets = λ n is. bucket n (ap (λ (c : List ℕ). get_or c n 0) (sym (t.others 0 off.0)) ∙ is) (cases_eq n p);
+  chained = chained_of pages2 (page_chained p (entries new) (state_of pages) (state_of pages2) (one_page pages pages2 p new (entries new) off t head refl) (chained_in pages f.chained));
 }
   where
     bucket : (n : ℕ) → kind pages n ≡ 2 → (n ≡ p) ⊎ (n ≡ p → ⊥) → IsBucket relations total (pages2 n)

@@ -14,6 +14,7 @@ use Rattle.mt_index.specs.Answers.{HasRoom, IsEnd, Stays}
 use Rattle.mt_index.proofs.OnePage.{no_bucket, one_page}
 use Rattle.mt_index.proofs.Passing.{entries_length, passed_kind, passed_on}
 use Rattle.mt_index.proofs.Free.{Fresh}
+use Rattle.mt_index.proofs.Chaining.{behind_chained, chained_in, chained_of}
 
 -- ---- room
 
@@ -129,10 +130,11 @@ chain_stays total pages pages2 m e z q a two w = record {
     took p none some (inr off) = absurd (some (w.taken.others p off ∙ none))
 
 pub chain_formed : (relations total : ℕ) (pages pages2 : PageBytes) (m : Map) (e : Entry) (z q : ℕ) → AreMap total pages m → kind pages z ≡ 2 → Chained total e z q pages pages2
-    → (depth_of (pages z) ≤ 9 → IsBucket relations total (pages2 q)) → (q < total → IsBucket relations total (pages z) → IsBucket relations total (pages2 z)) → AreFormed relations total pages → AreFormed relations total pages2
-chain_formed relations total pages pages2 m e z q a two w new end f = record {
+    → Last e z q (state_of pages) (state_of pages2) → (depth_of (pages z) ≤ 9 → IsBucket relations total (pages2 q)) → (q < total → IsBucket relations total (pages z) → IsBucket relations total (pages2 z)) → AreFormed relations total pages → AreFormed relations total pages2
+chain_formed relations total pages pages2 m e z q a two w last new end f = record {
   directory = subst IsDirectory (sym directory) f.directory;
   buckets = λ p is. bucket p is (cases_eq p q) (cases_eq p z);
+  chained = chained_of pages2 (behind_chained (state_of pages) (state_of pages2) m e z q a.index last.puts (chained_in pages f.chained));
 }
   where
     off : (0 ≢ q) × (1 ≢ q)

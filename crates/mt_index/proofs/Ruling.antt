@@ -1,5 +1,5 @@
 -- Which way an add goes, and that the map is what it is to be.
-use Rattle.std.proofs.Common.{◌≡◌, ◌≢◌, ℕ, ◌<◌, ⊎_elim, Bool, true, false, List, [], ◌∷◌, length, Option, Some, None, Result, Ok, Err, IfOk, refl, ap, sym, ◌∙◌, arith, ◌⊎◌, inl, inr}
+use Rattle.std.proofs.Common.{◌≡◌, ◌≢◌, ℕ, ◌<◌, ⊎_elim, Bool, true, false, List, [], ◌∷◌, length, Option, Some, None, Result, Ok, Err, IfOk, refl, ap, sym, ◌∙◌, arith, inl, inr}
 use Rattle.std.proofs.lemmas.Bool.{cases_eq}
 use Rattle.std.specs.declared.alloc.AllocError.{AllocError}
 use Rattle.mt_base.specs.declared.modes.Mode.{Mode}
@@ -13,7 +13,7 @@ use Rattle.mt_index.specs.Index.{Node, named}
 use Rattle.mt_index.specs.Steps.{Walk}
 use Rattle.mt_index.specs.Rule.{MaySplit}
 use Rattle.mt_index.specs.Pages.{node_of, state_of, AreMap}
-use Rattle.mt_index.specs.Answers.{InMaps, Asks, IsEnd, IsInAdd, IsDueInAdd, Added, Adds, TakesSeen, IsPlanned, AddNeeds, IfAdded}
+use Rattle.mt_index.specs.Answers.{InMaps, Asks, IsEnd, IsInAdd, IsDueInAdd, Added, Adds, TakesSeen, AreSeen, IsPlanned, AddNeeds, IfAdded}
 use Rattle.mt_index.specs.declared.answers.Add.{Add}
 use Rattle.mt_index.specs.declared.answers.Add.TheVariants as add
 use Rattle.mt_index.proofs.Keeping.{add_kept}
@@ -65,7 +65,7 @@ added_map split total e pages pages2 m a absent w = record {
 
 pub planned_map : (at_hand : ℕ → Option (List ℕ)) (total : ℕ) (split : Bool) (e : Entry) (r : Result Add AllocError) → IfOk r (IsPlanned at_hand total split e)
     → IfOk r (λ x. IfAdded x (λ changes. InMaps at_hand total (λ pages m. m e.relation e.key ≡ None → AreMap total (after changes pages) (alter m e.relation e.key (Some e.name)))))
-planned_map at_hand total split e (Ok (add.Changes changes)) p = λ pages agree m a absent. added_map split total e pages (after changes.list.items pages) m a absent (p pages agree m a).0.added
+planned_map at_hand total split e (Ok (add.Changes changes)) p = λ pages agree m a absent. added_map split total e pages (after changes.list.items pages) m a absent (p.0 pages agree m a).0.added
 planned_map at_hand total split e (Ok (add.Need q mode)) p = tt
 planned_map at_hand total split e (Ok add.Full) p = tt
 planned_map at_hand total split e (Ok add.Endless) p = tt
@@ -74,7 +74,7 @@ planned_map at_hand total split e (Err w) p = tt
 -- the changes themselves, and what they take
 pub planned_adds : (at_hand : ℕ → Option (List ℕ)) (total : ℕ) (split : Bool) (e : Entry) (r : Result Add AllocError) → IfOk r (IsPlanned at_hand total split e)
     → IfOk r (λ x. IfAdded x (λ changes. InMaps at_hand total (λ pages m. Adds split total e pages changes)))
-planned_adds at_hand total split e (Ok (add.Changes changes)) p = λ pages agree m a. (p pages agree m a).0
+planned_adds at_hand total split e (Ok (add.Changes changes)) p = λ pages agree m a. (p.0 pages agree m a).0
 planned_adds at_hand total split e (Ok (add.Need q mode)) p = tt
 planned_adds at_hand total split e (Ok add.Full) p = tt
 planned_adds at_hand total split e (Ok add.Endless) p = tt
@@ -82,11 +82,18 @@ planned_adds at_hand total split e (Err w) p = tt
 
 pub planned_seen : (at_hand : ℕ → Option (List ℕ)) (total : ℕ) (split : Bool) (e : Entry) (r : Result Add AllocError) → IfOk r (IsPlanned at_hand total split e)
     → IfOk r (λ x. IfAdded x (λ changes. InMaps at_hand total (λ pages m. TakesSeen at_hand pages changes)))
-planned_seen at_hand total split e (Ok (add.Changes changes)) p = λ pages agree m a. (p pages agree m a).1
+planned_seen at_hand total split e (Ok (add.Changes changes)) p = λ pages agree m a. (p.0 pages agree m a).1
 planned_seen at_hand total split e (Ok (add.Need q mode)) p = tt
 planned_seen at_hand total split e (Ok add.Full) p = tt
 planned_seen at_hand total split e (Ok add.Endless) p = tt
 planned_seen at_hand total split e (Err w) p = tt
+
+pub planned_there : (at_hand : ℕ → Option (List ℕ)) (total : ℕ) (split : Bool) (e : Entry) (r : Result Add AllocError) → IfOk r (IsPlanned at_hand total split e) → IfOk r (λ x. IfAdded x (AreSeen at_hand))
+planned_there at_hand total split e (Ok (add.Changes changes)) p = p.1
+planned_there at_hand total split e (Ok (add.Need q mode)) p = tt
+planned_there at_hand total split e (Ok add.Full) p = tt
+planned_there at_hand total split e (Ok add.Endless) p = tt
+planned_there at_hand total split e (Err w) p = tt
 
 -- the page that is needed, and that it is due
 pub planned_due : (at_hand : ℕ → Option (List ℕ)) (total : ℕ) (split : Bool) (e : Entry) (r : Result Add AllocError) → IfOk r (IsPlanned at_hand total split e)

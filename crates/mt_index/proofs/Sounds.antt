@@ -9,8 +9,8 @@ use Rattle.mt_space.specs.Kinds.{kind}
 use Rattle.mt_index.specs.Maps.{Each, Once}
 use Rattle.mt_index.specs.Index.{Node, State, named, Linked, IsTree, entries_of}
 use Rattle.mt_index.specs.Steps.{Walk}
-use Rattle.mt_index.specs.Pages.{depth_in, pointer_at, node_of, state_of}
-use Rattle.mt_index.specs.Checks.{IsOn, IsSound, AreKinds, IsPointer, IsMember, IsMarked, AreMarked, IsStuck, IsSettled, entry_at}
+use Rattle.mt_index.specs.Pages.{depth_in, pointer_at, node_of, state_of, IsOn}
+use Rattle.mt_index.specs.Checks.{IsSound, AreKinds, IsPointer, IsMember, IsMarked, AreMarked, IsStuck, IsSettled, entry_at}
 use Rattle.mt_index.proofs.Lists.{each_map, each_remove, at_self}
 use Rattle.mt_index.proofs.Chains.{linked_same, linked_at, before, entries_parts}
 use Rattle.mt_index.proofs.Pigeons.{short, chain_distinct}
@@ -158,10 +158,10 @@ sound_settles relations total pages x homes marked p bucket = record {
     tree = x.map.index.tree
 
     h : ℕ
-    h = (x.chained p bucket).0
+    h = (x.formed.chained p bucket).0
 
     on : IsOn pages (named s h) p
-    on = (x.chained p bucket).1
+    on = (x.formed.chained p bucket).1
 
     g : ℕ
     g = depth_in (pages 1)

@@ -10,6 +10,7 @@ use Rattle.mt_index.specs.Index.{Node, named, entries_of, IsTree}
 use Rattle.mt_index.specs.Pages.{depth_in, pointer_at, pointers_from, node_of, state_of, AreMap, IsDirectory, AreFormed, IsEmpty, LeavesIndex}
 use Rattle.mt_index.proofs.Lists.{each_map}
 use Rattle.mt_index.proofs.Chains.{linked_stay}
+use Rattle.mt_index.proofs.Chaining.{chains_stay}
 use Rattle.mt_index.proofs.Overflow.{each_both, entries_same, named_taken}
 use Rattle.mt_index.proofs.Pointers.{pointers_length, named_is}
 
@@ -97,8 +98,9 @@ index_stays total pages pages2 m a w = record {
   few = a.few;
 }
 
-pub form_stays : (relations total : ℕ) (pages pages2 : PageBytes) → AreFormed relations total pages → LeavesIndex total pages pages2 → AreFormed relations total pages2
-form_stays relations total pages pages2 f w = record {
+pub form_stays : (relations total : ℕ) (pages pages2 : PageBytes) (m : Map) → AreMap total pages m → AreFormed relations total pages → LeavesIndex total pages pages2 → AreFormed relations total pages2
+form_stays relations total pages pages2 m a f w = record {
   directory = subst IsDirectory (sym w.directory) f.directory;
   buckets = λ p is. subst (IsBucket relations total) (sym (w.buckets p (w.no_more p is)).1) (f.buckets p (w.no_more p is));
+  chained = chains_stay total pages pages2 m a w f.chained;
 }

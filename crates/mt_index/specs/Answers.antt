@@ -13,7 +13,7 @@ use Rattle.mt_index.specs.declared.answers.Amend.TheVariants as amend
 use Rattle.mt_index.specs.Index.{kept_low, kept_high}
 use Rattle.mt_index.specs.Steps.{OnChain}
 use Rattle.mt_index.specs.Rule.{IsFull, MaySplit, IsSmallest, Way}
-use Rattle.mt_space.specs.Changes.{PageBytes, Agrees, after, AreShort}
+use Rattle.mt_space.specs.Changes.{PageBytes, Agrees, after, IsUntouched, AreShort}
 use Rattle.mt_space.specs.Kinds.{kind}
 use Rattle.mt_index.specs.Pages.{state_of, AreMap, Passed, AreFormed}
 use Rattle.mt_index.specs.declared.answers.Find.{Find}
@@ -220,9 +220,14 @@ IsDueInAdd split key total pages p mode =
 abbrev pub TakesSeen : (ℕ → Option (List ℕ)) → PageBytes → List PageChange → Type 0
 TakesSeen at_hand pages changes = (p : ℕ) → kind pages p ≡ 0 → kind (after changes pages) p ≢ 0 → IsSome (at_hand p)
 
+-- each page that changes is
+abbrev pub AreSeen : (ℕ → Option (List ℕ)) → List PageChange → Type 0
+AreSeen at_hand changes = (p : ℕ) → at_hand p ≡ None → IsUntouched changes p
+
 abbrev pub IsPlanned : (ℕ → Option (List ℕ)) → ℕ → Bool → Entry → Add → Type 0
 IsPlanned at_hand total split e (add.Need p mode) = Asks at_hand total (IsDueInAdd split e.key total) p mode
-IsPlanned at_hand total split e (add.Changes changes) = InMaps at_hand total (λ pages m. Adds split total e pages changes.list.items × TakesSeen at_hand pages changes.list.items)
+IsPlanned at_hand total split e (add.Changes changes) =
+    InMaps at_hand total (λ pages m. Adds split total e pages changes.list.items × TakesSeen at_hand pages changes.list.items) × AreSeen at_hand changes.list.items
 IsPlanned at_hand total split e add.Full = InMaps at_hand total (λ pages m. Shortage split total e pages)
 IsPlanned at_hand total split e add.Endless = InMaps at_hand total (λ pages m. ⊥)
 

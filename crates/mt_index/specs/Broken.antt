@@ -5,8 +5,8 @@ use Rattle.mt_space.specs.Changes.{PageBytes}
 use Rattle.mt_space.specs.Kinds.{kind}
 use Rattle.mt_index.specs.Maps.{Each}
 use Rattle.mt_index.specs.Steps.{Walk}
-use Rattle.mt_index.specs.Pages.{depth_in, pointer_at, node_of, IsDirectory}
-use Rattle.mt_index.specs.Checks.{IsOn, AreKinds, ArePointers, IsAlone}
+use Rattle.mt_index.specs.Pages.{depth_in, pointer_at, node_of, IsDirectory, IsOn}
+use Rattle.mt_index.specs.Checks.{AreKinds, ArePointers, IsAlone}
 
 -- A bucket's chain comes to a page that cannot stand there: it is no bucket page, it is not as deep as the
 -- first one, it stands in another bucket's chain, the chain has it already, or it never ends.

@@ -7,9 +7,9 @@ use Rattle.mt_bucket.specs.Page.{depth_of, next_of, count_of, cell, entry_of, en
 use Rattle.mt_space.specs.Changes.{PageBytes}
 use Rattle.mt_space.specs.Kinds.{kind}
 use Rattle.mt_index.specs.Maps.{Map, Each}
-use Rattle.mt_index.specs.Index.{named, Linked}
+use Rattle.mt_index.specs.Index.{Linked}
 use Rattle.mt_index.specs.Steps.{Walk}
-use Rattle.mt_index.specs.Pages.{depth_in, pointer_at, node_of, state_of, AreMap, AreFormed}
+use Rattle.mt_index.specs.Pages.{depth_in, pointer_at, node_of, AreMap, IsOn, AreFormed}
 
 -- pages in a row, each whole, and no more than the space map has bytes
 pub record AreWhole (pages : List (List ℕ)) : Type 0 where
@@ -20,18 +20,11 @@ pub record AreWhole (pages : List (List ℕ)) : Type 0 where
 abbrev pub bytes_of : List (List ℕ) → PageBytes
 bytes_of pages p = get_or pages p []
 
--- a page stands in the chain that begins with another
-pub record IsOn (pages : PageBytes) (b p : ℕ) : Type 0 where
-  pub front : List ℕ
-  pub walk : Walk (λ n. node_of (pages n)) b front p
-  pub real : p ≢ 0
-
 -- So many pages are an index, well formed in each byte; each bucket page stands in the chain of some key.
 pub record IsSound (relations total : ℕ) (pages : PageBytes) : Type 0 where
   pub formed : AreFormed relations total pages
   pub meaning : Map
   pub map : AreMap total pages meaning
-  pub chained : (p : ℕ) → kind pages p ≡ 2 → (h : ℕ) × IsOn pages (named (state_of pages) h) p
 
 -- ---- the parts of it that are looked at one after the other
 

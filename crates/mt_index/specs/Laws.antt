@@ -19,6 +19,6 @@ BeginsEmpty = (total : ℕ) (pages : PageBytes) → IsEmpty total pages → AreM
 abbrev pub KeepsMap : Type 0
 KeepsMap = (total : ℕ) (pages pages2 : PageBytes) (m : Map) → AreMap total pages m → LeavesIndex total pages pages2 → AreMap total pages2 m
 
--- and each byte of the index well formed
+-- and each byte of the index well formed, and each bucket page in its chain
 abbrev pub KeepsForm : Type 0
-KeepsForm = (relations total : ℕ) (pages pages2 : PageBytes) → AreFormed relations total pages → LeavesIndex total pages pages2 → AreFormed relations total pages2
+KeepsForm = (relations total : ℕ) (pages pages2 : PageBytes) (m : Map) → AreMap total pages m → AreFormed relations total pages → LeavesIndex total pages pages2 → AreFormed relations total pages2

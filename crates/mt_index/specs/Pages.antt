@@ -61,10 +61,21 @@ pub record IsDirectory (page : List ℕ) : Type 0 where
   pub zeros : AreZero page 1 8
   pub rest : (i : ℕ) → 8 + 2 * 2 ^ depth_in page ≤ i → get_or page i 0 ≡ 0
 
--- the index's pages are well formed, each byte of them
+-- a page stands in the chain that begins with another
+pub record IsOn (pages : PageBytes) (b p : ℕ) : Type 0 where
+  pub front : List ℕ
+  pub walk : Walk (λ n. node_of (pages n)) b front p
+  pub real : p ≢ 0
+
+-- each bucket page stands in the chain of some key
+abbrev pub AreChained : PageBytes → Type 0
+AreChained pages = (p : ℕ) → kind pages p ≡ 2 → (h : ℕ) × IsOn pages (named (state_of pages) h) p
+
+-- the index's pages are well formed, each byte of them, and each of its bucket pages stands in a chain
 pub record AreFormed (relations total : ℕ) (pages : PageBytes) : Type 0 where
   pub directory : IsDirectory (pages 1)
   pub buckets : (p : ℕ) → kind pages p ≡ 2 → IsBucket relations total (pages p)
+  pub chained : AreChained pages
 
 -- one page has new bytes
 pub record Turns (p : ℕ) (new : List ℕ) (pages pages2 : PageBytes) : Type 0 where

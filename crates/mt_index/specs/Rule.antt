@@ -29,7 +29,7 @@ pub record MaySplit (key : List ℕ) (s : State) : Type 0 where
   pub full : IsFull s (named s (hash key))
   pub shallow : (s.node (named s (hash key))).depth < 9
 
--- with a split or without; doubled exactly where the bucket is as deep as the directory
+-- with a split or without; doubled if and only if the bucket is as deep as the directory
 pub data Way (split : Bool) (e : Entry) (s t : State) : Type 0 where
   Here : (p : ℕ) → First e p s t → Way split e s t
   Chained : (z q : ℕ) → (split ≡ true → MaySplit e.key s → ⊥) → IsSmallest s q → Last e z q s t → Way split e s t

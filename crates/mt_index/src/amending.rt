@@ -3,7 +3,7 @@ ghost use Rattle.std.specs.Prelude.{◌≡◌, ◌≤◌, ◌<◌, ℕ, length, 
 ghost use Rattle.mt_base.specs.declared.modes.Mode.TheVariants.{Write};
 ghost use Rattle.mt_space.specs.Changes.{after};
 ghost use Rattle.mt_index.specs.Pages.{AreFormed};
-ghost use Rattle.mt_index.specs.Answers.{InMaps, IsInBucket, Asks, AmendNeeds, IfAmended, AmendMissing, AmendEndless, Amends};
+ghost use Rattle.mt_index.specs.Answers.{InMaps, IsInBucket, Asks, AmendNeeds, IfAmended, AmendMissing, AmendEndless, Amends, AreSeen};
 
 use crate::answers::{Amend, Held};
 use crate::noting::change_of;
@@ -33,6 +33,7 @@ pub fn plan_set<V: Pages>(
         InMaps (V.at_hand views.now) (V.total views.now) (λ pages m.
         (relations : ℕ) → name.page < V.total views.now → AreFormed relations (V.total views.now) pages →
         AreFormed relations (V.total views.now) (after changes pages)))) }
+    ensures seen { IfOk result (λ amend. IfAmended amend (AreSeen (V.at_hand views.now))) }
     ensures missing { IfOk result (λ amend. AmendMissing amend (InMaps (V.at_hand views.now) (V.total views.now)
         (λ pages m. m relation key.now ≡ None))) }
     ensures endless { IfOk result (λ amend. AmendEndless amend (InMaps (V.at_hand views.now) (V.total views.now)
@@ -72,6 +73,7 @@ pub fn plan_drop<V: Pages>(
         InMaps (V.at_hand views.now) (V.total views.now) (λ pages m.
         (relations : ℕ) → AreFormed relations (V.total views.now) pages →
         AreFormed relations (V.total views.now) (after changes pages)))) }
+    ensures seen { IfOk result (λ amend. IfAmended amend (AreSeen (V.at_hand views.now))) }
     ensures missing { IfOk result (λ amend. AmendMissing amend (InMaps (V.at_hand views.now) (V.total views.now)
         (λ pages m. m relation key.now ≡ None))) }
     ensures endless { IfOk result (λ amend. AmendEndless amend (InMaps (V.at_hand views.now) (V.total views.now)

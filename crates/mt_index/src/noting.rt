@@ -1,5 +1,5 @@
-ghost use Rattle.std.specs.Prelude.{◌≡◌, ◌≤◌, ℕ, length, IfOk};
-ghost use Rattle.mt_space.specs.Changes.{PageBytes, after, AreShort};
+ghost use Rattle.std.specs.Prelude.{◌≡◌, ◌≢◌, ◌≤◌, ℕ, length, IfOk};
+ghost use Rattle.mt_space.specs.Changes.{PageBytes, after, IsUntouched, AreShort};
 ghost use Rattle.mt_index.specs.Pages.{Turns};
 
 use mt_base::PageNo;
@@ -19,6 +19,7 @@ pub(crate) fn change_of(
         Turns page new.now pages (after changes.list.items pages)) }
     ensures short { IfOk result (λ changes. (pages : PageBytes) → pages page ≡ old.now →
         AreShort changes.list.items pages) }
+    ensures others { IfOk result (λ changes. (p : ℕ) → p ≢ page → IsUntouched changes.list.items p) }
     ensures one { IfOk result (λ changes. length changes.list.items ≤ 1) }
 {
     let mut changes = Changes::new(alloc);

@@ -3,7 +3,7 @@ ghost use Rattle.std.specs.Prelude.{◌≡◌, ◌≤◌, ◌<◌, length, Some,
 ghost use Rattle.mt_space.specs.Changes.{after};
 ghost use Rattle.mt_index.specs.Maps.{alter};
 ghost use Rattle.mt_index.specs.Pages.{AreMap};
-ghost use Rattle.mt_index.specs.Answers.{InMaps, Asks, IsInAdd, IsDueInAdd, Adds, TakesSeen, Shortage, IsPlanned, AddNeeds, IfAdded, AddFull, AddEndless};
+ghost use Rattle.mt_index.specs.Answers.{InMaps, Asks, IsInAdd, IsDueInAdd, Adds, TakesSeen, AreSeen, Shortage, IsPlanned, AddNeeds, IfAdded, AddFull, AddEndless};
 
 use crate::adding::{plan_chain, plan_put};
 use crate::answers::{Add, Spot};
@@ -20,7 +20,7 @@ use std::alloc::{AllocError, Global};
 /// keys share fewer than 9 bits, it is split once over its page and the free page of the smallest
 /// number; the directory doubles before where it goes by no more bits than the bucket. The entry then goes
 /// into its half, or as where no split is due: into the free page of the smallest number, chained behind. So at
-/// most two pages are taken, and five change.
+/// most two pages are taken, and five change. Each bucket page stands in a chain then, where each did before.
 ///
 /// The directory is needed for read, and for write where it is to change; pages of the bucket are needed for write,
 /// and the map of the space and pages to be taken only where the bucket has no room. `Full` is answered just where no page is free, or just one
@@ -50,6 +50,7 @@ pub fn plan_add<V: Pages>(
         (Some name))))) }
     ensures seen { IfOk result (λ add. IfAdded add (λ changes. InMaps (V.at_hand views.now) (V.total views.now)
         (λ pages m. TakesSeen (V.at_hand views.now) pages changes))) }
+    ensures there { IfOk result (λ add. IfAdded add (AreSeen (V.at_hand views.now))) }
     ensures full { IfOk result (λ add. AddFull add (InMaps (V.at_hand views.now) (V.total views.now) (λ pages m.
         Shortage split (V.total views.now) (record { relation = relation; key = key.now; name = name }) pages))) }
     ensures endless { IfOk result (λ add. AddEndless add (InMaps (V.at_hand views.now) (V.total views.now)
@@ -58,7 +59,7 @@ pub fn plan_add<V: Pages>(
     plan_by_rule(alloc, views, relation, key, name, split)
 }
 
-// The same, with one clause for every answer.
+// Plans to add a record's name, with one clause for every answer.
 fn plan_by_rule<V: Pages>(
     alloc: Global,
     views: &V,

@@ -3,7 +3,7 @@ ghost use Rattle.std.specs.Prelude.{ℕ, ◌≡◌, ◌≢◌, ◌≤◌, ◌<�
 ghost use Rattle.std.specs.Bool.{OnTrue, OnFalse};
 ghost use Rattle.mt_bucket.specs.Hash.{hash as hash_of};
 ghost use Rattle.mt_bucket.specs.Page.{depth_of, count_of, entries, KeepsHead, IsBucket};
-ghost use Rattle.mt_space.specs.Changes.{PageBytes};
+ghost use Rattle.mt_space.specs.Changes.{PageBytes, IsUntouched};
 ghost use Rattle.mt_index.specs.Index.{named};
 ghost use Rattle.mt_index.specs.Rule.{MaySplit};
 ghost use Rattle.mt_index.specs.Pages.{state_of, TakesPage, Rewired, Parted};
@@ -83,9 +83,11 @@ impl Halves {
         old: &[u8; PAGE_BYTES],
         spare: &[u8; PAGE_BYTES],
     ) -> Result<Changes, AllocError>
-        ensures { IfOk result (λ changes. (pages : PageBytes) → pages 0 ≡ space.now → pages 1 ≡ directory.now →
+        ensures notes { IfOk result (λ changes. (pages : PageBytes) → pages 0 ≡ space.now → pages 1 ≡ directory.now →
             pages self.now.bucket ≡ old.now → pages self.now.fresh ≡ spare.now
             → Apart self.now.bucket self.now.fresh → Notes (changed self.now) pages changes.list.items) }
+        ensures others { IfOk result (λ changes. (p : ℕ) → p ≢ 0 → p ≢ 1 → p ≢ self.now.bucket → p ≢ self.now.fresh
+            → IsUntouched changes.list.items p) }
     {
         let mut changes = Changes::new(alloc);
         changes.note(PageNo::new(MAP), space, &self.space)?;

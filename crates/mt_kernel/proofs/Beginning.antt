@@ -22,7 +22,8 @@ use Rattle.mt_kernel.specs.Runs.{running_in, IsOwned, is_at_work, is_open, entry
 use Rattle.mt_kernel.specs.Consistent.{Origin, state_of, state_in, AreLeft, IsNumbered, IsTold, IsWithinSchema, IsConsistent, IsIn}
 use Rattle.mt_kernel.specs.declared.parts.Parts.{Parts}
 use Rattle.mt_kernel.specs.declared.parts.Running.{Running}
-use Rattle.mt_kernel.proofs.Members.{put_other, changed_keeps}
+use Rattle.mt_live.proofs.Alone.{put_other}
+use Rattle.mt_kernel.proofs.Members.{changed_keeps}
 use Rattle.mt_kernel.proofs.Told.{told_fresh, told_put, told_changed}
 use Rattle.mt_kernel.proofs.Queued.{queued_members}
 

@@ -38,7 +38,7 @@ use Rattle.mt_kernel.proofs.Underway.{runs_none}
 use Rattle.mt_kernel.proofs.Effects.{last_kept, weighs_apart, weighs_others}
 use Rattle.mt_kernel.proofs.Told.{told_put}
 use Rattle.mt_kernel.proofs.Queued.{queued_first, queued_members}
-use Rattle.mt_kernel.proofs.Members.{put_other}
+use Rattle.mt_live.proofs.Alone.{put_other}
 
 -- nothing runs of a transaction that is not at work
 pub none_runs : (ms : List Member) (standing : List Entry) (rs : List Running) (t : ℕ) → is_open (member_of ms t) ≡ false → All (IsOwned ms standing) rs → All (λ (r : Running). r.scope.txn ≢ t) rs

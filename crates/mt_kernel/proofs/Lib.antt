@@ -7,6 +7,7 @@ pub mod Reserves
 pub mod Enough
 pub mod Rooms
 pub mod Sounds
+pub mod Surveyed
 pub mod Durables
 pub mod Laboring
 pub mod Undoing
@@ -31,3 +32,12 @@ pub mod Locked
 pub mod Resting
 pub mod Committing
 pub mod Aborted
+pub mod Counted
+pub mod Did
+pub mod Recovering
+pub mod Ranges
+pub mod Leads
+pub mod Between
+pub mod Finding
+pub mod Restarts
+pub mod Prefixed

@@ -1,16 +1,14 @@
 -- What is asked of a live transaction, once one has changed.
 use Rattle.std.proofs.Common.{◌≡◌, ◌≢◌, ℕ, ◌==◌, Bool, true, false, cond, List, Option, Some, None, refl, sym, ap, ◌∙◌}
 use Rattle.std.specs.Option.{option_map}
-use Rattle.std.proofs.lemmas.Bool.{eqb-true, ne_eqb}
+use Rattle.std.proofs.lemmas.Bool.{eqb-true}
+use Rattle.mt_live.proofs.Alone.{put_other}
 use Rattle.mt_live.specs.Lives.{member_of, IsChanged}
 use Rattle.mt_live.specs.Machine.{put}
 use Rattle.std.specs.Prelude.{is_some}
 use Rattle.mt_live.specs.Members.{Member, with_state}
 use Rattle.mt_live.specs.declared.transactions.TxnState.{TxnState}
 use Rattle.mt_kernel.specs.Runs.{state_in}
-
-pub put_other : {A : Type 0} (f : ℕ → A) (t : ℕ) (x : A) (u : ℕ) → u ≢ t → put f t x u ≡ f u
-put_other f t x u apart = let away = ne_eqb u t apart in rw away refl
 
 -- of every one, what the change leaves
 pub changed_keeps : {B : Type 0} (h : Option Member → B) (f : Member → Member) (old new : List Member) (t : ℕ) → ((m : Member) → h (Some (f m)) ≡ h (Some m)) → IsChanged old new t f → (u : ℕ) → h (member_of new u) ≡ h (member_of old u)

@@ -4,3 +4,4 @@ pub mod Causes
 pub mod Steps
 pub mod Work
 pub mod Booked
+pub mod Restartable

@@ -14,6 +14,7 @@ ghost use Rattle.mt_slock.specs.declared.holders.Holder.{Holder};
 ghost use Rattle.mt_kernel.specs.Consistent.{SameCommits, SameStates, CallsIn, log_kept, Origin, state_of, IsConsistent, IsIn, IsPlaceOf, MayRun, MayBeCalled, IsLocked, IsGranted, IsAskedFor, IsCalled, IsRestored, without_call};
 ghost use Rattle.mt_kernel.specs.Causes.{HasReserves, IsUnreserved, IsAdmittedBy, IsRefusedBehind, IsAnswered};
 ghost use Rattle.mt_base.specs.declared.refusal.Refusal.{Refusal};
+ghost use Rattle.mt_kernel.specs.Restartable.{StaysRestartable};
 ghost use Rattle.mt_kernel.specs.Runs.{left_of};
 ghost use Rattle.mt_kernel.specs.Work.{CallRuns, RunsBehind};
 ghost use Rattle.mt_kernel.specs.declared.parts.Running.{Running};
@@ -103,6 +104,7 @@ impl<D: Device> Parts<D> {
             self.new.running.items result }
         ensures same_commits { SameCommits self.old self.new }
         ensures store { self.new.operations.store ≡ self.old.operations.store }
+        ensures restartable { StaysRestartable D.seen D.may_leave self.old self.new }
     {
         let own = op.try_clone()?;
         let end = op.try_clone()?;
@@ -154,6 +156,7 @@ impl<D: Device> Parts<D> {
             self.old.running.items self.new.running.items) }
         ensures same_commits { SameCommits self.old self.new }
         ensures store { self.new.operations.store ≡ self.old.operations.store }
+        ensures book { self.new.book ≡ self.old.book }
     {
         let pages = pages_for(&own, split) + pages_to_undo(&own);
         let bytes = bytes_to_undo(&own);
@@ -212,6 +215,7 @@ impl<D: Device> Parts<D> {
             self.old.running.items self.new.running.items) }
         ensures same_commits { SameCommits self.old self.new }
         ensures store { self.new.operations.store ≡ self.old.operations.store }
+        ensures book { self.new.book ≡ self.old.book }
     {
         ask(&mut self.escrow, txn, op)?;
         match self.start(alloc, txn, own, end, split) {
@@ -251,6 +255,7 @@ impl<D: Device> Parts<D> {
             self.new.running.items result }
         ensures same_commits { SameCommits self.old self.new }
         ensures store { self.new.operations.store ≡ self.old.operations.store }
+        ensures book { self.new.book ≡ self.old.book }
     {
         let mode = op.mode();
         match self.locks.ask(txn, object, mode)? {

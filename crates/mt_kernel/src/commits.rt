@@ -7,10 +7,14 @@ ghost use Rattle.mt_disk.specs.Disk.{HasCause};
 ghost use Rattle.mt_log.specs.Words.{appended, durable, in_flight, waiting, calls_left, has_failed, area_size, IsStep};
 ghost use Rattle.mt_frame.specs.declared.records.Record.TheVariants as record_of;
 ghost use Rattle.mt_model.specs.Model.{Base};
-ghost use Rattle.mt_pool.specs.Views.{IsWaiting, Cleans, to_flush};
+ghost use Rattle.mt_op.specs.Operations.{world};
+ghost use Rattle.mt_op.specs.Surveyed.{IsSurvey};
+ghost use Rattle.mt_op.specs.World.{held_in};
+ghost use Rattle.mt_pool.specs.Views.{IsWaiting, Cleans, pages, to_flush};
 ghost use Rattle.mt_pool.specs.declared.flushing.Flushed.TheVariants as flushed;
 ghost use Rattle.mt_base.specs.declared.refusal.Refusal.{Refusal};
 ghost use Rattle.mt_kernel.specs.Consistent.{log_kept, SameCommits, SameRunning, SameStates, SameUncommitted, SetsState, BooksIn, IsSound, StaysIn, OnlyOperations, Origin, state_of, state_in, session_in, IsConsistent, IsIn};
+ghost use Rattle.mt_kernel.specs.Restartable.{StaysRestartable};
 ghost use Rattle.mt_kernel.specs.Booked.{booked_each, durable_count, durable_txns};
 ghost use Rattle.mt_kernel.specs.Runs.{is_open};
 ghost use Rattle.mt_kernel.specs.Work.{LeavesUndo, most_steps, undo_steps};
@@ -26,7 +30,9 @@ use mt_disk::{Device, DeviceFault};
 use mt_frame::Record;
 use mt_live::TxnState;
 use mt_log::Forced;
+use mt_op::Survey;
 use mt_pool::Flushed;
+use std::alloc::Global;
 
 // What the Commit of a transaction, or the end of its abort, takes of the log.
 const END_LOG_BYTES: u64 = 14;
@@ -61,6 +67,8 @@ impl<D: Device> Parts<D> {
         ensures opened { IfOk result (λ txn. SetsState self.old self.new txn (Some Open)) }
         ensures same_running { SameRunning self.old self.new }
         ensures same_commits { SameCommits self.old self.new }
+        ensures restartable { length self.old.live.members < 64
+            → StaysRestartable D.seen D.may_leave self.old self.new }
         ensures err { OnErr result (self.new ≡ self.old) }
     {
         if !self.log_takes(TRANSACTION_LOG_BYTES) {
@@ -80,6 +88,7 @@ impl<D: Device> Parts<D> {
         ensures same_commits { SameCommits self.old self.new }
         ensures few { (origin : Origin) (base : Base) → IsConsistent D.seen D.may_leave origin base self.old
             → undo_steps self.new txn ≤ most_steps self.old txn }
+        ensures restartable { StaysRestartable D.seen D.may_leave self.old self.new }
     {
         self.live.set_state(txn, TxnState::Aborting);
     }
@@ -107,6 +116,7 @@ impl<D: Device> Parts<D> {
         ensures err { OnErr result (SameStates self.old self.new × SameCommits self.old self.new) }
         ensures same_running { SameRunning self.old self.new }
         ensures only_memory { IfErr result (λ why. why ≡ Refusal.NoMemory) }
+        ensures restartable { StaysRestartable D.seen D.may_leave self.old self.new }
     {
         self.commits.reserve(1)?;
         self.book.reserve(self.commits.len() + 1)?;
@@ -132,6 +142,7 @@ impl<D: Device> Parts<D> {
         ensures running { self.new.running ≡ self.old.running }
         ensures states { SameUncommitted self.old self.new }
         ensures undo { LeavesUndo self.old self.new }
+        ensures restartable { StaysRestartable D.seen D.may_leave self.old self.new }
     {
         let reserved = self.reserved;
         let Commit { txn, place: _ } = self.commits.remove(0);
@@ -160,6 +171,7 @@ impl<D: Device> Parts<D> {
         ensures running { self.new.running ≡ self.old.running }
         ensures states { SameUncommitted self.old self.new }
         ensures undo { LeavesUndo self.old self.new }
+        ensures restartable { StaysRestartable D.seen D.may_leave self.old self.new }
     {
         let count = durable_count(self.commits.as_slice(), place);
         for _booked in 0..count {
@@ -183,6 +195,7 @@ impl<D: Device> Parts<D> {
         ensures only_device { IfErr result (λ why. why ≡ Refusal.DeviceFailed) }
         ensures cause { IsErr result → (D.faults self.old.operations.store.device
             < D.faults self.new.operations.store.device ⊎ (has_failed self.old.operations.store.log ≡ true)) }
+        ensures restartable { StaysRestartable D.seen D.may_leave self.old self.new }
     {
         self.operations.force_step()
     }
@@ -206,7 +219,28 @@ impl<D: Device> Parts<D> {
             → (f : ℕ) → get_or self.new.operations.store.pool.dirty.items f false ≡ false }
         ensures cause { HasCause (D.faults self.old.operations.store.device)
             (D.faults self.new.operations.store.device) result }
+        ensures restartable { StaysRestartable D.seen D.may_leave self.old self.new }
     {
         self.operations.flush_step()
+    }
+
+    /// Tells what the pages come to, by their bytes, where nobody lives. Nothing has changed then. Refused for want of
+    /// memory, and where the device failed in this call.
+    pub fn survey(&mut self, alloc: Global) -> Result<Survey, Refusal>
+        requires safe { IsSound D.seen D.may_leave self.old }
+        requires nobody { self.old.live.members ≡ [] }
+        ensures surveyed { (origin : Origin) (base : Base) → IsConsistent D.seen D.may_leave origin base self.old
+            → IfOk result (IsSurvey origin.relations origin.counters (pages self.old.operations.store.pool)
+            (held_in (world D.seen origin.pages self.old.operations)) base) }
+        ensures state { StaysIn D.seen D.may_leave self.old self.new }
+        ensures rest { OnlyOperations self.old self.new }
+        ensures log { self.new.operations.store.log ≡ self.old.operations.store.log }
+        ensures pool { self.new.operations.store.pool ≡ self.old.operations.store.pool }
+        ensures content { D.seen self.new.operations.store.device ≡ D.seen self.old.operations.store.device }
+        ensures cause { IfErr result (λ why. (why ≡ Refusal.NoMemory) ⊎ (why ≡ Refusal.DeviceFailed)
+            × (D.faults self.old.operations.store.device < D.faults self.new.operations.store.device)) }
+        ensures restartable { StaysRestartable D.seen D.may_leave self.old self.new }
+    {
+        self.operations.survey(alloc)
     }
 }

@@ -8,6 +8,7 @@ ghost use Rattle.mt_op.specs.Faults.{TellsFaults};
 ghost use Rattle.mt_op.specs.Operations.{IsCause};
 ghost use Rattle.mt_live.specs.declared.transactions.TxnState.TheVariants.{Aborting};
 ghost use Rattle.mt_kernel.specs.Consistent.{BacksIn, DropsIn, state_in, IsSound, IsClearedAt, AtPlace, Origin, state_of, IsConsistent, IsCleared, IsIn, GoesBack};
+ghost use Rattle.mt_kernel.specs.Restartable.{QuietlyAppends, StaysRestartable};
 ghost use Rattle.mt_kernel.specs.Steps.{WantsFrame};
 ghost use Rattle.mt_kernel.specs.Work.{LeavesStanding, LowersBack, undo_steps};
 ghost use Rattle.mt_kernel.specs.declared.parts.Running.{Running};
@@ -43,6 +44,9 @@ impl<D: Device> Parts<D> {
             (D.faults self.new.operations.store.device) result }
         ensures back { (origin : Origin) (base : Base) → IsConsistent D.seen D.may_leave origin base self.old
             → GoesBack D.seen D.may_leave origin base (state_of self.old base) self.new place result }
+        ensures book { self.new.book ≡ self.old.book }
+        ensures appends { (origin : Origin) (base : Base) → IsConsistent D.seen D.may_leave origin base self.old
+            → QuietlyAppends origin.pages self.old self.new }
     {
         self.operations.take_back(&mut self.running[place].scope)
     }
@@ -61,6 +65,7 @@ impl<D: Device> Parts<D> {
         ensures drops { (origin : Origin) (base : Base) → IsClearedAt D.seen D.may_leave origin base self.old place
             → AtPlace self.old.running.items place (λ r. DropsIn D.seen D.may_leave origin base
             (state_of self.old base) self.new r.scope.txn) }
+        ensures book { self.new.book ≡ self.old.book }
     {
         let Running { scope, op } = self.running.remove(place);
         let txn = scope.txn();
@@ -92,6 +97,7 @@ impl<D: Device> Parts<D> {
         ensures why { IfErr result IsCause }
         ensures faults { TellsFaults (D.faults self.old.operations.store.device)
             (D.faults self.new.operations.store.device) result }
+        ensures restartable { StaysRestartable D.seen D.may_leave self.old self.new }
     {
         match self.take_back(place)? {
             TakenBack::Clear => {

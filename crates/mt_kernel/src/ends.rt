@@ -7,6 +7,7 @@ ghost use Rattle.mt_live.specs.Machine.{ended, undone};
 ghost use Rattle.mt_model.specs.Model.{Base, base_after};
 ghost use Rattle.mt_model.specs.declared.operations.Reply.{Reply};
 ghost use Rattle.mt_kernel.specs.Consistent.{SameStates, EndsIn, UndoesIn, IsReadyAt, AtPlace, Origin, state_of, IsIn, IsReady};
+ghost use Rattle.mt_kernel.specs.Restartable.{NotesEnd, NotesUndone};
 ghost use Rattle.mt_kernel.specs.declared.parts.Running.{Running};
 
 use crate::parts::{Parts, Running};
@@ -43,6 +44,7 @@ impl<D: Device> Parts<D> {
         ensures commits { self.new.commits ≡ self.old.commits }
         ensures ends { (origin : Origin) (base : Base) → IsReadyAt D.seen D.may_leave origin base self.old place reply
             → AtPlace self.old.running.items place (λ r. EndsIn D.seen D.may_leave origin base self.old self.new r) }
+        ensures notes { AtPlace self.old.running.items place (λ r. NotesEnd self.old self.new r reply) }
     {
         let Running { scope, op } = self.running.remove(place);
         let txn = scope.txn();
@@ -68,6 +70,7 @@ impl<D: Device> Parts<D> {
             → IsReadyAt D.seen D.may_leave origin base self.old place reply
             → AtPlace self.old.running.items place (λ r. UndoesIn D.seen D.may_leave origin base
             (state_of self.old base) self.new r.scope.txn r.scope.op) }
+        ensures notes { AtPlace self.old.running.items place (NotesUndone self.old self.new) }
     {
         let Running { scope, op } = self.running.remove(place);
         let txn = scope.txn();

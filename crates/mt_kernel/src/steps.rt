@@ -9,6 +9,7 @@ ghost use Rattle.mt_pool.specs.Views.{pages};
 ghost use Rattle.mt_kernel.specs.Work.{Lowers, LowersUndo, steps_in, undo_steps};
 ghost use Rattle.mt_op.specs.Faults.{TellsFaults};
 ghost use Rattle.mt_op.specs.Operations.{IsCause};
+ghost use Rattle.mt_kernel.specs.Restartable.{StaysRestartable, StepAppends};
 ghost use Rattle.mt_kernel.specs.Steps.{Steps, UndoSteps, TellsOther, NamesOther, WantsFrame};
 ghost use Rattle.mt_kernel.specs.declared.parts.Running.{Running};
 
@@ -64,6 +65,9 @@ impl<D: Device> Parts<D> {
             → Advances D.seen D.may_leave origin base (state_of self.old base) self.new place result }
         ensures other { (origin : Origin) (base : Base) → IsConsistent D.seen D.may_leave origin base self.old
             → AtPlace self.old.running.items place (λ r. TellsOther self.new.running.items r.scope.txn result) }
+        ensures book { self.new.book ≡ self.old.book }
+        ensures appends { (origin : Origin) (base : Base) → IsConsistent D.seen D.may_leave origin base self.old
+            → AtPlace self.new.running.items place (λ r. StepAppends origin self.old self.new r.scope result) }
     {
         self.operations.step(alloc, &mut self.running[place].scope)
     }
@@ -91,6 +95,7 @@ impl<D: Device> Parts<D> {
             → Steps D.seen D.may_leave origin base self.old self.new place result }
         ensures other { (origin : Origin) (base : Base) → IsConsistent D.seen D.may_leave origin base self.old
             → AtPlace self.old.running.items place (λ r. NamesOther self.new.running.items r.scope.txn result) }
+        ensures restartable { StaysRestartable D.seen D.may_leave self.old self.new }
     {
         match self.advance(alloc, place)? {
             Stepped::Ready(reply, answer) => {
@@ -129,6 +134,7 @@ impl<D: Device> Parts<D> {
             → UndoSteps D.seen D.may_leave origin base self.old self.new place result }
         ensures other { (origin : Origin) (base : Base) → IsConsistent D.seen D.may_leave origin base self.old
             → AtPlace self.old.running.items place (λ r. NamesOther self.new.running.items r.scope.txn result) }
+        ensures restartable { StaysRestartable D.seen D.may_leave self.old self.new }
     {
         match self.advance(alloc, place)? {
             Stepped::Ready(reply, answer) => {

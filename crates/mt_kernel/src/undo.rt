@@ -8,6 +8,7 @@ ghost use Rattle.mt_live.specs.Undoing.{last_effect};
 ghost use Rattle.mt_model.specs.Model.{Base};
 ghost use Rattle.mt_live.specs.declared.transactions.TxnState.TheVariants.{Aborting};
 ghost use Rattle.mt_kernel.specs.Consistent.{IsSound, SameStates, SameStatesBut, StaysIn, state_in, Origin, state_of, IsConsistent, IsIn};
+ghost use Rattle.mt_kernel.specs.Restartable.{StaysRestartable};
 ghost use Rattle.mt_kernel.specs.Runs.{is_open};
 ghost use Rattle.mt_kernel.specs.Work.{undo_steps};
 ghost use Rattle.mt_kernel.specs.declared.parts.Running.{Running};
@@ -39,6 +40,7 @@ impl<D: Device> Parts<D> {
         ensures live { self.new.live ≡ self.old.live }
         ensures commits { self.new.commits ≡ self.old.commits }
         ensures only_memory { IfErr result (λ why. why ≡ Refusal.NoMemory) }
+        ensures restartable { StaysRestartable D.seen D.may_leave self.old self.new }
     {
         let Some(last) = self.live.last_to_undo(txn) else {
             return Ok(false);
@@ -81,6 +83,7 @@ impl<D: Device> Parts<D> {
         ensures err { (origin : Origin) (base : Base) → IsConsistent D.seen D.may_leave origin base self.old
             → OnErr result (IsIn D.seen D.may_leave origin base (state_of self.old base) self.new) }
         ensures only_memory { IfErr result (λ why. why ≡ Refusal.NoMemory) }
+        ensures restartable { StaysRestartable D.seen D.may_leave self.old self.new }
     {
         self.operations.append(Record::AbortEnd { txn })?;
         self.live.leave(txn);

@@ -330,7 +330,7 @@ fn may_stand(alloc: Global, body: &[u8]) -> Result<bool, Fail> {
     Ok(rules.admit(false, records.as_slice())?)
 }
 
-// The same of three ends of adds.
+// Whether three ends of adds may stand in a batch behind the first.
 fn may_ends_stand(alloc: Global, ends: [(u8, u8); 3]) -> Result<bool, Fail> {
     let mut body = Vec::new(alloc);
     for (op, undoes) in ends {

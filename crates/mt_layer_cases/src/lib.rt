@@ -32,6 +32,8 @@ mod plock;
 #[cfg(test)]
 mod pool;
 #[cfg(test)]
+mod replay;
+#[cfg(test)]
 mod scanning;
 #[cfg(test)]
 mod slock;

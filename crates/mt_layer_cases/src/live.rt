@@ -82,7 +82,7 @@ fn leaves(live: &mut Live, txn: TxnNo) -> (u32, bool, [usize; 2])
     (done.session, are, [before, live.count()])
 }
 
-/// The same of the first of two whose operations end in turn.
+/// What the first of two transactions leaves, whose operations end in turn.
 fn first_leaves(alloc: Global) -> Result<(u32, bool, [usize; 2]), Refusal> {
     let (mut live, first, second) = two_live(alloc)?;
     interleave(&mut live, first, second, alloc)?;
@@ -135,7 +135,7 @@ fn go_back_twice(
     ([first, second, next_to_undo(live, txn)], half)
 }
 
-/// The same of the second of two transactions, and how many calls it leaves.
+/// What is taken back of the second of two transactions, and how many calls it leaves.
 fn second_goes_back(
     alloc: Global,
 ) -> Result<

@@ -117,7 +117,7 @@ fn is_on(op: &Op, object: &Object) -> Result<(bool, LockMode), Refusal> {
     Ok((own == *object, op.mode()))
 }
 
-/// The same of a get and of its key.
+/// Whether a get is on its key, and its mode.
 fn get_is_on_its_key(alloc: Global) -> Result<(bool, LockMode), Refusal> {
     let key = Object::Key(RelNo::new(1), Bytes::copy_of(alloc, b"k")?);
     let get = Op::Get(RelNo::new(1), Bytes::copy_of(alloc, b"k")?);

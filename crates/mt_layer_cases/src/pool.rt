@@ -170,8 +170,8 @@ fn has_bytes(device: &MemDevice, at: usize, bytes: &[u8; 5]) -> bool {
     at <= all.len() && 5 <= all.len() - at && all[at..at + 5] == bytes[..]
 }
 
-/// The same of page 3 of four, whether the device is as it was then, what two flushes answer, and whether the device
-/// has the stamp then.
+/// What a stamp on page 3 of four answers, whether the device is as it was then, what two flushes answer, and whether
+/// the device has the stamp then.
 fn stamp_and_flush(
     alloc: Global,
 ) -> Result<([bool; 4], [Result<Flushed, DeviceFault>; 2], [bool; 2]), Refusal> {

@@ -91,7 +91,7 @@ fn ask_in_the_way(alloc: Global, table: &mut LockTable) -> [Result<Asked, Refusa
     ]
 }
 
-/// The same, whether 1 writes the key then, and what 3 is answered once 2 has released it.
+/// What the five are answered, whether 1 writes the key then, and what 3 is answered once 2 has released it.
 fn oldest_in_the_way(
     alloc: Global,
 ) -> Result<([Result<Asked, Refusal>; 5], bool, Result<Asked, Refusal>), AllocError> {

@@ -21,10 +21,10 @@ use Rattle.mt_live.proofs.Schedule.{nobody_leaves_nothing}
 
 -- ---- put
 
-put_own : {A : Type 0} (f : ℕ → A) (t : ℕ) (x : A) → put f t x t ≡ x
+pub put_own : {A : Type 0} (f : ℕ → A) (t : ℕ) (x : A) → put f t x t ≡ x
 put_own f t x = ap (λ (c : Bool). cond c x (f t)) (eq_self t)
 
-put_other : {A : Type 0} (f : ℕ → A) (t : ℕ) (x : A) (u : ℕ) → u ≢ t → put f t x u ≡ f u
+pub put_other : {A : Type 0} (f : ℕ → A) (t : ℕ) (x : A) (u : ℕ) → u ≢ t → put f t x u ≡ f u
 put_other f t x u other = ap (λ (c : Bool). cond c x (f u)) (ne_eqb u t other)
 
 -- ---- who lives

@@ -48,7 +48,8 @@ impl Model for Transaction {
     } };
 
     ghost invariant = { λ t.
-        HasRoomFor t.has_room (vec_len t.calls) (vec_capacity t.calls) (vec_len t.operations) (vec_capacity t.operations) };
+        HasRoomFor t.has_room (vec_len t.calls) (vec_capacity t.calls) (vec_len t.operations)
+        (vec_capacity t.operations) };
 }
 
 // The number of the last call that did something.

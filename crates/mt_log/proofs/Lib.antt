@@ -6,5 +6,6 @@ pub mod OneWay
 pub mod Pieces
 pub mod Prefix
 pub mod ReadOn
+pub mod Ruling
 pub mod Settled
 pub mod Steps

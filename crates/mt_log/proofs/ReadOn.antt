@@ -55,7 +55,7 @@ rules_push (x ∷ bs) b all may = history_push (x ∷ bs) b (omega arith) all ma
 not_none : (x : Batch) (bs : List Batch) → eqb (length (x ∷ bs)) 0 ≡ false
 not_none x bs = grind (arith, nat_tests)
 
--- a batch is the first one exactly where none was found
+-- a batch is the first one if and only if none was found
 pub may_come : (first : Bool) (bs : List Batch) (b : List Record) → first ≡ eqb (length bs) 0 → MayFollow first (joined (records_of bs)) b → MayComeNext (records_of bs) b
 may_come first [] b is may = subst (λ (x : Bool). MayFollow x [] b) is may
 may_come first (x ∷ bs) b is may = subst (λ (y : Bool). MayFollow y (joined (records_of (x ∷ bs))) b) (is ∙ not_none x bs) may

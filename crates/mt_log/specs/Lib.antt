@@ -5,6 +5,7 @@ pub mod Forcing
 pub mod Found
 pub mod Holds
 pub mod Laws
+pub mod Masters
 pub mod Quiet
 pub mod Reading
 pub mod Same

@@ -57,7 +57,7 @@ RepliesAppend =
     (b : Base) (xs ys : List Op)
     → alone b (xs ++ ys) ≡ ((alone (alone b xs).0 ys).0, (alone b xs).1 ++ (alone (alone b xs).0 ys).1)
 
--- calls are acted exactly where their replies are those of their operations alone
+-- calls are acted if and only if their replies are those of their operations alone
 abbrev pub ActedIsAlone : Type 0
 ActedIsAlone = (b : Base) (cs : List Call) → IsActed b cs ↔ ((alone b (ops_of cs)).1 ≡ replies_of cs)
 

@@ -21,8 +21,8 @@ pub fn bounds_are_kept()
     ensures { BoundsAreKept }
 {}
 
-/// Whichever of some steps are made, a counter stays in its bounds exactly where it does so with
-/// all the steps down, and with all the steps up (escrow, O'Neil 1986).
+/// Whichever of some steps are made, a counter stays in its bounds if and only if it does so
+/// with all the steps down, and with all the steps up (escrow, O'Neil 1986).
 pub fn two_numbers_decide()
     ensures { TwoNumbersDecide }
 {}
@@ -33,14 +33,14 @@ pub fn replies_append()
     ensures { RepliesAppend }
 {}
 
-/// Calls are acted exactly where their replies are those of their operations run alone, and they
+/// Calls are acted if and only if their replies are those of their operations run alone, and they
 /// leave the same base.
 pub fn acted_is_alone()
     ensures replies { ActedIsAlone }
     ensures base { RunIsAlone }
 {}
 
-/// Transactions behind others are legal exactly where the others are, and they themselves from the
+/// Transactions behind others are legal if and only if the others are, and they themselves from the
 /// base that the others leave.
 pub fn legal_appends()
     ensures { LegalAppends }

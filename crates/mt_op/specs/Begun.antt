@@ -4,7 +4,8 @@ use Rattle.mt_file.specs.Rooms.{AreRooms}
 use Rattle.mt_file.specs.declared.rooms.Rooms.{Rooms}
 use Rattle.mt_frame.specs.History.{txn_of}
 use Rattle.mt_frame.specs.declared.records.Record.{Record}
-use Rattle.mt_pool.specs.Kept.{IsKept}
+use Rattle.mt_disk.specs.Disk.{LeavesOnly}
+use Rattle.mt_pool.specs.Kept.{IsKept, Explains}
 use Rattle.mt_pool.specs.Views.{view, pages}
 use Rattle.mt_pool.specs.declared.store.Store.{Store}
 use Rattle.mt_space.specs.Changes.{PageBytes}
@@ -28,11 +29,13 @@ abbrev pub HasGoodOpening : {D : Type 0} → (D → List ℕ) → (D → List �
 HasGoodOpening seen may_leave s =
     ∥ ((opening : PageBytes) × (relations : ℕ) × (counters : ℕ) × IsKept seen may_leave opening s × IsGood relations counters (pages s.pool) opening × ShowsOpening seen opening s) ∥₁
 
--- pages were read, and nothing has changed but frames
-pub record HasRead {D : Type 0} (seen : D → List ℕ) (may_leave : D → List ℕ → Type 0) (o n : Store D) : Type 0 where
+-- pages were read, and nothing has changed but frames; whatever a crash leaves meanwhile explains the pages
+pub record HasRead {D : Type 0} (seen : D → List ℕ) (may_leave : D → List ℕ → Type 0) (moment : D → ℕ) (left_since : D → ℕ → List ℕ → Type 0) (o n : Store D) : Type 0 where
   pub kept : (opening : PageBytes) → IsKept seen may_leave opening o → IsKept seen may_leave opening n
   pub shows : (opening : PageBytes) → ShowsOpening seen opening o → ShowsOpening seen opening n
+  pub moments : (opening : PageBytes) → IsKept seen may_leave opening o → LeavesOnly moment left_since o.device n.device (Explains opening o)
   pub log : n.log ≡ o.log
+  pub place : n.pool.place ≡ o.pool.place
   pub page_count : pages n.pool ≡ pages o.pool
   pub dirty : n.pool.dirty ≡ o.pool.dirty
 

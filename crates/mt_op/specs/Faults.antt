@@ -3,7 +3,7 @@ use Rattle.std.specs.Prelude.{◌≡◌, ◌<◌, ◌≤◌, ℕ, Result, Err}
 use Rattle.mt_base.specs.declared.refusal.Refusal.{Refusal}
 use Rattle.mt_base.specs.declared.refusal.Refusal.TheVariants as refusal
 
--- Refusal 2 is answered exactly where the device failed in this call.
+-- Refusal 2 is answered if and only if the device failed in this call.
 pub record TellsFaults {T : Type 0} (before now : ℕ) (result : Result T Refusal) : Type 0 where
   pub later : before ≤ now
   pub failed : result ≡ Err refusal.DeviceFailed → before < now

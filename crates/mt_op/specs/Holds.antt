@@ -1,5 +1,5 @@
 -- What asking for a page lock does to an operation.
-use Rattle.std.specs.Prelude.{◌≡◌, ◌⊎◌, ◌<◌, ◌≤◌, ◌++◌, ◌∷◌, [], ℕ, List, Option, None, Some, IsSome, Result, Ok, Err, Contains, true, false, get_or}
+use Rattle.std.specs.Prelude.{◌≡◌, ◌⊎◌, ◌<◌, ◌≤◌, ◌++◌, ◌∷◌, [], ℕ, List, Option, None, Some, IsSome, Result, Ok, Err, Contains, true, get_or}
 use Rattle.mt_base.specs.declared.modes.Mode.{Mode}
 use Rattle.mt_base.specs.declared.modes.Mode.TheVariants.{Read, Write}
 use Rattle.mt_base.specs.declared.refusal.Refusal.{Refusal}
@@ -11,7 +11,8 @@ use Rattle.mt_plock.specs.Releasing.{locks_without}
 use Rattle.mt_space.specs.Changes.{IsUntouched}
 use Rattle.mt_space.specs.declared.changes.PageChange.{PageChange}
 use Rattle.mt_file.specs.Rooms.{fits_of}
-use Rattle.mt_steps.specs.Plans.{InPages, IsPlanned, AsksCounters, AsksRow, record_bytes}
+use Rattle.mt_steps.specs.Asks.{AsksFor}
+use Rattle.mt_steps.specs.Plans.{InPages, IsPlanned, record_bytes}
 use Rattle.mt_op.specs.World.{World, looked, looked_bytes}
 use Rattle.mt_op.specs.Moves.{SameOp, SamePlan, Locks, Rests, Leaves}
 use Rattle.mt_op.specs.Operations.{only_reads}
@@ -70,12 +71,12 @@ pub record IsMade (s t : OpScope) : Type 0 where
 
 -- what its plan asks for
 abbrev pub IsAsked : OpScope → ℕ → Mode → Type 0
-IsAsked s p mode = AsksCounters s.op p mode × AsksRow (looked s) s.seen.total s.op p mode
+IsAsked s p mode = AsksFor (looked s) s.room s.seen.total s.split s.op p mode
 
--- It puts a record, and its plan asks for the space map: a page of records that is noted to take it is tried first, to
--- write it.
+-- It puts a record, was led to no page, and its plan asks for the space map: a page of records that is noted to take the
+-- record is tried first, to write it.
 abbrev pub IsTried : List ℕ → OpScope → ℕ → Mode → Type 0
-IsTried noted s p mode = ((first : Mode) × IsAsked s 0 first) × (mode ≡ Write) × (only_reads s.op ≡ false) × (record_bytes s.op ≤ get_or noted p 0)
+IsTried noted s p mode = ((first : Mode) × IsAsked s 0 first) × (s.room ≡ None) × (mode ≡ Write) × (0 < record_bytes s.op) × (record_bytes s.op ≤ get_or noted p 0)
 
 -- a page that it has not looked at, and that its plan asks for, or one that is tried first; where it only reads, to read it
 pub record IsToLook (noted : List ℕ) (s : OpScope) (p : ℕ) (mode : Mode) : Type 0 where

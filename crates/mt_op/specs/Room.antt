@@ -17,8 +17,8 @@ abbrev pub HasRooms : OpScope → List ℕ → List ℕ → PageBytes → Type 0
 HasRooms s map rooms pages = (p : ℕ) → IsSome (looked s p) → Any (λ l. l.page ≡ p) s.guards.items → IsRoom (get_or map p 0) (after (changes_in s) pages p) (get_or rooms p 0)
 
 -- What each page of records takes is noted, and nothing else has changed but frames.
-pub record HasNoted {D : Type 0} (seen : D → List ℕ) (may_leave : D → List ℕ → Type 0) (failures : D → ℕ) (o n : Operations D) : Type 0 where
-  pub read : HasRead seen may_leave o.store n.store
+pub record HasNoted {D : Type 0} (seen : D → List ℕ) (may_leave : D → List ℕ → Type 0) (moment : D → ℕ) (left_since : D → ℕ → List ℕ → Type 0) (failures : D → ℕ) (o n : Operations D) : Type 0 where
+  pub read : HasRead seen may_leave moment left_since o.store n.store
   pub noted : (opening : PageBytes) → ShowsOpening seen opening o.store → o.map.kinds ≡ opening 0 → AreRooms n.rooms.0 opening
   pub size : length n.rooms.0 ≡ length o.rooms.0
   pub locks : n.locks ≡ o.locks

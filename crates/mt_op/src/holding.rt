@@ -43,6 +43,7 @@ impl<D: Device> Operations<D> {
             (Explains opening self.old.store) }
         ensures there { result ≡ Ok true → IsThere self.new.store.pool page }
         ensures full { result ≡ Ok false → IsFull self.old.store.pool × (self.new ≡ self.old) }
+        ensures place { self.new.store.pool.place ≡ self.old.store.pool.place }
         ensures log { self.new.store.log ≡ self.old.store.log }
         ensures locks { self.new.locks ≡ self.old.locks }
         ensures map { self.new.map ≡ self.old.map }
@@ -116,7 +117,7 @@ impl<D: Device> Operations<D> {
         self.look(scope, page, mode, room)
     }
 
-    // The same of a page that is in a frame.
+    // Locks and copies a page that is in a frame.
     fn look(
         &mut self,
         scope: &mut OpScope,
@@ -134,13 +135,16 @@ impl<D: Device> Operations<D> {
         ensures goes { (opening : PageBytes) (relations counters : ℕ)
             → IsRight D.seen D.may_leave opening relations counters self.old
             → IsUnderWay relations counters (world D.seen opening self.old) scope.old →
-            IsRight D.seen D.may_leave opening relations counters self.new × GoesOn relations counters (world D.seen opening self.old) (world D.seen opening self.new) scope.old scope.new result }
+            IsRight D.seen D.may_leave opening relations counters self.new
+            × GoesOn relations counters (world D.seen opening self.old) (world D.seen opening self.new)
+            scope.old scope.new result }
         ensures store { self.new.store ≡ self.old.store }
         ensures map { self.new.map ≡ self.old.map }
         ensures same { IsAsFar scope.old scope.new }
         ensures never { result ≡ Ok stepped.Flush → ⊥ }
         ensures work { Works scope.old scope.new result }
-        ensures locks { KeepsLocks scope.old.number (IsNext self.old.rooms.0 scope.old) self.old.locks self.new.locks result }
+        ensures locks { KeepsLocks scope.old.number (IsNext self.old.rooms.0 scope.old) self.old.locks self.new.locks
+            result }
         ensures scope { KeepsScope scope.old scope.new result }
         ensures only_memory { IfErr result (λ why. why ≡ Refusal.NoMemory) }
     {
@@ -163,13 +167,16 @@ impl<D: Device> Operations<D> {
         ensures goes { (opening : PageBytes) (relations counters : ℕ)
             → IsRight D.seen D.may_leave opening relations counters self.old
             → IsUnderWay relations counters (world D.seen opening self.old) scope.old →
-            IsRight D.seen D.may_leave opening relations counters self.new × GoesOn relations counters (world D.seen opening self.old) (world D.seen opening self.new) scope.old scope.new result }
+            IsRight D.seen D.may_leave opening relations counters self.new
+            × GoesOn relations counters (world D.seen opening self.old) (world D.seen opening self.new)
+            scope.old scope.new result }
         ensures store { self.new.store ≡ self.old.store }
         ensures map { self.new.map ≡ self.old.map }
         ensures same { IsAsFar scope.old scope.new }
         ensures never { result ≡ Ok stepped.Flush → ⊥ }
         ensures work { Works scope.old scope.new result }
-        ensures locks { KeepsLocks scope.old.number (IsNext self.old.rooms.0 scope.old) self.old.locks self.new.locks result }
+        ensures locks { KeepsLocks scope.old.number (IsNext self.old.rooms.0 scope.old) self.old.locks self.new.locks
+            result }
         ensures scope { KeepsScope scope.old scope.new result }
         ensures only_memory { IfErr result (λ why. why ≡ Refusal.NoMemory) }
     {

@@ -14,9 +14,11 @@ mod planning;
 mod scope;
 mod space_map;
 mod stepping;
+mod surveying;
 mod undoing;
 
 pub use answers::{Stepped, TakenBack};
 pub use operations::{NotOpened, Operations};
 pub use parting::Idle;
 pub use scope::{OpScope, Stage};
+pub use surveying::Survey;

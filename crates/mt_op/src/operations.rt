@@ -67,7 +67,8 @@ impl<D: Device + Drop> Operations<D> {
     /// Operations over a store whose log has no record but the images that its area began with: none is under way.
     /// Each page of records is looked at once, and it is noted how long a record it takes. Refusals are
     /// [`Refusal::NoMemory`] and, where the device failed in this call, [`Refusal::DeviceFailed`]; each hands the
-    /// store back. Pages are read, and nothing is written or appended in any case.
+    /// store back. Pages are read, and nothing is written or appended in any case: whatever a crash leaves meanwhile
+    /// explains the pages as before.
     pub fn new(alloc: Global, store: Store<D>) -> Result<Operations<D>, NotOpened<D>>
         requires good { HasGoodOpening D.seen D.may_leave store }
         requires images { AreImages (appended store.log) }
@@ -77,7 +78,9 @@ impl<D: Device + Drop> Operations<D> {
             → IfOk result (IsRight D.seen D.may_leave opening relations counters) }
         ensures locks { IfOk result (λ operations. operations.locks ≡ []) }
         ensures claimed { IfOk result (λ operations. claimed operations ≡ 0) }
-        ensures read { HasRead D.seen D.may_leave store (store_after result) }
+        ensures moments { (opening : PageBytes) → IsKept D.seen D.may_leave opening store
+            → LeavesOnly D.moment D.left_since store.device (store_after result).device (Explains opening store) }
+        ensures read { HasRead D.seen D.may_leave D.moment D.left_since store (store_after result) }
         ensures quiet { IfOk result (λ operations. D.faults operations.store.device ≡ D.faults store.device) }
         ensures cause { IfErr result (λ gone. (gone.refusal ≡ Refusal.NoMemory)
             ⊎ (gone.refusal ≡ Refusal.DeviceFailed) × (D.faults store.device < D.faults gone.store.device)) }
@@ -195,7 +198,7 @@ impl<D: Device> Operations<D> {
         &self.store.pool
     }
 
-    /// Claims so many free pages, for operations and their inverses. Refused with 10 exactly where fewer of the pages
+    /// Claims so many free pages, for operations and their inverses. Refused with 10 if and only if fewer of the pages
     /// held are free and not claimed; nothing has changed then. It takes no memory.
     pub fn claim(&mut self, count: u16) -> Result<(), Refusal>
         ensures right { (opening : PageBytes) (relations counters : ℕ)
@@ -204,11 +207,13 @@ impl<D: Device> Operations<D> {
         ensures claimed { OnOk result (claimed self.new ≡ claimed self.old + count) }
         ensures fits { (opening : PageBytes) (relations counters : ℕ)
             → IsRight D.seen D.may_leave opening relations counters self.old →
-            OnOk result (claimed self.old + count ≤ free_pages (pages self.old.store.pool) (held_in (world D.seen opening self.old))) }
+            OnOk result (claimed self.old + count ≤ free_pages (pages self.old.store.pool)
+            (held_in (world D.seen opening self.old))) }
         ensures why { IfErr result (λ why. why ≡ Refusal.NoRoom) }
         ensures cause { (opening : PageBytes) (relations counters : ℕ)
             → IsRight D.seen D.may_leave opening relations counters self.old →
-            OnErr result (free_pages (pages self.old.store.pool) (held_in (world D.seen opening self.old)) < claimed self.old + count) }
+            OnErr result (free_pages (pages self.old.store.pool)
+            (held_in (world D.seen opening self.old)) < claimed self.old + count) }
         ensures err { OnErr result (self.new ≡ self.old) }
         ensures rests { (opening : PageBytes) → Rests (world D.seen opening self.old) (world D.seen opening self.new) }
         ensures store { self.new.store ≡ self.old.store }
@@ -308,7 +313,8 @@ impl<D: Device> Operations<D> {
         ensures there { self.new.store.pool.of_page ≡ self.old.store.pool.of_page }
         ensures written { (p : ℕ) → result ≡ Ok (flushed.Page p) → Cleans self.old.store.pool self.new.store.pool
             (length (durable self.old.store.log)) p }
-        ensures barred { result ≡ Ok flushed.Force → IsWaiting self.old.store.pool (length (durable self.old.store.log)) }
+        ensures barred { result ≡ Ok flushed.Force → IsWaiting self.old.store.pool
+            (length (durable self.old.store.log)) }
         ensures fewer { (p : ℕ) → result ≡ Ok (flushed.Page p)
             → to_flush self.new.store.pool + 1 ≡ to_flush self.old.store.pool }
         ensures forced { result ≡ Ok flushed.Force → length (durable self.old.store.log) < length
@@ -327,8 +333,8 @@ impl<D: Device> Operations<D> {
             opening × ShowsOpening D.seen opening self.old.store × (self.old.map.kinds ≡ opening 0)) ∥₁ }
         requires spare { IsFull self.old.store.pool → ⊥ }
         requires blank { self.old.rooms.0 ≡ replicate (pages self.old.store.pool) 0 }
-        ensures noted { OnOk result (HasNoted D.seen D.may_leave D.faults self.old self.new) }
-        ensures read { HasRead D.seen D.may_leave self.old.store self.new.store }
+        ensures noted { OnOk result (HasNoted D.seen D.may_leave D.moment D.left_since D.faults self.old self.new) }
+        ensures read { HasRead D.seen D.may_leave D.moment D.left_since self.old.store self.new.store }
         ensures failed { IsErr result → D.faults self.old.store.device < D.faults self.new.store.device }
         ensures only_device { IfErr result (λ why. why ≡ Refusal.DeviceFailed) }
     {
@@ -380,7 +386,7 @@ fn first_parts<D: Device>(alloc: Global, store: &mut Store<D>) -> Result<(Rooms,
     requires good { HasGoodOpening D.seen D.may_leave store.old }
     requires free { IsFull store.old.pool → ⊥ }
     ensures begins { IfOk result (λ parts. BeginsParts D.seen store.old parts.0 parts.1) }
-    ensures read { HasRead D.seen D.may_leave store.old store.new }
+    ensures read { HasRead D.seen D.may_leave D.moment D.left_since store.old store.new }
     ensures quiet { IsOk result → D.faults store.new.device ≡ D.faults store.old.device }
     ensures cause { IfErr result (λ why. (why ≡ Refusal.NoMemory) ⊎ (why ≡ Refusal.DeviceFailed)
         × (D.faults store.old.device < D.faults store.new.device)) }

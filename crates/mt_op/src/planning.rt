@@ -40,13 +40,13 @@ impl<D: Device> Operations<D> {
     /// [`Stepped::Wait`], [`Stepped::Flush`] and the refusals change nothing of pages, locks and log, and of the operation
     /// nothing but that its plan may be made, where it is not to wait; [`Stepped::Again`] gives the operation's locks
     /// back, so that it begins anew with its number. As many free pages as the operation may take are to be claimed for
-    /// it; with its end it has given them back. The refusals are [`Refusal::NoMemory`] and, exactly where the device
+    /// it; with its end it has given them back. The refusals are [`Refusal::NoMemory`] and, if and only if the device
     /// failed in this call, [`Refusal::DeviceFailed`].
     ///
     /// A lock is asked for on a page that the plan asks for and that was not looked at, by an operation that only reads
     /// to read it. A row's operation looks for its key first: in the directory, to read it, and in the key's chain. Where
-    /// the plan asks for the space map, a page that is noted to take the record may be tried first, to write it. Or a lock
-    /// is asked for, to write it, on a page that the plan changes.
+    /// the plan asks for the space map, for a record, and no page was tried yet, a page that is noted to take the
+    /// record may be tried first, to write it. Or a lock is asked for, to write it, on a page that the plan changes.
     ///
     /// A record goes into the page of records that was tried first and takes it, or into a free page where none was. A
     /// free page is taken only for such a record, or for its entry where the key's bucket is full; and only a page of
@@ -65,7 +65,9 @@ impl<D: Device> Operations<D> {
             → IsRight D.seen D.may_leave opening relations counters self.old
             → IsUnderWay relations counters (world D.seen opening self.old) scope.old → relations ≤ 64 → counters ≤ 128
             →
-            IsRight D.seen D.may_leave opening relations counters self.new × Steps relations counters (world D.seen opening self.old) (world D.seen opening self.new) scope.old scope.new result }
+            IsRight D.seen D.may_leave opening relations counters self.new
+            × Steps relations counters (world D.seen opening self.old) (world D.seen opening self.new)
+            scope.old scope.new result }
         ensures moments { (opening : PageBytes) → IsKept D.seen D.may_leave opening self.old.store
             → LeavesOnly D.moment D.left_since self.old.store.device self.new.store.device
             (Explains opening self.old.store) }
@@ -78,7 +80,8 @@ impl<D: Device> Operations<D> {
         ensures stage { ComesTo scope.new.stage result }
         ensures work { Works scope.old scope.new result }
         ensures records { KeepsRecords scope.new (appended self.old.store.log) (appended self.new.store.log) result }
-        ensures locks { KeepsLocks scope.old.number (IsNext self.old.rooms.0 scope.old) self.old.locks self.new.locks result }
+        ensures locks { KeepsLocks scope.old.number (IsNext self.old.rooms.0 scope.old) self.old.locks self.new.locks
+            result }
         ensures scope { KeepsScope scope.old scope.new result }
         ensures writing { scope.old.stage ≡ Writing → self.new.locks ≡ self.old.locks }
         // Where the plan is made, a page more is written then.
@@ -120,7 +123,8 @@ impl<D: Device> Operations<D> {
         requires claims { own_needs scope.old.op scope.old.split ≤ claimed self.old }
         requires planning { scope.old.stage ≡ Planning }
         requires budget { HasBudget scope.old }
-        ensures { PlansOn D.seen D.may_leave D.moment D.left_since D.faults self.old self.new scope.old scope.new result }
+        ensures { PlansOn D.seen D.may_leave D.moment D.left_since D.faults self.old self.new scope.old scope.new
+            result }
     {
         match plan(alloc, &scope.seen, scope.room, &scope.op, scope.split)? {
             Act::Lock(page, mode) => {
@@ -170,6 +174,7 @@ impl<D: Device> Operations<D> {
         ensures unlocked { IfSome result (λ p. All (λ l. l.page ≢ p) self.now.locks) }
         ensures roomy { IfSome result (λ p. bytes_put scope.now.op ≤ get_or self.now.rooms.0 p 0) }
         ensures puts { IfSome result (λ p. only_reads scope.now.op ≡ false) }
+        ensures some { IfSome result (λ p. 0 < bytes_put scope.now.op) }
         ensures unled { IfSome result (λ p. scope.now.room ≡ None) }
     {
         let bytes = record_bytes(&scope.op)?;
@@ -209,7 +214,9 @@ impl<D: Device> Operations<D> {
         ensures goes { (opening : PageBytes) (relations counters : ℕ)
             → IsRight D.seen D.may_leave opening relations counters self.old
             → IsUnderWay relations counters (world D.seen opening self.old) scope.old → relations ≤ 64 →
-            IsRight D.seen D.may_leave opening relations counters self.new × IsPlannedOn relations counters (world D.seen opening self.old) (world D.seen opening self.new) scope.old scope.new result }
+            IsRight D.seen D.may_leave opening relations counters self.new
+            × IsPlannedOn relations counters (world D.seen opening self.old) (world D.seen opening self.new)
+            scope.old scope.new result }
         ensures store { self.new.store ≡ self.old.store }
         ensures map { self.new.map ≡ self.old.map }
         ensures made { result ≡ Ok None → (self.new ≡ self.old) × (scope.new.stage ≡ Writing) }
@@ -218,7 +225,8 @@ impl<D: Device> Operations<D> {
         ensures never { result ≡ Ok (Some stepped.Flush) → ⊥ }
         ensures stage { (result ≡ Ok None → ⊥) → scope.new.stage ≡ Planning }
         ensures work { WorksOn scope.old scope.new result }
-        ensures locks { KeepsLocksOn scope.old.number (IsNext self.old.rooms.0 scope.old) self.old.locks self.new.locks result }
+        ensures locks { KeepsLocksOn scope.old.number (IsNext self.old.rooms.0 scope.old) self.old.locks
+            self.new.locks result }
         ensures scope { KeepsScopeOn scope.old scope.new result }
         ensures only_memory { IfErr result (λ why. why ≡ Refusal.NoMemory) }
     {

@@ -58,7 +58,7 @@ impl<D: Device> Operations<D> {
         self.write_there(alloc, scope)
     }
 
-    // The same of a page that is in a frame. Where memory is refused nothing has changed.
+    // Writes a page that is in a frame. Where memory is refused nothing has changed.
     fn write_there(&mut self, alloc: Global, scope: &mut OpScope) -> Result<Stepped, Refusal>
         requires right { IsOneOf D.seen D.may_leave self.old scope.old }
         requires writing { scope.old.stage ≡ Writing }
@@ -152,7 +152,8 @@ impl<D: Device> Operations<D> {
 
     // Notes what the pages take that the operation looked at, once its changes are made.
     fn note_looked(&mut self, scope: &OpScope)
-        requires pages { ∥ ((pages : PageBytes) × Agrees (looked scope.now) pages × AreShort (changes_in scope.now) pages
+        requires pages { ∥ ((pages : PageBytes) × Agrees (looked scope.now) pages
+            × AreShort (changes_in scope.now) pages
             × ((p : ℕ) → get_or self.old.map.kinds p 0 ≡ 3 → IsShaped (after (changes_in scope.now) pages p))) ∥₁ }
         requires whole { (p : ℕ) (bytes : List ℕ) → looked scope.now p ≡ Some bytes → length bytes ≡ 4096 }
         requires inside { (p : ℕ) → IsSome (looked scope.now p) → p < length self.old.rooms.0 }

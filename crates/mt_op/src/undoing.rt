@@ -36,7 +36,7 @@ impl<D: Device> Operations<D> {
     /// How many steps: each that answers [`TakenBack::More`] leaves a page less that stands, of eight at most.
     ///
     /// [`TakenBack::Flush`] and the refusals change nothing: [`Refusal::NoMemory`], where the record cannot be
-    /// appended, and, exactly where the device failed in this call, [`Refusal::DeviceFailed`].
+    /// appended, and, if and only if the device failed in this call, [`Refusal::DeviceFailed`].
     pub fn take_back(&mut self, scope: &mut OpScope) -> Result<TakenBack, Refusal>
         requires right { IsOneOf D.seen D.may_leave self.old scope.old }
         requires stage { (scope.old.stage ≡ Planning) ⊎ ((scope.old.stage ≡ Writing) ⊎ (scope.old.stage ≡ Taking)) }
@@ -45,7 +45,9 @@ impl<D: Device> Operations<D> {
         ensures goes { (opening : PageBytes) (relations counters : ℕ)
             → IsRight D.seen D.may_leave opening relations counters self.old
             → IsUnderWay relations counters (world D.seen opening self.old) scope.old →
-            IsRight D.seen D.may_leave opening relations counters self.new × Goes relations counters (world D.seen opening self.old) (world D.seen opening self.new) scope.old scope.new }
+            IsRight D.seen D.may_leave opening relations counters self.new
+            × Goes relations counters (world D.seen opening self.old) (world D.seen opening self.new)
+            scope.old scope.new }
         ensures moments { (opening : PageBytes) → IsKept D.seen D.may_leave opening self.old.store
             → LeavesOnly D.moment D.left_since self.old.store.device self.new.store.device
             (Explains opening self.old.store) }
@@ -125,7 +127,8 @@ impl<D: Device> Operations<D> {
     fn append_dropped(&mut self, scope: &OpScope) -> Result<(), Refusal>
         requires kept { HasOpening D.seen D.may_leave self.old.store }
         requires grammar { IsRecord (OpDropped scope.now.txn scope.now.number) }
-        requires rules { may_stand false (appended self.old.store.log) (OpDropped scope.now.txn scope.now.number) ≡ true }
+        requires rules { may_stand false (appended self.old.store.log)
+            (OpDropped scope.now.txn scope.now.number) ≡ true }
         requires room { used self.old.store.log + 22 < area_size self.old.store.log }
         ensures kept { (opening : PageBytes) → IsKept D.seen D.may_leave opening self.old.store
             → IsKept D.seen D.may_leave opening self.new.store }

@@ -1,5 +1,5 @@
 // Pages come into frames.
-ghost use Rattle.std.specs.Prelude.{◌≡◌, ◌<◌, ◌≤◌, ◌+◌, ℕ, List, [], length, get_or, Ok, Some, None};
+ghost use Rattle.std.specs.Prelude.{◌≡◌, ◌<◌, ◌≤◌, ◌+◌, ℕ, List, [], length, get_or, Ok, Some, None, OnOk};
 ghost use Rattle.mt_disk.specs.Disk.{Elapses, HasCause};
 ghost use Rattle.mt_pool.specs.Images.{slot};
 
@@ -46,7 +46,7 @@ impl Pool {
     }
 
     /// Brings the page into a frame, if it is in none, out of which goes a page that is not to be flushed, by
-    /// second chance. It answers [`Fetched::Flush`] exactly where every frame holds a page yet to be
+    /// second chance. It answers [`Fetched::Flush`] if and only if every frame holds a page yet to be
     /// flushed and the page is in none, and changes nothing then. It reads one page at most, writes none,
     /// takes no memory, and all views stand, after an error too, which only the device makes.
     pub fn fetch<D: Device>(&mut self, device: &mut D, page: PageNo) -> Result<Fetched, DeviceFault>
@@ -87,6 +87,35 @@ impl Pool {
                 }
             }
             None => Ok(Fetched::Flush),
+        }
+    }
+
+    /// Copies a page's bytes as they are, out of its frame or else out of its slot. No page comes into a frame or leaves
+    /// one, so it answers however many pages are to be flushed. It reads one page at most, writes none and takes no
+    /// memory. The only error is the device's; `bytes` may hold anything then.
+    pub fn copy<D: Device>(
+        &self,
+        device: &mut D,
+        page: PageNo,
+        bytes: &mut [u8; 4096],
+    ) -> Result<(), DeviceFault>
+        requires pool { IsPool self.now }
+        requires shows { Shows self.now (D.seen device.old) }
+        requires inside { page < pages self.now }
+        ensures copied { OnOk result (bytes.new ≡ view self.now (D.seen device.old) page) }
+        ensures whole { length bytes.new ≡ 4096 }
+        ensures seen { D.seen device.new ≡ D.seen device.old }
+        ensures crash { (c : List ℕ) → D.may_leave device.new c → D.may_leave device.old c }
+        ensures time { Elapses (D.moment device.old) (D.moment device.new) (D.left_since device.old)
+            (D.left_since device.new) (D.may_leave device.new) }
+        ensures cause { HasCause (D.faults device.old) (D.faults device.new) result }
+    {
+        match self.frame_of(page) {
+            Some(frame) => {
+                *bytes = self.bytes[frame];
+                Ok(())
+            }
+            None => read_page(device, self.place, page, bytes),
         }
     }
 }

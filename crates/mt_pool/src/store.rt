@@ -236,12 +236,35 @@ impl<D: Device> Store<D> {
         ensures exact { IsFull self.old.pool → get_or self.old.pool.of_page.items page None ≡ None
             → result ≡ Ok fetched.Flush }
         ensures log { self.new.log ≡ self.old.log }
+        ensures place { self.new.pool.place ≡ self.old.pool.place }
         ensures pages { pages self.new.pool ≡ pages self.old.pool }
         ensures flush { self.new.pool.dirty ≡ self.old.pool.dirty }
         ensures waits { self.new.pool.waits ≡ self.old.pool.waits }
         ensures cause { HasCause (D.faults self.old.device) (D.faults self.new.device) result }
     {
         self.pool.fetch(&mut self.device, page)
+    }
+
+    /// Copies a page's bytes as they are, as [`Pool::copy`] does: no frame is taken, and it takes no memory. The only error
+    /// is the device's; all views stand then, and `bytes` may hold anything.
+    pub fn copy(&mut self, page: PageNo, bytes: &mut [u8; 4096]) -> Result<(), DeviceFault>
+        requires kept { HasOpening D.seen D.may_leave self.old }
+        requires inside { page < pages self.old.pool }
+        ensures kept { (opening : ℕ → List ℕ) → IsKept D.seen D.may_leave opening self.old
+            → IsKept D.seen D.may_leave opening self.new }
+        ensures moments { (opening : ℕ → List ℕ) → IsKept D.seen D.may_leave opening self.old
+            → LeavesOnly D.moment D.left_since self.old.device self.new.device (Explains opening self.old) }
+        // At most one device call.
+        ensures time { Elapses (D.moment self.old.device) (D.moment self.new.device) (D.left_since self.old.device)
+            (D.left_since self.new.device) (D.may_leave self.new.device) }
+        ensures copied { OnOk result (bytes.new ≡ view self.old.pool (D.seen self.old.device) page) }
+        ensures whole { length bytes.new ≡ 4096 }
+        ensures seen { D.seen self.new.device ≡ D.seen self.old.device }
+        ensures pool { self.new.pool ≡ self.old.pool }
+        ensures log { self.new.log ≡ self.old.log }
+        ensures cause { HasCause (D.faults self.old.device) (D.faults self.new.device) result }
+    {
+        self.pool.copy(&mut self.device, page, bytes)
     }
 
     /// Puts a page's bytes from before a change back without a record, as [`Pool::restore`] does. It cannot fail.

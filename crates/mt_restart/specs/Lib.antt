@@ -1,4 +1,5 @@
 pub mod Firsts
 pub mod Formats
+pub mod Reported
 pub mod Schemas
 pub mod Within

@@ -2,7 +2,7 @@
 ghost use Rattle.std.specs.Prelude.{◌≡◌, ◌⊎◌, ◌<◌, length, IfOk, IfErr};
 ghost use Rattle.mt_base.specs.declared.refusal.Refusal.{Refusal};
 ghost use Rattle.mt_live.specs.Machine.{start};
-ghost use Rattle.mt_txn.specs.Shown.{Shows};
+ghost use Rattle.mt_txn.specs.Shown.{Restarts, Shows};
 ghost use Rattle.mt_restart.specs.Schemas.{counters_in, device_bytes, relations_in, schema_base};
 
 use crate::Schema;
@@ -25,6 +25,7 @@ pub fn fresh<D: Device + Drop>(
 ) -> Result<Kernel<D>, (Refusal, D)>
     requires frames { 0 < frames }
     ensures shows { IfOk result (Shows D.seen D.may_leave (schema_base schema.now) (start (schema_base schema.now))) }
+    ensures restarts { IfOk result (Restarts D.seen D.may_leave (schema_base schema.now)) }
     ensures schema { IfOk result (λ kernel. (kernel.relations ≡ relations_in schema.now)
         × (kernel.counters ≡ length (counters_in schema.now))) }
     ensures cause { IfErr result (λ gone. (gone.0 ≡ Refusal.NoMemory)

@@ -11,7 +11,6 @@ use Rattle.mt_disk.specs.declared.device.Device.{Ghosts}
 use Rattle.mt_live.proofs.Alone.{alone_is_free}
 use Rattle.mt_live.specs.Lives.{calls_of}
 use Rattle.mt_live.specs.Machine.{State, called}
-use Rattle.mt_log.specs.Words.{has_failed}
 use Rattle.mt_model.specs.History.{Call, run}
 use Rattle.mt_model.specs.Locks.{Bars, Held, IsFree}
 use Rattle.mt_model.specs.Model.{Base, mode_of, object_of, reply_of}
@@ -31,7 +30,7 @@ use Rattle.mt_kernel.specs.declared.parts.Running.{Running}
 use Rattle.mt_txn.proofs.Showing.{kept_of}
 use Rattle.mt_txn.specs.Causes.{call_cause, count_cause, first_of, is_key, is_step, is_value, name_cause, size_cause, unless}
 use Rattle.mt_txn.specs.Events.{HasCalled, IsAnsweredBy}
-use Rattle.mt_txn.specs.Shown.{Shows}
+use Rattle.mt_txn.specs.Shown.{Shows, is_failed}
 use Rattle.mt_txn.specs.declared.kernel.Kernel.{Kernel}
 use Rattle.mt_server.specs.declared.answers.Answer.TheVariants.{Replied, Refused}
 use Rattle.mt_server.specs.declared.lines.Line.TheVariants as line
@@ -133,7 +132,7 @@ module _ {D : Type 0} {g : Ghosts D} (seen : D → List ℕ) (may_leave : D → 
   abbrev pub fault : Option Refusal
   fault = first_of (name_cause k.relations k.counters op) (size_cause op)
 
-  call_is : IsOpened seen may_leave p t calls k → call_cause k.relations k.counters k.parts t op ≡ causes (has_failed k.parts.operations.store.log) many_of fault
+  call_is : IsOpened seen may_leave p t calls k → call_cause k.relations k.counters (is_failed k) k.parts t op ≡ causes (is_failed k) many_of fault
   call_is o =
       ap₂ (λ (a b : Option Refusal). first_of a (first_of b (first_of (count_cause k.parts t) fault))) (open_is seen may_leave faults k t o.state)
       (ap (λ (b : Bool). if b then Some refusal.Busy else None) (opened_idle seen may_leave faults p t calls k o))
@@ -145,19 +144,19 @@ module _ {D : Type 0} {g : Ghosts D} (seen : D → List ℕ) (may_leave : D → 
       alone_is_free first s t p.session calls kept alone (object_of op) (mode_of op) u (subst (λ (h : Held). Bars h t (object_of op) (mode_of op) u) same bars))))
 
   -- where it was not refused at once, it has no fault
-  answered_late : (r : Result Called Refusal) (x : Called) → r ≡ Ok x → ((why : Refusal) → call_cause k.relations k.counters k.parts t op ≡ Some why → r ≡ Err why) → call_cause k.relations k.counters k.parts t op ≡ None
-  answered_late r x is early = go (call_cause k.relations k.counters k.parts t op) refl
+  answered_late : (r : Result Called Refusal) (x : Called) → r ≡ Ok x → ((why : Refusal) → call_cause k.relations k.counters (is_failed k) k.parts t op ≡ Some why → r ≡ Err why) → call_cause k.relations k.counters (is_failed k) k.parts t op ≡ None
+  answered_late r x is early = go (call_cause k.relations k.counters (is_failed k) k.parts t op) refl
     where
-      go : (c : Option Refusal) → call_cause k.relations k.counters k.parts t op ≡ c → c ≡ None
+      go : (c : Option Refusal) → call_cause k.relations k.counters (is_failed k) k.parts t op ≡ c → c ≡ None
       go None e = refl
       go (Some y) e = absurd (let wrong : ◌≡◌ {A = Result Called Refusal} (Ok x) (Err y) = sym is ∙ early y e in cc)
 
-  pub call_faultless : (r : Result Called Refusal) (x : Called) → r ≡ Ok x → IsOpened seen may_leave p t calls k → ((why : Refusal) → call_cause k.relations k.counters k.parts t op ≡ Some why → r ≡ Err why) → fault ≡ None
-  call_faultless r x is o early = no_fault (has_failed k.parts.operations.store.log) many_of fault (sym (call_is o) ∙ answered_late r x is early)
+  pub call_faultless : (r : Result Called Refusal) (x : Called) → r ≡ Ok x → IsOpened seen may_leave p t calls k → ((why : Refusal) → call_cause k.relations k.counters (is_failed k) k.parts t op ≡ Some why → r ≡ Err why) → fault ≡ None
+  call_faultless r x is o early = no_fault (is_failed k) many_of fault (sym (call_is o) ∙ answered_late r x is early)
 
   -- nobody is waited for
-  pub call_waits : (r : Result Called Refusal) (holder : ℕ) → r ≡ Ok (call.Wait holder) → IsOpened seen may_leave p t calls k → ((why : Refusal) → call_cause k.relations k.counters k.parts t op ≡ Some why → r ≡ Err why)
-      → (call_cause k.relations k.counters k.parts t op ≡ None → IsAnsweredBy seen may_leave k t op r) → ⊥
+  pub call_waits : (r : Result Called Refusal) (holder : ℕ) → r ≡ Ok (call.Wait holder) → IsOpened seen may_leave p t calls k → ((why : Refusal) → call_cause k.relations k.counters (is_failed k) k.parts t op ≡ Some why → r ≡ Err why)
+      → (call_cause k.relations k.counters (is_failed k) k.parts t op ≡ None → IsAnsweredBy seen may_leave k t op r) → ⊥
   call_waits r holder is o early answer =
       ∥∥₁_elim (subst (IsAnsweredBy seen may_leave k t op) is (answer (answered_late r (call.Wait holder) is early))) (hlevel props) (λ (origin, base, at, safe, said). opened_free o holder said.0.bars)
 
@@ -190,13 +189,13 @@ module _ {D : Type 0} {g : Ghosts D} (seen : D → List ℕ) (may_leave : D → 
   )
 
   pub call_refused : (n : Kernel D g) (r : Result Called Refusal) (why : Refusal) → r ≡ Err why → p.under_way ≡ Some calls → IsOpened seen may_leave p t calls k
-      → ((y : Refusal) → call_cause k.relations k.counters k.parts t op ≡ Some y → r ≡ Err y) → (call_cause k.relations k.counters k.parts t op ≡ None → IsAnsweredBy seen may_leave k t op r)
-      → ((y : Refusal) → call_cause k.relations k.counters k.parts t op ≡ Some y → n ≡ k) → ((first : Base) (s : State) → Shows seen may_leave first s k → HasCalled seen may_leave first s t op r n) → SameStates k.parts n.parts
+      → ((y : Refusal) → call_cause k.relations k.counters (is_failed k) k.parts t op ≡ Some y → r ≡ Err y) → (call_cause k.relations k.counters (is_failed k) k.parts t op ≡ None → IsAnsweredBy seen may_leave k t op r)
+      → ((y : Refusal) → call_cause k.relations k.counters (is_failed k) k.parts t op ≡ Some y → n ≡ k) → ((first : Base) (s : State) → Shows seen may_leave first s k → HasCalled seen may_leave first s t op r n) → SameStates k.parts n.parts
       → IsAnsweredOr seen may_leave faults p k (Some t) (line.Call op) (refused_as why (Some t)) n
   call_refused n r why is under o early answer unmoved did states =
       let stays = subst (λ (x : Result Called Refusal). (first : Base) (s : State) → Shows seen may_leave first s k → HasCalled seen may_leave first s t op x n) is did in
       let now = opened_stays seen may_leave faults p t calls k n o stays (states t) in
-      let told = go (call_cause k.relations k.counters k.parts t op) refl in
+      let told = go (call_cause k.relations k.counters (is_failed k) k.parts t op) refl in
       answered_refused seen may_leave faults p (Some calls) (line.Call op) (Some t) k n why under (calls, under, now) (left_of seen may_leave faults p (Some t) n (calls, under, now))
       (λ e. broken told e) (λ other. wants told other)
     where
@@ -206,27 +205,27 @@ module _ {D : Type 0} {g : Ghosts D} (seen : D → List ℕ) (may_leave : D → 
       late : IsCallWant op why → Told
       late want = inr (λ (e : why ≡ refusal.DeviceFailed). subst (IsCallWant op) e want, inr want)
 
-      go : (c : Option Refusal) → call_cause k.relations k.counters k.parts t op ≡ c → Told
+      go : (c : Option Refusal) → call_cause k.relations k.counters (is_failed k) k.parts t op ≡ c → Told
       go None e = late (want_of seen k.parts t op why (opened_free o) (∥∥₁_map (subst (IsAnsweredBy seen may_leave k t op) is (answer e)) (λ (origin, base, at, safe, said). (origin, said))))
       go (Some y) e =
           let same : y ≡ why = let both : ◌≡◌ {A = Result Called Refusal} (Err y) (Err why) = sym (early y e) ∙ is in cc in
-          by (cause_is (has_failed k.parts.operations.store.log) many_of fault op why (fault_sound k.relations k.counters op) (sym (call_is o) ∙ e ∙ ap (λ (x : Refusal). Some x) same))
+          by (cause_is (is_failed k) many_of fault op why (fault_sound k.relations k.counters op) (sym (call_is o) ∙ e ∙ ap (λ (x : Refusal). Some x) same))
         where
-          by : ((why ≡ refusal.DeviceFailed) × (has_failed k.parts.operations.store.log ≡ true)) ⊎ ((why ≢ refusal.DeviceFailed) × ((fault ≡ Some why) ⊎ IsCallWant op why)) → Told
-          by (inl x) = inl (x.0, inl (ap (λ (z : Kernel D g). has_failed z.parts.operations.store.log) (unmoved y e) ∙ x.1))
+          by : ((why ≡ refusal.DeviceFailed) × (is_failed k ≡ true)) ⊎ ((why ≢ refusal.DeviceFailed) × ((fault ≡ Some why) ⊎ IsCallWant op why)) → Told
+          by (inl x) = inl (x.0, inl (ap (λ (z : Kernel D g). is_failed z) (unmoved y e) ∙ x.1))
           by (inr x) = inr x
 
       broken : Told → why ≡ refusal.DeviceFailed → HasBroken faults n
       broken (inl x) e = x.1
       broken (inr x) e = absurd (x.0 e)
 
-      tested : (c : Option Refusal) → call_cause k.relations k.counters k.parts t op ≡ c → IsTested seen may_leave k (Some t) (line.Call op) why
+      tested : (c : Option Refusal) → call_cause k.relations k.counters (is_failed k) k.parts t op ≡ c → IsTested seen may_leave k (Some t) (line.Call op) why
       tested None e = inr (e, subst (IsAnsweredBy seen may_leave k t op) is (answer e))
       tested (Some y) e = inl (let same : y ≡ why = let both : ◌≡◌ {A = Result Called Refusal} (Err y) (Err why) = sym (early y e) ∙ is in cc in e ∙ ap (λ (x : Refusal). Some x) same)
 
       due : (fault ≡ Some why) ⊎ IsCallWant op why → (fault ≡ Some why) ⊎ (IsCallWant op why × IsDueTo seen may_leave k (Some t) (line.Call op) why)
       due (inl x) = inl x
-      due (inr want) = inr (want, inr (tested (call_cause k.relations k.counters k.parts t op) refl))
+      due (inr want) = inr (want, inr (tested (call_cause k.relations k.counters (is_failed k) k.parts t op) refl))
 
       wants : Told → why ≢ refusal.DeviceFailed → (fault ≡ Some why) ⊎ (IsCallWant op why × IsDueTo seen may_leave k (Some t) (line.Call op) why)
       wants (inl x) other = absurd (other x.0)

@@ -16,7 +16,6 @@ use Rattle.mt_live.specs.Machine.{State, committed_base, called, ended, gone, pu
 use Rattle.mt_live.specs.Members.{Member}
 use Rattle.mt_live.specs.declared.transactions.TxnState.{TxnState}
 use Rattle.mt_live.specs.declared.transactions.TxnState.TheVariants.{Open, Committing, Aborting}
-use Rattle.mt_log.specs.Words.{has_failed}
 use Rattle.mt_model.specs.History.{Call, run, after}
 use Rattle.mt_model.specs.Model.{Base, reply_of}
 use Rattle.mt_model.specs.declared.operations.Op.{Op}
@@ -30,7 +29,7 @@ use Rattle.mt_txn.specs.Causes.{IsFault, abort_cause, is_aborting, is_busy, is_o
 use Rattle.mt_txn.specs.Events.{HasStepped, HasAborted}
 use Rattle.mt_txn.specs.Events.{IsBack}
 use Rattle.mt_txn.specs.Events.IsBack.{stands, drops, undoes}
-use Rattle.mt_txn.specs.Shown.{Shows, Stays}
+use Rattle.mt_txn.specs.Shown.{Shows, Stays, is_failed}
 use Rattle.mt_txn.specs.Work.{IsAnother, IsForOther, IsAbortForOther, LowersSteps, LowersAbort}
 use Rattle.mt_txn.specs.declared.answers.Stepped.{Stepped}
 use Rattle.mt_txn.specs.declared.answers.Stepped.TheVariants as step
@@ -68,20 +67,20 @@ module _ {D : Type 0} {g : Ghosts D} (seen : D → List ℕ) (may_leave : D → 
 
   -- ---- causes
 
-  step_cause_is : (k : Kernel D g) (t : ℕ) → state_in k.parts.live.members t ≡ Some Open → is_busy k.parts t ≡ true → step_cause k.parts t ≡ (if has_failed k.parts.operations.store.log then Some refusal.DeviceFailed else None)
-  step_cause_is k t state busy = go (has_failed k.parts.operations.store.log) refl
+  step_cause_is : (k : Kernel D g) (t : ℕ) → state_in k.parts.live.members t ≡ Some Open → is_busy k.parts t ≡ true → step_cause (is_failed k) k.parts t ≡ (if is_failed k then Some refusal.DeviceFailed else None)
+  step_cause_is k t state busy = go (is_failed k) refl
     where
-      go : (b : Bool) → has_failed k.parts.operations.store.log ≡ b → step_cause k.parts t ≡ (if b then Some refusal.DeviceFailed else None)
+      go : (b : Bool) → is_failed k ≡ b → step_cause (is_failed k) k.parts t ≡ (if b then Some refusal.DeviceFailed else None)
       go b is =
-          ap₂ (λ (o : Option TxnState) (c : Bool). first_of (if has_failed k.parts.operations.store.log then Some refusal.DeviceFailed else unless (is_open o) refusal.Stranger) (unless c refusal.Stranger)) state busy
+          ap₂ (λ (o : Option TxnState) (c : Bool). first_of (if is_failed k then Some refusal.DeviceFailed else unless (is_open o) refusal.Stranger) (unless c refusal.Stranger)) state busy
           ∙ ap (λ (c : Bool). first_of (if c then Some refusal.DeviceFailed else None) None) is ∙ by b
         where
           by : (c : Bool) → first_of (if c then Some refusal.DeviceFailed else None) None ≡ (if c then Some refusal.DeviceFailed else None)
           by true = refl
           by false = refl
 
-  abort_cause_is : (k : Kernel D g) (t : ℕ) → state_in k.parts.live.members t ≡ Some Aborting → abort_cause k.parts t ≡ (if has_failed k.parts.operations.store.log then Some refusal.DeviceFailed else None)
-  abort_cause_is k t state = ap (λ (o : Option TxnState). if has_failed k.parts.operations.store.log then Some refusal.DeviceFailed else unless (is_aborting o) refusal.Stranger) state
+  abort_cause_is : (k : Kernel D g) (t : ℕ) → state_in k.parts.live.members t ≡ Some Aborting → abort_cause (is_failed k) k.parts t ≡ (if is_failed k then Some refusal.DeviceFailed else None)
+  abort_cause_is k t state = ap (λ (o : Option TxnState). if is_failed k then Some refusal.DeviceFailed else unless (is_aborting o) refusal.Stranger) state
 
 own_is : {A : Type 0} (f : ℕ → A) (t : ℕ) (x : A) → put f t x t ≡ x
 own_is f t x = ap (λ (c : Bool). cond c x (f t)) (eq_self t)
@@ -136,7 +135,7 @@ module _ {D : Type 0} {g : Ghosts D} (seen : D → List ℕ) (may_leave : D → 
   -- an answer that is no flush
   pub asked : (k n : Kernel D g) (r : Result Stepped Refusal) (pages : ℕ) → IsCalling seen may_leave p t calls op k → (r ≡ Ok step.Flush → ⊥) → ((first : Base) (s : State) → Shows seen may_leave first s k → HasStepped seen may_leave first s t r n)
       → SameStates k.parts n.parts → LowersSteps pages r (steps_in k.parts.running.items t) (steps_in n.parts.running.items t) → IfOk r (IsForOther k.parts.live.members t)
-      → IfErr r (λ why. why ≢ refusal.NoMemory → (step_cause k.parts t ≡ Some why) ⊎ IsFault faults k.parts n.parts why) → ((why : Refusal) → step_cause k.parts t ≡ Some why → n ≡ k) → IsMoved seen may_leave faults p t calls op k r n
+      → IfErr r (λ why. why ≢ refusal.NoMemory → (step_cause (is_failed k) k.parts t ≡ Some why) ⊎ IsFault faults k.parts n.parts why) → ((why : Refusal) → step_cause (is_failed k) k.parts t ≡ Some why → n ≡ k) → IsMoved seen may_leave faults p t calls op k r n
   asked k n (Ok (step.Replied reply)) pages c no_flush did states work other cause unmoved = calling_replied k n reply c did states
   asked k n (Ok step.Went) pages c no_flush did states work other cause unmoved = (calling_stays k n c did states, work)
   asked k n (Ok (step.Wait u)) pages c no_flush did states work other cause unmoved = calling_alone k u c other
@@ -144,7 +143,7 @@ module _ {D : Type 0} {g : Ghosts D} (seen : D → List ℕ) (may_leave : D → 
   asked k n (Ok step.Flush) pages c no_flush did states work other cause unmoved = no_flush refl
   asked k n (Err why) pages c no_flush did states work other cause unmoved = (
     calling_left k n c did,
-    fails_for faults k n why (step_cause k.parts t) (step_cause_is seen may_leave k t c.state (calling_busy k c)) unmoved cause,
+    fails_for faults k n why (step_cause (is_failed k) k.parts t) (step_cause_is seen may_leave k t c.state (calling_busy k c)) unmoved cause,
   )
 
   -- it stands where it was, with no more before it
@@ -214,7 +213,7 @@ module _ {D : Type 0} {g : Ghosts D} (seen : D → List ℕ) (may_leave : D → 
 
   pub asked_back : (k n : Kernel D g) (r : Result AbortStepped Refusal) (pages : ℕ) → IsGoing seen may_leave p t k → (r ≡ Ok abort.Flush → ⊥) → ((first : Base) (s : State) → Shows seen may_leave first s k → HasAborted seen may_leave first s t r n)
       → IfOk r (λ x. x ≢ abort.Ended → SameStates k.parts n.parts) → LowersAbort pages r (undo_steps k.parts t) (undo_steps n.parts t) → IfOk r (IsAbortForOther k.parts.live.members t)
-      → IfErr r (λ why. why ≢ refusal.NoMemory → (abort_cause k.parts t ≡ Some why) ⊎ IsFault faults k.parts n.parts why) → ((why : Refusal) → abort_cause k.parts t ≡ Some why → n ≡ k) → IsBacked seen may_leave faults p t k r n
+      → IfErr r (λ why. why ≢ refusal.NoMemory → (abort_cause (is_failed k) k.parts t ≡ Some why) ⊎ IsFault faults k.parts n.parts why) → ((why : Refusal) → abort_cause (is_failed k) k.parts t ≡ Some why → n ≡ k) → IsBacked seen may_leave faults p t k r n
   asked_back k n (Ok abort.More) pages c no_flush did states work other cause unmoved = (
     record {
       shown = ∥∥₁_elim c.shown (hlevel props) (λ (first, s, shows, undone). ∥∥₁_map (did first s shows) (λ (z, back, now). (first, z, now, undone_back p t first s z back undone)));
@@ -242,7 +241,7 @@ module _ {D : Type 0} {g : Ghosts D} (seen : D → List ℕ) (may_leave : D → 
       other_is s u apart = ap (λ (c : Bool). cond c None (s.sessions u)) (ne_eqb u t apart)
   asked_back k n (Err why) pages c no_flush did states work other cause unmoved = (
     going_left k n c did,
-    fails_for faults k n why (abort_cause k.parts t) (abort_cause_is seen may_leave k t c.state) unmoved cause,
+    fails_for faults k n why (abort_cause (is_failed k) k.parts t) (abort_cause_is seen may_leave k t c.state) unmoved cause,
   )
 
   abbrev pub GoesBy : Kernel D g → Kernel D g → Type 0

@@ -7,7 +7,6 @@ use Rattle.mt_base.specs.declared.refusal.Refusal.{Refusal}
 use Rattle.mt_base.specs.declared.refusal.Refusal.TheVariants as refusal
 use Rattle.mt_disk.specs.declared.device.Device.{Ghosts}
 use Rattle.mt_live.specs.Machine.{State}
-use Rattle.mt_log.specs.Words.{has_failed}
 use Rattle.mt_model.specs.Model.{Base}
 use Rattle.mt_kernel.specs.Booked.{booked_each, durable_txns}
 use Rattle.mt_kernel.specs.Consistent.{OnlyOperations}
@@ -18,7 +17,7 @@ use Rattle.mt_kernel.specs.declared.parts.Parts.{Parts}
 use Rattle.mt_txn.proofs.Living.{no_commits}
 use Rattle.mt_txn.specs.Causes.{IsFailure, IsFault}
 use Rattle.mt_txn.specs.Events.{HasForced, IsForcedBy}
-use Rattle.mt_txn.specs.Shown.{Shows, Stays}
+use Rattle.mt_txn.specs.Shown.{Shows, Stays, is_failed}
 use Rattle.mt_txn.specs.Well.{IsWell}
 use Rattle.mt_txn.specs.declared.answers.KernelForced.{KernelForced}
 use Rattle.mt_txn.specs.declared.answers.KernelForced.TheVariants as forced
@@ -29,28 +28,28 @@ use Rattle.mt_server.specs.Driven.{Eases, Fails, HasBroken, IsForcing, NobodyCom
 
 module _ {D : Type 0} {g : Ghosts D} (faults : D → ℕ) where
   -- the device failed, in this call or before it
-  pub fails_of : (k n : Kernel D g) (why : Refusal) → (has_failed k.parts.operations.store.log ≡ true → n ≡ k) → (why ≢ refusal.NoMemory → IsFailure faults k.parts n.parts why) → Fails faults n why
+  pub fails_of : (k n : Kernel D g) (why : Refusal) → (is_failed k ≡ true → n ≡ k) → (why ≢ refusal.NoMemory → IsFailure faults (is_failed k) k.parts n.parts why) → Fails faults n why
   fails_of k n why stands cause other = go (cause other)
     where
-      go : IsFailure faults k.parts n.parts why → (why ≡ refusal.DeviceFailed) × HasBroken faults n
-      go (inl before) = (before.1, inl (ap (λ (x : Kernel D g). has_failed x.parts.operations.store.log) (stands before.0) ∙ before.0))
+      go : IsFailure faults (is_failed k) k.parts n.parts why → (why ≡ refusal.DeviceFailed) × HasBroken faults n
+      go (inl before) = (before.1, inl (ap (λ (x : Kernel D g). is_failed x) (stands before.0) ∙ before.0))
       go (inr now) = (now.0, inr (let more = now.1 in omega (arith, more)))
 
   -- a cause that is none but that
-  pub fails_for : (k n : Kernel D g) (why : Refusal) (c : Option Refusal) → c ≡ (if has_failed k.parts.operations.store.log then Some refusal.DeviceFailed else None) → ((y : Refusal) → c ≡ Some y → n ≡ k)
+  pub fails_for : (k n : Kernel D g) (why : Refusal) (c : Option Refusal) → c ≡ (if is_failed k then Some refusal.DeviceFailed else None) → ((y : Refusal) → c ≡ Some y → n ≡ k)
       → (why ≢ refusal.NoMemory → (c ≡ Some why) ⊎ IsFault faults k.parts n.parts why) → Fails faults n why
   fails_for k n why c is stands cause = fails_of k n why (λ failed. stands refusal.DeviceFailed (is ∙ ap (λ (b : Bool). if b then Some refusal.DeviceFailed else None) failed)) (λ other. go (cause other))
     where
-      told : (b : Bool) → has_failed k.parts.operations.store.log ≡ b → (if b then Some refusal.DeviceFailed else None) ≡ Some why → IsFailure faults k.parts n.parts why
+      told : (b : Bool) → is_failed k ≡ b → (if b then Some refusal.DeviceFailed else None) ≡ Some why → IsFailure faults (is_failed k) k.parts n.parts why
       told true failed e = inl (failed, cc)
       told false failed e = absurd cc
 
-      go : (c ≡ Some why) ⊎ IsFault faults k.parts n.parts why → IsFailure faults k.parts n.parts why
-      go (inl e) = told (has_failed k.parts.operations.store.log) refl (sym is ∙ e)
+      go : (c ≡ Some why) ⊎ IsFault faults k.parts n.parts why → IsFailure faults (is_failed k) k.parts n.parts why
+      go (inl e) = told (is_failed k) refl (sym is ∙ e)
       go (inr fault) = inr fault
 
-  pub failing : (k n : Kernel D g) {T : Type 0} (r : Result T Refusal) → (has_failed k.parts.operations.store.log ≡ true → n ≡ k) → IfErr r (λ why. why ≢ refusal.NoMemory → IsFailure faults k.parts n.parts why) → IfErr r (Fails faults n)
-  failing k n r stands cause = IfErr-weaker r (λ why. why ≢ refusal.NoMemory → IsFailure faults k.parts n.parts why) (Fails faults n) (λ why this. fails_of k n why stands this) cause
+  pub failing : (k n : Kernel D g) {T : Type 0} (r : Result T Refusal) → (is_failed k ≡ true → n ≡ k) → IfErr r (λ why. why ≢ refusal.NoMemory → IsFailure faults (is_failed k) k.parts n.parts why) → IfErr r (Fails faults n)
+  failing k n r stands cause = IfErr-weaker r (λ why. why ≢ refusal.NoMemory → IsFailure faults (is_failed k) k.parts n.parts why) (Fails faults n) (λ why this. fails_of k n why stands this) cause
 
 -- ---- what eases
 

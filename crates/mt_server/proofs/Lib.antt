@@ -1,6 +1,6 @@
-mod LineLemmas
+pub mod LineLemmas
 mod ScriptLemmas
-mod TextLemmas
+pub mod TextLemmas
 pub mod ForceLemmas
 pub mod DueLemmas
 pub mod DriveLemmas

@@ -12,6 +12,7 @@ use Rattle.std.proofs.lemmas.Fmt.{decimal_by_steps, decimal_injective}
 use Rattle.std.proofs.lemmas.List.Elements.{All-nil, All-cons, All-head, All-tail, All-push, All-append, All-weaker}
 use Rattle.mt_model.specs.declared.operations.Op.{Op}
 use Rattle.mt_model.specs.declared.operations.Op.TheVariants.{Get, Insert, Update, Delete, Add, Read}
+use Rattle.mt_server.specs.Whole.{decimal_digits, is_without}
 use Rattle.mt_server.specs.declared.lines.Line.{Line}
 use Rattle.mt_server.specs.declared.lines.Line.TheVariants.{Begin, Call, Commit, Abort}
 use Rattle.mt_server.specs.Lines.{IsUnspaced, IsWord, IsText, IsPlace, IsWide, IsSpelled, SpellsStep, SpellsKey, SpellsRow, SpellsOp, Spells, op_text, line_text, IsInGrammar}
@@ -39,16 +40,8 @@ cut_within c (x ∷ xs) tail h = cut_within c xs tail (All-tail (λ b. b ≢ c) 
 abbrev IsDigit : ℕ → Type 0
 IsDigit b = (48 ≤ b) × (b ≤ 57)
 
-decimal_digits : (n : ℕ) → n < 2 ^ 64 → All IsDigit (decimal n)
-decimal_digits n h =
-    decimal_by_steps (λ m ds. All IsDigit ds) (λ m l. All-cons IsDigit (48 + m) [] (omega arith, omega arith) (All-nil IsDigit))
-    (λ m ds l p. All-push IsDigit ds (48 + m % 10) p (omega arith, omega arith)) n h
-
 pub decimal_unspaced : (n : ℕ) → n < 2 ^ 64 → IsUnspaced (decimal n)
 decimal_unspaced n h = All-weaker IsDigit (λ b. b ≢ 32) (λ b d. omega (arith, d.0)) (decimal n) (decimal_digits n h)
-
-pub decimal_unbroken : (n : ℕ) → n < 2 ^ 64 → All (λ b. b ≢ 10) (decimal n)
-decimal_unbroken n h = All-weaker IsDigit (λ b. b ≢ 10) (λ b d. omega (arith, d.0)) (decimal n) (decimal_digits n h)
 
 -- no number begins with a minus
 no_minus : (bs ds : List ℕ) → All IsDigit ds → 45 ∷ bs ≡ ds → ⊥
@@ -93,51 +86,6 @@ op_words (Update r k v) = refl
 op_words (Delete r k) = refl
 op_words (Add c n) = refl
 op_words (Read c) = refl
-
-abbrev IsUnbroken : List ℕ → Type 0
-IsUnbroken bytes = All (λ b. b ≢ 10) bytes
-
-unbroken_with : (x : ℕ) (xs : List ℕ) → x ≢ 10 → IsUnbroken xs → IsUnbroken (x ∷ xs)
-unbroken_with x xs n h = All-cons (λ b. b ≢ 10) x xs n h
-
-spaced : (xs ys : List ℕ) → IsUnbroken xs → IsUnbroken ys → IsUnbroken (xs ++ 32 ∷ ys)
-spaced xs ys h k = All-append (λ b. b ≢ 10) xs (32 ∷ ys) h (unbroken_with 32 ys (omega arith) k)
-
-key_unbroken : (k : List ℕ) → IsWord k → IsUnbroken k
-key_unbroken k w = All-weaker (λ b. (33 ≤ b) × (b ≤ 126)) (λ b. b ≢ 10) (λ b d. omega (arith, d.0)) k w.1
-
-value_unbroken : (v : List ℕ) → IsText v → IsUnbroken v
-value_unbroken v w = All-weaker (λ b. (32 ≤ b) × (b ≤ 126)) (λ b. b ≢ 10) (λ b d. omega (arith, d.0)) v w
-
-step_unbroken : (n : ℤ) → IsWide n → IsUnbroken (signed_decimal n)
-step_unbroken (pos n) w = decimal_unbroken n (omega (arith, ints, w.1))
-step_unbroken (negsuc n) w = unbroken_with 45 (decimal (suc n)) (omega arith) (decimal_unbroken (suc n) (omega (arith, ints, w.0)))
-
-word_unbroken : (op : Op) → IsUnbroken (word_of op)
-word_unbroken (Get r k) = unbroken_with 103 (101 ∷ 116 ∷ []) (omega arith) (unbroken_with 101 (116 ∷ []) (omega arith) (unbroken_with 116 ([]) (omega arith) (All-nil (λ b. b ≢ 10))))
-word_unbroken (Insert r k v) = unbroken_with 105 (110 ∷ 115 ∷ 101 ∷ 114 ∷ 116 ∷ []) (omega arith) (unbroken_with 110 (115 ∷ 101 ∷ 114 ∷ 116 ∷ []) (omega arith) (unbroken_with 115 (101 ∷ 114 ∷ 116 ∷ []) (omega arith) (unbroken_with 101 (114 ∷ 116 ∷ []) (omega arith) (unbroken_with 114 (116 ∷ []) (omega arith) (unbroken_with 116 ([]) (omega arith) (All-nil (λ b. b ≢ 10)))))))
-word_unbroken (Update r k v) = unbroken_with 117 (112 ∷ 100 ∷ 97 ∷ 116 ∷ 101 ∷ []) (omega arith) (unbroken_with 112 (100 ∷ 97 ∷ 116 ∷ 101 ∷ []) (omega arith) (unbroken_with 100 (97 ∷ 116 ∷ 101 ∷ []) (omega arith) (unbroken_with 97 (116 ∷ 101 ∷ []) (omega arith) (unbroken_with 116 (101 ∷ []) (omega arith) (unbroken_with 101 ([]) (omega arith) (All-nil (λ b. b ≢ 10)))))))
-word_unbroken (Delete r k) = unbroken_with 100 (101 ∷ 108 ∷ 101 ∷ 116 ∷ 101 ∷ []) (omega arith) (unbroken_with 101 (108 ∷ 101 ∷ 116 ∷ 101 ∷ []) (omega arith) (unbroken_with 108 (101 ∷ 116 ∷ 101 ∷ []) (omega arith) (unbroken_with 101 (116 ∷ 101 ∷ []) (omega arith) (unbroken_with 116 (101 ∷ []) (omega arith) (unbroken_with 101 ([]) (omega arith) (All-nil (λ b. b ≢ 10)))))))
-word_unbroken (Add c n) = unbroken_with 97 (100 ∷ 100 ∷ []) (omega arith) (unbroken_with 100 (100 ∷ []) (omega arith) (unbroken_with 100 ([]) (omega arith) (All-nil (λ b. b ≢ 10))))
-word_unbroken (Read c) = unbroken_with 114 (101 ∷ 97 ∷ 100 ∷ []) (omega arith) (unbroken_with 101 (97 ∷ 100 ∷ []) (omega arith) (unbroken_with 97 (100 ∷ []) (omega arith) (unbroken_with 100 ([]) (omega arith) (All-nil (λ b. b ≢ 10)))))
-
-rest_unbroken : (op : Op) → IsSpelled op → IsUnbroken (rest_of op)
-rest_unbroken (Get r k) s = spaced (decimal r) k (decimal_unbroken r (omega (arith, s.0))) (key_unbroken k s.1)
-rest_unbroken (Insert r k v) s = spaced (decimal r ++ 32 ∷ k) v (spaced (decimal r) k (decimal_unbroken r (omega (arith, s.0))) (key_unbroken k s.1)) (value_unbroken v s.2)
-rest_unbroken (Update r k v) s = spaced (decimal r ++ 32 ∷ k) v (spaced (decimal r) k (decimal_unbroken r (omega (arith, s.0))) (key_unbroken k s.1)) (value_unbroken v s.2)
-rest_unbroken (Delete r k) s = spaced (decimal r) k (decimal_unbroken r (omega (arith, s.0))) (key_unbroken k s.1)
-rest_unbroken (Add c n) s = spaced (decimal c) (signed_decimal n) (decimal_unbroken c (omega (arith, s.0))) (step_unbroken n s.1)
-rest_unbroken (Read c) s = decimal_unbroken c (omega (arith, s))
-
-op_unbroken : (op : Op) → IsSpelled op → IsUnbroken (op_text op)
-op_unbroken op s = subst (λ t. IsUnbroken t) (sym (op_words op)) (spaced (word_of op) (rest_of op) (word_unbroken op) (rest_unbroken op s))
-
--- no line of the grammar has an LF in it
-pub line_unbroken : (line : Line) → IsInGrammar line → IsUnbroken (line_text line)
-line_unbroken Begin s = unbroken_with 98 (101 ∷ 103 ∷ 105 ∷ 110 ∷ []) (omega arith) (unbroken_with 101 (103 ∷ 105 ∷ 110 ∷ []) (omega arith) (unbroken_with 103 (105 ∷ 110 ∷ []) (omega arith) (unbroken_with 105 (110 ∷ []) (omega arith) (unbroken_with 110 ([]) (omega arith) (All-nil (λ b. b ≢ 10))))))
-line_unbroken (Call op) s = op_unbroken op s
-line_unbroken Commit s = unbroken_with 99 (111 ∷ 109 ∷ 109 ∷ 105 ∷ 116 ∷ []) (omega arith) (unbroken_with 111 (109 ∷ 109 ∷ 105 ∷ 116 ∷ []) (omega arith) (unbroken_with 109 (109 ∷ 105 ∷ 116 ∷ []) (omega arith) (unbroken_with 109 (105 ∷ 116 ∷ []) (omega arith) (unbroken_with 105 (116 ∷ []) (omega arith) (unbroken_with 116 ([]) (omega arith) (All-nil (λ b. b ≢ 10)))))))
-line_unbroken Abort s = unbroken_with 97 (98 ∷ 111 ∷ 114 ∷ 116 ∷ []) (omega arith) (unbroken_with 98 (111 ∷ 114 ∷ 116 ∷ []) (omega arith) (unbroken_with 111 (114 ∷ 116 ∷ []) (omega arith) (unbroken_with 114 (116 ∷ []) (omega arith) (unbroken_with 116 ([]) (omega arith) (All-nil (λ b. b ≢ 10))))))
 
 -- where no c stands up to a place, no shorter front ends at a c
 pub no_cut : (c : ℕ) (xs more ys rest : List ℕ) → All (λ b. b ≢ c) xs → length ys < length xs → xs ++ more ≡ ys ++ c ∷ rest → ⊥
@@ -307,10 +255,10 @@ no_bare_line bytes h b c a Abort s = a s.0
 
 -- a line of several words is an operation
 pub no_spaced_line : (bytes word words : List ℕ) → bytes ≡ word ++ 32 ∷ words → ((op : Op) → SpellsOp (word ++ 32 ∷ words) op → ⊥) → (line : Line) → Spells bytes line → ⊥
-no_spaced_line bytes word words e none Begin s = cut_within 32 word words (subst (λ x. IsUnspaced x) (sym s.0 ∙ e) (All-cons (λ b. b ≢ 32) 98 (101 ∷ 103 ∷ 105 ∷ 110 ∷ []) (omega arith) (All-cons (λ b. b ≢ 32) 101 (103 ∷ 105 ∷ 110 ∷ []) (omega arith) (All-cons (λ b. b ≢ 32) 103 (105 ∷ 110 ∷ []) (omega arith) (All-cons (λ b. b ≢ 32) 105 (110 ∷ []) (omega arith) (All-cons (λ b. b ≢ 32) 110 ([]) (omega arith) (All-nil (λ b. b ≢ 32))))))))
+no_spaced_line bytes word words e none Begin s = cut_within 32 word words (subst (λ x. IsUnspaced x) (sym s.0 ∙ e) (is_without 32 (codes "begin") refl))
 no_spaced_line bytes word words e none (Call op) s = none op (sym e ∙ s.0, s.1)
-no_spaced_line bytes word words e none Commit s = cut_within 32 word words (subst (λ x. IsUnspaced x) (sym s.0 ∙ e) (All-cons (λ b. b ≢ 32) 99 (111 ∷ 109 ∷ 109 ∷ 105 ∷ 116 ∷ []) (omega arith) (All-cons (λ b. b ≢ 32) 111 (109 ∷ 109 ∷ 105 ∷ 116 ∷ []) (omega arith) (All-cons (λ b. b ≢ 32) 109 (109 ∷ 105 ∷ 116 ∷ []) (omega arith) (All-cons (λ b. b ≢ 32) 109 (105 ∷ 116 ∷ []) (omega arith) (All-cons (λ b. b ≢ 32) 105 (116 ∷ []) (omega arith) (All-cons (λ b. b ≢ 32) 116 ([]) (omega arith) (All-nil (λ b. b ≢ 32)))))))))
-no_spaced_line bytes word words e none Abort s = cut_within 32 word words (subst (λ x. IsUnspaced x) (sym s.0 ∙ e) (All-cons (λ b. b ≢ 32) 97 (98 ∷ 111 ∷ 114 ∷ 116 ∷ []) (omega arith) (All-cons (λ b. b ≢ 32) 98 (111 ∷ 114 ∷ 116 ∷ []) (omega arith) (All-cons (λ b. b ≢ 32) 111 (114 ∷ 116 ∷ []) (omega arith) (All-cons (λ b. b ≢ 32) 114 (116 ∷ []) (omega arith) (All-cons (λ b. b ≢ 32) 116 ([]) (omega arith) (All-nil (λ b. b ≢ 32))))))))
+no_spaced_line bytes word words e none Commit s = cut_within 32 word words (subst (λ x. IsUnspaced x) (sym s.0 ∙ e) (is_without 32 (codes "commit") refl))
+no_spaced_line bytes word words e none Abort s = cut_within 32 word words (subst (λ x. IsUnspaced x) (sym s.0 ∙ e) (is_without 32 (codes "abort") refl))
 
 -- bytes that fail a test of what they are to be
 pub lacks : (P : List ℕ → Type 0) (bytes own : List ℕ) (r : Bool) → (IsTrue r ↔ P bytes) → r ≡ false → bytes ≡ own → P own → ⊥

@@ -45,22 +45,27 @@ front_then a b c xs ys zs p q =
 pub front_whole : (a b : Option (List ℕ)) (xs ys : List ℕ) → AppendsFront a b xs → AppendsFront a b (xs ++ ys)
 front_whole a b xs ys q = (q.0, q.1 ++ ys, ap (λ t. t ++ ys) q.2 ∙ append_assoc q.0 q.1 ys, q.3)
 
+-- the bytes of several, one behind the other
+module _ {X : Type 0} (bytes_of : X → List ℕ) where
+  abbrev pub all_bytes : List X → List ℕ
+  all_bytes xs = concat (map bytes_of xs)
+
+  pub all-append : (xs ys : List X) → all_bytes (xs ++ ys) ≡ all_bytes xs ++ all_bytes ys
+  all-append [] ys = refl
+  all-append (x ∷ xs) ys = ap (λ t. bytes_of x ++ t) (all-append xs ys) ∙ sym (append_assoc (bytes_of x) (all_bytes xs) (all_bytes ys))
+
+  -- one behind those before a place
+  pub all_more : (xs : List X) (i : ℕ) (d : X) → i < length xs → all_bytes (take (suc i) xs) ≡ all_bytes (take i xs) ++ bytes_of (get_or xs i d)
+  all_more xs i d h =
+      ap all_bytes (take-suc xs i d h) ∙ all-append (take i xs) (get_or xs i d ∷ []) ∙ ap (λ t. all_bytes (take i xs) ++ t) (append-nil (bytes_of (get_or xs i d)))
+
+  pub all_about : (xs : List X) (i : ℕ) (d : X) → i < length xs → all_bytes xs ≡ all_bytes (take i xs) ++ (bytes_of (get_or xs i d) ++ all_bytes (drop (suc i) xs))
+  all_about xs i d h =
+      ap all_bytes (sym (take-append-drop i xs)) ∙ all-append (take i xs) (drop i xs) ∙ ap (λ t. all_bytes (take i xs) ++ all_bytes t) (drop-cons xs i d h)
+
 -- the bytes of pieces
 abbrev pub joined : List (Bor (List ℕ)) → List ℕ
-joined pieces = concat (map (λ p. p.now) pieces)
-
-pub joined-append : (xs ys : List (Bor (List ℕ))) → joined (xs ++ ys) ≡ joined xs ++ joined ys
-joined-append [] ys = refl
-joined-append (x ∷ xs) ys = ap (λ t. x.now ++ t) (joined-append xs ys) ∙ sym (append_assoc x.now (joined xs) (joined ys))
-
--- a piece behind those before a place
-pub joined_more : (ps : List (Bor (List ℕ))) (i : ℕ) (d : Bor (List ℕ)) → i < length ps → joined (take (suc i) ps) ≡ joined (take i ps) ++ (get_or ps i d).now
-joined_more ps i d h =
-    ap joined (take-suc ps i d h) ∙ joined-append (take i ps) (get_or ps i d ∷ []) ∙ ap (λ t. joined (take i ps) ++ t) (append-nil (get_or ps i d).now)
-
-pub joined_about : (ps : List (Bor (List ℕ))) (i : ℕ) (d : Bor (List ℕ)) → i < length ps → joined ps ≡ joined (take i ps) ++ ((get_or ps i d).now ++ joined (drop (suc i) ps))
-joined_about ps i d h =
-    ap joined (sym (take-append-drop i ps)) ∙ joined-append (take i ps) (drop i ps) ∙ ap (λ t. joined (take i ps) ++ joined t) (drop-cons ps i d h)
+joined pieces = all_bytes (λ p. p.now) pieces
 
 pub no_place : (r : Refusal) → ((p : ℕ) → r ≡ BadFormat p → ⊥) → ((p : ℕ) → r ≡ BadLine p → ⊥) → place_of r ≡ []
 no_place (BadFormat p) f l = absurd (f p refl)

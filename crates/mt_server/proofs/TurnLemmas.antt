@@ -17,7 +17,7 @@ use Rattle.mt_live.specs.Machine.{State, begun}
 use Rattle.mt_live.specs.Members.{Member}
 use Rattle.mt_live.specs.declared.transactions.TxnState.{TxnState}
 use Rattle.mt_live.specs.declared.transactions.TxnState.TheVariants.{Open, Aborting}
-use Rattle.mt_log.specs.Words.{appended, durable, has_failed, in_flight, waiting}
+use Rattle.mt_log.specs.Words.{appended, durable, in_flight, waiting}
 use Rattle.mt_log.specs.declared.log.Log.{Log}
 use Rattle.mt_model.specs.History.{Call}
 use Rattle.mt_model.specs.Model.{Base}
@@ -29,10 +29,9 @@ use Rattle.mt_kernel.specs.declared.parts.Commit.{Commit}
 use Rattle.mt_kernel.specs.declared.parts.Parts.{Parts}
 use Rattle.mt_kernel.specs.declared.parts.Running.{Running}
 use Rattle.mt_txn.proofs.Living.{idle_of, no_commits}
-use Rattle.mt_txn.proofs.Showing.{kept_of}
+use Rattle.mt_txn.proofs.Showing.{kept_of, parts_stay}
 use Rattle.mt_txn.specs.Causes.{begin_cause, commit_cause, first_of, is_busy, is_open, open_cause, unless}
-use Rattle.mt_txn.specs.Shown.{SameSchema, Shows, Stays}
-use Rattle.mt_txn.specs.Well.{ShowsIn}
+use Rattle.mt_txn.specs.Shown.{SameSchema, Shows, Stays, is_failed}
 use Rattle.mt_txn.specs.declared.kernel.Kernel.{Kernel}
 use Rattle.mt_server.specs.declared.answers.Answer.TheVariants.{Begun, Committed, Refused}
 use Rattle.mt_server.specs.declared.lines.Line.{Line}
@@ -113,13 +112,6 @@ module _ {D : Type 0} {g : Ghosts D} (seen : D → List ℕ) (may_leave : D → 
     nothing = r.nothing;
   }
 
-  parts_stay : (k n : Kernel D g) → n.parts ≡ k.parts → SameSchema k n → Stays seen may_leave k n
-  parts_stay k n same schema first s shows =
-      subst (λ (X : Type 0). X) (λ i. Shows_at (sym schema.0 i) (sym schema.1 i) (sym same i)) shows
-    where
-      Shows_at : ℕ → ℕ → Parts D → Type 0
-      Shows_at relations counters parts = ShowsIn seen may_leave relations counters first s parts
-
   -- ---- where one is open, nobody else is there
 
   opened_nobody : (p : Play) (t : ℕ) (calls : List Call) (k : Kernel D g) → IsOpened seen may_leave p t calls k → NobodyCommits k
@@ -131,10 +123,10 @@ module _ {D : Type 0} {g : Ghosts D} (seen : D → List ℕ) (may_leave : D → 
       idle_of seen may_leave k.relations k.counters k.parts first s shows t o.state alone.idle)
 
   -- an open transaction is refused only where the device has failed
-  pub open_is : (k : Kernel D g) (t : ℕ) → state_in k.parts.live.members t ≡ Some Open → open_cause k.parts t ≡ (if has_failed k.parts.operations.store.log then Some refusal.DeviceFailed else None)
-  open_is k t state = ap (λ (o : Option TxnState). if has_failed k.parts.operations.store.log then Some refusal.DeviceFailed else unless (is_open o) refusal.Stranger) state
+  pub open_is : (k : Kernel D g) (t : ℕ) → state_in k.parts.live.members t ≡ Some Open → open_cause (is_failed k) k.parts t ≡ (if is_failed k then Some refusal.DeviceFailed else None)
+  open_is k t state = ap (λ (o : Option TxnState). if is_failed k then Some refusal.DeviceFailed else unless (is_open o) refusal.Stranger) state
 
-  open_failed : (k n : Kernel D g) (t : ℕ) (why : Refusal) (c : Option Refusal) → (c ≡ (if has_failed k.parts.operations.store.log then Some refusal.DeviceFailed else None)) → ((y : Refusal) → c ≡ Some y → n ≡ k) → (why ≢ refusal.NoMemory → c ≡ Some why) → Fails faults n why
+  open_failed : (k n : Kernel D g) (t : ℕ) (why : Refusal) (c : Option Refusal) → (c ≡ (if is_failed k then Some refusal.DeviceFailed else None)) → ((y : Refusal) → c ≡ Some y → n ≡ k) → (why ≢ refusal.NoMemory → c ≡ Some why) → Fails faults n why
   open_failed k n t why c is stands cause = fails_for faults k n why c is stands (λ other. inl (cause other))
 
   -- ---- a begin
@@ -143,28 +135,16 @@ module _ {D : Type 0} {g : Ghosts D} (seen : D → List ℕ) (may_leave : D → 
   resting_few p k r = ∥∥₁_elim r.shown (hlevel props) (λ (first, s, shows, (played, nobody)). ∥∥₁_elim shows (hlevel props) (λ (origin, base, is, x).
       no_members k.parts.live.members (λ u. no_member (member_of k.parts.live.members u) (ap (λ (z : State). z.sessions u) (sym x.state) ∙ nobody u))))
 
-  begin_wants : (k : Kernel D g) (why : Refusal) → length k.parts.live.members ≡ 0 → why ≢ refusal.DeviceFailed → (why ≢ refusal.NoMemory → begin_cause k.parts ≡ Some why) → IsBeginWant why
+  begin_wants : (k : Kernel D g) (why : Refusal) → length k.parts.live.members ≡ 0 → why ≢ refusal.DeviceFailed → (why ≢ refusal.NoMemory → begin_cause (is_failed k) k.parts ≡ Some why) → IsBeginWant why
   begin_wants k refusal.NoMemory none other cause = tt
-  begin_wants k why none other cause = begin_want (has_failed k.parts.operations.store.log) (nat_le 1000000 (length k.parts.book.items + length k.parts.live.members) || nat_le (2 ^ 40) k.parts.live.begun) (nat_lt (log_kept k.parts + 128) _) (length k.parts.live.members) _ none other (cause (λ e. cc))
+  begin_wants k why none other cause = begin_want (is_failed k) (nat_le 1000000 (length k.parts.book.items + length k.parts.live.members) || nat_le (2 ^ 40) k.parts.live.begun) (nat_lt (log_kept k.parts + 128) _) (length k.parts.live.members) _ none other (cause (λ e. cc))
 
-  begin_broken : (k n : Kernel D g) (why : Refusal) → length k.parts.live.members ≡ 0 → n.parts ≡ k.parts → why ≡ refusal.DeviceFailed → (why ≢ refusal.NoMemory → begin_cause k.parts ≡ Some why) → HasBroken faults n
-  begin_broken k n why none same is cause = inl (ap (λ (x : Parts D). has_failed x.operations.store.log) same ∙ go (has_failed k.parts.operations.store.log) (nat_le 1000000 (length k.parts.book.items + length k.parts.live.members) || nat_le (2 ^ 40) k.parts.live.begun) (nat_lt (log_kept k.parts + 128) _) (length k.parts.live.members) none (cause (λ e. let wrong : refusal.DeviceFailed ≡ refusal.NoMemory = sym is ∙ e in cc) ∙ ap (λ (y : Refusal). Some y) is))
-    where
-      go : (a c d : Bool) (m : ℕ) → m ≡ 0 → (if a then Some refusal.DeviceFailed else if nat_le 64 m then Some refusal.TooManyTransactions else if c then Some refusal.BookFull else if d then None else Some refusal.LogFull) ≡ Some refusal.DeviceFailed → a ≡ true
-      go true c d m zero e = refl
-      go false c d m zero e = absurd (by c d (sym (ap (λ (i : ℕ). if nat_le 64 i then Some refusal.TooManyTransactions else if c then Some refusal.BookFull else if d then None else Some refusal.LogFull) zero) ∙ e))
-        where
-          by : (c d : Bool) → (if nat_le 64 0 then Some refusal.TooManyTransactions else if c then Some refusal.BookFull else if d then None else Some refusal.LogFull) ≡ Some refusal.DeviceFailed → ⊥
-          by true d e = cc
-          by false true e = cc
-          by false false e = cc
-
-  pub begin_refused : (p : Play) (k n : Kernel D g) (why : Refusal) → IsResting seen may_leave p k → n.parts ≡ k.parts → SameSchema k n → (why ≢ refusal.NoMemory → begin_cause k.parts ≡ Some why)
+  pub begin_refused : (p : Play) (k n : Kernel D g) (why : Refusal) → IsResting seen may_leave p k → n.parts ≡ k.parts → SameSchema k n → (why ≡ refusal.DeviceFailed → is_failed n ≡ true) → (why ≢ refusal.NoMemory → begin_cause (is_failed k) k.parts ≡ Some why)
       → IsAnsweredOr seen may_leave faults p k None line.Begin (refused_as why None) n
-  begin_refused p k n why r same schema cause =
+  begin_refused p k n why r same schema failed cause =
       let none = resting_few p k r in
-      let now = resting_stays p k n r (parts_stay k n same schema) in
-      answered_refused p None line.Begin None k n why r.nothing now (left_of p None n now) (λ is. begin_broken k n why none same is cause)
+      let now = resting_stays p k n r (parts_stay seen may_leave k n same schema) in
+      answered_refused p None line.Begin None k n why r.nothing now (left_of p None n now) (λ is. inl (failed is))
       (λ other. inr (begin_wants k why none other cause, due_of k None line.Begin why cause))
 
   pub begin_done : (p : Play) (k n : Kernel D g) (session txn : ℕ) → p.session ≡ session → IsResting seen may_leave p k → txn ≡ k.parts.live.begun + 1 → ((first : Base) (s : State) → Shows seen may_leave first s k → Shows seen may_leave first (begun s session) n)
@@ -223,8 +203,8 @@ module _ {D : Type 0} {g : Ghosts D} (seen : D → List ℕ) (may_leave : D → 
       let at : length p.book + 1 ≡ place = omega (arith, is, many, book) in
       (committed p calls, subst (λ (i : ℕ). IsTurn k.relations k.counters (IsDueTo seen may_leave k (Some t)) p line.Commit (Committed i) (committed p calls)) at (turn_acts k.relations k.counters p (Some calls) line.Commit under refl), ended)
 
-  commit_cause_is : (k : Kernel D g) (t : ℕ) → state_in k.parts.live.members t ≡ Some Open → is_busy k.parts t ≡ false → commit_cause k.parts t ≡ (if has_failed k.parts.operations.store.log then Some refusal.DeviceFailed else None)
-  commit_cause_is k t state idle = ap₂ (λ (o : Option TxnState) (b : Bool). first_of (if has_failed k.parts.operations.store.log then Some refusal.DeviceFailed else unless (is_open o) refusal.Stranger) (if b then Some refusal.Busy else None)) state idle ∙ by (has_failed k.parts.operations.store.log)
+  commit_cause_is : (k : Kernel D g) (t : ℕ) → state_in k.parts.live.members t ≡ Some Open → is_busy k.parts t ≡ false → commit_cause (is_failed k) k.parts t ≡ (if is_failed k then Some refusal.DeviceFailed else None)
+  commit_cause_is k t state idle = ap₂ (λ (o : Option TxnState) (b : Bool). first_of (if is_failed k then Some refusal.DeviceFailed else unless (is_open o) refusal.Stranger) (if b then Some refusal.Busy else None)) state idle ∙ by (is_failed k)
     where
       by : (c : Bool) → first_of (if c then Some refusal.DeviceFailed else None) None ≡ (if c then Some refusal.DeviceFailed else None)
       by true = refl
@@ -235,10 +215,10 @@ module _ {D : Type 0} {g : Ghosts D} (seen : D → List ℕ) (may_leave : D → 
   failing_want n why fails other = absurd (other (fails (λ e. cc)).0)
 
   pub commit_refused : (p : Play) (k n : Kernel D g) (t : ℕ) (calls : List Call) (why : Refusal) → p.under_way ≡ Some calls → IsOpened seen may_leave p t calls k → Stays seen may_leave k n → SameStates k.parts n.parts
-      → (why ≢ refusal.NoMemory → commit_cause k.parts t ≡ Some why) → ((y : Refusal) → commit_cause k.parts t ≡ Some y → n ≡ k) → IsAnsweredOr seen may_leave faults p k (Some t) line.Commit (refused_as why (Some t)) n
+      → (why ≢ refusal.NoMemory → commit_cause (is_failed k) k.parts t ≡ Some why) → ((y : Refusal) → commit_cause (is_failed k) k.parts t ≡ Some y → n ≡ k) → IsAnsweredOr seen may_leave faults p k (Some t) line.Commit (refused_as why (Some t)) n
   commit_refused p k n t calls why under o stays states cause unmoved =
       let now = opened_stays p t calls k n o stays (states t) in
-      let fails = open_failed k n t why (commit_cause k.parts t) (commit_cause_is k t o.state (opened_idle p t calls k o)) unmoved cause in
+      let fails = open_failed k n t why (commit_cause (is_failed k) k.parts t) (commit_cause_is k t o.state (opened_idle p t calls k o)) unmoved cause in
       answered_refused p (Some calls) line.Commit (Some t) k n why under (calls, under, now) (left_of p (Some t) n (calls, under, now))
       (λ is. (fails (λ e. let wrong : refusal.DeviceFailed ≡ refusal.NoMemory = sym is ∙ e in cc)).1) (λ other. let want = failing_want n why fails other in inr (want, inl want))
 
@@ -257,10 +237,10 @@ module _ {D : Type 0} {g : Ghosts D} (seen : D → List ℕ) (may_leave : D → 
       undo_few seen may_leave n first s t (stays first s shows) (nobody_commits seen may_leave n first s t Aborting (stays first s shows) alone.others state (λ e. cc)) idle
       (λ u other lives. nobody_there seen may_leave n first s (stays first s shows) u (alone.others u other) lives))
 
-  pub abort_refused : (p : Play) (k n : Kernel D g) (t : ℕ) (calls : List Call) (why : Refusal) → IsOpened seen may_leave p t calls k → n ≡ k → open_cause k.parts t ≡ Some why → IsGivenUp seen may_leave faults p n why
+  pub abort_refused : (p : Play) (k n : Kernel D g) (t : ℕ) (calls : List Call) (why : Refusal) → IsOpened seen may_leave p t calls k → n ≡ k → open_cause (is_failed k) k.parts t ≡ Some why → IsGivenUp seen may_leave faults p n why
   abort_refused p k n t calls why o same cause = (
     subst (λ (x : Kernel D g). IsLeft seen may_leave p x) (sym same) (∥∥₁_map o.shown (λ (first, s, shows, (played, alone)). (first, s, shows, played))),
-    open_failed k n t why (open_cause k.parts t) (open_is k t o.state) (λ y is. same) (λ other. cause),
+    open_failed k n t why (open_cause (is_failed k) k.parts t) (open_is k t o.state) (λ y is. same) (λ other. cause),
   )
 
 -- without a transaction there is nothing to call, to commit or to abort

@@ -6,7 +6,7 @@ use Rattle.mt_disk.specs.declared.device.Device.{Ghosts}
 use Rattle.mt_live.specs.Alone.{NobodyLives, IsAlone}
 use Rattle.mt_live.specs.Machine.{State, IsKept, called}
 use Rattle.mt_live.specs.declared.transactions.TxnState.TheVariants.{Open, Committing, Aborting}
-use Rattle.mt_log.specs.Words.{appended, durable, in_flight, calls_left, has_failed}
+use Rattle.mt_log.specs.Words.{appended, durable, in_flight, calls_left}
 use Rattle.mt_log.specs.declared.log.Log.{Log}
 use Rattle.mt_model.specs.History.{Call, run, after}
 use Rattle.mt_model.specs.Model.{Base, reply_of}
@@ -18,7 +18,7 @@ use Rattle.mt_kernel.specs.Work.{LeavesUndo, steps_in, undo_steps}
 use Rattle.mt_kernel.specs.declared.parts.Commit.{Commit}
 use Rattle.mt_txn.specs.Causes.{begin_cause, call_cause}
 use Rattle.mt_txn.specs.Events.{HasForced, IsAnsweredBy, IsForcedBy}
-use Rattle.mt_txn.specs.Shown.{Shows, Stays}
+use Rattle.mt_txn.specs.Shown.{Shows, Stays, is_failed}
 use Rattle.mt_txn.specs.declared.answers.KernelForced.{KernelForced}
 use Rattle.mt_txn.specs.declared.answers.Stepped.{Stepped}
 use Rattle.mt_txn.specs.declared.answers.Stepped.TheVariants as step
@@ -100,9 +100,9 @@ module _ {D : Type 0} {g : Ghosts D} (seen : D → List ℕ) (may_leave : D → 
 
   -- the tests by which it refuses a begin, and an operation: those of the call, and else what locks, escrow, pages and log say
   abbrev pub IsTested : Kernel D g → Option ℕ → Line → Refusal → Type 0
-  IsTested k None line.Begin why = begin_cause k.parts ≡ Some why
+  IsTested k None line.Begin why = begin_cause (is_failed k) k.parts ≡ Some why
   IsTested k (Some t) (line.Call op) why =
-      (call_cause k.relations k.counters k.parts t op ≡ Some why) ⊎ ((call_cause k.relations k.counters k.parts t op ≡ None) × IsAnsweredBy seen may_leave k t op (Err why))
+      (call_cause k.relations k.counters (is_failed k) k.parts t op ≡ Some why) ⊎ ((call_cause k.relations k.counters (is_failed k) k.parts t op ≡ None) × IsAnsweredBy seen may_leave k t op (Err why))
   IsTested k live line why = ⊥
 
   -- A want of this kernel: memory, or what its tests say.
@@ -117,9 +117,9 @@ module _ {D : Type 0} {g : Ghosts D} (seen : D → List ℕ) (may_leave : D → 
     pub undo : LeavesUndo k.parts n.parts
 
 module _ {D : Type 0} {g : Ghosts D} (faults : D → ℕ) where
-  -- the log has failed, or a call of the device has
+  -- a call of it was refused with 2, a force has failed, or a call of the device has
   abbrev pub HasBroken : Kernel D g → Type 0
-  HasBroken k = (has_failed k.parts.operations.store.log ≡ true) ⊎ (0 < faults k.parts.operations.store.device)
+  HasBroken k = (is_failed k ≡ true) ⊎ (0 < faults k.parts.operations.store.device)
 
   -- it is given up for want of memory, or since the device has failed
   abbrev pub Fails : Kernel D g → Refusal → Type 0

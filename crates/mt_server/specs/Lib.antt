@@ -1,5 +1,7 @@
 pub mod Answers
+pub mod Grammars
 pub mod Lines
+pub mod Whole
 pub mod Scripts
 pub mod Plays
 pub mod Driven

@@ -1,8 +1,9 @@
 -- The lines of a script, as bytes.
-use Rattle.std.specs.Prelude.{ℕ, ℤ, ◌≡◌, ◌≢◌, ◌≤◌, ◌<◌, ◌^◌, ◌≤ℤ◌, pos, neg_ℤ, List, ◌∷◌, ◌++◌, All, Option, MatchOption, length, codes, ⊤}
+use Rattle.std.specs.Prelude.{ℕ, ℤ, ◌≡◌, ◌≢◌, ◌≤◌, ◌<◌, ◌^◌, ◌≤ℤ◌, pos, neg_ℤ, List, ◌∷◌, ◌++◌, All, Option, length, codes, ⊤}
 use Rattle.std.specs.Fmt.{decimal, signed_decimal}
 use Rattle.mt_model.specs.declared.operations.Op.{Op}
 use Rattle.mt_model.specs.declared.operations.Op.TheVariants.{Get, Insert, Update, Delete, Add, Read}
+use Rattle.mt_server.specs.Grammars.{ReadsIn, SpellsIn}
 use Rattle.mt_server.specs.declared.lines.Line.{Line}
 use Rattle.mt_server.specs.declared.lines.Line.TheVariants.{Begin, Call, Commit, Abort}
 
@@ -58,11 +59,11 @@ IsSpelled (Read c) = IsPlace c
 
 -- the bytes spell the operation
 abbrev pub SpellsOp : List ℕ → Op → Type 0
-SpellsOp bytes op = (bytes ≡ op_text op) × IsSpelled op
+SpellsOp bytes op = SpellsIn op_text IsSpelled bytes op
 
 -- an operation that the bytes spell, or none where they spell none
 abbrev pub ReadsOp : List ℕ → Option Op → Type 0
-ReadsOp bytes o = MatchOption o ((op : Op) → ¬ SpellsOp bytes op) (SpellsOp bytes)
+ReadsOp bytes o = ReadsIn op_text IsSpelled bytes o
 
 -- how a line is spelled, without its end
 abbrev pub line_text : Line → List ℕ
@@ -78,8 +79,8 @@ IsInGrammar _ = ⊤
 
 -- the bytes spell the line
 abbrev pub Spells : List ℕ → Line → Type 0
-Spells bytes line = (bytes ≡ line_text line) × IsInGrammar line
+Spells bytes line = SpellsIn line_text IsInGrammar bytes line
 
 -- a line that the bytes spell, or none where they spell none
 abbrev pub ReadsLine : List ℕ → Option Line → Type 0
-ReadsLine bytes o = MatchOption o ((line : Line) → ¬ Spells bytes line) (Spells bytes)
+ReadsLine bytes o = ReadsIn line_text IsInGrammar bytes o

@@ -1,51 +1,25 @@
 -- A script as bytes: its lines, each with LF behind it.
-use Rattle.std.specs.Prelude.{ℕ, ◌≡◌, ◌≢◌, ◌≤◌, ◌+◌, ◌⊎◌, List, [], ◌∷◌, ◌++◌, All, length, ⊤}
+use Rattle.std.specs.Prelude.{ℕ, List, ⊤}
 use Rattle.mt_base.specs.declared.refusal.Refusal.{Refusal}
-use Rattle.mt_base.specs.declared.refusal.Refusal.TheVariants.{NoMemory, BadLine}
 use Rattle.mt_server.specs.declared.lines.Line.{Line}
 use Rattle.mt_server.specs.declared.reader.ScriptFault.{ScriptFault}
 use Rattle.mt_server.specs.declared.reader.ScriptFault.TheVariants.{Input, Refused}
+use Rattle.mt_server.specs.Grammars.{AreLines, AreRefusedFor}
 use Rattle.mt_server.specs.Lines.{line_text, IsInGrammar}
 
-unfoldable pub script_text : List Line → List ℕ
-script_text [] = []
-script_text (line ∷ lines) = line_text line ++ 10 ∷ script_text lines
-
--- a line of at most 4096 bytes, its end not counted
-abbrev pub IsShort : Line → Type 0
-IsShort line = length (line_text line) ≤ 4096
-
--- the bytes are these lines and then a line under way
-pub record Gathered (bytes : List ℕ) (lines : List Line) (line : List ℕ) : Type 0 where
-  pub spelled : bytes ≡ script_text lines ++ line
-  pub grammar : All IsInGrammar lines
-  pub short : All IsShort lines
-  pub unbroken : All (λ b. b ≢ 10) line
-
 -- the bytes are just these lines
-pub record IsScript (bytes : List ℕ) (lines : List Line) : Type 0 where
-  pub spelled : bytes ≡ script_text lines
-  pub grammar : All IsInGrammar lines
-  pub short : All IsShort lines
-  pub few : length lines ≤ 100000
-
--- the bytes begin with a line and its end
-abbrev pub BeginsWithLine : List ℕ → Type 0
-BeginsWithLine bytes = (line : Line) × (rest : List ℕ) × (bytes ≡ line_text line ++ 10 ∷ rest) × IsInGrammar line × IsShort line
-
--- The line of this number, counted from 1, is the first that is none of a script's: those before it
--- are, and what follows them begins with no line, or follows 100,000.
-pub record IsFirstBad (bytes : List ℕ) (number : ℕ) : Type 0 where
-  pub before : (lines : List Line) × (rest : List ℕ) × (bytes ≡ script_text lines ++ rest) × All IsInGrammar lines × All IsShort lines × (length lines ≤ 100000)
-      × (number ≡ length lines + 1) × (rest ≢ []) × ((BeginsWithLine rest → ⊥) ⊎ (length lines ≡ 100000))
+abbrev pub IsScript : List ℕ → List Line → Type 0
+IsScript bytes lines = AreLines line_text IsInGrammar bytes lines
 
 -- why a script of these bytes is refused: for want of memory, or for its first bad line
 abbrev pub IsRefusedFor : List ℕ → Refusal → Type 0
-IsRefusedFor bytes NoMemory = ⊤
-IsRefusedFor bytes (BadLine number) = IsFirstBad bytes number
-IsRefusedFor bytes _ = ⊥
+IsRefusedFor bytes why = AreRefusedFor line_text IsInGrammar bytes why
 
--- or the reader failed
+module _ {L : Type 0} (text : L → List ℕ) (IsIn : L → Type 0) where
+  -- so are lines of any grammar, or the reader failed
+  abbrev pub AreFaultyFor : List ℕ → ScriptFault → Type 0
+  AreFaultyFor bytes Input = ⊤
+  AreFaultyFor bytes (Refused why) = AreRefusedFor text IsIn bytes why
+
 abbrev pub IsFaultOf : List ℕ → ScriptFault → Type 0
-IsFaultOf bytes Input = ⊤
-IsFaultOf bytes (Refused why) = IsRefusedFor bytes why
+IsFaultOf bytes fault = AreFaultyFor line_text IsInGrammar bytes fault

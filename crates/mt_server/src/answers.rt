@@ -60,7 +60,7 @@ pub fn put<W: Write>(writer: &mut W, bytes: &[u8]) -> Result<(), Unheard>
 
 /// Writes these pieces, one behind the other. Where the writer fails, it has written a beginning of
 /// them.
-fn put_all<W: Write>(writer: &mut W, pieces: &[&[u8]]) -> Result<(), Unheard>
+pub fn put_all<W: Write>(writer: &mut W, pieces: &[&[u8]]) -> Result<(), Unheard>
     ensures all { OnOk result (Appends (W.contents writer.old) (W.contents writer.new)
         (concat (map (λ p. p.now) pieces.now))) }
     ensures front { OnErr result (AppendsFront (W.contents writer.old) (W.contents writer.new)
@@ -72,8 +72,8 @@ fn put_all<W: Write>(writer: &mut W, pieces: &[&[u8]]) -> Result<(), Unheard>
     Ok(())
 }
 
-/// Writes what an operation replied, as one line.
-fn write_reply<W: Write>(writer: &mut W, reply: &Reply) -> Result<(), Unheard>
+/// Writes what an operation replied, as one line. Where the writer fails, it has written a beginning of the line.
+pub fn write_reply<W: Write>(writer: &mut W, reply: &Reply) -> Result<(), Unheard>
     ensures all { OnOk result (Appends (W.contents writer.old) (W.contents writer.new)
         (reply_text reply.now ++ 10 ∷ [])) }
     ensures front { OnErr result (AppendsFront (W.contents writer.old) (W.contents writer.new)

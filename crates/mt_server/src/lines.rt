@@ -3,6 +3,7 @@ ghost use Rattle.std.specs.Prelude.{◌≡◌, ◌≢◌, ℕ, ℤ, List, ◌^�
 ghost use Rattle.std.specs.Fmt.{decimal, signed_decimal};
 ghost use Rattle.mt_server.specs.Lines.{IsUnspaced, IsWord, IsText, IsPlace, IsWide, SpellsStep, SpellsKey, SpellsRow, ReadsOp, ReadsLine};
 
+use crate::grammar::Grammar;
 use mt_base::{Bytes, CtrNo, RelNo};
 use mt_model::Op;
 use std::alloc::{AllocError, Global};
@@ -33,7 +34,7 @@ pub enum Line {
 }
 
 /// What stands before the first space, and what stands behind it; `None` where there is no space.
-fn split_at_space(bytes: &[u8]) -> Option<(&[u8], &[u8])>
+pub fn split_at_space(bytes: &[u8]) -> Option<(&[u8], &[u8])>
     ensures found { IfSome result (λ p. (bytes.now ≡ p.0.now ++ 32 ∷ p.1.now) × IsUnspaced p.0.now) }
     ensures none { IfNone result (IsUnspaced bytes.now) }
 {
@@ -47,8 +48,9 @@ fn split_at_space(bytes: &[u8]) -> Option<(&[u8], &[u8])>
 
 /// The number that a word spells in decimal without leading zeros. A number is spelled so exactly
 /// where printing it gives the word again. The only error is want of memory.
-fn number_of(alloc: Global, word: &[u8]) -> Result<Option<u64>, AllocError>
-    ensures { IfOk result (λ o. MatchOption o ((n : ℕ) → n < 2 ^ 64 → word.now ≢ decimal n) (λ n. word.now ≡ decimal n)) }
+pub fn number_of(alloc: Global, word: &[u8]) -> Result<Option<u64>, AllocError>
+    ensures { IfOk result (λ o. MatchOption o ((n : ℕ) → n < 2 ^ 64 → word.now ≢ decimal n)
+        (λ n. word.now ≡ decimal n)) }
 {
     let Ok(text) = str::from_utf8(word) else {
         return Ok(None);
@@ -66,7 +68,8 @@ fn number_of(alloc: Global, word: &[u8]) -> Result<Option<u64>, AllocError>
 
 /// The number of a relation or a counter: 0 to 65535.
 fn place_of(alloc: Global, word: &[u8]) -> Result<Option<u16>, AllocError>
-    ensures { IfOk result (λ o. MatchOption o ((n : ℕ) → IsPlace n → word.now ≢ decimal n) (λ n. word.now ≡ decimal n)) }
+    ensures { IfOk result (λ o. MatchOption o ((n : ℕ) → IsPlace n → word.now ≢ decimal n)
+        (λ n. word.now ≡ decimal n)) }
 {
     match number_of(alloc, word)? {
         Some(number) if number <= 65535 => Ok(Some(number as u16)),
@@ -119,7 +122,7 @@ fn is_text(bytes: &[u8]) -> bool
 }
 
 /// Whether these are the bytes of this text.
-fn is_text_of(bytes: &[u8], text: &str) -> bool
+pub fn is_text_of(bytes: &[u8], text: &str) -> bool
     ensures { IsTrue result ↔ (bytes.now ≡ text.now) }
 {
     bytes == text.as_bytes()
@@ -226,8 +229,8 @@ fn read_of(alloc: Global, words: &[u8]) -> Result<Option<Op>, AllocError>
     }
 }
 
-/// The operation of a line, of its first word and the words behind it.
-fn op_of(alloc: Global, word: &[u8], words: &[u8]) -> Result<Option<Op>, AllocError>
+/// The operation of its first word and the words behind it.
+fn op_with(alloc: Global, word: &[u8], words: &[u8]) -> Result<Option<Op>, AllocError>
     requires { IsUnspaced word.now }
     ensures { IfOk result (ReadsOp (word.now ++ 32 ∷ words.now)) }
 {
@@ -245,6 +248,16 @@ fn op_of(alloc: Global, word: &[u8], words: &[u8]) -> Result<Option<Op>, AllocEr
         read_of(alloc, words)
     } else {
         Ok(None)
+    }
+}
+
+/// The operation that these bytes spell; `None` where they spell none. The only error is want of memory.
+pub fn op_of(alloc: Global, bytes: &[u8]) -> Result<Option<Op>, AllocError>
+    ensures { IfOk result (ReadsOp bytes.now) }
+{
+    match split_at_space(bytes) {
+        Some((word, words)) => op_with(alloc, word, words),
+        None => Ok(None),
     }
 }
 
@@ -270,10 +283,30 @@ pub fn line_of(alloc: Global, bytes: &[u8]) -> Result<Option<Line>, AllocError>
     ensures { IfOk result (ReadsLine bytes.now) }
 {
     if let Some((word, words)) = split_at_space(bytes) {
-        return match op_of(alloc, word, words)? {
+        return match op_with(alloc, word, words)? {
             Some(op) => Ok(Some(Line::Call(op))),
             None => Ok(None),
         };
     }
     Ok(bare_line_of(bytes))
+}
+
+/// The grammar of scripts.
+pub struct ScriptGrammar;
+
+impl Grammar for ScriptGrammar {
+    ghost use Rattle.mt_server.specs.Lines.{line_text, IsInGrammar};
+    ghost use Rattle.mt_server.specs.Whole.{line_whole};
+
+    type Line = Line;
+
+    ghost text = { line_text };
+
+    ghost IsIn = { IsInGrammar };
+
+    ghost is_whole = { line_whole };
+
+    fn line_of(alloc: Global, bytes: &[u8]) -> Result<Option<Line>, AllocError> {
+        line_of(alloc, bytes)
+    }
 }

@@ -1,9 +1,11 @@
-// A script, read from its bytes.
+// A text, read line by line by a grammar of its lines; scripts are such texts.
 ghost use Rattle.std.specs.Prelude.{◌≡◌, ◌≤◌, ◌+◌, ℕ, List, [], ◌∷◌, ◌++◌, length, vec_len, IfOk, IfErr, IfSome, OnOk};
 ghost use Rattle.mt_base.specs.declared.refusal.Refusal.{Refusal};
-ghost use Rattle.mt_server.specs.Scripts.{Gathered, IsScript, IsRefusedFor, IsFaultOf};
+ghost use Rattle.mt_server.specs.Grammars.{AreLines, AreRefusedFor, Gathered};
+ghost use Rattle.mt_server.specs.Scripts.{AreFaultyFor, IsScript, IsFaultOf};
 
-use crate::lines::{Line, line_of};
+use crate::grammar::Grammar;
+use crate::lines::{Line, ScriptGrammar};
 use mt_base::Refusal;
 use mt_base::limits::{MAX_LINE_BYTES, MAX_LINES};
 use std::alloc::Global;
@@ -19,7 +21,7 @@ pub struct Script {
     lines: Vec<Line>,
 }
 
-/// Why a script could not be read.
+/// Why a script, or another text of lines, could not be read.
 #[derive(Debug, Drop, Error)]
 pub enum ScriptFault {
     /// The reader failed.
@@ -30,17 +32,24 @@ pub enum ScriptFault {
     Refused(Refusal),
 }
 
-/// A script as far as it has been read: its lines, and the bytes of the line under way.
+/// A text as far as it has been read: its lines, and the bytes of the line under way.
 #[derive(Drop)]
-struct Reading {
+struct Reading<G: Grammar> {
     alloc: Global,
-    lines: Vec<Line>,
+    lines: Vec<G::Line>,
     line: Vec<u8>,
     ghost lines_fit: { vec_len lines ≤ 100000 },
     ghost line_fits: { vec_len line ≤ 4096 },
 }
 
 impl Script {
+    /// The script of these lines.
+    pub fn new(lines: Vec<Line>) -> Script
+        ensures { result.lines.items ≡ lines.items }
+    {
+        Script { lines }
+    }
+
     /// The lines in order.
     pub fn lines(&self) -> &[Line]
         ensures { result.now ≡ self.now.lines.items }
@@ -49,10 +58,9 @@ impl Script {
     }
 }
 
-impl Reading {
-    #[tactic(auto, using(crate::proofs::ScriptLemmas::gathered_nothing))]
-    fn new(alloc: Global) -> Reading
-        ensures { Gathered [] result.lines.items result.line.items }
+impl<G: Grammar> Reading<G> {
+    fn new(alloc: Global) -> Reading<G>
+        ensures { Gathered G.text G.IsIn [] result.lines.items result.line.items }
     {
         Reading {
             alloc,
@@ -72,9 +80,11 @@ impl Reading {
     #[tactic(auto, using(crate::proofs::ScriptLemmas::gathered_byte))]
     fn take(&mut self, byte: u8) -> Result<(), Refusal>
         ensures cause { IfErr result (λ why. (front more : List ℕ)
-            → Gathered front self.old.lines.items self.old.line.items → IsRefusedFor (front ++ byte ∷ more) why) }
-        ensures taken { OnOk result ((front : List ℕ) → Gathered front self.old.lines.items self.old.line.items
-            → Gathered (front ++ byte ∷ []) self.new.lines.items self.new.line.items) }
+            → Gathered G.text G.IsIn front self.old.lines.items self.old.line.items
+            → AreRefusedFor G.text G.IsIn (front ++ byte ∷ more) why) }
+        ensures taken { OnOk result ((front : List ℕ)
+            → Gathered G.text G.IsIn front self.old.lines.items self.old.line.items
+            → Gathered G.text G.IsIn (front ++ byte ∷ []) self.new.lines.items self.new.line.items) }
     {
         if byte == b'\n' {
             self.end_line()
@@ -87,17 +97,18 @@ impl Reading {
     }
 
     /// Takes the end of the line under way.
-    #[tactic(auto, using(crate::proofs::ScriptLemmas::gathered_line))]
     fn end_line(&mut self) -> Result<(), Refusal>
         ensures cause { IfErr result (λ why. (front more : List ℕ)
-            → Gathered front self.old.lines.items self.old.line.items → IsRefusedFor (front ++ 10 ∷ more) why) }
-        ensures taken { OnOk result ((front : List ℕ) → Gathered front self.old.lines.items self.old.line.items
-            → Gathered (front ++ 10 ∷ []) self.new.lines.items self.new.line.items) }
+            → Gathered G.text G.IsIn front self.old.lines.items self.old.line.items
+            → AreRefusedFor G.text G.IsIn (front ++ 10 ∷ more) why) }
+        ensures taken { OnOk result ((front : List ℕ)
+            → Gathered G.text G.IsIn front self.old.lines.items self.old.line.items
+            → Gathered G.text G.IsIn (front ++ 10 ∷ []) self.new.lines.items self.new.line.items) }
     {
         if self.lines.len() >= MAX_LINES {
             return Err(self.bad_line());
         }
-        let Some(line) = line_of(self.alloc, self.line.as_slice())? else {
+        let Some(line) = G::line_of(self.alloc, self.line.as_slice())? else {
             return Err(self.bad_line());
         };
         self.lines.push(line)?;
@@ -108,9 +119,11 @@ impl Reading {
     /// Takes the next bytes.
     fn take_all(&mut self, bytes: &[u8]) -> Result<(), Refusal>
         ensures cause { IfErr result (λ why. (front more : List ℕ)
-            → Gathered front self.old.lines.items self.old.line.items → IsRefusedFor (front ++ bytes.now ++ more) why) }
-        ensures taken { OnOk result ((front : List ℕ) → Gathered front self.old.lines.items self.old.line.items
-            → Gathered (front ++ bytes.now) self.new.lines.items self.new.line.items) }
+            → Gathered G.text G.IsIn front self.old.lines.items self.old.line.items
+            → AreRefusedFor G.text G.IsIn (front ++ bytes.now ++ more) why) }
+        ensures taken { OnOk result ((front : List ℕ)
+            → Gathered G.text G.IsIn front self.old.lines.items self.old.line.items
+            → Gathered G.text G.IsIn (front ++ bytes.now) self.new.lines.items self.new.line.items) }
     {
         for byte in bytes {
             self.take(*byte)?;
@@ -118,13 +131,15 @@ impl Reading {
         Ok(())
     }
 
-    /// The script, where no line is under way.
-    #[tactic(auto, using(crate::proofs::ScriptLemmas::is_script))]
-    fn end(self) -> Result<Script, Refusal>
-        ensures cause { IfErr result (λ why. (bytes : List ℕ) → Gathered bytes self.lines.items self.line.items
-            → IsRefusedFor bytes why) }
-        ensures script { IfOk result (λ script. (bytes : List ℕ) → Gathered bytes self.lines.items self.line.items
-            → IsScript bytes script.lines.items) }
+    /// The lines, where none is under way.
+    #[tactic(auto, using(crate::proofs::ScriptLemmas::are_lines))]
+    fn end(self) -> Result<Vec<G::Line>, Refusal>
+        ensures cause { IfErr result (λ why. (bytes : List ℕ)
+            → Gathered G.text G.IsIn bytes self.lines.items self.line.items
+            → AreRefusedFor G.text G.IsIn bytes why) }
+        ensures lines { IfOk result (λ lines. (bytes : List ℕ)
+            → Gathered G.text G.IsIn bytes self.lines.items self.line.items
+            → AreLines G.text G.IsIn bytes lines.items) }
     {
         if !self.line.is_empty() {
             return Err(self.bad_line());
@@ -134,18 +149,25 @@ impl Reading {
             lines,
             line: _,
         } = self;
-        Ok(Script { lines })
+        Ok(lines)
     }
 }
 
-/// Reads a script to the reader's end, in pieces. It holds no more than the script, the line under
-/// way and one piece.
-pub fn read_script<R: Read>(alloc: Global, reader: &mut R) -> Result<Script, ScriptFault>
-    ensures cause { IfErr result (λ fault. IfSome (R.remaining reader.old) (λ bytes. IsFaultOf bytes fault)) }
-    ensures script { IfOk result (λ script. IfSome (R.remaining reader.old)
-        (λ bytes. IsScript bytes script.lines.items)) }
+/// Reads lines of a grammar to the reader's end, in pieces: each with LF behind it, of at most 4,096 bytes
+/// before it, and at most 100,000 of them. It holds no more than the lines, the one under way and one piece.
+///
+/// `Input` where the reader fails; refused by `NoMemory`, and by `BadLine` of the first line that is not in
+/// the grammar.
+pub fn read_lines<G: Grammar, R: Read>(
+    alloc: Global,
+    reader: &mut R,
+) -> Result<Vec<G::Line>, ScriptFault>
+    ensures cause { IfErr result (λ fault. IfSome (R.remaining reader.old)
+        (λ bytes. AreFaultyFor G.text G.IsIn bytes fault)) }
+    ensures lines { IfOk result (λ lines. IfSome (R.remaining reader.old)
+        (λ bytes. AreLines G.text G.IsIn bytes lines.items)) }
 {
-    let mut reading = Reading::new(alloc);
+    let mut reading: Reading<G> = Reading::new(alloc);
     let mut piece = [0u8; PIECE_BYTES];
     for _ in 0..u64::MAX {
         let Ok(count) = reader.read(&mut piece) else {
@@ -153,7 +175,7 @@ pub fn read_script<R: Read>(alloc: Global, reader: &mut R) -> Result<Script, Scr
         };
         if count == 0 {
             return match reading.end() {
-                Ok(script) => Ok(script),
+                Ok(lines) => Ok(lines),
                 Err(refusal) => Err(ScriptFault::Refused(refusal)),
             };
         }
@@ -162,4 +184,16 @@ pub fn read_script<R: Read>(alloc: Global, reader: &mut R) -> Result<Script, Scr
         }
     }
     Err(ScriptFault::Input)
+}
+
+/// Reads a script to the reader's end, as [`read_lines`] does.
+pub fn read_script<R: Read>(alloc: Global, reader: &mut R) -> Result<Script, ScriptFault>
+    ensures cause { IfErr result (λ fault. IfSome (R.remaining reader.old) (λ bytes. IsFaultOf bytes fault)) }
+    ensures script { IfOk result (λ script. IfSome (R.remaining reader.old)
+        (λ bytes. IsScript bytes script.lines.items)) }
+{
+    match read_lines::<ScriptGrammar, R>(alloc, reader) {
+        Ok(lines) => Ok(Script::new(lines)),
+        Err(fault) => Err(fault),
+    }
 }

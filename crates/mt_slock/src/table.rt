@@ -42,7 +42,10 @@ impl Model for LockTable {
 
     ghost view = { λ t. t.objects };
 
-    ghost invariant = { λ t. record { kept : IsKept (held_of t.objects) (notes_of t.notes); idle : HasNoIdle t.objects } };
+    ghost invariant = { λ t. record {
+      kept : IsKept (held_of t.objects) (notes_of t.notes);
+      idle : HasNoIdle t.objects;
+    } };
 }
 
 impl LockTable {
@@ -57,7 +60,7 @@ impl LockTable {
         }
     }
 
-    /// Asks for a lock on an object for a transaction. It is granted exactly where no other transaction holds
+    /// Asks for a lock on an object for a transaction. It is granted if and only if no other transaction holds
     /// the object in a mode that conflicts; what the transaction holds itself is never in its way. Then the
     /// transaction holds it until [`LockTable::release`]; asking for what it holds changes nothing and takes
     /// no memory. The answer tells the two apart, for a call that a later test refuses.

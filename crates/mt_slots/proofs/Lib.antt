@@ -2,6 +2,6 @@ mod Checked
 mod Compacting
 mod Gaps
 pub mod Listed
-mod Pages
+pub mod Pages
 mod Placed
 mod Settling

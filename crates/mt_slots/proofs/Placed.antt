@@ -4,7 +4,7 @@ use Rattle.std.proofs.Math.Nat.{div-add-mod'}
 use Rattle.std.proofs.lemmas.Bool.{cases_lt, cases_eq}
 use Rattle.mt_base.specs.Ranges.{u16_at, part, Has, Torn, Wrote, Same}
 use Rattle.mt_slots.specs.Page.{Row, count, offset, size, row_size, row_at, live_bytes, IsRow, IsShaped, Sets, Opens}
-use Rattle.mt_slots.specs.Parts.{row_text, Placed, IsPlace}
+use Rattle.mt_slots.specs.Parts.{row_text, Placed, IsPlace, StaysPut}
 use Rattle.mt_base.proofs.Places.{same_within, same_torn, part_has, has_front, has_back, has_torn}
 use Rattle.mt_slots.proofs.Pages.{slot_live, offset_same, size_same, live_same, live_one, Keeps, Counts, others_kept, one_slot}
 
@@ -49,7 +49,7 @@ row_there page at r reads within = record { inside = within; whole = sym reads.s
 
 pub placed : (old new : List ℕ) (i n at : ℕ) (r : Row) → IsShaped old → IsPlace old i n at (length (row_text r))
     → Placed old new i at (row_text r) n
-    → IsShaped new × Sets old new i (Some r) n × (live_bytes new (count new) ≡ live_bytes old (count old) + length (row_text r))
+    → IsShaped new × Sets old new i (Some r) n × (live_bytes new (count new) ≡ live_bytes old (count old) + length (row_text r)) × StaysPut old new i
 placed old new i n at r page place done =
     let long = row_text_length r in
     let low = place.low in
@@ -93,6 +93,7 @@ placed old new i n at r page place done =
         counted = counted;
       },
       sum,
+      kept.offsets,
     )
 
 -- the three writes: the record's bytes, its head, and the count
@@ -124,6 +125,7 @@ pub record PutThere (old new : List ℕ) (i n : ℕ) (r : Row) : Type 0 where
   pub shaped : IsShaped new
   pub sets : Sets old new i (Some r) n
   pub live : live_bytes new (count new) ≡ live_bytes old (count old) + (4 + length r.key + length r.value)
+  pub stays : StaysPut old new i
 
 pub put_there : (old a b new : List ℕ) (i n at bytes : ℕ) (r : Row) → IsShaped old → IsPlace old i n at (4 + length r.key + length r.value) → bytes ≡ 4 + length r.key + length r.value
     → Wrote at (row_text r) old a
@@ -135,4 +137,4 @@ put_there old a b new i n at bytes r shaped free is wrote head points sized torn
     let place : IsPlace old i n at (length (row_text r)) = rw long free in
     let done = placed old new i n at r shaped place (placed_by old a b new i n at bytes (row_text r) place.opens place.low (is ∙ sym long) wrote head points sized torn counted) in
     let live = done.2 in
-    record { shaped = done.0; sets = done.1; live = omega arith }
+    record { shaped = done.0; sets = done.1; live = omega arith; stays = done.3 }

@@ -54,3 +54,10 @@ sets_packed old mid new i n x same sets = record { here = sets.here; others = λ
 
 pub sets_twice : (old mid new : List ℕ) (i m n : ℕ) (x y : Option Row) → Sets old mid i x m → Sets mid new i y n → Sets old new i y n
 sets_twice old mid new i m n x y f g = record { here = g.here; others = λ j ne. g.others j ne ∙ f.others j ne; counted = g.counted }
+
+-- a slot is taken in one way
+pub opens_one : (page : List ℕ) (i n m : ℕ) → Opens page i n → Opens page i m → n ≡ m
+opens_one page i n m one other = ⊎_elim
+    (λ h. let a = h.0 in let b = h.2 in ⊎_elim (λ g. let d = g.2 in omega arith) (λ g. let d = g.0 in absurd (omega arith)) other)
+    (λ h. let a = h.0 in let b = h.1 in ⊎_elim (λ g. let d = g.0 in absurd (omega arith)) (λ g. let d = g.1 in omega arith) other)
+    one

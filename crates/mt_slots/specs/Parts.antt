@@ -31,6 +31,14 @@ pub record IsPlace (page : List ℕ) (i n at bytes : ℕ) : Type 0 where
   pub behind : (j : ℕ) → j < count page → j ≢ i → size page j ≢ 0 → 8 + 4 * n ≤ offset page j
   pub room : 8 + 4 * n + live_bytes page (count page) + bytes ≤ 4096
 
+-- there is one
+abbrev pub HasPlace : List ℕ → ℕ → ℕ → ℕ → Type 0
+HasPlace page i n bytes = (at : ℕ) × IsPlace page i n at bytes
+
+-- the records of the other slots stay where they are
+abbrev pub StaysPut : List ℕ → List ℕ → ℕ → Type 0
+StaysPut old new i = (j : ℕ) → j < count old → j ≢ i → offset new j ≡ offset old j
+
 -- a record of the page begins here
 pub record Begins (page : List ℕ) (n low : ℕ) : Type 0 where
   pub place : ℕ

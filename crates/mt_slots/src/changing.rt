@@ -1,8 +1,9 @@
 // The operations of a page of records.
-ghost use Rattle.std.specs.Prelude.{◌≡◌, ◌≢◌, ◌+◌, ◌*◌, ◌<◌, ◌≤◌, length, set, Some, None, IsSome, IfSome, IfNone};
+ghost use Rattle.std.specs.Prelude.{◌≡◌, ◌≢◌, ◌+◌, ◌*◌, ◌<◌, ◌≤◌, ℕ, length, set, Some, None, IsSome, IfSome, IfNone};
 ghost use Rattle.std.specs.Bool.{OnTrue, OnFalse};
 ghost use Rattle.mt_base.specs.Ranges.{part};
-ghost use Rattle.mt_slots.specs.Page.{Row, IsShaped, Sets, Inserted, IsFull, count, offset, size, slot as held, slots, row_at, row_length, live_bytes, room_of, put_at};
+ghost use Rattle.mt_slots.specs.Page.{Row, IsShaped, Sets, Inserted, IsFull, count, offset, size, slot as held, slots, row_at, row_length, live_bytes, room_of, put_at, Opens};
+ghost use Rattle.mt_slots.specs.Parts.{HasPlace, StaysPut};
 
 use crate::checking::is_free;
 use crate::heads::{PAGE_HEAD_BYTES, SLOT_BYTES, offset_of, set_head, size_of, slot_count};
@@ -22,8 +23,9 @@ pub fn empty(page: &mut [u8])
 }
 
 /// Puts a record into the lowest empty slot, or into a new one where there is none, and answers which.
-/// `None` where it does not fit, and the page is as before then. In a page a relation has one byte, as
-/// has a key's length, and no value is longer than the page; a schema's limits are narrower.
+/// The other records stay where they are, unless no place of the page takes it; then all are packed at the page's end.
+/// `None` where it does not fit, however the records lie, and the page is as before then. In a page a relation has
+/// one byte, as has a key's length, and no value is longer than the page; a schema's limits are narrower.
 pub fn insert(page: &mut [u8], relation: RelNo, key: &[u8], value: &[u8]) -> Option<u16>
     requires shaped { IsShaped page.old }
     requires relation_fits { relation < 256 }
@@ -34,6 +36,8 @@ pub fn insert(page: &mut [u8], relation: RelNo, key: &[u8], value: &[u8]) -> Opt
         (record { relation = relation; key = key.now; value = value.now })) }
     ensures list { IfSome result (λ i. slots page.new ≡ put_at (slots page.old) i (Some
         (record { relation = relation; key = key.now; value = value.now }))) }
+    ensures stays { IfSome result (λ i. (n : ℕ) → Opens page.old i n →
+        HasPlace page.old i n (4 + length key.now + length value.now) → StaysPut page.old page.new i) }
     ensures unchanged { IfNone result (page.new ≡ page.old) }
     ensures full { IfNone result (IsFull page.old (4 + length key.now + length value.now)) }
 {
@@ -58,7 +62,7 @@ pub fn remove(page: &mut [u8], slot: u16)
     clear(page, usize::from(slot));
 }
 
-// The same, of a slot by its place in the table.
+// Empties a slot by its place in the table.
 fn clear(page: &mut [u8], i: usize)
     requires shaped { IsShaped page.old }
     requires there { i < count page.old }
@@ -89,7 +93,7 @@ pub fn replace(page: &mut [u8], slot: u16, value: &[u8]) -> bool
     replace_live(page, usize::from(slot), value)
 }
 
-// The same, of a slot by its place in the table.
+// Gives a record another value, by its slot's place in the table.
 fn replace_live(page: &mut [u8], i: usize, value: &[u8]) -> bool
     requires shaped { IsShaped page.old }
     requires there { i < count page.old }

@@ -2,7 +2,7 @@
 ghost use Rattle.std.specs.Prelude.{◌≡◌, ◌≢◌, ◌+◌, ◌*◌, ◌<◌, ◌≤◌, ℕ, length, Some, IfSome, IfNone};
 ghost use Rattle.mt_base.specs.Ranges.{Wrote};
 ghost use Rattle.mt_slots.specs.Page.{IsShaped, IsFree, Sets, Opens, count, offset, size, live_bytes};
-ghost use Rattle.mt_slots.specs.Parts.{IsPlace, Begins, row_text};
+ghost use Rattle.mt_slots.specs.Parts.{IsPlace, HasPlace, StaysPut, Begins, row_text};
 
 use crate::checking::is_free;
 use crate::heads::{
@@ -65,6 +65,7 @@ pub(crate) fn place_row(
         (record { relation = relation; key = key.now; value = value.now })) slots }
     ensures live { live_bytes page.new (count page.new) ≡ live_bytes page.old (count page.old) +
         (4 + length key.now + length value.now) }
+    ensures stays { StaysPut page.old page.new i }
 {
     write_row(page, at, relation, key, value);
     set_head(page, i, at, row_bytes(key, value));
@@ -128,6 +129,7 @@ pub(crate) fn settle(
         (record { relation = relation; key = key.now; value = value.now })) slots }
     ensures grown { live_bytes page.new (count page.new) ≡ live_bytes page.old (count page.old) +
         (4 + length key.now + length value.now) }
+    ensures stays { HasPlace page.old i slots (4 + length key.now + length value.now) → StaysPut page.old page.new i }
 {
     let bytes = row_bytes(key, value);
     let table = PAGE_HEAD_BYTES + SLOT_BYTES * slots;

@@ -1,5 +1,5 @@
 -- Pages of which one is replaced, and lists of changes.
-use Rattle.std.proofs.Common.{◌≡◌, ◌≢◌, inl, inr, ℕ, List, [], ◌∷◌, ◌++◌, refl, sym, ◌∙◌, ap, arith}
+use Rattle.std.proofs.Common.{◌≡◌, ◌≢◌, inl, inr, ℕ, List, [], ◌∷◌, ◌++◌, Option, None, Some, refl, sym, ◌∙◌, ap, subst, arith}
 use mathlib.Core.Path.{fun_ext}
 use Rattle.std.proofs.lemmas.Bool.{cases_eq}
 use Rattle.std.proofs.lemmas.Bool.Decides.{nat_tests}
@@ -39,3 +39,16 @@ untouched_push (d ∷ cs) c p ne none = (none.0, untouched_push cs c p ne none.1
 pub short_push : (cs : List PageChange) (c : PageChange) (pages : PageBytes) → IsShort (pages c.page) c → IsUntouched cs c.page → AreShort cs pages → AreShort (cs ++ c ∷ []) pages
 short_push [] c pages short none all = (short, tt, tt)
 short_push (d ∷ cs) c pages short none all = (all.0, untouched_push cs c d.page (λ e. none.0 (sym e)) all.1, short_push cs c pages short none.1 all.2)
+
+-- ---- pages at hand
+
+-- a page at hand is no other one
+pub off_hand : (at_hand : ℕ → Option (List ℕ)) (p q : ℕ) (bytes : List ℕ) → at_hand p ≡ None → at_hand q ≡ Some bytes → p ≢ q
+off_hand at_hand p q bytes none some same = no_bytes bytes (sym none ∙ ap at_hand same ∙ some)
+  where
+    no_bytes : (b : List ℕ) → None ≡ Some b → ⊥
+    no_bytes b e = cc
+
+-- where nothing changes no page does
+pub none_touched : (changes : List PageChange) (p : ℕ) → changes ≡ [] → IsUntouched changes p
+none_touched changes p none = subst (λ (cs : List PageChange). IsUntouched cs p) (sym none) tt

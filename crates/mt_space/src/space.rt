@@ -50,7 +50,7 @@ impl Space {
         })
     }
 
-    /// Reserves so many of the free pages. Refused with 10 exactly where fewer are free and not reserved;
+    /// Reserves so many of the free pages. Refused with 10 if and only if fewer are free and not reserved;
     /// the space is then as before. It takes no memory.
     pub fn claim(&mut self, pages: u16) -> Result<(), Refusal>
         ensures free { self.new.0 ≡ self.old.0 }

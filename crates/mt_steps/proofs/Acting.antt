@@ -159,7 +159,7 @@ updates_good relations total pages last m n r k v w rows is stood fits stays cou
       file = stays.file;
       within = stays.within relations 1024 rows.within fits;
       index = index_stays total pages last m rows.index leaves;
-      formed = form_stays relations total pages last rows.formed leaves;
+      formed = form_stays relations total pages last m rows.index rows.formed leaves;
       named = same_map last (alter m r k (Some n)) m (alter_same m r k n is) (names_put pages last m n.page n.slot r k (Some v) (Some w) rows.named stood (name_lone pages m r k n rows.named is) stays.puts);
       counters_fixed = counters_fixed;
     }

@@ -52,7 +52,7 @@ adds_good relations total pages m new rows =
       file = file_stays pages (replaced 2 new pages) kept rows.file;
       within = within_stays relations 1024 pages (replaced 2 new pages) kept rows.within;
       index = index_stays total pages (replaced 2 new pages) m rows.index (leaves relations total pages m new rows);
-      formed = form_stays relations total pages (replaced 2 new pages) rows.formed (leaves relations total pages m new rows);
+      formed = form_stays relations total pages (replaced 2 new pages) m rows.index rows.formed (leaves relations total pages m new rows);
       named = named_same pages (replaced 2 new pages) m (records_stay pages (replaced 2 new pages) kept) rows.named;
       counters_fixed = kinds_stay pages new 2 ∙ rows.counters_fixed;
     }

@@ -1,7 +1,9 @@
 -- A page that the index takes: each page of the key's bucket is full.
-use Rattle.std.proofs.Common.{◌≡◌, ◌≢◌, ℕ, List, [], ◌∷◌, ◌++◌, Bool, length, ap, sym, ◌∙◌, subst}
+use Rattle.std.proofs.Common.{◌≡◌, ◌≢◌, inl, inr, ℕ, List, [], ◌∷◌, ◌++◌, Bool, length, ap, sym, ◌∙◌, subst}
+use Rattle.mt_base.specs.declared.modes.Mode.{Mode}
 use Rattle.mt_bucket.specs.Entries.{Entry}
 use Rattle.mt_bucket.specs.Hash.{hash}
+use Rattle.mt_index.specs.Answers.{IsInBucket}
 use Rattle.mt_index.specs.Index.{Node, State, Linked, named}
 use Rattle.mt_index.specs.Maps.{Map, Each}
 use Rattle.mt_index.specs.Pages.{state_of, AreMap, LeavesIndex}
@@ -74,3 +76,43 @@ crowded_before total pages mid m key map leaves crowded ns linked =
     let behind = linked_to s.node t.node (λ (n : ℕ). s.kind n ≡ 2) (λ n two. ap (λ (bytes : List ℕ). (state_of (λ p. bytes)).node n) (leaves.buckets n two).1) (named s (hash key)) (tree.chain (named s (hash key))) ns
     (tree.linked (hash key)) (tree.kinds (hash key)) linked in
     behind.full (crowded ns (subst (λ (q : ℕ). Linked t.node q ns) (sym first) behind.linked))
+
+-- ---- a page of the key's bucket is one before a record is put or taken away
+
+walk_before : (node node2 : ℕ → Node) (P : ℕ → Type 0) → ((n : ℕ) → P n → node2 n ≡ node n) → (q : ℕ) (cs front : List ℕ) (p : ℕ) → Linked node q cs → Each P cs → Walk node2 q front p → Walk node q front p
+walk_before node node2 P same q cs [] p chain each walk = walk
+walk_before node node2 P same q [] (n ∷ front) p chain each walk = absurd (walk.1 (sym walk.0 ∙ chain))
+walk_before node node2 P same q (c ∷ cs) (n ∷ front) p chain each walk =
+    let here : c ≡ n = sym chain.0 ∙ walk.0 in
+    let kept : node2 n ≡ node n = same n (subst P here each.0) in (
+      walk.0,
+      walk.1,
+      walk_before node node2 P same (node n).next cs front p (subst (λ (x : ℕ). Linked node (node x).next cs) here chain.2) each.1 (subst (λ (x : Node). Walk node2 x.next front p) kept walk.2),
+    )
+
+pub bucket_before : (total : ℕ) (pages mid : PageBytes) (m : Map) (key : List ℕ) (in_bucket : Mode) (p : ℕ) (mode : Mode) → AreMap total pages m → LeavesIndex total pages mid → IsInBucket key in_bucket mid p mode → IsInBucket key in_bucket pages p mode
+bucket_before total pages mid m key in_bucket p mode map leaves (inl directory) = inl directory
+bucket_before total pages mid m key in_bucket p mode map leaves (inr (two, locked, on)) =
+    let s = state_of pages in
+    let t = state_of mid in
+    let tree = map.index.tree in
+    let first : named t (hash key) ≡ named s (hash key) = λ i. named (record { g = (state_of (λ p. leaves.directory i)).g; pointers = (state_of (λ p. leaves.directory i)).pointers; node = s.node; kind = s.kind }) (hash key) in
+    inr (
+      leaves.no_more p two,
+      locked,
+      record {
+        front = on.front;
+        walk = walk_before s.node t.node (λ (n : ℕ). s.kind n ≡ 2) (λ n is. ap (λ (bytes : List ℕ). (state_of (λ p. bytes)).node n) (leaves.buckets n is).1) (named s (hash key)) (tree.chain (named s (hash key))) on.front p
+            (tree.linked (hash key)) (tree.kinds (hash key)) (subst (λ (q : ℕ). Walk t.node q on.front p) first on.walk);
+        real = on.real;
+      },
+    )
+
+pub leaves_both : (total : ℕ) (pages mid last : PageBytes) → LeavesIndex total pages mid → LeavesIndex total mid last → LeavesIndex total pages last
+leaves_both total pages mid last one two = record {
+  directory = two.directory ∙ one.directory;
+  buckets = λ p is. let first = one.buckets p is in let second = two.buckets p first.0 in (second.0, second.1 ∙ first.1);
+  no_more = λ p is. one.no_more p (two.no_more p is);
+  fixed = λ p is. two.fixed p (one.fixed p is);
+  within = two.within;
+}

@@ -42,7 +42,7 @@ pub placed_map : (relations total : ℕ) (pages : PageBytes) (m : Map) (changes 
 placed_map relations total pages m changes name row rows placed = index_stays total pages (after changes pages) m rows.index (placed_leaves relations total pages m changes name row rows placed)
 
 pub placed_form : (relations total : ℕ) (pages : PageBytes) (m : Map) (changes : List PageChange) (name : RecordName) (row : Row) → AreRows relations total pages m → IsPlaced total pages changes name row → AreFormed relations total (after changes pages)
-placed_form relations total pages m changes name row rows placed = form_stays relations total pages (after changes pages) rows.formed (placed_leaves relations total pages m changes name row rows placed)
+placed_form relations total pages m changes name row rows placed = form_stays relations total pages (after changes pages) m rows.index rows.formed (placed_leaves relations total pages m changes name row rows placed)
 
 -- what is told of an answer that is known
 pub added_is : (P : List PageChange → Type 0) (a : Add) (changes : Changes) → a ≡ add.Changes changes → IfAdded a P → P changes.list.items

@@ -6,6 +6,7 @@ use Rattle.mt_slots.specs.Page.{Row}
 use Rattle.mt_space.specs.Changes.{PageBytes}
 use Rattle.mt_space.specs.Kinds.{kind}
 use Rattle.mt_file.specs.File.{record_in}
+use Rattle.mt_index.proofs.Chaining.{first_chained}
 use Rattle.mt_index.proofs.Witness.{formatted}
 use Rattle.mt_steps.specs.Formatted.{IsFormatted, first_base}
 use Rattle.mt_steps.specs.Held.{Holds}
@@ -29,6 +30,7 @@ formatted_good relations counters total pages f = record {
     formed = record {
       directory = f.directory;
       buckets = λ p is. subst (λ (n : ℕ). IsBucket relations total (pages n)) (sym (f.one_bucket p is)) f.bucket;
+      chained = first_chained total pages f.index f.one_bucket;
     };
     named = record { names = λ r k n is. absurd cc; named = λ p s row is. absurd (no_row pages f.no_records p s row is) };
     counters_fixed = f.counters_fixed;

@@ -67,7 +67,7 @@ pub taken_map : (relations total : ℕ) (pages : PageBytes) (m : Map) (changes :
 taken_map relations total pages m changes n row rows taken = index_stays total pages (after changes pages) m rows.index (taken_leaves relations total pages m changes n row rows taken)
 
 pub taken_form : (relations total : ℕ) (pages : PageBytes) (m : Map) (changes : List PageChange) (n : RecordName) (row : Row) → AreRows relations total pages m → IsTaken pages changes n row → AreFormed relations total (after changes pages)
-taken_form relations total pages m changes n row rows taken = form_stays relations total pages (after changes pages) rows.formed (taken_leaves relations total pages m changes n row rows taken)
+taken_form relations total pages m changes n row rows taken = form_stays relations total pages (after changes pages) m rows.index rows.formed (taken_leaves relations total pages m changes n row rows taken)
 
 -- both plans together are one act
 pub left : (relations total : ℕ) (pages last : PageBytes) (m : Map) (first : List PageChange) (n : RecordName) (r : ℕ) (k v : List ℕ) (reply : Reply) → AreRows relations total pages m → m r k ≡ Some n

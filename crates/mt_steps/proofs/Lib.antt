@@ -23,3 +23,4 @@ mod Undoing
 mod Crowding
 mod Naming
 mod Joined
+pub mod Listed

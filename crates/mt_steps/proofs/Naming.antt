@@ -224,7 +224,7 @@ pub put_place : (at_hand : ℕ → Option (List ℕ)) (room : Option ℕ) (total
 put_place at_hand room total pages row answer plan is told = into_chosen room total pages plan.name.page (subst (λ (s : Step). IsPut at_hand room total [] pages row s) is told).1
 
 -- of a replacement
-needs_place : (pages : PageBytes) (m : Map) (n : RecordName) (r : ℕ) (k v w : List ℕ) → AreNamed pages m → m r k ≡ Some n → record_in pages n.page n.slot ≡ Some (record { relation = r; key = k; value = v })
+pub needs_place : (pages : PageBytes) (m : Map) (n : RecordName) (r : ℕ) (k v w : List ℕ) → AreNamed pages m → m r k ≡ Some n → record_in pages n.page n.slot ≡ Some (record { relation = r; key = k; value = v })
     → IsOutgrown pages n.page (record { relation = r; key = k; value = v }) (record { relation = r; key = k; value = w }) → NeedsPlace (Update r k w) pages
 needs_place pages m n r k v w named is stood outgrown p s old there =
     let same = some_name n (record { page = p; slot = s }) (sym is ∙ named.named p s (record { relation = r; key = k; value = old }) there) in

@@ -1,5 +1,6 @@
 -- An act on rows and counters is what a plan promises.
 use Rattle.std.proofs.Common.{◌≡◌, ◌<◌, ◌⊎◌, Bool, false, ℕ, List, [], Result, Ok, Err, IfOk, Option, None, Some, refl, sym, ◌∙◌, ap, subst}
+use Rattle.mt_base.specs.declared.modes.Mode.{Mode}
 use Rattle.mt_base.specs.declared.numbers.RecordName.{RecordName}
 use Rattle.mt_slots.specs.Page.{Row}
 use Rattle.mt_space.specs.declared.changes.PageChange.{PageChange}
@@ -15,7 +16,8 @@ use Rattle.mt_steps.specs.declared.act.Act.{Act}
 use Rattle.mt_steps.specs.declared.act.Act.TheVariants as act
 use Rattle.mt_steps.specs.Acts.{IfLock, IfMade, IfFull, InGood, InRoomy, IsAct}
 use Rattle.mt_steps.specs.Logged.{HasSmallReply, HasSmallValues}
-use Rattle.mt_steps.specs.Plans.{IsGood, AsksRow, InPages, IsPlanned, IsModest, IsTight, free_pages, own_needs, record_bytes}
+use Rattle.mt_steps.specs.Asks.{AsksFor}
+use Rattle.mt_steps.specs.Plans.{IsGood, InPages, IsPlanned, IsModest, IsTight, free_pages, own_needs, record_bytes}
 use Rattle.mt_steps.proofs.Entering.{made_weaker}
 use Rattle.mt_steps.proofs.Modest.{modest_nothing, modest_any}
 use Rattle.mt_steps.proofs.Small.{small_reply}
@@ -142,9 +144,16 @@ read_planned split relations counters total number at_hand room op op2 act same 
 
 -- ---- what is asked for
 
-pub asks_same : {E : Type 0} (at_hand : ℕ → Option (List ℕ)) (total : ℕ) (op op2 : Op) (r : Result Act E) → op ≡ op2
-    → IfOk r (λ act. IfLock act (AsksRow at_hand total op)) → IfOk r (λ act. IfLock act (AsksRow at_hand total op2))
-asks_same at_hand total op op2 r same told = subst (λ (o : Op). IfOk r (λ act. IfLock act (AsksRow at_hand total o))) same told
+pub asks_same : {E : Type 0} (at_hand : ℕ → Option (List ℕ)) (room : Option ℕ) (total : ℕ) (split : Bool) (op op2 : Op) (r : Result Act E) → op ≡ op2
+    → IfOk r (λ act. IfLock act (AsksFor at_hand room total split op)) → IfOk r (λ act. IfLock act (AsksFor at_hand room total split op2))
+asks_same at_hand room total split op op2 r same told = subst (λ (o : Op). IfOk r (λ act. IfLock act (AsksFor at_hand room total split o))) same told
+
+-- both of what is known of a page that is asked for
+pub lock_both : (act : Act) (P Q R : ℕ → Mode → Type 0) → ((p : ℕ) (mode : Mode) → P p mode → Q p mode → R p mode) → IfLock act P → IfLock act Q → IfLock act R
+lock_both (act.Lock p mode) P Q R f p_told q_told = f p mode p_told q_told
+lock_both (act.Made changes reply) P Q R f p_told q_told = tt
+lock_both act.Full P Q R f p_told q_told = tt
+lock_both act.Broken P Q R f p_told q_told = tt
 
 -- ---- too little room
 

@@ -26,7 +26,7 @@ IsLone pages p s r k = (q t : ℕ) (v : List ℕ) → (q ≢ p) ⊎ (t ≢ s) �
 
 -- ---- this key or another, this name or another
 
-key_cases : (r : ℕ) (k : List ℕ) (s : ℕ) (l : List ℕ) → ((r ≡ s) × (k ≡ l)) ⊎ (((r == s) && bytes_eq k l) ≡ false)
+pub key_cases : (r : ℕ) (k : List ℕ) (s : ℕ) (l : List ℕ) → ((r ≡ s) × (k ≡ l)) ⊎ (((r == s) && bytes_eq k l) ≡ false)
 key_cases r k s l = go ((r == s) && bytes_eq k l) refl
   where
     go : (b : Bool) → ((r == s) && bytes_eq k l) ≡ b → ((r ≡ s) × (k ≡ l)) ⊎ (((r == s) && bytes_eq k l) ≡ false)

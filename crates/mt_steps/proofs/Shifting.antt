@@ -25,6 +25,7 @@ use Rattle.mt_steps.specs.Acts.{IsKept, IsMoved, IsAct}
 use Rattle.mt_steps.proofs.Rows.{none_held, alter_same, updated_again}
 use Rattle.mt_steps.proofs.Apart.{StaysFile}
 use Rattle.mt_steps.proofs.Acting.{touches_index, amends_file, updates_good, updates_base, moves_good, moves_base, base_same, value_held}
+use Rattle.mt_steps.proofs.Crowding.{leaves_both}
 use Rattle.mt_steps.proofs.Leaving.{not_bucket, zero_or_three}
 use Rattle.mt_steps.proofs.Entering.{chosen}
 
@@ -58,29 +59,26 @@ to_kind relations total pages between m n to old rows stood drops to_is = ⊎_el
     here same = subst (λ (q : ℕ). ((kind between q ≡ 3) ⊎ (kind between q ≡ 0)) × (q < total)) (sym same)
         (zero_or_three pages between n.page n.slot drops, rows.index.within n.page (λ z. let w : kind pages n.page ≡ 0 = z in omega (arith, three, w)))
 
-pub moved_map : (relations total : ℕ) (pages : PageBytes) (m : Map) (changes : List PageChange) (n to : RecordName) (old row : Row) → AreRows relations total pages m → IsMoved total pages changes n to old row
-    → AreMap total (after changes pages) m × AreFormed relations total (after changes pages)
-moved_map relations total pages m changes n to old row rows moved = (
-  index_stays total between mid m map leaves,
-  form_stays relations total between mid (form_stays relations total pages between rows.formed first) leaves,
-)
+pub moved_leaves : (relations total : ℕ) (pages : PageBytes) (m : Map) (changes : List PageChange) (n to : RecordName) (old row : Row) → AreRows relations total pages m → IsMoved total pages changes n to old row → LeavesIndex total pages (after changes pages)
+moved_leaves relations total pages m changes n to old row rows moved = leaves_both total pages moved.moves.between mid first second
   where
-    between : PageBytes
-    between = moved.moves.between
-
     mid : PageBytes
     mid = after changes pages
 
-    first : LeavesIndex total pages between
-    first = between_leaves relations total pages between m n old rows moved.stood moved.moves.drops
+    first : LeavesIndex total pages moved.moves.between
+    first = between_leaves relations total pages moved.moves.between m n old rows moved.stood moved.moves.drops
 
-    map : AreMap total between m
-    map = index_stays total pages between m rows.index first
+    second : LeavesIndex total moved.moves.between mid
+    second =
+        let to_is = to_kind relations total pages moved.moves.between m n to old rows moved.stood moved.moves.drops moved.was in
+        touches_index total moved.moves.between mid m to.page (index_stays total pages moved.moves.between m rows.index first) moved.moves.adds.touches to_is.0 to_is.1
+        (λ two. let a : kind mid to.page ≡ 3 = moved.moves.adds.own in let b : kind mid to.page ≡ 2 = two in omega (arith, a, b))
 
-    leaves : LeavesIndex total between mid
-    leaves =
-        let to_is = to_kind relations total pages between m n to old rows moved.stood moved.moves.drops moved.was in
-        touches_index total between mid m to.page map moved.moves.adds.touches to_is.0 to_is.1 (λ two. let a : kind mid to.page ≡ 3 = moved.moves.adds.own in let b : kind mid to.page ≡ 2 = two in omega (arith, a, b))
+pub moved_map : (relations total : ℕ) (pages : PageBytes) (m : Map) (changes : List PageChange) (n to : RecordName) (old row : Row) → AreRows relations total pages m → IsMoved total pages changes n to old row
+    → AreMap total (after changes pages) m × AreFormed relations total (after changes pages)
+moved_map relations total pages m changes n to old row rows moved =
+    let leaves = moved_leaves relations total pages m changes n to old row rows moved in
+    (index_stays total pages (after changes pages) m rows.index leaves, form_stays relations total pages (after changes pages) m rows.index rows.formed leaves)
 
 -- ---- the acts
 

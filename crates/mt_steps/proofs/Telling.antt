@@ -1,52 +1,50 @@
 -- What follows from an answer that is told by cases.
-use Rattle.std.proofs.Common.{arith, ◌≡◌, ◌<◌, ◌⊎◌, inr, ℕ, List, Option, None, Some, sym, ap, ◌∙◌}
+use Rattle.std.proofs.Common.{arith, ◌≡◌, ◌<◌, ℕ, List, Option, None, Some, sym, ap, ◌∙◌}
 use Rattle.mt_space.specs.declared.changes.PageChange.{PageChange}
 use Rattle.mt_model.specs.declared.operations.Reply.{Reply}
 use Rattle.mt_steps.specs.declared.act.Act.{Act}
 use Rattle.mt_steps.specs.declared.act.Act.TheVariants.{Lock, Made, Full, Broken}
 use Rattle.mt_steps.specs.Acts.{IfLock, IfMade, IfFull, IfBroken}
 use Rattle.mt_base.specs.declared.modes.Mode.{Mode}
-use Rattle.mt_steps.specs.Plans.{IsForChange}
 use Rattle.mt_steps.specs.Tells.{Tells}
 
-pub tells_weaker : (at_hand : ℕ → Option (List ℕ)) (total : ℕ) (P Q : List PageChange → Reply → Type 0) (F G : Type 0)
-    → ((changes : List PageChange) (reply : Reply) → P changes reply → Q changes reply) → (F → G) → (act : Act) → Tells at_hand total P F act → Tells at_hand total Q G act
-tells_weaker at_hand total P Q F G f h (Lock p mode) told = told
-tells_weaker at_hand total P Q F G f h (Made changes reply) told = f changes.list.items reply told
-tells_weaker at_hand total P Q F G f h Full told = h told
-tells_weaker at_hand total P Q F G f h Broken told = told
+pub tells_weaker : (at_hand : ℕ → Option (List ℕ)) (total : ℕ) (A B : ℕ → Mode → Type 0) (P Q : List PageChange → Reply → Type 0) (F G : Type 0) → ((p : ℕ) (mode : Mode) → A p mode → B p mode)
+    → ((changes : List PageChange) (reply : Reply) → P changes reply → Q changes reply) → (F → G) → (act : Act) → Tells at_hand total A P F act → Tells at_hand total B Q G act
+tells_weaker at_hand total A B P Q F G asks f h (Lock p mode) told = (told.0, told.1, asks p mode told.2)
+tells_weaker at_hand total A B P Q F G asks f h (Made changes reply) told = f changes.list.items reply told
+tells_weaker at_hand total A B P Q F G asks f h Full told = h told
+tells_weaker at_hand total A B P Q F G asks f h Broken told = told
 
-pub lock_told : (at_hand : ℕ → Option (List ℕ)) (total : ℕ) (P : List PageChange → Reply → Type 0) (F : Type 0) (act : Act) → Tells at_hand total P F act → IfLock act (λ p mode. (at_hand p ≡ None) × (p < total))
-lock_told at_hand total P F (Lock p mode) told = (told.0, told.1)
-lock_told at_hand total P F (Made changes reply) told = tt
-lock_told at_hand total P F Full told = tt
-lock_told at_hand total P F Broken told = tt
+pub lock_told : (at_hand : ℕ → Option (List ℕ)) (total : ℕ) (A : ℕ → Mode → Type 0) (P : List PageChange → Reply → Type 0) (F : Type 0) (act : Act) → Tells at_hand total A P F act → IfLock act (λ p mode. (at_hand p ≡ None) × (p < total))
+lock_told at_hand total A P F (Lock p mode) told = (told.0, told.1)
+lock_told at_hand total A P F (Made changes reply) told = tt
+lock_told at_hand total A P F Full told = tt
+lock_told at_hand total A P F Broken told = tt
 
--- once it is known what the key has, an answer asks for what changes
-pub asks_told : (at_hand : ℕ → Option (List ℕ)) (total : ℕ) (P : List PageChange → Reply → Type 0) (F : Type 0) (Looks : ℕ → Mode → Type 0) (Known : Type 0) → Known → (act : Act) → Tells at_hand total P F act
-    → IfLock act (λ p mode. Looks p mode ⊎ (Known × IsForChange p mode))
-asks_told at_hand total P F Looks Known known (Lock p mode) told = inr (known, told.2)
-asks_told at_hand total P F Looks Known known (Made changes reply) told = tt
-asks_told at_hand total P F Looks Known known Full told = tt
-asks_told at_hand total P F Looks Known known Broken told = tt
+pub asks_told : (at_hand : ℕ → Option (List ℕ)) (total : ℕ) (A B : ℕ → Mode → Type 0) (P : List PageChange → Reply → Type 0) (F : Type 0) → ((p : ℕ) (mode : Mode) → A p mode → B p mode) → (act : Act) → Tells at_hand total A P F act → IfLock act B
+asks_told at_hand total A B P F asks (Lock p mode) told = asks p mode told.2
+asks_told at_hand total A B P F asks (Made changes reply) told = tt
+asks_told at_hand total A B P F asks Full told = tt
+asks_told at_hand total A B P F asks Broken told = tt
 
-pub made_told : (at_hand : ℕ → Option (List ℕ)) (total : ℕ) (P Q : List PageChange → Reply → Type 0) (F : Type 0) → ((changes : List PageChange) (reply : Reply) → P changes reply → Q changes reply) → (act : Act) → Tells at_hand total P F act → IfMade act Q
-made_told at_hand total P Q F f (Lock p mode) told = tt
-made_told at_hand total P Q F f (Made changes reply) told = f changes.list.items reply told
-made_told at_hand total P Q F f Full told = tt
-made_told at_hand total P Q F f Broken told = tt
+pub made_told : (at_hand : ℕ → Option (List ℕ)) (total : ℕ) (A : ℕ → Mode → Type 0) (P Q : List PageChange → Reply → Type 0) (F : Type 0) → ((changes : List PageChange) (reply : Reply) → P changes reply → Q changes reply) → (act : Act)
+    → Tells at_hand total A P F act → IfMade act Q
+made_told at_hand total A P Q F f (Lock p mode) told = tt
+made_told at_hand total A P Q F f (Made changes reply) told = f changes.list.items reply told
+made_told at_hand total A P Q F f Full told = tt
+made_told at_hand total A P Q F f Broken told = tt
 
-pub full_told : (at_hand : ℕ → Option (List ℕ)) (total : ℕ) (P : List PageChange → Reply → Type 0) (F G : Type 0) → (F → G) → (act : Act) → Tells at_hand total P F act → IfFull act G
-full_told at_hand total P F G h (Lock p mode) told = tt
-full_told at_hand total P F G h (Made changes reply) told = tt
-full_told at_hand total P F G h Full told = h told
-full_told at_hand total P F G h Broken told = tt
+pub full_told : (at_hand : ℕ → Option (List ℕ)) (total : ℕ) (A : ℕ → Mode → Type 0) (P : List PageChange → Reply → Type 0) (F G : Type 0) → (F → G) → (act : Act) → Tells at_hand total A P F act → IfFull act G
+full_told at_hand total A P F G h (Lock p mode) told = tt
+full_told at_hand total A P F G h (Made changes reply) told = tt
+full_told at_hand total A P F G h Full told = h told
+full_told at_hand total A P F G h Broken told = tt
 
-pub broken_told : (at_hand : ℕ → Option (List ℕ)) (total : ℕ) (P : List PageChange → Reply → Type 0) (F : Type 0) (act : Act) → Tells at_hand total P F act → IfBroken act ⊥
-broken_told at_hand total P F (Lock p mode) told = tt
-broken_told at_hand total P F (Made changes reply) told = tt
-broken_told at_hand total P F Full told = tt
-broken_told at_hand total P F Broken told = told
+pub broken_told : (at_hand : ℕ → Option (List ℕ)) (total : ℕ) (A : ℕ → Mode → Type 0) (P : List PageChange → Reply → Type 0) (F : Type 0) (act : Act) → Tells at_hand total A P F act → IfBroken act ⊥
+broken_told at_hand total A P F (Lock p mode) told = tt
+broken_told at_hand total A P F (Made changes reply) told = tt
+broken_told at_hand total A P F Full told = tt
+broken_told at_hand total A P F Broken told = told
 
 -- the counters page is one of all
 pub two_inside : (at_hand : ℕ → Option (List ℕ)) (total : ℕ) (act : Act) → 2 < total → IfLock act (λ p mode. (at_hand p ≡ None) × (p ≡ 2)) → IfLock act (λ p mode. (at_hand p ≡ None) × (p < total))

@@ -1,8 +1,10 @@
 pub mod Held
+pub mod Listed
 pub mod Acts
 pub mod Counters
 pub mod Drafts
 pub mod Plans
+pub mod Asks
 pub mod Repeated
 pub mod Logged
 pub mod Tells

@@ -6,19 +6,15 @@ use Rattle.mt_space.specs.Changes.{PageBytes, Agrees, after, AreShort}
 use Rattle.mt_space.specs.declared.changes.PageChange.{PageChange}
 use Rattle.mt_space.specs.Kinds.{kind}
 use Rattle.mt_space.specs.Rooms.{mapped, free_in}
-use Rattle.mt_base.specs.declared.numbers.RecordName.{RecordName}
-use Rattle.mt_base.specs.declared.modes.Mode.{Mode}
-use Rattle.mt_base.specs.declared.modes.Mode.TheVariants.{Read as ToRead, Write as ToWrite}
 use Rattle.mt_file.specs.File.{record_in}
 use Rattle.mt_file.specs.Plans.{IsNamed, IsOutgrown}
 use Rattle.mt_file.specs.Rooms.{fits_of}
-use Rattle.mt_index.specs.Answers.{InMaps, IsInBucket}
 use Rattle.mt_index.specs.Index.{Linked, named}
 use Rattle.mt_index.specs.Maps.{Map, Each}
 use Rattle.mt_index.specs.Pages.{state_of}
 use Rattle.mt_index.specs.Rule.{IsFull}
 use Rattle.mt_model.specs.declared.operations.Op.{Op}
-use Rattle.mt_model.specs.declared.operations.Op.TheVariants.{Get, Insert, Update, Delete, Add, Read}
+use Rattle.mt_model.specs.declared.operations.Op.TheVariants.{Get, Insert, Update, Delete, Read}
 use Rattle.mt_model.specs.declared.operations.Reply.{Reply}
 use Rattle.mt_model.specs.Model.{Base, reply_of, base_after}
 use Rattle.mt_steps.specs.Counters.{AreCounters}
@@ -73,40 +69,6 @@ InPages at_hand room relations counters total P = (pages : PageBytes) → Agrees
 -- a page of records that has none
 abbrev pub HasNoRecord : PageBytes → ℕ → Type 0
 HasNoRecord pages p = (kind pages p ≡ 3) × ((s : ℕ) → record_in pages p s ≡ None)
-
--- the lock that an operation on a counter may ask for
-abbrev pub AsksCounters : Op → ℕ → Mode → Type 0
-AsksCounters (Add c d) p mode = (p ≡ 2) × (mode ≡ ToWrite)
-AsksCounters (Read c) p mode = (p ≡ 2) × (mode ≡ ToRead)
-AsksCounters _ p mode = Unit {0}
-
--- while its key is looked for, an operation asks for the directory to read, and for pages of the key's chain
-abbrev pub LooksFor : (ℕ → Option (List ℕ)) → ℕ → List ℕ → Mode → ℕ → Mode → Type 0
-LooksFor at_hand total key in_bucket p mode = InMaps at_hand total (λ pages m. IsInBucket key in_bucket pages p mode)
-
--- what is at hand shows that a key has no record, or which one it has
-abbrev pub IsMissing : (ℕ → Option (List ℕ)) → ℕ → ℕ → List ℕ → Type 0
-IsMissing at_hand total r k = InMaps at_hand total (λ pages m. m r k ≡ None)
-
-abbrev pub IsNamedBy : (ℕ → Option (List ℕ)) → ℕ → ℕ → List ℕ → RecordName → Type 0
-IsNamedBy at_hand total r k name = InMaps at_hand total (λ pages m. m r k ≡ Some name)
-
--- what a change asks for is to be written, but for the directory
-abbrev pub IsForChange : ℕ → Mode → Type 0
-IsForChange p mode = (mode ≡ ToWrite) ⊎ (p ≡ 1)
-
--- The lock that an operation on a row may ask for. Before what is at hand shows whether the key is there, it looks for
--- the key; only then it asks for the record's page, or for what it changes.
-abbrev pub AsksRow : (ℕ → Option (List ℕ)) → ℕ → Op → ℕ → Mode → Type 0
-AsksRow at_hand total (Get r k) p mode =
-    LooksFor at_hand total k ToRead p mode ⊎ ((s : ℕ) × IsNamedBy at_hand total r k (record { page = p; slot = s }) × (mode ≡ ToRead))
-AsksRow at_hand total (Insert r k v) p mode =
-    LooksFor at_hand total k ToWrite p mode ⊎ (IsMissing at_hand total r k × IsForChange p mode)
-AsksRow at_hand total (Update r k v) p mode =
-    LooksFor at_hand total k ToRead p mode ⊎ (((name : RecordName) × IsNamedBy at_hand total r k name) × IsForChange p mode)
-AsksRow at_hand total (Delete r k) p mode =
-    LooksFor at_hand total k ToWrite p mode ⊎ (((name : RecordName) × IsNamedBy at_hand total r k name) × IsForChange p mode)
-AsksRow at_hand total _ p mode = Unit {0}
 
 -- a page keeps its kind, or is one of records that is given back
 abbrev pub IsGivenBack : ℕ → ℕ → Type 0

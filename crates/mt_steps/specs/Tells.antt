@@ -1,5 +1,6 @@
 -- What the plans of rows answer, each by one definition.
 use Rattle.std.specs.Prelude.{◌≡◌, ◌≢◌, ◌⊎◌, ◌+◌, ◌<◌, ◌≤◌, ℕ, Bool, List, [], length, Option, None, Some}
+use Rattle.mt_base.specs.declared.modes.Mode.{Mode}
 use Rattle.mt_base.specs.declared.numbers.RecordName.{RecordName}
 use Rattle.mt_slots.specs.Page.{Row, Fits}
 use Rattle.mt_space.specs.declared.changes.PageChange.{PageChange}
@@ -15,15 +16,25 @@ use Rattle.mt_steps.specs.Drafts.{AreAtHand}
 use Rattle.mt_steps.specs.declared.act.Act.{Act}
 use Rattle.mt_steps.specs.declared.act.Act.TheVariants.{Lock, Made, Full, Broken}
 use Rattle.mt_steps.specs.Acts.{IsAct, IsPlaced, IsTaken, IsMoved}
-use Rattle.mt_steps.specs.Plans.{IsForChange, IsGivenBack, HasStood, NeedsEntry, IsModest}
+use Rattle.mt_steps.specs.Plans.{IsGivenBack, HasStood, NeedsEntry, IsModest}
 use Rattle.mt_steps.specs.Logged.{logged_of}
 
--- an answer by cases: a page that is not at hand, changes and a reply of which this holds, or that this is why it is full
-abbrev pub Tells : (ℕ → Option (List ℕ)) → ℕ → (List PageChange → Reply → Type 0) → Type 0 → Act → Type 0
-Tells at_hand total Does TooFull (Lock p mode) = (at_hand p ≡ None) × (p < total) × IsForChange p mode
-Tells at_hand total Does TooFull (Made changes reply) = Does changes.list.items reply
-Tells at_hand total Does TooFull Full = TooFull
-Tells at_hand total Does TooFull Broken = ⊥
+-- an answer by cases: a page that is not at hand and is asked for so, changes and a reply of which this holds, or that this is
+-- why it is full
+abbrev pub Tells : (ℕ → Option (List ℕ)) → ℕ → (ℕ → Mode → Type 0) → (List PageChange → Reply → Type 0) → Type 0 → Act → Type 0
+Tells at_hand total Asks Does TooFull (Lock p mode) = (at_hand p ≡ None) × (p < total) × Asks p mode
+Tells at_hand total Asks Does TooFull (Made changes reply) = Does changes.list.items reply
+Tells at_hand total Asks Does TooFull Full = TooFull
+Tells at_hand total Asks Does TooFull Broken = ⊥
+
+-- a page that is wanted so in all good pages that are so
+abbrev pub IsWanted : (ℕ → Option (List ℕ)) → ℕ → (ℕ → PageBytes → Map → Type 0) → (PageBytes → ℕ → Mode → Type 0) → ℕ → Mode → Type 0
+IsWanted at_hand total IsSo Wants p mode =
+    (relations : ℕ) (pages : PageBytes) → Agrees at_hand pages → (m : Map) → AreRows relations total pages m → IsSo relations pages m → Wants pages p mode
+
+-- none is
+abbrev pub AsksForNone : ℕ → Mode → Type 0
+AsksForNone p mode = ⊥
 
 -- the changes of both plans, and the reply
 pub record IsJoined (at_hand : ℕ → Option (List ℕ)) (first second : List PageChange) (reply : Reply) (changes : List PageChange) (told : Reply) : Type 0 where
@@ -69,6 +80,10 @@ IsAny relations pages m = Unit {0}
 -- the row fits the schema, and the page that is named for it, if one is, holds records
 abbrev pub TakesRow : Option ℕ → Row → ℕ → PageBytes → Map → Type 0
 TakesRow room row relations pages m = Fits relations 1024 row × IsNamed room pages
+
+-- the page that is named for it does
+abbrev pub HasRoom : Option ℕ → ℕ → PageBytes → Map → Type 0
+HasRoom room relations pages m = IsNamed room pages
 
 -- the record of a key without one has been put
 abbrev pub HasPlaced : ℕ → List PageChange → RecordName → Row → ℕ → PageBytes → Map → Type 0

@@ -47,7 +47,8 @@ pub(crate) fn add_to<V: Pages>(
         InGood (V.at_hand views.now) relations (V.total views.now) (λ pages m.
         IsModest (V.at_hand views.now) (V.total views.now) 0 false pages (after changes pages)))) }
     ensures takes { (relations : ℕ) → IfOk result (λ act. IfMade act (λ changes reply.
-        InGood (V.at_hand views.now) relations (V.total views.now) (λ pages m. TakesNone pages (after changes pages)))) }
+        InGood (V.at_hand views.now) relations (V.total views.now)
+        (λ pages m. TakesNone pages (after changes pages)))) }
     ensures full { IfOk result (λ act. IfFull act ⊥) }
     ensures broken { IfOk result (λ act. IfBroken act ⊥) }
 {

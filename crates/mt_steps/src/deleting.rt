@@ -1,16 +1,17 @@
 // A row less.
-ghost use Rattle.std.specs.Prelude.{◌≡◌, ◌≤◌, ◌<◌, ℕ, [], List, length, None, Some, IfOk, IsSome, false};
+ghost use Rattle.std.specs.Prelude.{◌≡◌, ◌≤◌, ◌<◌, ℕ, Bool, [], List, Option, length, None, Some, IfOk, IsSome, false};
 ghost use Rattle.mt_space.specs.Changes.{after, AreShort};
-ghost use Rattle.mt_index.specs.Answers.{InMaps};
+ghost use Rattle.mt_base.specs.declared.modes.Mode.TheVariants.{Write as ToWrite};
+ghost use Rattle.mt_index.specs.Answers.{InMaps, IsInBucket};
 ghost use Rattle.mt_model.specs.declared.operations.Op.TheVariants.{Delete};
 ghost use Rattle.mt_steps.specs.Drafts.{AreAtHand};
 ghost use Rattle.mt_steps.specs.Acts.{HasGood, InGood, IfLock, IfMade, IfFull, IfBroken, IsAct, IsTaken};
-ghost use Rattle.mt_steps.specs.Plans.{AsksRow, IsModest};
+ghost use Rattle.mt_steps.specs.Asks.{AsksFor, IsForDelete};
+ghost use Rattle.mt_steps.specs.Plans.{IsModest};
 ghost use Rattle.mt_steps.specs.Logged.{logged_of};
-ghost use Rattle.mt_steps.specs.Tells.{Tells, IsDone, IsAny, TakesNone, HasTaken};
+ghost use Rattle.mt_steps.specs.Tells.{Tells, IsWanted, IsDone, IsAny, TakesNone, HasTaken};
 
 use crate::act::Act;
-use crate::draft::first_missing;
 use crate::joining::{drafted, join, to_write};
 use mt_base::{Bytes, Mode, RecordName, RelNo};
 use mt_file::{Found, Step, plan_read, plan_remove};
@@ -33,8 +34,8 @@ pub(crate) fn delete<V: Pages>(
     requires short { length key.now ≤ 64 }
     ensures lock { IfOk result (λ act. IfLock act (λ p mode. (V.at_hand views.now p ≡ None) ×
         (p < V.total views.now))) }
-    ensures asks { IfOk result (λ act. IfLock act (AsksRow (V.at_hand views.now) (V.total views.now)
-        (Delete relation key.now))) }
+    ensures asks { (room : Option ℕ) (split : Bool) → IfOk result (λ act. IfLock act
+        (AsksFor (V.at_hand views.now) room (V.total views.now) split (Delete relation key.now))) }
     ensures made { (relations : ℕ) → IfOk result (λ act. IfMade act (λ changes reply.
         InGood (V.at_hand views.now) relations (V.total views.now) (λ pages m.
         IsAct relations (V.total views.now) pages (after changes pages) (Delete relation key.now) reply ×
@@ -43,7 +44,8 @@ pub(crate) fn delete<V: Pages>(
         InGood (V.at_hand views.now) relations (V.total views.now) (λ pages m.
         IsModest (V.at_hand views.now) (V.total views.now) 0 false pages (after changes pages)))) }
     ensures takes { (relations : ℕ) → IfOk result (λ act. IfMade act (λ changes reply.
-        InGood (V.at_hand views.now) relations (V.total views.now) (λ pages m. TakesNone pages (after changes pages)))) }
+        InGood (V.at_hand views.now) relations (V.total views.now)
+        (λ pages m. TakesNone pages (after changes pages)))) }
     ensures full { IfOk result (λ act. IfFull act ⊥) }
     ensures there { IfOk result (λ act. IfMade act (λ changes reply. AreAtHand (V.at_hand views.now) changes)) }
     ensures few { IfOk result (λ act. IfMade act (λ changes reply. length changes ≤ 8)) }
@@ -59,7 +61,7 @@ pub(crate) fn delete<V: Pages>(
     }
 }
 
-// The same, where the key has the record of this name.
+// Plans to delete a key that has the record of this name.
 fn delete_row<V: Pages>(
     alloc: Global,
     views: &V,
@@ -71,8 +73,9 @@ fn delete_row<V: Pages>(
     requires good { ∥ ((relations : ℕ) × HasGood (V.at_hand views.now) relations (V.total views.now)) ∥₁ }
     requires short { length key.now ≤ 64 }
     requires named { InMaps (V.at_hand views.now) (V.total views.now) (λ pages m. m relation key.now ≡ Some name.now) }
-    ensures { IfOk result (Tells (V.at_hand views.now) (V.total views.now) (IsDone (V.at_hand views.now)
-        (V.total views.now) 0 false (Delete relation key.now) TakesNone IsAny) ⊥) }
+    ensures { IfOk result (Tells (V.at_hand views.now) (V.total views.now)
+        (IsWanted (V.at_hand views.now) (V.total views.now) IsAny (IsForDelete relation key.now))
+        (IsDone (V.at_hand views.now) (V.total views.now) 0 false (Delete relation key.now) TakesNone IsAny) ⊥) }
 {
     let old = match plan_read(views, *name) {
         Found::Need(page, _) => return Ok(Act::Lock(page, Mode::Write)),
@@ -84,9 +87,6 @@ fn delete_row<V: Pages>(
         Step::Full => return Ok(Act::Broken),
         Step::Done(plan) => plan,
     };
-    if let Some(page) = first_missing(views, &plan.changes) {
-        return Ok(Act::Lock(page, Mode::Write));
-    }
     drop_entry(alloc, views, relation, key, name, plan.changes, old)
 }
 
@@ -108,8 +108,11 @@ fn drop_entry<V: Pages>(
     requires good { ∥ ((relations : ℕ) × HasGood (V.at_hand views.now) relations (V.total views.now)
         × InGood (V.at_hand views.now) relations (V.total views.now) (λ pages m. (m relation key.now ≡ Some name.now)
         × IsTaken pages first.list.items name.now (record { relation = relation; key = key.now; value = old }))) ∥₁ }
-    ensures { IfOk result (Tells (V.at_hand views.now) (V.total views.now) (IsDone (V.at_hand views.now)
-        (V.total views.now) 0 false (Delete relation key.now) TakesNone
+    ensures { IfOk result (Tells (V.at_hand views.now) (V.total views.now)
+        (IsWanted (V.at_hand views.now) (V.total views.now)
+        (HasTaken first.list.items name.now (record { relation = relation; key = key.now; value = old }))
+        (IsInBucket key.now ToWrite))
+        (IsDone (V.at_hand views.now) (V.total views.now) 0 false (Delete relation key.now) TakesNone
         (HasTaken first.list.items name.now (record { relation = relation; key = key.now; value = old }))) ⊥) }
 {
     let draft = drafted(alloc, views, &first)?;

@@ -37,9 +37,8 @@ impl<'a, V: Pages> Draft<'a, V> {
     }
 
     /// Makes changes of pages as the draft shows them, one page after the other. Each page that changes is
-    /// to be at hand, which [`first_missing`] tells, and each edit to lie within its page, as it does in
-    /// the changes that a plan answers. The only error is want of memory: a first part of the changes is
-    /// made then, and the draft is still sound.
+    /// to be at hand, and each edit to lie within its page, as in the changes that a plan answers. The only
+    /// error is want of memory: a first part of the changes is made then, and the draft is still sound.
     pub(crate) fn apply(&mut self, changes: &Changes) -> Result<(), AllocError>
         requires sound { V.is_sound self.old.views.now }
         requires copies { AreCopies (V.at_hand self.old.views.now) self.old.copies.items }
@@ -132,22 +131,6 @@ impl<'a, V: Pages> Pages for Draft<'a, V> {
             None => self.views.page(page),
         }
     }
-}
-
-/// The first page of these changes that is not at hand, so that it has to be seen before a draft takes
-/// them; `None` where each is.
-pub(crate) fn first_missing<V: Pages>(views: &V, changes: &Changes) -> Option<PageNo>
-    requires sound { V.is_sound views.now }
-    ensures some { IfSome result (λ p. V.at_hand views.now p ≡ None) }
-    ensures named { IfSome result (λ p. IsUntouched changes.now.list.items p → ⊥) }
-    ensures none { IfNone result (AreAtHand (V.at_hand views.now) changes.now.list.items) }
-{
-    for change in &changes.list {
-        if views.page(change.page).is_none() {
-            return Some(change.page);
-        }
-    }
-    None
 }
 
 /// Two plans' changes as one list, of which the second plan was made over the changes of the first. Each

@@ -1,10 +1,10 @@
 // A read of a row.
-ghost use Rattle.std.specs.Prelude.{◌≡◌, ◌≤◌, ◌<◌, [], ℕ, length, None, IfOk};
+ghost use Rattle.std.specs.Prelude.{◌≡◌, ◌≤◌, ◌<◌, [], ℕ, Bool, Option, length, None, IfOk};
 ghost use Rattle.mt_base.specs.declared.modes.Mode.TheVariants.{Read};
 ghost use Rattle.mt_space.specs.Changes.{after, AreShort};
 ghost use Rattle.mt_model.specs.declared.operations.Op.TheVariants.{Get};
 ghost use Rattle.mt_steps.specs.Acts.{HasGood, InGood, IfLock, IfMade, IfFull, IfBroken, IsAct};
-ghost use Rattle.mt_steps.specs.Plans.{AsksRow};
+ghost use Rattle.mt_steps.specs.Asks.{AsksFor};
 ghost use Rattle.mt_steps.specs.Logged.{logged_of};
 
 use crate::act::Act;
@@ -28,8 +28,8 @@ pub(crate) fn get<V: Pages>(
     requires short { length key.now ≤ 64 }
     ensures lock { IfOk result (λ act. IfLock act (λ p mode. (V.at_hand views.now p ≡ None) ×
         (p < V.total views.now))) }
-    ensures asks { IfOk result (λ act. IfLock act (AsksRow (V.at_hand views.now) (V.total views.now)
-        (Get relation key.now))) }
+    ensures asks { (room : Option ℕ) (split : Bool) → IfOk result (λ act. IfLock act
+        (AsksFor (V.at_hand views.now) room (V.total views.now) split (Get relation key.now))) }
     ensures mode { IfOk result (λ act. IfLock act (λ p mode. mode ≡ Read)) }
     ensures made { (relations : ℕ) → IfOk result (λ act. IfMade act (λ changes reply.
         InGood (V.at_hand views.now) relations (V.total views.now) (λ pages m.

@@ -4,19 +4,19 @@ ghost use Rattle.mt_base.specs.Limits.{IsKey, IsValue};
 ghost use Rattle.mt_slots.specs.Page.{Fits, row_length};
 ghost use Rattle.mt_space.specs.Changes.{PageBytes, Agrees, after, AreShort};
 ghost use Rattle.mt_model.specs.declared.operations.Op.TheVariants.{Insert};
-ghost use Rattle.mt_index.specs.Answers.{InMaps};
+ghost use Rattle.mt_index.specs.Answers.{InMaps, IsDueInAdd};
 ghost use Rattle.mt_steps.specs.Drafts.{AreAtHand};
 ghost use Rattle.mt_steps.specs.Acts.{HasRoomy, InRoomy, IfLock, IfMade, IfFull, IfBroken, IsAct, IsPlaced};
-ghost use Rattle.mt_steps.specs.Plans.{free_pages, IsTight, AsksRow, TakesPages, IsModest};
+ghost use Rattle.mt_steps.specs.Asks.{AsksFor, IsForInsert};
+ghost use Rattle.mt_steps.specs.Plans.{free_pages, IsTight, TakesPages, IsModest};
 ghost use Rattle.mt_steps.specs.Logged.{logged_of};
-ghost use Rattle.mt_steps.specs.Tells.{Tells, IsDone, TakesRow, TakesAlone, HasPlaced};
+ghost use Rattle.mt_steps.specs.Tells.{Tells, IsWanted, IsDone, HasRoom, TakesRow, TakesAlone, HasPlaced};
 ghost use Rattle.mt_index.specs.Maps.{Map};
 ghost use Rattle.mt_steps.specs.Held.{AreRows};
 
 use crate::act::Act;
-use crate::draft::first_missing;
 use crate::joining::{drafted, join, to_write};
-use mt_base::{Mode, PageNo, RelNo};
+use mt_base::{PageNo, RelNo};
 use mt_file::{Plan, Step, plan_put};
 use mt_index::{Add, Find, plan_add, plan_find};
 use mt_model::Reply;
@@ -43,8 +43,8 @@ pub(crate) fn insert<V: Pages>(
     requires value_fits { IsValue value.now }
     ensures lock { IfOk result (λ act. IfLock act (λ p mode. (V.at_hand views.now p ≡ None) ×
         (p < V.total views.now))) }
-    ensures asks { IfOk result (λ act. IfLock act (AsksRow (V.at_hand views.now) (V.total views.now)
-        (Insert relation key.now value.now))) }
+    ensures asks { IfOk result (λ act. IfLock act
+        (AsksFor (V.at_hand views.now) room (V.total views.now) split (Insert relation key.now value.now))) }
     ensures made { (relations : ℕ) → Fits relations 1024
         (record { relation = relation; key = key.now; value = value.now }) → IfOk result (λ act.
         IfMade act (λ changes reply.
@@ -76,7 +76,7 @@ pub(crate) fn insert<V: Pages>(
     }
 }
 
-// The same of a key that has no value.
+// Plans to insert a key that has no value.
 fn insert_new<V: Pages>(
     alloc: Global,
     views: &V,
@@ -92,8 +92,10 @@ fn insert_new<V: Pages>(
     requires key_fits { IsKey key.now }
     requires value_fits { IsValue value.now }
     requires missing { InMaps (V.at_hand views.now) (V.total views.now) (λ pages m. m relation key.now ≡ None) }
-    ensures { IfOk result (Tells (V.at_hand views.now) (V.total views.now) (IsDone (V.at_hand views.now)
-        (V.total views.now) (cond split 3 2) split (Insert relation key.now value.now)
+    ensures { IfOk result (Tells (V.at_hand views.now) (V.total views.now)
+        (IsWanted (V.at_hand views.now) (V.total views.now) (HasRoom room) (IsForInsert room (V.total views.now) split
+        (record { relation = relation; key = key.now; value = value.now })))
+        (IsDone (V.at_hand views.now) (V.total views.now) (cond split 3 2) split (Insert relation key.now value.now)
         (TakesPages room (Insert relation key.now value.now))
         (TakesRow room (record { relation = relation; key = key.now; value = value.now })))
         ((relations : ℕ) → InRoomy (V.at_hand views.now) room relations (V.total views.now) (λ pages m.
@@ -105,9 +107,6 @@ fn insert_new<V: Pages>(
         Step::Full => return Ok(Act::Full),
         Step::Done(plan) => plan,
     };
-    if let Some(page) = first_missing(views, &plan.changes) {
-        return Ok(Act::Lock(page, Mode::Write));
-    }
     add_entry(alloc, views, relation, key, plan, split)
 }
 
@@ -131,8 +130,12 @@ fn add_entry<V: Pages>(
         × InRoomy (V.at_hand views.now) room relations (V.total views.now) (λ pages m.
         IsPlaced (V.total views.now) pages plan.changes.list.items plan.name
         (record { relation = relation; key = key.now; value = value }))) ∥₁ }
-    ensures { (value : List ℕ) → IfOk result (Tells (V.at_hand views.now) (V.total views.now) (IsDone
-        (V.at_hand views.now) (V.total views.now) (cond split 3 2) split (Insert relation key.now value)
+    ensures { (value : List ℕ) → IfOk result (Tells (V.at_hand views.now) (V.total views.now)
+        (IsWanted (V.at_hand views.now) (V.total views.now) (λ relations pages m.
+        IsPlaced (V.total views.now) pages plan.changes.list.items plan.name
+        (record { relation = relation; key = key.now; value = value }))
+        (λ pages. IsDueInAdd split key.now (V.total views.now) (after plan.changes.list.items pages)))
+        (IsDone (V.at_hand views.now) (V.total views.now) (cond split 3 2) split (Insert relation key.now value)
         (TakesAlone plan.name.page relation key.now (Insert relation key.now value))
         (HasPlaced (V.total views.now) plan.changes.list.items plan.name
         (record { relation = relation; key = key.now; value = value })))

@@ -2,13 +2,12 @@
 ghost use Rattle.std.specs.Prelude.{◌≡◌, ◌≢◌, ◌+◌, ◌++◌, ◌<◌, ◌≤◌, ℕ, All, false, length, None, IfOk};
 ghost use Rattle.std.specs.Bool.{OnTrue};
 ghost use Rattle.mt_base.specs.declared.modes.Mode.TheVariants.{Write as ToWrite};
-ghost use Rattle.mt_space.specs.Changes.{PageBytes, Agrees, after, AreShort, IsUntouched};
+ghost use Rattle.mt_space.specs.Changes.{PageBytes, Agrees, after, AreShort};
 ghost use Rattle.mt_steps.specs.Drafts.{AreAtHand, AreCopies, names_page, shown};
-ghost use Rattle.mt_steps.specs.Acts.{IfLock, IfMade, IfFull, IfBroken};
-ghost use Rattle.mt_steps.specs.Tells.{Tells, IsJoined};
+ghost use Rattle.mt_steps.specs.Tells.{Tells, AsksForNone, IsJoined};
 
 use crate::act::Act;
-use crate::draft::{Draft, first_missing, merged};
+use crate::draft::{Draft, merged};
 use mt_base::{Mode, PageNo};
 use mt_model::Reply;
 use mt_space::pages::DIRECTORY;
@@ -59,15 +58,12 @@ pub(crate) fn join<V: Pages>(
 ) -> Result<Act, AllocError>
     requires sound { V.is_sound views.now }
     requires there { AreAtHand (V.at_hand views.now) first.list.items }
-    requires inside { (p : ℕ) → (IsUntouched second.list.items p → ⊥) → p < V.total views.now }
+    requires second_there { AreAtHand (V.at_hand views.now) second.list.items }
     requires short { ∥ ((pages : PageBytes) × Agrees (V.at_hand views.now) pages × AreShort first.list.items pages
         × AreShort second.list.items (after first.list.items pages)) ∥₁ }
-    ensures { IfOk result (Tells (V.at_hand views.now) (V.total views.now) (IsJoined
-        (V.at_hand views.now) first.list.items second.list.items reply) ⊥) }
+    ensures { IfOk result (Tells (V.at_hand views.now) (V.total views.now) AsksForNone
+        (IsJoined (V.at_hand views.now) first.list.items second.list.items reply) ⊥) }
 {
-    if let Some(page) = first_missing(views, &second) {
-        return Ok(Act::Lock(page, Mode::Write));
-    }
     if are_apart(&first, &second) {
         let changes = chained(first, second)?;
         return Ok(Act::Made(changes, reply));

@@ -19,7 +19,7 @@ pub fn logged(op: &Op, reply: &Reply) -> Result<Option<LoggedOp>, Refusal>
     told(op, reply)
 }
 
-// The same, by the operation and its reply.
+// What is logged, by the operation and its reply.
 fn told(op: &Op, reply: &Reply) -> Result<Option<LoggedOp>, Refusal>
     ensures logged { IfOk result (λ done. done ≡ logged_of op.now reply.now) }
     ensures only_memory { IfErr result (λ why. why ≡ Refusal.NoMemory) }

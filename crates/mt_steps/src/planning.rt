@@ -7,7 +7,8 @@ ghost use Rattle.mt_model.specs.declared.operations.Reply.{Reply};
 ghost use Rattle.mt_space.specs.Changes.{after};
 ghost use Rattle.mt_steps.specs.Drafts.{AreAtHand};
 ghost use Rattle.mt_steps.specs.Acts.{IfLock, IfMade, IfFull, IfBroken};
-ghost use Rattle.mt_steps.specs.Plans.{free_pages, own_needs, undo_pages, record_bytes, AsksCounters, AsksRow, TakesPages, IsReading, IsTight, HasPages, InPages, IsPlanned};
+ghost use Rattle.mt_steps.specs.Asks.{AsksFor};
+ghost use Rattle.mt_steps.specs.Plans.{free_pages, own_needs, undo_pages, record_bytes, TakesPages, IsReading, IsTight, HasPages, InPages, IsPlanned};
 ghost use Rattle.mt_steps.specs.Logged.{logged_of};
 
 use crate::act::Act;
@@ -31,6 +32,12 @@ use std::alloc::{AllocError, Global};
 /// without another page for its record than `room`. Of pages that break no rule it is never told that they do
 /// ([`Act::Broken`]).
 ///
+/// A row's operation asks for the directory and for the pages of its key's bucket, until it is known what the key has.
+/// Then a get asks to read the record's page. A delete asks to write it, and for the map only where the page is given
+/// back. An update asks to write it, and for another page, the map and the bucket only where it has no room for the
+/// new value. An insert asks to write the page for its record, with the map where none is named; and for the map, the
+/// directory to write and further pages only where the bucket has no room for the entry.
+///
 /// A record goes into the page `room`, which holds records, or into a new page where none is named. An insert splits
 /// a bucket of the index at most where `split` is set. No operation takes more free pages than [`pages_for`] says of it.
 /// The only error is want of memory, and there is no plan then.
@@ -46,8 +53,8 @@ pub fn plan<V: Pages>(
         (V.total views.now) × IsWithin relations counters op.now × (relations ≤ 64)) ∥₁ }
     ensures lock { IfOk result (λ act. IfLock act (λ p mode. (V.at_hand views.now p ≡ None) ×
         (p < V.total views.now))) }
-    ensures counters { IfOk result (λ act. IfLock act (AsksCounters op.now)) }
-    ensures rows { IfOk result (λ act. IfLock act (AsksRow (V.at_hand views.now) (V.total views.now) op.now)) }
+    ensures asks { IfOk result (λ act. IfLock act
+        (AsksFor (V.at_hand views.now) room (V.total views.now) split op.now)) }
     ensures mode { IsReading op.now → IfOk result (λ act. IfLock act (λ p mode. mode ≡ ToRead)) }
     ensures made { (relations counters : ℕ) → relations ≤ 64 → IsWithin relations counters op.now →
         IfOk result (λ act. IfMade act (λ changes reply.

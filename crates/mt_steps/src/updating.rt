@@ -1,19 +1,20 @@
 // Another value in a row.
-ghost use Rattle.std.specs.Prelude.{◌≡◌, ◌≢◌, ◌⊎◌, ◌≤◌, ◌<◌, ℕ, [], List, Option, length, None, Some, IfOk, IsSome, MatchBool, false};
+ghost use Rattle.std.specs.Prelude.{◌≡◌, ◌≢◌, ◌⊎◌, ◌≤◌, ◌<◌, ℕ, Bool, [], List, Option, length, None, Some, IfOk, IsSome, MatchBool, false};
 ghost use Rattle.mt_base.specs.Limits.{IsValue};
 ghost use Rattle.mt_base.specs.declared.numbers.RecordName.{RecordName};
 ghost use Rattle.mt_slots.specs.Page.{Fits, row_length};
 ghost use Rattle.mt_space.specs.Changes.{after, AreShort};
-ghost use Rattle.mt_index.specs.Answers.{InMaps};
+ghost use Rattle.mt_base.specs.declared.modes.Mode.TheVariants.{Write as ToWrite};
+ghost use Rattle.mt_index.specs.Answers.{InMaps, IsInBucket};
 ghost use Rattle.mt_model.specs.declared.operations.Op.TheVariants.{Update};
 ghost use Rattle.mt_steps.specs.Drafts.{AreAtHand};
 ghost use Rattle.mt_steps.specs.Acts.{HasRoomy, InRoomy, IfLock, IfMade, IfFull, IfBroken, IsAct, IsMoved};
-ghost use Rattle.mt_steps.specs.Plans.{free_pages, IsTight, AsksRow, TakesPages, IsModest};
+ghost use Rattle.mt_steps.specs.Asks.{AsksFor, IsForUpdate};
+ghost use Rattle.mt_steps.specs.Plans.{free_pages, IsTight, TakesPages, IsModest};
 ghost use Rattle.mt_steps.specs.Logged.{logged_of};
-ghost use Rattle.mt_steps.specs.Tells.{Tells, IsDone, TakesRow, TakesAlone, HasMoved};
+ghost use Rattle.mt_steps.specs.Tells.{Tells, IsWanted, IsDone, HasRoom, TakesRow, TakesAlone, HasMoved};
 
 use crate::act::Act;
-use crate::draft::first_missing;
 use crate::joining::{drafted, join};
 use mt_base::{Bytes, Mode, PageNo, RecordName, RelNo};
 use mt_file::{Found, Plan, Step, plan_read, plan_replace};
@@ -41,8 +42,8 @@ pub(crate) fn update<V: Pages>(
     requires value_fits { IsValue value.now }
     ensures lock { IfOk result (λ act. IfLock act (λ p mode. (V.at_hand views.now p ≡ None) ×
         (p < V.total views.now))) }
-    ensures asks { IfOk result (λ act. IfLock act (AsksRow (V.at_hand views.now) (V.total views.now)
-        (Update relation key.now value.now))) }
+    ensures asks { (split : Bool) → IfOk result (λ act. IfLock act
+        (AsksFor (V.at_hand views.now) room (V.total views.now) split (Update relation key.now value.now))) }
     ensures made { (relations : ℕ) → Fits relations 1024
         (record { relation = relation; key = key.now; value = value.now }) → IfOk result (λ act.
         IfMade act (λ changes reply.
@@ -74,7 +75,7 @@ pub(crate) fn update<V: Pages>(
     }
 }
 
-// The same, where the key has the record of this name.
+// Plans to update a key that has the record of this name.
 fn update_row<V: Pages>(
     alloc: Global,
     views: &V,
@@ -89,8 +90,10 @@ fn update_row<V: Pages>(
     requires short { length key.now ≤ 64 }
     requires value_fits { IsValue value.now }
     requires named { InMaps (V.at_hand views.now) (V.total views.now) (λ pages m. m relation key.now ≡ Some name.now) }
-    ensures { IfOk result (Tells (V.at_hand views.now) (V.total views.now) (IsDone (V.at_hand views.now)
-        (V.total views.now) 1 false (Update relation key.now value.now)
+    ensures { IfOk result (Tells (V.at_hand views.now) (V.total views.now)
+        (IsWanted (V.at_hand views.now) (V.total views.now) (HasRoom room)
+        (IsForUpdate room (V.total views.now) relation key.now value.now))
+        (IsDone (V.at_hand views.now) (V.total views.now) 1 false (Update relation key.now value.now)
         (TakesPages room (Update relation key.now value.now))
         (TakesRow room (record { relation = relation; key = key.now; value = value.now })))
         ((relations : ℕ) → InRoomy (V.at_hand views.now) room relations (V.total views.now) (λ pages m.
@@ -107,9 +110,6 @@ fn update_row<V: Pages>(
         Step::Full => return Ok(Act::Full),
         Step::Done(plan) => plan,
     };
-    if let Some(page) = first_missing(views, &plan.changes) {
-        return Ok(Act::Lock(page, Mode::Write));
-    }
     if is_name(&plan.name, name) {
         return Ok(Act::Made(plan.changes, Reply::Was(old)));
     }
@@ -146,8 +146,12 @@ fn set_entry<V: Pages>(
         (record { relation = relation; key = key.now; value = old })
         (record { relation = relation; key = key.now; value = value }))) ∥₁ }
     ensures { (name : RecordName) (value : List ℕ) → IsSome (V.at_hand views.now name.page) →
-        IfOk result (Tells (V.at_hand views.now) (V.total views.now) (IsDone (V.at_hand views.now)
-        (V.total views.now) 1 false (Update relation key.now value)
+        IfOk result (Tells (V.at_hand views.now) (V.total views.now)
+        (IsWanted (V.at_hand views.now) (V.total views.now) (λ relations pages m.
+        IsMoved (V.total views.now) pages plan.changes.list.items name plan.name
+        (record { relation = relation; key = key.now; value = old })
+        (record { relation = relation; key = key.now; value = value })) (IsInBucket key.now ToWrite))
+        (IsDone (V.at_hand views.now) (V.total views.now) 1 false (Update relation key.now value)
         (TakesAlone plan.name.page relation key.now (Update relation key.now value))
         (HasMoved (V.total views.now) plan.changes.list.items name plan.name
         (record { relation = relation; key = key.now; value = old })

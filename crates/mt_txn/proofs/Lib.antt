@@ -2,3 +2,6 @@ pub mod Showing
 pub mod Living
 pub mod Answering
 pub mod Barring
+mod Failing
+mod Surveyed
+pub mod Restarting

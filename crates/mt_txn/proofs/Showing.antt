@@ -1,12 +1,12 @@
 -- What a kernel shows once its parts have met an event, and what it asks of them.
-use Rattle.std.proofs.Common.{◌≡◌, ◌≢◌, ◌⊎◌, ◌<◌, ◌∷◌, [], ℕ, true, List, length, get_or, Option, Some, None, Result, Ok, Err, inl, inr, ⊎_elim, refl, sym, ap, ◌∙◌, subst, arith}
+use Rattle.std.proofs.Common.{◌≡◌, ◌≢◌, ◌⊎◌, ◌<◌, ℕ, true, List, length, get_or, Option, Some, None, Result, Ok, Err, inl, inr, ⊎_elim, refl, sym, ap, ◌∙◌, subst}
 use Rattle.std.proofs.Props.{props}
 use Rattle.std.specs.Prelude.{OnOk, OnErr}
 use Rattle.std.specs.Option.{option_map}
 use Rattle.std.proofs.lemmas.Bool.{cases_eq}
-use Rattle.std.proofs.lemmas.List.{get_or_default}
 use mathlib.Core.Logic.{∥∥₁_elim, ∥∥₁_map}
 use Rattle.mt_base.specs.declared.refusal.Refusal.{Refusal}
+use Rattle.mt_disk.specs.declared.device.Device.{Ghosts}
 use Rattle.mt_live.specs.Machine.{State, IsKept, ended, dropped, undone}
 use Rattle.mt_live.specs.Members.{Member}
 use Rattle.mt_live.specs.declared.transactions.TxnState.TheVariants.{Open, Aborting}
@@ -18,6 +18,7 @@ use Rattle.mt_op.specs.declared.answers.TakenBack.{TakenBack}
 use Rattle.mt_op.specs.declared.answers.TakenBack.TheVariants as taken
 use Rattle.mt_op.specs.declared.scope.Stage.{Stage}
 use Rattle.mt_op.specs.declared.scope.Stage.TheVariants.{Planning, Writing, Ready, Taking, Cleared}
+pub use Rattle.mt_kernel.proofs.Restarts.{at_place, open_works}
 use Rattle.mt_kernel.proofs.Underway.{running_at}
 use Rattle.mt_kernel.specs.Consistent.{Origin, state_of, AtPlace, IsConsistent, IsSound, IsIn, BacksIn, DropsIn, UndoesIn, StaysIn}
 use Rattle.mt_kernel.specs.Runs.{running_in, state_in, is_at_work, is_open, IsMoving, IsOwned, IsRunning}
@@ -30,13 +31,11 @@ use Rattle.mt_op.specs.Operations.{world}
 use Rattle.mt_txn.specs.Causes.{IsNamed, IsSized}
 use Rattle.mt_txn.specs.Events.{IsBack}
 use Rattle.mt_txn.specs.Events.IsBack.{stands, drops, undoes}
+use Rattle.mt_txn.specs.Shown.{SameSchema, Stays}
 use Rattle.mt_txn.specs.Well.{IsWell, ShowsIn}
+use Rattle.mt_txn.specs.declared.kernel.Kernel.{Kernel}
 
 -- ---- one of the operations under way
-
-pub at_place : (rs : List Running) (place : ℕ) → place < length rs → (r : Running) × (r ≡ get_or rs place r)
-at_place [] place within = absurd (omega (arith, within))
-at_place (x ∷ xs) place within = (get_or (x ∷ xs) place x, get_or_default (x ∷ xs) place x (get_or (x ∷ xs) place x) within)
 
 -- a stage that is one of two
 going_of : (s : Stage) → ∥ (IsMoving s × (s ≡ Taking → ⊥)) ∥₁ → (s ≡ Planning) ⊎ (s ≡ Writing)
@@ -45,10 +44,6 @@ going_of Writing m = inr refl
 going_of Taking m = absurd (∥∥₁_elim m (hlevel props) (λ k. k.1 refl))
 going_of Ready m = absurd (∥∥₁_elim m (hlevel props) (λ k. ⊎_elim (λ (a : Ready ≡ Planning). absurd cc) (λ b. ⊎_elim (λ (d : Ready ≡ Writing). absurd cc) (λ (e : Ready ≡ Taking). absurd cc) b) k.0))
 going_of Cleared m = absurd (∥∥₁_elim m (hlevel props) (λ k. ⊎_elim (λ (a : Cleared ≡ Planning). absurd cc) (λ b. ⊎_elim (λ (d : Cleared ≡ Writing). absurd cc) (λ (e : Cleared ≡ Taking). absurd cc) b) k.0))
-
-pub open_works : (o : Option Member) → option_map (λ (m : Member). m.state) o ≡ Some Open → is_open o ≡ true
-open_works None is = absurd cc
-open_works (Some m) is = let state : m.state ≡ Open = cc in ap is_at_work state
 
 pub aborting_works : (o : Option Member) → option_map (λ (m : Member). m.state) o ≡ Some Aborting → is_open o ≡ true
 aborting_works None is = absurd cc
@@ -224,3 +219,12 @@ module _ {D : Type 0} (seen : D → List ℕ) (may_leave : D → List ℕ → Ty
   back_well k n place (Err why) within go well = well_led k n (λ z. z) (λ origin base safe. (base, go origin base safe)) well
   back_well k n place (Ok taken.Clear) within go well = let at = at_place k.running.items place within in
       ∥∥₁_map well (λ (origin, base, is, safe). (origin, base, is, (go origin base safe at.0 at.1).leads.consistent))
+
+-- ---- a kernel whose parts are as before shows what it showed
+
+pub parts_stay : {D : Type 0} → {g : Ghosts D} → (seen : D → List ℕ) (may_leave : D → List ℕ → Type 0) (k n : Kernel D g) → n.parts ≡ k.parts → SameSchema k n → Stays seen may_leave k n
+parts_stay {D} seen may_leave k n same schema first s shows =
+    subst (λ (X : Type 0). X) (λ i. At (sym schema.0 i) (sym schema.1 i) (sym same i)) shows
+  where
+    At : ℕ → ℕ → Parts D → Type 0
+    At relations counters parts = ShowsIn seen may_leave relations counters first s parts

@@ -1,5 +1,5 @@
 -- Which calls a kernel refuses before it asks locks, escrow, pages and log.
-use Rattle.std.specs.Prelude.{ℕ, ℤ, ◌≡◌, ◌⊎◌, ◌<◌, ◌+◌, ◌^◌, ◌||◌, ◌&&◌, ◌==◌, nat_lt, nat_le, if◌then◌else◌, Bool, true, false, List, length, Option, Some, None, int_le, pos, neg_ℤ}
+use Rattle.std.specs.Prelude.{ℕ, ℤ, ◌≡◌, ◌⊎◌, ◌<◌, ◌+◌, ◌^◌, ◌||◌, ◌&&◌, ◌==◌, nat_lt, nat_le, nat_eq, if◌then◌else◌, Bool, true, false, List, length, Option, Some, None, int_le, pos, neg_ℤ}
 use Rattle.std.specs.List.{list_any}
 use Rattle.mt_base.specs.Limits.{IsKey, IsValue, IsStep}
 use Rattle.mt_base.specs.declared.refusal.Refusal.{Refusal}
@@ -7,7 +7,7 @@ use Rattle.mt_base.specs.declared.refusal.Refusal.TheVariants as refusal
 use Rattle.mt_live.specs.Lives.{calls_of}
 use Rattle.mt_live.specs.declared.transactions.TxnState.{TxnState}
 use Rattle.mt_live.specs.declared.transactions.TxnState.TheVariants.{Open, Aborting}
-use Rattle.mt_log.specs.Words.{has_failed, area_size}
+use Rattle.mt_log.specs.Words.{area_size}
 use Rattle.mt_model.specs.declared.operations.Op.{Op}
 use Rattle.mt_model.specs.declared.operations.Op.TheVariants.{Get, Insert, Update, Delete, Add, Read}
 use Rattle.mt_kernel.specs.Consistent.{log_kept}
@@ -24,9 +24,9 @@ abbrev pub unless : Bool → Refusal → Option Refusal
 unless holds why = if holds then None else Some why
 
 -- why a transaction cannot begin, if it cannot
-abbrev pub begin_cause : {D : Type 0} → Parts D → Option Refusal
-begin_cause k =
-    if has_failed k.operations.store.log then Some refusal.DeviceFailed else
+abbrev pub begin_cause : {D : Type 0} → Bool → Parts D → Option Refusal
+begin_cause failed k =
+    if failed then Some refusal.DeviceFailed else
     if nat_le 64 (length k.live.members) then Some refusal.TooManyTransactions else
     if nat_le 1000000 (length k.book.items + length k.live.members) || nat_le (2 ^ 40) k.live.begun then Some refusal.BookFull else
     if nat_lt (log_kept k + 128) (area_size k.operations.store.log) then None else Some refusal.LogFull
@@ -36,8 +36,8 @@ abbrev pub IsFault : {D : Type 0} → (D → ℕ) → Parts D → Parts D → Re
 IsFault failures k n why = (why ≡ refusal.DeviceFailed) × (failures k.operations.store.device < failures n.operations.store.device)
 
 -- it failed in this call, or before
-abbrev pub IsFailure : {D : Type 0} → (D → ℕ) → Parts D → Parts D → Refusal → Type 0
-IsFailure failures k n why = ((has_failed k.operations.store.log ≡ true) × (why ≡ refusal.DeviceFailed)) ⊎ IsFault failures k n why
+abbrev pub IsFailure : {D : Type 0} → (D → ℕ) → Bool → Parts D → Parts D → Refusal → Type 0
+IsFailure failures failed k n why = ((failed ≡ true) × (why ≡ refusal.DeviceFailed)) ⊎ IsFault failures k n why
 
 -- ---- the transaction
 
@@ -50,12 +50,12 @@ is_aborting (Some Aborting) = true
 is_aborting _ = false
 
 -- why a call that wants an open transaction is refused
-abbrev pub open_cause : {D : Type 0} → Parts D → ℕ → Option Refusal
-open_cause k t = if has_failed k.operations.store.log then Some refusal.DeviceFailed else unless (is_open (state_in k.live.members t)) refusal.Stranger
+abbrev pub open_cause : {D : Type 0} → Bool → Parts D → ℕ → Option Refusal
+open_cause failed k t = if failed then Some refusal.DeviceFailed else unless (is_open (state_in k.live.members t)) refusal.Stranger
 
 -- why a step of an abort is
-abbrev pub abort_cause : {D : Type 0} → Parts D → ℕ → Option Refusal
-abort_cause k t = if has_failed k.operations.store.log then Some refusal.DeviceFailed else unless (is_aborting (state_in k.live.members t)) refusal.Stranger
+abbrev pub abort_cause : {D : Type 0} → Bool → Parts D → ℕ → Option Refusal
+abort_cause failed k t = if failed then Some refusal.DeviceFailed else unless (is_aborting (state_in k.live.members t)) refusal.Stranger
 
 -- whether an operation of it is under way
 abbrev pub is_busy : {D : Type 0} → Parts D → ℕ → Bool
@@ -64,11 +64,15 @@ is_busy k t = list_any (λ (r : Running). r.scope.txn == t) k.running.items
 abbrev pub busy_cause : {D : Type 0} → Parts D → ℕ → Option Refusal
 busy_cause k t = if is_busy k t then Some refusal.Busy else None
 
-abbrev pub step_cause : {D : Type 0} → Parts D → ℕ → Option Refusal
-step_cause k t = first_of (open_cause k t) (unless (is_busy k t) refusal.Stranger)
+abbrev pub step_cause : {D : Type 0} → Bool → Parts D → ℕ → Option Refusal
+step_cause failed k t = first_of (open_cause failed k t) (unless (is_busy k t) refusal.Stranger)
 
-abbrev pub commit_cause : {D : Type 0} → Parts D → ℕ → Option Refusal
-commit_cause k t = first_of (open_cause k t) (busy_cause k t)
+abbrev pub commit_cause : {D : Type 0} → Bool → Parts D → ℕ → Option Refusal
+commit_cause failed k t = first_of (open_cause failed k t) (busy_cause k t)
+
+-- why the pages cannot be surveyed, if they cannot
+abbrev pub survey_cause : {D : Type 0} → Bool → Parts D → Option Refusal
+survey_cause failed k = if failed then Some refusal.DeviceFailed else if nat_eq (length k.live.members) 0 then None else Some refusal.Busy
 
 -- it has called as many operations as it may, or 2^40 were called by all
 abbrev pub count_cause : {D : Type 0} → Parts D → ℕ → Option Refusal
@@ -122,6 +126,6 @@ size_cause (Add c d) = unless (is_step d) refusal.BadStep
 size_cause (Read c) = None
 
 -- why a call is refused before its lock is asked for, if it is: the first cause in the order of the tests
-abbrev pub call_cause : {D : Type 0} → ℕ → ℕ → Parts D → ℕ → Op → Option Refusal
-call_cause relations counters k t op =
-    first_of (open_cause k t) (first_of (busy_cause k t) (first_of (count_cause k t) (first_of (name_cause relations counters op) (size_cause op))))
+abbrev pub call_cause : {D : Type 0} → ℕ → ℕ → Bool → Parts D → ℕ → Op → Option Refusal
+call_cause relations counters failed k t op =
+    first_of (open_cause failed k t) (first_of (busy_cause k t) (first_of (count_cause k t) (first_of (name_cause relations counters op) (size_cause op))))

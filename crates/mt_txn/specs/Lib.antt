@@ -3,3 +3,5 @@ pub mod Shown
 pub mod Causes
 pub mod Events
 pub mod Work
+pub mod Surveyed
+pub mod Restarted

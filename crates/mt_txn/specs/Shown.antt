@@ -1,9 +1,12 @@
 -- A kernel as its callers see it.
-use Rattle.std.specs.Prelude.{ℕ, ◌≡◌, List}
+use Rattle.std.specs.Prelude.{ℕ, ◌≡◌, ◌||◌, Bool, true, List, Result, Err}
+use Rattle.mt_base.specs.declared.refusal.Refusal.{Refusal}
+use Rattle.mt_base.specs.declared.refusal.Refusal.TheVariants.{DeviceFailed}
 use Rattle.mt_disk.specs.declared.device.Device.{Ghosts}
 use Rattle.mt_live.specs.Machine.{State}
+use Rattle.mt_log.specs.Words.{has_failed}
 use Rattle.mt_model.specs.Model.{Base}
-use Rattle.mt_txn.specs.Well.{ShowsIn}
+use Rattle.mt_txn.specs.Well.{ShowsIn, RestartsFrom}
 use Rattle.mt_txn.specs.declared.kernel.Kernel.{Kernel}
 
 -- Begun on this base, the kernel is in this state of the laws.
@@ -17,3 +20,18 @@ Stays seen may_leave k n = (first : Base) (s : State) → Shows seen may_leave f
 -- of as many relations and counters
 abbrev pub SameSchema : {D : Type 0} → {g : Ghosts D} → Kernel D g → Kernel D g → Type 0
 SameSchema k n = (n.relations ≡ k.relations) × (n.counters ≡ k.counters)
+
+-- a call of it was refused with 2, or a force of its log has failed
+abbrev pub is_failed : {D : Type 0} → {g : Ghosts D} → Kernel D g → Bool
+is_failed k = k.failed || has_failed k.parts.operations.store.log
+
+-- where a call of kernel k is refused with 2, each later call of n is
+abbrev pub FailsForGood : {D T : Type 0} → {g : Ghosts D} → Kernel D g → Result T Refusal → Kernel D g → Type 0
+FailsForGood k result n = (is_failed k ≡ true → (result ≡ Err DeviceFailed) × (n ≡ k)) × (result ≡ Err DeviceFailed → is_failed n ≡ true)
+
+-- Begun on this base, the kernel can be restarted from each beginning of its log's records; and so it stays.
+abbrev pub Restarts : {D : Type 0} → {g : Ghosts D} → (D → List ℕ) → (D → List ℕ → Type 0) → Base → Kernel D g → Type 0
+Restarts seen may_leave first k = RestartsFrom seen may_leave k.relations k.counters first k.parts
+
+abbrev pub StaysRestarting : {D : Type 0} → {g : Ghosts D} → (D → List ℕ) → (D → List ℕ → Type 0) → Kernel D g → Kernel D g → Type 0
+StaysRestarting seen may_leave k n = (first : Base) → Restarts seen may_leave first k → Restarts seen may_leave first n

@@ -7,6 +7,7 @@ use Rattle.mt_op.specs.Operations.{IsRight}
 use Rattle.mt_op.specs.declared.operations.Operations.{Operations}
 use Rattle.mt_steps.specs.Held.{Holds}
 use Rattle.mt_kernel.specs.Consistent.{Origin, IsSchema, IsEscrowed, IsConsistent, IsIn}
+use Rattle.mt_kernel.specs.Restartable.{IsRestartable}
 use Rattle.mt_kernel.specs.declared.parts.Parts.{Parts}
 
 -- what a kernel of so many relations and counters began on, with this base
@@ -35,3 +36,16 @@ pub record IsOpening {D : Type 0} (seen : D → List ℕ) (may_leave : D → Lis
 
 abbrev pub Opens : {D : Type 0} → (D → List ℕ) → (D → List ℕ → Type 0) → Operations D → Escrowed → ℕ → ℕ → Base → Type 0
 Opens seen may_leave o e relations counters first = ∥ ((origin : Origin) × IsOrigin relations counters first origin × IsOpening seen may_leave origin o e) ∥₁
+
+-- ---- restarts
+
+-- Begun on pages that hold the first base, they can be restarted from each beginning of the log's records.
+pub record IsRestartableOn {D : Type 0} (seen : D → List ℕ) (may_leave : D → List ℕ → Type 0) (relations counters : ℕ) (first : Base) (origin : Origin) (base : Base) (k : Parts D) : Type 0 where
+  pub is : IsOrigin relations counters first origin
+  pub bounds : IsBase origin.first
+  pub holds : Holds origin.pages origin.first
+  pub consistent : IsConsistent seen may_leave origin base k
+  pub restartable : IsRestartable origin k
+
+abbrev pub RestartsFrom : {D : Type 0} → (D → List ℕ) → (D → List ℕ → Type 0) → ℕ → ℕ → Base → Parts D → Type 0
+RestartsFrom seen may_leave relations counters first k = ∥ ((origin : Origin) × (base : Base) × IsRestartableOn seen may_leave relations counters first origin base k) ∥₁

@@ -1,5 +1,5 @@
 // Aborts, by the inverses of what was done.
-ghost use Rattle.std.specs.Prelude.{◌≡◌, ◌≢◌, ◌⊎◌, ◌<◌, ◌≤◌, length, All, Ok, IfOk, IfErr, OnOk, OnErr, None, Some};
+ghost use Rattle.std.specs.Prelude.{◌≡◌, ◌≢◌, ◌⊎◌, ◌<◌, ◌≤◌, length, All, Ok, IfOk, IfErr, OnOk, OnErr, None, Some, Err, true};
 ghost use Rattle.mt_base.specs.declared.refusal.Refusal.{Refusal};
 ghost use Rattle.mt_live.specs.Machine.{State};
 ghost use Rattle.mt_model.specs.Model.{Base};
@@ -12,11 +12,11 @@ ghost use Rattle.mt_pool.specs.Views.{pages};
 ghost use Rattle.mt_kernel.specs.declared.parts.Running.{Running};
 ghost use Rattle.mt_txn.specs.Causes.{IsFault, abort_cause, open_cause};
 ghost use Rattle.mt_txn.specs.Events.{HasAborted};
-ghost use Rattle.mt_txn.specs.Shown.{SameSchema, Shows, Stays};
+ghost use Rattle.mt_txn.specs.Shown.{FailsForGood, SameSchema, Shows, Stays, StaysRestarting, is_failed};
 ghost use Rattle.mt_txn.specs.Work.{IsAbortToldAs, IsAbortForOther, LowersAbort};
 
 use crate::answers::AbortStepped;
-use crate::kernel::Kernel;
+use crate::kernel::{Kernel, is_failure};
 use mt_base::{Refusal, TxnNo};
 use mt_disk::Device;
 use mt_kernel::{Going, Stepping};
@@ -30,15 +30,17 @@ impl<D: Device> Kernel<D> {
     /// Refused, in this order: 2 where the device has failed, 15 where the transaction is not open. Nothing has
     /// changed then.
     pub fn abort_begin(&mut self, txn: TxnNo) -> Result<(), Refusal>
-        ensures may { OnOk result (open_cause self.old.parts txn ≡ None) }
-        ensures cause { IfErr result (λ why. open_cause self.old.parts txn ≡ Some why) }
+        ensures may { OnOk result (open_cause (is_failed self.old) self.old.parts txn ≡ None) }
+        ensures cause { IfErr result (λ why. open_cause (is_failed self.old) self.old.parts txn ≡ Some why) }
         ensures state { Stays D.seen D.may_leave self.old self.new }
         ensures aborts { OnOk result (SetsState self.old.parts self.new.parts txn (Some Aborting)) }
         ensures running { SameRunning self.old.parts self.new.parts }
         ensures commits { SameCommits self.old.parts self.new.parts }
         ensures work { OnOk result (undo_steps self.new.parts txn ≤ most_steps self.old.parts txn) }
+        ensures fails { FailsForGood self.old result self.new }
         ensures err { OnErr result (self.new ≡ self.old) }
         ensures schema { SameSchema self.old self.new }
+        ensures restarts { StaysRestarting D.seen D.may_leave self.old self.new }
     {
         if let Some(why) = self.open_cause(txn) {
             return Err(why);
@@ -55,6 +57,7 @@ impl<D: Device> Kernel<D> {
         requires aborting { state_in self.old.parts.live.members txn ≡ Some Aborting }
         ensures why { IfErr result (λ why. why ≢ Refusal.NoMemory
             → IsFault D.faults self.old.parts self.new.parts why) }
+        ensures fails { result ≡ Err Refusal.DeviceFailed → is_failed self.new ≡ true }
         ensures states { IfOk result (λ stepped. stepped ≢ AbortStepped.Ended
             → SameStates self.old.parts self.new.parts) }
         ensures work { LowersAbort (pages self.old.parts.operations.store.pool) result
@@ -66,10 +69,13 @@ impl<D: Device> Kernel<D> {
         ensures out { result ≡ Ok AbortStepped.Ended → (state_in self.new.parts.live.members txn ≡ None)
             × SameStatesBut self.old.parts self.new.parts txn }
         ensures schema { SameSchema self.old self.new }
+        ensures restarts { StaysRestarting D.seen D.may_leave self.old self.new }
         ensures aborted { (first : Base) (s : State) → Shows D.seen D.may_leave first s self.old
             → HasAborted D.seen D.may_leave first s txn result self.new }
     {
-        match self.parts.back_step(place)? {
+        let told = self.parts.back_step(place);
+        self.failed = is_failure(&told);
+        match told? {
             TakenBack::More => Ok(AbortStepped::More),
             TakenBack::Flush => Ok(AbortStepped::Flush),
             TakenBack::Clear => Ok(AbortStepped::More),
@@ -83,6 +89,7 @@ impl<D: Device> Kernel<D> {
             (λ r. (r.scope.txn ≡ txn) × (r.scope.undoes ≢ 0)) }
         ensures why { IfErr result (λ why. why ≢ Refusal.NoMemory
             → IsFault D.faults self.old.parts self.new.parts why) }
+        ensures fails { result ≡ Err Refusal.DeviceFailed → is_failed self.new ≡ true }
         ensures states { IfOk result (λ stepped. stepped ≢ AbortStepped.Ended
             → SameStates self.old.parts self.new.parts) }
         ensures work { LowersAbort (pages self.old.parts.operations.store.pool) result
@@ -94,10 +101,13 @@ impl<D: Device> Kernel<D> {
         ensures out { result ≡ Ok AbortStepped.Ended → (state_in self.new.parts.live.members txn ≡ None)
             × SameStatesBut self.old.parts self.new.parts txn }
         ensures schema { SameSchema self.old self.new }
+        ensures restarts { StaysRestarting D.seen D.may_leave self.old self.new }
         ensures aborted { (first : Base) (s : State) → Shows D.seen D.may_leave first s self.old
             → HasAborted D.seen D.may_leave first s txn result self.new }
     {
-        match self.parts.undo_step(self.alloc, place)? {
+        let told = self.parts.undo_step(self.alloc, place);
+        self.failed = is_failure(&told);
+        match told? {
             Stepping::Ended(reply) => {
                 drop(reply);
                 Ok(AbortStepped::More)
@@ -127,6 +137,7 @@ impl<D: Device> Kernel<D> {
         requires aborting { state_in self.old.parts.live.members txn ≡ Some Aborting }
         ensures why { IfErr result (λ why. why ≢ Refusal.NoMemory
             → IsFault D.faults self.old.parts self.new.parts why) }
+        ensures fails { result ≡ Err Refusal.DeviceFailed → is_failed self.new ≡ true }
         ensures states { IfOk result (λ stepped. stepped ≢ AbortStepped.Ended
             → SameStates self.old.parts self.new.parts) }
         ensures work { LowersAbort (pages self.old.parts.operations.store.pool) result
@@ -138,6 +149,7 @@ impl<D: Device> Kernel<D> {
         ensures out { result ≡ Ok AbortStepped.Ended → (state_in self.new.parts.live.members txn ≡ None)
             × SameStatesBut self.old.parts self.new.parts txn }
         ensures schema { SameSchema self.old self.new }
+        ensures restarts { StaysRestarting D.seen D.may_leave self.old self.new }
         ensures aborted { (first : Base) (s : State) → Shows D.seen D.may_leave first s self.old
             → HasAborted D.seen D.may_leave first s txn result self.new }
     {
@@ -159,8 +171,9 @@ impl<D: Device> Kernel<D> {
     /// Refused, in this order: 2 where the device has failed, 15 where the transaction is not being undone, 1 for want
     /// of memory; and with 2 where the device fails in this step. The step may be asked again after 1.
     pub fn abort_step(&mut self, txn: TxnNo) -> Result<AbortStepped, Refusal>
-        ensures may { OnOk result (abort_cause self.old.parts txn ≡ None) }
-        ensures cause { IfErr result (λ why. why ≢ Refusal.NoMemory → (abort_cause self.old.parts txn ≡ Some why)
+        ensures may { OnOk result (abort_cause (is_failed self.old) self.old.parts txn ≡ None) }
+        ensures cause { IfErr result (λ why. why ≢ Refusal.NoMemory
+            → (abort_cause (is_failed self.old) self.old.parts txn ≡ Some why)
             ⊎ IsFault D.faults self.old.parts self.new.parts why) }
         ensures states { IfOk result (λ stepped. stepped ≢ AbortStepped.Ended
             → SameStates self.old.parts self.new.parts) }
@@ -172,8 +185,11 @@ impl<D: Device> Kernel<D> {
         ensures err_states { OnErr result (SameStates self.old.parts self.new.parts) }
         ensures out { result ≡ Ok AbortStepped.Ended → (state_in self.new.parts.live.members txn ≡ None)
             × SameStatesBut self.old.parts self.new.parts txn }
-        ensures unmoved { (why : Refusal) → abort_cause self.old.parts txn ≡ Some why → self.new ≡ self.old }
+        ensures fails { FailsForGood self.old result self.new }
+        ensures unmoved { (why : Refusal) → abort_cause (is_failed self.old) self.old.parts txn ≡ Some why
+            → self.new ≡ self.old }
         ensures schema { SameSchema self.old self.new }
+        ensures restarts { StaysRestarting D.seen D.may_leave self.old self.new }
         ensures aborted { (first : Base) (s : State) → Shows D.seen D.may_leave first s self.old
             → HasAborted D.seen D.may_leave first s txn result self.new }
     {

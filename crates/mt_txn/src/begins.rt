@@ -6,7 +6,7 @@ ghost use Rattle.mt_model.specs.Model.{Base};
 ghost use Rattle.mt_live.specs.declared.transactions.TxnState.TheVariants.{Open};
 ghost use Rattle.mt_kernel.specs.Consistent.{SameCommits, SameRunning, SetsState};
 ghost use Rattle.mt_txn.specs.Causes.{begin_cause};
-ghost use Rattle.mt_txn.specs.Shown.{SameSchema, Shows};
+ghost use Rattle.mt_txn.specs.Shown.{FailsForGood, SameSchema, Shows, StaysRestarting, is_failed};
 
 use crate::kernel::Kernel;
 use mt_base::limits::{MAX_BEGUN, MAX_COMMITS, MAX_LIVE};
@@ -22,17 +22,20 @@ impl<D: Device> Kernel<D> {
     /// want of memory. Nothing has changed then.
     pub fn begin(&mut self, session: u32) -> Result<TxnNo, Refusal>
         ensures number { IfOk result (λ txn. txn ≡ self.old.parts.live.begun + 1) }
-        ensures may { OnOk result (begin_cause self.old.parts ≡ None) }
-        ensures cause { IfErr result (λ why. why ≢ Refusal.NoMemory → begin_cause self.old.parts ≡ Some why) }
+        ensures may { OnOk result (begin_cause (is_failed self.old) self.old.parts ≡ None) }
+        ensures cause { IfErr result (λ why. why ≢ Refusal.NoMemory
+            → begin_cause (is_failed self.old) self.old.parts ≡ Some why) }
         ensures begun { (first : Base) (s : State) → Shows D.seen D.may_leave first s self.old
             → OnOk result (Shows D.seen D.may_leave first (begun s session) self.new) }
         ensures opened { IfOk result (λ txn. SetsState self.old.parts self.new.parts txn (Some Open)) }
         ensures running { SameRunning self.old.parts self.new.parts }
         ensures commits { SameCommits self.old.parts self.new.parts }
         ensures err { OnErr result (self.new.parts ≡ self.old.parts) }
+        ensures fails { FailsForGood self.old result self.new }
         ensures schema { SameSchema self.old self.new }
+        ensures restarts { StaysRestarting D.seen D.may_leave self.old self.new }
     {
-        if self.parts.log().has_failed() {
+        if self.has_failed() {
             return Err(Refusal::DeviceFailed);
         }
         let lives = self.parts.live().count();

@@ -8,7 +8,7 @@ ghost use Rattle.mt_kernel.specs.Work.{CallRuns};
 ghost use Rattle.mt_pool.specs.Views.{pages};
 ghost use Rattle.mt_txn.specs.Causes.{call_cause};
 ghost use Rattle.mt_txn.specs.Events.{HasCalled, IsAnsweredBy};
-ghost use Rattle.mt_txn.specs.Shown.{SameSchema, Shows};
+ghost use Rattle.mt_txn.specs.Shown.{FailsForGood, SameSchema, Shows, StaysRestarting, is_failed};
 
 use crate::kernel::Kernel;
 use mt_base::{Refusal, TxnNo};
@@ -29,8 +29,10 @@ impl<D: Device> Kernel<D> {
     /// the point where it is wanted. In each of these cases nothing of the call is kept.
     pub fn call(&mut self, txn: TxnNo, op: Op) -> Result<Called, Refusal>
         ensures early { (why : Refusal)
-            → call_cause self.old.relations self.old.counters self.old.parts txn op ≡ Some why → result ≡ Err why }
-        ensures answer { call_cause self.old.relations self.old.counters self.old.parts txn op ≡ None
+            → call_cause self.old.relations self.old.counters (is_failed self.old) self.old.parts txn op ≡ Some why
+            → result ≡ Err why }
+        ensures answer { call_cause self.old.relations self.old.counters
+            (is_failed self.old) self.old.parts txn op ≡ None
             → IsAnsweredBy D.seen D.may_leave self.old txn op result }
         ensures states { SameStates self.old.parts self.new.parts }
         ensures runs { CallRuns txn (2 * pages self.old.parts.operations.store.pool + 9) self.old.parts.running.items
@@ -39,9 +41,12 @@ impl<D: Device> Kernel<D> {
         ensures store { self.new.parts.operations.store ≡ self.old.parts.operations.store }
         ensures called { (first : Base) (s : State) → Shows D.seen D.may_leave first s self.old
             → HasCalled D.seen D.may_leave first s txn op result self.new }
+        ensures fails { FailsForGood self.old result self.new }
         ensures unmoved { (why : Refusal)
-            → call_cause self.old.relations self.old.counters self.old.parts txn op ≡ Some why → self.new ≡ self.old }
+            → call_cause self.old.relations self.old.counters (is_failed self.old) self.old.parts txn op ≡ Some why
+            → self.new ≡ self.old }
         ensures schema { SameSchema self.old self.new }
+        ensures restarts { StaysRestarting D.seen D.may_leave self.old self.new }
     {
         if let Some(why) = self.call_cause(txn, &op) {
             return Err(why);

@@ -3,6 +3,7 @@ ghost use Rattle.std.specs.Prelude.{◌≡◌, ◌≢◌, ◌<◌, ◌^◌, All,
 ghost use Rattle.mt_kernel.specs.Runs.{state_in};
 ghost use Rattle.mt_kernel.specs.declared.parts.Running.{Running};
 ghost use Rattle.mt_live.specs.declared.transactions.TxnState.TheVariants.{Open, Aborting};
+ghost use Rattle.mt_txn.specs.Shown.{is_failed};
 ghost use Rattle.mt_txn.specs.Causes.{IsNamed, IsSized, abort_cause, call_cause, count_cause, name_cause, open_cause, size_cause};
 
 use crate::kernel::Kernel;
@@ -59,10 +60,10 @@ fn name_cause(relations: u16, counters: u16, op: &Op) -> Option<Refusal>
 impl<D: Device> Kernel<D> {
     // Why a call that wants an open transaction is refused, if it is.
     pub(crate) fn open_cause(&self, txn: TxnNo) -> Option<Refusal>
-        ensures cause { result ≡ open_cause self.now.parts txn }
+        ensures cause { result ≡ open_cause (is_failed self.now) self.now.parts txn }
         ensures opened { IfNone result (state_in self.now.parts.live.members txn ≡ Some Open) }
     {
-        if self.parts.log().has_failed() {
+        if self.has_failed() {
             return Some(Refusal::DeviceFailed);
         }
         match self.parts.live().state(txn) {
@@ -73,10 +74,10 @@ impl<D: Device> Kernel<D> {
 
     // Why a step of an abort is refused, if it is.
     pub(crate) fn abort_cause(&self, txn: TxnNo) -> Option<Refusal>
-        ensures cause { result ≡ abort_cause self.now.parts txn }
+        ensures cause { result ≡ abort_cause (is_failed self.now) self.now.parts txn }
         ensures aborting { IfNone result (state_in self.now.parts.live.members txn ≡ Some Aborting) }
     {
-        if self.parts.log().has_failed() {
+        if self.has_failed() {
             return Some(Refusal::DeviceFailed);
         }
         match self.parts.live().state(txn) {
@@ -100,7 +101,8 @@ impl<D: Device> Kernel<D> {
 
     // Why a call is refused before its lock is asked for, if it is.
     pub(crate) fn call_cause(&self, txn: TxnNo, op: &Op) -> Option<Refusal>
-        ensures cause { result ≡ call_cause self.now.relations self.now.counters self.now.parts txn op.now }
+        ensures cause { result ≡ call_cause self.now.relations self.now.counters
+            (is_failed self.now) self.now.parts txn op.now }
         ensures opened { IfNone result (state_in self.now.parts.live.members txn ≡ Some Open) }
         ensures idle { IfNone result (All (λ (r : Running). r.scope.txn ≢ txn) self.now.parts.running.items) }
         ensures few { IfNone result (self.now.parts.last < 2 ^ 40) }

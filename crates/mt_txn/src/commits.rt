@@ -2,7 +2,7 @@
 ghost use Rattle.std.specs.Prelude.{◌≡◌, ◌≢◌, ◌<◌, ◌+◌, ◌++◌, ◌∷◌, [], ℕ, length, get_or, Ok, Err, IfOk, IfErr, IsErr, OnOk, OnErr, None, Some, false, true};
 ghost use Rattle.mt_base.specs.declared.refusal.Refusal.{Refusal};
 ghost use Rattle.mt_live.specs.Machine.{State};
-ghost use Rattle.mt_log.specs.Words.{appended, durable, in_flight, waiting, calls_left, has_failed};
+ghost use Rattle.mt_log.specs.Words.{appended, durable, in_flight, waiting, calls_left};
 ghost use Rattle.mt_frame.specs.declared.records.Record.TheVariants as record_of;
 ghost use Rattle.mt_model.specs.Model.{Base};
 ghost use Rattle.mt_pool.specs.Views.{IsWaiting, Cleans, to_flush};
@@ -13,10 +13,10 @@ ghost use Rattle.mt_kernel.specs.Work.{LeavesUndo};
 ghost use Rattle.mt_kernel.specs.declared.parts.Commit.{Commit};
 ghost use Rattle.mt_txn.specs.Causes.{IsFailure, commit_cause};
 ghost use Rattle.mt_txn.specs.Events.{HasForced, IsForcedBy};
-ghost use Rattle.mt_txn.specs.Shown.{SameSchema, Shows, Stays};
+ghost use Rattle.mt_txn.specs.Shown.{FailsForGood, SameSchema, Shows, Stays, StaysRestarting, is_failed};
 
 use crate::answers::KernelForced;
-use crate::kernel::Kernel;
+use crate::kernel::{Kernel, is_failure};
 use mt_base::{Refusal, TxnNo};
 use mt_disk::Device;
 use mt_log::Forced;
@@ -30,9 +30,9 @@ impl<D: Device> Kernel<D> {
     /// Refused, in this order: 2 where the device has failed, 15 where the transaction is not open, 16 where an
     /// operation of it is unfinished, 1 for want of memory. The state is as before.
     pub fn commit_begin(&mut self, txn: TxnNo) -> Result<u64, Refusal>
-        ensures may { OnOk result (commit_cause self.old.parts txn ≡ None) }
+        ensures may { OnOk result (commit_cause (is_failed self.old) self.old.parts txn ≡ None) }
         ensures cause { IfErr result (λ why. why ≢ Refusal.NoMemory
-            → commit_cause self.old.parts txn ≡ Some why) }
+            → commit_cause (is_failed self.old) self.old.parts txn ≡ Some why) }
         ensures place { IfOk result (λ place.
             place ≡ length self.old.parts.book.items + length self.old.parts.commits.items + 1) }
         ensures state { Stays D.seen D.may_leave self.old self.new }
@@ -50,8 +50,11 @@ impl<D: Device> Kernel<D> {
         ensures running { SameRunning self.old.parts self.new.parts }
         ensures err { OnErr result (SameStates self.old.parts self.new.parts
             × SameCommits self.old.parts self.new.parts) }
-        ensures unmoved { (why : Refusal) → commit_cause self.old.parts txn ≡ Some why → self.new ≡ self.old }
+        ensures fails { FailsForGood self.old result self.new }
+        ensures unmoved { (why : Refusal) → commit_cause (is_failed self.old) self.old.parts txn ≡ Some why
+            → self.new ≡ self.old }
         ensures schema { SameSchema self.old self.new }
+        ensures restarts { StaysRestarting D.seen D.may_leave self.old self.new }
     {
         if let Some(why) = self.open_cause(txn) {
             return Err(why);
@@ -71,14 +74,13 @@ impl<D: Device> Kernel<D> {
     /// as before.
     pub fn force_step(&mut self) -> Result<KernelForced, Refusal>
         ensures cause { IfErr result (λ why. why ≢ Refusal.NoMemory
-            → IsFailure D.faults self.old.parts self.new.parts why) }
+            → IsFailure D.faults (is_failed self.old) self.old.parts self.new.parts why) }
         ensures pool { self.new.parts.operations.store.pool ≡ self.old.parts.operations.store.pool }
         ensures appended { appended self.new.parts.operations.store.log
             ≡ appended self.old.parts.operations.store.log }
         ensures log { IfOk result (λ forced. IsForcedBy self.old.parts.operations.store.log
             self.old.parts.commits.items forced self.new.parts.operations.store.log self.new.parts.commits.items) }
-        ensures failed { has_failed self.old.parts.operations.store.log ≡ true
-            → (result ≡ Err Refusal.DeviceFailed) × (self.new ≡ self.old) }
+        ensures fails { FailsForGood self.old result self.new }
         ensures running { SameRunning self.old.parts self.new.parts }
         ensures states { SameUncommitted self.old.parts self.new.parts }
         ensures undo { LeavesUndo self.old.parts self.new.parts }
@@ -88,12 +90,15 @@ impl<D: Device> Kernel<D> {
         ensures forced { (first : Base) (s : State) → Shows D.seen D.may_leave first s self.old
             → HasForced D.seen D.may_leave first s result self.new }
         ensures schema { SameSchema self.old self.new }
+        ensures restarts { StaysRestarting D.seen D.may_leave self.old self.new }
     {
-        if self.parts.log().has_failed() {
+        if self.has_failed() {
             return Err(Refusal::DeviceFailed);
         }
         let mut names = Vec::with_capacity(self.alloc, self.parts.count_commits())?;
-        match self.parts.force_step()? {
+        let told = self.parts.force_step();
+        self.failed = is_failure(&told);
+        match told? {
             Forced::More => Ok(KernelForced::More),
             Forced::Idle => Ok(KernelForced::Idle),
             Forced::Durable(place) => {
@@ -108,7 +113,7 @@ impl<D: Device> Kernel<D> {
     ///
     /// Refused with 2 where the device has failed or fails in this call. The state is as before.
     pub fn flush_step(&mut self) -> Result<Flushed, Refusal>
-        ensures cause { IfErr result (IsFailure D.faults self.old.parts self.new.parts) }
+        ensures cause { IfErr result (IsFailure D.faults (is_failed self.old) self.old.parts self.new.parts) }
         ensures written { (p : ℕ) → result ≡ Ok (flushed.Page p)
             → Cleans self.old.parts.operations.store.pool self.new.parts.operations.store.pool
             (length (durable self.old.parts.operations.store.log)) p }
@@ -125,15 +130,17 @@ impl<D: Device> Kernel<D> {
         ensures there { self.new.parts.operations.store.pool.of_page
             ≡ self.old.parts.operations.store.pool.of_page }
         ensures undo { LeavesUndo self.old.parts self.new.parts }
-        ensures failed { has_failed self.old.parts.operations.store.log ≡ true
-            → (result ≡ Err Refusal.DeviceFailed) × (self.new ≡ self.old) }
+        ensures fails { FailsForGood self.old result self.new }
         ensures state { Stays D.seen D.may_leave self.old self.new }
         ensures schema { SameSchema self.old self.new }
+        ensures restarts { StaysRestarting D.seen D.may_leave self.old self.new }
     {
-        if self.parts.log().has_failed() {
+        if self.has_failed() {
             return Err(Refusal::DeviceFailed);
         }
-        match self.parts.flush_step() {
+        let told = self.parts.flush_step();
+        self.failed = told.is_err();
+        match told {
             Ok(flushed) => Ok(flushed),
             Err(_) => Err(Refusal::DeviceFailed),
         }

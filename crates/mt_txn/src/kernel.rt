@@ -1,21 +1,33 @@
 // A kernel over pages.
-ghost use Rattle.std.specs.Prelude.{◌≡◌, ◌≢◌, ℕ, [], None, Some, true, false, is_some};
+ghost use Rattle.std.specs.Prelude.{◌≡◌, ◌≢◌, ◌↔◌, ℕ, List, [], None, Some, Err, IsTrue, true, false, is_some};
+ghost use Rattle.mt_base.specs.declared.refusal.Refusal.{Refusal};
 ghost use Rattle.mt_live.specs.Machine.{State, start, IsKept, is_live};
 ghost use Rattle.mt_live.specs.declared.transactions.TxnState.TheVariants.{Open, Committing};
 ghost use Rattle.mt_model.specs.History.{IsLegal};
 ghost use Rattle.mt_model.specs.Model.{Base};
 ghost use Rattle.mt_model.specs.declared.operations.Op.{Op};
+ghost use Rattle.mt_base.specs.Limits.{IsRelationCount};
+ghost use Rattle.mt_frame.specs.declared.slots.MasterSlot.{MasterSlot};
 ghost use Rattle.mt_kernel.specs.Consistent.{IsFresh};
 ghost use Rattle.mt_kernel.specs.Runs.{state_in};
 ghost use Rattle.mt_txn.specs.Causes.{is_busy};
+ghost use Rattle.mt_txn.specs.Restarted.{FindsCommits, NamesArea};
 ghost use Rattle.mt_txn.specs.Well.{IsWell, Opens};
 
+use mt_base::Refusal;
 use mt_disk::Device;
 use mt_escrow::Escrow;
 use mt_kernel::Parts;
 use mt_model::Committed;
 use mt_op::Operations;
 use std::alloc::Global;
+
+// Whether a call was refused with 2.
+pub(crate) fn is_failure<T>(told: &Result<T, Refusal>) -> bool
+    ensures { IsTrue result ↔ (told.now ≡ Err Refusal.DeviceFailed) }
+{
+    matches!(told, Err(Refusal::DeviceFailed))
+}
 
 /// A kernel over its pages.
 ///
@@ -28,12 +40,14 @@ pub struct Kernel<D: Device> {
     // how many there are
     pub(crate) relations: u16,
     pub(crate) counters: u16,
+    // whether a call was refused with 2
+    pub(crate) failed: bool,
     // whatever the base that the pages hold
     ghost well: { IsWell D.seen D.may_leave relations counters parts },
 }
 
 impl<D: Device> Kernel<D> {
-    ghost use Rattle.mt_txn.specs.Shown.{Shows};
+    ghost use Rattle.mt_txn.specs.Shown.{Restarts, Shows, is_failed};
 
     /// A kernel without transactions over operations of a log area without records, whose pages hold a base, which is
     /// the first of its history; the escrow has that base's counters. It takes no memory.
@@ -49,6 +63,8 @@ impl<D: Device> Kernel<D> {
             × Opens D.seen D.may_leave operations escrow relations counters first) ∥₁ }
         ensures shows { (first : Base) → Opens D.seen D.may_leave operations escrow relations counters first
             → Shows D.seen D.may_leave first (start first) result }
+        ensures restarts { (first : Base) → Opens D.seen D.may_leave operations escrow relations counters first
+            → Restarts D.seen D.may_leave first result }
         ensures schema { (result.relations ≡ relations) × (result.counters ≡ counters) }
     {
         Kernel {
@@ -56,7 +72,16 @@ impl<D: Device> Kernel<D> {
             alloc,
             relations,
             counters,
+            failed: false,
         }
+    }
+
+    /// Whether the device has failed in a call of this kernel. Each later call is refused with 2 then, and the device is to
+    /// be opened again.
+    pub fn has_failed(&self) -> bool
+        ensures { result ≡ is_failed self.now }
+    {
+        self.failed || self.parts.log().has_failed()
     }
 
     /// The durable commits of this opening, in their order. They are those of the state that the kernel shows, and
@@ -75,6 +100,16 @@ impl<D: Device> Kernel<D> {
     pub fn shows_what_is_kept(&self)
         ensures { (first : Base) (s : State) → Shows D.seen D.may_leave first s self.now
             → ∥ IsKept first s ∥₁ }
+    {}
+
+    /// Whatever a crash leaves now, a restart finds what some of the first commits lead to, each alone, in their order:
+    /// those of the book, and behind them those under way. Each commit whose record is durable is one of them. The
+    /// master slot that rules in what is left names the log's area.
+    pub fn can_restart(&self)
+        ensures { (first : Base) (c : List ℕ) (slot : MasterSlot) → Restarts D.seen D.may_leave first self.now
+            → D.may_leave self.now.parts.operations.store.device c → NamesArea self.now.parts c slot
+            → IsRelationCount self.now.relations
+            → ∥ FindsCommits self.now.relations self.now.counters first self.now.parts c ∥₁ }
     {}
 
     /// Whatever state a kernel shows tells who lives, and who runs an operation; and where nobody commits, no commit is
@@ -102,6 +137,7 @@ impl<D: Device + Drop> Kernel<D> {
             alloc: _,
             relations: _,
             counters: _,
+            failed: _,
         } = self;
         parts.into_device()
     }

@@ -14,7 +14,9 @@ mod causes;
 mod commits;
 mod kernel;
 mod steps;
+mod surveys;
 
 pub use answers::{AbortStepped, KernelForced, Stepped};
 pub use kernel::Kernel;
 pub use mt_kernel::Called;
+pub use mt_op::Survey;

@@ -10,10 +10,10 @@ ghost use Rattle.mt_txn.specs.Work.{IsToldAs, IsForOther, LowersSteps};
 ghost use Rattle.mt_kernel.specs.Consistent.{SameCommits, SameStates};
 ghost use Rattle.mt_txn.specs.Causes.{IsFault, step_cause};
 ghost use Rattle.mt_txn.specs.Events.{HasStepped};
-ghost use Rattle.mt_txn.specs.Shown.{SameSchema, Shows};
+ghost use Rattle.mt_txn.specs.Shown.{FailsForGood, SameSchema, Shows, StaysRestarting, is_failed};
 
 use crate::answers::Stepped;
-use crate::kernel::Kernel;
+use crate::kernel::{Kernel, is_failure};
 use mt_base::{Refusal, TxnNo};
 use mt_disk::Device;
 use mt_kernel::{Going, Stepping};
@@ -27,8 +27,9 @@ impl<D: Device> Kernel<D> {
     /// Refused, in this order: 2 where the device has failed, 15 where the transaction is not open or has no operation
     /// under way, 1 for want of memory; and with 2 where the device fails in this step. The state is as before.
     pub fn step(&mut self, txn: TxnNo) -> Result<Stepped, Refusal>
-        ensures may { OnOk result (step_cause self.old.parts txn ≡ None) }
-        ensures cause { IfErr result (λ why. why ≢ Refusal.NoMemory → (step_cause self.old.parts txn ≡ Some why)
+        ensures may { OnOk result (step_cause (is_failed self.old) self.old.parts txn ≡ None) }
+        ensures cause { IfErr result (λ why. why ≢ Refusal.NoMemory
+            → (step_cause (is_failed self.old) self.old.parts txn ≡ Some why)
             ⊎ IsFault D.faults self.old.parts self.new.parts why) }
         ensures work { LowersSteps (pages self.old.parts.operations.store.pool) result
             (steps_in self.old.parts.running.items txn) (steps_in self.new.parts.running.items txn) }
@@ -36,8 +37,11 @@ impl<D: Device> Kernel<D> {
         ensures commits { SameCommits self.old.parts self.new.parts }
         ensures other { IfOk result (λ stepped. IsForOther self.old.parts.live.members txn stepped) }
         ensures states { SameStates self.old.parts self.new.parts }
-        ensures unmoved { (why : Refusal) → step_cause self.old.parts txn ≡ Some why → self.new ≡ self.old }
+        ensures fails { FailsForGood self.old result self.new }
+        ensures unmoved { (why : Refusal) → step_cause (is_failed self.old) self.old.parts txn ≡ Some why
+            → self.new ≡ self.old }
         ensures schema { SameSchema self.old self.new }
+        ensures restarts { StaysRestarting D.seen D.may_leave self.old self.new }
         ensures stepped { (first : Base) (s : State) → Shows D.seen D.may_leave first s self.old
             → HasStepped D.seen D.may_leave first s txn result self.new }
     {
@@ -47,7 +51,9 @@ impl<D: Device> Kernel<D> {
         let Some(place) = self.parts.place_of(txn) else {
             return Err(Refusal::Stranger);
         };
-        match self.parts.step(self.alloc, place)? {
+        let told = self.parts.step(self.alloc, place);
+        self.failed = is_failure(&told);
+        match told? {
             Stepping::Ended(reply) => Ok(Stepped::Replied(reply)),
             Stepping::Going(going) => Ok(self.stepped(going)),
         }

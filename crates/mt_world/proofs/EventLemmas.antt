@@ -14,7 +14,6 @@ use Rattle.mt_kernel.specs.declared.parts.Parts.{Parts}
 use Rattle.mt_live.specs.Machine.{State, begun, called, ended, gone}
 use Rattle.mt_live.specs.declared.transactions.TxnState.{TxnState}
 use Rattle.mt_live.specs.declared.transactions.TxnState.TheVariants.{Open, Committing as IsCommitting, Aborting as IsAborting}
-use Rattle.mt_log.specs.Words.{has_failed}
 use Rattle.mt_model.specs.Model.{Base}
 use Rattle.mt_model.specs.declared.operations.Op.{Op}
 use Rattle.mt_model.specs.declared.operations.Reply.{Reply}
@@ -24,8 +23,7 @@ use Rattle.mt_txn.proofs.Living.{idle_of}
 use Rattle.mt_txn.specs.Causes.{begin_cause, call_cause, first_of, is_busy, is_open, unless}
 use Rattle.mt_txn.specs.Events.{HasAborted, HasCalled, HasForced, HasStepped, IsAnsweredBy, IsBack}
 use Rattle.mt_txn.specs.Events.IsBack.{stands, drops as drops_back, undoes as undoes_back}
-use Rattle.mt_txn.specs.Shown.{SameSchema, Shows, Stays}
-use Rattle.mt_txn.specs.Well.{ShowsIn}
+use Rattle.mt_txn.specs.Shown.{FailsForGood, SameSchema, Shows, Stays, StaysRestarting, is_failed}
 use Rattle.mt_txn.specs.declared.answers.AbortStepped.{AbortStepped}
 use Rattle.mt_txn.specs.declared.answers.AbortStepped.TheVariants as abort
 use Rattle.mt_txn.specs.declared.answers.KernelForced.{KernelForced}
@@ -37,7 +35,7 @@ use Rattle.mt_world.specs.Acts.{Act}
 use Rattle.mt_world.specs.Moves.{IsStill, Moves}
 use Rattle.mt_world.specs.Moves.IsStill.{is_refused, call_waits, step_went, step_waits, step_again, step_full, abort_went, abort_waits, abort_again, abort_full, force_went, force_idle}
 use Rattle.mt_world.specs.Moves.Moves.{stays, begins, calls, ends, drops, undoes, aborts, books}
-use Rattle.mt_world.specs.Due.{IsBacked, IsCaused, IsDue, IsFlushed, IsStepped, SamePhases, SetsPhases}
+use Rattle.mt_world.specs.Due.{FailsIn, IsBacked, IsBroken, IsCaused, IsDue, IsFlushed, IsStepped, SamePhases, SetsPhases}
 use Rattle.mt_world.specs.Schedules.{HasMade}
 use Rattle.mt_world.specs.declared.events.Answer.{Answer}
 use Rattle.mt_world.specs.declared.events.Answer.TheVariants.{Begun, Called as CalledAs, Stepped, Backed, Forced, Refused}
@@ -69,7 +67,7 @@ both_hold false false busy none = absurd cc
 both_hold false true false none = absurd cc
 both_hold false true true none = (refl, refl)
 
-open_state : (o : Option TxnState) → is_open o ≡ true → o ≡ Some Open
+pub open_state : (o : Option TxnState) → is_open o ≡ true → o ≡ Some Open
 open_state None is = absurd cc
 open_state (Some Open) is = refl
 open_state (Some IsCommitting) is = absurd cc
@@ -90,26 +88,29 @@ module _ {D : Type 0} {g : Ghosts D} (seen : D → List ℕ) (may_leave : D → 
   still : (event : Event) (answer : Answer) (first : Base) (s : State) → IsStill event answer → Shows seen may_leave first s n → Leads first s event answer
   still event answer first s is shows = ∣ ([], s, stays event answer is, shows) ∣₁
 
-  -- nothing comes of it
-  pub still_made : (event : Event) (answer : Answer) → IsStill event answer → Stays seen may_leave k n → IsDue seen may_leave faults k event answer n → SetsPhases k event answer n → SameSchema k n
-      → HasMade seen may_leave faults k event answer n
-  still_made event answer is same due phases schema = record { leads = λ first s shows. still event answer first s is (same first s shows); due = due; phases = phases; schema = schema }
+  -- whether the device has failed, of a call's result
+  pub fails_ok : {T : Type 0} → (x : T) (answer : Answer) → FailsForGood k (Ok x) n → (IsBroken answer → ⊥) → FailsIn k answer n
+  fails_ok {T} x answer fails other = ((λ before. let wrong : ◌≡◌ {A = Result T Refusal} (Ok x) (Err refusal.DeviceFailed) = (fails.0 before).0 in absurd cc), λ broken. absurd (other broken))
 
-  pub parts_stay : n.parts ≡ k.parts → SameSchema k n → Stays seen may_leave k n
-  parts_stay same schema first s shows = subst (λ (X : Type 0). X) (λ i. At (sym schema.0 i) (sym schema.1 i) (sym same i)) shows
-    where
-      At : ℕ → ℕ → Parts D → Type 0
-      At relations counters parts = ShowsIn seen may_leave relations counters first s parts
+  pub fails_err : {T : Type 0} → (why : Refusal) → FailsForGood {T = T} k (Err why) n → FailsIn k (Refused why) n
+  fails_err {T} why fails = ((λ before. let all = fails.0 before in let is : ◌≡◌ {A = Result T Refusal} (Err why) (Err refusal.DeviceFailed) = all.0 in (let same : why ≡ refusal.DeviceFailed = cc in ap (λ (w : Refusal). Refused w) same, all.1)), λ broken. let same : why ≡ refusal.DeviceFailed = cc in fails.1 (ap (λ (w : Refusal). Err w) same))
+
+  -- nothing comes of it
+  pub still_made : (event : Event) (answer : Answer) → IsStill event answer → Stays seen may_leave k n → IsDue seen may_leave faults k event answer n → SetsPhases k event answer n → SameSchema k n → FailsIn k answer n → StaysRestarting seen may_leave k n
+      → HasMade seen may_leave faults k event answer n
+  still_made event answer is same due phases schema fails restarts = record { leads = λ first s shows. still event answer first s is (same first s shows); due = due; phases = phases; fails = fails; restarts = restarts; schema = schema }
 
   -- ---- a begin
 
-  pub begin_made : (session txn : ℕ) → txn ≡ k.parts.live.begun + 1 → begin_cause k.parts ≡ None → ((first : Base) (s : State) → Shows seen may_leave first s k → Shows seen may_leave first (begun s session) n)
-      → SetsPhases k (Begin session) (Begun txn) n → SameSchema k n
+  pub begin_made : (session txn : ℕ) → txn ≡ k.parts.live.begun + 1 → begin_cause (is_failed k) k.parts ≡ None → ((first : Base) (s : State) → Shows seen may_leave first s k → Shows seen may_leave first (begun s session) n)
+      → SetsPhases k (Begin session) (Begun txn) n → SameSchema k n → FailsIn k (Begun txn) n → StaysRestarting seen may_leave k n
       → HasMade seen may_leave faults k (Begin session) (Begun txn) n
-  begin_made session txn number may did phases schema = record {
+  begin_made session txn number may did phases schema fails restarts = record {
     leads = λ first s shows. ∣ ([], begun s session, subst (λ (t : ℕ). Moves s (Begin session) (Begun t) [] (begun s session)) (next_is first s shows) (begins session), did first s shows) ∣₁;
     due = may;
     phases = phases;
+    fails = fails;
+    restarts = restarts;
     schema = schema;
   }
     where
@@ -119,7 +120,7 @@ module _ {D : Type 0} {g : Ghosts D} (seen : D → List ℕ) (may_leave : D → 
   -- ---- a call
 
   abbrev Cause : ℕ → Op → Option Refusal
-  Cause t op = call_cause k.relations k.counters k.parts t op
+  Cause t op = call_cause k.relations k.counters (is_failed k) k.parts t op
 
   uncaused : (t : ℕ) (op : Op) (told : Called) → ((why : Refusal) → Cause t op ≡ Some why → ◌≡◌ {A = Result Called Refusal} (Ok told) (Err why)) → Cause t op ≡ None
   uncaused t op told early = go (Cause t op) refl
@@ -129,18 +130,20 @@ module _ {D : Type 0} {g : Ghosts D} (seen : D → List ℕ) (may_leave : D → 
       go (Some why) e = absurd (let wrong : ◌≡◌ {A = Result Called Refusal} (Ok told) (Err why) = early why e in cc)
 
   pub call_made : (t : ℕ) (op : Op) (told : Called) → ((why : Refusal) → Cause t op ≡ Some why → ◌≡◌ {A = Result Called Refusal} (Ok told) (Err why)) → (Cause t op ≡ None → IsAnsweredBy seen may_leave k t op (Ok told))
-      → ((first : Base) (s : State) → Shows seen may_leave first s k → HasCalled seen may_leave first s t op (Ok told) n) → SamePhases k n → SameSchema k n → HasMade seen may_leave faults k (Call t op) (CalledAs told) n
-  call_made t op told early answer did phases schema =
+      → ((first : Base) (s : State) → Shows seen may_leave first s k → HasCalled seen may_leave first s t op (Ok told) n) → SamePhases k n → SameSchema k n → FailsIn k (CalledAs told) n → StaysRestarting seen may_leave k n
+      → HasMade seen may_leave faults k (Call t op) (CalledAs told) n
+  call_made t op told early answer did phases schema fails restarts =
       let none = uncaused t op told early in
-      record { leads = λ first s shows. leads told first s (did first s shows); due = (none, answer none); phases = phases; schema = schema }
+      record { leads = λ first s shows. leads told first s (did first s shows); due = (none, answer none); phases = phases; fails = fails; restarts = restarts; schema = schema }
     where
       leads : (told : Called) (first : Base) (s : State) → HasCalled seen may_leave first s t op (Ok told) n → Leads first s (Call t op) (CalledAs told)
       leads call.Started first s shows = ∣ ([], called s t op, calls t op, shows) ∣₁
       leads (call.Wait holder) first s shows = still (Call t op) (CalledAs (call.Wait holder)) first s (call_waits t op holder) shows
 
   pub call_refused : (t : ℕ) (op : Op) (why : Refusal) → ((y : Refusal) → Cause t op ≡ Some y → ◌≡◌ {A = Result Called Refusal} (Err why) (Err y)) → (Cause t op ≡ None → IsAnsweredBy seen may_leave k t op (Err why))
-      → ((first : Base) (s : State) → Shows seen may_leave first s k → HasCalled seen may_leave first s t op (Err why) n) → SamePhases k n → SameSchema k n → HasMade seen may_leave faults k (Call t op) (Refused why) n
-  call_refused t op why early answer did phases schema = still_made (Call t op) (Refused why) (is_refused (Call t op) why) did (go (Cause t op) refl) phases schema
+      → ((first : Base) (s : State) → Shows seen may_leave first s k → HasCalled seen may_leave first s t op (Err why) n) → SamePhases k n → SameSchema k n → FailsIn k (Refused why) n → StaysRestarting seen may_leave k n
+      → HasMade seen may_leave faults k (Call t op) (Refused why) n
+  call_refused t op why early answer did phases schema fails restarts = still_made (Call t op) (Refused why) (is_refused (Call t op) why) did (go (Cause t op) refl) phases schema fails restarts
     where
       go : (c : Option Refusal) → Cause t op ≡ c → IsDue seen may_leave faults k (Call t op) (Refused why) n
       go None e = inr (e, answer e)
@@ -148,13 +151,13 @@ module _ {D : Type 0} {g : Ghosts D} (seen : D → List ℕ) (may_leave : D → 
 
   -- ---- a step
 
-  pub step_made : (t : ℕ) (told : StepTold) → IsStepped k t told n → ((first : Base) (s : State) → Shows seen may_leave first s k → HasStepped seen may_leave first s t (Ok told) n) → SamePhases k n → SameSchema k n
+  pub step_made : (t : ℕ) (told : StepTold) → IsStepped k t told n → ((first : Base) (s : State) → Shows seen may_leave first s k → HasStepped seen may_leave first s t (Ok told) n) → SamePhases k n → SameSchema k n → FailsIn k (Stepped told) n → StaysRestarting seen may_leave k n
       → HasMade seen may_leave faults k (Step t) (Stepped told) n
-  step_made t told due did phases schema = record { leads = λ first s shows. leads told first s shows (did first s shows); due = due; phases = phases; schema = schema }
+  step_made t told due did phases schema fails restarts = record { leads = λ first s shows. leads told first s shows (did first s shows); due = due; phases = phases; fails = fails; restarts = restarts; schema = schema }
     where
       ends_with : (reply : Reply) (first : Base) (s : State) → Shows seen may_leave first s k → (o : Option Op) → s.running t ≡ o → HasStepped seen may_leave first s t (Ok (step.Replied reply)) n → Leads first s (Step t) (Stepped (step.Replied reply))
       ends_with reply first s shows None none did =
-          let holds = both_hold (has_failed k.parts.operations.store.log) (is_open (state_in k.parts.live.members t)) (is_busy k.parts t) due.may in
+          let holds = both_hold (is_failed k) (is_open (state_in k.parts.live.members t)) (is_busy k.parts t) due.may in
           let idle = idle_of seen may_leave k.relations k.counters k.parts first s shows t (open_state (state_in k.parts.live.members t) holds.0) none in
           absurd (let wrong : true ≡ false = sym holds.1 ∙ idle in cc)
       ends_with reply first s shows (Some op) runs did =
@@ -171,9 +174,9 @@ module _ {D : Type 0} {g : Ghosts D} (seen : D → List ℕ) (may_leave : D → 
 
   -- ---- a step of an abort
 
-  pub back_made : (t : ℕ) (told : AbortStepped) → IsBacked k t told n → ((first : Base) (s : State) → Shows seen may_leave first s k → HasAborted seen may_leave first s t (Ok told) n) → SetsPhases k (AbortStep t) (Backed told) n → SameSchema k n
+  pub back_made : (t : ℕ) (told : AbortStepped) → IsBacked k t told n → ((first : Base) (s : State) → Shows seen may_leave first s k → HasAborted seen may_leave first s t (Ok told) n) → SetsPhases k (AbortStep t) (Backed told) n → SameSchema k n → FailsIn k (Backed told) n → StaysRestarting seen may_leave k n
       → HasMade seen may_leave faults k (AbortStep t) (Backed told) n
-  back_made t told due did phases schema = record { leads = λ first s shows. leads told first s (did first s shows); due = due; phases = phases; schema = schema }
+  back_made t told due did phases schema fails restarts = record { leads = λ first s shows. leads told first s (did first s shows); due = due; phases = phases; fails = fails; restarts = restarts; schema = schema }
     where
       leads : (told : AbortStepped) (first : Base) (s : State) → HasAborted seen may_leave first s t (Ok told) n → Leads first s (AbortStep t) (Backed told)
       leads abort.More first s did = ∥∥₁_map did (λ (z, back, shows). let moves = back_moves t s z back in (moves.0, z, moves.1, shows))
@@ -206,9 +209,9 @@ module _ {D : Type 0} {g : Ghosts D} (seen : D → List ℕ) (may_leave : D → 
   flush_told flush.Force written barred nothing = barred refl
   flush_told flush.Clean written barred nothing = nothing refl
 
-  pub force_made : (told : KernelForced) → ((first : Base) (s : State) → Shows seen may_leave first s k → HasForced seen may_leave first s (Ok told) n) → IsDue seen may_leave faults k Force (Forced told) n → SetsPhases k Force (Forced told) n → SameSchema k n
+  pub force_made : (told : KernelForced) → ((first : Base) (s : State) → Shows seen may_leave first s k → HasForced seen may_leave first s (Ok told) n) → IsDue seen may_leave faults k Force (Forced told) n → SetsPhases k Force (Forced told) n → SameSchema k n → FailsIn k (Forced told) n → StaysRestarting seen may_leave k n
       → HasMade seen may_leave faults k Force (Forced told) n
-  force_made told did due phases schema = record { leads = λ first s shows. leads told first s (did first s shows); due = due; phases = phases; schema = schema }
+  force_made told did due phases schema fails restarts = record { leads = λ first s shows. leads told first s (did first s shows); due = due; phases = phases; fails = fails; restarts = restarts; schema = schema }
     where
       leads : (told : KernelForced) (first : Base) (s : State) → HasForced seen may_leave first s (Ok told) n → Leads first s Force (Forced told)
       leads forced.More first s did = still Force (Forced forced.More) first s force_went did

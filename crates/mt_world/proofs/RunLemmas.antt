@@ -1,25 +1,47 @@
 -- Events one after the other, and what follows of all that ended in them.
-use Rattle.std.proofs.Common.{◌≡◌, ◌<◌, suc, ℕ, List, [], ◌∷◌, ◌++◌, length, take, get_or, refl, ap, sym, subst, ◌∙◌}
+use Rattle.std.proofs.Common.{◌≡◌, ◌≢◌, ◌<◌, ◌+◌, suc, ℕ, Bool, true, false, List, [], ◌∷◌, ◌++◌, length, take, get_or, Option, Some, None, is_some, ⊎_elim, refl, ap, sym, subst, ◌∙◌, append_assoc, append-nil, length-append, arith}
+use Rattle.std.specs.Prelude.{All, AllPairs, if◌then◌else◌}
+use Rattle.std.proofs.lemmas.Bool.{cases_eq}
 use Rattle.std.proofs.Math.Seq.{take-suc}
 use mathlib.Core.Logic.{∥∥₁_elim, ∥∥₁_map}
 use Rattle.std.proofs.Props.{props}
 use Rattle.mt_disk.specs.declared.device.Device.{Ghosts}
-use Rattle.mt_kernel.specs.Booked.{booked_each, session_at}
+use Rattle.mt_base.specs.declared.refusal.Refusal.{Refusal}
+use Rattle.mt_base.specs.declared.refusal.Refusal.TheVariants as refusal
+use Rattle.mt_kernel.specs.Booked.{booked_each, durable_count, session_at}
+use Rattle.mt_kernel.specs.Consistent.{SameUncommitted, SetsState}
+use Rattle.mt_kernel.specs.Runs.{state_in}
+use Rattle.mt_kernel.specs.declared.parts.Commit.{Commit as CommitUnderWay}
+use Rattle.mt_live.proofs.Alone.{put_other, put_own}
 use Rattle.mt_live.proofs.Keeping.{kept_explained}
-use Rattle.mt_live.specs.Machine.{State, booked, start}
+use Rattle.mt_live.specs.Machine.{State, IsKept, begun, booked, called, dropped, ended, gone, put, start, undone}
+use Rattle.mt_live.specs.Sound.{Each}
+use Rattle.mt_live.specs.declared.transactions.TxnState.{TxnState}
+use Rattle.mt_live.specs.declared.transactions.TxnState.TheVariants.{Open, Committing as IsCommitting, Aborting as IsAborting}
 use Rattle.mt_model.proofs.Appends.{acted_append, run-append}
 use Rattle.mt_model.specs.History.{IsActed, run}
 use Rattle.mt_model.specs.Model.{Base}
+use Rattle.mt_txn.proofs.Living.{lives_of}
 use Rattle.mt_txn.proofs.Showing.{kept_of}
-use Rattle.mt_txn.specs.Shown.{Shows}
+use Rattle.mt_txn.specs.Causes.{abort_cause, busy_cause, first_of, is_aborting, is_open, unless}
+use Rattle.mt_txn.specs.Shown.{Restarts, Shows, is_failed}
 use Rattle.mt_txn.specs.declared.kernel.Kernel.{Kernel}
 use Rattle.mt_world.specs.Acts.{Act, calls_in}
-use Rattle.mt_world.specs.Moves.{Moves}
+use Rattle.mt_world.proofs.EventLemmas.{open_state}
+use Rattle.mt_live.proofs.Events.{each_append}
+use Rattle.mt_live.proofs.Shapes.{each_map}
+use Rattle.mt_world.proofs.ToldLemmas.{AreDistinct, AreTold, forward_before, is_forward, named_commit, named_distinct, told_begun, told_booked, told_called, told_dropped, told_ended, told_gone, told_still, told_undone}
+use Rattle.mt_world.specs.Due.{FailsIn, IsBroken, IsDue, SamePhases, SetsPhases, StayBroken}
+use Rattle.mt_world.specs.Moves.{IsStill, Moves}
+use Rattle.mt_world.specs.Moves.IsStill.{is_refused, call_waits, step_went, step_waits, step_again, step_full, commit_begun, abort_begun, abort_went, abort_waits, abort_again, abort_full, force_went, force_idle, flushed}
 use Rattle.mt_world.specs.Moves.Moves.{stays, begins, calls, ends, drops, undoes, aborts, books}
 use Rattle.mt_world.specs.Schedules.{HasMade, HasRun, Makes}
 use Rattle.mt_world.specs.Schedules.Makes.{starts, goes_on}
+use Rattle.mt_world.specs.Told.{Told, acknowledged, named, nothing_told, tells, told_from, told_of}
 use Rattle.mt_world.specs.declared.events.Answer.{Answer}
+use Rattle.mt_world.specs.declared.events.Answer.TheVariants.{Refused}
 use Rattle.mt_world.specs.declared.events.Event.{Event}
+use Rattle.mt_world.specs.declared.events.Event.TheVariants.{Begin, Call as CallOf, Step, Commit, AbortBegin, AbortStep, Force, Flush}
 
 -- ---- what ended
 
@@ -42,6 +64,41 @@ moves_acted s _ _ _ _ (undoes t last inverse ps idle effect inverts given) = ((r
 moves_acted s _ _ _ _ (aborts t nothing) = (tt, refl)
 moves_acted s _ _ _ _ (books names) = (tt, sym (booked_base s names.items))
 
+-- ---- of transactions
+
+not_refused : (failed opened : Bool) (later : Option Refusal) → first_of (if failed then Some refusal.DeviceFailed else unless opened refusal.Stranger) later ≡ None → opened ≡ true
+not_refused true opened later none = absurd cc
+not_refused false true later none = refl
+not_refused false false later none = absurd cc
+
+aborting_back : (failed : Bool) (o : Option TxnState) → (if failed then Some refusal.DeviceFailed else unless (is_aborting o) refusal.Stranger) ≡ None → is_forward o ≡ false
+aborting_back true o none = absurd cc
+aborting_back false None none = absurd cc
+aborting_back false (Some Open) none = absurd cc
+aborting_back false (Some IsCommitting) none = absurd cc
+aborting_back false (Some IsAborting) none = refl
+
+none_back : (o : Option TxnState) → is_some o ≡ false → is_forward o ≡ false
+none_back None none = refl
+none_back (Some x) none = absurd cc
+
+-- ---- what one more event tells
+
+told_more : (t : ℕ) (told : Told) (events : List Event) (answers : List Answer) (event : Event) (answer : Answer) → length events ≡ length answers
+    → told_from t told (events ++ event ∷ []) (answers ++ answer ∷ []) ≡ tells t (told_from t told events answers) event answer
+told_more t told [] [] event answer same = refl
+told_more t told [] (a ∷ answers) event answer same = absurd (omega arith)
+told_more t told (e ∷ events) [] event answer same = absurd (omega arith)
+told_more t told (e ∷ events) (a ∷ answers) event answer same = told_more t (tells t told e a) events answers event answer (omega arith)
+
+acknowledged_more : (answers : List Answer) (answer : Answer) → acknowledged (answers ++ answer ∷ []) ≡ acknowledged answers ++ named answer
+acknowledged_more [] answer = append-nil (named answer)
+acknowledged_more (a ∷ answers) answer = ap (λ (ts : List ℕ). named a ++ ts) (acknowledged_more answers answer) ∙ sym (append_assoc (named a) (acknowledged answers) (named answer))
+
+stay_more : (answers : List Answer) (answer : Answer) → StayBroken answers → Each (λ x. IsBroken x → IsBroken answer) answers → StayBroken (answers ++ answer ∷ [])
+stay_more [] answer stay each = (λ broken. tt, tt)
+stay_more (x ∷ answers) answer stay each = (λ broken. each_append IsBroken answers (answer ∷ []) (stay.0 broken) (each.0 broken, tt), stay_more answers answer stay.1 each.1)
+
 module _ {D : Type 0} {g : Ghosts D} (seen : D → List ℕ) (may_leave : D → List ℕ → Type 0) (faults : D → ℕ) (first : Base) where
   makes_acted : (events : List Event) (answers : List Answer) (acts : List Act) (s : State) (n : Kernel D g) → Makes seen may_leave faults first events answers acts s n → IsActed first (calls_in acts) × (run first (calls_in acts) ≡ s.base)
   makes_acted _ _ _ _ n (starts k shows) = (tt, refl)
@@ -51,6 +108,124 @@ module _ {D : Type 0} {g : Ghosts D} (seen : D → List ℕ) (may_leave : D → 
         subst (IsActed first) (sym (calls_joined acts more)) (acted_append first (calls_in acts) (calls_in more) was.0 (subst (λ (b : Base). IsActed b (calls_in more)) (sym was.1) now.0)),
         ap (run first) (calls_joined acts more) ∙ run-append first (calls_in acts) (calls_in more) ∙ ap (λ (b : Base). run b (calls_in more)) was.1 ∙ now.1,
       )
+
+  -- ---- what is told
+
+  abbrev Phase : Kernel D g → ℕ → Option TxnState
+  Phase k t = state_in k.parts.live.members t
+
+  module _ (s : State) (k n : Kernel D g) (told : ℕ → Told) (names : List ℕ) where
+    abbrev TellsOn : State → Event → Answer → Type 0
+    TellsOn z event answer = AreTold z (Phase n) (λ t. tells t (told t) event answer) (names ++ named answer)
+
+    no_names : (z : State) (phase : ℕ → Option TxnState) (x : ℕ → Told) → AreTold z phase x names → AreTold z phase x (names ++ [])
+    no_names z phase x are = subst (AreTold z phase x) (sym (append-nil names)) are
+
+    same_told : SamePhases k n → AreTold s (Phase k) told names → AreTold s (Phase n) told (names ++ [])
+    same_told same are = no_names s (Phase n) told (told_still s (Phase k) (Phase n) told names (λ t forward. ap is_forward (sym (same.0 t)) ∙ forward) are)
+
+    forced_told : SameUncommitted k.parts n.parts → AreTold s (Phase k) told names → AreTold s (Phase n) told (names ++ [])
+    forced_told same are = no_names s (Phase n) told (told_still s (Phase k) (Phase n) told names (λ t. forward_before (Phase k t) (Phase n t) (same t)) are)
+
+    set_told : (t : ℕ) (state : TxnState) → (is_forward (Some state) ≡ true → is_forward (Phase k t) ≡ true) → SetsState k.parts n.parts t (Some state) → AreTold s (Phase k) told names → AreTold s (Phase n) told (names ++ [])
+    set_told t state was sets are = no_names s (Phase n) told (told_still s (Phase k) (Phase n) told names less are)
+      where
+        less : (u : ℕ) → is_forward (Phase n u) ≡ true → is_forward (Phase k u) ≡ true
+        less u forward = ⊎_elim
+            (λ (own : u ≡ t). ap (λ (v : ℕ). is_forward (Phase k v)) own ∙ was (ap is_forward (sym (sets u ∙ ap (put (Phase k) t (Some state)) own ∙ put_own (Phase k) t (Some state))) ∙ forward))
+            (λ (other : u ≢ t). ap is_forward (sym (sets u ∙ put_other (Phase k) t (Some state) u other)) ∙ forward) (cases_eq u t)
+
+    refused_told : (event : Event) (why : Refusal) → SetsPhases k event (Refused why) n → AreTold s (Phase k) told names → TellsOn s event (Refused why)
+    refused_told (Begin session) why same are = same_told same are
+    refused_told (CallOf t op) why same are = same_told same are
+    refused_told (Step t) why same are = same_told same are
+    refused_told (Commit t) why same are = same_told same are
+    refused_told (AbortBegin t) why same are = same_told same are
+    refused_told (AbortStep t) why same are = same_told same are
+    refused_told Force why same are = same_told same are
+    refused_told Flush why same are = same_told same are
+
+    still_tells : (event : Event) (answer : Answer) → IsStill event answer → IsDue seen may_leave faults k event answer n → SetsPhases k event answer n → AreTold s (Phase k) told names → TellsOn s event answer
+    still_tells _ _ (is_refused event why) due same are = refused_told event why same are
+    still_tells _ _ (call_waits t op holder) due same are = same_told same are
+    still_tells _ _ (step_went t) due same are = same_told same are
+    still_tells _ _ (step_waits t other) due same are = same_told same are
+    still_tells _ _ (step_again t) due same are = same_told same are
+    still_tells _ _ (step_full t) due same are = same_told same are
+    still_tells _ _ (commit_begun t place) due sets are =
+        set_told t IsCommitting (λ forward. ap is_forward (open_state (Phase k t) (not_refused (is_failed k) (is_open (Phase k t)) (busy_cause k.parts t) due.0))) sets.0 are
+    still_tells _ _ (abort_begun t) due sets are = set_told t IsAborting (λ forward. absurd cc) sets.0 are
+    still_tells _ _ (abort_went t) due same are = same_told same are
+    still_tells _ _ (abort_waits t other) due same are = same_told same are
+    still_tells _ _ (abort_again t) due same are = same_told same are
+    still_tells _ _ (abort_full t) due same are = same_told same are
+    still_tells _ _ force_went due same are = forced_told same are
+    still_tells _ _ force_idle due same are = forced_told same are
+    still_tells _ _ (flushed told_so) due same are = same_told same are
+
+    undone_back : (t : ℕ) → abort_cause (is_failed k) k.parts t ≡ None → SamePhases k n → is_forward (Phase n t) ≡ false
+    undone_back t may same = ap is_forward (same.0 t) ∙ aborting_back (is_failed k) (Phase k t) may
+
+    moves_told : (z : State) (event : Event) (answer : Answer) (more : List Act) → Moves s event answer more z → IsDue seen may_leave faults k event answer n → SetsPhases k event answer n
+        → Shows seen may_leave first z n → IsKept first s → All (λ (c : CommitUnderWay). Phase k c.txn ≡ Some IsCommitting) k.parts.commits.items → AllPairs (λ (a b : CommitUnderWay). a.txn ≢ b.txn) k.parts.commits.items
+        → AreTold s (Phase k) told names → TellsOn z event answer
+    moves_told _ _ _ _ (stays event answer is) due phases shows kept each apart are = still_tells event answer is due phases are
+    moves_told z _ _ _ (begins session) due phases shows kept each apart are = no_names (begun s session) (Phase n) _ (told_begun first s session (Phase k) (Phase n) told names kept phases.0 are)
+    moves_told z _ _ _ (calls t op) due phases shows kept each apart are = no_names (called s t op) (Phase n) _ (told_called s t op (Phase k) (Phase n) told names phases.0 are)
+    moves_told z _ _ _ (ends t op runs) due phases shows kept each apart are = no_names (ended s t op) (Phase n) _ (told_ended first s t op (Phase k) (Phase n) told names kept runs phases.0 are)
+    moves_told z _ _ _ (drops t op ps runs given) due phases shows kept each apart are =
+        no_names (dropped s t ps) (Phase n) told (told_dropped s t ps (Phase k) (Phase n) told names (undone_back t due.may phases) (λ u other. phases.0 u) are)
+    moves_told z _ _ _ (undoes t last inverse ps idle effect inverts given) due phases shows kept each apart are =
+        no_names (undone s t inverse ps) (Phase n) told (told_undone s t inverse ps (Phase k) (Phase n) told names (undone_back t due.may phases) (λ u other. phases.0 u) are)
+    moves_told z _ _ _ (aborts t nothing) due phases shows kept each apart are = no_names (gone s t) (Phase n) told (told_gone s t (Phase k) (Phase n) told names (ap is_forward phases.0) phases.1 are)
+    moves_told z _ _ _ (books ts) due phases shows kept each apart are =
+        told_booked first s ts.items (Phase k) (Phase n) told names kept
+        (subst AreDistinct (sym due.2) (named_distinct (durable_count k.parts.commits.items due.0) k.parts.commits.items apart))
+        (subst (Each (λ t. Phase k t ≡ Some IsCommitting)) (sym due.2) (named_commit (Phase k) (durable_count k.parts.commits.items due.0) k.parts.commits.items each))
+        phases (λ u dead. none_back (Phase n u) (sym (lives_of seen may_leave n.relations n.counters n.parts first (booked_each s ts.items) shows u) ∙ dead)) are
+
+  makes_shows : (events : List Event) (answers : List Answer) (acts : List Act) (s : State) (n : Kernel D g) → Makes seen may_leave faults first events answers acts s n → Shows seen may_leave first s n
+  makes_shows _ _ _ _ n (starts k shows) = shows
+  makes_shows _ _ _ z n (goes_on events answers acts more s _ k _ event answer before made) = made.shows
+
+  makes_same : (events : List Event) (answers : List Answer) (acts : List Act) (s : State) (n : Kernel D g) → Makes seen may_leave faults first events answers acts s n → length events ≡ length answers
+  makes_same _ _ _ _ n (starts k shows) = refl
+  makes_same _ _ _ z n (goes_on events answers acts more s _ k _ event answer before made) =
+      let same = makes_same events answers acts s k before in
+      length-append events (event ∷ []) ∙ ap (λ (l : ℕ). l + 1) same ∙ sym (length-append answers (answer ∷ []))
+
+  makes_told : (events : List Event) (answers : List Answer) (acts : List Act) (s : State) (n : Kernel D g) → Makes seen may_leave faults first events answers acts s n
+      → ∥ AreTold s (Phase n) (λ t. told_of events answers t) (acknowledged answers) ∥₁
+  makes_told _ _ _ _ n (starts k shows) = ∣ record {
+    each = λ t forward. absurd (let back : is_forward (Phase k t) ≡ false = none_back (Phase k t) (sym (lives_of seen may_leave k.relations k.counters k.parts first (start first) shows t)) in let wrong : true ≡ false = sym forward ∙ back in cc);
+    book = refl;
+    past = tt;
+  } ∣₁
+  makes_told _ _ _ z n (goes_on events answers acts more s _ k _ event answer before made) =
+      let shows = makes_shows events answers acts s k before in
+      ∥∥₁_elim (makes_told events answers acts s k before) (hlevel props) (λ are.
+      ∥∥₁_elim (kept_of seen may_leave k.relations k.counters k.parts first s shows) (hlevel props) (λ kept.
+      ∥∥₁_map shows (λ (origin, base, is, x).
+      let queued = x.consistent.fit.queued in
+      subst (AreTold z (Phase n) (λ t. told_of (events ++ event ∷ []) (answers ++ answer ∷ []) t)) (sym (acknowledged_more answers answer))
+      (subst (λ (told : ℕ → Told). AreTold z (Phase n) told (acknowledged answers ++ named answer)) (λ i t. sym (told_more t nothing_told events answers event answer (makes_same events answers acts s k before)) i)
+      (moves_told s k n (λ t. told_of events answers t) (acknowledged answers) z event answer more made.moves made.due made.phases made.shows kept queued.each queued.apart are)))))
+
+  -- ---- once the device has failed
+
+  abbrev AreBroken : List Answer → Kernel D g → Type 0
+  AreBroken answers n = StayBroken answers × Each (λ x. IsBroken x → is_failed n ≡ true) answers
+
+  broken_more : (answers : List Answer) (k n : Kernel D g) (answer : Answer) → FailsIn k answer n → AreBroken answers k → AreBroken (answers ++ answer ∷ []) n
+  broken_more answers k n answer fails (stay, failed) = (
+    stay_more answers answer stay (each_map (λ x. IsBroken x → is_failed k ≡ true) (λ x. IsBroken x → IsBroken answer) (λ x before broken. (fails.0 (before broken)).0) answers failed),
+    each_append (λ x. IsBroken x → is_failed n ≡ true) answers (answer ∷ [])
+        (each_map (λ x. IsBroken x → is_failed k ≡ true) (λ x. IsBroken x → is_failed n ≡ true) (λ x before broken. let was = before broken in ap (λ (y : Kernel D g). is_failed y) (fails.0 was).1 ∙ was) answers failed) (fails.1, tt),
+  )
+
+  makes_broken : (events : List Event) (answers : List Answer) (acts : List Act) (s : State) (n : Kernel D g) → Makes seen may_leave faults first events answers acts s n → AreBroken answers n
+  makes_broken _ _ _ _ n (starts k shows) = (tt, tt)
+  makes_broken _ _ _ z n (goes_on events answers acts more s _ k _ event answer before made) = broken_more answers k n answer made.fails (makes_broken events answers acts s k before)
 
   -- ---- the events so far
 
@@ -63,7 +238,7 @@ module _ {D : Type 0} {g : Ghosts D} (seen : D → List ℕ) (may_leave : D → 
   ran_more : (events : List Event) (answers : List Answer) (k n : Kernel D g) (event : Event) (answer : Answer) → HasMade seen may_leave faults k event answer n → Ran events answers k → Ran (events ++ event ∷ []) (answers ++ answer ∷ []) n
   ran_more events answers k n event answer made ran = ∥∥₁_elim ran (hlevel props) (λ (acts, s, before, shows).
       ∥∥₁_map (made.leads first s shows) (λ (more, z, moves, now).
-      (acts ++ more, z, goes_on events answers acts more s z k n event answer before (record { moves = moves; due = made.due; phases = made.phases; schema = made.schema; shows = now }), now)))
+      (acts ++ more, z, goes_on events answers acts more s z k n event answer before (record { moves = moves; due = made.due; phases = made.phases; fails = made.fails; schema = made.schema; shows = now }), now)))
 
   pub ran_next : (events : List Event) (i : ℕ) (answers : List Answer) (k n : Kernel D g) (event : Event) (answer : Answer) → i < length events → event ≡ get_or events i event → HasMade seen may_leave faults k event answer n
       → Ran (take i events) answers k → Ran (take (suc i) events) (answers ++ answer ∷ []) n
@@ -71,8 +246,9 @@ module _ {D : Type 0} {g : Ghosts D} (seen : D → List ℕ) (may_leave : D → 
       let all : take i events ++ event ∷ [] ≡ take (suc i) events = ap (λ (e : Event). take i events ++ e ∷ []) is ∙ sym (take-suc events i event lt) in
       subst (λ (es : List Event). Ran es (answers ++ answer ∷ []) n) all (ran_more (take i events) answers k n event answer made ran)
 
-  pub has_run : (events : List Event) (answers : List Answer) (n : Kernel D g) → Ran events answers n → ∥ HasRun seen may_leave faults first events answers n ∥₁
-  has_run events answers n ran = ∥∥₁_elim ran (hlevel props) (λ (acts, s, made, shows).
+  pub has_run : (events : List Event) (answers : List Answer) (n : Kernel D g) → Ran events answers n → Restarts seen may_leave first n → ∥ HasRun seen may_leave faults first events answers n ∥₁
+  has_run events answers n ran restarts = ∥∥₁_elim ran (hlevel props) (λ (acts, s, made, shows).
+      ∥∥₁_elim (makes_told events answers acts s n made) (hlevel props) (λ told.
       ∥∥₁_map (kept_of seen may_leave n.relations n.counters n.parts first s shows) (λ kept.
       let acted = makes_acted events answers acts s n made in record {
         acts = acts;
@@ -81,6 +257,9 @@ module _ {D : Type 0} {g : Ghosts D} (seen : D → List ℕ) (may_leave : D → 
         shows = shows;
         acted = acted.0;
         held = acted.1;
+        told = told.book;
         legal = kept.legal;
         explained = kept_explained first s kept;
-      }))
+        broken = (makes_broken events answers acts s n made).0;
+        restarts = restarts;
+      })))

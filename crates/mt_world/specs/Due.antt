@@ -1,5 +1,5 @@
 -- Why an event is answered as it is, and whose state of a transaction it sets.
-use Rattle.std.specs.Prelude.{ℕ, ◌≡◌, ◌⊎◌, ◌+◌, List, [], ◌∷◌, ◌++◌, length, get_or, false, Option, Some, None, Ok, Err}
+use Rattle.std.specs.Prelude.{ℕ, ◌≡◌, ◌⊎◌, ◌+◌, List, [], ◌∷◌, ◌++◌, length, get_or, true, false, Option, Some, None, Ok, Err, ⊤}
 use Rattle.mt_base.specs.declared.refusal.Refusal.{Refusal}
 use Rattle.mt_base.specs.declared.refusal.Refusal.TheVariants as refusal
 use Rattle.mt_disk.specs.declared.device.Device.{Ghosts}
@@ -8,6 +8,7 @@ use Rattle.mt_kernel.specs.Runs.{state_in}
 use Rattle.mt_kernel.specs.Steps.{WantsFrame}
 use Rattle.mt_kernel.specs.Work.{steps_in, undo_steps}
 use Rattle.mt_kernel.specs.declared.parts.Commit.{Commit as CommitUnderWay}
+use Rattle.mt_live.specs.Sound.{Each}
 use Rattle.mt_live.specs.declared.transactions.TxnState.TheVariants as state
 use Rattle.mt_log.specs.Words.{durable}
 use Rattle.mt_pool.specs.Views.{Cleans, IsWaiting, pages}
@@ -15,6 +16,7 @@ use Rattle.mt_pool.specs.declared.flushing.Flushed.{Flushed as FlushTold}
 use Rattle.mt_pool.specs.declared.flushing.Flushed.TheVariants as flush
 use Rattle.mt_txn.specs.Causes.{IsFailure, IsFault, abort_cause, begin_cause, call_cause, commit_cause, open_cause, step_cause}
 use Rattle.mt_txn.specs.Events.{IsAnsweredBy, IsForcedBy}
+use Rattle.mt_txn.specs.Shown.{is_failed}
 use Rattle.mt_txn.specs.Work.{IsAbortForOther, IsForOther, LowersAbort, LowersSteps}
 use Rattle.mt_txn.specs.declared.answers.AbortStepped.{AbortStepped}
 use Rattle.mt_txn.specs.declared.answers.AbortStepped.TheVariants as abort
@@ -35,14 +37,14 @@ IsCaused cause why = (why ≡ refusal.NoMemory) ⊎ (cause ≡ Some why)
 module _ {D : Type 0} {g : Ghosts D} where
   -- a step of an operation has fewer left behind it where it went on; it waits for another's, or lacks a frame
   pub record IsStepped (k : Kernel D g) (t : ℕ) (told : StepTold) (n : Kernel D g) : Type 0 where
-    pub may : step_cause k.parts t ≡ None
+    pub may : step_cause (is_failed k) k.parts t ≡ None
     pub work : LowersSteps (pages k.parts.operations.store.pool) (Ok told) (steps_in k.parts.running.items t) (steps_in n.parts.running.items t)
     pub other : IsForOther k.parts.live.members t told
     pub full : told ≡ step.Flush → WantsFrame k.parts n.parts
 
   -- and so a step of an abort
   pub record IsBacked (k : Kernel D g) (t : ℕ) (told : AbortStepped) (n : Kernel D g) : Type 0 where
-    pub may : abort_cause k.parts t ≡ None
+    pub may : abort_cause (is_failed k) k.parts t ≡ None
     pub work : LowersAbort (pages k.parts.operations.store.pool) (Ok told) (undo_steps k.parts t) (undo_steps n.parts t)
     pub other : IsAbortForOther k.parts.live.members t told
     pub full : told ≡ abort.Flush → WantsFrame k.parts n.parts
@@ -57,27 +59,27 @@ module _ {D : Type 0} {g : Ghosts D} (seen : D → List ℕ) (may_leave : D → 
   -- The answer is due to the kernel: a refusal has its cause, or memory was wanting, or the device failed in the call; what is not
   -- refused had no cause to be, and tells what was done.
   abbrev pub IsDue : Kernel D g → Event → Answer → Kernel D g → Type 0
-  IsDue k (Begin session) (Refused why) n = IsCaused (begin_cause k.parts) why
-  IsDue k (Begin session) answer n = begin_cause k.parts ≡ None
+  IsDue k (Begin session) (Refused why) n = IsCaused (begin_cause (is_failed k) k.parts) why
+  IsDue k (Begin session) answer n = begin_cause (is_failed k) k.parts ≡ None
   IsDue k (Call t op) (Refused why) n =
-      IsCaused (call_cause k.relations k.counters k.parts t op) why ⊎ ((call_cause k.relations k.counters k.parts t op ≡ None) × IsAnsweredBy seen may_leave k t op (Err why))
-  IsDue k (Call t op) (Called called) n = (call_cause k.relations k.counters k.parts t op ≡ None) × IsAnsweredBy seen may_leave k t op (Ok called)
+      IsCaused (call_cause k.relations k.counters (is_failed k) k.parts t op) why ⊎ ((call_cause k.relations k.counters (is_failed k) k.parts t op ≡ None) × IsAnsweredBy seen may_leave k t op (Err why))
+  IsDue k (Call t op) (Called called) n = (call_cause k.relations k.counters (is_failed k) k.parts t op ≡ None) × IsAnsweredBy seen may_leave k t op (Ok called)
   IsDue k (Call t op) answer n = ⊥
-  IsDue k (Step t) (Refused why) n = IsCaused (step_cause k.parts t) why ⊎ IsFault faults k.parts n.parts why
+  IsDue k (Step t) (Refused why) n = IsCaused (step_cause (is_failed k) k.parts t) why ⊎ IsFault faults k.parts n.parts why
   IsDue k (Step t) (Stepped told) n = IsStepped k t told n
   IsDue k (Step t) answer n = ⊥
-  IsDue k (Commit t) (Refused why) n = IsCaused (commit_cause k.parts t) why
-  IsDue k (Commit t) (Committing place) n = (commit_cause k.parts t ≡ None) × (place ≡ length k.parts.book.items + length k.parts.commits.items + 1)
+  IsDue k (Commit t) (Refused why) n = IsCaused (commit_cause (is_failed k) k.parts t) why
+  IsDue k (Commit t) (Committing place) n = (commit_cause (is_failed k) k.parts t ≡ None) × (place ≡ length k.parts.book.items + length k.parts.commits.items + 1)
   IsDue k (Commit t) answer n = ⊥
-  IsDue k (AbortBegin t) (Refused why) n = open_cause k.parts t ≡ Some why
-  IsDue k (AbortBegin t) answer n = open_cause k.parts t ≡ None
-  IsDue k (AbortStep t) (Refused why) n = IsCaused (abort_cause k.parts t) why ⊎ IsFault faults k.parts n.parts why
+  IsDue k (AbortBegin t) (Refused why) n = open_cause (is_failed k) k.parts t ≡ Some why
+  IsDue k (AbortBegin t) answer n = open_cause (is_failed k) k.parts t ≡ None
+  IsDue k (AbortStep t) (Refused why) n = IsCaused (abort_cause (is_failed k) k.parts t) why ⊎ IsFault faults k.parts n.parts why
   IsDue k (AbortStep t) (Backed told) n = IsBacked k t told n
   IsDue k (AbortStep t) answer n = ⊥
-  IsDue k Force (Refused why) n = (why ≡ refusal.NoMemory) ⊎ IsFailure faults k.parts n.parts why
+  IsDue k Force (Refused why) n = (why ≡ refusal.NoMemory) ⊎ IsFailure faults (is_failed k) k.parts n.parts why
   IsDue k Force (Forced told) n = IsForcedBy k.parts.operations.store.log k.parts.commits.items told n.parts.operations.store.log n.parts.commits.items
   IsDue k Force answer n = ⊥
-  IsDue k Flush (Refused why) n = IsFailure faults k.parts n.parts why
+  IsDue k Flush (Refused why) n = IsFailure faults (is_failed k) k.parts n.parts why
   IsDue k Flush (Flushed told) n = IsFlushed k told n
   IsDue k Flush answer n = ⊥
 
@@ -100,3 +102,18 @@ module _ {D : Type 0} {g : Ghosts D} where
   SetsPhases k (AbortStep t) (Backed abort.Ended) n = (state_in n.parts.live.members t ≡ None) × SameStatesBut k.parts n.parts t × SameCommits k.parts n.parts
   SetsPhases k Force (Forced told) n = SameUncommitted k.parts n.parts
   SetsPhases k event answer n = SamePhases k n
+
+-- ---- once the device has failed
+
+abbrev pub IsBroken : Answer → Type 0
+IsBroken answer = answer ≡ Refused refusal.DeviceFailed
+
+-- behind the first refusal 2 each answer is that
+abbrev pub StayBroken : List Answer → Type 0
+StayBroken [] = ⊤
+StayBroken (answer ∷ answers) = (IsBroken answer → Each IsBroken answers) × StayBroken answers
+
+module _ {D : Type 0} {g : Ghosts D} where
+  -- a kernel that has failed refuses an event with 2, and stays as it is; one that refuses with 2 has failed
+  abbrev pub FailsIn : Kernel D g → Answer → Kernel D g → Type 0
+  FailsIn k answer n = (is_failed k ≡ true → IsBroken answer × (n ≡ k)) × (IsBroken answer → is_failed n ≡ true)

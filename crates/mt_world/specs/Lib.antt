@@ -1,4 +1,5 @@
 pub mod Acts
 pub mod Moves
 pub mod Due
+pub mod Told
 pub mod Schedules

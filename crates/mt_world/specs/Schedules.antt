@@ -1,15 +1,16 @@
 -- Any list of events, made on a kernel one after the other.
-use Rattle.std.specs.Prelude.{ℕ, ◌≡◌, List, [], ◌∷◌, ◌++◌}
+use Rattle.std.specs.Prelude.{ℕ, ◌≡◌, List, [], ◌∷◌, ◌++◌, map}
 use Rattle.mt_disk.specs.declared.device.Device.{Ghosts}
 use Rattle.mt_live.specs.Entries.{IsExplained}
 use Rattle.mt_live.specs.Machine.{State, committed_base, start}
 use Rattle.mt_model.specs.History.{IsActed, IsLegal, run}
 use Rattle.mt_model.specs.Model.{Base}
-use Rattle.mt_txn.specs.Shown.{SameSchema, Shows}
+use Rattle.mt_txn.specs.Shown.{Restarts, SameSchema, Shows, StaysRestarting}
 use Rattle.mt_txn.specs.declared.kernel.Kernel.{Kernel}
 use Rattle.mt_world.specs.Acts.{Act, calls_in}
-use Rattle.mt_world.specs.Due.{IsDue, SetsPhases}
+use Rattle.mt_world.specs.Due.{FailsIn, IsDue, SetsPhases, StayBroken}
 use Rattle.mt_world.specs.Moves.{Moves}
+use Rattle.mt_world.specs.Told.{acknowledged, commit_of, told_of}
 use Rattle.mt_world.specs.declared.events.Answer.{Answer}
 use Rattle.mt_world.specs.declared.events.Event.{Event}
 
@@ -20,6 +21,8 @@ module _ {D : Type 0} {g : Ghosts D} (seen : D → List ℕ) (may_leave : D → 
         → ∥ ((acts : List Act) × (z : State) × Moves s event answer acts z × Shows seen may_leave first z n) ∥₁
     pub due : IsDue seen may_leave faults k event answer n
     pub phases : SetsPhases k event answer n
+    pub fails : FailsIn k answer n
+    pub restarts : StaysRestarting seen may_leave k n
     pub schema : SameSchema k n
 
   -- An event led a kernel in this state to another in that, with what ended in it.
@@ -27,6 +30,7 @@ module _ {D : Type 0} {g : Ghosts D} (seen : D → List ℕ) (may_leave : D → 
     pub moves : Moves s event answer acts z
     pub due : IsDue seen may_leave faults k event answer n
     pub phases : SetsPhases k event answer n
+    pub fails : FailsIn k answer n
     pub schema : SameSchema k n
     pub shows : Shows seen may_leave first z n
 
@@ -37,8 +41,10 @@ module _ {D : Type 0} {g : Ghosts D} (seen : D → List ℕ) (may_leave : D → 
         → Makes first events answers acts s k → IsMade first s k event answer more z n
         → Makes first (events ++ event ∷ []) (answers ++ answer ∷ []) (acts ++ more) z n
 
-  -- What ended replied as the model does, one operation after the other, and leads to the base that the pages hold. The book is what its
-  -- transactions do alone, one after the other. What stands of the others is explained, whoever of them is struck out.
+  -- What ended replied as the model does, one operation after the other, and leads to the base that the pages hold. The book has the
+  -- acknowledged commits in their order, each with the replies that its session was told; and they are what its transactions do alone, one
+  -- after the other. What stands of the others is explained, whoever of them is struck out. Behind the first refusal 2 each answer is that.
+  -- And whatever a crash leaves of the kernel can be restarted from.
   pub record HasRun (first : Base) (events : List Event) (answers : List Answer) (n : Kernel D g) : Type 0 where
     pub acts : List Act
     pub state : State
@@ -46,5 +52,8 @@ module _ {D : Type 0} {g : Ghosts D} (seen : D → List ℕ) (may_leave : D → 
     pub shows : Shows seen may_leave first state n
     pub acted : IsActed first (calls_in acts)
     pub held : run first (calls_in acts) ≡ state.base
+    pub told : state.book ≡ map (λ t. commit_of (told_of events answers t)) (acknowledged answers)
     pub legal : IsLegal first state.book
     pub explained : IsExplained (committed_base first state) state.standing state.base
+    pub broken : StayBroken answers
+    pub restarts : Restarts seen may_leave first n

@@ -22,6 +22,9 @@ fn begin<D: Device>(kernel: &mut Kernel<D>, session: u32) -> Answer
 fn call<D: Device>(kernel: &mut Kernel<D>, txn: TxnNo, op: &Op) -> Answer
     ensures { HasMade D.seen D.may_leave D.faults kernel.old (event.Call txn op.now) result kernel.new }
 {
+    if kernel.has_failed() {
+        return Answer::Refused(Refusal::DeviceFailed);
+    }
     let Ok(copy) = op.try_clone() else {
         return Answer::Refused(Refusal::NoMemory);
     };

@@ -4,7 +4,7 @@ ghost use Rattle.std.specs.Vec.{vec_capacity};
 ghost use Rattle.mt_base.specs.declared.refusal.Refusal.{Refusal};
 ghost use Rattle.mt_live.specs.Machine.{start};
 ghost use Rattle.mt_restart.specs.Schemas.{counters_in, device_bytes, relations_in, schema_base};
-ghost use Rattle.mt_txn.specs.Shown.{SameSchema, Shows};
+ghost use Rattle.mt_txn.specs.Shown.{Restarts, SameSchema, Shows};
 ghost use Rattle.mt_model.specs.Model.{Base};
 ghost use Rattle.mt_world.specs.Schedules.{HasRun};
 
@@ -24,7 +24,8 @@ fn make_all<D: Device>(kernel: &mut Kernel<D>, events: &[Event], answers: &mut V
     requires none { answers.old.items ≡ [] }
     requires room { vec_len answers.old + length events.now ≤ vec_capacity answers.old }
     ensures ran { (first : Base) → Shows D.seen D.may_leave first (start first) kernel.old
-        → ∥ HasRun D.seen D.may_leave D.faults first events.now answers.new.items kernel.new ∥₁ }
+        → Restarts D.seen D.may_leave first kernel.old → ∥ HasRun D.seen D.may_leave D.faults first events.now
+        answers.new.items kernel.new ∥₁ }
     ensures schema { SameSchema kernel.old kernel.new }
 {
     for event in events {
@@ -37,8 +38,9 @@ fn make_all<D: Device>(kernel: &mut Kernel<D>, events: &[Event], answers: &mut V
 ///
 /// Whatever the events: what ended acted once on the model, in the order of the ends; the committed transactions
 /// replied as they do alone, in the order of the commits; and what stands of the others is explained, whoever of them
-/// is struck out (Weikum 1991, O'Neil 1986). An event of a transaction that is not there is answered with 15; once
-/// refusal 2 was answered, each later event is.
+/// is struck out (Weikum 1991, O'Neil 1986). An event of a transaction that is not there is answered with 15; once an
+/// event was refused with 2, each later one is. Whatever a crash leaves behind them can be restarted from, as
+/// [`Kernel::can_restart`] says.
 ///
 /// Refused, in this order, with the device, before any event: 1 for want of memory, 5 where the device is shorter than
 /// [`Schema::device_len`], 2 where it failed. After 5 nothing is written.

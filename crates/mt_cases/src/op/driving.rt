@@ -98,7 +98,7 @@ impl<D: Device> Driver<D> {
         self.begin_claimed(alloc, op, split, claim)
     }
 
-    // The same, once pages are claimed; they are given back where memory is refused.
+    // Begins an operation whose pages are claimed; they are given back where memory is refused.
     fn begin_claimed(
         &mut self,
         alloc: Global,

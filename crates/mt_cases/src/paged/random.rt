@@ -7,7 +7,7 @@ use crate::op::driving::is_within;
 use crate::op::random::Numbers;
 use mt_base::{Bytes, CtrNo, Refusal, RelNo, TxnNo};
 use mt_disk::MemDevice;
-use mt_model::{Base, Calls, Committed, Op, Reply};
+use mt_model::{Base, Calls, Committed, Op, Reply, Row};
 use mt_pool::Flushed;
 use mt_txn::{AbortStepped, Called, Kernel, KernelForced, Stepped};
 use std::alloc::Global;
@@ -438,8 +438,8 @@ fn differing_in(base: &mut Base, calls: &Calls) -> Result<u64, Refusal> {
     Ok(differing)
 }
 
-// To how many transactions of the book.
-fn differing(alloc: Global, book: &[Committed]) -> Result<u64, Refusal> {
+// The model behind the transactions of the book, and to how many of them it replies otherwise.
+fn replayed(alloc: Global, book: &[Committed]) -> Result<(Base, u64), Refusal> {
     let mut base = Base::new(alloc, 2, &COUNTERS)?;
     let mut differing = 0;
     for entry in book {
@@ -447,7 +447,28 @@ fn differing(alloc: Global, book: &[Committed]) -> Result<u64, Refusal> {
             count(&mut differing);
         }
     }
-    Ok(differing)
+    Ok((base, differing))
+}
+
+fn is_same_row(first: &Row, second: &Row) -> bool {
+    first.relation == second.relation && first.key == second.key && first.value == second.value
+}
+
+// How many places have other rows.
+fn rows_apart(first: &[Row], second: &[Row]) -> u64 {
+    let mut apart = if first.len() == second.len() { 0 } else { 1 };
+    for (place, row) in first.iter().enumerate() {
+        match second.get(place) {
+            Some(other) if is_same_row(row, other) => {}
+            _ => count(&mut apart),
+        }
+    }
+    apart
+}
+
+// Whether the two have the same rows and the same counters.
+fn is_same_base(first: &Base, second: &Base) -> bool {
+    rows_apart(first.rows(), second.rows()) == 0 && first.counters() == second.counters()
 }
 
 // One transaction more reads each key and counter, so that the book has them.
@@ -464,14 +485,17 @@ fn look(alloc: Global, kernel: &mut Kernel<MemDevice>) -> Result<bool, Refusal> 
     Ok(matches!(committed(kernel, txn), Told::Committed(_)))
 }
 
-// How many calls of the last transaction are in the book, and to how many the model replies otherwise.
-fn looked_at(alloc: Global, kernel: &mut Kernel<MemDevice>) -> Result<(usize, u64), Refusal> {
+// How many calls of the last transaction are in the book, to how many transactions the model replies otherwise, and
+// whether the pages hold the base of the model.
+fn looked_at(alloc: Global, kernel: &mut Kernel<MemDevice>) -> Result<(usize, u64, bool), Refusal> {
     let _is_committed = look(alloc, kernel)?;
     let looks = match kernel.book().last() {
         Some(entry) => entry.calls.len(),
         None => 0,
     };
-    Ok((looks, differing(alloc, kernel.book())?))
+    let (base, differing) = replayed(alloc, kernel.book())?;
+    let survey = kernel.survey()?;
+    Ok((looks, differing, is_same_base(&survey.base, &base)))
 }
 
 fn mixed(alloc: Global, kernel: &mut Kernel<MemDevice>, turns: u64) -> Result<Counts, Refusal> {
@@ -482,20 +506,20 @@ fn mixed(alloc: Global, kernel: &mut Kernel<MemDevice>, turns: u64) -> Result<Co
 
 // Whether enough of each kind has happened.
 fn is_much(counts: &Counts) -> bool {
-    counts.calls >= 2000
-        && counts.commits >= 200
-        && counts.undone >= 100
-        && counts.waits >= 500
-        && counts.agains >= 500
+    counts.calls >= 20_000
+        && counts.commits >= 1000
+        && counts.undone >= 300
+        && counts.waits >= 100
+        && counts.agains >= 20
 }
 
 #[test]
 fn mixed_transactions_reply_as_the_model_says(rt: HostRuntime) -> Result<(), Fail> {
     let mut kernel = kernel_of(rt.alloc(), 24, 64, 6, &COUNTERS)?;
-    let counts = mixed(rt.alloc(), &mut kernel, 14_000);
+    let counts = mixed(rt.alloc(), &mut kernel, 140_000);
     let looked = looked_at(rt.alloc(), &mut kernel);
     put_away(kernel);
     let counts = counts?;
-    assert!(rt; is_much(&counts) && counts.wrong == 0 && looked? == (26, 0));
+    assert!(rt; is_much(&counts) && counts.wrong == 0 && looked? == (26, 0, true));
     Ok(())
 }

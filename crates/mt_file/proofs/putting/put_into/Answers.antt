@@ -1,5 +1,6 @@
 use mathlib.Core.Logic.{∥∥₁_map}
 use Rattle.std.proofs.Common.{refl, inr}
+use Rattle.mt_space.proofs.Changing.{off_hand}
 use Rattle.mt_file.proofs.Planned.{named_seen, named_shaped, named_full, named_adds, named_roomy, untouched_seen}
 use Rattle.mt_space.specs.Changes.{after}
 use Rattle.mt_file.proofs.Shaped.{shaped_of}
@@ -34,3 +35,7 @@ returns-clause-short g c = λ pages ready apart.
     let seen = named_seen at_hand before c.args.page c.in-Some.old.now ready c.in-Some.ensures.some in
     let none = apart.apart c.args.page (inr refl) in
     c.in_ok-note.ensures.short pages (untouched_seen c.args.changes.list.items pages c.args.page c.in-Some.old.now none seen) none apart.short
+
+pub returns-clause-there : goal.returns-clause-there
+returns-clause-there g c = λ p none before.
+    c.in_ok-note.ensures.others p (off_hand (g.V.Pages.at_hand c.args.views.now) p c.args.page c.in-Some.old.now none c.in-Some.ensures.some) before

@@ -1,4 +1,5 @@
 use Rattle.std.proofs.Common.{◌≡◌, ℕ, None, Some, inl, sym, ap, subst, ◌∙◌}
+use Rattle.mt_space.proofs.Changing.{off_hand}
 use Rattle.mt_space.specs.Changes.{after, replaced, IsUntouched}
 use Rattle.mt_space.specs.Rooms.{mapped, IsFirstFree}
 use Rattle.mt_file.proofs.Planned.{map_seen, map_kind, first_seen, new_adds, new_seen, no_records, untouched_seen}
@@ -52,3 +53,9 @@ returns-clause-short g c = λ pages ready apart.
     let short = c.in_ok-note.ensures.short pages (ap pages zero ∙ map_was) (subst (IsUntouched list) (sym zero) no_map) apart.short in
     let still = c.in_ok-note.ensures.others page (λ e. here.0 (e ∙ zero)) none in
     c.in_ok-note-2.ensures.short pages (untouched_seen list pages page c.in-Some-page.old.now none here.1) still short
+
+pub returns-clause-there : goal.returns-clause-there
+returns-clause-there g c = λ p none before.
+    let at_hand = g.V.Pages.at_hand c.args.views.now in
+    c.in_ok-note-2.ensures.others p (off_hand at_hand p c.in-Some-first_free.page c.in-Some-page.old.now none c.in-Some-page.ensures.some)
+    (c.in_ok-note.ensures.others p (off_hand at_hand p c.new-map_page.result c.in-Some.map.now none c.in-Some.ensures.some) before)

@@ -1,6 +1,7 @@
 use mathlib.Core.Logic.{∥∥₁_elim, ∥∥₁_map}
 use Rattle.std.proofs.Common.{◌≡◌, ℕ, inr, refl, sym, ap, ◌∙◌}
 use Rattle.std.proofs.Props.{props}
+use Rattle.mt_space.proofs.Changing.{off_hand, none_touched}
 use Rattle.mt_space.specs.Changes.{after, replaced}
 use Rattle.mt_file.proofs.Planned.{is_held, noted_first, drops_one, none_beside, gives_back}
 use Rattle.mt_file.proofs.Shaped.{shaped_of}
@@ -56,3 +57,11 @@ returns-clause-removal g c = λ pages r agrees file is.
       refl,
       refl,
     )
+
+pub returns-then-live-ne0-clause-there : goal.returns-then-live-ne0-clause-there
+returns-then-live-ne0-clause-there g c = λ p none before.
+    c.in_ok-note.ensures.others p (off_hand (g.V.Pages.at_hand c.args.views.now) p c.args.name.page c.in-Some.old.now none c.in-Some.ensures.some) (none_touched c.new-changes.result.list.items p c.new-changes.ensures)
+
+pub returns-clause-there : goal.returns-clause-there
+returns-clause-there g c = λ p none before.
+    c.in_ok-note-2.ensures.others p (off_hand (g.V.Pages.at_hand c.args.views.now) p c.new-map_page.result c.in-Some-page.map.now none c.in-Some-page.ensures.some) (none_touched c.new-changes.result.list.items p c.new-changes.ensures)

@@ -4,7 +4,7 @@ use Rattle.std.proofs.Common.{[], ◌≡◌, ◌≢◌, ℕ, List, Option, Some,
 use Rattle.std.proofs.lemmas.Result.{IfOk-weaker}
 use Rattle.mt_space.specs.declared.changes.PageChange.{PageChange}
 use Rattle.mt_space.specs.Changes.{PageBytes, after, replaced, IsUntouched, AreShort}
-use Rattle.mt_space.proofs.Changing.{replaced_other}
+use Rattle.mt_space.proofs.Changing.{replaced_other, off_hand, none_touched}
 use Rattle.mt_slots.specs.Page.{Row, row_length}
 use Rattle.mt_file.specs.File.{Moves}
 use Rattle.mt_file.specs.Plans.{IsTooFull, IsPut, IsWhole}
@@ -12,7 +12,7 @@ use Rattle.mt_file.proofs.Filed.{records_not_map}
 use Rattle.mt_file.proofs.Slots.{row_small}
 use Rattle.mt_file.proofs.Shaped.{shaped_of}
 use Rattle.mt_file.proofs.Planned.{is_held, noted_first, drops_one}
-use Rattle.mt_file.proofs.Moved.{moves_whole, ready_mid, apart_mid, moves_on, own_full, named_is, named_is_not, same_row, room_seen}
+use Rattle.mt_file.proofs.Moved.{moves_whole, ready_mid, apart_mid, moves_on, own_full, named_is, named_is_not, same_row, room_seen, done_weaker}
 use Rattle.mt_file.proofs.replacing.plan_move.Goals as goal
 
 pub get-requires : goal.get-requires
@@ -121,3 +121,11 @@ returns-clause-short g c = IfOk-weaker c.put.result _ _ (λ step short. λ pages
     short pages ready (apart_mid c.args.room before pages p s old new r file held other made (c.in_ok-note.ensures.short pages held.seen (apart p) none)
     (λ q ne. c.in_ok-note.ensures.others q ne (apart q))))
     c.put.ensures.short
+
+pub returns-then-live-eq0-clause-there : goal.returns-then-live-eq0-clause-there
+returns-then-live-eq0-clause-there g c = λ p none before. c.in_ok-plan.ensures.others p (off_hand (g.V.Pages.at_hand c.args.views.now) p c.args.name.page c.args.old.now none c.requires.there)
+
+pub returns-clause-there : goal.returns-clause-there
+returns-clause-there g c = IfOk-weaker c.put.result _ _ (λ step seen. done_weaker step _ _ (λ plan there p none before.
+    there p none (c.in_ok-note.ensures.others p (off_hand (g.V.Pages.at_hand c.args.views.now) p c.args.name.page c.args.old.now none c.requires.there) (none_touched c.args.changes.list.items p c.requires.none))) seen)
+    c.put.ensures.there

@@ -2,6 +2,7 @@ use mathlib.Core.Logic.{∥∥₁_elim, ∥∥₁_map}
 use Rattle.std.proofs.Props.{props}
 use Rattle.std.proofs.Common.{[], ◌≡◌, ◌≢◌, ℕ, List, refl, sym, ap, subst, inl}
 use Rattle.std.specs.Option.{IsSome}
+use Rattle.mt_space.proofs.Changing.{off_hand, none_touched}
 use Rattle.mt_space.specs.declared.changes.PageChange.{PageChange}
 use Rattle.mt_space.specs.Changes.{after}
 use Rattle.mt_slots.specs.Page.{Row}
@@ -48,3 +49,10 @@ returns-then-replace-clause-replacement g c = λ pages r agrees file named is.
       inl (refl, refl, stays_one pages (after c.note.new.self.list.items pages) p s old new r row file held c.replace.ensures.shaped (c.if-replace.ensures.done r held.live) made),
       λ e. absurd {A = c.note.new.self.list.items ≡ []} (differ e),
     )
+
+pub returns-then-has_value-clause-there : goal.returns-then-has_value-clause-there
+returns-then-has_value-clause-there g c = λ p none before. none_touched c.new-changes.result.list.items p c.new-changes.ensures
+
+pub returns-then-replace-clause-there : goal.returns-then-replace-clause-there
+returns-then-replace-clause-there g c = λ p none before.
+    c.in_ok-note.ensures.others p (off_hand (g.V.Pages.at_hand c.args.views.now) p c.args.name.page c.in-Some.old.now none c.in-Some.ensures.some) (none_touched c.new-changes.result.list.items p c.new-changes.ensures)

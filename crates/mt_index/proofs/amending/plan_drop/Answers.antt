@@ -1,6 +1,7 @@
-use Rattle.std.proofs.Common.{◌≡◌, ap, ◌∙◌, subst}
+use Rattle.std.proofs.Common.{◌≡◌, ap, sym, ◌∙◌, subst}
+use Rattle.mt_space.proofs.Changing.{off_hand}
 use Rattle.mt_space.specs.Changes.{after}
-use Rattle.mt_bucket.specs.Page.{IsBucket}
+use Rattle.mt_bucket.specs.Page.{KeepsHead, IsBucket}
 use Rattle.mt_space.specs.Kinds.{kind}
 use Rattle.mt_index.specs.Answers.{Lacks}
 use Rattle.mt_index.proofs.Passing.{passed_kind, held_map}
@@ -29,4 +30,7 @@ returns-clause-formed g c pages agree m a relations f =
     let total = g.V.Pages.total c.args.views.now in
     turns_formed relations total pages (after c.in_ok-change_of.field-0.list.items pages) c.in-In.page c.remove.new.page
     (no_bucket total pages m c.in-In.page a (passed_kind (Lacks c.args.relation c.args.key.now pages) total pages m c.args.key.now c.in-In.page held.steps a held.passed))
-    (c.in_ok-change_of.ensures.turned pages is) (λ b. c.remove.ensures.kept relations total (subst (IsBucket relations total) is b)) f
+    (c.in_ok-change_of.ensures.turned pages is) (subst (λ x. KeepsHead x c.remove.new.page) (sym is) c.remove.ensures.head) (λ b. c.remove.ensures.kept relations total (subst (IsBucket relations total) is b)) f
+
+pub returns-clause-seen : goal.returns-clause-seen
+returns-clause-seen g c p none = c.in_ok-change_of.ensures.others p (off_hand (g.V.Pages.at_hand c.args.views.now) p c.in-In.page c.in-Some.old.now none c.in-Some.ensures.some)

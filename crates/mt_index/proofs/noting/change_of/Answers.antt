@@ -9,5 +9,8 @@ returns-clause-turned c pages is =
     turns c.args.page c.args.new.now pages (after c.note.new.self.list.items pages)
     (c.in_ok-note.ensures.noted pages (ap (λ (f : PageBytes). f c.args.page) blank ∙ is) ∙ ap (replaced c.args.page c.args.new.now) blank)
 
+pub returns-clause-others : goal.returns-clause-others
+returns-clause-others c p other = c.in_ok-note.ensures.others p other (subst (λ cs. IsUntouched cs p) (sym c.new-changes.ensures) tt)
+
 pub returns-clause-short : goal.returns-clause-short
 returns-clause-short c pages is = c.in_ok-note.ensures.short pages is (subst (λ cs. IsUntouched cs c.args.page) (sym c.new-changes.ensures) tt) (subst (λ cs. AreShort cs pages) (sym c.new-changes.ensures) tt)

@@ -1,4 +1,4 @@
-use Rattle.mt_index.proofs.Ruling.{planned_map, planned_adds, planned_seen, planned_need, planned_due}
+use Rattle.mt_index.proofs.Ruling.{planned_map, planned_adds, planned_seen, planned_there, planned_need, planned_due}
 use Rattle.mt_index.proofs.planning.plan_add.Goals as goal
 
 pub returns-clause-map : goal.returns-clause-map
@@ -12,6 +12,10 @@ returns-clause-added g c =
 pub returns-clause-seen : goal.returns-clause-seen
 returns-clause-seen g c =
     planned_seen (g.V.Pages.at_hand c.args.views.now) (g.V.Pages.total c.args.views.now) c.args.split (record { relation = c.args.relation; key = c.args.key.now; name = c.args.name }) c.plan_by_rule.result c.plan_by_rule.ensures
+
+pub returns-clause-there : goal.returns-clause-there
+returns-clause-there g c =
+    planned_there (g.V.Pages.at_hand c.args.views.now) (g.V.Pages.total c.args.views.now) c.args.split (record { relation = c.args.relation; key = c.args.key.now; name = c.args.name }) c.plan_by_rule.result c.plan_by_rule.ensures
 
 pub returns-clause-need : goal.returns-clause-need
 returns-clause-need g c =

@@ -3,7 +3,7 @@ use Rattle.std.specs.List.{AllByRecursion}
 use Rattle.mt_log.specs.Holds.{HasItsPage}
 use Rattle.mt_log.proofs.reading.have_their_pages.Given as goal
 
--- all of them have theirs exactly where those that are left do
+-- all of them have theirs if and only if those that are left do
 abbrev pub invariant-loop-entry : goal.invariant-loop-entry
 invariant-loop-entry l = record {
   there : AllByRecursion (HasItsPage l.pages) (drop l.entry-index l.records) → AllByRecursion (HasItsPage l.pages) l.records;

@@ -23,7 +23,7 @@ fetch-requires-clause-inside g c = ∥∥₁_elim c.requires.good (hlevel props)
     subst (λ (p : ℕ). p < pages c.args.store.now.pool) (sym c.new.ensures) (unlogged_inside g.D.Device.seen opening relations counters c.args.store.now good shows))
 
 pub returns-in_err-rooms-clause-read : goal.returns-in_err-rooms-clause-read
-returns-in_err-rooms-clause-read g c = read_none g.D.Device.seen g.D.Device.may_leave c.args.store.now
+returns-in_err-rooms-clause-read g c = read_none g.D.Device.seen g.D.Device.may_leave g.D.Device.moment g.D.Device.left_since g.met.D.Device.only_now c.args.store.now
 
 pub view-requires-clause-pool : goal.view-requires-clause-pool
 view-requires-clause-pool g c =
@@ -36,6 +36,6 @@ view-requires-clause-there g c =
 pub of-requires-in-Ok-There-clause-whole : goal.of-requires-in-Ok-There-clause-whole
 of-requires-in-Ok-There-clause-whole g c = ∥∥₁_elim c.requires.good (hlevel props) (λ (opening, relations, counters, kept, good, shows).
     let seen = g.D.Device.seen in let f = c.fetch.ensures in let n = c.fetch.new.self in
-    let read = read_fetched seen g.D.Device.may_leave c.args.store.now n f.kept f.views f.log f.pages f.flush in
+    let read = read_fetched seen g.D.Device.may_leave g.D.Device.moment g.D.Device.left_since c.args.store.now n f.kept f.views f.moments f.log f.place f.pages f.flush in
     ap (λ (bytes : List ℕ). length bytes) (c.view.ensures (seen n.device) ∙ ap (λ (p : ℕ). view n.pool (seen n.device) p) c.new-in-Ok-There.ensures)
     ∙ unlogged_whole seen opening relations counters n (subst (λ (x : ℕ). IsGood relations counters x opening) (sym f.pages) good) (read.shows opening shows))

@@ -2,7 +2,7 @@ use Rattle.std.proofs.Common.{arith, suc, ◌<◌, length, take, drop, sym, subs
 use Rattle.std.proofs.lemmas.Result.{err_from_is_err_and}
 use Rattle.std.proofs.KnownBytes.{Appends-trans}
 use Rattle.mt_server.specs.Answers.{AppendsFront}
-use Rattle.mt_server.proofs.TextLemmas.{joined, joined_more, joined_about, front_then}
+use Rattle.mt_server.proofs.TextLemmas.{all_about, all_more, joined, front_then}
 use Rattle.mt_server.proofs.answers.put_all.Goals as goal
 
 pub returns-in_err-put-clause-front : goal.returns-in_err-put-clause-front
@@ -11,7 +11,7 @@ returns-in_err-put-clause-front g c =
     let ps = c.args.pieces.now in
     let i = c.loop-piece.piece-index in
     let lt : i < length ps = omega arith in
-    let whole = joined_about ps i _ lt in
+    let whole = all_about (λ p. p.now) ps i _ lt in
     let front = front_then _ _ _ (joined (take i ps)) _ (joined (drop (suc i) ps)) c.loop-piece.invariant c.in_err-put.ensures.front in
     rw p.1 (subst (AppendsFront _ _) (sym whole) front)
 
@@ -20,6 +20,6 @@ loop-piece-preserved g c =
     let ps = c.args.pieces.now in
     let i = c.loop-piece.piece-index in
     let lt : i < length ps = omega arith in
-    let more = joined_more ps i _ lt in
+    let more = all_more (λ p. p.now) ps i _ lt in
     let both = Appends-trans _ _ _ (joined (take i ps)) _ c.loop-piece.invariant c.in_ok-put.ensures.all in
     rw (add-one, more) both

@@ -7,10 +7,10 @@ pub returns-then-not-wants_memory-clause-forcing : goal.returns-then-not-wants_m
 returns-then-not-wants_memory-clause-forcing g c =
     let e = c.force_step-answer.ensures in
     subst (λ k. IsForcing g.D.Device.seen g.D.Device.may_leave g.D.Device.faults k c.force_step-answer.result c.force_step-answer.new.self) c.loop.invariant
-    (record { forced = e.forced; log = e.log; appended = e.appended; running = e.running; states = e.states; undo = e.undo; err = e.err; cause = failing g.D.Device.faults c.loop.kernel c.force_step-answer.new.self c.force_step-answer.result (λ failed. (e.failed failed).1) e.cause })
+    (record { forced = e.forced; log = e.log; appended = e.appended; running = e.running; states = e.states; undo = e.undo; err = e.err; cause = failing g.D.Device.faults c.loop.kernel c.force_step-answer.new.self c.force_step-answer.result (λ failed. (e.fails.0 failed).1) e.cause })
 
 pub returns-clause-forcing : goal.returns-clause-forcing
 returns-clause-forcing g c =
     let e = c.force_step.ensures in
     subst (λ k. IsForcing g.D.Device.seen g.D.Device.may_leave g.D.Device.faults k c.force_step.result c.force_step.new.self) c.loop.invariant
-    (record { forced = e.forced; log = e.log; appended = e.appended; running = e.running; states = e.states; undo = e.undo; err = e.err; cause = failing g.D.Device.faults c.loop.kernel c.force_step.new.self c.force_step.result (λ failed. (e.failed failed).1) e.cause })
+    (record { forced = e.forced; log = e.log; appended = e.appended; running = e.running; states = e.states; undo = e.undo; err = e.err; cause = failing g.D.Device.faults c.loop.kernel c.force_step.new.self c.force_step.result (λ failed. (e.fails.0 failed).1) e.cause })

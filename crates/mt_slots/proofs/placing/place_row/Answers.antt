@@ -15,3 +15,8 @@ pub returns-clause-live : goal.returns-clause-live
 returns-clause-live c =
     (put_there c.args.page.now c.write_row.new.page c.set_head.new.page c.set_count.new.page c.args.i c.args.slots c.args.at _ (record { relation = c.args.relation; key = c.args.key.now; value = c.args.value.now }) c.requires.shaped c.requires.place c.row_bytes.ensures
     c.write_row.ensures c.set_head.ensures.rest c.set_head.ensures.points c.set_head.ensures.sized c.set_count.ensures.rest c.set_count.ensures.counted).live
+
+pub returns-clause-stays : goal.returns-clause-stays
+returns-clause-stays c =
+    (put_there c.args.page.now c.write_row.new.page c.set_head.new.page c.set_count.new.page c.args.i c.args.slots c.args.at _ (record { relation = c.args.relation; key = c.args.key.now; value = c.args.value.now }) c.requires.shaped c.requires.place c.row_bytes.ensures
+    c.write_row.ensures c.set_head.ensures.rest c.set_head.ensures.points c.set_head.ensures.sized c.set_count.ensures.rest c.set_count.ensures.counted).stays

@@ -81,10 +81,10 @@ returns-in-Nothing-clause-broken g c = ∥∥₁_elim c.requires.good (hlevel pr
     no_row _ (sym told ∙ named.1))
 
 pub returns-in-Need-clause-asks : goal.returns-in-Need-clause-asks
-returns-in-Need-clause-asks g c = inl c.in-Need.ensures.need.role
+returns-in-Need-clause-asks g c = λ room split. inl c.in-Need.ensures.need.role
 
 pub returns-in-Need-plan_read-clause-asks : goal.returns-in-Need-plan_read-clause-asks
-returns-in-Need-plan_read-clause-asks g c =
+returns-in-Need-plan_read-clause-asks g c = λ room split.
     let told : (g.V.Pages.at_hand c.args.views.now c.in-Need-plan_read.page ≡ None) × (c.in-Need-plan_read.mode ≡ Read) × (c.in-Need-plan_read.page ≡ c.in-Found.name.page) = ∥∥₁_elim c.requires.good (hlevel props) (λ fact.
     let good = fact.1 in
     let named = good.3.named.names c.args.relation c.args.key.now c.in-Found.name (c.in-Found.ensures.found good.0 good.1 good.2 good.3.index) in

@@ -5,7 +5,7 @@ use Rattle.mt_bucket.specs.Entries.{Entry}
 use Rattle.mt_space.specs.Changes.{PageBytes, after}
 use Rattle.mt_index.specs.Maps.{alter}
 use Rattle.mt_index.specs.Pages.{AreMap}
-use Rattle.mt_index.specs.Answers.{InMaps, Adds, Asks, IsInAdd, TakesSeen, Shortage}
+use Rattle.mt_index.specs.Answers.{InMaps, Adds, Asks, IsInAdd, IsDueInAdd, TakesSeen, AreSeen, Shortage}
 use Rattle.std.proofs.lemmas.Result.{IfOk-weaker}
 use Rattle.mt_model.specs.declared.operations.Op.TheVariants.{Insert}
 use Rattle.mt_steps.specs.Acts.{IsAct}
@@ -15,7 +15,7 @@ use Rattle.mt_steps.specs.Logged.{logged_of}
 use Rattle.mt_model.specs.declared.operations.Reply.TheVariants.{Done}
 use Rattle.mt_steps.proofs.Single.{lock_some}
 use Rattle.mt_steps.proofs.Telling.{tells_weaker, logs_something}
-use Rattle.mt_steps.proofs.Asking.{add_needs, add_change, add_inside, added_inside, named_differs, few_more}
+use Rattle.mt_steps.proofs.Asking.{add_needs, add_inside, shown_at_hand, few_more}
 use Rattle.mt_steps.proofs.Drafting.{below_some}
 use Rattle.mt_steps.proofs.Modest.{placed_modest, added_modest, modest_trans, modest_more, insert_needs, shortage_few}
 use Rattle.mt_steps.proofs.Entering.{added_is, full_is, endless_is, placed_map, placed_leaves, entered}
@@ -48,30 +48,30 @@ join-requires-clause-short g c = ∥∥₁_map c.requires.good (λ fact.
     (good.0, good.1, placed.short, adds.short))
 
 pub returns-in-Need : goal.returns-in-Need
-returns-in-Need g c = λ value. lock_some (g.V.Pages.at_hand c.args.views.now) (g.V.Pages.total c.args.views.now) _ _ (∥∥₁_map c.requires.good (λ fact.
-    let good = fact.3 in
-    let placed = fact.4 good.0 good.1 good.2 good.3 good.4 in
-    let first = c.args.plan.changes.list.items in
+returns-in-Need g c = λ value.
+    let at_hand = g.V.Pages.at_hand c.args.views.now in
     let total = g.V.Pages.total c.args.views.now in
-    let between = placed_map fact.0 total good.0 good.2 first c.args.plan.name _ good.3 placed in
-    let asks = subst (λ x. Asks (shown c.in_ok-draft.draft.copies.items (g.V.Pages.at_hand x)) (g.V.Pages.total x) (IsInAdd c.args.split c.args.key.now (g.V.Pages.total x)) c.in-Need.page c.in-Need.mode) c.in_ok-draft.ensures.views
+    let first = c.args.plan.changes.list.items in
+    let need = subst (λ x. Asks (shown c.in_ok-draft.draft.copies.items (g.V.Pages.at_hand x)) (g.V.Pages.total x) (IsInAdd c.args.split c.args.key.now (g.V.Pages.total x)) c.in-Need.page c.in-Need.mode) c.in_ok-draft.ensures.views
     (add_needs _ c.in_ok-page.field-0 c.in-Need.page c.in-Need.mode c.in-Need.is c.in_ok-page.ensures.need) in
-    let role = asks.role (after first good.0) (c.in_ok-draft.ensures.agrees good.0 good.1) good.2 between in
-    (c.in_ok-draft.ensures.none c.in-Need.page asks.missing, add_inside total c.args.split c.args.key.now (after first good.0) good.2 c.in-Need.page c.in-Need.mode between role, add_change total c.args.split c.args.key.now (after first good.0) c.in-Need.page c.in-Need.mode role)))
-
-pub join-requires-clause-inside : goal.join-requires-clause-inside
-join-requires-clause-inside g c = λ p named. ∥∥₁_elim c.requires.good (hlevel props) (λ fact.
+    let due = subst (λ x. Asks (shown c.in_ok-draft.draft.copies.items (g.V.Pages.at_hand x)) (g.V.Pages.total x) (IsDueInAdd c.args.split c.args.key.now (g.V.Pages.total x)) c.in-Need.page c.in-Need.mode) c.in_ok-draft.ensures.views
+    (add_needs _ c.in_ok-page.field-0 c.in-Need.page c.in-Need.mode c.in-Need.is c.in_ok-page.ensures.due) in
+    let asked = lock_some at_hand total c.in-Need.page (∥∥₁_map c.requires.good (λ fact.
     let good = fact.3 in
-    let placed = fact.4 good.0 good.1 good.2 good.3 good.4 in
-    let first = c.args.plan.changes.list.items in
-    let second = c.in-Changes.changes.list.items in
-    let total = g.V.Pages.total c.args.views.now in
-    let e : Entry = record { relation = c.args.relation; key = c.args.key.now; name = c.args.plan.name } in
-    let between = placed_map fact.0 total good.0 good.2 first c.args.plan.name _ good.3 placed in
-    let told = subst (λ x. InMaps (shown c.in_ok-draft.draft.copies.items (g.V.Pages.at_hand x)) (g.V.Pages.total x) (λ pages m. Adds c.args.split (g.V.Pages.total x) e pages second)) c.in_ok-draft.ensures.views
-    (added_is _ c.in_ok-page.field-0 c.in-Changes.changes c.in-Changes.is c.in_ok-page.ensures.added) in
-    let adds = told (after first good.0) (c.in_ok-draft.ensures.agrees good.0 good.1) good.2 between in
-    added_inside total (after first good.0) (after second (after first good.0)) good.2 p between adds.added.stays (named_differs second (after first good.0) p adds.short named))
+    let between = placed_map fact.0 total good.0 good.2 first c.args.plan.name _ good.3 (fact.4 good.0 good.1 good.2 good.3 good.4) in (
+      c.in_ok-draft.ensures.none c.in-Need.page need.missing,
+      add_inside total c.args.split c.args.key.now (after first good.0) good.2 c.in-Need.page c.in-Need.mode between (need.role (after first good.0) (c.in_ok-draft.ensures.agrees good.0 good.1) good.2 between),
+    ))) in (
+      asked.0,
+      asked.1,
+      λ relations pages agrees m rows placed. due.role (after first pages) (c.in_ok-draft.ensures.agrees pages agrees) m (placed_map relations total pages m first c.args.plan.name _ rows placed),
+    )
+
+pub join-requires-clause-second_there : goal.join-requires-clause-second_there
+join-requires-clause-second_there g c =
+    let copies = c.in_ok-draft.draft.copies.items in
+    shown_at_hand copies (g.V.Pages.at_hand c.args.views.now) c.in-Changes.changes.list.items c.in_ok-draft.ensures.copies
+    (subst (λ x. AreSeen (shown copies (g.V.Pages.at_hand x)) c.in-Changes.changes.list.items) c.in_ok-draft.ensures.views (added_is _ c.in_ok-page.field-0 c.in-Changes.changes c.in-Changes.is c.in_ok-page.ensures.there))
 
 pub returns-in-Full : goal.returns-in-Full
 returns-in-Full g c = λ value relations pages agrees m rows placed.
@@ -106,7 +106,7 @@ returns-in-Changes g c = λ value.
     let few : length second ≤ 5 = ∥∥₁_elim c.requires.good (hlevel props) (λ fact.
     let good = fact.3 in
     (told (after first good.0) (c.in_ok-draft.ensures.agrees good.0 good.1) good.2 (placed_map fact.0 total good.0 good.2 first name _ good.3 (fact.4 good.0 good.1 good.2 good.3 good.4))).few) in
-    IfOk-weaker c.join.result _ _ (tells_weaker at_hand total _ _ ⊥ _ (λ changes reply joined. record {
+    IfOk-weaker c.join.result _ _ (tells_weaker at_hand total _ _ _ _ ⊥ _ (λ p mode never. absurd never) (λ changes reply joined. record {
       there = joined.there;
       few = few_more _ _ _ 2 5 8 joined.few c.requires.few few (omega arith);
       idle = λ none. logs_something (logged_of (Insert c.args.relation c.args.key.now value)) reply Done _ joined.same refl none;

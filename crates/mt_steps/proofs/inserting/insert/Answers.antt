@@ -1,6 +1,6 @@
 use mathlib.Core.Logic.{∥∥₁_elim}
 use Rattle.std.proofs.Props.{props}
-use Rattle.std.proofs.Common.{cond, inl, List, sym, subst}
+use Rattle.std.proofs.Common.{cond, inl, inr, List, sym, subst}
 use Rattle.mt_space.specs.declared.changes.PageChange.{PageChange}
 use Rattle.mt_space.specs.Changes.{after, AreShort}
 use Rattle.mt_model.specs.declared.operations.Op.TheVariants.{Insert}
@@ -34,39 +34,39 @@ pub returns-in-Found-clause-modest : goal.returns-in-Found-clause-modest
 returns-in-Found-clause-modest g c = λ relations fits pages agrees m rows named. modest_nothing (g.V.Pages.at_hand c.args.views.now) (g.V.Pages.total c.args.views.now) (cond c.args.split 3 2) c.args.split pages c.new.result.list.items c.new.ensures
 
 pub returns-in-Missing-clause-lock : goal.returns-in-Missing-clause-lock
-returns-in-Missing-clause-lock g c = IfOk-weaker c.insert_new.result _ _ (lock_told (g.V.Pages.at_hand c.args.views.now) (g.V.Pages.total c.args.views.now) _ _) c.insert_new.ensures
+returns-in-Missing-clause-lock g c = IfOk-weaker c.insert_new.result _ _ (lock_told (g.V.Pages.at_hand c.args.views.now) (g.V.Pages.total c.args.views.now) _ _ _) c.insert_new.ensures
 
 pub returns-in-Missing-clause-made : goal.returns-in-Missing-clause-made
-returns-in-Missing-clause-made g c = λ relations fits. IfOk-weaker c.insert_new.result _ _ (made_told (g.V.Pages.at_hand c.args.views.now) (g.V.Pages.total c.args.views.now) _ _ _ (λ changes reply done pages agrees m rows named. let d = done.does relations pages agrees m rows (fits, named) in (d.act, d.short))) c.insert_new.ensures
+returns-in-Missing-clause-made g c = λ relations fits. IfOk-weaker c.insert_new.result _ _ (made_told (g.V.Pages.at_hand c.args.views.now) (g.V.Pages.total c.args.views.now) _ _ _ _ (λ changes reply done pages agrees m rows named. let d = done.does relations pages agrees m rows (fits, named) in (d.act, d.short))) c.insert_new.ensures
 
 pub returns-in-Missing-clause-modest : goal.returns-in-Missing-clause-modest
-returns-in-Missing-clause-modest g c = λ relations fits. IfOk-weaker c.insert_new.result _ _ (made_told (g.V.Pages.at_hand c.args.views.now) (g.V.Pages.total c.args.views.now) _ _ _ (λ changes reply done pages agrees m rows named. (done.does relations pages agrees m rows (fits, named)).modest)) c.insert_new.ensures
+returns-in-Missing-clause-modest g c = λ relations fits. IfOk-weaker c.insert_new.result _ _ (made_told (g.V.Pages.at_hand c.args.views.now) (g.V.Pages.total c.args.views.now) _ _ _ _ (λ changes reply done pages agrees m rows named. (done.does relations pages agrees m rows (fits, named)).modest)) c.insert_new.ensures
 
 pub returns-in-Missing-clause-there : goal.returns-in-Missing-clause-there
-returns-in-Missing-clause-there g c = IfOk-weaker c.insert_new.result _ _ (made_told (g.V.Pages.at_hand c.args.views.now) (g.V.Pages.total c.args.views.now) _ _ _ (λ changes reply done. done.there)) c.insert_new.ensures
+returns-in-Missing-clause-there g c = IfOk-weaker c.insert_new.result _ _ (made_told (g.V.Pages.at_hand c.args.views.now) (g.V.Pages.total c.args.views.now) _ _ _ _ (λ changes reply done. done.there)) c.insert_new.ensures
 
 pub returns-in-Missing-clause-few : goal.returns-in-Missing-clause-few
-returns-in-Missing-clause-few g c = IfOk-weaker c.insert_new.result _ _ (made_told (g.V.Pages.at_hand c.args.views.now) (g.V.Pages.total c.args.views.now) _ _ _ (λ changes reply done. done.few)) c.insert_new.ensures
+returns-in-Missing-clause-few g c = IfOk-weaker c.insert_new.result _ _ (made_told (g.V.Pages.at_hand c.args.views.now) (g.V.Pages.total c.args.views.now) _ _ _ _ (λ changes reply done. done.few)) c.insert_new.ensures
 
 pub returns-in-Missing-clause-idle : goal.returns-in-Missing-clause-idle
-returns-in-Missing-clause-idle g c = IfOk-weaker c.insert_new.result _ _ (made_told (g.V.Pages.at_hand c.args.views.now) (g.V.Pages.total c.args.views.now) _ _ _ (λ changes reply done. done.idle)) c.insert_new.ensures
+returns-in-Missing-clause-idle g c = IfOk-weaker c.insert_new.result _ _ (made_told (g.V.Pages.at_hand c.args.views.now) (g.V.Pages.total c.args.views.now) _ _ _ _ (λ changes reply done. done.idle)) c.insert_new.ensures
 
 pub returns-in-Missing-clause-broken : goal.returns-in-Missing-clause-broken
-returns-in-Missing-clause-broken g c = IfOk-weaker c.insert_new.result _ _ (broken_told (g.V.Pages.at_hand c.args.views.now) (g.V.Pages.total c.args.views.now) _ _) c.insert_new.ensures
+returns-in-Missing-clause-broken g c = IfOk-weaker c.insert_new.result _ _ (broken_told (g.V.Pages.at_hand c.args.views.now) (g.V.Pages.total c.args.views.now) _ _ _) c.insert_new.ensures
 
 pub returns-in-Missing-clause-full : goal.returns-in-Missing-clause-full
-returns-in-Missing-clause-full g c = λ relations. IfOk-weaker c.insert_new.result _ _ (full_told (g.V.Pages.at_hand c.args.views.now) (g.V.Pages.total c.args.views.now) _ _ _ (λ full. full relations)) c.insert_new.ensures
+returns-in-Missing-clause-full g c = λ relations. IfOk-weaker c.insert_new.result _ _ (full_told (g.V.Pages.at_hand c.args.views.now) (g.V.Pages.total c.args.views.now) _ _ _ _ (λ full. full relations)) c.insert_new.ensures
 
 pub returns-in-Need-clause-asks : goal.returns-in-Need-clause-asks
 returns-in-Need-clause-asks g c = inl (λ pages agrees m maps.
     looks_to_write c.args.key.now (g.V.Pages.total c.args.views.now) pages m c.in-Need.page c.in-Need.mode c.to_write.result maps c.to_write.ensures.directory c.to_write.ensures.others (c.in-Need.ensures.need.role pages agrees m maps))
 
 pub returns-in-Missing-clause-asks : goal.returns-in-Missing-clause-asks
-returns-in-Missing-clause-asks g c = IfOk-weaker c.insert_new.result _ _ (asks_told (g.V.Pages.at_hand c.args.views.now) (g.V.Pages.total c.args.views.now) _ _ _ _ c.in-Missing.ensures.missing) c.insert_new.ensures
+returns-in-Missing-clause-asks g c = IfOk-weaker c.insert_new.result _ _ (asks_told (g.V.Pages.at_hand c.args.views.now) (g.V.Pages.total c.args.views.now) _ _ _ _ (λ p mode asks. inr (c.in-Missing.ensures.missing, asks))) c.insert_new.ensures
 
 pub returns-in-Found-clause-takes : goal.returns-in-Found-clause-takes
 returns-in-Found-clause-takes g c = λ relations fits pages agrees m rows named.
     none_takes c.args.room (Insert c.args.relation c.args.key.now c.args.value.now) pages (after c.new.result.list.items pages) (quiet_none pages c.new.result.list.items c.new.ensures)
 
 pub returns-in-Missing-clause-takes : goal.returns-in-Missing-clause-takes
-returns-in-Missing-clause-takes g c = λ relations fits. IfOk-weaker c.insert_new.result _ _ (made_told (g.V.Pages.at_hand c.args.views.now) (g.V.Pages.total c.args.views.now) _ _ _ (λ changes reply done pages agrees m rows named. (done.does relations pages agrees m rows (fits, named)).keeps)) c.insert_new.ensures
+returns-in-Missing-clause-takes g c = λ relations fits. IfOk-weaker c.insert_new.result _ _ (made_told (g.V.Pages.at_hand c.args.views.now) (g.V.Pages.total c.args.views.now) _ _ _ _ (λ changes reply done pages agrees m rows named. (done.does relations pages agrees m rows (fits, named)).keeps)) c.insert_new.ensures

@@ -1,5 +1,5 @@
 use mathlib.Core.Logic.{∥∥₁_map}
-use Rattle.std.proofs.Common.{ℕ, [], inl, inr, refl, ⊎_elim, subst, arith}
+use Rattle.std.proofs.Common.{ℕ, [], inl, inr, ⊎_elim, subst, arith}
 use Rattle.std.proofs.lemmas.Result.{IfOk-weaker}
 use Rattle.mt_slots.specs.Page.{Row}
 use Rattle.mt_model.specs.declared.operations.Op.TheVariants.{Insert}
@@ -10,7 +10,7 @@ use Rattle.mt_index.specs.Maps.{Map}
 use Rattle.mt_space.specs.Changes.{PageBytes, Agrees, after}
 use Rattle.mt_steps.proofs.Single.{lock_some}
 use Rattle.mt_steps.proofs.Telling.{tells_weaker}
-use Rattle.mt_steps.proofs.Asking.{put_needs, placed_inside}
+use Rattle.mt_steps.proofs.Asking.{put_needs, step_at_hand}
 use Rattle.mt_steps.proofs.Entering.{placed_is}
 use Rattle.mt_steps.proofs.Modest.{insert_needs, too_full}
 use Rattle.mt_steps.proofs.Naming.{alone_takes, put_place}
@@ -32,16 +32,16 @@ add_entry-requires-clause-good g c = ∥∥₁_map c.requires.good (λ fact.
     ))
 
 pub returns-in-Need : goal.returns-in-Need
-returns-in-Need g c = lock_some (g.V.Pages.at_hand c.args.views.now) (g.V.Pages.total c.args.views.now) _ _ (∥∥₁_map c.requires.good (λ fact.
-    let good = fact.1 in
-    put_needs (g.V.Pages.at_hand c.args.views.now) c.args.room (g.V.Pages.total c.args.views.now) good.0 good.2 _ c.in-Need.page c.in-Need.mode c.in_ok-page.field-0 c.in-Need.is good.3.index good.4 (c.in_ok-page.ensures.put good.0 good.1 good.3.file good.4)))
+returns-in-Need g c =
+    let at_hand = g.V.Pages.at_hand c.args.views.now in
+    let total = g.V.Pages.total c.args.views.now in
+    let told = λ (relations : ℕ) (pages : PageBytes) (agrees : Agrees at_hand pages) (m : Map) (rows : AreRows relations total pages m) (named : IsNamed c.args.room pages).
+    put_needs at_hand c.args.room total pages m _ c.in-Need.page c.in-Need.mode c.in_ok-page.field-0 c.in-Need.is rows.index named (c.in_ok-page.ensures.put pages agrees rows.file named) in
+    let asked = lock_some at_hand total c.in-Need.page (∥∥₁_map c.requires.good (λ fact. let good = fact.1 in let t = told fact.0 good.0 good.1 good.2 good.3 good.4 in (t.0, t.1))) in
+    (asked.0, asked.1, λ relations pages agrees m rows named. inl (told relations pages agrees m rows named).2)
 
-pub returns-in-Some : goal.returns-in-Some
-returns-in-Some g c = lock_some (g.V.Pages.at_hand c.args.views.now) (g.V.Pages.total c.args.views.now) _ _ (∥∥₁_map c.requires.good (λ fact.
-    let good = fact.1 in
-    let placed = placed_is (g.V.Pages.at_hand c.args.views.now) c.args.room fact.0 (g.V.Pages.total c.args.views.now) good.0 good.2 _ c.in_ok-page.field-0 c.in-Done.plan c.in-Done.is good.3 good.4
-    (c.in_ok-page.ensures.put good.0 good.1 good.3.file good.4) (c.in_ok-page.ensures.short good.0 good.1 good.3.file good.4) in
-    (c.in-Some.ensures.some, placed_inside (g.V.Pages.total c.args.views.now) good.0 good.2 c.in-Done.plan.changes.list.items c.in-Done.plan.name _ c.in-Some.page good.3.index placed c.in-Some.ensures.named, inl refl)))
+pub add_entry-requires-clause-there : goal.add_entry-requires-clause-there
+add_entry-requires-clause-there g c = step_at_hand (g.V.Pages.at_hand c.args.views.now) c.in_ok-page.field-0 c.in-Done.plan c.in-Done.is c.in_ok-page.ensures.there
 
 pub returns-in-Full : goal.returns-in-Full
 returns-in-Full g c = λ relations pages agrees m rows named.
@@ -57,7 +57,10 @@ returns g c =
     let put = λ (relations : ℕ) (pages : PageBytes) (agrees : Agrees at_hand pages) (m : Map) (rows : AreRows relations total pages m) (named : IsNamed c.args.room pages).
     placed_is at_hand c.args.room relations total pages m _ c.in_ok-page.field-0 c.in-Done.plan c.in-Done.is rows named
     (c.in_ok-page.ensures.put pages agrees rows.file named) (c.in_ok-page.ensures.short pages agrees rows.file named) in
-    IfOk-weaker c.add_entry.result _ _ (tells_weaker at_hand total _ _ _ _ (λ changes reply done. record {
+    IfOk-weaker c.add_entry.result _ _ (tells_weaker at_hand total _ _ _ _ _ _ (λ p mode asks relations pages agrees m rows named.
+    let told = subst (λ (x : Step). IsPut at_hand c.args.room total [] pages (record { relation = c.args.relation; key = c.args.key.now; value = c.args.value.now }) x) c.in-Done.is (c.in_ok-page.ensures.put pages agrees rows.file named) in
+    inr (after c.in-Done.plan.changes.list.items pages, (c.in-Done.plan.name, told.1, told.0), asks relations pages agrees m rows (put relations pages agrees m rows named)))
+    (λ changes reply done. record {
       there = done.there;
       few = done.few;
       idle = done.idle;

@@ -5,7 +5,9 @@ use Rattle.std.proofs.lemmas.Result.{IfOk-weaker}
 use Rattle.mt_model.specs.declared.operations.Op.{Op}
 use Rattle.mt_model.specs.declared.operations.Op.TheVariants.{Get, Insert, Update, Delete, Add, Read}
 use Rattle.mt_model.specs.Model.{IsWithin}
-use Rattle.mt_steps.proofs.Promised.{ok_both, asks_same, rows_planned, whole_planned, good_planned, quiet_planned, counts_planned, read_planned, rows_full, never_full}
+use Rattle.mt_steps.specs.Acts.{IfLock}
+use Rattle.mt_steps.specs.Asks.{AsksFor}
+use Rattle.mt_steps.proofs.Promised.{ok_both, asks_same, lock_both, rows_planned, whole_planned, good_planned, quiet_planned, counts_planned, read_planned, rows_full, never_full}
 use Rattle.mt_steps.proofs.Telling.{two_inside}
 use Rattle.mt_steps.proofs.Naming.{roomy_told, none_told, quiet_told}
 use Rattle.mt_steps.proofs.Single.{IsStep-prop}
@@ -167,27 +169,27 @@ returns-in-Add-clause-full g c = λ relations counters few within. IfOk-weaker c
 pub returns-in-Read-clause-full : goal.returns-in-Read-clause-full
 returns-in-Read-clause-full g c = λ relations counters few within. never_full c.read_from.result _ c.read_from.ensures.full
 
-pub returns-in-Get-clause-rows : goal.returns-in-Get-clause-rows
-returns-in-Get-clause-rows g c =
+pub returns-in-Get-clause-asks : goal.returns-in-Get-clause-asks
+returns-in-Get-clause-asks g c =
     let is : Get c.in-Get.relation c.as_slice.result.now ≡ c.args.op.now = ap (Get c.in-Get.relation) c.as_slice.ensures ∙ sym c.in-Get.is in
-    asks_same (g.V.Pages.at_hand c.args.views.now) (g.V.Pages.total c.args.views.now) _ c.args.op.now c.get.result is c.get.ensures.asks
+    asks_same (g.V.Pages.at_hand c.args.views.now) c.args.room (g.V.Pages.total c.args.views.now) c.args.split _ c.args.op.now c.get.result is (c.get.ensures.asks c.args.room c.args.split)
 
-pub returns-in-Insert-clause-rows : goal.returns-in-Insert-clause-rows
-returns-in-Insert-clause-rows g c =
+pub returns-in-Insert-clause-asks : goal.returns-in-Insert-clause-asks
+returns-in-Insert-clause-asks g c =
     let is : Insert c.in-Insert.relation c.as_slice-in-Insert.result.now c.as_slice-in-Insert-2.result.now ≡ c.args.op.now =
     (λ i. Insert c.in-Insert.relation (c.as_slice-in-Insert.ensures i) (c.as_slice-in-Insert-2.ensures i)) ∙ sym c.in-Insert.is in
-    asks_same (g.V.Pages.at_hand c.args.views.now) (g.V.Pages.total c.args.views.now) _ c.args.op.now c.insert.result is c.insert.ensures.asks
+    asks_same (g.V.Pages.at_hand c.args.views.now) c.args.room (g.V.Pages.total c.args.views.now) c.args.split _ c.args.op.now c.insert.result is c.insert.ensures.asks
 
-pub returns-in-Update-clause-rows : goal.returns-in-Update-clause-rows
-returns-in-Update-clause-rows g c =
+pub returns-in-Update-clause-asks : goal.returns-in-Update-clause-asks
+returns-in-Update-clause-asks g c =
     let is : Update c.in-Update.relation c.as_slice-in-Update.result.now c.as_slice-in-Update-2.result.now ≡ c.args.op.now =
     (λ i. Update c.in-Update.relation (c.as_slice-in-Update.ensures i) (c.as_slice-in-Update-2.ensures i)) ∙ sym c.in-Update.is in
-    asks_same (g.V.Pages.at_hand c.args.views.now) (g.V.Pages.total c.args.views.now) _ c.args.op.now c.update.result is c.update.ensures.asks
+    asks_same (g.V.Pages.at_hand c.args.views.now) c.args.room (g.V.Pages.total c.args.views.now) c.args.split _ c.args.op.now c.update.result is (c.update.ensures.asks c.args.split)
 
-pub returns-in-Delete-clause-rows : goal.returns-in-Delete-clause-rows
-returns-in-Delete-clause-rows g c =
+pub returns-in-Delete-clause-asks : goal.returns-in-Delete-clause-asks
+returns-in-Delete-clause-asks g c =
     let is : Delete c.in-Delete.relation c.as_slice-in-Delete.result.now ≡ c.args.op.now = ap (Delete c.in-Delete.relation) c.as_slice-in-Delete.ensures ∙ sym c.in-Delete.is in
-    asks_same (g.V.Pages.at_hand c.args.views.now) (g.V.Pages.total c.args.views.now) _ c.args.op.now c.delete.result is c.delete.ensures.asks
+    asks_same (g.V.Pages.at_hand c.args.views.now) c.args.room (g.V.Pages.total c.args.views.now) c.args.split _ c.args.op.now c.delete.result is (c.delete.ensures.asks c.args.room c.args.split)
 
 pub returns-in-Insert-clause-takes : goal.returns-in-Insert-clause-takes
 returns-in-Insert-clause-takes g c = λ relations counters few within.
@@ -220,3 +222,14 @@ returns-in-Get-clause-takes g c = λ relations counters few within.
 pub returns-in-Read-clause-takes : goal.returns-in-Read-clause-takes
 returns-in-Read-clause-takes g c = λ relations counters few within.
     quiet_told relations counters (g.V.Pages.total c.args.views.now) (g.V.Pages.at_hand c.args.views.now) c.args.room c.args.op.now c.read_from.result c.read_from.ensures.quiet
+
+pub returns-in-Add-clause-asks : goal.returns-in-Add-clause-asks
+returns-in-Add-clause-asks g c =
+    let f : SFits w64 c.in-Add.step = search rules in
+    let is : Add c.in-Add.counter (to_z w64 (of_z w64 c.in-Add.step)) ≡ c.args.op.now = ap (Add c.in-Add.counter) (to_z-of_z f) ∙ sym c.in-Add.is in
+    asks_same (g.V.Pages.at_hand c.args.views.now) c.args.room (g.V.Pages.total c.args.views.now) c.args.split _ c.args.op.now c.add_to.result is
+    (ok_both c.add_to.result _ _ _ (λ act. lock_both act _ _ _ (λ p mode two writes. (two.1, writes))) c.add_to.ensures.lock c.add_to.ensures.mode)
+
+pub returns-in-Read-clause-asks : goal.returns-in-Read-clause-asks
+returns-in-Read-clause-asks g c = subst (λ (o : Op). IfLock c.read_from.result (AsksFor (g.V.Pages.at_hand c.args.views.now) c.args.room (g.V.Pages.total c.args.views.now) c.args.split o)) (sym c.in-Read.is)
+    (lock_both c.read_from.result _ _ _ (λ p mode two reads. (two.1, reads)) c.read_from.ensures.lock c.read_from.ensures.mode)

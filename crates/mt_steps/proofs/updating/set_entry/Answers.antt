@@ -2,22 +2,27 @@ use mathlib.Core.Logic.{∥∥₁_elim, ∥∥₁_map}
 use Rattle.std.proofs.Props.{props}
 use Rattle.std.proofs.Common.{◌≤◌, length, refl, false, ◌≡◌, arith, ◌<◌, ◌∙◌, ℕ, None, Some, sym, subst}
 use Rattle.std.proofs.lemmas.Result.{IfOk-weaker}
-use Rattle.mt_space.specs.Changes.{PageBytes, after}
+use Rattle.mt_base.specs.declared.numbers.RecordName.{RecordName}
+use Rattle.mt_slots.specs.Page.{Row}
+use Rattle.mt_space.specs.Changes.{PageBytes, Agrees, after}
+use Rattle.mt_index.specs.Maps.{Map}
+use Rattle.mt_steps.specs.Held.{AreRows}
 use Rattle.mt_index.specs.Pages.{AreFormed}
-use Rattle.mt_index.specs.Answers.{InMaps, Amends, Asks, IsInBucket}
+use Rattle.mt_index.specs.Answers.{InMaps, Amends, Asks, IsInBucket, AreSeen}
 use Rattle.mt_model.specs.declared.operations.Op.TheVariants.{Update}
-use Rattle.mt_steps.specs.Acts.{IsAct}
+use Rattle.mt_steps.specs.Acts.{IsAct, IsMoved}
 use Rattle.mt_steps.specs.Drafts.{shown}
 use Rattle.mt_base.specs.declared.modes.Mode.TheVariants.{Write}
 use Rattle.mt_steps.specs.Logged.{logged_of}
 use Rattle.mt_model.specs.declared.operations.Reply.TheVariants.{Was}
 use Rattle.mt_steps.proofs.Single.{lock_some}
 use Rattle.mt_steps.proofs.Telling.{tells_weaker, logs_something}
-use Rattle.mt_steps.proofs.Asking.{amend_needs, bucket_inside, bucket_change, amended_inside, named_differs, few_more}
+use Rattle.mt_steps.proofs.Asking.{amend_needs, bucket_inside, shown_at_hand, few_more}
+use Rattle.mt_steps.proofs.Crowding.{bucket_before}
 use Rattle.mt_steps.proofs.Modest.{moved_modest, amended_modest, modest_trans}
 use Rattle.mt_steps.specs.Plans.{IsModest}
 use Rattle.mt_steps.proofs.Leaving.{amended_is, amend_missing_is, amend_endless_is}
-use Rattle.mt_steps.proofs.Shifting.{moved_map, moved_act, to_inside}
+use Rattle.mt_steps.proofs.Shifting.{moved_leaves, moved_map, moved_act, to_inside}
 use Rattle.mt_steps.specs.Tells.{TakesAlone}
 use Rattle.mt_steps.proofs.Acting.{amends_file}
 use Rattle.mt_steps.proofs.Naming.{moved_alone, amended_alone}
@@ -59,29 +64,27 @@ join-requires-clause-short g c = ∥∥₁_map c.requires.good (λ fact.
     (good.0, good.1, placed.1.short, amends.short))
 
 pub returns-in-Need : goal.returns-in-Need
-returns-in-Need g c = λ name value seen. lock_some (g.V.Pages.at_hand c.args.views.now) (g.V.Pages.total c.args.views.now) _ _ (∥∥₁_map c.requires.good (λ fact.
-    let good = fact.4 in
-    let placed = fact.5 good.0 good.1 good.2 good.3 good.4 in
-    let first = c.args.plan.changes.list.items in
+returns-in-Need g c = λ name value seen.
+    let at_hand = g.V.Pages.at_hand c.args.views.now in
     let total = g.V.Pages.total c.args.views.now in
-    let between = (moved_map fact.0 total good.0 good.2 first fact.2 c.args.plan.name _ _ good.3 placed.1).0 in
-    let asks = subst (λ x. Asks (shown c.in_ok-draft.draft.copies.items (g.V.Pages.at_hand x)) (g.V.Pages.total x) (IsInBucket c.args.key.now Write) c.in-Need.page c.in-Need.mode) c.in_ok-draft.ensures.views
+    let first = c.args.plan.changes.list.items in
+    let to = c.args.plan.name in
+    let need = subst (λ x. Asks (shown c.in_ok-draft.draft.copies.items (g.V.Pages.at_hand x)) (g.V.Pages.total x) (IsInBucket c.args.key.now Write) c.in-Need.page c.in-Need.mode) c.in_ok-draft.ensures.views
     (amend_needs _ c.in_ok-page.field-0 c.in-Need.page c.in-Need.mode c.in-Need.is c.in_ok-page.ensures.need) in
-    let role = asks.role (after first good.0) (c.in_ok-draft.ensures.agrees good.0 good.1) good.2 between in
-    (c.in_ok-draft.ensures.none c.in-Need.page asks.missing, bucket_inside total c.args.key.now (after first good.0) good.2 Write c.in-Need.page c.in-Need.mode between role, bucket_change c.args.key.now (after first good.0) c.in-Need.page c.in-Need.mode role)))
+    let asks = λ (name : RecordName) (old row : Row) (relations : ℕ) (pages : PageBytes) (agrees : Agrees at_hand pages) (m : Map) (rows : AreRows relations total pages m) (moved : IsMoved total pages first name to old row).
+    bucket_before total pages (after first pages) m c.args.key.now Write c.in-Need.page c.in-Need.mode rows.index (moved_leaves relations total pages m first name to old row rows moved)
+    (need.role (after first pages) (c.in_ok-draft.ensures.agrees pages agrees) m (moved_map relations total pages m first name to old row rows moved).0) in
+    let asked = lock_some at_hand total c.in-Need.page (∥∥₁_map c.requires.good (λ fact. let good = fact.4 in (
+      c.in_ok-draft.ensures.none c.in-Need.page need.missing,
+      bucket_inside total c.args.key.now good.0 good.2 Write c.in-Need.page c.in-Need.mode good.3.index (asks fact.2 _ _ fact.0 good.0 good.1 good.2 good.3 (fact.5 good.0 good.1 good.2 good.3 good.4).1),
+    ))) in
+    (asked.0, asked.1, asks name _ _)
 
-pub join-requires-clause-inside : goal.join-requires-clause-inside
-join-requires-clause-inside g c = λ p named. ∥∥₁_elim c.requires.good (hlevel props) (λ fact.
-    let good = fact.4 in
-    let placed = fact.5 good.0 good.1 good.2 good.3 good.4 in
-    let first = c.args.plan.changes.list.items in
-    let second = c.in-Changes.second.list.items in
-    let total = g.V.Pages.total c.args.views.now in
-    let between = (moved_map fact.0 total good.0 good.2 first fact.2 c.args.plan.name _ _ good.3 placed.1).0 in
-    let told = subst (λ x. InMaps (shown c.in_ok-draft.draft.copies.items (g.V.Pages.at_hand x)) (g.V.Pages.total x) (λ pages m. Amends (g.V.Pages.total x) pages second m c.args.relation c.args.key.now (Some c.args.plan.name))) c.in_ok-draft.ensures.views
-    (amended_is _ c.in_ok-page.field-0 c.in-Changes.second c.in-Changes.is c.in_ok-page.ensures.set) in
-    let amends = told (after first good.0) (c.in_ok-draft.ensures.agrees good.0 good.1) good.2 between in
-    amended_inside total (after first good.0) (after second (after first good.0)) good.2 p between amends.others (named_differs second (after first good.0) p amends.short named))
+pub join-requires-clause-second_there : goal.join-requires-clause-second_there
+join-requires-clause-second_there g c =
+    let copies = c.in_ok-draft.draft.copies.items in
+    shown_at_hand copies (g.V.Pages.at_hand c.args.views.now) c.in-Changes.second.list.items c.in_ok-draft.ensures.copies
+    (subst (λ x. AreSeen (shown copies (g.V.Pages.at_hand x)) c.in-Changes.second.list.items) c.in_ok-draft.ensures.views (amended_is _ c.in_ok-page.field-0 c.in-Changes.second c.in-Changes.is c.in_ok-page.ensures.seen))
 
 pub returns-in-Changes : goal.returns-in-Changes
 returns-in-Changes g c = λ name value seen.
@@ -98,7 +101,7 @@ returns-in-Changes g c = λ name value seen.
     let one : length second ≤ 1 = ∥∥₁_elim c.requires.good (hlevel props) (λ fact.
     let good = fact.4 in
     (told (after first good.0) (c.in_ok-draft.ensures.agrees good.0 good.1) good.2 (moved_map fact.0 total good.0 good.2 first fact.2 to _ _ good.3 (fact.5 good.0 good.1 good.2 good.3 good.4).1).0).one) in
-    IfOk-weaker c.join.result _ _ (tells_weaker at_hand total _ _ ⊥ ⊥ (λ changes reply joined. record {
+    IfOk-weaker c.join.result _ _ (tells_weaker at_hand total _ _ _ _ ⊥ ⊥ (λ p mode never. absurd never) (λ changes reply joined. record {
       there = joined.there;
       few = few_more _ _ _ 3 1 8 joined.few c.requires.few one (omega arith);
       idle = λ none. logs_something (logged_of (Update c.args.relation c.args.key.now value)) reply (Was c.args.old) _ joined.same refl none;

@@ -1,6 +1,6 @@
 use mathlib.Core.Logic.{∥∥₁_elim}
 use Rattle.std.proofs.Props.{props}
-use Rattle.std.proofs.Common.{false, inl, List, sym, subst}
+use Rattle.std.proofs.Common.{false, inl, inr, List, sym, subst}
 use Rattle.mt_space.specs.declared.changes.PageChange.{PageChange}
 use Rattle.mt_space.specs.Changes.{after, AreShort}
 use Rattle.mt_model.specs.declared.operations.Op.TheVariants.{Update}
@@ -34,38 +34,38 @@ pub returns-in-Missing-clause-modest : goal.returns-in-Missing-clause-modest
 returns-in-Missing-clause-modest g c = λ relations fits pages agrees m rows named. modest_nothing (g.V.Pages.at_hand c.args.views.now) (g.V.Pages.total c.args.views.now) 1 false pages c.new.result.list.items c.new.ensures
 
 pub returns-in-Found-clause-lock : goal.returns-in-Found-clause-lock
-returns-in-Found-clause-lock g c = IfOk-weaker c.update_row.result _ _ (lock_told (g.V.Pages.at_hand c.args.views.now) (g.V.Pages.total c.args.views.now) _ _) c.update_row.ensures
+returns-in-Found-clause-lock g c = IfOk-weaker c.update_row.result _ _ (lock_told (g.V.Pages.at_hand c.args.views.now) (g.V.Pages.total c.args.views.now) _ _ _) c.update_row.ensures
 
 pub returns-in-Found-clause-made : goal.returns-in-Found-clause-made
-returns-in-Found-clause-made g c = λ relations fits. IfOk-weaker c.update_row.result _ _ (made_told (g.V.Pages.at_hand c.args.views.now) (g.V.Pages.total c.args.views.now) _ _ _ (λ changes reply done pages agrees m rows named. let d = done.does relations pages agrees m rows (fits, named) in (d.act, d.short))) c.update_row.ensures
+returns-in-Found-clause-made g c = λ relations fits. IfOk-weaker c.update_row.result _ _ (made_told (g.V.Pages.at_hand c.args.views.now) (g.V.Pages.total c.args.views.now) _ _ _ _ (λ changes reply done pages agrees m rows named. let d = done.does relations pages agrees m rows (fits, named) in (d.act, d.short))) c.update_row.ensures
 
 pub returns-in-Found-clause-modest : goal.returns-in-Found-clause-modest
-returns-in-Found-clause-modest g c = λ relations fits. IfOk-weaker c.update_row.result _ _ (made_told (g.V.Pages.at_hand c.args.views.now) (g.V.Pages.total c.args.views.now) _ _ _ (λ changes reply done pages agrees m rows named. (done.does relations pages agrees m rows (fits, named)).modest)) c.update_row.ensures
+returns-in-Found-clause-modest g c = λ relations fits. IfOk-weaker c.update_row.result _ _ (made_told (g.V.Pages.at_hand c.args.views.now) (g.V.Pages.total c.args.views.now) _ _ _ _ (λ changes reply done pages agrees m rows named. (done.does relations pages agrees m rows (fits, named)).modest)) c.update_row.ensures
 
 pub returns-in-Found-clause-there : goal.returns-in-Found-clause-there
-returns-in-Found-clause-there g c = IfOk-weaker c.update_row.result _ _ (made_told (g.V.Pages.at_hand c.args.views.now) (g.V.Pages.total c.args.views.now) _ _ _ (λ changes reply done. done.there)) c.update_row.ensures
+returns-in-Found-clause-there g c = IfOk-weaker c.update_row.result _ _ (made_told (g.V.Pages.at_hand c.args.views.now) (g.V.Pages.total c.args.views.now) _ _ _ _ (λ changes reply done. done.there)) c.update_row.ensures
 
 pub returns-in-Found-clause-few : goal.returns-in-Found-clause-few
-returns-in-Found-clause-few g c = IfOk-weaker c.update_row.result _ _ (made_told (g.V.Pages.at_hand c.args.views.now) (g.V.Pages.total c.args.views.now) _ _ _ (λ changes reply done. done.few)) c.update_row.ensures
+returns-in-Found-clause-few g c = IfOk-weaker c.update_row.result _ _ (made_told (g.V.Pages.at_hand c.args.views.now) (g.V.Pages.total c.args.views.now) _ _ _ _ (λ changes reply done. done.few)) c.update_row.ensures
 
 pub returns-in-Found-clause-idle : goal.returns-in-Found-clause-idle
-returns-in-Found-clause-idle g c = IfOk-weaker c.update_row.result _ _ (made_told (g.V.Pages.at_hand c.args.views.now) (g.V.Pages.total c.args.views.now) _ _ _ (λ changes reply done. done.idle)) c.update_row.ensures
+returns-in-Found-clause-idle g c = IfOk-weaker c.update_row.result _ _ (made_told (g.V.Pages.at_hand c.args.views.now) (g.V.Pages.total c.args.views.now) _ _ _ _ (λ changes reply done. done.idle)) c.update_row.ensures
 
 pub returns-in-Found-clause-broken : goal.returns-in-Found-clause-broken
-returns-in-Found-clause-broken g c = IfOk-weaker c.update_row.result _ _ (broken_told (g.V.Pages.at_hand c.args.views.now) (g.V.Pages.total c.args.views.now) _ _) c.update_row.ensures
+returns-in-Found-clause-broken g c = IfOk-weaker c.update_row.result _ _ (broken_told (g.V.Pages.at_hand c.args.views.now) (g.V.Pages.total c.args.views.now) _ _ _) c.update_row.ensures
 
 pub returns-in-Found-clause-full : goal.returns-in-Found-clause-full
-returns-in-Found-clause-full g c = λ relations. IfOk-weaker c.update_row.result _ _ (full_told (g.V.Pages.at_hand c.args.views.now) (g.V.Pages.total c.args.views.now) _ _ _ (λ full. full relations)) c.update_row.ensures
+returns-in-Found-clause-full g c = λ relations. IfOk-weaker c.update_row.result _ _ (full_told (g.V.Pages.at_hand c.args.views.now) (g.V.Pages.total c.args.views.now) _ _ _ _ (λ full. full relations)) c.update_row.ensures
 
 pub returns-in-Need-clause-asks : goal.returns-in-Need-clause-asks
-returns-in-Need-clause-asks g c = inl c.in-Need.ensures.need.role
+returns-in-Need-clause-asks g c = λ split. inl c.in-Need.ensures.need.role
 
 pub returns-in-Found-clause-asks : goal.returns-in-Found-clause-asks
-returns-in-Found-clause-asks g c = IfOk-weaker c.update_row.result _ _ (asks_told (g.V.Pages.at_hand c.args.views.now) (g.V.Pages.total c.args.views.now) _ _ _ _ (c.in-Found.name, c.in-Found.ensures.found)) c.update_row.ensures
+returns-in-Found-clause-asks g c = λ split. IfOk-weaker c.update_row.result _ _ (asks_told (g.V.Pages.at_hand c.args.views.now) (g.V.Pages.total c.args.views.now) _ _ _ _ (λ p mode asks. inr ((c.in-Found.name, c.in-Found.ensures.found), asks))) c.update_row.ensures
 
 pub returns-in-Missing-clause-takes : goal.returns-in-Missing-clause-takes
 returns-in-Missing-clause-takes g c = λ relations fits pages agrees m rows named.
     none_takes c.args.room (Update c.args.relation c.args.key.now c.args.value.now) pages (after c.new.result.list.items pages) (quiet_none pages c.new.result.list.items c.new.ensures)
 
 pub returns-in-Found-clause-takes : goal.returns-in-Found-clause-takes
-returns-in-Found-clause-takes g c = λ relations fits. IfOk-weaker c.update_row.result _ _ (made_told (g.V.Pages.at_hand c.args.views.now) (g.V.Pages.total c.args.views.now) _ _ _ (λ changes reply done pages agrees m rows named. (done.does relations pages agrees m rows (fits, named)).keeps)) c.update_row.ensures
+returns-in-Found-clause-takes g c = λ relations fits. IfOk-weaker c.update_row.result _ _ (made_told (g.V.Pages.at_hand c.args.views.now) (g.V.Pages.total c.args.views.now) _ _ _ _ (λ changes reply done pages agrees m rows named. (done.does relations pages agrees m rows (fits, named)).keeps)) c.update_row.ensures

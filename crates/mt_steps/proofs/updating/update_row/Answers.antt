@@ -4,7 +4,6 @@ use Rattle.std.proofs.Common.{rules, false, ◌≡◌, ◌<◌, inl, inr, arith,
 use Rattle.std.proofs.lemmas.Result.{IfOk-weaker}
 use Rattle.mt_base.specs.declared.numbers.RecordName.{RecordName}
 use Rattle.mt_slots.specs.Page.{Row}
-use Rattle.mt_space.specs.Kinds.{kind}
 use Rattle.mt_file.proofs.Filed.{record_kind}
 use Rattle.mt_model.specs.declared.operations.Op.TheVariants.{Update}
 use Rattle.mt_model.specs.declared.operations.Reply.TheVariants.{Was}
@@ -12,16 +11,20 @@ use Rattle.mt_steps.specs.Acts.{IsMoved}
 use Rattle.mt_steps.specs.Tells.{Does}
 use Rattle.mt_steps.proofs.Single.{lock_some}
 use Rattle.mt_steps.proofs.Telling.{tells_weaker}
-use Rattle.mt_steps.proofs.Asking.{kind_inside, replacement_needs, kept_inside, moved_inside}
+use Rattle.mt_steps.specs.Plans.{HasStood}
+use Rattle.mt_file.specs.File.{record_in}
+use Rattle.mt_steps.proofs.Asking.{stands_in, replacement_needs, step_at_hand}
 use Rattle.mt_file.specs.declared.step.Step.{Step}
-use Rattle.mt_file.specs.Plans.{IfDone, IsReplacement}
+use Rattle.mt_file.specs.Plans.{IfDone, IsNamed, IsReplacement}
 use Rattle.mt_steps.proofs.Modest.{kept_modest, moved_modest, too_full}
 use Rattle.std.specs.Prelude.{IsSome}
 use Rattle.mt_steps.proofs.Rows.{row_of}
-use Rattle.mt_steps.proofs.Shifting.{replacement_is, kept_act, moved_here, has_moved, to_inside}
-use Rattle.mt_space.specs.Changes.{after}
+use Rattle.mt_steps.proofs.Shifting.{replacement_is, kept_act, moved_here, has_moved}
+use Rattle.mt_space.specs.Changes.{PageBytes, Agrees, after}
+use Rattle.mt_index.specs.Maps.{Map}
+use Rattle.mt_steps.specs.Held.{AreRows}
 use Rattle.mt_steps.specs.Plans.{TakesPages}
-use Rattle.mt_steps.proofs.Naming.{kept_none, none_takes, alone_takes, moved_place, moved_alone}
+use Rattle.mt_steps.proofs.Naming.{needs_place, kept_none, none_takes, alone_takes, moved_place, moved_alone}
 use Rattle.mt_steps.proofs.updating.update_row.Goals as goal
 
 value_of : (k v : List ℕ) (x : Row) {r : ℕ} → Some (record { relation = r; key = k; value = v }) ≡ Some x → v ≡ x.value
@@ -38,13 +41,17 @@ plan_read-requires-clause-good g c = ∥∥₁_map c.requires.good (λ fact.
     (good.0, good.1, good.3.file, record_kind good.0 n.page n.slot _ named.1))
 
 pub returns-in-Need : goal.returns-in-Need
-returns-in-Need g c = lock_some (g.V.Pages.at_hand c.args.views.now) (g.V.Pages.total c.args.views.now) _ _ (∥∥₁_map c.requires.good (λ fact.
-    let good = fact.1 in
+returns-in-Need g c =
     let n = c.args.name.now in
-    let named = good.3.named.names c.args.relation c.args.key.now n (c.requires.named good.0 good.1 good.2 good.3.index) in
-    let three = record_kind good.0 n.page n.slot _ named.1 in
-    let told = c.in-Need.ensures good.0 good.1 good.3.file three in
-    (told.0, kind_inside (g.V.Pages.total c.args.views.now) good.0 good.2 c.in-Need.page 3 good.3.index (ap (λ (p : ℕ). kind good.0 p) told.2 ∙ three) (omega arith), inl refl)))
+    let told : (relations : ℕ) (pages : PageBytes) → Agrees (g.V.Pages.at_hand c.args.views.now) pages → (m : Map) → AreRows relations (g.V.Pages.total c.args.views.now) pages m
+    → ((g.V.Pages.at_hand c.args.views.now c.in-Need.page ≡ None) × (c.in-Need.page < g.V.Pages.total c.args.views.now)) × HasStood pages c.in-Need.page c.args.relation c.args.key.now = λ relations pages agrees m rows.
+    let is = c.requires.named pages agrees m rows.index in
+    let named = rows.named.names c.args.relation c.args.key.now n is in
+    let need = c.in-Need.ensures pages agrees rows.file (record_kind pages n.page n.slot _ named.1) in
+    let own = stands_in relations (g.V.Pages.total c.args.views.now) pages m n c.args.relation c.args.key.now c.in-Need.page rows is need.2 in
+    ((need.0, own.0), own.1) in
+    let asked = lock_some (g.V.Pages.at_hand c.args.views.now) (g.V.Pages.total c.args.views.now) c.in-Need.page (∥∥₁_map c.requires.good (λ fact. let good = fact.1 in (told fact.0 good.0 good.1 good.2 good.3).0)) in
+    (asked.0, asked.1, λ relations pages agrees m rows so. inl (refl, (told relations pages agrees m rows).1))
 
 pub returns-in-Nothing : goal.returns-in-Nothing
 returns-in-Nothing g c = ∥∥₁_elim c.requires.good (hlevel props) (λ fact.
@@ -60,11 +67,18 @@ plan_replace-requires-clause-good g c = ∥∥₁_map c.requires.good (λ fact.
     (good.0, _, good.1, good.3.file, good.4, named.1))
 
 pub returns-in-Need-2 : goal.returns-in-Need-2
-returns-in-Need-2 g c = lock_some (g.V.Pages.at_hand c.args.views.now) (g.V.Pages.total c.args.views.now) _ _ (∥∥₁_map c.requires.good (λ fact.
-    let good = fact.1 in
+returns-in-Need-2 g c =
     let n = c.args.name.now in
-    let named = good.3.named.names c.args.relation c.args.key.now n (c.requires.named good.0 good.1 good.2 good.3.index) in
-    replacement_needs (g.V.Pages.at_hand c.args.views.now) c.args.room (g.V.Pages.total c.args.views.now) good.0 good.2 n _ _ c.in-Need-2.page c.in-Need-2.mode c.in_ok-page.field-0 c.in-Need-2.is good.3.index good.4 (record_kind good.0 n.page n.slot _ named.1) (c.in_ok-page.ensures.replacement good.0 _ good.1 good.3.file good.4 named.1)))
+    let told = λ (relations : ℕ) (pages : PageBytes) (agrees : Agrees (g.V.Pages.at_hand c.args.views.now) pages) (m : Map) (rows : AreRows relations (g.V.Pages.total c.args.views.now) pages m) (roomy : IsNamed c.args.room pages).
+    let is = c.requires.named pages agrees m rows.index in
+    let named = rows.named.names c.args.relation c.args.key.now n is in
+    replacement_needs (g.V.Pages.at_hand c.args.views.now) c.args.room relations (g.V.Pages.total c.args.views.now) pages m n c.args.relation c.args.key.now named.0 c.args.value.now c.in-Need-2.page c.in-Need-2.mode c.in_ok-page.field-0 c.in-Need-2.is rows roomy is named.1
+    (c.in_ok-page.ensures.replacement pages _ agrees rows.file roomy named.1) in
+    let asked = lock_some (g.V.Pages.at_hand c.args.views.now) (g.V.Pages.total c.args.views.now) c.in-Need-2.page (∥∥₁_map c.requires.good (λ fact. let good = fact.1 in let t = told fact.0 good.0 good.1 good.2 good.3 good.4 in (t.0, t.1))) in
+    (asked.0, asked.1, λ relations pages agrees m rows so. (told relations pages agrees m rows so).2)
+
+pub set_entry-requires-clause-there : goal.set_entry-requires-clause-there
+set_entry-requires-clause-there g c = step_at_hand (g.V.Pages.at_hand c.args.views.now) c.in_ok-page.field-0 c.in-Done.plan c.in-Done.is c.in_ok-page.ensures.there
 
 pub set_entry-requires-clause-good : goal.set_entry-requires-clause-good
 set_entry-requires-clause-good g c = ∥∥₁_map c.requires.good (λ fact. (
@@ -88,23 +102,6 @@ set_entry-requires-clause-good g c = ∥∥₁_map c.requires.good (λ fact. (
       ),
 ))
 
-pub returns-in-Some : goal.returns-in-Some
-returns-in-Some g c = lock_some (g.V.Pages.at_hand c.args.views.now) (g.V.Pages.total c.args.views.now) _ _ (∥∥₁_map c.requires.good (λ fact.
-    let good = fact.1 in
-    let n = c.args.name.now in
-    let total = g.V.Pages.total c.args.views.now in
-    let changes = c.in-Done.plan.changes.list.items in
-    let named = good.3.named.names c.args.relation c.args.key.now n (c.requires.named good.0 good.1 good.2 good.3.index) in
-    let r : Row = record { relation = c.args.relation; key = c.args.key.now; value = named.0 } in (
-      c.in-Some.ensures.some,
-      ⊎_elim {C = c.in-Some.page < total}
-          (λ kept. kept_inside total good.0 good.2 changes n _ _ c.in-Some.page good.3.index kept.1 c.in-Some.ensures.named)
-          (λ moved. moved_inside total good.0 good.2 changes n c.in-Done.plan.name _ _ c.in-Some.page good.3.index (to_inside fact.0 total good.0 good.2 changes n c.in-Done.plan.name _ _ good.3 moved) moved c.in-Some.ensures.named)
-          (replacement_is (g.V.Pages.at_hand c.args.views.now) c.args.room fact.0 total good.0 good.2 n r c.args.value.now c.in_ok-page.field-0 c.in-Done.plan c.in-Done.is good.3 good.4
-          (c.in_ok-page.ensures.replacement good.0 r good.1 good.3.file good.4 named.1) (c.in_ok-page.ensures.short good.0 r good.1 good.3.file good.4 named.1) named.1),
-      inl refl,
-    )))
-
 pub returns-in-Full : goal.returns-in-Full
 returns-in-Full g c = λ relations pages agrees m rows roomy.
     let n = c.args.name.now in
@@ -121,7 +118,7 @@ set_entry-requires-clause-seen g c =
 
 pub returns-then-is_name : goal.returns-then-is_name
 returns-then-is_name g c = record {
-  there = search rules;
+  there = step_at_hand (g.V.Pages.at_hand c.args.views.now) c.in_ok-page.field-0 c.in-Done.plan c.in-Done.is c.in_ok-page.ensures.there;
   few = search rules;
   idle = search rules;
   does = λ relations pages agrees m rows so.
@@ -163,29 +160,40 @@ returns g c =
     let at_hand = g.V.Pages.at_hand c.args.views.now in
     let total = g.V.Pages.total c.args.views.now in
     let seen = subst (λ (x : Step). IfDone x (λ plan. IsSome (at_hand n.page) × IsSome (at_hand plan.name.page))) c.in-Done.is c.in_ok-page.ensures.seen in
-    IfOk-weaker c.set_entry.result _ _ (tells_weaker at_hand total _ _ ⊥ _ (λ changes reply done. record {
+    let moves : (relations : ℕ) (pages : PageBytes) → Agrees at_hand pages → (m : Map) → AreRows relations total pages m → IsNamed c.args.room pages
+    → (record_in pages n.page n.slot ≡ Some (record { relation = c.args.relation; key = c.args.key.now; value = c.in_ok-old-in-Record.old })) × IsMoved total pages c.in-Done.plan.changes.list.items n c.in-Done.plan.name (record { relation = c.args.relation; key = c.args.key.now; value = c.in_ok-old-in-Record.old }) (record { relation = c.args.relation; key = c.args.key.now; value = c.args.value.now }) = λ relations pages agrees m rows roomy.
+    let old = c.in_ok-old-in-Record.old in
+    let is = c.requires.named pages agrees m rows.index in
+    let named = rows.named.names c.args.relation c.args.key.now n is in
+    let told = c.in-Record.ensures pages agrees rows.file (record_kind pages n.page n.slot _ named.1) in
+    let stood = named.1 ∙ ap (λ (v : List ℕ). row_of c.args.relation c.args.key.now (Some v)) (value_of _ _ _ (sym named.1 ∙ told) ∙ sym c.in_ok-old-in-Record.ensures) in
+    let r : Row = record { relation = c.args.relation; key = c.args.key.now; value = old } in (
+      stood,
+      has_moved total pages c.in-Done.plan n r c.args.value.now c.if-is_name.ensures
+          (replacement_is at_hand c.args.room relations total pages m n r c.args.value.now c.in_ok-page.field-0 c.in-Done.plan c.in-Done.is rows roomy
+          (c.in_ok-page.ensures.replacement pages r agrees rows.file roomy stood) (c.in_ok-page.ensures.short pages r agrees rows.file roomy stood) stood),
+    ) in
+    IfOk-weaker c.set_entry.result _ _ (tells_weaker at_hand total _ _ _ _ ⊥ _ (λ p mode asks relations pages agrees m rows roomy.
+    let is = c.requires.named pages agrees m rows.index in
+    let moved = moves relations pages agrees m rows roomy in
+    inr (
+      needs_place pages m n c.args.relation c.args.key.now c.in_ok-old-in-Record.old c.args.value.now rows.named is moved.0 moved.1.outgrown,
+      inr (asks relations pages agrees m rows moved.1),
+    )) (λ changes reply done. record {
       there = done.there;
       few = done.few;
       idle = done.idle;
       does = λ relations pages agrees m rows so.
           let old = c.in_ok-old-in-Record.old in
           let is = c.requires.named pages agrees m rows.index in
-          let named = rows.named.names c.args.relation c.args.key.now n is in
-          let told = c.in-Record.ensures pages agrees rows.file (record_kind pages n.page n.slot _ named.1) in
-          let stood = named.1 ∙ ap (λ (v : List ℕ). row_of c.args.relation c.args.key.now (Some v)) (value_of _ _ _ (sym named.1 ∙ told) ∙ sym c.in_ok-old-in-Record.ensures) in
+          let moved = moves relations pages agrees m rows so.1 in
           let r : Row = record { relation = c.args.relation; key = c.args.key.now; value = old } in
-          let d = done.does relations pages agrees m rows (
-            so.0,
-            is,
-            has_moved total pages c.in-Done.plan n r c.args.value.now c.if-is_name.ensures
-                (replacement_is at_hand c.args.room relations total pages m n r c.args.value.now c.in_ok-page.field-0 c.in-Done.plan c.in-Done.is rows so.1
-                (c.in_ok-page.ensures.replacement pages r agrees rows.file so.1 stood) (c.in_ok-page.ensures.short pages r agrees rows.file so.1 stood) stood),
-          ) in record {
+          let d = done.does relations pages agrees m rows (so.0, is, moved.1) in record {
             act = d.act;
             short = d.short;
             modest = d.modest;
             keeps = alone_takes c.args.room (Update c.args.relation c.args.key.now c.args.value.now) c.in-Done.plan.name.page c.args.relation c.args.key.now pages (after changes pages) so.1
-                (moved_place at_hand c.args.room relations total pages m n c.args.relation c.args.key.now old c.args.value.now c.in_ok-page.field-0 c.in-Done.plan c.in-Done.is rows is stood (c.in_ok-page.ensures.replacement pages r agrees rows.file so.1 stood))
+                (moved_place at_hand c.args.room relations total pages m n c.args.relation c.args.key.now old c.args.value.now c.in_ok-page.field-0 c.in-Done.plan c.in-Done.is rows is moved.0 (c.in_ok-page.ensures.replacement pages r agrees rows.file so.1 moved.0))
                 d.keeps;
           };
     }) (λ no. absurd no)) (c.set_entry.ensures n c.args.value.now seen.0)

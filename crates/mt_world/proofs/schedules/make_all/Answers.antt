@@ -10,6 +10,7 @@ loop-event-init g c =
     let D = g.D.Device in let k = c.args.kernel.now in
     record {
       ran = λ first shows. subst (λ (as' : List Answer). Ran D.seen D.may_leave D.faults first [] as' k) (sym c.requires.none) (ran_none D.seen D.may_leave D.faults first k shows);
+      restarts = λ first r. r;
       schema = (refl, refl);
       room = let room = c.requires.room in omega arith;
     }
@@ -21,6 +22,7 @@ loop-event-preserved g c =
     rw add-one (record {
       ran = λ first shows. subst (λ (as' : List Answer). Ran D.seen D.may_leave D.faults first (take (suc at) events) as' n) (sym c.push_reserved.ensures.items)
           (ran_next D.seen D.may_leave D.faults first events at c.loop-event.answers.items k n c.event-item.result c.make.result lt c.event-item.is c.make.ensures (c.loop-event.invariant.ran first shows));
+      restarts = λ first r. c.make.ensures.restarts first (c.loop-event.invariant.restarts first r);
       schema = (c.make.ensures.schema.0 ∙ c.loop-event.invariant.schema.0, c.make.ensures.schema.1 ∙ c.loop-event.invariant.schema.1);
       room = let room = c.loop-event.invariant.room in let len = c.push_reserved.ensures.len in let capacity = c.push_reserved.ensures.capacity in omega arith;
     })
@@ -30,5 +32,5 @@ returns-clause-ran g c =
     let D = g.D.Device in let events = c.args.events.now in let at = c.loop-event.event-index in
     let last : at ≡ length events = omega arith in
     let all : take at events ≡ events = ap (λ (i : ℕ). take i events) last ∙ take-length events in
-    λ first shows. has_run D.seen D.may_leave D.faults first events c.loop-event.answers.items c.loop-event.kernel
-    (subst (λ (es : List Event). Ran D.seen D.may_leave D.faults first es c.loop-event.answers.items c.loop-event.kernel) all (c.loop-event.invariant.ran first shows))
+    λ first shows restarts. has_run D.seen D.may_leave D.faults first events c.loop-event.answers.items c.loop-event.kernel
+    (subst (λ (es : List Event). Ran D.seen D.may_leave D.faults first es c.loop-event.answers.items c.loop-event.kernel) all (c.loop-event.invariant.ran first shows)) (c.loop-event.invariant.restarts first restarts)

@@ -14,6 +14,9 @@ use Rattle.mt_op.specs.Work.{Works}
 use Rattle.mt_op.specs.Holds.{IsNext}
 use Rattle.mt_kernel.specs.Steps.{TellsOther}
 use Rattle.mt_kernel.proofs.Holders.{tells_other}
+use Rattle.mt_kernel.proofs.Between.{step_appends, step_total}
+use Rattle.mt_kernel.specs.Restartable.{StepAppends}
+use Rattle.mt_kernel.specs.declared.parts.Parts.{Parts}
 use Rattle.mt_kernel.proofs.parts.Parts.advance.Goals as goal
 
 pub step-requires-clause-right : goal.step-requires-clause-right
@@ -77,3 +80,18 @@ returns-clause-other g c = λ origin base safe x at.
     let old : r ≡ x = c.index_mut.ensures.value ∙ sym (get_or_default k.running.items c.args.place x r c.requires.within) ∙ sym at in
     subst (λ (y : Running). TellsOther (set k.running.items c.args.place q) y.scope.txn c.step.result) old
     (tells_other k.running.items c.args.place r q (IsNext k.operations.rooms.0 r.scope) k.operations.locks c.step.new.self.locks c.step.result c.requires.within c.index_mut.ensures.value safe.fit.apart safe.fit.locked c.step.ensures.locks)
+
+pub returns-clause-appends : goal.returns-clause-appends
+returns-clause-appends g c = λ origin base safe y now.
+    let seen = g.D.Device.seen in let k = c.args.self.now in let r = c.index_mut.result.now in let e = c.step.ensures in
+    let q : Running = record { scope = c.step.new.scope; op = r.op } in
+    let n : Parts g.row.D.Denot = record k { operations = c.step.new.self; running = with_item k.running c.args.place q } in
+    let w = world seen origin.pages k.operations in let z = world seen origin.pages c.step.new.self in
+    let was : IsRunning origin.relations origin.counters w k.last r = subst (IsRunning origin.relations origin.counters w k.last) (sym c.index_mut.ensures.value) (safe.runs c.args.place r c.requires.within) in
+    let went = e.steps origin.pages origin.relations origin.counters safe.fit.right was.under safe.fit.schema.few_relations safe.fit.schema.few_counters in
+    let total = step_total origin.relations origin.counters w z r.scope q.scope c.step.result was.under went.1 in
+    let new : q ≡ y = sym (now ∙ get_or-set_same k.running.items c.args.place q y c.requires.within) in
+    subst (λ (x : Running). StepAppends origin k n x.scope c.step.result) new (record {
+      area = record { total = total; bytes = e.area };
+      appends = step_appends origin w z r.scope q.scope c.step.result refl refl total went.0.sound went.1 e.records e.stage;
+    })

@@ -13,6 +13,7 @@ use Rattle.std.proofs.lemmas.List.{get_or_default}
 use Rattle.mt_op.specs.Moves.{SameOp}
 use Rattle.mt_kernel.specs.Consistent.{state_of, DropsIn, GoesBack}
 use Rattle.mt_kernel.specs.declared.parts.Running.{Running}
+use Rattle.mt_kernel.proofs.Restarts.{goes_on, quiet_then}
 use Rattle.mt_kernel.proofs.parts.Parts.back_step.Goals as goal
 
 pub drop_out-requires-clause-cleared : goal.drop_out-requires-clause-cleared
@@ -89,3 +90,19 @@ returns-in-Clear-clause-lowers g c = λ x at. ∥∥₁_elim c.requires.safe (hl
     let gone = undo_removed n items place t all q k.live.standing inside now cleared.fit.apart same.txn c.drop_out.ensures.items size standing in
     let effects = effects_left all k.live.standing t in
     let before = abort_at all effects k.running.items place x c.requires.within at safe.fit.apart ∙ fore_with all effects x (c.requires.aborting x at).0 in omega (arith, before, gone))
+
+pub returns-in-More-clause-restartable : goal.returns-in-More-clause-restartable
+returns-in-More-clause-restartable g c = λ origin base later safe_k safe_n r. let e = c.take_back.ensures in
+    goes_on g.D.Device.seen g.D.Device.may_leave origin c.args.self.now c.take_back.new.self base later safe_k safe_n (e.appends origin base safe_k) e.book e.commits e.live r
+
+pub returns-in-Flush-clause-restartable : goal.returns-in-Flush-clause-restartable
+returns-in-Flush-clause-restartable g c = λ origin base later safe_k safe_n r. let e = c.take_back.ensures in
+    goes_on g.D.Device.seen g.D.Device.may_leave origin c.args.self.now c.take_back.new.self base later safe_k safe_n (e.appends origin base safe_k) e.book e.commits e.live r
+
+pub returns-in_err-take_back-clause-restartable : goal.returns-in_err-take_back-clause-restartable
+returns-in_err-take_back-clause-restartable g c = λ origin base later safe_k safe_n r. let e = c.take_back.ensures in
+    goes_on g.D.Device.seen g.D.Device.may_leave origin c.args.self.now c.take_back.new.self base later safe_k safe_n (e.appends origin base safe_k) e.book e.commits e.live r
+
+pub returns-in-Clear-clause-restartable : goal.returns-in-Clear-clause-restartable
+returns-in-Clear-clause-restartable g c = λ origin base later safe_k safe_n r. let e = c.take_back.ensures in let d = c.drop_out.ensures in let k = c.args.self.now in let m = c.take_back.new.self in let n = c.drop_out.new.self in let seen = g.D.Device.seen in let may_leave = g.D.Device.may_leave in
+    goes_on seen may_leave origin k n base later safe_k safe_n (quiet_then seen may_leave origin k m n (e.appends origin base safe_k) d.store) (d.book ∙ e.book) (d.commits ∙ e.commits) (d.live ∙ e.live) r

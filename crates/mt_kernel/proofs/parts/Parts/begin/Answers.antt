@@ -5,6 +5,10 @@ use Rattle.std.proofs.Props.{props}
 use Rattle.std.specs.Prelude.{Some}
 use Rattle.mt_live.specs.Members.{fresh}
 use Rattle.mt_kernel.proofs.Members.{states_put}
+use Rattle.mt_kernel.proofs.Restarts.{kept_num, quiet_store, stays_same}
+use Rattle.std.proofs.Common.{sym, ap}
+use Rattle.mt_kernel.specs.Restartable.{numbers_of}
+use Rattle.mt_kernel.specs.declared.parts.Parts.{Parts}
 use Rattle.mt_kernel.proofs.parts.Parts.begin.Goals as goal
 
 pub overflow_add-self : goal.overflow_add-self
@@ -20,3 +24,10 @@ log_takes-requires g c = ∥∥₁_elim c.requires.safe (hlevel props) (λ (orig
 
 pub returns-clause-opened : goal.returns-clause-opened
 returns-clause-opened g c = states_put c.args.self.now.live.members c.begin.new.self.members c.in_ok-txn.txn (Some (fresh c.in_ok-txn.txn c.args.session)) c.in_ok-txn.ensures.member
+
+pub returns-clause-restartable : goal.returns-clause-restartable
+returns-clause-restartable g c = λ few origin base later safe_k safe_n r. let e = c.in_ok-txn.ensures in let k = c.args.self.now in let seen = g.D.Device.seen in let may_leave = g.D.Device.may_leave in
+    let n : Parts g.row.D.Denot = record k { live = c.begin.new.self; reserved = k.reserved + 128 } in
+    stays_same seen may_leave origin k n base later safe_k safe_n (quiet_store seen may_leave origin k n refl) (record { book = refl; commits = refl }) e.standing
+    (kept_num k.live.members n.live.members c.in_ok-txn.txn (Some (fresh c.in_ok-txn.txn c.args.session)) e.member (sym (ap numbers_of e.unused)))
+    (let count = e.count in omega (arith, few, count)) r

@@ -20,6 +20,9 @@ use Rattle.std.proofs.Common.{◌∙◌}
 use Rattle.mt_live.specs.Members.{with_room}
 use Rattle.mt_kernel.specs.Runs.{state_in}
 use Rattle.mt_kernel.proofs.Members.{states_kept}
+use Rattle.std.specs.Option.{option_map}
+use Rattle.std.proofs.Common.{length, arith}
+use Rattle.mt_kernel.proofs.Restarts.{kept_num, num, quiet_store, stays_same, with_room_num}
 use Rattle.mt_kernel.proofs.parts.Parts.call.Goals as goal
 
 pub lock-requires-clause-safe : goal.lock-requires-clause-safe
@@ -64,3 +67,22 @@ returns-in_err-reserve-clause-states g c = λ u. states_kept with_room c.args.se
 
 pub returns-in_err-room-clause-states : goal.returns-in_err-room-clause-states
 returns-in_err-room-clause-states g c = λ u. ap (λ (l : Lives). state_in l.members u) c.in_err-room.ensures.err
+
+pub returns-in_err-room-clause-restartable : goal.returns-in_err-room-clause-restartable
+returns-in_err-room-clause-restartable g c = λ origin base later safe_k safe_n r. let k = c.args.self.now in let live = c.in_err-room.ensures.err in let seen = g.D.Device.seen in let may_leave = g.D.Device.may_leave in
+    let n : Parts g.row.D.Denot = record k { live = c.room.new.self } in
+    stays_same seen may_leave origin k n base later safe_k safe_n (quiet_store seen may_leave origin k n refl) (record { book = refl; commits = refl }) (ap (λ (l : Lives). l.standing) live) (λ t. ap (λ (l : Lives). num l.members t) live)
+    (let few = r.few in let same = ap (λ (l : Lives). length l.members) live in omega (arith, few, same)) r
+
+pub returns-in_err-reserve-clause-restartable : goal.returns-in_err-reserve-clause-restartable
+returns-in_err-reserve-clause-restartable g c = λ origin base later safe_k safe_n r. let k = c.args.self.now in let e = c.in_ok-room.ensures in let seen = g.D.Device.seen in let may_leave = g.D.Device.may_leave in
+    let n : Parts g.row.D.Denot = record k { live = c.room.new.self; running = c.reserve.new.self } in
+    stays_same seen may_leave origin k n base later safe_k safe_n (quiet_store seen may_leave origin k n refl) (record { book = refl; commits = refl }) e.standing
+    (kept_num k.live.members n.live.members c.args.txn (option_map with_room (member_of k.live.members c.args.txn)) e.member (with_room_num (member_of k.live.members c.args.txn)))
+    (let few = r.few in let count = e.count in omega (arith, few, count)) r
+
+pub returns-clause-restartable : goal.returns-clause-restartable
+returns-clause-restartable g c = λ origin base later safe_k safe_n r. let k = c.args.self.now in let e = c.in_ok-room.ensures in let l = c.lock.ensures in let n = c.lock.new.self in let seen = g.D.Device.seen in let may_leave = g.D.Device.may_leave in
+    stays_same seen may_leave origin k n base later safe_k safe_n (quiet_store seen may_leave origin k n l.store) (record { book = ap (λ v. v.items) l.book; commits = l.same_commits }) (ap (λ (x : Lives). x.standing) l.live ∙ e.standing)
+    (λ t. ap (λ (x : Lives). num x.members t) l.live ∙ kept_num k.live.members c.room.new.self.members c.args.txn (option_map with_room (member_of k.live.members c.args.txn)) e.member (with_room_num (member_of k.live.members c.args.txn)) t)
+    (let few = r.few in let count = e.count in let same = ap (λ (x : Lives). length x.members) l.live in omega (arith, few, count, same)) r

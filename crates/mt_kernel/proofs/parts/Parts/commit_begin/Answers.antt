@@ -17,6 +17,7 @@ use Rattle.mt_kernel.proofs.Calling.{open_some}
 use Rattle.mt_kernel.proofs.Members.{states_set}
 use Rattle.mt_live.specs.Lives.{member_of}
 use Rattle.mt_live.specs.declared.transactions.TxnState.TheVariants.{Committing}
+use Rattle.mt_kernel.proofs.Restarts.{committed, rests_same}
 use Rattle.mt_kernel.proofs.parts.Parts.commit_begin.Goals as goal
 
 pub returns-in_err-reserve-2-clause-state : goal.returns-in_err-reserve-2-clause-state
@@ -68,3 +69,15 @@ returns-clause-commits g c = let k = c.args.self.now in states_set k.live.member
 
 pub returns-clause-queue : goal.returns-clause-queue
 returns-clause-queue g c = let it : Commit = record { txn = c.args.txn; place = c.in_ok-place.place } in (it, refl, c.in_ok-place.ensures.place, c.push_reserved.ensures.items ∙ ap (λ (cs : List Commit). cs ++ it ∷ []) c.reserve.ensures.items)
+
+pub returns-in_err-place-clause-restartable : goal.returns-in_err-place-clause-restartable
+returns-in_err-place-clause-restartable g c = λ origin base later safe_k safe_n r. let k = c.args.self.now in
+    let n : Parts g.row.D.Denot = record k { operations = c.append.new.self; commits = c.reserve.new.self; book = c.reserve-2.new.self } in
+    rests_same g.D.Device.seen g.D.Device.may_leave origin k n base later safe_k safe_n (c.in_err-place.ensures.rests origin.pages) c.append.ensures.area (record { book = c.reserve-2.ensures.items; commits = c.reserve.ensures.items }) refl r
+
+pub returns-clause-restartable : goal.returns-clause-restartable
+returns-clause-restartable g c = λ origin base later safe_k safe_n r. let k = c.args.self.now in let a = c.reserve.ensures in let b = c.reserve-2.ensures in let f = c.in_ok-place.ensures in let m = c.set_state.ensures in let p = c.push_reserved.ensures in
+    let it : Commit = record { txn = c.args.txn; place = c.in_ok-place.place } in
+    let n : Parts g.row.D.Denot = record k { operations = c.append.new.self; live = c.set_state.new.self; commits = c.push_reserved.new.self; book = c.reserve-2.new.self; reserved = k.reserved - 14 } in
+    let pushed : n.commits.items ≡ k.commits.items ++ it ∷ [] = p.items ∙ (λ i. a.items i ++ it ∷ []) in
+    committed g.D.Device.seen g.D.Device.may_leave origin k n base later it safe_k safe_n (record { total = (f.notes origin.pages).area.total; bytes = c.append.ensures.area }) (f.notes origin.pages).records m.member m.count m.standing b.items pushed c.requires.at_work r

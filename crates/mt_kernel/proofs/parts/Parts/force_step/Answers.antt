@@ -1,5 +1,7 @@
 use Rattle.mt_kernel.proofs.Resting.{rests_in}
 use Rattle.mt_kernel.proofs.Sounds.{opening_of}
+use Rattle.mt_kernel.proofs.Restarts.{rests_same}
+use Rattle.std.proofs.Common.{refl}
 use Rattle.mt_kernel.proofs.parts.Parts.force_step.Goals as goal
 
 pub returns-clause-state : goal.returns-clause-state
@@ -8,3 +10,7 @@ returns-clause-state g c = λ origin base safe. let k = c.args.self.now in let e
 
 pub force_step-requires : goal.force_step-requires
 force_step-requires g c = record { kept = opening_of g.D.Device.seen g.D.Device.may_leave c.args.self.now c.requires.safe }
+
+pub returns-clause-restartable : goal.returns-clause-restartable
+returns-clause-restartable g c = λ origin base later safe_k safe_n r. let k = c.args.self.now in
+    rests_same g.D.Device.seen g.D.Device.may_leave origin k (record k { operations = c.force_step.new.self }) base later safe_k safe_n (c.force_step.ensures.rests origin.pages) c.force_step.ensures.area (record { book = refl; commits = refl }) refl r

@@ -14,6 +14,7 @@ loop-booked-init g c = let within = c.durable_count-count.ensures.within in let 
   running = refl;
   states = λ u other. refl;
   undo = λ u. omega arith;
+  restarts = λ origin base later safe_k safe_n r. r;
   count = omega arith;
 }
 
@@ -43,6 +44,9 @@ loop-booked-preserved g c = let k = c.args.self.now in let d : Commit = record {
       running = e.running ∙ was.running;
       states = λ u other. e.states u (λ commits. other (sym (was.states u other) ∙ commits)) ∙ was.states u other;
       undo = λ u. let less = e.undo u in let before = was.undo u in omega (arith, less, before);
+      restarts = λ origin base later safe_k safe_n r.
+          let mid = (was.left.state origin base safe_k).consistent in
+          e.restartable origin base later mid safe_n (was.restarts origin base base safe_k mid r);
       count = was.count;
     }
 
@@ -67,3 +71,6 @@ returns-clause-states g c = c.loop-booked.invariant.states
 
 pub returns-clause-undo : goal.returns-clause-undo
 returns-clause-undo g c = c.loop-booked.invariant.undo
+
+pub returns-clause-restartable : goal.returns-clause-restartable
+returns-clause-restartable g c = c.loop-booked.invariant.restarts

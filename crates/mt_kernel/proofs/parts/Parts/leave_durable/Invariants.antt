@@ -1,5 +1,6 @@
 use Rattle.std.proofs.Common.{◌≡◌, ◌+◌, ◌-◌, ◌≤◌, length, vec_len, vec_capacity}
 use Rattle.mt_kernel.specs.Consistent.{SameUncommitted}
+use Rattle.mt_kernel.specs.Restartable.{StaysRestartable}
 use Rattle.mt_kernel.specs.Work.{LeavesUndo}
 use Rattle.mt_kernel.proofs.Durables.{HaveLeft}
 use Rattle.mt_kernel.proofs.parts.Parts.leave_durable.Given as goal
@@ -12,5 +13,6 @@ invariant-loop-booked g l = record {
   running : l.self.running ≡ l.initial.self.running;
   states : SameUncommitted l.initial.self l.self;
   undo : LeavesUndo l.initial.self l.self;
+  restarts : StaysRestartable g.D.Device.seen g.D.Device.may_leave l.initial.self l.self;
   count : l.count ≤ length l.initial.self.commits.items;
 }

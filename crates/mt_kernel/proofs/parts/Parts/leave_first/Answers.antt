@@ -13,6 +13,7 @@ use Rattle.mt_kernel.proofs.Firsts.{first_txn, first_is, first_rest, whose, left
 use Rattle.mt_kernel.proofs.Leaving.{booked_in}
 use Rattle.mt_kernel.proofs.Lessening.{undo_leaves}
 use Rattle.mt_kernel.proofs.Sounds.{first_lives, first_booked, first_leaves}
+use Rattle.mt_kernel.proofs.Restarts.{leaves}
 use Rattle.mt_kernel.proofs.parts.Parts.leave_first.Goals as goal
 
 pub all_pages_kept-requires : goal.all_pages_kept-requires
@@ -64,6 +65,13 @@ returns g c = record {
   store = c.give_back.ensures.store;
   rest = λ first cs queue. let k = c.args.self.now in let r = c.remove-txn.ensures in
       (ap (λ (x : Commit). x.txn) (first_is k.commits.items c.remove-txn.result first cs queue r.value), r.items ∙ first_rest k.commits.items first cs queue);
+  restartable = λ origin base later safe_k safe_n restartable. let k = c.args.self.now in let r = c.remove-txn.ensures in let m = c.leave-done.ensures in
+      let (first, cs, queue) = c.requires.some in
+      let found = c.remove-txn.result in
+      let is : found ≡ first = first_is k.commits.items found first cs queue r.value in
+      let n : Parts g.row.D.Denot = record k { operations = c.give_back.new.self; live = c.leave-done.new.self; book = c.push_reserved.new.self; locks = c.release.new.self; escrow = c.commit.new.self; commits = c.remove-txn.new.self; reserved = k.reserved - (114 + c.all_bytes_kept.result) } in
+      leaves g.D.Device.seen g.D.Device.may_leave origin k n base later found cs c.leave-done.result safe_k safe_n c.give_back.ensures.store (queue ∙ (λ i. sym is i ∷ cs)) (r.items ∙ first_rest k.commits.items first cs queue)
+      c.push_reserved.ensures.items m.calls m.member m.count m.standing restartable;
   running = refl;
   undo = let k = c.args.self.now in
       let n : Parts g.row.D.Denot = record k { operations = c.give_back.new.self; live = c.leave-done.new.self; book = c.push_reserved.new.self; locks = c.release.new.self; escrow = c.commit.new.self; commits = c.remove-txn.new.self; reserved = k.reserved - (114 + c.all_bytes_kept.result) } in

@@ -19,6 +19,7 @@ use Rattle.mt_kernel.specs.declared.parts.Running.{Running}
 use Rattle.mt_kernel.proofs.Refusing.{Above-prop}
 use Rattle.mt_kernel.proofs.Members.{states_kept}
 use Rattle.mt_live.specs.Members.{with_call}
+use Rattle.mt_kernel.specs.Restartable.{NotesEnd}
 use Rattle.mt_kernel.proofs.parts.Parts.note_end.Goals as goal
 
 pub end-requires-clause-ready : goal.end-requires-clause-ready
@@ -80,3 +81,15 @@ returns-clause-ends g c = λ origin base ready x is.
 
 pub returns-clause-states : goal.returns-clause-states
 returns-clause-states g c = λ u. states_kept (λ m. with_call m c.number-number.result (c.remove-scope.result.op, c.args.reply)) c.args.self.now.live.members c.note.new.self.members c.txn-txn.result (λ m. refl) c.note.ensures.member u
+
+pub returns-clause-notes : goal.returns-clause-notes
+returns-clause-notes g c = λ x is.
+    let r = c.remove-scope.result in let m = c.note.ensures in let k = c.args.self.now in
+    let n : Parts g.row.D.Denot = record k { operations = c.give_back.new.self; live = c.note.new.self; running = c.remove-scope.new.self; reserved = k.reserved - (c.bytes_to_undo.result - c.bytes_kept.result) } in
+    let here : r ≡ x = c.remove-scope.ensures.value ∙ sym (get_or_default k.running.items c.args.place x r c.requires.within) ∙ sym is in
+    subst (λ (z : Running). NotesEnd k n z c.args.reply) here (record {
+      same = record { book = refl; commits = refl };
+      standing = m.standing ∙ (λ i. k.live.standing ++ record { txn = c.txn-txn.ensures i; op = r.op; reply = c.args.reply } ∷ []);
+      members = subst (λ (X : Type 0). X) (λ i. IsChanged k.live.members c.note.new.self.members (c.txn-txn.ensures i) (λ z. with_call z (c.number-number.ensures i) (r.op, c.args.reply))) m.member;
+      count = m.count;
+    })

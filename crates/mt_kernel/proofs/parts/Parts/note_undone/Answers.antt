@@ -14,6 +14,8 @@ use Rattle.mt_kernel.specs.declared.parts.Parts.{Parts}
 use Rattle.mt_kernel.specs.declared.parts.Running.{Running}
 use Rattle.mt_kernel.proofs.Members.{states_kept}
 use Rattle.mt_kernel.proofs.Ending.{taken_state}
+use Rattle.std.proofs.Common.{refl}
+use Rattle.mt_kernel.specs.Restartable.{NotesUndone}
 use Rattle.mt_kernel.proofs.parts.Parts.note_undone.Goals as goal
 
 pub end-requires-clause-ready : goal.end-requires-clause-ready
@@ -42,3 +44,15 @@ returns-clause-ends g c = λ origin base reply ready x is.
 
 pub returns-clause-states : goal.returns-clause-states
 returns-clause-states g c = λ u. states_kept taken_back c.args.self.now.live.members c.undone.new.self.members c.txn-txn.result taken_state c.undone.ensures.member u
+
+pub returns-clause-notes : goal.returns-clause-notes
+returns-clause-notes g c = λ x is.
+    let r = c.remove-scope.result in let f = c.undone.ensures in let k = c.args.self.now in
+    let n : Parts g.row.D.Denot = record k { operations = c.end.new.self; live = c.undone.new.self; running = c.remove-scope.new.self; escrow = c.let_go.new.escrow } in
+    let here : r ≡ x = c.remove-scope.ensures.value ∙ sym (get_or_default k.running.items c.args.place x r c.requires.within) ∙ sym is in
+    subst (λ (z : Running). NotesUndone k n z) here (record {
+      same = record { book = refl; commits = refl };
+      standing = f.standing ∙ (λ i. cut_back (c.txn-txn.ensures i) k.live.standing);
+      members = subst (λ (X : Type 0). X) (λ i. IsChanged k.live.members c.undone.new.self.members (c.txn-txn.ensures i) taken_back) f.member;
+      count = f.count;
+    })

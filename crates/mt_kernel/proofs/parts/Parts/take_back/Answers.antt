@@ -16,6 +16,7 @@ use Rattle.std.proofs.lemmas.List.{length-set, get_or_default, get_or-set_same}
 use Rattle.mt_op.specs.Moves.{SameOp}
 use Rattle.mt_kernel.specs.Work.{LeavesStanding}
 use Rattle.mt_kernel.proofs.Undoing.{puts_back}
+use Rattle.mt_kernel.proofs.Between.{back_appends, goes_total}
 use Rattle.mt_kernel.proofs.parts.Parts.take_back.Goals as goal
 
 pub returns-clause-back : goal.returns-clause-back
@@ -70,3 +71,14 @@ returns-clause-puts g c = λ x y at now.
     let old : r ≡ x = c.index_mut.ensures.value ∙ sym (get_or_default k.running.items c.args.place x r c.requires.within) ∙ sym at in
     let new : q ≡ y = sym (now ∙ get_or-set_same k.running.items c.args.place q y c.requires.within) in
     subst (λ (X : Type 0). X) (λ i. LeavesStanding (old i).scope (new i).scope c.take_back.result) (puts_back r.scope q.scope c.take_back.result (λ is. (e.more is).1) e.flush e.err)
+
+pub returns-clause-appends : goal.returns-clause-appends
+returns-clause-appends g c = λ origin base safe.
+    let seen = g.D.Device.seen in let k = c.args.self.now in let r = c.index_mut.result.now in let e = c.take_back.ensures in
+    let w = world seen origin.pages k.operations in let z = world seen origin.pages c.take_back.new.self in
+    let was : IsRunning origin.relations origin.counters w k.last r = subst (IsRunning origin.relations origin.counters w k.last) (sym c.index_mut.ensures.value) (safe.runs c.args.place r c.requires.within) in
+    let gone = e.goes origin.pages origin.relations origin.counters safe.fit.right was.under in
+    record {
+      area = record { total = goes_total origin.relations origin.counters w z r.scope c.take_back.new.scope was.under gone.1; bytes = e.area };
+      appends = back_appends origin.relations origin.counters w z r.scope c.take_back.new.scope c.take_back.result refl gone.1 e.records;
+    }

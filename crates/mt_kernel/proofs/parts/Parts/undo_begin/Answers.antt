@@ -25,6 +25,8 @@ use Rattle.mt_op.specs.Work.{work_of}
 use Rattle.mt_pool.specs.Views.{pages}
 use Rattle.mt_kernel.specs.Work.{effects_left, undo_steps}
 use Rattle.mt_kernel.proofs.Undoing.{undo_idle, undo_begun, cut_left}
+use Rattle.mt_kernel.proofs.Restarts.{store_same}
+use Rattle.std.proofs.Common.{refl}
 use Rattle.mt_kernel.proofs.parts.Parts.undo_begin.Goals as goal
 
 pub inverse_of-requires : goal.inverse_of-requires
@@ -102,3 +104,15 @@ returns-clause-fewer g c = λ is. let k = c.args.self.now in let e = c.in_ok-sco
     let own : undo_steps n t ≡ work_of s + (effects_left all k.live.standing t - (2 * all + 10)) = subst (λ u. undo_steps n u ≡ work_of s + (effects_left all k.live.standing u - (2 * all + 10))) e.named.0 now in
     let before = undo_idle k t c.requires.idle in let work = e.work in
     let cut = cut_left all t k.live.standing x.0 x.1 in omega (arith, own, before, work, cut)
+
+pub returns-in_err-reserve-clause-restartable : goal.returns-in_err-reserve-clause-restartable
+returns-in_err-reserve-clause-restartable g c = λ origin base later safe_k safe_n r. let k = c.args.self.now in
+    store_same g.D.Device.seen g.D.Device.may_leave origin k (record k { running = c.reserve.new.self }) base later safe_k safe_n refl (record { book = refl; commits = refl }) refl r
+
+pub returns-in_err-scope-clause-restartable : goal.returns-in_err-scope-clause-restartable
+returns-in_err-scope-clause-restartable g c = λ origin base later safe_k safe_n r. let k = c.args.self.now in
+    store_same g.D.Device.seen g.D.Device.may_leave origin k (record k { running = c.reserve.new.self }) base later safe_k safe_n refl (record { book = refl; commits = refl }) refl r
+
+pub returns-clause-restartable : goal.returns-clause-restartable
+returns-clause-restartable g c = λ origin base later safe_k safe_n r. let k = c.args.self.now in
+    store_same g.D.Device.seen g.D.Device.may_leave origin k (record k { running = c.push_reserved.new.self; last = k.last + 1; reserved = k.reserved - 106496 }) base later safe_k safe_n refl (record { book = refl; commits = refl }) refl r

@@ -23,6 +23,12 @@ use Rattle.mt_pool.specs.Views.{pages}
 use Rattle.mt_kernel.specs.Runs.{IsOwned}
 use Rattle.mt_kernel.proofs.Undoing.{moved_of, total_at, inverse_moved, undo_removed, cut_left, abort_at, back_with}
 use Rattle.mt_kernel.proofs.Laboring.{steps_at, steps_removed, some_left, both_at}
+use Rattle.std.proofs.Common.{true, ◌≢◌}
+use Rattle.mt_live.specs.Lives.{member_of}
+use Rattle.mt_kernel.specs.Runs.{is_open}
+use Rattle.mt_kernel.specs.Restartable.{StepAppends}
+use Rattle.mt_kernel.specs.Runs.{TakesBack}
+use Rattle.mt_kernel.proofs.Restarts.{area_then, at_place, end_then, goes_on, undone, undone_then}
 use Rattle.mt_kernel.proofs.parts.Parts.undo_step.Goals as goal
 
 pub note_undone-requires-clause-back : goal.note_undone-requires-clause-back
@@ -218,3 +224,63 @@ returns-in-Wait-clause-other g c = λ origin base safe x at. subst (TellsOther c
 
 pub returns-in-Again-clause-other : goal.returns-in-Again-clause-other
 returns-in-Again-clause-other g c = λ origin base safe x at. subst (TellsOther c.advance.new.self.running.items x.scope.txn) (c.in_ok-reply.was ∙ ap Ok c.in-Again.is) (c.advance.ensures.other origin base safe x at)
+
+pub returns-in-Ready-clause-restartable : goal.returns-in-Ready-clause-restartable
+returns-in-Ready-clause-restartable g c = λ origin base later safe_k safe_n r.
+    let k = c.args.self.now in let m = c.advance.new.self in let n = c.note_undone.new.self in let place = c.args.place in let seen = g.D.Device.seen in let may_leave = g.D.Device.may_leave in
+    let was = c.in_ok-reply.was ∙ ap Ok c.in-Ready.is in
+    let made = subst (Advances seen may_leave origin base (state_of k base) m place) was (c.advance.ensures.advances origin base safe_k) in
+    let inside : place < length m.running.items = let same = c.advance.ensures.length in let within = c.requires.within in omega arith in
+    let (x, at) = at_place k.running.items place c.requires.within in
+    let q : Running = get_or m.running.items place x in
+    let now : q ≡ get_or m.running.items place q = get_or_default m.running.items place x q inside in
+    let same : SameOp x.scope q.scope = c.advance.ensures.same origin base safe_k x q at now in
+    let ready : IsReady seen may_leave origin base m place q c.in-Ready.reply = made.0 q now in
+    let owned : IsOwned m.live.members m.live.standing q = subst (IsOwned m.live.members m.live.standing) (sym now) (ready.fit.owned place q inside) in
+    let ends = subst (StepAppends origin k m q.scope) was (c.advance.ensures.appends origin base safe_k q now) in
+    let live = c.advance.ensures.live in
+    let working : is_open (member_of k.live.members q.scope.txn) ≡ true = ap (λ l. is_open (member_of l.members q.scope.txn)) (sym live) ∙ owned.at_work in
+    let back : q.scope.undoes ≢ 0 = λ is. c.requires.back x at (sym same.undoes ∙ is) in
+    let takes : TakesBack k.live.members k.live.standing q = subst (λ l. TakesBack l.members l.standing q) live (owned.inverse back) in
+    let noted = (c.note_undone.ensures.ends origin base c.in-Ready.reply made.0 q now).leads.consistent in
+    undone seen may_leave origin k n base q c.in-Ready.reply safe_k noted (area_then seen may_leave origin k m n ends.area c.note_undone.ensures.store) (end_then seen may_leave origin k m n q c.in-Ready.reply ends.appends c.note_undone.ensures.store)
+    (undone_then seen may_leave origin k m n q c.advance.ensures.book c.advance.ensures.commits live (c.note_undone.ensures.notes q now)) back working takes ready.replies r
+
+pub returns-in-Went-clause-restartable : goal.returns-in-Went-clause-restartable
+returns-in-Went-clause-restartable g c = λ origin base later safe_k safe_n r. let k = c.args.self.now in let n = c.advance.new.self in let place = c.args.place in
+    let was = c.in_ok-reply.was ∙ ap Ok c.in-Went.is in
+    let inside : place < length n.running.items = let same = c.advance.ensures.length in let within = c.requires.within in omega arith in
+    let (q, now) = at_place n.running.items place inside in
+    let quiet = subst (StepAppends origin k n q.scope) was (c.advance.ensures.appends origin base safe_k q now) in
+    goes_on g.D.Device.seen g.D.Device.may_leave origin k n base later safe_k safe_n (record { area = quiet.area; appends = quiet.appends }) c.advance.ensures.book c.advance.ensures.commits c.advance.ensures.live r
+
+pub returns-in-Wait-clause-restartable : goal.returns-in-Wait-clause-restartable
+returns-in-Wait-clause-restartable g c = λ origin base later safe_k safe_n r. let k = c.args.self.now in let n = c.advance.new.self in let place = c.args.place in
+    let was = c.in_ok-reply.was ∙ ap Ok c.in-Wait.is in
+    let inside : place < length n.running.items = let same = c.advance.ensures.length in let within = c.requires.within in omega arith in
+    let (q, now) = at_place n.running.items place inside in
+    let quiet = subst (StepAppends origin k n q.scope) was (c.advance.ensures.appends origin base safe_k q now) in
+    goes_on g.D.Device.seen g.D.Device.may_leave origin k n base later safe_k safe_n (record { area = quiet.area; appends = quiet.appends }) c.advance.ensures.book c.advance.ensures.commits c.advance.ensures.live r
+
+pub returns-in-Again-clause-restartable : goal.returns-in-Again-clause-restartable
+returns-in-Again-clause-restartable g c = λ origin base later safe_k safe_n r. let k = c.args.self.now in let n = c.advance.new.self in let place = c.args.place in
+    let was = c.in_ok-reply.was ∙ ap Ok c.in-Again.is in
+    let inside : place < length n.running.items = let same = c.advance.ensures.length in let within = c.requires.within in omega arith in
+    let (q, now) = at_place n.running.items place inside in
+    let quiet = subst (StepAppends origin k n q.scope) was (c.advance.ensures.appends origin base safe_k q now) in
+    goes_on g.D.Device.seen g.D.Device.may_leave origin k n base later safe_k safe_n (record { area = quiet.area; appends = quiet.appends }) c.advance.ensures.book c.advance.ensures.commits c.advance.ensures.live r
+
+pub returns-in-Flush-clause-restartable : goal.returns-in-Flush-clause-restartable
+returns-in-Flush-clause-restartable g c = λ origin base later safe_k safe_n r. let k = c.args.self.now in let n = c.advance.new.self in let place = c.args.place in
+    let was = c.in_ok-reply.was ∙ ap Ok c.in-Flush.is in
+    let inside : place < length n.running.items = let same = c.advance.ensures.length in let within = c.requires.within in omega arith in
+    let (q, now) = at_place n.running.items place inside in
+    let quiet = subst (StepAppends origin k n q.scope) was (c.advance.ensures.appends origin base safe_k q now) in
+    goes_on g.D.Device.seen g.D.Device.may_leave origin k n base later safe_k safe_n (record { area = quiet.area; appends = quiet.appends }) c.advance.ensures.book c.advance.ensures.commits c.advance.ensures.live r
+
+pub returns-in_err-reply-clause-restartable : goal.returns-in_err-reply-clause-restartable
+returns-in_err-reply-clause-restartable g c = λ origin base later safe_k safe_n r. let k = c.args.self.now in let n = c.advance.new.self in let place = c.args.place in
+    let inside : place < length n.running.items = let same = c.advance.ensures.length in let within = c.requires.within in omega arith in
+    let (q, now) = at_place n.running.items place inside in
+    let quiet = subst (StepAppends origin k n q.scope) c.in_err-reply.was (c.advance.ensures.appends origin base safe_k q now) in
+    goes_on g.D.Device.seen g.D.Device.may_leave origin k n base later safe_k safe_n (record { area = quiet.area; appends = quiet.appends }) c.advance.ensures.book c.advance.ensures.commits c.advance.ensures.live r

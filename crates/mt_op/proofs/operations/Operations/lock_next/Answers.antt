@@ -18,5 +18,5 @@ lock-requires-clause-next g c = let s = c.args.scope.now in let f = c.in-Some.en
   new = f.new;
   inside = f.inside;
   reads = λ is. absurd (let never : true ≡ false = sym is ∙ puts in cc);
-  asked = inr ((c.args.mode, subst (λ (p : ℕ). IsAsked s p c.args.mode) (sym c.get.ensures ∙ c.if-get-eq-MAP.true) c.requires.asked), refl, puts, f.roomy);
+  asked = inr ((c.args.mode, subst (λ (p : ℕ). IsAsked s p c.args.mode) (sym c.get.ensures ∙ c.if-get-eq-MAP.true) c.requires.asked), f.unled, refl, f.some, f.roomy);
 }

@@ -36,7 +36,7 @@ pub returns-in-Ok-note_rooms-clause-right : goal.returns-in-Ok-note_rooms-clause
 returns-in-Ok-note_rooms-clause-right g c = λ opening relations counters kept good shows.
     let seen = g.D.Device.seen in let may_leave = g.D.Device.may_leave in let n = c.note_rooms.new.self in
     let first = c.first_parts.ensures.read in let begins = c.in-Ok.ensures.begins in let noted = c.in-Ok-note_rooms.ensures.noted in
-    let all = read_then seen may_leave c.args.store c.first_parts.new.store n.store first noted.read in
+    let all = read_then seen may_leave g.D.Device.moment g.D.Device.left_since c.args.store c.first_parts.new.store n.store first noted.read in
     let none = subst (λ (log : Log). AreImages (appended log)) (sym all.log) c.requires.images in
     let kinds : c.in-Ok.parts.1.kinds ≡ opening 0 = begins.kinds ∙ unlogged_map seen opening relations counters c.args.store good shows in
     let map : n.map ≡ c.in-Ok.parts.1 = noted.map in
@@ -50,8 +50,14 @@ returns-in-Ok-note_rooms-clause-right g c = λ opening relations counters kept g
 
 pub returns-in-Ok-note_rooms-clause-read : goal.returns-in-Ok-note_rooms-clause-read
 returns-in-Ok-note_rooms-clause-read g c =
-    read_then g.D.Device.seen g.D.Device.may_leave c.args.store c.first_parts.new.store c.note_rooms.new.self.store c.first_parts.ensures.read c.note_rooms.ensures.read
+    read_then g.D.Device.seen g.D.Device.may_leave g.D.Device.moment g.D.Device.left_since c.args.store c.first_parts.new.store c.note_rooms.new.self.store c.first_parts.ensures.read c.note_rooms.ensures.read
 
 pub returns-in-Err-note_rooms-clause-read : goal.returns-in-Err-note_rooms-clause-read
 returns-in-Err-note_rooms-clause-read g c =
-    read_then g.D.Device.seen g.D.Device.may_leave c.args.store c.first_parts.new.store c.note_rooms.new.self.store c.first_parts.ensures.read c.note_rooms.ensures.read
+    read_then g.D.Device.seen g.D.Device.may_leave g.D.Device.moment g.D.Device.left_since c.args.store c.first_parts.new.store c.note_rooms.new.self.store c.first_parts.ensures.read c.note_rooms.ensures.read
+
+pub returns-in-Ok-note_rooms-clause-moments : goal.returns-in-Ok-note_rooms-clause-moments
+returns-in-Ok-note_rooms-clause-moments g c = (returns-in-Ok-note_rooms-clause-read g c).moments
+
+pub returns-in-Err-note_rooms-clause-moments : goal.returns-in-Err-note_rooms-clause-moments
+returns-in-Err-note_rooms-clause-moments g c = (returns-in-Err-note_rooms-clause-read g c).moments

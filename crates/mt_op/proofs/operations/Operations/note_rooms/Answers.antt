@@ -44,7 +44,7 @@ view-requires-clause-inside g c =
 pub fits-room-requires : goal.fits-room-requires
 fits-room-requires g c = shaped_of c.view.result.now (∥∥₁_map c.requires.good (λ (opening, relations, counters, kept, good, shows, first).
     let seen = g.D.Device.seen in let m = c.bring.new.self in let l = c.loop-number.self in let before = c.loop-number.invariant in let b = c.bring.ensures in
-    let read = read_then seen g.D.Device.may_leave c.args.self.now.store l.store m.store before.read (read_brought seen g.D.Device.may_leave l m b.kept b.rests b.log b.flush) in
+    let read = read_then seen g.D.Device.may_leave g.D.Device.moment g.D.Device.left_since c.args.self.now.store l.store m.store before.read (read_brought seen g.D.Device.may_leave g.D.Device.moment g.D.Device.left_since l m b.kept b.rests b.moments b.log b.place b.flush) in
     let all = c.count-count.ensures in let same = read.page_count in
     let below = c.loop-number-test.true in let is = c.new-page.ensures in
     let page : c.new-page.result ≡ c.from.result = c.new-page.ensures ∙ sym c.from.ensures in
@@ -64,7 +64,7 @@ pub loop-number-init : goal.loop-number-init
 loop-number-init g c =
     let o = c.args.self.now in let rooms : o.rooms.0 ≡ replicate (pages o.store.pool) 0 = c.requires.blank in
     record {
-      read = read_none g.D.Device.seen g.D.Device.may_leave o.store;
+      read = read_none g.D.Device.seen g.D.Device.may_leave g.D.Device.moment g.D.Device.left_since g.met.D.Device.only_now o.store;
       noted = λ opening shows p below. absurd (omega arith);
       blank = λ p above below.
           let size : length o.rooms.0 ≡ pages o.store.pool = ap (λ (xs : List ℕ). length xs) rooms ∙ length-replicate _ _ in
@@ -86,12 +86,12 @@ loop-number-preserved g c =
     let within : n < pages o.store.pool = omega (arith, below, all) in
     let from : c.from.result ≡ n = c.from.ensures in
     let page : c.new-page.result ≡ n = c.new-page.ensures in
-    let Noted : Operations g.row.D.Denot → Type 0 = λ x. IsNotedTo d.seen d.may_leave d.faults o x (n + 1) in
+    let Noted : Operations g.row.D.Denot → Type 0 = λ x. IsNotedTo d.seen d.may_leave d.moment d.left_since d.faults o x (n + 1) in
     elim c.if-self-from-eq-RECORDS.branch [
       | then-self-from-eq-RECORDS+in_ok-bring+then-branch w ↦
           let b = w.bring.ensures in let m = w.bring.new.self in
           subst Noted (sym w.self-is)
-          (noted_page d.seen d.may_leave d.faults o l n before inside m w.noted.new.self w.fits-room.result (read_brought d.seen d.may_leave l m b.kept b.rests b.log b.flush) b.locks b.map b.rooms (unfailed _ _ w.bring.result _ b.cause w.in_ok-bring.was)
+          (noted_page d.seen d.may_leave d.moment d.left_since d.faults o l n before inside m w.noted.new.self w.fits-room.result (read_brought d.seen d.may_leave d.moment d.left_since l m b.kept b.rests b.moments b.log b.place b.flush) b.locks b.map b.rooms (unfailed _ _ w.bring.result _ b.cause w.in_ok-bring.was)
           within (ap (λ (p : ℕ). get_or l.map.kinds p 0) (sym from) ∙ w.if-self-from-eq-RECORDS.true)
           (w.noted.ensures.fits ∙ ap (λ (p : ℕ). set m.rooms.0 p w.fits-room.result) page)
           (w.fits-room.ensures ∙ ap (λ (bytes : List ℕ). fits_of bytes) (w.view.ensures (d.seen m.store.device)) ∙ ap (λ (p : ℕ). fits_of (view m.store.pool (d.seen m.store.device) p)) page))
@@ -103,7 +103,7 @@ loop-number-preserved g c =
                 absurd (still_spare o.store.pool l.store.pool old.frames now.frames before.read.dirty c.requires.spare (x.bring.ensures.full (x.in_ok-bring.was ∙ ap Ok x.if-branch.false)).0)
             | else-self-from-eq-RECORDS-via-else-self-from-eq-RECORDS x ↦
                 subst Noted (sym (w.self-is ∙ x.self-is))
-                (passed d.seen d.may_leave d.faults o l n before inside (λ is. x.if-self-from-eq-RECORDS.false (ap (λ (p : ℕ). get_or l.map.kinds p 0) from ∙ is)))
+                (passed d.seen d.may_leave d.moment d.left_since d.faults o l n before inside (λ is. x.if-self-from-eq-RECORDS.false (ap (λ (p : ℕ). get_or l.map.kinds p 0) from ∙ is)))
           ]
     ]
 
@@ -113,10 +113,10 @@ returns-clause-noted g c =
     let blank : length o.rooms.0 ≡ pages o.store.pool = ap (λ (xs : List ℕ). length xs) c.requires.blank ∙ length-replicate _ _ in
     let past = c.loop-number-test.false in let within = c.loop-number.auto.number-end in let all = c.count-count.ensures in
     let last : c.loop-number.number ≡ length o.rooms.0 = omega (arith, past, within, blank, all) in
-    let done = subst (IsNotedTo d.seen d.may_leave d.faults o l) last c.loop-number.invariant in
+    let done = subst (IsNotedTo d.seen d.may_leave d.moment d.left_since d.faults o l) last c.loop-number.invariant in
     record {
       read = done.read;
-      noted = λ opening shows first. all_noted d.seen d.may_leave d.faults o l opening done shows first;
+      noted = λ opening shows first. all_noted d.seen d.may_leave d.moment d.left_since d.faults o l opening done shows first;
       size = done.size;
       locks = done.locks;
       map = done.map;
@@ -128,7 +128,7 @@ returns-clause-read g c = c.loop-number.invariant.read
 
 pub returns-in_err-bring-clause-read : goal.returns-in_err-bring-clause-read
 returns-in_err-bring-clause-read g c = let b = c.bring.ensures in let l = c.loop-number.self in
-    read_then g.D.Device.seen g.D.Device.may_leave c.args.self.now.store l.store c.bring.new.self.store c.loop-number.invariant.read (read_brought g.D.Device.seen g.D.Device.may_leave l c.bring.new.self b.kept b.rests b.log b.flush)
+    read_then g.D.Device.seen g.D.Device.may_leave g.D.Device.moment g.D.Device.left_since c.args.self.now.store l.store c.bring.new.self.store c.loop-number.invariant.read (read_brought g.D.Device.seen g.D.Device.may_leave g.D.Device.moment g.D.Device.left_since l c.bring.new.self b.kept b.rests b.moments b.log b.place b.flush)
 
 pub returns-in_err-bring-clause-failed : goal.returns-in_err-bring-clause-failed
 returns-in_err-bring-clause-failed g c = λ is. let same = c.loop-number.invariant.faults in let late = c.bring.ensures.cause.failed (ap is_err c.in_err-bring.was) in omega arith

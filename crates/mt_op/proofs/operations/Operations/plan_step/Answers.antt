@@ -10,7 +10,8 @@ use Rattle.mt_pool.specs.declared.store.Store.{Store}
 use Rattle.mt_base.specs.declared.modes.Mode.TheVariants.{Read}
 use Rattle.mt_space.specs.Changes.{after}
 use Rattle.mt_steps.specs.Acts.{IfLock, IfMade, IfFull}
-use Rattle.mt_steps.specs.Plans.{AsksCounters, AsksRow, InPages, IsPlanned, TakesPages, IsTight, free_pages, own_needs, record_bytes}
+use Rattle.mt_steps.specs.Asks.{AsksFor}
+use Rattle.mt_steps.specs.Plans.{InPages, IsPlanned, TakesPages, IsTight, free_pages, own_needs, record_bytes}
 use Rattle.mt_steps.specs.declared.act.Act.{Act}
 use Rattle.mt_op.specs.World.{looked}
 use Rattle.mt_op.specs.Operations.{world}
@@ -44,17 +45,11 @@ lock_next-requires-clause-next g c = let s = c.args.scope.now in
       new = l.0;
       inside = l.1;
       reads = λ is. subst (λ (a : Act). IfLock a (λ p mode. mode ≡ Read)) c.in-Lock.is (c.in_ok-page.ensures.mode (reading_of s.op is));
-      asked = inl (
-        subst (λ (a : Act). IfLock a (AsksCounters s.op)) c.in-Lock.is c.in_ok-page.ensures.counters,
-        subst (λ (a : Act). IfLock a (AsksRow (looked s) s.seen.total s.op)) c.in-Lock.is c.in_ok-page.ensures.rows,
-      );
+      asked = inl (subst (λ (a : Act). IfLock a (AsksFor (looked s) s.room s.seen.total s.split s.op)) c.in-Lock.is c.in_ok-page.ensures.asks);
     }
 
 pub lock_next-requires-clause-asked : goal.lock_next-requires-clause-asked
-lock_next-requires-clause-asked g c = let s = c.args.scope.now in (
-  subst (λ (a : Act). IfLock a (AsksCounters s.op)) c.in-Lock.is c.in_ok-page.ensures.counters,
-  subst (λ (a : Act). IfLock a (AsksRow (looked s) s.seen.total s.op)) c.in-Lock.is c.in_ok-page.ensures.rows,
-)
+lock_next-requires-clause-asked g c = let s = c.args.scope.now in subst (λ (a : Act). IfLock a (AsksFor (looked s) s.room s.seen.total s.split s.op)) c.in-Lock.is c.in_ok-page.ensures.asks
 
 pub keep_plan-requires-clause-planned : goal.keep_plan-requires-clause-planned
 keep_plan-requires-clause-planned g c = let s = c.args.scope.now in λ relations counters small within.

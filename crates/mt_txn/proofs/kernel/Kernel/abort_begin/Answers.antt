@@ -1,6 +1,7 @@
 use mathlib.Core.Logic.{∥∥₁_elim}
 use Rattle.std.proofs.Props.{props}
 use Rattle.mt_txn.proofs.Showing.{led, well_led, stays_led}
+use Rattle.mt_txn.proofs.Restarting.{restarts_on, stays_goes}
 use Rattle.mt_txn.proofs.kernel.Kernel.abort_begin.Goals as goal
 
 pub invariant_of-self : goal.invariant_of-self
@@ -11,3 +12,7 @@ returns-clause-state g c = λ first s shows. led g.D.Device.seen g.D.Device.may_
 
 pub returns-clause-work : goal.returns-clause-work
 returns-clause-work g c = ∥∥₁_elim c.args.self.now.well (hlevel props) (λ (origin, base, is, safe). c.abort_begin.ensures.few origin base safe)
+
+pub returns-clause-restarts : goal.returns-clause-restarts
+returns-clause-restarts g c = λ first r. let D = g.D.Device in let k = c.args.self.now in
+    restarts_on D.seen D.may_leave k.relations k.counters first k.parts c.abort_begin.new.self (stays_goes D.seen D.may_leave k.parts c.abort_begin.new.self c.abort_begin.ensures.state) (c.abort_begin.ensures.restartable) r

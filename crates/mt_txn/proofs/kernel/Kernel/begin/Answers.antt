@@ -1,5 +1,8 @@
 use Rattle.mt_live.specs.Machine.{begun}
 use Rattle.mt_txn.proofs.Showing.{sound_of, on_ok, well_or}
+use Rattle.mt_txn.proofs.Restarting.{or_goes, restarts_on}
+use Rattle.std.proofs.Common.{ap, arith, length}
+use Rattle.mt_live.specs.declared.live.Live.{Live}
 use Rattle.mt_txn.proofs.kernel.Kernel.begin.Goals as goal
 
 pub begin-requires-clause-safe : goal.begin-requires-clause-safe
@@ -12,3 +15,7 @@ invariant_of-self g c = record {
 
 pub returns-clause-begun : goal.returns-clause-begun
 returns-clause-begun g c = λ first s shows. on_ok g.D.Device.seen g.D.Device.may_leave c.args.self.now.relations c.args.self.now.counters c.args.self.now.parts c.begin.new.self (λ z. begun z c.args.session) first s c.begin.result c.begin.ensures.begun shows
+
+pub returns-clause-restarts : goal.returns-clause-restarts
+returns-clause-restarts g c = λ first r. let D = g.D.Device in let k = c.args.self.now in
+    restarts_on D.seen D.may_leave k.relations k.counters first k.parts c.begin.new.self (or_goes D.seen D.may_leave k.parts c.begin.new.self (λ s. begun s c.args.session) c.begin.result c.begin.ensures.begun c.begin.ensures.err) (c.begin.ensures.restartable (let less = c.if-lives-ge-MAX_LIVE.false in let count = c.count-lives.ensures in let same = ap (λ (l : Live). length l.members) c.live.ensures in omega (arith, less, count, same))) r

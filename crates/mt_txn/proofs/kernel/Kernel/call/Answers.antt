@@ -1,6 +1,16 @@
 use Rattle.mt_txn.proofs.Answering.{call_answers, call_shown}
-use mathlib.Core.Logic.{∥∥₁_map}
+use mathlib.Core.Logic.{∥∥₁_elim, ∥∥₁_map}
+use Rattle.std.proofs.Common.{◌≡◌, ◌∙◌, Bool, true, Option, Some, None, Err, ap, refl, subst, sym}
+use Rattle.std.proofs.Props.{props}
+use Rattle.mt_base.specs.declared.refusal.Refusal.{Refusal}
+use Rattle.mt_base.specs.declared.refusal.Refusal.TheVariants.{DeviceFailed}
+use Rattle.mt_kernel.specs.Causes.{IsAnswered}
+use Rattle.mt_kernel.specs.Consistent.{log_kept}
+use Rattle.mt_txn.proofs.Failing.{answered_fine, call_fails}
+use Rattle.mt_txn.specs.Causes.{call_cause}
+use Rattle.mt_txn.specs.Shown.{is_failed}
 use Rattle.mt_txn.proofs.Answering.{may_call, call_well}
+use Rattle.mt_txn.proofs.Restarting.{restarts_called}
 use Rattle.mt_txn.proofs.kernel.Kernel.call.Goals as goal
 
 pub call-requires-clause-safe : goal.call-requires-clause-safe
@@ -14,3 +24,27 @@ returns-clause-answer g c = λ none. ∥∥₁_map c.args.self.now.well (λ (ori
 
 pub returns-clause-called : goal.returns-clause-called
 returns-clause-called g c = λ first s shows. call_answers g.D.Device.seen g.D.Device.may_leave first s c.args.txn c.args.op c.call.result _ (call_shown g.D.Device.seen g.D.Device.may_leave c.args.self.now.relations c.args.self.now.counters c.args.self.now.parts c.call.new.self first s c.args.txn c.args.op c.call.result (λ origin is. may_call g.D.Device.seen g.D.Device.may_leave c.args.self.now.relations c.args.self.now.counters c.args.self.now.parts c.args.txn c.args.op origin is c.in_default.ensures.named c.in_default.ensures.sized c.in_default.ensures.opened c.in_default.ensures.idle) c.call.ensures.called shows)
+
+pub returns-in-Some-clause-fails : goal.returns-in-Some-clause-fails
+returns-in-Some-clause-fails g c =
+    let k = c.args.self.now in let r = k.relations in let m = k.counters in
+    let cause : call_cause r m (is_failed k) k.parts c.args.txn c.args.op ≡ Some c.in-Some.why = sym c.call_cause.ensures.cause ∙ c.in-Some.is in (
+      λ failed.
+          let both : Some DeviceFailed ≡ Some c.in-Some.why = sym (ap (λ (b : Bool). call_cause r m b k.parts c.args.txn c.args.op) failed) ∙ cause in
+          let same : c.in-Some.why ≡ DeviceFailed = cc in (ap (λ (w : Refusal). Err w) same, refl),
+      λ is. let same : c.in-Some.why ≡ DeviceFailed = cc in call_fails r m (is_failed k) k.parts c.args.txn c.args.op (cause ∙ ap (λ (w : Refusal). Some w) same),
+    )
+
+pub returns-clause-fails : goal.returns-clause-fails
+returns-clause-fails g c =
+    let k = c.args.self.now in let r = k.relations in let m = k.counters in
+    let none : call_cause r m (is_failed k) k.parts c.args.txn c.args.op ≡ None = sym c.in_default.ensures.cause in (
+      λ failed. let wrong : Some DeviceFailed ≡ None = sym (ap (λ (b : Bool). call_cause r m b k.parts c.args.txn c.args.op) failed) ∙ none in absurd cc,
+      λ is. absurd (∥∥₁_elim k.well (hlevel props) (λ (origin, base, own, safe). answered_fine g.D.Device.seen origin k.parts (log_kept k.parts) c.args.txn c.args.op
+          (subst (IsAnswered g.D.Device.seen origin k.parts (log_kept k.parts) c.args.txn c.args.op true) is
+          (c.call.ensures.answer origin base safe (may_call g.D.Device.seen g.D.Device.may_leave r m k.parts c.args.txn c.args.op origin own c.in_default.ensures.named c.in_default.ensures.sized c.in_default.ensures.opened c.in_default.ensures.idle))))),
+    )
+
+pub returns-clause-restarts : goal.returns-clause-restarts
+returns-clause-restarts g c = λ first r. let D = g.D.Device in let k = c.args.self.now in
+    restarts_called D.seen D.may_leave k.relations k.counters first k.parts c.call.new.self c.args.txn c.args.op c.call.result (λ origin is. may_call D.seen D.may_leave k.relations k.counters k.parts c.args.txn c.args.op origin is c.in_default.ensures.named c.in_default.ensures.sized c.in_default.ensures.opened c.in_default.ensures.idle) c.call.ensures.called c.call.ensures.restartable r

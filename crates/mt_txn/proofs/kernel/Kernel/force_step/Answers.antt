@@ -6,48 +6,66 @@ use Rattle.mt_txn.specs.Well.{ShowsIn}
 use Rattle.mt_kernel.proofs.Lessening.{undo_same}
 use Rattle.mt_txn.proofs.Answering.{err_forced}
 use Rattle.mt_txn.proofs.Showing.{sound_of, led, well_led, stays_led}
+use Rattle.mt_txn.proofs.Restarting.{restarts_on, stays_goes}
 use Rattle.mt_txn.proofs.kernel.Kernel.force_step.Goals as goal
 
-pub force_step-requires : goal.force_step-requires
-force_step-requires g c = record { safe = sound_of g.D.Device.seen g.D.Device.may_leave c.args.self.now.relations c.args.self.now.counters c.args.self.now.parts c.args.self.now.well }
+pub force_step-told-requires : goal.force_step-told-requires
+force_step-told-requires g c = record { safe = sound_of g.D.Device.seen g.D.Device.may_leave c.args.self.now.relations c.args.self.now.counters c.args.self.now.parts c.args.self.now.well }
 
 pub invariant_of-self : goal.invariant_of-self
-invariant_of-self g c = record { well = well_led g.D.Device.seen g.D.Device.may_leave c.args.self.now.relations c.args.self.now.counters c.args.self.now.parts c.force_step.new.self (λ z. z) (stays_led g.D.Device.seen g.D.Device.may_leave c.args.self.now.relations c.args.self.now.counters c.args.self.now.parts c.force_step.new.self c.force_step.ensures.state) c.args.self.now.well }
+invariant_of-self g c = record { well = well_led g.D.Device.seen g.D.Device.may_leave c.args.self.now.relations c.args.self.now.counters c.args.self.now.parts c.force_step-told.new.self (λ z. z) (stays_led g.D.Device.seen g.D.Device.may_leave c.args.self.now.relations c.args.self.now.counters c.args.self.now.parts c.force_step-told.new.self c.force_step-told.ensures.state) c.args.self.now.well }
 
-pub returns-in_err-force_step-clause-forced : goal.returns-in_err-force_step-clause-forced
-returns-in_err-force_step-clause-forced g c = λ first s shows. let p = err_from_is_err_and c.from_residual-in_err-force_step.result c.from_residual-in_err-force_step.ensures.1 in
-    err_forced g.D.Device.seen g.D.Device.may_leave first s _ c.from_residual-in_err-force_step.result p.0 p.1 (led g.D.Device.seen g.D.Device.may_leave c.args.self.now.relations c.args.self.now.counters c.args.self.now.parts c.force_step.new.self (λ z. z) first s (stays_led g.D.Device.seen g.D.Device.may_leave c.args.self.now.relations c.args.self.now.counters c.args.self.now.parts c.force_step.new.self c.force_step.ensures.state) shows)
+pub returns-in_err-told-clause-forced : goal.returns-in_err-told-clause-forced
+returns-in_err-told-clause-forced g c = λ first s shows. let p = err_from_is_err_and c.from_residual-in_err-told.result c.from_residual-in_err-told.ensures.1 in
+    err_forced g.D.Device.seen g.D.Device.may_leave first s _ c.from_residual-in_err-told.result p.0 p.1 (led g.D.Device.seen g.D.Device.may_leave c.args.self.now.relations c.args.self.now.counters c.args.self.now.parts c.force_step-told.new.self (λ z. z) first s (stays_led g.D.Device.seen g.D.Device.may_leave c.args.self.now.relations c.args.self.now.counters c.args.self.now.parts c.force_step-told.new.self c.force_step-told.ensures.state) shows)
 
 pub invariant_of-self-in-More : goal.invariant_of-self-in-More
-invariant_of-self-in-More g c = record { well = well_led g.D.Device.seen g.D.Device.may_leave c.args.self.now.relations c.args.self.now.counters c.args.self.now.parts c.force_step.new.self (λ z. z) (stays_led g.D.Device.seen g.D.Device.may_leave c.args.self.now.relations c.args.self.now.counters c.args.self.now.parts c.force_step.new.self c.force_step.ensures.state) c.args.self.now.well }
+invariant_of-self-in-More g c = record { well = well_led g.D.Device.seen g.D.Device.may_leave c.args.self.now.relations c.args.self.now.counters c.args.self.now.parts c.force_step-told.new.self (λ z. z) (stays_led g.D.Device.seen g.D.Device.may_leave c.args.self.now.relations c.args.self.now.counters c.args.self.now.parts c.force_step-told.new.self c.force_step-told.ensures.state) c.args.self.now.well }
 
 pub invariant_of-self-in-Idle : goal.invariant_of-self-in-Idle
-invariant_of-self-in-Idle g c = record { well = well_led g.D.Device.seen g.D.Device.may_leave c.args.self.now.relations c.args.self.now.counters c.args.self.now.parts c.force_step.new.self (λ z. z) (stays_led g.D.Device.seen g.D.Device.may_leave c.args.self.now.relations c.args.self.now.counters c.args.self.now.parts c.force_step.new.self c.force_step.ensures.state) c.args.self.now.well }
+invariant_of-self-in-Idle g c = record { well = well_led g.D.Device.seen g.D.Device.may_leave c.args.self.now.relations c.args.self.now.counters c.args.self.now.parts c.force_step-told.new.self (λ z. z) (stays_led g.D.Device.seen g.D.Device.may_leave c.args.self.now.relations c.args.self.now.counters c.args.self.now.parts c.force_step-told.new.self c.force_step-told.ensures.state) c.args.self.now.well }
 
 pub leave_durable-requires-clause-safe : goal.leave_durable-requires-clause-safe
-leave_durable-requires-clause-safe g c = sound_of g.D.Device.seen g.D.Device.may_leave c.args.self.now.relations c.args.self.now.counters c.force_step.new.self (well_led g.D.Device.seen g.D.Device.may_leave c.args.self.now.relations c.args.self.now.counters c.args.self.now.parts c.force_step.new.self (λ z. z) (stays_led g.D.Device.seen g.D.Device.may_leave c.args.self.now.relations c.args.self.now.counters c.args.self.now.parts c.force_step.new.self c.force_step.ensures.state) c.args.self.now.well)
+leave_durable-requires-clause-safe g c = sound_of g.D.Device.seen g.D.Device.may_leave c.args.self.now.relations c.args.self.now.counters c.force_step-told.new.self (well_led g.D.Device.seen g.D.Device.may_leave c.args.self.now.relations c.args.self.now.counters c.args.self.now.parts c.force_step-told.new.self (λ z. z) (stays_led g.D.Device.seen g.D.Device.may_leave c.args.self.now.relations c.args.self.now.counters c.args.self.now.parts c.force_step-told.new.self c.force_step-told.ensures.state) c.args.self.now.well)
 
 pub invariant_of-self-in-Durable : goal.invariant_of-self-in-Durable
-invariant_of-self-in-Durable g c = record { well = well_led g.D.Device.seen g.D.Device.may_leave c.args.self.now.relations c.args.self.now.counters c.force_step.new.self c.leave_durable.new.self (λ z. booked_each z (durable_txns c.force_step.new.self.commits.items c.in-Durable.place)) (λ origin base safe. (base, c.leave_durable.ensures.left origin base safe)) (well_led g.D.Device.seen g.D.Device.may_leave c.args.self.now.relations c.args.self.now.counters c.args.self.now.parts c.force_step.new.self (λ z. z) (stays_led g.D.Device.seen g.D.Device.may_leave c.args.self.now.relations c.args.self.now.counters c.args.self.now.parts c.force_step.new.self c.force_step.ensures.state) c.args.self.now.well) }
+invariant_of-self-in-Durable g c = record { well = well_led g.D.Device.seen g.D.Device.may_leave c.args.self.now.relations c.args.self.now.counters c.force_step-told.new.self c.leave_durable.new.self (λ z. booked_each z (durable_txns c.force_step-told.new.self.commits.items c.in-Durable.place)) (λ origin base safe. (base, c.leave_durable.ensures.left origin base safe)) (well_led g.D.Device.seen g.D.Device.may_leave c.args.self.now.relations c.args.self.now.counters c.args.self.now.parts c.force_step-told.new.self (λ z. z) (stays_led g.D.Device.seen g.D.Device.may_leave c.args.self.now.relations c.args.self.now.counters c.args.self.now.parts c.force_step-told.new.self c.force_step-told.ensures.state) c.args.self.now.well) }
 
 pub returns-in-More-clause-forced : goal.returns-in-More-clause-forced
-returns-in-More-clause-forced g c = λ first s shows. led g.D.Device.seen g.D.Device.may_leave c.args.self.now.relations c.args.self.now.counters c.args.self.now.parts c.force_step.new.self (λ z. z) first s (stays_led g.D.Device.seen g.D.Device.may_leave c.args.self.now.relations c.args.self.now.counters c.args.self.now.parts c.force_step.new.self c.force_step.ensures.state) shows
+returns-in-More-clause-forced g c = λ first s shows. led g.D.Device.seen g.D.Device.may_leave c.args.self.now.relations c.args.self.now.counters c.args.self.now.parts c.force_step-told.new.self (λ z. z) first s (stays_led g.D.Device.seen g.D.Device.may_leave c.args.self.now.relations c.args.self.now.counters c.args.self.now.parts c.force_step-told.new.self c.force_step-told.ensures.state) shows
 
 pub returns-in-Idle-clause-forced : goal.returns-in-Idle-clause-forced
-returns-in-Idle-clause-forced g c = λ first s shows. led g.D.Device.seen g.D.Device.may_leave c.args.self.now.relations c.args.self.now.counters c.args.self.now.parts c.force_step.new.self (λ z. z) first s (stays_led g.D.Device.seen g.D.Device.may_leave c.args.self.now.relations c.args.self.now.counters c.args.self.now.parts c.force_step.new.self c.force_step.ensures.state) shows
+returns-in-Idle-clause-forced g c = λ first s shows. led g.D.Device.seen g.D.Device.may_leave c.args.self.now.relations c.args.self.now.counters c.args.self.now.parts c.force_step-told.new.self (λ z. z) first s (stays_led g.D.Device.seen g.D.Device.may_leave c.args.self.now.relations c.args.self.now.counters c.args.self.now.parts c.force_step-told.new.self c.force_step-told.ensures.state) shows
 
 pub returns-in-Durable-clause-forced : goal.returns-in-Durable-clause-forced
-returns-in-Durable-clause-forced g c = λ first s shows. subst (λ (ts : List ℕ). ShowsIn g.D.Device.seen g.D.Device.may_leave c.args.self.now.relations c.args.self.now.counters first (booked_each s ts) c.leave_durable.new.self) (sym (c.leave_durable.ensures.names ∙ ap (λ (ts : List ℕ). ts ++ durable_txns c.force_step.new.self.commits.items c.in-Durable.place) c.in_ok-names.ensures.items))
-    (led g.D.Device.seen g.D.Device.may_leave c.args.self.now.relations c.args.self.now.counters c.force_step.new.self c.leave_durable.new.self (λ z. booked_each z (durable_txns c.force_step.new.self.commits.items c.in-Durable.place)) first s (λ origin base safe. (base, c.leave_durable.ensures.left origin base safe)) (led g.D.Device.seen g.D.Device.may_leave c.args.self.now.relations c.args.self.now.counters c.args.self.now.parts c.force_step.new.self (λ z. z) first s (stays_led g.D.Device.seen g.D.Device.may_leave c.args.self.now.relations c.args.self.now.counters c.args.self.now.parts c.force_step.new.self c.force_step.ensures.state) shows))
+returns-in-Durable-clause-forced g c = λ first s shows. subst (λ (ts : List ℕ). ShowsIn g.D.Device.seen g.D.Device.may_leave c.args.self.now.relations c.args.self.now.counters first (booked_each s ts) c.leave_durable.new.self) (sym (c.leave_durable.ensures.names ∙ ap (λ (ts : List ℕ). ts ++ durable_txns c.force_step-told.new.self.commits.items c.in-Durable.place) c.in_ok-names.ensures.items))
+    (led g.D.Device.seen g.D.Device.may_leave c.args.self.now.relations c.args.self.now.counters c.force_step-told.new.self c.leave_durable.new.self (λ z. booked_each z (durable_txns c.force_step-told.new.self.commits.items c.in-Durable.place)) first s (λ origin base safe. (base, c.leave_durable.ensures.left origin base safe)) (led g.D.Device.seen g.D.Device.may_leave c.args.self.now.relations c.args.self.now.counters c.args.self.now.parts c.force_step-told.new.self (λ z. z) first s (stays_led g.D.Device.seen g.D.Device.may_leave c.args.self.now.relations c.args.self.now.counters c.args.self.now.parts c.force_step-told.new.self c.force_step-told.ensures.state) shows))
 
-pub returns-in_err-force_step-clause-undo : goal.returns-in_err-force_step-clause-undo
-returns-in_err-force_step-clause-undo g c = undo_same c.args.self.now.parts c.force_step.new.self c.force_step.ensures.rest (ap (λ (p : Pool). p.of_page) c.force_step.ensures.pool)
+pub returns-in_err-told-clause-undo : goal.returns-in_err-told-clause-undo
+returns-in_err-told-clause-undo g c = undo_same c.args.self.now.parts c.force_step-told.new.self c.force_step-told.ensures.rest (ap (λ (p : Pool). p.of_page) c.force_step-told.ensures.pool)
 
 pub returns-in-More-clause-undo : goal.returns-in-More-clause-undo
-returns-in-More-clause-undo g c = undo_same c.args.self.now.parts c.force_step.new.self c.force_step.ensures.rest (ap (λ (p : Pool). p.of_page) c.force_step.ensures.pool)
+returns-in-More-clause-undo g c = undo_same c.args.self.now.parts c.force_step-told.new.self c.force_step-told.ensures.rest (ap (λ (p : Pool). p.of_page) c.force_step-told.ensures.pool)
 
 pub returns-in-Idle-clause-undo : goal.returns-in-Idle-clause-undo
-returns-in-Idle-clause-undo g c = undo_same c.args.self.now.parts c.force_step.new.self c.force_step.ensures.rest (ap (λ (p : Pool). p.of_page) c.force_step.ensures.pool)
+returns-in-Idle-clause-undo g c = undo_same c.args.self.now.parts c.force_step-told.new.self c.force_step-told.ensures.rest (ap (λ (p : Pool). p.of_page) c.force_step-told.ensures.pool)
 
 pub returns-in-Durable-clause-undo : goal.returns-in-Durable-clause-undo
-returns-in-Durable-clause-undo g c = λ t. let later = c.leave_durable.ensures.undo t in let before = undo_same c.args.self.now.parts c.force_step.new.self c.force_step.ensures.rest (ap (λ (p : Pool). p.of_page) c.force_step.ensures.pool) t in omega (arith, later, before)
+returns-in-Durable-clause-undo g c = λ t. let later = c.leave_durable.ensures.undo t in let before = undo_same c.args.self.now.parts c.force_step-told.new.self c.force_step-told.ensures.rest (ap (λ (p : Pool). p.of_page) c.force_step-told.ensures.pool) t in omega (arith, later, before)
+
+pub returns-in_err-told-clause-restarts : goal.returns-in_err-told-clause-restarts
+returns-in_err-told-clause-restarts g c = λ first r. let D = g.D.Device in let k = c.args.self.now in
+    restarts_on D.seen D.may_leave k.relations k.counters first k.parts c.force_step-told.new.self (stays_goes D.seen D.may_leave k.parts c.force_step-told.new.self c.force_step-told.ensures.state) (c.force_step-told.ensures.restartable) r
+
+pub returns-in-More-clause-restarts : goal.returns-in-More-clause-restarts
+returns-in-More-clause-restarts g c = λ first r. let D = g.D.Device in let k = c.args.self.now in
+    restarts_on D.seen D.may_leave k.relations k.counters first k.parts c.force_step-told.new.self (stays_goes D.seen D.may_leave k.parts c.force_step-told.new.self c.force_step-told.ensures.state) (c.force_step-told.ensures.restartable) r
+
+pub returns-in-Idle-clause-restarts : goal.returns-in-Idle-clause-restarts
+returns-in-Idle-clause-restarts g c = λ first r. let D = g.D.Device in let k = c.args.self.now in
+    restarts_on D.seen D.may_leave k.relations k.counters first k.parts c.force_step-told.new.self (stays_goes D.seen D.may_leave k.parts c.force_step-told.new.self c.force_step-told.ensures.state) (c.force_step-told.ensures.restartable) r
+
+pub returns-in-Durable-clause-restarts : goal.returns-in-Durable-clause-restarts
+returns-in-Durable-clause-restarts g c = λ first r. let D = g.D.Device in let k = c.args.self.now in
+    restarts_on D.seen D.may_leave k.relations k.counters first c.force_step-told.new.self c.leave_durable.new.self (λ origin base safe. (base, (c.leave_durable.ensures.left origin base safe).consistent)) c.leave_durable.ensures.restartable
+    (restarts_on D.seen D.may_leave k.relations k.counters first k.parts c.force_step-told.new.self (stays_goes D.seen D.may_leave k.parts c.force_step-told.new.self c.force_step-told.ensures.state) (c.force_step-told.ensures.restartable) r)

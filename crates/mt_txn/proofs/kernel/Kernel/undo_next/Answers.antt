@@ -14,6 +14,7 @@ use Rattle.mt_kernel.specs.Work.{undo_steps}
 use Rattle.mt_kernel.specs.declared.parts.Parts.{Parts}
 use Rattle.mt_txn.specs.Work.{LowersAbort}
 use Rattle.mt_txn.specs.declared.answers.AbortStepped.{AbortStepped}
+use Rattle.mt_txn.proofs.Restarting.{either_goes, restarts_on, stays_goes}
 use Rattle.mt_txn.proofs.kernel.Kernel.undo_next.Goals as goal
 
 pub undo_begin-requires-clause-safe : goal.undo_begin-requires-clause-safe
@@ -67,3 +68,21 @@ pub returns-clause-work : goal.returns-clause-work
 returns-clause-work g c =
     let same : c.undo_begin.new.self ≡ c.args.self.now.parts = c.undo_begin.ensures.same (c.in_ok-undo_begin.was ∙ ap Ok c.if-branch.false) in
     ap (λ (x : Parts g.row.D.Denot). undo_steps x c.args.txn) (sym same) ∙ c.in_ok-abort_end.ensures.none_left
+
+pub returns-in_err-undo_begin-clause-restarts : goal.returns-in_err-undo_begin-clause-restarts
+returns-in_err-undo_begin-clause-restarts g c = λ first r. let D = g.D.Device in let k = c.args.self.now in
+    restarts_on D.seen D.may_leave k.relations k.counters first k.parts c.undo_begin.new.self (stays_goes D.seen D.may_leave k.parts c.undo_begin.new.self c.undo_begin.ensures.state) (c.undo_begin.ensures.restartable) r
+
+pub returns-then-branch-clause-restarts : goal.returns-then-branch-clause-restarts
+returns-then-branch-clause-restarts g c = λ first r. let D = g.D.Device in let k = c.args.self.now in
+    restarts_on D.seen D.may_leave k.relations k.counters first k.parts c.undo_begin.new.self (stays_goes D.seen D.may_leave k.parts c.undo_begin.new.self c.undo_begin.ensures.state) (c.undo_begin.ensures.restartable) r
+
+pub returns-in_err-abort_end-clause-restarts : goal.returns-in_err-abort_end-clause-restarts
+returns-in_err-abort_end-clause-restarts g c = λ first r. let D = g.D.Device in let k = c.args.self.now in
+    restarts_on D.seen D.may_leave k.relations k.counters first c.undo_begin.new.self c.abort_end.new.self (either_goes D.seen D.may_leave c.undo_begin.new.self c.abort_end.new.self (λ s. gone s c.args.txn) c.abort_end.result c.abort_end.ensures.gone c.abort_end.ensures.err) c.abort_end.ensures.restartable
+    (restarts_on D.seen D.may_leave k.relations k.counters first k.parts c.undo_begin.new.self (stays_goes D.seen D.may_leave k.parts c.undo_begin.new.self c.undo_begin.ensures.state) (c.undo_begin.ensures.restartable) r)
+
+pub returns-clause-restarts : goal.returns-clause-restarts
+returns-clause-restarts g c = λ first r. let D = g.D.Device in let k = c.args.self.now in
+    restarts_on D.seen D.may_leave k.relations k.counters first c.undo_begin.new.self c.abort_end.new.self (either_goes D.seen D.may_leave c.undo_begin.new.self c.abort_end.new.self (λ s. gone s c.args.txn) c.abort_end.result c.abort_end.ensures.gone c.abort_end.ensures.err) c.abort_end.ensures.restartable
+    (restarts_on D.seen D.may_leave k.relations k.counters first k.parts c.undo_begin.new.self (stays_goes D.seen D.may_leave k.parts c.undo_begin.new.self c.undo_begin.ensures.state) (c.undo_begin.ensures.restartable) r)

@@ -14,58 +14,71 @@ use Rattle.mt_kernel.specs.Work.{LowersUndo, undo_steps}
 use Rattle.mt_txn.proofs.Showing.{at_place}
 use Rattle.mt_txn.specs.Work.{LowersAbort}
 use Rattle.mt_txn.specs.declared.answers.AbortStepped.{AbortStepped}
+use Rattle.mt_txn.proofs.Restarting.{restarts_on, undo_goes}
 use Rattle.mt_txn.proofs.kernel.Kernel.undo_step.Goals as goal
 
-pub undo_step-requires-clause-safe : goal.undo_step-requires-clause-safe
-undo_step-requires-clause-safe g c = sound_of g.D.Device.seen g.D.Device.may_leave c.args.self.now.relations c.args.self.now.counters c.args.self.now.parts c.args.self.now.well
+pub undo_step-told-requires-clause-safe : goal.undo_step-told-requires-clause-safe
+undo_step-told-requires-clause-safe g c = sound_of g.D.Device.seen g.D.Device.may_leave c.args.self.now.relations c.args.self.now.counters c.args.self.now.parts c.args.self.now.well
 
-pub undo_step-requires-clause-stage : goal.undo_step-requires-clause-stage
-undo_step-requires-clause-stage g c = inverse_stage g.D.Device.seen g.D.Device.may_leave c.args.self.now.relations c.args.self.now.counters c.args.self.now.parts c.args.place c.args.self.now.well c.requires.within (λ r there. (c.requires.own r there).1)
+pub undo_step-told-requires-clause-stage : goal.undo_step-told-requires-clause-stage
+undo_step-told-requires-clause-stage g c = inverse_stage g.D.Device.seen g.D.Device.may_leave c.args.self.now.relations c.args.self.now.counters c.args.self.now.parts c.args.place c.args.self.now.well c.requires.within (λ r there. (c.requires.own r there).1)
 
 pub invariant_of-self : goal.invariant_of-self
-invariant_of-self g c = record { well = undo_well g.D.Device.seen g.D.Device.may_leave c.args.self.now.relations c.args.self.now.counters c.args.self.now.parts c.undo_step.new.self c.args.place c.undo_step.result c.requires.within c.undo_step.ensures.steps c.args.self.now.well }
+invariant_of-self g c = record { well = undo_well g.D.Device.seen g.D.Device.may_leave c.args.self.now.relations c.args.self.now.counters c.args.self.now.parts c.undo_step-told.new.self c.args.place c.undo_step-told.result c.requires.within c.undo_step-told.ensures.steps c.args.self.now.well }
 
 pub returns-in_err-reply-clause-aborted : goal.returns-in_err-reply-clause-aborted
 returns-in_err-reply-clause-aborted g c = λ first s shows. let p = err_from_is_err_and c.from_residual.result c.from_residual.ensures.1 in
-    err_aborted g.D.Device.seen g.D.Device.may_leave first s c.args.txn _ c.from_residual.result p.0 p.1 (subst (UndoShown g.D.Device.seen g.D.Device.may_leave c.args.self.now.relations c.args.self.now.counters c.undo_step.new.self first s c.args.txn) (c.in_err-reply.was) (undo_shown g.D.Device.seen g.D.Device.may_leave c.args.self.now.relations c.args.self.now.counters c.args.self.now.parts c.undo_step.new.self first s c.args.txn c.args.place c.undo_step.result c.requires.within (λ r there. (c.requires.own r there).0) c.undo_step.ensures.steps shows))
+    err_aborted g.D.Device.seen g.D.Device.may_leave first s c.args.txn _ c.from_residual.result p.0 p.1 (subst (UndoShown g.D.Device.seen g.D.Device.may_leave c.args.self.now.relations c.args.self.now.counters c.undo_step-told.new.self first s c.args.txn) (c.in_err-reply.was) (undo_shown g.D.Device.seen g.D.Device.may_leave c.args.self.now.relations c.args.self.now.counters c.args.self.now.parts c.undo_step-told.new.self first s c.args.txn c.args.place c.undo_step-told.result c.requires.within (λ r there. (c.requires.own r there).0) c.undo_step-told.ensures.steps shows))
 
 pub returns-in-Ended-clause-aborted : goal.returns-in-Ended-clause-aborted
-returns-in-Ended-clause-aborted g c = λ first s shows. subst (UndoShown g.D.Device.seen g.D.Device.may_leave c.args.self.now.relations c.args.self.now.counters c.undo_step.new.self first s c.args.txn) (c.in_ok-reply.was ∙ ap Ok c.in-Ended.is) (undo_shown g.D.Device.seen g.D.Device.may_leave c.args.self.now.relations c.args.self.now.counters c.args.self.now.parts c.undo_step.new.self first s c.args.txn c.args.place c.undo_step.result c.requires.within (λ r there. (c.requires.own r there).0) c.undo_step.ensures.steps shows)
+returns-in-Ended-clause-aborted g c = λ first s shows. subst (UndoShown g.D.Device.seen g.D.Device.may_leave c.args.self.now.relations c.args.self.now.counters c.undo_step-told.new.self first s c.args.txn) (c.in_ok-reply.was ∙ ap Ok c.in-Ended.is) (undo_shown g.D.Device.seen g.D.Device.may_leave c.args.self.now.relations c.args.self.now.counters c.args.self.now.parts c.undo_step-told.new.self first s c.args.txn c.args.place c.undo_step-told.result c.requires.within (λ r there. (c.requires.own r there).0) c.undo_step-told.ensures.steps shows)
 
 pub returns-in-Going-clause-aborted : goal.returns-in-Going-clause-aborted
-returns-in-Going-clause-aborted g c = λ first s shows. going_aborted g.D.Device.seen g.D.Device.may_leave first s c.args.txn _ c.going.result (abort_goes _ _ _ c.going.ensures) (subst (UndoShown g.D.Device.seen g.D.Device.may_leave c.args.self.now.relations c.args.self.now.counters c.undo_step.new.self first s c.args.txn) (c.in_ok-reply.was ∙ ap Ok c.in-Going.is) (undo_shown g.D.Device.seen g.D.Device.may_leave c.args.self.now.relations c.args.self.now.counters c.args.self.now.parts c.undo_step.new.self first s c.args.txn c.args.place c.undo_step.result c.requires.within (λ r there. (c.requires.own r there).0) c.undo_step.ensures.steps shows))
+returns-in-Going-clause-aborted g c = λ first s shows. going_aborted g.D.Device.seen g.D.Device.may_leave first s c.args.txn _ c.going.result (abort_goes _ _ _ c.going.ensures) (subst (UndoShown g.D.Device.seen g.D.Device.may_leave c.args.self.now.relations c.args.self.now.counters c.undo_step-told.new.self first s c.args.txn) (c.in_ok-reply.was ∙ ap Ok c.in-Going.is) (undo_shown g.D.Device.seen g.D.Device.may_leave c.args.self.now.relations c.args.self.now.counters c.args.self.now.parts c.undo_step-told.new.self first s c.args.txn c.args.place c.undo_step-told.result c.requires.within (λ r there. (c.requires.own r there).0) c.undo_step-told.ensures.steps shows))
 
 pub returns-in-Going-clause-other : goal.returns-in-Going-clause-other
-returns-in-Going-clause-other g c = let k = c.args.self.now.parts in let n = c.undo_step.new.self in let place = c.args.place in
+returns-in-Going-clause-other g c = let k = c.args.self.now.parts in let n = c.undo_step-told.new.self in let place = c.args.place in
     let seen = g.D.Device.seen in let may_leave = g.D.Device.may_leave in
     let was = c.in_ok-reply.was ∙ ap Ok c.in-Going.is in
     abort_other seen may_leave c.args.self.now.relations c.args.self.now.counters k n c.args.txn place c.in-Going.going c.going.result (λ r there. (c.requires.own r there).0)
     (record {
       within = c.requires.within;
-      states = c.undo_step.ensures.states;
-      consistent = λ origin base safe. (subst (UndoSteps seen may_leave origin base k n place) was (c.undo_step.ensures.steps origin base safe)).consistent;
-      names = λ origin base safe. subst (λ (r : Result Stepping Refusal). AtPlace k.running.items place (λ q. NamesOther n.running.items q.scope.txn r)) was (c.undo_step.ensures.other origin base safe);
+      states = c.undo_step-told.ensures.states;
+      consistent = λ origin base safe. (subst (UndoSteps seen may_leave origin base k n place) was (c.undo_step-told.ensures.steps origin base safe)).consistent;
+      names = λ origin base safe. subst (λ (r : Result Stepping Refusal). AtPlace k.running.items place (λ q. NamesOther n.running.items q.scope.txn r)) was (c.undo_step-told.ensures.other origin base safe);
     }) c.args.self.now.well c.going.ensures
 
 pub returns-in-Ended-clause-work : goal.returns-in-Ended-clause-work
 returns-in-Ended-clause-work g c =
-    let k = c.args.self.now.parts in let n = c.undo_step.new.self in let all = pages k.operations.store.pool in
+    let k = c.args.self.now.parts in let n = c.undo_step-told.new.self in let all = pages k.operations.store.pool in
     let at = at_place k.running.items c.args.place c.requires.within in
-    let lowers = subst (λ t. LowersUndo all c.undo_step.result (undo_steps k t) (undo_steps n t)) (c.requires.own at.0 at.1).0 (c.undo_step.ensures.lowers at.0 at.1) in
+    let lowers = subst (λ t. LowersUndo all c.undo_step-told.result (undo_steps k t) (undo_steps n t)) (c.requires.own at.0 at.1).0 (c.undo_step-told.ensures.lowers at.0 at.1) in
     subst (λ (r : Result Stepping Refusal). LowersUndo all r (undo_steps k c.args.txn) (undo_steps n c.args.txn)) (c.in_ok-reply.was ∙ ap Ok c.in-Ended.is) lowers
 
 pub returns-in-Going-clause-work : goal.returns-in-Going-clause-work
 returns-in-Going-clause-work g c =
-    let k = c.args.self.now.parts in let n = c.undo_step.new.self in let all = pages k.operations.store.pool in
+    let k = c.args.self.now.parts in let n = c.undo_step-told.new.self in let all = pages k.operations.store.pool in
     let at = at_place k.running.items c.args.place c.requires.within in
-    let lowers = subst (λ t. LowersUndo all c.undo_step.result (undo_steps k t) (undo_steps n t)) (c.requires.own at.0 at.1).0 (c.undo_step.ensures.lowers at.0 at.1) in
+    let lowers = subst (λ t. LowersUndo all c.undo_step-told.result (undo_steps k t) (undo_steps n t)) (c.requires.own at.0 at.1).0 (c.undo_step-told.ensures.lowers at.0 at.1) in
     going_left n.running.items all (undo_steps k c.args.txn) (undo_steps n c.args.txn) c.in-Going.going c.going.result c.going.ensures (subst (λ (r : Result Stepping Refusal). LowersUndo all r (undo_steps k c.args.txn) (undo_steps n c.args.txn)) (c.in_ok-reply.was ∙ ap Ok c.in-Going.is) lowers)
 
 pub returns-in_err-reply-clause-work : goal.returns-in_err-reply-clause-work
 returns-in_err-reply-clause-work g c =
-    let k = c.args.self.now.parts in let n = c.undo_step.new.self in let all = pages k.operations.store.pool in
+    let k = c.args.self.now.parts in let n = c.undo_step-told.new.self in let all = pages k.operations.store.pool in
     let at = at_place k.running.items c.args.place c.requires.within in
-    let lowers = subst (λ t. LowersUndo all c.undo_step.result (undo_steps k t) (undo_steps n t)) (c.requires.own at.0 at.1).0 (c.undo_step.ensures.lowers at.0 at.1) in
+    let lowers = subst (λ t. LowersUndo all c.undo_step-told.result (undo_steps k t) (undo_steps n t)) (c.requires.own at.0 at.1).0 (c.undo_step-told.ensures.lowers at.0 at.1) in
     let few : undo_steps n c.args.txn ≤ undo_steps k c.args.txn = subst (λ (r : Result Stepping Refusal). LowersUndo all r (undo_steps k c.args.txn) (undo_steps n c.args.txn)) c.in_err-reply.was lowers in
     let p = err_from_is_err_and c.from_residual.result c.from_residual.ensures.1 in
     subst (λ (r : Result AbortStepped Refusal). LowersAbort all r (undo_steps k c.args.txn) (undo_steps n c.args.txn)) (sym p.1) few
+
+pub returns-in_err-reply-clause-restarts : goal.returns-in_err-reply-clause-restarts
+returns-in_err-reply-clause-restarts g c = λ first r. let D = g.D.Device in let k = c.args.self.now in
+    restarts_on D.seen D.may_leave k.relations k.counters first k.parts c.undo_step-told.new.self (undo_goes D.seen D.may_leave k.parts c.undo_step-told.new.self c.args.place c.undo_step-told.result c.requires.within c.undo_step-told.ensures.steps) (c.undo_step-told.ensures.restartable) r
+
+pub returns-in-Ended-clause-restarts : goal.returns-in-Ended-clause-restarts
+returns-in-Ended-clause-restarts g c = λ first r. let D = g.D.Device in let k = c.args.self.now in
+    restarts_on D.seen D.may_leave k.relations k.counters first k.parts c.undo_step-told.new.self (undo_goes D.seen D.may_leave k.parts c.undo_step-told.new.self c.args.place c.undo_step-told.result c.requires.within c.undo_step-told.ensures.steps) (c.undo_step-told.ensures.restartable) r
+
+pub returns-in-Going-clause-restarts : goal.returns-in-Going-clause-restarts
+returns-in-Going-clause-restarts g c = λ first r. let D = g.D.Device in let k = c.args.self.now in
+    restarts_on D.seen D.may_leave k.relations k.counters first k.parts c.undo_step-told.new.self (undo_goes D.seen D.may_leave k.parts c.undo_step-told.new.self c.args.place c.undo_step-told.result c.requires.within c.undo_step-told.ensures.steps) (c.undo_step-told.ensures.restartable) r

@@ -1,0 +1,151 @@
+// A device's two master slots: which of them rules, and how another comes to rule.
+ghost use Rattle.std.specs.Prelude.{◌≡◌, ◌⊎◌, ◌+◌, ◌<◌, ◌≤◌, ℕ, List, length, IfOk, IfErr, IsOk, OnOk};
+ghost use Rattle.mt_base.specs.declared.refusal.Refusal.{Refusal};
+ghost use Rattle.mt_disk.specs.Disk.{Follows, HasCause, LeavesOnly, Torn};
+ghost use Rattle.mt_frame.specs.SlotText.{IsSlot};
+ghost use Rattle.mt_frame.specs.declared.slots.MasterSlot.{MasterSlot};
+ghost use Rattle.mt_log.specs.Quiet.{OnlyReads};
+ghost use Rattle.mt_log.specs.Masters.{AreSlots, BreaksMaster, IsBadAt, IsBefore, IsClosedAt, IsFoundAt, IsNewer, IsOpenAt, IsRuling, IsUnformatted, Rules};
+
+use mt_base::Refusal;
+use mt_base::limits::{MASTER_BYTES, MASTER_SLOT_BYTES, device_bytes};
+use mt_disk::{Device, DeviceFault};
+use mt_frame::{
+    CLOSED_GATE, MasterSlot, OPEN_GATE, SlotRead, decode_slot, encode_slot, slots_are_read_back,
+};
+
+// Where the two master slots lie.
+const FIRST_SLOT: u64 = 0;
+
+const SECOND_SLOT: u64 = 4096;
+
+// The slot at a place, where its gate is open.
+fn read_slot<D: Device>(device: &mut D, at: u64) -> Result<Option<MasterSlot>, Refusal>
+    requires { at + 17 ≤ length (D.seen device.old) }
+    ensures found { IfOk result (IsFoundAt at (D.seen device.old)) }
+    ensures reads { OnlyReads D.seen D.may_leave D.moment D.left_since device.old device.new }
+    ensures quiet { IsOk result → D.faults device.new ≡ D.faults device.old }
+    ensures cause { IfErr result (λ why. (why ≡ Refusal.DeviceFailed) × (D.faults device.old < D.faults device.new)
+        ⊎ (why ≡ Refusal.BadFormat at) × IsBadAt (D.seen device.old) at) }
+{
+    slots_are_read_back();
+    let mut bytes = [0; MASTER_SLOT_BYTES];
+    device.read(at, &mut bytes)?;
+    match decode_slot(&bytes) {
+        SlotRead::Closed => Ok(None),
+        SlotRead::Bad => Err(Refusal::BadFormat(at)),
+        SlotRead::Open(slot) => {
+            if device.len() < device_bytes(slot.pages, slot.mib) {
+                return Err(Refusal::BadFormat(at));
+            }
+            Ok(Some(slot))
+        }
+    }
+}
+
+// The newer one of two slots of one device.
+fn newer(first: MasterSlot, second: MasterSlot) -> Result<MasterSlot, Refusal>
+    ensures { IsNewer first second result }
+{
+    if first.pages != second.pages || first.mib != second.mib || first.epoch == second.epoch {
+        return Err(Refusal::BadFormat(SECOND_SLOT));
+    }
+    if first.epoch < second.epoch {
+        Ok(second)
+    } else {
+        Ok(first)
+    }
+}
+
+/// The master slot that rules a device: an open one, of which the other is closed, or older.
+///
+/// Refusals, in the order of the tests: [`Refusal::NotFormatted`] where the device is shorter than 8192 bytes;
+/// [`Refusal::DeviceFailed`] where a read failed in this call; [`Refusal::BadFormat`] with the place of the first slot
+/// whose gate is open over bytes that are no slot of a device of this length; [`Refusal::NotFormatted`] where both
+/// gates are closed; and [`Refusal::BadFormat`] with 4096 where two open slots have the same epoch, or other sizes. It
+/// takes no memory. The device is only read, and its content is as before in any case.
+pub fn ruling_slot<D: Device>(device: &mut D) -> Result<MasterSlot, Refusal>
+    ensures rules { IfOk result (IsRuling (D.seen device.old)) }
+    ensures cause { IfErr result (λ why. (why ≡ Refusal.DeviceFailed) × (D.faults device.old < D.faults device.new)
+        ⊎ ((why ≡ Refusal.NotFormatted) × IsUnformatted (D.seen device.old)
+        ⊎ ((at : ℕ) × (why ≡ Refusal.BadFormat at) × BreaksMaster (D.seen device.old) at))) }
+    // A device without an open slot is told that it is not formatted, or fails.
+    ensures unformatted { IsUnformatted (D.seen device.old)
+        → IfErr result (λ why. (why ≡ Refusal.NotFormatted) ⊎ (why ≡ Refusal.DeviceFailed)) }
+    // A device on which a slot rules is refused only for a fault, and no other slot is found.
+    ensures only { (slot : MasterSlot) → IsRuling (D.seen device.old) slot
+        → IfOk result (λ found. found ≡ slot) }
+    ensures no_other_refusal { (slot : MasterSlot) → IsRuling (D.seen device.old) slot
+        → IfErr result (λ why. why ≡ Refusal.DeviceFailed) }
+    ensures seen { D.seen device.new ≡ D.seen device.old }
+    ensures crash { (c : List ℕ) → D.may_leave device.new c → D.may_leave device.old c }
+    ensures moments { LeavesOnly D.moment D.left_since device.old device.new (D.may_leave device.old) }
+    ensures quiet { IsOk result → D.faults device.new ≡ D.faults device.old }
+{
+    slots_are_read_back();
+    if device.len() < MASTER_BYTES {
+        return Err(Refusal::NotFormatted);
+    }
+    let first = read_slot(device, FIRST_SLOT)?;
+    let second = read_slot(device, SECOND_SLOT)?;
+    match (first, second) {
+        (None, None) => Err(Refusal::NotFormatted),
+        (Some(slot), None) => Ok(slot),
+        (None, Some(slot)) => Ok(slot),
+        (Some(first), Some(second)) => newer(first, second),
+    }
+}
+
+/// Closes the gate of the open slot at `at`, beside which the one at `other` rules: a write and a sync. That of a closed
+/// slot is never written, since the bytes behind it may be no slot.
+///
+/// Whatever a crash leaves, in this call too, the slot at `other` rules as before. The only error is the device's.
+pub fn close_slot<D: Device>(device: &mut D, at: u64, other: u64) -> Result<(), DeviceFault>
+    requires within { at + 17 ≤ length (D.seen device.old) }
+    requires slots { AreSlots at other }
+    requires open { (older : MasterSlot) × ((c : List ℕ) → D.may_leave device.old c → IsOpenAt c at older) }
+    ensures closed { OnOk result ((c : List ℕ) → D.may_leave device.new c → IsClosedAt c at) }
+    ensures rules { (slot : MasterSlot) → ((c : List ℕ) → D.may_leave device.old c → Rules c other at slot)
+        → (c : List ℕ) → D.may_leave device.new c → Rules c other at slot }
+    ensures moments { (slot : MasterSlot) → ((c : List ℕ) → D.may_leave device.old c → Rules c other at slot)
+        → LeavesOnly D.moment D.left_since device.old device.new (λ c. Rules c other at slot) }
+    ensures rest { Torn at 1 (D.seen device.old) (D.seen device.new) }
+    ensures elsewhere { Follows (Torn at 1) (D.may_leave device.old) (D.may_leave device.new) }
+    ensures cause { HasCause (D.faults device.old) (D.faults device.new) result }
+{
+    device.write_at(at, &[CLOSED_GATE])?;
+    device.sync()
+}
+
+/// Has a slot rule that is newer than the one at `other`: it is written behind the closed gate at `at`, and synced; then
+/// its gate is opened, and synced.
+///
+/// Whatever a crash leaves in this call, the old slot rules as before, or the new one does; once it has answered, the new
+/// one does. The only error is the device's, and either may rule then.
+pub fn open_slot<D: Device>(
+    device: &mut D,
+    at: u64,
+    other: u64,
+    slot: &MasterSlot,
+) -> Result<(), DeviceFault>
+    requires within { at + 17 ≤ length (D.seen device.old) }
+    requires slots { AreSlots at other }
+    requires fits { IsSlot slot.now }
+    requires closed { (c : List ℕ) → D.may_leave device.old c → IsClosedAt c at }
+    ensures rules { OnOk result ((old : MasterSlot) → IsBefore old slot.now
+        → ((c : List ℕ) → D.may_leave device.old c → Rules c other at old)
+        → (c : List ℕ) → D.may_leave device.new c → Rules c at other slot.now) }
+    ensures moments { (old : MasterSlot) → IsBefore old slot.now
+        → ((c : List ℕ) → D.may_leave device.old c → Rules c other at old)
+        → LeavesOnly D.moment D.left_since device.old device.new
+        (λ c. Rules c other at old ⊎ Rules c at other slot.now) }
+    ensures rest { Torn at 17 (D.seen device.old) (D.seen device.new) }
+    ensures elsewhere { Follows (Torn at 17) (D.may_leave device.old) (D.may_leave device.new) }
+    ensures cause { HasCause (D.faults device.old) (D.faults device.new) result }
+{
+    let text = encode_slot(slot);
+    device.write_at(at + 1, &text[1..17])?;
+    device.sync()?;
+    device.write_at(at, &[OPEN_GATE])?;
+    device.sync()
+}

@@ -1,0 +1,151 @@
+-- What the reads of a survey leave, and what they find.
+use Rattle.std.proofs.Common.{◌≡◌, ◌<◌, ◌≤◌, ℕ, List, [], get_or, Some, refl, sym, ◌∙◌, ap, subst, append-nil, arith}
+use Rattle.std.proofs.Props.{props}
+use Rattle.std.proofs.lemmas.Int.{ints}
+use mathlib.Core.Logic.{∥∥₁_elim, ∥∥₁_map}
+use Rattle.mt_disk.proofs.Frame.{leaves_more, runs_both, started}
+use Rattle.mt_file.proofs.Filed.{record_kind, record_records}
+use Rattle.mt_file.specs.File.{record_in}
+use Rattle.mt_model.specs.Model.{Base}
+use Rattle.mt_file.proofs.Shaped.{shaped_of}
+use Rattle.mt_log.specs.Words.{appended, area_end, area_start, durable}
+use Rattle.mt_op.proofs.Parted.{idle_shows}
+use Rattle.mt_op.proofs.Right.{right_rests}
+use Rattle.mt_op.proofs.Staying.{rests_held}
+use Rattle.mt_op.specs.Moves.{Rests}
+use Rattle.mt_op.specs.Operations.{IsRight, world}
+use Rattle.mt_op.specs.Surveyed.{IsIdle, OnlyReads}
+use Rattle.mt_op.specs.World.{held_in}
+use Rattle.mt_op.specs.declared.operations.Operations.{Operations}
+use Rattle.mt_pool.proofs.Kept.{explains, explains_back}
+use Rattle.mt_pool.proofs.Steady.{IsSteady, steady}
+use Rattle.mt_pool.specs.Kept.{Explains, HasOpening}
+use Rattle.mt_pool.specs.Views.{pages, view}
+use Rattle.mt_pool.specs.declared.pool.Pool.{Pool}
+use Rattle.mt_slots.specs.Page.{IsPage, Row}
+use Rattle.mt_space.specs.Changes.{PageBytes}
+use Rattle.mt_space.specs.Kinds.{kind}
+use Rattle.mt_steps.proofs.Listed.{all_listed}
+use Rattle.mt_steps.specs.Counters.{AreCounters, count_in}
+use Rattle.mt_steps.specs.Held.{Holds}
+use Rattle.mt_steps.specs.Listed.{HasListed, IsSame}
+use Rattle.mt_steps.specs.Plans.{IsGood}
+
+module _ {D : Type 0} (seen : D → List ℕ) (may_leave : D → List ℕ → Type 0) where
+  pub idle_opening : (relations : ℕ) (o : Operations D) → IsIdle seen may_leave relations o → HasOpening seen may_leave o.store
+  idle_opening relations o idle = ∥∥₁_map idle (λ (opening, counters, right, free). (opening, right.kept))
+
+  pub idle_steady : (relations : ℕ) (o : Operations D) → IsIdle seen may_leave relations o → IsSteady seen may_leave o.store
+  idle_steady relations o idle = steady seen may_leave o.store (idle_opening relations o idle)
+
+  -- the bytes that a page shows are those that are held
+  pub idle_page : (opening : PageBytes) (relations counters : ℕ) (o : Operations D) (p : ℕ) → IsRight seen may_leave opening relations counters o → o.locks ≡ [] → p < pages o.store.pool
+      → view o.store.pool (seen o.store.device) p ≡ held_in (world seen opening o) p
+  idle_page opening relations counters o p right free inside = idle_shows relations counters (world seen opening o) right.sound free p inside
+
+  pub idle_free : (relations : ℕ) (o : Operations D) → IsIdle seen may_leave relations o → o.locks ≡ []
+  idle_free relations o idle = ∥∥₁_elim idle (hlevel props) (λ (opening, counters, right, free). free)
+
+  module _ (moment : D → ℕ) (left_since : D → ℕ → List ℕ → Type 0) where
+    pub read_rests : (opening : PageBytes) (o n : Operations D) → OnlyReads seen may_leave moment left_since o n → Rests (world seen opening o) (world seen opening n)
+    read_rests opening o n reads = record {
+      area = record { opening = refl; total = ap pages reads.pool };
+      pages = λ p inside i. view (reads.pool i) (reads.content i) p;
+      records = ap appended reads.log;
+      locks = reads.locks;
+    }
+
+    pub read_right : (opening : PageBytes) (relations counters : ℕ) (o n : Operations D) → OnlyReads seen may_leave moment left_since o n → IsRight seen may_leave opening relations counters o → IsRight seen may_leave opening relations counters n
+    read_right opening relations counters o n reads right = right_rests seen may_leave opening relations counters o n right (reads.kept opening right.kept) (read_rests opening o n reads) reads.map reads.rooms
+
+    pub read_held : (opening : PageBytes) (o n : Operations D) → OnlyReads seen may_leave moment left_since o n → held_in (world seen opening n) ≡ held_in (world seen opening o)
+    read_held opening o n reads = rests_held (world seen opening o) (world seen opening n) (read_rests opening o n reads)
+
+    pub read_idle : (relations : ℕ) (o n : Operations D) → OnlyReads seen may_leave moment left_since o n → IsIdle seen may_leave relations o → IsIdle seen may_leave relations n
+    read_idle relations o n reads idle = ∥∥₁_map idle (λ (opening, counters, right, free). (opening, counters, read_right opening relations counters o n reads right, reads.locks ∙ free))
+
+    pub reads_both : (o m n : Operations D) → OnlyReads seen may_leave moment left_since o m → OnlyReads seen may_leave moment left_since m n → OnlyReads seen may_leave moment left_since o n
+    reads_both o m n first second = record {
+      kept = λ opening kept. second.kept opening (first.kept opening kept);
+      moments = λ opening kept. runs_both moment left_since o.store.device m.store.device n.store.device (Explains opening o.store) (first.moments opening kept)
+          (leaves_more moment left_since m.store.device n.store.device (Explains opening m.store) (Explains opening o.store) (second.moments opening (first.kept opening kept))
+          (λ c explained. explains_back opening o.store m.store c (ap area_start first.log) (ap area_end first.log) (ap (λ (p : Pool). p.place) first.pool) (ap pages first.pool) (ap appended first.log)
+          [] (ap durable first.log ∙ sym (append-nil (durable o.store.log))) explained));
+      content = second.content ∙ first.content;
+      pool = second.pool ∙ first.pool;
+      log = second.log ∙ first.log;
+      locks = second.locks ∙ first.locks;
+      rooms = second.rooms ∙ first.rooms;
+      map = second.map ∙ first.map;
+    }
+
+    pub reads_none : ((d : D) (c : List ℕ) → left_since d (moment d) c → may_leave d c) → (o : Operations D) → OnlyReads seen may_leave moment left_since o o
+    reads_none only_now o = record {
+      kept = λ opening kept. kept;
+      moments = λ opening kept. started moment left_since o.store.device (Explains opening o.store) (λ c left. explains seen may_leave opening o.store kept c (only_now o.store.device c left));
+      content = refl;
+      pool = refl;
+      log = refl;
+      locks = refl;
+      rooms = refl;
+      map = refl;
+    }
+
+-- ---- pages
+
+module _ {D : Type 0} (seen : D → List ℕ) (may_leave : D → List ℕ → Type 0) where
+  pub kind_of : (opening : PageBytes) (relations counters : ℕ) (o : Operations D) (p i : ℕ) → IsRight seen may_leave opening relations counters o → i ≡ p → kind (held_in (world seen opening o)) p ≡ get_or o.map.kinds i 0
+  kind_of opening relations counters o p i right same = ap (λ (bytes : List ℕ). get_or bytes p 0) (sym right.map) ∙ ap (λ (j : ℕ). get_or o.map.kinds j 0) (sym same)
+
+  -- a fixed page is one of them
+  pub fixed_inside : (relations : ℕ) (o : Operations D) (p : ℕ) → p ≤ 2 → IsIdle seen may_leave relations o → p < pages o.store.pool
+  fixed_inside relations o p low idle = ∥∥₁_elim idle (hlevel props) (λ (opening, counters, right, free).
+      let w = world seen opening o in
+      let last : 2 < pages o.store.pool = right.sound.good.rows.index.within 2 (λ none. let wrong : 1 ≡ 0 = sym right.sound.good.rows.counters_fixed ∙ none in cc) in omega arith)
+
+  -- the counters page tells of the schema
+  pub counters_page : (relations : ℕ) (o : Operations D) (bytes : List ℕ) → ((opening : PageBytes) (counters : ℕ) → IsRight seen may_leave opening relations counters o → bytes ≡ held_in (world seen opening o) 2) → IsIdle seen may_leave relations o
+      → (get_or bytes 0 0 ≡ relations) × AreCounters (get_or bytes 0 0) (get_or bytes 1 0) bytes
+  counters_page relations o bytes is idle = (
+    ∥∥₁_elim idle (hlevel props) (λ (opening, counters, right, free). (subst (AreCounters relations counters) (sym (is opening counters right)) right.sound.good.counts).relations_told),
+    ∥∥₁_elim idle (hlevel (props, ints)) (λ (opening, counters, right, free).
+        let are = subst (AreCounters relations counters) (sym (is opening counters right)) right.sound.good.counts in
+        subst (λ (X : Type 0). X) (λ i. AreCounters (sym are.relations_told i) (sym are.counters_told i) bytes) are),
+  )
+
+-- ---- pages of records
+
+-- a page of records, of a schema
+pub records_page : (relations counters total : ℕ) (pages : PageBytes) (p : ℕ) → IsGood relations counters total pages → kind pages p ≡ 3 → IsPage relations 1024 (pages p)
+records_page relations counters total pages p good records = record {
+  shaped = good.rows.file.each p records;
+  within = λ i row there. good.rows.within p i row (record_records pages p i records ∙ there);
+}
+
+-- and it is one, whoever is under way
+pub records_page_of : {D : Type 0} (seen : D → List ℕ) (may_leave : D → List ℕ → Type 0) (relations : ℕ) (o : Operations D) (p : ℕ) (bytes : List ℕ) → ((opening : PageBytes) (counters : ℕ) → IsRight seen may_leave opening relations counters o → bytes ≡ held_in (world seen opening o) p)
+    → get_or o.map.kinds p 0 ≡ 3 → IsIdle seen may_leave relations o → IsPage relations 1024 bytes
+records_page_of seen may_leave relations o p bytes is records idle = record {
+  shaped = shaped_of bytes (∥∥₁_map idle (λ (opening, counters, right, free). (page_of opening counters right).shaped));
+  within = λ i row there. ∥∥₁_elim idle (hlevel props) (λ (opening, counters, right, free). (page_of opening counters right).within i row there);
+}
+  where
+    page_of : (opening : PageBytes) (counters : ℕ) → IsRight seen may_leave opening relations counters o → IsPage relations 1024 bytes
+    page_of opening counters right = subst (IsPage relations 1024) (sym (is opening counters right))
+        (records_page relations counters (pages o.store.pool) (held_in (world seen opening o)) p right.sound.good (kind_of seen may_leave opening relations counters o p p right refl ∙ records))
+
+-- ---- what was listed
+
+-- the base that was listed from good pages, all of them, has the rows and counters of the one that they hold
+pub same_base : (relations counters total : ℕ) (pages : PageBytes) (held b none : Base) (bytes : List ℕ) → IsGood relations counters total pages → Holds pages held → bytes ≡ pages 2
+    → ((c : ℕ) → c < get_or bytes 1 0 → none.counts c ≡ count_in bytes c) → b.counts ≡ none.counts → HasListed pages total b → IsSame counters b held
+same_base relations counters total pages held b none bytes good holds same counted kept listed = record {
+  rows = all_listed pages total b held inside holds.rows listed;
+  counts = λ c lt.
+      let told : get_or (pages 2) 1 0 ≡ counters = good.counts.counters_told in
+      let here : c < get_or bytes 1 0 = subst (λ (xs : List ℕ). c < get_or xs 1 0) (sym same) (omega (arith, told)) in
+      ap (λ f. f c) kept ∙ counted c here ∙ ap (λ (xs : List ℕ). count_in xs c) same ∙ sym (holds.counts c (omega (arith, told)));
+}
+  where
+    inside : (q s : ℕ) (row : Row) → record_in pages q s ≡ Some row → q < total
+    inside q s row there = good.rows.index.within q (λ free. let wrong : 3 ≡ 0 = sym (record_kind pages q s row there) ∙ free in cc)

@@ -1,0 +1,95 @@
+use Rattle.std.proofs.Common.{◌≡◌, ℕ, List, ap, arith, get_or, subst, sym, ◌∙◌}
+use Rattle.std.proofs.Props.{props}
+use Rattle.std.proofs.lemmas.Int.{ints}
+use mathlib.Core.Logic.{∥∥₁_elim, ∥∥₁_map}
+use Rattle.mt_index.specs.Pages.{depth_in}
+use Rattle.mt_model.specs.Views.{base_of}
+use Rattle.mt_op.proofs.Surveyed.{counters_page, fixed_inside, read_held, read_idle, read_right, reads_both, same_base}
+use Rattle.mt_op.specs.Operations.{IsRight, world}
+use Rattle.mt_op.specs.Surveyed.{IsIdle}
+use Rattle.mt_op.specs.World.{held_in}
+use Rattle.mt_op.specs.declared.space_map.SpaceMap.{SpaceMap}
+use Rattle.mt_pool.specs.Views.{pages}
+use Rattle.mt_pool.specs.declared.pool.Pool.{Pool}
+use Rattle.mt_space.specs.Changes.{PageBytes}
+use Rattle.mt_space.specs.Rooms.{free_in, free_of}
+use Rattle.mt_steps.proofs.Listed.{nothing_listed}
+use Rattle.mt_steps.specs.Held.{Holds}
+use Rattle.mt_steps.specs.Listed.{HasListed}
+use Rattle.mt_op.proofs.operations.Operations.survey.Goals as goal
+
+pub held_page-requires-clause-idle : goal.held_page-requires-clause-idle
+held_page-requires-clause-idle g c = ∥∥₁_map c.requires.idle (λ (relations, small, idle). (relations, idle))
+
+pub held_page-requires-clause-inside : goal.held_page-requires-clause-inside
+held_page-requires-clause-inside g c = ∥∥₁_elim c.requires.idle (hlevel props) (λ (relations, small, idle).
+    fixed_inside g.D.Device.seen g.D.Device.may_leave relations c.args.self.now c.new.result (omega (arith, c.new.ensures)) idle)
+
+pub held_page-requires-2-clause-idle : goal.held_page-requires-2-clause-idle
+held_page-requires-2-clause-idle g c = ∥∥₁_map c.requires.idle (λ (relations, small, idle).
+    let D = g.D.Device in (relations, read_idle D.seen D.may_leave D.moment D.left_since relations c.args.self.now c.held_page.new.self c.held_page.ensures.read idle))
+
+pub held_page-requires-2-clause-inside : goal.held_page-requires-2-clause-inside
+held_page-requires-2-clause-inside g c = ∥∥₁_elim c.requires.idle (hlevel props) (λ (relations, small, idle).
+    let D = g.D.Device in
+    fixed_inside D.seen D.may_leave relations c.held_page.new.self c.new-2.result (omega (arith, c.new-2.ensures))
+    (read_idle D.seen D.may_leave D.moment D.left_since relations c.args.self.now c.held_page.new.self c.held_page.ensures.read idle))
+
+pub base_without_rows-requires : goal.base_without_rows-requires
+base_without_rows-requires g c =
+    let D = g.D.Device in let o = c.args.self.now in let m = c.held_page.new.self in
+    let two = λ (opening : PageBytes) (relations counters : ℕ) (right : IsRight D.seen D.may_leave opening relations counters m). c.in_ok-held_page-2.ensures.held opening relations counters right ∙ ap (λ (p : ℕ). held_in (world D.seen opening m) p) c.new-2.ensures in
+    record {
+      few = ∥∥₁_elim c.requires.idle (hlevel props) (λ (relations, small, idle).
+          let is = (counters_page D.seen D.may_leave relations m c.in_ok-held_page-2.field-0 (λ opening counters right. two opening relations counters right)
+          (read_idle D.seen D.may_leave D.moment D.left_since relations o m c.held_page.ensures.read idle)).0 in omega (arith, is, small));
+      counted = ∥∥₁_elim c.requires.idle (hlevel (props, ints)) (λ (relations, small, idle).
+          (counters_page D.seen D.may_leave relations m c.in_ok-held_page-2.field-0 (λ opening counters right. two opening relations counters right)
+          (read_idle D.seen D.may_leave D.moment D.left_since relations o m c.held_page.ensures.read idle)).1);
+    }
+
+pub list_pages-requires : goal.list_pages-requires
+list_pages-requires g c =
+    let D = g.D.Device in let o = c.args.self.now in let m = c.held_page.new.self in let n = c.held_page-2.new.self in
+    record {
+      idle = ∥∥₁_elim c.requires.idle (hlevel props) (λ (relations, small, idle).
+          let later = read_idle D.seen D.may_leave D.moment D.left_since relations o m c.held_page.ensures.read idle in
+          let told = counters_page D.seen D.may_leave relations m c.in_ok-held_page-2.field-0
+          (λ opening counters right. c.in_ok-held_page-2.ensures.held opening relations counters right ∙ ap (λ (p : ℕ). held_in (world D.seen opening m) p) c.new-2.ensures) later in
+          subst (λ (k : ℕ). IsIdle D.seen D.may_leave k n) (sym (c.in_ok-base.ensures.relations ∙ told.0)) (read_idle D.seen D.may_leave D.moment D.left_since relations m n c.held_page-2.ensures.read later));
+    }
+
+pub returns-in_err-list_pages-clause-read : goal.returns-in_err-list_pages-clause-read
+returns-in_err-list_pages-clause-read g c =
+    let D = g.D.Device in
+    reads_both D.seen D.may_leave D.moment D.left_since c.args.self.now c.held_page.new.self c.list_pages.new.self c.held_page.ensures.read
+    (reads_both D.seen D.may_leave D.moment D.left_since c.held_page.new.self c.held_page-2.new.self c.list_pages.new.self c.held_page-2.ensures.read c.list_pages.ensures.read)
+
+pub returns-clause-surveyed : goal.returns-clause-surveyed
+returns-clause-surveyed g c = λ opening relations counters held right holds.
+    let D = g.D.Device in let o = c.args.self.now in let m = c.held_page.new.self in let n = c.held_page-2.new.self in let bytes = c.in_ok-held_page-2.field-0 in
+    let first = c.held_page.ensures.read in
+    let both = reads_both D.seen D.may_leave D.moment D.left_since o m n first c.held_page-2.ensures.read in
+    let all = reads_both D.seen D.may_leave D.moment D.left_since o n c.list_pages.new.self both c.list_pages.ensures.read in
+    let right1 : IsRight D.seen D.may_leave opening relations counters m = read_right D.seen D.may_leave D.moment D.left_since opening relations counters o m first right in
+    let right2 : IsRight D.seen D.may_leave opening relations counters n = read_right D.seen D.may_leave D.moment D.left_since opening relations counters o n both right in
+    let same1 = read_held D.seen D.may_leave D.moment D.left_since opening o m first in
+    let same2 = read_held D.seen D.may_leave D.moment D.left_since opening o n both in
+    let pages' : PageBytes = held_in (world D.seen opening o) in
+    let counts : bytes ≡ pages' 2 = c.in_ok-held_page-2.ensures.held opening relations counters right1 ∙ ap (λ (p : ℕ). held_in (world D.seen opening m) p) c.new-2.ensures ∙ ap (λ (h : PageBytes). h 2) same1 in
+    let total : pages n.store.pool ≡ pages o.store.pool = ap (λ (p : Pool). pages p) both.pool in
+    let listed : HasListed pages' (pages o.store.pool) (base_of c.list_pages.new.base) = subst (λ (X : Type 0). X) (λ i. HasListed (same2 i) (total i) (base_of c.list_pages.new.base))
+    (c.in_ok-list_pages.ensures.listed opening relations counters held right2 (subst (λ (h : PageBytes). Holds h held) (sym same2) holds) (nothing_listed (held_in (world D.seen opening n)) (base_of c.in_ok-base.base) c.in_ok-base.ensures.rows)) in
+    record {
+      depth = c.depth-depth.ensures ∙ ap depth_in (c.in_ok-held_page.ensures.held opening relations counters right ∙ ap pages' c.new.ensures);
+      free = c.free.ensures ∙ ap (λ (x : SpaceMap). free_of x.space) all.map ∙ ap free_in right.space;
+      relations_told = c.list_pages.ensures.relations ∙ c.in_ok-base.ensures.relations ∙ ap (λ (xs : List ℕ). get_or xs 0 0) counts ∙ right.sound.good.counts.relations_told;
+      counters_told = c.list_pages.ensures.counters ∙ c.in_ok-base.ensures.counters ∙ ap (λ (xs : List ℕ). get_or xs 1 0) counts ∙ right.sound.good.counts.counters_told;
+      base = same_base relations counters (pages o.store.pool) pages' held (base_of c.list_pages.new.base) (base_of c.in_ok-base.base) bytes right.sound.good holds counts c.in_ok-base.ensures.counts c.in_ok-list_pages.ensures.counts listed;
+    }
+
+pub returns-clause-read : goal.returns-clause-read
+returns-clause-read g c =
+    let D = g.D.Device in
+    reads_both D.seen D.may_leave D.moment D.left_since c.args.self.now c.held_page.new.self c.list_pages.new.self c.held_page.ensures.read
+    (reads_both D.seen D.may_leave D.moment D.left_since c.held_page.new.self c.held_page-2.new.self c.list_pages.new.self c.held_page-2.ensures.read c.list_pages.ensures.read)

@@ -1,0 +1,36 @@
+-- What a survey finds, and what it leaves as it was.
+use Rattle.std.specs.Prelude.{◌≡◌, ℕ, List, [], length}
+use Rattle.mt_disk.specs.Disk.{LeavesOnly}
+use Rattle.mt_index.specs.Pages.{depth_in}
+use Rattle.mt_model.specs.Model.{Base}
+use Rattle.mt_model.specs.Views.{base_of, counters_of, relations_of}
+use Rattle.mt_pool.specs.Kept.{IsKept, Explains}
+use Rattle.mt_space.specs.Changes.{PageBytes}
+use Rattle.mt_steps.specs.Listed.{IsSame}
+use Rattle.mt_steps.specs.Plans.{free_pages}
+use Rattle.mt_op.specs.Operations.{IsRight}
+use Rattle.mt_op.specs.declared.operations.Operations.{Operations}
+use Rattle.mt_op.specs.declared.surveying.Survey.{Survey}
+
+-- None is under way, over pages of a schema of so many relations.
+abbrev pub IsIdle : {D : Type 0} → (D → List ℕ) → (D → List ℕ → Type 0) → ℕ → Operations D → Type 0
+IsIdle seen may_leave relations o = ∥ ((opening : PageBytes) × (counters : ℕ) × IsRight seen may_leave opening relations counters o × (o.locks ≡ [])) ∥₁
+
+-- The device was read, and nothing else has changed; whatever a crash leaves meanwhile explains the pages.
+pub record OnlyReads {D : Type 0} (seen : D → List ℕ) (may_leave : D → List ℕ → Type 0) (moment : D → ℕ) (left_since : D → ℕ → List ℕ → Type 0) (o n : Operations D) : Type 0 where
+  pub kept : (opening : PageBytes) → IsKept seen may_leave opening o.store → IsKept seen may_leave opening n.store
+  pub moments : (opening : PageBytes) → IsKept seen may_leave opening o.store → LeavesOnly moment left_since o.store.device n.store.device (Explains opening o.store)
+  pub content : seen n.store.device ≡ seen o.store.device
+  pub pool : n.store.pool ≡ o.store.pool
+  pub log : n.store.log ≡ o.store.log
+  pub locks : n.locks ≡ o.locks
+  pub rooms : n.rooms ≡ o.rooms
+  pub map : n.map ≡ o.map
+
+-- It tells of so many pages, of a schema of so many relations and counters, what they hold.
+pub record IsSurvey (relations counters total : ℕ) (pages : PageBytes) (held : Base) (survey : Survey) : Type 0 where
+  pub depth : survey.depth ≡ depth_in (pages 1)
+  pub free : survey.free ≡ free_pages total pages
+  pub relations_told : relations_of survey.base ≡ relations
+  pub counters_told : length (counters_of survey.base) ≡ counters
+  pub base : IsSame counters (base_of survey.base) held

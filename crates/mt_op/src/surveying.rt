@@ -1,0 +1,128 @@
+// What the pages held come to, where no operation is under way.
+ghost use Rattle.std.specs.Prelude.{◌≡◌, ◌⊎◌, ◌<◌, ◌≤◌, ◌+◌, ℕ, length, IsOk, IfOk, IfErr, OnOk};
+ghost use Rattle.mt_model.specs.Model.{Base as ModelBase};
+ghost use Rattle.mt_model.specs.Views.{base_of, counters_of, relations_of};
+ghost use Rattle.mt_pool.specs.Views.{pages};
+ghost use Rattle.mt_space.specs.Changes.{PageBytes};
+ghost use Rattle.mt_steps.specs.Held.{Holds};
+ghost use Rattle.mt_steps.specs.Listed.{HasListed};
+ghost use Rattle.mt_op.specs.Operations.{world, IsRight};
+ghost use Rattle.mt_op.specs.Surveyed.{IsIdle, IsSurvey, OnlyReads};
+ghost use Rattle.mt_op.specs.World.{held_in};
+
+use crate::Operations;
+use mt_base::{PageNo, Refusal};
+use mt_disk::Device;
+use mt_index::depth;
+use mt_model::Base;
+use mt_space::Pages;
+use mt_space::pages::{COUNTERS, DIRECTORY, RECORDS};
+use mt_steps::{base_without_rows, list_rows};
+use std::alloc::Global;
+
+/// What the pages held come to.
+#[derive(Debug, Drop)]
+pub struct Survey {
+    /// How many bits of a key's hash the index's directory goes by: at most 9.
+    pub depth: u8,
+    /// How many pages are free.
+    pub free: u16,
+    /// The base that the pages hold.
+    pub base: Base,
+}
+
+impl<D: Device> Operations<D> {
+    // A page as it is held.
+    fn held_page(&mut self, page: PageNo) -> Result<[u8; 4096], Refusal>
+        requires idle { ∥ ((relations : ℕ) × IsIdle D.seen D.may_leave relations self.old) ∥₁ }
+        requires inside { page < pages self.old.store.pool }
+        ensures held { (opening : PageBytes) (relations counters : ℕ)
+            → IsRight D.seen D.may_leave opening relations counters self.old
+            → IfOk result (λ bytes. bytes ≡ held_in (world D.seen opening self.old) page) }
+        ensures whole { IfOk result (λ bytes. length bytes ≡ 4096) }
+        ensures read { OnlyReads D.seen D.may_leave D.moment D.left_since self.old self.new }
+        ensures quiet { IsOk result → D.faults self.new.store.device ≡ D.faults self.old.store.device }
+        ensures cause { IfErr result (λ why. (why ≡ Refusal.DeviceFailed)
+            × (D.faults self.old.store.device < D.faults self.new.store.device)) }
+    {
+        let mut bytes = [0; 4096];
+        match self.store.copy(page, &mut bytes) {
+            Ok(()) => Ok(bytes),
+            Err(_) => Err(Refusal::DeviceFailed),
+        }
+    }
+
+    // Lists the records of a page in a base, if it is a page of records.
+    fn list_page(&mut self, alloc: Global, base: &mut Base, page: PageNo) -> Result<(), Refusal>
+        requires idle { IsIdle D.seen D.may_leave (relations_of base.old) self.old }
+        requires inside { page < pages self.old.store.pool }
+        ensures listed { (opening : PageBytes) (relations counters : ℕ) (held : ModelBase)
+            → IsRight D.seen D.may_leave opening relations counters self.old
+            → Holds (held_in (world D.seen opening self.old)) held
+            → HasListed (held_in (world D.seen opening self.old)) page (base_of base.old)
+            → OnOk result (HasListed (held_in (world D.seen opening self.old)) (page + 1) (base_of base.new)) }
+        ensures counts { OnOk result ((base_of base.new).counts ≡ (base_of base.old).counts) }
+        ensures relations { relations_of base.new ≡ relations_of base.old }
+        ensures counters { length (counters_of base.new) ≡ length (counters_of base.old) }
+        ensures read { OnlyReads D.seen D.may_leave D.moment D.left_since self.old self.new }
+        ensures quiet { IsOk result → D.faults self.new.store.device ≡ D.faults self.old.store.device }
+        ensures cause { IfErr result (λ why. (why ≡ Refusal.NoMemory) ⊎ (why ≡ Refusal.DeviceFailed)
+            × (D.faults self.old.store.device < D.faults self.new.store.device)) }
+    {
+        if self.map.kinds[usize::from(page.get())] != RECORDS {
+            return Ok(());
+        }
+        let bytes = self.held_page(page)?;
+        list_rows(alloc, base, &bytes)
+    }
+
+    // Lists the records of all pages.
+    fn list_pages(&mut self, alloc: Global, base: &mut Base) -> Result<(), Refusal>
+        requires idle { IsIdle D.seen D.may_leave (relations_of base.old) self.old }
+        ensures listed { (opening : PageBytes) (relations counters : ℕ) (held : ModelBase)
+            → IsRight D.seen D.may_leave opening relations counters self.old
+            → Holds (held_in (world D.seen opening self.old)) held
+            → HasListed (held_in (world D.seen opening self.old)) 0 (base_of base.old)
+            → OnOk result (HasListed (held_in (world D.seen opening self.old)) (pages self.old.store.pool)
+            (base_of base.new)) }
+        ensures counts { OnOk result ((base_of base.new).counts ≡ (base_of base.old).counts) }
+        ensures relations { relations_of base.new ≡ relations_of base.old }
+        ensures counters { length (counters_of base.new) ≡ length (counters_of base.old) }
+        ensures read { OnlyReads D.seen D.may_leave D.moment D.left_since self.old self.new }
+        ensures quiet { IsOk result → D.faults self.new.store.device ≡ D.faults self.old.store.device }
+        ensures cause { IfErr result (λ why. (why ≡ Refusal.NoMemory) ⊎ (why ≡ Refusal.DeviceFailed)
+            × (D.faults self.old.store.device < D.faults self.new.store.device)) }
+    {
+        for number in 0..self.store.pool.count() {
+            self.list_page(alloc, base, PageNo::new(number))?;
+        }
+        Ok(())
+    }
+
+    /// Tells what the pages held come to, by their bytes, where no operation is under way. Each page of records is read
+    /// once, from its frame or else from the device, so it answers however many pages are to be flushed. Nothing but the
+    /// device's reads is done.
+    ///
+    /// Refused with [`Refusal::NoMemory`], and with [`Refusal::DeviceFailed`] where the device failed in this call.
+    pub fn survey(&mut self, alloc: Global) -> Result<Survey, Refusal>
+        requires idle { ∥ ((relations : ℕ) × (relations ≤ 64) × IsIdle D.seen D.may_leave relations self.old) ∥₁ }
+        ensures surveyed { (opening : PageBytes) (relations counters : ℕ) (held : ModelBase)
+            → IsRight D.seen D.may_leave opening relations counters self.old
+            → Holds (held_in (world D.seen opening self.old)) held
+            → IfOk result (IsSurvey relations counters (pages self.old.store.pool)
+            (held_in (world D.seen opening self.old)) held) }
+        ensures read { OnlyReads D.seen D.may_leave D.moment D.left_since self.old self.new }
+        ensures quiet { IsOk result → D.faults self.new.store.device ≡ D.faults self.old.store.device }
+        ensures cause { IfErr result (λ why. (why ≡ Refusal.NoMemory) ⊎ (why ≡ Refusal.DeviceFailed)
+            × (D.faults self.old.store.device < D.faults self.new.store.device)) }
+    {
+        let depth = depth(&self.held_page(PageNo::new(DIRECTORY))?);
+        let mut base = base_without_rows(alloc, &self.held_page(PageNo::new(COUNTERS))?)?;
+        self.list_pages(alloc, &mut base)?;
+        Ok(Survey {
+            depth,
+            free: self.map.space.free(),
+            base,
+        })
+    }
+}

@@ -1,0 +1,97 @@
+// What turns a log over to an area that begins with images: the pages that have one are written in place before, and
+// the store goes on over the new area.
+ghost use Rattle.std.specs.Prelude.{◌≡◌, ◌⊎◌, ◌+◌, ◌*◌, ◌<◌, ◌≤◌, ◌^◌, [], ℕ, List, length};
+ghost use Rattle.std.specs.List.{AllByRecursion};
+ghost use Rattle.mt_disk.specs.Disk.{Follows, HasCause, Torn};
+ghost use Rattle.mt_frame.specs.declared.records.Record.{Record};
+ghost use Rattle.mt_log.specs.Sound.{IsSound};
+ghost use Rattle.mt_log.specs.Words.{durable, in_flight, waiting, area_start, IsOn};
+ghost use Rattle.mt_pool.specs.Images.{IsSafe};
+ghost use Rattle.mt_pool.specs.Kept.{IsKept, carried};
+ghost use Rattle.mt_pool.specs.Turns.{IsImageOnly, KeepsStanding, KnowsImages, StaysStanding};
+ghost use Rattle.mt_pool.specs.Views.{IsPool, Shows, view, waits_for, pages as pages_of};
+
+use crate::{Pool, Store};
+use mt_base::{LogPos, PageNo};
+use mt_disk::{Device, DeviceFault};
+use mt_frame::Record;
+use mt_log::Log;
+
+// Tells the pool of the images with which an area begins.
+fn note_images(pool: &mut Pool, images: &[Record])
+    requires pool { IsPool pool.old }
+    requires new { (q : ℕ) → waits_for pool.old q ≡ 0 }
+    requires images { AllByRecursion (IsImageOnly (pages_of pool.old)) images.now }
+    ensures pool { IsPool pool.new }
+    ensures shows { (seen : List ℕ) → Shows pool.old seen → Shows pool.new seen }
+    ensures views { (seen : List ℕ) (q : ℕ) → view pool.new seen q ≡ view pool.old seen q }
+    ensures place { pool.new.place ≡ pool.old.place }
+    ensures pages { pages_of pool.new ≡ pages_of pool.old }
+    ensures knows { KnowsImages pool.new images.now }
+{
+    let mut position = 0;
+    for entry in images {
+        position += 1;
+        if let Record::Page { page, .. } = entry {
+            pool.note_image(*page, LogPos::new(position));
+        }
+    }
+}
+
+impl<D: Device> Store<D> {
+    /// A store over an area that has just begun with these images of pages, where each page's slot, or its frame, has
+    /// its bytes as they are at that moment. No page waits for a record then but for its image. It takes no memory.
+    pub fn over_images(device: D, log: Log, pool: Pool, images: &[Record]) -> Store<D>
+        requires on { IsOn D.seen D.may_leave log device }
+        requires sound { IsSound (pages_of pool) log }
+        requires durable { (durable log ≡ images.now) × (in_flight log ≡ []) × (waiting log ≡ []) }
+        requires images { AllByRecursion (IsImageOnly (pages_of pool)) images.now }
+        requires apart { pool.place + 4096 * pages_of pool ≤ area_start log }
+        requires few { pages_of pool ≤ 4000 }
+        requires pool { IsPool pool × Shows pool (D.seen device) × ((q : ℕ) → waits_for pool q ≡ 0) }
+        ensures kept { (opening : ℕ → List ℕ)
+            → IsSafe pool.place (pages_of pool) opening (carried images.now) (length images.now) (D.may_leave device)
+            → ((q : ℕ) → q < pages_of pool → view pool (D.seen device) q ≡ opening q)
+            → IsKept D.seen D.may_leave opening result }
+        ensures views { (q : ℕ) → view result.pool (D.seen result.device) q ≡ view pool (D.seen device) q }
+        ensures log { result.log ≡ log }
+        ensures device { result.device ≡ device }
+    {
+        let mut pool = pool;
+        note_images(&mut pool, images);
+        Store {
+            device,
+            log,
+            pool,
+            settled: LogPos::new(images.len() as u64),
+        }
+    }
+}
+
+/// Writes each page that is marked into its slot, from `place` on: those that have an image in an area. Nothing is
+/// synced. Whatever a crash leaves, in this call too, the area's batches stand, and the pages that it gives.
+///
+/// The only error is the device's.
+pub fn write_imaged<D: Device>(
+    device: &mut D,
+    place: u64,
+    pages: &[[u8; 4096]],
+    imaged: &[bool],
+) -> Result<(), DeviceFault>
+    requires count { length imaged.now ≡ length pages.now }
+    requires slots { place + 4096 * length pages.now ≤ length (D.seen device.old) }
+    requires below { length (D.seen device.old) < 2 ^ 64 }
+    ensures stands { KeepsStanding place imaged.now (D.may_leave device.old) (D.may_leave device.new) }
+    ensures moments { StaysStanding D.moment D.left_since D.may_leave place imaged.now device.old device.new }
+    ensures rest { Torn place (4096 * length pages.now) (D.seen device.old) (D.seen device.new) }
+    ensures elsewhere { Follows (Torn place (4096 * length pages.now)) (D.may_leave device.old)
+        (D.may_leave device.new) }
+    ensures cause { HasCause (D.faults device.old) (D.faults device.new) result }
+{
+    for page in 0..pages.len() {
+        if imaged[page] {
+            device.write_at(place + 4096 * page as u64, &pages[page])?;
+        }
+    }
+    Ok(())
+}

@@ -1,0 +1,13 @@
+pub mod Undone
+pub mod Restoring
+pub mod Imaged
+pub mod Beginnings
+pub mod Walking
+pub mod Counting
+pub mod Making
+pub mod Alike
+pub mod Losing
+pub mod Inverses
+pub mod Checked
+pub mod Areas
+pub mod Causes

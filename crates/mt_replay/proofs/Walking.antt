@@ -1,0 +1,58 @@
+-- Loops over the records of batches, and filters under a view.
+use Rattle.std.proofs.Common.{◌≡◌, ℕ, zero, suc, ◌+◌, ◌<◌, Bool, true, false, cond, List, [], ◌∷◌, ◌++◌, length, take, drop, get_or, map, filter, refl, sym, ap, ◌∙◌, subst, append_assoc, arith}
+use Rattle.std.proofs.lemmas.List.{drop_more, take_more, map-append}
+use Rattle.mt_frame.specs.declared.records.Record.{Record}
+use Rattle.mt_log.specs.Batch.{joined}
+use Rattle.mt_log.specs.Found.{records_of}
+use Rattle.mt_log.specs.Holds.{AreRecords, AreBatches}
+use Rattle.mt_log.specs.declared.batch.Batch.{Batch}
+use Rattle.mt_steps.specs.Repeated.{Repeated, repeated, repeat}
+use Rattle.mt_steps.proofs.Repeating.{repeat_more}
+use Rattle.mt_replay.specs.Told.{Told, told, tell}
+
+pub map_filter : {A B : Type 0} (f : A → B) (p : A → Bool) (q : B → Bool) → ((x : A) → p x ≡ q (f x)) → (xs : List A) → map f (filter p xs) ≡ filter q (map f xs)
+map_filter f p q same [] = refl
+map_filter {A} {B} f p q same (x ∷ xs) = ap (λ (b : Bool). map f (cond b (x ∷ filter p xs) (filter p xs))) (same x) ∙ go (q (f x)) (map_filter f p q same xs)
+  where
+    go : (b : Bool) → map f (filter p xs) ≡ filter q (map f xs) → map f (cond b (x ∷ filter p xs) (filter p xs)) ≡ cond b (f x ∷ filter q (map f xs)) (filter q (map f xs))
+    go true rest = ap (λ (ys : List B). f x ∷ ys) rest
+    go false rest = rest
+
+pub repeat_at : (x : Repeated) (rs : List Record) (i : ℕ) (r : Record) → i < length rs → r ≡ get_or rs i r → repeat x (take (i + 1) rs) ≡ repeated (repeat x (take i rs)) r
+repeat_at x rs i r lt is = ap (repeat x) (take_more rs i r lt) ∙ repeat_more x (take i rs) (get_or rs i r ∷ []) ∙ ap (repeated (repeat x (take i rs))) (sym is)
+
+pub tell_more : (x : Told) (xs ys : List Record) → tell x (xs ++ ys) ≡ tell (tell x xs) ys
+tell_more x [] ys = refl
+tell_more x (r ∷ rs) ys = tell_more (told x r) rs ys
+
+pub tell_at : (x : Told) (rs : List Record) (i : ℕ) (r : Record) → i < length rs → r ≡ get_or rs i r → tell x (take (i + 1) rs) ≡ told (tell x (take i rs)) r
+tell_at x rs i r lt is = ap (tell x) (take_more rs i r lt) ∙ tell_more x (take i rs) (get_or rs i r ∷ []) ∙ ap (told (tell x (take i rs))) (sym is)
+
+joined_append : (xs ys : List (List Record)) → joined (xs ++ ys) ≡ joined xs ++ joined ys
+joined_append [] ys = refl
+joined_append (x ∷ xs) ys = ap (λ (rs : List Record). x ++ rs) (joined_append xs ys) ∙ sym (append_assoc x (joined xs) (joined ys))
+
+none_behind : (xs : List Record) → xs ++ [] ≡ xs
+none_behind [] = refl
+none_behind (x ∷ xs) = ap (λ (ys : List Record). x ∷ ys) (none_behind xs)
+
+pub joined_more : (bs : List Batch) (i : ℕ) (b : Batch) → i < length bs → b ≡ get_or bs i b → joined (records_of (take (i + 1) bs)) ≡ joined (records_of (take i bs)) ++ b.records.items
+joined_more bs i b lt is =
+    ap (λ (cs : List Batch). joined (records_of cs)) (take_more bs i b lt ∙ ap (λ (c : Batch). take i bs ++ c ∷ []) (sym is))
+    ∙ ap joined (map-append (λ (c : Batch). c.records.items) (take i bs) (b ∷ []))
+    ∙ joined_append (records_of (take i bs)) (records_of (b ∷ []))
+    ∙ ap (λ (rs : List Record). joined (records_of (take i bs)) ++ rs) (none_behind b.records.items)
+
+pub repeat_batch : (x : Repeated) (bs : List Batch) (i : ℕ) (b : Batch) → i < length bs → b ≡ get_or bs i b → repeat x (joined (records_of (take (i + 1) bs))) ≡ repeat (repeat x (joined (records_of (take i bs)))) b.records.items
+repeat_batch x bs i b lt is = ap (repeat x) (joined_more bs i b lt is) ∙ repeat_more x (joined (records_of (take i bs))) b.records.items
+
+pub tell_batch : (x : Told) (bs : List Batch) (i : ℕ) (b : Batch) → i < length bs → b ≡ get_or bs i b → tell x (joined (records_of (take (i + 1) bs))) ≡ tell (tell x (joined (records_of (take i bs)))) b.records.items
+tell_batch x bs i b lt is = ap (tell x) (joined_more bs i b lt is) ∙ tell_more x (joined (records_of (take i bs))) b.records.items
+
+pub joined_at : (bs : List Batch) (i : ℕ) (b : Batch) → i < length bs → b ≡ get_or bs i b → joined (records_of (drop i bs)) ≡ b.records.items ++ joined (records_of (drop (i + 1) bs))
+joined_at bs i b lt is = ap (λ (cs : List Batch). joined (records_of cs)) (drop_more bs i b lt ∙ ap (λ (c : Batch). c ∷ drop (i + 1) bs) (sym is))
+
+pub each_at : (n : ℕ) (bs : List Batch) (i : ℕ) (b : Batch) → i < length bs → b ≡ get_or bs i b → AreBatches n (records_of bs) → AreRecords n b.records.items
+each_at n [] i b lt is all = absurd (omega arith)
+each_at n (c ∷ cs) zero b lt is all = subst (λ (d : Batch). AreRecords n d.records.items) (sym is) all.0
+each_at n (c ∷ cs) (suc i) b lt is all = each_at n cs i b (omega arith) is all.1

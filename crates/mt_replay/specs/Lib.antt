@@ -1,0 +1,12 @@
+pub mod Told
+pub mod Recoverable
+pub mod Undoing
+pub mod Laws
+pub mod Figures
+pub mod Memory
+pub mod Passes
+pub mod Losers
+pub mod Stands
+pub mod Refused
+pub mod Checks
+pub mod Faults

@@ -1,0 +1,58 @@
+-- What is in memory of the losers.
+use Rattle.std.specs.Prelude.{◌≡◌, ◌++◌, ◌∷◌, ℕ, List, length, map, Contains}
+use Rattle.std.specs.List.{AllByRecursion}
+use Rattle.mt_frame.specs.declared.records.Record.{Record}
+use Rattle.mt_frame.specs.declared.records.Record.TheVariants.{OpEnd}
+use Rattle.mt_frame.specs.Grammar.{IsRecord, IsOperation}
+use Rattle.mt_log.specs.declared.batch.Batch.{Batch}
+use Rattle.mt_model.specs.Model.{Base}
+use Rattle.mt_space.specs.Changes.{PageBytes}
+use Rattle.mt_steps.specs.Plans.{IsGood}
+use Rattle.mt_replay.specs.Memory.{AreFirst}
+use Rattle.mt_replay.specs.Undoing.{UndoesAll, Finds}
+use Rattle.mt_replay.specs.Told.{Told, tell, Finished}
+use Rattle.mt_replay.specs.declared.telling.Loser.{Loser}
+
+abbrev pub finished_of : Loser → Finished
+finished_of l = record { txn = l.txn; op = l.op; done = l.done }
+
+abbrev pub all_finished : List Loser → List Finished
+all_finished list = map finished_of list
+
+-- each record of the batches is one of the grammar
+abbrev pub AreOfGrammar : List Batch → Type 0
+AreOfGrammar batches = AllByRecursion (λ (batch : Batch). AllByRecursion IsRecord batch.records.items) batches
+
+-- the record of the loser's end stands in the batch at its place
+pub record HasEnded (batches : List Batch) (l : Loser) : Type 0 where
+  pub batch : Batch
+  pub among : Contains batches batch
+  pub place : batch.place ≡ l.place
+  pub end : Contains batch.records.items (OpEnd l.txn l.op 0 l.done)
+  pub grammar : IsOperation l.done
+
+-- these records of a batch are told too
+pub record Tells (batch : Batch) (records : List Record) (old new : List Loser) : Type 0 where
+  pub told : (x : Told) → all_finished old ≡ x.live → all_finished new ≡ (tell x records).live
+  pub ended : (batches : List Batch) → Contains batches batch → AllByRecursion (HasEnded batches) old → AllByRecursion (HasEnded batches) new
+
+-- ---- undone one by one
+
+-- the pages as the inverses of these losers leave them, that of the latest end first
+pub record HasUndone (old : List (List ℕ)) (losers : List Loser) (new : List (List ℕ)) : Type 0 where
+  pub count : length new ≡ length old
+  pub undone : (relations counters : ℕ) (f : PageBytes) → AreFirst old f → IsGood relations counters (length old) f
+      → (k : PageBytes) × AreFirst new k × IsGood relations counters (length old) k
+      × UndoesAll relations counters (length old) f (all_finished losers) k
+
+-- The pass stops at the loser of this place: on the pages that the inverses of those behind it leave, whatever base they
+-- hold, its inverse does not find what its record says, or no free pages.
+pub record StopsAt (pages : List (List ℕ)) (losers : List Loser) (at : ℕ) : Type 0 where
+  pub front : List Loser
+  pub loser : Loser
+  pub behind : List Loser
+  pub is : losers ≡ front ++ loser ∷ behind
+  pub place : loser.place ≡ at
+  pub missed : (relations counters : ℕ) (f : PageBytes) → AreFirst pages f → IsGood relations counters (length pages) f
+      → (m : PageBytes) × UndoesAll relations counters (length pages) f (all_finished behind) m
+      × ((b : Base) → Finds relations counters (length pages) m b loser.done → ⊥)

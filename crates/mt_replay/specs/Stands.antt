@@ -1,0 +1,80 @@
+-- What the bytes of a device stand for, told without a restart's passes.
+use Rattle.std.specs.Prelude.{◌≡◌, ℕ, ◌+◌, ◌*◌, List, length}
+use Rattle.mt_frame.specs.declared.records.Record.{Record}
+use Rattle.mt_frame.specs.declared.slots.MasterSlot.{MasterSlot}
+use Rattle.mt_log.specs.Batch.{joined}
+use Rattle.mt_log.specs.Holds.{HoldsBatches}
+use Rattle.mt_model.specs.Model.{Base, IsBase}
+use Rattle.mt_pool.specs.Images.{GivesPages}
+use Rattle.mt_pool.specs.Kept.{carried}
+use Rattle.mt_space.specs.Changes.{PageBytes}
+use Rattle.mt_steps.specs.Held.{Holds}
+use Rattle.mt_log.specs.Masters.{IsRuling}
+use Rattle.mt_replay.specs.Told.{losers, stands_for}
+use Rattle.mt_replay.specs.Losers.{all_finished}
+use Rattle.mt_replay.specs.declared.telling.Loser.{Loser}
+use Rattle.mt_replay.specs.Recoverable.{IsRecoverable, pages_held}
+use Rattle.mt_replay.specs.Memory.{AreFirst}
+use Rattle.mt_base.specs.Limits.{IsRelationCount}
+use Rattle.mt_steps.specs.Plans.{IsGood}
+
+-- the log area that a master slot names: the bytes of an area, the place of its first, and the place behind its last
+abbrev pub area_size : MasterSlot → ℕ
+area_size slot = slot.mib * 1048576
+
+abbrev pub area_start : MasterSlot → ℕ
+area_start slot = 8192 + 4096 * slot.pages + slot.area * area_size slot
+
+abbrev pub area_end : MasterSlot → ℕ
+area_end slot = area_start slot + area_size slot
+
+-- The ruling slot names the area; the area's batches and the page slots give each page as the area found it: its first
+-- image, or its slot where there is none.
+pub record IsReadAs (c : List ℕ) (slot : MasterSlot) (opening : PageBytes) (batches : List (List Record)) : Type 0 where
+  pub rules : IsRuling c slot
+  pub held : HoldsBatches c (area_start slot) (area_end slot) slot.pages batches
+  pub gives : GivesPages 8192 slot.pages opening (carried (joined batches)) c
+
+-- The bytes stand for this base: of what the opening pages hold, what the area's committed transactions lead to, each
+-- alone, in the order of their commits.
+pub record StandsFor (c : List ℕ) (b : Base) : Type 0 where
+  pub slot : MasterSlot
+  pub opening : PageBytes
+  pub batches : List (List Record)
+  pub read : IsReadAs c slot opening batches
+  pub first : Base
+  pub holds : Holds opening first
+  pub bounds : IsBase first
+  pub is : b ≡ stands_for first (joined batches)
+
+-- A restart finds it: a kernel of a schema of so many relations and counters left these bytes.
+pub record CanRestart (relations counters : ℕ) (c : List ℕ) (b : Base) : Type 0 where
+  pub stands : StandsFor c b
+  pub fits : IsRelationCount relations
+  pub recoverable : IsRecoverable relations counters stands.slot.pages (area_size stands.slot) stands.opening stands.first (joined stands.batches)
+
+-- pages in memory that are good and hold this base
+pub record ShowsBase (relations counters : ℕ) (items : List (List ℕ)) (b : Base) : Type 0 where
+  pub pages : PageBytes
+  pub first : AreFirst items pages
+  pub good : IsGood relations counters (length items) pages
+  pub holds : Holds pages b
+
+-- the area that the ruling slot names holds these batches
+pub record HasArea (c : List ℕ) (slot : MasterSlot) (batches : List (List Record)) : Type 0 where
+  pub rules : IsRuling c slot
+  pub held : HoldsBatches c (area_start slot) (area_end slot) slot.pages batches
+
+-- what is in memory once history is repeated: the pages held of records that are recoverable, and their losers
+pub record AreHeld (relations counters : ℕ) (items : List (List ℕ)) (list : List Loser) (b : Base) : Type 0 where
+  pub bytes : ℕ
+  pub opening : PageBytes
+  pub records : List Record
+  pub first : Base
+  pub fits : IsRelationCount relations
+  pub recoverable : IsRecoverable relations counters (length items) bytes opening first records
+  pub holds : Holds opening first
+  pub bounds : IsBase first
+  pub is : b ≡ stands_for first records
+  pub pages : AreFirst items (pages_held opening records)
+  pub losers : all_finished list ≡ losers records

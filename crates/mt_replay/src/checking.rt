@@ -1,0 +1,252 @@
+// Whether all pages of a device break no rule of their formats, whatever their bytes are.
+ghost use Rattle.std.specs.Prelude.{◌≡◌, ◌⊎◌, ◌<◌, ◌≤◌, ℕ, length, IfOk, IfSome, MatchBool, MatchOption};
+ghost use Rattle.mt_bucket.specs.Page.{IsBucket};
+ghost use Rattle.mt_index.specs.Checks.{bytes_of, IsSound};
+ghost use Rattle.mt_space.specs.Kinds.{kind};
+ghost use Rattle.mt_replay.specs.Memory.{AreWhole};
+ghost use Rattle.mt_replay.specs.Faults.{IsFaulty};
+ghost use Rattle.mt_replay.specs.Checks.{AreChecked, AreBroken, HasSchema, IsRecordPage, AreRecordPages, HasRecord, IsNamedWell, NamesRecords, AllNameRecords, AreListedAt, HasListed, AllAreListed, IsIndexed};
+
+use mt_base::limits::{MAX_VALUE_BYTES, relation_count_fits};
+use mt_base::{PageNo, RecordName, RelNo};
+use mt_bucket::{count, entry};
+use mt_index::{Find, plan_find};
+use mt_slots::get;
+use mt_space::Pages;
+use mt_space::pages::{BUCKET, COUNTERS, FIXED, MAP, RECORDS};
+use mt_steps::{SchemaSizes, sizes};
+use std::alloc::{AllocError, Global};
+
+// Slots of a page of records: each takes 4 bytes.
+const MAX_SLOTS: u16 = 1022;
+
+/// All pages of a device in memory, of which nothing is known but that they are whole.
+#[derive(Drop)]
+pub(crate) struct AllPages {
+    pub(crate) pages: Vec<[u8; 4096]>,
+    ghost whole: { AreWhole pages.items },
+    ghost some: { 16 ≤ length pages.items },
+    ghost few: { length pages.items ≤ 4000 },
+}
+
+impl Pages for AllPages {
+    ghost use Rattle.std.specs.Prelude.{length, slice_get};
+    ghost use Rattle.mt_replay.specs.Memory.{whole_at};
+
+    ghost is_sound = { λ all. Unit {0} };
+
+    ghost total = { λ all. length all.pages.items };
+
+    ghost at_hand = { λ all p. slice_get all.pages.items p };
+
+    ghost whole = { λ all sound p bytes there. whole_at all.pages.items p bytes all.whole there };
+
+    fn count(&self) -> u16 {
+        self.pages.len() as u16
+    }
+
+    fn page(&self, page: PageNo) -> Option<&[u8; 4096]> {
+        self.pages.get(usize::from(page.get()))
+    }
+}
+
+impl AllPages {
+    // Whether the space map says so of a page.
+    fn is_of_kind(&self, page: usize, of: u8) -> bool
+        ensures { MatchBool result
+            ((page < length self.now.pages.items) × (kind (bytes_of self.now.pages.items) page ≡ of))
+            (page < length self.now.pages.items → kind (bytes_of self.now.pages.items) page ≡ of → ⊥) }
+    {
+        page < self.pages.len() && self.pages[usize::from(MAP)][page] == of
+    }
+
+    // Whether page 2 is the counters page of the schema that it tells.
+    fn has_schema(&self, told: SchemaSizes) -> bool
+        ensures { MatchBool result (HasSchema self.now.pages.items told.relations told.counters)
+            (HasSchema self.now.pages.items told.relations told.counters → ⊥) }
+    {
+        let page = &self.pages[usize::from(COUNTERS)];
+        relation_count_fits(told.relations)
+            && self.is_of_kind(usize::from(COUNTERS), FIXED)
+            && mt_steps::check(page, told.relations, told.counters)
+    }
+
+    // Whether a page is one of the schema, if it is of records.
+    fn is_record_page(&self, page: usize, relations: u16) -> bool
+        requires { page < length self.now.pages.items }
+        ensures { MatchBool result (IsRecordPage self.now.pages.items relations page)
+            (IsRecordPage self.now.pages.items relations page → ⊥) }
+    {
+        if !self.is_of_kind(page, RECORDS) {
+            return true;
+        }
+        mt_slots::check(&self.pages[page], relations, MAX_VALUE_BYTES)
+    }
+
+    // The first page of records whose bytes are none of the schema's.
+    fn first_malformed(&self, relations: u16) -> Option<PageNo>
+        ensures { MatchOption result (AreRecordPages self.now.pages.items relations)
+            (λ p. (p < length self.now.pages.items) × (IsRecordPage self.now.pages.items relations p → ⊥)) }
+    {
+        for number in 0..self.pages.len() {
+            if !self.is_record_page(number, relations) {
+                return Some(PageNo::new(number as u16));
+            }
+        }
+        None
+    }
+
+    // Whether a record of this relation and key has the name.
+    fn has_record(&self, name: RecordName, relation: RelNo, key: &[u8]) -> bool
+        requires { (relations : ℕ) × IsIndexed self.now.pages.items relations }
+        ensures { MatchBool result (HasRecord self.now.pages.items name relation key.now)
+            (HasRecord self.now.pages.items name relation key.now → ⊥) }
+    {
+        let page = usize::from(name.page.get());
+        if !self.is_of_kind(page, RECORDS) {
+            return false;
+        }
+        match get(&self.pages[page], name.slot) {
+            Some(view) => {
+                if view.relation != relation {
+                    return false;
+                }
+                if view.key != key {
+                    return false;
+                }
+                true
+            }
+            None => false,
+        }
+    }
+
+    // Whether the index names a record of this relation and key under them, if any.
+    fn is_named_well(&self, relation: RelNo, key: &[u8]) -> bool
+        requires known { (relations : ℕ) × IsIndexed self.now.pages.items relations }
+        requires short { length key.now ≤ 64 }
+        ensures { MatchBool result (IsNamedWell self.now.pages.items relation key.now)
+            (IsNamedWell self.now.pages.items relation key.now → ⊥) }
+    {
+        match plan_find(self, relation, key) {
+            Find::Found(name) => self.has_record(name, relation, key),
+            Find::Missing => true,
+            Find::Need(_, _) => unreachable!(),
+            Find::Endless => unreachable!(),
+        }
+    }
+
+    // Whether each entry of a page names a record of its relation and key, if it is of a bucket.
+    fn names_records(&self, page: usize) -> bool
+        requires known { (relations : ℕ) × IsIndexed self.now.pages.items relations }
+        requires inside { page < length self.now.pages.items }
+        ensures { MatchBool result (NamesRecords self.now.pages.items page)
+            (NamesRecords self.now.pages.items page → ⊥) }
+    {
+        if !self.is_of_kind(page, BUCKET) {
+            return true;
+        }
+        let bytes = &self.pages[page];
+        for i in 0..count(bytes) {
+            let view = entry(bytes, i);
+            if !self.is_named_well(view.relation, view.key) {
+                return false;
+            }
+        }
+        true
+    }
+
+    // The first bucket page with an entry that names another record, or none.
+    fn first_misnaming(&self) -> Option<PageNo>
+        requires { (relations : ℕ) × IsIndexed self.now.pages.items relations }
+        ensures { MatchOption result (AllNameRecords self.now.pages.items)
+            (λ p. (p < length self.now.pages.items) × (NamesRecords self.now.pages.items p → ⊥)) }
+    {
+        for number in 0..self.pages.len() {
+            if !self.names_records(number) {
+                return Some(PageNo::new(number as u16));
+            }
+        }
+        None
+    }
+
+    // Whether the index names the record of a slot by its name, if there is one.
+    fn is_listed(&self, page: usize, slot: u16) -> bool
+        requires known { (relations : ℕ) × IsIndexed self.now.pages.items relations }
+        requires inside { page < length self.now.pages.items }
+        requires records { kind (bytes_of self.now.pages.items) page ≡ 3 }
+        ensures { MatchBool result (AreListedAt self.now.pages.items page slot)
+            (AreListedAt self.now.pages.items page slot → ⊥) }
+    {
+        let view = match get(&self.pages[page], slot) {
+            Some(view) => view,
+            None => return true,
+        };
+        match plan_find(self, view.relation, view.key) {
+            Find::Found(name) => {
+                if usize::from(name.page.get()) != page {
+                    return false;
+                }
+                if name.slot != slot {
+                    return false;
+                }
+                true
+            }
+            Find::Missing => false,
+            Find::Need(_, _) => unreachable!(),
+            Find::Endless => unreachable!(),
+        }
+    }
+
+    // Whether it names each record of a page by its name, if it is of records.
+    fn has_listed(&self, page: usize) -> bool
+        requires known { (relations : ℕ) × IsIndexed self.now.pages.items relations }
+        requires inside { page < length self.now.pages.items }
+        ensures { MatchBool result (HasListed self.now.pages.items page) (HasListed self.now.pages.items page → ⊥) }
+    {
+        if !self.is_of_kind(page, RECORDS) {
+            return true;
+        }
+        for slot in 0..MAX_SLOTS {
+            if !self.is_listed(page, slot) {
+                return false;
+            }
+        }
+        true
+    }
+
+    // The first page with a record that the index names otherwise, or not at all.
+    fn first_unlisted(&self) -> Option<PageNo>
+        requires { (relations : ℕ) × IsIndexed self.now.pages.items relations }
+        ensures { MatchOption result (AllAreListed self.now.pages.items)
+            (λ p. (p < length self.now.pages.items) × (HasListed self.now.pages.items p → ⊥)) }
+    {
+        for number in 0..self.pages.len() {
+            if !self.has_listed(number) {
+                return Some(PageNo::new(number as u16));
+            }
+        }
+        None
+    }
+
+    // The first page that breaks a rule; `None` where none does.
+    pub(crate) fn first_broken(&self, alloc: Global) -> Result<Option<PageNo>, AllocError>
+        ensures found { IfOk result (λ broken. MatchOption broken (AreChecked self.now.pages.items)
+            (λ p. AreBroken self.now.pages.items)) }
+        ensures named { IfOk result (λ broken. IfSome broken (IsFaulty self.now.pages.items)) }
+    {
+        let told = sizes(&self.pages[usize::from(COUNTERS)]);
+        if !self.has_schema(told) {
+            return Ok(Some(PageNo::new(COUNTERS)));
+        }
+        if let Some(page) = mt_index::check(alloc, &self.pages, told.relations)? {
+            return Ok(Some(page));
+        }
+        if let Some(page) = self.first_malformed(told.relations) {
+            return Ok(Some(page));
+        }
+        if let Some(page) = self.first_misnaming() {
+            return Ok(Some(page));
+        }
+        Ok(self.first_unlisted())
+    }
+}

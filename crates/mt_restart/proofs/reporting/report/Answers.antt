@@ -1,0 +1,7 @@
+use Rattle.std.proofs.lemmas.Result.{err_from_is_err_and}
+use Rattle.mt_restart.proofs.reporting.report.Goals as goal
+
+pub returns-in_err-ruling-clause-no_other_refusal : goal.returns-in_err-ruling-clause-no_other_refusal
+returns-in_err-ruling-clause-no_other_refusal g c = λ relations counters b can.
+    let p = err_from_is_err_and c.from_residual.result c.from_residual.ensures.1 in
+    rw (p.1, p.2) (c.in_err-ruling.ensures.no_other_refusal relations counters b can)

@@ -1,0 +1,17 @@
+-- What is told of a device's log.
+use Rattle.std.specs.Prelude.{◌≡◌, ℕ, List}
+use Rattle.mt_frame.specs.declared.slots.MasterSlot.{MasterSlot}
+use Rattle.mt_replay.specs.Refused.{IsLog}
+use Rattle.mt_replay.specs.declared.figures.Figures.{Figures}
+use Rattle.mt_restart.specs.declared.told.Report.{Report}
+
+-- epoch and area of the ruling slot, and the figures of the batches of that area
+pub record IsReport (c : List ℕ) (report : Report) : Type 0 where
+  pub slot : MasterSlot
+  pub figures : Figures
+  pub log : IsLog c slot figures
+  pub epoch : report.epoch ≡ slot.epoch
+  pub area : report.area ≡ slot.area
+  pub batches : report.batches ≡ figures.batches
+  pub records : report.records ≡ figures.records
+  pub commits : report.commits ≡ figures.commits

@@ -1,0 +1,147 @@
+-- A kernel stays one that can be restarted from each beginning of its records.
+use Rattle.std.proofs.Common.{◌≡◌, ◌<◌, ◌≤◌, ◌+◌, ◌-◌, ◌++◌, ⊎_elim, ℕ, List, length, take, Result, Ok, Err, refl, sym, ap, ◌∙◌, subst, arith}
+use Rattle.std.specs.Prelude.{OnOk, OnErr}
+use mathlib.Core.Logic.{∥∥₁_map}
+use Rattle.mt_base.specs.declared.refusal.Refusal.{Refusal}
+use Rattle.mt_base.specs.Limits.{IsRelationCount}
+use Rattle.mt_frame.specs.declared.records.Record.{Record}
+use Rattle.mt_frame.specs.declared.slots.MasterSlot.{MasterSlot}
+use Rattle.mt_live.specs.Machine.{State}
+use Rattle.mt_log.specs.Batch.{joined}
+use Rattle.mt_log.specs.Holds.{HoldsBatches}
+use Rattle.mt_log.specs.declared.log.Log.{Log}
+use Rattle.mt_log.specs.Words.{appended, durable, area_size, area_start, area_end}
+use Rattle.mt_model.specs.History.{after}
+use Rattle.mt_model.specs.Model.{Base, base_after}
+use Rattle.mt_model.specs.declared.operations.Op.{Op}
+use Rattle.mt_op.specs.declared.answers.TakenBack.{TakenBack}
+use Rattle.mt_op.specs.declared.answers.TakenBack.TheVariants as taken
+use Rattle.mt_pool.proofs.Kept.{explains}
+use Rattle.mt_pool.specs.Images.{GivesPages}
+use Rattle.mt_pool.specs.Kept.{Explains, carried}
+use Rattle.mt_pool.specs.Views.{pages}
+use Rattle.mt_log.specs.Masters.{IsRuling, Rules}
+use Rattle.mt_replay.specs.Recoverable.{IsRecoverable}
+use Rattle.mt_replay.specs.Stands.{StandsFor, area_size as size_of, area_start as start_of, area_end as end_of}
+use Rattle.mt_replay.specs.Told.{stands_for, tells}
+use Rattle.mt_kernel.proofs.Prefixed.{stands_first, tells_more}
+use Rattle.mt_kernel.proofs.Recovering.{whole_legal}
+use Rattle.mt_kernel.specs.Consistent.{Origin, state_of, BacksIn, IsConsistent, IsCalled, IsIn, MayBeCalled, StaysIn}
+use Rattle.mt_kernel.specs.Restartable.{Recovers, StaysRestartable}
+use Rattle.mt_kernel.specs.Steps.{Steps, UndoSteps}
+use Rattle.mt_kernel.specs.declared.calls.Called.{Called}
+use Rattle.mt_kernel.specs.declared.calls.Called.TheVariants as call
+use Rattle.mt_kernel.specs.declared.parts.Parts.{Parts}
+use Rattle.mt_kernel.specs.declared.steps.Stepping.{Stepping}
+use Rattle.mt_kernel.specs.declared.steps.Stepping.TheVariants.{Going, Ended}
+use Rattle.mt_txn.proofs.Showing.{at_place}
+use Rattle.mt_txn.specs.Restarted.{NamesArea, all_commits, FindsCommits}
+use Rattle.mt_txn.specs.Well.{IsOrigin, IsRestartableOn, RestartsFrom}
+
+-- an area's bytes, as its slot tells them
+slot_mib : (c : List ℕ) (slot : MasterSlot) → IsRuling c slot → 4194304 ≤ size_of slot
+slot_mib c slot rules = ⊎_elim
+    (λ (r : Rules c 0 4096 slot). let mib = r.own.fits.mib.0 in omega (arith, mib))
+    (λ (r : Rules c 4096 0 slot). let mib = r.own.fits.mib.0 in omega (arith, mib))
+    rules
+
+size_is : (slot : MasterSlot) (log : Log) → start_of slot ≡ area_start log → end_of slot ≡ area_end log → area_size log ≡ size_of slot
+unfolding area_size area_start area_end
+size_is slot log start end = sizes (area_start log) (area_end log) (start_of slot) (size_of slot) start end
+  where
+    sizes : (a b s n : ℕ) → s ≡ a → s + n ≡ b → b - a ≡ n
+    sizes a b s n p q = omega (arith, p, q)
+
+module _ {D : Type 0} (seen : D → List ℕ) (may_leave : D → List ℕ → Type 0) where
+  -- parts that are consistent become so
+  abbrev pub Goes : Parts D → Parts D → Type 0
+  Goes k n = (origin : Origin) (base : Base) → IsConsistent seen may_leave origin base k → (now : Base) × IsConsistent seen may_leave origin now n
+
+  pub stays_goes : (k n : Parts D) → StaysIn seen may_leave k n → Goes k n
+  stays_goes k n stays origin base safe = (base, (stays origin base safe).consistent)
+
+  pub then_goes : (k m n : Parts D) → Goes k m → Goes m n → Goes k n
+  then_goes k m n one two origin base safe = let mid = one origin base safe in two origin mid.0 mid.1
+
+  pub or_goes : {T : Type 0} (k n : Parts D) (f : State → State) (r : Result T Refusal) → ((origin : Origin) (base : Base) → IsConsistent seen may_leave origin base k → OnOk r (IsIn seen may_leave origin base (f (state_of k base)) n)) → OnErr r (n ≡ k) → Goes k n
+  or_goes k n f (Ok x) go err origin base safe = (base, (go origin base safe).consistent)
+  or_goes k n f (Err y) go err origin base safe = (base, subst (IsConsistent seen may_leave origin base) (sym err) safe)
+
+  pub either_goes : {T : Type 0} (k n : Parts D) (f : State → State) (r : Result T Refusal) → ((origin : Origin) (base : Base) → IsConsistent seen may_leave origin base k → OnOk r (IsIn seen may_leave origin base (f (state_of k base)) n))
+      → ((origin : Origin) (base : Base) → IsConsistent seen may_leave origin base k → OnErr r (IsIn seen may_leave origin base (state_of k base) n)) → Goes k n
+  either_goes k n f (Ok x) go err origin base safe = (base, (go origin base safe).consistent)
+  either_goes k n f (Err y) go err origin base safe = (base, (err origin base safe).consistent)
+
+  pub step_goes : (k n : Parts D) (place : ℕ) (res : Result Stepping Refusal) → place < length k.running.items → ((origin : Origin) (base : Base) → IsConsistent seen may_leave origin base k → Steps seen may_leave origin base k n place res) → Goes k n
+  step_goes k n place (Ok (Going going)) within go origin base safe = (base, (go origin base safe).consistent)
+  step_goes k n place (Err why) within go origin base safe = (base, (go origin base safe).consistent)
+  step_goes k n place (Ok (Ended reply)) within go origin base safe = let at = at_place k.running.items place within in (base_after base at.0.scope.op, (go origin base safe at.0 at.1).1.consistent)
+
+  pub undo_goes : (k n : Parts D) (place : ℕ) (res : Result Stepping Refusal) → place < length k.running.items → ((origin : Origin) (base : Base) → IsConsistent seen may_leave origin base k → UndoSteps seen may_leave origin base k n place res) → Goes k n
+  undo_goes k n place (Ok (Going going)) within go origin base safe = (base, (go origin base safe).consistent)
+  undo_goes k n place (Err why) within go origin base safe = (base, (go origin base safe).consistent)
+  undo_goes k n place (Ok (Ended reply)) within go origin base safe = let at = at_place k.running.items place within in (base_after base at.0.scope.op, (go origin base safe at.0 at.1).1.leads.consistent)
+
+  pub back_goes : (k n : Parts D) (place : ℕ) (res : Result TakenBack Refusal) → place < length k.running.items → ((origin : Origin) (base : Base) → IsConsistent seen may_leave origin base k → BacksIn seen may_leave origin base k n place res) → Goes k n
+  back_goes k n place (Ok taken.More) within go origin base safe = (base, (go origin base safe).consistent)
+  back_goes k n place (Ok taken.Flush) within go origin base safe = (base, (go origin base safe).consistent)
+  back_goes k n place (Err why) within go origin base safe = (base, (go origin base safe).consistent)
+  back_goes k n place (Ok taken.Clear) within go origin base safe = let at = at_place k.running.items place within in (base, (go origin base safe at.0 at.1).leads.consistent)
+
+  called_now : (k n : Parts D) (t : ℕ) (op : Op) (res : Result Called Refusal) (origin : Origin) (base : Base) (s : State) → IsCalled seen may_leave origin base s n t op res → IsConsistent seen may_leave origin base n
+  called_now k n t op (Ok call.Started) origin base s is = is.consistent
+  called_now k n t op (Ok (call.Wait holder)) origin base s is = is.consistent
+  called_now k n t op (Err why) origin base s is = is.consistent
+
+  module _ (relations counters : ℕ) (first : Base) where
+    renewed : (k n : Parts D) (origin : Origin) (base later : Base) → IsRestartableOn seen may_leave relations counters first origin base k → IsConsistent seen may_leave origin later n → StaysRestartable seen may_leave k n → IsRestartableOn seen may_leave relations counters first origin later n
+    renewed k n origin base later x now stays = record { is = x.is; bounds = x.bounds; holds = x.holds; consistent = now; restartable = stays origin base later x.consistent now x.restartable }
+
+    pub restarts_on : (k n : Parts D) → Goes k n → StaysRestartable seen may_leave k n → RestartsFrom seen may_leave relations counters first k → RestartsFrom seen may_leave relations counters first n
+    restarts_on k n go stays r = ∥∥₁_map r (λ (origin, base, x). let y = go origin base x.consistent in (origin, y.0, renewed k n origin base y.0 x y.1 stays))
+
+    pub restarts_called : (k n : Parts D) (t : ℕ) (op : Op) (res : Result Called Refusal) → ((origin : Origin) → IsOrigin relations counters origin.first origin → MayBeCalled origin k t op)
+        → ((origin : Origin) (base : Base) → IsConsistent seen may_leave origin base k → MayBeCalled origin k t op → IsCalled seen may_leave origin base (state_of k base) n t op res) → StaysRestartable seen may_leave k n
+        → RestartsFrom seen may_leave relations counters first k → RestartsFrom seen may_leave relations counters first n
+    restarts_called k n t op res may go stays r = ∥∥₁_map r (λ (origin, base, x).
+        let now = called_now k n t op res origin base (state_of k base) (go origin base x.consistent (may origin (record { relations_are = x.is.relations_are; counters_are = x.is.counters_are; first_is = refl }))) in
+        (origin, base, renewed k n origin base base x now stays))
+
+    -- ---- what a restart finds
+
+    found : (k : Parts D) (origin : Origin) (base : Base) (c : List ℕ) (slot : MasterSlot) → IsRestartableOn seen may_leave relations counters first origin base k → may_leave k.operations.store.device c → NamesArea k c slot → IsRelationCount relations → FindsCommits relations counters first k c
+    found k origin base c slot x left names schema =
+        let log = k.operations.store.log in
+        let e : Explains origin.pages k.operations.store c = explains seen may_leave origin.pages k.operations.store x.consistent.fit.right.kept c left in
+        let front = joined e.batches in
+        let size : area_size log ≡ size_of slot = size_is slot log names.start names.end in
+        let large : 4194304 ≤ area_size log = let mib = slot_mib c slot names.rules in omega (arith, mib, size) in
+        let recovers : Recovers origin k front = x.restartable.beginnings large front e.beginning.rest (sym e.beginning.of_appended) in
+        let mine : IsRecoverable relations counters slot.pages (size_of slot) origin.pages origin.first front = subst (λ (X : Type 0). X) (λ i. IsRecoverable (x.is.relations_are i) (x.is.counters_are i) (sym names.pages i) (size i) origin.pages origin.first front) recovers in
+        let stands : StandsFor c (stands_for origin.first front) = record {
+          slot = slot;
+          opening = origin.pages;
+          batches = e.batches;
+          read = record {
+            rules = names.rules;
+            held = subst (λ (X : Type 0). X) (λ i. HoldsBatches c (sym names.start i) (sym names.end i) (sym names.pages i) e.batches) e.held;
+            gives = subst (λ (X : Type 0). X) (λ i. GivesPages (names.place i) (sym names.pages i) origin.pages (carried front) c) e.gives;
+          };
+          first = origin.first;
+          holds = x.holds;
+          bounds = x.bounds;
+          is = refl;
+        } in
+        let all : appended log ≡ front ++ e.beginning.rest = sym e.beginning.of_appended in
+        let tells_durable : length (tells (durable log)).books ≤ length (tells front).books = subst (λ (rs : List Record). length (tells (durable log)).books ≤ length (tells rs).books) (sym e.beginning.has_durable) (tells_more (durable log) e.beginning.more) in
+        record {
+          base = stands_for origin.first front;
+          found = record { stands = stands; fits = schema; recoverable = mine };
+          count = length (tells front).books;
+          durable = tells_durable;
+          is = stands_first origin.first (all_commits k) (appended log) front e.beginning.rest all x.restartable.tells.telling.books (whole_legal seen may_leave origin base k x.consistent)
+              ∙ ap (λ (b : Base). after b (take (length (tells front).books) (all_commits k))) x.is.first_is;
+        }
+
+    pub finds_commits : (k : Parts D) (c : List ℕ) (slot : MasterSlot) → RestartsFrom seen may_leave relations counters first k → may_leave k.operations.store.device c → NamesArea k c slot → IsRelationCount relations → ∥ FindsCommits relations counters first k c ∥₁
+    finds_commits k c slot r left names schema = ∥∥₁_map r (λ (origin, base, x). found k origin base c slot x left names schema)

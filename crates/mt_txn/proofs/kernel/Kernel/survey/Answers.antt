@@ -1,0 +1,34 @@
+use Rattle.std.proofs.Common.{ap, length, sym, ◌∙◌}
+use Rattle.std.proofs.lemmas.List.{nil_from_length}
+use Rattle.mt_live.specs.declared.live.Live.{Live}
+use Rattle.mt_txn.proofs.Showing.{led, sound_of, stays_led, well_led}
+use Rattle.mt_txn.proofs.Surveyed.{base_told, pages_told}
+use Rattle.mt_txn.proofs.Restarting.{restarts_on, stays_goes}
+use Rattle.mt_txn.proofs.kernel.Kernel.survey.Goals as goal
+
+pub survey-told-requires-clause-safe : goal.survey-told-requires-clause-safe
+survey-told-requires-clause-safe g c = let k = c.args.self.now in sound_of g.D.Device.seen g.D.Device.may_leave k.relations k.counters k.parts k.well
+
+pub invariant_of-self : goal.invariant_of-self
+invariant_of-self g c =
+    let D = g.D.Device in let k = c.args.self.now in
+    record { well = well_led D.seen D.may_leave k.relations k.counters k.parts c.survey-told.new.self (λ z. z) (stays_led D.seen D.may_leave k.relations k.counters k.parts c.survey-told.new.self c.survey-told.ensures.state) k.well }
+
+pub returns-clause-base : goal.returns-clause-base
+returns-clause-base g c = λ first s shows.
+    let D = g.D.Device in let k = c.args.self.now in
+    base_told D.seen D.may_leave k.parts k.relations k.counters first s c.survey-told.result c.survey-told.ensures.surveyed shows
+
+pub returns-clause-pages : goal.returns-clause-pages
+returns-clause-pages g c =
+    let D = g.D.Device in let k = c.args.self.now in
+    pages_told D.seen D.may_leave k c.survey-told.result (nil_from_length k.parts.live.members (ap (λ (l : Live). length l.members) (sym c.live.ensures) ∙ sym c.count.ensures ∙ c.if-count-ne0.false)) c.survey-told.ensures.surveyed k.well
+
+pub returns-clause-state : goal.returns-clause-state
+returns-clause-state g c = λ first s shows.
+    let D = g.D.Device in let k = c.args.self.now in
+    led D.seen D.may_leave k.relations k.counters k.parts c.survey-told.new.self (λ z. z) first s (stays_led D.seen D.may_leave k.relations k.counters k.parts c.survey-told.new.self c.survey-told.ensures.state) shows
+
+pub returns-clause-restarts : goal.returns-clause-restarts
+returns-clause-restarts g c = λ first r. let D = g.D.Device in let k = c.args.self.now in
+    restarts_on D.seen D.may_leave k.relations k.counters first k.parts c.survey-told.new.self (stays_goes D.seen D.may_leave k.parts c.survey-told.new.self c.survey-told.ensures.state) (c.survey-told.ensures.restartable) r

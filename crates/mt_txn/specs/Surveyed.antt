@@ -1,0 +1,22 @@
+-- What a survey tells of a kernel.
+use Rattle.std.specs.Prelude.{ℕ, ◌≡◌, List, length}
+use Rattle.mt_disk.specs.declared.device.Device.{Ghosts}
+use Rattle.mt_index.specs.Pages.{depth_in}
+use Rattle.mt_model.specs.Model.{Base}
+use Rattle.mt_model.specs.Views.{base_of, counters_of, relations_of}
+use Rattle.mt_op.specs.declared.surveying.Survey.{Survey}
+use Rattle.mt_pool.specs.Views.{pages, view}
+use Rattle.mt_steps.specs.Listed.{IsSame}
+use Rattle.mt_steps.specs.Plans.{free_pages}
+use Rattle.mt_txn.specs.declared.kernel.Kernel.{Kernel}
+
+-- It has the rows and the counters of this base, of so many relations and counters.
+pub record TellsBase (relations counters : ℕ) (base : Base) (survey : Survey) : Type 0 where
+  pub relations_told : relations_of survey.base ≡ relations
+  pub counters_told : length (counters_of survey.base) ≡ counters
+  pub same : IsSame counters (base_of survey.base) base
+
+-- It has the depth of the directory on page 1, and counts the free pages by the map on page 0, as pages and frames have them.
+pub record TellsPages {D : Type 0} {g : Ghosts D} (seen : D → List ℕ) (k : Kernel D g) (survey : Survey) : Type 0 where
+  pub depth : survey.depth ≡ depth_in (view k.parts.operations.store.pool (seen k.parts.operations.store.device) 1)
+  pub free : survey.free ≡ free_pages (pages k.parts.operations.store.pool) (λ p. view k.parts.operations.store.pool (seen k.parts.operations.store.device) p)

@@ -1,0 +1,51 @@
+// What the pages of a kernel come to.
+ghost use Rattle.std.specs.Prelude.{◌≡◌, ◌≢◌, ◌⊎◌, IfOk, IfErr, OnOk, None, Some};
+ghost use Rattle.mt_base.specs.declared.refusal.Refusal.{Refusal};
+ghost use Rattle.mt_kernel.specs.Consistent.{OnlyOperations};
+ghost use Rattle.mt_live.specs.Machine.{State};
+ghost use Rattle.mt_model.specs.Model.{Base};
+ghost use Rattle.mt_txn.specs.Causes.{IsFault, survey_cause};
+ghost use Rattle.mt_txn.specs.Shown.{FailsForGood, SameSchema, Shows, Stays, StaysRestarting, is_failed};
+ghost use Rattle.mt_txn.specs.Surveyed.{TellsBase, TellsPages};
+
+use crate::kernel::{Kernel, is_failure};
+use mt_base::Refusal;
+use mt_disk::Device;
+use mt_op::Survey;
+
+impl<D: Device> Kernel<D> {
+    /// Tells what the pages come to while no transaction lives: the depth of the index's directory, how many pages are
+    /// free, and the base, row by row, read from their bytes. So the base that [`Kernel::step`] acts on is the one that
+    /// the pages hold. It reads each page of records once, writes nothing, and needs no free frame.
+    ///
+    /// Refused, in this order: 2 where the device has failed, 16 where a transaction lives, then 1 for want of memory
+    /// and 2 where the device fails in this call. The state is as before in any case.
+    pub fn survey(&mut self) -> Result<Survey, Refusal>
+        ensures may { OnOk result (survey_cause (is_failed self.old) self.old.parts ≡ None) }
+        ensures cause { IfErr result (λ why. why ≢ Refusal.NoMemory
+            → (survey_cause (is_failed self.old) self.old.parts ≡ Some why)
+            ⊎ IsFault D.faults self.old.parts self.new.parts why) }
+        ensures base { (first : Base) (s : State) → Shows D.seen D.may_leave first s self.old
+            → IfOk result (TellsBase self.old.relations self.old.counters s.base) }
+        ensures pages { IfOk result (TellsPages D.seen self.old) }
+        ensures state { Stays D.seen D.may_leave self.old self.new }
+        ensures rest { OnlyOperations self.old.parts self.new.parts }
+        ensures log { self.new.parts.operations.store.log ≡ self.old.parts.operations.store.log }
+        ensures pool { self.new.parts.operations.store.pool ≡ self.old.parts.operations.store.pool }
+        ensures content { D.seen self.new.parts.operations.store.device
+            ≡ D.seen self.old.parts.operations.store.device }
+        ensures schema { SameSchema self.old self.new }
+        ensures restarts { StaysRestarting D.seen D.may_leave self.old self.new }
+        ensures fails { FailsForGood self.old result self.new }
+    {
+        if self.has_failed() {
+            return Err(Refusal::DeviceFailed);
+        }
+        if self.parts.live().count() != 0 {
+            return Err(Refusal::Busy);
+        }
+        let told = self.parts.survey(self.alloc);
+        self.failed = is_failure(&told);
+        told
+    }
+}

@@ -3,20 +3,21 @@ use Rattle.std.proofs.Common.{◌≡◌, ℕ, ◌+◌, ◌∷◌, [], List, leng
 use Rattle.std.specs.Prelude.{vec_len}
 use Rattle.std.specs.List.{sum_by}
 use Rattle.std.specs.Option.{option_map}
-use Rattle.mt_frame.specs.declared.records.Record.{Record}
 use Rattle.mt_live.proofs.Schedule.{start_kept}
 use Rattle.mt_live.specs.Entries.{Entry}
 use Rattle.mt_live.specs.Lives.{member_of}
 use Rattle.mt_live.specs.Machine.{IsKept, start}
 use Rattle.mt_live.specs.Members.{Member}
+use Rattle.mt_log.specs.Words.{appended}
 use Rattle.mt_model.specs.History.{after}
 use Rattle.mt_model.specs.Locks.{no_locks}
 use Rattle.mt_model.specs.Model.{IsBase}
 use Rattle.mt_op.specs.Operations.{IsRight}
 use Rattle.mt_plock.specs.declared.guards.PageLock.{PageLock}
 use Rattle.mt_slock.specs.Views.{held_of}
+use Rattle.mt_space.specs.Changes.{PageBytes}
 use Rattle.mt_steps.specs.Held.{Holds}
-use Rattle.mt_steps.specs.Repeated.{held, logged}
+use Rattle.mt_kernel.proofs.Imaged.{images_end_nothing, images_held}
 use Rattle.mt_kernel.specs.Runs.{running_in, pages_of, entry_pages, entry_bytes, left_of, kept_bytes, taken_bytes}
 use Rattle.mt_kernel.specs.Consistent.{Origin, IsSchema, state_of, IsNumbered, IsQueued, IsEscrowed, IsFresh, IsIn}
 use Rattle.mt_kernel.specs.declared.parts.Commit.{Commit}
@@ -54,16 +55,18 @@ module _ {D : Type 0} (seen : D → List ℕ) (may_leave : D → List ℕ → Ty
         pending = sym fresh.pending i;
         base = origin.first;
       } in
-      let numbered : IsNumbered 0 0 [] [] [] = record {
+      let records = appended k.operations.store.log in
+      let nothing = images_end_nothing records right.kept.sound.each.0 fresh.images in
+      let numbered : IsNumbered 0 0 [] [] records = record {
         locks = λ i d lt. absurd (omega (arith, lt));
-        ops = λ t n above. refl;
-        txns = λ t is. refl;
-        coming = λ t above. refl;
+        ops = λ t n above. nothing.ops t n;
+        txns = λ t is. nothing.txns t;
+        coming = λ t above. nothing.txns t;
         few_operations = omega arith;
         few_transactions = omega arith;
         nobody = refl;
       } in
-      let queued : IsQueued [] [] [] = record {
+      let queued : IsQueued [] records [] = record {
         each = λ i d lt. absurd (omega (arith, lt));
         all = λ t is. absurd cc;
         apart = λ i j d less lt. absurd (omega (arith, lt));
@@ -85,17 +88,17 @@ module _ {D : Type 0} (seen : D → List ℕ) (may_leave : D → List ℕ → Ty
             kept = subst (IsKept origin.first) state (start_kept origin.first bounds);
             owned = λ i d lt. absurd (omega (arith, lt, no_running));
             apart = λ i j d less lt. absurd (omega (arith, lt, no_running));
-            numbered = subst (λ (X : Type 0). X) (λ i. IsNumbered (sym empty.last i) (sym empty.begun i) (sym empty.members i) (sym fresh.locks i) (sym fresh.empty i)) numbered;
+            numbered = subst (λ (X : Type 0). X) (λ i. IsNumbered (sym empty.last i) (sym empty.begun i) (sym empty.members i) (sym fresh.locks i) records) numbered;
             locked = λ i d lt. absurd (let none = ap (λ (ls : List PageLock). length ls) fresh.locks in omega (arith, lt, none));
             small = λ i d lt. absurd (omega (arith, lt, no_standing));
             log = omega arith;
             reserves = omega arith;
             numbers = let last = empty.last in omega (arith, last, reserved);
-            queued = subst (λ (X : Type 0). X) (λ i. IsQueued (sym empty.members i) (sym fresh.empty i) (sym empty.commits i)) queued;
+            queued = subst (λ (X : Type 0). X) (λ i. IsQueued (sym empty.members i) records (sym empty.commits i)) queued;
             booked = omega arith;
             escrowed = subst (λ (X : Type 0). X) (λ i. IsEscrowed origin.counters (after origin.first (sym empty.book i)) k.escrow) escrowed;
           };
-          holds = subst (λ (rs : List Record). Holds (held (logged origin.pages rs)) origin.first) (sym fresh.empty) holds;
+          holds = subst (λ (f : PageBytes). Holds f origin.first) (sym (images_held origin.pages records fresh.images)) holds;
           runs = λ i d lt. absurd (omega (arith, lt, no_running));
           told = λ t m is. absurd (let none : member_of k.live.members t ≡ None = ap (λ (ms : List Member). member_of ms t) empty.members in cc);
           claims = omega arith;

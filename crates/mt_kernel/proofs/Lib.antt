@@ -23,6 +23,7 @@ pub mod Ending
 pub mod Calling
 pub mod Leaving
 pub mod Lessening
+pub mod Imaged
 pub mod First
 pub mod Firsts
 pub mod Dropping

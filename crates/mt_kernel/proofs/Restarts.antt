@@ -29,6 +29,7 @@ use Rattle.mt_model.specs.Model.{Base, reply_of, base_after, inverse_of, IsBase}
 use Rattle.mt_model.specs.declared.history.Committed.{Committed}
 use Rattle.mt_model.specs.declared.operations.Op.{Op}
 use Rattle.mt_model.specs.declared.operations.Reply.{Reply}
+use Rattle.mt_op.specs.Begun.{AreImages}
 use Rattle.mt_op.specs.Moves.{Rests}
 use Rattle.mt_op.specs.Operations.{world}
 use Rattle.mt_op.specs.Records.{end_with}
@@ -41,11 +42,11 @@ use Rattle.mt_slock.specs.Views.{held_of}
 use Rattle.mt_space.specs.Changes.{PageBytes}
 use Rattle.mt_steps.specs.Logged.{logged_of}
 use Rattle.mt_steps.proofs.Repeating.{logged_more}
-use Rattle.mt_steps.specs.Held.{Holds}
-use Rattle.mt_steps.specs.Plans.{free_pages}
+use Rattle.mt_steps.specs.Plans.{IsGood, free_pages}
 use Rattle.mt_steps.specs.Repeated.{held}
 use Rattle.mt_kernel.proofs.Did.{AreApartFrom, Tallies, tally_same, tally_end, tally_undone, tally_commit, tally_abort, tally_booked, without_did, effects_turn, effects_only, did_last, did_push, rising_apart, only_gone, calls_did}
 use Rattle.mt_kernel.proofs.Finding.{idle_did, acted_last, inverse_logged}
+use Rattle.mt_kernel.proofs.Imaged.{images_held, images_quiet}
 use Rattle.mt_kernel.proofs.Leads.{calls_append, leads_quietly, logged_did, logged_is}
 use Rattle.mt_kernel.proofs.Members.{changed_other}
 use Rattle.mt_kernel.proofs.Recovering.{effects_acted, recovers}
@@ -557,24 +558,31 @@ module _ {D : Type 0} (seen : D → List ℕ) (may_leave : D → List ℕ → Ty
 
   -- ---- a kernel begins
 
-  pub starts : (k : Parts D) → IsConsistent seen may_leave origin origin.first k → k.book.items ≡ [] → k.commits.items ≡ [] → k.live.members ≡ [] → k.live.standing ≡ [] → appended k.operations.store.log ≡ [] → IsRestartable origin k
-  starts k safe book commits members standing records =
+  pub starts : (k : Parts D) → IsConsistent seen may_leave origin origin.first k → IsBase origin.first → k.book.items ≡ [] → k.commits.items ≡ [] → k.live.members ≡ [] → k.live.standing ≡ [] → AreImages (appended k.operations.store.log) → IsRestartable origin k
+  starts k safe bounds book commits members standing images =
+      let records = appended k.operations.store.log in
+      let total = pages k.operations.store.pool in
+      let quiet = images_quiet origin.pages records safe.fit.right.kept.sound.each.0 images in
       let tally : Tallies [] [] (num []) [] (tells []) = record { books = refl; live = refl; its = λ t. refl } in
-      let here = subst (λ (X : Type 0). X) (λ i. Tallies (map effects_of (sym book i)) (txns_of (sym commits i)) (num (sym members i)) (filter did (sym standing i)) (tells (sym records i))) tally in
-      let now : Now k (appended k.operations.store.log) origin.first = record { tally = here; leads = ap (λ (rs : List Record). run origin.first (calls_in rs)) records } in
-      let tells_now = tells_of k (appended k.operations.store.log) origin.first safe now in
-      let few : length k.live.members ≤ 64 = let none : length k.live.members ≡ 0 = ap (λ (ms : List Member). length ms) members in omega (arith, none) in
-      let leads : LeadsOn origin.relations origin.counters (pages k.operations.store.pool) origin.pages (appended k.operations.store.log) = record {
-        good = safe.fit.right.sound.good;
-        base = λ b holds. subst (λ (rs : List Record). Holds (pages_held origin.pages rs) (run b (calls_in rs))) (sym records) holds;
-        acted = λ b holds. subst (λ (rs : List Record). IsActed b (calls_in rs)) (sym records) tt;
+      let began : Now k [] origin.first = record {
+        tally = subst (λ (X : Type 0). X) (λ i. Tallies (map effects_of (sym book i)) (txns_of (sym commits i)) (num (sym members i)) (filter did (sym standing i)) (tells [])) tally;
+        leads = refl;
+      } in
+      let now : Now k records origin.first = quiet_now k [] records origin.first (begin_all (IsQuiet origin.pages []) records quiet) began in
+      let leads : LeadsOn origin.relations origin.counters total origin.pages [] = record {
+        good = subst (IsGood origin.relations origin.counters total) (images_held origin.pages records images) safe.fit.right.sound.good;
+        base = λ b holds. holds;
+        acted = λ b holds. tt;
+      } in
+      let recovered : 4194304 ≤ area_size k.operations.store.log → Recovers origin k [] = λ area. record {
+        leads = leads;
+        serial = record { same = refl; acted = tt; bounds = bounds };
+        within = tt;
+        free = omega arith;
+        images = omega (arith, area);
       } in
       record {
-        beginnings = λ area front back is. subst (Recovers origin k) (records ∙ sym (none_front front back (sym records ∙ is))) (recovers seen may_leave origin origin.first k safe tells_now area few leads);
-        tells = tells_now;
-        few = few;
+        beginnings = λ area front back is. quiet_recovers origin.pages [] front (quiet front back is) origin.relations origin.counters total (area_size k.operations.store.log) origin.first (recovered area);
+        tells = tells_of k records origin.first safe now;
+        few = let nobody : length k.live.members ≡ 0 = ap (λ (ms : List Member). length ms) members in omega (arith, nobody);
       }
-    where
-      none_front : (xs ys : List Record) → [] ≡ xs ++ ys → xs ≡ []
-      none_front [] ys is = refl
-      none_front (x ∷ xs) ys is = absurd cc

@@ -25,6 +25,7 @@ use Rattle.mt_model.specs.History.{after, Call}
 use Rattle.mt_model.specs.Locks.{with_lock, IsFree}
 use Rattle.mt_model.specs.Model.{Base, reply_of, base_after, inverse_of, object_of, mode_of, IsWithin}
 use Rattle.mt_model.specs.Tables.{count_at}
+use Rattle.mt_op.specs.Begun.{AreImages}
 use Rattle.mt_op.specs.Operations.{world, IsRight, claimed}
 use Rattle.mt_op.specs.Records.{end_of}
 use Rattle.mt_op.specs.World.{IsUnderWay, held_in}
@@ -137,11 +138,11 @@ pub record IsEscrowed (counters : ℕ) (m : Base) (e : Escrowed) : Type 0 where
   pub all : length e.committed ≡ counters
   pub counts : (c : ℕ) → c < counters → count_at e.committed c ≡ m.counts c
 
--- operations of which none has begun, in a log area without records, and an escrow without pending adds
+-- operations of which none has begun, in a log area without records but the images that it began with, and an escrow without pending adds
 pub record IsFresh {D : Type 0} (o : Operations D) (e : Escrowed) : Type 0 where
   pub locks : o.locks ≡ []
   pub unclaimed : claimed o ≡ 0
-  pub empty : appended o.store.log ≡ []
+  pub images : AreImages (appended o.store.log)
   pub room : used o.store.log < area_size o.store.log
   pub pending : e.pending ≡ []
 

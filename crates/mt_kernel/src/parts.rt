@@ -49,8 +49,8 @@ pub struct Parts<D: Device> {
 
 impl<D: Device> Parts<D> {
     /// The parts of a kernel that begins: no transaction lives, and no commit is in the book. The operations are
-    /// those of a log area without records; the counters stand in the escrow as page 2 has them. It takes no
-    /// memory.
+    /// those of a log area without records but the images that it began with. The escrow has the counters as page 2
+    /// has them. It takes no memory.
     pub fn new(alloc: Global, operations: Operations<D>, escrow: Escrow) -> Parts<D>
         requires fresh { IsFresh operations escrow }
         ensures state { (origin : Origin) → IsSchema origin → IsBase origin.first → Holds origin.pages origin.first
@@ -61,6 +61,7 @@ impl<D: Device> Parts<D> {
             → Holds origin.pages origin.first
             → IsRight D.seen D.may_leave origin.pages origin.relations origin.counters operations
             → IsEscrowed origin.counters origin.first escrow → IsRestartable origin result }
+        ensures operations { result.operations ≡ operations }
     {
         Parts {
             operations,

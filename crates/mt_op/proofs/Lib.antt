@@ -28,6 +28,7 @@ pub mod Ahead
 pub mod Back
 pub mod Begun
 pub mod Parted
+pub mod Roomed
 pub mod Surveyed
 pub mod Known
 pub mod Unready

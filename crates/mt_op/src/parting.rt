@@ -1,5 +1,8 @@
 // A store leaves its operations for a rotation of its log, and is joined to them again.
-ghost use Rattle.std.specs.Prelude.{◌≡◌, [], ℕ};
+ghost use Rattle.std.specs.Prelude.{◌≡◌, ◌≤◌, [], ℕ, length, IfOk, IfErr};
+ghost use Rattle.mt_base.specs.declared.refusal.Refusal.{Refusal};
+ghost use Rattle.mt_index.specs.Checks.{bytes_of};
+ghost use Rattle.mt_file.specs.Rooms.{AreRooms};
 ghost use Rattle.mt_log.specs.Words.{appended};
 ghost use Rattle.mt_pool.specs.Kept.{IsKept};
 ghost use Rattle.mt_pool.specs.Views.{pages};
@@ -12,10 +15,13 @@ ghost use Rattle.mt_op.specs.World.{held_in};
 
 use crate::operations::Operations;
 use crate::space_map::SpaceMap;
+use mt_base::{PageNo, Refusal};
 use mt_disk::Device;
-use mt_file::Rooms;
+use mt_file::{Rooms, fits};
 use mt_plock::PageLocks;
 use mt_pool::Store;
+use mt_space::pages::{MAP, RECORDS};
+use std::alloc::{AllocError, Global};
 
 /// What operations keep beside their store.
 #[derive(Drop)]
@@ -23,6 +29,42 @@ pub struct Idle {
     pub(crate) locks: PageLocks,
     pub(crate) rooms: Rooms,
     pub(crate) map: SpaceMap,
+}
+
+// What each page of records takes.
+fn rooms_of(alloc: Global, pages: &[[u8; 4096]]) -> Result<Rooms, AllocError>
+    requires good { ∥ ((relations : ℕ) × (counters : ℕ)
+        × IsGood relations counters (length pages.now) (bytes_of pages.now)) ∥₁ }
+    requires few { length pages.now ≤ 4000 }
+    ensures size { IfOk result (λ rooms. length rooms.0 ≡ length pages.now) }
+    ensures noted { IfOk result (λ rooms. AreRooms rooms.0 (bytes_of pages.now)) }
+{
+    let map = &pages[usize::from(MAP)];
+    let mut rooms = Rooms::of(alloc, pages.len() as u16)?;
+    for number in 0..pages.len() {
+        if map[number] == RECORDS {
+            rooms.noted(PageNo::new(number as u16), fits(&pages[number]));
+        }
+    }
+    Ok(rooms)
+}
+
+impl Idle {
+    /// What operations keep beside a store over these pages, where none is under way: what each page of records takes,
+    /// and the map of the space without a claim. The only refusal is [`Refusal::NoMemory`].
+    pub fn of(alloc: Global, pages: &[[u8; 4096]]) -> Result<Idle, Refusal>
+        requires good { ∥ ((relations : ℕ) × (counters : ℕ)
+            × IsGood relations counters (length pages.now) (bytes_of pages.now)) ∥₁ }
+        requires few { length pages.now ≤ 4000 }
+        ensures fits { IfOk result (FitsPages (length pages.now) (bytes_of pages.now)) }
+        ensures claimed { IfOk result (λ idle. reserved_of idle.map.space ≡ 0) }
+        ensures only_memory { IfErr result (λ why. why ≡ Refusal.NoMemory) }
+    {
+        let rooms = rooms_of(alloc, pages)?;
+        let map = SpaceMap::of(alloc, &pages[usize::from(MAP)], pages.len() as u16)?;
+        let locks = PageLocks::new(alloc);
+        Ok(Idle { locks, rooms, map })
+    }
 }
 
 impl<D: Device> Operations<D> {

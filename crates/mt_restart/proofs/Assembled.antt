@@ -2,8 +2,10 @@
 use Rattle.std.proofs.Common.{◌≡◌, ◌<◌, ◌≤◌, ◌+◌, ◌*◌, ℕ, List, [], length, refl, sym, ap, subst, ◌∙◌, arith}
 use Rattle.mt_escrow.specs.Seen.{Escrowed}
 use Rattle.mt_kernel.specs.Consistent.{Origin, IsFresh}
+use Rattle.mt_log.specs.Words.{appended}
 use Rattle.mt_model.specs.Tables.{count_at}
 use Rattle.mt_model.specs.declared.counters.Count.{Count}
+use Rattle.mt_op.proofs.Opened.{no_images}
 use Rattle.mt_op.specs.declared.operations.Operations.{Operations}
 use Rattle.mt_pool.specs.Images.{slot}
 use Rattle.mt_txn.specs.Well.{IsOrigin, IsOpening, Opens}
@@ -16,7 +18,7 @@ module _ {D : Type 0} (seen : D → List ℕ) (may_leave : D → List ℕ → Ty
   fresh_of = record {
     locks = fresh.operations.locks;
     unclaimed = fresh.operations.unclaimed;
-    empty = fresh.operations.empty;
+    images = no_images (appended o.store.log) fresh.operations.empty;
     room = let head = fresh.operations.head in let size = fresh.operations.size in let large = s.area_size.0 in omega (arith, head, size, large);
     pending = fresh.pending;
   }

@@ -1,5 +1,5 @@
 -- What device calls leave.
-use Rattle.std.proofs.Common.{ℕ, ◌+◌, ◌≤◌, List, Result, Ok, Err, OnOk}
+use Rattle.std.proofs.Common.{◌≡◌, ◌∙◌, sym, ℕ, ◌+◌, ◌≤◌, Bool, true, false, List, Result, Ok, Err, OnOk}
 use Rattle.mt_disk.proofs.Frame.{torn_refl, torn_within, torn_trans, follows_trans}
 use Rattle.mt_restart.specs.Formats.{Tears}
 
@@ -12,6 +12,10 @@ if_ok (Err e) a = tt
 pub on_ok : {T E A B : Type 0} (r : Result T E) → (A → B) → OnOk r A → OnOk r B
 on_ok (Ok x) f a = f a
 on_ok (Err e) f a = tt
+
+-- a test has one outcome
+pub one_outcome : (b : Bool) → b ≡ true → b ≡ false → ⊥
+one_outcome b on off = let apart : true ≡ false = sym on ∙ off in absurd cc
 
 module _ {D : Type 0} (seen : D → List ℕ) (may : D → List ℕ → Type 0) where
   -- no call

@@ -5,3 +5,20 @@ mod Formed
 mod Shut
 mod Zeros
 pub mod Assembled
+mod Walking
+mod Marks
+mod ImageRecords
+mod Sizes
+mod Slots
+mod Elsewhere
+mod Turns
+pub mod Read
+mod Ruled
+mod NextArea
+mod Staying
+mod Renewed
+mod Restarting
+mod Again
+mod Based
+mod Listing
+mod Surveying

@@ -3,3 +3,9 @@ pub mod Formats
 pub mod Reported
 pub mod Schemas
 pub mod Within
+pub mod Marking
+pub mod Read
+pub mod Turned
+pub mod Found
+pub mod Recovered
+pub mod Inspected

@@ -1,20 +1,29 @@
-//! How a device comes to be one of this program's: what it is formatted with, its format, and the kernel over it; and
-//! what is told of a device's log.
+//! How a device comes to be one of this program's: what it is formatted with, its format, and the kernel over it; how
+//! it is recovered behind a crash; and what is told of a device's log.
 //!
 //! A [`Schema`] says how many pages, relations and counters there are, and how large a log area is. After
 //! [`format`] the device's pages hold a base without rows whose counters are at their starts.
 #![tactic(auto)]
 
 mod assembling;
+mod finding;
 mod first_pages;
 mod formatting;
+mod imaging;
+mod inspecting;
 mod opening;
+mod recovering;
+mod renewing;
 mod reporting;
 mod schema;
 mod told;
+mod turning;
+mod writing;
 
 pub use assembling::fresh;
 pub use formatting::format;
+pub use inspecting::inspect;
+pub use recovering::{Recovered, recover};
 pub use reporting::report;
 pub use schema::Schema;
 pub use told::Report;

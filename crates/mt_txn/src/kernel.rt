@@ -49,8 +49,9 @@ pub struct Kernel<D: Device> {
 impl<D: Device> Kernel<D> {
     ghost use Rattle.mt_txn.specs.Shown.{Restarts, Shows, is_failed};
 
-    /// A kernel without transactions over operations of a log area without records, whose pages hold a base, which is
-    /// the first of its history; the escrow has that base's counters. It takes no memory.
+    /// A kernel without transactions, over operations of a log area without records but the images that it began
+    /// with. Their pages hold a base, which is the first of its history. The escrow has that base's counters. It takes
+    /// no memory.
     pub fn assemble(
         alloc: Global,
         operations: Operations<D>,
@@ -66,6 +67,7 @@ impl<D: Device> Kernel<D> {
         ensures restarts { (first : Base) → Opens D.seen D.may_leave operations escrow relations counters first
             → Restarts D.seen D.may_leave first result }
         ensures schema { (result.relations ≡ relations) × (result.counters ≡ counters) }
+        ensures operations { result.parts.operations ≡ operations }
     {
         Kernel {
             parts: Parts::new(alloc, operations, escrow),

@@ -18,5 +18,6 @@ returns g c = record {
       let safe = starts_in g.D.Device.seen g.D.Device.may_leave origin k c.requires.fresh
       (record { begun = c.new.ensures.begun; members = members; standing = standing; held = c.new-2.ensures.held; running = c.new-3.ensures.items; commits = c.new-4.ensures.items; book = c.new-5.ensures.items; booked = c.new-5.ensures.len; last = refl; reserved = refl })
       schema bounds holds right escrowed in
-      starts g.D.Device.seen g.D.Device.may_leave origin k safe.consistent c.new-5.ensures.items c.new-4.ensures.items members standing c.requires.fresh.empty;
+      starts g.D.Device.seen g.D.Device.may_leave origin k safe.consistent bounds c.new-5.ensures.items c.new-4.ensures.items members standing c.requires.fresh.images;
+  operations = refl;
 }

@@ -27,4 +27,5 @@ returns g c = record {
     },
   ));
   schema = (refl, refl);
+  operations = c.new.ensures.operations;
 }

@@ -1,0 +1,50 @@
+-- What a crash leaves while a device is recovered stands for the base that its bytes stood for.
+use Rattle.std.proofs.Common.{◌≡◌, inl, inr, ◌≤◌, ℕ, List, sym, ◌∙◌, subst}
+use Rattle.mt_disk.specs.Disk.{Elapses, LeavesOnly, Only}
+use Rattle.mt_disk.proofs.Frame.{leaves_more, reads_on, runs_both}
+use Rattle.mt_frame.specs.Laws.{OneSlot}
+use Rattle.mt_frame.specs.declared.records.Record.{Record}
+use Rattle.mt_log.specs.Quiet.{OnlyReads}
+use Rattle.mt_model.specs.Model.{Base}
+use Rattle.mt_replay.specs.Laws.{OnlyOwnPagesMatter}
+use Rattle.mt_replay.specs.Stands.{CanRestart, IsReadAs, ShowsBase}
+use Rattle.mt_restart.specs.Found.{ReadsOldOrNext}
+use Rattle.mt_restart.specs.Recovered.{IsFound, StandsStill}
+use Rattle.mt_restart.specs.declared.recovering.Found.{Found}
+use Rattle.mt_restart.proofs.Restarting.{either_restarts, read_first}
+
+module _ {D : Type 0} (seen : D → List ℕ) (may : D → List ℕ → Type 0) (moment : D → ℕ) (left_since : D → ℕ → List ℕ → Type 0) (only_now : (d : D) (c : List ℕ) → left_since d (moment d) c → may d c)
+    (counts_now : (d : D) (t : ℕ) (c : List ℕ) → t ≤ moment d → may d c → left_since d t c) (o s n : D) (same : seen s ≡ seen o) (reads : OnlyReads seen may moment left_since s n)
+    (relations counters : ℕ) (b : Base) (found : CanRestart relations counters (seen o) b) where
+  -- the device as it was synced
+  pub synced_stands : CanRestart relations counters (seen s) b
+  synced_stands = subst (λ (x : List ℕ). CanRestart relations counters x b) (sym same) found
+
+  -- while it is read
+  pub when_read : Elapses (moment o) (moment s) (left_since o) (left_since s) (may s) → ((c : List ℕ) → may s c → may o c) → LeavesOnly moment left_since o n (StandsStill may relations counters b o)
+  when_read time less = runs_both moment left_since o s n (StandsStill may relations counters b o)
+      (leaves_more moment left_since o s (may o) (StandsStill may relations counters b o) (reads_on moment left_since may only_now o s time less) (λ c left. inl left))
+      (leaves_more moment left_since s n (may s) (StandsStill may relations counters b o) reads.moments (λ c left. inl (less c left)))
+
+  pub read_stands : Only (seen o) (may s) → (c : List ℕ) → may n c → CanRestart relations counters c b
+  read_stands durable c left = subst (λ (x : List ℕ). CanRestart relations counters x b) (sym (durable c (reads.less c left))) found
+
+  module _ (one : OneSlot) (own : OnlyOwnPagesMatter) (f : Found) (is : IsFound (seen s) f) (shows : ShowsBase relations counters f.restored.pages.items b) (items : List (List ℕ)) (whole : items ≡ f.restored.pages.items) (t : D)
+      (turns : (opening : ℕ → List ℕ) (batches : List (List Record)) → IsReadAs (seen n) f.ruling opening batches → LeavesOnly moment left_since n t (ReadsOldOrNext f.ruling opening batches items f.marks.images.items)) where
+    turned_over : LeavesOnly moment left_since n t (λ c. CanRestart relations counters c b)
+    turned_over =
+        let first = synced_stands in
+        let opening = first.stands.opening in
+        let batches = first.stands.batches in
+        let read : IsReadAs (seen n) f.ruling opening batches = subst (λ (x : List ℕ). IsReadAs x f.ruling opening batches) (sym reads.same) (read_first one relations counters (seen s) b f.ruling is.marked.rules first) in
+        leaves_more moment left_since n t (ReadsOldOrNext f.ruling opening batches f.restored.pages.items f.marks.images.items) (λ c. CanRestart relations counters c b)
+        (subst (λ (x : List (List ℕ)). LeavesOnly moment left_since n t (ReadsOldOrNext f.ruling opening batches x f.marks.images.items)) whole (turns opening batches read))
+        (λ c either. either_restarts one own relations counters (seen s) c b f is shows first either)
+
+    -- and while the log turns over
+    pub when_over : Elapses (moment o) (moment s) (left_since o) (left_since s) (may s) → ((c : List ℕ) → may s c → may o c) → LeavesOnly moment left_since o t (StandsStill may relations counters b o)
+    when_over time less = runs_both moment left_since o n t (StandsStill may relations counters b o) (when_read time less)
+        (leaves_more moment left_since n t (λ c. CanRestart relations counters c b) (StandsStill may relations counters b o) turned_over (λ c stands. inr stands))
+
+    pub over_stands : (c : List ℕ) → may t c → CanRestart relations counters c b
+    over_stands c left = turned_over.each c (counts_now t (moment n) c turned_over.later left)

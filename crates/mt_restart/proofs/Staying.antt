@@ -1,0 +1,67 @@
+-- What is known of a device while the next area begins beside the ruling one.
+use Rattle.std.proofs.Common.{◌≡◌, inl, inr, ⊎_elim, ℕ, ◌+◌, ◌*◌, ◌-◌, ◌<◌, ◌≤◌, ◌^◌, Bool, List, [], ◌∷◌, length, refl, sym, ap, ◌∙◌, subst, arith}
+use Rattle.std.proofs.lemmas.Bool.{cases_eq}
+use Rattle.mt_base.specs.Limits.{device_bytes_of}
+use Rattle.mt_disk.specs.Disk.{Follows, Only, Torn}
+use Rattle.mt_frame.specs.SlotText.{IsSlot}
+use Rattle.mt_frame.specs.declared.records.Record.{Record}
+use Rattle.mt_frame.specs.declared.slots.MasterSlot.{MasterSlot}
+use Rattle.mt_log.specs.Batch.{joined}
+use Rattle.mt_log.specs.Area.{TornFrom}
+use Rattle.mt_log.specs.Masters.{IsRuling, Rules}
+use Rattle.mt_log.proofs.OneWay.{holds_one}
+use Rattle.mt_pool.specs.Kept.{carried}
+use Rattle.mt_pool.specs.Turns.{AreImaged}
+use Rattle.mt_restart.specs.Found.{AreMarked}
+use Rattle.mt_restart.specs.Read.{next_slot}
+use Rattle.mt_replay.specs.Stands.{IsReadAs, area_end, area_size, area_start}
+use Rattle.mt_restart.specs.Turned.{ButForSlots, OnlySlots}
+use Rattle.mt_restart.specs.declared.finding.Marks.{Marks}
+use Rattle.mt_restart.proofs.NextArea.{are_imaged}
+use Rattle.mt_restart.proofs.Read.{read_other_area, read_slots}
+
+-- the same torn bytes, told otherwise
+pub torn_at : (may : List ℕ → Type 0) (at n at2 n2 : ℕ) (c : List ℕ) → at ≡ at2 → n ≡ n2 → TornFrom may at n c → TornFrom may at2 n2 c
+torn_at may at n at2 n2 c same size left = subst (λ (k : ℕ). TornFrom may at2 k c) size (subst (λ (k : ℕ). TornFrom may k n c) same left)
+
+-- a slot that rules is one of this device
+pub slot_of : (c : List ℕ) (slot : MasterSlot) → IsRuling c slot → IsSlot slot
+slot_of c slot r = ⊎_elim (λ (first : Rules c 0 4096 slot). first.own.fits) (λ (second : Rules c 4096 0 slot). second.own.fits) r
+
+pub long_of : (c : List ℕ) (slot : MasterSlot) → IsRuling c slot → device_bytes_of slot.pages slot.mib ≤ length c
+long_of c slot r = ⊎_elim (λ (first : Rules c 0 4096 slot). first.own.long) (λ (second : Rules c 4096 0 slot). second.own.long) r
+
+-- the next area ends within the device
+pub next_end : (slot : MasterSlot) → slot.area ≤ 1 → area_end (next_slot slot) ≤ device_bytes_of slot.pages slot.mib
+next_end slot one =
+    let size = area_size slot in
+    elim (cases_eq slot.area 0) [
+      | inl zero ↦ let other : (1 - slot.area) * size ≡ 1 * size = ap (λ (a : ℕ). (1 - a) * size) zero in omega (arith, other)
+      | inr some ↦
+          let second : slot.area ≡ 1 = omega (arith, one, some) in
+          let other : (1 - slot.area) * size ≡ 0 * size = ap (λ (a : ℕ). (1 - a) * size) second in
+          omega (arith, other)
+    ]
+
+module _ (ruling : MasterSlot) (items : List (List ℕ)) (m : Marks) (c0 : List ℕ) (batches : List (List Record)) (k : AreMarked c0 ruling items batches m) (opening : ℕ → List ℕ) (bs : List (List Record)) (read : IsReadAs c0 ruling opening bs) where
+  -- the area holds one row of batches
+  one_row : bs ≡ batches
+  one_row =
+      let fits = slot_of c0 ruling k.rules in
+      let small = fits.mib.1 in
+      holds_one c0 (area_start ruling) (area_end ruling) ruling.pages bs batches (omega (arith, small)) read.held k.held
+
+  imaged : AreImaged m.imaged.items (carried (joined bs))
+  imaged = subst (λ (rows : List (List Record)). AreImaged m.imaged.items (carried (joined rows))) (sym one_row) (are_imaged ruling.pages (joined batches) m.imaged.items k.imaged)
+
+  -- what is left while pages with an image are written in place
+  pub read_written : (may : List ℕ → Type 0) → Only c0 may → (c : List ℕ) → ButForSlots m.imaged.items may c → IsReadAs c ruling opening bs
+  read_written may only c left =
+      let from : (d : List ℕ) × may d × OnlySlots m.imaged.items d c = left in
+      read_slots m.imaged.items c0 c ruling opening bs k.imaged.size imaged (subst (λ (d : List ℕ). OnlySlots m.imaged.items d c) (only from.0 from.1) from.2) read
+
+  -- what is left while the next area begins behind them
+  pub read_begun : (may may2 : List ℕ → Type 0) → Only c0 may → Follows (OnlySlots m.imaged.items) may may2 → (c : List ℕ) → TornFrom may2 (area_start (next_slot ruling)) (area_size ruling) c → IsReadAs c ruling opening bs
+  read_begun may may2 only follows c left =
+      let from : (d : List ℕ) × may2 d × Torn (area_start (next_slot ruling)) (area_size ruling) d c = left in
+      read_other_area from.0 c ruling opening bs from.2 (read_written may only from.0 (follows from.0 from.1))

@@ -1,0 +1,50 @@
+-- The survey of the pages that a restart in memory makes of bytes.
+use Rattle.std.proofs.Common.{ℕ, List, length}
+use Rattle.mt_frame.specs.declared.slots.MasterSlot.{MasterSlot}
+use Rattle.mt_index.specs.Checks.{bytes_of}
+use Rattle.mt_model.specs.Model.{Base}
+use Rattle.mt_op.specs.declared.surveying.Survey.{Survey}
+use Rattle.mt_replay.specs.Laws.{OnlyOwnPagesMatter}
+use Rattle.mt_replay.specs.Refused.{IsReplayed}
+use Rattle.mt_replay.specs.Stands.{ShowsBase}
+use Rattle.mt_replay.specs.declared.figures.Figures.{Figures}
+use Rattle.mt_restart.proofs.Based.{base_of_good}
+use Rattle.mt_restart.specs.Inspected.{IsInspected, IsOfPages, Surveys}
+
+-- where the pages in memory show a base, it is a survey of that base
+pub surveys_shown : OnlyOwnPagesMatter → (relations counters : ℕ) (b : Base) (c : List ℕ) (slot : MasterSlot) (figures : Figures) (items : List (List ℕ)) (survey : Survey)
+    → IsReplayed c slot figures items → ShowsBase relations counters items b → IsOfPages items survey → Surveys relations counters b c survey
+surveys_shown own relations counters b c slot figures items survey replayed shown told =
+    let matter = own relations counters (length items) shown.pages (bytes_of items) shown.first shown.good in
+    record {
+      slot = slot;
+      figures = figures;
+      items = items;
+      replayed = replayed;
+      good = matter.0;
+      holds = matter.1 b shown.holds;
+      told = told relations counters b matter.0 (matter.1 b shown.holds);
+    }
+
+-- it is one of any bytes
+pub inspected_of : (c : List ℕ) (slot : MasterSlot) (figures : Figures) (items : List (List ℕ)) (survey : Survey) → IsReplayed c slot figures items → IsOfPages items survey → IsInspected c survey
+inspected_of c slot figures items survey replayed told =
+    let checked = replayed.undone.after in
+    let based = base_of_good checked.relations checked.counters (length items) (bytes_of items) checked.good in
+    record {
+      relations = checked.relations;
+      counters = checked.counters;
+      fits = checked.fits;
+      held = based.0;
+      bounds = based.2;
+      surveys = record {
+        slot = slot;
+        figures = figures;
+        items = items;
+        replayed = replayed;
+        good = checked.good;
+        holds = based.1;
+        told = told checked.relations checked.counters based.0 checked.good based.1;
+      };
+      only = λ b holds. (told checked.relations checked.counters b checked.good holds).base;
+    }

@@ -1,0 +1,62 @@
+use Rattle.std.proofs.Common.{◌≡◌, ◌∙◌, ℕ, List, sym, subst}
+use Rattle.std.proofs.lemmas.Result.{err_from_is_err_and}
+use Rattle.mt_replay.specs.Stands.{CanRestart}
+use Rattle.mt_restart.specs.Found.{HasTurned}
+use Rattle.mt_restart.proofs.Again.{over_stands, read_stands, when_over}
+use Rattle.mt_restart.proofs.recovering.recover.Goals as goal
+
+pub returns-in_err-found-clause-no_other_refusal : goal.returns-in_err-found-clause-no_other_refusal
+returns-in_err-found-clause-no_other_refusal g c = λ relations counters b found.
+    let p = err_from_is_err_and c.from_residual-in_err-found.result c.from_residual-in_err-found.ensures.1 in
+    rw (p.1, p.2) (c.in_err-found.ensures.no_other_refusal relations counters b (subst (λ (x : List ℕ). CanRestart relations counters x b) (sym c.sync.ensures.seen) found))
+
+pub returns-in_err-found-clause-settled : goal.returns-in_err-found-clause-settled
+returns-in_err-found-clause-settled g c = λ relations counters b found other.
+    let D = g.D.Device in
+    read_stands D.seen D.may_leave D.moment D.left_since g.met.D.Device.only_now g.met.D.Device.counts_now c.args.device.now c.sync.new.self c.find.new.device c.sync.ensures.seen c.find.ensures.reads relations counters b found c.in_ok-sync.ensures.durable
+
+pub turn-requires-clause-only : goal.turn-requires-clause-only
+turn-requires-clause-only g c = λ x left. c.in_ok-sync.ensures.durable x (c.find.ensures.reads.less x left) ∙ sym (c.find.ensures.reads.same ∙ c.sync.ensures.seen)
+
+pub returns-in_err-log-clause-moments : goal.returns-in_err-log-clause-moments
+returns-in_err-log-clause-moments g c = λ relations counters b found.
+    let D = g.D.Device in let o = c.args.device.now in let s = c.sync.new.self in let n = c.find.new.device in
+    when_over D.seen D.may_leave D.moment D.left_since g.met.D.Device.only_now g.met.D.Device.counts_now o s n c.sync.ensures.seen c.find.ensures.reads relations counters b found
+    c.slots_are_read_back.ensures c.only_own_pages_matter.ensures c.in_ok-found.found c.in_ok-found.ensures.found (c.in_ok-found.ensures.shows relations counters b (subst (λ (x : List ℕ). CanRestart relations counters x b) (sym c.sync.ensures.seen) found))
+    c.deref.result.now c.deref.ensures.value c.turn.new.device c.turn.ensures.moments c.sync.ensures.time c.sync.ensures.crash
+
+pub returns-in_err-log-clause-settled : goal.returns-in_err-log-clause-settled
+returns-in_err-log-clause-settled g c = λ relations counters b found other.
+    let D = g.D.Device in let o = c.args.device.now in let s = c.sync.new.self in let n = c.find.new.device in
+    over_stands D.seen D.may_leave D.moment D.left_since g.met.D.Device.only_now g.met.D.Device.counts_now o s n c.sync.ensures.seen c.find.ensures.reads relations counters b found
+    c.slots_are_read_back.ensures c.only_own_pages_matter.ensures c.in_ok-found.found c.in_ok-found.ensures.found (c.in_ok-found.ensures.shows relations counters b (subst (λ (x : List ℕ). CanRestart relations counters x b) (sym c.sync.ensures.seen) found))
+    c.deref.result.now c.deref.ensures.value c.turn.new.device c.turn.ensures.moments
+
+pub returns-clause-moments : goal.returns-clause-moments
+returns-clause-moments g c = λ relations counters b found.
+    let D = g.D.Device in let o = c.args.device.now in let s = c.sync.new.self in let n = c.find.new.device in
+    when_over D.seen D.may_leave D.moment D.left_since g.met.D.Device.only_now g.met.D.Device.counts_now o s n c.sync.ensures.seen c.find.ensures.reads relations counters b found
+    c.slots_are_read_back.ensures c.only_own_pages_matter.ensures c.in_ok-found.found c.in_ok-found.ensures.found (c.in_ok-found.ensures.shows relations counters b (subst (λ (x : List ℕ). CanRestart relations counters x b) (sym c.sync.ensures.seen) found))
+    c.deref.result.now c.deref.ensures.value c.turn.new.device c.turn.ensures.moments c.sync.ensures.time c.sync.ensures.crash
+
+pub returns-clause-settled : goal.returns-clause-settled
+returns-clause-settled g c = λ relations counters b found other.
+    let D = g.D.Device in let o = c.args.device.now in let s = c.sync.new.self in let n = c.find.new.device in
+    over_stands D.seen D.may_leave D.moment D.left_since g.met.D.Device.only_now g.met.D.Device.counts_now o s n c.sync.ensures.seen c.find.ensures.reads relations counters b found
+    c.slots_are_read_back.ensures c.only_own_pages_matter.ensures c.in_ok-found.found c.in_ok-found.ensures.found (c.in_ok-found.ensures.shows relations counters b (subst (λ (x : List ℕ). CanRestart relations counters x b) (sym c.sync.ensures.seen) found))
+    c.deref.result.now c.deref.ensures.value c.turn.new.device c.turn.ensures.moments
+
+pub returns-clause-shows : goal.returns-clause-shows
+returns-clause-shows g c = λ relations counters b found. c.in_ok-found.ensures.shows relations counters b (subst (λ (x : List ℕ). CanRestart relations counters x b) (sym c.sync.ensures.seen) found)
+
+pub returns-clause-recovered : goal.returns-clause-recovered
+returns-clause-recovered g c =
+    let D = g.D.Device in let f = c.in_ok-found.found in let is = c.in_ok-found.ensures.found in
+    record {
+      ruling = f.ruling;
+      lost = f.marks.lost.items;
+      count = is.marked.count;
+      checked = is.checked;
+      images = is.marked.images;
+      turned = subst (λ (x : List (List ℕ)). HasTurned D.seen D.may_leave f.ruling x f.marks.images.items c.turn.new.device c.in_ok-log.log) c.deref.ensures.value c.in_ok-log.ensures.turned;
+    }

@@ -1,0 +1,49 @@
+-- What an inspection tells of the bytes of a device.
+use Rattle.std.specs.Prelude.{◌≡◌, ℕ, List, length}
+use Rattle.mt_base.specs.Limits.{IsRelationCount}
+use Rattle.mt_frame.specs.declared.slots.MasterSlot.{MasterSlot}
+use Rattle.mt_index.specs.Checks.{bytes_of}
+use Rattle.mt_model.specs.Model.{Base, IsBase}
+use Rattle.mt_model.specs.Views.{base_of, counters_of, relations_of}
+use Rattle.mt_model.specs.declared.tables.Base as code
+use Rattle.mt_op.specs.Surveyed.{IsSurvey}
+use Rattle.mt_op.specs.declared.surveying.Survey.{Survey}
+use Rattle.mt_replay.specs.Refused.{IsReplayed}
+use Rattle.mt_replay.specs.declared.figures.Figures.{Figures}
+use Rattle.mt_steps.specs.Held.{Holds}
+use Rattle.mt_steps.specs.Listed.{HasListed, IsSame}
+use Rattle.mt_steps.specs.Plans.{IsGood}
+
+-- The pages that a restart in memory makes of the bytes are good and hold the base, and the survey is of them.
+pub record Surveys (relations counters : ℕ) (held : Base) (c : List ℕ) (survey : Survey) : Type 0 where
+  pub slot : MasterSlot
+  pub figures : Figures
+  pub items : List (List ℕ)
+  pub replayed : IsReplayed c slot figures items
+  pub good : IsGood relations counters (length items) (bytes_of items)
+  pub holds : Holds (bytes_of items) held
+  pub told : IsSurvey relations counters (length items) (bytes_of items) held survey
+
+-- Of any bytes: of some schema, and of a base that the pages hold; every base that they hold is the survey's.
+pub record IsInspected (c : List ℕ) (survey : Survey) : Type 0 where
+  pub relations : ℕ
+  pub counters : ℕ
+  pub fits : IsRelationCount relations
+  pub held : Base
+  pub bounds : IsBase held
+  pub surveys : Surveys relations counters held c survey
+  pub only : (b : Base) → Holds (bytes_of surveys.items) b → IsSame counters (base_of survey.base) b
+
+-- ---- the pages in memory
+
+-- it is the survey of these pages, of whatever schema they are good and whatever base they hold
+abbrev pub IsOfPages : List (List ℕ) → Survey → Type 0
+IsOfPages items survey = (relations counters : ℕ) (held : Base) → IsGood relations counters (length items) (bytes_of items) → Holds (bytes_of items) held
+    → IsSurvey relations counters (length items) (bytes_of items) held survey
+
+-- the records of the pages from p on, up to q, are listed as rows; the counters and the number of relations stay
+pub record Lists (items : List (List ℕ)) (p q : ℕ) (old new : code.Base) : Type 0 where
+  pub listed : (held : Base) → Holds (bytes_of items) held → HasListed (bytes_of items) p (base_of old) → HasListed (bytes_of items) q (base_of new)
+  pub counts : (base_of new).counts ≡ (base_of old).counts
+  pub relations : relations_of new ≡ relations_of old
+  pub counters : length (counters_of new) ≡ length (counters_of old)

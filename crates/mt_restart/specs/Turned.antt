@@ -1,0 +1,46 @@
+-- What becomes of a device's bytes while a restart turns its log over to another area.
+use Rattle.std.specs.Prelude.{◌≡◌, ◌≢◌, ℕ, ◌*◌, ◌<◌, Bool, true, false, List, [], length, get_or}
+use Rattle.std.specs.List.{AllByRecursion}
+use Rattle.mt_disk.specs.Disk.{Torn}
+use Rattle.mt_frame.specs.Grammar.{IsRecord}
+use Rattle.mt_frame.specs.History.{MayFollow}
+use Rattle.mt_frame.specs.declared.records.Record.{Record}
+use Rattle.mt_pool.specs.Images.{has_image, page_in, slot}
+use Rattle.mt_pool.specs.Kept.{carried}
+use Rattle.mt_pool.specs.Turns.{IsImageOnly}
+
+-- ---- slots
+
+-- Nothing has changed but the slots of marked pages.
+pub record OnlySlots (marked : List Bool) (old new : List ℕ) : Type 0 where
+  pub within : Torn 8192 (4096 * length marked) old new
+  pub others : (p : ℕ) → p < length marked → get_or marked p false ≡ false → slot 8192 new p ≡ slot 8192 old p
+
+-- one of these contents, but for the slots of marked pages
+abbrev pub ButForSlots : List Bool → (List ℕ → Type 0) → List ℕ → Type 0
+ButForSlots marked contents c = (d : List ℕ) × contents d × OnlySlots marked d c
+
+-- each marked page is in its slot
+abbrev pub AreInPlace : List Bool → List (List ℕ) → List ℕ → Type 0
+AreInPlace marked pages c = (p : ℕ) → p < length pages → get_or marked p false ≡ true → slot 8192 c p ≡ get_or pages p []
+
+-- ---- images
+
+-- Marked are the pages of which these records carry an image.
+pub record MarksImaged (count : ℕ) (records : List Record) (marked : List Bool) : Type 0 where
+  pub size : length marked ≡ count
+  pub marks : (p : ℕ) → p < count → get_or marked p false ≡ has_image (carried records) p
+
+-- Marked are the pages that have no image and other bytes than their slots.
+pub record MarksLost (pages : List (List ℕ)) (imaged : List Bool) (c : List ℕ) (marked : List Bool) : Type 0 where
+  pub size : length marked ≡ length pages
+  pub lost : (p : ℕ) → p < length pages → get_or marked p false ≡ true → (get_or imaged p false ≡ false) × (slot 8192 c p ≢ get_or pages p [])
+  pub kept : (p : ℕ) → p < length pages → get_or marked p false ≡ false → get_or imaged p false ≡ false → slot 8192 c p ≡ get_or pages p []
+
+-- Each of the marked pages has one image, and no other page has one.
+pub record AreImagesOf (pages : List (List ℕ)) (marked : List Bool) (images : List Record) : Type 0 where
+  pub only : AllByRecursion (IsImageOnly (length pages)) images
+  pub grammar : AllByRecursion IsRecord images
+  pub first : MayFollow true [] images
+  pub some : (p : ℕ) → p < length pages → has_image (carried images) p ≡ get_or marked p false
+  pub bytes : (p : ℕ) → p < length pages → get_or marked p false ≡ true → (d : List ℕ) → page_in (carried images) p d ≡ get_or pages p []

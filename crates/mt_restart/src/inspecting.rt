@@ -1,0 +1,121 @@
+// What a device's bytes stand for, told without a write.
+ghost use Rattle.std.specs.Prelude.{◌≡◌, ◌⊎◌, ◌<◌, ◌≤◌, ◌+◌, ℕ, List, length, IfErr, IfOk, IsOk, OnOk};
+ghost use Rattle.mt_base.specs.declared.refusal.Refusal.{Refusal};
+ghost use Rattle.mt_disk.specs.Disk.{LeavesOnly};
+ghost use Rattle.mt_index.specs.Checks.{bytes_of};
+ghost use Rattle.mt_log.specs.Masters.{IsUnformatted};
+ghost use Rattle.mt_model.specs.Model.{Base as ModelBase};
+ghost use Rattle.mt_model.specs.Views.{relations_of};
+ghost use Rattle.mt_replay.specs.Checks.{AreChecked};
+ghost use Rattle.mt_replay.specs.Refused.{BreaksFormat, IsCause};
+ghost use Rattle.mt_replay.specs.Stands.{CanRestart};
+ghost use Rattle.mt_steps.specs.Plans.{IsGood, free_pages};
+ghost use Rattle.mt_restart.specs.Inspected.{IsInspected, IsOfPages, Lists, Surveys};
+
+use mt_base::Refusal;
+use mt_disk::Device;
+use mt_index::depth;
+use mt_model::Base;
+use mt_op::Survey;
+use mt_replay::{Restored, only_own_pages_matter, replay};
+use mt_space::pages::{COUNTERS, DIRECTORY, FREE, MAP, RECORDS};
+use mt_steps::{base_without_rows, list_rows};
+use std::alloc::Global;
+
+// How many pages the space map has as free.
+fn free_count(pages: &[[u8; 4096]]) -> u16
+    requires some { 1 ≤ length pages.now }
+    requires few { length pages.now ≤ 4000 }
+    ensures { result ≡ free_pages (length pages.now) (bytes_of pages.now) }
+{
+    let map = &pages[usize::from(MAP)];
+    map[..pages.len()]
+        .iter()
+        .filter(|kind| **kind == FREE)
+        .count() as u16
+}
+
+// Lists the records of a page in a base, if it is a page of records.
+fn list_page(
+    alloc: Global,
+    base: &mut Base,
+    pages: &[[u8; 4096]],
+    page: usize,
+) -> Result<(), Refusal>
+    requires good { (counters : ℕ) × IsGood (relations_of base.old) counters (length pages.now) (bytes_of pages.now) }
+    requires few { length pages.now ≤ 4000 }
+    requires inside { page < length pages.now }
+    ensures listed { OnOk result (Lists pages.now page (page + 1) base.old base.new) }
+    ensures only_memory { IfErr result (λ why. why ≡ Refusal.NoMemory) }
+{
+    if pages[usize::from(MAP)][page] != RECORDS {
+        return Ok(());
+    }
+    list_rows(alloc, base, &pages[page])
+}
+
+// Lists the records of all pages.
+fn list_pages(alloc: Global, base: &mut Base, pages: &[[u8; 4096]]) -> Result<(), Refusal>
+    requires good { (counters : ℕ) × IsGood (relations_of base.old) counters (length pages.now) (bytes_of pages.now) }
+    requires few { length pages.now ≤ 4000 }
+    ensures listed { OnOk result (Lists pages.now 0 (length pages.now) base.old base.new) }
+    ensures only_memory { IfErr result (λ why. why ≡ Refusal.NoMemory) }
+{
+    for number in 0..pages.len() {
+        list_page(alloc, base, pages, number)?;
+    }
+    Ok(())
+}
+
+// The survey of pages in memory that break no rule.
+fn survey_of(alloc: Global, restored: &Restored) -> Result<Survey, Refusal>
+    requires { AreChecked restored.now.pages.items }
+    ensures surveyed { IfOk result (IsOfPages restored.now.pages.items) }
+    ensures only_memory { IfErr result (λ why. why ≡ Refusal.NoMemory) }
+{
+    let pages = restored.pages.as_slice();
+    let mut base = base_without_rows(alloc, &pages[usize::from(COUNTERS)])?;
+    list_pages(alloc, &mut base, pages)?;
+    Ok(Survey {
+        depth: depth(&pages[usize::from(DIRECTORY)]),
+        free: free_count(pages),
+        base,
+    })
+}
+
+/// Tells what the bytes of a device stand for, as a restart would find it, and only reads them. A restart's passes are
+/// made in memory, as [`replay`] says, and the pages that they leave are surveyed.
+///
+/// Of bytes that a kernel left, the survey tells the base that the log's committed transactions lead to. It is then
+/// refused only for want of memory or a fault of the device.
+///
+/// Any bytes are read. Where they are answered, the pages break no rule, and every base that they hold is the survey's.
+///
+/// It is refused with:
+/// - [`Refusal::NoMemory`];
+/// - [`Refusal::DeviceFailed`], where the device failed in this call;
+/// - [`Refusal::NotFormatted`], if and only if the device is shorter than 8192 bytes or no master slot is open, and no
+///   read failed;
+/// - [`Refusal::BadFormat`] with the place where a rule is broken, as [`replay`] says.
+///
+/// The content of the device is as before in any case.
+pub fn inspect<D: Device>(alloc: Global, device: &mut D) -> Result<Survey, Refusal>
+    ensures surveyed { (relations counters : ℕ) (b : ModelBase) → CanRestart relations counters (D.seen device.old) b
+        → IfOk result (Surveys relations counters b (D.seen device.old)) }
+    ensures inspected { IfOk result (IsInspected (D.seen device.old)) }
+    ensures no_other_refusal { (relations counters : ℕ) (b : ModelBase)
+        → CanRestart relations counters (D.seen device.old) b
+        → IfErr result (λ why. (why ≡ Refusal.NoMemory) ⊎ (why ≡ Refusal.DeviceFailed)) }
+    ensures cause { IfErr result (IsCause BreaksFormat (D.seen device.old)
+        (D.faults device.old < D.faults device.new)) }
+    ensures unformatted { IsUnformatted (D.seen device.old)
+        → IfErr result (λ why. (why ≡ Refusal.NotFormatted) ⊎ (why ≡ Refusal.DeviceFailed)) }
+    ensures seen { D.seen device.new ≡ D.seen device.old }
+    ensures crash { (c : List ℕ) → D.may_leave device.new c → D.may_leave device.old c }
+    ensures moments { LeavesOnly D.moment D.left_since device.old device.new (D.may_leave device.old) }
+    ensures quiet { IsOk result → D.faults device.new ≡ D.faults device.old }
+{
+    only_own_pages_matter();
+    let replayed = replay(alloc, device)?;
+    survey_of(alloc, &replayed.restored)
+}

@@ -1,0 +1,56 @@
+// Pages that are written into their slots.
+ghost use Rattle.std.specs.Prelude.{◌≡◌, ◌+◌, ◌*◌, ◌≤◌, length, OnOk};
+ghost use Rattle.mt_disk.specs.Disk.{Follows, HasCause, LeavesOnly, Only};
+ghost use Rattle.mt_restart.specs.Turned.{AreInPlace, ButForSlots, OnlySlots};
+
+use mt_base::limits::MASTER_BYTES;
+use mt_disk::{Device, DeviceFault};
+
+/// Writes each marked page into its slot: a write for each. Nothing is synced.
+///
+/// A crash at any moment of this call changes only the slots of marked pages. The only error is the device's.
+pub(crate) fn write_in_place<D: Device>(
+    device: &mut D,
+    pages: &[[u8; 4096]],
+    marked: &[bool],
+) -> Result<(), DeviceFault>
+    requires count { length marked.now ≡ length pages.now }
+    requires slots { 8192 + 4096 * length pages.now ≤ length (D.seen device.old) }
+    requires few { length pages.now ≤ 4000 }
+    ensures written { OnOk result (AreInPlace marked.now pages.now (D.seen device.new)) }
+    ensures slots { OnlySlots marked.now (D.seen device.old) (D.seen device.new) }
+    ensures elsewhere { Follows (OnlySlots marked.now) (D.may_leave device.old) (D.may_leave device.new) }
+    ensures moments { LeavesOnly D.moment D.left_since device.old device.new
+        (ButForSlots marked.now (D.may_leave device.old)) }
+    ensures cause { HasCause (D.faults device.old) (D.faults device.new) result }
+{
+    for page in 0..pages.len() {
+        if marked[page] {
+            device.write_at(MASTER_BYTES + 4096 * page as u64, &pages[page])?;
+        }
+    }
+    Ok(())
+}
+
+/// Makes each marked page last in its slot: a write for each, and a sync.
+///
+/// A crash at any moment of this call changes only the slots of marked pages. The only error is the device's.
+pub(crate) fn write_and_sync<D: Device>(
+    device: &mut D,
+    pages: &[[u8; 4096]],
+    marked: &[bool],
+) -> Result<(), DeviceFault>
+    requires count { length marked.now ≡ length pages.now }
+    requires slots { 8192 + 4096 * length pages.now ≤ length (D.seen device.old) }
+    requires few { length pages.now ≤ 4000 }
+    ensures written { OnOk result (AreInPlace marked.now pages.now (D.seen device.new)) }
+    ensures durable { OnOk result (Only (D.seen device.new) (D.may_leave device.new)) }
+    ensures slots { OnlySlots marked.now (D.seen device.old) (D.seen device.new) }
+    ensures elsewhere { Follows (OnlySlots marked.now) (D.may_leave device.old) (D.may_leave device.new) }
+    ensures moments { LeavesOnly D.moment D.left_since device.old device.new
+        (ButForSlots marked.now (D.may_leave device.old)) }
+    ensures cause { HasCause (D.faults device.old) (D.faults device.new) result }
+{
+    write_in_place(device, pages, marked)?;
+    device.sync()
+}

@@ -1,5 +1,5 @@
 -- What a device call of a force leaves, whatever it answered.
-use Rattle.std.proofs.Common.{◌≡◌, ℕ, ◌+◌, ◌-◌, List, [], ◌∷◌, ◌++◌, length, refl, ◌∙◌, ap, subst, arith, map, length-append, Result, Ok, Err, OnOk, OnErr}
+use Rattle.std.proofs.Common.{◌≡◌, ℕ, ◌+◌, ◌-◌, List, [], ◌∷◌, ◌++◌, length, refl, ◌∙◌, ap, subst, sym, arith, map, length-append, Bool, true, false, Result, Ok, Err, OnOk, OnErr}
 use Rattle.mt_base.specs.declared.history.History.{History}
 use Rattle.mt_disk.specs.Disk.{Torn, Wrote, Follows, Only}
 use Rattle.mt_disk.proofs.Frame.{follows_within}
@@ -10,6 +10,15 @@ use Rattle.mt_log.specs.Area.{Area}
 use Rattle.mt_log.specs.declared.stage.Step.TheVariants.{WriteBody, SyncBody, WriteGate, SyncGate}
 use Rattle.mt_log.specs.declared.stage.Stage.TheVariants.{Idle, Forcing, Failed}
 use Rattle.mt_log.proofs.Steps.{length-closed, body_written, body_failed, gate_written, gate_failed, gate_synced}
+
+-- what holds in any case
+pub if_ok : {T E A : Type 0} (r : Result T E) → A → OnOk r A
+if_ok (Ok x) a = a
+if_ok (Err e) a = tt
+
+-- a test has one outcome
+pub one_outcome : (b : Bool) → b ≡ true → b ≡ false → ⊥
+one_outcome b on off = let apart : true ≡ false = sym on ∙ off in absurd cc
 
 pub on_ok : {A B T E : Type 0} (r : Result T E) → (A → B) → OnOk r A → OnOk r B
 on_ok (Ok x) f h = f h

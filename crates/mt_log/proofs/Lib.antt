@@ -9,3 +9,4 @@ pub mod ReadOn
 pub mod Ruling
 pub mod Settled
 pub mod Steps
+pub mod Turns

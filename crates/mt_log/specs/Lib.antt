@@ -6,6 +6,7 @@ pub mod Found
 pub mod Holds
 pub mod Laws
 pub mod Masters
+pub mod NextSlot
 pub mod Quiet
 pub mod Reading
 pub mod Same

@@ -86,6 +86,12 @@ IsStep old More new = (durable new ≡ durable old) × (calls_left old ≡ 0 →
     × (0 < calls_left old → (in_flight new ≡ in_flight old) × (waiting new ≡ waiting old) × (calls_left new + 1 ≡ calls_left old) × (0 < calls_left new) × (used new ≡ used old))
 IsStep old (Durable pos) new = (calls_left old ≡ 1) × (calls_left new ≡ 0) × (durable new ≡ durable old ++ in_flight old) × (in_flight new ≡ []) × (waiting new ≡ waiting old) × (used new ≡ used old) × (pos ≡ length (durable new))
 
+-- this answer tells of the last call of a force
+abbrev pub IsLast : Forced → Type 0
+IsLast Nothing = ⊥
+IsLast More = ⊥
+IsLast (Durable pos) = Unit {0}
+
 -- What a step does to the records, whatever it answered: nothing moves; or those that wait become the batch that is being
 -- forced; or that batch joins the durable ones.
 abbrev pub Moves : Log → Log → Type 0

@@ -2,12 +2,14 @@
 ghost use Rattle.std.specs.Prelude.{◌≡◌, ◌⊎◌, ◌+◌, ◌-◌, ◌<◌, ◌≤◌, ◌^◌, ◌++◌, ◌∷◌, [], ℕ, List, true, false, length, vec_capacity, slice_index, IfOk, IfErr, IsErrOf, OnOk, IsErr, Err};
 ghost use Rattle.std.specs.List.{AllByRecursion};
 ghost use Rattle.mt_base.specs.declared.refusal.Refusal.{Refusal};
-ghost use Rattle.mt_disk.specs.Disk.{Torn, Follows, Elapses, LeavesOnly, HasCause};
+ghost use Rattle.mt_disk.specs.Disk.{Torn, Follows, Elapses, LeavesOnly, HasCause, Only};
 ghost use Rattle.mt_frame.specs.Grammar.{IsRecord, body_text};
 ghost use Rattle.mt_frame.specs.History.{MayFollow};
 ghost use Rattle.mt_log.specs.Area.{ScansWithOrWithout, TornFrom, AreaBegins};
 ghost use Rattle.mt_log.specs.Batch.{framed, Scans};
-ghost use Rattle.mt_log.specs.First.{IsFirst};
+ghost use Rattle.mt_frame.specs.declared.records.Record.{Record};
+ghost use Rattle.mt_log.specs.declared.area.AreaPlace.{AreaPlace};
+ghost use Rattle.mt_log.specs.First.{IsBegun, IsFirst};
 ghost use Rattle.mt_log.specs.Holds.{AreRecords};
 ghost use Rattle.mt_log.specs.Sound.{IsSound};
 ghost use Rattle.mt_log.specs.Words.{durable_batches, durable, in_flight, waiting, area_start, area_end, area_size, used, calls_left, has_failed, IsOn};
@@ -40,15 +42,18 @@ fn first_batch(alloc: Global, records: &[Record]) -> Result<(Vec<u8>, History<Re
     Ok((text, batch))
 }
 
-// The log of an area that has no batch, with one of these records about to be forced.
-fn before_first(alloc: Global, place: AreaPlace, records: &[Record]) -> Result<Log, Refusal>
-    requires grammar { AllByRecursion IsRecord records.now }
-    requires fits { 5 + length (body_text records.now) < place.end - place.start }
-    ensures first { IfOk result (λ log. IsFirst place records.now log) }
+/// Prepares the log of an area that is to begin with a batch of these records, which are images of pages and nothing
+/// else. No device is called: [`begin_prepared`] writes the batch, and takes no memory.
+///
+/// The only refusal is [`Refusal::NoMemory`].
+pub fn prepare_area(alloc: Global, place: AreaPlace, images: &[Record]) -> Result<Log, Refusal>
+    requires grammar { AllByRecursion IsRecord images.now }
+    requires fits { 5 + length (body_text images.now) < place.end - place.start }
+    ensures first { IfOk result (λ log. IsFirst place images.now log) }
     ensures only_memory { IfErr result (λ why. why ≡ Refusal.NoMemory) }
 {
     let pending = head_alone(alloc)?;
-    let (flight, in_flight) = first_batch(alloc, records)?;
+    let (flight, in_flight) = first_batch(alloc, images)?;
     Ok(Log {
         place,
         next: place.start,
@@ -56,7 +61,7 @@ fn before_first(alloc: Global, place: AreaPlace, records: &[Record]) -> Result<L
         stage: Stage::Forcing(Step::WriteBody),
         pending,
         flight,
-        batched: records.len() as u64,
+        batched: images.len() as u64,
         waiting_count: 0,
         waiting: History::new(),
         in_flight,
@@ -92,6 +97,8 @@ fn force_all<D: Device>(log: &mut Log, device: &mut D) -> Result<(), Refusal>
     ensures used { OnOk result (used log.new ≡ used log.old) }
     ensures calls { OnOk result (calls_left log.new ≡ 0) }
     ensures failed { OnOk result (has_failed log.new ≡ false) }
+    ensures alone { OnOk result (Only (D.seen device.new) (D.may_leave device.new)) }
+    ensures quiet { OnOk result (D.faults device.new ≡ D.faults device.old) }
     ensures moments { LeavesOnly D.moment D.left_since device.old device.new
         (TornFrom (D.may_leave device.old) (area_start log.old) (area_size log.old)) }
     ensures scans { LeavesOnly D.moment D.left_since device.old device.new
@@ -104,6 +111,41 @@ fn force_all<D: Device>(log: &mut Log, device: &mut D) -> Result<(), Refusal>
 {
     while let Forced::More = log.force_step(device)? {}
     Ok(())
+}
+
+/// Begins an area anew with the batch that [`prepare_area`] made ready, and answers its log. The area may hold anything
+/// before: its first gate is closed and synced, then the batch is written with a closed gate behind it and synced, then
+/// the gate is opened and synced. Until the first sync a crash may leave any byte as the first gate, and the rest as it
+/// was; until the last one a gate that is closed, or the batch; from then on the batch.
+///
+/// The only refusal is [`Refusal::DeviceFailed`]. Nothing outside of the area is touched in any case. It takes no memory.
+pub fn begin_prepared<D: Device>(device: &mut D, prepared: Log) -> Result<Log, Refusal>
+    requires prepared { (place : AreaPlace) × (images : List Record) × IsFirst place images prepared }
+    requires within { area_end prepared ≤ length (D.seen device.old) }
+    ensures on { IfOk result (λ log. IsOn D.seen D.may_leave log device.new) }
+    ensures log { (place : AreaPlace) (images : List Record) → IsFirst place images prepared
+        → IfOk result (IsBegun place images) }
+    // Whenever a crash comes in this call, and what it leaves once the call has gone well.
+    ensures begins { (place : AreaPlace) (images : List Record) → IsFirst place images prepared
+        → LeavesOnly D.moment D.left_since device.old device.new
+        (AreaBegins (D.may_leave device.old) place.start place.end images) }
+    ensures begun { (place : AreaPlace) (images : List Record) → IsFirst place images prepared
+        → OnOk result ((c : List ℕ) → D.may_leave device.new c → Scans c place.start place.end (images ∷ [])) }
+    ensures alone { OnOk result (Only (D.seen device.new) (D.may_leave device.new)) }
+    ensures moments { (place : AreaPlace) (images : List Record) → IsFirst place images prepared
+        → LeavesOnly D.moment D.left_since device.old device.new
+        (TornFrom (D.may_leave device.old) place.start (place.end - place.start)) }
+    ensures elsewhere { (place : AreaPlace) (images : List Record) → IsFirst place images prepared
+        → Follows (Torn place.start (place.end - place.start)) (D.may_leave device.old) (D.may_leave device.new) }
+    ensures rest { (place : AreaPlace) (images : List Record) → IsFirst place images prepared
+        → Torn place.start (place.end - place.start) (D.seen device.old) (D.seen device.new) }
+    ensures cause { IfErr result (λ why. (why ≡ Refusal.DeviceFailed) × (D.faults device.old < D.faults device.new)) }
+    ensures quiet { OnOk result (D.faults device.new ≡ D.faults device.old) }
+{
+    let mut log = prepared;
+    close_gate(device, log.next)?;
+    force_all(&mut log, device)?;
+    Ok(log)
 }
 
 /// Begins an area anew with an empty first batch, and answers its log, as [`begin_area_with`] does
@@ -138,15 +180,14 @@ pub fn begin_area<D: Device>(
     ensures cause { IfErr result (λ why. (why ≡ Refusal.NoMemory) ⊎ (why ≡ Refusal.DeviceFailed)
         × (D.faults device.old < D.faults device.new)) }
     ensures memory { IsErrOf result Refusal.NoMemory → device.new ≡ device.old }
+    ensures alone { OnOk result (Only (D.seen device.new) (D.may_leave device.new)) }
+    ensures quiet { OnOk result (D.faults device.new ≡ D.faults device.old) }
 {
     begin_area_with(alloc, device, place, &[])
 }
 
 /// Begins an area anew with a first batch of these records, which are images of pages and nothing
-/// else, and answers its log. The area may hold anything before: its first gate is closed and synced,
-/// then the batch is written with a closed gate behind it and synced, then the gate is opened and
-/// synced. Until the first sync a crash may leave any byte as the first gate, and the rest as it was;
-/// until the last one a gate that is closed, or the batch; from then on the batch.
+/// else, and answers its log: [`prepare_area`], and then [`begin_prepared`].
 ///
 /// Refusals are [`Refusal::NoMemory`], before any device call, and [`Refusal::DeviceFailed`]. Nothing
 /// outside of the area is touched in any case.
@@ -160,17 +201,7 @@ pub fn begin_area_with<D: Device>(
     requires grammar { AllByRecursion IsRecord images.now }
     requires fits { 5 + length (body_text images.now) < place.end - place.start }
     ensures on { IfOk result (λ log. IsOn D.seen D.may_leave log device.new) }
-    ensures start { IfOk result (λ log. area_start log ≡ place.start) }
-    ensures end { IfOk result (λ log. area_end log ≡ place.end) }
-    ensures size { IfOk result (λ log. area_size log ≡ place.end - place.start) }
-    ensures batches { IfOk result (λ log. durable_batches log ≡ images.now ∷ []) }
-    ensures in_flight { IfOk result (λ log. in_flight log ≡ []) }
-    ensures waiting { IfOk result (λ log. waiting log ≡ []) }
-    ensures used { IfOk result (λ log. used log ≡ 5 + length (body_text images.now)) }
-    ensures calls { IfOk result (λ log. calls_left log ≡ 0) }
-    ensures failed { IfOk result (λ log. has_failed log ≡ false) }
-    ensures sound { IfOk result (λ log. (pages : ℕ) → AreRecords pages images.now → MayFollow true [] images.now
-        → IsSound pages log) }
+    ensures log { IfOk result (IsBegun place images.now) }
     // Whenever a crash comes in this call, and what it leaves once the call has gone well.
     ensures begins { LeavesOnly D.moment D.left_since device.old device.new
         (AreaBegins (D.may_leave device.old) place.start place.end images.now) }
@@ -184,9 +215,9 @@ pub fn begin_area_with<D: Device>(
     ensures cause { IfErr result (λ why. (why ≡ Refusal.NoMemory) ⊎ (why ≡ Refusal.DeviceFailed)
         × (D.faults device.old < D.faults device.new)) }
     ensures memory { IsErrOf result Refusal.NoMemory → device.new ≡ device.old }
+    ensures alone { OnOk result (Only (D.seen device.new) (D.may_leave device.new)) }
+    ensures quiet { OnOk result (D.faults device.new ≡ D.faults device.old) }
 {
-    let mut log = before_first(alloc, place, images)?;
-    close_gate(device, place.start)?;
-    force_all(&mut log, device)?;
-    Ok(log)
+    let prepared = prepare_area(alloc, place, images)?;
+    begin_prepared(device, prepared)
 }

@@ -3,7 +3,7 @@
 ghost use Rattle.std.specs.Prelude.{◌≡◌, ◌⊎◌, ◌+◌, ◌-◌, ◌*◌, ◌<◌, ◌≤◌, ◌^◌, ◌++◌, ◌∷◌, [], ◌↔◌, ℕ, true, false, length, drop, map, vec_len, vec_capacity, Ok, IfOk, IfErr, OnOk, OnErr, IsOk, IsErr};
 ghost use Rattle.std.specs.Int.{w32, to_be_bytes};
 ghost use Rattle.mt_base.specs.declared.refusal.Refusal.{Refusal};
-ghost use Rattle.mt_disk.specs.Disk.{Torn, Follows, Elapses, LeavesOnly, HasCause};
+ghost use Rattle.mt_disk.specs.Disk.{Torn, Follows, Elapses, LeavesOnly, HasCause, Only};
 ghost use Rattle.mt_log.specs.Area.{Area, AreaAfter, ScansWithOrWithout};
 ghost use Rattle.mt_log.specs.Forcing.{IsCall};
 ghost use Rattle.mt_log.specs.declared.log.Forced.{Forced};
@@ -35,7 +35,7 @@ pub(crate) fn close_text(text: &mut Vec<u8>)
 }
 
 impl Log {
-    ghost use Rattle.mt_log.specs.Words.{durable_batches, durable, in_flight, waiting, appended, area_start, area_end, used, area_size, calls_left, has_failed, coming, AreaOf, IsOn, IsStep, Moves, batches_after};
+    ghost use Rattle.mt_log.specs.Words.{durable_batches, durable, in_flight, waiting, appended, area_start, area_end, used, area_size, calls_left, has_failed, coming, AreaOf, IsLast, IsOn, IsStep, Moves, batches_after};
     ghost use Rattle.mt_log.specs.Sound.{IsSound, HoldsBeginning};
 
     // The batch of the records that wait becomes the one that is forced.
@@ -77,6 +77,7 @@ impl Log {
             (D.may_leave device.old) (D.may_leave device.new) }
         ensures rest { Torn self.now.place.start (self.now.place.end - self.now.place.start) (D.seen device.old)
             (D.seen device.new) }
+        ensures alone { step ≡ SyncGate → OnOk result (Only (D.seen device.new) (D.may_leave device.new)) }
         ensures cause { HasCause (D.faults device.old) (D.faults device.new) result }
     {
         match step {
@@ -128,6 +129,7 @@ impl Log {
             (D.may_leave device.old) (D.may_leave device.new) }
         ensures rest { Torn self.old.place.start (self.old.place.end - self.old.place.start) (D.seen device.old)
             (D.seen device.new) }
+        ensures alone { IfOk result (λ forced. IsLast forced → Only (D.seen device.new) (D.may_leave device.new)) }
         ensures cause { HasCause (D.faults device.old) (D.faults device.new) result }
     {
         let done = self.call(device, step);
@@ -178,6 +180,8 @@ impl Log {
         // No call at all where the device has failed before, nor where every record is durable.
         ensures failed_still { has_failed self.old ≡ true → device.new ≡ device.old }
         ensures idle_still { calls_left self.old ≡ 0 → waiting self.old ≡ [] → device.new ≡ device.old }
+        // The last call of a force is a sync: a crash behind it leaves what is there.
+        ensures alone { IfOk result (λ forced. IsLast forced → Only (D.seen device.new) (D.may_leave device.new)) }
         // At most one device call, within the area, for what others keep on the device.
         ensures time { Elapses (D.moment device.old) (D.moment device.new) (D.left_since device.old)
             (D.left_since device.new) (D.may_leave device.new) }

@@ -13,11 +13,13 @@ mod masters;
 mod reading;
 mod scanning;
 mod stage;
+mod turning;
 
 pub use area::AreaPlace;
 pub use batch::Batch;
-pub use beginning::{begin_area, begin_area_with};
+pub use beginning::{begin_area, begin_area_with, begin_prepared, prepare_area};
 pub use laws::{a_crash_leaves_a_beginning, areas_are_read_one_way};
 pub use log::{Forced, Log};
-pub use masters::{close_slot, open_slot, ruling_slot};
+pub use masters::ruling_slot;
 pub use scanning::scan;
+pub use turning::{slot_after, turn_slot};

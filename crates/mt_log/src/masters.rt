@@ -1,18 +1,15 @@
-// A device's two master slots: which of them rules, and how another comes to rule.
-ghost use Rattle.std.specs.Prelude.{◌≡◌, ◌⊎◌, ◌+◌, ◌<◌, ◌≤◌, ℕ, List, length, IfOk, IfErr, IsOk, OnOk};
+// A device's two master slots: which of them rules.
+ghost use Rattle.std.specs.Prelude.{◌≡◌, ◌⊎◌, ◌+◌, ◌<◌, ◌≤◌, ℕ, List, length, IfOk, IfErr, IsOk};
 ghost use Rattle.mt_base.specs.declared.refusal.Refusal.{Refusal};
-ghost use Rattle.mt_disk.specs.Disk.{Follows, HasCause, LeavesOnly, Torn};
-ghost use Rattle.mt_frame.specs.SlotText.{IsSlot};
+ghost use Rattle.mt_disk.specs.Disk.{LeavesOnly};
 ghost use Rattle.mt_frame.specs.declared.slots.MasterSlot.{MasterSlot};
 ghost use Rattle.mt_log.specs.Quiet.{OnlyReads};
-ghost use Rattle.mt_log.specs.Masters.{AreSlots, BreaksMaster, IsBadAt, IsBefore, IsClosedAt, IsFoundAt, IsNewer, IsOpenAt, IsRuling, IsUnformatted, Rules};
+ghost use Rattle.mt_log.specs.Masters.{BreaksMaster, IsBadAt, IsFoundAt, IsNewer, IsRuling, IsUnformatted};
 
 use mt_base::Refusal;
 use mt_base::limits::{MASTER_BYTES, MASTER_SLOT_BYTES, device_bytes};
-use mt_disk::{Device, DeviceFault};
-use mt_frame::{
-    CLOSED_GATE, MasterSlot, OPEN_GATE, SlotRead, decode_slot, encode_slot, slots_are_read_back,
-};
+use mt_disk::Device;
+use mt_frame::{MasterSlot, SlotRead, decode_slot, slots_are_read_back};
 
 // Where the two master slots lie.
 const FIRST_SLOT: u64 = 0;
@@ -94,58 +91,4 @@ pub fn ruling_slot<D: Device>(device: &mut D) -> Result<MasterSlot, Refusal>
         (None, Some(slot)) => Ok(slot),
         (Some(first), Some(second)) => newer(first, second),
     }
-}
-
-/// Closes the gate of the open slot at `at`, beside which the one at `other` rules: a write and a sync. That of a closed
-/// slot is never written, since the bytes behind it may be no slot.
-///
-/// Whatever a crash leaves, in this call too, the slot at `other` rules as before. The only error is the device's.
-pub fn close_slot<D: Device>(device: &mut D, at: u64, other: u64) -> Result<(), DeviceFault>
-    requires within { at + 17 ≤ length (D.seen device.old) }
-    requires slots { AreSlots at other }
-    requires open { (older : MasterSlot) × ((c : List ℕ) → D.may_leave device.old c → IsOpenAt c at older) }
-    ensures closed { OnOk result ((c : List ℕ) → D.may_leave device.new c → IsClosedAt c at) }
-    ensures rules { (slot : MasterSlot) → ((c : List ℕ) → D.may_leave device.old c → Rules c other at slot)
-        → (c : List ℕ) → D.may_leave device.new c → Rules c other at slot }
-    ensures moments { (slot : MasterSlot) → ((c : List ℕ) → D.may_leave device.old c → Rules c other at slot)
-        → LeavesOnly D.moment D.left_since device.old device.new (λ c. Rules c other at slot) }
-    ensures rest { Torn at 1 (D.seen device.old) (D.seen device.new) }
-    ensures elsewhere { Follows (Torn at 1) (D.may_leave device.old) (D.may_leave device.new) }
-    ensures cause { HasCause (D.faults device.old) (D.faults device.new) result }
-{
-    device.write_at(at, &[CLOSED_GATE])?;
-    device.sync()
-}
-
-/// Has a slot rule that is newer than the one at `other`: it is written behind the closed gate at `at`, and synced; then
-/// its gate is opened, and synced.
-///
-/// Whatever a crash leaves in this call, the old slot rules as before, or the new one does; once it has answered, the new
-/// one does. The only error is the device's, and either may rule then.
-pub fn open_slot<D: Device>(
-    device: &mut D,
-    at: u64,
-    other: u64,
-    slot: &MasterSlot,
-) -> Result<(), DeviceFault>
-    requires within { at + 17 ≤ length (D.seen device.old) }
-    requires slots { AreSlots at other }
-    requires fits { IsSlot slot.now }
-    requires closed { (c : List ℕ) → D.may_leave device.old c → IsClosedAt c at }
-    ensures rules { OnOk result ((old : MasterSlot) → IsBefore old slot.now
-        → ((c : List ℕ) → D.may_leave device.old c → Rules c other at old)
-        → (c : List ℕ) → D.may_leave device.new c → Rules c at other slot.now) }
-    ensures moments { (old : MasterSlot) → IsBefore old slot.now
-        → ((c : List ℕ) → D.may_leave device.old c → Rules c other at old)
-        → LeavesOnly D.moment D.left_since device.old device.new
-        (λ c. Rules c other at old ⊎ Rules c at other slot.now) }
-    ensures rest { Torn at 17 (D.seen device.old) (D.seen device.new) }
-    ensures elsewhere { Follows (Torn at 17) (D.may_leave device.old) (D.may_leave device.new) }
-    ensures cause { HasCause (D.faults device.old) (D.faults device.new) result }
-{
-    let text = encode_slot(slot);
-    device.write_at(at + 1, &text[1..17])?;
-    device.sync()?;
-    device.write_at(at, &[OPEN_GATE])?;
-    device.sync()
 }

@@ -1,19 +1,17 @@
-// What turns a log over to an area that begins with images: the pages that have one are written in place before, and
-// the store goes on over the new area.
+// The store goes on over an area that begins with images.
 ghost use Rattle.std.specs.Prelude.{◌≡◌, ◌⊎◌, ◌+◌, ◌*◌, ◌<◌, ◌≤◌, ◌^◌, [], ℕ, List, length};
 ghost use Rattle.std.specs.List.{AllByRecursion};
-ghost use Rattle.mt_disk.specs.Disk.{Follows, HasCause, Torn};
 ghost use Rattle.mt_frame.specs.declared.records.Record.{Record};
 ghost use Rattle.mt_log.specs.Sound.{IsSound};
 ghost use Rattle.mt_log.specs.Words.{durable, in_flight, waiting, area_start, IsOn};
 ghost use Rattle.mt_pool.specs.Images.{IsSafe};
 ghost use Rattle.mt_pool.specs.Kept.{IsKept, carried};
-ghost use Rattle.mt_pool.specs.Turns.{IsImageOnly, KeepsStanding, KnowsImages, StaysStanding};
+ghost use Rattle.mt_pool.specs.Turns.{IsImageOnly, KnowsImages};
 ghost use Rattle.mt_pool.specs.Views.{IsPool, Shows, view, waits_for, pages as pages_of};
 
 use crate::{Pool, Store};
-use mt_base::{LogPos, PageNo};
-use mt_disk::{Device, DeviceFault};
+use mt_base::LogPos;
+use mt_disk::Device;
 use mt_frame::Record;
 use mt_log::Log;
 
@@ -54,6 +52,8 @@ impl<D: Device> Store<D> {
             → ((q : ℕ) → q < pages_of pool → view pool (D.seen device) q ≡ opening q)
             → IsKept D.seen D.may_leave opening result }
         ensures views { (q : ℕ) → view result.pool (D.seen result.device) q ≡ view pool (D.seen device) q }
+        ensures pages { pages_of result.pool ≡ pages_of pool }
+        ensures place { result.pool.place ≡ pool.place }
         ensures log { result.log ≡ log }
         ensures device { result.device ≡ device }
     {
@@ -66,32 +66,4 @@ impl<D: Device> Store<D> {
             settled: LogPos::new(images.len() as u64),
         }
     }
-}
-
-/// Writes each page that is marked into its slot, from `place` on: those that have an image in an area. Nothing is
-/// synced. Whatever a crash leaves, in this call too, the area's batches stand, and the pages that it gives.
-///
-/// The only error is the device's.
-pub fn write_imaged<D: Device>(
-    device: &mut D,
-    place: u64,
-    pages: &[[u8; 4096]],
-    imaged: &[bool],
-) -> Result<(), DeviceFault>
-    requires count { length imaged.now ≡ length pages.now }
-    requires slots { place + 4096 * length pages.now ≤ length (D.seen device.old) }
-    requires below { length (D.seen device.old) < 2 ^ 64 }
-    ensures stands { KeepsStanding place imaged.now (D.may_leave device.old) (D.may_leave device.new) }
-    ensures moments { StaysStanding D.moment D.left_since D.may_leave place imaged.now device.old device.new }
-    ensures rest { Torn place (4096 * length pages.now) (D.seen device.old) (D.seen device.new) }
-    ensures elsewhere { Follows (Torn place (4096 * length pages.now)) (D.may_leave device.old)
-        (D.may_leave device.new) }
-    ensures cause { HasCause (D.faults device.old) (D.faults device.new) result }
-{
-    for page in 0..pages.len() {
-        if imaged[page] {
-            device.write_at(place + 4096 * page as u64, &pages[page])?;
-        }
-    }
-    Ok(())
 }

@@ -14,7 +14,7 @@ use Rattle.mt_pool.specs.Kept.{carried}
 use Rattle.mt_pool.specs.Turns.{AreImaged}
 use Rattle.mt_pool.proofs.Safe.{bool_cases, in_take}
 use Rattle.mt_replay.specs.Stands.{IsReadAs, area_end, area_size, area_start}
-use Rattle.mt_restart.specs.Read.{TurnsTo, next_slot}
+use Rattle.mt_log.specs.NextSlot.{TurnsTo, next_slot}
 use Rattle.mt_restart.specs.Turned.{OnlySlots}
 use Rattle.mt_restart.proofs.Elsewhere.{gives_elsewhere, held_elsewhere, ruling_elsewhere}
 

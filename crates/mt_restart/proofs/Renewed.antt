@@ -17,7 +17,7 @@ use Rattle.mt_log.proofs.Elsewhere.{on_elsewhere}
 use Rattle.mt_pool.specs.Images.{slot}
 use Rattle.mt_pool.proofs.Safe.{bool_cases}
 use Rattle.mt_restart.specs.Found.{AreMarked, HasBegun, HasTurned, IsNextLog, ReadsOldOrNext}
-use Rattle.mt_restart.specs.Read.{TurnsTo, next_slot}
+use Rattle.mt_log.specs.NextSlot.{TurnsTo, next_slot}
 use Rattle.mt_replay.specs.Stands.{IsReadAs, area_end, area_size, area_start}
 use Rattle.mt_restart.specs.Turned.{AreImagesOf, AreInPlace, ButForSlots, OnlySlots}
 use Rattle.mt_restart.specs.declared.finding.Marks.{Marks}

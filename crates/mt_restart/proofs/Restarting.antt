@@ -26,7 +26,7 @@ use Rattle.mt_space.specs.Changes.{PageBytes}
 use Rattle.mt_steps.specs.Held.{Holds}
 use Rattle.mt_steps.specs.Plans.{IsGood, free_pages}
 use Rattle.mt_restart.specs.Found.{ReadsOldOrNext}
-use Rattle.mt_restart.specs.Read.{next_slot}
+use Rattle.mt_log.specs.NextSlot.{next_slot}
 use Rattle.mt_restart.specs.Recovered.{IsFound}
 use Rattle.mt_restart.specs.declared.recovering.Found.{Found}
 use Rattle.mt_restart.proofs.Ruled.{one_rules}

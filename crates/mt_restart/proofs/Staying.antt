@@ -13,7 +13,7 @@ use Rattle.mt_log.proofs.OneWay.{holds_one}
 use Rattle.mt_pool.specs.Kept.{carried}
 use Rattle.mt_pool.specs.Turns.{AreImaged}
 use Rattle.mt_restart.specs.Found.{AreMarked}
-use Rattle.mt_restart.specs.Read.{next_slot}
+use Rattle.mt_log.specs.NextSlot.{next_slot}
 use Rattle.mt_replay.specs.Stands.{IsReadAs, area_end, area_size, area_start}
 use Rattle.mt_restart.specs.Turned.{ButForSlots, OnlySlots}
 use Rattle.mt_restart.specs.declared.finding.Marks.{Marks}

@@ -14,7 +14,7 @@ use Rattle.mt_log.specs.declared.log.Log.{Log}
 use Rattle.mt_pool.specs.Images.{slot}
 use Rattle.mt_replay.specs.Stands.{IsReadAs, area_size, area_start, area_end}
 use Rattle.mt_space.specs.Changes.{PageBytes}
-use Rattle.mt_restart.specs.Read.{next_slot}
+use Rattle.mt_log.specs.NextSlot.{next_slot}
 use Rattle.mt_restart.specs.Turned.{MarksImaged, MarksLost, AreImagesOf}
 use Rattle.mt_restart.specs.declared.finding.Marks.{Marks}
 

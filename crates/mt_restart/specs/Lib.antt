@@ -4,7 +4,6 @@ pub mod Reported
 pub mod Schemas
 pub mod Within
 pub mod Marking
-pub mod Read
 pub mod Turned
 pub mod Found
 pub mod Recovered

@@ -17,7 +17,6 @@ mod renewing;
 mod reporting;
 mod schema;
 mod told;
-mod turning;
 mod writing;
 
 pub use assembling::fresh;

@@ -1,6 +1,6 @@
 use Rattle.std.proofs.Common.{◌≡◌, ◌<◌, ◌++◌, ◌∷◌, [], List, ap, subst, ◌∙◌, refl, arith}
 use Rattle.mt_frame.specs.declared.records.Record.{Record}
-use Rattle.mt_log.specs.Words.{durable_batches, durable, in_flight, waiting, area_start, area_end, area_size, used, calls_left, coming, IsStep, batches_after}
+use Rattle.mt_log.specs.Words.{durable_batches, durable, in_flight, waiting, area_start, area_end, area_size, used, calls_left, coming, IsLast, IsStep, batches_after}
 use Rattle.mt_log.specs.declared.log.Log.{Log}
 use Rattle.mt_log.specs.declared.log.Forced.{Forced}
 use Rattle.mt_log.specs.declared.log.Forced.TheVariants.{More, Durable, Idle}
@@ -17,6 +17,12 @@ done : (old new : Log) (forced : Forced) → (forced ≡ More → ⊥) → 0 < c
 done old new More not some step batches = absurd (not refl)
 done old new Idle not some step batches = absurd (let none = step.0 in omega arith)
 done old new (Durable pos) not some step batches = (batches, step.3, step.4, step.2, step.5, step.1)
+
+-- such a call is the last one
+last : (old new : Log) (forced : Forced) → (forced ≡ More → ⊥) → 0 < calls_left old → IsStep old forced new → IsLast forced
+last old new More not some step = absurd (not refl)
+last old new Idle not some step = absurd (let none = step.0 in omega arith)
+last old new (Durable pos) not some step = tt
 
 pub returns-in_err-force_step-clause-moments : goal.returns-in_err-force_step-clause-moments
 returns-in_err-force_step-clause-moments g c =
@@ -101,6 +107,8 @@ returns g c =
       used = end.4 ∙ inv.used;
       calls = end.5;
       failed = c.in_ok-force_step.ensures.well refl;
+      alone = c.in_ok-force_step.ensures.alone (last old new c.in_ok-force_step.field-0 c.in_default.not-More inv.calls c.in_ok-force_step.ensures.step);
+      quiet = c.in_ok-force_step.ensures.quiet refl ∙ inv.faults;
       moments = frame_more g.D.Device.moment g.D.Device.left_since g.D.Device.may_leave g.met.D.Device.only_now (area_start c.args.log.now) (area_size c.args.log.now) c.args.device.now c.loop.device c.force_step.new.device (area_start c.loop.log) (area_size c.loop.log) inv.start inv.size inv.moments inv.elsewhere e.time e.elsewhere;
       scans = scans_more g.D.Device.moment g.D.Device.left_since c.args.device.now c.loop.device c.force_step.new.device (area_start c.args.log.now) (area_start old) (area_end c.args.log.now) (area_end old) (durable_batches c.args.log.now) (durable_batches old) (in_flight c.args.log.now) (coming old)
           inv.start inv.end inv.batches (coming-in_flight old inv.calls ∙ inv.in_flight) inv.scans e.moments;

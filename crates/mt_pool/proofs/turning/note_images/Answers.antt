@@ -1,5 +1,4 @@
-use Rattle.std.proofs.Common.{◌≡◌, ◌∙◌, ◌+◌, ◌∷◌, [], ◌++◌, ℕ, List, take, length, set, get_or, ap, sym, subst, arith, length-take-le}
-use Rattle.std.specs.Prelude.{IsSome}
+use Rattle.std.proofs.Common.{◌≡◌, ◌∙◌, ◌+◌, ◌∷◌, [], ◌++◌, ℕ, take, length, set, ap, sym, subst, arith, length-take-le}
 use Rattle.std.proofs.lemmas.List.{take_more}
 use Rattle.mt_frame.specs.declared.records.Record.{Record}
 use Rattle.mt_pool.specs.Views.{IsPool, Shows, view, pages}

@@ -1,4 +1,4 @@
-use Rattle.std.proofs.Common.{◌≡◌, ℕ, List, take, length}
+use Rattle.std.proofs.Common.{◌≡◌, ℕ, List, take}
 use Rattle.mt_pool.specs.Views.{IsPool, Shows, view, pages}
 use Rattle.mt_pool.specs.Turns.{KnowsImages}
 use Rattle.mt_pool.proofs.turning.note_images.Given as goal

@@ -7,7 +7,7 @@ use Rattle.mt_frame.specs.declared.records.Record.{Record}
 use Rattle.mt_log.specs.Batch.{Scans}
 use Rattle.mt_log.specs.Holds.{AreRecords, HasItsPage}
 use Rattle.mt_frame.specs.declared.slots.MasterSlot.{MasterSlot}
-use Rattle.mt_restart.specs.Read.{next_slot}
+use Rattle.mt_log.specs.NextSlot.{next_slot}
 use Rattle.mt_replay.specs.Stands.{area_end, area_size, area_start}
 use Rattle.mt_restart.specs.Turned.{AreInPlace, OnlySlots}
 use Rattle.mt_restart.proofs.NextArea.{pages_inside}

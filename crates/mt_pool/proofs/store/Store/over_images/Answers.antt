@@ -1,4 +1,4 @@
-use Rattle.std.proofs.Common.{◌≡◌, ◌∙◌, ◌+◌, ◌++◌, [], ℕ, List, length, ap, sym, subst, arith, append-nil}
+use Rattle.std.proofs.Common.{◌≡◌, ◌∙◌, ◌++◌, ℕ, List, length, ap, sym, subst, arith, append-nil}
 use Rattle.mt_frame.specs.declared.records.Record.{Record}
 use Rattle.std.proofs.lemmas.List.{length-map}
 use Rattle.mt_frame.specs.History.{some_record, is_of_page}
@@ -6,7 +6,7 @@ use Rattle.mt_log.specs.Words.{appended, durable, in_flight, waiting}
 use Rattle.mt_log.specs.Sound.{IsSound}
 use Rattle.mt_pool.specs.Images.{IsSafe}
 use Rattle.mt_pool.specs.Kept.{carried, carried_of}
-use Rattle.mt_pool.specs.Views.{IsTied, pages}
+use Rattle.mt_pool.specs.Views.{IsTied}
 use Rattle.mt_pool.proofs.store.Store.over_images.Goals as goal
 
 pub returns-clause-kept : goal.returns-clause-kept

@@ -4,10 +4,10 @@ use Rattle.mt_disk.proofs.Frame.{follows_within}
 use Rattle.mt_frame.specs.SlotText.{slot_text}
 use Rattle.mt_log.specs.Masters.{IsClosedAt, Rules}
 use Rattle.mt_log.proofs.Ruling.{behind_size}
-use Rattle.mt_restart.specs.Read.{next_slot}
-use Rattle.mt_restart.proofs.Turns.{behind_gate, behind_turns, next_rules, one_rules, slots_below, then_turns, write_turns}
-use Rattle.mt_restart.proofs.turning.open_beside.Goals as goal
-use Rattle.mt_restart.proofs.turning.open_beside.Goals.{After-write_durably}
+use Rattle.mt_log.specs.NextSlot.{next_slot}
+use Rattle.mt_log.proofs.Turns.{behind_gate, behind_turns, next_rules, one_rules, slots_below, then_turns, write_turns}
+use Rattle.mt_log.proofs.turning.open_beside.Goals as goal
+use Rattle.mt_log.proofs.turning.open_beside.Goals.{After-write_durably}
 
 -- the text of the next slot
 text_is : (g : _) (c : After-write_durably g) → c.encode_slot-text.result ≡ slot_text (next_slot c.args.ruling.now)

@@ -1,5 +1,5 @@
-use Rattle.mt_restart.proofs.Turns.{then_turns}
-use Rattle.mt_restart.proofs.turning.rule_beside.Goals as goal
+use Rattle.mt_log.proofs.Turns.{then_turns}
+use Rattle.mt_log.proofs.turning.rule_beside.Goals as goal
 
 pub returns-in_err-close_beside-clause-moments : goal.returns-in_err-close_beside-clause-moments
 returns-in_err-close_beside-clause-moments g c = c.close_beside.ensures.moments c.args.ruling.now c.requires.rules

@@ -5,7 +5,7 @@ use Rattle.std.proofs.lemmas.Slice.Eq.{slice_eq-Decides}
 use Rattle.mt_disk.specs.Disk.{Has}
 use Rattle.mt_frame.specs.SlotText.{slot_text}
 use Rattle.mt_log.proofs.Pieces.{has_same}
-use Rattle.mt_restart.proofs.turning.holds_slot.Goals as goal
+use Rattle.mt_log.proofs.turning.holds_slot.Goals as goal
 
 pub returns-clause-holds : goal.returns-clause-holds
 returns-clause-holds g c =

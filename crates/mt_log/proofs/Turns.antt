@@ -9,7 +9,7 @@ use Rattle.mt_log.specs.Area.{TornFrom}
 use Rattle.mt_log.specs.Masters.{AreSlots, IsBefore, IsClosedAt, IsOpenAt, IsRuling, Rules}
 use Rattle.mt_log.specs.Quiet.{OnlyReads}
 use Rattle.mt_log.proofs.Ruling.{apart_of, behind_one, behind_size, close_one, gate_one, not_closed, one_open}
-use Rattle.mt_restart.specs.Read.{TurnsTo, next_slot}
+use Rattle.mt_log.specs.NextSlot.{TurnsTo, next_slot}
 
 -- ---- the next slot
 

@@ -3,9 +3,9 @@ use Rattle.mt_disk.proofs.Frame.{follows_less}
 use Rattle.mt_frame.specs.SlotText.{slot_text}
 use Rattle.mt_disk.specs.Disk.{Has}
 use Rattle.mt_log.specs.Masters.{Rules}
-use Rattle.mt_restart.proofs.Calls.{one_outcome}
-use Rattle.mt_restart.proofs.Turns.{read_turns, ruling_fits, rules_first, rules_second, then_turns}
-use Rattle.mt_restart.proofs.turning.turn_slot.Goals as goal
+use Rattle.mt_log.proofs.Calls.{one_outcome}
+use Rattle.mt_log.proofs.Turns.{read_turns, ruling_fits, rules_first, rules_second, then_turns}
+use Rattle.mt_log.proofs.turning.turn_slot.Goals as goal
 
 pub holds_slot-requires-clause-fits : goal.holds_slot-requires-clause-fits
 holds_slot-requires-clause-fits g c = let seen = g.D.Device.seen c.args.device.now in ruling_fits seen c.args.ruling.now (c.requires.rules seen (g.met.D.Device.present c.args.device.now))

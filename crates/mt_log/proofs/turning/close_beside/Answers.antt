@@ -3,10 +3,10 @@ use Rattle.mt_disk.specs.Disk.{Only, Torn}
 use Rattle.mt_disk.proofs.Frame.{follows_less}
 use Rattle.mt_frame.specs.declared.slots.MasterSlot.{MasterSlot}
 use Rattle.mt_log.specs.Masters.{IsClosedAt, Rules}
-use Rattle.mt_restart.proofs.Calls.{if_ok, one_outcome}
-use Rattle.mt_restart.proofs.Turns.{closes_one, read_turns, rules_own, slots_below, slots_turned, then_turns, write_turns}
-use Rattle.mt_restart.proofs.turning.close_beside.Goals as goal
-use Rattle.mt_restart.proofs.turning.close_beside.Goals.{After-write_durably}
+use Rattle.mt_log.proofs.Calls.{if_ok, one_outcome}
+use Rattle.mt_log.proofs.Turns.{closes_one, read_turns, rules_own, slots_below, slots_turned, then_turns, write_turns}
+use Rattle.mt_log.proofs.turning.close_beside.Goals as goal
+use Rattle.mt_log.proofs.turning.close_beside.Goals.{After-write_durably}
 
 -- what a write of the gate leaves, which was found open
 rules_on : (g : _) (c : After-write_durably g) (ruling : MasterSlot) → Rules (g.D.Device.seen c.args.device.now) c.args.other c.args.at ruling → (k : List ℕ) → Torn c.args.at 1 (g.D.Device.seen c.is_closed.new.device) k → Rules k c.args.other c.args.at ruling

@@ -5,7 +5,7 @@ ghost use Rattle.mt_frame.specs.SlotText.{IsSlot, slot_text};
 ghost use Rattle.mt_log.specs.Area.{TornFrom};
 ghost use Rattle.mt_log.specs.Masters.{AreSlots, IsClosedAt, IsRuling, Rules};
 ghost use Rattle.mt_log.specs.Quiet.{OnlyReads};
-ghost use Rattle.mt_restart.specs.Read.{TurnsTo, next_slot};
+ghost use Rattle.mt_log.specs.NextSlot.{TurnsTo, next_slot};
 
 use mt_base::limits::MASTER_SLOT_BYTES;
 use mt_disk::{Device, DeviceFault};
@@ -16,8 +16,8 @@ const FIRST_SLOT: u64 = 0;
 
 const SECOND_SLOT: u64 = 4096;
 
-// The slot that rules next: one opening later, over the other area.
-pub(crate) fn slot_after(ruling: &MasterSlot) -> MasterSlot
+/// The slot that rules next: one opening later, over the other area.
+pub fn slot_after(ruling: &MasterSlot) -> MasterSlot
     requires fits { IsSlot ruling.now }
     requires epoch { ruling.now.epoch < 2 ^ 63 }
     ensures { result ≡ next_slot ruling.now }
@@ -148,7 +148,7 @@ fn rule_beside<D: Device>(
 ///
 /// A crash in this call leaves a device on which one of the two slots rules. Once it has answered, the next one rules.
 /// The only error is the device's, and either slot may rule then.
-pub(crate) fn turn_slot<D: Device>(device: &mut D, ruling: &MasterSlot) -> Result<(), DeviceFault>
+pub fn turn_slot<D: Device>(device: &mut D, ruling: &MasterSlot) -> Result<(), DeviceFault>
     requires rules { (c : List ℕ) → D.may_leave device.old c → IsRuling c ruling.now }
     requires durable { Only (D.seen device.old) (D.may_leave device.old) }
     requires epoch { ruling.now.epoch < 2 ^ 63 }

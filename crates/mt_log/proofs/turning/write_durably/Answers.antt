@@ -2,8 +2,8 @@ use Rattle.std.proofs.Common.{length, sym, subst}
 use Rattle.mt_disk.specs.Disk.{Wrote}
 use Rattle.mt_disk.proofs.Frame.{goes_on, one_call, torn_refl}
 use Rattle.mt_log.specs.Area.{TornFrom}
-use Rattle.mt_restart.proofs.Calls.{if_ok}
-use Rattle.mt_restart.proofs.turning.write_durably.Goals as goal
+use Rattle.mt_log.proofs.Calls.{if_ok}
+use Rattle.mt_log.proofs.turning.write_durably.Goals as goal
 
 pub returns-in_err-write_at-clause-moments : goal.returns-in_err-write_at-clause-moments
 returns-in_err-write_at-clause-moments g c =

@@ -1,3 +1,4 @@
 pub mod Frame
+mod InTurn
 mod Kept
 mod Past

@@ -1,5 +1,7 @@
+pub mod Crash
 pub mod Disk
 pub mod Fault
 pub mod File
+pub mod LeftBy
 pub mod Memory
 pub mod Unsynced

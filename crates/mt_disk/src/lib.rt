@@ -13,4 +13,4 @@ mod memory;
 pub use device::{Device, DeviceFault};
 pub use fault::FaultDevice;
 pub use file::FileDevice;
-pub use memory::MemDevice;
+pub use memory::{Fill, MemDevice};

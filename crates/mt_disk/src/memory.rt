@@ -1,6 +1,7 @@
-ghost use Rattle.std.specs.Prelude.{◌≡◌, ℕ, ◌+◌, ◌≤◌, [], ◌∷◌, ◌++◌, length, vec_len, vec_capacity, IfOk, IsTrue, ◌↔◌, All};
+ghost use Rattle.std.specs.Prelude.{◌≡◌, ℕ, ◌+◌, ◌≤◌, [], ◌∷◌, ◌++◌, length, vec_len, vec_capacity, IfOk, IsTrue, ◌↔◌, All, replicate};
 ghost use Rattle.mt_disk.specs.Unsynced.{Unsynced, IsInside};
 ghost use Rattle.mt_disk.specs.Disk.{Wrote};
+ghost use Rattle.mt_disk.specs.Crash.{InTurn, front_half, all_bytes};
 
 use crate::{Device, DeviceFault};
 use mt_base::History;
@@ -13,6 +14,20 @@ pub(crate) struct Write {
     pub(crate) at: usize,
     pub(crate) len: usize,
     pub(crate) from: usize,
+}
+
+/// What a crash leaves in the range of each write that no sync has followed.
+#[derive(Clone, Copy, Debug, PartialEq, Eq)]
+pub enum Fill {
+    /// The bytes that stood there before the write.
+    Old,
+    /// The write's own bytes.
+    New,
+    /// The first half of the write's own bytes, its length divided by two and rounded down. Behind
+    /// them stand the bytes from before.
+    FrontHalf,
+    /// This byte at each place.
+    Byte(u8),
 }
 
 /// What a device in memory holds at one moment.
@@ -41,6 +56,7 @@ pub(crate) struct State {
 
 impl State {
     ghost use Rattle.mt_disk.specs.Memory.{HasRoom};
+    ghost use Rattle.mt_disk.specs.LeftBy.{LeftInTurn};
 
     /// Whether one write more of this many bytes fits.
     fn has_room(&self, len: usize) -> bool
@@ -89,6 +105,24 @@ impl State {
         self.writes.clear();
         self.written.clear();
     }
+
+    /// The bytes of the last sync, with the first half of each write since then put over them.
+    fn fronts(&self, alloc: Global) -> Result<Vec<u8>, AllocError>
+        ensures { IfOk result (λ left. LeftInTurn self.now Fill.FrontHalf left.items) }
+    {
+        let mut left = self.synced.to_vec(alloc)?;
+        put_fronts(&mut left, self.writes.as_slice(), self.written.as_slice());
+        Ok(left)
+    }
+
+    /// The bytes of the last sync, with this byte at each place that was written since then.
+    fn blotted(&self, alloc: Global, byte: u8) -> Result<Vec<u8>, AllocError>
+        ensures { IfOk result (λ left. LeftInTurn self.now (Fill.Byte byte) left.items) }
+    {
+        let mut left = self.synced.to_vec(alloc)?;
+        blot_ranges(&mut left, self.writes.as_slice(), byte);
+        Ok(left)
+    }
 }
 
 /// Adds these bytes behind the others, in room that is there.
@@ -124,6 +158,35 @@ fn copy_ranges(synced: &mut Vec<u8>, bytes: &[u8], writes: &[Write])
     }
 }
 
+/// Puts the first half of each write's own bytes at its place, the oldest write first.
+fn put_fronts(bytes: &mut Vec<u8>, writes: &[Write], written: &[u8])
+    requires { All (λ w. IsInside w (length bytes.old.items) (length written.now)) writes.now }
+    ensures { InTurn (front_half written.now) writes.now bytes.old.items bytes.new.items }
+{
+    for write in writes {
+        let end = write.from + write.len / 2;
+        stamp(bytes, write.at, &written[write.from..end]);
+    }
+}
+
+/// Puts this byte at each place of each write's range.
+fn blot_ranges(bytes: &mut Vec<u8>, writes: &[Write], byte: u8)
+    requires { (n : ℕ) × All (λ w. IsInside w (length bytes.old.items) n) writes.now }
+    ensures { InTurn (all_bytes byte) writes.now bytes.old.items bytes.new.items }
+{
+    for write in writes {
+        blot(bytes, write.at, write.len, byte);
+    }
+}
+
+/// Puts this byte at each of `len` places.
+fn blot(bytes: &mut Vec<u8>, at: usize, len: usize, byte: u8)
+    requires { at + len ≤ length bytes.old.items }
+    ensures { Wrote at (replicate len byte) bytes.old.items bytes.new.items }
+{
+    bytes[at..at + len].fill(byte);
+}
+
 /// A device in memory. It is the model of a device: until a sync, a crash may leave any bytes in each
 /// range that was written since the last one, and outside of them what that sync left.
 ///
@@ -141,6 +204,7 @@ pub struct MemDevice {
 impl MemDevice {
     ghost use Rattle.mt_disk.specs.Disk.{Only};
     ghost use Rattle.mt_disk.specs.Memory.{content, MayLeave, failures_of, writes_left, bytes_left};
+    ghost use Rattle.mt_disk.specs.LeftBy.{LeftBy, synced_content};
 
     /// A device with these bytes, all of them synced, that has not failed, with room for so many
     /// writes without a sync and for so many bytes in them. The only error is want of memory, and then
@@ -186,6 +250,23 @@ impl MemDevice {
     {
         let State { bytes, .. } = self.state;
         bytes
+    }
+
+    /// One of the contents that a crash may leave now, and the device stays as it is. Over the bytes of
+    /// the last sync each write since then, the oldest first, leaves in its range what `fill` says. The
+    /// only error is want of memory.
+    pub fn crash(&self, alloc: Global, fill: Fill) -> Result<Vec<u8>, AllocError>
+        ensures may { IfOk result (λ left. MayLeave self.now left.items) }
+        ensures exact { IfOk result (λ left. LeftBy self.now fill left.items) }
+        ensures old { fill ≡ Fill.Old → IfOk result (λ left. left.items ≡ synced_content self.now) }
+        ensures new { fill ≡ Fill.New → IfOk result (λ left. left.items ≡ content self.now) }
+    {
+        match fill {
+            Fill::Old => self.state.synced.to_vec(alloc),
+            Fill::New => self.state.bytes.to_vec(alloc),
+            Fill::FrontHalf => self.state.fronts(alloc),
+            Fill::Byte(byte) => self.state.blotted(alloc, byte),
+        }
     }
 
     /// Notes a failure.

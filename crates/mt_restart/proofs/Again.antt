@@ -1,5 +1,5 @@
 -- What a crash leaves while a device is recovered stands for the base that its bytes stood for.
-use Rattle.std.proofs.Common.{◌≡◌, inl, inr, ◌≤◌, ℕ, List, sym, ◌∙◌, subst}
+use Rattle.std.proofs.Common.{◌≡◌, inl, inr, ◌≤◌, ℕ, List, sym, subst}
 use Rattle.mt_disk.specs.Disk.{Elapses, LeavesOnly, Only}
 use Rattle.mt_disk.proofs.Frame.{leaves_more, reads_on, runs_both}
 use Rattle.mt_frame.specs.Laws.{OneSlot}
@@ -29,7 +29,7 @@ module _ {D : Type 0} (seen : D → List ℕ) (may : D → List ℕ → Type 0) 
   pub read_stands : Only (seen o) (may s) → (c : List ℕ) → may n c → CanRestart relations counters c b
   read_stands durable c left = subst (λ (x : List ℕ). CanRestart relations counters x b) (sym (durable c (reads.less c left))) found
 
-  module _ (one : OneSlot) (own : OnlyOwnPagesMatter) (f : Found) (is : IsFound (seen s) f) (shows : ShowsBase relations counters f.restored.pages.items b) (items : List (List ℕ)) (whole : items ≡ f.restored.pages.items) (t : D)
+  module _ (one : OneSlot) (own : OnlyOwnPagesMatter) (frames : ℕ) (f : Found) (is : IsFound (seen s) frames f) (shows : ShowsBase relations counters f.restored.pages.items b) (items : List (List ℕ)) (whole : items ≡ f.restored.pages.items) (t : D)
       (turns : (opening : ℕ → List ℕ) (batches : List (List Record)) → IsReadAs (seen n) f.ruling opening batches → LeavesOnly moment left_since n t (ReadsOldOrNext f.ruling opening batches items f.marks.images.items)) where
     turned_over : LeavesOnly moment left_since n t (λ c. CanRestart relations counters c b)
     turned_over =
@@ -39,7 +39,7 @@ module _ {D : Type 0} (seen : D → List ℕ) (may : D → List ℕ → Type 0) 
         let read : IsReadAs (seen n) f.ruling opening batches = subst (λ (x : List ℕ). IsReadAs x f.ruling opening batches) (sym reads.same) (read_first one relations counters (seen s) b f.ruling is.marked.rules first) in
         leaves_more moment left_since n t (ReadsOldOrNext f.ruling opening batches f.restored.pages.items f.marks.images.items) (λ c. CanRestart relations counters c b)
         (subst (λ (x : List (List ℕ)). LeavesOnly moment left_since n t (ReadsOldOrNext f.ruling opening batches x f.marks.images.items)) whole (turns opening batches read))
-        (λ c either. either_restarts one own relations counters (seen s) c b f is shows first either)
+        (λ c either. either_restarts one own relations counters (seen s) c b frames f is shows first either)
 
     -- and while the log turns over
     pub when_over : Elapses (moment o) (moment s) (left_since o) (left_since s) (may s) → ((c : List ℕ) → may s c → may o c) → LeavesOnly moment left_since o t (StandsStill may relations counters b o)

@@ -1,14 +1,14 @@
 -- What a kernel is assembled of, over a device that was formatted.
-use Rattle.std.proofs.Common.{◌≡◌, ◌<◌, ◌≤◌, ◌+◌, ◌*◌, ℕ, List, [], length, refl, sym, ap, subst, ◌∙◌, arith}
+use Rattle.std.proofs.Common.{◌≡◌, ℕ, List, length, refl, ap, arith}
 use Rattle.mt_escrow.specs.Seen.{Escrowed}
-use Rattle.mt_kernel.specs.Consistent.{Origin, IsFresh}
+use Rattle.mt_kernel.specs.Consistent.{IsFresh}
 use Rattle.mt_log.specs.Words.{appended}
 use Rattle.mt_model.specs.Tables.{count_at}
 use Rattle.mt_model.specs.declared.counters.Count.{Count}
 use Rattle.mt_op.proofs.Opened.{no_images}
 use Rattle.mt_op.specs.declared.operations.Operations.{Operations}
 use Rattle.mt_pool.specs.Images.{slot}
-use Rattle.mt_txn.specs.Well.{IsOrigin, IsOpening, Opens}
+use Rattle.mt_txn.specs.Well.{Opens}
 use Rattle.mt_restart.specs.Firsts.{AreFresh}
 use Rattle.mt_restart.specs.Schemas.{relations_in, counters_in, schema_base}
 use Rattle.mt_restart.specs.declared.schema.Schema.{Schema}

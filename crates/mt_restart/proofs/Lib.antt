@@ -11,7 +11,6 @@ mod ImageRecords
 mod Sizes
 mod Slots
 mod Elsewhere
-mod Turns
 pub mod Read
 mod Ruled
 mod NextArea
@@ -22,3 +21,4 @@ mod Again
 mod Based
 mod Listing
 mod Surveying
+mod Opened

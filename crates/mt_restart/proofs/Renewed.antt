@@ -1,14 +1,13 @@
 -- What is known of a device while its log turns over, call by call.
-use Rattle.std.proofs.Common.{true, ◌≡◌, ◌⊎◌, inl, inr, ⊎_elim, ℕ, ◌+◌, ◌*◌, ◌-◌, ◌<◌, ◌≤◌, Bool, false, List, [], ◌∷◌, length, get_or, refl, sym, ap, ◌∙◌, subst, arith, append-nil}
+use Rattle.std.proofs.Common.{true, ◌≡◌, inl, inr, ⊎_elim, ℕ, ◌+◌, ◌*◌, ◌<◌, ◌≤◌, Bool, false, List, [], ◌∷◌, length, get_or, sym, ap, ◌∙◌, subst, arith, append-nil}
 use Rattle.mt_disk.specs.Disk.{Elapses, Follows, LeavesOnly, Only, Torn}
-use Rattle.mt_disk.proofs.Frame.{Apart, follows_less, leaves_more, reads_on, runs_both, torn_refl}
+use Rattle.mt_disk.proofs.Frame.{follows_less, leaves_more, reads_on, runs_both, torn_refl}
 use Rattle.mt_frame.specs.declared.records.Record.{Record}
 use Rattle.mt_frame.specs.declared.slots.MasterSlot.{MasterSlot}
 use Rattle.mt_index.specs.Checks.{bytes_of}
 use Rattle.mt_log.specs.Area.{TornFrom}
 use Rattle.mt_frame.specs.Grammar.{body_text}
 use Rattle.mt_log.specs.Batch.{Scans, joined}
-use Rattle.mt_log.specs.Holds.{HoldsBatches}
 use Rattle.mt_log.specs.Masters.{IsRuling}
 use Rattle.mt_log.specs.Sound.{IsSound}
 use Rattle.mt_log.specs.Words.{area_size as log_size, area_start as log_start, durable, durable_batches, in_flight, used, waiting, IsOn}

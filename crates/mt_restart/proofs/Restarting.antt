@@ -1,6 +1,5 @@
 -- A restart finds again what a turn of the log leaves.
-use Rattle.std.proofs.Common.{◌≡◌, ⊎_elim, ◌++◌, ◌+◌, ◌*◌, ◌<◌, ◌≤◌, ℕ, List, [], ◌∷◌, length, refl, sym, subst, arith, append-nil}
-use Rattle.std.specs.Prelude.{All}
+use Rattle.std.proofs.Common.{◌≡◌, ⊎_elim, ◌+◌, ◌*◌, ◌<◌, ◌≤◌, ℕ, List, [], ◌∷◌, length, refl, sym, subst, arith, append-nil}
 use Rattle.std.specs.List.{AllByRecursion}
 use Rattle.std.proofs.lemmas.List.Elements.{All-from_recursion}
 use Rattle.mt_base.specs.Limits.{IsRelationCount}
@@ -111,9 +110,9 @@ restarts_next relations counters c b next pages images each alone read fits good
     }
 
 -- so either stands for the base that the pages at hand hold
-pub either_restarts : OneSlot → OnlyOwnPagesMatter → (relations counters : ℕ) (c0 c : List ℕ) (b : Base) (f : Found) → IsFound c0 f → ShowsBase relations counters f.restored.pages.items b → (found : CanRestart relations counters c0 b)
+pub either_restarts : OneSlot → OnlyOwnPagesMatter → (relations counters : ℕ) (c0 c : List ℕ) (b : Base) (frames : ℕ) (f : Found) → IsFound c0 frames f → ShowsBase relations counters f.restored.pages.items b → (found : CanRestart relations counters c0 b)
     → ReadsOldOrNext f.ruling found.stands.opening found.stands.batches f.restored.pages.items f.marks.images.items c → CanRestart relations counters c b
-either_restarts one own relations counters c0 c b f is shows found either =
+either_restarts one own relations counters c0 c b frames f is shows found either =
     let items = f.restored.pages.items in
     let k = is.marked in
     let fits = is.turns.fits in

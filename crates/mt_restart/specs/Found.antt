@@ -1,15 +1,17 @@
 -- What a restart has at hand before its first write, and what the device is meanwhile.
-use Rattle.std.specs.Prelude.{◌≡◌, ◌⊎◌, ℕ, ◌+◌, ◌*◌, ◌<◌, ◌≤◌, ◌^◌, false, List, [], ◌∷◌, length, get_or}
+use Rattle.std.specs.Prelude.{◌≡◌, ◌⊎◌, ℕ, ◌+◌, ◌<◌, ◌^◌, false, List, [], ◌∷◌, length, get_or}
 use Rattle.mt_disk.specs.Disk.{Only}
 use Rattle.mt_frame.specs.Grammar.{body_text}
 use Rattle.mt_frame.specs.declared.records.Record.{Record}
 use Rattle.mt_frame.specs.declared.slots.MasterSlot.{MasterSlot}
 use Rattle.mt_index.specs.Checks.{bytes_of}
 use Rattle.mt_log.specs.Batch.{joined}
+use Rattle.mt_log.specs.First.{IsFirst}
 use Rattle.mt_log.specs.Holds.{HoldsBatches}
 use Rattle.mt_log.specs.Masters.{IsRuling}
 use Rattle.mt_log.specs.Sound.{IsSound}
 use Rattle.mt_log.specs.Words.{durable, in_flight, waiting, used, area_size as log_size, area_start as log_start, IsOn}
+use Rattle.mt_log.specs.declared.area.AreaPlace.{AreaPlace}
 use Rattle.mt_log.specs.declared.log.Log.{Log}
 use Rattle.mt_pool.specs.Images.{slot}
 use Rattle.mt_replay.specs.Stands.{IsReadAs, area_size, area_start, area_end}
@@ -34,6 +36,13 @@ pub record AreMarked (c : List ℕ) (ruling : MasterSlot) (items : List (List �
 pub record CanTurn (ruling : MasterSlot) (images : List Record) : Type 0 where
   pub not_last : ruling.epoch < 2 ^ 63
   pub fits : 5 + length (body_text images) < area_size ruling
+
+-- the log of the next area, in memory: these images are about to be forced as its first batch
+pub record IsPrepared (ruling : MasterSlot) (images : List Record) (log : Log) : Type 0 where
+  pub place : AreaPlace
+  pub start : place.start ≡ area_start (next_slot ruling)
+  pub end : place.end ≡ area_end (next_slot ruling)
+  pub first : IsFirst place images log
 
 -- ---- meanwhile, and then
 

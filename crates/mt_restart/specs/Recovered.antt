@@ -9,18 +9,22 @@ use Rattle.mt_replay.specs.Checks.{AreChecked}
 use Rattle.mt_replay.specs.Refused.{BreaksFormat, IsCause, IsReplayed}
 use Rattle.mt_replay.specs.Stands.{CanRestart}
 use Rattle.mt_replay.specs.declared.figures.Figures.{Figures}
-use Rattle.mt_restart.specs.Found.{AreMarked, CanTurn, HasTurned}
+use Rattle.mt_restart.specs.Beside.{IsBeside}
+use Rattle.mt_restart.specs.Found.{AreMarked, CanTurn, HasTurned, IsPrepared}
 use Rattle.mt_restart.specs.Turned.{AreImagesOf}
 use Rattle.mt_restart.specs.declared.finding.Marks.{Marks}
 use Rattle.mt_restart.specs.declared.recovering.Found.{Found}
 use Rattle.mt_restart.specs.declared.recovering.Recovered.{Recovered}
 
--- what is found in these bytes: pages that break no rule, and the marks by which the log can turn over
-pub record IsFound (c : List ℕ) (f : Found) : Type 0 where
+-- What is found in these bytes: pages that break no rule, the marks by which the log can turn over, and all that is in memory
+-- beside the device, with so many frames.
+pub record IsFound (c : List ℕ) (frames : ℕ) (f : Found) : Type 0 where
   pub batches : List (List Record)
   pub marked : AreMarked c f.ruling f.restored.pages.items batches f.marks
   pub turns : CanTurn f.ruling f.marks.images.items
   pub checked : AreChecked f.restored.pages.items
+  pub prepared : IsPrepared f.ruling f.marks.images.items f.prepared
+  pub beside : IsBeside f.restored.pages.items frames f.beside
 
 -- The log cannot turn over: the ruling slot has the last epoch, or the next area has no room for the images of pages that
 -- are in no slot and in no image of the ruling one.
@@ -35,18 +39,20 @@ pub record CannotTurn (c : List ℕ) : Type 0 where
   pub none : CanTurn ruling marks.images.items → ⊥
 
 -- The log has turned over: the next area rules, with images of some pages and no other record, and each page is in its slot.
-pub record IsRecovered {D : Type 0} (seen : D → List ℕ) (may_leave : D → List ℕ → Type 0) (device : D) (r : Recovered) : Type 0 where
+pub record IsRecovered {D : Type 0} (seen : D → List ℕ) (may_leave : D → List ℕ → Type 0) (frames : ℕ) (device : D) (r : Recovered) : Type 0 where
   pub ruling : MasterSlot
   pub lost : List Bool
   pub count : length r.restored.pages.items ≡ ruling.pages
   pub checked : AreChecked r.restored.pages.items
   pub images : AreImagesOf r.restored.pages.items lost r.images.items
   pub turned : HasTurned seen may_leave ruling r.restored.pages.items r.images.items device r.log
+  pub beside : IsBeside r.restored.pages.items frames r.beside
 
 -- what a crash might have left before, or what stands for this base
 abbrev pub StandsStill : {D : Type 0} → (D → List ℕ → Type 0) → ℕ → ℕ → Base → D → List ℕ → Type 0
 StandsStill may_leave relations counters b device c = may_leave device c ⊎ CanRestart relations counters c b
 
--- why these bytes are refused: that a rule of their formats is broken, that the log cannot turn over, or no reason of theirs
-abbrev pub IsCauseToStop : List ℕ → Refusal → Type 0
-IsCauseToStop c why = IsCause BreaksFormat c (Unit {0}) why ⊎ ((why ≡ LogFull) × CannotTurn c)
+-- Why these bytes are refused, in a call in which the device failed or did not: that a rule of their formats is broken, that the
+-- log cannot turn over, or no reason of theirs.
+abbrev pub IsCauseToStop : List ℕ → Type 0 → Refusal → Type 0
+IsCauseToStop c failed why = IsCause BreaksFormat c failed why ⊎ ((why ≡ LogFull) × CannotTurn c)

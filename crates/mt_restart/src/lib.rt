@@ -6,6 +6,7 @@
 #![tactic(auto)]
 
 mod assembling;
+mod beside;
 mod finding;
 mod first_pages;
 mod formatting;
@@ -15,6 +16,7 @@ mod opening;
 mod recovering;
 mod renewing;
 mod reporting;
+mod resuming;
 mod schema;
 mod told;
 mod writing;
@@ -22,7 +24,7 @@ mod writing;
 pub use assembling::fresh;
 pub use formatting::format;
 pub use inspecting::inspect;
-pub use recovering::{Recovered, recover};
 pub use reporting::report;
+pub use resuming::open;
 pub use schema::Schema;
 pub use told::Report;

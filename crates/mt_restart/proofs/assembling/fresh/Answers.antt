@@ -1,9 +1,6 @@
-use Rattle.std.proofs.Common.{◌≡◌, ◌<◌, ◌∙◌, ℕ, List, length, refl, sym, ap, subst, arith}
+use Rattle.std.proofs.Common.{◌∙◌, List, length, sym, ap, arith}
 use Rattle.mt_base.specs.Limits.{IsCounterCount}
-use Rattle.mt_kernel.specs.Consistent.{Origin}
-use Rattle.mt_live.specs.Machine.{start}
 use Rattle.mt_model.specs.declared.counters.Count.{Count}
-use Rattle.mt_txn.specs.Shown.{Shows}
 use Rattle.mt_restart.proofs.Assembled.{opens_of, fresh_of}
 use Rattle.mt_restart.specs.Schemas.{schema_base, counters_in}
 use Rattle.mt_restart.proofs.assembling.fresh.Goals as goal

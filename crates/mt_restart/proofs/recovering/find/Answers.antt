@@ -1,8 +1,9 @@
-use Rattle.std.proofs.Common.{◌≡◌, ◌∙◌, inl, inr, ⊎_elim, ℕ, List, refl, sym, subst}
+use Rattle.std.proofs.Common.{◌∙◌, inl, inr, ⊎_elim, ℕ, List, refl, sym, subst}
 use Rattle.std.proofs.lemmas.Result.{err_from_is_err_and}
 use Rattle.mt_disk.proofs.Frame.{runs_on}
 use Rattle.mt_frame.specs.declared.records.Record.{Record}
-use Rattle.mt_restart.specs.Found.{AreMarked, CanTurn}
+use Rattle.mt_restart.specs.Beside.{IsBeside}
+use Rattle.mt_restart.specs.Found.{AreMarked, CanTurn, IsPrepared}
 use Rattle.mt_restart.proofs.Calls.{one_outcome}
 use Rattle.mt_restart.proofs.recovering.find.Goals as goal
 
@@ -43,3 +44,24 @@ returns-then-not-can_turn-clause-cause g c =
         none = λ can. one_outcome c.can_turn.result (c.can_turn.ensures.1 (subst (λ (x : List Record). CanTurn c.in_ok-replayed.replayed.ruling x) (sym c.deref-2.ensures.value) can)) c.if-not-can_turn.true;
       },
     )
+
+pub returns-in_err-beside-clause-reads : goal.returns-in_err-beside-clause-reads
+returns-in_err-beside-clause-reads g c =
+    let D = g.D.Device in let r = c.replay.ensures in let m = c.marks_of.ensures.reads in
+    record { same = m.same ∙ r.seen; less = λ x left. r.crash x (m.less x left); moments = runs_on D.moment D.left_since D.may_leave g.met.D.Device.only_now c.args.device.now c.replay.new.device c.marks_of.new.device r.moments m.moments r.crash }
+
+pub returns-clause-shows : goal.returns-clause-shows
+returns-clause-shows g c = λ relations counters b can. c.in_ok-replayed.ensures.found relations counters b can
+
+pub returns-clause-found : goal.returns-clause-found
+returns-clause-found g c =
+    let D = g.D.Device in let r = c.in_ok-replayed.ensures in let k = c.in_ok-marks.ensures.marked in
+    record {
+      batches = k.0;
+      marked = subst (λ (x : List ℕ). AreMarked x c.in_ok-replayed.replayed.ruling c.in_ok-replayed.replayed.restored.pages.items k.0 c.in_ok-marks.marks) c.replay.ensures.seen
+          (subst (λ (x : List (List ℕ)). AreMarked (D.seen c.replay.new.device) c.in_ok-replayed.replayed.ruling x k.0 c.in_ok-marks.marks) c.deref.ensures.value k.1);
+      turns = subst (CanTurn c.in_ok-replayed.replayed.ruling) c.deref-2.ensures.value (c.can_turn.ensures.0 c.if-not-can_turn.false);
+      checked = r.replayed.undone.after;
+      prepared = subst (λ (x : List Record). IsPrepared c.in_ok-replayed.replayed.ruling x c.in_ok-prepared.prepared) c.deref-3.ensures.value c.in_ok-prepared.ensures.prepared;
+      beside = subst (λ (x : List (List ℕ)). IsBeside x c.args.frames c.in_ok-beside.beside) c.deref-4.ensures.value c.in_ok-beside.ensures.beside;
+    }

@@ -1,7 +1,8 @@
-use Rattle.std.proofs.Common.{◌≡◌, ◌∙◌, ℕ, List, sym, subst}
+use Rattle.std.proofs.Common.{◌∙◌, ◌<◌, ℕ, List, refl, sym, subst}
 use Rattle.std.proofs.lemmas.Result.{err_from_is_err_and}
 use Rattle.mt_replay.specs.Stands.{CanRestart}
 use Rattle.mt_restart.specs.Found.{HasTurned}
+use Rattle.mt_restart.specs.Recovered.{IsCauseToStop}
 use Rattle.mt_restart.proofs.Again.{over_stands, read_stands, when_over}
 use Rattle.mt_restart.proofs.recovering.recover.Goals as goal
 
@@ -22,28 +23,28 @@ pub returns-in_err-log-clause-moments : goal.returns-in_err-log-clause-moments
 returns-in_err-log-clause-moments g c = λ relations counters b found.
     let D = g.D.Device in let o = c.args.device.now in let s = c.sync.new.self in let n = c.find.new.device in
     when_over D.seen D.may_leave D.moment D.left_since g.met.D.Device.only_now g.met.D.Device.counts_now o s n c.sync.ensures.seen c.find.ensures.reads relations counters b found
-    c.slots_are_read_back.ensures c.only_own_pages_matter.ensures c.in_ok-found.found c.in_ok-found.ensures.found (c.in_ok-found.ensures.shows relations counters b (subst (λ (x : List ℕ). CanRestart relations counters x b) (sym c.sync.ensures.seen) found))
+    c.slots_are_read_back.ensures c.only_own_pages_matter.ensures c.args.frames c.in_ok-found.found c.in_ok-found.ensures.found (c.in_ok-found.ensures.shows relations counters b (subst (λ (x : List ℕ). CanRestart relations counters x b) (sym c.sync.ensures.seen) found))
     c.deref.result.now c.deref.ensures.value c.turn.new.device c.turn.ensures.moments c.sync.ensures.time c.sync.ensures.crash
 
 pub returns-in_err-log-clause-settled : goal.returns-in_err-log-clause-settled
 returns-in_err-log-clause-settled g c = λ relations counters b found other.
     let D = g.D.Device in let o = c.args.device.now in let s = c.sync.new.self in let n = c.find.new.device in
     over_stands D.seen D.may_leave D.moment D.left_since g.met.D.Device.only_now g.met.D.Device.counts_now o s n c.sync.ensures.seen c.find.ensures.reads relations counters b found
-    c.slots_are_read_back.ensures c.only_own_pages_matter.ensures c.in_ok-found.found c.in_ok-found.ensures.found (c.in_ok-found.ensures.shows relations counters b (subst (λ (x : List ℕ). CanRestart relations counters x b) (sym c.sync.ensures.seen) found))
+    c.slots_are_read_back.ensures c.only_own_pages_matter.ensures c.args.frames c.in_ok-found.found c.in_ok-found.ensures.found (c.in_ok-found.ensures.shows relations counters b (subst (λ (x : List ℕ). CanRestart relations counters x b) (sym c.sync.ensures.seen) found))
     c.deref.result.now c.deref.ensures.value c.turn.new.device c.turn.ensures.moments
 
 pub returns-clause-moments : goal.returns-clause-moments
 returns-clause-moments g c = λ relations counters b found.
     let D = g.D.Device in let o = c.args.device.now in let s = c.sync.new.self in let n = c.find.new.device in
     when_over D.seen D.may_leave D.moment D.left_since g.met.D.Device.only_now g.met.D.Device.counts_now o s n c.sync.ensures.seen c.find.ensures.reads relations counters b found
-    c.slots_are_read_back.ensures c.only_own_pages_matter.ensures c.in_ok-found.found c.in_ok-found.ensures.found (c.in_ok-found.ensures.shows relations counters b (subst (λ (x : List ℕ). CanRestart relations counters x b) (sym c.sync.ensures.seen) found))
+    c.slots_are_read_back.ensures c.only_own_pages_matter.ensures c.args.frames c.in_ok-found.found c.in_ok-found.ensures.found (c.in_ok-found.ensures.shows relations counters b (subst (λ (x : List ℕ). CanRestart relations counters x b) (sym c.sync.ensures.seen) found))
     c.deref.result.now c.deref.ensures.value c.turn.new.device c.turn.ensures.moments c.sync.ensures.time c.sync.ensures.crash
 
 pub returns-clause-settled : goal.returns-clause-settled
 returns-clause-settled g c = λ relations counters b found other.
     let D = g.D.Device in let o = c.args.device.now in let s = c.sync.new.self in let n = c.find.new.device in
     over_stands D.seen D.may_leave D.moment D.left_since g.met.D.Device.only_now g.met.D.Device.counts_now o s n c.sync.ensures.seen c.find.ensures.reads relations counters b found
-    c.slots_are_read_back.ensures c.only_own_pages_matter.ensures c.in_ok-found.found c.in_ok-found.ensures.found (c.in_ok-found.ensures.shows relations counters b (subst (λ (x : List ℕ). CanRestart relations counters x b) (sym c.sync.ensures.seen) found))
+    c.slots_are_read_back.ensures c.only_own_pages_matter.ensures c.args.frames c.in_ok-found.found c.in_ok-found.ensures.found (c.in_ok-found.ensures.shows relations counters b (subst (λ (x : List ℕ). CanRestart relations counters x b) (sym c.sync.ensures.seen) found))
     c.deref.result.now c.deref.ensures.value c.turn.new.device c.turn.ensures.moments
 
 pub returns-clause-shows : goal.returns-clause-shows
@@ -58,5 +59,18 @@ returns-clause-recovered g c =
       count = is.marked.count;
       checked = is.checked;
       images = is.marked.images;
+      beside = is.beside;
       turned = subst (λ (x : List (List ℕ)). HasTurned D.seen D.may_leave f.ruling x f.marks.images.items c.turn.new.device c.in_ok-log.log) c.deref.ensures.value c.in_ok-log.ensures.turned;
     }
+
+-- the same cause, of a device that failed in no call before
+pub returns-in_err-found-clause-cause : goal.returns-in_err-found-clause-cause
+returns-in_err-found-clause-cause g c =
+    let D = g.D.Device in let p = err_from_is_err_and c.from_residual-in_err-found.result c.from_residual-in_err-found.ensures.1 in let new = c.find.new.device in
+    rw (p.1, p.2) (subst (λ (n : ℕ). IsCauseToStop (D.seen c.args.device.now) (n < D.faults new) c.in_err-found.field-0.0) (c.in_ok-sync.ensures.cause.quiet refl)
+    (subst (λ (x : List ℕ). IsCauseToStop x (D.faults c.sync.new.self < D.faults new) c.in_err-found.field-0.0) c.sync.ensures.seen c.in_err-found.ensures.cause))
+
+pub returns-in_err-found-clause-unwritten : goal.returns-in_err-found-clause-unwritten
+returns-in_err-found-clause-unwritten g c =
+    let p = err_from_is_err_and c.from_residual-in_err-found.result c.from_residual-in_err-found.ensures.1 in
+    rw (p.1, p.2) (λ not. c.find.ensures.reads.same ∙ c.sync.ensures.seen)

@@ -1,9 +1,8 @@
-use Rattle.std.proofs.Common.{◌≡◌, inl, ℕ, Bool, List, subst}
+use Rattle.std.proofs.Common.{inl, Bool, List, subst}
 use Rattle.mt_disk.proofs.Frame.{leaves_more}
-use Rattle.mt_disk.specs.Disk.{Follows, Only}
-use Rattle.mt_replay.specs.Stands.{IsReadAs}
+use Rattle.mt_disk.specs.Disk.{Follows}
 use Rattle.mt_restart.specs.Turned.{AreInPlace, OnlySlots}
-use Rattle.mt_restart.proofs.Renewed.{turned, when_next, when_placed, when_turned}
+use Rattle.mt_restart.proofs.Renewed.{turned, when_placed, when_turned}
 use Rattle.mt_restart.proofs.renewing.turn.Goals as goal
 
 pub returns-in_err-log-clause-moments : goal.returns-in_err-log-clause-moments

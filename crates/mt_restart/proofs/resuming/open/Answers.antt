@@ -1,0 +1,50 @@
+use Rattle.std.proofs.Common.{◌≡◌, Result, Ok, Err, length, refl, sym, subst}
+use Rattle.mt_base.specs.declared.refusal.Refusal.{Refusal}
+use Rattle.mt_disk.specs.Disk.{LeavesOnly}
+use Rattle.mt_index.specs.Checks.{bytes_of}
+use Rattle.mt_restart.proofs.Based.{base_of_good}
+use Rattle.mt_restart.proofs.Opened.{base_in_bounds, opened_as}
+use Rattle.mt_restart.specs.Recovered.{StandsStill}
+use Rattle.mt_restart.proofs.resuming.open.Goals as goal
+
+-- a call that went well was not refused
+not_refused : {T : Type 0} (r : Result T Refusal) (x : T) (why : Refusal) → r ≡ Ok x → r ≡ Err why → ⊥
+not_refused (Ok y) x why well bad = absurd cc
+not_refused (Err e) x why well bad = absurd cc
+
+-- a call that was refused so was not refused otherwise
+refused_so : {T : Type 0} (r : Result T Refusal) (why other : Refusal) → r ≡ Err why → (why ≡ other → ⊥) → r ≡ Err other → ⊥
+refused_so (Ok y) why other is not bad = absurd cc
+refused_so (Err e) why other is not bad = not cc
+
+pub kernel_over-requires : goal.kernel_over-requires
+kernel_over-requires g c = record { recovered = (c.args.frames, c.in-Ok.ensures.recovered) }
+
+pub returns-in-Ok-clause-opened : goal.returns-in-Ok-clause-opened
+returns-in-Ok-clause-opened g c = λ relations counters b can.
+    let r = c.in-Ok.recovered in let e = c.in-Ok.ensures in
+    opened_as g.D.Device.seen g.D.Device.may_leave c.only_own_pages_matter.ensures relations counters c.args.frames b r.restored.pages.items r.beside c.kernel_over.result e.recovered.beside (e.shows relations counters b can)
+    (λ holds. c.kernel_over.ensures.opened b holds (base_in_bounds relations counters (g.D.Device.seen c.args.device) b can))
+
+pub returns-in-Ok-clause-begins : goal.returns-in-Ok-clause-begins
+returns-in-Ok-clause-begins g c =
+    let items = c.in-Ok.recovered.restored.pages.items in let checked = c.in-Ok.ensures.recovered.checked in
+    let based = base_of_good checked.relations checked.counters (length items) (bytes_of items) checked.good in
+    let o = c.kernel_over.ensures.opened based.0 based.1 based.2 in
+    (based.0, record { relations_are = refl; counters_are = refl; shows = o.shows; restarts = o.restarts })
+
+pub returns-in-Ok-clause-moments : goal.returns-in-Ok-clause-moments
+returns-in-Ok-clause-moments g c = λ relations counters b can.
+    let D = g.D.Device in
+    subst (λ (d : _). LeavesOnly D.moment D.left_since c.args.device d (StandsStill D.may_leave relations counters b c.args.device)) (sym c.kernel_over.ensures.device) (c.recover.ensures.moments relations counters b can)
+
+pub returns-in-Ok-clause-stands : goal.returns-in-Ok-clause-stands
+returns-in-Ok-clause-stands g c = λ relations counters b can x left.
+    c.recover.ensures.settled relations counters b can (not_refused c.recover.result c.in-Ok.recovered Refusal.DeviceFailed c.in-Ok.is) x (subst (λ (d : _). g.D.Device.may_leave d x) c.kernel_over.ensures.device left)
+
+pub returns-in-Err-clause-settled : goal.returns-in-Err-clause-settled
+returns-in-Err-clause-settled g c = λ relations counters b can not.
+    c.recover.ensures.settled relations counters b can (refused_so c.recover.result c.in-Err.refusal Refusal.DeviceFailed c.in-Err.is not)
+
+pub returns-in-Err-clause-moments : goal.returns-in-Err-clause-moments
+returns-in-Err-clause-moments g c = c.recover.ensures.moments

@@ -1,0 +1,20 @@
+-- A kernel that is opened over a device.
+use Rattle.std.specs.Prelude.{◌≡◌, ℕ, List, Result, Ok, Err}
+use Rattle.mt_base.specs.declared.refusal.Refusal.{Refusal}
+use Rattle.mt_disk.specs.declared.device.Device.{Ghosts}
+use Rattle.mt_live.specs.Machine.{start}
+use Rattle.mt_model.specs.Model.{Base}
+use Rattle.mt_txn.specs.Shown.{Restarts, Shows}
+use Rattle.mt_txn.specs.declared.kernel.Kernel.{Kernel}
+
+-- It has so many relations and counters, and begins on this base: nothing has happened yet, and it can be restarted.
+pub record IsOpened {D : Type 0} {g : Ghosts D} (seen : D → List ℕ) (may_leave : D → List ℕ → Type 0) (relations counters : ℕ) (b : Base) (k : Kernel D g) : Type 0 where
+  pub relations_are : k.relations ≡ relations
+  pub counters_are : k.counters ≡ counters
+  pub shows : Shows seen may_leave b (start b) k
+  pub restarts : Restarts seen may_leave b k
+
+-- the device, in the kernel or handed back
+abbrev pub device_of : {D : Type 0} → {g : Ghosts D} → Result (Kernel D g) (Refusal × D) → D
+device_of (Ok kernel) = kernel.parts.operations.store.device
+device_of (Err gone) = gone.1

@@ -1,0 +1,99 @@
+// A kernel over a device that was used before.
+ghost use Rattle.std.specs.Prelude.{◌≡◌, ◌⊎◌, ◌<◌, ℕ, List, IfOk, IfErr};
+ghost use Rattle.mt_base.specs.declared.refusal.Refusal.{Refusal};
+ghost use Rattle.mt_disk.specs.Disk.{LeavesOnly};
+ghost use Rattle.mt_index.specs.Checks.{bytes_of};
+ghost use Rattle.mt_model.specs.Model.{Base, IsBase};
+ghost use Rattle.mt_replay.specs.Stands.{CanRestart};
+ghost use Rattle.mt_steps.specs.Held.{Holds};
+ghost use Rattle.mt_restart.specs.Recovered.{IsCauseToStop, IsRecovered, StandsStill};
+ghost use Rattle.mt_restart.specs.Resumed.{IsOpened, device_of};
+
+use crate::beside::Beside;
+use crate::recovering::{Recovered, recover};
+use mt_base::Refusal;
+use mt_disk::Device;
+use mt_op::Operations;
+use mt_pool::Store;
+use mt_replay::only_own_pages_matter;
+use mt_txn::Kernel;
+use std::alloc::Global;
+
+// A kernel over a device that was recovered. It takes no memory.
+fn kernel_over<D: Device + Drop>(alloc: Global, device: D, recovered: Recovered) -> Kernel<D>
+    requires recovered { (frames : ℕ) × IsRecovered D.seen D.may_leave frames device recovered }
+    ensures opened { (b : Base) → Holds (bytes_of recovered.restored.pages.items) b → IsBase b
+        → IsOpened D.seen D.may_leave recovered.beside.relations recovered.beside.counters b result }
+    ensures device { result.parts.operations.store.device ≡ device }
+{
+    let Recovered {
+        log,
+        restored: _,
+        images,
+        beside,
+    } = recovered;
+    let Beside {
+        pool,
+        idle,
+        escrow,
+        relations,
+        counters,
+    } = beside;
+    let store = Store::over_images(device, log, pool, &images);
+    let operations = Operations::join(store, idle);
+    Kernel::assemble(alloc, operations, escrow, relations, counters)
+}
+
+/// Gives a kernel over a device that was used before, whatever a crash left of it, with so many pages in frames: no
+/// transaction lives, the book is empty, and the pages hold the base that the bytes stood for. That is what the log's
+/// committed transactions lead to, in the order of their commits.
+///
+/// The device is synced. Then a restart's passes are made in memory: the ruling area's records are repeated, unfinished
+/// operations are put back, and losers are undone by their inverses (Mohan 1992; Weikum 1991). At last the log turns over
+/// to the other area. Its first batch has images of the pages that are neither in the ruling area nor in their slots.
+///
+/// Whenever a crash comes in this call, what it leaves is what it might have left before, or stands for the same base. So
+/// a device may be opened again, however often that is cut off.
+///
+/// Any bytes are read. Each refusal hands the device back:
+/// - [`Refusal::NoMemory`];
+/// - [`Refusal::DeviceFailed`], where the device failed in this call;
+/// - [`Refusal::NotFormatted`] and [`Refusal::BadFormat`], as `replay` of mt_replay says;
+/// - [`Refusal::LogFull`], where the ruling slot has the last epoch, or the images have no room in the next area.
+///
+/// Its bytes are as they were, but where it failed.
+pub fn open<D: Device + Drop>(
+    alloc: Global,
+    device: D,
+    frames: usize,
+) -> Result<Kernel<D>, (Refusal, D)>
+    ensures opened { (relations counters : ℕ) (b : Base) → CanRestart relations counters (D.seen device) b
+        → IfOk result (IsOpened D.seen D.may_leave relations counters b) }
+    // On any bytes it is a kernel on some base.
+    ensures begins { IfOk result (λ kernel. (b : Base)
+        × IsOpened D.seen D.may_leave kernel.relations kernel.counters b kernel) }
+    ensures no_other_refusal { (relations counters : ℕ) (b : Base) → CanRestart relations counters (D.seen device) b
+        → IfErr result (λ gone. (gone.0 ≡ Refusal.NoMemory)
+        ⊎ ((gone.0 ≡ Refusal.DeviceFailed) ⊎ (gone.0 ≡ Refusal.LogFull))) }
+    // Whenever a crash comes in this call.
+    ensures moments { (relations counters : ℕ) (b : Base) → CanRestart relations counters (D.seen device) b
+        → LeavesOnly D.moment D.left_since device (device_of result)
+        (StandsStill D.may_leave relations counters b device) }
+    // Once it has ended, unless the device failed.
+    ensures stands { (relations counters : ℕ) (b : Base) → CanRestart relations counters (D.seen device) b
+        → IfOk result (λ kernel. (c : List ℕ) → D.may_leave kernel.parts.operations.store.device c
+        → CanRestart relations counters c b) }
+    ensures settled { (relations counters : ℕ) (b : Base) → CanRestart relations counters (D.seen device) b
+        → IfErr result (λ gone. (gone.0 ≡ Refusal.DeviceFailed → ⊥) → (c : List ℕ) → D.may_leave gone.1 c
+        → CanRestart relations counters c b) }
+    ensures unwritten { IfErr result (λ gone. (gone.0 ≡ Refusal.DeviceFailed → ⊥)
+        → D.seen gone.1 ≡ D.seen device) }
+    ensures cause { IfErr result (λ gone. IsCauseToStop (D.seen device) (D.faults device < D.faults gone.1) gone.0) }
+{
+    only_own_pages_matter();
+    let mut device = device;
+    match recover(alloc, &mut device, frames) {
+        Ok(recovered) => Ok(kernel_over(alloc, device, recovered)),
+        Err(refusal) => Err((refusal, device)),
+    }
+}

@@ -1,44 +1,36 @@
 -- What looking at all pages tells.
-use Rattle.std.proofs.Common.{◌≡◌, ◌≢◌, inl, inr, ⊎_elim, ℕ, zero, suc, ◌+◌, ◌*◌, ◌<◌, ◌≤◌, Bool, true, false, not, ◌==◌, cond, bytes_eq, List, [], ◌∷◌, Option, Some, None, length, get_or, refl, sym, ap, ◌∙◌, subst, arith}
-use Rattle.std.specs.Prelude.{IfSome, MatchBool, MatchOption, slice_get}
+use Rattle.std.proofs.Common.{◌≡◌, ◌≢◌, inl, inr, ℕ, zero, suc, ◌+◌, ◌*◌, ◌<◌, ◌≤◌, Bool, true, false, not, ◌==◌, cond, bytes_eq, List, [], ◌∷◌, Option, Some, None, length, get_or, refl, sym, ap, ◌∙◌, subst, arith}
+use Rattle.std.specs.Prelude.{IfSome, MatchOption}
 use Rattle.std.proofs.lemmas.Bool.{cases_eq}
 use Rattle.std.proofs.lemmas.Bool.Decides.{Decides-eqb, nat_tests}
 use Rattle.std.specs.Cmp.Lexicographic.{bytes_decides}
-use Rattle.mt_base.specs.declared.modes.Mode.{Mode}
-use Rattle.mt_base.specs.declared.modes.Mode.TheVariants.{Read}
 use Rattle.mt_base.specs.declared.numbers.RecordName.{RecordName}
 use Rattle.mt_bucket.specs.Entries.{Entry, is_at, look}
 use Rattle.mt_bucket.specs.Page.{count_of, entries, entries_from, entry_of, cell}
 use Rattle.mt_bucket.specs.Hash.{hash}
 use Rattle.mt_file.specs.File.{record_in}
 use Rattle.mt_file.proofs.Filed.{record_records, record_kind}
-use Rattle.mt_index.specs.Answers.{Asks, InMaps, IsInBucket}
 use Rattle.mt_index.specs.Checks.{bytes_of, entry_at, IsSound}
 use Rattle.mt_index.specs.Index.{Linked, Node, entries_of, named}
 use Rattle.mt_index.specs.Maps.{Each, Map}
 use Rattle.mt_index.specs.Pages.{AreMap, state_of}
 use Rattle.mt_index.proofs.Lists.{at_parts}
-use Rattle.mt_index.proofs.Looking.{look_past}
+use Rattle.mt_index.proofs.Looking.{look_in, look_past}
 use Rattle.mt_base.specs.Limits.{IsRelationCount}
 use Rattle.mt_replay.specs.Memory.{AreWhole}
 use Rattle.mt_slots.specs.Page.{Row, count, slot}
-use Rattle.mt_space.specs.Changes.{PageBytes, Agrees}
+use Rattle.mt_space.specs.Changes.{PageBytes}
 use Rattle.mt_space.specs.Kinds.{kind}
 use Rattle.mt_steps.specs.Plans.{IsGood}
 use Rattle.mt_replay.specs.Checks.{AllAreListed, AllNameRecords, AreBroken, AreChecked, AreListedAt, AreRecordPages, HasListed, HasRecord, HasSchema, IsIndexed, IsNamedWell}
 use Rattle.mt_replay.specs.Faults.{IsFaulty, breaks, unlisted}
-use Rattle.mt_replay.proofs.Inverses.{all_there, at_any}
-use Rattle.mt_replay.proofs.Making.{first_agrees}
+use Rattle.mt_replay.proofs.Inverses.{at_any}
 
-some_same : {A : Type 0} (x y : A) → Some x ≡ Some y → x ≡ y
+pub some_same : {A : Type 0} (x y : A) → Some x ≡ Some y → x ≡ y
 some_same x y e = ap (λ (o : Option _). elim o [ None ↦ x | Some z ↦ z ]) e
 
 none_some : {A : Type 0} (x : A) → None ≡ Some x → ⊥
 none_some x e = cc
-
--- the pages in memory are at hand
-pub at_hand_all : (items : List (List ℕ)) → Agrees (λ p. slice_get items p) (bytes_of items)
-at_hand_all items = first_agrees items (bytes_of items) (λ p lt. refl)
 
 -- what is read of one of them
 pub page_is : (items : List (List ℕ)) (p : ℕ) (page : List ℕ) → p < length items → page ≡ get_or items p page → page ≡ bytes_of items p
@@ -77,52 +69,8 @@ module _ (items : List (List ℕ)) (name : RecordName) (r : ℕ) (k page : List 
       let same = row_is items name.page name.slot page is_page records row (record { relation = r; key = k; value = v }) there is in
       (ap (λ (x : Row). x.relation) same, ap (λ (x : Row). x.key) same)
 
--- ---- what a find tells
-
-abbrev hand : List (List ℕ) → ℕ → Option (List ℕ)
-hand items p = slice_get items p
-
-pub none_asked : (items : List (List ℕ)) (relations p : ℕ) (mode : Mode) (key : List ℕ) → IsIndexed items relations → 16 ≤ length items → Asks (hand items) (length items) (IsInBucket key Read) p mode → ⊥
-none_asked items relations p mode key known some asks =
-    all_there items p (
-      asks.missing,
-      ⊎_elim
-          (λ (a : (p ≡ 1) × (mode ≡ Read)). let one = a.0 in omega (arith, one, some))
-          (λ (b : _). kind_inside items relations p known (λ zero_is. let e = sym zero_is ∙ b.0 in absurd (omega (arith, e))))
-          (asks.role (bytes_of items) (at_hand_all items) known.index.meaning known.index.map),
-    )
-
-pub none_endless : (items : List (List ℕ)) (relations : ℕ) → IsIndexed items relations → InMaps (hand items) (length items) (λ pages m. ⊥) → ⊥
-none_endless items relations known none = none (bytes_of items) (at_hand_all items) known.index.meaning known.index.map
-
-module _ (items : List (List ℕ)) (relations r : ℕ) (k : List ℕ) (known : IsIndexed items relations) where
-  pub well_found : (name : RecordName) (b : Bool) → InMaps (hand items) (length items) (λ pages m. m r k ≡ Some name) → MatchBool b (HasRecord items name r k) (HasRecord items name r k → ⊥) → MatchBool b (IsNamedWell items r k) (IsNamedWell items r k → ⊥)
-  well_found name true found has = λ m am other is. subst (λ (x : RecordName). HasRecord items x r k) (some_same name other (sym (found (bytes_of items) (at_hand_all items) m am) ∙ is)) has
-  well_found name false found has = λ well. has (well known.index.meaning known.index.map name (found (bytes_of items) (at_hand_all items) known.index.meaning known.index.map))
-
-  pub well_missing : InMaps (hand items) (length items) (λ pages m. m r k ≡ None) → IsNamedWell items r k
-  well_missing none = λ m am name is. absurd (none_some name (sym (none (bytes_of items) (at_hand_all items) m am) ∙ is))
-
--- a record that is found under its key, by its name, by another, or not at all
-module _ (items : List (List ℕ)) (relations p s : ℕ) (page : List ℕ) (known : IsIndexed items relations) (is_page : page ≡ bytes_of items p) (records : kind (bytes_of items) p ≡ 3) (row : Row) (there : slot page s ≡ Some row) where
-  pub listed_found : (name : RecordName) → InMaps (hand items) (length items) (λ pages m. m row.relation row.key ≡ Some name) → name.page ≡ p → name.slot ≡ s → AreListedAt items p s
-  listed_found name found at_page at_slot other is m am =
-      let same = row_is items p s page is_page records row other there is in
-      ap (λ (x : Row). m x.relation x.key) same ∙ found (bytes_of items) (at_hand_all items) m am ∙ (λ i. Some (record { page = at_page i; slot = at_slot i }))
-
-  own_name : AreListedAt items p s → known.index.meaning row.relation row.key ≡ Some (record { page = p; slot = s })
-  own_name all = all row (slot_is items p s page is_page records ∙ there) known.index.meaning known.index.map
-
-  pub listed_elsewhere : (name : RecordName) → InMaps (hand items) (length items) (λ pages m. m row.relation row.key ≡ Some name) → AreListedAt items p s → (name.page ≡ p) × (name.slot ≡ s)
-  listed_elsewhere name found all =
-      let same = some_same name (record { page = p; slot = s }) (sym (found (bytes_of items) (at_hand_all items) known.index.meaning known.index.map) ∙ own_name all) in
-      (ap (λ (x : RecordName). x.page) same, ap (λ (x : RecordName). x.slot) same)
-
-  pub listed_missing : InMaps (hand items) (length items) (λ pages m. m row.relation row.key ≡ None) → AreListedAt items p s → ⊥
-  listed_missing none all = none_some (record { page = p; slot = s }) (sym (none (bytes_of items) (at_hand_all items) known.index.meaning known.index.map) ∙ own_name all)
-
 -- past the table nothing stands
-slot_past : (page : List ℕ) (i : ℕ) → count page ≤ i → slot page i ≡ None
+pub slot_past : (page : List ℕ) (i : ℕ) → count page ≤ i → slot page i ≡ None
 unfolding slot
 slot_past page i past = grind (arith, nat_tests)
 
@@ -135,18 +83,19 @@ listed_past items relations p s pages inside records past row is =
 -- ---- the index names records, and each record is listed
 
 -- an entry of a key that is found stands somewhere
-record Stands (r : ℕ) (k : List ℕ) (E : ℕ → Entry) (n : ℕ) : Type 0 where
+record Stands (r : ℕ) (k : List ℕ) (name : RecordName) (E : ℕ → Entry) (n : ℕ) : Type 0 where
   pub place : ℕ
   pub inside : place < n
   pub relation : (E place).relation ≡ r
   pub key : (E place).key ≡ k
+  pub named : (E place).name ≡ name
 
-stands_here : (page : List ℕ) (at n r : ℕ) (k : List ℕ) (name : RecordName) → look r k (entries_from page at n) ≡ Some name → Stands r k (λ i. entry_of (cell page (at + 70 * i))) n
+stands_here : (page : List ℕ) (at n r : ℕ) (k : List ℕ) (name : RecordName) → look r k (entries_from page at n) ≡ Some name → Stands r k name (λ i. entry_of (cell page (at + 70 * i))) n
 stands_here page at zero r k name is = absurd (none_some name is)
 stands_here page at (suc n) r k name is = go (is_at r k (entry_of (cell page at))) refl is (stands_here page (at + 70) n r k name)
   where
     go : (b : Bool) → is_at r k (entry_of (cell page at)) ≡ b → cond b (Some (entry_of (cell page at)).name) (look r k (entries_from page (at + 70) n)) ≡ Some name
-        → (look r k (entries_from page (at + 70) n) ≡ Some name → Stands r k (λ i. entry_of (cell page (at + 70 + 70 * i))) n) → Stands r k (λ i. entry_of (cell page (at + 70 * i))) (suc n)
+        → (look r k (entries_from page (at + 70) n) ≡ Some name → Stands r k name (λ i. entry_of (cell page (at + 70 + 70 * i))) n) → Stands r k name (λ i. entry_of (cell page (at + 70 * i))) (suc n)
     go true here found rec =
         let parts = at_parts r k (entry_of (cell page at)) here in
         let first : at + 70 * 0 ≡ at = omega arith in
@@ -155,6 +104,7 @@ stands_here page at (suc n) r k name is = go (is_at r k (entry_of (cell page at)
           inside = omega arith;
           relation = ap (λ (x : ℕ). (entry_of (cell page x)).relation) first ∙ parts.0;
           key = ap (λ (x : ℕ). (entry_of (cell page x)).key) first ∙ parts.1;
+          named = ap (λ (x : ℕ). (entry_of (cell page x)).name) first ∙ some_same (entry_of (cell page at)).name name found;
         }
     go false other found rec =
         let rest = rec found in
@@ -165,6 +115,7 @@ stands_here page at (suc n) r k name is = go (is_at r k (entry_of (cell page at)
           inside = omega (arith, lt);
           relation = ap (λ (x : ℕ). (entry_of (cell page x)).relation) next ∙ rest.relation;
           key = ap (λ (x : ℕ). (entry_of (cell page x)).key) next ∙ rest.key;
+          named = ap (λ (x : ℕ). (entry_of (cell page x)).name) next ∙ rest.named;
         }
 
 -- ---- tests
@@ -215,35 +166,37 @@ one_map total pages m n a b r k =
 
 -- ---- what the map names, an entry of a bucket page names
 
-record InChain (pages : PageBytes) (r : ℕ) (k : List ℕ) : Type 0 where
+record InChain (pages : PageBytes) (r : ℕ) (k : List ℕ) (name : RecordName) : Type 0 where
   pub page : ℕ
   pub bucket : kind pages page ≡ 2
-  pub name : RecordName
   pub here : look r k (entries (pages page)) ≡ Some name
 
-in_chain : (pages : PageBytes) (r : ℕ) (k : List ℕ) (ns : List ℕ) (name : RecordName) → Each (λ n. kind pages n ≡ 2) ns → look r k (entries_of (state_of pages).node ns) ≡ Some name → InChain pages r k
+in_chain : (pages : PageBytes) (r : ℕ) (k : List ℕ) (ns : List ℕ) (name : RecordName) → Each (λ n. kind pages n ≡ 2) ns → look r k (entries_of (state_of pages).node ns) ≡ Some name → InChain pages r k name
 in_chain pages r k [] name kinds is = absurd (none_some name is)
 in_chain pages r k (n ∷ ns) name kinds is = go (look r k (entries (pages n))) refl (in_chain pages r k ns name kinds.1)
   where
-    go : (o : Option RecordName) → look r k (entries (pages n)) ≡ o → (look r k (entries_of (state_of pages).node ns) ≡ Some name → InChain pages r k) → InChain pages r k
+    go : (o : Option RecordName) → look r k (entries (pages n)) ≡ o → (look r k (entries_of (state_of pages).node ns) ≡ Some name → InChain pages r k name) → InChain pages r k name
     go None none rest = rest (sym (look_past r k (entries (pages n)) (entries_of (state_of pages).node ns) none) ∙ is)
-    go (Some found) here rest = record { page = n; bucket = kinds.0; name = found; here = here }
+    go (Some found) here rest =
+        let whole = look_in r k (entries (pages n)) (entries_of (state_of pages).node ns) found here in
+        record { page = n; bucket = kinds.0; here = here ∙ sym whole ∙ is }
 
 -- the key's entry in a bucket page
-pub record HasEntry (pages : PageBytes) (r : ℕ) (k : List ℕ) : Type 0 where
+pub record HasEntry (pages : PageBytes) (r : ℕ) (k : List ℕ) (name : RecordName) : Type 0 where
   pub page : ℕ
   pub bucket : kind pages page ≡ 2
   pub place : ℕ
   pub inside : place < count_of (pages page)
   pub relation : (entry_at (pages page) place).relation ≡ r
   pub key : (entry_at (pages page) place).key ≡ k
+  pub named : (entry_at (pages page) place).name ≡ name
 
-pub has_entry : (total : ℕ) (pages : PageBytes) (m : Map) → AreMap total pages m → (r : ℕ) (k : List ℕ) (name : RecordName) → m r k ≡ Some name → HasEntry pages r k
+pub has_entry : (total : ℕ) (pages : PageBytes) (m : Map) → AreMap total pages m → (r : ℕ) (k : List ℕ) (name : RecordName) → m r k ≡ Some name → HasEntry pages r k name
 has_entry total pages m a r k name is =
     let s = state_of pages in
     let found = in_chain pages r k (a.index.tree.chain (named s (hash k))) name (a.index.tree.kinds (hash k)) (a.index.tree.map r k ∙ is) in
-    let e = stands_here (pages found.page) 8 (count_of (pages found.page)) r k found.name found.here in
-    record { page = found.page; bucket = found.bucket; place = e.place; inside = e.inside; relation = e.relation; key = e.key }
+    let e = stands_here (pages found.page) 8 (count_of (pages found.page)) r k name found.here in
+    record { page = found.page; bucket = found.bucket; place = e.place; inside = e.inside; relation = e.relation; key = e.key; named = e.named }
 
 -- ---- all of it
 

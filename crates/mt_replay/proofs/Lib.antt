@@ -11,3 +11,4 @@ pub mod Inverses
 pub mod Checked
 pub mod Areas
 pub mod Causes
+pub mod Naming

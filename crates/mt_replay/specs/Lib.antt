@@ -10,3 +10,4 @@ pub mod Stands
 pub mod Refused
 pub mod Checks
 pub mod Faults
+pub mod Naming

@@ -1,24 +1,31 @@
 // Whether all pages of a device break no rule of their formats, whatever their bytes are.
-ghost use Rattle.std.specs.Prelude.{◌≡◌, ◌⊎◌, ◌<◌, ◌≤◌, ℕ, length, IfOk, IfSome, MatchBool, MatchOption};
-ghost use Rattle.mt_bucket.specs.Page.{IsBucket};
+ghost use Rattle.std.specs.Prelude.{◌≡◌, ◌⊎◌, ◌+◌, ◌*◌, ◌<◌, ◌≤◌, ℕ, length, IfOk, IfSome, MatchBool, MatchOption};
+ghost use Rattle.mt_bucket.specs.Page.{count_of, IsBucket};
 ghost use Rattle.mt_index.specs.Checks.{bytes_of, IsSound};
 ghost use Rattle.mt_space.specs.Kinds.{kind};
 ghost use Rattle.mt_replay.specs.Memory.{AreWhole};
 ghost use Rattle.mt_replay.specs.Faults.{IsFaulty};
-ghost use Rattle.mt_replay.specs.Checks.{AreChecked, AreBroken, HasSchema, IsRecordPage, AreRecordPages, HasRecord, IsNamedWell, NamesRecords, AllNameRecords, AreListedAt, HasListed, AllAreListed, IsIndexed};
+ghost use Rattle.mt_replay.specs.Checks.{AreChecked, AreBroken, HasSchema, IsRecordPage, AreRecordPages, HasRecord, NamesRecords, AllNameRecords, AreListedAt, HasListed, AllAreListed, IsIndexed};
+ghost use Rattle.mt_replay.specs.Naming.{AreNamed, MarksNamed};
 
 use mt_base::limits::{MAX_VALUE_BYTES, relation_count_fits};
 use mt_base::{PageNo, RecordName, RelNo};
 use mt_bucket::{count, entry};
-use mt_index::{Find, plan_find};
 use mt_slots::get;
-use mt_space::Pages;
 use mt_space::pages::{BUCKET, COUNTERS, FIXED, MAP, RECORDS};
 use mt_steps::{SchemaSizes, sizes};
 use std::alloc::{AllocError, Global};
 
 // Slots of a page of records: each takes 4 bytes.
 const MAX_SLOTS: u16 = 1022;
+
+// The place of a slot among those of all pages.
+fn place_of(page: usize, slot: u16) -> usize
+    requires { page < 4096 }
+    ensures { result ≡ 1022 * page + slot }
+{
+    usize::from(MAX_SLOTS) * page + usize::from(slot)
+}
 
 /// All pages of a device in memory, of which nothing is known but that they are whole.
 #[derive(Drop)]
@@ -27,27 +34,6 @@ pub(crate) struct AllPages {
     ghost whole: { AreWhole pages.items },
     ghost some: { 16 ≤ length pages.items },
     ghost few: { length pages.items ≤ 4000 },
-}
-
-impl Pages for AllPages {
-    ghost use Rattle.std.specs.Prelude.{length, slice_get};
-    ghost use Rattle.mt_replay.specs.Memory.{whole_at};
-
-    ghost is_sound = { λ all. Unit {0} };
-
-    ghost total = { λ all. length all.pages.items };
-
-    ghost at_hand = { λ all p. slice_get all.pages.items p };
-
-    ghost whole = { λ all sound p bytes there. whole_at all.pages.items p bytes all.whole there };
-
-    fn count(&self) -> u16 {
-        self.pages.len() as u16
-    }
-
-    fn page(&self, page: PageNo) -> Option<&[u8; 4096]> {
-        self.pages.get(usize::from(page.get()))
-    }
 }
 
 impl AllPages {
@@ -120,21 +106,6 @@ impl AllPages {
         }
     }
 
-    // Whether the index names a record of this relation and key under them, if any.
-    fn is_named_well(&self, relation: RelNo, key: &[u8]) -> bool
-        requires known { (relations : ℕ) × IsIndexed self.now.pages.items relations }
-        requires short { length key.now ≤ 64 }
-        ensures { MatchBool result (IsNamedWell self.now.pages.items relation key.now)
-            (IsNamedWell self.now.pages.items relation key.now → ⊥) }
-    {
-        match plan_find(self, relation, key) {
-            Find::Found(name) => self.has_record(name, relation, key),
-            Find::Missing => true,
-            Find::Need(_, _) => unreachable!(),
-            Find::Endless => unreachable!(),
-        }
-    }
-
     // Whether each entry of a page names a record of its relation and key, if it is of a bucket.
     fn names_records(&self, page: usize) -> bool
         requires known { (relations : ℕ) × IsIndexed self.now.pages.items relations }
@@ -148,7 +119,7 @@ impl AllPages {
         let bytes = &self.pages[page];
         for i in 0..count(bytes) {
             let view = entry(bytes, i);
-            if !self.is_named_well(view.relation, view.key) {
+            if !self.has_record(view.name, view.relation, view.key) {
                 return false;
             }
         }
@@ -169,37 +140,60 @@ impl AllPages {
         None
     }
 
-    // Whether the index names the record of a slot by its name, if there is one.
-    fn is_listed(&self, page: usize, slot: u16) -> bool
+    // Marks the places of the slots that the entries of a bucket page name.
+    fn mark_named(&self, page: usize, marks: &mut Vec<bool>)
         requires known { (relations : ℕ) × IsIndexed self.now.pages.items relations }
+        requires names { AllNameRecords self.now.pages.items }
+        requires bucket { kind (bytes_of self.now.pages.items) page ≡ 2 }
+        requires inside { page < length self.now.pages.items }
+        requires size { length marks.old.items ≡ 1022 * length self.now.pages.items }
+        ensures { MarksNamed self.now.pages.items page
+            (count_of (bytes_of self.now.pages.items page)) marks.old.items marks.new.items }
+    {
+        let bytes = &self.pages[page];
+        for i in 0..count(bytes) {
+            let name = entry(bytes, i).name;
+            marks[place_of(usize::from(name.page.get()), name.slot)] = true;
+        }
+    }
+
+    // A mark for each slot of each page: whether an entry of a bucket page names it.
+    fn named_slots(&self, alloc: Global) -> Result<Vec<bool>, AllocError>
+        requires known { (relations : ℕ) × IsIndexed self.now.pages.items relations }
+        requires names { AllNameRecords self.now.pages.items }
+        ensures { IfOk result (λ marks. AreNamed self.now.pages.items (length self.now.pages.items) marks.items) }
+    {
+        let mut marks = vec![in alloc; false; usize::from(MAX_SLOTS) * self.pages.len()]?;
+        for page in 0..self.pages.len() {
+            if self.is_of_kind(page, BUCKET) {
+                self.mark_named(page, &mut marks);
+            }
+        }
+        Ok(marks)
+    }
+
+    // Whether the index names the record of a slot by its name, if there is one.
+    fn is_listed(&self, page: usize, slot: u16, marks: &[bool]) -> bool
+        requires known { (relations : ℕ) × IsIndexed self.now.pages.items relations }
+        requires names { AllNameRecords self.now.pages.items }
+        requires marked { AreNamed self.now.pages.items (length self.now.pages.items) marks.now }
         requires inside { page < length self.now.pages.items }
         requires records { kind (bytes_of self.now.pages.items) page ≡ 3 }
+        requires slot { slot < 1022 }
         ensures { MatchBool result (AreListedAt self.now.pages.items page slot)
             (AreListedAt self.now.pages.items page slot → ⊥) }
     {
-        let view = match get(&self.pages[page], slot) {
-            Some(view) => view,
-            None => return true,
-        };
-        match plan_find(self, view.relation, view.key) {
-            Find::Found(name) => {
-                if usize::from(name.page.get()) != page {
-                    return false;
-                }
-                if name.slot != slot {
-                    return false;
-                }
-                true
-            }
-            Find::Missing => false,
-            Find::Need(_, _) => unreachable!(),
-            Find::Endless => unreachable!(),
+        match get(&self.pages[page], slot) {
+            Some(_) => marks[place_of(page, slot)],
+            None => true,
         }
     }
 
     // Whether it names each record of a page by its name, if it is of records.
-    fn has_listed(&self, page: usize) -> bool
+    fn has_listed(&self, page: usize, marks: &[bool]) -> bool
         requires known { (relations : ℕ) × IsIndexed self.now.pages.items relations }
+        requires names { AllNameRecords self.now.pages.items }
+        requires marked { AreNamed self.now.pages.items (length self.now.pages.items) marks.now }
         requires inside { page < length self.now.pages.items }
         ensures { MatchBool result (HasListed self.now.pages.items page) (HasListed self.now.pages.items page → ⊥) }
     {
@@ -207,7 +201,7 @@ impl AllPages {
             return true;
         }
         for slot in 0..MAX_SLOTS {
-            if !self.is_listed(page, slot) {
+            if !self.is_listed(page, slot, marks) {
                 return false;
             }
         }
@@ -215,13 +209,15 @@ impl AllPages {
     }
 
     // The first page with a record that the index names otherwise, or not at all.
-    fn first_unlisted(&self) -> Option<PageNo>
-        requires { (relations : ℕ) × IsIndexed self.now.pages.items relations }
+    fn first_unlisted(&self, marks: &[bool]) -> Option<PageNo>
+        requires known { (relations : ℕ) × IsIndexed self.now.pages.items relations }
+        requires names { AllNameRecords self.now.pages.items }
+        requires marked { AreNamed self.now.pages.items (length self.now.pages.items) marks.now }
         ensures { MatchOption result (AllAreListed self.now.pages.items)
             (λ p. (p < length self.now.pages.items) × (HasListed self.now.pages.items p → ⊥)) }
     {
         for number in 0..self.pages.len() {
-            if !self.has_listed(number) {
+            if !self.has_listed(number, marks) {
                 return Some(PageNo::new(number as u16));
             }
         }
@@ -247,6 +243,7 @@ impl AllPages {
         if let Some(page) = self.first_misnaming() {
             return Ok(Some(page));
         }
-        Ok(self.first_unlisted())
+        let marks = self.named_slots(alloc)?;
+        Ok(self.first_unlisted(&marks))
     }
 }

@@ -35,6 +35,7 @@ use Rattle.mt_restart.specs.declared.beside.Beside.{Beside}
 use Rattle.mt_restart.specs.Recovered.{IsRecovered}
 use Rattle.mt_restart.specs.declared.recovering.Recovered.{Recovered}
 use Rattle.mt_restart.proofs.Restarting.{are_images}
+use Rattle.mt_restart.proofs.Staying.{long_of}
 
 -- a log has room behind its records
 some_room : (log : Log) → used log < area_size log
@@ -53,10 +54,7 @@ module _ {D : Type 0} (seen : D → List ℕ) (may : D → List ℕ → Type 0) 
   few = let fits = ruling_fits (seen device) (next_slot is.ruling) rules in let pages = fits.pages in let count = is.count in omega (arith, pages, count)
 
   pub long : 8192 + 4096 * length r.restored.pages.items ≤ length (seen device)
-  long = ⊎_elim
-      (λ (own : Rules (seen device) 0 4096 (next_slot is.ruling)). let size = own.own.long in let count = is.count in omega (arith, size, count))
-      (λ (own : Rules (seen device) 4096 0 (next_slot is.ruling)). let size = own.own.long in let count = is.count in omega (arith, size, count))
-      rules
+  long = let size = long_of (seen device) (next_slot is.ruling) rules in let count = is.count in omega (arith, size, count)
 
   pub apart : 8192 + 4096 * length r.restored.pages.items ≤ log_start r.log
   apart = let start = is.turned.next.start in let count = is.count in omega (arith, start, count)

@@ -72,11 +72,6 @@ read_other_area d c slot opening batches torn read =
       gives = gives_elsewhere start (area_size slot) slot.pages opening (carried (joined batches)) d c read.gives torn (inl (omega arith));
     }
 
--- the same, of a range within it
-pub read_other_within : (at n : ℕ) (d c : List ℕ) (slot : MasterSlot) (opening : ℕ → List ℕ) (batches : List (List Record))
-    → area_start (next_slot slot) ≤ at → at + n ≤ area_end (next_slot slot) → Torn at n d c → IsReadAs d slot opening batches → IsReadAs c slot opening batches
-read_other_within at n d c slot opening batches low high torn = read_other_area d c slot opening batches (torn_within at n (area_start (next_slot slot)) (area_size slot) d c torn low high)
-
 -- ---- the master slots
 
 -- an area holds these batches, which give the pages as at the opening, whichever slot rules

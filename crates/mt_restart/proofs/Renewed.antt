@@ -45,20 +45,11 @@ module _ {D : Type 0} (seen : D → List ℕ) (may : D → List ℕ → Type 0) 
     pub when_begun : LeavesOnly moment left_since w n (TornFrom (may w) at size) → LeavesOnly moment left_since o n Still
     when_begun left = runs_both moment left_since o w n Still (when_written written) (leaves_more moment left_since w n (TornFrom (may w) at size) Still left torn_still)
 
-    pub when_synced : (s : D) → LeavesOnly moment left_since w n (TornFrom (may w) at size) → Follows (Torn at size) (may w) (may n) → Elapses (moment n) (moment s) (left_since n) (left_since s) (may s) → ((c : List ℕ) → may s c → may n c) → LeavesOnly moment left_since o s Still
-    when_synced s left elsewhere time less = runs_both moment left_since o n s Still (when_begun left)
-        (leaves_more moment left_since n s (may n) Still (reads_on moment left_since may only_now n s time less) (λ c is. torn_still c (elsewhere c is)))
-
 -- ---- the next area, begun
 
 durable_one : (log : Log) (images : List Record) → durable_batches log ≡ images ∷ [] → durable log ≡ images
 unfolding durable durable_batches
 durable_one log images is = ap joined is ∙ append-nil images
-
--- a device that was only synced has the log as before
-pub on_synced : {D : Type 0} (seen : D → List ℕ) (may : D → List ℕ → Type 0) (log : Log) (n s : D) → IsOn seen may log n → seen s ≡ seen n → ((c : List ℕ) → may s c → may n c) → IsOn seen may log s
-on_synced seen may log n s on same less =
-    on_elsewhere seen may log n s 0 0 on (inr (omega arith)) (subst (Torn 0 0 (seen n)) (sym same) (torn_refl 0 0 (seen n))) (follows_less 0 0 (may n) (may s) less)
 
 pub next_log : {D : Type 0} (seen : D → List ℕ) (may : D → List ℕ → Type 0) (ruling : MasterSlot) (images : List Record) (device : D) (log : Log) → IsOn seen may log device → log_start log ≡ area_start (next_slot ruling) → log_size log ≡ area_size ruling
     → durable_batches log ≡ images ∷ [] → in_flight log ≡ [] → waiting log ≡ [] → used log ≡ 5 + length (body_text images) → IsSound ruling.pages log → IsNextLog seen may ruling images device log

@@ -9,6 +9,7 @@ use Rattle.mt_frame.specs.declared.slots.MasterSlot.{MasterSlot}
 use Rattle.mt_log.specs.Batch.{joined}
 use Rattle.mt_log.specs.Area.{TornFrom}
 use Rattle.mt_log.specs.Masters.{IsRuling, Rules}
+use Rattle.mt_log.proofs.Turns.{ruling_fits}
 use Rattle.mt_log.proofs.OneWay.{holds_one}
 use Rattle.mt_pool.specs.Kept.{carried}
 use Rattle.mt_pool.specs.Turns.{AreImaged}
@@ -25,29 +26,14 @@ pub torn_at : (may : List ℕ → Type 0) (at n at2 n2 : ℕ) (c : List ℕ) →
 torn_at may at n at2 n2 c same size left = subst (λ (k : ℕ). TornFrom may at2 k c) size (subst (λ (k : ℕ). TornFrom may k n c) same left)
 
 -- a slot that rules is one of this device
-pub slot_of : (c : List ℕ) (slot : MasterSlot) → IsRuling c slot → IsSlot slot
-slot_of c slot r = ⊎_elim (λ (first : Rules c 0 4096 slot). first.own.fits) (λ (second : Rules c 4096 0 slot). second.own.fits) r
-
 pub long_of : (c : List ℕ) (slot : MasterSlot) → IsRuling c slot → device_bytes_of slot.pages slot.mib ≤ length c
 long_of c slot r = ⊎_elim (λ (first : Rules c 0 4096 slot). first.own.long) (λ (second : Rules c 4096 0 slot). second.own.long) r
-
--- the next area ends within the device
-pub next_end : (slot : MasterSlot) → slot.area ≤ 1 → area_end (next_slot slot) ≤ device_bytes_of slot.pages slot.mib
-next_end slot one =
-    let size = area_size slot in
-    elim (cases_eq slot.area 0) [
-      | inl zero ↦ let other : (1 - slot.area) * size ≡ 1 * size = ap (λ (a : ℕ). (1 - a) * size) zero in omega (arith, other)
-      | inr some ↦
-          let second : slot.area ≡ 1 = omega (arith, one, some) in
-          let other : (1 - slot.area) * size ≡ 0 * size = ap (λ (a : ℕ). (1 - a) * size) second in
-          omega (arith, other)
-    ]
 
 module _ (ruling : MasterSlot) (items : List (List ℕ)) (m : Marks) (c0 : List ℕ) (batches : List (List Record)) (k : AreMarked c0 ruling items batches m) (opening : ℕ → List ℕ) (bs : List (List Record)) (read : IsReadAs c0 ruling opening bs) where
   -- the area holds one row of batches
   one_row : bs ≡ batches
   one_row =
-      let fits = slot_of c0 ruling k.rules in
+      let fits = ruling_fits c0 ruling k.rules in
       let small = fits.mib.1 in
       holds_one c0 (area_start ruling) (area_end ruling) ruling.pages bs batches (omega (arith, small)) read.held k.held
 

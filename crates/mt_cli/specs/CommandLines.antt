@@ -1,12 +1,18 @@
 -- The program's command line, in the words of the crate that reads it.
-use Rattle.std.specs.Prelude.{◌≡◌, ◌≢◌, Bool, true, false, codes, List, Option, Some, None, option_map, string_bytes}
-use Rattle.clap.specs.Words.{App, Row, Rule, Text, new_app, new_rule, with_rule, with_subcommand, first_of, subcommand_of, takes, kind_of, HasKind, IsAmong, Kinds, fault_of}
+use Rattle.std.specs.Prelude.{◌≡◌, ◌≢◌, ◌⊎◌, Any, Bool, true, false, codes, List, [], Option, Some, None, option_map, string_bytes, unwrap_or}
+use Rattle.clap.specs.Words.{App, Row, app_of, Rule, Text, new_app, new_rule, with_rule, with_subcommand, all_of, first_of, one_of, rule_of, subcommand_of, takes, kind_of, HasKind, IsAmong, Kinds, fault_of}
+use Rattle.clap.specs.declared.builder.action.ArgAction.TheVariants.{Append, SetTrue}
+use Rattle.clap.specs.declared.builder.arg.Arg.{Arg}
+use Rattle.clap.specs.declared.builder.command.Command.{Command as Parser}
+use Rattle.clap.specs.declared.builder.command.Command.TheViews.{out-Command}
 use Rattle.clap.specs.declared.error.Error.{Error}
 use Rattle.clap.specs.declared.error.kind.ErrorKind.{ErrorKind}
 use Rattle.clap.specs.declared.error.kind.ErrorKind.TheVariants.{OutOfMemory, DisplayHelp, DisplayVersion}
 use Rattle.mt_base.specs.declared.refusal.Refusal.TheVariants as refusal
+use Rattle.mt_cli.specs.Spelling.{AreCounters, IsNoCount, IsNoCounter, SpellsCount}
 use Rattle.mt_cli.specs.declared.command.Command.{Command}
-use Rattle.mt_cli.specs.declared.command.Command.TheVariants.{Try, Schedule, Show}
+use Rattle.mt_cli.specs.declared.command.Command.TheVariants.{Try, Schedule, Check, Format, Show}
+use Rattle.mt_cli.specs.declared.numbers.Numbers.{Numbers}
 use Rattle.mt_cli.specs.declared.command.CliFault.{CliFault}
 use Rattle.mt_cli.specs.declared.command.CliFault.TheVariants.{Usage, Refused}
 
@@ -24,12 +30,42 @@ file_rule = record (new_rule (codes "file")) { value_names = 1 }
 abbrev pub scheduling : App
 scheduling = with_rule (new_app (codes "schedule")) file_rule
 
+-- `check [--pages] FILE`
+abbrev pub pages_rule : Rule
+pages_rule = record (new_rule (codes "pages")) { long = Some (codes "pages"); action = Some SetTrue }
+
+abbrev pub required_rule : Text → Rule
+required_rule id = record (new_rule id) { value_names = 1; required = true }
+
+abbrev pub checking : App
+checking = with_rule (with_rule (new_app (codes "check")) pages_rule) (required_rule (codes "file"))
+
+-- `format FILE PAGES AREA RELATIONS [COUNTER..]`
+abbrev pub sizing : App
+sizing = with_rule (with_rule (with_rule (with_rule (new_app (codes "format")) (required_rule (codes "file"))) (required_rule (codes "pages"))) (required_rule (codes "area"))) (required_rule (codes "relations"))
+
+abbrev pub counter_rule : Rule
+counter_rule = record (new_rule (codes "counter")) { value_names = 1; action = Some Append }
+
+abbrev pub formatting : App
+formatting = with_rule sizing counter_rule
+
 -- `mtk`, whose words are those behind its name, one of them the command's name
 abbrev pub bare : App
 bare = record (new_app (codes "mtk")) { top = record (new_app (codes "mtk")).top { has_version = true; no_binary_name = true; subcommand_required = true } }
 
 abbrev pub program : App
-program = with_subcommand (with_subcommand bare trial.top) scheduling.top
+program = with_subcommand (with_subcommand (with_subcommand (with_subcommand bare trial.top) scheduling.top) checking.top) formatting.top
+
+-- a parser of this command line, none of whose arguments counts for others
+pub record Parses (app : App) (parser : Parser) : Type 0 where
+  pub shape : app_of parser ≡ app
+  pub local : (out-Command parser).has_globals ≡ false
+
+-- an argument of this rule that counts for its own command alone
+pub record IsRuledBy (by : Rule) (arg : Arg) : Type 0 where
+  pub rule : rule_of arg ≡ by
+  pub local : arg.global ≡ false
 
 -- the words are a command
 unfoldable pub fits : List Text → Bool
@@ -49,11 +85,64 @@ file_in (Some found) = first_of (codes "file") found.1
 abbrev pub name_in : Option (Text × List Row) → Option Text
 name_in entered = option_map (λ p. p.0) entered
 
--- what the words enter is `try` of this script, or `schedule` of this one, and no text to be shown
+-- the file that they must name
+abbrev pub device_in : Option (Text × List Row) → Text
+device_in entered = unwrap_or (file_in entered) []
+
+-- a flag that was found with this text, if it was found
+pub record IsFlag (text : Option Text) (set : Bool) : Type 0 where
+  pub given : text ≡ Some (codes "true") → set ≡ true
+  pub left_out : text ≡ Some (codes "false") → set ≡ false
+  pub none : text ≡ None → set ≡ false
+
+-- whether they ask for the pages
+abbrev pub pages_in : Option (Text × List Row) → Option Text
+pages_in None = None
+pages_in (Some found) = one_of (codes "pages") found.1
+
+-- the word of an argument that must be given, and those of the counters
+abbrev pub text_at : Text → List Row → Text
+text_at id rows = unwrap_or (first_of id rows) []
+
+abbrev pub counters_at : List Row → List Text
+counters_at rows = unwrap_or (all_of (codes "counter") rows) []
+
+-- they spell these numbers
+pub record AreNumbersAt (rows : List Row) (n : Numbers) : Type 0 where
+  pub pages : SpellsCount (text_at (codes "pages") rows) n.pages
+  pub area : SpellsCount (text_at (codes "area") rows) n.area
+  pub relations : SpellsCount (text_at (codes "relations") rows) n.relations
+  pub counters : AreCounters (counters_at rows) n.counters.items
+
+abbrev pub AreNumbersIn : Option (Text × List Row) → Numbers → Type 0
+AreNumbersIn None n = ⊥
+AreNumbersIn (Some found) n = AreNumbersAt found.1 n
+
+-- one of them spells no number, or no counter
+abbrev pub IsMisspelledAt : List Row → Type 0
+IsMisspelledAt rows = IsNoCount (text_at (codes "pages") rows) ⊎ IsNoCount (text_at (codes "area") rows) ⊎ IsNoCount (text_at (codes "relations") rows) ⊎ Any IsNoCounter (counters_at rows)
+
+abbrev pub IsMisspelled : Option (Text × List Row) → Type 0
+IsMisspelled None = ⊥
+IsMisspelled (Some found) = (found.0 ≡ codes "format") × IsMisspelledAt found.1
+
+-- neither `check` nor `format`
+abbrev pub IsRun : Text → Type 0
+IsRun name = (name ≢ codes "check") × (name ≢ codes "format")
+
+-- what the words enter is the command of its name, or else `try` of a script, and no text to be shown
 abbrev pub IsEntered : Option (Text × List Row) → Command → Type 0
-IsEntered entered (Try script) = (option_map string_bytes script ≡ script_in entered) × (name_in entered ≢ Some (codes "schedule"))
+IsEntered entered (Try script) = (option_map string_bytes script ≡ script_in entered) × (name_in entered ≢ Some (codes "schedule")) × (name_in entered ≢ Some (codes "check"))
+    × (name_in entered ≢ Some (codes "format"))
 IsEntered entered (Schedule file) = (option_map string_bytes file ≡ file_in entered) × (name_in entered ≡ Some (codes "schedule"))
+IsEntered entered (Check file pages) = (string_bytes file ≡ device_in entered) × IsFlag (pages_in entered) pages × (name_in entered ≡ Some (codes "check"))
+IsEntered entered (Format file numbers) = (string_bytes file ≡ device_in entered) × AreNumbersIn entered numbers × (name_in entered ≡ Some (codes "format"))
 IsEntered entered (Show text) = ⊥
+
+-- why words that the parser takes are not read: they are misspelled so, or memory was wanting
+abbrev pub IsMisread : Type 0 → CliFault → Type 0
+IsMisread misspelled (Usage text) = misspelled
+IsMisread misspelled (Refused why) = why ≡ refusal.NoMemory
 
 -- what keeps the words from being a command
 unfoldable pub faults : List Text → Kinds
@@ -67,18 +156,20 @@ IsMistake kind = (kind ≢ DisplayHelp) × (kind ≢ DisplayVersion)
 abbrev pub IsAsking : List Text → Type 0
 IsAsking words = (fits words ≡ false) × (kind : ErrorKind) × IsAmong kind (faults words) × (IsMistake kind → ⊥)
 
--- the words are no command, and a mistake keeps them from being one
+-- the words are no command, and a mistake keeps them from being one; or they are, and spell a number otherwise than a number is spelled
 abbrev pub IsMistaken : List Text → Type 0
-IsMistaken words = (fits words ≡ false) × (kind : ErrorKind) × IsAmong kind (faults words) × IsMistake kind
+IsMistaken words = ((fits words ≡ false) × (kind : ErrorKind) × IsAmong kind (faults words) × IsMistake kind) ⊎ IsMisspelled (subcommand_of program words)
 
 -- The words name this command: the one that they enter, with the file that they name, if they name one. A
 -- text is shown only where they wish for it.
 abbrev pub IsCommandOf : List Text → Command → Type 0
 IsCommandOf words (Try script) = IsEntered (subcommand_of program words) (Try script)
 IsCommandOf words (Schedule file) = IsEntered (subcommand_of program words) (Schedule file)
+IsCommandOf words (Check file pages) = IsEntered (subcommand_of program words) (Check file pages)
+IsCommandOf words (Format file numbers) = IsEntered (subcommand_of program words) (Format file numbers)
 IsCommandOf words (Show text) = IsAsking words
 
--- words that are a command are refused for want of memory alone
+-- words that are a command are refused for want of memory alone, but for a number that they misspell
 abbrev pub IsFaultOf : List Text → CliFault → Type 0
 IsFaultOf words (Usage text) = IsMistaken words
 IsFaultOf words (Refused why) = why ≡ refusal.NoMemory

@@ -1,6 +1,9 @@
+pub mod Checks
 pub mod CommandLines
 pub mod Events
 pub mod Folders
+pub mod Formattings
 pub mod Performs
+pub mod Spelling
 pub mod Tellings
 pub mod WholeEvents

@@ -12,16 +12,20 @@ use Rattle.mt_server.specs.declared.answers.Answer.{Answer}
 use Rattle.mt_server.specs.declared.lines.Line.{Line}
 use Rattle.mt_server.specs.declared.answers.Answer.TheVariants.{Refused as RefusedLine}
 use Rattle.mt_cli.specs.declared.command.Command.{Command}
-use Rattle.mt_cli.specs.declared.command.Command.TheVariants.{Try, Schedule, Show}
-use Rattle.mt_cli.specs.declared.performing.Fault.{Fault}
-use Rattle.mt_cli.specs.declared.performing.Fault.TheVariants.{Output, Refused}
+use Rattle.mt_cli.specs.declared.command.Command.TheVariants.{Try, Schedule, Check, Format, Show}
+use Rattle.mt_cli.specs.declared.numbers.Numbers.{Numbers}
+use Rattle.mt_cli.specs.declared.faults.Fault.{Fault}
+use Rattle.mt_cli.specs.declared.faults.Fault.TheVariants.{Output, Refused}
 use Rattle.mt_server.specs.declared.running.RunFault.{RunFault}
 use Rattle.mt_server.specs.declared.running.RunFault.TheVariants as run
 use Rattle.mt_server.specs.Answers.{AppendsFront, answer_text, transcript_text}
 use Rattle.mt_server.specs.Driven.{IsBeside}
 use Rattle.mt_server.specs.Plays.{Play, HasPlayed}
+use Rattle.mt_cli.specs.Checks.{HasChecked, IsUnchecked}
 use Rattle.mt_cli.specs.CommandLines.{IsCommandOf}
 use Rattle.mt_cli.specs.Events.{IsEvent, IsSchedule, event_text}
+use Rattle.mt_cli.specs.Folders.{AreKept, Files, IsUnmade, known_in}
+use Rattle.mt_cli.specs.Formattings.{Formats, IsUnformed}
 use Rattle.mt_cli.specs.Tellings.{told_lines}
 use Rattle.mt_server.specs.Grammars.{AreRefusedFor}
 use Rattle.mt_server.specs.Lines.{line_text, IsInGrammar}
@@ -88,24 +92,27 @@ module _ {L : Type 0} (text : L → List ℕ) (IsIn : L → Type 0) where
   IsUnread bytes why = IfSome bytes (λ bs. (why ≡ refusal.DeviceFailed) ⊎ AreRefusedFor text IsIn bs why)
 
 -- the bytes of a script or a schedule, where they are known: of the file of its name, or else of the input
-abbrev pub source_of : (List ℕ → Option (List ℕ)) → Option (List ℕ) → Option (List ℕ) → Option (List ℕ)
-source_of known None input = input
-source_of known (Some name) input = known name
+abbrev pub source_of : Files → Option (List ℕ) → Option (List ℕ) → Option (List ℕ)
+source_of files None input = input
+source_of files (Some name) input = known_in files name
 
-abbrev pub script_source : (List ℕ → Option (List ℕ)) → Command → Option (List ℕ) → Option (List ℕ)
-script_source known (Try script) input = source_of known (option_map string_bytes script) input
-script_source known (Schedule file) input = source_of known (option_map string_bytes file) input
-script_source known (Show text) input = None
+-- the folder's files before a command and behind it, and what of the input is known
+pub record Around : Type 0 where
+  pub before : Files
+  pub after : Files
+  pub input : Option (List ℕ)
 
--- what a command leaves on the output once it is done; the bytes are its script's or schedule's, where they are known
-abbrev pub IsDone : {D : Type 0} → Ghosts D → Command → Option (List ℕ) → Option (List ℕ) → Option (List ℕ) → Type 0
-IsDone g (Try script) bytes was now = IsTried bytes was now
-IsDone g (Schedule file) bytes was now = IsScheduled g bytes was now
-IsDone g (Show text) bytes was now = Appends was now (string_bytes text)
+-- what a command leaves on the output once it is done, and of the files
+abbrev pub IsDone : {D : Type 0} → Ghosts D → Command → Around → Option (List ℕ) → Option (List ℕ) → Type 0
+IsDone g (Try script) a was now = IsTried (source_of a.before (option_map string_bytes script) a.input) was now × AreKept a.before a.after
+IsDone g (Schedule file) a was now = IsScheduled g (source_of a.before (option_map string_bytes file) a.input) was now × AreKept a.before a.after
+IsDone g (Check file pages) a was now = HasChecked pages (known_in a.before (string_bytes file)) was now × AreKept a.before a.after
+IsDone g (Format file numbers) a was now = Formats numbers a.before a.after (string_bytes file) × Keeps was now
+IsDone g (Show text) a was now = Appends was now (string_bytes text) × AreKept a.before a.after
 
 -- and what the command that words name leaves there
-abbrev pub IsWordsDone : {D : Type 0} → Ghosts D → List (List ℕ) → (List ℕ → Option (List ℕ)) → Option (List ℕ) → Option (List ℕ) → Option (List ℕ) → Type 0
-IsWordsDone g words known input was now = (command : Command) × IsCommandOf words command × IsDone g command (script_source known command input) was now
+abbrev pub IsWordsDone : {D : Type 0} → Ghosts D → List (List ℕ) → Around → Option (List ℕ) → Option (List ℕ) → Type 0
+IsWordsDone g words a was now = (command : Command) × IsCommandOf words command × IsDone g command a was now
 
 -- the line that tells of a fault
 abbrev pub fault_line : Fault → List ℕ
@@ -117,10 +124,6 @@ abbrev pub IsTold : Option (List ℕ) → Option (List ℕ) → Type 0
 IsTold was now = (fault : Fault) × AppendsFront was now (fault_line fault)
 
 -- ---- a command that was not done
-
--- why the kernel of `try` is not made: memory was wanting, or its device failed
-abbrev pub IsUnmade : Refusal → Type 0
-IsUnmade why = (why ≡ refusal.NoMemory) ⊎ (why ≡ refusal.DeviceFailed)
 
 -- how a run ended is how its command does
 abbrev pub fault_of : RunFault → Fault
@@ -164,20 +167,27 @@ pub data IsUnscheduled {D : Type 0} (g : Ghosts D) (bytes was now : Option (List
   unheard : (events : List Event) (answers : List Told) → IfSome bytes (λ bs. IsSchedule bs events) → HaveRun g events answers
       → AppendsFront was now (told_lines answers) → IsUnscheduled g bytes was now Output
 
--- what a command that ended with this fault left on the output
-abbrev pub IsUndone : {D : Type 0} → Ghosts D → Command → Option (List ℕ) → Option (List ℕ) → Option (List ℕ) → Fault → Type 0
-IsUndone g (Try script) bytes was now fault = IsUntried bytes was now fault
-IsUndone g (Schedule file) bytes was now fault = IsUnscheduled g bytes was now fault
-IsUndone g (Show text) bytes was now fault = (fault ≡ Output) × AppendsFront was now (string_bytes text)
+-- why nothing was formatted of these numbers
+abbrev pub IsFormatFault : Numbers → Fault → Type 0
+IsFormatFault numbers Output = ⊥
+IsFormatFault numbers (Refused why) = IsUnformed numbers why
+
+-- what a command that ended with this fault left on the output, and of the files
+abbrev pub IsUndone : {D : Type 0} → Ghosts D → Command → Around → Option (List ℕ) → Option (List ℕ) → Fault → Type 0
+IsUndone g (Try script) a was now fault = IsUntried (source_of a.before (option_map string_bytes script) a.input) was now fault × AreKept a.before a.after
+IsUndone g (Schedule file) a was now fault = IsUnscheduled g (source_of a.before (option_map string_bytes file) a.input) was now fault × AreKept a.before a.after
+IsUndone g (Check file pages) a was now fault = IsUnchecked pages (known_in a.before (string_bytes file)) was now fault × AreKept a.before a.after
+IsUndone g (Format file numbers) a was now fault = IsFormatFault numbers fault × AreKept a.before a.after × Keeps was now
+IsUndone g (Show text) a was now fault = (fault ≡ Output) × AppendsFront was now (string_bytes text) × AreKept a.before a.after
 
 -- A command ended with a fault, or it was done and the output could not be flushed. The error output has a
 -- line that tells of it, or a beginning of that line.
-pub record IsGivenUp {D : Type 0} (g : Ghosts D) (command : Command) (bytes was now old new : Option (List ℕ)) : Type 0 where
-  pub given_up : (fault : Fault) × (mid : Option (List ℕ)) × (IsUndone g command bytes was mid fault ⊎ (IsDone g command bytes was mid × (fault ≡ Output)))
+pub record IsGivenUp {D : Type 0} (g : Ghosts D) (command : Command) (a : Around) (was now old new : Option (List ℕ)) : Type 0 where
+  pub given_up : (fault : Fault) × (mid : Option (List ℕ)) × (IsUndone g command a was mid fault ⊎ (IsDone g command a was mid × (fault ≡ Output)))
       × Keeps mid now × AppendsFront old new (fault_line fault)
 
 -- and so did the command that words name, or memory was wanting to read them
-abbrev pub IsWordsGivenUp : {D : Type 0} → Ghosts D → List (List ℕ) → (List ℕ → Option (List ℕ)) → Option (List ℕ) → Option (List ℕ) → Option (List ℕ) → Option (List ℕ) → Option (List ℕ) → Type 0
-IsWordsGivenUp g words known input was now old new =
-    ((command : Command) × IsCommandOf words command × IsGivenUp g command (script_source known command input) was now old new)
-    ⊎ (Keeps was now × AppendsFront old new (fault_line (Refused refusal.NoMemory)))
+abbrev pub IsWordsGivenUp : {D : Type 0} → Ghosts D → List (List ℕ) → Around → Option (List ℕ) → Option (List ℕ) → Option (List ℕ) → Option (List ℕ) → Type 0
+IsWordsGivenUp g words a was now old new =
+    ((command : Command) × IsCommandOf words command × IsGivenUp g command a was now old new)
+    ⊎ (Keeps was now × AppendsFront old new (fault_line (Refused refusal.NoMemory)) × AreKept a.before a.after)

@@ -2,12 +2,17 @@
 //! all of it runs in tests too; the program is one call of [`perform_words`].
 #![tactic(auto)]
 
+mod checking;
 mod command;
+mod faults;
 mod folder;
+mod formatting;
+mod numbers;
 mod performing;
 mod schedules;
 mod telling;
 
 pub use command::{CliFault, Command, command_of};
 pub use folder::{DiskFolder, Folder, MemFolder};
+pub use numbers::Numbers;
 pub use performing::{perform, perform_words};

@@ -4,12 +4,16 @@ ghost use Rattle.mt_disk.specs.Memory.{content};
 ghost use Rattle.mt_server.specs.Answers.{AppendsFront};
 ghost use Rattle.mt_server.specs.Grammars.{AreLines};
 ghost use Rattle.mt_cli.specs.CommandLines.{IsMistaken};
-ghost use Rattle.mt_cli.specs.declared.performing.Fault.{Fault};
-ghost use Rattle.mt_cli.specs.Performs.{IsFirstSchema, StandsFirst, HasTried, HaveRun, IsTried, IsScheduled, IsUnread, IsUnmade, IsCutTrial, IsUntried, IsUnscheduled, IsDone, IsUndone, IsWordsDone, IsGivenUp, IsWordsGivenUp, IsTold, source_of, script_source, fault_line};
+ghost use Rattle.mt_cli.specs.Folders.{AreKept, IsUnmade};
+ghost use Rattle.mt_cli.specs.declared.faults.Fault.{Fault};
+ghost use Rattle.mt_cli.specs.Performs.{IsFirstSchema, StandsFirst, HasTried, HaveRun, IsTried, IsScheduled, IsUnread, IsCutTrial, IsUntried, IsUnscheduled, IsDone, IsUndone, IsWordsDone, IsGivenUp, IsWordsGivenUp, IsTold, Around, source_of, fault_line};
 ghost use Rattle.std.specs.Io.KnownBytes.{Appends, Keeps};
 
+use crate::checking::perform_check;
 use crate::command::{CliFault, Command, command_of};
+use crate::faults::{Fault, tell};
 use crate::folder::Folder;
+use crate::formatting::perform_format;
 use crate::schedules::ScheduleGrammar;
 use crate::telling::write_all_told;
 use mt_base::Refusal;
@@ -17,8 +21,7 @@ use mt_base::limits::device_bytes;
 use mt_disk::{Device, MemDevice};
 use mt_restart::{Schema, fresh};
 use mt_server::{
-    Answer, Grammar, RunFault, Script, ScriptFault, ScriptGrammar, put, read_lines, run_alone,
-    write_answer,
+    Grammar, RunFault, Script, ScriptFault, ScriptGrammar, put, read_lines, run_alone,
 };
 use mt_txn::Kernel;
 use mt_world::{Event, run_schedule};
@@ -54,28 +57,6 @@ const WRITES: usize = 80;
 
 const WRITTEN_BYTES: usize = 8_400_000;
 
-/// Why `try` did not end well.
-#[derive(Drop)]
-enum Fault {
-    /// The output cannot be written.
-    Output,
-    /// What was asked for was refused.
-    Refused(Refusal),
-}
-
-/// What is told of an output that cannot be written.
-const NO_OUTPUT: &str = "the output cannot be written\n";
-
-/// Tells of a fault on the error output.
-fn tell<E: Write>(err: &mut E, fault: &Fault)
-    ensures { AppendsFront (E.contents err.old) (E.contents err.new) (fault_line fault.now) }
-{
-    let _ = match fault {
-        Fault::Output => put(err, NO_OUTPUT.as_bytes()),
-        Fault::Refused(refusal) => write_answer(err, &Answer::Refused(*refusal)),
-    };
-}
-
 /// The lines of the file of this name, or those on standard input where there is no name.
 fn lines_of<G: Grammar, F: Folder, I: Read>(
     alloc: Global,
@@ -84,10 +65,11 @@ fn lines_of<G: Grammar, F: Folder, I: Read>(
     input: &mut I,
 ) -> Result<Vec<G::Line>, Refusal>
     ensures lines { IfOk result (λ lines. IfSome
-        (source_of (F.known folder.old) (option_map (λ n. n.now) name.entry) (I.remaining input.old))
+        (source_of (F.files folder.old) (option_map (λ n. n.now) name.entry) (I.remaining input.old))
         (λ bytes. AreLines G.text G.IsIn bytes lines.items)) }
     ensures unread { IfErr result (IsUnread G.text G.IsIn
-        (source_of (F.known folder.old) (option_map (λ n. n.now) name.entry) (I.remaining input.old))) }
+        (source_of (F.files folder.old) (option_map (λ n. n.now) name.entry) (I.remaining input.old))) }
+    ensures kept { AreKept (F.files folder.old) (F.files folder.new) }
 {
     let read = match name {
         Some(name) => {
@@ -179,11 +161,12 @@ fn perform_try<F: Folder, I: Read, O: Write>(
     out: &mut O,
 ) -> Result<(), Fault>
     ensures tried { OnOk result (IsTried
-        (source_of (F.known folder.old) (option_map (λ n. n.now) name.entry) (I.remaining input.old))
+        (source_of (F.files folder.old) (option_map (λ n. n.now) name.entry) (I.remaining input.old))
         (O.contents out.old) (O.contents out.new)) }
     ensures untried { IfErr result (IsUntried
-        (source_of (F.known folder.old) (option_map (λ n. n.now) name.entry) (I.remaining input.old))
+        (source_of (F.files folder.old) (option_map (λ n. n.now) name.entry) (I.remaining input.old))
         (O.contents out.old) (O.contents out.new)) }
+    ensures kept { AreKept (F.files folder.old) (F.files folder.new) }
 {
     match lines_of::<ScriptGrammar, F, I>(alloc, folder, name, input) {
         Ok(lines) => try_script(alloc, &Script::new(lines), out),
@@ -229,11 +212,12 @@ fn perform_schedule<F: Folder, I: Read, O: Write>(
     out: &mut O,
 ) -> Result<(), Fault>
     ensures scheduled { OnOk result (IsScheduled ⟦<MemDevice as Device>⟧
-        (source_of (F.known folder.old) (option_map (λ n. n.now) name.entry) (I.remaining input.old))
+        (source_of (F.files folder.old) (option_map (λ n. n.now) name.entry) (I.remaining input.old))
         (O.contents out.old) (O.contents out.new)) }
     ensures unscheduled { IfErr result (IsUnscheduled ⟦<MemDevice as Device>⟧
-        (source_of (F.known folder.old) (option_map (λ n. n.now) name.entry) (I.remaining input.old))
+        (source_of (F.files folder.old) (option_map (λ n. n.now) name.entry) (I.remaining input.old))
         (O.contents out.old) (O.contents out.new)) }
+    ensures kept { AreKept (F.files folder.old) (F.files folder.new) }
 {
     let events = match lines_of::<ScheduleGrammar, F, I>(alloc, folder, name, input) {
         Ok(events) => events,
@@ -288,11 +272,11 @@ fn do_command<F: Folder, I: Read, O: Write>(
     out: &mut O,
 ) -> Result<(), Fault>
     ensures done { OnOk result (IsDone ⟦<MemDevice as Device>⟧ command.now
-        (script_source (F.known folder.old) command.now (I.remaining input.old)) (O.contents out.old)
-        (O.contents out.new)) }
+        (record { before = F.files folder.old; after = F.files folder.new; input = I.remaining input.old })
+        (O.contents out.old) (O.contents out.new)) }
     ensures undone { IfErr result (IsUndone ⟦<MemDevice as Device>⟧ command.now
-        (script_source (F.known folder.old) command.now (I.remaining input.old)) (O.contents out.old)
-        (O.contents out.new)) }
+        (record { before = F.files folder.old; after = F.files folder.new; input = I.remaining input.old })
+        (O.contents out.old) (O.contents out.new)) }
 {
     match command {
         Command::Try { script: Some(name) } => {
@@ -303,6 +287,15 @@ fn do_command<F: Folder, I: Read, O: Write>(
             perform_schedule(alloc, folder, Some(name.as_str()), input, out)
         }
         Command::Schedule { file: None } => perform_schedule(alloc, folder, None, input, out),
+        Command::Check { file, pages } => {
+            perform_check(alloc, folder, file.as_str(), *pages, out)
+        }
+        Command::Format { file, numbers } => {
+            match perform_format(alloc, folder, file.as_str(), numbers) {
+                Ok(()) => Ok(()),
+                Err(refusal) => Err(Fault::Refused(refusal)),
+            }
+        }
         Command::Show { text } => show(text.as_str(), out),
     }
 }
@@ -313,7 +306,8 @@ fn do_command<F: Folder, I: Read, O: Write>(
 /// - 1: it was refused, and the refusal's text is on `err`; or `out` could not be written. An input
 ///   that cannot be read, and a file that is not there or cannot be read, is refusal 2.
 ///
-/// A script or a schedule is read whole before any of it runs.
+/// A script or a schedule is read whole before any of it runs. A device is only read by `check`, and where `format` is
+/// refused each file is as it was.
 pub fn perform<F: Folder, I: Read, O: Write, E: Write>(
     alloc: Global,
     command: &Command,
@@ -323,12 +317,12 @@ pub fn perform<F: Folder, I: Read, O: Write, E: Write>(
     err: &mut E,
 ) -> u8
     ensures done { result ≡ 0 → IsDone ⟦<MemDevice as Device>⟧ command.now
-        (script_source (F.known folder.old) command.now (I.remaining input.old)) (O.contents out.old)
-        (O.contents out.new) × (err.new ≡ err.old) }
+        (record { before = F.files folder.old; after = F.files folder.new; input = I.remaining input.old })
+        (O.contents out.old) (O.contents out.new) × (err.new ≡ err.old) }
     ensures told { result ≢ 0 → (result ≡ 1) × IsTold (E.contents err.old) (E.contents err.new) }
     ensures given_up { result ≢ 0 → IsGivenUp ⟦<MemDevice as Device>⟧ command.now
-        (script_source (F.known folder.old) command.now (I.remaining input.old)) (O.contents out.old)
-        (O.contents out.new) (E.contents err.old) (E.contents err.new) }
+        (record { before = F.files folder.old; after = F.files folder.new; input = I.remaining input.old })
+        (O.contents out.old) (O.contents out.new) (E.contents err.old) (E.contents err.new) }
 {
     let done = do_command(alloc, command, folder, input, out);
     finish(done, out, err)
@@ -346,12 +340,14 @@ pub fn perform_words<F: Folder, I: Read, O: Write, E: Write>(
 ) -> u8
     ensures status { result ≤ 2 }
     ensures done { result ≡ 0 → IsWordsDone ⟦<MemDevice as Device>⟧ (map (λ word. word.now) words.now)
-        (F.known folder.old) (I.remaining input.old) (O.contents out.old) (O.contents out.new) }
+        (record { before = F.files folder.old; after = F.files folder.new; input = I.remaining input.old })
+        (O.contents out.old) (O.contents out.new) }
     ensures told { result ≡ 1 → IsTold (E.contents err.old) (E.contents err.new) }
     ensures given_up { result ≡ 1 → IsWordsGivenUp ⟦<MemDevice as Device>⟧ (map (λ word. word.now) words.now)
-        (F.known folder.old) (I.remaining input.old) (O.contents out.old) (O.contents out.new)
-        (E.contents err.old) (E.contents err.new) }
-    ensures misused { result ≡ 2 → IsMistaken (map (λ word. word.now) words.now) × (out.new ≡ out.old) }
+        (record { before = F.files folder.old; after = F.files folder.new; input = I.remaining input.old })
+        (O.contents out.old) (O.contents out.new) (E.contents err.old) (E.contents err.new) }
+    ensures misused { result ≡ 2 → IsMistaken (map (λ word. word.now) words.now) × (out.new ≡ out.old)
+        × (folder.new ≡ folder.old) }
 {
     match command_of(alloc, words) {
         Ok(command) => perform(alloc, &command, folder, input, out, err),

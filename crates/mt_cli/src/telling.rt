@@ -16,7 +16,7 @@ use mt_world::Answer;
 use std::io::Write;
 
 /// Writes a line of a word and the number behind it.
-fn write_number<W: Write>(writer: &mut W, word: &str, number: u64) -> Result<(), Unheard>
+pub(crate) fn write_number<W: Write>(writer: &mut W, word: &str, number: u64) -> Result<(), Unheard>
     ensures all { OnOk result (Appends (W.contents writer.old) (W.contents writer.new)
         (word.now ++ (decimal number ++ 10 ∷ []))) }
     ensures front { OnErr result (AppendsFront (W.contents writer.old) (W.contents writer.new)

@@ -2,8 +2,9 @@ use Rattle.std.proofs.Common.{◌≡◌, ◌∙◌, refl, ap, subst, true, List,
 use Rattle.clap.specs.Words.{App, Text, is_simple, is_simple_and_free, takes, subcommand_of, fault_of, HasKind}
 use Rattle.clap.specs.declared.error.Error.{Error}
 use Rattle.clap.proofs.OnLiterals.{clap_on_literals}
-use Rattle.mt_cli.specs.CommandLines.{program, fits, faults, IsEntered}
-use Rattle.mt_cli.proofs.Endings.{command_at}
+use Rattle.std.proofs.lemmas.Result.{IfErr-weaker, IfOk-weaker}
+use Rattle.mt_cli.specs.CommandLines.{program, fits, faults, IsEntered, IsMisread, IsMisspelled}
+use Rattle.mt_cli.proofs.CommandLemmas.{command_at, fault_at}
 use Rattle.mt_cli.proofs.command.command_of.Goals as goal
 
 program_is_simple : is_simple program ≡ true
@@ -22,12 +23,19 @@ at_fault : (app : App) (words : List Text) → app ≡ program → fits words �
 unfolding fits
 at_fault app words is fit = ap (λ (a : App). takes a words) is ∙ fit
 
-pub returns-in_ok-command-in-Ok-clause-command : goal.returns-in_ok-command-in-Ok-clause-command
-returns-in_ok-command-in-Ok-clause-command c =
+pub returns-in-Ok-clause-command : goal.returns-in-Ok-clause-command
+returns-in-Ok-clause-command c =
     let words = map (λ word. word.now) c.args.words.now in
     let has = c.in-Ok.ensures.matches (ap is_simple c.in_ok-parser.ensures ∙ program_is_simple) in
     let found = has.1 ∙ ap (λ (a : App). subcommand_of a words) c.in_ok-parser.ensures in
-    command_at words c.in_ok-command-in-Ok.command (subst (λ e. IsEntered e c.in_ok-command-in-Ok.command) found c.in_ok-command-in-Ok.ensures)
+    IfOk-weaker c.entered.result _ _ (λ command e. command_at words command (subst (λ x. IsEntered x command) found e)) c.entered.ensures.command
+
+pub returns-in-Ok-clause-fault : goal.returns-in-Ok-clause-fault
+returns-in-Ok-clause-fault c =
+    let words = map (λ word. word.now) c.args.words.now in
+    let has = c.in-Ok.ensures.matches (ap is_simple c.in_ok-parser.ensures ∙ program_is_simple) in
+    let found = has.1 ∙ ap (λ (a : App). subcommand_of a words) c.in_ok-parser.ensures in
+    IfErr-weaker c.entered.result _ _ (λ fault m. fault_at words fault (subst (λ x. IsMisread (IsMisspelled x) fault) found m)) c.entered.ensures.fault
 
 pub returns-in-Err-clause-command : goal.returns-in-Err-clause-command
 returns-in-Err-clause-command c =

@@ -23,7 +23,7 @@ returns-in_err-text-clause-fault c = λ words at.
 pub returns-then-use_stderr-clause-fault : goal.returns-then-use_stderr-clause-fault
 returns-then-use_stderr-clause-fault c = λ words at.
     let other : kind_of c.args.error.now ≢ OutOfMemory = λ e. search rules in
-    (no_command (kind_of c.args.error.now) (fits words) at.passes other, kind_of c.args.error.now, among _ (faults words) at.kind other, search rules)
+    inl (no_command (kind_of c.args.error.now) (fits words) at.passes other, kind_of c.args.error.now, among _ (faults words) at.kind other, search rules)
 
 pub returns-else-use_stderr-clause-command : goal.returns-else-use_stderr-clause-command
 returns-else-use_stderr-clause-command c = λ words at.

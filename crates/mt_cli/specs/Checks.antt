@@ -1,0 +1,78 @@
+-- What `check` tells of a device.
+use Rattle.std.specs.Prelude.{ℕ, ◌≡◌, ◌⊎◌, Bool, true, false, List, [], ◌∷◌, ◌++◌, Option, IfSome, codes}
+use Rattle.std.specs.Borrow.{Bor}
+use Rattle.std.specs.Fmt.{decimal}
+use Rattle.std.specs.List.{concat}
+use Rattle.std.specs.Io.KnownBytes.{Appends, Keeps}
+use Rattle.mt_base.specs.declared.refusal.Refusal.{Refusal}
+use Rattle.mt_op.specs.declared.surveying.Survey.{Survey}
+use Rattle.mt_replay.specs.Refused.{BreaksFormat, BreaksLog, IsCause}
+use Rattle.mt_restart.specs.Inspected.{IsInspected}
+use Rattle.mt_restart.specs.Reported.{IsReport}
+use Rattle.mt_restart.specs.declared.told.Report.{Report}
+use Rattle.mt_server.specs.Answers.{AppendsFront}
+use Rattle.mt_cli.specs.Folders.{IsFileRefusal}
+use Rattle.mt_cli.specs.declared.faults.Fault.{Fault}
+use Rattle.mt_cli.specs.declared.faults.Fault.TheVariants.{Output, Refused}
+
+-- ---- what is printed
+
+-- a line of a word and the number behind it
+abbrev pub number_line : List ℕ → ℕ → List ℕ
+number_line word n = word ++ (decimal n ++ 10 ∷ [])
+
+abbrev pub figure_line : Bor (List ℕ) × ℕ → List ℕ
+figure_line f = number_line f.0.now f.1
+
+-- a line for each figure of a report
+abbrev pub report_text : Report → List ℕ
+report_text r = concat (number_line (codes "epoch ") r.epoch ∷ number_line (codes "area ") r.area ∷ number_line (codes "batches ") r.batches ∷ number_line (codes "records ") r.records
+    ∷ number_line (codes "commits ") r.commits ∷ [])
+
+-- the last line, where the pages were looked at
+abbrev pub pages_text : Bool → List ℕ
+pages_text true = codes "pages ok\n"
+pages_text false = []
+
+abbrev pub check_text : Bool → Report → List ℕ
+check_text pages r = report_text r ++ pages_text pages
+
+-- ---- of which bytes
+
+-- they are inspected: they are of some schema, and hold a base
+abbrev pub IsSurveyed : List ℕ → Type 0
+IsSurveyed c = (survey : Survey) × IsInspected c survey
+
+-- the report is that of these bytes, which are inspected where that was asked for
+pub record Tells (pages : Bool) (c : List ℕ) (report : Report) : Type 0 where
+  pub log : IsReport c report
+  pub pages_too : pages ≡ true → IsSurveyed c
+
+-- why these bytes are refused: with pages for what breaks the format, and else for what breaks the log
+abbrev pub IsRefusedFor : Bool → List ℕ → Refusal → Type 0
+IsRefusedFor true c why = IsCause BreaksFormat c (Unit {0}) why
+IsRefusedFor false c why = IsCause BreaksLog c (Unit {0}) why
+
+-- ---- of which file
+
+-- these bytes are those of the file, where they are known
+abbrev pub IsOf : Option (List ℕ) → List ℕ → Type 0
+IsOf bytes c = IfSome bytes (λ held. c ≡ held)
+
+abbrev pub TellsOf : Bool → Option (List ℕ) → Report → Type 0
+TellsOf pages bytes report = (c : List ℕ) × IsOf bytes c × Tells pages c report
+
+-- why nothing is told of a file: it is not opened, or its bytes are refused
+abbrev pub IsUntold : Bool → Option (List ℕ) → Refusal → Type 0
+IsUntold pages bytes why = IsFileRefusal bytes why ⊎ ((c : List ℕ) × IsOf bytes c × IsRefusedFor pages c why)
+
+-- the lines of such a report were written
+pub record HasChecked (pages : Bool) (bytes was now : Option (List ℕ)) : Type 0 where
+  pub report : Report
+  pub of : TellsOf pages bytes report
+  pub told : Appends was now (check_text pages report)
+
+-- why a check did not end well: nothing is written where nothing is told, and else the output failed within the lines
+pub data IsUnchecked (pages : Bool) (bytes was now : Option (List ℕ)) : Fault → Type 0 where
+  untold : (why : Refusal) → IsUntold pages bytes why → Keeps was now → IsUnchecked pages bytes was now (Refused why)
+  unheard_check : (report : Report) → TellsOf pages bytes report → AppendsFront was now (check_text pages report) → IsUnchecked pages bytes was now Output

@@ -1,0 +1,77 @@
+// `format`: a device that is made in a file.
+ghost use Rattle.std.specs.Prelude.{IfErr, IfOk, MatchOption, OnErr, OnOk};
+ghost use Rattle.mt_cli.specs.Folders.{AreKept, IsUnmade};
+ghost use Rattle.mt_cli.specs.Formattings.{AreNarrow, AreWithin, Formats, IsSchemaOf, IsUnformed, IsUnmadeOf, PutsFormatted};
+
+use crate::folder::Folder;
+use crate::numbers::Numbers;
+use mt_base::Refusal;
+use mt_restart::{Schema, format};
+use std::alloc::Global;
+
+/// Pages, MiB of a log area and relations, where each fits its type.
+fn narrowed(numbers: &Numbers) -> Option<(u16, u8, u16)>
+    ensures { MatchOption result (¬ AreWithin numbers.now) (AreNarrow numbers.now) }
+{
+    let Ok(pages) = u16::try_from(numbers.pages) else {
+        return None;
+    };
+    let Ok(area) = u8::try_from(numbers.area) else {
+        return None;
+    };
+    match u16::try_from(numbers.relations) {
+        Ok(relations) => Some((pages, area, relations)),
+        Err(_) => None,
+    }
+}
+
+/// The schema of these numbers. Refused by `BadLength` where one is outside its limits, and by `NoMemory`.
+fn schema_of(alloc: Global, numbers: &Numbers) -> Result<Schema, Refusal>
+    ensures schema { IfOk result (IsSchemaOf numbers.now) }
+    ensures cause { IfErr result (IsUnmadeOf numbers.now) }
+{
+    match narrowed(numbers) {
+        Some((pages, area, relations)) => Schema::new(
+            alloc,
+            pages,
+            area,
+            relations,
+            numbers.counters.as_slice(),
+        ),
+        None => Err(Refusal::BadLength),
+    }
+}
+
+/// Makes a device of a schema, and puts it in the place of this name once it is formatted. Where that fails, it is let
+/// go.
+fn put_formatted<F: Folder>(folder: &mut F, name: &str, schema: &Schema) -> Result<(), Refusal>
+    ensures put { OnOk result (PutsFormatted schema.now (F.files folder.old) (F.files folder.new) name.now) }
+    ensures why { IfErr result IsUnmade }
+    ensures err { OnErr result (AreKept (F.files folder.old) (F.files folder.new)) }
+{
+    let mut device = folder.make(name, schema.device_len())?;
+    match format(&mut device, schema) {
+        Ok(()) => folder.install(name, device),
+        Err(refusal) => {
+            folder.discard(name, device);
+            Err(refusal)
+        }
+    }
+}
+
+/// Does `format`: makes a device of the schema of these numbers in the file of this name, or in its place. Refused by
+/// `BadLength` if and only if a number is outside its limits, before any file is made; by `NoMemory`; and by
+/// `DeviceFailed` where the file cannot be made or written. The folder is then as before.
+pub(crate) fn perform_format<F: Folder>(
+    alloc: Global,
+    folder: &mut F,
+    name: &str,
+    numbers: &Numbers,
+) -> Result<(), Refusal>
+    ensures formatted { OnOk result (Formats numbers.now (F.files folder.old) (F.files folder.new) name.now) }
+    ensures cause { IfErr result (IsUnformed numbers.now) }
+    ensures err { OnErr result (AreKept (F.files folder.old) (F.files folder.new)) }
+{
+    let schema = schema_of(alloc, numbers)?;
+    put_formatted(folder, name, &schema)
+}

@@ -1,0 +1,10 @@
+//! The tests of the commands on devices in files, through the public call of the command line: what they print, with
+//! which status, and what they leave in a folder in memory.
+#![tactic(auto)]
+
+#[cfg(test)]
+mod checks;
+#[cfg(test)]
+mod formats;
+#[cfg(test)]
+mod running;

@@ -1,0 +1,37 @@
+// Commands that are run over a folder in memory.
+use mt_base::Refusal;
+use mt_cli::{Folder, MemFolder, perform_words};
+use std::alloc::Global;
+
+/// The words of a format for the schema of the worked rows.
+pub const FORMAT: [&str; 6] = ["format", "b", "64", "4", "2", "c0:10:5"];
+
+/// Whether `mtk` with these words over this folder ends with this status, and writes just this.
+pub fn leaves(
+    alloc: Global,
+    folder: &mut MemFolder,
+    words: &[&str],
+    status: u8,
+    out: &[u8],
+    err: &[u8],
+) -> bool {
+    let mut written = Vec::new(alloc);
+    let mut told = Vec::new(alloc);
+    let mut input: &[u8] = b"";
+    let ended = perform_words(alloc, words, folder, &mut input, &mut written, &mut told);
+    ended == status && written.as_slice() == out && told.as_slice() == err
+}
+
+/// The bytes of the file `b` of this folder.
+pub fn file(folder: &mut MemFolder) -> Result<Vec<u8>, Refusal> {
+    folder.script("b")
+}
+
+/// A device that was just formatted, as the bytes of its file.
+pub fn formatted(alloc: Global) -> Result<Vec<u8>, Refusal> {
+    let mut folder = MemFolder::new(alloc);
+    if !leaves(alloc, &mut folder, &FORMAT, 0, b"", b"") {
+        return Err(Refusal::NotFormatted);
+    }
+    file(&mut folder)
+}

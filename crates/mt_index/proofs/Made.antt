@@ -1,5 +1,5 @@
 -- Pages that pass every look are an index.
-use Rattle.std.proofs.Common.{◌≡◌, ◌≢◌, ℕ, suc, zero, ◌<◌, ◌≤◌, ◌%◌, ◌^◌, ◌==◌, Bool, cond, List, [], ◌∷◌, ◌++◌, length, get_or, None, refl, ap, sym, ◌∙◌, subst, arith}
+use Rattle.std.proofs.Common.{◌≡◌, ℕ, suc, zero, ◌<◌, ◌≤◌, ◌%◌, ◌^◌, ◌==◌, Bool, cond, List, [], ◌∷◌, ◌++◌, length, get_or, None, refl, ap, sym, ◌∙◌, subst, arith}
 use Rattle.std.proofs.lemmas.Nat.{mod_below, pow_pos}
 use Rattle.std.proofs.lemmas.Bool.{eq-eqb, ne_eqb}
 use Rattle.mt_bucket.specs.Entries.{look}
@@ -11,15 +11,14 @@ use Rattle.mt_index.specs.Maps.{Each, Once, Agree}
 use Rattle.mt_index.specs.Buckets.{lookup}
 use Rattle.mt_index.specs.Index.{Node, State, named, Linked, IsTree, entries_of}
 use Rattle.mt_index.specs.Pages.{depth_in, pointer_at, node_of, state_of, IsDirectory, IsOn}
-use Rattle.mt_index.specs.Checks.{IsSound, AreKinds, AreBuckets, ArePointers, IsMember, IsMarked, AreMarked, IsFinite, IsSettled, entry_at}
+use Rattle.mt_index.specs.Checks.{IsSound, AreKinds, AreBuckets, ArePointers, IsMember, IsMarked, AreMarked, IsSettled, entry_at}
 use Rattle.mt_index.proofs.Lists.{each_map}
 use Rattle.mt_index.proofs.Bits.{high_low, agree_from_mod, mod_from_agree}
-use Rattle.mt_index.proofs.Chains.{linked_at, entries_parts}
-use Rattle.mt_index.proofs.Keeping.{walk_splits}
+use Rattle.mt_index.proofs.Chains.{entries_parts}
 use Rattle.mt_index.proofs.Pigeons.{short, chain_distinct}
 use Rattle.mt_index.proofs.Pointers.{named_is, pointers_length}
 use Rattle.mt_index.proofs.Passing.{entries_length}
-use Rattle.mt_index.proofs.Listing.{each_listed, once_listed, each_append, each_behind, lacks_both}
+use Rattle.mt_index.proofs.Listing.{each_listed, once_listed, each_append, lacks_both}
 use Rattle.mt_index.proofs.Sounds.{named_pointer, pointer_real, page_entries}
 
 abbrev nodes : PageBytes → ℕ → Node
@@ -166,16 +165,3 @@ made_sound relations total pages homes kinds directory buckets pointers marked s
       where
         small : (n : ℕ) → length (entries (pages n)) ≤ 58
         small n = omega (arith, entries_length (pages n) 8 (count_of (pages n)))
-
--- the chain behind a bucket page comes to an end
-pub marked_finite : (total : ℕ) (pages : PageBytes) (homes : List ℕ) (done p : ℕ) → AreKinds total pages → AreMarked pages homes done → get_or homes p 0 ≢ 0 → IsFinite total pages (next_of (pages p))
-marked_finite total pages homes done p kinds marked some = go (marked.back p some)
-  where
-    go : (i : ℕ) × (i < done) × (get_or homes p 0 ≡ pointer_at (pages 1) i) × IsOn pages (pointer_at (pages 1) i) p → IsFinite total pages (next_of (pages p))
-    go (i, lt, same, on) =
-        let m = marked.each i lt in
-        let parts = walk_splits (nodes pages) (pointer_at (pages 1) i) on.front p m.chain on.walk on.real m.linked in
-        let rest = (linked_at (nodes pages) (pointer_at (pages 1) i) on.front p parts.0 (subst (Linked (nodes pages) (pointer_at (pages 1) i)) parts.1 m.linked)).2 in
-        let members = (each_behind (IsMember pages homes (pointer_at (pages 1) i)) on.front (p ∷ parts.0) (subst (Each (IsMember pages homes (pointer_at (pages 1) i))) parts.1 m.each)).1 in
-        let within = each_map (IsMember pages homes (pointer_at (pages 1) i)) (λ n. n < total) (λ n member. kinds.within n (λ z. let w : kind pages n ≡ 0 = z in let two = member.kind in omega (arith, two, w))) parts.0 members in
-        record { chain = parts.0; linked = rest; within = within; few = short total parts.0 within (chain_distinct (nodes pages) (next_of (pages p)) parts.0 rest) }

@@ -9,15 +9,10 @@ use Rattle.mt_index.specs.Maps.{Each}
 use Rattle.mt_index.specs.Index.{Node, Linked}
 use Rattle.mt_index.specs.Steps.{Walk}
 use Rattle.mt_index.specs.Pages.{pointer_at, node_of, IsOn}
-use Rattle.mt_index.specs.Checks.{IsMember, IsMarked, AreMarked, Marks, IsStuck, CannotFollow}
+use Rattle.mt_index.specs.Checks.{IsMember, IsMarked, AreMarked, Marks, IsStuck, CannotFollow, IsIn}
 use Rattle.mt_index.proofs.Lists.{each_map}
 use Rattle.mt_index.proofs.Overflow.{each_push}
 use Rattle.mt_index.proofs.Looking.{walk_more}
-
--- a number stands in a list
-abbrev pub IsIn : ℕ → List ℕ → Type 0
-IsIn n [] = ⊥
-IsIn n (x ∷ xs) = (x ≡ n) ⊎ IsIn n xs
 
 pub in_push : (n : ℕ) (xs : List ℕ) (x : ℕ) → IsIn n xs → IsIn n (xs ++ x ∷ [])
 in_push n [] x is = elim is [ ]

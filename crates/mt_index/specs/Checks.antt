@@ -1,7 +1,11 @@
 -- What a reading of any pages finds out: whether they are an index, each byte of it.
-use Rattle.std.specs.Prelude.{ℕ, ◌≡◌, ◌≢◌, ◌⊎◌, ◌+◌, ◌*◌, ◌^◌, ◌%◌, ◌≤◌, ◌<◌, List, [], length, None}
+use Rattle.std.specs.Prelude.{ℕ, ◌≡◌, ◌≢◌, ◌⊎◌, ◌+◌, ◌*◌, ◌^◌, ◌%◌, ◌≤◌, ◌<◌, true, List, [], ◌∷◌, length, Option, Some, None}
 use Rattle.std.proofs.Math.ListN.{get_or}
-use Rattle.mt_bucket.specs.Entries.{Entry, look}
+use Rattle.std.specs.Borrow.{Bor}
+use Rattle.std.specs.Cmp.Lexicographic.{slice_cmp}
+use Rattle.std.specs.Ordering.{nat_cmp, ordering_then}
+use Rattle.std.specs.BTreeMap.{BTreeMap, get_by}
+use Rattle.mt_bucket.specs.Entries.{Entry, is_at, look}
 use Rattle.mt_bucket.specs.Hash.{hash}
 use Rattle.mt_bucket.specs.Page.{depth_of, next_of, count_of, cell, entry_of, entries, IsBucket, IsFirst}
 use Rattle.mt_space.specs.Changes.{PageBytes}
@@ -105,7 +109,51 @@ pub record IsAlone (pages : PageBytes) (home p i : ℕ) : Type 0 where
   pub first : IsFirst (entry_at (pages p) i).relation (entry_at (pages p) i).key (pages p) i
   pub behind : LacksFrom pages (next_of (pages p)) (entry_at (pages p) i).relation (entry_at (pages p) i).key
 
+-- each entry of the page is
+abbrev pub AreAlone : PageBytes → ℕ → ℕ → Type 0
+AreAlone pages home p = (i : ℕ) → i < count_of (pages p) → IsAlone pages home p i
+
 -- a page stands in a bucket, and so does each of its entries
 pub record IsSettled (pages : PageBytes) (homes : List ℕ) (p : ℕ) : Type 0 where
   pub home : get_or homes p 0 ≢ 0
-  pub each : (i : ℕ) → i < count_of (pages p) → IsAlone pages (get_or homes p 0) p i
+  pub each : AreAlone pages (get_or homes p 0) p
+
+-- a bucket page stands in a bucket, and where that begins with it, all pages there are settled
+pub record IsBegun (pages : PageBytes) (homes : List ℕ) (p : ℕ) : Type 0 where
+  pub home : get_or homes p 0 ≢ 0
+  pub bucket : get_or homes p 0 ≡ p → (n : ℕ) → get_or homes n 0 ≡ p → IsSettled pages homes n
+
+abbrev pub Settles : PageBytes → List ℕ → ℕ → Type 0
+Settles pages homes p = kind pages p ≡ 2 → IsBegun pages homes p
+
+-- ---- a walk along a bucket, which notes the page of each relation and key
+
+-- the page that is noted of a relation and a key
+abbrev pub holder_in : BTreeMap (ℕ × Bor (List ℕ)) ℕ → ℕ → List ℕ → Option ℕ
+holder_in holders r k = get_by (λ q. ordering_then (nat_cmp r q.0) (slice_cmp nat_cmp k q.1.now)) holders
+
+-- a number stands in a list
+abbrev pub IsIn : ℕ → List ℕ → Type 0
+IsIn n [] = ⊥
+IsIn n (x ∷ xs) = (x ≡ n) ⊎ IsIn n xs
+
+-- an entry is past: one of a page before this one, or one of the first i of this one
+abbrev pub IsPast : PageBytes → List ℕ → ℕ → ℕ → ℕ → ℕ → Type 0
+IsPast pages front at i n j = (IsIn n front × (j < count_of (pages n))) ⊎ ((n ≡ at) × (j < i))
+
+-- an entry is in the bucket of its hash, no other of its page before it has its key, and its page is noted
+pub record IsNoted (pages : PageBytes) (b : ℕ) (holders : ℕ → List ℕ → Option ℕ) (n j : ℕ) : Type 0 where
+  pub own : pointer_at (pages 1) (hash (entry_at (pages n) j).key % 2 ^ depth_in (pages 1)) ≡ b
+  pub first : IsFirst (entry_at (pages n) j).relation (entry_at (pages n) j).key (pages n) j
+  pub page : holders (entry_at (pages n) j).relation (entry_at (pages n) j).key ≡ Some n
+
+-- the walk along the bucket b has passed some pages, and the first i entries of the next one; just these are noted
+pub record ArePassed (pages : PageBytes) (b at i : ℕ) (holders : ℕ → List ℕ → Option ℕ) : Type 0 where
+  pub front : List ℕ
+  pub walk : Walk (λ n. node_of (pages n)) b front at
+  pub each : (n j : ℕ) → IsPast pages front at i n j → IsNoted pages b holders n j
+  pub back : (r : ℕ) (k : List ℕ) (n : ℕ) → holders r k ≡ Some n → (j : ℕ) × IsPast pages front at i n j × (is_at r k (entry_at (pages n) j) ≡ true)
+
+-- a page of the bucket b has an entry that is not alone
+abbrev pub IsMisplaced : PageBytes → ℕ → ℕ → Type 0
+IsMisplaced pages b p = IsOn pages b p × (AreAlone pages b p → ⊥)

@@ -9,7 +9,7 @@ ghost use Rattle.mt_index.specs.Broken.{IsBroken};
 use crate::checking::{are_zero, check_directory};
 use crate::marking::mark_buckets;
 use crate::pointing::are_pointers;
-use crate::settling::first_unsettled;
+use crate::settling::find_unsettled;
 use mt_base::PageNo;
 use mt_base::limits::PAGE_BYTES;
 use mt_space::pages::{BUCKET, DIRECTORY, FIXED, MAP};
@@ -44,12 +44,17 @@ pub fn check(
         return Ok(Some(PageNo::new(DIRECTORY)));
     }
     let mut homes = vec![in alloc; 0; pages.len()]?;
-    Ok(first_misplaced(pages, &mut homes, relations))
+    first_misplaced(alloc, pages, &mut homes, relations)
 }
 
-// The first bucket page that is in no bucket's chain or in two, or has an entry that belongs elsewhere.
+// A bucket page that is in no bucket's chain or in two, or has an entry that belongs elsewhere.
 // Of each page it notes the bucket.
-fn first_misplaced(pages: &[[u8; 4096]], homes: &mut [u16], relations: u16) -> Option<PageNo>
+fn first_misplaced(
+    alloc: Global,
+    pages: &[[u8; 4096]],
+    homes: &mut [u16],
+    relations: u16,
+) -> Result<Option<PageNo>, AllocError>
     requires whole { AreWhole pages.now }
     requires kinds { AreKinds (length pages.now) (bytes_of pages.now) }
     requires directory { IsDirectory (bytes_of pages.now 1) }
@@ -57,14 +62,15 @@ fn first_misplaced(pages: &[[u8; 4096]], homes: &mut [u16], relations: u16) -> O
     requires pointers { ArePointers (bytes_of pages.now) }
     requires size { length homes.old ≡ length pages.now }
     requires none { (n : ℕ) → get_or homes.old n 0 ≡ 0 }
-    ensures found { MatchOption result (IsSound relations (length pages.now) (bytes_of pages.now)) (λ p.
-        IsSound relations (length pages.now) (bytes_of pages.now) → ⊥) }
-    ensures named { IfSome result (λ p. IsBroken relations (length pages.now) (bytes_of pages.now) p) }
+    ensures found { IfOk result (λ broken. MatchOption broken (IsSound relations (length pages.now)
+        (bytes_of pages.now)) (λ p. IsSound relations (length pages.now) (bytes_of pages.now) → ⊥)) }
+    ensures named { IfOk result (λ broken. IfSome broken (λ p. IsBroken relations (length pages.now)
+        (bytes_of pages.now) p)) }
 {
     if let Some(page) = mark_buckets(pages, homes) {
-        return Some(page);
+        return Ok(Some(page));
     }
-    first_unsettled(pages, homes)
+    find_unsettled(alloc, pages, homes)
 }
 
 // One of the pages.

@@ -1,99 +1,129 @@
 // Whether each entry is in the bucket of its hash, and its key in no other.
-ghost use Rattle.std.specs.Prelude.{◌≡◌, ◌≢◌, ◌+◌, ◌*◌, ◌<◌, ◌≤◌, ◌^◌, ℕ, length, get_or, MatchBool, MatchOption};
-ghost use Rattle.mt_bucket.specs.Page.{count_of, next_of, IsBucket};
+ghost use Rattle.std.specs.Prelude.{◌≡◌, ◌≢◌, ◌<◌, ◌^◌, ℕ, List, length, IfOk, MatchOption};
+ghost use Rattle.mt_bucket.specs.Page.{next_of, IsBucket};
 ghost use Rattle.mt_space.specs.Kinds.{kind};
-ghost use Rattle.mt_index.specs.Pages.{depth_in};
-ghost use Rattle.mt_index.specs.Checks.{AreWhole, bytes_of, AreKinds, AreBuckets, AreMarked, LacksFrom, IsFinite, IsAlone, IsSettled};
+ghost use Rattle.mt_index.specs.Pages.{depth_in, IsOn};
+ghost use Rattle.mt_index.specs.Checks.{AreWhole, bytes_of, AreKinds, AreBuckets, IsMarked, AreMarked, IsFinite, AreAlone, IsSettled, Settles, holder_in, ArePassed, IsMisplaced};
 
 use crate::directory::pointer;
 use crate::reading::{is_bucket, page_at};
-use mt_base::{PageNo, RelNo};
-use mt_bucket::{count, entry, find, hash, next, place_of};
+use mt_base::PageNo;
+use mt_bucket::{count, entry, hash, next};
 use mt_space::pages::DIRECTORY;
+use std::alloc::{AllocError, Global};
+use std::collections::BTreeMap;
 
-// The first bucket page that is in no bucket, or has an entry that is in a wrong one or twice there.
-pub(crate) fn first_unsettled(pages: &[[u8; 4096]], homes: &[u16]) -> Option<PageNo>
+// The number of the page that has an entry, by the entry's relation and key.
+type Holders<'a> = BTreeMap<(u16, &'a [u8]), u16>;
+
+// A bucket page that is in no bucket, or has an entry that is in a wrong one or twice there.
+pub(crate) fn find_unsettled(
+    alloc: Global,
+    pages: &[[u8; 4096]],
+    homes: &[u16],
+) -> Result<Option<PageNo>, AllocError>
     requires whole { AreWhole pages.now }
     requires kinds { AreKinds (length pages.now) (bytes_of pages.now) }
     requires buckets { (relations : ℕ) × AreBuckets relations (length pages.now) (bytes_of pages.now) }
     requires size { length homes.now ≡ length pages.now }
     requires marked { AreMarked (bytes_of pages.now) homes.now (2 ^ depth_in (bytes_of pages.now 1)) }
-    ensures { MatchOption result ((p : ℕ) → kind (bytes_of pages.now) p ≡ 2 →
-        IsSettled (bytes_of pages.now) homes.now p) (λ p. (kind (bytes_of pages.now) p ≡ 2) ×
-        (IsSettled (bytes_of pages.now) homes.now p → ⊥)) }
+    ensures { IfOk result (λ found. MatchOption found ((p : ℕ) → p < length pages.now →
+        Settles (bytes_of pages.now) homes.now p) (λ p. (kind (bytes_of pages.now) p ≡ 2) ×
+        (IsSettled (bytes_of pages.now) homes.now p → ⊥))) }
 {
     for number in 0..pages.len() as u16 {
-        let page = PageNo::new(number);
-        if is_bucket(pages, page) && !is_settled(pages, homes, page) {
-            return Some(page);
+        if let Some(page) = unsettled_from(alloc, pages, homes, PageNo::new(number))? {
+            return Ok(Some(page));
         }
     }
-    None
+    Ok(None)
 }
 
-// Whether a bucket page is in a bucket, and its entries rightly there.
-fn is_settled(pages: &[[u8; 4096]], homes: &[u16], page: PageNo) -> bool
+// This page, where it is a bucket page in no bucket; else a page of the bucket that it begins with an entry in a
+// wrong place.
+fn unsettled_from(
+    alloc: Global,
+    pages: &[[u8; 4096]],
+    homes: &[u16],
+    page: PageNo,
+) -> Result<Option<PageNo>, AllocError>
     requires whole { AreWhole pages.now }
     requires kinds { AreKinds (length pages.now) (bytes_of pages.now) }
     requires buckets { (relations : ℕ) × AreBuckets relations (length pages.now) (bytes_of pages.now) }
     requires size { length homes.now ≡ length pages.now }
     requires marked { AreMarked (bytes_of pages.now) homes.now (2 ^ depth_in (bytes_of pages.now 1)) }
-    requires bucket { kind (bytes_of pages.now) page ≡ 2 }
-    ensures { MatchBool result (IsSettled (bytes_of pages.now) homes.now page) (IsSettled
-        (bytes_of pages.now) homes.now page → ⊥) }
+    ensures { IfOk result (λ found. MatchOption found (Settles (bytes_of pages.now) homes.now page) (λ p.
+        (kind (bytes_of pages.now) p ≡ 2) × (IsSettled (bytes_of pages.now) homes.now p → ⊥))) }
 {
+    if !is_bucket(pages, page) {
+        return Ok(None);
+    }
     let home = homes[usize::from(page.get())];
     if home == 0 {
-        return false;
+        return Ok(Some(page));
     }
-    for i in 0..count(page_at(pages, page)) {
-        if !is_alone(pages, PageNo::new(home), page, i) {
-            return false;
-        }
+    if home != page.get() {
+        return Ok(None);
     }
-    true
+    find_misplaced(alloc, pages, page)
 }
 
-// Whether an entry is in the bucket of its hash, which begins with this page, and its key in no entry
-// behind it.
-fn is_alone(pages: &[[u8; 4096]], home: PageNo, page: PageNo, i: usize) -> bool
+// A page of this bucket with an entry that belongs elsewhere, or whose key stands behind it too.
+fn find_misplaced(
+    alloc: Global,
+    pages: &[[u8; 4096]],
+    bucket: PageNo,
+) -> Result<Option<PageNo>, AllocError>
     requires whole { AreWhole pages.now }
-    requires inside { page < length pages.now }
-    requires bucket { (relations : ℕ) × IsBucket relations (length pages.now) (bytes_of pages.now page) }
-    requires there { i < count_of (bytes_of pages.now page) }
-    requires finite { IsFinite (length pages.now) (bytes_of pages.now) (next_of (bytes_of pages.now page)) }
-    ensures { MatchBool result (IsAlone (bytes_of pages.now) home page i) (IsAlone (bytes_of pages.now) home page i →
-        ⊥) }
+    requires kinds { AreKinds (length pages.now) (bytes_of pages.now) }
+    requires buckets { (relations : ℕ) × AreBuckets relations (length pages.now) (bytes_of pages.now) }
+    requires marked { (homes : List ℕ) × IsMarked (bytes_of pages.now) homes bucket }
+    ensures { IfOk result (λ found. MatchOption found ((p : ℕ) → IsOn (bytes_of pages.now) bucket p →
+        AreAlone (bytes_of pages.now) bucket p) (λ p. IsMisplaced (bytes_of pages.now) bucket p)) }
 {
-    let bytes = page_at(pages, page);
-    let entry = entry(bytes, i);
-    if pointer(page_at(pages, PageNo::new(DIRECTORY)), hash(entry.key)) != home {
-        return false;
-    }
-    if place_of(bytes, entry.relation, entry.key) != Some(i) {
-        return false;
-    }
-    lacks_from(pages, next(bytes), entry.relation, entry.key)
-}
-
-// Whether no page of a chain, from this one on, has an entry of a relation and a key.
-fn lacks_from(pages: &[[u8; 4096]], first: PageNo, relation: RelNo, key: &[u8]) -> bool
-    requires whole { AreWhole pages.now }
-    requires finite { IsFinite (length pages.now) (bytes_of pages.now) first }
-    requires short { length key.now ≤ 64 }
-    ensures { MatchBool result (LacksFrom (bytes_of pages.now) first relation key.now) (LacksFrom
-        (bytes_of pages.now) first relation key.now → ⊥) }
-{
-    let mut at = first;
+    let mut holders = Holders::new(alloc);
+    let mut at = bucket;
     for _step in 0..pages.len() {
         if at.get() == 0 {
-            return true;
+            return Ok(None);
         }
-        let bytes = page_at(pages, at);
-        if find(bytes, relation, key).is_some() {
-            return false;
+        if let Some(page) = pass(pages, bucket, at, &mut holders)? {
+            return Ok(Some(page));
         }
-        at = next(bytes);
+        at = next(page_at(pages, at));
     }
-    true
+    Ok(None)
+}
+
+// Notes the entries of a page of a bucket. Answers a page with an entry in a wrong place: this one, or one that
+// has a key of this one's too.
+fn pass<'a>(
+    pages: &'a [[u8; 4096]],
+    bucket: PageNo,
+    at: PageNo,
+    holders: &mut Holders<'a>,
+) -> Result<Option<PageNo>, AllocError>
+    requires whole { AreWhole pages.now }
+    requires inside { at < length pages.now }
+    requires real { at ≢ 0 }
+    requires bucket { (relations : ℕ) × IsBucket relations (length pages.now) (bytes_of pages.now at) }
+    requires finite { IsFinite (length pages.now) (bytes_of pages.now) at }
+    requires passed { ArePassed (bytes_of pages.now) bucket at 0 (holder_in holders.old) }
+    ensures { IfOk result (λ found. MatchOption found (ArePassed (bytes_of pages.now) bucket
+        (next_of (bytes_of pages.now at)) 0 (holder_in holders.new)) (λ p. IsMisplaced (bytes_of pages.now) bucket
+        p)) }
+{
+    let bytes = page_at(pages, at);
+    let directory = page_at(pages, PageNo::new(DIRECTORY));
+    for i in 0..count(bytes) {
+        let entry = entry(bytes, i);
+        if pointer(directory, hash(entry.key)) != bucket {
+            return Ok(Some(at));
+        }
+        let name = (entry.relation.get(), entry.key);
+        if let Some(holder) = holders.insert(name, at.get())? {
+            return Ok(Some(PageNo::new(holder)));
+        }
+    }
+    Ok(None)
 }

@@ -31,7 +31,7 @@ fn driver_of(alloc: Global, pages: u16, mib: u8, frames: u16) -> Result<Driver<M
     if !is_formatted(&device, pages) {
         return Err(Refusal::NotFormatted);
     }
-    let operations = opened(alloc, device, pages, mib, frames)?;
+    let operations = opened(alloc, device, pages, frames)?;
     Ok(Driver {
         operations,
         last: 0,
@@ -231,7 +231,7 @@ fn fill_failing(rt: &impl Abort, alloc: Global, n: u64) -> Result<(), Refusal> {
     if !is_formatted(&device, 64) {
         return Err(Refusal::NotFormatted);
     }
-    let operations = opened(alloc, FaultDevice::new(device, n), 64, 4, 3)?;
+    let operations = opened(alloc, FaultDevice::new(device, n), 64, 3)?;
     let driver = Driver {
         operations,
         last: 0,
@@ -244,7 +244,7 @@ fn a_device_that_fails_is_told_of(rt: HostRuntime) -> Result<(), Fail> {
     for n in 1..2000u64 {
         match fill_failing(&rt, rt.alloc(), n) {
             Ok(()) => {
-                // six calls begin the area, and three pages are read at least
+                // two slots are read, six calls begin the area, and three pages are read at least
                 assert!(rt; n > 10);
                 return Ok(());
             }

@@ -1,8 +1,9 @@
 -- A restart over the records of consistent parts finds the base that they stand for.
-use Rattle.std.proofs.Common.{◌≡◌, ℕ, ◌≤◌, ◌*◌, ◌==◌, Bool, true, false, not, cond, List, [], ◌∷◌, ◌++◌, Option, Some, None, length, get_or, map, filter, refl, sym, ap, ◌∙◌, subst, arith}
+use Rattle.std.proofs.Common.{◌≡◌, ℕ, ◌≤◌, ◌+◌, ◌*◌, ◌==◌, Bool, true, false, not, cond, List, [], ◌∷◌, ◌++◌, Option, Some, None, length, get_or, map, filter, take, refl, sym, ap, ◌∙◌, subst, arith, append_assoc}
 use Rattle.std.specs.Prelude.{All, is_some}
 use Rattle.std.specs.List.{AllByRecursion, sum_by}
 use Rattle.std.specs.Option.{option_map}
+use Rattle.std.proofs.Math.Seq.{take-append-add}
 use Rattle.std.proofs.lemmas.List.Elements.{All-head, All-tail, All-filter}
 use Rattle.std.proofs.lemmas.List.Filters.{sum_by-filter_both}
 use Rattle.std.proofs.lemmas.List.Sums.{sum_by-cons}
@@ -20,7 +21,7 @@ use Rattle.mt_live.specs.Sound.{IsSound}
 use Rattle.mt_live.specs.Undoing.{others}
 use Rattle.mt_live.specs.declared.transactions.TxnState.TheVariants.{Committing}
 use Rattle.mt_log.specs.Words.{appended, area_size}
-use Rattle.mt_model.proofs.Appends.{after-append, legal_append}
+use Rattle.mt_model.proofs.Appends.{after-append, legal_append, legal_back}
 use Rattle.mt_model.proofs.Undo.{base_effectless}
 use Rattle.mt_model.specs.History.{Call, run, IsActed, after, IsLegal}
 use Rattle.mt_model.specs.Model.{Base, IsBase, IsWithin, reply_of, base_after, inverse_of}
@@ -170,10 +171,30 @@ module _ {D : Type 0} (seen : D → List ℕ) (may_leave : D → List ℕ → Ty
   pub whole_legal : IsLegal origin.first (n.book.items ++ turned)
   whole_legal = legal_append origin.first n.book.items turned safe.fit.kept.legal moved.0
 
-  module _ (tells_of : TellsOf origin.first n records) where
-    serial : IsSerial origin.first records
+  module _ (begun : origin.begun ≡ after origin.first origin.earlier) (tells_of : TellsOf origin n records) where
+    -- since the area began
+    abbrev pub commits_since : List Committed
+    commits_since = tells_of.since ++ turned
+
+    whole_is : n.book.items ++ turned ≡ origin.earlier ++ commits_since
+    whole_is = ap (λ (cs : List Committed). cs ++ turned) tells_of.book ∙ append_assoc origin.earlier tells_of.since turned
+
+    -- what is in the book since the area began is legal on what it began on, with the commits under way behind it
+    pub since_legal : IsLegal origin.begun commits_since
+    since_legal = subst (λ (b : Base). IsLegal b commits_since) (sym begun) (legal_back origin.first origin.earlier commits_since (subst (IsLegal origin.first) whole_is whole_legal))
+
+    -- and the first of it lead to what they lead to behind the commits from before
+    pub after_earlier : (count : ℕ) → after origin.begun (take count commits_since) ≡ after origin.first (take (length origin.earlier + count) (n.book.items ++ turned))
+    after_earlier count =
+        ap (λ (b : Base). after b (take count commits_since)) begun ∙ sym (after-append origin.first origin.earlier (take count commits_since)) ∙ ap (after origin.first) (sym (take-append-add origin.earlier commits_since count))
+        ∙ ap (λ (cs : List Committed). after origin.first (take (length origin.earlier + count) cs)) (sym whole_is)
+
+    since_booked : after origin.begun tells_of.since ≡ booked_base
+    since_booked = ap (λ (b : Base). after b tells_of.since) begun ∙ sym (after-append origin.first origin.earlier tells_of.since) ∙ ap (after origin.first) (sym tells_of.book)
+
+    serial : IsSerial origin.begun records
     serial =
-        let led : stands_for origin.first records ≡ after booked_base turned = books_run origin.first (tells records).books (n.book.items ++ turned) tells_of.telling.books whole_legal ∙ after-append origin.first n.book.items turned in
+        let led : stands_for origin.begun records ≡ after booked_base turned = books_run origin.begun (tells records).books commits_since tells_of.telling.books since_legal ∙ after-append origin.begun tells_of.since turned ∙ ap (λ (b : Base). after b turned) since_booked in
         let whole = without_all ts es in
         let effects = effects_acted (after booked_base turned) (calls whole) moved.1.acted in
         let done : filter has_inverse (calls whole) ≡ calls_of (losers records) = calls_did whole ∙ ap calls (sym tells_of.telling.live) ∙ calls_entries (losers records) in

@@ -1,5 +1,5 @@
 -- What the records tell, and that parts stay restartable, as events of the kernel change them.
-use Rattle.std.proofs.Common.{◌≡◌, ◌≢◌, inl, inr, ℕ, zero, suc, ◌<◌, ◌≤◌, ◌+◌, ◌*◌, Bool, true, false, cond, List, [], ◌∷◌, ◌++◌, Option, Some, None, length, get_or, map, filter, take, refl, sym, ap, ◌∙◌, subst, arith, append-nil}
+use Rattle.std.proofs.Common.{◌≡◌, ◌≢◌, inl, inr, ℕ, zero, suc, ◌<◌, ◌≤◌, ◌+◌, ◌*◌, Bool, true, false, cond, List, [], ◌∷◌, ◌++◌, Option, Some, None, length, get_or, map, filter, take, refl, sym, ap, ◌∙◌, subst, arith, append-nil, append_assoc}
 use Rattle.std.specs.Prelude.{All, is_some}
 use Rattle.std.specs.List.{AllByRecursion}
 use Rattle.std.specs.Option.{option_map}
@@ -152,30 +152,36 @@ at_place (y ∷ ys) (suc i) lt = at_place ys i (omega (arith, lt))
 module _ {D : Type 0} (seen : D → List ℕ) (may_leave : D → List ℕ → Type 0) (origin : Origin) where
   -- these records tell of the parts, and have led to this base
   pub record Now (k : Parts D) (rs : List Record) (base : Base) : Type 0 where
-    pub tally : Tallies (map effects_of k.book.items) (txns_of k.commits.items) (num k.live.members) (filter did k.live.standing) (tells rs)
-    pub leads : run origin.first (calls_in rs) ≡ base
+    pub since : List Committed
+    pub book : k.book.items ≡ origin.earlier ++ since
+    pub tally : Tallies (map effects_of since) (txns_of k.commits.items) (num k.live.members) (filter did k.live.standing) (tells rs)
+    pub leads : run origin.begun (calls_in rs) ≡ base
 
   pub base_is : (k : Parts D) (base : Base) → IsConsistent seen may_leave origin base k → runs (after origin.first k.book.items) k.live.standing ≡ base
   base_is k base safe = safe.fit.kept.base
 
-  pub now_of : (k : Parts D) (rs : List Record) (base : Base) → IsConsistent seen may_leave origin base k → TellsOf origin.first k rs → Now k rs base
+  pub now_of : (k : Parts D) (rs : List Record) (base : Base) → IsConsistent seen may_leave origin base k → TellsOf origin k rs → Now k rs base
   now_of k rs base safe t =
       let turned = in_turn (session_in k.live.members) (txns_of k.commits.items) k.live.standing in
       record {
+        since = t.since;
+        book = t.book;
         tally = record {
-          books = t.telling.books ∙ map-append effects_of k.book.items turned ∙ ap (λ (cs : List (List Call)). map effects_of k.book.items ++ cs) (effects_turn (session_in k.live.members) (txns_of k.commits.items) k.live.standing);
+          books = t.telling.books ∙ map-append effects_of t.since turned ∙ ap (λ (cs : List (List Call)). map effects_of t.since ++ cs) (effects_turn (session_in k.live.members) (txns_of k.commits.items) k.live.standing);
           live = t.telling.live ∙ without_did (txns_of k.commits.items) k.live.standing;
           its = t.telling.numbers;
         };
         leads = t.calls ∙ base_is k base safe;
       }
 
-  pub tells_of : (k : Parts D) (rs : List Record) (base : Base) → IsConsistent seen may_leave origin base k → Now k rs base → TellsOf origin.first k rs
+  pub tells_of : (k : Parts D) (rs : List Record) (base : Base) → IsConsistent seen may_leave origin base k → Now k rs base → TellsOf origin k rs
   tells_of k rs base safe n =
       let turned = in_turn (session_in k.live.members) (txns_of k.commits.items) k.live.standing in
       record {
+        since = n.since;
+        book = n.book;
         telling = record {
-          books = n.tally.books ∙ sym (map-append effects_of k.book.items turned ∙ ap (λ (cs : List (List Call)). map effects_of k.book.items ++ cs) (effects_turn (session_in k.live.members) (txns_of k.commits.items) k.live.standing));
+          books = n.tally.books ∙ sym (map-append effects_of n.since turned ∙ ap (λ (cs : List (List Call)). map effects_of n.since ++ cs) (effects_turn (session_in k.live.members) (txns_of k.commits.items) k.live.standing));
           live = n.tally.live ∙ sym (without_did (txns_of k.commits.items) k.live.standing);
           numbers = n.tally.its;
         };
@@ -184,15 +190,17 @@ module _ {D : Type 0} (seen : D → List ℕ) (may_leave : D → List ℕ → Ty
 
   quiet_now : (k : Parts D) (rs more : List Record) (base : Base) → IsQuiet origin.pages rs more → Now k rs base → Now k (rs ++ more) base
   quiet_now k rs more base q n = record {
-    tally = subst (Tallies (map effects_of k.book.items) (txns_of k.commits.items) (num k.live.members) (filter did k.live.standing)) (sym (untold origin.pages rs more q)) n.tally;
-    leads = ap (run origin.first) (uncalled origin.pages rs more q) ∙ n.leads;
+    since = n.since;
+    book = n.book;
+    tally = subst (Tallies (map effects_of n.since) (txns_of k.commits.items) (num k.live.members) (filter did k.live.standing)) (sym (untold origin.pages rs more q)) n.tally;
+    leads = ap (run origin.begun) (uncalled origin.pages rs more q) ∙ n.leads;
   }
 
   appended_now : (k : Parts D) (rs new : List Record) (base : Base) → AppendsQuietly origin.pages rs new → Now k rs base → Now k new base
   appended_now k rs new base a n = subst (λ (xs : List Record). Now k xs base) (sym a.is) (quiet_now k rs a.more base (a.quiet a.more [] (sym (append-nil a.more))) n)
 
   moved_recovers : (k n : Parts D) (rs : List Record) → SameArea k n → Recovers origin k rs → Recovers origin n rs
-  moved_recovers k n rs same r = subst (λ (X : Type 0). X) (λ i. IsRecoverable origin.relations origin.counters (sym same.total i) (sym same.bytes i) origin.pages origin.first rs) r
+  moved_recovers k n rs same r = subst (λ (X : Type 0). X) (λ i. IsRecoverable origin.relations origin.counters (sym same.total i) (sym same.bytes i) origin.pages origin.begun rs) r
 
   moved_each : (k n : Parts D) → SameArea k n → IsRestartable origin k → 4194304 ≤ area_size n.operations.store.log → EachBeginning (Recovers origin n) (appended k.operations.store.log)
   moved_each k n same r area front back is = moved_recovers k n front same (r.beginnings (subst (λ (b : ℕ). 4194304 ≤ b) same.bytes area) front back is)
@@ -205,7 +213,8 @@ module _ {D : Type 0} (seen : D → List ℕ) (may_leave : D → List ℕ → Ty
       record {
         beginnings = λ area. let each = moved_each k n q.area r area in
             subst (EachBeginning (Recovers origin n)) (sym q.appends.is) (begin_more (Recovers origin n) old q.appends.more each
-            (λ front back is. quiet_recovers origin.pages old front (q.appends.quiet front back is) origin.relations origin.counters (pages n.operations.store.pool) (area_size n.operations.store.log) origin.first (begin_all (Recovers origin n) old each)));
+            (λ front back is. quiet_recovers origin.pages old front (q.appends.quiet front back is) origin.relations origin.counters (pages n.operations.store.pool) (area_size n.operations.store.log) origin.begun (begin_all (Recovers origin n) old each)));
+        begun = r.begun;
         tells = tells_of n (appended n.operations.store.log) later safe now;
         few = few;
       }
@@ -223,8 +232,9 @@ module _ {D : Type 0} (seen : D → List ℕ) (may_leave : D → List ℕ → Ty
         beginnings = λ area.
             let each = moved_each k n same r area in
             let was : LeadsOn origin.relations origin.counters (pages k.operations.store.pool) origin.pages old = subst (λ (t : ℕ). LeadsOn origin.relations origin.counters t origin.pages old) same.total (begin_all (Recovers origin n) old each).leads in
-            let whole : Recovers origin n (appended n.operations.store.log) = recovers seen may_leave origin later n safe tells area few (led was) in
+            let whole : Recovers origin n (appended n.operations.store.log) = recovers seen may_leave origin later n safe r.begun tells area few (led was) in
             subst (EachBeginning (Recovers origin n)) (sym is) (begin_one (Recovers origin n) old entry each (subst (Recovers origin n) is whole));
+        begun = r.begun;
         tells = tells;
         few = few;
       }
@@ -243,8 +253,8 @@ module _ {D : Type 0} (seen : D → List ℕ) (may_leave : D → List ℕ → Ty
       let old = appended k.operations.store.log in
       let was = now_of k old base safe_k r.tells in
       let bases : base ≡ later = sym (base_is k base safe_k) ∙ (λ i. runs (after origin.first (sym book.book i)) (sym standing i)) ∙ base_is n later safe_n in
-      let tally : Tallies (map effects_of k.book.items) (txns_of k.commits.items) (num n.live.members) (filter did k.live.standing) (tells old) = tally_same (map effects_of k.book.items) (txns_of k.commits.items) (num k.live.members) (num n.live.members) (filter did k.live.standing) (tells old) was.tally numbers in
-      let here : Now n old later = record { tally = subst (λ (X : Type 0). X) (λ i. Tallies (map effects_of (sym book.book i)) (txns_of (sym book.commits i)) (num n.live.members) (filter did (sym standing i)) (tells old)) tally; leads = was.leads ∙ bases } in
+      let tally : Tallies (map effects_of was.since) (txns_of k.commits.items) (num n.live.members) (filter did k.live.standing) (tells old) = tally_same (map effects_of was.since) (txns_of k.commits.items) (num k.live.members) (num n.live.members) (filter did k.live.standing) (tells old) was.tally numbers in
+      let here : Now n old later = record { since = was.since; book = book.book ∙ was.book; tally = subst (λ (X : Type 0). X) (λ i. Tallies (map effects_of was.since) (txns_of (sym book.commits i)) (num n.live.members) (filter did (sym standing i)) (tells old)) tally; leads = was.leads ∙ bases } in
       stays k n later safe_n q few (appended_now n old (appended n.operations.store.log) later q.appends here) r
 
   pub store_same : (k n : Parts D) (base later : Base) → IsConsistent seen may_leave origin base k → IsConsistent seen may_leave origin later n → n.operations.store ≡ k.operations.store → SameBook k n → n.live ≡ k.live → IsRestartable origin k → IsRestartable origin n
@@ -339,9 +349,9 @@ module _ {D : Type 0} (seen : D → List ℕ) (may_leave : D → List ℕ → Ty
       none_same : (ns : List ℕ) (h : Bool) → has_inverse call ≡ h → h ≡ false → ns ++ cond (has_inverse call) (r.scope.number ∷ []) [] ≡ ns
       none_same ns h is none = ap (λ (c : Bool). ns ++ cond c (r.scope.number ∷ []) []) (is ∙ none) ∙ append-nil ns
 
-      tally_in : (x : Told) (es : List Entry) → filter did n.live.standing ≡ es → Tallies (map effects_of k.book.items) (txns_of k.commits.items) (num n.live.members) es x
-          → Tallies (map effects_of n.book.items) (txns_of n.commits.items) (num n.live.members) (filter did n.live.standing) x
-      tally_in x es is tally = subst (λ (X : Type 0). X) (λ i. Tallies (map effects_of (sym e.same.book i)) (txns_of (sym e.same.commits i)) (num n.live.members) (sym is i) x) tally
+      tally_in : (x : Told) (es : List Entry) → filter did n.live.standing ≡ es → Tallies (map effects_of was.since) (txns_of k.commits.items) (num n.live.members) es x
+          → Tallies (map effects_of was.since) (txns_of n.commits.items) (num n.live.members) (filter did n.live.standing) x
+      tally_in x es is tally = subst (λ (X : Type 0). X) (λ i. Tallies (map effects_of was.since) (txns_of (sym e.same.commits i)) (num n.live.members) (sym is i) x) tally
 
       is_did : has_inverse call ≡ is_some (logged_of r.scope.op reply)
       is_did = ap (λ (o : Op). is_some (inverse_of o reply)) copy ∙ logged_did r.scope.op reply
@@ -356,8 +366,8 @@ module _ {D : Type 0} (seen : D → List ℕ) (may_leave : D → List ℕ → Ty
             | inr apart ↦ rest u apart
           ] in
           let nothing : inverse_of r.scope.op (reply_of base r.scope.op) ≡ None = none_of (inverse_of r.scope.op (reply_of base r.scope.op)) (ap (λ (y : Reply). is_some (inverse_of r.scope.op y)) replies ∙ logged_did r.scope.op reply ∙ ap is_some is) in
-          let tally = tally_same (map effects_of k.book.items) (txns_of k.commits.items) (num k.live.members) (num n.live.members) (filter did k.live.standing) (tells old) was.tally numbers in
-          let now : Now n old later = record { tally = tally_in (tells old) (filter did k.live.standing) entries tally; leads = was.leads ∙ sym (later_is ∙ base_effectless base r.scope.op nothing) } in
+          let tally = tally_same (map effects_of was.since) (txns_of k.commits.items) (num k.live.members) (num n.live.members) (filter did k.live.standing) (tells old) was.tally numbers in
+          let now : Now n old later = record { since = was.since; book = e.same.book ∙ was.book; tally = tally_in (tells old) (filter did k.live.standing) entries tally; leads = was.leads ∙ sym (later_is ∙ base_effectless base r.scope.op nothing) } in
           stays k n later safe_n (record { area = same; appends = appends_none origin.pages old (appended n.operations.store.log) records }) few (subst (λ (rs : List Record). Now n rs later) (sym records) now) restartable
         where
           none_of : {A : Type 0} (o : Option A) → is_some o ≡ false → o ≡ None
@@ -375,9 +385,9 @@ module _ {D : Type 0} (seen : D → List ℕ) (may_leave : D → List ℕ → Ty
           let same_entry : entry_of f ≡ entry = λ i. record { txn = r.scope.txn; op = (tells_it.0 ∙ sym copy) i; reply = tells_it.1 i } in
           let entries : filter did n.live.standing ≡ filter did k.live.standing ++ entry_of f ∷ [] = stood ∙ ap (λ (c : Bool). filter did k.live.standing ++ cond c (entry ∷ []) []) some ∙ ap (λ (x : Entry). filter did k.live.standing ++ x ∷ []) (sym same_entry) in
           let mine : num n.live.members t ≡ num k.live.members t ++ r.scope.number ∷ [] = pushed ∙ ap (λ (c : Bool). num k.live.members t ++ cond c (r.scope.number ∷ []) []) some in
-          let tally = tally_end (map effects_of k.book.items) (txns_of k.commits.items) (num k.live.members) (num n.live.members) (filter did k.live.standing) (tells old) was.tally f (apart_from k.live.members k.commits.items t safe_k.fit.queued.each working) mine rest in
-          let led : run origin.first (calls_in (old ++ it ∷ [])) ≡ later = ap (run origin.first) (calls_append old (it ∷ [])) ∙ run-append origin.first (calls_in old) (call_of done ∷ []) ∙ (λ i. base_after (was.leads i) (tells_it.0 i)) ∙ sym later_is in
-          let now : Now n (old ++ it ∷ []) later = record { tally = subst (Tallies (map effects_of n.book.items) (txns_of n.commits.items) (num n.live.members) (filter did n.live.standing)) (sym now_told) (tally_in (record { live = (tells old).live ++ f ∷ []; books = (tells old).books }) (filter did k.live.standing ++ entry_of f ∷ []) entries tally); leads = led } in
+          let tally = tally_end (map effects_of was.since) (txns_of k.commits.items) (num k.live.members) (num n.live.members) (filter did k.live.standing) (tells old) was.tally f (apart_from k.live.members k.commits.items t safe_k.fit.queued.each working) mine rest in
+          let led : run origin.begun (calls_in (old ++ it ∷ [])) ≡ later = ap (run origin.begun) (calls_append old (it ∷ [])) ∙ run-append origin.begun (calls_in old) (call_of done ∷ []) ∙ (λ i. base_after (was.leads i) (tells_it.0 i)) ∙ sym later_is in
+          let now : Now n (old ++ it ∷ []) later = record { since = was.since; book = e.same.book ∙ was.book; tally = subst (Tallies (map effects_of was.since) (txns_of n.commits.items) (num n.live.members) (filter did n.live.standing)) (sym now_told) (tally_in (record { live = (tells old).live ++ f ∷ []; books = (tells old).books }) (filter did k.live.standing ++ entry_of f ∷ []) entries tally); leads = led } in
           grows k n later it safe_n same few records a.leads (subst (λ (rs : List Record). Now n rs later) (sym records) now) restartable
 
   -- ---- an inverse has ended
@@ -456,13 +466,13 @@ module _ {D : Type 0} (seen : D → List ℕ) (may_leave : D → List ℕ → Ty
           tells_it : (op_of done ≡ r.scope.op) × (reply_in done ≡ reply)
           tells_it = logged_is r.scope.op reply done is
 
-          led : run origin.first (calls_in (old ++ it ∷ [])) ≡ base_after base r.scope.op
-          led = ap (run origin.first) (calls_append old (it ∷ [])) ∙ run-append origin.first (calls_in old) (call_of done ∷ []) ∙ (λ i. base_after (was.leads i) (tells_it.0 i))
+          led : run origin.begun (calls_in (old ++ it ∷ [])) ≡ base_after base r.scope.op
+          led = ap (run origin.begun) (calls_append old (it ∷ [])) ∙ run-append origin.begun (calls_in old) (call_of done ∷ []) ∙ (λ i. base_after (was.leads i) (tells_it.0 i))
 
-          tallied : Tallies (map effects_of k.book.items) (txns_of k.commits.items) (num n.live.members) (front ++ behind) cut_told → IsRestartable origin n
+          tallied : Tallies (map effects_of was.since) (txns_of k.commits.items) (num n.live.members) (front ++ behind) cut_told → IsRestartable origin n
           tallied tally =
-              let here = subst (λ (X : Type 0). X) (λ i. Tallies (map effects_of (sym e.same.book i)) (txns_of (sym e.same.commits i)) (num n.live.members) (sym stands i) (sym now_told i)) tally in
-              let now : Now n (old ++ it ∷ []) (base_after base r.scope.op) = record { tally = here; leads = led } in
+              let here = subst (λ (X : Type 0). X) (λ i. Tallies (map effects_of was.since) (txns_of (sym e.same.commits i)) (num n.live.members) (sym stands i) (sym now_told i)) tally in
+              let now : Now n (old ++ it ∷ []) (base_after base r.scope.op) = record { since = was.since; book = e.same.book ∙ was.book; tally = here; leads = led } in
               grows k n (base_after base r.scope.op) it safe_n same few records a.leads (subst (λ (rs : List Record). Now n rs (base_after base r.scope.op)) (sym records) now) restartable
 
           at : (o : Option ℕ) → last_place m.member.calls ≡ o → IsRestartable origin n
@@ -473,7 +483,7 @@ module _ {D : Type 0} (seen : D → List ℕ) (may_leave : D → List ℕ → Ty
               let mine : num k.live.members t ≡ num n.live.members t ++ r.scope.undoes ∷ [] =
               ap numbers_of m.is ∙ open_did m.member m.working ∙ did_last m.member.calls m.member.operations p told_of.many place ∙ (λ i. sym left i ++ number i ∷ []) in
               let less = rising_apart m.member.calls m.member.operations (num n.live.members t) r.scope.undoes told_of.rising (sym (ap numbers_of m.is ∙ open_did m.member m.working) ∙ mine) in
-              tallied (tally_undone (map effects_of k.book.items) (txns_of k.commits.items) (num k.live.members) (num n.live.members) (filter did k.live.standing) (tells old) was.tally t r.scope.undoes front takes.entry behind stood c.done.its none_behind
+              tallied (tally_undone (map effects_of was.since) (txns_of k.commits.items) (num k.live.members) (num n.live.members) (filter did k.live.standing) (tells old) was.tally t r.scope.undoes front takes.entry behind stood c.done.its none_behind
               (apart_from k.live.members k.commits.items t safe_k.fit.queued.each working) mine less rest)
             where
               some_number : (x y : ℕ) → Some x ≡ Some y → x ≡ y
@@ -498,12 +508,12 @@ module _ {D : Type 0} (seen : D → List ℕ) (may_leave : D → List ℕ → Ty
       let m = at_work_of (member_of k.live.members t) working in
       let bases : base ≡ later = sym (base_is k base safe_k) ∙ (λ i. runs (after origin.first (sym book i)) (sym standing i)) ∙ base_is n later safe_n in
       let mine : num n.live.members t ≡ [] = ap numbers_of (members t ∙ put_same (member_of k.live.members) t (option_map (λ x. with_state x Committing) (member_of k.live.members t)) ∙ ap (option_map (λ x. with_state x Committing)) m.is) in
-      let tally = tally_commit (map effects_of k.book.items) (txns_of k.commits.items) (num k.live.members) (num n.live.members) (filter did k.live.standing) (tells old) was.tally t mine
+      let tally = tally_commit (map effects_of was.since) (txns_of k.commits.items) (num k.live.members) (num n.live.members) (filter did k.live.standing) (tells old) was.tally t mine
       (λ u apart. ap numbers_of (changed_other (λ x. with_state x Committing) k.live.members n.live.members t members u apart)) in
       let names : txns_of k.commits.items ++ t ∷ [] ≡ txns_of n.commits.items = sym (map-append (λ (x : Commit). x.txn) k.commits.items (it ∷ [])) ∙ sym (ap txns_of commits) in
       let now_told : record { live = others_of t (tells old).live; books = (tells old).books ++ its t (tells old).live ∷ [] } ≡ tells (old ++ CommitOf t ∷ []) = sym (tell_more (record { live = []; books = [] }) old (CommitOf t ∷ [])) in
-      let here = subst (λ (X : Type 0). X) (λ i. Tallies (map effects_of (sym book i)) (names i) (num n.live.members) (filter did (sym standing i)) (now_told i)) tally in
-      let now : Now n (old ++ CommitOf t ∷ []) later = record { tally = here; leads = ap (run origin.first) (ends_calls old (CommitOf t) refl) ∙ was.leads ∙ bases } in
+      let here = subst (λ (X : Type 0). X) (λ i. Tallies (map effects_of was.since) (names i) (num n.live.members) (filter did (sym standing i)) (now_told i)) tally in
+      let now : Now n (old ++ CommitOf t ∷ []) later = record { since = was.since; book = book ∙ was.book; tally = here; leads = ap (run origin.begun) (ends_calls old (CommitOf t) refl) ∙ was.leads ∙ bases } in
       grows k n later (CommitOf t) safe_n same (subst (λ (x : ℕ). x ≤ 64) (sym count) r.few) records (ends_leads old (appended n.operations.store.log) (CommitOf t) (pages k.operations.store.pool) (ap held (logged_more origin.pages old (CommitOf t ∷ []))) refl records)
       (subst (λ (rs : List Record). Now n rs later) (sym records) now) r
 
@@ -513,16 +523,16 @@ module _ {D : Type 0} (seen : D → List ℕ) (may_leave : D → List ℕ → Ty
   aborted k n base later t safe_k safe_n same records members count standing book working nothing r =
       let old = appended k.operations.store.log in
       let was = now_of k old base safe_k r.tells in
-      let tally = tally_abort (map effects_of k.book.items) (txns_of k.commits.items) (num k.live.members) (num n.live.members) (filter did k.live.standing) (tells old) was.tally t (apart_from k.live.members k.commits.items t safe_k.fit.queued.each working)
+      let tally = tally_abort (map effects_of was.since) (txns_of k.commits.items) (num k.live.members) (num n.live.members) (filter did k.live.standing) (tells old) was.tally t (apart_from k.live.members k.commits.items t safe_k.fit.queued.each working)
       (put_num k.live.members n.live.members t None members) (other_num k.live.members n.live.members t None members) in
       let stands : kept (others t) (filter did k.live.standing) ≡ filter did n.live.standing = sym (ap (filter did) standing ∙ filter-swap did (λ (x : Entry). others t x.txn) k.live.standing) in
       let now_told : record { live = others_of t (tells old).live; books = (tells old).books } ≡ tells (old ++ AbortEnd t ∷ []) = sym (tell_more (record { live = []; books = [] }) old (AbortEnd t ∷ [])) in
-      let here = subst (λ (X : Type 0). X) (λ i. Tallies (map effects_of (sym book.book i)) (txns_of (sym book.commits i)) (num n.live.members) (stands i) (now_told i)) tally in
+      let here = subst (λ (X : Type 0). X) (λ i. Tallies (map effects_of was.since) (txns_of (sym book.commits i)) (num n.live.members) (stands i) (now_told i)) tally in
       let effects : (z : Parts D) (b : Base) → IsConsistent seen may_leave origin b z → run (after origin.first z.book.items) (calls (filter did z.live.standing)) ≡ b = λ z b safe.
       ap (run (after origin.first z.book.items)) (sym (calls_did z.live.standing)) ∙ (effects_acted (after origin.first z.book.items) (calls z.live.standing) safe.fit.kept.sound.acted).1 ∙ base_is z b safe in
       let still : filter did n.live.standing ≡ filter did k.live.standing = ap (filter did) standing ∙ idle_did t k.live.standing (idle_all t k.live.standing nothing) in
       let bases : base ≡ later = sym (effects k base safe_k) ∙ (λ i. run (after origin.first (sym book.book i)) (calls (sym still i))) ∙ effects n later safe_n in
-      let now : Now n (old ++ AbortEnd t ∷ []) later = record { tally = here; leads = ap (run origin.first) (ends_calls old (AbortEnd t) refl) ∙ was.leads ∙ bases } in
+      let now : Now n (old ++ AbortEnd t ∷ []) later = record { since = was.since; book = book.book ∙ was.book; tally = here; leads = ap (run origin.begun) (ends_calls old (AbortEnd t) refl) ∙ was.leads ∙ bases } in
       let few = r.few in
       grows k n later (AbortEnd t) safe_n same (omega (arith, few, count)) records (ends_leads old (appended n.operations.store.log) (AbortEnd t) (pages k.operations.store.pool) (ap held (logged_more origin.pages old (AbortEnd t ∷ []))) refl records)
       (subst (λ (rs : List Record). Now n rs later) (sym records) now) r
@@ -541,34 +551,38 @@ module _ {D : Type 0} (seen : D → List ℕ) (may_leave : D → List ℕ → Ty
       let t = c.txn in
       let was = now_of k old base safe_k r.tells in
       let committing : state_in k.live.members t ≡ Some Committing = All-head (λ (x : Commit). state_in k.live.members x.txn ≡ Some Committing) c cs (subst (All (λ (x : Commit). state_in k.live.members x.txn ≡ Some Committing)) queue safe_k.fit.queued.each) in
-      let first : Tallies (map effects_of k.book.items) (t ∷ txns_of cs) (num k.live.members) (filter did k.live.standing) (tells old) = subst (λ (xs : List Commit). Tallies (map effects_of k.book.items) (txns_of xs) (num k.live.members) (filter did k.live.standing) (tells old)) queue was.tally in
-      let tally = tally_booked (map effects_of k.book.items) t (txns_of cs) (num k.live.members) (num n.live.members) (filter did k.live.standing) (tells old) first
+      let first : Tallies (map effects_of was.since) (t ∷ txns_of cs) (num k.live.members) (filter did k.live.standing) (tells old) = subst (λ (xs : List Commit). Tallies (map effects_of was.since) (txns_of xs) (num k.live.members) (filter did k.live.standing) (tells old)) queue was.tally in
+      let tally = tally_booked (map effects_of was.since) t (txns_of cs) (num k.live.members) (num n.live.members) (filter did k.live.standing) (tells old) first
       (kept_num k.live.members n.live.members t None members (sym (closed_num (member_of k.live.members t) committing))) in
       let effects : effects_of done ≡ calls (kept (only t) (filter did k.live.standing)) = ap (filter has_inverse) its_calls ∙ effects_only t k.live.standing in
-      let books : map effects_of k.book.items ++ calls (kept (only t) (filter did k.live.standing)) ∷ [] ≡ map effects_of n.book.items = sym (ap (map effects_of) book ∙ map-append effects_of k.book.items (done ∷ []) ∙ ap (λ (cs : List Call). map effects_of k.book.items ++ cs ∷ []) effects) in
+      let books : map effects_of was.since ++ calls (kept (only t) (filter did k.live.standing)) ∷ [] ≡ map effects_of (was.since ++ done ∷ []) = sym (map-append effects_of was.since (done ∷ []) ∙ ap (λ (cs : List Call). map effects_of was.since ++ cs ∷ []) effects) in
       let stands : kept (others t) (filter did k.live.standing) ≡ filter did n.live.standing = sym (ap (filter did) standing ∙ filter-swap did (λ (x : Entry). others t x.txn) k.live.standing) in
       let m = after origin.first k.book.items in
       let moved = commits (held_of k.locks) safe_k.fit.kept.locks m k.live.standing safe_k.fit.kept.sound (only t) in
       let booked : after origin.first n.book.items ≡ runs m (kept (only t) k.live.standing) = ap (after origin.first) book ∙ after-append origin.first k.book.items (done ∷ []) ∙ ap (run m) its_calls in
       let bases : base ≡ later = sym (base_is k base safe_k) ∙ sym moved.same ∙ (λ i. runs (sym booked i) (sym standing i)) ∙ base_is n later safe_n in
-      let here : Now n old later = record { tally = subst (λ (X : Type 0). X) (λ i. Tallies (books i) (txns_of (sym rest i)) (num n.live.members) (stands i) (tells old)) tally; leads = was.leads ∙ bases } in
+      let whole : n.book.items ≡ origin.earlier ++ (was.since ++ done ∷ []) = book ∙ ap (λ (xs : List Committed). xs ++ done ∷ []) was.book ∙ append_assoc origin.earlier was.since (done ∷ []) in
+      let here : Now n old later = record { since = was.since ++ done ∷ []; book = whole; tally = subst (λ (X : Type 0). X) (λ i. Tallies (books i) (txns_of (sym rest i)) (num n.live.members) (stands i) (tells old)) tally; leads = was.leads ∙ bases } in
       let q = quiet_store k n store in
       let few = r.few in
       stays k n later safe_n q (omega (arith, few, count)) (appended_now n old (appended n.operations.store.log) later q.appends here) r
 
-  -- ---- a kernel begins
+  -- ---- the log's area begins
 
-  pub starts : (k : Parts D) → IsConsistent seen may_leave origin origin.first k → IsBase origin.first → k.book.items ≡ [] → k.commits.items ≡ [] → k.live.members ≡ [] → k.live.standing ≡ [] → AreImages (appended k.operations.store.log) → IsRestartable origin k
-  starts k safe bounds book commits members standing images =
+  pub starts : (k : Parts D) → IsConsistent seen may_leave origin origin.begun k → IsBase origin.begun → origin.begun ≡ after origin.first origin.earlier → k.book.items ≡ origin.earlier → k.commits.items ≡ [] → k.live.members ≡ [] → k.live.standing ≡ []
+      → AreImages (appended k.operations.store.log) → IsRestartable origin k
+  starts k safe bounds begun book commits members standing images =
       let records = appended k.operations.store.log in
       let total = pages k.operations.store.pool in
       let quiet = images_quiet origin.pages records safe.fit.right.kept.sound.each.0 images in
       let tally : Tallies [] [] (num []) [] (tells []) = record { books = refl; live = refl; its = λ t. refl } in
-      let began : Now k [] origin.first = record {
-        tally = subst (λ (X : Type 0). X) (λ i. Tallies (map effects_of (sym book i)) (txns_of (sym commits i)) (num (sym members i)) (filter did (sym standing i)) (tells [])) tally;
+      let began : Now k [] origin.begun = record {
+        since = [];
+        book = book ∙ sym (append-nil origin.earlier);
+        tally = subst (λ (X : Type 0). X) (λ i. Tallies [] (txns_of (sym commits i)) (num (sym members i)) (filter did (sym standing i)) (tells [])) tally;
         leads = refl;
       } in
-      let now : Now k records origin.first = quiet_now k [] records origin.first (begin_all (IsQuiet origin.pages []) records quiet) began in
+      let now : Now k records origin.begun = quiet_now k [] records origin.begun (begin_all (IsQuiet origin.pages []) records quiet) began in
       let leads : LeadsOn origin.relations origin.counters total origin.pages [] = record {
         good = subst (IsGood origin.relations origin.counters total) (images_held origin.pages records images) safe.fit.right.sound.good;
         base = λ b holds. holds;
@@ -582,7 +596,8 @@ module _ {D : Type 0} (seen : D → List ℕ) (may_leave : D → List ℕ → Ty
         images = omega (arith, area);
       } in
       record {
-        beginnings = λ area front back is. quiet_recovers origin.pages [] front (quiet front back is) origin.relations origin.counters total (area_size k.operations.store.log) origin.first (recovered area);
-        tells = tells_of k records origin.first safe now;
+        beginnings = λ area front back is. quiet_recovers origin.pages [] front (quiet front back is) origin.relations origin.counters total (area_size k.operations.store.log) origin.begun (recovered area);
+        begun = begun;
+        tells = tells_of k records origin.begun safe now;
         few = let nobody : length k.live.members ≡ 0 = ap (λ (ms : List Member). length ms) members in omega (arith, nobody);
       }

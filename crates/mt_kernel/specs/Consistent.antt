@@ -17,6 +17,7 @@ use Rattle.mt_live.specs.Members.{Member, has_inverse}
 use Rattle.mt_live.specs.declared.transactions.TxnState.{TxnState}
 use Rattle.mt_live.specs.declared.transactions.TxnState.TheVariants.{Committing}
 use Rattle.mt_log.specs.Words.{appended, used, area_size}
+use Rattle.mt_model.specs.declared.history.Committed.{Committed}
 use Rattle.mt_model.specs.declared.operations.Reply.{Reply}
 use Rattle.mt_model.specs.declared.operations.Op.{Op}
 use Rattle.mt_model.specs.declared.operations.Op.TheVariants.{Get, Insert, Update, Delete, Add, Read}
@@ -52,9 +53,12 @@ use Rattle.mt_kernel.specs.declared.parts.Commit.{Commit}
 use Rattle.mt_kernel.specs.declared.parts.Parts.{Parts}
 use Rattle.mt_kernel.specs.declared.parts.Running.{Running}
 
--- What a kernel began on: the pages as they were when its log's area began, the base that they held, and the schema.
+-- What a kernel began on: the base on which its book begins, and the schema; and of its log's area the pages as they were when that began,
+-- the base that they held, and the commits that were in the book by then.
 pub record Origin : Type 0 where
   pub first : Base
+  pub earlier : List Committed
+  pub begun : Base
   pub pages : PageBytes
   pub relations : ℕ
   pub counters : ℕ
@@ -62,6 +66,11 @@ pub record Origin : Type 0 where
 pub record IsSchema (origin : Origin) : Type 0 where
   pub few_relations : origin.relations ≤ 64
   pub few_counters : origin.counters ≤ 128
+
+-- the area began with the book
+pub record IsFirstArea (origin : Origin) : Type 0 where
+  pub begun : origin.begun ≡ origin.first
+  pub none : origin.earlier ≡ []
 
 -- The state that the laws speak of, read off the kernel's parts; the base is one that the pages hold.
 abbrev pub state_of : {D : Type 0} → Parts D → Base → State

@@ -57,21 +57,26 @@ pub record IsTelling (book : List Committed) (ts : List ℕ) (ms : List Member) 
   pub live : map entry_of x.live ≡ filter did (without_all ts standing)
   pub numbers : (t : ℕ) → map (λ (f : Finished). f.op) (its t x.live) ≡ numbers_of (member_of ms t)
 
--- The records tell of the book, of the commits under way and of the transactions at work, and have led to what these leave.
-pub record TellsOf {D : Type 0} (first : Base) (k : Parts D) (records : List Record) : Type 0 where
-  pub telling : IsTelling k.book.items (txns_of k.commits.items) k.live.members k.live.standing (tells records)
-  pub calls : run first (calls_in records) ≡ runs (after first k.book.items) k.live.standing
+-- The records tell of what is in the book since the area began, of the commits under way and of the transactions at work, and have led
+-- to what these leave.
+pub record TellsOf {D : Type 0} (origin : Origin) (k : Parts D) (records : List Record) : Type 0 where
+  pub since : List Committed
+  pub book : k.book.items ≡ origin.earlier ++ since
+  pub telling : IsTelling since (txns_of k.commits.items) k.live.members k.live.standing (tells records)
+  pub calls : run origin.begun (calls_in records) ≡ runs (after origin.first k.book.items) k.live.standing
 
 -- a restart over these records finds the base that they stand for
 abbrev pub Recovers : {D : Type 0} → Origin → Parts D → List Record → Type 0
 Recovers origin k records = IsRecoverable origin.relations origin.counters (pages k.operations.store.pool)
-    (area_size k.operations.store.log) origin.pages origin.first records
+    (area_size k.operations.store.log) origin.pages origin.begun records
 
 -- A restart over each beginning of the records finds its base, if the area has 4 MiB at least: at most 64 transactions
--- live, and such an area has room for the images of the pages that inverses change.
+-- live, and such an area has room for the images of the pages that inverses change. The area began on what the commits
+-- from before it lead to.
 pub record IsRestartable {D : Type 0} (origin : Origin) (k : Parts D) : Type 0 where
   pub beginnings : 4194304 ≤ area_size k.operations.store.log → EachBeginning (Recovers origin k) (appended k.operations.store.log)
-  pub tells : TellsOf origin.first k (appended k.operations.store.log)
+  pub begun : origin.begun ≡ after origin.first origin.earlier
+  pub tells : TellsOf origin k (appended k.operations.store.log)
   pub few : length k.live.members ≤ 64
 
 -- ---- what a step appends

@@ -1,10 +1,13 @@
 -- What a step of an operation does, and of an inverse.
 use Rattle.std.specs.Prelude.{ℕ, ◌≡◌, ◌≢◌, List, Some, Result, Ok, Err, ⊤, slice_index_or}
 use Rattle.mt_base.specs.declared.refusal.Refusal.{Refusal}
+use Rattle.mt_disk.specs.Disk.{LeavesOnly}
 use Rattle.mt_model.specs.Model.{Base, reply_of}
 use Rattle.mt_op.specs.declared.answers.Stepped.{Stepped}
 use Rattle.mt_op.specs.declared.answers.Stepped.TheVariants as stepped
+use Rattle.mt_pool.specs.Kept.{IsKept, Explains}
 use Rattle.mt_pool.specs.Views.{IsFull}
+use Rattle.mt_space.specs.Changes.{PageBytes}
 use Rattle.mt_kernel.specs.Consistent.{Origin, state_of, IsIn, EndsIn, UndoesIn, IsOwnerOf}
 use Rattle.mt_kernel.specs.declared.parts.Parts.{Parts}
 use Rattle.mt_kernel.specs.declared.parts.Running.{Running}
@@ -26,6 +29,11 @@ UndoSteps seen may_leave origin base k n place (Ok (Ended reply)) = (r : Running
     → (reply_of base r.scope.op ≡ reply) × UndoesIn seen may_leave origin base (state_of k base) n r.scope.txn r.scope.op
 UndoSteps seen may_leave origin base k n place (Ok (GoingOn going)) = IsIn seen may_leave origin base (state_of k base) n
 UndoSteps seen may_leave origin base k n place (Err why) = IsIn seen may_leave origin base (state_of k base) n
+
+-- Whenever a crash comes meanwhile, what it leaves explains the pages as before.
+abbrev pub LeavesExplained : {D : Type 0} → (D → List ℕ) → (D → List ℕ → Type 0) → (D → ℕ) → (D → ℕ → List ℕ → Type 0) → Parts D → Parts D → Type 0
+LeavesExplained seen may_leave moment left_since k n = (opening : PageBytes) → IsKept seen may_leave opening k.operations.store
+    → LeavesOnly moment left_since k.operations.store.device n.operations.store.device (Explains opening k.operations.store)
 
 -- Every frame holds a page that is yet to be flushed; pages, locks and log are as they were.
 abbrev pub WantsFrame : {D : Type 0} → Parts D → Parts D → Type 0

@@ -15,6 +15,7 @@ ghost use Rattle.mt_pool.specs.declared.flushing.Flushed.TheVariants as flushed;
 ghost use Rattle.mt_base.specs.declared.refusal.Refusal.{Refusal};
 ghost use Rattle.mt_kernel.specs.Consistent.{log_kept, SameCommits, SameRunning, SameStates, SameUncommitted, SetsState, BooksIn, IsSound, StaysIn, OnlyOperations, Origin, state_of, state_in, session_in, IsConsistent, IsIn};
 ghost use Rattle.mt_kernel.specs.Restartable.{StaysRestartable};
+ghost use Rattle.mt_kernel.specs.Steps.{LeavesExplained};
 ghost use Rattle.mt_kernel.specs.Booked.{booked_each, durable_count, durable_txns};
 ghost use Rattle.mt_kernel.specs.Runs.{is_open};
 ghost use Rattle.mt_kernel.specs.Work.{LeavesUndo, most_steps, undo_steps};
@@ -67,6 +68,7 @@ impl<D: Device> Parts<D> {
         ensures opened { IfOk result (λ txn. SetsState self.old self.new txn (Some Open)) }
         ensures same_running { SameRunning self.old self.new }
         ensures same_commits { SameCommits self.old self.new }
+        ensures device { self.new.operations.store.device ≡ self.old.operations.store.device }
         ensures restartable { length self.old.live.members < 64
             → StaysRestartable D.seen D.may_leave self.old self.new }
         ensures err { OnErr result (self.new ≡ self.old) }
@@ -88,6 +90,7 @@ impl<D: Device> Parts<D> {
         ensures same_commits { SameCommits self.old self.new }
         ensures few { (origin : Origin) (base : Base) → IsConsistent D.seen D.may_leave origin base self.old
             → undo_steps self.new txn ≤ most_steps self.old txn }
+        ensures device { self.new.operations.store.device ≡ self.old.operations.store.device }
         ensures restartable { StaysRestartable D.seen D.may_leave self.old self.new }
     {
         self.live.set_state(txn, TxnState::Aborting);
@@ -116,6 +119,7 @@ impl<D: Device> Parts<D> {
         ensures err { OnErr result (SameStates self.old self.new × SameCommits self.old self.new) }
         ensures same_running { SameRunning self.old self.new }
         ensures only_memory { IfErr result (λ why. why ≡ Refusal.NoMemory) }
+        ensures device { self.new.operations.store.device ≡ self.old.operations.store.device }
         ensures restartable { StaysRestartable D.seen D.may_leave self.old self.new }
     {
         self.commits.reserve(1)?;
@@ -195,6 +199,7 @@ impl<D: Device> Parts<D> {
         ensures only_device { IfErr result (λ why. why ≡ Refusal.DeviceFailed) }
         ensures cause { IsErr result → (D.faults self.old.operations.store.device
             < D.faults self.new.operations.store.device ⊎ (has_failed self.old.operations.store.log ≡ true)) }
+        ensures moments { LeavesExplained D.seen D.may_leave D.moment D.left_since self.old self.new }
         ensures restartable { StaysRestartable D.seen D.may_leave self.old self.new }
     {
         self.operations.force_step()
@@ -219,6 +224,7 @@ impl<D: Device> Parts<D> {
             → (f : ℕ) → get_or self.new.operations.store.pool.dirty.items f false ≡ false }
         ensures cause { HasCause (D.faults self.old.operations.store.device)
             (D.faults self.new.operations.store.device) result }
+        ensures moments { LeavesExplained D.seen D.may_leave D.moment D.left_since self.old self.new }
         ensures restartable { StaysRestartable D.seen D.may_leave self.old self.new }
     {
         self.operations.flush_step()
@@ -239,6 +245,7 @@ impl<D: Device> Parts<D> {
         ensures content { D.seen self.new.operations.store.device ≡ D.seen self.old.operations.store.device }
         ensures cause { IfErr result (λ why. (why ≡ Refusal.NoMemory) ⊎ (why ≡ Refusal.DeviceFailed)
             × (D.faults self.old.operations.store.device < D.faults self.new.operations.store.device)) }
+        ensures moments { LeavesExplained D.seen D.may_leave D.moment D.left_since self.old self.new }
         ensures restartable { StaysRestartable D.seen D.may_leave self.old self.new }
     {
         self.operations.survey(alloc)

@@ -9,7 +9,7 @@ ghost use Rattle.mt_op.specs.Operations.{IsCause};
 ghost use Rattle.mt_live.specs.declared.transactions.TxnState.TheVariants.{Aborting};
 ghost use Rattle.mt_kernel.specs.Consistent.{BacksIn, DropsIn, state_in, IsSound, IsClearedAt, AtPlace, Origin, state_of, IsConsistent, IsCleared, IsIn, GoesBack};
 ghost use Rattle.mt_kernel.specs.Restartable.{QuietlyAppends, StaysRestartable};
-ghost use Rattle.mt_kernel.specs.Steps.{WantsFrame};
+ghost use Rattle.mt_kernel.specs.Steps.{LeavesExplained, WantsFrame};
 ghost use Rattle.mt_kernel.specs.Work.{LeavesStanding, LowersBack, undo_steps};
 ghost use Rattle.mt_kernel.specs.declared.parts.Running.{Running};
 
@@ -45,6 +45,7 @@ impl<D: Device> Parts<D> {
         ensures back { (origin : Origin) (base : Base) → IsConsistent D.seen D.may_leave origin base self.old
             → GoesBack D.seen D.may_leave origin base (state_of self.old base) self.new place result }
         ensures book { self.new.book ≡ self.old.book }
+        ensures moments { LeavesExplained D.seen D.may_leave D.moment D.left_since self.old self.new }
         ensures appends { (origin : Origin) (base : Base) → IsConsistent D.seen D.may_leave origin base self.old
             → QuietlyAppends origin.pages self.old self.new }
     {
@@ -97,6 +98,7 @@ impl<D: Device> Parts<D> {
         ensures why { IfErr result IsCause }
         ensures faults { TellsFaults (D.faults self.old.operations.store.device)
             (D.faults self.new.operations.store.device) result }
+        ensures moments { LeavesExplained D.seen D.may_leave D.moment D.left_since self.old self.new }
         ensures restartable { StaysRestartable D.seen D.may_leave self.old self.new }
     {
         match self.take_back(place)? {

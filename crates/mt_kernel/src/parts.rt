@@ -4,7 +4,7 @@ ghost use Rattle.mt_live.specs.Machine.{start};
 ghost use Rattle.mt_model.specs.Model.{IsBase};
 ghost use Rattle.mt_op.specs.Operations.{IsRight};
 ghost use Rattle.mt_steps.specs.Held.{Holds};
-ghost use Rattle.mt_kernel.specs.Consistent.{Origin, IsSchema, IsEscrowed, IsFresh, IsIn};
+ghost use Rattle.mt_kernel.specs.Consistent.{Origin, IsSchema, IsFirstArea, IsEscrowed, IsFresh, IsIn};
 ghost use Rattle.mt_kernel.specs.Restartable.{IsRestartable};
 
 use mt_base::{LogPos, TxnNo};
@@ -57,7 +57,7 @@ impl<D: Device> Parts<D> {
             → IsRight D.seen D.may_leave origin.pages origin.relations origin.counters operations
             → IsEscrowed origin.counters origin.first escrow
             → IsIn D.seen D.may_leave origin origin.first (start origin.first) result }
-        ensures restartable { (origin : Origin) → IsSchema origin → IsBase origin.first
+        ensures restartable { (origin : Origin) → IsSchema origin → IsFirstArea origin → IsBase origin.first
             → Holds origin.pages origin.first
             → IsRight D.seen D.may_leave origin.pages origin.relations origin.counters operations
             → IsEscrowed origin.counters origin.first escrow → IsRestartable origin result }

@@ -10,7 +10,7 @@ ghost use Rattle.mt_kernel.specs.Work.{Lowers, LowersUndo, steps_in, undo_steps}
 ghost use Rattle.mt_op.specs.Faults.{TellsFaults};
 ghost use Rattle.mt_op.specs.Operations.{IsCause};
 ghost use Rattle.mt_kernel.specs.Restartable.{StaysRestartable, StepAppends};
-ghost use Rattle.mt_kernel.specs.Steps.{Steps, UndoSteps, TellsOther, NamesOther, WantsFrame};
+ghost use Rattle.mt_kernel.specs.Steps.{LeavesExplained, Steps, UndoSteps, TellsOther, NamesOther, WantsFrame};
 ghost use Rattle.mt_kernel.specs.declared.parts.Running.{Running};
 
 use crate::parts::Parts;
@@ -66,6 +66,7 @@ impl<D: Device> Parts<D> {
         ensures other { (origin : Origin) (base : Base) → IsConsistent D.seen D.may_leave origin base self.old
             → AtPlace self.old.running.items place (λ r. TellsOther self.new.running.items r.scope.txn result) }
         ensures book { self.new.book ≡ self.old.book }
+        ensures moments { LeavesExplained D.seen D.may_leave D.moment D.left_since self.old self.new }
         ensures appends { (origin : Origin) (base : Base) → IsConsistent D.seen D.may_leave origin base self.old
             → AtPlace self.new.running.items place (λ r. StepAppends origin self.old self.new r.scope result) }
     {
@@ -95,6 +96,7 @@ impl<D: Device> Parts<D> {
             → Steps D.seen D.may_leave origin base self.old self.new place result }
         ensures other { (origin : Origin) (base : Base) → IsConsistent D.seen D.may_leave origin base self.old
             → AtPlace self.old.running.items place (λ r. NamesOther self.new.running.items r.scope.txn result) }
+        ensures moments { LeavesExplained D.seen D.may_leave D.moment D.left_since self.old self.new }
         ensures restartable { StaysRestartable D.seen D.may_leave self.old self.new }
     {
         match self.advance(alloc, place)? {
@@ -134,6 +136,7 @@ impl<D: Device> Parts<D> {
             → UndoSteps D.seen D.may_leave origin base self.old self.new place result }
         ensures other { (origin : Origin) (base : Base) → IsConsistent D.seen D.may_leave origin base self.old
             → AtPlace self.old.running.items place (λ r. NamesOther self.new.running.items r.scope.txn result) }
+        ensures moments { LeavesExplained D.seen D.may_leave D.moment D.left_since self.old self.new }
         ensures restartable { StaysRestartable D.seen D.may_leave self.old self.new }
     {
         match self.advance(alloc, place)? {

@@ -83,6 +83,7 @@ impl<D: Device> Parts<D> {
         ensures err { (origin : Origin) (base : Base) → IsConsistent D.seen D.may_leave origin base self.old
             → OnErr result (IsIn D.seen D.may_leave origin base (state_of self.old base) self.new) }
         ensures only_memory { IfErr result (λ why. why ≡ Refusal.NoMemory) }
+        ensures device { self.new.operations.store.device ≡ self.old.operations.store.device }
         ensures restartable { StaysRestartable D.seen D.may_leave self.old self.new }
     {
         self.operations.append(Record::AbortEnd { txn })?;

@@ -8,27 +8,14 @@ ghost use Rattle.mt_pool.specs.Writes.{IsUnfinished};
 use crate::log::{durable, has_bytes};
 use mt_base::{LogPos, OpNo, PageNo, Refusal, TxnNo, edits_of};
 use mt_disk::{Device, DeviceFault, MemDevice};
-use mt_frame::Record;
-use mt_log::{AreaPlace, Forced};
+use mt_frame::{MasterSlot, Record, encode_slot};
+use mt_log::{Forced, ruling_slot};
 use mt_pool::{Fetched, Flushed, Store};
 use mt_space::PageChange;
 use std::alloc::Global;
 use std::test::Fail;
 
-/// Where the page slots and the log's area of each test lie.
-const PLACE: u64 = 8192;
-
-fn area() -> AreaPlace
-    ensures start { result.start ≡ 143360 }
-    ensures end { result.end ≡ 602112 }
-{
-    AreaPlace {
-        start: 143_360,
-        end: 602_112,
-    }
-}
-
-/// A store of 33 pages in 32 frames. Page 0 says what kind the first pages are of, page 1 has a pointer to page 3, an
+/// A store of 33 pages in 32 frames over an area of 4 MiB. Page 0 says what kind the first pages are of, page 1 has a pointer to page 3, an
 /// empty bucket, and page 2 has one relation; the others are free.
 fn formatted(alloc: Global) -> Result<Store<MemDevice>, Refusal>
     ensures kept { IfOk result (λ store. (opening : ℕ → List ℕ) × IsKept content MayLeave opening store) }
@@ -36,14 +23,25 @@ fn formatted(alloc: Global) -> Result<Store<MemDevice>, Refusal>
     ensures appended { IfOk result (λ store. appended store.log ≡ []) }
     ensures unfinished { IfOk result (λ store. IsUnfinished 1 1 (appended store.log)) }
     ensures used { IfOk result (λ store. used store.log ≡ 5) }
-    ensures area { IfOk result (λ store. area_size store.log ≡ 458752) }
+    ensures area { IfOk result (λ store. area_size store.log ≡ 4194304) }
 {
-    let mut bytes = vec![in alloc; 0u8; 602_112]?;
+    let first = MasterSlot {
+        epoch: 1,
+        area: 0,
+        pages: 33,
+        mib: 4,
+    };
+    let mut bytes = vec![in alloc; 0u8; 8_531_968]?;
+    bytes[0..17].copy_from_slice(&encode_slot(&first));
     bytes[8192..8196].copy_from_slice(&[1, 1, 1, 2]);
     bytes[12_296..12_298].copy_from_slice(&[0, 3]);
     bytes[16_385] = 1;
-    let device = MemDevice::new(alloc, bytes, 4, 262_144)?;
-    let store = Store::begin(alloc, device, 32, 33, PLACE, area())?;
+    let mut device = MemDevice::new(alloc, bytes, 4, 262_144)?;
+    let ruling = ruling_slot(&mut device)?;
+    if ruling.pages != 33 || ruling.mib != 4 {
+        return Err(Refusal::BadFormat(0));
+    }
+    let store = Store::begin(alloc, device, 32, ruling)?;
     Ok(store)
 }
 

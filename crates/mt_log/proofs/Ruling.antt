@@ -216,3 +216,31 @@ module _ (at other : ℕ) (apart : (at + 17 ≤ other) ⊎ (other + 17 ≤ at)) 
 
 pub behind_size : (text : List ℕ) (s : MasterSlot) → text ≡ slot_text s → length (take 16 (drop 1 text)) ≡ 16
 behind_size text s is = let size = text_size s in let long = ap length is in let rest = length-drop 1 text in length-take-le 16 (drop 1 text) (omega arith)
+
+-- ---- where bytes behind a slot are torn
+
+module _ (at n : ℕ) (d c : List ℕ) (torn : Torn at n d c) (place : ℕ) (below : place + 17 ≤ at) where
+  open_below : (s : MasterSlot) → IsOpenAt d place s → IsOpenAt c place s
+  open_below s o = record {
+    fits = o.fits;
+    text = has_torn at n place (slot_text s) d c o.text torn (inl (let size = text_size s in omega (arith, below, size)));
+    long = let size = torn.size in let long = o.long in omega (arith, long, size);
+  }
+
+  closed_below : IsClosedAt d place → IsClosedAt c place
+  closed_below closed = λ is. closed (sym (get_torn at n place d c torn (inl (omega (arith, below)))) ∙ is)
+
+rules_below : (at n : ℕ) (d c : List ℕ) → Torn at n d c → (place other : ℕ) → place + 17 ≤ at → other + 17 ≤ at → (slot : MasterSlot) → Rules d place other slot → Rules c place other slot
+rules_below at n d c torn place other below beside slot r = record {
+  own = open_below at n d c torn place below slot r.own;
+  beside = ⊎_elim
+      (λ (closed : IsClosedAt d other). inl (closed_below at n d c torn other beside closed))
+      (λ b. inr (b.0, open_below at n d c torn other beside b.0 b.1, b.2))
+      r.beside;
+}
+
+pub ruling_elsewhere : (at n : ℕ) (d c : List ℕ) (slot : MasterSlot) → IsRuling d slot → Torn at n d c → 8192 ≤ at → IsRuling c slot
+ruling_elsewhere at n d c slot r torn behind = ⊎_elim
+    (λ (first : Rules d 0 4096 slot). inl (rules_below at n d c torn 0 4096 (omega arith) (omega arith) slot first))
+    (λ (second : Rules d 4096 0 slot). inr (rules_below at n d c torn 4096 0 (omega arith) (omega arith) slot second))
+    r

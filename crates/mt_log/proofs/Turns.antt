@@ -1,12 +1,13 @@
 -- Which slot rules while the next one is made to.
-use Rattle.std.proofs.Common.{◌≡◌, ◌⊎◌, inl, inr, ⊎_elim, ◌<◌, ◌≤◌, ◌+◌, ◌^◌, ℕ, List, [], ◌∷◌, length, take, drop, refl, ap, sym, subst, arith}
+use Rattle.std.proofs.Common.{◌≡◌, ◌⊎◌, inl, inr, ⊎_elim, ◌<◌, ◌≤◌, ◌+◌, ◌*◌, ◌^◌, ℕ, zero, suc, List, [], ◌∷◌, length, take, drop, refl, ap, sym, subst, arith}
+use Rattle.mt_base.specs.Limits.{device_bytes_of}
 use Rattle.mt_disk.specs.Disk.{Follows, Has, LeavesOnly, Only, Torn, Wrote}
 use Rattle.mt_disk.proofs.Frame.{leaves_more, one_of, runs_both, torn_refl, torn_trans, torn_within}
 use Rattle.mt_frame.specs.Laws.{OneSlot}
 use Rattle.mt_frame.specs.SlotText.{IsSlot, slot_text}
 use Rattle.mt_frame.specs.declared.slots.MasterSlot.{MasterSlot}
 use Rattle.mt_log.specs.Area.{TornFrom}
-use Rattle.mt_log.specs.Masters.{AreSlots, IsBefore, IsClosedAt, IsOpenAt, IsRuling, Rules}
+use Rattle.mt_log.specs.Masters.{AreSlots, IsBefore, IsClosedAt, IsOpenAt, IsRuling, Rules, area_end, area_size}
 use Rattle.mt_log.specs.Quiet.{OnlyReads}
 use Rattle.mt_log.proofs.Ruling.{apart_of, behind_one, behind_size, close_one, gate_one, not_closed, one_open}
 use Rattle.mt_log.specs.NextSlot.{TurnsTo, next_slot}
@@ -34,6 +35,22 @@ slots_turned at other (inr second) = inl (second.1, second.0)
 pub ruling_fits : (c : List ℕ) (slot : MasterSlot) → IsRuling c slot → IsSlot slot
 ruling_fits c slot (inl first) = first.own.fits
 ruling_fits c slot (inr second) = second.own.fits
+
+-- a slot that rules is one of this device
+pub long_of : (c : List ℕ) (slot : MasterSlot) → IsRuling c slot → device_bytes_of slot.pages slot.mib ≤ length c
+long_of c slot r = ⊎_elim (λ (first : Rules c 0 4096 slot). first.own.long) (λ (second : Rules c 4096 0 slot). second.own.long) r
+
+at_most : (a n : ℕ) → a ≤ 1 → a * n ≤ n
+at_most zero n le = omega arith
+at_most (suc zero) n le = omega arith
+at_most (suc (suc a)) n le = absurd (omega arith)
+
+-- the area that it names is within the device
+pub area_within : (c : List ℕ) (slot : MasterSlot) → IsRuling c slot → area_end slot ≤ length c
+area_within c slot r =
+    let long = long_of c slot r in
+    let low = at_most slot.area (area_size slot) (ruling_fits c slot r).area in
+    omega (arith, long, low)
 
 -- where its text stands at the first place
 pub rules_first : OneSlot → (c : List ℕ) (slot : MasterSlot) → IsRuling c slot → Has c 0 (slot_text slot) → Rules c 0 4096 slot

@@ -1,5 +1,5 @@
 -- The two master slots of a device, and which of them rules.
-use Rattle.std.specs.Prelude.{◌≡◌, ◌≢◌, ◌⊎◌, ◌<◌, ◌≤◌, ℕ, List, length, Option, Some, None, Result, Ok, Err}
+use Rattle.std.specs.Prelude.{◌≡◌, ◌≢◌, ◌⊎◌, ◌+◌, ◌*◌, ◌<◌, ◌≤◌, ℕ, List, length, Option, Some, None, Result, Ok, Err}
 use Rattle.std.proofs.Math.ListN.{get_or}
 use Rattle.mt_base.specs.declared.refusal.Refusal.{Refusal}
 use Rattle.mt_base.specs.declared.refusal.Refusal.TheVariants.{BadFormat}
@@ -44,6 +44,18 @@ pub record Rules (c : List ℕ) (at other : ℕ) (slot : MasterSlot) : Type 0 wh
 -- one of the two slots of a device rules
 abbrev pub IsRuling : List ℕ → MasterSlot → Type 0
 IsRuling c slot = Rules c 0 4096 slot ⊎ Rules c 4096 0 slot
+
+-- ---- the log area that a slot names
+
+-- the bytes of an area, the place of its first, and the place behind its last
+abbrev pub area_size : MasterSlot → ℕ
+area_size slot = slot.mib * 1048576
+
+abbrev pub area_start : MasterSlot → ℕ
+area_start slot = 8192 + 4096 * slot.pages + slot.area * area_size slot
+
+abbrev pub area_end : MasterSlot → ℕ
+area_end slot = area_start slot + area_size slot
 
 -- ---- where none does
 

@@ -1,7 +1,10 @@
 ghost use Rattle.std.specs.Prelude.{false, true, ◌≡◌, ◌+◌, ◌*◌, ◌<◌, ◌≤◌};
 ghost use Rattle.mt_base.specs.Limits.{IsPageCount, IsAreaSize};
+ghost use Rattle.mt_frame.specs.SlotText.{IsSlot};
+ghost use Rattle.mt_log.specs.Masters.{area_end, area_start};
 
 use mt_base::limits::{MASTER_BYTES, area_bytes};
+use mt_frame::MasterSlot;
 
 /// Where a log area lies on its device: from its first byte to the one behind its last.
 #[derive(Clone, Copy, Debug)]
@@ -29,6 +32,15 @@ impl AreaPlace {
             start,
             end: start + size,
         }
+    }
+
+    /// The log area that a master slot names.
+    pub fn named_by(slot: &MasterSlot) -> AreaPlace
+        requires { IsSlot slot.now }
+        ensures start { result.start ≡ area_start slot.now }
+        ensures end { result.end ≡ area_end slot.now }
+    {
+        AreaPlace::of(slot.pages, slot.mib, slot.area == 1)
     }
 
     /// Its bytes.

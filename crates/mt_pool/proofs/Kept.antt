@@ -16,10 +16,13 @@ use Rattle.mt_log.specs.declared.log.Log.{Log}
 use Rattle.mt_log.proofs.AtRest.{scans_coming}
 use Rattle.mt_log.proofs.Prefix.{beginning_found}
 use Rattle.mt_log.proofs.Elsewhere.{on_elsewhere}
+use Rattle.mt_log.proofs.Ruling.{ruling_elsewhere}
+use Rattle.mt_log.specs.Masters.{IsRuling}
+use Rattle.mt_frame.specs.declared.slots.MasterSlot.{MasterSlot}
 use Rattle.mt_pool.specs.Images.{slot, IsSafe, GivesPages}
 use Rattle.mt_pool.specs.Views.{IsPool, Shows, IsTied, held, pages, view, waits_for}
 use Rattle.mt_pool.specs.declared.pool.Pool.{Pool}
-use Rattle.mt_pool.specs.Kept.{carried_of, carried, Explains, IsKept}
+use Rattle.mt_pool.specs.Kept.{carried_of, carried, Explains, IsKept, Names}
 use Rattle.mt_pool.specs.declared.store.Store.{Store}
 use Rattle.mt_pool.proofs.Safe.{cut_torn, gives_pages, safe_elsewhere, safe_less}
 use Rattle.mt_pool.proofs.Tied.{tied_same, safe_page, views_apart, shows_apart}
@@ -28,6 +31,10 @@ use Rattle.mt_pool.proofs.Tied.{tied_same, safe_page, views_apart, shows_apart}
 pub carried_take : (xs ys : List Record) → take (length xs) (carried (xs ++ ys)) ≡ carried xs
 carried_take xs ys =
     ap (λ (n : ℕ). take n (carried (xs ++ ys))) (sym (length-map xs carried_of)) ∙ ap (λ l. take (length (carried xs)) l) (map-append carried_of xs ys) ∙ take-append_seam (carried xs) (carried ys)
+
+-- a slot rules where bytes behind it are torn
+pub rules_on : (ruling : MasterSlot) (at n : ℕ) (may later : List ℕ → Type 0) → 8192 ≤ at → Follows (Torn at n) may later → ((c : List ℕ) → may c → IsRuling c ruling) → (c : List ℕ) → later c → IsRuling c ruling
+rules_on ruling at n may later behind follows rules c left = let from = follows c left in ruling_elsewhere at n from.0 c ruling (rules from.0 from.1) from.2 behind
 
 -- what a step that made no batch durable leaves
 pub same_durable : (old new : Log) (forced : Forced) → ((x : ℕ) → forced ≡ Durable x → ⊥) → IsStep old forced new → durable new ≡ durable old
@@ -41,6 +48,10 @@ joined_more old new m = ⊎_elim
     (λ s. ([], s.0 ∙ sym (append-nil (durable old))))
     (λ rest. ⊎_elim (λ s. ([], s.1 ∙ sym (append-nil (durable old)))) (λ s. (in_flight old, s.1)) rest)
     m
+
+-- a slot that names the pages and the area of a log names as many pages there, and the same area
+pub names_same : (ruling : MasterSlot) (pool new : Pool) (log later : Log) → new.place ≡ pool.place → pages new ≡ pages pool → area_start later ≡ area_start log → area_end later ≡ area_end log → Names ruling pool log → Names ruling new later
+names_same ruling pool new log later place count start end n = record { count = n.count ∙ sym count; place = place ∙ n.place; start = n.start ∙ sym start; end = n.end ∙ sym end }
 
 module _ {D : Type 0} (seen : D → List ℕ) (may : D → List ℕ → Type 0) (opening : ℕ → List ℕ) (s : Store D) (k : IsKept seen may opening s) where
   -- a crash now
@@ -58,6 +69,9 @@ module _ {D : Type 0} (seen : D → List ℕ) (may : D → List ℕ → Type 0) 
         gives = subst (λ es. GivesPages s.pool.place (pages s.pool) opening es c) images
             (gives_pages s.pool.place (pages s.pool) opening (carried (appended s.log)) (length (durable s.log)) (may s.device) k.safe (length start)
             (omega (arith, more, length-append (durable s.log) found.beginning.more)) c left);
+        ruling = s.ruling;
+        rules = k.rules c left;
+        names = k.names;
       }
 
 -- what explains the pages after a step did so before it
@@ -76,6 +90,9 @@ explains_back opening s t c start end place count same more grown e = record {
   };
   gives = subst (λ (x : ℕ). GivesPages x (pages s.pool) opening (carried (joined e.batches)) c) place
       (subst (λ (x : ℕ). GivesPages t.pool.place x opening (carried (joined e.batches)) c) count e.gives);
+  ruling = e.ruling;
+  rules = e.rules;
+  names = names_same e.ruling t.pool s.pool t.log s.log (sym place) (sym count) (sym start) (sym end) e.names;
 }
 
 -- a call with at most one device call
@@ -90,9 +107,9 @@ each_moment seen may moment left_since only_now opening s t k k2 start end place
 module _ {D : Type 0} (seen : D → List ℕ) (may : D → List ℕ → Type 0) (opening : ℕ → List ℕ) (s : Store D) (k : IsKept seen may opening s) where
   -- a force step
   pub kept_force : (log : Log) (d : D) (n : ℕ) → IsOn seen may log d → (IsSound (pages s.pool) s.log → IsSound (pages s.pool) log) → Moves s.log log → appended log ≡ appended s.log → n ≡ length (durable log)
-      → area_start log ≡ area_start s.log → Torn (area_start s.log) (area_size s.log) (seen s.device) (seen d) → Follows (Torn (area_start s.log) (area_size s.log)) (may s.device) (may d)
+      → area_start log ≡ area_start s.log → area_end log ≡ area_end s.log → Torn (area_start s.log) (area_size s.log) (seen s.device) (seen d) → Follows (Torn (area_start s.log) (area_size s.log)) (may s.device) (may d)
       → IsKept seen may opening (record s { log = log; device = d; settled = n })
-  kept_force log d n on sound moves same n_is start rest follows =
+  kept_force log d n on sound moves same n_is start end rest follows =
       let apart : Apart (area_start s.log) (area_size s.log) s.pool.place (4096 * pages s.pool) = inl k.apart in
       let grown = joined_more s.log log moves in
       let more : length (durable log) ≡ length (durable s.log) + length grown.0 = ap length grown.1 ∙ length-append (durable s.log) grown.0 in
@@ -110,6 +127,8 @@ module _ {D : Type 0} (seen : D → List ℕ) (may : D → List ℕ → Type 0) 
             (omega (arith, more)) (omega (arith, all, ap (λ (l : List Record). length (carried l)) same)) apart follows);
         tied = subst (λ (l : List Record). IsTied s.pool (seen d) opening (carried l)) (sym same)
             (tied_same s.pool s.pool (seen s.device) (seen d) opening (carried (appended s.log)) k.tied refl refl (views_apart s.pool (area_start s.log) (area_size s.log) (seen s.device) (seen d) rest apart));
+        names = names_same s.ruling s.pool s.pool s.log log refl refl start end k.names;
+        rules = rules_on s.ruling (area_start s.log) (area_size s.log) (may s.device) (may d) (let a = k.apart in let at = k.names.place in omega (arith, a, at)) follows k.rules;
         unnamed = λ p lt none. ap (λ (l : List Record). some_record (is_of_page p) l) same ∙ k.unnamed p lt none;
       }
 
@@ -136,6 +155,11 @@ module _ {D : Type 0} (seen : D → List ℕ) (may : D → List ℕ → Type 0) 
         (λ f. safe_page s.pool (seen s.device) opening (carried (appended s.log)) (length (durable s.log)) (may s.device) (may d) f.0 k.tied k.safe f.1 f.2 (let le = f.3 in omega (arith, n_is, k.settled)) f.5)
         crash));
     tied = tied_same s.pool p (seen s.device) (seen d) opening (carried (appended s.log)) k.tied waits count (λ q lt. views q);
+    names = names_same s.ruling s.pool p s.log s.log place count refl refl k.names;
+    rules = ⊎_elim
+        (λ same. subst (λ (x : D). (c : List ℕ) → may x c → IsRuling c s.ruling) (sym same) k.rules)
+        (λ f. rules_on s.ruling (s.pool.place + 4096 * f.0) 4096 (may s.device) (may d) (let at = k.names.place in omega (arith, at)) f.5 k.rules)
+        crash;
     unnamed = λ q lt none. k.unnamed q (omega (arith, lt, count)) (sym (ap (λ v. get_or v.items q 0) waits) ∙ none);
   }
 
@@ -154,6 +178,8 @@ module _ {D : Type 0} (seen : D → List ℕ) (may : D → List ℕ → Type 0) 
         (subst (λ (x : ℕ). IsSafe s.pool.place x opening (carried (appended s.log)) (length (durable s.log)) (may d)) (sym count)
         (safe_less s.pool.place (pages s.pool) opening (carried (appended s.log)) (length (durable s.log)) (may s.device) (may d) k.safe less));
     tied = tied_same s.pool p (seen s.device) (seen d) opening (carried (appended s.log)) k.tied waits count (λ q lt. views q);
+    names = names_same s.ruling s.pool p s.log s.log place count refl refl k.names;
+    rules = λ c left. k.rules c (less c left);
     unnamed = λ q lt none. k.unnamed q (omega (arith, lt, count)) (sym (ap (λ v. get_or v.items q 0) waits) ∙ none);
   }
 
@@ -171,6 +197,8 @@ module _ {D : Type 0} (seen : D → List ℕ) (may : D → List ℕ → Type 0) 
     safe = subst (λ (x : ℕ). IsSafe x (pages p) opening (carried (appended s.log)) (length (durable s.log)) (may s.device)) (sym place)
         (subst (λ (x : ℕ). IsSafe s.pool.place x opening (carried (appended s.log)) (length (durable s.log)) (may s.device)) (sym count) k.safe);
     tied = tied;
+    names = names_same s.ruling s.pool p s.log s.log place count refl refl k.names;
+    rules = k.rules;
     unnamed = λ q lt none. k.unnamed q (omega (arith, lt, count)) (sym (ap (λ v. get_or v.items q 0) waits) ∙ none);
   }
 
@@ -181,8 +209,9 @@ module _ {D : Type 0} (seen : D → List ℕ) (may : D → List ℕ → Type 0) 
 -- no record is appended yet, and a crash leaves the slots as they are
 pub kept_begin : {D : Type 0} (seen : D → List ℕ) (may : D → List ℕ → Type 0) (opening : ℕ → List ℕ) (s : Store D) → IsOn seen may s.log s.device → IsSound (pages s.pool) s.log → s.pool.place + 4096 * pages s.pool ≤ area_start s.log → pages s.pool ≤ 4000
     → IsPool s.pool → Shows s.pool (seen s.device) → s.settled ≡ 0 → durable s.log ≡ [] → in_flight s.log ≡ [] → waiting s.log ≡ [] → ((p : ℕ) → waits_for s.pool p ≡ 0)
-    → ((p : ℕ) → p < pages s.pool → view s.pool (seen s.device) p ≡ opening p) → ((p : ℕ) → p < pages s.pool → (c : List ℕ) → may s.device c → slot s.pool.place c p ≡ opening p) → IsKept seen may opening s
-kept_begin seen may opening s on sound apart few frames shows settled durable_none flying_none waiting_none waits views slots =
+    → ((p : ℕ) → p < pages s.pool → view s.pool (seen s.device) p ≡ opening p) → ((p : ℕ) → p < pages s.pool → (c : List ℕ) → may s.device c → slot s.pool.place c p ≡ opening p)
+    → Names s.ruling s.pool s.log → ((c : List ℕ) → may s.device c → IsRuling c s.ruling) → IsKept seen may opening s
+kept_begin seen may opening s on sound apart few frames shows settled durable_none flying_none waiting_none waits views slots names rules =
     let none : appended s.log ≡ [] =
     ap (λ (l : List Record). l ++ (in_flight s.log ++ waiting s.log)) durable_none ∙ ap (λ (l : List Record). l ++ waiting s.log) flying_none ∙ waiting_none in
     record {
@@ -203,6 +232,8 @@ kept_begin seen may opening s on sound apart few frames shows settled durable_no
         within = λ p lt. let w = waits p in omega arith;
         untouched = λ p lt is. (refl, views p lt);
       });
+      names = names;
+      rules = rules;
       unnamed = λ p lt is. ap (λ (l : List Record). some_record (is_of_page p) l) none;
     }
 

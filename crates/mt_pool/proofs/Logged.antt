@@ -11,7 +11,7 @@ use Rattle.std.specs.List.{AllByRecursion}
 use Rattle.mt_frame.specs.History.{some_record, is_of_page, may_stand, MayFollow}
 use Rattle.mt_log.specs.Holds.{HasItsPage}
 use Rattle.mt_log.specs.Sound.{IsSound}
-use Rattle.mt_log.specs.Words.{durable, in_flight, waiting, appended, area_start, stands_at}
+use Rattle.mt_log.specs.Words.{durable, in_flight, waiting, appended, area_start, area_end, stands_at}
 use Rattle.mt_log.specs.declared.log.Log.{Log}
 use Rattle.mt_log.proofs.Elsewhere.{on_same}
 use Rattle.mt_log.proofs.Prefix.{may_back, each_back}
@@ -22,6 +22,7 @@ use Rattle.mt_pool.specs.Kept.{carried_of, carried, IsKept}
 use Rattle.mt_pool.specs.Writes.{records_size, IsLonger}
 use Rattle.mt_pool.specs.declared.store.Store.{Store}
 use Rattle.mt_pool.proofs.Safe.{bool_cases, has_later, has_all, in_more, in_later}
+use Rattle.mt_pool.proofs.Kept.{names_same}
 use Rattle.mt_pool.proofs.Tied.{has_front, or_some}
 
 -- ---- images that come behind others
@@ -131,6 +132,10 @@ pub same_start : (old new : Log) → stands_at new ≡ stands_at old → area_st
 unfolding stands_at area_start
 same_start old new same = ap (λ s. s.0) same
 
+pub same_end : (old new : Log) → stands_at new ≡ stands_at old → area_end new ≡ area_end old
+unfolding stands_at area_end
+same_end old new same = ap (λ s. s.1) same
+
 pub carried_more : (old new : Log) (rs : List Record) → IsLonger old new rs → carried (appended new) ≡ carried (appended old) ++ carried rs
 carried_more old new rs l = ap carried (longer_appended old new rs l) ∙ map-append carried_of (appended old) rs
 
@@ -162,6 +167,8 @@ module _ {D : Type 0} (seen : D → List ℕ) (may : D → List ℕ → Type 0) 
         tied = subst (λ es. IsTied p (seen s.device) opening es) (sym images)
             (tied_images s.pool p (seen s.device) opening (carried (appended s.log)) (carried rs) page k.frames k.tied lt (omega (arith, some, length-map rs carried_of)) first
             (waits ∙ ap (λ (n : ℕ). set s.pool.waits.items page n) position) count others);
+        names = names_same s.ruling s.pool p s.log log place count (same_start s.log log longer.stands) (same_end s.log log longer.stands) k.names;
+        rules = k.rules;
         unnamed = λ q q_in none. elim (cases_eq q page) [
           | inl same ↦ absurd (
               let w : get_or p.waits.items q 0 ≡ length (appended log) = ap (λ (l : List ℕ). get_or l q 0) waits ∙ ap (λ (x : ℕ). get_or (set s.pool.waits.items page (length (appended log))) x 0) same
@@ -204,6 +211,8 @@ module _ {D : Type 0} (seen : D → List ℕ) (may : D → List ℕ → Type 0) 
           within = λ p lt. let le = t.within p lt in omega (arith, length-append before (carried rs));
           untouched = λ p lt not. let was = t.untouched p lt not in (has_later p before (carried rs) was.0 ∙ none p, was.1);
         });
+        names = names_same s.ruling s.pool s.pool s.log log refl refl (same_start s.log log longer.stands) (same_end s.log log longer.stands) k.names;
+        rules = k.rules;
         unnamed = λ q lt not. ap (λ (l : List Record). some_record (is_of_page q) l) all ∙ no_records (is_of_page q) (appended s.log) rs (k.unnamed q lt not) (named q);
       }
 

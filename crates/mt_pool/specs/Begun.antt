@@ -1,7 +1,8 @@
 -- A store that begins over a device.
-use Rattle.std.specs.Prelude.{◌<◌, ◌≡◌, ℕ, ◌-◌, List, [], Result, Ok, Err}
+use Rattle.std.specs.Prelude.{◌<◌, ◌≡◌, ℕ, List, [], Result, Ok, Err}
 use Rattle.mt_log.specs.Words.{appended, used, area_size}
-use Rattle.mt_log.specs.declared.area.AreaPlace.{AreaPlace}
+use Rattle.mt_frame.specs.declared.slots.MasterSlot.{MasterSlot}
+use Rattle.mt_log.specs.Masters.{area_size as size_of}
 use Rattle.mt_pool.specs.Images.{slot}
 use Rattle.mt_pool.specs.Kept.{IsKept}
 use Rattle.mt_pool.specs.Views.{view, pages as pages_of, frames as frames_of}
@@ -14,11 +15,11 @@ device_after (Ok store) = store.device
 device_after (Err gone) = gone.device
 
 -- its pages are those in the slots of the device, and its log has no record
-pub record Begins {D : Type 0} (seen : D → List ℕ) (may_leave : D → List ℕ → Type 0) (place pages frames : ℕ) (area : AreaPlace) (device : D) (s : Store D) : Type 0 where
-  pub kept : IsKept seen may_leave (slot place (seen device)) s
-  pub views : (q : ℕ) → q < pages → view s.pool (seen s.device) q ≡ slot place (seen device) q
+pub record Begins {D : Type 0} (seen : D → List ℕ) (may_leave : D → List ℕ → Type 0) (ruling : MasterSlot) (frames : ℕ) (device : D) (s : Store D) : Type 0 where
+  pub kept : IsKept seen may_leave (slot 8192 (seen device)) s
+  pub views : (q : ℕ) → q < ruling.pages → view s.pool (seen s.device) q ≡ slot 8192 (seen device) q
   pub none : appended s.log ≡ []
   pub used_head : used s.log ≡ 5
-  pub size : area_size s.log ≡ area.end - area.start
-  pub page_count : pages_of s.pool ≡ pages
+  pub size : area_size s.log ≡ size_of ruling
+  pub page_count : pages_of s.pool ≡ ruling.pages
   pub frame_count : frames_of s.pool ≡ frames

@@ -4,11 +4,15 @@ use Rattle.mt_frame.specs.declared.records.Record.{Record}
 use Rattle.mt_frame.specs.declared.records.Record.TheVariants.{Page, OpEnd, OpDropped, Commit, AbortEnd}
 use Rattle.mt_frame.specs.History.{some_record, is_of_page}
 use Rattle.mt_log.specs.Batch.{joined}
+use Rattle.mt_frame.specs.declared.slots.MasterSlot.{MasterSlot}
 use Rattle.mt_log.specs.Holds.{HoldsBatches}
+use Rattle.mt_log.specs.Masters.{IsRuling, area_start as start_of, area_end as end_of}
 use Rattle.mt_log.specs.Sound.{IsSound, IsBeginning}
 use Rattle.mt_log.specs.Words.{durable, appended, area_start, area_end, IsOn}
 use Rattle.mt_pool.specs.Images.{IsSafe, GivesPages}
 use Rattle.mt_pool.specs.Views.{IsPool, Shows, IsTied, pages, waits_for}
+use Rattle.mt_log.specs.declared.log.Log.{Log}
+use Rattle.mt_pool.specs.declared.pool.Pool.{Pool}
 use Rattle.mt_pool.specs.declared.store.Store.{Store}
 
 -- the image of this page, if there is one
@@ -28,16 +32,28 @@ carried_of (AbortEnd txn) = None
 abbrev pub carried : List Record → List (Option (ℕ × List ℕ))
 carried records = map carried_of records
 
+-- the slot names these pages, behind the two slots, and the area of this log
+pub record Names (ruling : MasterSlot) (pool : Pool) (log : Log) : Type 0 where
+  pub count : ruling.pages ≡ pages pool
+  pub place : pool.place ≡ 8192
+  pub start : start_of ruling ≡ area_start log
+  pub end : end_of ruling ≡ area_end log
+
 -- What a crash left, c, explains the pages as at the opening: the log's area holds batches, and no more, whose records are a beginning of
--- the appended ones with all durable ones, and each page is its first image in them or else what its slot has.
+-- the appended ones with all durable ones, and each page is its first image in them or else what its slot has. The master slot that
+-- rules names the pages and that area.
 pub record Explains {D : Type 0} (opening : ℕ → List ℕ) (s : Store D) (c : List ℕ) : Type 0 where
   pub batches : List (List Record)
   pub held : HoldsBatches c (area_start s.log) (area_end s.log) (pages s.pool) batches
   pub beginning : IsBeginning s.log batches
   pub gives : GivesPages s.pool.place (pages s.pool) opening (carried (joined batches)) c
+  pub ruling : MasterSlot
+  pub rules : IsRuling c ruling
+  pub names : Names ruling s.pool s.log
 
--- The log and the pool are on the device, the slots before the log's area; whatever a crash leaves, the pages are had as at the
--- opening; and the pool knows of each page whether the log has a record of it, and the last one.
+-- The log and the pool are on the device, the slots before the log's area; whatever a crash leaves, the master slot that names both
+-- rules in it, and the pages are had as at the opening; and the pool knows of each page whether the log has a record of it, and the
+-- last one.
 pub record IsKept {D : Type 0} (seen : D → List ℕ) (may_leave : D → List ℕ → Type 0) (opening : ℕ → List ℕ) (s : Store D) : Type 0 where
   pub on : IsOn seen may_leave s.log s.device
   pub sound : IsSound (pages s.pool) s.log
@@ -48,6 +64,8 @@ pub record IsKept {D : Type 0} (seen : D → List ℕ) (may_leave : D → List �
   pub settled : s.settled ≡ length (durable s.log)
   pub safe : IsSafe s.pool.place (pages s.pool) opening (carried (appended s.log)) (length (durable s.log)) (may_leave s.device)
   pub tied : IsTied s.pool (seen s.device) opening (carried (appended s.log))
+  pub names : Names s.ruling s.pool s.log
+  pub rules : (c : List ℕ) → may_leave s.device c → IsRuling c s.ruling
   pub unnamed : (p : ℕ) → p < pages s.pool → waits_for s.pool p ≡ 0 → some_record (is_of_page p) (appended s.log) ≡ false
 
 -- it is kept for some pages, as they were when its area began

@@ -1,4 +1,4 @@
--- What a store keeps is a fact that has one proof, so that a type may keep it as its invariant.
+-- What a store's parts keep is a fact that has one proof.
 use Rattle.std.specs.Prelude.{◌++◌, ◌⊎◌, ℤ, ℕ, ◌≡◌, List, [], ◌∷◌, Bool, Option, None, Some}
 use Rattle.std.specs.Coded.{×_prop}
 use Rattle.std.proofs.Common.{sym, ◌∙◌, ap, arith, inl, inr}
@@ -14,14 +14,11 @@ use Rattle.mt_frame.specs.declared.records.LoggedOp.TheVariants.{Insert, Update,
 use Rattle.mt_frame.specs.Grammar.{IsRecord, IsPageRecord, IsImageAlone, IsChange, IsImage, IsOperation}
 use Rattle.mt_frame.specs.History.{MayFollow, BatchesMayFollow, IsHistory}
 use Rattle.mt_log.specs.Holds.{HasItsPage, AreRecords}
-use Rattle.mt_log.specs.Same.{IsOn-prop}
 use Rattle.mt_log.specs.Sound.{IsSound}
 use Rattle.mt_log.specs.declared.log.Log.{Log}
 use Rattle.mt_pool.specs.Images.{IsSafe}
 use Rattle.mt_pool.specs.Views.{IsPool, Names, Shows, IsTied}
-use Rattle.mt_pool.specs.Kept.{IsKept}
 use Rattle.mt_pool.specs.declared.pool.Pool.{Pool}
-use Rattle.mt_pool.specs.declared.store.Store.{Store}
 
 -- what is in an option, with a fact of it
 Held-prop : (o : Option ℕ) (P : ℕ → Type 0) → ((p : ℕ) → IsProp (P p)) → IsProp ((p : ℕ) × (o ≡ Some p) × P p)
@@ -109,6 +106,3 @@ History-prop (b ∷ bs) = hlevel (props, MayFollow-prop, Batches-prop)
 
 pub Sound-prop : (pages : ℕ) (log : Log) → IsProp (IsSound pages log)
 Sound-prop pages log = hlevel (props, Records-prop, History-prop)
-
-pub IsKept-prop : {D : Type 0} (seen : D → List ℕ) (may_leave : D → List ℕ → Type 0) (opening : ℕ → List ℕ) (s : Store D) → IsProp (IsKept seen may_leave opening s)
-IsKept-prop seen may_leave opening s = hlevel (props, IsOn-prop, Sound-prop, Pool-prop, Shows-prop, Safe-prop, Tied-prop)

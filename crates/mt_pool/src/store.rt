@@ -4,6 +4,7 @@ ghost use Rattle.mt_base.specs.Edits.{patched, log_size};
 ghost use Rattle.mt_base.specs.declared.refusal.Refusal.{Refusal};
 ghost use Rattle.mt_disk.specs.Disk.{Torn, Only, LeavesOnly, Elapses, HasCause};
 ghost use Rattle.mt_log.specs.Area.{TornFrom};
+ghost use Rattle.mt_log.specs.Masters.{IsRuling, area_size as size_of, area_start as start_of};
 ghost use Rattle.mt_pool.specs.Begun.{Begins, device_after};
 ghost use Rattle.mt_frame.specs.Grammar.{IsRecord, IsOfPage, IsTxn, IsOp};
 ghost use Rattle.mt_frame.specs.History.{may_stand};
@@ -15,9 +16,10 @@ ghost use Rattle.mt_pool.specs.Images.{slot};
 
 use crate::writing::append_all;
 use crate::{Fetched, Flushed, Pool};
+use mt_base::limits::MASTER_BYTES;
 use mt_base::{LogPos, OpNo, PageNo, Refusal, TxnNo};
 use mt_disk::{Device, DeviceFault};
-use mt_frame::Record;
+use mt_frame::{MasterSlot, Record};
 use mt_log::{AreaPlace, Forced, Log, begin_area};
 use mt_space::PageChange;
 use std::alloc::Global;
@@ -33,6 +35,8 @@ pub struct Store<D: Device> {
     pub device: D,
     pub log: Log,
     pub pool: Pool,
+    /// The master slot that rules the device: it names the pages and the log's area.
+    pub ruling: MasterSlot,
     /// The place of the last record that is durable, or 0.
     pub settled: LogPos,
 }
@@ -58,29 +62,24 @@ impl<D: Device> Store<D> {
     ghost use Rattle.mt_pool.specs.Kept.{IsKept};
     ghost use Rattle.mt_pool.specs.Views.{view, pages as pages_of, frames as frames_of};
 
-    /// A store over a device whose page slots begin at `place`, so many pages, in so many frames. What is on the
-    /// device is synced, and then the log's area begins anew without images, so the pages as they are now
-    /// are those to be had after a crash. Refusals are [`Refusal::NoMemory`] and, where the device failed in this
-    /// call, [`Refusal::DeviceFailed`]; each hands the device back. No byte outside of the area is touched in any
-    /// case.
+    /// A store over a device that this master slot rules, with so many pages in frames. What is on the device is synced, and
+    /// then the log's area begins anew without images, so the pages as they are now are those to be had after a crash.
+    /// Refusals are [`Refusal::NoMemory`] and, where the device failed in this call, [`Refusal::DeviceFailed`]; each hands
+    /// the device back. No byte outside of the area is touched in any case.
     pub fn begin(
         alloc: Global,
         device: D,
         frames: usize,
-        pages: u16,
-        place: u64,
-        area: AreaPlace,
+        ruling: MasterSlot,
     ) -> Result<Store<D>, NotBegun<D>>
-        requires few { pages ≤ 4000 }
-        requires apart { place + 4096 * pages ≤ area.start }
-        requires within { area.end ≤ length (D.seen device) }
-        ensures kept { IfOk result (λ store. IsKept D.seen D.may_leave (slot place (D.seen device)) store) }
-        ensures views { IfOk result (λ store. (q : ℕ) → q < pages
-            → view store.pool (D.seen store.device) q ≡ slot place (D.seen device) q) }
+        requires rules { IsRuling (D.seen device) ruling }
+        ensures kept { IfOk result (λ store. IsKept D.seen D.may_leave (slot 8192 (D.seen device)) store) }
+        ensures views { IfOk result (λ store. (q : ℕ) → q < ruling.pages
+            → view store.pool (D.seen store.device) q ≡ slot 8192 (D.seen device) q) }
         ensures appended { IfOk result (λ store. appended store.log ≡ []) }
         ensures used { IfOk result (λ store. used store.log ≡ 5) }
-        ensures area { IfOk result (λ store. area_size store.log ≡ area.end - area.start) }
-        ensures pages { IfOk result (λ store. pages_of store.pool ≡ pages) }
+        ensures area { IfOk result (λ store. area_size store.log ≡ size_of ruling) }
+        ensures pages { IfOk result (λ store. pages_of store.pool ≡ ruling.pages) }
         ensures frames { IfOk result (λ store. frames_of store.pool ≡ frames) }
         ensures cause { IfErr result (λ gone. (gone.refusal ≡ Refusal.NoMemory)
             ⊎ (gone.refusal ≡ Refusal.DeviceFailed) × (D.faults device < D.faults gone.device)) }
@@ -88,15 +87,16 @@ impl<D: Device> Store<D> {
         ensures memory { IfErr result (λ gone. gone.refusal ≡ Refusal.NoMemory → D.seen gone.device ≡ D.seen device) }
         // Whenever a crash comes in this call, it leaves what it might have left before, but for the area.
         ensures moments { LeavesOnly D.moment D.left_since device (device_after result)
-            (TornFrom (D.may_leave device) area.start (area.end - area.start)) }
-        ensures rest { Torn area.start (area.end - area.start) (D.seen device) (D.seen (device_after result)) }
+            (TornFrom (D.may_leave device) (start_of ruling) (size_of ruling)) }
+        ensures rest { Torn (start_of ruling) (size_of ruling) (D.seen device) (D.seen (device_after result)) }
     {
         let mut device = device;
-        match parts(alloc, &mut device, frames, pages, place, area) {
+        match parts(alloc, &mut device, frames, &ruling) {
             Ok((log, pool)) => Ok(Store {
                 device,
                 log,
                 pool,
+                ruling,
                 settled: LogPos::new(0),
             }),
             Err(refusal) => Err(NotBegun { refusal, device }),
@@ -109,23 +109,20 @@ fn parts<D: Device>(
     alloc: Global,
     device: &mut D,
     frames: usize,
-    pages: u16,
-    place: u64,
-    area: AreaPlace,
+    ruling: &MasterSlot,
 ) -> Result<(Log, Pool), Refusal>
-    requires few { pages ≤ 4000 }
-    requires apart { place + 4096 * pages ≤ area.start }
-    requires within { area.end ≤ length (D.seen device.old) }
-    ensures begun { IfOk result (λ parts. Begins D.seen D.may_leave place pages frames area device.old
-        (record { device = device.new; log = parts.0; pool = parts.1; settled = 0 })) }
+    requires { IsRuling (D.seen device.old) ruling.now }
+    ensures begun { IfOk result (λ parts. Begins D.seen D.may_leave ruling.now frames device.old
+        (record { device = device.new; log = parts.0; pool = parts.1; ruling = ruling.now; settled = 0 })) }
     ensures cause { IfErr result (λ why. (why ≡ Refusal.NoMemory) ⊎ (why ≡ Refusal.DeviceFailed)
         × (D.faults device.old < D.faults device.new)) }
     ensures memory { IfErr result (λ why. why ≡ Refusal.NoMemory → D.seen device.new ≡ D.seen device.old) }
     ensures moments { LeavesOnly D.moment D.left_since device.old device.new
-        (TornFrom (D.may_leave device.old) area.start (area.end - area.start)) }
-    ensures rest { Torn area.start (area.end - area.start) (D.seen device.old) (D.seen device.new) }
+        (TornFrom (D.may_leave device.old) (start_of ruling.now) (size_of ruling.now)) }
+    ensures rest { Torn (start_of ruling.now) (size_of ruling.now) (D.seen device.old) (D.seen device.new) }
 {
-    let pool = Pool::new(alloc, frames, pages, place)?;
+    let area = AreaPlace::named_by(ruling);
+    let pool = Pool::new(alloc, frames, ruling.pages, MASTER_BYTES)?;
     device.sync()?;
     let log = begin_area(alloc, device, area)?;
     Ok((log, pool))

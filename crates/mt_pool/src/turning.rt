@@ -2,17 +2,18 @@
 ghost use Rattle.std.specs.Prelude.{◌≡◌, ◌⊎◌, ◌+◌, ◌*◌, ◌<◌, ◌≤◌, ◌^◌, [], ℕ, List, length};
 ghost use Rattle.std.specs.List.{AllByRecursion};
 ghost use Rattle.mt_frame.specs.declared.records.Record.{Record};
+ghost use Rattle.mt_log.specs.Masters.{IsRuling};
 ghost use Rattle.mt_log.specs.Sound.{IsSound};
 ghost use Rattle.mt_log.specs.Words.{durable, in_flight, waiting, area_start, IsOn};
 ghost use Rattle.mt_pool.specs.Images.{IsSafe};
-ghost use Rattle.mt_pool.specs.Kept.{IsKept, carried};
+ghost use Rattle.mt_pool.specs.Kept.{IsKept, Names, carried};
 ghost use Rattle.mt_pool.specs.Turns.{IsImageOnly, KnowsImages};
 ghost use Rattle.mt_pool.specs.Views.{IsPool, Shows, view, waits_for, pages as pages_of};
 
 use crate::{Pool, Store};
 use mt_base::LogPos;
 use mt_disk::Device;
-use mt_frame::Record;
+use mt_frame::{MasterSlot, Record};
 use mt_log::Log;
 
 // Tells the pool of the images with which an area begins.
@@ -38,14 +39,22 @@ fn note_images(pool: &mut Pool, images: &[Record])
 
 impl<D: Device> Store<D> {
     /// A store over an area that has just begun with these images of pages, where each page's slot, or its frame, has
-    /// its bytes as they are at that moment. No page waits for a record then but for its image. It takes no memory.
-    pub fn over_images(device: D, log: Log, pool: Pool, images: &[Record]) -> Store<D>
+    /// its bytes as they are at that moment. The master slot that names the area rules the device. No page waits for a record then but for its image. It takes no memory.
+    pub fn over_images(
+        device: D,
+        log: Log,
+        pool: Pool,
+        ruling: MasterSlot,
+        images: &[Record],
+    ) -> Store<D>
         requires on { IsOn D.seen D.may_leave log device }
         requires sound { IsSound (pages_of pool) log }
         requires durable { (durable log ≡ images.now) × (in_flight log ≡ []) × (waiting log ≡ []) }
         requires images { AllByRecursion (IsImageOnly (pages_of pool)) images.now }
         requires apart { pool.place + 4096 * pages_of pool ≤ area_start log }
         requires few { pages_of pool ≤ 4000 }
+        requires names { Names ruling pool log }
+        requires rules { (c : List ℕ) → D.may_leave device c → IsRuling c ruling }
         requires pool { IsPool pool × Shows pool (D.seen device) × ((q : ℕ) → waits_for pool q ≡ 0) }
         ensures kept { (opening : ℕ → List ℕ)
             → IsSafe pool.place (pages_of pool) opening (carried images.now) (length images.now) (D.may_leave device)
@@ -55,6 +64,7 @@ impl<D: Device> Store<D> {
         ensures pages { pages_of result.pool ≡ pages_of pool }
         ensures place { result.pool.place ≡ pool.place }
         ensures log { result.log ≡ log }
+        ensures ruling { result.ruling ≡ ruling }
         ensures device { result.device ≡ device }
     {
         let mut pool = pool;
@@ -63,6 +73,7 @@ impl<D: Device> Store<D> {
             device,
             log,
             pool,
+            ruling,
             settled: LogPos::new(images.len() as u64),
         }
     }

@@ -23,10 +23,10 @@ use Rattle.mt_steps.specs.Plans.{IsGood}
 use Rattle.mt_replay.specs.Checks.{AreBroken}
 use Rattle.mt_replay.specs.Laws.{EachInverseFinds, OnlyOwnPagesMatter, RestartFindsBase}
 use Rattle.mt_replay.specs.Losers.{all_finished, AreOfGrammar, finished_of, HasEnded, HasUndone, StopsAt}
-use Rattle.mt_log.specs.Masters.{IsRuling, Rules}
+use Rattle.mt_log.specs.Masters.{IsRuling, Rules, area_size, area_start}
 use Rattle.mt_replay.specs.Memory.{AreFirst}
 use Rattle.mt_replay.specs.Recoverable.{IsRecoverable, pages_held}
-use Rattle.mt_replay.specs.Stands.{AreHeld, CanRestart, HasArea, ShowsBase, area_size, area_start}
+use Rattle.mt_replay.specs.Stands.{AreHeld, CanRestart, HasArea, ShowsBase}
 use Rattle.mt_replay.specs.Told.{calls_of, op_of, Finished, losers, stands_for}
 use Rattle.mt_replay.specs.Undoing.{UndoesAll}
 use Rattle.mt_replay.specs.declared.telling.Loser.{Loser}
@@ -34,16 +34,6 @@ use Rattle.mt_replay.specs.declared.telling.Loser.{Loser}
 pub if_ok : {T E : Type 0} (P Q : T → Type 0) (r : Result T E) → ((x : T) → P x → Q x) → IfOk r P → IfOk r Q
 if_ok P Q (Ok x) f p = f x p
 if_ok P Q (Err e) f p = tt
-
-pub area_of : (c : List ℕ) (slot : MasterSlot) → IsRuling c slot → slot.area ≤ 1
-area_of c slot = ⊎_elim (λ (r : Rules c 0 4096 slot). r.own.fits.area) (λ (r : Rules c 4096 0 slot). r.own.fits.area)
-
--- the place of the area
-pub starts_at : (slot : MasterSlot) (start : ℕ) → slot.area ≤ 1 → (slot.area == 1 ≡ false → start ≡ 8192 + 4096 * slot.pages) → (slot.area == 1 ≡ true → start ≡ 8192 + 4096 * slot.pages + slot.mib * 1048576) → start ≡ area_start slot
-starts_at slot start low first second = elim (cases_eq slot.area 1) [
-  | inl one ↦ let is = second (eq-eqb slot.area 1 one) in let moved : slot.area * area_size slot ≡ 1 * area_size slot = ap (λ (a : ℕ). a * area_size slot) one in omega (arith, is, moved)
-  | inr other ↦ let is = first (ne_eqb slot.area 1 other) in let none : slot.area ≡ 0 = omega (arith, low, other) in let moved : slot.area * area_size slot ≡ 0 * area_size slot = ap (λ (a : ℕ). a * area_size slot) none in omega (arith, is, moved)
-]
 
 -- ---- what is held, looked at and undone
 

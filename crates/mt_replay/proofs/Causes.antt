@@ -17,11 +17,11 @@ use Rattle.mt_steps.specs.Plans.{IsGood}
 use Rattle.mt_replay.specs.Checks.{AreChecked}
 use Rattle.mt_replay.specs.Laws.{OnlyOwnPagesMatter}
 use Rattle.mt_replay.specs.Losers.{all_finished, HasEnded, HasUndone, StopsAt}
-use Rattle.mt_log.specs.Masters.{IsRuling}
+use Rattle.mt_log.specs.Masters.{IsRuling, area_end, area_start}
 use Rattle.mt_replay.specs.Memory.{AreFirst}
 use Rattle.mt_replay.specs.Recoverable.{pages_held}
 use Rattle.mt_replay.specs.Refused.{AreRepeated, AreUndone, BreaksFormat, BreaksLog, IsCause, StopsUndoing, behind, in_area}
-use Rattle.mt_replay.specs.Stands.{HasArea, area_end, area_start}
+use Rattle.mt_replay.specs.Stands.{HasArea}
 use Rattle.mt_replay.specs.Told.{losers}
 use Rattle.mt_replay.specs.declared.telling.Loser.{Loser}
 

@@ -12,8 +12,8 @@ use Rattle.mt_log.specs.declared.batch.Batch.{Batch}
 use Rattle.mt_frame.specs.SlotText.{IsSlot}
 use Rattle.mt_frame.specs.declared.slots.MasterSlot.{MasterSlot}
 use Rattle.mt_replay.specs.Figures.{is_commit}
-use Rattle.mt_log.specs.Masters.{Rules}
-use Rattle.mt_replay.specs.Stands.{HasArea, area_size, area_start}
+use Rattle.mt_log.specs.Masters.{Rules, area_size, area_start}
+use Rattle.mt_replay.specs.Stands.{HasArea}
 use Rattle.mt_replay.proofs.Walking.{joined_at}
 
 -- each record takes a byte of the row at least

@@ -16,10 +16,10 @@ use Rattle.mt_replay.specs.Checks.{AreChecked}
 use Rattle.mt_replay.specs.Faults.{IsFaulty}
 use Rattle.mt_replay.specs.Figures.{AreFigures}
 use Rattle.mt_replay.specs.Losers.{all_finished, HasEnded, HasUndone, StopsAt}
-use Rattle.mt_log.specs.Masters.{BreaksMaster, IsRuling, IsUnformatted}
+use Rattle.mt_log.specs.Masters.{BreaksMaster, IsRuling, IsUnformatted, area_end, area_start}
 use Rattle.mt_replay.specs.Memory.{AreFirst}
 use Rattle.mt_replay.specs.Recoverable.{pages_held}
-use Rattle.mt_replay.specs.Stands.{HasArea, area_end, area_start}
+use Rattle.mt_replay.specs.Stands.{HasArea}
 use Rattle.mt_replay.specs.Told.{losers}
 use Rattle.mt_replay.specs.declared.figures.Figures.{Figures}
 use Rattle.mt_replay.specs.declared.telling.Loser.{Loser}

@@ -1,5 +1,5 @@
 -- What the bytes of a device stand for, told without a restart's passes.
-use Rattle.std.specs.Prelude.{◌≡◌, ℕ, ◌+◌, ◌*◌, List, length}
+use Rattle.std.specs.Prelude.{◌≡◌, ℕ, List, length}
 use Rattle.mt_frame.specs.declared.records.Record.{Record}
 use Rattle.mt_frame.specs.declared.slots.MasterSlot.{MasterSlot}
 use Rattle.mt_log.specs.Batch.{joined}
@@ -9,7 +9,7 @@ use Rattle.mt_pool.specs.Images.{GivesPages}
 use Rattle.mt_pool.specs.Kept.{carried}
 use Rattle.mt_space.specs.Changes.{PageBytes}
 use Rattle.mt_steps.specs.Held.{Holds}
-use Rattle.mt_log.specs.Masters.{IsRuling}
+use Rattle.mt_log.specs.Masters.{IsRuling, area_size, area_start, area_end}
 use Rattle.mt_replay.specs.Told.{losers, stands_for}
 use Rattle.mt_replay.specs.Losers.{all_finished}
 use Rattle.mt_replay.specs.declared.telling.Loser.{Loser}
@@ -17,16 +17,6 @@ use Rattle.mt_replay.specs.Recoverable.{IsRecoverable, pages_held}
 use Rattle.mt_replay.specs.Memory.{AreFirst}
 use Rattle.mt_base.specs.Limits.{IsRelationCount}
 use Rattle.mt_steps.specs.Plans.{IsGood}
-
--- the log area that a master slot names: the bytes of an area, the place of its first, and the place behind its last
-abbrev pub area_size : MasterSlot → ℕ
-area_size slot = slot.mib * 1048576
-
-abbrev pub area_start : MasterSlot → ℕ
-area_start slot = 8192 + 4096 * slot.pages + slot.area * area_size slot
-
-abbrev pub area_end : MasterSlot → ℕ
-area_end slot = area_start slot + area_size slot
 
 -- The ruling slot names the area; the area's batches and the page slots give each page as the area found it: its first
 -- image, or its slot where there is none.

@@ -12,9 +12,9 @@ ghost use Rattle.mt_model.specs.Model.{Base};
 ghost use Rattle.std.specs.List.{AllByRecursion};
 ghost use Rattle.mt_frame.specs.Grammar.{IsOperation};
 ghost use Rattle.mt_replay.specs.Memory.{AreWhole};
-ghost use Rattle.mt_log.specs.Masters.{IsRuling, IsUnformatted};
+ghost use Rattle.mt_log.specs.Masters.{IsRuling, IsUnformatted, area_end, area_start};
 ghost use Rattle.mt_replay.specs.Refused.{AreUndone, BreaksFormat, BreaksLog, IsCause, IsLog, IsReplayed, StopsUndoing};
-ghost use Rattle.mt_replay.specs.Stands.{AreHeld, CanRestart, HasArea, ShowsBase, area_end, area_start};
+ghost use Rattle.mt_replay.specs.Stands.{AreHeld, CanRestart, HasArea, ShowsBase};
 
 use crate::figures::{Figures, figures_of};
 use crate::laws::{each_inverse_finds, only_own_pages_matter, restart_finds_the_base};
@@ -60,7 +60,7 @@ fn read_area<D: Device>(
         ⊎ ((at : ℕ) × (why ≡ Refusal.BadFormat at) × BreaksAt (D.seen device.old) (area_start ruling.now)
         (area_end ruling.now) ruling.now.pages at))) }
 {
-    let area = AreaPlace::of(ruling.pages, ruling.mib, ruling.area == 1);
+    let area = AreaPlace::named_by(ruling);
     scan(alloc, device, area, ruling.pages)
 }
 

@@ -1,5 +1,5 @@
 -- What a kernel is assembled of, over a device that was formatted.
-use Rattle.std.proofs.Common.{◌≡◌, ℕ, List, length, refl, ap, arith}
+use Rattle.std.proofs.Common.{◌≡◌, ℕ, List, [], length, refl, ap, arith}
 use Rattle.mt_escrow.specs.Seen.{Escrowed}
 use Rattle.mt_kernel.specs.Consistent.{IsFresh}
 use Rattle.mt_log.specs.Words.{appended}
@@ -26,10 +26,11 @@ module _ {D : Type 0} (seen : D → List ℕ) (may_leave : D → List ℕ → Ty
   pub opens_of : (relations counters : ℕ) → relations_in s ≡ relations → length (counters_in s) ≡ counters → Opens seen may_leave o e relations counters (schema_base s)
   opens_of relations counters same_relations same_counters =
       ∣ (
-        record { first = schema_base s; pages = slot 8192 (seen fresh.device); relations = relations_in s; counters = length (counters_in s) },
+        record { first = schema_base s; earlier = []; begun = schema_base s; pages = slot 8192 (seen fresh.device); relations = relations_in s; counters = length (counters_in s) },
         record { relations_are = same_relations; counters_are = same_counters; first_is = refl },
         record {
           schema = record { few_relations = s.relation_count.1; few_counters = s.counter_count };
+          area = record { begun = refl; none = refl };
           bounds = fresh.bounds;
           holds = fresh.formatted.base;
           right = fresh.operations.right;

@@ -1,8 +1,10 @@
 -- A store over a device as it is formatted.
-use Rattle.std.proofs.Common.{◌≡◌, ◌+◌, ◌++◌, ◌∙◌, ℕ, List, [], ◌∷◌, get_or, refl, sym, ap, subst, arith}
+use Rattle.std.proofs.Common.{◌≡◌, ◌+◌, ◌++◌, ◌∙◌, inl, ℕ, List, [], ◌∷◌, get_or, refl, sym, ap, subst, arith}
 use Rattle.mt_disk.specs.Disk.{Only}
 use Rattle.mt_frame.specs.declared.records.Record.{Record}
+use Rattle.mt_frame.specs.declared.slots.MasterSlot.{MasterSlot}
 use Rattle.mt_log.specs.Area.{Area}
+use Rattle.mt_log.specs.Masters.{IsRuling, area_start as start_of, area_end as end_of}
 use Rattle.mt_log.specs.Batch.{Stands}
 use Rattle.mt_log.specs.Sound.{IsSound}
 use Rattle.mt_log.specs.Words.{IsOn, stands_at, in_flight, waiting}
@@ -13,7 +15,7 @@ use Rattle.mt_pool.specs.Images.{slot}
 use Rattle.mt_pool.specs.declared.store.Store.{Store}
 use Rattle.mt_pool.proofs.Kept.{kept_begin}
 use Rattle.mt_restart.specs.Firsts.{IsFirstLog, IsFirstPool, IsFirstStore}
-use Rattle.mt_restart.specs.Formats.{IsFormattedAs}
+use Rattle.mt_restart.specs.Formats.{IsFormattedAs, first_slot}
 use Rattle.mt_restart.specs.Schemas.{pages_end, area_end}
 use Rattle.mt_restart.specs.declared.schema.Schema.{Schema}
 
@@ -41,9 +43,23 @@ first_on seen may s log d l f only =
     (ap (λ x. x.0) l.stands) (ap (λ x. x.1) l.stands) (ap (λ x. x.2) l.stands) (ap (λ x. x.3) l.stands) (ap (λ x. x.4) l.stands) (ap (λ x. x.5) l.stands)
     (first_area s (seen d) (may d) f only)
 
-pub begun : {D : Type 0} (seen : D → List ℕ) (may : D → List ℕ → Type 0) (s : Schema) (frames : ℕ) (store : Store D) → IsFirstLog s store.log → IsFirstPool s frames store.pool → store.settled ≡ 0
+-- ---- the first slot rules, and names the pages and that area
+
+first_start : (s : Schema) → start_of (first_slot s) ≡ pages_end s
+first_start s = omega arith
+
+first_end : (s : Schema) → end_of (first_slot s) ≡ area_end s
+first_end s = omega arith
+
+first_rules : (s : Schema) (c : List ℕ) → IsFormattedAs s c → IsRuling c (first_slot s)
+first_rules s c f = inl (record {
+  own = record { fits = record { epoch = (omega arith, omega arith); area = omega arith; pages = s.page_count; mib = s.area_size }; text = f.master; long = f.long };
+  beside = inl f.other;
+})
+
+pub begun : {D : Type 0} (seen : D → List ℕ) (may : D → List ℕ → Type 0) (s : Schema) (frames : ℕ) (store : Store D) → IsFirstLog s store.log → IsFirstPool s frames store.pool → store.settled ≡ 0 → store.ruling ≡ first_slot s
     → IsFormattedAs s (seen store.device) → Only (seen store.device) (may store.device) → IsFirstStore seen may s frames store.device store
-begun seen may s frames store l p settled f only =
+begun seen may s frames store l p settled ruling f only =
     let d = store.device in
     let opening = slot 8192 (seen d) in
     let few = s.page_count.1 in
@@ -53,7 +69,14 @@ begun seen may s frames store l p settled f only =
       same = refl;
       kept = kept_begin seen may opening store (first_on seen may s store.log d l f only) (subst (λ (k : ℕ). IsSound k store.log) (sym n) l.sound)
           (omega (arith, p.place, n, l.start)) (omega (arith, few, n)) p.sound (p.shows (seen d) (omega arith)) settled l.none l.flying l.waits p.waits
-          (λ q lt. p.views (seen d) q) (λ q lt c left. ap (λ (k : ℕ). slot k c q) p.place ∙ ap (λ (k : List ℕ). slot 8192 k q) (only c left));
+          (λ q lt. p.views (seen d) q) (λ q lt c left. ap (λ (k : ℕ). slot k c q) p.place ∙ ap (λ (k : List ℕ). slot 8192 k q) (only c left))
+          (record {
+            count = ap (λ (m : MasterSlot). m.pages) ruling ∙ sym n;
+            place = p.place;
+            start = ap start_of ruling ∙ first_start s ∙ sym l.start;
+            end = ap end_of ruling ∙ first_end s ∙ sym l.end;
+          })
+          (λ c left. subst (λ (X : Type 0). X) (λ i. IsRuling (sym (only c left) i) (sym ruling i)) (first_rules s (seen d) f));
       shows = λ q lt. p.views (seen d) q;
       empty = ap (λ (rs : List Record). rs ++ (in_flight store.log ++ waiting store.log)) l.none ∙ ap (λ (rs : List Record). rs ++ waiting store.log) l.flying ∙ l.waits;
       head = l.head;

@@ -1,12 +1,9 @@
 -- What stands on a device stays where others of its bytes are torn.
 use Rattle.std.proofs.Common.{◌≡◌, ◌⊎◌, inl, inr, ⊎_elim, ◌<◌, ◌≤◌, ◌+◌, ◌-◌, ◌*◌, ℕ, List, length, refl, sym, ap, ◌∙◌, arith}
 use Rattle.mt_disk.specs.Disk.{Apart, Torn}
-use Rattle.mt_disk.proofs.Frame.{get_torn, has_torn}
-use Rattle.mt_frame.specs.SlotText.{slot_text}
+use Rattle.mt_disk.proofs.Frame.{get_torn}
 use Rattle.mt_frame.specs.declared.records.Record.{Record}
-use Rattle.mt_frame.specs.declared.slots.MasterSlot.{MasterSlot}
 use Rattle.mt_log.specs.Holds.{HoldsBatches}
-use Rattle.mt_log.specs.Masters.{IsClosedAt, IsOpenAt, IsRuling, Rules}
 use Rattle.mt_log.proofs.Elsewhere.{stands_apart}
 use Rattle.mt_log.proofs.Steps.{stands_le}
 use Rattle.mt_pool.specs.Images.{Carried, GivesPages, page_in, slot}
@@ -33,35 +30,3 @@ held_elsewhere at n start end pages batches d c h t beside order =
 pub gives_elsewhere : (at n pages : ℕ) (opening : ℕ → List ℕ) (images : List Carried) (d c : List ℕ) → GivesPages 8192 pages opening images d → Torn at n d c → Apart at n 8192 (4096 * pages) → GivesPages 8192 pages opening images c
 gives_elsewhere at n pages opening images d c gives torn apart p lt =
     ap (page_in images p) (cut_torn at n (8192 + 4096 * p) 4096 d c torn (slot_apart at n 8192 pages p lt apart)) ∙ gives p lt
-
--- ---- the master slots
-
-text_size : (s : MasterSlot) → length (slot_text s) ≡ 17
-text_size s = refl
-
-module _ (at n : ℕ) (d c : List ℕ) (torn : Torn at n d c) (place : ℕ) (below : place + 17 ≤ at) where
-  open_below : (s : MasterSlot) → IsOpenAt d place s → IsOpenAt c place s
-  open_below s o = record {
-    fits = o.fits;
-    text = has_torn at n place (slot_text s) d c o.text torn (inl (let size = text_size s in omega (arith, below, size)));
-    long = let size = torn.size in let long = o.long in omega (arith, long, size);
-  }
-
-  closed_below : IsClosedAt d place → IsClosedAt c place
-  closed_below closed = λ is. closed (sym (get_torn at n place d c torn (inl (omega (arith, below)))) ∙ is)
-
-rules_below : (at n : ℕ) (d c : List ℕ) → Torn at n d c → (place other : ℕ) → place + 17 ≤ at → other + 17 ≤ at → (slot : MasterSlot) → Rules d place other slot → Rules c place other slot
-rules_below at n d c torn place other below beside slot r = record {
-  own = open_below at n d c torn place below slot r.own;
-  beside = ⊎_elim
-      (λ (closed : IsClosedAt d other). inl (closed_below at n d c torn other beside closed))
-      (λ b. inr (b.0, open_below at n d c torn other beside b.0 b.1, b.2))
-      r.beside;
-}
-
--- where bytes behind them are torn
-pub ruling_elsewhere : (at n : ℕ) (d c : List ℕ) (slot : MasterSlot) → IsRuling d slot → Torn at n d c → 8192 ≤ at → IsRuling c slot
-ruling_elsewhere at n d c slot r torn behind = ⊎_elim
-    (λ (first : Rules d 0 4096 slot). inl (rules_below at n d c torn 0 4096 (omega arith) (omega arith) slot first))
-    (λ (second : Rules d 4096 0 slot). inr (rules_below at n d c torn 4096 0 (omega arith) (omega arith) slot second))
-    r

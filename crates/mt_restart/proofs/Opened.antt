@@ -6,18 +6,19 @@ use Rattle.mt_disk.specs.declared.device.Device.{Ghosts}
 use Rattle.mt_frame.specs.declared.records.Record.{Record}
 use Rattle.mt_index.specs.Checks.{bytes_of}
 use Rattle.mt_kernel.specs.Consistent.{IsFresh}
-use Rattle.mt_log.proofs.Turns.{ruling_fits}
-use Rattle.mt_log.specs.Masters.{IsRuling, Rules}
+use Rattle.mt_log.proofs.Turns.{ruling_fits, long_of}
+use Rattle.mt_frame.specs.declared.slots.MasterSlot.{MasterSlot}
+use Rattle.mt_log.specs.Masters.{IsRuling, area_size as size_of, area_start as start_of, area_end as end_of}
 use Rattle.mt_log.specs.NextSlot.{next_slot}
 use Rattle.mt_log.specs.Sound.{IsSound}
-use Rattle.mt_log.specs.Words.{appended, used, area_size, area_start as log_start, durable, in_flight, waiting}
+use Rattle.mt_log.specs.Words.{appended, used, area_size, area_start as log_start, area_end as log_end, durable, in_flight, waiting}
 use Rattle.mt_log.specs.declared.log.Log.{Log}
 use Rattle.mt_model.specs.Model.{Base, IsBase}
 use Rattle.mt_op.specs.Begun.{AreImages, FitsPages, ShowsOpening}
 use Rattle.mt_op.specs.Operations.{IsRight, claimed}
 use Rattle.mt_op.specs.declared.operations.Operations.{Operations}
 use Rattle.mt_pool.specs.Images.{IsSafe, slot}
-use Rattle.mt_pool.specs.Kept.{IsKept, carried, carried_of}
+use Rattle.mt_pool.specs.Kept.{IsKept, Names, carried, carried_of}
 use Rattle.mt_pool.specs.Turns.{IsImageOnly}
 use Rattle.mt_pool.specs.Views.{pages, view}
 use Rattle.mt_pool.specs.declared.store.Store.{Store}
@@ -35,7 +36,6 @@ use Rattle.mt_restart.specs.declared.beside.Beside.{Beside}
 use Rattle.mt_restart.specs.Recovered.{IsRecovered}
 use Rattle.mt_restart.specs.declared.recovering.Recovered.{Recovered}
 use Rattle.mt_restart.proofs.Restarting.{are_images}
-use Rattle.mt_restart.proofs.Staying.{long_of}
 
 -- a log has room behind its records
 some_room : (log : Log) → used log < area_size log
@@ -45,6 +45,11 @@ some_room log = let fits = log.fits in let order = log.in_order in let head = lo
 appended_of : (log : Log) (images : List Record) → durable log ≡ images → in_flight log ≡ [] → waiting log ≡ [] → appended log ≡ images
 appended_of log images d f w =
     ap (λ (l : List Record). l ++ (in_flight log ++ waiting log)) d ∙ ap (λ (l : List Record). images ++ (l ++ waiting log)) f ∙ ap (λ (l : List Record). images ++ l) w ∙ append-nil images
+
+-- a log's area ends behind its bytes
+end_of_log : (log : Log) (s n : ℕ) → log_start log ≡ s → area_size log ≡ n → log_end log ≡ s + n
+unfolding log_start log_end area_size
+end_of_log log s n start size = let some = log.place.some_bytes in omega (arith, start, size, some)
 
 module _ {D : Type 0} (seen : D → List ℕ) (may : D → List ℕ → Type 0) (frames : ℕ) (device : D) (r : Recovered) (is : IsRecovered seen may frames device r) where
   pub rules : IsRuling (seen device) (next_slot is.ruling)
@@ -58,6 +63,18 @@ module _ {D : Type 0} (seen : D → List ℕ) (may : D → List ℕ → Type 0) 
 
   pub apart : 8192 + 4096 * length r.restored.pages.items ≤ log_start r.log
   apart = let start = is.turned.next.start in let count = is.count in omega (arith, start, count)
+
+  -- the slot that rules now names the pages, and the area of the log
+  pub names_next : Names r.ruling r.beside.pool r.log
+  names_next = record {
+    count = ap (λ (m : MasterSlot). m.pages) is.next ∙ sym (is.beside.page_count ∙ is.count);
+    place = is.beside.place;
+    start = ap start_of is.next ∙ sym is.turned.next.start;
+    end = ap end_of is.next ∙ sym (end_of_log r.log (start_of (next_slot is.ruling)) (size_of is.ruling) is.turned.next.start is.turned.next.size);
+  }
+
+  pub rules_next : (c : List ℕ) → may device c → IsRuling c r.ruling
+  rules_next c left = subst (λ (X : Type 0). X) (λ i. IsRuling (sym (is.turned.only c left) i) (sym is.next i)) rules
 
   pub slots_are : (p : ℕ) → p < length r.restored.pages.items → slot 8192 (seen device) p ≡ bytes_of r.restored.pages.items p
   slots_are p lt = is.turned.slots p (subst (λ (n : ℕ). p < n) is.count lt)
@@ -103,10 +120,11 @@ module _ {D : Type 0} (seen : D → List ℕ) (may : D → List ℕ → Type 0) 
         let good = is.checked.good in
         let told : r.beside.counters ≡ is.checked.counters = is.beside.counters ∙ good.counts.counters_told in
         ∣ (
-          record { first = b; pages = bytes_of r.restored.pages.items; relations = is.checked.relations; counters = is.checked.counters },
+          record { first = b; earlier = []; begun = b; pages = bytes_of r.restored.pages.items; relations = is.checked.relations; counters = is.checked.counters },
           record { relations_are = sym (is.beside.relations ∙ good.counts.relations_told); counters_are = sym told; first_is = refl },
           record {
             schema = record { few_relations = is.checked.fits.1; few_counters = good.counts.few };
+            area = record { begun = refl; none = refl };
             bounds = bounds;
             holds = holds;
             right = right (bytes_of r.restored.pages.items) is.checked.relations is.checked.counters kept (log_images s.log same_log) (subst (λ (n : ℕ). IsGood is.checked.relations is.checked.counters n (bytes_of r.restored.pages.items)) (sym many) good) shows

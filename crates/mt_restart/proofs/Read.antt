@@ -8,15 +8,16 @@ use Rattle.mt_frame.specs.declared.records.Record.{Record}
 use Rattle.mt_frame.specs.declared.slots.MasterSlot.{MasterSlot}
 use Rattle.mt_log.specs.Batch.{joined}
 use Rattle.mt_log.specs.Holds.{HoldsBatches}
-use Rattle.mt_log.specs.Masters.{IsRuling, Rules}
+use Rattle.mt_log.specs.Masters.{IsRuling, Rules, area_end, area_size, area_start}
 use Rattle.mt_pool.specs.Images.{Carried, GivesPages, has_image, page_in, slot}
 use Rattle.mt_pool.specs.Kept.{carried}
 use Rattle.mt_pool.specs.Turns.{AreImaged}
 use Rattle.mt_pool.proofs.Safe.{bool_cases, in_take}
-use Rattle.mt_replay.specs.Stands.{IsReadAs, area_end, area_size, area_start}
+use Rattle.mt_replay.specs.Stands.{IsReadAs}
 use Rattle.mt_log.specs.NextSlot.{TurnsTo, next_slot}
 use Rattle.mt_restart.specs.Turned.{OnlySlots}
-use Rattle.mt_restart.proofs.Elsewhere.{gives_elsewhere, held_elsewhere, ruling_elsewhere}
+use Rattle.mt_log.proofs.Ruling.{ruling_elsewhere}
+use Rattle.mt_restart.proofs.Elsewhere.{gives_elsewhere, held_elsewhere}
 
 -- ---- slots of pages with an image
 

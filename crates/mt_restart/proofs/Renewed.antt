@@ -8,7 +8,7 @@ use Rattle.mt_index.specs.Checks.{bytes_of}
 use Rattle.mt_log.specs.Area.{TornFrom}
 use Rattle.mt_frame.specs.Grammar.{body_text}
 use Rattle.mt_log.specs.Batch.{Scans, joined}
-use Rattle.mt_log.specs.Masters.{IsRuling}
+use Rattle.mt_log.specs.Masters.{IsRuling, area_end, area_size, area_start}
 use Rattle.mt_log.specs.Sound.{IsSound}
 use Rattle.mt_log.specs.Words.{area_size as log_size, area_start as log_start, durable, durable_batches, in_flight, used, waiting, IsOn}
 use Rattle.mt_log.specs.declared.log.Log.{Log}
@@ -17,10 +17,10 @@ use Rattle.mt_pool.specs.Images.{slot}
 use Rattle.mt_pool.proofs.Safe.{bool_cases}
 use Rattle.mt_restart.specs.Found.{AreMarked, HasBegun, HasTurned, IsNextLog, ReadsOldOrNext}
 use Rattle.mt_log.specs.NextSlot.{TurnsTo, next_slot}
-use Rattle.mt_replay.specs.Stands.{IsReadAs, area_end, area_size, area_start}
+use Rattle.mt_replay.specs.Stands.{IsReadAs}
 use Rattle.mt_restart.specs.Turned.{AreImagesOf, AreInPlace, ButForSlots, OnlySlots}
 use Rattle.mt_restart.specs.declared.finding.Marks.{Marks}
-use Rattle.mt_restart.proofs.Elsewhere.{ruling_elsewhere}
+use Rattle.mt_log.proofs.Ruling.{ruling_elsewhere}
 use Rattle.mt_restart.proofs.NextArea.{in_slots, lost_imaged, next_gives, next_held, slot_same}
 use Rattle.mt_restart.proofs.Read.{IsHeldAs, held_read, master_torn, read_held, read_slots, turns_read}
 use Rattle.mt_restart.proofs.Staying.{read_begun, read_written, torn_at}

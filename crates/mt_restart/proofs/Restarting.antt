@@ -12,14 +12,14 @@ use Rattle.mt_frame.specs.declared.slots.MasterSlot.{MasterSlot}
 use Rattle.mt_index.specs.Checks.{bytes_of}
 use Rattle.mt_kernel.proofs.Imaged.{images_end_nothing, images_held}
 use Rattle.mt_log.specs.Batch.{joined}
-use Rattle.mt_log.specs.Masters.{IsRuling}
+use Rattle.mt_log.specs.Masters.{IsRuling, area_size}
 use Rattle.mt_model.specs.History.{IsActed, run}
 use Rattle.mt_model.specs.Model.{Base, IsBase}
 use Rattle.mt_op.specs.Begun.{AreImages}
 use Rattle.mt_pool.specs.Turns.{IsImageOnly}
 use Rattle.mt_replay.specs.Laws.{OnlyOwnPagesMatter}
 use Rattle.mt_replay.specs.Recoverable.{IsOf, IsRecoverable, all_pages, inverse_images, pages_held}
-use Rattle.mt_replay.specs.Stands.{CanRestart, IsReadAs, ShowsBase, area_size}
+use Rattle.mt_replay.specs.Stands.{CanRestart, IsReadAs, ShowsBase}
 use Rattle.mt_replay.specs.Told.{Finished, Told, calls_in, calls_of, run_all, stands_for, tells}
 use Rattle.mt_space.specs.Changes.{PageBytes}
 use Rattle.mt_steps.specs.Held.{Holds}

@@ -8,14 +8,14 @@ use Rattle.mt_frame.specs.declared.records.Record.{Record}
 use Rattle.mt_frame.specs.declared.slots.MasterSlot.{MasterSlot}
 use Rattle.mt_log.specs.Batch.{joined}
 use Rattle.mt_log.specs.Area.{TornFrom}
-use Rattle.mt_log.specs.Masters.{IsRuling, Rules}
+use Rattle.mt_log.specs.Masters.{IsRuling, Rules, area_end, area_size, area_start}
 use Rattle.mt_log.proofs.Turns.{ruling_fits}
 use Rattle.mt_log.proofs.OneWay.{holds_one}
 use Rattle.mt_pool.specs.Kept.{carried}
 use Rattle.mt_pool.specs.Turns.{AreImaged}
 use Rattle.mt_restart.specs.Found.{AreMarked}
 use Rattle.mt_log.specs.NextSlot.{next_slot}
-use Rattle.mt_replay.specs.Stands.{IsReadAs, area_end, area_size, area_start}
+use Rattle.mt_replay.specs.Stands.{IsReadAs}
 use Rattle.mt_restart.specs.Turned.{ButForSlots, OnlySlots}
 use Rattle.mt_restart.specs.declared.finding.Marks.{Marks}
 use Rattle.mt_restart.proofs.NextArea.{are_imaged}
@@ -24,10 +24,6 @@ use Rattle.mt_restart.proofs.Read.{read_other_area, read_slots}
 -- the same torn bytes, told otherwise
 pub torn_at : (may : List ℕ → Type 0) (at n at2 n2 : ℕ) (c : List ℕ) → at ≡ at2 → n ≡ n2 → TornFrom may at n c → TornFrom may at2 n2 c
 torn_at may at n at2 n2 c same size left = subst (λ (k : ℕ). TornFrom may at2 k c) size (subst (λ (k : ℕ). TornFrom may k n c) same left)
-
--- a slot that rules is one of this device
-pub long_of : (c : List ℕ) (slot : MasterSlot) → IsRuling c slot → device_bytes_of slot.pages slot.mib ≤ length c
-long_of c slot r = ⊎_elim (λ (first : Rules c 0 4096 slot). first.own.long) (λ (second : Rules c 4096 0 slot). second.own.long) r
 
 module _ (ruling : MasterSlot) (items : List (List ℕ)) (m : Marks) (c0 : List ℕ) (batches : List (List Record)) (k : AreMarked c0 ruling items batches m) (opening : ℕ → List ℕ) (bs : List (List Record)) (read : IsReadAs c0 ruling opening bs) where
   -- the area holds one row of batches

@@ -2,7 +2,7 @@
 use Rattle.std.specs.Prelude.{◌≡◌, ◌≤◌, ◌+◌, ◌*◌, ℕ, List, [], ◌∷◌, length}
 use Rattle.mt_escrow.specs.Seen.{Escrowed}
 use Rattle.mt_log.specs.Sound.{IsSound}
-use Rattle.mt_log.specs.Words.{appended, durable, in_flight, waiting, used, area_size, area_start, stands_at}
+use Rattle.mt_log.specs.Words.{appended, durable, in_flight, waiting, used, area_size, area_start, area_end, stands_at}
 use Rattle.mt_log.specs.declared.log.Log.{Log}
 use Rattle.mt_log.specs.declared.stage.Stage.TheVariants.{Idle}
 use Rattle.mt_model.specs.Model.{IsBase}
@@ -15,13 +15,14 @@ use Rattle.mt_pool.specs.Views.{IsPool, Shows, view, waits_for, pages, frames}
 use Rattle.mt_pool.specs.declared.pool.Pool.{Pool}
 use Rattle.mt_pool.specs.declared.store.Store.{Store}
 use Rattle.mt_restart.specs.Formats.{IsFormattedAs}
-use Rattle.mt_restart.specs.Schemas.{pages_in, mib_in, relations_in, counters_in, schema_base, pages_end, area_end}
+use Rattle.mt_restart.specs.Schemas.{pages_in, mib_in, relations_in, counters_in, schema_base, pages_end, area_end as schema_end}
 use Rattle.mt_restart.specs.declared.schema.Schema.{Schema}
 
 -- its first area, with nothing but the empty first batch
 pub record IsFirstLog (s : Schema) (log : Log) : Type 0 where
-  pub stands : stands_at log ≡ (pages_end s, area_end s, pages_end s + 5, [] ∷ [], [], Idle)
+  pub stands : stands_at log ≡ (pages_end s, schema_end s, pages_end s + 5, [] ∷ [], [], Idle)
   pub start : area_start log ≡ pages_end s
+  pub end : area_end log ≡ schema_end s
   pub size : area_size log ≡ mib_in s * 1048576
   pub none : durable log ≡ []
   pub flying : in_flight log ≡ []

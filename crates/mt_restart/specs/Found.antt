@@ -8,13 +8,13 @@ use Rattle.mt_index.specs.Checks.{bytes_of}
 use Rattle.mt_log.specs.Batch.{joined}
 use Rattle.mt_log.specs.First.{IsFirst}
 use Rattle.mt_log.specs.Holds.{HoldsBatches}
-use Rattle.mt_log.specs.Masters.{IsRuling}
+use Rattle.mt_log.specs.Masters.{IsRuling, area_size, area_start, area_end}
 use Rattle.mt_log.specs.Sound.{IsSound}
 use Rattle.mt_log.specs.Words.{durable, in_flight, waiting, used, area_size as log_size, area_start as log_start, IsOn}
 use Rattle.mt_log.specs.declared.area.AreaPlace.{AreaPlace}
 use Rattle.mt_log.specs.declared.log.Log.{Log}
 use Rattle.mt_pool.specs.Images.{slot}
-use Rattle.mt_replay.specs.Stands.{IsReadAs, area_size, area_start, area_end}
+use Rattle.mt_replay.specs.Stands.{IsReadAs}
 use Rattle.mt_space.specs.Changes.{PageBytes}
 use Rattle.mt_log.specs.NextSlot.{next_slot}
 use Rattle.mt_restart.specs.Turned.{MarksImaged, MarksLost, AreImagesOf}

@@ -4,6 +4,7 @@ use Rattle.mt_base.specs.declared.refusal.Refusal.{Refusal}
 use Rattle.mt_base.specs.declared.refusal.Refusal.TheVariants.{LogFull}
 use Rattle.mt_frame.specs.declared.records.Record.{Record}
 use Rattle.mt_frame.specs.declared.slots.MasterSlot.{MasterSlot}
+use Rattle.mt_log.specs.NextSlot.{next_slot}
 use Rattle.mt_model.specs.Model.{Base}
 use Rattle.mt_replay.specs.Checks.{AreChecked}
 use Rattle.mt_replay.specs.Refused.{BreaksFormat, IsCause, IsReplayed}
@@ -41,6 +42,7 @@ pub record CannotTurn (c : List ℕ) : Type 0 where
 -- The log has turned over: the next area rules, with images of some pages and no other record, and each page is in its slot.
 pub record IsRecovered {D : Type 0} (seen : D → List ℕ) (may_leave : D → List ℕ → Type 0) (frames : ℕ) (device : D) (r : Recovered) : Type 0 where
   pub ruling : MasterSlot
+  pub next : r.ruling ≡ next_slot ruling
   pub lost : List Bool
   pub count : length r.restored.pages.items ≡ ruling.pages
   pub checked : AreChecked r.restored.pages.items

@@ -6,7 +6,7 @@ ghost use Rattle.mt_frame.specs.Grammar.{IsRecord};
 ghost use Rattle.mt_frame.specs.SlotText.{IsSlot};
 ghost use Rattle.mt_frame.specs.declared.records.Record.{Record};
 ghost use Rattle.mt_log.specs.Quiet.{OnlyReads};
-ghost use Rattle.mt_replay.specs.Stands.{HasArea, area_end, area_start};
+ghost use Rattle.mt_replay.specs.Stands.{HasArea};
 ghost use Rattle.mt_restart.specs.Found.{AreMarked, CanTurn};
 
 use crate::imaging::{imaged_in, images_fit, images_of, lost_pages};
@@ -29,22 +29,13 @@ pub(crate) struct Marks {
     pub(crate) images: Vec<Record>,
 }
 
-// The log area that a slot names.
-pub(crate) fn area_of(slot: &MasterSlot) -> AreaPlace
-    requires { IsSlot slot.now }
-    ensures start { result.start ≡ area_start slot.now }
-    ensures end { result.end ≡ area_end slot.now }
-{
-    AreaPlace::of(slot.pages, slot.mib, slot.area == 1)
-}
-
 // Whether another slot may rule next, whose area has room for these images.
 pub(crate) fn can_turn(ruling: &MasterSlot, images: &[Record]) -> bool
     requires slot { IsSlot ruling.now }
     requires grammar { AllByRecursion IsRecord images.now }
     ensures { IsTrue result ↔ CanTurn ruling.now images.now }
 {
-    ruling.epoch < LAST_EPOCH && images_fit(images, area_of(ruling).size())
+    ruling.epoch < LAST_EPOCH && images_fit(images, AreaPlace::named_by(ruling).size())
 }
 
 // Marks the pages that a restart has to write.
@@ -63,7 +54,7 @@ pub(crate) fn marks_of<D: Device>(
     ensures cause { IfErr result (λ why. (why ≡ Refusal.NoMemory) ⊎ (why ≡ Refusal.DeviceFailed)
         × (D.faults device.old < D.faults device.new)) }
 {
-    let batches = scan(alloc, device, area_of(ruling), ruling.pages)?;
+    let batches = scan(alloc, device, AreaPlace::named_by(ruling), ruling.pages)?;
     let imaged = imaged_in(alloc, ruling.pages, &batches)?;
     let lost = lost_pages(alloc, device, pages, &imaged)?;
     let images = images_of(alloc, pages, &lost)?;

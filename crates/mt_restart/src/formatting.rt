@@ -69,6 +69,18 @@ fn write_content<D: Device>(device: &mut D, schema: &Schema) -> Result<(), Devic
     device.sync()
 }
 
+// The master slot of the first opening, over area 0.
+pub(crate) fn first_slot_of(schema: &Schema) -> MasterSlot
+    ensures { result ≡ first_slot schema.now }
+{
+    MasterSlot {
+        epoch: FIRST_EPOCH,
+        area: 0,
+        pages: schema.pages,
+        mib: schema.area_mib,
+    }
+}
+
 // Makes what stands behind the first master slot's gate durable: a write and a sync.
 fn write_slot<D: Device>(device: &mut D, schema: &Schema) -> Result<(), DeviceFault>
     requires long { 8192 ≤ length (D.seen device.old) }
@@ -79,12 +91,7 @@ fn write_slot<D: Device>(device: &mut D, schema: &Schema) -> Result<(), DeviceFa
     ensures tears { Tears D.seen D.may_leave 1 16 device.old device.new }
     ensures cause { HasCause (D.faults device.old) (D.faults device.new) result }
 {
-    let slot = encode_slot(&MasterSlot {
-        epoch: FIRST_EPOCH,
-        area: 0,
-        pages: schema.pages,
-        mib: schema.area_mib,
-    });
+    let slot = encode_slot(&first_slot_of(schema));
     device.write_at(FIRST_SLOT + 1, &slot[1..])?;
     device.sync()
 }

@@ -6,6 +6,7 @@ ghost use Rattle.mt_restart.specs.Firsts.{IsFirstLog, IsFirstPool, IsFirstStore,
 ghost use Rattle.mt_restart.specs.Formats.{IsFormattedAs};
 ghost use Rattle.mt_restart.specs.Schemas.{device_bytes};
 
+use crate::formatting::first_slot_of;
 use crate::{Schema, format};
 use mt_base::limits::MASTER_BYTES;
 use mt_base::{LogPos, Refusal};
@@ -46,6 +47,7 @@ fn first_store<D: Device>(
             device,
             log,
             pool,
+            ruling: first_slot_of(schema),
             settled: LogPos::new(0),
         }),
         Err(refusal) => Err(NotBegun { refusal, device }),

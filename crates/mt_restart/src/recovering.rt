@@ -13,7 +13,7 @@ use crate::renewing::{prepare_next, turn};
 use mt_base::Refusal;
 use mt_disk::Device;
 use mt_frame::{MasterSlot, Record, slots_are_read_back};
-use mt_log::Log;
+use mt_log::{Log, slot_after};
 use mt_replay::{Replayed, Restored, only_own_pages_matter, replay};
 use std::alloc::Global;
 
@@ -32,6 +32,8 @@ pub(crate) struct Found {
 pub(crate) struct Recovered {
     // it has the images that the area began with, and no other record
     pub(crate) log: Log,
+    // the master slot that rules now
+    pub(crate) ruling: MasterSlot,
     // all pages of the device, as a restart restored them
     pub(crate) restored: Restored,
     // those that the area began with
@@ -118,6 +120,7 @@ pub(crate) fn recover<D: Device>(
     let log = turn(device, &ruling, &restored.pages, &marks, prepared)?;
     Ok(Recovered {
         log,
+        ruling: slot_after(&ruling),
         restored,
         images: marks.images,
         beside,

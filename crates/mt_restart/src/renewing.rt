@@ -10,12 +10,12 @@ ghost use Rattle.mt_space.specs.Changes.{PageBytes};
 ghost use Rattle.mt_replay.specs.Stands.{IsReadAs};
 ghost use Rattle.mt_restart.specs.Found.{AreMarked, CanTurn, HasBegun, HasTurned, IsPrepared, ReadsOldOrNext};
 
-use crate::finding::{Marks, area_of};
+use crate::finding::Marks;
 use crate::writing::write_and_sync;
 use mt_base::Refusal;
 use mt_disk::Device;
 use mt_frame::{MasterSlot, Record};
-use mt_log::{Log, begin_prepared, prepare_area, slot_after, turn_slot};
+use mt_log::{AreaPlace, Log, begin_prepared, prepare_area, slot_after, turn_slot};
 use std::alloc::Global;
 
 // Prepares the log of the next area, which is to begin with these images.
@@ -30,7 +30,7 @@ pub(crate) fn prepare_next(
     ensures prepared { IfOk result (IsPrepared ruling.now images.now) }
     ensures only_memory { IfErr result (λ why. why ≡ Refusal.NoMemory) }
 {
-    let area = area_of(&slot_after(ruling));
+    let area = AreaPlace::named_by(&slot_after(ruling));
     prepare_area(alloc, area, images)
 }
 

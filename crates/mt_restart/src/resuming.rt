@@ -28,6 +28,7 @@ fn kernel_over<D: Device + Drop>(alloc: Global, device: D, recovered: Recovered)
 {
     let Recovered {
         log,
+        ruling,
         restored: _,
         images,
         beside,
@@ -39,7 +40,7 @@ fn kernel_over<D: Device + Drop>(alloc: Global, device: D, recovered: Recovered)
         relations,
         counters,
     } = beside;
-    let store = Store::over_images(device, log, pool, &images);
+    let store = Store::over_images(device, log, pool, ruling, &images);
     let operations = Operations::join(store, idle);
     Kernel::assemble(alloc, operations, escrow, relations, counters)
 }

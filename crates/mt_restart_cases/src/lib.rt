@@ -12,6 +12,8 @@ mod devices;
 #[cfg(test)]
 mod driving;
 #[cfg(test)]
+mod failing;
+#[cfg(test)]
 mod recovered;
 #[cfg(test)]
 mod swept;

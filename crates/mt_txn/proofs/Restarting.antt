@@ -1,7 +1,8 @@
 -- A kernel stays one that can be restarted from each beginning of its records.
-use Rattle.std.proofs.Common.{◌≡◌, ◌<◌, ◌≤◌, ◌+◌, ◌-◌, ◌++◌, ⊎_elim, ℕ, List, length, take, Result, Ok, Err, refl, sym, ap, ◌∙◌, subst, arith}
+use Rattle.std.proofs.Common.{◌≡◌, ◌<◌, ◌≤◌, ◌+◌, ◌-◌, ◌++◌, inl, inr, ⊎_elim, ℕ, List, length, take, Result, Ok, Err, refl, sym, ap, ◌∙◌, subst, arith}
 use Rattle.std.specs.Prelude.{OnOk, OnErr}
-use mathlib.Core.Logic.{∥∥₁_map}
+use Rattle.std.proofs.Props.{props}
+use mathlib.Core.Logic.{∥∥₁_elim, ∥∥₁_map}
 use Rattle.mt_base.specs.declared.refusal.Refusal.{Refusal}
 use Rattle.mt_base.specs.Limits.{IsRelationCount}
 use Rattle.mt_frame.specs.declared.records.Record.{Record}
@@ -20,22 +21,22 @@ use Rattle.mt_pool.proofs.Kept.{explains}
 use Rattle.mt_pool.specs.Images.{GivesPages}
 use Rattle.mt_pool.specs.Kept.{Explains, carried}
 use Rattle.mt_pool.specs.Views.{pages}
-use Rattle.mt_log.specs.Masters.{IsRuling, Rules}
+use Rattle.mt_log.specs.Masters.{IsRuling, Rules, area_size as size_of, area_start as start_of, area_end as end_of}
 use Rattle.mt_replay.specs.Recoverable.{IsRecoverable}
-use Rattle.mt_replay.specs.Stands.{StandsFor, area_size as size_of, area_start as start_of, area_end as end_of}
+use Rattle.mt_replay.specs.Stands.{StandsFor}
 use Rattle.mt_replay.specs.Told.{stands_for, tells}
 use Rattle.mt_kernel.proofs.Prefixed.{stands_first, tells_more}
-use Rattle.mt_kernel.proofs.Recovering.{whole_legal}
+use Rattle.mt_kernel.proofs.Recovering.{commits_since, since_legal, after_earlier}
 use Rattle.mt_kernel.specs.Consistent.{Origin, state_of, BacksIn, IsConsistent, IsCalled, IsIn, MayBeCalled, StaysIn}
 use Rattle.mt_kernel.specs.Restartable.{Recovers, StaysRestartable}
-use Rattle.mt_kernel.specs.Steps.{Steps, UndoSteps}
+use Rattle.mt_kernel.specs.Steps.{LeavesExplained, Steps, UndoSteps}
 use Rattle.mt_kernel.specs.declared.calls.Called.{Called}
 use Rattle.mt_kernel.specs.declared.calls.Called.TheVariants as call
 use Rattle.mt_kernel.specs.declared.parts.Parts.{Parts}
 use Rattle.mt_kernel.specs.declared.steps.Stepping.{Stepping}
 use Rattle.mt_kernel.specs.declared.steps.Stepping.TheVariants.{Going, Ended}
 use Rattle.mt_txn.proofs.Showing.{at_place}
-use Rattle.mt_txn.specs.Restarted.{NamesArea, all_commits, FindsCommits}
+use Rattle.mt_txn.specs.Restarted.{all_commits, FindsCommits, FindsMeanwhile}
 use Rattle.mt_txn.specs.Well.{IsOrigin, IsRestartableOn, RestartsFrom}
 
 -- an area's bytes, as its slot tells them
@@ -109,39 +110,64 @@ module _ {D : Type 0} (seen : D → List ℕ) (may_leave : D → List ℕ → Ty
 
     -- ---- what a restart finds
 
-    found : (k : Parts D) (origin : Origin) (base : Base) (c : List ℕ) (slot : MasterSlot) → IsRestartableOn seen may_leave relations counters first origin base k → may_leave k.operations.store.device c → NamesArea k c slot → IsRelationCount relations → FindsCommits relations counters first k c
-    found k origin base c slot x left names schema =
+    found : (k : Parts D) (origin : Origin) (base : Base) (c : List ℕ) → IsRestartableOn seen may_leave relations counters first origin base k → Explains origin.pages k.operations.store c → IsRelationCount relations → FindsCommits relations counters first k c
+    found k origin base c x e schema =
+        let slot = e.ruling in
+        let names = e.names in
+        let rules : IsRuling c slot = e.rules in
         let log = k.operations.store.log in
-        let e : Explains origin.pages k.operations.store c = explains seen may_leave origin.pages k.operations.store x.consistent.fit.right.kept c left in
         let front = joined e.batches in
         let size : area_size log ≡ size_of slot = size_is slot log names.start names.end in
-        let large : 4194304 ≤ area_size log = let mib = slot_mib c slot names.rules in omega (arith, mib, size) in
+        let large : 4194304 ≤ area_size log = let mib = slot_mib c slot rules in omega (arith, mib, size) in
         let recovers : Recovers origin k front = x.restartable.beginnings large front e.beginning.rest (sym e.beginning.of_appended) in
-        let mine : IsRecoverable relations counters slot.pages (size_of slot) origin.pages origin.first front = subst (λ (X : Type 0). X) (λ i. IsRecoverable (x.is.relations_are i) (x.is.counters_are i) (sym names.pages i) (size i) origin.pages origin.first front) recovers in
-        let stands : StandsFor c (stands_for origin.first front) = record {
+        let mine : IsRecoverable relations counters slot.pages (size_of slot) origin.pages origin.begun front = subst (λ (X : Type 0). X) (λ i. IsRecoverable (x.is.relations_are i) (x.is.counters_are i) (sym names.count i) (size i) origin.pages origin.begun front) recovers in
+        let stands : StandsFor c (stands_for origin.begun front) = record {
           slot = slot;
           opening = origin.pages;
           batches = e.batches;
           read = record {
-            rules = names.rules;
-            held = subst (λ (X : Type 0). X) (λ i. HoldsBatches c (sym names.start i) (sym names.end i) (sym names.pages i) e.batches) e.held;
-            gives = subst (λ (X : Type 0). X) (λ i. GivesPages (names.place i) (sym names.pages i) origin.pages (carried front) c) e.gives;
+            rules = rules;
+            held = subst (λ (X : Type 0). X) (λ i. HoldsBatches c (sym names.start i) (sym names.end i) (sym names.count i) e.batches) e.held;
+            gives = subst (λ (X : Type 0). X) (λ i. GivesPages (names.place i) (sym names.count i) origin.pages (carried front) c) e.gives;
           };
-          first = origin.first;
+          first = origin.begun;
           holds = x.holds;
           bounds = x.bounds;
           is = refl;
         } in
         let all : appended log ≡ front ++ e.beginning.rest = sym e.beginning.of_appended in
         let tells_durable : length (tells (durable log)).books ≤ length (tells front).books = subst (λ (rs : List Record). length (tells (durable log)).books ≤ length (tells rs).books) (sym e.beginning.has_durable) (tells_more (durable log) e.beginning.more) in
+        let begun = x.restartable.begun in
+        let tells_of = x.restartable.tells in
         record {
-          base = stands_for origin.first front;
+          base = stands_for origin.begun front;
           found = record { stands = stands; fits = schema; recoverable = mine };
-          count = length (tells front).books;
-          durable = tells_durable;
-          is = stands_first origin.first (all_commits k) (appended log) front e.beginning.rest all x.restartable.tells.telling.books (whole_legal seen may_leave origin base k x.consistent)
-              ∙ ap (λ (b : Base). after b (take (length (tells front).books) (all_commits k))) x.is.first_is;
+          count = length origin.earlier + length (tells front).books;
+          durable = omega (arith, tells_durable);
+          is = stands_first origin.begun (commits_since seen may_leave origin base k x.consistent begun tells_of) (appended log) front e.beginning.rest all tells_of.telling.books (since_legal seen may_leave origin base k x.consistent begun tells_of)
+              ∙ after_earlier seen may_leave origin base k x.consistent begun tells_of (length (tells front).books)
+              ∙ ap (λ (b : Base). after b (take (length origin.earlier + length (tells front).books) (all_commits k))) x.is.first_is;
         }
 
-    pub finds_commits : (k : Parts D) (c : List ℕ) (slot : MasterSlot) → RestartsFrom seen may_leave relations counters first k → may_leave k.operations.store.device c → NamesArea k c slot → IsRelationCount relations → ∥ FindsCommits relations counters first k c ∥₁
-    finds_commits k c slot r left names schema = ∥∥₁_map r (λ (origin, base, x). found k origin base c slot x left names schema)
+    pub finds_commits : (k : Parts D) (c : List ℕ) → RestartsFrom seen may_leave relations counters first k → may_leave k.operations.store.device c → IsRelationCount relations → ∥ FindsCommits relations counters first k c ∥₁
+    finds_commits k c r left schema = ∥∥₁_map r (λ (origin, base, x). found k origin base c x (explains seen may_leave origin.pages k.operations.store x.consistent.fit.right.kept c left) schema)
+
+    -- what it finds in what a crash leaves meanwhile
+    module _ (moment : D → ℕ) (left_since : D → ℕ → List ℕ → Type 0) (only_now : (d : D) (c : List ℕ) → left_since d (moment d) c → may_leave d c) where
+      pub meanwhile : (k n : Parts D) → LeavesExplained seen may_leave moment left_since k n → RestartsFrom seen may_leave relations counters first k → IsRelationCount relations → FindsMeanwhile moment left_since relations counters first k n
+      meanwhile k n explained r schema = record {
+        later = ∥∥₁_elim r (hlevel props) (λ (origin, base, x). (explained origin.pages x.consistent.fit.right.kept).later);
+        each = λ c left. ∥∥₁_map r (λ (origin, base, x). found k origin base c x ((explained origin.pages x.consistent.fit.right.kept).each c left) schema);
+        before = λ t c le left. ∥∥₁_map r (λ (origin, base, x). ⊎_elim
+            (λ was. inl was)
+            (λ now. inr (found k origin base c x now schema))
+            ((explained origin.pages x.consistent.fit.right.kept).before t c le left));
+      }
+
+      -- no call of the device was made
+      pub no_call : (k n : Parts D) → n.operations.store.device ≡ k.operations.store.device → RestartsFrom seen may_leave relations counters first k → IsRelationCount relations → FindsMeanwhile moment left_since relations counters first k n
+      no_call k n same r schema = record {
+        later = omega (arith, ap moment same);
+        each = λ c left. finds_commits k c r (only_now k.operations.store.device c (subst (λ (d : D). left_since d (moment k.operations.store.device) c) same left)) schema;
+        before = λ t c le left. ∣ inl (subst (λ (d : D). left_since d t c) same left) ∣₁;
+      }

@@ -1,26 +1,15 @@
 -- What a restart finds in what a crash leaves.
-use Rattle.std.specs.Prelude.{ℕ, ◌≡◌, ◌≤◌, ◌++◌, List, length, take}
-use Rattle.mt_frame.specs.declared.slots.MasterSlot.{MasterSlot}
+use Rattle.std.specs.Prelude.{ℕ, ◌≡◌, ◌⊎◌, ◌≤◌, ◌++◌, List, length, take}
 use Rattle.mt_kernel.specs.Booked.{txns_of}
 use Rattle.mt_kernel.specs.Consistent.{session_in}
 use Rattle.mt_kernel.specs.declared.parts.Parts.{Parts}
 use Rattle.mt_live.specs.Laws.{in_turn}
-use Rattle.mt_log.specs.Words.{durable, area_start, area_end}
+use Rattle.mt_log.specs.Words.{durable}
 use Rattle.mt_model.specs.History.{after}
 use Rattle.mt_model.specs.Model.{Base}
 use Rattle.mt_model.specs.declared.history.Committed.{Committed}
-use Rattle.mt_pool.specs.Views.{pages}
-use Rattle.mt_log.specs.Masters.{IsRuling}
-use Rattle.mt_replay.specs.Stands.{CanRestart, area_start as start_of, area_end as end_of}
+use Rattle.mt_replay.specs.Stands.{CanRestart}
 use Rattle.mt_replay.specs.Told.{tells}
-
--- the ruling slot of these bytes names the area of this log, and these pages
-pub record NamesArea {D : Type 0} (k : Parts D) (c : List ℕ) (slot : MasterSlot) : Type 0 where
-  pub rules : IsRuling c slot
-  pub pages : slot.pages ≡ pages k.operations.store.pool
-  pub place : k.operations.store.pool.place ≡ 8192
-  pub start : start_of slot ≡ area_start k.operations.store.log
-  pub end : end_of slot ≡ area_end k.operations.store.log
 
 -- the book, and behind it the commits under way, in their order
 abbrev pub all_commits : {D : Type 0} → Parts D → List Committed
@@ -33,3 +22,12 @@ pub record FindsCommits {D : Type 0} (relations counters : ℕ) (first : Base) (
   pub count : ℕ
   pub durable : length (tells (durable k.operations.store.log)).books ≤ count
   pub is : base ≡ after first (take count (all_commits k))
+
+-- Whenever a crash comes between k and n, a restart finds in what it leaves what some of the first commits of k lead to, with all of them
+-- whose records were durable then.
+pub record FindsMeanwhile {D : Type 0} (moment : D → ℕ) (left_since : D → ℕ → List ℕ → Type 0) (relations counters : ℕ) (first : Base) (k n : Parts D) : Type 0 where
+  pub later : moment k.operations.store.device ≤ moment n.operations.store.device
+  pub each : (c : List ℕ) → left_since n.operations.store.device (moment k.operations.store.device) c → ∥ FindsCommits relations counters first k c ∥₁
+  -- the same, for a run of calls that began before
+  pub before : (t : ℕ) (c : List ℕ) → t ≤ moment k.operations.store.device → left_since n.operations.store.device t c
+      → ∥ left_since k.operations.store.device t c ⊎ FindsCommits relations counters first k c ∥₁

@@ -1,11 +1,13 @@
 -- A kernel as its callers see it.
 use Rattle.std.specs.Prelude.{ℕ, ◌≡◌, ◌||◌, Bool, true, List, Result, Err}
+use Rattle.mt_base.specs.Limits.{IsRelationCount}
 use Rattle.mt_base.specs.declared.refusal.Refusal.{Refusal}
 use Rattle.mt_base.specs.declared.refusal.Refusal.TheVariants.{DeviceFailed}
 use Rattle.mt_disk.specs.declared.device.Device.{Ghosts}
 use Rattle.mt_live.specs.Machine.{State}
 use Rattle.mt_log.specs.Words.{has_failed}
 use Rattle.mt_model.specs.Model.{Base}
+use Rattle.mt_txn.specs.Restarted.{FindsMeanwhile}
 use Rattle.mt_txn.specs.Well.{ShowsIn, RestartsFrom}
 use Rattle.mt_txn.specs.declared.kernel.Kernel.{Kernel}
 
@@ -35,3 +37,8 @@ Restarts seen may_leave first k = RestartsFrom seen may_leave k.relations k.coun
 
 abbrev pub StaysRestarting : {D : Type 0} → {g : Ghosts D} → (D → List ℕ) → (D → List ℕ → Type 0) → Kernel D g → Kernel D g → Type 0
 StaysRestarting seen may_leave k n = (first : Base) → Restarts seen may_leave first k → Restarts seen may_leave first n
+
+-- Whenever a crash comes between k and n, a restart finds in what it leaves what some of the first commits of k lead to.
+abbrev pub LeavesFound : {D : Type 0} → {g : Ghosts D} → (D → List ℕ) → (D → List ℕ → Type 0) → (D → ℕ) → (D → ℕ → List ℕ → Type 0) → Kernel D g → Kernel D g → Type 0
+LeavesFound seen may_leave moment left_since k n = (first : Base) → Restarts seen may_leave first k → IsRelationCount k.relations
+    → FindsMeanwhile moment left_since k.relations k.counters first k.parts n.parts

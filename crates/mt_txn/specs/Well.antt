@@ -6,7 +6,7 @@ use Rattle.mt_model.specs.Model.{Base, IsBase}
 use Rattle.mt_op.specs.Operations.{IsRight}
 use Rattle.mt_op.specs.declared.operations.Operations.{Operations}
 use Rattle.mt_steps.specs.Held.{Holds}
-use Rattle.mt_kernel.specs.Consistent.{Origin, IsSchema, IsEscrowed, IsConsistent, IsIn}
+use Rattle.mt_kernel.specs.Consistent.{Origin, IsSchema, IsFirstArea, IsEscrowed, IsConsistent, IsIn}
 use Rattle.mt_kernel.specs.Restartable.{IsRestartable}
 use Rattle.mt_kernel.specs.declared.parts.Parts.{Parts}
 
@@ -26,9 +26,10 @@ abbrev pub ShowsIn : {D : Type 0} → (D → List ℕ) → (D → List ℕ → T
 ShowsIn seen may_leave relations counters first s k =
     ∥ ((origin : Origin) × (base : Base) × IsOrigin relations counters first origin × IsIn seen may_leave origin base s k) ∥₁
 
--- what a kernel begins on: the pages hold the first base, and the escrow has its counters
+-- what a kernel begins on: its book begins with the log's area, the pages hold the first base, and the escrow has its counters
 pub record IsOpening {D : Type 0} (seen : D → List ℕ) (may_leave : D → List ℕ → Type 0) (origin : Origin) (o : Operations D) (e : Escrowed) : Type 0 where
   pub schema : IsSchema origin
+  pub area : IsFirstArea origin
   pub bounds : IsBase origin.first
   pub holds : Holds origin.pages origin.first
   pub right : IsRight seen may_leave origin.pages origin.relations origin.counters o
@@ -39,11 +40,11 @@ Opens seen may_leave o e relations counters first = ∥ ((origin : Origin) × Is
 
 -- ---- restarts
 
--- Begun on pages that hold the first base, they can be restarted from each beginning of the log's records.
+-- Where the pages hold a base when the log's area begins, they can be restarted from each beginning of its records.
 pub record IsRestartableOn {D : Type 0} (seen : D → List ℕ) (may_leave : D → List ℕ → Type 0) (relations counters : ℕ) (first : Base) (origin : Origin) (base : Base) (k : Parts D) : Type 0 where
   pub is : IsOrigin relations counters first origin
-  pub bounds : IsBase origin.first
-  pub holds : Holds origin.pages origin.first
+  pub bounds : IsBase origin.begun
+  pub holds : Holds origin.pages origin.begun
   pub consistent : IsConsistent seen may_leave origin base k
   pub restartable : IsRestartable origin k
 

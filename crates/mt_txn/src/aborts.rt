@@ -14,6 +14,7 @@ ghost use Rattle.mt_txn.specs.Causes.{IsFault, abort_cause, open_cause};
 ghost use Rattle.mt_txn.specs.Events.{HasAborted};
 ghost use Rattle.mt_txn.specs.Shown.{FailsForGood, SameSchema, Shows, Stays, StaysRestarting, is_failed};
 ghost use Rattle.mt_txn.specs.Work.{IsAbortToldAs, IsAbortForOther, LowersAbort};
+ghost use Rattle.mt_txn.specs.Shown.{LeavesFound};
 
 use crate::answers::AbortStepped;
 use crate::kernel::{Kernel, is_failure};
@@ -41,6 +42,7 @@ impl<D: Device> Kernel<D> {
         ensures err { OnErr result (self.new ≡ self.old) }
         ensures schema { SameSchema self.old self.new }
         ensures restarts { StaysRestarting D.seen D.may_leave self.old self.new }
+        ensures moments { LeavesFound D.seen D.may_leave D.moment D.left_since self.old self.new }
     {
         if let Some(why) = self.open_cause(txn) {
             return Err(why);
@@ -70,6 +72,7 @@ impl<D: Device> Kernel<D> {
             × SameStatesBut self.old.parts self.new.parts txn }
         ensures schema { SameSchema self.old self.new }
         ensures restarts { StaysRestarting D.seen D.may_leave self.old self.new }
+        ensures moments { LeavesFound D.seen D.may_leave D.moment D.left_since self.old self.new }
         ensures aborted { (first : Base) (s : State) → Shows D.seen D.may_leave first s self.old
             → HasAborted D.seen D.may_leave first s txn result self.new }
     {
@@ -102,6 +105,7 @@ impl<D: Device> Kernel<D> {
             × SameStatesBut self.old.parts self.new.parts txn }
         ensures schema { SameSchema self.old self.new }
         ensures restarts { StaysRestarting D.seen D.may_leave self.old self.new }
+        ensures moments { LeavesFound D.seen D.may_leave D.moment D.left_since self.old self.new }
         ensures aborted { (first : Base) (s : State) → Shows D.seen D.may_leave first s self.old
             → HasAborted D.seen D.may_leave first s txn result self.new }
     {
@@ -150,6 +154,7 @@ impl<D: Device> Kernel<D> {
             × SameStatesBut self.old.parts self.new.parts txn }
         ensures schema { SameSchema self.old self.new }
         ensures restarts { StaysRestarting D.seen D.may_leave self.old self.new }
+        ensures moments { LeavesFound D.seen D.may_leave D.moment D.left_since self.old self.new }
         ensures aborted { (first : Base) (s : State) → Shows D.seen D.may_leave first s self.old
             → HasAborted D.seen D.may_leave first s txn result self.new }
     {
@@ -190,6 +195,7 @@ impl<D: Device> Kernel<D> {
             → self.new ≡ self.old }
         ensures schema { SameSchema self.old self.new }
         ensures restarts { StaysRestarting D.seen D.may_leave self.old self.new }
+        ensures moments { LeavesFound D.seen D.may_leave D.moment D.left_since self.old self.new }
         ensures aborted { (first : Base) (s : State) → Shows D.seen D.may_leave first s self.old
             → HasAborted D.seen D.may_leave first s txn result self.new }
     {

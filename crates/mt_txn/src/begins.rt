@@ -7,6 +7,7 @@ ghost use Rattle.mt_live.specs.declared.transactions.TxnState.TheVariants.{Open}
 ghost use Rattle.mt_kernel.specs.Consistent.{SameCommits, SameRunning, SetsState};
 ghost use Rattle.mt_txn.specs.Causes.{begin_cause};
 ghost use Rattle.mt_txn.specs.Shown.{FailsForGood, SameSchema, Shows, StaysRestarting, is_failed};
+ghost use Rattle.mt_txn.specs.Shown.{LeavesFound};
 
 use crate::kernel::Kernel;
 use mt_base::limits::{MAX_BEGUN, MAX_COMMITS, MAX_LIVE};
@@ -34,6 +35,7 @@ impl<D: Device> Kernel<D> {
         ensures fails { FailsForGood self.old result self.new }
         ensures schema { SameSchema self.old self.new }
         ensures restarts { StaysRestarting D.seen D.may_leave self.old self.new }
+        ensures moments { LeavesFound D.seen D.may_leave D.moment D.left_since self.old self.new }
     {
         if self.has_failed() {
             return Err(Refusal::DeviceFailed);

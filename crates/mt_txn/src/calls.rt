@@ -9,6 +9,7 @@ ghost use Rattle.mt_pool.specs.Views.{pages};
 ghost use Rattle.mt_txn.specs.Causes.{call_cause};
 ghost use Rattle.mt_txn.specs.Events.{HasCalled, IsAnsweredBy};
 ghost use Rattle.mt_txn.specs.Shown.{FailsForGood, SameSchema, Shows, StaysRestarting, is_failed};
+ghost use Rattle.mt_txn.specs.Shown.{LeavesFound};
 
 use crate::kernel::Kernel;
 use mt_base::{Refusal, TxnNo};
@@ -47,6 +48,7 @@ impl<D: Device> Kernel<D> {
             → self.new ≡ self.old }
         ensures schema { SameSchema self.old self.new }
         ensures restarts { StaysRestarting D.seen D.may_leave self.old self.new }
+        ensures moments { LeavesFound D.seen D.may_leave D.moment D.left_since self.old self.new }
     {
         if let Some(why) = self.call_cause(txn, &op) {
             return Err(why);

@@ -14,6 +14,7 @@ ghost use Rattle.mt_kernel.specs.declared.parts.Commit.{Commit};
 ghost use Rattle.mt_txn.specs.Causes.{IsFailure, commit_cause};
 ghost use Rattle.mt_txn.specs.Events.{HasForced, IsForcedBy};
 ghost use Rattle.mt_txn.specs.Shown.{FailsForGood, SameSchema, Shows, Stays, StaysRestarting, is_failed};
+ghost use Rattle.mt_txn.specs.Shown.{LeavesFound};
 
 use crate::answers::KernelForced;
 use crate::kernel::{Kernel, is_failure};
@@ -55,6 +56,7 @@ impl<D: Device> Kernel<D> {
             → self.new ≡ self.old }
         ensures schema { SameSchema self.old self.new }
         ensures restarts { StaysRestarting D.seen D.may_leave self.old self.new }
+        ensures moments { LeavesFound D.seen D.may_leave D.moment D.left_since self.old self.new }
     {
         if let Some(why) = self.open_cause(txn) {
             return Err(why);
@@ -91,6 +93,7 @@ impl<D: Device> Kernel<D> {
             → HasForced D.seen D.may_leave first s result self.new }
         ensures schema { SameSchema self.old self.new }
         ensures restarts { StaysRestarting D.seen D.may_leave self.old self.new }
+        ensures moments { LeavesFound D.seen D.may_leave D.moment D.left_since self.old self.new }
     {
         if self.has_failed() {
             return Err(Refusal::DeviceFailed);
@@ -134,6 +137,7 @@ impl<D: Device> Kernel<D> {
         ensures state { Stays D.seen D.may_leave self.old self.new }
         ensures schema { SameSchema self.old self.new }
         ensures restarts { StaysRestarting D.seen D.may_leave self.old self.new }
+        ensures moments { LeavesFound D.seen D.may_leave D.moment D.left_since self.old self.new }
     {
         if self.has_failed() {
             return Err(Refusal::DeviceFailed);

@@ -11,7 +11,7 @@ ghost use Rattle.mt_frame.specs.declared.slots.MasterSlot.{MasterSlot};
 ghost use Rattle.mt_kernel.specs.Consistent.{IsFresh};
 ghost use Rattle.mt_kernel.specs.Runs.{state_in};
 ghost use Rattle.mt_txn.specs.Causes.{is_busy};
-ghost use Rattle.mt_txn.specs.Restarted.{FindsCommits, NamesArea};
+ghost use Rattle.mt_txn.specs.Restarted.{FindsCommits};
 ghost use Rattle.mt_txn.specs.Well.{IsWell, Opens};
 
 use mt_base::Refusal;
@@ -105,12 +105,10 @@ impl<D: Device> Kernel<D> {
     {}
 
     /// Whatever a crash leaves now, a restart finds what some of the first commits lead to, each alone, in their order:
-    /// those of the book, and behind them those under way. Each commit whose record is durable is one of them. The
-    /// master slot that rules in what is left names the log's area.
+    /// those of the book, and behind them those under way. Each commit whose record is durable is one of them.
     pub fn can_restart(&self)
-        ensures { (first : Base) (c : List ℕ) (slot : MasterSlot) → Restarts D.seen D.may_leave first self.now
-            → D.may_leave self.now.parts.operations.store.device c → NamesArea self.now.parts c slot
-            → IsRelationCount self.now.relations
+        ensures { (first : Base) (c : List ℕ) → Restarts D.seen D.may_leave first self.now
+            → D.may_leave self.now.parts.operations.store.device c → IsRelationCount self.now.relations
             → ∥ FindsCommits self.now.relations self.now.counters first self.now.parts c ∥₁ }
     {}
 

@@ -11,6 +11,7 @@ ghost use Rattle.mt_kernel.specs.Consistent.{SameCommits, SameStates};
 ghost use Rattle.mt_txn.specs.Causes.{IsFault, step_cause};
 ghost use Rattle.mt_txn.specs.Events.{HasStepped};
 ghost use Rattle.mt_txn.specs.Shown.{FailsForGood, SameSchema, Shows, StaysRestarting, is_failed};
+ghost use Rattle.mt_txn.specs.Shown.{LeavesFound};
 
 use crate::answers::Stepped;
 use crate::kernel::{Kernel, is_failure};
@@ -42,6 +43,7 @@ impl<D: Device> Kernel<D> {
             → self.new ≡ self.old }
         ensures schema { SameSchema self.old self.new }
         ensures restarts { StaysRestarting D.seen D.may_leave self.old self.new }
+        ensures moments { LeavesFound D.seen D.may_leave D.moment D.left_since self.old self.new }
         ensures stepped { (first : Base) (s : State) → Shows D.seen D.may_leave first s self.old
             → HasStepped D.seen D.may_leave first s txn result self.new }
     {

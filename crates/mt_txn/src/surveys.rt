@@ -7,6 +7,7 @@ ghost use Rattle.mt_model.specs.Model.{Base};
 ghost use Rattle.mt_txn.specs.Causes.{IsFault, survey_cause};
 ghost use Rattle.mt_txn.specs.Shown.{FailsForGood, SameSchema, Shows, Stays, StaysRestarting, is_failed};
 ghost use Rattle.mt_txn.specs.Surveyed.{TellsBase, TellsPages};
+ghost use Rattle.mt_txn.specs.Shown.{LeavesFound};
 
 use crate::kernel::{Kernel, is_failure};
 use mt_base::Refusal;
@@ -36,6 +37,7 @@ impl<D: Device> Kernel<D> {
             ≡ D.seen self.old.parts.operations.store.device }
         ensures schema { SameSchema self.old self.new }
         ensures restarts { StaysRestarting D.seen D.may_leave self.old self.new }
+        ensures moments { LeavesFound D.seen D.may_leave D.moment D.left_since self.old self.new }
         ensures fails { FailsForGood self.old result self.new }
     {
         if self.has_failed() {

@@ -3,16 +3,18 @@ ghost use Rattle.std.specs.Prelude.{◌≡◌, ◌<◌, ◌≤◌, ◌+◌, leng
 ghost use Rattle.std.specs.Bool.{OnTrue};
 ghost use Rattle.mt_base.specs.Limits.{IsPageCount, IsAreaSize, device_bytes_of};
 ghost use Rattle.mt_disk.specs.Memory.{content};
+ghost use Rattle.mt_frame.specs.SlotText.{IsSlot};
 ghost use Rattle.mt_index.specs.Pages.{AreZero};
 ghost use Rattle.mt_pool.specs.Images.{slot};
 ghost use Rattle.mt_steps.specs.Formatted.{IsFormatted};
 ghost use Rattle.mt_op.specs.Driven.{IsIdle, IsFirstMap, IsFirstDirectory, IsFirstBucket};
 
 use mt_base::Refusal;
-use mt_base::limits::{MASTER_BYTES, device_bytes};
+use mt_base::limits::device_bytes;
 use mt_base::ranges::u16_at;
 use mt_disk::{Device, MemDevice};
-use mt_log::AreaPlace;
+use mt_frame::{MasterSlot, encode_slot};
+use mt_log::ruling_slot;
 use mt_op::Operations;
 use mt_pool::Store;
 use std::alloc::{AllocError, Global};
@@ -20,7 +22,7 @@ use std::alloc::{AllocError, Global};
 /// Low bound, high bound and start of each counter.
 pub const COUNTERS: [(i64, i64, i64); 2] = [(-1000, 1000, 0), (0, 1_000_000_000_000, 5)];
 
-/// A device of so many pages and MiB of a log area: a map of the space, an empty directory, two relations and
+/// A device of so many pages and MiB of a log area: its first master slot, a map of the space, an empty directory, two relations and
 /// counters, an empty bucket, and free pages behind them.
 pub fn formatted(alloc: Global, pages: u16, mib: u8) -> Result<MemDevice, AllocError>
     requires pages { IsPageCount pages }
@@ -28,14 +30,22 @@ pub fn formatted(alloc: Global, pages: u16, mib: u8) -> Result<MemDevice, AllocE
     ensures { IfOk result (λ device. length (content device) ≡ device_bytes_of pages mib) }
 {
     let mut bytes = vec![in alloc; 0u8; device_bytes(pages, mib) as usize]?;
-    format(&mut bytes);
+    let first = MasterSlot {
+        epoch: 1,
+        area: 0,
+        pages,
+        mib,
+    };
+    format(&mut bytes, &first);
     MemDevice::new(alloc, bytes, 8192, 67_108_864)
 }
 
-fn format(bytes: &mut [u8])
-    requires { 24576 ≤ length bytes.old }
+fn format(bytes: &mut [u8], first: &MasterSlot)
+    requires long { 24576 ≤ length bytes.old }
+    requires slot { IsSlot first.now }
     ensures { length bytes.new ≡ length bytes.old }
 {
+    bytes[0..17].copy_from_slice(&encode_slot(first));
     bytes[8192..8196].copy_from_slice(&[1, 1, 1, 2]);
     bytes[12_296..12_298].copy_from_slice(&[0, 3]);
     bytes[16_384..16_386].copy_from_slice(&[2, 2]);
@@ -106,24 +116,23 @@ fn is_first_bucket(page: &[u8], pages: u16) -> bool
         && mt_bucket::count(page) == 0
 }
 
-/// Operations over a formatted device, in so many frames: none is under way.
+/// Operations over a formatted device of so many pages, in so many frames: none is under way.
 pub fn opened<D: Device + Drop>(
     alloc: Global,
     device: D,
     pages: u16,
-    mib: u8,
     frames: u16,
 ) -> Result<Operations<D>, Refusal>
-    requires pages { IsPageCount pages }
-    requires area { IsAreaSize mib }
-    requires size { length (D.seen device) ≡ device_bytes_of pages mib }
     requires formatted { IsFormatted 2 2 pages (slot 8192 (D.seen device)) }
     requires frames { 0 < frames }
     ensures { IfOk result (IsIdle D.seen D.may_leave 0) }
 {
-    let area = AreaPlace::of(pages, mib, false);
-    let frames = usize::from(frames);
-    let store = Store::begin(alloc, device, frames, pages, MASTER_BYTES, area)?;
+    let mut device = device;
+    let ruling = ruling_slot(&mut device)?;
+    if ruling.pages != pages {
+        return Err(Refusal::BadFormat(0));
+    }
+    let store = Store::begin(alloc, device, usize::from(frames), ruling)?;
     let operations = Operations::new(alloc, store)?;
     Ok(operations)
 }

@@ -11,3 +11,6 @@ force_step-requires-3 g c = let k = c.requires.kept in record { kept = ∣ (k.0,
 
 pub force_step-requires-4 : goal.force_step-requires-4
 force_step-requires-4 g c = let k = c.requires.kept in record { kept = ∣ (k.0, (c.force_step-3.ensures.kept k.0 (c.force_step-2.ensures.kept k.0 (c.force_step.ensures.kept k.0 k.1)))) ∣₁ }
+
+pub returns-clause-kept : goal.returns-clause-kept
+returns-clause-kept g c = let k = c.requires.kept in (k.0, c.force_step-4.ensures.kept k.0 (c.force_step-3.ensures.kept k.0 (c.force_step-2.ensures.kept k.0 (c.force_step.ensures.kept k.0 k.1))))

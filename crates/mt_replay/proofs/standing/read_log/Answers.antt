@@ -3,7 +3,7 @@ use Rattle.std.proofs.lemmas.Result.{err_from_is_err_and}
 use Rattle.mt_base.specs.declared.refusal.Refusal.TheVariants.{BadFormat, DeviceFailed, NoMemory}
 use Rattle.mt_log.specs.Holds.{BreaksAt}
 use Rattle.mt_replay.specs.Refused.{BreaksLog}
-use Rattle.mt_replay.specs.Stands.{area_end, area_start}
+use Rattle.mt_log.specs.Masters.{area_end, area_start}
 use Rattle.mt_replay.proofs.Areas.{area_had}
 use Rattle.mt_replay.proofs.Causes.{cause_area}
 use Rattle.mt_replay.proofs.standing.read_log.Goals as goal

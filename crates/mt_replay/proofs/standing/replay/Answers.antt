@@ -9,7 +9,7 @@ use Rattle.mt_log.specs.Holds.{BreaksAt}
 use Rattle.mt_log.specs.declared.batch.Batch.{Batch}
 use Rattle.mt_replay.specs.Losers.{all_finished, AreOfGrammar}
 use Rattle.mt_replay.specs.Refused.{BreaksFormat, in_log}
-use Rattle.mt_replay.specs.Stands.{area_end, area_start}
+use Rattle.mt_log.specs.Masters.{area_end, area_start}
 use Rattle.mt_replay.specs.Told.{losers}
 use Rattle.mt_replay.specs.declared.telling.Loser.{Loser}
 use Rattle.mt_replay.proofs.Areas.{area_had, ended_grammar, grammar_of, held_of}

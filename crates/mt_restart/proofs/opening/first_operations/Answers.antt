@@ -1,4 +1,4 @@
-use Rattle.std.proofs.Common.{◌∙◌, ℕ, length, sym, ap, subst, arith}
+use Rattle.std.proofs.Common.{◌<◌, ◌∙◌, inl, inr, ⊎_elim, ℕ, length, sym, ap, subst, arith}
 use Rattle.mt_log.specs.Words.{appended, used, area_size}
 use Rattle.mt_log.specs.declared.log.Log.{Log}
 use Rattle.mt_op.proofs.Opened.{not_full, no_images}
@@ -39,3 +39,11 @@ returns-in-Ok-clause-operations g c =
       head = ap (λ (log : Log). used log) e.read.log ∙ f.head;
       size = ap (λ (log : Log). area_size log) e.read.log ∙ f.size;
     }
+
+pub returns-in-Err-clause-cause : goal.returns-in-Err-clause-cause
+returns-in-Err-clause-cause g c =
+    let faults = g.D.Device.faults in
+    ⊎_elim
+    (λ memory. inl memory)
+    (λ fault. inr (fault.0, subst (λ (d : g.row.D.Denot). faults d < faults c.in-Err.field-0.store.device) c.in_ok-store.ensures.store.same fault.1))
+    c.in-Err.ensures.cause

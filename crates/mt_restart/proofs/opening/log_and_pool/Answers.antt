@@ -14,6 +14,7 @@ returns-clause-log c =
     record {
       stands = e.stands ∙ (λ i. (start i, end i, start i + 5, [] ∷ [], [], Idle));
       start = e.start ∙ start;
+      end = e.end ∙ end;
       size = e.size ∙ omega (arith, size);
       none = e.durable;
       flying = e.in_flight;

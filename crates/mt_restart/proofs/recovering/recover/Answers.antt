@@ -55,6 +55,7 @@ returns-clause-recovered g c =
     let D = g.D.Device in let f = c.in_ok-found.found in let is = c.in_ok-found.ensures.found in
     record {
       ruling = f.ruling;
+      next = c.slot_after.ensures;
       lost = f.marks.lost.items;
       count = is.marked.count;
       checked = is.checked;

@@ -4,7 +4,7 @@ use Rattle.mt_disk.specs.Disk.{Torn}
 use Rattle.mt_log.specs.Batch.{Scans}
 use Rattle.mt_log.specs.Holds.{HasItsPage}
 use Rattle.mt_log.specs.NextSlot.{next_slot}
-use Rattle.mt_replay.specs.Stands.{area_end, area_size, area_start}
+use Rattle.mt_log.specs.Masters.{area_end, area_size, area_start}
 use Rattle.mt_restart.specs.Turned.{AreInPlace, OnlySlots}
 use Rattle.mt_restart.proofs.NextArea.{pages_inside}
 use Rattle.mt_restart.proofs.Renewed.{begun, next_log, when_begun, when_written}

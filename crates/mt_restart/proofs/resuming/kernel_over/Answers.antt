@@ -6,7 +6,7 @@ use Rattle.mt_pool.specs.Kept.{IsKept}
 use Rattle.mt_pool.specs.Views.{pages}
 use Rattle.mt_pool.specs.declared.store.Store.{Store}
 use Rattle.mt_restart.proofs.Based.{base_of_good}
-use Rattle.mt_restart.proofs.Opened.{apart, few, fresh_again, images_of_pages, log_sound, long, opens_again, safe, viewed}
+use Rattle.mt_restart.proofs.Opened.{apart, few, fresh_again, images_of_pages, log_sound, long, names_next, opens_again, rules_next, safe, viewed}
 use Rattle.mt_restart.proofs.resuming.kernel_over.Goals as goal
 
 pub over_images-store-requires-clause-sound : goal.over_images-store-requires-clause-sound
@@ -26,6 +26,12 @@ over_images-store-requires-clause-few g c = let r = c.requires.recovered in let 
 
 pub over_images-store-requires-clause-pool : goal.over_images-store-requires-clause-pool
 over_images-store-requires-clause-pool g c = let r = c.requires.recovered in (r.1.beside.pool, r.1.beside.shows (g.D.Device.seen c.args.device) (long g.D.Device.seen g.D.Device.may_leave r.0 c.args.device c.args.recovered r.1), r.1.beside.waits)
+
+pub over_images-store-requires-clause-names : goal.over_images-store-requires-clause-names
+over_images-store-requires-clause-names g c = let r = c.requires.recovered in names_next g.D.Device.seen g.D.Device.may_leave r.0 c.args.device c.args.recovered r.1
+
+pub over_images-store-requires-clause-rules : goal.over_images-store-requires-clause-rules
+over_images-store-requires-clause-rules g c = let r = c.requires.recovered in rules_next g.D.Device.seen g.D.Device.may_leave r.0 c.args.device c.args.recovered r.1
 
 pub assemble-requires-clause-fresh : goal.assemble-requires-clause-fresh
 assemble-requires-clause-fresh g c =

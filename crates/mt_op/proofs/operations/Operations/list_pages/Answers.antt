@@ -51,3 +51,8 @@ pub returns-clause-listed : goal.returns-clause-listed
 returns-clause-listed g c = λ opening relations counters held right holds first.
     let last : c.loop-number.number ≡ pages c.args.self.now.store.pool = (let all = c.count-number-end.ensures in let test = c.loop-number-test.false in let within = c.loop-number.auto.number-end in omega arith) in
     subst (λ (p : ℕ). HasListed (held_in (world g.D.Device.seen opening c.args.self.now)) p (base_of c.loop-number.base)) last (c.loop-number.invariant.listed opening relations counters held right holds first)
+
+pub returns-in_err-list_page-clause-read : goal.returns-in_err-list_page-clause-read
+returns-in_err-list_page-clause-read g c =
+    let D = g.D.Device in
+    reads_both D.seen D.may_leave D.moment D.left_since c.args.self.now c.loop-number.self c.list_page.new.self c.loop-number.invariant.read c.list_page.ensures.read

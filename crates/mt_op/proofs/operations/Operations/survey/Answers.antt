@@ -93,3 +93,13 @@ returns-clause-read g c =
     let D = g.D.Device in
     reads_both D.seen D.may_leave D.moment D.left_since c.args.self.now c.held_page.new.self c.list_pages.new.self c.held_page.ensures.read
     (reads_both D.seen D.may_leave D.moment D.left_since c.held_page.new.self c.held_page-2.new.self c.list_pages.new.self c.held_page-2.ensures.read c.list_pages.ensures.read)
+
+pub returns-in_err-held_page-2-clause-read : goal.returns-in_err-held_page-2-clause-read
+returns-in_err-held_page-2-clause-read g c =
+    let D = g.D.Device in
+    reads_both D.seen D.may_leave D.moment D.left_since c.args.self.now c.held_page.new.self c.held_page-2.new.self c.held_page.ensures.read c.held_page-2.ensures.read
+
+pub returns-in_err-base-clause-read : goal.returns-in_err-base-clause-read
+returns-in_err-base-clause-read g c =
+    let D = g.D.Device in
+    reads_both D.seen D.may_leave D.moment D.left_since c.args.self.now c.held_page.new.self c.held_page-2.new.self c.held_page.ensures.read c.held_page-2.ensures.read

@@ -14,7 +14,7 @@ use Rattle.mt_pool.proofs.store.Store.force_step.Given.{Over}
 pub returns-in_err-forced-clause-kept : goal.returns-in_err-forced-clause-kept
 returns-in_err-forced-clause-kept g c = λ opening k. let f = c.force_step.ensures in let s = c.args.self.now in
     kept_force g.D.Device.seen g.D.Device.may_leave opening s k c.force_step.new.self c.force_step.new.device s.settled f.on (f.sound _) f.moves f.appended
-    (k.settled ∙ sym (ap length c.in_err-forced.ensures.err_durable)) f.start f.rest f.elsewhere
+    (k.settled ∙ sym (ap length c.in_err-forced.ensures.err_durable)) f.start f.end f.rest f.elsewhere
 
 pub returns-in_err-forced-clause-moments : goal.returns-in_err-forced-clause-moments
 returns-in_err-forced-clause-moments g c = λ opening k. let f = c.force_step.ensures in let s = c.args.self.now in let more = joined_more s.log c.force_step.new.self f.moves in
@@ -38,13 +38,13 @@ after g c =
 pub returns-clause-kept : goal.returns-clause-kept
 returns-clause-kept g c = λ opening k. let f = c.force_step.ensures in let s = c.args.self.now in let a = after g c in
     subst (IsKept g.D.Device.seen g.D.Device.may_leave opening) (sym a.2)
-    (kept_force g.D.Device.seen g.D.Device.may_leave opening s k c.force_step.new.self c.force_step.new.device a.0 f.on (f.sound _) f.moves f.appended a.1 f.start f.rest f.elsewhere)
+    (kept_force g.D.Device.seen g.D.Device.may_leave opening s k c.force_step.new.self c.force_step.new.device a.0 f.on (f.sound _) f.moves f.appended a.1 f.start f.end f.rest f.elsewhere)
 
 pub returns-clause-moments : goal.returns-clause-moments
 returns-clause-moments g c = λ opening k. let f = c.force_step.ensures in let s = c.args.self.now in let a = after g c in let more = joined_more s.log c.force_step.new.self f.moves in
     subst (λ (t : _). LeavesOnly g.D.Device.moment g.D.Device.left_since s.device t.device (Explains opening s)) (sym a.2)
     (each_moment g.D.Device.seen g.D.Device.may_leave g.D.Device.moment g.D.Device.left_since g.met.D.Device.only_now opening s _ k
-    (kept_force g.D.Device.seen g.D.Device.may_leave opening s k c.force_step.new.self c.force_step.new.device a.0 f.on (f.sound _) f.moves f.appended a.1 f.start f.rest f.elsewhere)
+    (kept_force g.D.Device.seen g.D.Device.may_leave opening s k c.force_step.new.self c.force_step.new.device a.0 f.on (f.sound _) f.moves f.appended a.1 f.start f.end f.rest f.elsewhere)
     f.start f.end refl refl f.appended more.0 more.1 f.time)
 
 pub returns-clause-views : goal.returns-clause-views

@@ -1,4 +1,4 @@
-use Rattle.std.proofs.Common.{◌≡◌, ◌∙◌, ◌++◌, ℕ, List, length, ap, sym, subst, arith, append-nil}
+use Rattle.std.proofs.Common.{◌≡◌, ◌∙◌, ◌++◌, ℕ, List, length, refl, ap, sym, subst, arith, append-nil}
 use Rattle.mt_frame.specs.declared.records.Record.{Record}
 use Rattle.std.proofs.lemmas.List.{length-map}
 use Rattle.mt_frame.specs.History.{some_record, is_of_page}
@@ -7,6 +7,7 @@ use Rattle.mt_log.specs.Sound.{IsSound}
 use Rattle.mt_pool.specs.Images.{IsSafe}
 use Rattle.mt_pool.specs.Kept.{carried, carried_of}
 use Rattle.mt_pool.specs.Views.{IsTied}
+use Rattle.mt_pool.proofs.Kept.{names_same}
 use Rattle.mt_pool.proofs.store.Store.over_images.Goals as goal
 
 pub returns-clause-kept : goal.returns-clause-kept
@@ -31,5 +32,7 @@ returns-clause-kept g c = λ opening safe views.
         within = λ p lt. let w = n.knows.within p lt in let long = length-map images carried_of in omega arith;
         untouched = λ p lt none. ((n.knows.none p lt none).0, n.views (g.D.Device.seen c.args.device) p ∙ views p (let q = n.pages in omega arith));
       });
+      names = names_same c.args.ruling c.args.pool c.note_images.new.pool log log n.place n.pages refl refl r.names;
+      rules = r.rules;
       unnamed = λ p lt none. ap (λ (x : List Record). some_record (is_of_page p) x) all ∙ (n.knows.none p lt none).1;
     }

@@ -1,7 +1,8 @@
+use Rattle.std.proofs.Common.{refl}
 use mathlib.Core.Logic.{∥∥₁_elim}
 use Rattle.std.proofs.Props.{props}
 use Rattle.mt_txn.proofs.Showing.{led, well_led, stays_led}
-use Rattle.mt_txn.proofs.Restarting.{restarts_on, stays_goes}
+use Rattle.mt_txn.proofs.Restarting.{no_call, restarts_on, stays_goes}
 use Rattle.mt_txn.proofs.kernel.Kernel.abort_begin.Goals as goal
 
 pub invariant_of-self : goal.invariant_of-self
@@ -16,3 +17,11 @@ returns-clause-work g c = ∥∥₁_elim c.args.self.now.well (hlevel props) (λ
 pub returns-clause-restarts : goal.returns-clause-restarts
 returns-clause-restarts g c = λ first r. let D = g.D.Device in let k = c.args.self.now in
     restarts_on D.seen D.may_leave k.relations k.counters first k.parts c.abort_begin.new.self (stays_goes D.seen D.may_leave k.parts c.abort_begin.new.self c.abort_begin.ensures.state) (c.abort_begin.ensures.restartable) r
+
+pub returns-in-Some-clause-moments : goal.returns-in-Some-clause-moments
+returns-in-Some-clause-moments g c = λ first r schema. let D = g.D.Device in let k = c.args.self.now in
+    no_call D.seen D.may_leave k.relations k.counters first D.moment D.left_since g.met.D.Device.only_now k.parts _ refl r schema
+
+pub returns-clause-moments : goal.returns-clause-moments
+returns-clause-moments g c = λ first r schema. let D = g.D.Device in let k = c.args.self.now in
+    no_call D.seen D.may_leave k.relations k.counters first D.moment D.left_since g.met.D.Device.only_now k.parts _ c.abort_begin.ensures.device r schema

@@ -1,7 +1,8 @@
-use Rattle.std.proofs.Common.{refl, subst}
+use Rattle.std.proofs.Common.{refl, sym, subst}
 use mathlib.Core.Logic.{∥∥₁_elim, ∥∥₁_map, ∥∥₁_prop}
 use Rattle.mt_live.specs.Machine.{start}
-use Rattle.mt_model.specs.Model.{Base}
+use Rattle.mt_model.specs.Model.{Base, IsBase}
+use Rattle.mt_steps.specs.Held.{Holds}
 use Rattle.mt_kernel.specs.Consistent.{IsIn}
 use Rattle.mt_txn.proofs.kernel.Kernel.assemble.Goals as goal
 
@@ -20,10 +21,10 @@ returns g c = record {
     origin.first,
     record {
       is = is;
-      bounds = y.bounds;
-      holds = y.holds;
+      bounds = subst IsBase (sym y.area.begun) y.bounds;
+      holds = subst (Holds origin.pages) (sym y.area.begun) y.holds;
       consistent = (c.new.ensures.state origin y.schema y.bounds y.holds y.right y.escrowed).consistent;
-      restartable = c.new.ensures.restartable origin y.schema y.bounds y.holds y.right y.escrowed;
+      restartable = c.new.ensures.restartable origin y.schema y.area y.bounds y.holds y.right y.escrowed;
     },
   ));
   schema = (refl, refl);

@@ -1,6 +1,7 @@
+use Rattle.std.proofs.Common.{refl}
 use Rattle.mt_live.specs.Machine.{begun}
 use Rattle.mt_txn.proofs.Showing.{sound_of, on_ok, well_or}
-use Rattle.mt_txn.proofs.Restarting.{or_goes, restarts_on}
+use Rattle.mt_txn.proofs.Restarting.{no_call, or_goes, restarts_on}
 use Rattle.std.proofs.Common.{ap, arith, length}
 use Rattle.mt_live.specs.declared.live.Live.{Live}
 use Rattle.mt_txn.proofs.kernel.Kernel.begin.Goals as goal
@@ -19,3 +20,19 @@ returns-clause-begun g c = λ first s shows. on_ok g.D.Device.seen g.D.Device.ma
 pub returns-clause-restarts : goal.returns-clause-restarts
 returns-clause-restarts g c = λ first r. let D = g.D.Device in let k = c.args.self.now in
     restarts_on D.seen D.may_leave k.relations k.counters first k.parts c.begin.new.self (or_goes D.seen D.may_leave k.parts c.begin.new.self (λ s. begun s c.args.session) c.begin.result c.begin.ensures.begun c.begin.ensures.err) (c.begin.ensures.restartable (let less = c.if-lives-ge-MAX_LIVE.false in let count = c.count-lives.ensures in let same = ap (λ (l : Live). length l.members) c.live.ensures in omega (arith, less, count, same))) r
+
+pub returns-then-has_failed-clause-moments : goal.returns-then-has_failed-clause-moments
+returns-then-has_failed-clause-moments g c = λ first r schema. let D = g.D.Device in let k = c.args.self.now in
+    no_call D.seen D.may_leave k.relations k.counters first D.moment D.left_since g.met.D.Device.only_now k.parts _ refl r schema
+
+pub returns-then-lives-ge-MAX_LIVE-clause-moments : goal.returns-then-lives-ge-MAX_LIVE-clause-moments
+returns-then-lives-ge-MAX_LIVE-clause-moments g c = λ first r schema. let D = g.D.Device in let k = c.args.self.now in
+    no_call D.seen D.may_leave k.relations k.counters first D.moment D.left_since g.met.D.Device.only_now k.parts _ refl r schema
+
+pub returns-then-book-lives-ge-MAX_COMMITS-clause-moments : goal.returns-then-book-lives-ge-MAX_COMMITS-clause-moments
+returns-then-book-lives-ge-MAX_COMMITS-clause-moments g c = λ first r schema. let D = g.D.Device in let k = c.args.self.now in
+    no_call D.seen D.may_leave k.relations k.counters first D.moment D.left_since g.met.D.Device.only_now k.parts _ refl r schema
+
+pub returns-clause-moments : goal.returns-clause-moments
+returns-clause-moments g c = λ first r schema. let D = g.D.Device in let k = c.args.self.now in
+    no_call D.seen D.may_leave k.relations k.counters first D.moment D.left_since g.met.D.Device.only_now k.parts _ c.begin.ensures.device r schema

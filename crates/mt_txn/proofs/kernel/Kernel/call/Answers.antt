@@ -1,3 +1,4 @@
+use Rattle.mt_pool.specs.declared.store.Store.{Store}
 use Rattle.mt_txn.proofs.Answering.{call_answers, call_shown}
 use mathlib.Core.Logic.{∥∥₁_elim, ∥∥₁_map}
 use Rattle.std.proofs.Common.{◌≡◌, ◌∙◌, Bool, true, Option, Some, None, Err, ap, refl, subst, sym}
@@ -10,7 +11,7 @@ use Rattle.mt_txn.proofs.Failing.{answered_fine, call_fails}
 use Rattle.mt_txn.specs.Causes.{call_cause}
 use Rattle.mt_txn.specs.Shown.{is_failed}
 use Rattle.mt_txn.proofs.Answering.{may_call, call_well}
-use Rattle.mt_txn.proofs.Restarting.{restarts_called}
+use Rattle.mt_txn.proofs.Restarting.{no_call, restarts_called}
 use Rattle.mt_txn.proofs.kernel.Kernel.call.Goals as goal
 
 pub call-requires-clause-safe : goal.call-requires-clause-safe
@@ -48,3 +49,11 @@ returns-clause-fails g c =
 pub returns-clause-restarts : goal.returns-clause-restarts
 returns-clause-restarts g c = λ first r. let D = g.D.Device in let k = c.args.self.now in
     restarts_called D.seen D.may_leave k.relations k.counters first k.parts c.call.new.self c.args.txn c.args.op c.call.result (λ origin is. may_call D.seen D.may_leave k.relations k.counters k.parts c.args.txn c.args.op origin is c.in_default.ensures.named c.in_default.ensures.sized c.in_default.ensures.opened c.in_default.ensures.idle) c.call.ensures.called c.call.ensures.restartable r
+
+pub returns-in-Some-clause-moments : goal.returns-in-Some-clause-moments
+returns-in-Some-clause-moments g c = λ first r schema. let D = g.D.Device in let k = c.args.self.now in
+    no_call D.seen D.may_leave k.relations k.counters first D.moment D.left_since g.met.D.Device.only_now k.parts _ refl r schema
+
+pub returns-clause-moments : goal.returns-clause-moments
+returns-clause-moments g c = λ first r schema. let D = g.D.Device in let k = c.args.self.now in
+    no_call D.seen D.may_leave k.relations k.counters first D.moment D.left_since g.met.D.Device.only_now k.parts _ (ap (λ (s : Store g.row.D.Denot). s.device) c.call.ensures.store) r schema

@@ -1,5 +1,6 @@
+use Rattle.std.proofs.Common.{refl}
 use Rattle.mt_txn.proofs.Showing.{sound_of, led, well_led, stays_led}
-use Rattle.mt_txn.proofs.Restarting.{restarts_on, stays_goes}
+use Rattle.mt_txn.proofs.Restarting.{no_call, restarts_on, stays_goes}
 use Rattle.mt_txn.proofs.kernel.Kernel.commit_begin.Goals as goal
 
 pub commit_begin-requires-clause-safe : goal.commit_begin-requires-clause-safe
@@ -21,3 +22,19 @@ returns-clause-restarts g c = λ first r. let D = g.D.Device in let k = c.args.s
 pub returns-in_err-place-clause-restarts : goal.returns-in_err-place-clause-restarts
 returns-in_err-place-clause-restarts g c = λ first r. let D = g.D.Device in let k = c.args.self.now in
     restarts_on D.seen D.may_leave k.relations k.counters first k.parts c.commit_begin.new.self (stays_goes D.seen D.may_leave k.parts c.commit_begin.new.self c.commit_begin.ensures.state) (c.commit_begin.ensures.restartable) r
+
+pub returns-in-Some-clause-moments : goal.returns-in-Some-clause-moments
+returns-in-Some-clause-moments g c = λ first r schema. let D = g.D.Device in let k = c.args.self.now in
+    no_call D.seen D.may_leave k.relations k.counters first D.moment D.left_since g.met.D.Device.only_now k.parts _ refl r schema
+
+pub returns-then-is_some-clause-moments : goal.returns-then-is_some-clause-moments
+returns-then-is_some-clause-moments g c = λ first r schema. let D = g.D.Device in let k = c.args.self.now in
+    no_call D.seen D.may_leave k.relations k.counters first D.moment D.left_since g.met.D.Device.only_now k.parts _ refl r schema
+
+pub returns-in_err-place-clause-moments : goal.returns-in_err-place-clause-moments
+returns-in_err-place-clause-moments g c = λ first r schema. let D = g.D.Device in let k = c.args.self.now in
+    no_call D.seen D.may_leave k.relations k.counters first D.moment D.left_since g.met.D.Device.only_now k.parts _ c.commit_begin.ensures.device r schema
+
+pub returns-clause-moments : goal.returns-clause-moments
+returns-clause-moments g c = λ first r schema. let D = g.D.Device in let k = c.args.self.now in
+    no_call D.seen D.may_leave k.relations k.counters first D.moment D.left_since g.met.D.Device.only_now k.parts _ c.commit_begin.ensures.device r schema

@@ -1,6 +1,7 @@
+use Rattle.std.proofs.Common.{refl}
 use Rattle.mt_kernel.proofs.Lessening.{undo_same}
 use Rattle.mt_txn.proofs.Showing.{sound_of, led, well_led, stays_led}
-use Rattle.mt_txn.proofs.Restarting.{restarts_on, stays_goes}
+use Rattle.mt_txn.proofs.Restarting.{meanwhile, no_call, restarts_on, stays_goes}
 use Rattle.mt_txn.proofs.kernel.Kernel.flush_step.Goals as goal
 
 pub flush_step-told-requires : goal.flush_step-told-requires
@@ -28,3 +29,15 @@ returns-in-Ok-clause-restarts g c = λ first r. let D = g.D.Device in let k = c.
 pub returns-in-Err-clause-restarts : goal.returns-in-Err-clause-restarts
 returns-in-Err-clause-restarts g c = λ first r. let D = g.D.Device in let k = c.args.self.now in
     restarts_on D.seen D.may_leave k.relations k.counters first k.parts c.flush_step-told.new.self (stays_goes D.seen D.may_leave k.parts c.flush_step-told.new.self c.flush_step-told.ensures.state) (c.flush_step-told.ensures.restartable) r
+
+pub returns-then-has_failed-clause-moments : goal.returns-then-has_failed-clause-moments
+returns-then-has_failed-clause-moments g c = λ first r schema. let D = g.D.Device in let k = c.args.self.now in
+    no_call D.seen D.may_leave k.relations k.counters first D.moment D.left_since g.met.D.Device.only_now k.parts _ refl r schema
+
+pub returns-in-Ok-clause-moments : goal.returns-in-Ok-clause-moments
+returns-in-Ok-clause-moments g c = λ first r schema. let D = g.D.Device in let k = c.args.self.now in
+    meanwhile D.seen D.may_leave k.relations k.counters first D.moment D.left_since g.met.D.Device.only_now k.parts _ c.flush_step-told.ensures.moments r schema
+
+pub returns-in-Err-clause-moments : goal.returns-in-Err-clause-moments
+returns-in-Err-clause-moments g c = λ first r schema. let D = g.D.Device in let k = c.args.self.now in
+    meanwhile D.seen D.may_leave k.relations k.counters first D.moment D.left_since g.met.D.Device.only_now k.parts _ c.flush_step-told.ensures.moments r schema

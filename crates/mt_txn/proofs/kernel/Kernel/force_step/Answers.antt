@@ -1,3 +1,7 @@
+use Rattle.mt_disk.specs.Disk.{LeavesOnly}
+use Rattle.mt_pool.specs.Kept.{Explains}
+use Rattle.mt_pool.specs.declared.store.Store.{Store}
+use Rattle.std.proofs.Common.{refl}
 use Rattle.std.proofs.Common.{◌++◌, ◌∙◌, ℕ, List, ap, sym, subst, arith}
 use Rattle.std.proofs.lemmas.Result.{err_from_is_err_and}
 use Rattle.mt_kernel.specs.Booked.{booked_each, durable_txns}
@@ -6,7 +10,7 @@ use Rattle.mt_txn.specs.Well.{ShowsIn}
 use Rattle.mt_kernel.proofs.Lessening.{undo_same}
 use Rattle.mt_txn.proofs.Answering.{err_forced}
 use Rattle.mt_txn.proofs.Showing.{sound_of, led, well_led, stays_led}
-use Rattle.mt_txn.proofs.Restarting.{restarts_on, stays_goes}
+use Rattle.mt_txn.proofs.Restarting.{meanwhile, no_call, restarts_on, stays_goes}
 use Rattle.mt_txn.proofs.kernel.Kernel.force_step.Goals as goal
 
 pub force_step-told-requires : goal.force_step-told-requires
@@ -69,3 +73,28 @@ pub returns-in-Durable-clause-restarts : goal.returns-in-Durable-clause-restarts
 returns-in-Durable-clause-restarts g c = λ first r. let D = g.D.Device in let k = c.args.self.now in
     restarts_on D.seen D.may_leave k.relations k.counters first c.force_step-told.new.self c.leave_durable.new.self (λ origin base safe. (base, (c.leave_durable.ensures.left origin base safe).consistent)) c.leave_durable.ensures.restartable
     (restarts_on D.seen D.may_leave k.relations k.counters first k.parts c.force_step-told.new.self (stays_goes D.seen D.may_leave k.parts c.force_step-told.new.self c.force_step-told.ensures.state) (c.force_step-told.ensures.restartable) r)
+
+pub returns-then-has_failed-clause-moments : goal.returns-then-has_failed-clause-moments
+returns-then-has_failed-clause-moments g c = λ first r schema. let D = g.D.Device in let k = c.args.self.now in
+    no_call D.seen D.may_leave k.relations k.counters first D.moment D.left_since g.met.D.Device.only_now k.parts _ refl r schema
+
+pub returns-in_err-names-clause-moments : goal.returns-in_err-names-clause-moments
+returns-in_err-names-clause-moments g c = λ first r schema. let D = g.D.Device in let k = c.args.self.now in
+    no_call D.seen D.may_leave k.relations k.counters first D.moment D.left_since g.met.D.Device.only_now k.parts _ refl r schema
+
+pub returns-in_err-told-clause-moments : goal.returns-in_err-told-clause-moments
+returns-in_err-told-clause-moments g c = λ first r schema. let D = g.D.Device in let k = c.args.self.now in
+    meanwhile D.seen D.may_leave k.relations k.counters first D.moment D.left_since g.met.D.Device.only_now k.parts _ c.force_step-told.ensures.moments r schema
+
+pub returns-in-More-clause-moments : goal.returns-in-More-clause-moments
+returns-in-More-clause-moments g c = λ first r schema. let D = g.D.Device in let k = c.args.self.now in
+    meanwhile D.seen D.may_leave k.relations k.counters first D.moment D.left_since g.met.D.Device.only_now k.parts _ c.force_step-told.ensures.moments r schema
+
+pub returns-in-Idle-clause-moments : goal.returns-in-Idle-clause-moments
+returns-in-Idle-clause-moments g c = λ first r schema. let D = g.D.Device in let k = c.args.self.now in
+    meanwhile D.seen D.may_leave k.relations k.counters first D.moment D.left_since g.met.D.Device.only_now k.parts _ c.force_step-told.ensures.moments r schema
+
+pub returns-in-Durable-clause-moments : goal.returns-in-Durable-clause-moments
+returns-in-Durable-clause-moments g c = λ first r schema. let D = g.D.Device in let k = c.args.self.now in
+    meanwhile D.seen D.may_leave k.relations k.counters first D.moment D.left_since g.met.D.Device.only_now k.parts _
+    (λ opening kept. subst (λ (s : Store g.row.D.Denot). LeavesOnly D.moment D.left_since k.parts.operations.store.device s.device (Explains opening k.parts.operations.store)) (sym c.leave_durable.ensures.store) (c.force_step-told.ensures.moments opening kept)) r schema

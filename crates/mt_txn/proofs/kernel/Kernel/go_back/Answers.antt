@@ -12,7 +12,7 @@ use Rattle.mt_kernel.specs.Work.{LowersBack, undo_steps}
 use Rattle.mt_txn.proofs.Showing.{at_place}
 use Rattle.mt_txn.specs.Work.{LowersAbort}
 use Rattle.mt_txn.specs.declared.answers.AbortStepped.{AbortStepped}
-use Rattle.mt_txn.proofs.Restarting.{back_goes, restarts_on}
+use Rattle.mt_txn.proofs.Restarting.{back_goes, meanwhile, restarts_on}
 use Rattle.mt_txn.proofs.kernel.Kernel.go_back.Goals as goal
 
 pub back_step-told-requires-clause-safe : goal.back_step-told-requires-clause-safe
@@ -81,3 +81,19 @@ returns-in-Flush-clause-restarts g c = λ first r. let D = g.D.Device in let k =
 pub returns-in-Clear-clause-restarts : goal.returns-in-Clear-clause-restarts
 returns-in-Clear-clause-restarts g c = λ first r. let D = g.D.Device in let k = c.args.self.now in
     restarts_on D.seen D.may_leave k.relations k.counters first k.parts c.back_step-told.new.self (back_goes D.seen D.may_leave k.parts c.back_step-told.new.self c.args.place c.back_step-told.result c.requires.within c.back_step-told.ensures.back) (c.back_step-told.ensures.restartable) r
+
+pub returns-in_err-told-clause-moments : goal.returns-in_err-told-clause-moments
+returns-in_err-told-clause-moments g c = λ first r schema. let D = g.D.Device in let k = c.args.self.now in
+    meanwhile D.seen D.may_leave k.relations k.counters first D.moment D.left_since g.met.D.Device.only_now k.parts _ c.back_step-told.ensures.moments r schema
+
+pub returns-in-More-clause-moments : goal.returns-in-More-clause-moments
+returns-in-More-clause-moments g c = λ first r schema. let D = g.D.Device in let k = c.args.self.now in
+    meanwhile D.seen D.may_leave k.relations k.counters first D.moment D.left_since g.met.D.Device.only_now k.parts _ c.back_step-told.ensures.moments r schema
+
+pub returns-in-Flush-clause-moments : goal.returns-in-Flush-clause-moments
+returns-in-Flush-clause-moments g c = λ first r schema. let D = g.D.Device in let k = c.args.self.now in
+    meanwhile D.seen D.may_leave k.relations k.counters first D.moment D.left_since g.met.D.Device.only_now k.parts _ c.back_step-told.ensures.moments r schema
+
+pub returns-in-Clear-clause-moments : goal.returns-in-Clear-clause-moments
+returns-in-Clear-clause-moments g c = λ first r schema. let D = g.D.Device in let k = c.args.self.now in
+    meanwhile D.seen D.may_leave k.relations k.counters first D.moment D.left_since g.met.D.Device.only_now k.parts _ c.back_step-told.ensures.moments r schema

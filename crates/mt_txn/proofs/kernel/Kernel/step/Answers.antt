@@ -1,3 +1,4 @@
+use Rattle.std.proofs.Common.{refl}
 use Rattle.std.specs.Prelude.{Result}
 use Rattle.mt_base.specs.declared.refusal.Refusal.{Refusal}
 use Rattle.mt_kernel.specs.Work.{Lowers, steps_in}
@@ -14,7 +15,7 @@ use Rattle.std.proofs.Common.{◌∙◌, ◌≤◌, Ok, sym, ap, subst}
 use Rattle.std.proofs.lemmas.Result.{err_from_is_err_and}
 use Rattle.mt_txn.proofs.Answering.{err_stepped, going_stepped}
 use Rattle.mt_txn.proofs.Showing.{sound_of, step_shown, step_well, forward_of, stage_of, StepShown}
-use Rattle.mt_txn.proofs.Restarting.{restarts_on, step_goes}
+use Rattle.mt_txn.proofs.Restarting.{meanwhile, no_call, restarts_on, step_goes}
 use Rattle.mt_txn.proofs.kernel.Kernel.step.Goals as goal
 
 pub step-told-requires-clause-safe : goal.step-told-requires-clause-safe
@@ -82,3 +83,23 @@ returns-in-Ended-clause-restarts g c = λ first r. let D = g.D.Device in let k =
 pub returns-in-Going-clause-restarts : goal.returns-in-Going-clause-restarts
 returns-in-Going-clause-restarts g c = λ first r. let D = g.D.Device in let k = c.args.self.now in
     restarts_on D.seen D.may_leave k.relations k.counters first k.parts c.step-told.new.self (step_goes D.seen D.may_leave k.parts c.step-told.new.self c.in-Some-place_of.place c.step-told.result c.in-Some-place_of.ensures.place.0 c.step-told.ensures.steps) (c.step-told.ensures.restartable) r
+
+pub returns-in-Some-clause-moments : goal.returns-in-Some-clause-moments
+returns-in-Some-clause-moments g c = λ first r schema. let D = g.D.Device in let k = c.args.self.now in
+    no_call D.seen D.may_leave k.relations k.counters first D.moment D.left_since g.met.D.Device.only_now k.parts _ refl r schema
+
+pub returns-in_default-place_of-clause-moments : goal.returns-in_default-place_of-clause-moments
+returns-in_default-place_of-clause-moments g c = λ first r schema. let D = g.D.Device in let k = c.args.self.now in
+    no_call D.seen D.may_leave k.relations k.counters first D.moment D.left_since g.met.D.Device.only_now k.parts _ refl r schema
+
+pub returns-in_err-reply-clause-moments : goal.returns-in_err-reply-clause-moments
+returns-in_err-reply-clause-moments g c = λ first r schema. let D = g.D.Device in let k = c.args.self.now in
+    meanwhile D.seen D.may_leave k.relations k.counters first D.moment D.left_since g.met.D.Device.only_now k.parts _ c.step-told.ensures.moments r schema
+
+pub returns-in-Ended-clause-moments : goal.returns-in-Ended-clause-moments
+returns-in-Ended-clause-moments g c = λ first r schema. let D = g.D.Device in let k = c.args.self.now in
+    meanwhile D.seen D.may_leave k.relations k.counters first D.moment D.left_since g.met.D.Device.only_now k.parts _ c.step-told.ensures.moments r schema
+
+pub returns-in-Going-clause-moments : goal.returns-in-Going-clause-moments
+returns-in-Going-clause-moments g c = λ first r schema. let D = g.D.Device in let k = c.args.self.now in
+    meanwhile D.seen D.may_leave k.relations k.counters first D.moment D.left_since g.met.D.Device.only_now k.parts _ c.step-told.ensures.moments r schema

@@ -1,9 +1,10 @@
+use Rattle.std.proofs.Common.{refl}
 use Rattle.std.proofs.Common.{ap, length, sym, ◌∙◌}
 use Rattle.std.proofs.lemmas.List.{nil_from_length}
 use Rattle.mt_live.specs.declared.live.Live.{Live}
 use Rattle.mt_txn.proofs.Showing.{led, sound_of, stays_led, well_led}
 use Rattle.mt_txn.proofs.Surveyed.{base_told, pages_told}
-use Rattle.mt_txn.proofs.Restarting.{restarts_on, stays_goes}
+use Rattle.mt_txn.proofs.Restarting.{meanwhile, no_call, restarts_on, stays_goes}
 use Rattle.mt_txn.proofs.kernel.Kernel.survey.Goals as goal
 
 pub survey-told-requires-clause-safe : goal.survey-told-requires-clause-safe
@@ -32,3 +33,15 @@ returns-clause-state g c = λ first s shows.
 pub returns-clause-restarts : goal.returns-clause-restarts
 returns-clause-restarts g c = λ first r. let D = g.D.Device in let k = c.args.self.now in
     restarts_on D.seen D.may_leave k.relations k.counters first k.parts c.survey-told.new.self (stays_goes D.seen D.may_leave k.parts c.survey-told.new.self c.survey-told.ensures.state) (c.survey-told.ensures.restartable) r
+
+pub returns-then-has_failed-clause-moments : goal.returns-then-has_failed-clause-moments
+returns-then-has_failed-clause-moments g c = λ first r schema. let D = g.D.Device in let k = c.args.self.now in
+    no_call D.seen D.may_leave k.relations k.counters first D.moment D.left_since g.met.D.Device.only_now k.parts _ refl r schema
+
+pub returns-then-count-ne0-clause-moments : goal.returns-then-count-ne0-clause-moments
+returns-then-count-ne0-clause-moments g c = λ first r schema. let D = g.D.Device in let k = c.args.self.now in
+    no_call D.seen D.may_leave k.relations k.counters first D.moment D.left_since g.met.D.Device.only_now k.parts _ refl r schema
+
+pub returns-clause-moments : goal.returns-clause-moments
+returns-clause-moments g c = λ first r schema. let D = g.D.Device in let k = c.args.self.now in
+    meanwhile D.seen D.may_leave k.relations k.counters first D.moment D.left_since g.met.D.Device.only_now k.parts _ c.survey-told.ensures.moments r schema

@@ -1,3 +1,4 @@
+use Rattle.mt_pool.specs.declared.store.Store.{Store}
 use mathlib.Core.Logic.{∥∥₁_map}
 use Rattle.std.proofs.Common.{◌∙◌, Ok, ap}
 use Rattle.mt_live.specs.Machine.{State, gone}
@@ -14,7 +15,7 @@ use Rattle.mt_kernel.specs.Work.{undo_steps}
 use Rattle.mt_kernel.specs.declared.parts.Parts.{Parts}
 use Rattle.mt_txn.specs.Work.{LowersAbort}
 use Rattle.mt_txn.specs.declared.answers.AbortStepped.{AbortStepped}
-use Rattle.mt_txn.proofs.Restarting.{either_goes, restarts_on, stays_goes}
+use Rattle.mt_txn.proofs.Restarting.{either_goes, no_call, restarts_on, stays_goes}
 use Rattle.mt_txn.proofs.kernel.Kernel.undo_next.Goals as goal
 
 pub undo_begin-requires-clause-safe : goal.undo_begin-requires-clause-safe
@@ -86,3 +87,19 @@ pub returns-clause-restarts : goal.returns-clause-restarts
 returns-clause-restarts g c = λ first r. let D = g.D.Device in let k = c.args.self.now in
     restarts_on D.seen D.may_leave k.relations k.counters first c.undo_begin.new.self c.abort_end.new.self (either_goes D.seen D.may_leave c.undo_begin.new.self c.abort_end.new.self (λ s. gone s c.args.txn) c.abort_end.result c.abort_end.ensures.gone c.abort_end.ensures.err) c.abort_end.ensures.restartable
     (restarts_on D.seen D.may_leave k.relations k.counters first k.parts c.undo_begin.new.self (stays_goes D.seen D.may_leave k.parts c.undo_begin.new.self c.undo_begin.ensures.state) (c.undo_begin.ensures.restartable) r)
+
+pub returns-in_err-undo_begin-clause-moments : goal.returns-in_err-undo_begin-clause-moments
+returns-in_err-undo_begin-clause-moments g c = λ first r schema. let D = g.D.Device in let k = c.args.self.now in
+    no_call D.seen D.may_leave k.relations k.counters first D.moment D.left_since g.met.D.Device.only_now k.parts _ (ap (λ (s : Store g.row.D.Denot). s.device) c.undo_begin.ensures.store) r schema
+
+pub returns-then-branch-clause-moments : goal.returns-then-branch-clause-moments
+returns-then-branch-clause-moments g c = λ first r schema. let D = g.D.Device in let k = c.args.self.now in
+    no_call D.seen D.may_leave k.relations k.counters first D.moment D.left_since g.met.D.Device.only_now k.parts _ (ap (λ (s : Store g.row.D.Denot). s.device) c.undo_begin.ensures.store) r schema
+
+pub returns-in_err-abort_end-clause-moments : goal.returns-in_err-abort_end-clause-moments
+returns-in_err-abort_end-clause-moments g c = λ first r schema. let D = g.D.Device in let k = c.args.self.now in
+    no_call D.seen D.may_leave k.relations k.counters first D.moment D.left_since g.met.D.Device.only_now k.parts _ (c.abort_end.ensures.device ∙ ap (λ (s : Store g.row.D.Denot). s.device) c.undo_begin.ensures.store) r schema
+
+pub returns-clause-moments : goal.returns-clause-moments
+returns-clause-moments g c = λ first r schema. let D = g.D.Device in let k = c.args.self.now in
+    no_call D.seen D.may_leave k.relations k.counters first D.moment D.left_since g.met.D.Device.only_now k.parts _ (c.abort_end.ensures.device ∙ ap (λ (s : Store g.row.D.Denot). s.device) c.undo_begin.ensures.store) r schema

@@ -14,7 +14,7 @@ use Rattle.mt_kernel.specs.Work.{LowersUndo, undo_steps}
 use Rattle.mt_txn.proofs.Showing.{at_place}
 use Rattle.mt_txn.specs.Work.{LowersAbort}
 use Rattle.mt_txn.specs.declared.answers.AbortStepped.{AbortStepped}
-use Rattle.mt_txn.proofs.Restarting.{restarts_on, undo_goes}
+use Rattle.mt_txn.proofs.Restarting.{meanwhile, restarts_on, undo_goes}
 use Rattle.mt_txn.proofs.kernel.Kernel.undo_step.Goals as goal
 
 pub undo_step-told-requires-clause-safe : goal.undo_step-told-requires-clause-safe
@@ -82,3 +82,15 @@ returns-in-Ended-clause-restarts g c = λ first r. let D = g.D.Device in let k =
 pub returns-in-Going-clause-restarts : goal.returns-in-Going-clause-restarts
 returns-in-Going-clause-restarts g c = λ first r. let D = g.D.Device in let k = c.args.self.now in
     restarts_on D.seen D.may_leave k.relations k.counters first k.parts c.undo_step-told.new.self (undo_goes D.seen D.may_leave k.parts c.undo_step-told.new.self c.args.place c.undo_step-told.result c.requires.within c.undo_step-told.ensures.steps) (c.undo_step-told.ensures.restartable) r
+
+pub returns-in_err-reply-clause-moments : goal.returns-in_err-reply-clause-moments
+returns-in_err-reply-clause-moments g c = λ first r schema. let D = g.D.Device in let k = c.args.self.now in
+    meanwhile D.seen D.may_leave k.relations k.counters first D.moment D.left_since g.met.D.Device.only_now k.parts _ c.undo_step-told.ensures.moments r schema
+
+pub returns-in-Ended-clause-moments : goal.returns-in-Ended-clause-moments
+returns-in-Ended-clause-moments g c = λ first r schema. let D = g.D.Device in let k = c.args.self.now in
+    meanwhile D.seen D.may_leave k.relations k.counters first D.moment D.left_since g.met.D.Device.only_now k.parts _ c.undo_step-told.ensures.moments r schema
+
+pub returns-in-Going-clause-moments : goal.returns-in-Going-clause-moments
+returns-in-Going-clause-moments g c = λ first r schema. let D = g.D.Device in let k = c.args.self.now in
+    meanwhile D.seen D.may_leave k.relations k.counters first D.moment D.left_since g.met.D.Device.only_now k.parts _ c.undo_step-told.ensures.moments r schema

@@ -6,7 +6,7 @@ use Rattle.mt_replay.specs.Refused.{BreaksFormat, BreaksLog, IsCause, in_log}
 use Rattle.mt_cli.specs.Checks.{IsRefusedFor}
 
 -- the same refusal, where what breaks the one rule breaks the other
-cause_by : (P Q : List ℕ → ℕ → Type 0) (c : List ℕ) (failed : Type 0) (why : Refusal) → ((at : ℕ) → P c at → Q c at) → IsCause P c failed why → IsCause Q c (Unit {0}) why
+pub cause_by : (P Q : List ℕ → ℕ → Type 0) (c : List ℕ) (failed : Type 0) (why : Refusal) → ((at : ℕ) → P c at → Q c at) → IsCause P c failed why → IsCause Q c (Unit {0}) why
 cause_by P Q c failed NoMemory f m = tt
 cause_by P Q c failed DeviceFailed f m = tt
 cause_by P Q c failed NotFormatted f m = m

@@ -6,11 +6,13 @@ use Rattle.mt_disk.specs.declared.device.Device.{Ghosts}
 use Rattle.mt_server.specs.Answers.{AppendsFront}
 use Rattle.mt_server.proofs.TextLemmas.{appends_kept}
 use Rattle.mt_cli.specs.declared.command.Command.{Command}
-use Rattle.mt_cli.specs.declared.command.Command.TheVariants.{Try, Schedule, Check, Format, Show}
+use Rattle.mt_cli.specs.declared.command.Command.TheVariants.{Try, Schedule, Check, Format, Dump, Explain, Show}
 use Rattle.mt_cli.specs.declared.faults.Fault.{Fault}
 use Rattle.mt_cli.specs.declared.faults.Fault.TheVariants.{Output}
 use Rattle.mt_cli.specs.Performs.{Around, HaveRun, IsDone, IsGivenUp, IsScheduled, IsTried, IsUndone, IsUnscheduled, fault_line, unheard}
 use Rattle.mt_cli.specs.Checks.{HasChecked}
+use Rattle.mt_cli.specs.Dumps.{HasDumped}
+use Rattle.mt_cli.specs.Explains.{HasExplained}
 use Rattle.mt_cli.specs.Events.{IsSchedule}
 use Rattle.mt_cli.specs.Tellings.{told_lines}
 use Rattle.mt_world.specs.declared.events.Answer.{Answer as Told}
@@ -36,6 +38,12 @@ tried_kept bytes was mid now done kept =
 checked_kept : (pages : Bool) (bytes was mid now : Option (List ℕ)) → HasChecked pages bytes was mid → Keeps mid now → HasChecked pages bytes was now
 checked_kept pages bytes was mid now done kept = record { report = done.report; of = done.of; told = appends_kept was mid now _ done.told kept }
 
+dumped_kept : (bytes was mid now : Option (List ℕ)) → HasDumped bytes was mid → Keeps mid now → HasDumped bytes was now
+dumped_kept bytes was mid now done kept = record { survey = done.survey; of = done.of; ordered = done.ordered; told = appends_kept was mid now _ done.told kept }
+
+explained_kept : (bytes was mid now : Option (List ℕ)) → HasExplained bytes was mid → Keeps mid now → HasExplained bytes was now
+explained_kept bytes was mid now done kept = record { batches = done.batches; of = done.of; told = appends_kept was mid now _ done.told kept }
+
 module _ {D : Type 0} (g : Ghosts D) where
   scheduled_kept : (bytes was mid now : Option (List ℕ)) → IsScheduled g bytes was mid → Keeps mid now → IsScheduled g bytes was now
   scheduled_kept bytes was mid now done kept =
@@ -46,6 +54,8 @@ module _ {D : Type 0} (g : Ghosts D) where
   done_kept (Schedule file) a was mid now done kept = (scheduled_kept _ was mid now done.0 kept, done.1)
   done_kept (Check file pages) a was mid now done kept = (checked_kept pages _ was mid now done.0 kept, done.1)
   done_kept (Format file numbers) a was mid now done kept = (done.0, keeps_kept was mid now done.1 kept)
+  done_kept (Dump file) a was mid now done kept = (dumped_kept _ was mid now done.0 kept, done.1)
+  done_kept (Explain file) a was mid now done kept = (explained_kept _ was mid now done.0 kept, done.1)
   done_kept (Show text) a was mid now done kept = (appends_kept was mid now _ done.0 kept, done.1)
 
   -- the output failed within the answers of a run

@@ -2,6 +2,9 @@ pub mod Endings
 pub mod EventLemmas
 pub mod CheckLemmas
 pub mod CommandLemmas
+pub mod DumpLemmas
+pub mod ExplainLemmas
 pub mod FolderLemmas
+pub mod ListingLemmas
 pub mod SpellingLemmas
 pub mod Trials

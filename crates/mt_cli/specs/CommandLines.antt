@@ -11,7 +11,7 @@ use Rattle.clap.specs.declared.error.kind.ErrorKind.TheVariants.{OutOfMemory, Di
 use Rattle.mt_base.specs.declared.refusal.Refusal.TheVariants as refusal
 use Rattle.mt_cli.specs.Spelling.{AreCounters, IsNoCount, IsNoCounter, SpellsCount}
 use Rattle.mt_cli.specs.declared.command.Command.{Command}
-use Rattle.mt_cli.specs.declared.command.Command.TheVariants.{Try, Schedule, Check, Format, Show}
+use Rattle.mt_cli.specs.declared.command.Command.TheVariants.{Try, Schedule, Check, Format, Dump, Explain, Show}
 use Rattle.mt_cli.specs.declared.numbers.Numbers.{Numbers}
 use Rattle.mt_cli.specs.declared.command.CliFault.{CliFault}
 use Rattle.mt_cli.specs.declared.command.CliFault.TheVariants.{Usage, Refused}
@@ -50,12 +50,18 @@ counter_rule = record (new_rule (codes "counter")) { value_names = 1; action = S
 abbrev pub formatting : App
 formatting = with_rule sizing counter_rule
 
+-- `dump FILE`, `explain FILE`
+abbrev pub on_file : Text → App
+on_file name = with_rule (new_app name) (required_rule (codes "file"))
+
 -- `mtk`, whose words are those behind its name, one of them the command's name
 abbrev pub bare : App
 bare = record (new_app (codes "mtk")) { top = record (new_app (codes "mtk")).top { has_version = true; no_binary_name = true; subcommand_required = true } }
 
 abbrev pub program : App
-program = with_subcommand (with_subcommand (with_subcommand (with_subcommand bare trial.top) scheduling.top) checking.top) formatting.top
+program =
+    with_subcommand (with_subcommand (with_subcommand (with_subcommand (with_subcommand (with_subcommand bare trial.top) scheduling.top) checking.top) formatting.top) (on_file (codes "dump")).top)
+    (on_file (codes "explain")).top
 
 -- a parser of this command line, none of whose arguments counts for others
 pub record Parses (app : App) (parser : Parser) : Type 0 where
@@ -126,17 +132,19 @@ abbrev pub IsMisspelled : Option (Text × List Row) → Type 0
 IsMisspelled None = ⊥
 IsMisspelled (Some found) = (found.0 ≡ codes "format") × IsMisspelledAt found.1
 
--- neither `check` nor `format`
+-- no command on a device in a file
 abbrev pub IsRun : Text → Type 0
-IsRun name = (name ≢ codes "check") × (name ≢ codes "format")
+IsRun name = (name ≢ codes "check") × (name ≢ codes "format") × (name ≢ codes "dump") × (name ≢ codes "explain")
 
 -- what the words enter is the command of its name, or else `try` of a script, and no text to be shown
 abbrev pub IsEntered : Option (Text × List Row) → Command → Type 0
 IsEntered entered (Try script) = (option_map string_bytes script ≡ script_in entered) × (name_in entered ≢ Some (codes "schedule")) × (name_in entered ≢ Some (codes "check"))
-    × (name_in entered ≢ Some (codes "format"))
+    × (name_in entered ≢ Some (codes "format")) × (name_in entered ≢ Some (codes "dump")) × (name_in entered ≢ Some (codes "explain"))
 IsEntered entered (Schedule file) = (option_map string_bytes file ≡ file_in entered) × (name_in entered ≡ Some (codes "schedule"))
 IsEntered entered (Check file pages) = (string_bytes file ≡ device_in entered) × IsFlag (pages_in entered) pages × (name_in entered ≡ Some (codes "check"))
 IsEntered entered (Format file numbers) = (string_bytes file ≡ device_in entered) × AreNumbersIn entered numbers × (name_in entered ≡ Some (codes "format"))
+IsEntered entered (Dump file) = (string_bytes file ≡ device_in entered) × (name_in entered ≡ Some (codes "dump"))
+IsEntered entered (Explain file) = (string_bytes file ≡ device_in entered) × (name_in entered ≡ Some (codes "explain"))
 IsEntered entered (Show text) = ⊥
 
 -- why words that the parser takes are not read: they are misspelled so, or memory was wanting
@@ -167,6 +175,8 @@ IsCommandOf words (Try script) = IsEntered (subcommand_of program words) (Try sc
 IsCommandOf words (Schedule file) = IsEntered (subcommand_of program words) (Schedule file)
 IsCommandOf words (Check file pages) = IsEntered (subcommand_of program words) (Check file pages)
 IsCommandOf words (Format file numbers) = IsEntered (subcommand_of program words) (Format file numbers)
+IsCommandOf words (Dump file) = IsEntered (subcommand_of program words) (Dump file)
+IsCommandOf words (Explain file) = IsEntered (subcommand_of program words) (Explain file)
 IsCommandOf words (Show text) = IsAsking words
 
 -- words that are a command are refused for want of memory alone, but for a number that they misspell

@@ -1,8 +1,12 @@
 pub mod Checks
 pub mod CommandLines
+pub mod Dumps
 pub mod Events
+pub mod Explains
+pub mod Explanations
 pub mod Folders
 pub mod Formattings
+pub mod Listings
 pub mod Performs
 pub mod Spelling
 pub mod Tellings

@@ -12,7 +12,7 @@ use Rattle.mt_server.specs.declared.answers.Answer.{Answer}
 use Rattle.mt_server.specs.declared.lines.Line.{Line}
 use Rattle.mt_server.specs.declared.answers.Answer.TheVariants.{Refused as RefusedLine}
 use Rattle.mt_cli.specs.declared.command.Command.{Command}
-use Rattle.mt_cli.specs.declared.command.Command.TheVariants.{Try, Schedule, Check, Format, Show}
+use Rattle.mt_cli.specs.declared.command.Command.TheVariants.{Try, Schedule, Check, Format, Dump, Explain, Show}
 use Rattle.mt_cli.specs.declared.numbers.Numbers.{Numbers}
 use Rattle.mt_cli.specs.declared.faults.Fault.{Fault}
 use Rattle.mt_cli.specs.declared.faults.Fault.TheVariants.{Output, Refused}
@@ -23,6 +23,8 @@ use Rattle.mt_server.specs.Driven.{IsBeside}
 use Rattle.mt_server.specs.Plays.{Play, HasPlayed}
 use Rattle.mt_cli.specs.Checks.{HasChecked, IsUnchecked}
 use Rattle.mt_cli.specs.CommandLines.{IsCommandOf}
+use Rattle.mt_cli.specs.Dumps.{AreLeftBy, HasDumped, IsUndumped, StandsOn}
+use Rattle.mt_cli.specs.Explains.{HasExplained, IsUnexplained}
 use Rattle.mt_cli.specs.Events.{IsEvent, IsSchedule, event_text}
 use Rattle.mt_cli.specs.Folders.{AreKept, Files, IsUnmade, known_in}
 use Rattle.mt_cli.specs.Formattings.{Formats, IsUnformed}
@@ -108,6 +110,8 @@ IsDone g (Try script) a was now = IsTried (source_of a.before (option_map string
 IsDone g (Schedule file) a was now = IsScheduled g (source_of a.before (option_map string_bytes file) a.input) was now × AreKept a.before a.after
 IsDone g (Check file pages) a was now = HasChecked pages (known_in a.before (string_bytes file)) was now × AreKept a.before a.after
 IsDone g (Format file numbers) a was now = Formats numbers a.before a.after (string_bytes file) × Keeps was now
+IsDone g (Dump file) a was now = HasDumped (known_in a.before (string_bytes file)) was now × StandsOn a.before a.after (string_bytes file)
+IsDone g (Explain file) a was now = HasExplained (known_in a.before (string_bytes file)) was now × AreKept a.before a.after
 IsDone g (Show text) a was now = Appends was now (string_bytes text) × AreKept a.before a.after
 
 -- and what the command that words name leaves there
@@ -178,6 +182,8 @@ IsUndone g (Try script) a was now fault = IsUntried (source_of a.before (option_
 IsUndone g (Schedule file) a was now fault = IsUnscheduled g (source_of a.before (option_map string_bytes file) a.input) was now fault × AreKept a.before a.after
 IsUndone g (Check file pages) a was now fault = IsUnchecked pages (known_in a.before (string_bytes file)) was now fault × AreKept a.before a.after
 IsUndone g (Format file numbers) a was now fault = IsFormatFault numbers fault × AreKept a.before a.after × Keeps was now
+IsUndone g (Dump file) a was now fault = IsUndumped (known_in a.before (string_bytes file)) was now fault × AreLeftBy a.before a.after (string_bytes file) fault
+IsUndone g (Explain file) a was now fault = IsUnexplained (known_in a.before (string_bytes file)) was now fault × AreKept a.before a.after
 IsUndone g (Show text) a was now fault = (fault ≡ Output) × AppendsFront was now (string_bytes text) × AreKept a.before a.after
 
 -- A command ended with a fault, or it was done and the output could not be flushed. The error output has a

@@ -58,7 +58,10 @@ fn told_of_file<F: Folder>(
 }
 
 /// Writes a line for each of these figures: its word, and its number behind it.
-fn write_figures<W: Write>(writer: &mut W, figures: &[(&str, u64)]) -> Result<(), Unheard>
+pub(crate) fn write_figures<W: Write>(
+    writer: &mut W,
+    figures: &[(&str, u64)],
+) -> Result<(), Unheard>
     ensures all { OnOk result (Appends (W.contents writer.old) (W.contents writer.new)
         (concat (map figure_line figures.now))) }
     ensures front { OnErr result (AppendsFront (W.contents writer.old) (W.contents writer.new)

@@ -1,7 +1,7 @@
 // The command line, read by `clap`.
 ghost use Rattle.std.specs.Prelude.{◌≡◌, List, [], Any, IfOk, IfErr, Some, codes, map, option_map, string_bytes, ⊤};
 ghost use Rattle.clap.specs.Words.{Text, app_of, found_of, rows_of, subcommand_rows_of};
-ghost use Rattle.mt_cli.specs.CommandLines.{bare, checking, counters_at, formatting, program, required_rule, scheduling, sizing, text_at, trial, AreNumbersAt, Parses, IsCommandOf, IsEntered, IsFaultAt, IsFaultOf, IsMisread, IsMisspelled, IsMisspelledAt, IsRuledBy, IsRun};
+ghost use Rattle.mt_cli.specs.CommandLines.{bare, checking, counters_at, formatting, on_file, program, required_rule, scheduling, sizing, text_at, trial, AreNumbersAt, Parses, IsCommandOf, IsEntered, IsFaultAt, IsFaultOf, IsMisread, IsMisspelled, IsMisspelledAt, IsRuledBy, IsRun};
 ghost use Rattle.mt_cli.specs.Spelling.{AreCounters, IsNoCount, IsNoCounter, SpellsCount};
 
 use crate::numbers::{Numbers, count_of, counters_of};
@@ -22,6 +22,10 @@ pub enum Command {
     Check { file: String, pages: bool },
     /// Makes a device of a schema of these numbers in this file, or in its place.
     Format { file: String, numbers: Numbers },
+    /// Opens the device in this file, and prints its base.
+    Dump { file: String },
+    /// Tells the log of the device in this file as a history, and what a restart would do.
+    Explain { file: String },
     /// Prints this text: the help or the version.
     Show { text: String },
 }
@@ -144,6 +148,22 @@ fn formatting_parser<'a>(alloc: Global) -> Result<Parser<'a>, AllocError>
     sizes_parser(alloc)?.arg(counters)
 }
 
+/// A command of this name on a device in a file: `NAME FILE`.
+fn file_parser<'a>(
+    alloc: Global,
+    name: &'a str,
+    about: &'a str,
+    examples: &'a str,
+) -> Result<Parser<'a>, AllocError>
+    ensures { IfOk result (Parses (on_file name.now)) }
+{
+    let file = required(alloc, "file", "FILE", "The device's file");
+    Parser::new(alloc, name)
+        .about(about)
+        .after_help(examples)
+        .arg(file)
+}
+
 /// The program's command line.
 fn parser<'a>(alloc: Global) -> Result<Parser<'a>, AllocError>
     ensures { IfOk result (λ parser. app_of parser ≡ program) }
@@ -152,10 +172,14 @@ fn parser<'a>(alloc: Global) -> Result<Parser<'a>, AllocError>
     let scheduling = scheduling_parser(alloc)?;
     let checking = checking_parser(alloc)?;
     let formatting = formatting_parser(alloc)?;
+    let dumping = file_parser(alloc, "dump", DUMP_ABOUT, DUMP_EXAMPLES)?;
+    let explaining = file_parser(alloc, "explain", EXPLAIN_ABOUT, EXPLAIN_EXAMPLES)?;
     let parser = bare(alloc).subcommand(trial)?;
     let parser = parser.subcommand(scheduling)?;
     let parser = parser.subcommand(checking)?;
-    parser.subcommand(formatting)
+    let parser = parser.subcommand(formatting)?;
+    let parser = parser.subcommand(dumping)?;
+    parser.subcommand(explaining)
 }
 
 const EXAMPLES: &str = "Examples:
@@ -163,7 +187,9 @@ const EXAMPLES: &str = "Examples:
   printf 'begin\\ninsert 0 a x\\ncommit\\n' | mtk try
   printf 'begin 1\\ncall 1 add 0 1\\nstep 1\\n' | mtk schedule
   mtk format bank.mtk 64 4 2 c0:10:5
-  mtk check --pages bank.mtk";
+  mtk check --pages bank.mtk
+  mtk dump bank.mtk
+  mtk explain bank.mtk";
 
 const FORMAT_EXAMPLES: &str = "Example:
   mtk format bank.mtk 64 4 2 c0:10:5 c-1000:1000:0
@@ -206,6 +232,33 @@ prints
   commits 0
   pages ok";
 
+const DUMP_ABOUT: &str = "Open a device, as after a crash, and print its rows and counters";
+
+const DUMP_EXAMPLES: &str = "Example:
+  mtk dump bank.mtk
+
+prints, of two relations with one row and of one counter
+  depth 0
+  free 59
+  row 0 61 78
+  counter 0 5
+
+Keys and values are hexadecimal digits, two of each byte, and an empty value is a dash. The device is
+opened as after a crash, and so written to: unfinished transactions are undone.";
+
+const EXPLAIN_ABOUT: &str = "Tell the log of a device as a history, without a write";
+
+const EXPLAIN_EXAMPLES: &str = "Example:
+  mtk explain bank.mtk
+
+prints a line for each record of the log, with the number of its batch and that batch's place in the file
+  batch 2 at 270341 txn 1 op 1 page 2 from 31 length 1 with image
+  batch 2 at 270341 txn 1 op 1 add 0 1
+
+and then what a restart would do, in its order: put unfinished operations back, and undo those of
+unfinished transactions
+  restart txn 1 op 1 undone by add 0 -1";
+
 /// A text, in memory of its own.
 fn copied(alloc: Global, text: Option<&str>) -> Result<Option<String>, AllocError>
     ensures { IfOk result (λ copy. option_map string_bytes copy ≡ option_map (λ t. t.now) text.entry) }
@@ -237,6 +290,22 @@ fn check_of(alloc: Global, found: &ArgMatches) -> Result<Command, AllocError>
     let file = required_file(alloc, found)?;
     let pages = found.get_flag("pages");
     Ok(Command::Check { file, pages })
+}
+
+/// `dump`, with what was found behind its name.
+fn dump_of(alloc: Global, found: &ArgMatches) -> Result<Command, AllocError>
+    ensures { IfOk result (IsEntered (Some (codes "dump", rows_of (found_of found.now)))) }
+{
+    let file = required_file(alloc, found)?;
+    Ok(Command::Dump { file })
+}
+
+/// `explain`, with what was found behind its name.
+fn explain_of(alloc: Global, found: &ArgMatches) -> Result<Command, AllocError>
+    ensures { IfOk result (IsEntered (Some (codes "explain", rows_of (found_of found.now)))) }
+{
+    let file = required_file(alloc, found)?;
+    Ok(Command::Explain { file })
 }
 
 /// The number that was found for an argument. `Usage` where its word spells none.
@@ -325,6 +394,10 @@ fn named(alloc: Global, name: &str, found: &ArgMatches) -> Result<Command, CliFa
         Ok(check_of(alloc, found)?)
     } else if name == "format" {
         format_of(alloc, found)
+    } else if name == "dump" {
+        Ok(dump_of(alloc, found)?)
+    } else if name == "explain" {
+        Ok(explain_of(alloc, found)?)
     } else {
         Ok(run_of(alloc, name, found)?)
     }

@@ -1,7 +1,8 @@
 // The files that the program reaches by name.
 ghost use Rattle.std.specs.Prelude.{◌≡◌, ◌++◌, ◌∷◌, [], ◌<◌, IfErr, IfOk, OnErr, OnOk, bytes_eq, length, position};
 ghost use Rattle.mt_cli.specs.Folders.{Gives, IsFileRefusal, file_of};
-ghost use Rattle.mt_disk.specs.Memory.{content};
+ghost use Rattle.mt_disk.specs.Disk.{Only};
+ghost use Rattle.mt_disk.specs.Memory.{MayLeave, content};
 
 use mt_base::limits::PAGE_BYTES;
 use mt_base::{Bytes, Refusal};
@@ -17,6 +18,7 @@ use std::rt::Files;
 /// [`Folder::discard`].
 pub trait Folder {
     ghost use Rattle.std.specs.Prelude.{◌≡◌, ℕ, List, Option, length, IfOk, IfErr, IfSome, OnOk, OnErr};
+    ghost use Rattle.mt_disk.specs.Disk.{Only};
     ghost use Rattle.mt_cli.specs.Folders.{AreKept, IsFileRefusal, IsHeld, IsLent, IsThere, IsUnmade, Puts, known_in};
 
     /// A device in a file.
@@ -33,11 +35,12 @@ pub trait Folder {
         ensures cause { IfErr result (IsFileRefusal (known_in (files self.old) name.now)) }
         ensures kept { AreKept (files self.old) (files self.new) };
 
-    /// The device in the file of this name, with just its bytes, until it is given back. Refused by `NoMemory`, and by
-    /// `DeviceFailed` where there is no such file or it cannot be opened to be read and written; the folder is then as
-    /// before.
+    /// The device in the file of this name, with just its bytes, until it is given back; it is synced. Refused by
+    /// `NoMemory`, and by `DeviceFailed` where there is no such file or it cannot be opened to be read and written; the
+    /// folder is then as before.
     fn device(&mut self, name: &str) -> Result<Self::Device, Refusal>
         ensures held { IfOk result (λ device. IsHeld (files self.old) name.now (Self.Device.seen device)) }
+        ensures settled { IfOk result (λ device. Only (Self.Device.seen device) (Self.Device.may_leave device)) }
         ensures cause { IfErr result (IsFileRefusal (known_in (files self.old) name.now)) }
         ensures lent { OnOk result (IsLent (files self.old) (files self.new) name.now) }
         ensures err { OnErr result (AreKept (files self.old) (files self.new)) };
@@ -144,7 +147,8 @@ const SPARE_WRITES: usize = 64;
 
 /// A device in memory over these bytes, with room without a sync for a write of each page and some more.
 fn device_over(alloc: Global, bytes: Vec<u8>) -> Result<MemDevice, AllocError>
-    ensures { IfOk result (λ device. content device ≡ bytes.items) }
+    ensures content { IfOk result (λ device. content device ≡ bytes.items) }
+    ensures settled { IfOk result (λ device. Only (content device) (MayLeave device)) }
 {
     let len = bytes.len();
     let writes = len / PAGE_BYTES + SPARE_WRITES;

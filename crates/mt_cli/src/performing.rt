@@ -11,6 +11,8 @@ ghost use Rattle.std.specs.Io.KnownBytes.{Appends, Keeps};
 
 use crate::checking::perform_check;
 use crate::command::{CliFault, Command, command_of};
+use crate::dumping::perform_dump;
+use crate::explaining::perform_explain;
 use crate::faults::{Fault, tell};
 use crate::folder::Folder;
 use crate::formatting::perform_format;
@@ -296,6 +298,8 @@ fn do_command<F: Folder, I: Read, O: Write>(
                 Err(refusal) => Err(Fault::Refused(refusal)),
             }
         }
+        Command::Dump { file } => perform_dump(alloc, folder, file.as_str(), out),
+        Command::Explain { file } => perform_explain(alloc, folder, file.as_str(), out),
         Command::Show { text } => show(text.as_str(), out),
     }
 }
@@ -306,8 +310,9 @@ fn do_command<F: Folder, I: Read, O: Write>(
 /// - 1: it was refused, and the refusal's text is on `err`; or `out` could not be written. An input
 ///   that cannot be read, and a file that is not there or cannot be read, is refusal 2.
 ///
-/// A script or a schedule is read whole before any of it runs. A device is only read by `check`, and where `format` is
-/// refused each file is as it was.
+/// A script or a schedule is read whole before any of it runs. A device is only read by `check` and `explain`, and where
+/// `format` is refused each file is as it was. A device that is opened by `dump` is written to, and stands for what it
+/// stood for.
 pub fn perform<F: Folder, I: Read, O: Write, E: Write>(
     alloc: Global,
     command: &Command,

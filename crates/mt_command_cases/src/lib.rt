@@ -5,6 +5,12 @@
 #[cfg(test)]
 mod checks;
 #[cfg(test)]
+mod dumps;
+#[cfg(test)]
+mod explanations;
+#[cfg(test)]
 mod formats;
 #[cfg(test)]
 mod running;
+#[cfg(test)]
+mod used;

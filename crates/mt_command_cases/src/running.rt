@@ -35,3 +35,16 @@ pub fn formatted(alloc: Global) -> Result<Vec<u8>, Refusal> {
     }
     file(&mut folder)
 }
+
+/// Whether `mtk` with these words over this folder ends well, and writes these bytes somewhere in its output.
+pub fn writes(alloc: Global, folder: &mut MemFolder, words: &[&str], bytes: &[u8]) -> bool {
+    let mut written = Vec::new(alloc);
+    let mut told = Vec::new(alloc);
+    let mut input: &[u8] = b"";
+    let ended = perform_words(alloc, words, folder, &mut input, &mut written, &mut told);
+    let mut within = false;
+    for from in 0..written.len() {
+        within = within || written.as_slice()[from..].starts_with(bytes);
+    }
+    ended == 0 && within
+}

@@ -14,4 +14,6 @@ returns c =
     let first = one_more _ _ _ _ c.in_ok-parser.parser c.bare.ensures c.in_ok-trial.ensures c.in_ok-parser.ensures in
     let second = one_more _ _ _ _ c.in_ok-parser-2.parser first c.in_ok-scheduling.ensures c.in_ok-parser-2.ensures in
     let third = one_more _ _ _ _ c.in_ok-parser-3.parser second c.in_ok-checking.ensures c.in_ok-parser-3.ensures in
-    IfOk-weaker c.subcommand-4.result _ _ (λ r added. one_more _ _ _ _ r third c.in_ok-formatting.ensures added) c.subcommand-4.ensures
+    let fourth = one_more _ _ _ _ c.in_ok-parser-4.parser third c.in_ok-formatting.ensures c.in_ok-parser-4.ensures in
+    let fifth = one_more _ _ _ _ c.in_ok-parser-5.parser fourth c.in_ok-dumping.ensures c.in_ok-parser-5.ensures in
+    IfOk-weaker c.subcommand-6.result _ _ (λ r added. one_more _ _ _ _ r fifth c.in_ok-explaining.ensures added) c.subcommand-6.ensures

@@ -18,4 +18,6 @@ returns-in_ok-script c = (
   λ e. let same : c.args.name.now ≡ codes "schedule" = inner _ _ e in let holds : c.eq.result ≡ true = search (rules, c.eq.ensures, same) in let fails : c.eq.result ≡ false = c.if-eq.false in cc,
   λ e. c.requires.0 (inner _ _ e),
   λ e. c.requires.1 (inner _ _ e),
+  λ e. c.requires.2 (inner _ _ e),
+  λ e. c.requires.3 (inner _ _ e),
 )

@@ -1,0 +1,94 @@
+-- What `dump` tells of a device, and what becomes of its file.
+use Rattle.std.specs.Prelude.{ℕ, ◌≡◌, ◌≢◌, ◌⊎◌, List, ◌∷◌, [], ◌++◌, Option, codes, map}
+use Rattle.std.specs.Io.KnownBytes.{Appends, Keeps}
+use Rattle.std.specs.List.{concat}
+use Rattle.mt_base.specs.declared.refusal.Refusal.{Refusal}
+use Rattle.mt_base.specs.declared.refusal.Refusal.TheVariants as refusal
+use Rattle.mt_model.specs.Model.{Base}
+use Rattle.mt_model.specs.Rows.{IsOrdered}
+use Rattle.mt_model.specs.Views.{counters_of, rows_of}
+use Rattle.mt_op.specs.Surveyed.{IsSurvey}
+use Rattle.mt_op.specs.declared.surveying.Survey.{Survey}
+use Rattle.mt_replay.specs.Stands.{CanRestart}
+use Rattle.mt_restart.specs.Recovered.{IsCauseToStop}
+use Rattle.mt_server.specs.Answers.{AppendsFront}
+use Rattle.mt_space.specs.Changes.{PageBytes}
+use Rattle.mt_steps.specs.Held.{Holds}
+use Rattle.mt_steps.specs.Plans.{IsGood}
+use Rattle.mt_cli.specs.Checks.{IsOf, number_line}
+use Rattle.mt_cli.specs.Folders.{AreKept, Files, IsFileRefusal, IsHeld, Puts}
+use Rattle.mt_cli.specs.Listings.{counter_lines, row_line}
+use Rattle.mt_cli.specs.declared.faults.Fault.{Fault}
+use Rattle.mt_cli.specs.declared.faults.Fault.TheVariants.{Output, Refused}
+
+-- ---- what is printed
+
+-- the depth of the index, the free pages, the rows in order, and the counters
+abbrev pub sizes_text : Survey → List ℕ
+sizes_text s = concat (number_line (codes "depth ") s.depth ∷ number_line (codes "free ") s.free ∷ [])
+
+abbrev pub dump_text : Survey → List ℕ
+dump_text s = (sizes_text s ++ concat (map row_line (rows_of s.base))) ++ counter_lines (counters_of s.base)
+
+-- ---- of which bytes
+
+-- the survey is of pages that break no rule, and that hold this base of so many relations and counters
+abbrev pub TellsOfBase : ℕ → ℕ → Base → Survey → Type 0
+TellsOfBase relations counters b survey =
+    ∥ ((total : ℕ) × (pages : PageBytes) × IsGood relations counters total pages × Holds pages b × IsSurvey relations counters total pages b survey) ∥₁
+
+-- it is of some base, and of the one that the bytes stand for, if they stand for one
+pub record Dumps (c : List ℕ) (survey : Survey) : Type 0 where
+  pub some : (relations : ℕ) × (counters : ℕ) × (b : Base) × TellsOfBase relations counters b survey
+  pub stood_for : (relations counters : ℕ) (b : Base) → CanRestart relations counters c b → TellsOfBase relations counters b survey
+
+-- what these bytes stand for, those do
+abbrev pub StandAs : List ℕ → List ℕ → Type 0
+StandAs c d = (relations counters : ℕ) (b : Base) → CanRestart relations counters c b → CanRestart relations counters d b
+
+-- why a device of these bytes is not opened, or not surveyed
+abbrev pub IsBarred : List ℕ → Refusal → Type 0
+IsBarred c why = IsCauseToStop c (Unit {0}) why
+
+-- the refusals that leave each byte as it was
+abbrev pub IsEarly : Refusal → Type 0
+IsEarly why = (why ≢ refusal.NoMemory) × (why ≢ refusal.DeviceFailed)
+
+-- ---- of which file
+
+abbrev pub DumpsOf : Option (List ℕ) → Survey → Type 0
+DumpsOf bytes survey = (c : List ℕ) × IsOf bytes c × Dumps c survey
+
+-- why nothing is told of a file
+abbrev pub IsUnopened : Option (List ℕ) → Refusal → Type 0
+IsUnopened bytes why = IsFileRefusal bytes why ⊎ ((c : List ℕ) × IsOf bytes c × IsBarred c why)
+
+-- The file of this name has other bytes, that stand for what its bytes stood for. Each other file is as before.
+pub record StandsOn (old new : Files) (name : List ℕ) : Type 0 where
+  pub before : List ℕ
+  pub after : List ℕ
+  pub held : IsHeld old name before
+  pub put : Puts old new name after
+  pub same : StandAs before after
+
+-- where the device was refused so, each file is as before, or the one of this name stands for the same
+pub record AreLeft (old new : Files) (name : List ℕ) (why : Refusal) : Type 0 where
+  pub stands : AreKept old new ⊎ StandsOn old new name
+  pub early : IsEarly why → AreKept old new
+
+-- the lines of such a survey were written, with its rows in order
+pub record HasDumped (bytes was now : Option (List ℕ)) : Type 0 where
+  pub survey : Survey
+  pub of : DumpsOf bytes survey
+  pub ordered : IsOrdered (rows_of survey.base)
+  pub told : Appends was now (dump_text survey)
+
+-- why a dump did not end well: nothing is written where nothing is told, and else the output failed within the lines
+pub data IsUndumped (bytes was now : Option (List ℕ)) : Fault → Type 0 where
+  unopened : (why : Refusal) → IsUnopened bytes why → Keeps was now → IsUndumped bytes was now (Refused why)
+  unheard_dump : (survey : Survey) → DumpsOf bytes survey → AppendsFront was now (dump_text survey) → IsUndumped bytes was now Output
+
+-- what becomes of the files where it did not
+abbrev pub AreLeftBy : Files → Files → List ℕ → Fault → Type 0
+AreLeftBy old new name Output = StandsOn old new name
+AreLeftBy old new name (Refused why) = AreLeft old new name why

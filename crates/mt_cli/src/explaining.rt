@@ -1,0 +1,140 @@
+// `explain`: the log of the device in a file as a history, without a write.
+ghost use Rattle.std.specs.Prelude.{◌≡◌, ◌⊎◌, ◌<◌, ℕ, false, IfErr, IfOk, OnErr, OnOk};
+ghost use Rattle.std.specs.List.{AllByRecursion};
+ghost use Rattle.std.specs.Io.KnownBytes.{Appends};
+ghost use Rattle.mt_base.specs.declared.refusal.Refusal.{Refusal};
+ghost use Rattle.mt_frame.specs.Grammar.{IsOperation};
+ghost use Rattle.mt_log.specs.Holds.{BreaksAt};
+ghost use Rattle.mt_log.specs.Masters.{IsRuling, area_end, area_start};
+ghost use Rattle.mt_replay.specs.Losers.{AreOfGrammar};
+ghost use Rattle.mt_replay.specs.Refused.{BreaksLog, IsCause};
+ghost use Rattle.mt_server.specs.Answers.{AppendsFront};
+ghost use Rattle.mt_cli.specs.Checks.{IsUntold};
+ghost use Rattle.mt_cli.specs.Explains.{AreBatchesIn, HasExplained, IsLogIn, IsLogOf, IsUnexplained, Recounts, RecountsLog, history_text};
+ghost use Rattle.mt_cli.specs.Folders.{AreKept, known_in};
+
+use crate::entries::{write_all_put_back, write_all_undone, write_batches};
+use crate::faults::Fault;
+use crate::folder::Folder;
+use crate::unfinished::{Unfinished, unfinished_of};
+use mt_base::Refusal;
+use mt_disk::Device;
+use mt_frame::MasterSlot;
+use mt_log::{AreaPlace, Batch, ruling_slot, scan};
+use mt_replay::{Loser, losers_of};
+use mt_server::Unheard;
+use std::alloc::Global;
+use std::io::Write;
+
+/// What a log tells.
+#[derive(Drop)]
+pub(crate) struct History {
+    /// Its batches, in order.
+    batches: Vec<Batch>,
+    /// The operations that a restart puts back.
+    unfinished: Vec<Unfinished>,
+    /// Those that it undoes, in the order of their ends.
+    losers: Vec<Loser>,
+}
+
+/// The batches of the area that a slot names.
+fn read_area<D: Device>(
+    alloc: Global,
+    device: &mut D,
+    ruling: &MasterSlot,
+) -> Result<Vec<Batch>, Refusal>
+    requires { IsRuling (D.seen device.old) ruling.now }
+    ensures found { IfOk result (λ batches. AreBatchesIn (D.seen device.old) ruling.now batches.items) }
+    ensures cause { IfErr result (λ why. (why ≡ Refusal.NoMemory)
+        ⊎ (((why ≡ Refusal.DeviceFailed) × (D.faults device.old < D.faults device.new))
+        ⊎ ((at : ℕ) × (why ≡ Refusal.BadFormat at) × BreaksAt (D.seen device.old) (area_start ruling.now)
+        (area_end ruling.now) ruling.now.pages at))) }
+    ensures seen { D.seen device.new ≡ D.seen device.old }
+{
+    let area = AreaPlace::named_by(ruling);
+    scan(alloc, device, area, ruling.pages)
+}
+
+/// The log of a device.
+fn log_of<D: Device>(alloc: Global, device: &mut D) -> Result<Vec<Batch>, Refusal>
+    ensures log { IfOk result (λ batches. IsLogOf (D.seen device.old) batches.items) }
+    ensures cause { IfErr result (IsCause BreaksLog (D.seen device.old) (Unit {0})) }
+    ensures seen { D.seen device.new ≡ D.seen device.old }
+{
+    let ruling = ruling_slot(device)?;
+    let batches = read_area(alloc, device, &ruling)?;
+    Ok(batches)
+}
+
+/// The log of the device in the file of this name.
+fn log_of_file<F: Folder>(alloc: Global, folder: &mut F, name: &str) -> Result<Vec<Batch>, Refusal>
+    ensures log { IfOk result (λ batches. IsLogIn (known_in (F.files folder.old) name.now) batches.items) }
+    ensures cause { IfErr result (IsUntold false (known_in (F.files folder.old) name.now)) }
+    ensures kept { AreKept (F.files folder.old) (F.files folder.new) }
+{
+    let mut device = folder.device(name)?;
+    let told = log_of(alloc, &mut device);
+    folder.back(name, device);
+    told
+}
+
+/// What these batches tell. The only refusal is [`Refusal::NoMemory`].
+fn history_of(alloc: Global, batches: Vec<Batch>) -> Result<History, Refusal>
+    requires { AreOfGrammar batches.items }
+    ensures told { IfOk result (Recounts batches.items) }
+    ensures only_memory { IfErr result (λ why. why ≡ Refusal.NoMemory) }
+{
+    let unfinished = unfinished_of(alloc, batches.as_slice())?;
+    let losers = losers_of(alloc, batches.as_slice())?;
+    Ok(History {
+        batches,
+        unfinished,
+        losers,
+    })
+}
+
+/// What the log of the device in the file of this name tells.
+fn history_of_file<F: Folder>(alloc: Global, folder: &mut F, name: &str) -> Result<History, Refusal>
+    ensures told { IfOk result (RecountsLog (known_in (F.files folder.old) name.now)) }
+    ensures cause { IfErr result (IsUntold false (known_in (F.files folder.old) name.now)) }
+    ensures kept { AreKept (F.files folder.old) (F.files folder.new) }
+{
+    let batches = log_of_file(alloc, folder, name)?;
+    history_of(alloc, batches)
+}
+
+/// Writes the lines of a history.
+fn write_history<W: Write>(writer: &mut W, history: &History) -> Result<(), Unheard>
+    requires { AllByRecursion (λ l. IsOperation l.done) history.now.losers.items }
+    ensures all { OnOk result (Appends (W.contents writer.old) (W.contents writer.new)
+        (history_text history.now)) }
+    ensures front { OnErr result (AppendsFront (W.contents writer.old) (W.contents writer.new)
+        (history_text history.now)) }
+{
+    write_batches(writer, history.batches.as_slice())?;
+    write_all_put_back(writer, history.unfinished.as_slice())?;
+    write_all_undone(writer, history.losers.as_slice())
+}
+
+/// Does `explain`: writes a line for each record of the log of the device in a file, and then what a restart would do. The
+/// device is only read. Where it is refused, nothing is written.
+pub(crate) fn perform_explain<F: Folder, O: Write>(
+    alloc: Global,
+    folder: &mut F,
+    name: &str,
+    out: &mut O,
+) -> Result<(), Fault>
+    ensures explained { OnOk result (HasExplained (known_in (F.files folder.old) name.now) (O.contents out.old)
+        (O.contents out.new)) }
+    ensures unexplained { IfErr result (IsUnexplained (known_in (F.files folder.old) name.now)
+        (O.contents out.old) (O.contents out.new)) }
+    ensures kept { AreKept (F.files folder.old) (F.files folder.new) }
+{
+    match history_of_file(alloc, folder, name) {
+        Ok(history) => match write_history(out, &history) {
+            Ok(()) => Ok(()),
+            Err(_) => Err(Fault::Output),
+        },
+        Err(refusal) => Err(Fault::Refused(refusal)),
+    }
+}

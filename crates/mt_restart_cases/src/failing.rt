@@ -60,8 +60,8 @@ fn is_opened(alloc: Global, steps: Option<u8>, device: MemDevice) -> Result<bool
     Ok(refused.is_none() && text.as_slice() == due)
 }
 
-// Of the calls behind the format, each failing in turn: how often the force came to so many steps, and whether each device was
-// opened as is due.
+// Of the calls behind the format, each failing in turn: how often the force came to so many steps, and whether each
+// device was opened as is due.
 fn each_call_failing(alloc: Global) -> Result<([u16; 5], bool), Refusal> {
     let mut counts = [0u16; 5];
     let mut are_due = true;
@@ -80,7 +80,8 @@ fn each_call_failing(alloc: Global) -> Result<([u16; 5], bool), Refusal> {
     Err(Refusal::Busy)
 }
 
-/// The last one is the sync behind the gate: the commit is not acknowledged then, and is there when the device is opened.
+/// The last one is the sync behind the gate: the commit is not acknowledged then, and is there once the device is
+/// opened.
 #[test]
 fn a_commit_meets_a_device_that_fails(rt: HostRuntime) -> Result<(), Fail> {
     let (counts, are_due) = each_call_failing(rt.alloc())?;

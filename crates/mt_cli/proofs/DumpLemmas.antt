@@ -1,5 +1,5 @@
 -- What a dump tells, and what a device stands for behind it.
-use Rattle.std.proofs.Common.{◌≡◌, ◌∙◌, ◌==◌, ◌<◌, ◌≤◌, ◌≢◌, ◌⊎◌, inl, inr, arith, ℕ, List, [], ◌∷◌, length, Bool, true, false, cond, Option, Some, None, Result, Ok, Err, IfErr, IfOk, OnOk, refl, sym, ap, subst}
+use Rattle.std.proofs.Common.{◌≡◌, ◌∙◌, ◌==◌, ◌<◌, ◌≤◌, ◌≢◌, ◌⊎◌, inl, inr, arith, ℕ, List, [], ◌∷◌, length, Bool, true, false, cond, Some, None, Result, Ok, Err, IfErr, IfOk, OnOk, refl, sym, ap, subst}
 use Rattle.std.proofs.Props.{props}
 use Rattle.std.proofs.lemmas.Bool.Decides.{Decides-eqb}
 use Rattle.std.specs.Option.{option_map}
@@ -18,10 +18,10 @@ use Rattle.mt_model.specs.Model.{Base}
 use Rattle.mt_model.specs.Views.{base_of}
 use Rattle.mt_op.proofs.Surveyed.{fixed_inside, idle_page}
 use Rattle.mt_op.specs.Operations.{world}
-use Rattle.mt_op.specs.Surveyed.{IsIdle, IsSurvey}
+use Rattle.mt_op.specs.Surveyed.{IsIdle}
 use Rattle.mt_op.specs.World.{held_in}
 use Rattle.mt_op.specs.declared.surveying.Survey.{Survey}
-use Rattle.mt_pool.specs.Views.{pages, view}
+use Rattle.mt_pool.specs.Views.{pages}
 use Rattle.mt_replay.specs.Refused.{BreaksFormat, IsCause}
 use Rattle.mt_replay.specs.Stands.{CanRestart}
 use Rattle.mt_restart.specs.Recovered.{IsCauseToStop, StandsStill}
@@ -37,7 +37,7 @@ use Rattle.mt_txn.specs.declared.kernel.Kernel.{Kernel}
 use Rattle.mt_cli.proofs.CheckLemmas.{cause_by}
 use Rattle.mt_cli.proofs.FolderLemmas.{held_known, lent_and_back}
 use Rattle.mt_cli.specs.Dumps.{AreLeft, DumpsOf, Dumps, IsBarred, IsEarly, IsUnopened, StandAs, StandsOn, TellsOfBase}
-use Rattle.mt_cli.specs.Folders.{AreKept, Files, IsHeld, IsLent, IsUnmade, Puts, known_in}
+use Rattle.mt_cli.specs.Folders.{Files, IsHeld, IsLent, IsUnmade, Puts, known_in}
 
 -- ---- a kernel that was opened
 

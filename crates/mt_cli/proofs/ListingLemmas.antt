@@ -1,5 +1,5 @@
 -- What a writer holds after several lines.
-use Rattle.std.proofs.Common.{◌≡◌, ◌+◌, ◌<◌, arith, suc, zero, ℕ, List, [], ◌∷◌, ◌++◌, Option, length, take, drop, get_or, refl, ap, sym, ◌∙◌, append_assoc, append-nil}
+use Rattle.std.proofs.Common.{◌≡◌, ◌+◌, ◌<◌, arith, suc, zero, ℕ, List, [], ◌∷◌, ◌++◌, Option, length, take, drop, get_or, ap, sym, ◌∙◌, append_assoc, append-nil}
 use Rattle.std.specs.Io.KnownBytes.{Appends}
 use Rattle.std.proofs.KnownBytes.{Appends-trans}
 use Rattle.mt_server.specs.Answers.{AppendsFront}

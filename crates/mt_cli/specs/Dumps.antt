@@ -1,5 +1,5 @@
 -- What `dump` tells of a device, and what becomes of its file.
-use Rattle.std.specs.Prelude.{ℕ, ◌≡◌, ◌≢◌, ◌⊎◌, List, ◌∷◌, [], ◌++◌, Option, codes, map}
+use Rattle.std.specs.Prelude.{ℕ, ◌≢◌, ◌⊎◌, List, ◌∷◌, [], ◌++◌, Option, codes, map}
 use Rattle.std.specs.Io.KnownBytes.{Appends, Keeps}
 use Rattle.std.specs.List.{concat}
 use Rattle.mt_base.specs.declared.refusal.Refusal.{Refusal}

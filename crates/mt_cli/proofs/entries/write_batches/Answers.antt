@@ -1,4 +1,4 @@
-use Rattle.std.proofs.Common.{arith, suc, ◌≡◌, ◌<◌, ◌+◌, ◌++◌, length, take, drop, get_or, ap, sym, subst, ◌∙◌, add-one}
+use Rattle.std.proofs.Common.{arith, suc, ◌≡◌, ◌<◌, ◌+◌, ◌++◌, length, take, drop, ap, sym, subst, ◌∙◌, add-one}
 use Rattle.std.proofs.lemmas.Result.{err_from_is_err_and}
 use Rattle.std.proofs.KnownBytes.{Appends-trans}
 use Rattle.mt_server.specs.Answers.{AppendsFront}

@@ -1,4 +1,4 @@
-use Rattle.std.proofs.Common.{◌∙◌, sym}
+use Rattle.std.proofs.Common.{◌∙◌}
 use Rattle.mt_cli.proofs.ExplainLemmas.{not_zero}
 use Rattle.mt_cli.proofs.entries.write_entry.Goals as goal
 

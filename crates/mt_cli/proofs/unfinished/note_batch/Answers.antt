@@ -1,4 +1,4 @@
-use Rattle.std.proofs.Common.{arith, suc, ◌<◌, length, take, ap, sym, ◌∙◌, add-one}
+use Rattle.std.proofs.Common.{arith, ◌<◌, length, take, ap, sym, ◌∙◌, add-one}
 use Rattle.mt_cli.proofs.ExplainLemmas.{note_more}
 use Rattle.mt_cli.specs.Explanations.{note_all, noted}
 use Rattle.mt_cli.proofs.unfinished.note_batch.Goals as goal

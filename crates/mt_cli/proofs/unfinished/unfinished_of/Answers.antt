@@ -1,4 +1,4 @@
-use Rattle.std.proofs.Common.{arith, suc, ◌<◌, [], length, take, ap, sym, ◌∙◌, add-one}
+use Rattle.std.proofs.Common.{arith, ◌<◌, [], length, take, ap, sym, ◌∙◌, add-one}
 use Rattle.mt_log.specs.Batch.{joined}
 use Rattle.mt_log.specs.Found.{records_of}
 use Rattle.mt_log.specs.declared.batch.Batch.{Batch}

@@ -16,8 +16,7 @@ use Rattle.mt_frame.specs.History.{MayFollow, BatchesMayFollow, IsHistory}
 use Rattle.mt_log.specs.Holds.{HasItsPage, AreRecords}
 use Rattle.mt_log.specs.Sound.{IsSound}
 use Rattle.mt_log.specs.declared.log.Log.{Log}
-use Rattle.mt_pool.specs.Images.{IsSafe}
-use Rattle.mt_pool.specs.Views.{IsPool, Names, Shows, IsTied}
+use Rattle.mt_pool.specs.Views.{IsPool, Names, Shows}
 use Rattle.mt_pool.specs.declared.pool.Pool.{Pool}
 
 -- what is in an option, with a fact of it
@@ -40,12 +39,6 @@ Pool-prop pool = hlevel (props, Names-prop, Held-prop)
 
 pub Shows-prop : (pool : Pool) (seen : List ℕ) → IsProp (Shows pool seen)
 Shows-prop pool seen = hlevel props
-
-pub Safe-prop : (place pages : ℕ) (opening : ℕ → List ℕ) (appended : List (Option (ℕ × List ℕ))) (durable : ℕ) (may : List ℕ → Type 0) → IsProp (IsSafe place pages opening appended durable may)
-Safe-prop place pages opening appended durable may = hlevel props
-
-pub Tied-prop : (pool : Pool) (seen : List ℕ) (opening : ℕ → List ℕ) (appended : List (Option (ℕ × List ℕ))) → IsProp (IsTied pool seen opening appended)
-Tied-prop pool seen opening appended = hlevel props
 
 Image-prop : (o : Option (List ℕ)) → IsProp (IsImage o)
 Image-prop None = hlevel props

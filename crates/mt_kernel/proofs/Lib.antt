@@ -42,3 +42,4 @@ pub mod Between
 pub mod Finding
 pub mod Restarts
 pub mod Prefixed
+pub mod Turning

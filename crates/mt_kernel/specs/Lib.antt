@@ -5,3 +5,4 @@ pub mod Steps
 pub mod Work
 pub mod Booked
 pub mod Restartable
+pub mod Turned

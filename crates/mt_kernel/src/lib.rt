@@ -11,6 +11,7 @@ mod calls;
 mod commits;
 mod drops;
 mod ends;
+mod parting;
 mod parts;
 mod reserving;
 mod steps;
@@ -18,5 +19,6 @@ mod undo;
 mod views;
 
 pub use calls::Called;
+pub use parting::Rest;
 pub use parts::{Commit, Parts, Running};
 pub use steps::{Going, Stepping};

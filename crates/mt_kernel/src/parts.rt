@@ -76,35 +76,3 @@ impl<D: Device> Parts<D> {
         }
     }
 }
-
-impl<D: Device + Drop> Parts<D> {
-    /// The device, for another opening. All that lives or is under way is gone, and nothing of it is taken back. It
-    /// takes no memory.
-    pub fn into_device(self) -> D
-        ensures { result ≡ self.operations.store.device }
-    {
-        let Parts {
-            operations,
-            live: _,
-            locks: _,
-            escrow: _,
-            running,
-            commits: _,
-            book: _,
-            last: _,
-            reserved: _,
-        } = self;
-        let alloc = *running.allocator();
-        let mut running = running;
-        let mut operations = operations;
-        while let Some(one) = running.pop() {
-            let Running { scope, op: _ } = one;
-            operations.give_up(scope);
-        }
-        match <[Running; 0]>::try_from(running) {
-            Ok([]) => {}
-            Err(_rest) => unreachable!(),
-        }
-        operations.into_device(Vec::new(alloc))
-    }
-}

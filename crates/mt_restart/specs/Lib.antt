@@ -10,3 +10,4 @@ pub mod Resumed
 pub mod Schemas
 pub mod Turned
 pub mod Within
+pub mod Rotated

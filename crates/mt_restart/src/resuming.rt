@@ -3,9 +3,11 @@ ghost use Rattle.std.specs.Prelude.{◌≡◌, ◌⊎◌, ◌<◌, ℕ, List, If
 ghost use Rattle.mt_base.specs.declared.refusal.Refusal.{Refusal};
 ghost use Rattle.mt_disk.specs.Disk.{LeavesOnly};
 ghost use Rattle.mt_index.specs.Checks.{bytes_of};
+ghost use Rattle.mt_kernel.specs.Consistent.{IsFresh};
 ghost use Rattle.mt_model.specs.Model.{Base, IsBase};
 ghost use Rattle.mt_replay.specs.Stands.{CanRestart};
 ghost use Rattle.mt_steps.specs.Held.{Holds};
+ghost use Rattle.mt_txn.specs.Well.{Opens};
 ghost use Rattle.mt_restart.specs.Recovered.{IsCauseToStop, IsRecovered, StandsStill};
 ghost use Rattle.mt_restart.specs.Resumed.{IsOpened, device_of};
 
@@ -13,18 +15,23 @@ use crate::beside::Beside;
 use crate::recovering::{Recovered, recover};
 use mt_base::Refusal;
 use mt_disk::Device;
+use mt_escrow::Escrow;
 use mt_op::Operations;
 use mt_pool::Store;
 use mt_replay::only_own_pages_matter;
 use mt_txn::Kernel;
 use std::alloc::Global;
 
-// A kernel over a device that was recovered. It takes no memory.
-fn kernel_over<D: Device + Drop>(alloc: Global, device: D, recovered: Recovered) -> Kernel<D>
+// Operations over a device that was recovered, and an escrow of its counters. It takes no memory.
+pub(crate) fn parts_over<D: Device + Drop>(
+    device: D,
+    recovered: Recovered,
+) -> (Operations<D>, Escrow)
     requires recovered { (frames : ℕ) × IsRecovered D.seen D.may_leave frames device recovered }
-    ensures opened { (b : Base) → Holds (bytes_of recovered.restored.pages.items) b → IsBase b
-        → IsOpened D.seen D.may_leave recovered.beside.relations recovered.beside.counters b result }
-    ensures device { result.parts.operations.store.device ≡ device }
+    ensures fresh { IsFresh result.0 result.1 }
+    ensures opens { (b : Base) → Holds (bytes_of recovered.restored.pages.items) b → IsBase b
+        → Opens D.seen D.may_leave result.0 result.1 recovered.beside.relations recovered.beside.counters b }
+    ensures device { result.0.store.device ≡ device }
 {
     let Recovered {
         log,
@@ -37,11 +44,23 @@ fn kernel_over<D: Device + Drop>(alloc: Global, device: D, recovered: Recovered)
         pool,
         idle,
         escrow,
-        relations,
-        counters,
+        relations: _,
+        counters: _,
     } = beside;
     let store = Store::over_images(device, log, pool, ruling, &images);
-    let operations = Operations::join(store, idle);
+    (Operations::join(store, idle), escrow)
+}
+
+// A kernel over a device that was recovered. It takes no memory.
+fn kernel_over<D: Device + Drop>(alloc: Global, device: D, recovered: Recovered) -> Kernel<D>
+    requires recovered { (frames : ℕ) × IsRecovered D.seen D.may_leave frames device recovered }
+    ensures opened { (b : Base) → Holds (bytes_of recovered.restored.pages.items) b → IsBase b
+        → IsOpened D.seen D.may_leave recovered.beside.relations recovered.beside.counters b result }
+    ensures device { result.parts.operations.store.device ≡ device }
+{
+    let relations = recovered.beside.relations;
+    let counters = recovered.beside.counters;
+    let (operations, escrow) = parts_over(device, recovered);
     Kernel::assemble(alloc, operations, escrow, relations, counters)
 }
 

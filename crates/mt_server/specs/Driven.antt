@@ -17,6 +17,7 @@ use Rattle.mt_kernel.specs.Runs.{state_in}
 use Rattle.mt_kernel.specs.Work.{LeavesUndo, steps_in, undo_steps}
 use Rattle.mt_kernel.specs.declared.parts.Commit.{Commit}
 use Rattle.mt_txn.specs.Causes.{begin_cause, call_cause}
+use Rattle.mt_txn.specs.Due.{IsDueIn}
 use Rattle.mt_txn.specs.Events.{HasForced, IsAnsweredBy, IsForcedBy}
 use Rattle.mt_txn.specs.Shown.{Shows, Stays, is_failed}
 use Rattle.mt_txn.specs.declared.answers.KernelForced.{KernelForced}
@@ -46,12 +47,6 @@ pub record IsUndone (first : Base) (p : Play) (t : ℕ) (s : State) : Type 0 whe
 -- no transaction commits
 abbrev pub NobodyCommits : {D : Type 0} {g : Ghosts D} → Kernel D g → Type 0
 NobodyCommits k = (t : ℕ) → state_in k.parts.live.members t ≢ Some Committing
-
--- so many force steps, and no more, until these records of the log are durable
-pub record IsDueIn (steps : ℕ) (records : ℕ) (log : Log) : Type 0 where
-  pub logged : records ≤ length (appended log)
-  pub left : ((calls_left log ≡ 0) × (4 ≤ steps)) ⊎ (((0 < calls_left log) × (records ≤ length (durable log) + length (in_flight log)) × (calls_left log ≤ steps))
-      ⊎ ((0 < calls_left log) × (calls_left log + 4 ≤ steps)))
 
 module _ {D : Type 0} {g : Ghosts D} (seen : D → List ℕ) (may_leave : D → List ℕ → Type 0) where
   -- the kernel shows a state of which this holds

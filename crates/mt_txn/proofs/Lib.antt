@@ -5,3 +5,5 @@ pub mod Barring
 mod Failing
 mod Surveyed
 pub mod Restarting
+pub mod Due
+pub mod GoingOn

@@ -2,7 +2,8 @@
 use Rattle.std.proofs.Common.{◌≡◌, ◌<◌, ◌≤◌, ◌+◌, ◌-◌, ◌++◌, inl, inr, ⊎_elim, ℕ, List, length, take, Result, Ok, Err, refl, sym, ap, ◌∙◌, subst, arith}
 use Rattle.std.specs.Prelude.{OnOk, OnErr}
 use Rattle.std.proofs.Props.{props}
-use mathlib.Core.Logic.{∥∥₁_elim, ∥∥₁_map}
+use Rattle.std.proofs.lemmas.List.{take_all}
+use mathlib.Core.Logic.{∥∥₁_elim, ∥∥₁_map, ∥∥₁_prop}
 use Rattle.mt_base.specs.declared.refusal.Refusal.{Refusal}
 use Rattle.mt_base.specs.Limits.{IsRelationCount}
 use Rattle.mt_frame.specs.declared.records.Record.{Record}
@@ -14,28 +15,32 @@ use Rattle.mt_log.specs.declared.log.Log.{Log}
 use Rattle.mt_log.specs.Words.{appended, durable, area_size, area_start, area_end}
 use Rattle.mt_model.specs.History.{after}
 use Rattle.mt_model.specs.Model.{Base, base_after}
+use Rattle.mt_model.specs.declared.history.Committed.{Committed}
 use Rattle.mt_model.specs.declared.operations.Op.{Op}
 use Rattle.mt_op.specs.declared.answers.TakenBack.{TakenBack}
 use Rattle.mt_op.specs.declared.answers.TakenBack.TheVariants as taken
 use Rattle.mt_pool.proofs.Kept.{explains}
 use Rattle.mt_pool.specs.Images.{GivesPages}
-use Rattle.mt_pool.specs.Kept.{Explains, carried}
+use Rattle.mt_pool.specs.Kept.{Explains, IsKept, carried}
+use Rattle.mt_disk.specs.Disk.{LeavesOnly}
+use Rattle.mt_space.specs.Changes.{PageBytes}
 use Rattle.mt_pool.specs.Views.{pages}
 use Rattle.mt_log.specs.Masters.{IsRuling, Rules, area_size as size_of, area_start as start_of, area_end as end_of}
 use Rattle.mt_replay.specs.Recoverable.{IsRecoverable}
-use Rattle.mt_replay.specs.Stands.{StandsFor}
+use Rattle.mt_replay.specs.Stands.{CanRestart, StandsFor}
 use Rattle.mt_replay.specs.Told.{stands_for, tells}
 use Rattle.mt_kernel.proofs.Prefixed.{stands_first, tells_more}
 use Rattle.mt_kernel.proofs.Recovering.{commits_since, since_legal, after_earlier}
 use Rattle.mt_kernel.specs.Consistent.{Origin, state_of, BacksIn, IsConsistent, IsCalled, IsIn, MayBeCalled, StaysIn}
 use Rattle.mt_kernel.specs.Restartable.{Recovers, StaysRestartable}
-use Rattle.mt_kernel.specs.Steps.{LeavesExplained, Steps, UndoSteps}
+use Rattle.mt_kernel.specs.Steps.{Steps, UndoSteps}
 use Rattle.mt_kernel.specs.declared.calls.Called.{Called}
 use Rattle.mt_kernel.specs.declared.calls.Called.TheVariants as call
 use Rattle.mt_kernel.specs.declared.parts.Parts.{Parts}
 use Rattle.mt_kernel.specs.declared.steps.Stepping.{Stepping}
 use Rattle.mt_kernel.specs.declared.steps.Stepping.TheVariants.{Going, Ended}
 use Rattle.mt_txn.proofs.Showing.{at_place}
+use Rattle.mt_txn.proofs.GoingOn.{stands_whole}
 use Rattle.mt_txn.specs.Restarted.{all_commits, FindsCommits, FindsMeanwhile}
 use Rattle.mt_txn.specs.Well.{IsOrigin, IsRestartableOn, RestartsFrom}
 
@@ -110,8 +115,9 @@ module _ {D : Type 0} (seen : D → List ℕ) (may_leave : D → List ℕ → Ty
 
     -- ---- what a restart finds
 
-    found : (k : Parts D) (origin : Origin) (base : Base) (c : List ℕ) → IsRestartableOn seen may_leave relations counters first origin base k → Explains origin.pages k.operations.store c → IsRelationCount relations → FindsCommits relations counters first k c
-    found k origin base c x e schema =
+    -- a restart finds the base that the records stand for
+    restarted : (k : Parts D) (origin : Origin) (base : Base) (c : List ℕ) → IsRestartableOn seen may_leave relations counters first origin base k → (e : Explains origin.pages k.operations.store c) → IsRelationCount relations → CanRestart relations counters c (stands_for origin.begun (joined e.batches))
+    restarted k origin base c x e schema =
         let slot = e.ruling in
         let names = e.names in
         let rules : IsRuling c slot = e.rules in
@@ -135,13 +141,19 @@ module _ {D : Type 0} (seen : D → List ℕ) (may_leave : D → List ℕ → Ty
           bounds = x.bounds;
           is = refl;
         } in
+        record { stands = stands; fits = schema; recoverable = mine }
+
+    found : (k : Parts D) (origin : Origin) (base : Base) (c : List ℕ) → IsRestartableOn seen may_leave relations counters first origin base k → Explains origin.pages k.operations.store c → IsRelationCount relations → FindsCommits relations counters first k c
+    found k origin base c x e schema =
+        let log = k.operations.store.log in
+        let front = joined e.batches in
         let all : appended log ≡ front ++ e.beginning.rest = sym e.beginning.of_appended in
         let tells_durable : length (tells (durable log)).books ≤ length (tells front).books = subst (λ (rs : List Record). length (tells (durable log)).books ≤ length (tells rs).books) (sym e.beginning.has_durable) (tells_more (durable log) e.beginning.more) in
         let begun = x.restartable.begun in
         let tells_of = x.restartable.tells in
         record {
           base = stands_for origin.begun front;
-          found = record { stands = stands; fits = schema; recoverable = mine };
+          found = restarted k origin base c x e schema;
           count = length origin.earlier + length (tells front).books;
           durable = omega (arith, tells_durable);
           is = stands_first origin.begun (commits_since seen may_leave origin base k x.consistent begun tells_of) (appended log) front e.beginning.rest all tells_of.telling.books (since_legal seen may_leave origin base k x.consistent begun tells_of)
@@ -149,13 +161,23 @@ module _ {D : Type 0} (seen : D → List ℕ) (may_leave : D → List ℕ → Ty
               ∙ ap (λ (b : Base). after b (take (length origin.earlier + length (tells front).books) (all_commits k))) x.is.first_is;
         }
 
+    -- where nobody lives, and all records are durable, the whole book
+    whole : (k : Parts D) (origin : Origin) (base : Base) (c : List ℕ) → length k.live.members ≡ 0 → durable k.operations.store.log ≡ appended k.operations.store.log → IsRestartableOn seen may_leave relations counters first origin base k → Explains origin.pages k.operations.store c → IsRelationCount relations
+        → CanRestart relations counters c (after first k.book.items)
+    whole k origin base c nobody forced x e schema =
+        subst (CanRestart relations counters c) (stands_whole seen may_leave relations counters first k origin base nobody x (durable k.operations.store.log) (joined e.batches) e.beginning.more e.beginning.rest forced e.beginning.has_durable (e.beginning.of_appended ∙ sym forced)) (restarted k origin base c x e schema)
+
+    pub finds_whole : (k : Parts D) (c : List ℕ) → length k.live.members ≡ 0 → durable k.operations.store.log ≡ appended k.operations.store.log → RestartsFrom seen may_leave relations counters first k → may_leave k.operations.store.device c → IsRelationCount relations → ∥ CanRestart relations counters c (after first k.book.items) ∥₁
+    finds_whole k c nobody forced r left schema = ∥∥₁_map r (λ (origin, base, x). whole k origin base c nobody forced x (explains seen may_leave origin.pages k.operations.store x.consistent.fit.right.kept c left) schema)
+
     pub finds_commits : (k : Parts D) (c : List ℕ) → RestartsFrom seen may_leave relations counters first k → may_leave k.operations.store.device c → IsRelationCount relations → ∥ FindsCommits relations counters first k c ∥₁
     finds_commits k c r left schema = ∥∥₁_map r (λ (origin, base, x). found k origin base c x (explains seen may_leave origin.pages k.operations.store x.consistent.fit.right.kept c left) schema)
 
     -- what it finds in what a crash leaves meanwhile
     module _ (moment : D → ℕ) (left_since : D → ℕ → List ℕ → Type 0) (only_now : (d : D) (c : List ℕ) → left_since d (moment d) c → may_leave d c) where
-      pub meanwhile : (k n : Parts D) → LeavesExplained seen may_leave moment left_since k n → RestartsFrom seen may_leave relations counters first k → IsRelationCount relations → FindsMeanwhile moment left_since relations counters first k n
-      meanwhile k n explained r schema = record {
+      pub meanwhile : (k : Parts D) (d : D) → ((opening : PageBytes) → IsKept seen may_leave opening k.operations.store → LeavesOnly moment left_since k.operations.store.device d (Explains opening k.operations.store)) → RestartsFrom seen may_leave relations counters first k → IsRelationCount relations
+          → FindsMeanwhile moment left_since relations counters first k d
+      meanwhile k d explained r schema = record {
         later = ∥∥₁_elim r (hlevel props) (λ (origin, base, x). (explained origin.pages x.consistent.fit.right.kept).later);
         each = λ c left. ∥∥₁_map r (λ (origin, base, x). found k origin base c x ((explained origin.pages x.consistent.fit.right.kept).each c left) schema);
         before = λ t c le left. ∥∥₁_map r (λ (origin, base, x). ⊎_elim
@@ -165,9 +187,42 @@ module _ {D : Type 0} (seen : D → List ℕ) (may_leave : D → List ℕ → Ty
       }
 
       -- no call of the device was made
-      pub no_call : (k n : Parts D) → n.operations.store.device ≡ k.operations.store.device → RestartsFrom seen may_leave relations counters first k → IsRelationCount relations → FindsMeanwhile moment left_since relations counters first k n
-      no_call k n same r schema = record {
+      pub no_call : (k : Parts D) (d : D) → d ≡ k.operations.store.device → RestartsFrom seen may_leave relations counters first k → IsRelationCount relations → FindsMeanwhile moment left_since relations counters first k d
+      no_call k d same r schema = record {
         later = omega (arith, ap moment same);
-        each = λ c left. finds_commits k c r (only_now k.operations.store.device c (subst (λ (d : D). left_since d (moment k.operations.store.device) c) same left)) schema;
-        before = λ t c le left. ∣ inl (subst (λ (d : D). left_since d t c) same left) ∣₁;
+        each = λ c left. finds_commits k c r (only_now k.operations.store.device c (subst (λ (e : D). left_since e (moment k.operations.store.device) c) same left)) schema;
+        before = λ t c le left. ∣ inl (subst (λ (e : D). left_since e t c) same left) ∣₁;
       }
+
+      -- and behind a run of calls that leaves parts whose commits are those of k
+      pub then_finds : (k m : Parts D) (d : D) → ((c : List ℕ) → FindsCommits relations counters first m c → FindsCommits relations counters first k c) → FindsMeanwhile moment left_since relations counters first k m.operations.store.device → FindsMeanwhile moment left_since relations counters first m d
+          → FindsMeanwhile moment left_since relations counters first k d
+      then_finds k m d back one two = record {
+        later = let a = one.later in let b = two.later in omega (arith, a, b);
+        each = λ c left. ∥∥₁_elim (two.before (moment k.operations.store.device) c one.later left) ∥∥₁_prop (⊎_elim
+            (λ was. one.each c was)
+            (λ f. ∣ back c f ∣₁));
+        before = λ t c le left. ∥∥₁_elim (two.before t c (let a = one.later in omega (arith, a, le)) left) ∥∥₁_prop (⊎_elim
+            (λ was. one.before t c le was)
+            (λ f. ∣ inr (back c f) ∣₁));
+      }
+
+    -- what is found of parts with the same commits, of which as many at least are durable, is found of k
+    pub finds_back : (k m : Parts D) → all_commits m ≡ all_commits k → (more : List Record) → durable m.operations.store.log ≡ durable k.operations.store.log ++ more → (c : List ℕ) → FindsCommits relations counters first m c → FindsCommits relations counters first k c
+    finds_back k m same more grown c f = record {
+      base = f.base;
+      found = f.found;
+      count = f.count;
+      durable = let few = f.durable in let tells_durable : length (tells (durable k.operations.store.log)).books ≤ length (tells (durable m.operations.store.log)).books = subst (λ (rs : List Record). length (tells (durable k.operations.store.log)).books ≤ length (tells rs).books) (sym grown) (tells_more (durable k.operations.store.log) more) in omega (arith, few, tells_durable);
+      is = f.is ∙ ap (λ (cs : List Committed). after first (take f.count cs)) same;
+    }
+
+    -- where a restart finds what all commits lead to, it finds what some of the first do
+    pub finds_all : (k : Parts D) (c z : List ℕ) (b : Base) → CanRestart relations counters c b → b ≡ after first (all_commits k) → FindsCommits relations counters first k z → FindsCommits relations counters first k c
+    finds_all k c z b can is f = record {
+      base = b;
+      found = can;
+      count = f.count + length (all_commits k);
+      durable = let few = f.durable in omega (arith, few);
+      is = is ∙ ap (after first) (sym (take_all (f.count + length (all_commits k)) (all_commits k) (omega arith)));
+    }

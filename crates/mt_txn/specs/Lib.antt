@@ -5,3 +5,5 @@ pub mod Events
 pub mod Work
 pub mod Surveyed
 pub mod Restarted
+pub mod Turned
+pub mod Due

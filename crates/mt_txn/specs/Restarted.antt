@@ -23,11 +23,11 @@ pub record FindsCommits {D : Type 0} (relations counters : ℕ) (first : Base) (
   pub durable : length (tells (durable k.operations.store.log)).books ≤ count
   pub is : base ≡ after first (take count (all_commits k))
 
--- Whenever a crash comes between k and n, a restart finds in what it leaves what some of the first commits of k lead to, with all of them
--- whose records were durable then.
-pub record FindsMeanwhile {D : Type 0} (moment : D → ℕ) (left_since : D → ℕ → List ℕ → Type 0) (relations counters : ℕ) (first : Base) (k n : Parts D) : Type 0 where
-  pub later : moment k.operations.store.device ≤ moment n.operations.store.device
-  pub each : (c : List ℕ) → left_since n.operations.store.device (moment k.operations.store.device) c → ∥ FindsCommits relations counters first k c ∥₁
+-- Whenever a crash comes until the device of k is this one, a restart finds in what it leaves what some of the first commits of k lead to,
+-- with all of them whose records were durable then.
+pub record FindsMeanwhile {D : Type 0} (moment : D → ℕ) (left_since : D → ℕ → List ℕ → Type 0) (relations counters : ℕ) (first : Base) (k : Parts D) (device : D) : Type 0 where
+  pub later : moment k.operations.store.device ≤ moment device
+  pub each : (c : List ℕ) → left_since device (moment k.operations.store.device) c → ∥ FindsCommits relations counters first k c ∥₁
   -- the same, for a run of calls that began before
-  pub before : (t : ℕ) (c : List ℕ) → t ≤ moment k.operations.store.device → left_since n.operations.store.device t c
+  pub before : (t : ℕ) (c : List ℕ) → t ≤ moment k.operations.store.device → left_since device t c
       → ∥ left_since k.operations.store.device t c ⊎ FindsCommits relations counters first k c ∥₁

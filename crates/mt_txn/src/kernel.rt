@@ -127,19 +127,3 @@ impl<D: Device> Kernel<D> {
             → self.now.parts.commits.items ≡ [] }
     {}
 }
-
-impl<D: Device + Drop> Kernel<D> {
-    /// The device, for another opening. What lived is gone, and nothing of it is taken back. It takes no memory.
-    pub fn into_device(self) -> D
-        ensures { result ≡ self.parts.operations.store.device }
-    {
-        let Kernel {
-            parts,
-            alloc: _,
-            relations: _,
-            counters: _,
-            failed: _,
-        } = self;
-        parts.into_device()
-    }
-}

@@ -15,8 +15,10 @@ mod commits;
 mod kernel;
 mod steps;
 mod surveys;
+mod turning;
 
 pub use answers::{AbortStepped, KernelForced, Stepped};
 pub use kernel::Kernel;
 pub use mt_kernel::Called;
 pub use mt_op::Survey;
+pub use turning::KernelRest;

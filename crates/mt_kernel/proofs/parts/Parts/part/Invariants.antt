@@ -1,5 +1,5 @@
 use Rattle.std.proofs.Common.{◌≡◌}
-use Rattle.mt_kernel.proofs.parts.Parts.into_device.Given as goal
+use Rattle.mt_kernel.proofs.parts.Parts.part.Given as goal
 
 abbrev pub invariant-loop-one : goal.invariant-loop-one
 invariant-loop-one g l = l.operations.store ≡ l.fn.self.operations.store

@@ -1,0 +1,126 @@
+// The log of a kernel turned over.
+ghost use Rattle.std.specs.Prelude.{◌≡◌, IfOk, IfErr, None, OnOk};
+ghost use Rattle.mt_base.specs.Limits.{IsRelationCount};
+ghost use Rattle.mt_live.specs.Machine.{State};
+ghost use Rattle.mt_model.specs.Model.{Base};
+ghost use Rattle.mt_txn.specs.Restarted.{FindsMeanwhile};
+ghost use Rattle.mt_txn.specs.Shown.{Restarts, SameSchema, Shows};
+ghost use Rattle.mt_txn.specs.Turned.{HasNobody, IsForced};
+ghost use Rattle.mt_restart.specs.Rotated.{GoesOver, IsEndCause, IsForceCause, IsForcedOut, IsLeft, Keeps, StandsForBook, device_in, early_cause};
+ghost use Rattle.mt_restart.specs.Resumed.{device_of};
+
+use crate::recovering::recover;
+use crate::resuming::parts_over;
+use mt_base::Refusal;
+use mt_disk::Device;
+use mt_replay::only_own_pages_matter;
+use mt_txn::{Kernel, KernelForced};
+use std::alloc::Global;
+
+// The most force steps until all that was appended is durable: of a force that is under way, and of the next one.
+const FORCE_STEPS: usize = 8;
+
+/// What is left where a log was not turned over, and the refusal.
+pub enum NotRotated<D: Device> {
+    /// The kernel in the state in which it was. At most its log was forced.
+    Kept(Refusal, Kernel<D>),
+    /// The device, to be opened again. The kernel is gone with its book.
+    Ended(Refusal, D),
+}
+
+// Forces the log of a kernel in which nobody lives until all that was appended is durable.
+fn force_out<D: Device>(kernel: &mut Kernel<D>) -> Result<(), Refusal>
+    requires nobody { HasNobody kernel.old }
+    ensures keeps { Keeps D.seen D.may_leave D.moment D.left_since kernel.old kernel.new }
+    ensures forced { OnOk result (IsForcedOut kernel.old kernel.new) }
+    ensures cause { IfErr result (IsForceCause D.faults kernel.new) }
+{
+    for _step in 0..FORCE_STEPS {
+        if let KernelForced::Idle = kernel.force_step()? {
+            return Ok(());
+        }
+    }
+    Ok(())
+}
+
+// The kernel goes on over its device, which a recovery makes one for the next area.
+fn turn_over<D: Device + Drop>(
+    alloc: Global,
+    kernel: Kernel<D>,
+    frames: usize,
+) -> Result<Kernel<D>, (Refusal, D)>
+    requires nobody { HasNobody kernel }
+    requires forced { IsForced kernel }
+    requires restarts { ∥ ((first : Base) × Restarts D.seen D.may_leave first kernel) ∥₁ }
+    requires schema { IsRelationCount kernel.relations }
+    ensures goes_on { IfOk result (GoesOver D.seen D.may_leave kernel) }
+    ensures moments { (first : Base) → Restarts D.seen D.may_leave first kernel
+        → FindsMeanwhile D.moment D.left_since kernel.relations kernel.counters first kernel.parts (device_of result) }
+    ensures settled { IfErr result (λ gone. (first : Base) → Restarts D.seen D.may_leave first kernel
+        → StandsForBook D.may_leave first kernel gone.0 gone.1) }
+    ensures cause { IfErr result (λ gone. IsEndCause D.seen D.faults kernel.parts.operations.store.device gone.1 gone.0) }
+{
+    only_own_pages_matter();
+    kernel.rests_on_its_book();
+    let (device, rest) = kernel.part();
+    let mut device = device;
+    match recover(alloc, &mut device, frames) {
+        Ok(recovered) => {
+            let (operations, escrow) = parts_over(device, recovered);
+            Ok(Kernel::join(rest, operations, escrow))
+        }
+        Err(refusal) => Err((refusal, device)),
+    }
+}
+
+/// Turns the log of a kernel over while no transaction lives, and gives the kernel with so many pages in frames. The
+/// state that it shows goes on: its book, and the numbers of its transactions.
+///
+/// The log is forced, and the device recovered as [`open`](crate::open) does: it is synced, its pages are read back
+/// and written in place where they are not, and the other area begins and comes to rule. Whenever a crash comes in this
+/// call, a restart finds what some of the first commits lead to, with all whose records were durable.
+///
+/// Refused with the kernel, whose state is as before:
+/// - [`Refusal::DeviceFailed`], where its device has failed, or fails in the force;
+/// - [`Refusal::Busy`], where a transaction lives;
+/// - [`Refusal::NoMemory`], for the force.
+///
+/// Then refused with the device, which stands for what the book leads to unless it failed:
+/// - [`Refusal::NoMemory`], before the device is written;
+/// - [`Refusal::LogFull`], where the ruling slot has the last epoch;
+/// - [`Refusal::DeviceFailed`], where the device failed.
+pub fn rotate<D: Device + Drop>(
+    alloc: Global,
+    kernel: Kernel<D>,
+    frames: usize,
+) -> Result<Kernel<D>, NotRotated<D>>
+    requires restarts { ∥ ((first : Base) × Restarts D.seen D.may_leave first kernel) ∥₁ }
+    requires schema { IsRelationCount kernel.relations }
+    ensures may { OnOk result (early_cause kernel ≡ None) }
+    // The laws see nothing of it.
+    ensures shows { (first : Base) (s : State) → Shows D.seen D.may_leave first s kernel
+        → IfOk result (Shows D.seen D.may_leave first s) }
+    ensures restarted { (first : Base) → Restarts D.seen D.may_leave first kernel
+        → IfOk result (Restarts D.seen D.may_leave first) }
+    ensures same { IfOk result (SameSchema kernel) }
+    // Whenever a crash comes in this call.
+    ensures moments { (first : Base) → Restarts D.seen D.may_leave first kernel
+        → FindsMeanwhile D.moment D.left_since kernel.relations kernel.counters first kernel.parts (device_in result) }
+    ensures left { IfErr result (IsLeft D.seen D.may_leave D.moment D.left_since D.faults kernel) }
+{
+    if kernel.has_failed() {
+        return Err(NotRotated::Kept(Refusal::DeviceFailed, kernel));
+    }
+    if !kernel.has_nobody() {
+        return Err(NotRotated::Kept(Refusal::Busy, kernel));
+    }
+    let mut kernel = kernel;
+    match force_out(&mut kernel) {
+        Ok(()) => {}
+        Err(refusal) => return Err(NotRotated::Kept(refusal, kernel)),
+    }
+    match turn_over(alloc, kernel, frames) {
+        Ok(kernel) => Ok(kernel),
+        Err((refusal, device)) => Err(NotRotated::Ended(refusal, device)),
+    }
+}

@@ -1,0 +1,102 @@
+// A kernel that goes on over the other area of its log.
+ghost use Rattle.std.specs.Prelude.{◌≡◌, ◌↔◌, ℕ, List, IsTrue};
+ghost use Rattle.mt_base.specs.Limits.{IsRelationCount};
+ghost use Rattle.mt_kernel.specs.Consistent.{IsFresh};
+ghost use Rattle.mt_model.specs.History.{after};
+ghost use Rattle.mt_model.specs.Model.{Base};
+ghost use Rattle.mt_replay.specs.Stands.{CanRestart};
+ghost use Rattle.mt_txn.specs.Shown.{Restarts};
+ghost use Rattle.mt_txn.specs.Turned.{CanGoOn, HasNobody, IsForced, IsRestOf, Resumes};
+
+use crate::kernel::Kernel;
+use mt_disk::Device;
+use mt_escrow::Escrow;
+use mt_kernel::{Parts, Rest};
+use mt_op::Operations;
+use std::alloc::Global;
+
+/// What outlasts an area of the log: the book of a kernel, and the numbers of its transactions and operations.
+#[derive(Drop)]
+pub struct KernelRest {
+    rest: Rest,
+    alloc: Global,
+    relations: u16,
+    counters: u16,
+}
+
+impl<D: Device> Kernel<D> {
+    /// Whether no transaction lives.
+    pub fn has_nobody(&self) -> bool
+        ensures { IsTrue result ↔ HasNobody self.now }
+    {
+        self.parts.live().count() == 0
+    }
+
+    /// Where nobody lives and all that was appended is durable, a restart finds what the whole book leads to, whatever a
+    /// crash leaves.
+    pub fn rests_on_its_book(&self)
+        ensures { (first : Base) (c : List ℕ) → Restarts D.seen D.may_leave first self.now → HasNobody self.now
+            → IsForced self.now → D.may_leave self.now.parts.operations.store.device c
+            → IsRelationCount self.now.relations
+            → ∥ CanRestart self.now.relations self.now.counters c (after first self.now.parts.book.items) ∥₁ }
+    {}
+
+    /// The kernel goes on over other operations and another escrow, which have what its book leads to: the laws see nothing
+    /// of it. The operations are those of a log area without records but the images that it began with. It takes no
+    /// memory.
+    pub fn join(rest: KernelRest, operations: Operations<D>, escrow: Escrow) -> Kernel<D>
+        requires fresh { IsFresh operations escrow }
+        requires goes_on { CanGoOn D.seen D.may_leave rest operations escrow }
+        ensures resumed { Resumes D.seen D.may_leave rest operations escrow result }
+        ensures schema { (result.relations ≡ rest.relations) × (result.counters ≡ rest.counters) }
+        ensures operations { result.parts.operations ≡ operations }
+        ensures book { result.parts.book ≡ rest.rest.book }
+    {
+        let KernelRest {
+            rest,
+            alloc,
+            relations,
+            counters,
+        } = rest;
+        Kernel {
+            parts: Parts::join(rest, operations, escrow),
+            alloc,
+            relations,
+            counters,
+            failed: false,
+        }
+    }
+}
+
+impl<D: Device + Drop> Kernel<D> {
+    /// The device, and what outlasts the log's area. What lived is gone, and nothing of it is taken back. It takes no
+    /// memory.
+    pub fn part(self) -> (D, KernelRest)
+        ensures device { result.0 ≡ self.parts.operations.store.device }
+        ensures rest { IsRestOf self result.1 }
+    {
+        let Kernel {
+            parts,
+            alloc,
+            relations,
+            counters,
+            failed: _,
+        } = self;
+        let (device, rest) = parts.part();
+        let rest = KernelRest {
+            rest,
+            alloc,
+            relations,
+            counters,
+        };
+        (device, rest)
+    }
+
+    /// The device, for another opening. What lived is gone, and nothing of it is taken back. It takes no memory.
+    pub fn into_device(self) -> D
+        ensures { result ≡ self.parts.operations.store.device }
+    {
+        let (device, _rest) = self.part();
+        device
+    }
+}

@@ -1,5 +1,6 @@
 -- What device calls leave.
 use Rattle.std.proofs.Common.{◌≡◌, ◌∙◌, sym, ℕ, ◌+◌, ◌≤◌, Bool, true, false, List, Result, Ok, Err, OnOk}
+use Rattle.mt_base.specs.declared.refusal.Refusal.{Refusal}
 use Rattle.mt_disk.proofs.Frame.{torn_refl, torn_within, torn_trans, follows_trans}
 use Rattle.mt_restart.specs.Formats.{Tears}
 
@@ -12,6 +13,16 @@ if_ok (Err e) a = tt
 pub on_ok : {T E A B : Type 0} (r : Result T E) → (A → B) → OnOk r A → OnOk r B
 on_ok (Ok x) f a = f a
 on_ok (Err e) f a = tt
+
+-- a call that went well was not refused
+pub not_refused : {T : Type 0} (r : Result T Refusal) (x : T) (why : Refusal) → r ≡ Ok x → r ≡ Err why → ⊥
+not_refused (Ok y) x why well bad = absurd cc
+not_refused (Err e) x why well bad = absurd cc
+
+-- a call that was refused so was not refused otherwise
+pub refused_so : {T : Type 0} (r : Result T Refusal) (why other : Refusal) → r ≡ Err why → (why ≡ other → ⊥) → r ≡ Err other → ⊥
+refused_so (Ok y) why other is not bad = absurd cc
+refused_so (Err e) why other is not bad = not cc
 
 -- a test has one outcome
 pub one_outcome : (b : Bool) → b ≡ true → b ≡ false → ⊥

@@ -22,3 +22,4 @@ mod Based
 mod Listing
 mod Surveying
 mod Opened
+mod Rotations

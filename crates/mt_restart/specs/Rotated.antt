@@ -1,7 +1,8 @@
 -- A kernel whose log is turned over.
-use Rattle.std.specs.Prelude.{◌≡◌, ◌⊎◌, ◌<◌, ◌++◌, ⊤, ℕ, List, Option, None, Some, Result, Ok, Err}
+use Rattle.std.specs.Prelude.{◌≡◌, ◌≢◌, ◌⊎◌, ◌<◌, ◌++◌, ⊤, true, ℕ, List, Option, None, Some, Result, Ok, Err}
 use Rattle.mt_base.specs.declared.refusal.Refusal.{Refusal}
 use Rattle.mt_base.specs.declared.refusal.Refusal.TheVariants as refusal
+use Rattle.mt_base.specs.declared.refusal.Refusal.TheVariants.{NoMemory, DeviceFailed, LogFull}
 use Rattle.mt_disk.specs.declared.device.Device.{Ghosts}
 use Rattle.mt_frame.specs.declared.records.Record.{Record}
 use Rattle.mt_log.specs.Words.{durable}
@@ -34,9 +35,9 @@ pub record IsForcedOut {D : Type 0} {g : Ghosts D} (k n : Kernel D g) : Type 0 w
   pub forced : IsForced n
   pub grows : Grows k n
 
--- Memory was wanted, or the device failed between these kernels.
-abbrev pub IsForceCause : {D : Type 0} {g : Ghosts D} → (D → ℕ) → Kernel D g → Refusal → Type 0
-IsForceCause {D} faults n why = (why ≡ refusal.NoMemory) ⊎ ((why ≡ refusal.DeviceFailed) × (old : D) × (faults old < faults n.parts.operations.store.device))
+-- But for want of memory, the device has failed, and each later call of the kernel is refused with 2.
+abbrev pub IsForceCause : {D : Type 0} {g : Ghosts D} → Kernel D g → Refusal → Type 0
+IsForceCause n why = why ≢ refusal.NoMemory → (why ≡ refusal.DeviceFailed) × (is_failed n ≡ true)
 
 -- why nothing is done with a kernel: its device has failed, or a transaction lives
 abbrev pub early_cause : {D : Type 0} {g : Ghosts D} → Kernel D g → Option Refusal
@@ -44,7 +45,10 @@ early_cause k = survey_cause (is_failed k) k.parts
 
 -- Why the device of a forced kernel was not made one for the next area.
 abbrev pub IsEndCause : {D : Type 0} → (D → List ℕ) → (D → ℕ) → D → D → Refusal → Type 0
-IsEndCause seen faults old new why = (why ≡ refusal.NoMemory) ⊎ (((why ≡ refusal.DeviceFailed) × (faults old < faults new)) ⊎ ((why ≡ refusal.LogFull) × CannotTurn (seen old)))
+IsEndCause seen faults old new NoMemory = ⊤
+IsEndCause seen faults old new DeviceFailed = faults old < faults new
+IsEndCause seen faults old new LogFull = CannotTurn (seen old)
+IsEndCause seen faults old new _ = ⊥
 
 -- the device, wherever it is now
 abbrev pub device_in : {D : Type 0} {g : Ghosts D} → Result (Kernel D g) (NotRotated D g) → D
@@ -64,6 +68,6 @@ pub record GoesOver {D : Type 0} {g : Ghosts D} (seen : D → List ℕ) (may_lea
 
 -- what is left, and why
 abbrev pub IsLeft : {D : Type 0} {g : Ghosts D} → (D → List ℕ) → (D → List ℕ → Type 0) → (D → ℕ) → (D → ℕ → List ℕ → Type 0) → (D → ℕ) → Kernel D g → NotRotated D g → Type 0
-IsLeft seen may_leave moment left_since faults k (Kept why n) = Keeps seen may_leave moment left_since k n × ((early_cause k ≡ Some why) ⊎ ((early_cause k ≡ None) × IsForceCause faults n why))
+IsLeft seen may_leave moment left_since faults k (Kept why n) = Keeps seen may_leave moment left_since k n × ((early_cause k ≡ Some why) ⊎ ((early_cause k ≡ None) × IsForceCause n why))
 IsLeft seen may_leave moment left_since faults k (Ended why device) = (early_cause k ≡ None) × ((first : Base) → Restarts seen may_leave first k → StandsForBook may_leave first k why device)
     × ∥ ((forced : Kernel _ _) × Keeps seen may_leave moment left_since k forced × IsForcedOut k forced × IsEndCause seen faults forced.parts.operations.store.device device why) ∥₁

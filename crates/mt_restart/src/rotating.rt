@@ -1,6 +1,5 @@
 // The log of a kernel turned over.
 ghost use Rattle.std.specs.Prelude.{◌≡◌, IfOk, IfErr, None, OnOk};
-ghost use Rattle.mt_base.specs.Limits.{IsRelationCount};
 ghost use Rattle.mt_live.specs.Machine.{State};
 ghost use Rattle.mt_model.specs.Model.{Base};
 ghost use Rattle.mt_txn.specs.Restarted.{FindsMeanwhile};
@@ -33,7 +32,7 @@ fn force_out<D: Device>(kernel: &mut Kernel<D>) -> Result<(), Refusal>
     requires nobody { HasNobody kernel.old }
     ensures keeps { Keeps D.seen D.may_leave D.moment D.left_since kernel.old kernel.new }
     ensures forced { OnOk result (IsForcedOut kernel.old kernel.new) }
-    ensures cause { IfErr result (IsForceCause D.faults kernel.new) }
+    ensures cause { IfErr result (IsForceCause kernel.new) }
 {
     for _step in 0..FORCE_STEPS {
         if let KernelForced::Idle = kernel.force_step()? {
@@ -51,14 +50,13 @@ fn turn_over<D: Device + Drop>(
 ) -> Result<Kernel<D>, (Refusal, D)>
     requires nobody { HasNobody kernel }
     requires forced { IsForced kernel }
-    requires restarts { ∥ ((first : Base) × Restarts D.seen D.may_leave first kernel) ∥₁ }
-    requires schema { IsRelationCount kernel.relations }
     ensures goes_on { IfOk result (GoesOver D.seen D.may_leave kernel) }
     ensures moments { (first : Base) → Restarts D.seen D.may_leave first kernel
         → FindsMeanwhile D.moment D.left_since kernel.relations kernel.counters first kernel.parts (device_of result) }
     ensures settled { IfErr result (λ gone. (first : Base) → Restarts D.seen D.may_leave first kernel
         → StandsForBook D.may_leave first kernel gone.0 gone.1) }
-    ensures cause { IfErr result (λ gone. IsEndCause D.seen D.faults kernel.parts.operations.store.device gone.1 gone.0) }
+    ensures cause { IfErr result (λ gone.
+        ∥ IsEndCause D.seen D.faults kernel.parts.operations.store.device gone.1 gone.0 ∥₁) }
 {
     only_own_pages_matter();
     kernel.rests_on_its_book();
@@ -94,12 +92,10 @@ pub fn rotate<D: Device + Drop>(
     kernel: Kernel<D>,
     frames: usize,
 ) -> Result<Kernel<D>, NotRotated<D>>
-    requires restarts { ∥ ((first : Base) × Restarts D.seen D.may_leave first kernel) ∥₁ }
-    requires schema { IsRelationCount kernel.relations }
     ensures may { OnOk result (early_cause kernel ≡ None) }
     // The laws see nothing of it.
-    ensures shows { (first : Base) (s : State) → Shows D.seen D.may_leave first s kernel
-        → IfOk result (Shows D.seen D.may_leave first s) }
+    ensures shows { (first : Base) (s : State) → Restarts D.seen D.may_leave first kernel
+        → Shows D.seen D.may_leave first s kernel → IfOk result (Shows D.seen D.may_leave first s) }
     ensures restarted { (first : Base) → Restarts D.seen D.may_leave first kernel
         → IfOk result (Restarts D.seen D.may_leave first) }
     ensures same { IfOk result (SameSchema kernel) }

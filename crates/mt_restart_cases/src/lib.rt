@@ -16,4 +16,6 @@ mod failing;
 #[cfg(test)]
 mod recovered;
 #[cfg(test)]
+mod rotated;
+#[cfg(test)]
 mod swept;

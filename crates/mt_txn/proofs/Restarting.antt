@@ -195,16 +195,16 @@ module _ {D : Type 0} (seen : D → List ℕ) (may_leave : D → List ℕ → Ty
       }
 
       -- and behind a run of calls that leaves parts whose commits are those of k
-      pub then_finds : (k m : Parts D) (d : D) → ((c : List ℕ) → FindsCommits relations counters first m c → FindsCommits relations counters first k c) → FindsMeanwhile moment left_since relations counters first k m.operations.store.device → FindsMeanwhile moment left_since relations counters first m d
+      pub then_finds : (k m : Parts D) (d : D) → ((c : List ℕ) → FindsCommits relations counters first m c → ∥ FindsCommits relations counters first k c ∥₁) → FindsMeanwhile moment left_since relations counters first k m.operations.store.device → FindsMeanwhile moment left_since relations counters first m d
           → FindsMeanwhile moment left_since relations counters first k d
       then_finds k m d back one two = record {
         later = let a = one.later in let b = two.later in omega (arith, a, b);
         each = λ c left. ∥∥₁_elim (two.before (moment k.operations.store.device) c one.later left) ∥∥₁_prop (⊎_elim
             (λ was. one.each c was)
-            (λ f. ∣ back c f ∣₁));
+            (λ f. back c f));
         before = λ t c le left. ∥∥₁_elim (two.before t c (let a = one.later in omega (arith, a, le)) left) ∥∥₁_prop (⊎_elim
             (λ was. one.before t c le was)
-            (λ f. ∣ inr (back c f) ∣₁));
+            (λ f. ∥∥₁_map (back c f) (λ b. inr b)));
       }
 
     -- what is found of parts with the same commits, of which as many at least are durable, is found of k

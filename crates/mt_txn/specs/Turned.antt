@@ -12,7 +12,7 @@ use Rattle.mt_live.specs.Machine.{State}
 use Rattle.mt_txn.specs.Shown.{Restarts, Shows}
 use Rattle.mt_txn.specs.Well.{Opens, RestartsFrom, ShowsIn}
 use Rattle.mt_txn.specs.declared.kernel.Kernel.{Kernel}
-use Rattle.mt_txn.specs.declared.turning.KernelRest.{KernelRest}
+use Rattle.mt_txn.specs.declared.rests.KernelRest.{KernelRest}
 
 -- no transaction lives
 abbrev pub HasNobody : {D : Type 0} {g : Ghosts D} → Kernel D g → Type 0

@@ -12,7 +12,7 @@ ghost use Rattle.mt_kernel.specs.Consistent.{IsFresh};
 ghost use Rattle.mt_kernel.specs.Runs.{state_in};
 ghost use Rattle.mt_txn.specs.Causes.{is_busy};
 ghost use Rattle.mt_txn.specs.Restarted.{FindsCommits};
-ghost use Rattle.mt_txn.specs.Well.{IsWell, Opens};
+ghost use Rattle.mt_txn.specs.Well.{IsWell, Opens, RestartsFrom};
 
 use mt_base::Refusal;
 use mt_disk::Device;
@@ -44,6 +44,9 @@ pub struct Kernel<D: Device> {
     pub(crate) failed: bool,
     // whatever the base that the pages hold
     ghost well: { IsWell D.seen D.may_leave relations counters parts },
+    // it can be restarted, whatever base it began on
+    ghost starts: { ∥ ((first : Base) × RestartsFrom D.seen D.may_leave relations counters first parts) ∥₁ },
+    ghost schema: { IsRelationCount relations },
 }
 
 impl<D: Device> Kernel<D> {
@@ -60,6 +63,7 @@ impl<D: Device> Kernel<D> {
         counters: u16,
     ) -> Kernel<D>
         requires fresh { IsFresh operations escrow }
+        requires schema { IsRelationCount relations }
         requires opens { ∥ ((first : Base)
             × Opens D.seen D.may_leave operations escrow relations counters first) ∥₁ }
         ensures shows { (first : Base) → Opens D.seen D.may_leave operations escrow relations counters first

@@ -1,6 +1,5 @@
 // A kernel that goes on over the other area of its log.
 ghost use Rattle.std.specs.Prelude.{◌≡◌, ◌↔◌, ℕ, List, IsTrue};
-ghost use Rattle.mt_base.specs.Limits.{IsRelationCount};
 ghost use Rattle.mt_kernel.specs.Consistent.{IsFresh};
 ghost use Rattle.mt_model.specs.History.{after};
 ghost use Rattle.mt_model.specs.Model.{Base};
@@ -9,20 +8,11 @@ ghost use Rattle.mt_txn.specs.Shown.{Restarts};
 ghost use Rattle.mt_txn.specs.Turned.{CanGoOn, HasNobody, IsForced, IsRestOf, Resumes};
 
 use crate::kernel::Kernel;
+use crate::rests::KernelRest;
 use mt_disk::Device;
 use mt_escrow::Escrow;
-use mt_kernel::{Parts, Rest};
+use mt_kernel::Parts;
 use mt_op::Operations;
-use std::alloc::Global;
-
-/// What outlasts an area of the log: the book of a kernel, and the numbers of its transactions and operations.
-#[derive(Drop)]
-pub struct KernelRest {
-    rest: Rest,
-    alloc: Global,
-    relations: u16,
-    counters: u16,
-}
 
 impl<D: Device> Kernel<D> {
     /// Whether no transaction lives.
@@ -37,7 +27,6 @@ impl<D: Device> Kernel<D> {
     pub fn rests_on_its_book(&self)
         ensures { (first : Base) (c : List ℕ) → Restarts D.seen D.may_leave first self.now → HasNobody self.now
             → IsForced self.now → D.may_leave self.now.parts.operations.store.device c
-            → IsRelationCount self.now.relations
             → ∥ CanRestart self.now.relations self.now.counters c (after first self.now.parts.book.items) ∥₁ }
     {}
 

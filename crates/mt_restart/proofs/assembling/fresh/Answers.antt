@@ -1,5 +1,5 @@
-use Rattle.std.proofs.Common.{◌∙◌, List, length, sym, ap, arith}
-use Rattle.mt_base.specs.Limits.{IsCounterCount}
+use Rattle.std.proofs.Common.{◌∙◌, List, length, sym, ap, arith, subst}
+use Rattle.mt_base.specs.Limits.{IsCounterCount, IsRelationCount}
 use Rattle.mt_model.specs.declared.counters.Count.{Count}
 use Rattle.mt_restart.proofs.Assembled.{opens_of, fresh_of}
 use Rattle.mt_restart.specs.Schemas.{schema_base, counters_in}
@@ -10,6 +10,9 @@ overflow_cast-counters g c = let few : IsCounterCount (length (counters_in c.arg
 
 pub assemble-requires-clause-fresh : goal.assemble-requires-clause-fresh
 assemble-requires-clause-fresh g c = fresh_of g.D.Device.seen g.D.Device.may_leave c.args.schema.now c.in-Ok.operations c.in-Ok.escrow c.in-Ok.ensures.fresh
+
+pub assemble-requires-clause-schema : goal.assemble-requires-clause-schema
+assemble-requires-clause-schema g c = subst IsRelationCount (sym c.relations.ensures) c.args.schema.now.relation_count
 
 pub assemble-requires-clause-opens : goal.assemble-requires-clause-opens
 assemble-requires-clause-opens g c = ∣ (schema_base c.args.schema.now, opens_of g.D.Device.seen g.D.Device.may_leave c.args.schema.now c.in-Ok.operations c.in-Ok.escrow c.in-Ok.ensures.fresh c.relations.result (length c.counters.result.now) (sym c.relations.ensures) (ap (λ (cs : List Count). length cs) (sym c.counters.ensures.counters))) ∣₁

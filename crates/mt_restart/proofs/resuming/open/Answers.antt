@@ -1,21 +1,12 @@
-use Rattle.std.proofs.Common.{◌≡◌, Result, Ok, Err, length, refl, sym, subst}
+use Rattle.std.proofs.Common.{length, refl, sym, subst}
 use Rattle.mt_base.specs.declared.refusal.Refusal.{Refusal}
 use Rattle.mt_disk.specs.Disk.{LeavesOnly}
 use Rattle.mt_index.specs.Checks.{bytes_of}
 use Rattle.mt_restart.proofs.Based.{base_of_good}
+use Rattle.mt_restart.proofs.Calls.{not_refused, refused_so}
 use Rattle.mt_restart.proofs.Opened.{base_in_bounds, opened_as}
 use Rattle.mt_restart.specs.Recovered.{StandsStill}
 use Rattle.mt_restart.proofs.resuming.open.Goals as goal
-
--- a call that went well was not refused
-not_refused : {T : Type 0} (r : Result T Refusal) (x : T) (why : Refusal) → r ≡ Ok x → r ≡ Err why → ⊥
-not_refused (Ok y) x why well bad = absurd cc
-not_refused (Err e) x why well bad = absurd cc
-
--- a call that was refused so was not refused otherwise
-refused_so : {T : Type 0} (r : Result T Refusal) (why other : Refusal) → r ≡ Err why → (why ≡ other → ⊥) → r ≡ Err other → ⊥
-refused_so (Ok y) why other is not bad = absurd cc
-refused_so (Err e) why other is not bad = not cc
 
 pub kernel_over-requires : goal.kernel_over-requires
 kernel_over-requires g c = record { recovered = (c.args.frames, c.in-Ok.ensures.recovered) }

@@ -1,12 +1,12 @@
 use Rattle.std.proofs.Common.{refl}
-use mathlib.Core.Logic.{∥∥₁_elim}
+use mathlib.Core.Logic.{∥∥₁_elim, ∥∥₁_map}
 use Rattle.std.proofs.Props.{props}
 use Rattle.mt_txn.proofs.Showing.{led, well_led, stays_led}
 use Rattle.mt_txn.proofs.Restarting.{no_call, restarts_on, stays_goes}
 use Rattle.mt_txn.proofs.kernel.Kernel.abort_begin.Goals as goal
 
 pub invariant_of-self : goal.invariant_of-self
-invariant_of-self g c = record { well = well_led g.D.Device.seen g.D.Device.may_leave c.args.self.now.relations c.args.self.now.counters c.args.self.now.parts c.abort_begin.new.self (λ z. z) (stays_led g.D.Device.seen g.D.Device.may_leave c.args.self.now.relations c.args.self.now.counters c.args.self.now.parts c.abort_begin.new.self c.abort_begin.ensures.state) c.args.self.now.well }
+invariant_of-self g c = record { well = well_led g.D.Device.seen g.D.Device.may_leave c.args.self.now.relations c.args.self.now.counters c.args.self.now.parts c.abort_begin.new.self (λ z. z) (stays_led g.D.Device.seen g.D.Device.may_leave c.args.self.now.relations c.args.self.now.counters c.args.self.now.parts c.abort_begin.new.self c.abort_begin.ensures.state) c.args.self.now.well; starts = ∥∥₁_map c.args.self.now.starts (λ (first, r). let D = g.D.Device in let k = c.args.self.now in (first, restarts_on D.seen D.may_leave k.relations k.counters first k.parts c.abort_begin.new.self (stays_goes D.seen D.may_leave k.parts c.abort_begin.new.self c.abort_begin.ensures.state) (c.abort_begin.ensures.restartable) r)); schema = c.args.self.now.schema }
 
 pub returns-clause-state : goal.returns-clause-state
 returns-clause-state g c = λ first s shows. led g.D.Device.seen g.D.Device.may_leave c.args.self.now.relations c.args.self.now.counters c.args.self.now.parts c.abort_begin.new.self (λ z. z) first s (stays_led g.D.Device.seen g.D.Device.may_leave c.args.self.now.relations c.args.self.now.counters c.args.self.now.parts c.abort_begin.new.self c.abort_begin.ensures.state) shows

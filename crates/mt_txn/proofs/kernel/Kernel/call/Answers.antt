@@ -18,7 +18,7 @@ pub call-requires-clause-safe : goal.call-requires-clause-safe
 call-requires-clause-safe g c = ∥∥₁_map c.args.self.now.well (λ (origin, base, is, safe). (origin, base, safe, may_call g.D.Device.seen g.D.Device.may_leave c.args.self.now.relations c.args.self.now.counters c.args.self.now.parts c.args.txn c.args.op origin is c.in_default.ensures.named c.in_default.ensures.sized c.in_default.ensures.opened c.in_default.ensures.idle))
 
 pub invariant_of-self : goal.invariant_of-self
-invariant_of-self g c = record { well = call_well g.D.Device.seen g.D.Device.may_leave c.args.self.now.relations c.args.self.now.counters c.args.self.now.parts c.call.new.self c.args.txn c.args.op c.call.result (λ origin is. may_call g.D.Device.seen g.D.Device.may_leave c.args.self.now.relations c.args.self.now.counters c.args.self.now.parts c.args.txn c.args.op origin is c.in_default.ensures.named c.in_default.ensures.sized c.in_default.ensures.opened c.in_default.ensures.idle) c.call.ensures.called c.args.self.now.well }
+invariant_of-self g c = record { well = call_well g.D.Device.seen g.D.Device.may_leave c.args.self.now.relations c.args.self.now.counters c.args.self.now.parts c.call.new.self c.args.txn c.args.op c.call.result (λ origin is. may_call g.D.Device.seen g.D.Device.may_leave c.args.self.now.relations c.args.self.now.counters c.args.self.now.parts c.args.txn c.args.op origin is c.in_default.ensures.named c.in_default.ensures.sized c.in_default.ensures.opened c.in_default.ensures.idle) c.call.ensures.called c.args.self.now.well; starts = ∥∥₁_map c.args.self.now.starts (λ (first, r). let D = g.D.Device in let k = c.args.self.now in (first, restarts_called D.seen D.may_leave k.relations k.counters first k.parts c.call.new.self c.args.txn c.args.op c.call.result (λ origin is. may_call D.seen D.may_leave k.relations k.counters k.parts c.args.txn c.args.op origin is c.in_default.ensures.named c.in_default.ensures.sized c.in_default.ensures.opened c.in_default.ensures.idle) c.call.ensures.called c.call.ensures.restartable r)); schema = c.args.self.now.schema }
 
 pub returns-clause-answer : goal.returns-clause-answer
 returns-clause-answer g c = λ none. ∥∥₁_map c.args.self.now.well (λ (origin, base, is, safe). (origin, base, is, safe, c.call.ensures.answer origin base safe (may_call g.D.Device.seen g.D.Device.may_leave c.args.self.now.relations c.args.self.now.counters c.args.self.now.parts c.args.txn c.args.op origin is c.in_default.ensures.named c.in_default.ensures.sized c.in_default.ensures.opened c.in_default.ensures.idle)))

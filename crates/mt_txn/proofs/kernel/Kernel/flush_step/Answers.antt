@@ -1,4 +1,5 @@
 use Rattle.std.proofs.Common.{refl}
+use mathlib.Core.Logic.{∥∥₁_map}
 use Rattle.mt_kernel.proofs.Lessening.{undo_same}
 use Rattle.mt_txn.proofs.Showing.{sound_of, led, well_led, stays_led}
 use Rattle.mt_txn.proofs.Restarting.{meanwhile, no_call, restarts_on, stays_goes}
@@ -8,7 +9,7 @@ pub flush_step-told-requires : goal.flush_step-told-requires
 flush_step-told-requires g c = record { safe = sound_of g.D.Device.seen g.D.Device.may_leave c.args.self.now.relations c.args.self.now.counters c.args.self.now.parts c.args.self.now.well }
 
 pub invariant_of-self : goal.invariant_of-self
-invariant_of-self g c = record { well = well_led g.D.Device.seen g.D.Device.may_leave c.args.self.now.relations c.args.self.now.counters c.args.self.now.parts c.flush_step-told.new.self (λ z. z) (stays_led g.D.Device.seen g.D.Device.may_leave c.args.self.now.relations c.args.self.now.counters c.args.self.now.parts c.flush_step-told.new.self c.flush_step-told.ensures.state) c.args.self.now.well }
+invariant_of-self g c = record { well = well_led g.D.Device.seen g.D.Device.may_leave c.args.self.now.relations c.args.self.now.counters c.args.self.now.parts c.flush_step-told.new.self (λ z. z) (stays_led g.D.Device.seen g.D.Device.may_leave c.args.self.now.relations c.args.self.now.counters c.args.self.now.parts c.flush_step-told.new.self c.flush_step-told.ensures.state) c.args.self.now.well; starts = ∥∥₁_map c.args.self.now.starts (λ (first, r). let D = g.D.Device in let k = c.args.self.now in (first, restarts_on D.seen D.may_leave k.relations k.counters first k.parts c.flush_step-told.new.self (stays_goes D.seen D.may_leave k.parts c.flush_step-told.new.self c.flush_step-told.ensures.state) (c.flush_step-told.ensures.restartable) r)); schema = c.args.self.now.schema }
 
 pub returns-in-Ok-clause-state : goal.returns-in-Ok-clause-state
 returns-in-Ok-clause-state g c = λ first s shows. led g.D.Device.seen g.D.Device.may_leave c.args.self.now.relations c.args.self.now.counters c.args.self.now.parts c.flush_step-told.new.self (λ z. z) first s (stays_led g.D.Device.seen g.D.Device.may_leave c.args.self.now.relations c.args.self.now.counters c.args.self.now.parts c.flush_step-told.new.self c.flush_step-told.ensures.state) shows

@@ -1,3 +1,4 @@
+use mathlib.Core.Logic.{∥∥₁_map}
 use Rattle.mt_disk.specs.Disk.{LeavesOnly}
 use Rattle.mt_pool.specs.Kept.{Explains}
 use Rattle.mt_pool.specs.declared.store.Store.{Store}
@@ -17,23 +18,23 @@ pub force_step-told-requires : goal.force_step-told-requires
 force_step-told-requires g c = record { safe = sound_of g.D.Device.seen g.D.Device.may_leave c.args.self.now.relations c.args.self.now.counters c.args.self.now.parts c.args.self.now.well }
 
 pub invariant_of-self : goal.invariant_of-self
-invariant_of-self g c = record { well = well_led g.D.Device.seen g.D.Device.may_leave c.args.self.now.relations c.args.self.now.counters c.args.self.now.parts c.force_step-told.new.self (λ z. z) (stays_led g.D.Device.seen g.D.Device.may_leave c.args.self.now.relations c.args.self.now.counters c.args.self.now.parts c.force_step-told.new.self c.force_step-told.ensures.state) c.args.self.now.well }
+invariant_of-self g c = record { well = well_led g.D.Device.seen g.D.Device.may_leave c.args.self.now.relations c.args.self.now.counters c.args.self.now.parts c.force_step-told.new.self (λ z. z) (stays_led g.D.Device.seen g.D.Device.may_leave c.args.self.now.relations c.args.self.now.counters c.args.self.now.parts c.force_step-told.new.self c.force_step-told.ensures.state) c.args.self.now.well; starts = ∥∥₁_map c.args.self.now.starts (λ (first, r). let D = g.D.Device in let k = c.args.self.now in (first, restarts_on D.seen D.may_leave k.relations k.counters first k.parts c.force_step-told.new.self (stays_goes D.seen D.may_leave k.parts c.force_step-told.new.self c.force_step-told.ensures.state) (c.force_step-told.ensures.restartable) r)); schema = c.args.self.now.schema }
 
 pub returns-in_err-told-clause-forced : goal.returns-in_err-told-clause-forced
 returns-in_err-told-clause-forced g c = λ first s shows. let p = err_from_is_err_and c.from_residual-in_err-told.result c.from_residual-in_err-told.ensures.1 in
     err_forced g.D.Device.seen g.D.Device.may_leave first s _ c.from_residual-in_err-told.result p.0 p.1 (led g.D.Device.seen g.D.Device.may_leave c.args.self.now.relations c.args.self.now.counters c.args.self.now.parts c.force_step-told.new.self (λ z. z) first s (stays_led g.D.Device.seen g.D.Device.may_leave c.args.self.now.relations c.args.self.now.counters c.args.self.now.parts c.force_step-told.new.self c.force_step-told.ensures.state) shows)
 
 pub invariant_of-self-in-More : goal.invariant_of-self-in-More
-invariant_of-self-in-More g c = record { well = well_led g.D.Device.seen g.D.Device.may_leave c.args.self.now.relations c.args.self.now.counters c.args.self.now.parts c.force_step-told.new.self (λ z. z) (stays_led g.D.Device.seen g.D.Device.may_leave c.args.self.now.relations c.args.self.now.counters c.args.self.now.parts c.force_step-told.new.self c.force_step-told.ensures.state) c.args.self.now.well }
+invariant_of-self-in-More g c = record { well = well_led g.D.Device.seen g.D.Device.may_leave c.args.self.now.relations c.args.self.now.counters c.args.self.now.parts c.force_step-told.new.self (λ z. z) (stays_led g.D.Device.seen g.D.Device.may_leave c.args.self.now.relations c.args.self.now.counters c.args.self.now.parts c.force_step-told.new.self c.force_step-told.ensures.state) c.args.self.now.well; starts = ∥∥₁_map c.args.self.now.starts (λ (first, r). let D = g.D.Device in let k = c.args.self.now in (first, restarts_on D.seen D.may_leave k.relations k.counters first k.parts c.force_step-told.new.self (stays_goes D.seen D.may_leave k.parts c.force_step-told.new.self c.force_step-told.ensures.state) (c.force_step-told.ensures.restartable) r)); schema = c.args.self.now.schema }
 
 pub invariant_of-self-in-Idle : goal.invariant_of-self-in-Idle
-invariant_of-self-in-Idle g c = record { well = well_led g.D.Device.seen g.D.Device.may_leave c.args.self.now.relations c.args.self.now.counters c.args.self.now.parts c.force_step-told.new.self (λ z. z) (stays_led g.D.Device.seen g.D.Device.may_leave c.args.self.now.relations c.args.self.now.counters c.args.self.now.parts c.force_step-told.new.self c.force_step-told.ensures.state) c.args.self.now.well }
+invariant_of-self-in-Idle g c = record { well = well_led g.D.Device.seen g.D.Device.may_leave c.args.self.now.relations c.args.self.now.counters c.args.self.now.parts c.force_step-told.new.self (λ z. z) (stays_led g.D.Device.seen g.D.Device.may_leave c.args.self.now.relations c.args.self.now.counters c.args.self.now.parts c.force_step-told.new.self c.force_step-told.ensures.state) c.args.self.now.well; starts = ∥∥₁_map c.args.self.now.starts (λ (first, r). let D = g.D.Device in let k = c.args.self.now in (first, restarts_on D.seen D.may_leave k.relations k.counters first k.parts c.force_step-told.new.self (stays_goes D.seen D.may_leave k.parts c.force_step-told.new.self c.force_step-told.ensures.state) (c.force_step-told.ensures.restartable) r)); schema = c.args.self.now.schema }
 
 pub leave_durable-requires-clause-safe : goal.leave_durable-requires-clause-safe
 leave_durable-requires-clause-safe g c = sound_of g.D.Device.seen g.D.Device.may_leave c.args.self.now.relations c.args.self.now.counters c.force_step-told.new.self (well_led g.D.Device.seen g.D.Device.may_leave c.args.self.now.relations c.args.self.now.counters c.args.self.now.parts c.force_step-told.new.self (λ z. z) (stays_led g.D.Device.seen g.D.Device.may_leave c.args.self.now.relations c.args.self.now.counters c.args.self.now.parts c.force_step-told.new.self c.force_step-told.ensures.state) c.args.self.now.well)
 
 pub invariant_of-self-in-Durable : goal.invariant_of-self-in-Durable
-invariant_of-self-in-Durable g c = record { well = well_led g.D.Device.seen g.D.Device.may_leave c.args.self.now.relations c.args.self.now.counters c.force_step-told.new.self c.leave_durable.new.self (λ z. booked_each z (durable_txns c.force_step-told.new.self.commits.items c.in-Durable.place)) (λ origin base safe. (base, c.leave_durable.ensures.left origin base safe)) (well_led g.D.Device.seen g.D.Device.may_leave c.args.self.now.relations c.args.self.now.counters c.args.self.now.parts c.force_step-told.new.self (λ z. z) (stays_led g.D.Device.seen g.D.Device.may_leave c.args.self.now.relations c.args.self.now.counters c.args.self.now.parts c.force_step-told.new.self c.force_step-told.ensures.state) c.args.self.now.well) }
+invariant_of-self-in-Durable g c = record { well = well_led g.D.Device.seen g.D.Device.may_leave c.args.self.now.relations c.args.self.now.counters c.force_step-told.new.self c.leave_durable.new.self (λ z. booked_each z (durable_txns c.force_step-told.new.self.commits.items c.in-Durable.place)) (λ origin base safe. (base, c.leave_durable.ensures.left origin base safe)) (well_led g.D.Device.seen g.D.Device.may_leave c.args.self.now.relations c.args.self.now.counters c.args.self.now.parts c.force_step-told.new.self (λ z. z) (stays_led g.D.Device.seen g.D.Device.may_leave c.args.self.now.relations c.args.self.now.counters c.args.self.now.parts c.force_step-told.new.self c.force_step-told.ensures.state) c.args.self.now.well); starts = ∥∥₁_map c.args.self.now.starts (λ (first, r). let D = g.D.Device in let k = c.args.self.now in (first, restarts_on D.seen D.may_leave k.relations k.counters first c.force_step-told.new.self c.leave_durable.new.self (λ origin base safe. (base, (c.leave_durable.ensures.left origin base safe).consistent)) c.leave_durable.ensures.restartable (restarts_on D.seen D.may_leave k.relations k.counters first k.parts c.force_step-told.new.self (stays_goes D.seen D.may_leave k.parts c.force_step-told.new.self c.force_step-told.ensures.state) (c.force_step-told.ensures.restartable) r))); schema = c.args.self.now.schema }
 
 pub returns-in-More-clause-forced : goal.returns-in-More-clause-forced
 returns-in-More-clause-forced g c = λ first s shows. led g.D.Device.seen g.D.Device.may_leave c.args.self.now.relations c.args.self.now.counters c.args.self.now.parts c.force_step-told.new.self (λ z. z) first s (stays_led g.D.Device.seen g.D.Device.may_leave c.args.self.now.relations c.args.self.now.counters c.args.self.now.parts c.force_step-told.new.self c.force_step-told.ensures.state) shows

@@ -1,4 +1,5 @@
 use Rattle.std.proofs.lemmas.Result.{err_from_is_err_and}
+use mathlib.Core.Logic.{∥∥₁_map}
 use Rattle.mt_txn.proofs.Answering.{err_aborted}
 use Rattle.mt_txn.proofs.Showing.{sound_of, back_shown, back_well, back_stands, BackShown}
 use Rattle.std.proofs.Common.{◌∙◌, Ok, ap, subst}
@@ -22,7 +23,7 @@ pub back_step-told-requires-clause-aborting : goal.back_step-told-requires-claus
 back_step-told-requires-clause-aborting g c = λ r there. let own = c.requires.own r there in (own.1, ap (state_in c.args.self.now.parts.live.members) own.0 ∙ c.requires.aborting)
 
 pub invariant_of-self : goal.invariant_of-self
-invariant_of-self g c = record { well = back_well g.D.Device.seen g.D.Device.may_leave c.args.self.now.relations c.args.self.now.counters c.args.self.now.parts c.back_step-told.new.self c.args.place c.back_step-told.result c.requires.within c.back_step-told.ensures.back c.args.self.now.well }
+invariant_of-self g c = record { well = back_well g.D.Device.seen g.D.Device.may_leave c.args.self.now.relations c.args.self.now.counters c.args.self.now.parts c.back_step-told.new.self c.args.place c.back_step-told.result c.requires.within c.back_step-told.ensures.back c.args.self.now.well; starts = ∥∥₁_map c.args.self.now.starts (λ (first, r). let D = g.D.Device in let k = c.args.self.now in (first, restarts_on D.seen D.may_leave k.relations k.counters first k.parts c.back_step-told.new.self (back_goes D.seen D.may_leave k.parts c.back_step-told.new.self c.args.place c.back_step-told.result c.requires.within c.back_step-told.ensures.back) (c.back_step-told.ensures.restartable) r)); schema = c.args.self.now.schema }
 
 pub returns-in_err-told-clause-aborted : goal.returns-in_err-told-clause-aborted
 returns-in_err-told-clause-aborted g c = λ first s shows. let p = err_from_is_err_and c.from_residual.result c.from_residual.ensures.1 in

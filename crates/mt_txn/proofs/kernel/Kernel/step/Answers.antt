@@ -1,5 +1,6 @@
 use Rattle.std.proofs.Common.{refl}
 use Rattle.std.specs.Prelude.{Result}
+use mathlib.Core.Logic.{∥∥₁_map}
 use Rattle.mt_base.specs.declared.refusal.Refusal.{Refusal}
 use Rattle.mt_kernel.specs.Work.{Lowers, steps_in}
 use Rattle.mt_kernel.specs.declared.steps.Stepping.{Stepping}
@@ -28,7 +29,7 @@ pub step-told-requires-clause-stage : goal.step-told-requires-clause-stage
 step-told-requires-clause-stage g c = stage_of g.D.Device.seen g.D.Device.may_leave c.args.self.now.relations c.args.self.now.counters c.args.self.now.parts c.args.txn c.in-Some-place_of.place c.args.self.now.well c.in-Some-place_of.ensures.place.0 c.in-Some-place_of.ensures.place.1 c.in_default.ensures.opened
 
 pub invariant_of-self : goal.invariant_of-self
-invariant_of-self g c = record { well = step_well g.D.Device.seen g.D.Device.may_leave c.args.self.now.relations c.args.self.now.counters c.args.self.now.parts c.step-told.new.self c.in-Some-place_of.place c.step-told.result c.in-Some-place_of.ensures.place.0 c.step-told.ensures.steps c.args.self.now.well }
+invariant_of-self g c = record { well = step_well g.D.Device.seen g.D.Device.may_leave c.args.self.now.relations c.args.self.now.counters c.args.self.now.parts c.step-told.new.self c.in-Some-place_of.place c.step-told.result c.in-Some-place_of.ensures.place.0 c.step-told.ensures.steps c.args.self.now.well; starts = ∥∥₁_map c.args.self.now.starts (λ (first, r). let D = g.D.Device in let k = c.args.self.now in (first, restarts_on D.seen D.may_leave k.relations k.counters first k.parts c.step-told.new.self (step_goes D.seen D.may_leave k.parts c.step-told.new.self c.in-Some-place_of.place c.step-told.result c.in-Some-place_of.ensures.place.0 c.step-told.ensures.steps) (c.step-told.ensures.restartable) r)); schema = c.args.self.now.schema }
 
 pub returns-in_err-reply-clause-stepped : goal.returns-in_err-reply-clause-stepped
 returns-in_err-reply-clause-stepped g c = λ first s shows. let p = err_from_is_err_and c.from_residual.result c.from_residual.ensures.1 in

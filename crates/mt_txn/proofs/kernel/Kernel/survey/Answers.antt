@@ -1,6 +1,7 @@
 use Rattle.std.proofs.Common.{refl}
 use Rattle.std.proofs.Common.{ap, length, sym, ◌∙◌}
 use Rattle.std.proofs.lemmas.List.{nil_from_length}
+use mathlib.Core.Logic.{∥∥₁_map}
 use Rattle.mt_live.specs.declared.live.Live.{Live}
 use Rattle.mt_txn.proofs.Showing.{led, sound_of, stays_led, well_led}
 use Rattle.mt_txn.proofs.Surveyed.{base_told, pages_told}
@@ -13,7 +14,7 @@ survey-told-requires-clause-safe g c = let k = c.args.self.now in sound_of g.D.D
 pub invariant_of-self : goal.invariant_of-self
 invariant_of-self g c =
     let D = g.D.Device in let k = c.args.self.now in
-    record { well = well_led D.seen D.may_leave k.relations k.counters k.parts c.survey-told.new.self (λ z. z) (stays_led D.seen D.may_leave k.relations k.counters k.parts c.survey-told.new.self c.survey-told.ensures.state) k.well }
+    record { well = well_led D.seen D.may_leave k.relations k.counters k.parts c.survey-told.new.self (λ z. z) (stays_led D.seen D.may_leave k.relations k.counters k.parts c.survey-told.new.self c.survey-told.ensures.state) k.well; starts = ∥∥₁_map c.args.self.now.starts (λ (first, r). let D = g.D.Device in let k = c.args.self.now in (first, restarts_on D.seen D.may_leave k.relations k.counters first k.parts c.survey-told.new.self (stays_goes D.seen D.may_leave k.parts c.survey-told.new.self c.survey-told.ensures.state) (c.survey-told.ensures.restartable) r)); schema = c.args.self.now.schema }
 
 pub returns-clause-base : goal.returns-clause-base
 returns-clause-base g c = λ first s shows.

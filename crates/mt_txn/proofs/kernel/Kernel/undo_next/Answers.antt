@@ -22,14 +22,14 @@ pub undo_begin-requires-clause-safe : goal.undo_begin-requires-clause-safe
 undo_begin-requires-clause-safe g c = sound_of g.D.Device.seen g.D.Device.may_leave c.args.self.now.relations c.args.self.now.counters c.args.self.now.parts c.args.self.now.well
 
 pub invariant_of-self : goal.invariant_of-self
-invariant_of-self g c = record { well = well_led g.D.Device.seen g.D.Device.may_leave c.args.self.now.relations c.args.self.now.counters c.args.self.now.parts c.undo_begin.new.self (λ z. z) (stays_led g.D.Device.seen g.D.Device.may_leave c.args.self.now.relations c.args.self.now.counters c.args.self.now.parts c.undo_begin.new.self c.undo_begin.ensures.state) c.args.self.now.well }
+invariant_of-self g c = record { well = well_led g.D.Device.seen g.D.Device.may_leave c.args.self.now.relations c.args.self.now.counters c.args.self.now.parts c.undo_begin.new.self (λ z. z) (stays_led g.D.Device.seen g.D.Device.may_leave c.args.self.now.relations c.args.self.now.counters c.args.self.now.parts c.undo_begin.new.self c.undo_begin.ensures.state) c.args.self.now.well; starts = ∥∥₁_map c.args.self.now.starts (λ (first, r). let D = g.D.Device in let k = c.args.self.now in (first, restarts_on D.seen D.may_leave k.relations k.counters first k.parts c.undo_begin.new.self (stays_goes D.seen D.may_leave k.parts c.undo_begin.new.self c.undo_begin.ensures.state) (c.undo_begin.ensures.restartable) r)); schema = c.args.self.now.schema }
 
 pub returns-in_err-undo_begin-clause-aborted : goal.returns-in_err-undo_begin-clause-aborted
 returns-in_err-undo_begin-clause-aborted g c = λ first s shows. let p = err_from_is_err_and c.from_residual.result c.from_residual.ensures.1 in
     err_aborted g.D.Device.seen g.D.Device.may_leave first s c.args.txn _ c.from_residual.result p.0 p.1 (led g.D.Device.seen g.D.Device.may_leave c.args.self.now.relations c.args.self.now.counters c.args.self.now.parts c.undo_begin.new.self (λ z. z) first s (stays_led g.D.Device.seen g.D.Device.may_leave c.args.self.now.relations c.args.self.now.counters c.args.self.now.parts c.undo_begin.new.self c.undo_begin.ensures.state) shows)
 
 pub invariant_of-self-then-branch : goal.invariant_of-self-then-branch
-invariant_of-self-then-branch g c = record { well = well_led g.D.Device.seen g.D.Device.may_leave c.args.self.now.relations c.args.self.now.counters c.args.self.now.parts c.undo_begin.new.self (λ z. z) (stays_led g.D.Device.seen g.D.Device.may_leave c.args.self.now.relations c.args.self.now.counters c.args.self.now.parts c.undo_begin.new.self c.undo_begin.ensures.state) c.args.self.now.well }
+invariant_of-self-then-branch g c = record { well = well_led g.D.Device.seen g.D.Device.may_leave c.args.self.now.relations c.args.self.now.counters c.args.self.now.parts c.undo_begin.new.self (λ z. z) (stays_led g.D.Device.seen g.D.Device.may_leave c.args.self.now.relations c.args.self.now.counters c.args.self.now.parts c.undo_begin.new.self c.undo_begin.ensures.state) c.args.self.now.well; starts = ∥∥₁_map c.args.self.now.starts (λ (first, r). let D = g.D.Device in let k = c.args.self.now in (first, restarts_on D.seen D.may_leave k.relations k.counters first k.parts c.undo_begin.new.self (stays_goes D.seen D.may_leave k.parts c.undo_begin.new.self c.undo_begin.ensures.state) (c.undo_begin.ensures.restartable) r)); schema = c.args.self.now.schema }
 
 pub returns-then-branch-clause-aborted : goal.returns-then-branch-clause-aborted
 returns-then-branch-clause-aborted g c = λ first s shows. back_stands g.D.Device.seen g.D.Device.may_leave c.args.self.now.relations c.args.self.now.counters c.undo_begin.new.self first s c.args.txn (led g.D.Device.seen g.D.Device.may_leave c.args.self.now.relations c.args.self.now.counters c.args.self.now.parts c.undo_begin.new.self (λ z. z) first s (stays_led g.D.Device.seen g.D.Device.may_leave c.args.self.now.relations c.args.self.now.counters c.args.self.now.parts c.undo_begin.new.self c.undo_begin.ensures.state) shows)
@@ -38,7 +38,7 @@ pub abort_end-requires-clause-safe : goal.abort_end-requires-clause-safe
 abort_end-requires-clause-safe g c = sound_of g.D.Device.seen g.D.Device.may_leave c.args.self.now.relations c.args.self.now.counters c.undo_begin.new.self (well_led g.D.Device.seen g.D.Device.may_leave c.args.self.now.relations c.args.self.now.counters c.args.self.now.parts c.undo_begin.new.self (λ z. z) (stays_led g.D.Device.seen g.D.Device.may_leave c.args.self.now.relations c.args.self.now.counters c.args.self.now.parts c.undo_begin.new.self c.undo_begin.ensures.state) c.args.self.now.well)
 
 pub invariant_of-self-2 : goal.invariant_of-self-2
-invariant_of-self-2 g c = record { well = well_either g.D.Device.seen g.D.Device.may_leave c.args.self.now.relations c.args.self.now.counters c.undo_begin.new.self c.abort_end.new.self (λ s. gone s c.args.txn) c.abort_end.result c.abort_end.ensures.gone c.abort_end.ensures.err (well_led g.D.Device.seen g.D.Device.may_leave c.args.self.now.relations c.args.self.now.counters c.args.self.now.parts c.undo_begin.new.self (λ z. z) (stays_led g.D.Device.seen g.D.Device.may_leave c.args.self.now.relations c.args.self.now.counters c.args.self.now.parts c.undo_begin.new.self c.undo_begin.ensures.state) c.args.self.now.well) }
+invariant_of-self-2 g c = record { well = well_either g.D.Device.seen g.D.Device.may_leave c.args.self.now.relations c.args.self.now.counters c.undo_begin.new.self c.abort_end.new.self (λ s. gone s c.args.txn) c.abort_end.result c.abort_end.ensures.gone c.abort_end.ensures.err (well_led g.D.Device.seen g.D.Device.may_leave c.args.self.now.relations c.args.self.now.counters c.args.self.now.parts c.undo_begin.new.self (λ z. z) (stays_led g.D.Device.seen g.D.Device.may_leave c.args.self.now.relations c.args.self.now.counters c.args.self.now.parts c.undo_begin.new.self c.undo_begin.ensures.state) c.args.self.now.well); starts = ∥∥₁_map c.args.self.now.starts (λ (first, r). let D = g.D.Device in let k = c.args.self.now in (first, restarts_on D.seen D.may_leave k.relations k.counters first c.undo_begin.new.self c.abort_end.new.self (either_goes D.seen D.may_leave c.undo_begin.new.self c.abort_end.new.self (λ s. gone s c.args.txn) c.abort_end.result c.abort_end.ensures.gone c.abort_end.ensures.err) c.abort_end.ensures.restartable (restarts_on D.seen D.may_leave k.relations k.counters first k.parts c.undo_begin.new.self (stays_goes D.seen D.may_leave k.parts c.undo_begin.new.self c.undo_begin.ensures.state) (c.undo_begin.ensures.restartable) r))); schema = c.args.self.now.schema }
 
 pub returns-in_err-abort_end-clause-aborted : goal.returns-in_err-abort_end-clause-aborted
 returns-in_err-abort_end-clause-aborted g c = λ first s shows. let p = err_from_is_err_and c.from_residual-in_err-abort_end.result c.from_residual-in_err-abort_end.ensures.1 in

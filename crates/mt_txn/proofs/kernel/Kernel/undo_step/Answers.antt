@@ -1,6 +1,7 @@
 use Rattle.std.proofs.Common.{◌∙◌, Ok, ap, subst}
 use Rattle.std.proofs.lemmas.Result.{err_from_is_err_and}
 use Rattle.std.specs.Prelude.{Result}
+use mathlib.Core.Logic.{∥∥₁_map}
 use Rattle.mt_base.specs.declared.refusal.Refusal.{Refusal}
 use Rattle.mt_kernel.specs.Consistent.{AtPlace}
 use Rattle.mt_kernel.specs.Steps.{UndoSteps, NamesOther}
@@ -24,7 +25,7 @@ pub undo_step-told-requires-clause-stage : goal.undo_step-told-requires-clause-s
 undo_step-told-requires-clause-stage g c = inverse_stage g.D.Device.seen g.D.Device.may_leave c.args.self.now.relations c.args.self.now.counters c.args.self.now.parts c.args.place c.args.self.now.well c.requires.within (λ r there. (c.requires.own r there).1)
 
 pub invariant_of-self : goal.invariant_of-self
-invariant_of-self g c = record { well = undo_well g.D.Device.seen g.D.Device.may_leave c.args.self.now.relations c.args.self.now.counters c.args.self.now.parts c.undo_step-told.new.self c.args.place c.undo_step-told.result c.requires.within c.undo_step-told.ensures.steps c.args.self.now.well }
+invariant_of-self g c = record { well = undo_well g.D.Device.seen g.D.Device.may_leave c.args.self.now.relations c.args.self.now.counters c.args.self.now.parts c.undo_step-told.new.self c.args.place c.undo_step-told.result c.requires.within c.undo_step-told.ensures.steps c.args.self.now.well; starts = ∥∥₁_map c.args.self.now.starts (λ (first, r). let D = g.D.Device in let k = c.args.self.now in (first, restarts_on D.seen D.may_leave k.relations k.counters first k.parts c.undo_step-told.new.self (undo_goes D.seen D.may_leave k.parts c.undo_step-told.new.self c.args.place c.undo_step-told.result c.requires.within c.undo_step-told.ensures.steps) (c.undo_step-told.ensures.restartable) r)); schema = c.args.self.now.schema }
 
 pub returns-in_err-reply-clause-aborted : goal.returns-in_err-reply-clause-aborted
 returns-in_err-reply-clause-aborted g c = λ first s shows. let p = err_from_is_err_and c.from_residual.result c.from_residual.ensures.1 in

@@ -1,17 +1,22 @@
 -- What is in memory of the losers.
-use Rattle.std.specs.Prelude.{◌≡◌, ◌++◌, ◌∷◌, ℕ, List, length, map, Contains}
+use Rattle.std.specs.Prelude.{◌≡◌, ◌++◌, ◌∷◌, ℕ, List, length, map, reverse, Contains}
+use Rattle.std.specs.BTreeSet.{contains}
 use Rattle.std.specs.List.{AllByRecursion}
+use Rattle.std.specs.Ordering.{nat_cmp}
 use Rattle.mt_frame.specs.declared.records.Record.{Record}
 use Rattle.mt_frame.specs.declared.records.Record.TheVariants.{OpEnd}
 use Rattle.mt_frame.specs.Grammar.{IsRecord, IsOperation}
+use Rattle.mt_frame.specs.History.{some_record, ends_txn, undoes_op}
+use Rattle.mt_frame.specs.Known.{pair_cmp}
 use Rattle.mt_log.specs.declared.batch.Batch.{Batch}
 use Rattle.mt_model.specs.Model.{Base}
 use Rattle.mt_space.specs.Changes.{PageBytes}
 use Rattle.mt_steps.specs.Plans.{IsGood}
 use Rattle.mt_replay.specs.Memory.{AreFirst}
 use Rattle.mt_replay.specs.Undoing.{UndoesAll, Finds}
-use Rattle.mt_replay.specs.Told.{Told, tell, Finished}
+use Rattle.mt_replay.specs.Told.{Finished, losers}
 use Rattle.mt_replay.specs.declared.telling.Loser.{Loser}
+use Rattle.mt_replay.specs.declared.telling.Telling.{Telling}
 
 abbrev pub finished_of : Loser → Finished
 finished_of l = record { txn = l.txn; op = l.op; done = l.done }
@@ -31,10 +36,16 @@ pub record HasEnded (batches : List Batch) (l : Loser) : Type 0 where
   pub end : Contains batch.records.items (OpEnd l.txn l.op 0 l.done)
   pub grammar : IsOperation l.done
 
--- these records of a batch are told too
-pub record Tells (batch : Batch) (records : List Record) (old new : List Loser) : Type 0 where
-  pub told : (x : Told) → all_finished old ≡ x.live → all_finished new ≡ (tell x records).live
-  pub ended : (batches : List Batch) → Contains batches batch → AllByRecursion (HasEnded batches) old → AllByRecursion (HasEnded batches) new
+-- what these records tell: the losers, the latest end first, the transactions that end, and the operations that inverses name
+pub record HasTold (x : Telling) (records : List Record) : Type 0 where
+  pub losers : all_finished (reverse x.losers.items) ≡ losers records
+  pub ended : (t : ℕ) → contains nat_cmp x.ended t ≡ some_record (ends_txn t) records
+  pub undone : (t o : ℕ) → contains pair_cmp x.undone (t, o) ≡ some_record (undoes_op t o) records
+
+-- these records of a batch are told too, before those behind them
+pub record Tells (batch : Batch) (records : List Record) (old new : Telling) : Type 0 where
+  pub told : (behind : List Record) → HasTold old behind → HasTold new (records ++ behind)
+  pub ended : (batches : List Batch) → Contains batches batch → AllByRecursion (HasEnded batches) old.losers.items → AllByRecursion (HasEnded batches) new.losers.items
 
 -- ---- undone one by one
 

@@ -1,17 +1,22 @@
 // What an area's records tell of transactions: the operations that a restart has to undo.
-ghost use Rattle.std.specs.Prelude.{◌≡◌, ◌==◌, ◌||◌, not, ◌∷◌, [], filter, Contains, IfOk, OnOk, IfErr};
+ghost use Rattle.std.specs.Prelude.{◌≡◌, ◌==◌, ◌&&◌, ◌||◌, ◌∷◌, [], ℕ, reverse, Contains, IfOk, OnOk, IfErr};
+ghost use Rattle.std.specs.BTreeSet.{contains};
 ghost use Rattle.std.specs.List.{AllByRecursion};
+ghost use Rattle.std.specs.Ordering.{nat_cmp};
 ghost use Rattle.mt_base.specs.declared.refusal.Refusal.{Refusal};
-ghost use Rattle.mt_frame.specs.Grammar.{IsRecord};
+ghost use Rattle.mt_frame.specs.Grammar.{IsOperation, IsRecord};
+ghost use Rattle.mt_frame.specs.Known.{pair_cmp};
+ghost use Rattle.mt_frame.specs.declared.records.Record.TheVariants.{OpEnd};
 ghost use Rattle.mt_log.specs.Batch.{joined};
 ghost use Rattle.mt_log.specs.Found.{records_of};
 ghost use Rattle.mt_replay.specs.Told.{losers};
-ghost use Rattle.mt_replay.specs.Losers.{all_finished, AreOfGrammar, HasEnded, Tells};
+ghost use Rattle.mt_replay.specs.Losers.{all_finished, AreOfGrammar, HasEnded, HasTold, Tells};
 
 use mt_base::{OpNo, Refusal, TxnNo};
 use mt_frame::{LoggedOp, Record};
 use mt_log::Batch;
-use std::alloc::Global;
+use std::alloc::{AllocError, Global};
+use std::collections::BTreeSet;
 
 /// A finished operation of a transaction that has not ended, which no finished inverse of that transaction names. A
 /// restart undoes it.
@@ -27,75 +32,147 @@ pub struct Loser {
     pub done: LoggedOp,
 }
 
-// Those of all transactions but one.
-fn leave(list: &mut Vec<Loser>, txn: TxnNo)
-    ensures { list.new.items ≡ filter (λ loser. not (loser.txn == txn)) list.old.items }
-{
-    list.retain(|loser| loser.txn != txn);
+/// What the records from a place on tell: the losers among them, the latest end first, the transactions that end there,
+/// and the operations, each behind its transaction, that a finished inverse names. Each record costs a look-up or two in
+/// ordered sets.
+#[derive(Drop)]
+pub(crate) struct Telling {
+    pub(crate) losers: Vec<Loser>,
+    pub(crate) ended: BTreeSet<u64>,
+    pub(crate) undone: BTreeSet<(u64, u64)>,
 }
 
-// All operations but one of a transaction.
-fn take_out(list: &mut Vec<Loser>, txn: TxnNo, op: u64)
-    ensures { list.new.items
-        ≡ filter (λ loser. not (loser.txn == txn) || not (loser.op == op)) list.old.items }
+// Takes a transaction to those that end.
+fn note_end(set: &mut BTreeSet<u64>, txn: TxnNo) -> Result<(), AllocError>
+    ensures { OnOk result ((t : ℕ) → contains nat_cmp set.new t ≡ (contains nat_cmp set.old t || (txn == t))) }
 {
-    list.retain(|loser| loser.txn != txn || loser.op.get() != op);
+    match set.insert(txn.get()) {
+        Ok(_) => Ok(()),
+        Err(_) => Err(AllocError),
+    }
 }
 
-// The next record of a batch.
-fn tell_one(list: &mut Vec<Loser>, batch: &Batch, entry: &Record) -> Result<(), Refusal>
-    requires among { Contains batch.now.records.items entry.now }
-    requires grammar { IsRecord entry.now }
-    ensures tells { OnOk result (Tells batch.now (entry.now ∷ []) list.old.items list.new.items) }
-    ensures only_memory { IfErr result (λ why. why ≡ Refusal.NoMemory) }
+// Takes an operation to those that an inverse names.
+fn note_undone(set: &mut BTreeSet<(u64, u64)>, txn: TxnNo, op: u64) -> Result<(), AllocError>
+    ensures { OnOk result ((t o : ℕ) → contains pair_cmp set.new (t, o)
+        ≡ (contains pair_cmp set.old (t, o) || ((txn == t) && (op == o)))) }
 {
-    match entry {
-        Record::OpEnd {
+    match set.insert((txn.get(), op)) {
+        Ok(_) => Ok(()),
+        Err(_) => Err(AllocError),
+    }
+}
+
+impl Telling {
+    // What no records tell.
+    fn new(alloc: Global) -> Telling
+        ensures told { HasTold result [] }
+        ensures none { result.losers.items ≡ [] }
+    {
+        Telling {
+            losers: Vec::new(alloc),
+            ended: BTreeSet::new(alloc),
+            undone: BTreeSet::new(alloc),
+        }
+    }
+
+    // Whether a later record ends the transaction, or is an inverse of its operation.
+    fn is_over(&self, txn: TxnNo, op: OpNo) -> bool
+        ensures { result ≡ (contains nat_cmp self.now.ended txn || contains pair_cmp self.now.undone (txn, op)) }
+    {
+        self.ended.contains(&txn.get()) || self.undone.contains(&(txn.get(), op.get()))
+    }
+
+    // The end of an operation that is no inverse.
+    fn tell_end(
+        &mut self,
+        batch: &Batch,
+        txn: TxnNo,
+        op: OpNo,
+        done: &LoggedOp,
+    ) -> Result<(), Refusal>
+        requires among { Contains batch.now.records.items (OpEnd txn op 0 done.now) }
+        requires grammar { IsOperation done.now }
+        ensures tells { OnOk result (Tells batch.now (OpEnd txn op 0 done.now ∷ []) self.old self.new) }
+        ensures only_memory { IfErr result (λ why. why ≡ Refusal.NoMemory) }
+    {
+        if self.is_over(txn, op) {
+            return Ok(());
+        }
+        self.losers.push(Loser {
             txn,
             op,
-            undoes,
-            done,
-        } => {
-            if *undoes != 0 {
-                take_out(list, *txn, *undoes);
-                return Ok(());
-            }
-            list.push(Loser {
-                txn: *txn,
-                op: *op,
-                place: batch.place,
-                done: done.try_clone()?,
-            })?;
-            Ok(())
-        }
-        Record::Commit { txn } => {
-            leave(list, *txn);
-            Ok(())
-        }
-        Record::AbortEnd { txn } => {
-            leave(list, *txn);
-            Ok(())
-        }
-        _ => Ok(()),
+            place: batch.place,
+            done: done.try_clone()?,
+        })?;
+        Ok(())
     }
-}
 
-// The records of a batch.
-fn tell_batch(list: &mut Vec<Loser>, batch: &Batch) -> Result<(), Refusal>
-    requires { AllByRecursion IsRecord batch.now.records.items }
-    ensures tells { OnOk result (Tells batch.now batch.now.records.items list.old.items list.new.items) }
-    ensures only_memory { IfErr result (λ why. why ≡ Refusal.NoMemory) }
-{
-    for entry in &batch.records {
-        tell_one(list, batch, entry)?;
+    // The record of a batch before those that were told.
+    fn tell_one(&mut self, batch: &Batch, entry: &Record) -> Result<(), Refusal>
+        requires among { Contains batch.now.records.items entry.now }
+        requires grammar { IsRecord entry.now }
+        ensures tells { OnOk result (Tells batch.now (entry.now ∷ []) self.old self.new) }
+        ensures only_memory { IfErr result (λ why. why ≡ Refusal.NoMemory) }
+    {
+        match entry {
+            Record::OpEnd {
+                txn,
+                op,
+                undoes,
+                done,
+            } => {
+                if *undoes == 0 {
+                    return self.tell_end(batch, *txn, *op, done);
+                }
+                note_undone(&mut self.undone, *txn, *undoes)?;
+                Ok(())
+            }
+            Record::Commit { txn } => {
+                note_end(&mut self.ended, *txn)?;
+                Ok(())
+            }
+            Record::AbortEnd { txn } => {
+                note_end(&mut self.ended, *txn)?;
+                Ok(())
+            }
+            _ => Ok(()),
+        }
     }
-    Ok(())
+
+    // The records of a batch, from its last one on.
+    fn tell_batch(&mut self, batch: &Batch) -> Result<(), Refusal>
+        requires { AllByRecursion IsRecord batch.now.records.items }
+        ensures tells { OnOk result (Tells batch.now batch.now.records.items self.old self.new) }
+        ensures only_memory { IfErr result (λ why. why ≡ Refusal.NoMemory) }
+    {
+        let mut i = batch.records.len();
+        while i > 0 {
+            i -= 1;
+            self.tell_one(batch, &batch.records[i])?;
+        }
+        Ok(())
+    }
+
+    // The losers, in the order of their ends.
+    fn into_losers(self) -> Vec<Loser>
+        ensures { result.items ≡ reverse self.losers.items }
+    {
+        let Telling {
+            mut losers,
+            ended: _,
+            undone: _,
+        } = self;
+        losers.reverse();
+        losers
+    }
 }
 
 /// The losers of an area, by the batches that a scan found there, in the order of their ends: the finished operations
 /// of transactions that have neither committed nor ended their abort, but those that a finished inverse of the same
 /// transaction names (Weikum 1991). So an operation whose inverse is in the log is not undone twice.
 ///
+/// The records are gone over once, from the last one on, so that what ends an operation is known before its own end.
 /// The only refusal is [`Refusal::NoMemory`].
 pub fn losers_of(alloc: Global, batches: &[Batch]) -> Result<Vec<Loser>, Refusal>
     requires { AreOfGrammar batches.now }
@@ -103,9 +180,11 @@ pub fn losers_of(alloc: Global, batches: &[Batch]) -> Result<Vec<Loser>, Refusal
     ensures ended { IfOk result (λ list. AllByRecursion (HasEnded batches.now) list.items) }
     ensures only_memory { IfErr result (λ why. why ≡ Refusal.NoMemory) }
 {
-    let mut list = Vec::new(alloc);
-    for batch in batches {
-        tell_batch(&mut list, batch)?;
+    let mut telling = Telling::new(alloc);
+    let mut i = batches.len();
+    while i > 0 {
+        i -= 1;
+        telling.tell_batch(&batches[i])?;
     }
-    Ok(list)
+    Ok(telling.into_losers())
 }

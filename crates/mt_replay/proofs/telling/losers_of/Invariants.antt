@@ -1,13 +1,16 @@
-use Rattle.std.proofs.Common.{◌≡◌, take}
+use Rattle.std.proofs.Common.{◌≤◌, drop, length}
 use Rattle.std.specs.List.{AllByRecursion}
 use Rattle.mt_log.specs.Batch.{joined}
 use Rattle.mt_log.specs.Found.{records_of}
-use Rattle.mt_replay.specs.Losers.{all_finished, HasEnded}
-use Rattle.mt_replay.specs.Told.{losers}
+use Rattle.mt_replay.specs.Losers.{HasEnded, HasTold}
 use Rattle.mt_replay.proofs.telling.losers_of.Given as goal
 
-abbrev pub invariant-loop-batch : goal.invariant-loop-batch
-invariant-loop-batch l = record {
-  losers : all_finished l.list.items ≡ losers (joined (records_of (take l.batch-index l.batches)));
-  ended : AllByRecursion (HasEnded l.batches) l.list.items;
+abbrev pub invariant-loop-i : goal.invariant-loop-i
+invariant-loop-i l = record {
+  inside : l.i ≤ length l.batches;
+  told : HasTold l.telling (joined (records_of (drop l.i l.batches)));
+  ended : AllByRecursion (HasEnded l.batches) l.telling.losers.items;
 }
+
+abbrev pub decreases-loop-i : goal.decreases-loop-i
+decreases-loop-i l = l.i

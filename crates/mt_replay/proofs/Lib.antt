@@ -1,5 +1,6 @@
 pub mod Undone
 pub mod Restoring
+pub mod Leaving
 pub mod Imaged
 pub mod Beginnings
 pub mod Walking

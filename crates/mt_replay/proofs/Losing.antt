@@ -4,7 +4,7 @@ use Rattle.std.specs.Prelude.{Contains}
 use Rattle.std.specs.BTreeSet.{contains}
 use Rattle.std.specs.List.{AllByRecursion}
 use Rattle.std.specs.Ordering.{nat_cmp}
-use Rattle.std.proofs.lemmas.Bool.{cases_eq, eq-eqb, ne_eqb}
+use Rattle.std.proofs.lemmas.Bool.{ne_eqb}
 use Rattle.std.proofs.lemmas.List.{append-nil, reverse-append}
 use Rattle.std.proofs.lemmas.List.Elements.{filter-append}
 use Rattle.mt_frame.specs.Grammar.{IsOperation}
@@ -19,6 +19,7 @@ use Rattle.mt_replay.specs.Losers.{finished_of, all_finished, HasEnded, HasTold,
 use Rattle.mt_replay.specs.declared.telling.Loser.{Loser}
 use Rattle.mt_replay.specs.declared.telling.Telling.{Telling}
 use Rattle.mt_replay.proofs.Imaged.{record_at}
+use Rattle.mt_replay.proofs.Walking.{filter_all, filter_alike, filter_both, same_sides}
 
 -- ---- tests
 
@@ -42,12 +43,6 @@ and_true true true = refl
 and_true true false = refl
 and_true false b = refl
 
-same_sides : (a b : ℕ) → (a == b) ≡ (b == a)
-same_sides a b = elim (cases_eq a b) [
-  | inl same ↦ eq-eqb a b same ∙ sym (eq-eqb b a (sym same))
-  | inr other ↦ ne_eqb a b other ∙ sym (ne_eqb b a (λ is. other (sym is)))
-]
-
 -- what an inverse, or the end of a transaction, leaves
 left_undone : (a b e u : Bool) → ((not a || not b) && not (e || u)) ≡ not (e || ((a && b) || u))
 left_undone true true true u = refl
@@ -58,24 +53,6 @@ left_undone false b e u = refl
 left_ended : (a e u : Bool) → (not a && not (e || u)) ≡ not ((a || e) || u)
 left_ended true e u = refl
 left_ended false e u = refl
-
--- ---- filters
-
-filter_all : (xs : List Finished) → filter (λ (f : Finished). true) xs ≡ xs
-filter_all [] = refl
-filter_all (x ∷ xs) = ap (λ (ys : List Finished). x ∷ ys) (filter_all xs)
-
-filter_alike : (p q : Finished → Bool) → ((f : Finished) → p f ≡ q f) → (xs : List Finished) → filter p xs ≡ filter q xs
-filter_alike p q same [] = refl
-filter_alike p q same (x ∷ xs) = ap (λ (b : Bool). cond b (x ∷ filter p xs) (filter p xs)) (same x) ∙ ap (λ (ys : List Finished). cond (q x) (x ∷ ys) ys) (filter_alike p q same xs)
-
-filter_both : (p q : Finished → Bool) (xs : List Finished) → filter p (filter q xs) ≡ filter (λ (f : Finished). q f && p f) xs
-filter_both p q [] = refl
-filter_both p q (x ∷ xs) = go (q x) (p x) (filter_both p q xs)
-  where
-    go : (a b : Bool) → filter p (filter q xs) ≡ filter (λ (f : Finished). q f && p f) xs → filter p (cond a (x ∷ filter q xs) (filter q xs)) ≡ cond (a && p x) (x ∷ filter (λ (f : Finished). q f && p f) xs) (filter (λ (f : Finished). q f && p f) xs)
-    go true b rest = ap (λ (ys : List Finished). cond (p x) (x ∷ ys) ys) rest
-    go false b rest = rest
 
 -- ---- the losers of the records behind, and of one before them
 

@@ -1,17 +1,21 @@
 -- Pages in memory follow the records: changes made and put back.
-use Rattle.std.proofs.Common.{◌≡◌, ◌≢◌, inl, inr, ℕ, zero, suc, ◌+◌, ◌<◌, Bool, true, false, not, cond, ◌==◌, List, [], ◌∷◌, ◌++◌, length, drop, get_or, set, map, filter, refl, sym, ap, ◌∙◌, subst, arith}
+use Rattle.std.proofs.Common.{◌≡◌, inl, inr, ℕ, zero, suc, ◌+◌, ◌<◌, Bool, true, false, not, cond, ◌==◌, ◌&&◌, Option, None, Some, List, [], ◌∷◌, ◌++◌, length, drop, get_or, set, map, Vec, Global, refl, sym, ap, ◌∙◌, subst, arith}
+use Rattle.std.specs.BTreeMap.{BTreeMap, get, is_at, Updates, UpdatesBy}
 use Rattle.std.specs.List.{AllByRecursion}
+use Rattle.std.specs.Ordering.{nat_cmp}
 use Rattle.std.proofs.lemmas.Bool.{cases_eq, eq-eqb, ne_eqb}
-use Rattle.std.proofs.lemmas.List.{length-set, get_or-set_other, drop_more, map-append}
+use Rattle.std.proofs.lemmas.List.{append-nil, length-set, get_or-set_other, drop_more, map-append}
+use Rattle.std.proofs.lemmas.List.Elements.{filter-append}
 use Rattle.std.proofs.lemmas.Grind.{get_or-set_at}
 use Rattle.mt_base.specs.Edits.{splice}
+use Rattle.mt_frame.proofs.RuleLaws.{is_at_number}
 use Rattle.mt_space.specs.Changes.{PageBytes}
-use Rattle.mt_steps.specs.Repeated.{Change, put_back, by, but, Repeated}
-use Rattle.mt_steps.proofs.Repeating.{put_back_append}
-use Rattle.mt_replay.specs.Memory.{AreFirst}
-use Rattle.mt_replay.specs.Passes.{change_of, Fits, IsShown, IsWhole, Repeats}
+use Rattle.mt_steps.specs.Repeated.{Change, put_back, by, but, made, changed, finished, dropped, Repeated}
+use Rattle.mt_replay.specs.Memory.{AreFirst, AreWhole}
+use Rattle.mt_replay.specs.Passes.{change_of, changes_in, changes_at, AllFit, Fits, IsShown, IsWhole, Notes, PutsBack, Repeats, Takes}
 use Rattle.mt_replay.specs.declared.repeating.Repeating.{Repeating}
 use Rattle.mt_replay.specs.declared.repeating.Unfinished.{Unfinished}
+use Rattle.mt_replay.proofs.Walking.{filter_alike, filter_both, filter_none}
 
 -- ---- one page
 
@@ -27,77 +31,154 @@ first_placed items page start bytes f inside first q lt = elim (cases_eq q page)
       ∙ sym (ap (λ (b : Bool). cond b (splice start bytes (f q)) (f q)) (ne_eqb page q (λ is. other (sym is))))
 ]
 
--- ---- the changes in memory
+-- ---- changes put back
 
-pub fits_push : (n : ℕ) (us : List Unfinished) (u : Unfinished) → AllByRecursion (Fits n) us → Fits n u → AllByRecursion (Fits n) (us ++ u ∷ [])
-fits_push n [] u all one = (one, tt)
-fits_push n (v ∷ vs) u all one = (all.0, fits_push n vs u all.1 one)
-
-pub fits_filter : (n : ℕ) (p : Unfinished → Bool) (us : List Unfinished) → AllByRecursion (Fits n) us → AllByRecursion (Fits n) (filter p us)
-fits_filter n p [] all = tt
-fits_filter n p (u ∷ us) all = go (p u) (fits_filter n p us all.1)
-  where
-    go : (b : Bool) → AllByRecursion (Fits n) (filter p us) → AllByRecursion (Fits n) (cond b (u ∷ filter p us) (filter p us))
-    go true rest = (all.0, rest)
-    go false rest = rest
-
-pub fits_at : (n : ℕ) (us : List Unfinished) (i : ℕ) (u : Unfinished) → i < length us → u ≡ get_or us i u → AllByRecursion (Fits n) us → Fits n u
+fits_at : (n : ℕ) (us : List Unfinished) (i : ℕ) (u : Unfinished) → i < length us → u ≡ get_or us i u → AllByRecursion (Fits n) us → Fits n u
 fits_at n [] i u lt is all = absurd (omega arith)
 fits_at n (v ∷ vs) zero u lt is all = subst (Fits n) (sym is) all.0
 fits_at n (v ∷ vs) (suc i) u lt is all = fits_at n vs i u (omega arith) is all.1
 
-pub fits_front : (n : ℕ) (us vs : List Unfinished) → AllByRecursion (Fits n) (us ++ vs) → AllByRecursion (Fits n) us
-fits_front n [] vs all = tt
-fits_front n (u ∷ us) vs all = (all.0, fits_front n us vs all.1)
+pub fits_in : (n m : ℕ) (us : List Unfinished) (i : ℕ) (u : Unfinished) → i < length us → u ≡ get_or us i u → n ≡ m → AllByRecursion (Fits n) us → Fits m u
+fits_in n m us i u lt is same all = subst (λ (k : ℕ). Fits k u) same (fits_at n us i u lt is all)
 
-pub fits_last : (n : ℕ) (us : List Unfinished) (u : Unfinished) → AllByRecursion (Fits n) (us ++ u ∷ []) → Fits n u
-fits_last n [] u all = all.0
-fits_last n (v ∷ vs) u all = fits_last n vs u all.1
+fits_push : (n : ℕ) (us : List Unfinished) (u : Unfinished) → AllByRecursion (Fits n) us → Fits n u → AllByRecursion (Fits n) (us ++ u ∷ [])
+fits_push n [] u all one = (one, tt)
+fits_push n (v ∷ vs) u all one = (all.0, fits_push n vs u all.1 one)
 
-pub fits_same : (n m : ℕ) (us : List Unfinished) → n ≡ m → AllByRecursion (Fits n) us → AllByRecursion (Fits m) us
-fits_same n m us is all = subst (λ (k : ℕ). AllByRecursion (Fits k) us) is all
+pub back_more : (us : List Unfinished) (i : ℕ) (u : Unfinished) (f : PageBytes) → i < length us → u ≡ get_or us i u → put_back (map change_of (drop i us)) f ≡ placed u.page u.start u.old (put_back (map change_of (drop (i + 1) us)) f)
+back_more us i u f lt is = ap (λ (vs : List Unfinished). put_back (map change_of vs) f) (drop_more us i u lt ∙ ap (λ (v : Unfinished). v ∷ drop (i + 1) us) (sym is))
 
--- those of an operation, as changes
-pub but_mapped : (o : ℕ) (us : List Unfinished) → map change_of (filter (λ (u : Unfinished). not (u.op == o)) us) ≡ but o (map change_of us)
-but_mapped o [] = refl
-but_mapped o (u ∷ us) = go (u.op == o) (but_mapped o us)
+-- ---- the changes of an operation
+
+abbrev Lists : Type 0
+Lists = BTreeMap ℕ (Vec Unfinished Global)
+
+pub taken_left : (m n : Lists) (k : ℕ) → UpdatesBy nat_cmp (nat_cmp k) m n None → (o : ℕ) → changes_in (get nat_cmp n o) ≡ cond (k == o) [] (changes_in (get nat_cmp m o))
+taken_left m n k u o = ap changes_in (u.0 o ∙ ap (λ (b : Bool). cond b None (get nat_cmp m o)) (is_at_number k o)) ∙ go (k == o) (get nat_cmp m o)
   where
-    go : (b : Bool) → map change_of (filter (λ (v : Unfinished). not (v.op == o)) us) ≡ but o (map change_of us) → map change_of (cond (not b) (u ∷ filter (λ (v : Unfinished). not (v.op == o)) us) (filter (λ (v : Unfinished). not (v.op == o)) us)) ≡ cond (not b) (change_of u ∷ but o (map change_of us)) (but o (map change_of us))
-    go true rest = rest
-    go false rest = ap (λ (cs : List Change). change_of u ∷ cs) rest
+    go : (b : Bool) (v : Option (Vec Unfinished Global)) → changes_in (cond b None v) ≡ cond b [] (changes_in v)
+    go true v = refl
+    go false v = refl
 
--- ---- an operation's changes are put back, the last one first
+pub taken_fits : (total : ℕ) (m n : Lists) (k : ℕ) → UpdatesBy nat_cmp (nat_cmp k) m n None → ((o : ℕ) → AllFit total (get nat_cmp m o)) → (o : ℕ) → AllFit total (get nat_cmp n o)
+taken_fits total m n k u all o = subst (AllFit total) (sym (u.0 o)) (go (is_at (nat_cmp k) o) (get nat_cmp m o) (all o))
+  where
+    go : (b : Bool) (v : Option (Vec Unfinished Global)) → AllFit total v → AllFit total (cond b None v)
+    go true v fits = tt
+    go false v fits = fits
 
--- the pages with those from a number on put back
-abbrev pub back_from : ℕ → List Unfinished → ℕ → PageBytes → PageBytes
-back_from o us i f = put_back (by o (map change_of (drop i us))) f
+pub put_fits : (total : ℕ) (m n : Lists) (k : ℕ) (list : Vec Unfinished Global) → Updates nat_cmp m n k (Some list) → AllByRecursion (Fits total) list.items → ((o : ℕ) → AllFit total (get nat_cmp m o)) → (o : ℕ) → AllFit total (get nat_cmp n o)
+put_fits total m n k list u one all o = subst (AllFit total) (sym (u.0 o)) (go (is_at (nat_cmp k) o) (get nat_cmp m o) (all o))
+  where
+    go : (b : Bool) (v : Option (Vec Unfinished Global)) → AllFit total v → AllFit total (cond b (Some list) v)
+    go true v fits = one
+    go false v fits = fits
 
-back_step : (o : ℕ) (us : List Unfinished) (i : ℕ) (u : Unfinished) (f : PageBytes) → i < length us → u ≡ get_or us i u → back_from o us i f ≡ put_back (cond (u.op == o) (change_of u ∷ by o (map change_of (drop (i + 1) us))) (by o (map change_of (drop (i + 1) us)))) f
-back_step o us i u f lt is = ap (λ (vs : List Unfinished). put_back (by o (map change_of vs)) f) (drop_more us i u lt ∙ ap (λ (v : Unfinished). v ∷ drop (i + 1) us) (sym is))
+pub put_list : (m n : Lists) (k : ℕ) (list : Vec Unfinished Global) → Updates nat_cmp m n k (Some list) → (o : ℕ) → changes_in (get nat_cmp n o) ≡ cond (k == o) (map change_of list.items) (changes_in (get nat_cmp m o))
+put_list m n k list u o = ap changes_in (u.0 o ∙ ap (λ (b : Bool). cond b (Some list) (get nat_cmp m o)) (is_at_number k o)) ∙ go (k == o) (get nat_cmp m o)
+  where
+    go : (b : Bool) (v : Option (Vec Unfinished Global)) → changes_in (cond b (Some list) v) ≡ cond b (map change_of list.items) (changes_in v)
+    go true v = refl
+    go false v = refl
 
-pub back_own : (o : ℕ) (us : List Unfinished) (i : ℕ) (u : Unfinished) (f : PageBytes) → i < length us → u ≡ get_or us i u → u.op ≡ o → back_from o us i f ≡ placed u.page u.start u.old (back_from o us (i + 1) f)
-back_own o us i u f lt is own = back_step o us i u f lt is ∙ ap (λ (b : Bool). put_back (cond b (change_of u ∷ by o (map change_of (drop (i + 1) us))) (by o (map change_of (drop (i + 1) us)))) f) (eq-eqb u.op o own)
+-- the changes of an operation were taken, one was put behind them, and all were put in again
+pub notes_one : (old mid new : Repeating) (u : Unfinished) (front : List Unfinished) (list : Vec Unfinished Global)
+    → Takes u.op front old mid → Fits (length old.pages.items) u → list.items ≡ front ++ u ∷ [] → new.pages ≡ mid.pages
+    → Updates nat_cmp mid.unfinished new.unfinished u.op (Some list) → Notes u old new
+notes_one old mid new u front list t fits is same put =
+    let total : length mid.pages.items ≡ length old.pages.items = λ i. length (t.pages i).items in
+    let total_new : length mid.pages.items ≡ length new.pages.items = λ i. length (sym same i).items in
+    let own : AllByRecursion (Fits (length mid.pages.items)) list.items =
+    subst (λ (vs : List Unfinished). AllByRecursion (Fits (length mid.pages.items)) vs) (sym is)
+    (fits_push (length mid.pages.items) front u (subst (λ (n : ℕ). AllByRecursion (Fits n) front) (sym total) t.fits) (subst (λ (n : ℕ). Fits n u) (sym total) fits)) in
+    record {
+      whole = record {
+        each = subst (λ (pages : _). AreWhole pages.items) (sym same) t.whole.each;
+        fits = λ o. subst (λ (n : ℕ). AllFit n (get nat_cmp new.unfinished o)) total_new (put_fits (length mid.pages.items) mid.unfinished new.unfinished u.op list put own t.whole.fits o);
+      };
+      pages = same ∙ t.pages;
+      noted = λ o.
+          put_list mid.unfinished new.unfinished u.op list put o
+          ∙ ap (λ (cs : List Change). cond (u.op == o) (map change_of list.items) cs) (t.left o)
+          ∙ elim (cases_eq u.op o) [
+            | inl own_op ↦
+                ap (λ (b : Bool). cond b (map change_of list.items) (cond b [] (changes_at old o))) (eq-eqb u.op o own_op)
+                ∙ ap (map change_of) is ∙ map-append change_of front (u ∷ [])
+                ∙ ap (λ (cs : List Change). cs ++ change_of u ∷ []) (t.own ∙ ap (changes_at old) own_op)
+                ∙ sym (ap (λ (b : Bool). changes_at old o ++ cond b (change_of u ∷ []) []) (eq-eqb u.op o own_op))
+            | inr other ↦
+                ap (λ (b : Bool). cond b (map change_of list.items) (cond b [] (changes_at old o))) (ne_eqb u.op o other)
+                ∙ sym (append-nil (changes_at old o))
+                ∙ sym (ap (λ (b : Bool). changes_at old o ++ cond b (change_of u ∷ []) []) (ne_eqb u.op o other))
+          ];
+    }
 
-pub back_other : (o : ℕ) (us : List Unfinished) (i : ℕ) (u : Unfinished) (f : PageBytes) → i < length us → u ≡ get_or us i u → u.op ≢ o → back_from o us i f ≡ back_from o us (i + 1) f
-back_other o us i u f lt is other = back_step o us i u f lt is ∙ ap (λ (b : Bool). put_back (cond b (change_of u ∷ by o (map change_of (drop (i + 1) us))) (by o (map change_of (drop (i + 1) us)))) f) (ne_eqb u.op o other)
+not_and : (b : Bool) → (not b && b) ≡ false
+not_and true = refl
+not_and false = refl
 
--- ---- all that is unfinished is put back
+by_but : (o op : ℕ) (cs : List Change) → by o (but op cs) ≡ cond (op == o) [] (by o cs)
+by_but o op cs = filter_both (λ (c : Change). c.op == o) (λ (c : Change). not (c.op == op)) cs ∙ elim (cases_eq op o) [
+  | inl same ↦
+      filter_none (λ (c : Change). not (c.op == op) && (c.op == o)) (λ c. ap (λ (n : ℕ). not (c.op == n) && (c.op == o)) same ∙ not_and (c.op == o)) cs
+      ∙ sym (ap (λ (b : Bool). cond b [] (by o cs)) (eq-eqb op o same))
+  | inr other ↦
+      filter_alike (λ (c : Change). not (c.op == op) && (c.op == o)) (λ (c : Change). c.op == o) (λ c. elim (cases_eq c.op o) [
+        | inl own ↦ ap (λ (b : Bool). not b && (c.op == o)) (ne_eqb c.op op (λ is. other (sym is ∙ own)))
+        | inr not_own ↦ ap (λ (b : Bool). not (c.op == op) && b) (ne_eqb c.op o not_own) ∙ and_no (not (c.op == op)) ∙ sym (ne_eqb c.op o not_own)
+      ]) cs
+      ∙ sym (ap (λ (b : Bool). cond b [] (by o cs)) (ne_eqb op o other))
+]
+  where
+    and_no : (a : Bool) → (a && false) ≡ false
+    and_no true = refl
+    and_no false = refl
 
--- these pages, with these changes put back, are the pages held
-pub record IsOnTheWay (items : List (List ℕ)) (us : List Unfinished) (goal : PageBytes) : Type 0 where
-  pub now : PageBytes
-  pub first : AreFirst items now
-  pub rest : put_back (map change_of us) now ≡ goal
-
-pub on_less : (items : List (List ℕ)) (us : List Unfinished) (u : Unfinished) (goal : PageBytes) → u.page < length items → IsOnTheWay items (us ++ u ∷ []) goal → IsOnTheWay (set items u.page (splice u.start u.old (get_or items u.page []))) us goal
-on_less items us u goal inside k = record {
-  now = placed u.page u.start u.old k.now;
-  first = first_placed items u.page u.start u.old k.now inside k.first;
-  rest = sym (put_back_append (map change_of us) (change_of u ∷ []) k.now) ∙ sym (ap (λ (cs : List Change). put_back cs k.now) (map-append change_of us (u ∷ []))) ∙ k.rest;
+pub ends : (op : ℕ) (list : List Unfinished) (old new : Repeating) → Takes op list old new → Repeats (λ x. finished x op) old new
+ends op list old new t = record {
+  whole = t.whole;
+  count = λ i. length (t.pages i).items;
+  shown = λ x shown. record {
+    pages = subst (λ (pages : _). AreFirst pages.items x.pages) (sym t.pages) shown.pages;
+    unfinished = λ o. t.left o ∙ ap (λ (cs : List Change). cond (op == o) [] cs) (shown.unfinished o) ∙ sym (by_but o op x.unfinished);
+  };
 }
 
-pub on_end : (items : List (List ℕ)) (goal : PageBytes) → IsOnTheWay items [] goal → AreFirst items goal
-on_end items goal k = subst (AreFirst items) k.rest k.first
+pub drops : (op : ℕ) (list : List Unfinished) (old mid new : Repeating) → Takes op list old mid → PutsBack (map change_of list) mid.pages.items new.pages.items → new.unfinished ≡ mid.unfinished → Repeats (λ x. dropped x op) old new
+drops op list old mid new t back same =
+    record {
+      whole = record {
+        each = back.whole;
+        fits = λ o. subst (λ (n : ℕ). AllFit n (get nat_cmp new.unfinished o)) (sym back.count) (subst (λ (m : Lists). AllFit (length mid.pages.items) (get nat_cmp m o)) (sym same) (t.whole.fits o));
+      };
+      count = back.count ∙ (λ i. length (t.pages i).items);
+      shown = λ x shown. record {
+        pages = subst (λ (cs : List Change). AreFirst new.pages.items (put_back cs x.pages)) (t.own ∙ shown.unfinished op)
+            (back.back x.pages (subst (λ (pages : _). AreFirst pages.items x.pages) (sym t.pages) shown.pages));
+        unfinished = λ o. (λ i. changes_in (get nat_cmp (same i) o)) ∙ ((ends op list old mid t).shown x shown).unfinished o;
+      };
+    }
+
+pub changes_one : (old mid new : Repeating) (u : Unfinished) → u.page < length old.pages.items
+    → mid.pages.items ≡ set old.pages.items u.page (splice u.start u.new (get_or old.pages.items u.page [])) → length mid.pages.items ≡ length old.pages.items → mid.unfinished ≡ old.unfinished
+    → Notes u mid new → Repeats (λ x. changed x (change_of u ∷ [])) old new
+changes_one old mid new u inside is count same n = record {
+  whole = n.whole;
+  count = (λ i. length (n.pages i).items) ∙ count;
+  shown = λ x shown. record {
+    pages = subst (λ (pages : _). AreFirst pages.items (made (change_of u) x.pages)) (sym n.pages)
+        (subst (λ (items : List (List ℕ)). AreFirst items (made (change_of u) x.pages)) (sym is) (first_placed old.pages.items u.page u.start u.new x.pages inside shown.pages));
+    unfinished = λ o.
+        n.noted o ∙ ap (λ (cs : List Change). cs ++ by o (change_of u ∷ [])) ((λ i. changes_in (get nat_cmp (same i) o)) ∙ shown.unfinished o)
+        ∙ sym (filter-append (λ (c : Change). c.op == o) x.unfinished (change_of u ∷ []));
+  };
+}
+
+pub whole_put : (old mid : Repeating) → IsWhole old → AreWhole mid.pages.items → length mid.pages.items ≡ length old.pages.items → mid.unfinished ≡ old.unfinished → IsWhole mid
+whole_put old mid whole each count same = record {
+  each = each;
+  fits = λ o. subst (λ (n : ℕ). AllFit n (get nat_cmp mid.unfinished o)) (sym count) (subst (λ (m : Lists). AllFit (length old.pages.items) (get nat_cmp m o)) (sym same) (whole.fits o));
+}
 
 -- ---- one step behind another
 

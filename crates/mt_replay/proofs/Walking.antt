@@ -1,5 +1,6 @@
 -- Loops over the records of batches, and filters under a view.
-use Rattle.std.proofs.Common.{◌≡◌, ℕ, zero, suc, ◌+◌, ◌<◌, Bool, true, false, cond, List, [], ◌∷◌, ◌++◌, length, take, drop, get_or, map, filter, refl, sym, ap, ◌∙◌, subst, append_assoc, arith}
+use Rattle.std.proofs.Common.{◌≡◌, inl, inr, ◌==◌, ◌&&◌, ℕ, zero, suc, ◌+◌, ◌<◌, Bool, true, false, cond, List, [], ◌∷◌, ◌++◌, length, take, drop, get_or, map, filter, refl, sym, ap, ◌∙◌, subst, append_assoc, arith}
+use Rattle.std.proofs.lemmas.Bool.{cases_eq, eq-eqb, ne_eqb}
 use Rattle.std.proofs.lemmas.List.{drop_more, take_more, map-append}
 use Rattle.mt_frame.specs.declared.records.Record.{Record}
 use Rattle.mt_log.specs.Batch.{joined}
@@ -17,6 +18,32 @@ map_filter {A} {B} f p q same (x ∷ xs) = ap (λ (b : Bool). map f (cond b (x �
     go : (b : Bool) → map f (filter p xs) ≡ filter q (map f xs) → map f (cond b (x ∷ filter p xs) (filter p xs)) ≡ cond b (f x ∷ filter q (map f xs)) (filter q (map f xs))
     go true rest = ap (λ (ys : List B). f x ∷ ys) rest
     go false rest = rest
+
+pub filter_all : {A : Type 0} (xs : List A) → filter (λ (x : A). true) xs ≡ xs
+filter_all [] = refl
+filter_all {A} (x ∷ xs) = ap (λ (ys : List A). x ∷ ys) (filter_all xs)
+
+pub filter_none : {A : Type 0} (p : A → Bool) → ((x : A) → p x ≡ false) → (xs : List A) → filter p xs ≡ []
+filter_none p never [] = refl
+filter_none {A} p never (x ∷ xs) = ap (λ (b : Bool). cond b (x ∷ filter p xs) (filter p xs)) (never x) ∙ filter_none p never xs
+
+pub filter_alike : {A : Type 0} (p q : A → Bool) → ((x : A) → p x ≡ q x) → (xs : List A) → filter p xs ≡ filter q xs
+filter_alike p q same [] = refl
+filter_alike {A} p q same (x ∷ xs) = ap (λ (b : Bool). cond b (x ∷ filter p xs) (filter p xs)) (same x) ∙ ap (λ (ys : List A). cond (q x) (x ∷ ys) ys) (filter_alike p q same xs)
+
+pub filter_both : {A : Type 0} (p q : A → Bool) (xs : List A) → filter p (filter q xs) ≡ filter (λ (x : A). q x && p x) xs
+filter_both p q [] = refl
+filter_both {A} p q (x ∷ xs) = go (q x) (filter_both p q xs)
+  where
+    go : (a : Bool) → filter p (filter q xs) ≡ filter (λ (y : A). q y && p y) xs → filter p (cond a (x ∷ filter q xs) (filter q xs)) ≡ cond (a && p x) (x ∷ filter (λ (y : A). q y && p y) xs) (filter (λ (y : A). q y && p y) xs)
+    go true rest = ap (λ (ys : List A). cond (p x) (x ∷ ys) ys) rest
+    go false rest = rest
+
+pub same_sides : (a b : ℕ) → (a == b) ≡ (b == a)
+same_sides a b = elim (cases_eq a b) [
+  | inl same ↦ eq-eqb a b same ∙ sym (eq-eqb b a (sym same))
+  | inr other ↦ ne_eqb a b other ∙ sym (ne_eqb b a (λ is. other (sym is)))
+]
 
 pub repeat_at : (x : Repeated) (rs : List Record) (i : ℕ) (r : Record) → i < length rs → r ≡ get_or rs i r → repeat x (take (i + 1) rs) ≡ repeated (repeat x (take i rs)) r
 repeat_at x rs i r lt is = ap (repeat x) (take_more rs i r lt) ∙ repeat_more x (take i rs) (get_or rs i r ∷ []) ∙ ap (repeated (repeat x (take i rs))) (sym is)

@@ -1,12 +1,20 @@
 -- What the passes over records make of pages in memory.
-use Rattle.std.specs.Prelude.{◌≡◌, ℕ, ◌+◌, ◌<◌, ◌≤◌, List, [], length, map, get_or}
+use Rattle.std.specs.Prelude.{◌≡◌, ◌==◌, if◌then◌else◌, ℕ, ◌+◌, ◌<◌, ◌≤◌, Bool, false, not, Option, None, Some, List, [], ◌∷◌, ◌++◌, length, map, filter, get_or, Vec}
+use Rattle.std.specs.BTreeMap.{get}
+use Rattle.std.specs.BTreeSet.{contains}
+use Rattle.std.specs.Global.{Global}
 use Rattle.std.specs.List.{AllByRecursion}
+use Rattle.std.specs.Ordering.{nat_cmp}
+use Rattle.mt_frame.specs.History.{some_record}
 use Rattle.mt_frame.specs.declared.records.Record.{Record}
+use Rattle.mt_frame.specs.declared.records.Record.TheVariants.{Page, OpEnd, OpDropped, Commit, AbortEnd}
 use Rattle.mt_pool.specs.Images.{page_in}
 use Rattle.mt_pool.specs.Kept.{carried}
-use Rattle.mt_steps.specs.Repeated.{Change, Repeated}
+use Rattle.mt_space.specs.Changes.{PageBytes}
+use Rattle.mt_steps.specs.Repeated.{Change, Repeated, by, put_back}
 use Rattle.mt_replay.specs.declared.repeating.Unfinished.{Unfinished}
 use Rattle.mt_replay.specs.declared.repeating.Repeating.{Repeating}
+use Rattle.mt_replay.specs.declared.repeating.TakingBack.{TakingBack}
 use Rattle.mt_replay.specs.Memory.{AreWhole, AreFirst}
 
 -- ---- images
@@ -22,23 +30,93 @@ pub record Lays (records : List Record) (old new : List (List ℕ)) : Type 0 whe
 abbrev pub change_of : Unfinished → Change
 change_of u = record { op = u.op; page = u.page; start = u.start; old = u.old; new = u.new }
 
+-- the changes in memory of an operation
+abbrev pub changes_in : Option (Vec Unfinished Global) → List Change
+changes_in None = []
+changes_in (Some list) = map change_of list.items
+
+abbrev pub changes_at : Repeating → ℕ → List Change
+changes_at r o = changes_in (get nat_cmp r.unfinished o)
+
 -- what is in memory is this, as far as there are pages
 pub record IsShown (r : Repeating) (x : Repeated) : Type 0 where
   pub pages : AreFirst r.pages.items x.pages
-  pub unfinished : map change_of r.unfinished.items ≡ x.unfinished
+  pub unfinished : (o : ℕ) → changes_at r o ≡ by o x.unfinished
 
 -- a change lies within a page that is there
 pub record Fits (total : ℕ) (u : Unfinished) : Type 0 where
   pub inside : u.page < total
   pub range : u.start + length u.old ≤ 4096
 
+abbrev pub AllFit : ℕ → Option (Vec Unfinished Global) → Type 0
+AllFit total None = Unit {0}
+AllFit total (Some list) = AllByRecursion (Fits total) list.items
+
 -- whole pages, and changes that lie within them
 pub record IsWhole (r : Repeating) : Type 0 where
   pub each : AreWhole r.pages.items
-  pub fits : AllByRecursion (Fits (length r.pages.items)) r.unfinished.items
+  pub fits : (o : ℕ) → AllFit (length r.pages.items) (get nat_cmp r.unfinished o)
+
+-- the changes of an operation are these, and no longer in memory
+pub record Takes (op : ℕ) (list : List Unfinished) (old new : Repeating) : Type 0 where
+  pub whole : IsWhole new
+  pub pages : new.pages ≡ old.pages
+  pub own : map change_of list ≡ changes_at old op
+  pub fits : AllByRecursion (Fits (length old.pages.items)) list
+  pub left : (o : ℕ) → changes_at new o ≡ (if op == o then [] else changes_at old o)
+
+-- a change is in memory too, behind those of its operation
+pub record Notes (change : Unfinished) (old new : Repeating) : Type 0 where
+  pub whole : IsWhole new
+  pub pages : new.pages ≡ old.pages
+  pub noted : (o : ℕ) → changes_at new o ≡ changes_at old o ++ by o (change_of change ∷ [])
+
+-- changes are put back, the last one first
+pub record PutsBack (changes : List Change) (old new : List (List ℕ)) : Type 0 where
+  pub whole : AreWhole new
+  pub count : length new ≡ length old
+  pub back : (f : PageBytes) → AreFirst old f → AreFirst new (put_back changes f)
 
 -- whatever was in memory, it is in memory as this step leaves it
 pub record Repeats (step : Repeated → Repeated) (old new : Repeating) : Type 0 where
   pub whole : IsWhole new
   pub count : length new.pages.items ≡ length old.pages.items
   pub shown : (x : Repeated) → IsShown old x → IsShown new (step x)
+
+-- ---- what is unfinished, found from the last record on
+
+-- the operation has ended or was taken back
+abbrev pub ends_it : ℕ → Record → Bool
+ends_it o (Page txn op page image start old new) = false
+ends_it o (OpEnd txn op undoes done) = op == o
+ends_it o (OpDropped txn op) = op == o
+ends_it o (Commit txn) = false
+ends_it o (AbortEnd txn) = false
+
+-- the change that a record is
+abbrev pub change_by : Record → List Change
+change_by (Page txn op page image start old new) = if txn == 0 then [] else record { op = op; page = page; start = start; old = old; new = new } ∷ []
+change_by (OpEnd txn op undoes done) = []
+change_by (OpDropped txn op) = []
+change_by (Commit txn) = []
+change_by (AbortEnd txn) = []
+
+-- no record ends its operation
+abbrev pub stays : List Record → Change → Bool
+stays rs c = not (some_record (ends_it c.op) rs)
+
+-- the changes whose operations do not end behind them
+abbrev pub left : List Record → List Change
+left [] = []
+left (r ∷ rs) = filter (stays rs) (change_by r) ++ left rs
+
+-- these pages, with what the records leave unfinished put back, are in memory, and the operations that end there
+pub record IsBackTo (t : TakingBack) (records : List Record) (f : PageBytes) : Type 0 where
+  pub pages : AreFirst t.pages.items (put_back (left records) f)
+  pub over : (o : ℕ) → contains nat_cmp t.over o ≡ some_record (ends_it o) records
+
+-- so with these records before the others
+pub record Backs (records : List Record) (old new : TakingBack) : Type 0 where
+  pub whole : AreWhole new.pages.items
+  pub count : length new.pages.items ≡ length old.pages.items
+  pub back : (behind : List Record) (f : PageBytes) → IsBackTo old behind f → IsBackTo new (records ++ behind) f

@@ -1,5 +1,8 @@
 // History repeated in memory: the records of a log's area over the pages that the area found.
-ghost use Rattle.std.specs.Prelude.{◌≡◌, ◌+◌, ◌<◌, ◌≤◌, ◌∷◌, [], length, get_or, OnOk, IfErr};
+ghost use Rattle.std.specs.Prelude.{◌≡◌, ◌==◌, ◌||◌, ◌+◌, ◌<◌, ◌≤◌, ◌∷◌, [], ℕ, length, get_or, map, IfOk, OnOk, IfErr};
+ghost use Rattle.std.specs.BTreeSet.{contains};
+ghost use Rattle.std.specs.List.{AllByRecursion};
+ghost use Rattle.std.specs.Ordering.{nat_cmp};
 ghost use Rattle.mt_base.specs.Edits.{splice};
 ghost use Rattle.mt_base.specs.declared.refusal.Refusal.{Refusal};
 ghost use Rattle.mt_frame.specs.Grammar.{IsRecord};
@@ -7,14 +10,15 @@ ghost use Rattle.mt_log.specs.Batch.{joined};
 ghost use Rattle.mt_log.specs.Found.{records_of};
 ghost use Rattle.mt_log.specs.Holds.{HasItsPage, AreRecords, AreBatches};
 ghost use Rattle.mt_space.specs.Changes.{PageBytes};
-ghost use Rattle.mt_steps.specs.Repeated.{Repeated, changed, dropped, finished, held, repeat, repeated};
+ghost use Rattle.mt_steps.specs.Repeated.{changed, dropped, finished, held, logged, repeat, repeated};
 ghost use Rattle.mt_replay.specs.Memory.{AreWhole, AreFirst, Sets};
-ghost use Rattle.mt_replay.specs.Passes.{Fits, IsShown, IsWhole, Repeats, change_of};
+ghost use Rattle.mt_replay.specs.Passes.{Backs, Fits, IsBackTo, IsShown, IsWhole, Notes, PutsBack, Repeats, Takes, change_of};
 
 use mt_base::{Bytes, OpNo, PageNo, Refusal};
 use mt_frame::Record;
 use mt_log::Batch;
-use std::alloc::Global;
+use std::alloc::{AllocError, Global};
+use std::collections::{BTreeMap, BTreeSet};
 
 /// A change that an operation has made and not ended.
 #[derive(Drop)]
@@ -26,11 +30,20 @@ pub(crate) struct Unfinished {
     pub(crate) new: Bytes,
 }
 
-/// All pages, as the records so far make them, and the changes of operations that have not ended.
+/// All pages, as the records so far make them, and by its number the changes of each operation that has not ended, in
+/// their order.
 #[derive(Drop)]
 pub(crate) struct Repeating {
+    pub(crate) alloc: Global,
     pub(crate) pages: Vec<[u8; 4096]>,
-    pub(crate) unfinished: Vec<Unfinished>,
+    pub(crate) unfinished: BTreeMap<u64, Vec<Unfinished>>,
+}
+
+/// All pages with what records from a place on leave unfinished put back, and the operations that end there.
+#[derive(Drop)]
+pub(crate) struct TakingBack {
+    pub(crate) pages: Vec<[u8; 4096]>,
+    pub(crate) over: BTreeSet<u64>,
 }
 
 // Puts bytes into a page at a place.
@@ -44,6 +57,30 @@ fn put(pages: &mut Vec<[u8; 4096]>, page: PageNo, start: u16, bytes: &[u8])
     pages[usize::from(page.get())][from..from + bytes.len()].copy_from_slice(bytes);
 }
 
+// Puts the old bytes of changes back, those of the last one first.
+fn put_all_back(pages: &mut Vec<[u8; 4096]>, list: &[Unfinished])
+    requires whole { AreWhole pages.old.items }
+    requires fits { AllByRecursion (Fits (length pages.old.items)) list.now }
+    ensures { PutsBack (map change_of list.now) pages.old.items pages.new.items }
+{
+    let mut i = list.len();
+    while i > 0 {
+        i -= 1;
+        let change = &list[i];
+        put(pages, change.page, change.start, change.old.as_slice());
+    }
+}
+
+// Takes an operation to those that end.
+fn note_over(set: &mut BTreeSet<u64>, op: OpNo) -> Result<(), AllocError>
+    ensures { OnOk result ((o : ℕ) → contains nat_cmp set.new o ≡ (contains nat_cmp set.old o || (op == o))) }
+{
+    match set.insert(op.get()) {
+        Ok(_) => Ok(()),
+        Err(_) => Err(AllocError),
+    }
+}
+
 impl Repeating {
     // The pages that an area found, with nothing unfinished.
     pub(crate) fn over(alloc: Global, pages: Vec<[u8; 4096]>) -> Repeating
@@ -54,8 +91,36 @@ impl Repeating {
             → IsShown result (record { pages = f; unfinished = [] }) }
     {
         Repeating {
+            alloc,
             pages,
-            unfinished: Vec::new(alloc),
+            unfinished: BTreeMap::new(alloc),
+        }
+    }
+
+    // The changes of an operation, which are no longer among those that are unfinished.
+    fn taken(&mut self, op: OpNo) -> Vec<Unfinished>
+        requires { IsWhole self.old }
+        ensures { Takes op result.items self.old self.new }
+    {
+        match self.unfinished.remove(&op.get()) {
+            Some(list) => list,
+            None => Vec::new(self.alloc),
+        }
+    }
+
+    // A change of an operation is among those that are unfinished.
+    fn note(&mut self, change: Unfinished) -> Result<(), Refusal>
+        requires whole { IsWhole self.old }
+        requires fits { Fits (length self.old.pages.items) change }
+        ensures noted { OnOk result (Notes change self.old self.new) }
+        ensures only_memory { IfErr result (λ why. why ≡ Refusal.NoMemory) }
+    {
+        let op = change.op;
+        let mut list = self.taken(op);
+        list.push(change)?;
+        match self.unfinished.insert(op.get(), list) {
+            Ok(_) => Ok(()),
+            Err(_) => Err(Refusal::NoMemory),
         }
     }
 
@@ -73,17 +138,15 @@ impl Repeating {
             change.start,
             change.new.as_slice(),
         );
-        self.unfinished.push(change)?;
-        Ok(())
+        self.note(change)
     }
 
     // An operation has ended.
     fn finish(&mut self, op: OpNo)
         requires { IsWhole self.old }
-        ensures pages { self.new.pages ≡ self.old.pages }
-        ensures finished { Repeats (λ x. finished x op) self.old self.new }
+        ensures { Repeats (λ x. finished x op) self.old self.new }
     {
-        self.unfinished.retain(|change| change.op != op);
+        drop(self.taken(op));
     }
 
     // An operation was taken back: its old bytes are put back, those of its last change first.
@@ -91,20 +154,8 @@ impl Repeating {
         requires { IsWhole self.old }
         ensures { Repeats (λ x. dropped x op) self.old self.new }
     {
-        let mut i = self.unfinished.len();
-        while i > 0 {
-            i -= 1;
-            let change = &self.unfinished[i];
-            if change.op == op {
-                put(
-                    &mut self.pages,
-                    change.page,
-                    change.start,
-                    change.old.as_slice(),
-                );
-            }
-        }
-        self.finish(op);
+        let list = self.taken(op);
+        put_all_back(&mut self.pages, &list);
     }
 
     // The next record.
@@ -169,20 +220,83 @@ impl Repeating {
         Ok(())
     }
 
-    // The pages held: the changes that are unfinished are put back, the last one first.
-    pub(crate) fn take_back(self) -> Vec<[u8; 4096]>
-        requires whole { IsWhole self }
-        ensures whole { AreWhole result.items }
-        ensures count { length result.items ≡ length self.pages.items }
-        ensures held { (x : Repeated) → IsShown self x → AreFirst result.items (held x) }
+    // The pages held, behind all records of the batches: the changes that are unfinished are put back, the last one first.
+    pub(crate) fn take_back(self, batches: &[Batch]) -> Result<Vec<[u8; 4096]>, Refusal>
+        requires whole { AreWhole self.pages.items }
+        requires each { AreBatches (length self.pages.items) (records_of batches.now) }
+        ensures whole { IfOk result (λ pages. AreWhole pages.items) }
+        ensures count { IfOk result (λ pages. length pages.items ≡ length self.pages.items) }
+        ensures held { (opening : PageBytes) → IsShown self (logged opening (joined (records_of batches.now)))
+            → IfOk result (λ pages. AreFirst pages.items (held (logged opening (joined (records_of batches.now))))) }
+        ensures only_memory { IfErr result (λ why. why ≡ Refusal.NoMemory) }
     {
         let Repeating {
-            mut pages,
-            mut unfinished,
+            alloc,
+            pages,
+            unfinished: _,
         } = self;
-        while let Some(change) = unfinished.pop() {
-            put(&mut pages, change.page, change.start, change.old.as_slice());
+        let mut back = TakingBack {
+            pages,
+            over: BTreeSet::new(alloc),
+        };
+        let mut i = batches.len();
+        while i > 0 {
+            i -= 1;
+            back.pass_records(&batches[i].records)?;
         }
-        pages
+        let TakingBack { pages, over: _ } = back;
+        Ok(pages)
+    }
+}
+
+impl TakingBack {
+    // The record before those that were passed.
+    fn pass_one(&mut self, entry: &Record) -> Result<(), Refusal>
+        requires whole { AreWhole self.old.pages.items }
+        requires grammar { IsRecord entry.now }
+        requires inside { HasItsPage (length self.old.pages.items) entry.now }
+        ensures back { OnOk result (Backs (entry.now ∷ []) self.old self.new) }
+        ensures only_memory { IfErr result (λ why. why ≡ Refusal.NoMemory) }
+    {
+        match entry {
+            Record::Page { txn, .. } if txn.get() == 0 => Ok(()),
+            Record::Page {
+                op,
+                page,
+                start,
+                old,
+                ..
+            } => {
+                if self.over.contains(&op.get()) {
+                    return Ok(());
+                }
+                put(&mut self.pages, *page, *start, old.as_slice());
+                Ok(())
+            }
+            Record::OpEnd { op, .. } => {
+                note_over(&mut self.over, *op)?;
+                Ok(())
+            }
+            Record::OpDropped { op, .. } => {
+                note_over(&mut self.over, *op)?;
+                Ok(())
+            }
+            _ => Ok(()),
+        }
+    }
+
+    // The records of a batch, from its last one on.
+    fn pass_records(&mut self, records: &[Record]) -> Result<(), Refusal>
+        requires whole { AreWhole self.old.pages.items }
+        requires each { AreRecords (length self.old.pages.items) records.now }
+        ensures back { OnOk result (Backs records.now self.old self.new) }
+        ensures only_memory { IfErr result (λ why. why ≡ Refusal.NoMemory) }
+    {
+        let mut i = records.len();
+        while i > 0 {
+            i -= 1;
+            self.pass_one(&records[i])?;
+        }
+        Ok(())
     }
 }

@@ -1,26 +1,48 @@
-use Rattle.std.proofs.Common.{◌≡◌, ◌∙◌, ◌++◌, ◌∷◌, [], ℕ, List, set, get_or, length, ap, sym, subst}
-use Rattle.std.specs.List.{AllByRecursion}
-use Rattle.mt_base.specs.Edits.{splice}
-use Rattle.mt_steps.specs.Repeated.{held}
-use Rattle.mt_replay.specs.Passes.{Fits}
-use Rattle.mt_replay.specs.declared.repeating.Unfinished.{Unfinished}
-use Rattle.mt_replay.proofs.Restoring.{fits_front, fits_last, fits_same, IsOnTheWay, on_less}
+use Rattle.std.proofs.Common.{◌≡◌, ◌∙◌, ◌++◌, ◌+◌, ◌-◌, ℕ, List, length, drop, ap, sym, subst, arith}
+use Rattle.mt_frame.specs.declared.records.Record.{Record}
+use Rattle.mt_log.specs.Batch.{joined}
+use Rattle.mt_log.specs.Found.{records_of}
+use Rattle.mt_log.specs.Holds.{AreRecords}
+use Rattle.mt_log.specs.declared.batch.Batch.{Batch}
+use Rattle.mt_space.specs.Changes.{PageBytes}
+use Rattle.mt_steps.specs.Repeated.{logged, put_back}
+use Rattle.mt_replay.specs.Memory.{AreFirst}
+use Rattle.mt_replay.specs.Passes.{IsBackTo, left}
+use Rattle.mt_replay.proofs.Leaving.{held_is}
+use Rattle.mt_replay.proofs.Walking.{joined_at, each_at}
 use Rattle.mt_replay.proofs.repeating.Repeating.take_back.Goals as goal
 
-pub loop-change-preserved : goal.loop-change-preserved
-loop-change-preserved c =
-    let items = c.loop-change.pages.items in
-    let us = c.pop.new.self.items in
-    let u = c.in-Some.change in
-    let n = length items in
-    let is : c.loop-change.unfinished.items ≡ us ++ u ∷ [] = c.in-Some.ensures.items in
-    let fits : AllByRecursion (Fits n) (us ++ u ∷ []) = subst (AllByRecursion (Fits n)) is c.loop-change.invariant.fits in
-    let now : c.put.new.pages.items ≡ set items u.page (splice u.start u.old (get_or items u.page [])) =
-    c.put.ensures.is ∙ ap (λ (bytes : List ℕ). set items u.page (splice u.start bytes (get_or items u.page []))) c.as_slice.ensures in
+pub pass_records-requires-clause-each : goal.pass_records-requires-clause-each
+pass_records-requires-clause-each c =
+    let b = c.index-batches-i.result in
+    let some = c.loop-i-test.true in let inside = c.loop-i.invariant.inside in
+    subst (λ (n : ℕ). AreRecords n c.deref.result.now) (sym c.loop-i.invariant.count)
+    (subst (AreRecords (length c.args.self.pages.items)) (sym (c.deref.ensures.value ∙ ap (λ (d : Batch). d.records.items) (sym c.index-batches-i.is)))
+    (each_at (length c.args.self.pages.items) c.args.batches.now (c.loop-i.i - 1) b (omega arith) c.index-batches-i.is c.requires.each))
+
+pub loop-i-preserved : goal.loop-i-preserved
+loop-i-preserved c =
+    let b = c.index-batches-i.result in
+    let bs = c.args.batches.now in
+    let i = c.loop-i.i - 1 in
+    let some = c.loop-i-test.true in let inside = c.loop-i.invariant.inside in
+    let next : i + 1 ≡ c.loop-i.i = omega arith in
+    let records : b.records.items ≡ c.deref.result.now = sym (c.deref.ensures.value ∙ ap (λ (d : Batch). d.records.items) (sym c.index-batches-i.is)) in
+    let backs = c.in_ok-pass_records.ensures.back in
     record {
-      whole = c.put.ensures.whole;
-      count = c.put.ensures.count ∙ c.loop-change.invariant.count;
-      fits = fits_same n (length c.put.new.pages.items) us (sym c.put.ensures.count) (fits_front n us (u ∷ []) fits);
-      way = λ x shown. subst (λ (xs : List (List ℕ)). IsOnTheWay xs us (held x)) (sym now)
-          (on_less items us u (held x) (fits_last n us u fits).inside (subst (λ (vs : List Unfinished). IsOnTheWay items vs (held x)) is (c.loop-change.invariant.way x shown)));
+      inside = omega arith;
+      whole = backs.whole;
+      count = backs.count ∙ c.loop-i.invariant.count;
+      back = λ f first. subst (λ (rs : List Record). IsBackTo c.pass_records.new.self rs f)
+          (sym (joined_at bs i b (omega arith) c.index-batches-i.is ∙ (λ j. records j ++ joined (records_of (drop (next j) bs)))))
+          (backs.back (joined (records_of (drop c.loop-i.i bs))) f (c.loop-i.invariant.back f first));
     }
+
+pub returns-clause-held : goal.returns-clause-held
+returns-clause-held c = λ opening shown.
+    let bs = c.args.batches.now in
+    let done : c.loop-i.i ≡ 0 = let le = c.loop-i-test.false in omega arith in
+    let pages = (c.loop-i.invariant.back (logged opening (joined (records_of bs))).pages shown.pages).pages in
+    let all : AreFirst c.loop-i.back.pages.items (put_back (left (joined (records_of bs))) (logged opening (joined (records_of bs))).pages) =
+    subst (λ (n : ℕ). AreFirst c.loop-i.back.pages.items (put_back (left (joined (records_of (drop n bs)))) (logged opening (joined (records_of bs))).pages)) done pages in
+    subst (λ (f : PageBytes). AreFirst c.loop-i.back.pages.items f) (sym (held_is opening (joined (records_of bs)))) all

@@ -1,18 +1,18 @@
-use Rattle.std.proofs.Common.{◌≡◌, length}
-use Rattle.std.specs.List.{AllByRecursion}
-use Rattle.mt_steps.specs.Repeated.{Repeated, held}
-use Rattle.mt_replay.specs.Memory.{AreWhole}
-use Rattle.mt_replay.specs.Passes.{IsShown, Fits}
-use Rattle.mt_replay.proofs.Restoring.{IsOnTheWay}
+use Rattle.std.proofs.Common.{◌≡◌, ◌≤◌, drop, length}
+use Rattle.mt_log.specs.Batch.{joined}
+use Rattle.mt_log.specs.Found.{records_of}
+use Rattle.mt_replay.specs.Memory.{AreFirst, AreWhole}
+use Rattle.mt_replay.specs.Passes.{IsBackTo}
+use Rattle.mt_space.specs.Changes.{PageBytes}
 use Rattle.mt_replay.proofs.repeating.Repeating.take_back.Given as goal
 
-abbrev pub invariant-loop-change : goal.invariant-loop-change
-invariant-loop-change l = record {
-  whole : AreWhole l.pages.items;
-  count : length l.pages.items ≡ length l.fn.self.pages.items;
-  fits : AllByRecursion (Fits (length l.pages.items)) l.unfinished.items;
-  way : (x : Repeated) → IsShown l.fn.self x → IsOnTheWay l.pages.items l.unfinished.items (held x);
+abbrev pub invariant-loop-i : goal.invariant-loop-i
+invariant-loop-i l = record {
+  inside : l.i ≤ length l.batches;
+  whole : AreWhole l.back.pages.items;
+  count : length l.back.pages.items ≡ length l.fn.self.pages.items;
+  back : (f : PageBytes) → AreFirst l.fn.self.pages.items f → IsBackTo l.back (joined (records_of (drop l.i l.batches))) f;
 }
 
-abbrev pub decreases-loop-change : goal.decreases-loop-change
-decreases-loop-change l = goal.left-loop-change l
+abbrev pub decreases-loop-i : goal.decreases-loop-i
+decreases-loop-i l = l.i

@@ -1,7 +1,6 @@
 -- What the passes over records make of pages in memory.
-use Rattle.std.specs.Prelude.{◌≡◌, ◌==◌, if◌then◌else◌, ℕ, ◌+◌, ◌<◌, ◌≤◌, Bool, false, not, Option, None, Some, List, [], ◌∷◌, ◌++◌, length, map, filter, get_or, Vec}
+use Rattle.std.specs.Prelude.{◌≡◌, ◌==◌, if◌then◌else◌, ℕ, ◌+◌, ◌<◌, ◌≤◌, Bool, true, false, not, ◌&&◌, is_some, Option, None, Some, List, [], ◌∷◌, ◌++◌, length, map, filter, get_or, Vec}
 use Rattle.std.specs.BTreeMap.{get}
-use Rattle.std.specs.BTreeSet.{contains}
 use Rattle.std.specs.Global.{Global}
 use Rattle.std.specs.List.{AllByRecursion}
 use Rattle.std.specs.Ordering.{nat_cmp}
@@ -110,13 +109,17 @@ abbrev pub left : List Record → List Change
 left [] = []
 left (r ∷ rs) = filter (stays rs) (change_by r) ++ left rs
 
--- these pages, with what the records leave unfinished put back, are in memory, and the operations that end there
-pub record IsBackTo (t : TakingBack) (records : List Record) (f : PageBytes) : Type 0 where
-  pub pages : AreFirst t.pages.items (put_back (left records) f)
-  pub over : (o : ℕ) → contains nat_cmp t.over o ≡ some_record (ends_it o) records
+-- all are of operations that are known to be unfinished
+abbrev pub AreKnown : (ℕ → Bool) → List Change → Type 0
+AreKnown known cs = AllByRecursion (λ (c : Change). known c.op ≡ true) cs
 
--- so with these records before the others
+-- these pages, with what the records leave unfinished put back, are in memory, and the known operations that do not end there
+pub record IsBackTo (known : ℕ → Bool) (t : TakingBack) (records : List Record) (f : PageBytes) : Type 0 where
+  pub pages : AreFirst t.pages.items (put_back (left records) f)
+  pub open_ones : (o : ℕ) → is_some (get nat_cmp t.«open» o) ≡ (known o && not (some_record (ends_it o) records))
+
+-- so with these records before the others, where the operations of what they leave unfinished are known
 pub record Backs (records : List Record) (old new : TakingBack) : Type 0 where
   pub whole : AreWhole new.pages.items
   pub count : length new.pages.items ≡ length old.pages.items
-  pub back : (behind : List Record) (f : PageBytes) → IsBackTo old behind f → IsBackTo new (records ++ behind) f
+  pub back : (known : ℕ → Bool) (behind : List Record) (f : PageBytes) → AreKnown known (left (records ++ behind)) → IsBackTo known old behind f → IsBackTo known new (records ++ behind) f

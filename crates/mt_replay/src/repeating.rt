@@ -1,8 +1,6 @@
 // History repeated in memory: the records of a log's area over the pages that the area found.
-ghost use Rattle.std.specs.Prelude.{◌≡◌, ◌==◌, ◌||◌, ◌+◌, ◌<◌, ◌≤◌, ◌∷◌, [], ℕ, length, get_or, map, IfOk, OnOk, IfErr};
-ghost use Rattle.std.specs.BTreeSet.{contains};
+ghost use Rattle.std.specs.Prelude.{◌≡◌, ◌+◌, ◌<◌, ◌≤◌, ◌∷◌, [], length, get_or, map, OnOk, IfErr};
 ghost use Rattle.std.specs.List.{AllByRecursion};
-ghost use Rattle.std.specs.Ordering.{nat_cmp};
 ghost use Rattle.mt_base.specs.Edits.{splice};
 ghost use Rattle.mt_base.specs.declared.refusal.Refusal.{Refusal};
 ghost use Rattle.mt_frame.specs.Grammar.{IsRecord};
@@ -17,8 +15,8 @@ ghost use Rattle.mt_replay.specs.Passes.{Backs, Fits, IsBackTo, IsShown, IsWhole
 use mt_base::{Bytes, OpNo, PageNo, Refusal};
 use mt_frame::Record;
 use mt_log::Batch;
-use std::alloc::{AllocError, Global};
-use std::collections::{BTreeMap, BTreeSet};
+use std::alloc::Global;
+use std::collections::BTreeMap;
 
 /// A change that an operation has made and not ended.
 #[derive(Drop)]
@@ -39,11 +37,12 @@ pub(crate) struct Repeating {
     pub(crate) unfinished: BTreeMap<u64, Vec<Unfinished>>,
 }
 
-/// All pages with what records from a place on leave unfinished put back, and the operations that end there.
+/// All pages with what records from a place on leave unfinished put back, and by its number the changes of each operation
+/// that is unfinished and does not end there.
 #[derive(Drop)]
 pub(crate) struct TakingBack {
     pub(crate) pages: Vec<[u8; 4096]>,
-    pub(crate) over: BTreeSet<u64>,
+    pub(crate) open: BTreeMap<u64, Vec<Unfinished>>,
 }
 
 // Puts bytes into a page at a place.
@@ -68,16 +67,6 @@ fn put_all_back(pages: &mut Vec<[u8; 4096]>, list: &[Unfinished])
         i -= 1;
         let change = &list[i];
         put(pages, change.page, change.start, change.old.as_slice());
-    }
-}
-
-// Takes an operation to those that end.
-fn note_over(set: &mut BTreeSet<u64>, op: OpNo) -> Result<(), AllocError>
-    ensures { OnOk result ((o : ℕ) → contains nat_cmp set.new o ≡ (contains nat_cmp set.old o || (op == o))) }
-{
-    match set.insert(op.get()) {
-        Ok(_) => Ok(()),
-        Err(_) => Err(AllocError),
     }
 }
 
@@ -221,45 +210,44 @@ impl Repeating {
     }
 
     // The pages held, behind all records of the batches: the changes that are unfinished are put back, the last one first.
-    pub(crate) fn take_back(self, batches: &[Batch]) -> Result<Vec<[u8; 4096]>, Refusal>
+    pub(crate) fn take_back(self, batches: &[Batch]) -> Vec<[u8; 4096]>
         requires whole { AreWhole self.pages.items }
         requires each { AreBatches (length self.pages.items) (records_of batches.now) }
-        ensures whole { IfOk result (λ pages. AreWhole pages.items) }
-        ensures count { IfOk result (λ pages. length pages.items ≡ length self.pages.items) }
+        ensures whole { AreWhole result.items }
+        ensures count { length result.items ≡ length self.pages.items }
         ensures held { (opening : PageBytes) → IsShown self (logged opening (joined (records_of batches.now)))
-            → IfOk result (λ pages. AreFirst pages.items (held (logged opening (joined (records_of batches.now))))) }
-        ensures only_memory { IfErr result (λ why. why ≡ Refusal.NoMemory) }
+            → AreFirst result.items (held (logged opening (joined (records_of batches.now)))) }
     {
         let Repeating {
-            alloc,
+            alloc: _,
             pages,
-            unfinished: _,
+            unfinished,
         } = self;
         let mut back = TakingBack {
             pages,
-            over: BTreeSet::new(alloc),
+            open: unfinished,
         };
         let mut i = batches.len();
         while i > 0 {
             i -= 1;
-            back.pass_records(&batches[i].records)?;
+            back.pass_records(&batches[i].records);
         }
-        let TakingBack { pages, over: _ } = back;
-        Ok(pages)
+        let TakingBack { pages, open: _ } = back;
+        pages
     }
 }
 
 impl TakingBack {
-    // The record before those that were passed.
-    fn pass_one(&mut self, entry: &Record) -> Result<(), Refusal>
+    // The record before those that were passed. The last changes of an operation that is unfinished are those that it has
+    // not ended: no end of it stands behind them.
+    fn pass_one(&mut self, entry: &Record)
         requires whole { AreWhole self.old.pages.items }
         requires grammar { IsRecord entry.now }
         requires inside { HasItsPage (length self.old.pages.items) entry.now }
-        ensures back { OnOk result (Backs (entry.now ∷ []) self.old self.new) }
-        ensures only_memory { IfErr result (λ why. why ≡ Refusal.NoMemory) }
+        ensures { Backs (entry.now ∷ []) self.old self.new }
     {
         match entry {
-            Record::Page { txn, .. } if txn.get() == 0 => Ok(()),
+            Record::Page { txn, .. } if txn.get() == 0 => {}
             Record::Page {
                 op,
                 page,
@@ -267,36 +255,26 @@ impl TakingBack {
                 old,
                 ..
             } => {
-                if self.over.contains(&op.get()) {
-                    return Ok(());
+                if self.open.contains_key(&op.get()) {
+                    put(&mut self.pages, *page, *start, old.as_slice());
                 }
-                put(&mut self.pages, *page, *start, old.as_slice());
-                Ok(())
             }
-            Record::OpEnd { op, .. } => {
-                note_over(&mut self.over, *op)?;
-                Ok(())
-            }
-            Record::OpDropped { op, .. } => {
-                note_over(&mut self.over, *op)?;
-                Ok(())
-            }
-            _ => Ok(()),
+            Record::OpEnd { op, .. } => drop(self.open.remove(&op.get())),
+            Record::OpDropped { op, .. } => drop(self.open.remove(&op.get())),
+            _ => {}
         }
     }
 
     // The records of a batch, from its last one on.
-    fn pass_records(&mut self, records: &[Record]) -> Result<(), Refusal>
+    fn pass_records(&mut self, records: &[Record])
         requires whole { AreWhole self.old.pages.items }
         requires each { AreRecords (length self.old.pages.items) records.now }
-        ensures back { OnOk result (Backs records.now self.old self.new) }
-        ensures only_memory { IfErr result (λ why. why ≡ Refusal.NoMemory) }
+        ensures { Backs records.now self.old self.new }
     {
         let mut i = records.len();
         while i > 0 {
             i -= 1;
-            self.pass_one(&records[i])?;
+            self.pass_one(&records[i]);
         }
-        Ok(())
     }
 }

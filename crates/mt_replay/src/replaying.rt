@@ -51,5 +51,5 @@ pub fn held_pages<D: Device>(
     lay_images(&mut pages, batches);
     let mut repeating = Repeating::over(alloc, pages);
     repeating.repeat_all(batches)?;
-    repeating.take_back(batches)
+    Ok(repeating.take_back(batches))
 }

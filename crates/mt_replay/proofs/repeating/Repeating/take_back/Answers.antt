@@ -1,4 +1,6 @@
-use Rattle.std.proofs.Common.{◌≡◌, ◌∙◌, ◌++◌, ◌+◌, ◌-◌, ℕ, List, length, drop, ap, sym, subst, arith}
+use Rattle.std.proofs.Common.{◌≡◌, ◌∙◌, ◌++◌, ◌+◌, ◌-◌, ℕ, Bool, List, length, drop, is_some, refl, ap, sym, subst, arith}
+use Rattle.std.specs.BTreeMap.{get}
+use Rattle.std.specs.Ordering.{nat_cmp}
 use Rattle.mt_frame.specs.declared.records.Record.{Record}
 use Rattle.mt_log.specs.Batch.{joined}
 use Rattle.mt_log.specs.Found.{records_of}
@@ -7,8 +9,9 @@ use Rattle.mt_log.specs.declared.batch.Batch.{Batch}
 use Rattle.mt_space.specs.Changes.{PageBytes}
 use Rattle.mt_steps.specs.Repeated.{logged, put_back}
 use Rattle.mt_replay.specs.Memory.{AreFirst}
-use Rattle.mt_replay.specs.Passes.{IsBackTo, left}
-use Rattle.mt_replay.proofs.Leaving.{held_is}
+use Rattle.mt_replay.specs.Passes.{AreKnown, IsBackTo, left}
+use Rattle.mt_replay.specs.declared.repeating.TakingBack.{TakingBack}
+use Rattle.mt_replay.proofs.Leaving.{back_none, behind_all, held_is, known_drop, known_shown}
 use Rattle.mt_replay.proofs.Walking.{joined_at, each_at}
 use Rattle.mt_replay.proofs.repeating.Repeating.take_back.Goals as goal
 
@@ -28,21 +31,37 @@ loop-i-preserved c =
     let some = c.loop-i-test.true in let inside = c.loop-i.invariant.inside in
     let next : i + 1 ≡ c.loop-i.i = omega arith in
     let records : b.records.items ≡ c.deref.result.now = sym (c.deref.ensures.value ∙ ap (λ (d : Batch). d.records.items) (sym c.index-batches-i.is)) in
-    let backs = c.in_ok-pass_records.ensures.back in
+    let backs = c.pass_records.ensures in
+    let known : ℕ → Bool = λ o. is_some (get nat_cmp c.args.self.unfinished o) in
+    let split : joined (records_of (drop i bs)) ≡ c.deref.result.now ++ joined (records_of (drop c.loop-i.i bs)) =
+    joined_at bs i b (omega arith) c.index-batches-i.is ∙ (λ j. records j ++ joined (records_of (drop (next j) bs))) in
     record {
       inside = omega arith;
       whole = backs.whole;
       count = backs.count ∙ c.loop-i.invariant.count;
-      back = λ f first. subst (λ (rs : List Record). IsBackTo c.pass_records.new.self rs f)
-          (sym (joined_at bs i b (omega arith) c.index-batches-i.is ∙ (λ j. records j ++ joined (records_of (drop (next j) bs)))))
-          (backs.back (joined (records_of (drop c.loop-i.i bs))) f (c.loop-i.invariant.back f first));
+      back = λ f first all. subst (λ (rs : List Record). IsBackTo known c.pass_records.new.self rs f) (sym split)
+          (backs.back known (joined (records_of (drop c.loop-i.i bs))) f
+          (subst (λ (rs : List Record). AreKnown known (left rs)) split (known_drop known bs i all))
+          (c.loop-i.invariant.back f first all));
+    }
+
+pub loop-i-init : goal.loop-i-init
+loop-i-init c =
+    let bs = c.args.batches.now in
+    let known : ℕ → Bool = λ o. is_some (get nat_cmp c.args.self.unfinished o) in
+    let start : TakingBack = record { pages = c.args.self.pages; «open» = c.args.self.unfinished } in
+    record {
+      inside = omega arith;
+      whole = c.requires.whole;
+      count = refl;
+      back = λ f first all. subst (λ (rs : List Record). IsBackTo known start rs f) (sym (behind_all bs)) (back_none start known f first (λ o. refl));
     }
 
 pub returns-clause-held : goal.returns-clause-held
 returns-clause-held c = λ opening shown.
     let bs = c.args.batches.now in
     let done : c.loop-i.i ≡ 0 = let le = c.loop-i-test.false in omega arith in
-    let pages = (c.loop-i.invariant.back (logged opening (joined (records_of bs))).pages shown.pages).pages in
+    let pages = (c.loop-i.invariant.back (logged opening (joined (records_of bs))).pages shown.pages (known_shown c.args.self opening (joined (records_of bs)) shown)).pages in
     let all : AreFirst c.loop-i.back.pages.items (put_back (left (joined (records_of bs))) (logged opening (joined (records_of bs))).pages) =
     subst (λ (n : ℕ). AreFirst c.loop-i.back.pages.items (put_back (left (joined (records_of (drop n bs)))) (logged opening (joined (records_of bs))).pages)) done pages in
     subst (λ (f : PageBytes). AreFirst c.loop-i.back.pages.items f) (sym (held_is opening (joined (records_of bs)))) all

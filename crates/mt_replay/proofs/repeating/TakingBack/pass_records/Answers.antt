@@ -13,5 +13,5 @@ loop-i-preserved c =
     record {
       inside = omega arith;
       back = backs_then rs i c.index-records-i.result c.args.self.now c.loop-i.self c.pass_one.new.self (omega arith) c.index-records-i.is
-          (subst (λ (n : ℕ). Backs (drop n rs) c.args.self.now c.loop-i.self) next c.loop-i.invariant.back) c.in_ok-pass_one.ensures.back;
+          (subst (λ (n : ℕ). Backs (drop n rs) c.args.self.now c.loop-i.self) next c.loop-i.invariant.back) c.pass_one.ensures;
     }

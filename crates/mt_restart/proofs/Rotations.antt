@@ -233,5 +233,5 @@ pub stands_before : {D : Type 0} {g : Ghosts D} (seen : D → List ℕ) (may_lea
     → StandsForBook may_leave first k why device
 stands_before seen may_leave k m first why device nobody still stays schema starts later stands other c left =
     ∥∥₁_elim (same_commits seen may_leave k m first nobody still starts stays) ∥∥₁_prop (λ same. ∥∥₁_elim (all_booked seen may_leave k.parts k.relations k.counters first nobody starts) ∥∥₁_prop (λ mine. ∥∥₁_elim (all_booked seen may_leave m.parts m.relations m.counters first still later) ∥∥₁_prop (λ its.
-        let book : m.parts.book.items ≡ k.parts.book.items = sym its ∙ same ∙ mine in
-        ∥∥₁_map (stands other c left) (λ can. subst (λ (X : Type 0). X) (λ i. CanRestart (schema.0 i) (schema.1 i) c (after first (book i))) can))))
+    let book : m.parts.book.items ≡ k.parts.book.items = sym its ∙ same ∙ mine in
+    ∥∥₁_map (stands other c left) (λ can. subst (λ (X : Type 0). X) (λ i. CanRestart (schema.0 i) (schema.1 i) c (after first (book i))) can))))

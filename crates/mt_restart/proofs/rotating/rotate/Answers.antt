@@ -18,9 +18,10 @@ returns-then-not-has_nobody-clause-moments g c = λ first starts. let D = g.D.De
     (keeps_itself D.seen D.may_leave D.moment D.left_since g.met.D.Device.only_now k).found first starts k.schema
 
 pub returns-then-not-has_nobody-clause-left : goal.returns-then-not-has_nobody-clause-left
-returns-then-not-has_nobody-clause-left g c = let D = g.D.Device in let k = c.args.kernel in
-    (keeps_itself D.seen D.may_leave D.moment D.left_since g.met.D.Device.only_now k,
-    inl (early_busy k (sym c.has_failed.ensures ∙ c.if-has_failed.false) (λ nobody. one_outcome c.has_nobody.result (c.has_nobody.ensures.1 nobody) c.if-not-has_nobody.true)))
+returns-then-not-has_nobody-clause-left g c = let D = g.D.Device in let k = c.args.kernel in (
+  keeps_itself D.seen D.may_leave D.moment D.left_since g.met.D.Device.only_now k,
+  inl (early_busy k (sym c.has_failed.ensures ∙ c.if-has_failed.false) (λ nobody. one_outcome c.has_nobody.result (c.has_nobody.ensures.1 nobody) c.if-not-has_nobody.true)),
+)
 
 pub returns-in-Ok-turn_over-clause-shows : goal.returns-in-Ok-turn_over-clause-shows
 returns-in-Ok-turn_over-clause-shows g c = λ first s starts shows.
@@ -41,8 +42,7 @@ returns-in-Err-turn_over-clause-moments g c = λ first starts. let D = g.D.Devic
 
 pub returns-in-Err-turn_over-clause-left : goal.returns-in-Err-turn_over-clause-left
 returns-in-Err-turn_over-clause-left g c =
-    let D = g.D.Device in let k = c.args.kernel in let m = c.force_out.new.kernel in let keeps = c.force_out.ensures.keeps in let f = c.in-Ok.ensures.forced in let nobody = c.has_nobody.ensures.0 c.if-not-has_nobody.false in
-    (
+    let D = g.D.Device in let k = c.args.kernel in let m = c.force_out.new.kernel in let keeps = c.force_out.ensures.keeps in let f = c.in-Ok.ensures.forced in let nobody = c.has_nobody.ensures.0 c.if-not-has_nobody.false in (
       early_none k (sym c.has_failed.ensures ∙ c.if-has_failed.false) nobody,
       λ first starts. stands_before D.seen D.may_leave k m first c.in-Err-turn_over.refusal c.in-Err-turn_over.device nobody f.nobody keeps.state keeps.schema starts (keeps.restarts first starts) (c.in-Err-turn_over.ensures.settled first (keeps.restarts first starts)),
       ∥∥₁_map c.in-Err-turn_over.ensures.cause (λ cause. (m, keeps, f, cause)),

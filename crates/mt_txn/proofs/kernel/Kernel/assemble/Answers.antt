@@ -10,17 +10,20 @@ pub invariant_of-result : goal.invariant_of-result
 invariant_of-result g c = record {
   well = ∥∥₁_elim c.requires.opens ∥∥₁_prop (λ (first, o). ∥∥₁_map o (λ (origin, is, y).
       (origin, origin.first, record { relations_are = is.relations_are; counters_are = is.counters_are; first_is = refl }, (c.new.ensures.state origin y.schema y.bounds y.holds y.right y.escrowed).consistent)));
-  starts = ∥∥₁_elim c.requires.opens ∥∥₁_prop (λ (first, o). ∥∥₁_map o (λ (origin, is, y). (first, ∣ (
-    origin,
-    origin.first,
-    record {
-      is = is;
-      bounds = subst IsBase (sym y.area.begun) y.bounds;
-      holds = subst (Holds origin.pages) (sym y.area.begun) y.holds;
-      consistent = (c.new.ensures.state origin y.schema y.bounds y.holds y.right y.escrowed).consistent;
-      restartable = c.new.ensures.restartable origin y.schema y.area y.bounds y.holds y.right y.escrowed;
-    },
-  ) ∣₁)));
+  starts = ∥∥₁_elim c.requires.opens ∥∥₁_prop (λ (first, o). ∥∥₁_map o (λ (origin, is, y). (
+    first,
+    ∣ (
+      origin,
+      origin.first,
+      record {
+        is = is;
+        bounds = subst IsBase (sym y.area.begun) y.bounds;
+        holds = subst (Holds origin.pages) (sym y.area.begun) y.holds;
+        consistent = (c.new.ensures.state origin y.schema y.bounds y.holds y.right y.escrowed).consistent;
+        restartable = c.new.ensures.restartable origin y.schema y.area y.bounds y.holds y.right y.escrowed;
+      },
+    ) ∣₁,
+  )));
   schema = c.requires.schema;
 }
 

@@ -12,7 +12,10 @@ begin-requires-clause-safe g c = sound_of g.D.Device.seen g.D.Device.may_leave c
 
 pub invariant_of-self : goal.invariant_of-self
 invariant_of-self g c = record {
-  well = well_or g.D.Device.seen g.D.Device.may_leave c.args.self.now.relations c.args.self.now.counters c.args.self.now.parts c.begin.new.self (λ s. begun s c.args.session) c.begin.result c.begin.ensures.begun c.begin.ensures.err c.args.self.now.well; starts = ∥∥₁_map c.args.self.now.starts (λ (first, r). let D = g.D.Device in let k = c.args.self.now in (first, restarts_on D.seen D.may_leave k.relations k.counters first k.parts c.begin.new.self (or_goes D.seen D.may_leave k.parts c.begin.new.self (λ s. begun s c.args.session) c.begin.result c.begin.ensures.begun c.begin.ensures.err) (c.begin.ensures.restartable (let less = c.if-lives-ge-MAX_LIVE.false in let count = c.count-lives.ensures in let same = ap (λ (l : Live). length l.members) c.live.ensures in omega (arith, less, count, same))) r)); schema = c.args.self.now.schema }
+  well = well_or g.D.Device.seen g.D.Device.may_leave c.args.self.now.relations c.args.self.now.counters c.args.self.now.parts c.begin.new.self (λ s. begun s c.args.session) c.begin.result c.begin.ensures.begun c.begin.ensures.err c.args.self.now.well;
+  starts = ∥∥₁_map c.args.self.now.starts (λ (first, r). let D = g.D.Device in let k = c.args.self.now in (first, restarts_on D.seen D.may_leave k.relations k.counters first k.parts c.begin.new.self (or_goes D.seen D.may_leave k.parts c.begin.new.self (λ s. begun s c.args.session) c.begin.result c.begin.ensures.begun c.begin.ensures.err) (c.begin.ensures.restartable (let less = c.if-lives-ge-MAX_LIVE.false in let count = c.count-lives.ensures in let same = ap (λ (l : Live). length l.members) c.live.ensures in omega (arith, less, count, same))) r));
+  schema = c.args.self.now.schema;
+}
 
 pub returns-clause-begun : goal.returns-clause-begun
 returns-clause-begun g c = λ first s shows. on_ok g.D.Device.seen g.D.Device.may_leave c.args.self.now.relations c.args.self.now.counters c.args.self.now.parts c.begin.new.self (λ z. begun z c.args.session) first s c.begin.result c.begin.ensures.begun shows

@@ -13,14 +13,20 @@ invariant_of-result g c = record {
   starts = ∥∥₁_elim c.requires.goes_on ∥∥₁_prop (λ (first, k, on). ∥∥₁_elim on.opens ∥∥₁_prop (λ (z, opened, opening). ∥∥₁_map on.restarts (λ (origin, base, x).
       let D = g.D.Device in
       let turns = turns_over D.seen D.may_leave c.args.rest.relations c.args.rest.counters first k origin base on.nobody z c.args.operations c.args.escrow x.is x.consistent opened opening in
-      let now = c.join.ensures.resumed k origin base z.pages on.is turns in
-      (first, ∣ (turned origin base z.pages k, base, record {
-        is = record { relations_are = x.is.relations_are; counters_are = x.is.counters_are; first_is = x.is.first_is };
-        bounds = turns.bounds;
-        holds = turns.holds;
-        consistent = now.0.consistent;
-        restartable = now.1;
-      }) ∣₁))));
+      let now = c.join.ensures.resumed k origin base z.pages on.is turns in (
+        first,
+        ∣ (
+          turned origin base z.pages k,
+          base,
+          record {
+            is = record { relations_are = x.is.relations_are; counters_are = x.is.counters_are; first_is = x.is.first_is };
+            bounds = turns.bounds;
+            holds = turns.holds;
+            consistent = now.0.consistent;
+            restartable = now.1;
+          },
+        ) ∣₁,
+      ))));
   schema = c.args.rest.schema;
 }
 

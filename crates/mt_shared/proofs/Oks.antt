@@ -1,0 +1,7 @@
+-- Of a result that is no error, several facts at once.
+use Rattle.std.proofs.Common.{Result, Ok, Err}
+use Rattle.std.specs.Prelude.{IfOk}
+
+pub three_ok : {T E : Type 0} (P Q S R : T → Type 0) (r : Result T E) → IfOk r P → IfOk r Q → IfOk r S → ((x : T) → P x → Q x → S x → R x) → IfOk r R
+three_ok P Q S R (Ok x) p q s go = go x p q s
+three_ok P Q S R (Err why) p q s go = tt

@@ -1,0 +1,19 @@
+use Rattle.std.proofs.Common.{◌∙◌, [], ap, subst}
+use Rattle.std.proofs.lemmas.List.{append-nil}
+use Rattle.mt_mark.specs.Rule.{dones}
+use Rattle.mt_shared.specs.Began.{BeganOn}
+use Rattle.mt_shared.specs.Seen.{OpenedSeen}
+use Rattle.mt_shared.proofs.opened.Opened.named.Goals as goal
+
+pub returns-in_default-clause-began : goal.returns-in_default-clause-began
+returns-in_default-clause-began g c = let D = g.D.Device in
+    subst (λ (x : OpenedSeen). BeganOn D.seen D.may_leave x.base c.into_kernel.result) c.self.view_is c.into_kernel.ensures.began
+
+pub invariant_of-locked : goal.invariant_of-locked
+invariant_of-locked g c = let i = c.self.invariant in
+    let mark = ap (λ (x : OpenedSeen). x.mark) c.self.view_is ∙ c.requires.name.0 in
+    let base = ap (λ (x : OpenedSeen). x.base) c.self.view_is ∙ c.requires.name.1 in
+    (mark, i.0 ∙ base, base, i.1, ([], append-nil _ ∙ i.2))
+
+pub returns-clause-passes : goal.returns-clause-passes
+returns-clause-passes g c = λ k d h. ap dones (c.in-Ok.ensures k d h) ∙ (c.self.invariant.2 ∙ ap (λ (x : OpenedSeen). x.book) c.self.view_is)

@@ -1,0 +1,18 @@
+-- What a kernel shows, whatever its state.
+use Rattle.std.specs.Prelude.{ℕ, List}
+use Rattle.mt_disk.specs.declared.device.Device.{Ghosts}
+use Rattle.mt_live.specs.Machine.{State}
+use Rattle.mt_model.specs.Views.{base_of}
+use Rattle.mt_model.specs.declared.history.Committed.{Committed}
+use Rattle.mt_model.specs.declared.tables.Base.{Base}
+use Rattle.mt_txn.specs.Shown.{Shows}
+use Rattle.mt_txn.specs.declared.kernel.Kernel.{Kernel}
+
+-- it began on this base, and is in some state of the laws
+abbrev pub BeganOn : {D : Type 0} → {g : Ghosts D} → (D → List ℕ) → (D → List ℕ → Type 0) → Base → Kernel D g → Type 0
+BeganOn seen may_leave base k = ∥ ((s : State) × Shows seen may_leave (base_of base) s k) ∥₁
+
+-- the base that a kernel began on, and its book of durable transactions
+pub record BasedSeen : Type 0 where
+  pub base : Base
+  pub book : List Committed

@@ -1,0 +1,3 @@
+pub mod Began
+pub mod Names
+pub mod Seen

@@ -1,0 +1,106 @@
+// A kernel beside the base that it began on.
+ghost use Rattle.std.specs.Prelude.{◌≡◌, IfOk, IfErr};
+ghost use mathlib.Core.List.{IsPrefix};
+ghost use Rattle.mt_mark.specs.Legal.{IsLegal};
+ghost use Rattle.mt_shared.specs.Began.{BeganOn};
+
+use mt_base::{Refusal, TxnNo};
+use mt_disk::Device;
+use mt_model::{Base, Committed, Op};
+use mt_pool::Flushed;
+use mt_txn::{AbortStepped, Called, Kernel, KernelForced, Stepped};
+use std::marker::Model;
+use std::snapshot::Snapshot;
+
+/// A kernel, with the base that it began on, which contracts alone see.
+pub struct Based<D: Device> {
+    kernel: Kernel<D>,
+    base: Snapshot<Base>,
+}
+
+impl<D: Device> Model for Based<D> {
+    ghost use Rattle.mt_shared.specs.Began.{BasedSeen, BeganOn};
+
+    ghost Value = { BasedSeen };
+
+    ghost view = { λ b. record { base = b.base.value; book = b.kernel.parts.book.items } };
+
+    ghost invariant = { λ b. BeganOn D.seen D.may_leave b.base.value b.kernel };
+}
+
+impl<D: Device> Based<D> {
+    pub fn new(kernel: Kernel<D>, base: &Base) -> Based<D>
+        requires { BeganOn D.seen D.may_leave base.now kernel }
+        ensures base { result.base ≡ base.now }
+        ensures book { result.book ≡ kernel.parts.book.items }
+    {
+        Based {
+            kernel,
+            base: Snapshot::of(base),
+        }
+    }
+
+    pub fn into_kernel(self) -> Kernel<D>
+        ensures began { BeganOn D.seen D.may_leave self.base result }
+        ensures book { result.parts.book.items ≡ self.book }
+    {
+        let Based { kernel, base: _ } = self;
+        kernel
+    }
+
+    pub fn book(&self) -> &[Committed]
+        ensures book { result.now ≡ self.now.book }
+        ensures legal { IsLegal self.now.base self.now.book }
+    {
+        self.kernel.book()
+    }
+
+    pub fn begin(&mut self, session: u32) -> Result<TxnNo, Refusal>
+        ensures { self.new ≡ self.old }
+    {
+        self.kernel.begin(session)
+    }
+
+    pub fn call(&mut self, txn: TxnNo, op: Op) -> Result<Called, Refusal>
+        ensures { self.new ≡ self.old }
+    {
+        self.kernel.call(txn, op)
+    }
+
+    pub fn step(&mut self, txn: TxnNo) -> Result<Stepped, Refusal>
+        ensures { self.new ≡ self.old }
+    {
+        self.kernel.step(txn)
+    }
+
+    pub fn commit_begin(&mut self, txn: TxnNo) -> Result<u64, Refusal>
+        ensures { self.new ≡ self.old }
+    {
+        self.kernel.commit_begin(txn)
+    }
+
+    pub fn force_step(&mut self) -> Result<KernelForced, Refusal>
+        ensures base { self.new.base ≡ self.old.base }
+        ensures book { IsPrefix self.old.book self.new.book }
+    {
+        self.kernel.force_step()
+    }
+
+    pub fn flush_step(&mut self) -> Result<Flushed, Refusal>
+        ensures { self.new ≡ self.old }
+    {
+        self.kernel.flush_step()
+    }
+
+    pub fn abort_begin(&mut self, txn: TxnNo) -> Result<(), Refusal>
+        ensures { self.new ≡ self.old }
+    {
+        self.kernel.abort_begin(txn)
+    }
+
+    pub fn abort_step(&mut self, txn: TxnNo) -> Result<AbortStepped, Refusal>
+        ensures { self.new ≡ self.old }
+    {
+        self.kernel.abort_step(txn)
+    }
+}

@@ -1,0 +1,30 @@
+//! A kernel that threads share: under one lock, with the mark of one history beside it.
+//!
+//! [`Opened::new`] makes the mark of a kernel, and [`Opened::named`] what is shared, [`Shared`], with a [`Pass`] for
+//! each that takes part. A pass begins one transaction at a time, of which it holds the token, [`Txn`]. A token that
+//! is lost is refused by the compiler: a commit or an abort spends it.
+//!
+//! What a pass has seen is legal from the base that the kernel began on, begins the one history that all see, and grows
+//! by exactly its own commits, each behind all that it had seen. What a token was answered is what the book has at its
+//! place. A look is one load of the mark, and takes no lock.
+//!
+//! Who waits sleeps, and is woken by each change that may end a wait; a device that fails wakes all. No lock is
+//! poisoned: nothing here can panic.
+#![tactic(auto)]
+
+mod based;
+mod gate;
+mod locked;
+mod naming;
+mod opened;
+mod pass;
+mod shared;
+mod txn;
+
+pub use gate::{Gate, Point};
+pub use locked::Locked;
+pub use naming::Naming;
+pub use opened::Opened;
+pub use pass::Pass;
+pub use shared::{Closed, Shared, Tended};
+pub use txn::{Refused, Txn};

@@ -1,0 +1,180 @@
+ghost use Rattle.std.specs.Prelude.{◌≡◌, ◌+◌, ◌++◌, ◌∷◌, [], ◌≤◌, length, OnOk, IfErr, IsTrue, ◌↔◌, slice_get, Some, All};
+ghost use mathlib.Core.List.{IsPrefix};
+ghost use Rattle.mt_mark.specs.Legal.{IsLegal};
+ghost use Rattle.mt_mark.specs.Rule.{dones, Holds};
+ghost use Rattle.mt_shared.specs.Began.{BeganOn};
+ghost use Rattle.mt_shared.specs.Seen.{PassSeen, Entered, CannotEnter};
+
+use crate::based::Based;
+use crate::naming::Naming;
+use crate::pass::Pass;
+use crate::txn::Txn;
+use mt_base::{Refusal, TxnNo};
+use mt_disk::Device;
+use mt_mark::{End, Entry};
+use mt_model::Op;
+use mt_pool::Flushed;
+use mt_txn::{AbortStepped, Called, Kernel, KernelForced, Stepped};
+use std::marker::{Model, PhantomData};
+
+/// What lies under the lock: the kernel, with its end of the mark. Its first commits are the history, as many as the
+/// mark counts. Contracts see the book and the history.
+pub struct Locked<D: Device, J: Naming> {
+    pub(crate) kernel: Based<D>,
+    pub(crate) end: End,
+    pub(crate) of: PhantomData<J>,
+}
+
+impl<D: Device, J: Naming> Model for Locked<D, J> {
+    ghost use Rattle.std.specs.Prelude.{◌≡◌};
+    ghost use mathlib.Core.List.{IsPrefix};
+    ghost use Rattle.mt_mark.specs.Rule.{dones, IsConfirmed};
+    ghost use Rattle.mt_shared.specs.Seen.{LockedSeen};
+
+    ghost Value = { LockedSeen };
+
+    ghost view = { λ l. record { book = l.kernel.book; list = l.end.view.list } };
+
+    ghost invariant = { λ l. (l.end.mark ≡ J.mark) × (l.end.view.base ≡ J.base) × (l.kernel.base ≡ J.base) × IsConfirmed l.end.view × IsPrefix (dones l.end.view.list) l.kernel.book };
+}
+
+impl<D: Device, J: Naming> Locked<D, J> {
+    /// Enters a durable transaction of this pass into the history, at this place, from 1. Then the pass has seen the
+    /// book's first entries up to it.
+    ///
+    /// The token comes back, and nothing has changed, only where the mark does not stand one below the place, or the
+    /// book has no entry there with the token's session, calls and replies.
+    pub fn enter(&mut self, place: u64, pass: &mut Pass<J>, txn: Txn<J>) -> Result<(), Txn<J>>
+        requires own { txn.pass ≡ pass.old.number }
+        ensures entered { OnOk result (Entered J.base self.old place pass.old txn pass.new) }
+        ensures back { IfErr result (λ t. (t ≡ txn) × (pass.new ≡ pass.old) × CannotEnter self.old place txn) }
+        ensures book { self.new.book ≡ self.old.book }
+        ensures list { IfErr result (λ _. self.new.list ≡ self.old.list) }
+    {
+        let at = self.end.check();
+        if place == 0 || at != place - 1 {
+            return Err(txn);
+        }
+        let (number, entry) = txn.into_entry();
+        if !self.has(at, &entry) {
+            return Err(Txn::of_entry(number, entry));
+        }
+        self.end.enter(&mut pass.seat, &entry);
+        pass.is_busy = false;
+        Ok(())
+    }
+
+    // Whether the book has this transaction at this place, from 0.
+    fn has(&self, at: u64, entry: &Entry) -> bool
+        ensures is { IsTrue result ↔ (slice_get self.now.book at ≡ Some entry.now.done) }
+        ensures legal { IsLegal J.base self.now.book }
+    {
+        let book = self.kernel.book();
+        if at >= book.len() as u64 {
+            return false;
+        }
+        book[at as usize].equals(&entry.done)
+    }
+
+    // Whether the book has so many entries.
+    pub(crate) fn has_booked(&self, place: u64) -> bool
+        ensures { IsTrue result ↔ (place ≤ length self.now.book) }
+    {
+        place <= self.kernel.book().len() as u64
+    }
+
+    pub(crate) fn begin(&mut self, session: u32) -> Result<TxnNo, Refusal>
+        ensures { self.new ≡ self.old }
+    {
+        self.kernel.begin(session)
+    }
+
+    pub(crate) fn call(&mut self, txn: TxnNo, op: Op) -> Result<Called, Refusal>
+        ensures { self.new ≡ self.old }
+    {
+        self.kernel.call(txn, op)
+    }
+
+    pub(crate) fn step(&mut self, txn: TxnNo) -> Result<Stepped, Refusal>
+        ensures { self.new ≡ self.old }
+    {
+        self.kernel.step(txn)
+    }
+
+    pub(crate) fn commit_begin(&mut self, txn: TxnNo) -> Result<u64, Refusal>
+        ensures { self.new ≡ self.old }
+    {
+        self.kernel.commit_begin(txn)
+    }
+
+    pub(crate) fn abort_begin(&mut self, txn: TxnNo) -> Result<(), Refusal>
+        ensures { self.new ≡ self.old }
+    {
+        self.kernel.abort_begin(txn)
+    }
+
+    pub(crate) fn abort_step(&mut self, txn: TxnNo) -> Result<AbortStepped, Refusal>
+        ensures { self.new ≡ self.old }
+    {
+        self.kernel.abort_step(txn)
+    }
+
+    pub(crate) fn flush_step(&mut self) -> Result<Flushed, Refusal>
+        ensures { self.new ≡ self.old }
+    {
+        self.kernel.flush_step()
+    }
+
+    // One force step. The book grows at its end.
+    pub(crate) fn force_step(&mut self) -> Result<KernelForced, Refusal>
+        ensures book { IsPrefix self.old.book self.new.book }
+        ensures list { self.new.list ≡ self.old.list }
+    {
+        self.kernel.force_step()
+    }
+
+    // Flushes a page; where each waits for the log, one step of a force.
+    pub(crate) fn make_room(&mut self) -> Result<(), Refusal>
+        ensures book { IsPrefix self.old.book self.new.book }
+        ensures list { self.new.list ≡ self.old.list }
+    {
+        match self.flush_step()? {
+            Flushed::Page(_) | Flushed::Clean => {}
+            Flushed::Force => {
+                self.force_step()?;
+            }
+        }
+        Ok(())
+    }
+
+    // What a pass has seen begins the book.
+    fn meet(&mut self, mut pass: Pass<J>)
+        ensures seen { IsPrefix (dones pass.seen) self.old.book }
+        ensures same { self.new ≡ self.old }
+    {
+        pass.seat.meet(&mut self.end);
+    }
+
+    pub(crate) fn meet_all(&mut self, mut passes: Vec<Pass<J>>)
+        ensures seen { All (λ (p : PassSeen). IsPrefix (dones p.seen) self.old.book) passes.items }
+        ensures same { self.new ≡ self.old }
+    {
+        'passes: while passes.len() > 0 {
+            if let Some(pass) = passes.pop() {
+                self.meet(pass);
+            }
+        }
+    }
+
+    pub(crate) fn into_kernel(self) -> Kernel<D>
+        ensures book { result.parts.book.items ≡ self.book }
+        ensures began { BeganOn D.seen D.may_leave J.base result }
+    {
+        let Locked {
+            kernel,
+            end: _,
+            of: _,
+        } = self;
+        kernel.into_kernel()
+    }
+}

@@ -1,0 +1,154 @@
+ghost use Rattle.std.specs.Prelude.{◌≡◌, ◌<◌, ◌^◌, All, IfOk, IfErr, vec_len};
+ghost use Rattle.mt_mark.specs.Rule.{dones};
+ghost use Rattle.mt_shared.specs.Began.{BeganOn};
+ghost use Rattle.mt_shared.specs.Seen.{PassSeen, OpenedSeen, Beside, IsMarked};
+
+use crate::based::Based;
+use crate::gate::Gate;
+use crate::locked::Locked;
+use crate::naming::Naming;
+use crate::pass::Pass;
+use crate::shared::Shared;
+use mt_disk::Device;
+use mt_mark::{About, End, Seat};
+use mt_model::{Base, Committed};
+use mt_txn::Kernel;
+use std::alloc::{AllocError, Global};
+use std::marker::{Model, PhantomData};
+use std::snapshot::Snapshot;
+
+/// A kernel with its mark, which has no name yet. Contracts see which mark it is, the base that the kernel began on,
+/// and its book.
+pub struct Opened<D: Device> {
+    kernel: Based<D>,
+    end: End,
+    seats: Vec<Seat>,
+}
+
+impl<D: Device> Model for Opened<D> {
+    ghost use Rattle.std.specs.Prelude.{◌≡◌, All};
+    ghost use Rattle.mt_mark.specs.Rule.{dones, IsConfirmed};
+    ghost use Rattle.mt_mark.specs.Held.{Held};
+    ghost use Rattle.mt_shared.specs.Seen.{OpenedSeen, Beside};
+
+    ghost Value = { OpenedSeen };
+
+    ghost view = { λ o. record { mark = o.end.mark; base = o.kernel.base; book = o.kernel.book } };
+
+    ghost invariant = { λ o. (o.end.view.base ≡ o.kernel.base) × IsConfirmed o.end.view × (dones o.end.view.list ≡ o.kernel.book) × All (Beside o.end) o.seats.items };
+}
+
+impl<D: Device> Opened<D> {
+    /// A mark beside the kernel, with seats for this many passes. The history begins with the kernel's book. Of the
+    /// base that the kernel began on nothing is kept but for contracts; of the book a copy is made, and let go.
+    ///
+    /// Where memory is short, the kernel comes back.
+    pub fn new(
+        alloc: Global,
+        kernel: Kernel<D>,
+        base: &Base,
+        count: usize,
+    ) -> Result<Opened<D>, Kernel<D>>
+        requires count { count < 2 ^ 32 }
+        requires began { BeganOn D.seen D.may_leave base.now kernel }
+        ensures ok { IfOk result (λ o. (o.base ≡ base.now) × (o.book ≡ kernel.parts.book.items)) }
+        ensures book { IfErr result (λ k. k.parts.book.items ≡ kernel.parts.book.items) }
+        ensures began { IfErr result (λ k. BeganOn D.seen D.may_leave base.now k) }
+    {
+        let kernel = Based::new(kernel, base);
+        match marked(alloc, &kernel, base, count) {
+            Ok((end, seats)) => Ok(Opened { kernel, end, seats }),
+            Err(_) => Err(kernel.into_kernel()),
+        }
+    }
+
+    /// The same under a name, shared, with its passes. Where memory is short, the kernel comes back.
+    pub fn named<G: Gate + Drop, J: Naming>(
+        self,
+        alloc: Global,
+        gate: G,
+    ) -> Result<(Shared<D, G, J>, Vec<Pass<J>>), Kernel<D>>
+        requires name { (self.mark ≡ J.mark) × (self.base ≡ J.base) }
+        ensures passes { IfOk result (λ r. All (λ (p : PassSeen). dones p.seen ≡ self.book) r.1.items) }
+        ensures err { IfErr result (λ k. k.parts.book.items ≡ self.book) }
+        ensures began { IfErr result (λ k. BeganOn D.seen D.may_leave self.base k) }
+    {
+        let Opened { kernel, end, seats } = self;
+        let count = seats.len();
+        let Ok(passes) = passes_of::<J>(alloc, &end, seats) else {
+            return Err(kernel.into_kernel());
+        };
+        let locked = Locked {
+            kernel,
+            end,
+            of: PhantomData,
+        };
+        let shared = Shared::over(locked, gate, count);
+        Ok((shared, passes))
+    }
+}
+
+// A mark about this kernel, and the seats of so many passes.
+fn marked<D: Device>(
+    alloc: Global,
+    kernel: &Based<D>,
+    base: &Base,
+    count: usize,
+) -> Result<(End, Vec<Seat>), AllocError>
+    requires count { count < 2 ^ 32 }
+    requires base { kernel.now.base ≡ base.now }
+    ensures { IfOk result (λ r. IsMarked kernel.now r.0 r.1.items) }
+{
+    let book = copy_of(alloc, kernel.book())?;
+    let from = book.len() as u64;
+    let about = About {
+        base: Snapshot::of(base),
+        book: Snapshot::of(&book),
+    };
+    mt_mark::new(alloc, &about, from, count)
+}
+
+// A copy of a book.
+fn copy_of(alloc: Global, book: &[Committed]) -> Result<Vec<Committed>, AllocError>
+    ensures { IfOk result (λ copy. copy.items ≡ book.now) }
+{
+    let mut copy = Vec::with_capacity(alloc, book.len())?;
+    for done in book {
+        let calls = done.calls.try_clone()?;
+        copy.push(Committed {
+            session: done.session,
+            calls,
+        })?;
+    }
+    Ok(copy)
+}
+
+// The passes of these seats.
+fn passes_of<J: Naming>(
+    alloc: Global,
+    end: &End,
+    mut seats: Vec<Seat>,
+) -> Result<Vec<Pass<J>>, AllocError>
+    requires name { (end.now.mark ≡ J.mark) × (end.now.view.base ≡ J.base) }
+    requires seats { All (Beside end.now) seats.items }
+    ensures { IfOk result (λ v. All (λ (p : PassSeen). p.seen ≡ end.now.view.list) v.items) }
+{
+    let mut passes = Vec::with_capacity(alloc, seats.len())?;
+    'seats: while let Some(seat) = seats.pop() {
+        passes.push(pass_of(end, seat))?;
+    }
+    Ok(passes)
+}
+
+fn pass_of<J: Naming>(end: &End, seat: Seat) -> Pass<J>
+    requires name { (end.now.mark ≡ J.mark) × (end.now.view.base ≡ J.base) }
+    requires seat { Beside end.now seat }
+    ensures { result.seen ≡ end.now.view.list }
+{
+    Pass {
+        number: seat.number(),
+        is_busy: false,
+        seat,
+        of: PhantomData,
+    }
+}

@@ -1,0 +1,422 @@
+ghost use Rattle.std.specs.Prelude.{◌≡◌, ◌↔◌, All, None, IfOk, IfErr, OnOk, OnErr, IfSome};
+ghost use mathlib.Core.List.{IsPrefix};
+ghost use Rattle.mt_base.specs.declared.refusal.Refusal.TheVariants.{DeviceFailed};
+ghost use Rattle.mt_mark.specs.Rule.{dones};
+ghost use Rattle.mt_model.specs.declared.operations.Reply.{Reply};
+ghost use Rattle.mt_shared.specs.Began.{BeganOn};
+ghost use Rattle.mt_shared.specs.Seen.{PassSeen, Extends, Looked, fresh, with_call};
+
+use crate::gate::{Gate, Point, Wanted};
+use crate::locked::Locked;
+use crate::naming::Naming;
+use crate::pass::Pass;
+use crate::txn::{Refused, Txn};
+use mt_base::{Refusal, TxnNo};
+use mt_disk::Device;
+use mt_model::{Op, Reply};
+use mt_pool::Flushed;
+use mt_txn::{AbortStepped, Called, Kernel, KernelForced, Stepped};
+use std::alloc::Global;
+use std::sync::{Condvar, Mutex, MutexGuard, Wait};
+
+/// A kernel that threads share, with the commit mark beside it: one history for all.
+pub struct Shared<D: Device, G: Gate + Drop, J: Naming> {
+    locked: Mutex<Locked<D, J>>,
+    moved: Condvar,
+    gate: G,
+    wanted: Wanted,
+    count: usize,
+}
+
+/// A close that was refused, with all that was handed in.
+pub struct Closed<D: Device, G: Gate + Drop, J: Naming> {
+    pub why: Refusal,
+    pub shared: Shared<D, G, J>,
+    pub passes: Vec<Pass<J>>,
+}
+
+/// What a call of [`Shared::tend`] did.
+#[derive(Clone, Copy, PartialEq, Eq, Debug)]
+pub enum Tended {
+    /// A step of a force, or a page was flushed.
+    Worked,
+    /// Nothing: all that was appended is durable, and no page can be flushed.
+    Idle,
+}
+
+impl<D: Device, G: Gate + Drop, J: Naming> Shared<D, G, J> {
+    pub(crate) fn over(locked: Locked<D, J>, gate: G, count: usize) -> Shared<D, G, J> {
+        let wanted = Wanted::of(&gate);
+        Shared {
+            locked: Mutex::new(locked),
+            moved: Condvar::new(),
+            gate,
+            wanted,
+            count,
+        }
+    }
+
+    // Tells the gate, if it wants to be told.
+    fn tell(&self, session: u32, point: Point) {
+        if self.wanted.has(point) {
+            self.gate.at(session, point);
+        }
+    }
+
+    // A refusal that is to be answered. All that sleep are woken where the device has failed.
+    fn refusing(&self, why: Refusal) -> Refusal
+        ensures { result ≡ why }
+    {
+        if why == Refusal::DeviceFailed {
+            self.moved.notify_all();
+        }
+        why
+    }
+
+    /// The kernel, for where a close is refused. What lives is gone with it.
+    pub fn abandon(self) -> Kernel<D>
+        ensures { BeganOn D.seen D.may_leave J.base result }
+    {
+        let Shared {
+            locked,
+            moved: _,
+            gate: _,
+            wanted: _,
+            count: _,
+        } = self;
+        locked.into_inner().into_kernel()
+    }
+
+    /// Sees the history as it is, and answers its length. It is one load of the mark: it takes no lock, waits for
+    /// nobody, and takes no memory.
+    pub fn look(&self, pass: &mut Pass<J>) -> u64
+        ensures { Looked J.base pass.old result pass.new }
+    {
+        pass.seat.load()
+    }
+
+    /// Begins a transaction of this pass, for a session. Nothing enters the history.
+    ///
+    /// Refused, in this order: 16 where this pass has a transaction, then as [`Kernel::begin`]. Nothing has changed
+    /// then.
+    pub fn begin<R: Wait>(
+        &self,
+        rt: &R,
+        alloc: Global,
+        pass: &mut Pass<J>,
+        session: u32,
+    ) -> Result<Txn<J>, Refusal>
+        ensures pass { pass.new ≡ pass.old }
+        ensures token { IfOk result (λ t. t ≡ fresh pass.old.number session) }
+    {
+        if pass.is_busy {
+            return Err(Refusal::Busy);
+        }
+        let number = match self.locked.lock(rt).begin(session) {
+            Ok(number) => number,
+            Err(why) => return Err(self.refusing(why)),
+        };
+        pass.is_busy = true;
+        self.tell(session, Point::Began);
+        Ok(Txn::begun(alloc, number, pass.number, session))
+    }
+
+    /// Runs an operation to its end. The token keeps it with its reply, [`Txn::calls`].
+    ///
+    /// It waits where another transaction is in the way, and flushes pages where frames are wanted. Refused as
+    /// [`Kernel::call`], 1 before anything was asked of the kernel, and with 2 where the device fails; the token is as
+    /// before.
+    pub fn run<R: Wait>(&self, rt: &R, txn: &mut Txn<J>, op: Op) -> Result<(), Refusal>
+        ensures ok { OnOk result ((r : Reply) × (txn.new ≡ with_call txn.old op r)) }
+        ensures err { OnErr result (txn.new ≡ txn.old) }
+    {
+        txn.calls.reserve(1)?;
+        let reply = self.replied(rt, txn.number, txn.session, &op)?;
+        txn.calls.push_reserved((op, reply));
+        Ok(())
+    }
+
+    // The reply of an operation.
+    fn replied<R: Wait>(
+        &self,
+        rt: &R,
+        number: TxnNo,
+        session: u32,
+        op: &Op,
+    ) -> Result<Reply, Refusal> {
+        let mut locked = self.locked.lock(rt);
+        for _ in rt.forever() {
+            match locked.call(number, op.try_clone()?) {
+                Ok(Called::Started) => return self.stepped(rt, locked, number, session),
+                Ok(Called::Wait(_)) => locked = self.moved.wait(rt, locked),
+                Err(why) => return Err(self.refusing(why)),
+            }
+        }
+        unreachable!()
+    }
+
+    // The reply of an operation that is under way.
+    fn stepped<'a, R: Wait>(
+        &'a self,
+        rt: &R,
+        locked: MutexGuard<'a, Locked<D, J>>,
+        number: TxnNo,
+        session: u32,
+    ) -> Result<Reply, Refusal> {
+        let mut locked = locked;
+        for _ in rt.forever() {
+            match locked.step(number) {
+                Ok(Stepped::Replied(reply)) => {
+                    self.moved.notify_all();
+                    drop(locked);
+                    self.tell(session, Point::Replied);
+                    return Ok(reply);
+                }
+                Ok(Stepped::Went) => {
+                    if self.wanted.has(Point::Stepped) {
+                        drop(locked);
+                        self.gate.at(session, Point::Stepped);
+                        locked = self.locked.lock(rt);
+                    }
+                }
+                Ok(Stepped::Flush) => match locked.make_room() {
+                    Ok(()) => self.moved.notify_all(),
+                    Err(Refusal::NoMemory) => {}
+                    Err(why) => return Err(self.refusing(why)),
+                },
+                Ok(Stepped::Again) => {
+                    self.moved.notify_all();
+                    locked = self.moved.wait(rt, locked);
+                }
+                Ok(Stepped::Wait(_)) => locked = self.moved.wait(rt, locked),
+                Err(Refusal::NoMemory) => {
+                    drop(locked);
+                    locked = self.locked.lock(rt);
+                }
+                Err(why) => return Err(self.refusing(why)),
+            }
+        }
+        unreachable!()
+    }
+
+    /// Takes a transaction back, and what it did. Nothing enters the history.
+    ///
+    /// Refused: 15 where the token is of another pass; 2 where the device failed, and then the token is gone.
+    pub fn abort<R: Wait>(&self, rt: &R, pass: &mut Pass<J>, txn: Txn<J>) -> Result<(), Refused<J>>
+        ensures same { pass.new ≡ pass.old }
+        ensures back { IfErr result (λ r. IfSome r.txn (λ t. t ≡ txn)) }
+        ensures gone { IfErr result (λ r. (r.txn ≡ None) ↔ (r.why ≡ DeviceFailed)) }
+    {
+        if txn.pass != pass.number {
+            return Err(Refused {
+                why: Refusal::Stranger,
+                txn: Some(txn),
+            });
+        }
+        match self.undone(rt, txn.number) {
+            Ok(()) => {
+                let session = txn.session;
+                txn.spend();
+                pass.is_busy = false;
+                self.tell(session, Point::Aborted);
+                Ok(())
+            }
+            Err(Refusal::DeviceFailed) => Err(lost(pass, txn)),
+            Err(why) => {
+                Err(Refused {
+                    why,
+                    txn: Some(txn),
+                })
+            }
+        }
+    }
+
+    fn undone<R: Wait>(&self, rt: &R, number: TxnNo) -> Result<(), Refusal> {
+        let mut locked = self.locked.lock(rt);
+        if let Err(why) = locked.abort_begin(number) {
+            return Err(self.refusing(why));
+        }
+        for _ in rt.forever() {
+            match locked.abort_step(number) {
+                Ok(AbortStepped::Ended) => {
+                    self.moved.notify_all();
+                    return Ok(());
+                }
+                Ok(AbortStepped::More) => self.moved.notify_all(),
+                Ok(AbortStepped::Flush) => match locked.make_room() {
+                    Ok(()) => self.moved.notify_all(),
+                    Err(Refusal::NoMemory) => {}
+                    Err(why) => return Err(self.refusing(why)),
+                },
+                Ok(AbortStepped::Again) => {
+                    self.moved.notify_all();
+                    locked = self.moved.wait(rt, locked);
+                }
+                Ok(AbortStepped::Wait(_)) => locked = self.moved.wait(rt, locked),
+                Err(Refusal::NoMemory) => {
+                    drop(locked);
+                    locked = self.locked.lock(rt);
+                }
+                Err(why) => return Err(self.refusing(why)),
+            }
+        }
+        unreachable!()
+    }
+
+    /// One step of a force; where there is nothing to force, one page is flushed. It is for a thread that does so in
+    /// the background, and waits for the lock alone.
+    ///
+    /// Refused: 2 where the device has failed or fails in this call; 1 for want of memory.
+    pub fn tend<R: Wait>(&self, rt: &R) -> Result<Tended, Refusal> {
+        let mut locked = self.locked.lock(rt);
+        match locked.force_step() {
+            Ok(KernelForced::More) => Ok(Tended::Worked),
+            Ok(KernelForced::Durable(_)) => {
+                self.moved.notify_all();
+                Ok(Tended::Worked)
+            }
+            Ok(KernelForced::Idle) => match locked.flush_step() {
+                Ok(Flushed::Page(_)) => Ok(Tended::Worked),
+                Ok(_) => Ok(Tended::Idle),
+                Err(why) => Err(self.refusing(why)),
+            },
+            Err(why) => Err(self.refusing(why)),
+        }
+    }
+
+    /// Commits, and answers the place in the history, from 1. The transaction is durable then, and in the history.
+    ///
+    /// It makes force steps until its commit is durable, and then waits until those before it are entered; neither
+    /// needs the device. Refused: 15 where the token is of another pass, then as [`Kernel::commit_begin`], and the
+    /// token comes back; 2 where the device failed before the commit was durable, and then the token is gone.
+    pub fn commit<R: Wait>(
+        &self,
+        rt: &R,
+        pass: &mut Pass<J>,
+        txn: Txn<J>,
+    ) -> Result<u64, Refused<J>>
+        ensures entered { IfOk result (λ p. Extends J.base pass.old txn p pass.new) }
+        ensures same { OnErr result (pass.new ≡ pass.old) }
+        ensures back { IfErr result (λ r. IfSome r.txn (λ t. t ≡ txn)) }
+        ensures gone { IfErr result (λ r. (r.txn ≡ None) ↔ (r.why ≡ DeviceFailed)) }
+    {
+        if txn.pass != pass.number {
+            return Err(Refused {
+                why: Refusal::Stranger,
+                txn: Some(txn),
+            });
+        }
+        let session = txn.session;
+        let begun = self.locked.lock(rt).commit_begin(txn.number);
+        match begun {
+            Ok(place) => {
+                let place = self.entered(rt, pass, txn, place)?;
+                self.tell(session, Point::Committed);
+                Ok(place)
+            }
+            Err(Refusal::DeviceFailed) => {
+                self.moved.notify_all();
+                Err(lost(pass, txn))
+            }
+            Err(why) => {
+                Err(Refused {
+                    why,
+                    txn: Some(txn),
+                })
+            }
+        }
+    }
+
+    // Makes a commit durable and enters it. What is in the book already needs no device.
+    fn entered<R: Wait>(
+        &self,
+        rt: &R,
+        pass: &mut Pass<J>,
+        txn: Txn<J>,
+        place: u64,
+    ) -> Result<u64, Refused<J>>
+        requires own { txn.pass ≡ pass.old.number }
+        ensures entered { IfOk result (λ p. Extends J.base pass.old txn p pass.new) }
+        ensures same { OnErr result (pass.new ≡ pass.old) }
+        ensures gone { IfErr result (λ r. (r.txn ≡ None) × (r.why ≡ DeviceFailed)) }
+    {
+        let mut locked = self.locked.lock(rt);
+        let mut kept = txn;
+        'turns: for _ in rt.forever() {
+            match locked.enter(place, pass, kept) {
+                Ok(()) => {
+                    self.moved.notify_all();
+                    return Ok(place);
+                }
+                Err(back) => kept = back,
+            }
+            if locked.has_booked(place) {
+                locked = self.moved.wait(rt, locked);
+            } else {
+                match locked.force_step() {
+                    Ok(KernelForced::More) | Err(Refusal::NoMemory) => {
+                        drop(locked);
+                        locked = self.locked.lock(rt);
+                    }
+                    Ok(KernelForced::Durable(_)) => self.moved.notify_all(),
+                    Ok(KernelForced::Idle) => locked = self.moved.wait(rt, locked),
+                    Err(_) => {
+                        self.moved.notify_all();
+                        return Err(lost(pass, kept));
+                    }
+                }
+            }
+        }
+        unreachable!()
+    }
+
+    /// The kernel, once all passes are back and none of them has a transaction. Its book begins with what each pass
+    /// has seen.
+    ///
+    /// Refused, in this order, with all that was handed in: 15 where a pass is missing, 16 where one of them has a
+    /// transaction.
+    pub fn close(self, passes: Vec<Pass<J>>) -> Result<Kernel<D>, Closed<D, G, J>>
+        ensures seen { IfOk result (λ k.
+            All (λ (p : PassSeen). IsPrefix (dones p.seen) k.parts.book.items) passes.items) }
+        ensures began { IfOk result (λ k. BeganOn D.seen D.may_leave J.base k) }
+        ensures back { IfErr result (λ c. c.passes.items ≡ passes.items) }
+    {
+        if passes.len() != self.count {
+            return Err(Closed {
+                why: Refusal::Stranger,
+                shared: self,
+                passes,
+            });
+        }
+        if passes.iter().any(|p| p.is_busy) {
+            return Err(Closed {
+                why: Refusal::Busy,
+                shared: self,
+                passes,
+            });
+        }
+        let Shared {
+            locked,
+            moved: _,
+            gate: _,
+            wanted: _,
+            count: _,
+        } = self;
+        let mut locked = locked.into_inner();
+        locked.meet_all(passes);
+        Ok(locked.into_kernel())
+    }
+}
+
+// A token that is spent, since the device failed.
+fn lost<J: Naming>(pass: &mut Pass<J>, txn: Txn<J>) -> Refused<J>
+    ensures pass { pass.new ≡ pass.old }
+    ensures gone { (result.txn ≡ None) × (result.why ≡ DeviceFailed) }
+{
+    txn.spend();
+    pass.is_busy = false;
+    Refused {
+        why: Refusal::DeviceFailed,
+        txn: None,
+    }
+}

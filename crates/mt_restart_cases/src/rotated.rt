@@ -87,7 +87,8 @@ fn is_refused_while_one_lives(alloc: Global) -> Result<bool, Refusal> {
     match rotate(alloc, kernel, 64) {
         Err(NotRotated::Kept(why, kernel)) => {
             let is_kept = begun && why == Refusal::Busy && !kernel.has_nobody();
-            Ok(is_kept && told_of(alloc, kernel)? == ([2, 2, 1, 1], true))
+            let told = told_of(alloc, kernel)?;
+            Ok(is_kept && told == ([2, 2, 1, 1], true))
         }
         Err(NotRotated::Ended(why, _device)) => Err(why),
         Ok(kernel) => {

@@ -22,7 +22,7 @@ use Rattle.mt_kernel.specs.declared.parts.Commit.{Commit}
 use Rattle.mt_txn.specs.Shown.{Shows}
 use Rattle.mt_txn.specs.declared.answers.KernelForced.TheVariants as forced
 use Rattle.mt_txn.specs.declared.kernel.Kernel.{Kernel}
-use Rattle.mt_txn.proofs.Due.{due_start, due_none, due_more, due_settled, due_idle}
+use Rattle.mt_txn.proofs.Due.{due_none, due_more, due_settled, due_idle}
 use Rattle.mt_server.specs.Driven.{IsEnding, IsForcing, IsGivenUp, IsResting}
 use Rattle.mt_server.specs.Plays.{Play, committed}
 

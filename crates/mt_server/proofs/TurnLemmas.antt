@@ -37,7 +37,7 @@ use Rattle.mt_server.specs.declared.answers.Answer.TheVariants.{Begun, Committed
 use Rattle.mt_server.specs.declared.lines.Line.{Line}
 use Rattle.mt_server.specs.declared.lines.Line.TheVariants as line
 use Rattle.mt_server.proofs.DriveLemmas.{nobody_commits, nobody_there}
-use Rattle.mt_server.proofs.DueLemmas.{due_start}
+use Rattle.mt_txn.proofs.Due.{due_start}
 use Rattle.mt_server.proofs.ForceLemmas.{fails_for, well_of}
 use Rattle.mt_server.proofs.UndoLemmas.{undo_few}
 use Rattle.mt_server.specs.Driven.{Fails, HasBroken, IsBeside, IsDueTo, IsEnding, IsGivenUp, IsGoing, IsLeft, IsOpened, IsResting, IsTested, NobodyCommits}

@@ -5,6 +5,5 @@ pub mod CommandLemmas
 pub mod DumpLemmas
 pub mod ExplainLemmas
 pub mod FolderLemmas
-pub mod ListingLemmas
 pub mod SpellingLemmas
 pub mod Trials

@@ -3,10 +3,8 @@ pub mod CommandLines
 pub mod Dumps
 pub mod Events
 pub mod Explains
-pub mod Explanations
 pub mod Folders
 pub mod Formattings
-pub mod Listings
 pub mod Performs
 pub mod Spelling
 pub mod Tellings

@@ -1,41 +1,22 @@
 // `explain`: the log of the device in a file as a history, without a write.
-ghost use Rattle.std.specs.Prelude.{◌≡◌, ◌⊎◌, ◌<◌, ℕ, false, IfErr, IfOk, OnErr, OnOk};
-ghost use Rattle.std.specs.List.{AllByRecursion};
-ghost use Rattle.std.specs.Io.KnownBytes.{Appends};
+ghost use Rattle.std.specs.Prelude.{◌≡◌, ◌⊎◌, ◌<◌, ℕ, false, IfErr, IfOk, OnOk};
 ghost use Rattle.mt_base.specs.declared.refusal.Refusal.{Refusal};
-ghost use Rattle.mt_frame.specs.Grammar.{IsOperation};
 ghost use Rattle.mt_log.specs.Holds.{BreaksAt};
 ghost use Rattle.mt_log.specs.Masters.{IsRuling, area_end, area_start};
-ghost use Rattle.mt_replay.specs.Losers.{AreOfGrammar};
 ghost use Rattle.mt_replay.specs.Refused.{BreaksLog, IsCause};
-ghost use Rattle.mt_server.specs.Answers.{AppendsFront};
 ghost use Rattle.mt_cli.specs.Checks.{IsUntold};
-ghost use Rattle.mt_cli.specs.Explains.{AreBatchesIn, HasExplained, IsLogIn, IsLogOf, IsUnexplained, Recounts, RecountsLog, history_text};
+ghost use Rattle.mt_cli.specs.Explains.{AreBatchesIn, HasExplained, IsLogIn, IsLogOf, IsUnexplained, RecountsLog};
 ghost use Rattle.mt_cli.specs.Folders.{AreKept, known_in};
 
-use crate::entries::{write_all_put_back, write_all_undone, write_batches};
 use crate::faults::Fault;
 use crate::folder::Folder;
-use crate::unfinished::{Unfinished, unfinished_of};
 use mt_base::Refusal;
 use mt_disk::Device;
+use mt_explain::{History, history_of, write_history};
 use mt_frame::MasterSlot;
 use mt_log::{AreaPlace, Batch, ruling_slot, scan};
-use mt_replay::{Loser, losers_of};
-use mt_server::Unheard;
 use std::alloc::Global;
 use std::io::Write;
-
-/// What a log tells.
-#[derive(Drop)]
-pub(crate) struct History {
-    /// Its batches, in order.
-    batches: Vec<Batch>,
-    /// The operations that a restart puts back.
-    unfinished: Vec<Unfinished>,
-    /// Those that it undoes, in the order of their ends.
-    losers: Vec<Loser>,
-}
 
 /// The batches of the area that a slot names.
 fn read_area<D: Device>(
@@ -78,21 +59,6 @@ fn log_of_file<F: Folder>(alloc: Global, folder: &mut F, name: &str) -> Result<V
     told
 }
 
-/// What these batches tell. The only refusal is [`Refusal::NoMemory`].
-fn history_of(alloc: Global, batches: Vec<Batch>) -> Result<History, Refusal>
-    requires { AreOfGrammar batches.items }
-    ensures told { IfOk result (Recounts batches.items) }
-    ensures only_memory { IfErr result (λ why. why ≡ Refusal.NoMemory) }
-{
-    let unfinished = unfinished_of(alloc, batches.as_slice())?;
-    let losers = losers_of(alloc, batches.as_slice())?;
-    Ok(History {
-        batches,
-        unfinished,
-        losers,
-    })
-}
-
 /// What the log of the device in the file of this name tells.
 fn history_of_file<F: Folder>(alloc: Global, folder: &mut F, name: &str) -> Result<History, Refusal>
     ensures told { IfOk result (RecountsLog (known_in (F.files folder.old) name.now)) }
@@ -101,19 +67,6 @@ fn history_of_file<F: Folder>(alloc: Global, folder: &mut F, name: &str) -> Resu
 {
     let batches = log_of_file(alloc, folder, name)?;
     history_of(alloc, batches)
-}
-
-/// Writes the lines of a history.
-fn write_history<W: Write>(writer: &mut W, history: &History) -> Result<(), Unheard>
-    requires { AllByRecursion (λ l. IsOperation l.done) history.now.losers.items }
-    ensures all { OnOk result (Appends (W.contents writer.old) (W.contents writer.new)
-        (history_text history.now)) }
-    ensures front { OnErr result (AppendsFront (W.contents writer.old) (W.contents writer.new)
-        (history_text history.now)) }
-{
-    write_batches(writer, history.batches.as_slice())?;
-    write_all_put_back(writer, history.unfinished.as_slice())?;
-    write_all_undone(writer, history.losers.as_slice())
 }
 
 /// Does `explain`: writes a line for each record of the log of the device in a file, and then what a restart would do. The

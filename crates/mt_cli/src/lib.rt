@@ -5,17 +5,14 @@
 mod checking;
 mod command;
 mod dumping;
-mod entries;
 mod explaining;
 mod faults;
 mod folder;
 mod formatting;
-mod listing;
 mod numbers;
 mod performing;
 mod schedules;
 mod telling;
-mod unfinished;
 
 pub use command::{CliFault, Command, command_of};
 pub use folder::{DiskFolder, Folder, MemFolder};

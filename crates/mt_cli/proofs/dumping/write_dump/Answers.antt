@@ -4,9 +4,9 @@ use Rattle.std.proofs.KnownBytes.{Appends-trans}
 use Rattle.std.proofs.lemmas.Result.{err_from_is_err_and, on_err_weaker}
 use Rattle.mt_model.specs.Views.{counters_of, rows_of}
 use Rattle.mt_server.proofs.TextLemmas.{front_whole}
-use Rattle.mt_cli.proofs.ListingLemmas.{front_next}
+use Rattle.mt_explain.proofs.ListingLemmas.{front_next}
 use Rattle.mt_cli.specs.Dumps.{sizes_text}
-use Rattle.mt_cli.specs.Listings.{counter_lines, row_line}
+use Rattle.mt_explain.specs.Listings.{counter_lines, row_line}
 use Rattle.mt_cli.proofs.dumping.write_dump.Goals as goal
 
 pub returns-in_err-write_sizes-clause-front : goal.returns-in_err-write_sizes-clause-front

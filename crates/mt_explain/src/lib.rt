@@ -1,0 +1,11 @@
+//! The text of a base and of a log, a line each: rows and counters; the records of a log, and what a restart would do
+//! with what has not ended. Begin at [`history_of`].
+#![tactic(auto)]
+
+mod entries;
+mod history;
+mod listing;
+mod unfinished;
+
+pub use history::{History, history_of, write_history};
+pub use listing::{write_counters, write_rows};

@@ -33,7 +33,7 @@ use Rattle.mt_op.specs.declared.scope.Stage.TheVariants.{Writing, Ready}
 use Rattle.mt_op.proofs.Ending.{ends, others_end, own_ends, own_ends_quietly}
 use Rattle.mt_file.specs.Rooms.{fits_of, AreRooms}
 use Rattle.mt_space.proofs.Changing.{after_untouched}
-use Rattle.mt_op.specs.Room.{HasRooms}
+use Rattle.mt_op.specs.Room.{HasRooms, HasNotedEach, HasFollowed}
 use Rattle.mt_op.proofs.Planned.{some_or_none, not_at_hand}
 use Rattle.mt_op.proofs.Writing.{planned_held, takes_held}
 
@@ -233,6 +233,16 @@ module _ {D : Type 0} (seen : D → List ℕ) (may_leave : D → List ℕ → Ty
             (λ (none : looked s p ≡ None). still p none ∙ right.noted.others p (omega (arith, size, below)) (λ e. other (planned.kinds p none ∙ e)))
             (some_or_none (looked s p));
       }
+
+  -- the index follows its changes, or stays where there are none
+  pub note_followed : (m : OpScope) → m ≡ record s { left = left } → (map old new : List ℕ) → map ≡ after (changes_in s) (held_in w) 0 → length new ≡ length old → old ≡ o.rooms.0 → HasFollowed m map old new
+      → AreRooms new (after (changes_in s) (held_in w))
+  note_followed m scope map old new follows size before followed = ⊎_elim
+      (λ (idle : (changes_in m ≡ []) × (new ≡ old)).
+      let none : changes_in s ≡ [] = sym (ap (λ (x : OpScope). changes_in x) scope) ∙ idle.0 in
+      subst (λ (x : List ℕ). AreRooms x (after (changes_in s) (held_in w))) (sym (idle.1 ∙ before)) (subst (λ (cs : List PageChange). AreRooms o.rooms.0 (after cs (held_in w))) (sym none) right.noted))
+      (λ (each : HasNotedEach m map old new). note_all m scope map new follows (size ∙ ap (λ (xs : List ℕ). length xs) before) each.here (λ p none. each.others p none ∙ ap (λ (xs : List ℕ). get_or xs p 0) before))
+      followed
 
   -- its end was noted
   pub finished : (done : LoggedOp) (m n : Operations D) → logged_of s.op reply ≡ Some done → s.written ≡ length (changes_in s) → Notes w (world seen opening m) (OpEnd s.txn s.number s.undoes done) → IsKept seen may_leave opening m.store

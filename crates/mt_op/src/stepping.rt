@@ -17,7 +17,7 @@ ghost use Rattle.mt_op.specs.World.{looked, changes_in};
 ghost use Rattle.mt_op.specs.Operations.{world, IsOneOf, IsOneWithin, HasBudget, claimed};
 ghost use Rattle.mt_op.specs.Stepping.{GoesAhead};
 ghost use Rattle.mt_op.specs.declared.scope.Stage.TheVariants.{Writing, Ready};
-ghost use Rattle.mt_op.specs.Room.{HasRooms};
+ghost use Rattle.mt_op.specs.Room.{HasRooms, HasFollowed};
 ghost use Rattle.mt_op.specs.Moves.{Rests, Notes};
 ghost use Rattle.mt_op.specs.declared.answers.Stepped.TheVariants as stepped;
 
@@ -150,8 +150,28 @@ impl<D: Device> Operations<D> {
         Ok(())
     }
 
-    // Notes what the pages take that the operation looked at, once its changes are made.
+    // Notes what the pages take that the operation looked at, once its changes are made. Where it changes nothing each
+    // takes what it took.
     fn note_looked(&mut self, scope: &OpScope)
+        requires pages { ∥ ((pages : PageBytes) × Agrees (looked scope.now) pages
+            × AreShort (changes_in scope.now) pages
+            × ((p : ℕ) → get_or self.old.map.kinds p 0 ≡ 3 → IsShaped (after (changes_in scope.now) pages p))) ∥₁ }
+        requires whole { (p : ℕ) (bytes : List ℕ) → looked scope.now p ≡ Some bytes → length bytes ≡ 4096 }
+        requires inside { (p : ℕ) → IsSome (looked scope.now p) → p < length self.old.rooms.0 }
+        requires few { length self.old.rooms.0 ≤ 4096 }
+        ensures store { self.new.store ≡ self.old.store }
+        ensures locks { self.new.locks ≡ self.old.locks }
+        ensures map { self.new.map ≡ self.old.map }
+        ensures rooms { length self.new.rooms.0 ≡ length self.old.rooms.0 }
+        ensures noted { HasFollowed scope.now self.old.map.kinds self.old.rooms.0 self.new.rooms.0 }
+    {
+        if !scope.changes.list.is_empty() {
+            self.note_each(scope);
+        }
+    }
+
+    // Notes what each page takes that the operation looked at, once its changes are made.
+    fn note_each(&mut self, scope: &OpScope)
         requires pages { ∥ ((pages : PageBytes) × Agrees (looked scope.now) pages
             × AreShort (changes_in scope.now) pages
             × ((p : ℕ) → get_or self.old.map.kinds p 0 ≡ 3 → IsShaped (after (changes_in scope.now) pages p))) ∥₁ }

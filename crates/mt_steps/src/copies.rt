@@ -8,6 +8,9 @@ use mt_base::PageNo;
 use mt_space::Pages;
 use std::alloc::{AllocError, Global};
 
+// Most operations look at no more pages: the directory, a bucket's, and one of records or the map, or two.
+const USUAL_PAGES: usize = 4;
+
 /// Copies of some of a device's pages, those that an operation has looked at: no other page is at hand.
 #[derive(Drop)]
 pub struct Copies {
@@ -27,13 +30,15 @@ impl Copies {
         }
     }
 
-    /// Makes room for one copy more. The only error is want of memory.
+    /// Makes room for one copy more, and with the first for as many as most operations want. The only error is want of
+    /// memory.
     pub fn reserve(&mut self) -> Result<(), AllocError>
         ensures total { self.new.total ≡ self.old.total }
         ensures same { self.new.list.items ≡ self.old.list.items }
         ensures room { OnOk result (vec_len self.new.list < vec_capacity self.new.list) }
     {
-        self.list.reserve(1)
+        let wanted = if self.list.is_empty() { USUAL_PAGES } else { 1 };
+        self.list.reserve(wanted)
     }
 
     /// Puts a page's bytes behind the other copies, in the room that was made for them.

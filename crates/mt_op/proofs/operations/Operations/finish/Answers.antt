@@ -26,7 +26,7 @@ use Rattle.mt_op.proofs.Budget.{ended_budget}
 use Rattle.mt_op.proofs.Faulting.{no_fault, no_fault_ok}
 use Rattle.mt_op.proofs.Going.{rests_same}
 use Rattle.mt_op.proofs.Right.{right_rests}
-use Rattle.mt_op.proofs.Finished.{has_reply, end_stands, planned_reply, open_still, settle_asks, settle_claimed, settle_mapped, settle_gives, settle_frees, note_asks, note_whole, note_inside, note_few, note_all, finished, finished_quietly}
+use Rattle.mt_op.proofs.Finished.{has_reply, end_stands, planned_reply, open_still, settle_asks, settle_claimed, settle_mapped, settle_gives, settle_frees, note_asks, note_whole, note_inside, note_few, note_followed, finished, finished_quietly}
 use Rattle.mt_pool.specs.Same.{Operation-prop}
 use Rattle.mt_op.proofs.Known.{known_within}
 use Rattle.mt_op.proofs.operations.Operations.finish.Goals as goal
@@ -200,8 +200,8 @@ returns g c = let d = g.D.Device in let seen = d.seen in let o = c.args.self.now
               (n.store ∙ ap (λ (x : Operations g.row.D.Denot). x.store) w.self-is) (n.locks ∙ ap (λ (x : Operations g.row.D.Denot). x.locks) w.self-is) (ap (λ (x : SpaceMap). x.kinds) n.map ∙ given)
               (subst (λ (x : SpaceMap). x.space.0 ≡ mapped x.kinds (pages o.store.pool)) (sym n.map) free) (subst (λ (x : SpaceMap). reserved_of x.space ≤ free_of x.space) (sym n.map) f.room)
               (n.rooms ∙ ap (λ (xs : List ℕ). length xs) rooms)
-              (note_all seen d.may_leave opening relations counters o s _ c.in_ok-first.first right k c.requires.writing is w.append_end.new.scope.left (ap (λ (t : OpScope). record t { stage = Ready }) scope)
-              c.match-done.scope scope c.settle.new.self.kinds c.note_looked.new.self.rooms.0 given (n.rooms ∙ ap (λ (xs : List ℕ). length xs) rooms) n.noted (λ p none. n.others p none ∙ ap (λ (xs : List ℕ). get_or xs p 0) rooms)) in
+              (note_followed seen d.may_leave opening relations counters o s _ c.in_ok-first.first right k c.requires.writing is w.append_end.new.scope.left (ap (λ (t : OpScope). record t { stage = Ready }) scope)
+              c.match-done.scope scope c.settle.new.self.kinds c.match-done.self.rooms.0 c.note_looked.new.self.rooms.0 given n.rooms rooms n.noted) in
               (done.0, (done.1, c.in_ok-first.ensures.twice))
           | in_default w ↦
               let map_same : c.match-done.self.map ≡ o.map = ap (λ (x : Operations g.row.D.Denot). x.map) w.self-is in
@@ -214,8 +214,8 @@ returns g c = let d = g.D.Device in let seen = d.seen in let o = c.args.self.now
               (n.store ∙ ap (λ (x : Operations g.row.D.Denot). x.store) w.self-is) (n.locks ∙ ap (λ (x : Operations g.row.D.Denot). x.locks) w.self-is) (ap (λ (x : SpaceMap). x.kinds) n.map ∙ given)
               (subst (λ (x : SpaceMap). x.space.0 ≡ mapped x.kinds (pages o.store.pool)) (sym n.map) free) (subst (λ (x : SpaceMap). reserved_of x.space ≤ free_of x.space) (sym n.map) f.room)
               (n.rooms ∙ ap (λ (xs : List ℕ). length xs) rooms)
-              (note_all seen d.may_leave opening relations counters o s _ c.in_ok-first.first right k c.requires.writing is s.left (ap (λ (t : OpScope). record t { stage = Ready }) w.scope-is)
-              c.match-done.scope w.scope-is c.settle.new.self.kinds c.note_looked.new.self.rooms.0 given (n.rooms ∙ ap (λ (xs : List ℕ). length xs) rooms) n.noted (λ p none. n.others p none ∙ ap (λ (xs : List ℕ). get_or xs p 0) rooms)) in
+              (note_followed seen d.may_leave opening relations counters o s _ c.in_ok-first.first right k c.requires.writing is s.left (ap (λ (t : OpScope). record t { stage = Ready }) w.scope-is)
+              c.match-done.scope w.scope-is c.settle.new.self.kinds c.match-done.self.rooms.0 c.note_looked.new.self.rooms.0 given n.rooms rooms n.noted) in
               (done.0, (done.1, c.in_ok-first.ensures.twice))
         ];
         moments = λ opening kept. subst (λ (x : g.row.D.Denot). LeavesOnly d.moment d.left_since o.store.device x (Explains opening o.store)) (sym device) (no_call seen d.may_leave opening o.store kept d.moment d.left_since g.met.D.Device.only_now);

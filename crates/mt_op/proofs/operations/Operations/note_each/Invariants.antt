@@ -2,7 +2,7 @@ use Rattle.std.proofs.Common.{◌≡◌, ℕ, None, length, get_or}
 use Rattle.mt_space.specs.Changes.{PageBytes, Agrees, AreShort}
 use Rattle.mt_op.specs.World.{looked, changes_in}
 use Rattle.mt_op.proofs.Noted.{AreNoted}
-use Rattle.mt_op.proofs.operations.Operations.note_looked.Given as goal
+use Rattle.mt_op.proofs.operations.Operations.note_each.Given as goal
 
 abbrev pub invariant-loop-guard : goal.invariant-loop-guard
 invariant-loop-guard g l = record {

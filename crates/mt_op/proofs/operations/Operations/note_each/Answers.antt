@@ -10,8 +10,8 @@ use Rattle.mt_op.specs.Room.{IsRoom}
 use Rattle.mt_op.specs.declared.operations.Operations.{Operations}
 use Rattle.mt_op.specs.declared.space_map.SpaceMap.{SpaceMap}
 use Rattle.mt_op.proofs.Noted.{AreNoted, noted_here, noted_none}
-use Rattle.mt_op.proofs.operations.Operations.note_looked.Goals as goal
-use Rattle.mt_op.proofs.operations.Operations.note_looked.Goals.{in-Some, in_default}
+use Rattle.mt_op.proofs.operations.Operations.note_each.Goals as goal
+use Rattle.mt_op.proofs.operations.Operations.note_each.Goals.{in-Some, in_default}
 
 pub loop-guard-preserved : goal.loop-guard-preserved
 loop-guard-preserved g c =

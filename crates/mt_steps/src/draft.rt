@@ -8,11 +8,12 @@ use mt_base::PageNo;
 use mt_space::{Changes, PageChange, Pages, patch};
 use std::alloc::{AllocError, Global};
 
-// A page's bytes as they will be.
+// A page's bytes as they will be. They stand before its number, so that they are copied once where a copy is put into a
+// list: a store of the number first would have them copied aside.
 #[derive(Drop)]
 pub(crate) struct PageCopy {
-    pub(crate) page: PageNo,
     pub(crate) bytes: [u8; 4096],
+    pub(crate) page: PageNo,
 }
 
 /// Pages as they will be once some changes are made: copies of the pages that change, which lie over

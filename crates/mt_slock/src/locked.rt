@@ -1,5 +1,8 @@
-ghost use Rattle.std.specs.Prelude.{◌≡◌, IfOk, OnOk, OnErr, MatchOption};
-ghost use Rattle.mt_model.specs.Locks.{no_locks, with_lock, without_lock, IsFree, IsLeastBar};
+ghost use Rattle.std.specs.Prelude.{◌≡◌, IfOk, OnOk, OnErr, None, true};
+ghost use Rattle.std.specs.Map.{lookup};
+ghost use Rattle.mt_model.specs.Model.{same_object};
+ghost use Rattle.mt_model.specs.Locks.{no_locks, with_lock, without_lock};
+ghost use Rattle.mt_slock.specs.Answers.{Stands};
 ghost use Rattle.mt_slock.specs.Views.{held_of, HasNoIdle};
 ghost use Rattle.mt_slock.specs.Noted.{without_locks};
 
@@ -10,6 +13,19 @@ use mt_base::{LockMode, TxnNo};
 use mt_model::Object;
 use std::alloc::{AllocError, Global};
 use std::marker::Model;
+
+/// How an object is held, for a transaction that asks for it in a mode.
+#[derive(Clone, Copy, Debug)]
+pub enum Standing {
+    /// This is the oldest of the other transactions that hold it in a mode that conflicts.
+    Barred(TxnNo),
+    /// The transaction holds it so itself, and nobody is in the way.
+    Own,
+    /// Others hold it, or the transaction does in another mode, and nobody is in the way.
+    Shared,
+    /// Nobody holds it.
+    Alone,
+}
 
 /// The objects that are locked, each with its holders in order of grant.
 #[derive(Drop)]
@@ -50,14 +66,17 @@ impl LockedObjects {
         }
     }
 
-    /// The oldest of the other transactions that hold an object in a mode that conflicts with this one.
-    pub fn barring(&self, txn: TxnNo, object: &Object, mode: LockMode) -> Option<TxnNo>
-        ensures { MatchOption result (IsFree (held_of self.now) txn object.now mode)
-            (IsLeastBar (held_of self.now) txn object.now mode) }
+    /// How an object is held, for a transaction that asks for it in this mode.
+    pub fn standing(&self, txn: TxnNo, object: &Object, mode: LockMode) -> Standing
+        ensures { Stands self.now txn object.now mode result }
     {
-        match self.holders.get(object) {
-            Some(holders) => holders.barring(txn, mode),
-            None => None,
+        let Some(holders) = self.holders.get(object) else {
+            return Standing::Alone;
+        };
+        match holders.barring(txn, mode) {
+            Some(other) => Standing::Barred(other),
+            None if holders.has(txn, mode) => Standing::Own,
+            None => Standing::Shared,
         }
     }
 
@@ -75,6 +94,38 @@ impl LockedObjects {
                 self.holders.insert(object, holders)?;
                 Ok(())
             }
+        }
+    }
+
+    // One lock more, on an object that nobody holds.
+    fn add_first(&mut self, txn: TxnNo, object: Object, mode: LockMode) -> Result<(), AllocError>
+        requires { lookup (same_object object) self.old ≡ None }
+        ensures added { OnOk result (held_of self.new ≡ with_lock (held_of self.old) txn object mode) }
+        ensures err { OnErr result (held_of self.new ≡ held_of self.old) }
+        ensures idle { HasNoIdle self.old → HasNoIdle self.new }
+    {
+        let holders = Holders::one(self.alloc, Holder { txn, mode })?;
+        self.holders.insert(object, holders)?;
+        Ok(())
+    }
+
+    /// One lock more, on an object that nobody holds where `alone` is set. The only error is want of memory.
+    pub fn put(
+        &mut self,
+        txn: TxnNo,
+        object: Object,
+        mode: LockMode,
+        alone: bool,
+    ) -> Result<(), AllocError>
+        requires { alone ≡ true → lookup (same_object object) self.old ≡ None }
+        ensures added { OnOk result (held_of self.new ≡ with_lock (held_of self.old) txn object mode) }
+        ensures err { OnErr result (held_of self.new ≡ held_of self.old) }
+        ensures idle { HasNoIdle self.old → HasNoIdle self.new }
+    {
+        if alone {
+            self.add_first(txn, object, mode)
+        } else {
+            self.add(txn, object, mode)
         }
     }
 

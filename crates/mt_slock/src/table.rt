@@ -1,13 +1,17 @@
-ghost use Rattle.std.specs.Prelude.{◌≡◌, IfOk, IfErr, OnOk, OnErr, false};
+ghost use Rattle.std.specs.Prelude.{◌≡◌, ◌<◌, ◌≤◌, IfOk, IfErr, OnErr, None, true, false};
+ghost use Rattle.std.specs.Map.{lookup};
+ghost use Rattle.mt_base.specs.declared.refusal.Refusal.{Refusal};
+ghost use Rattle.mt_model.specs.Model.{same_object};
 ghost use Rattle.mt_model.specs.Locks.{no_locks, with_lock, without_lock, without_holder, IsFree, AreTogether};
 ghost use Rattle.mt_slock.specs.Views.{held_of};
 ghost use Rattle.mt_slock.specs.Answers.{IsAsked, IsRefused};
+ghost use Rattle.mt_slock.specs.declared.table.Asked.TheVariants as asked;
 
-use crate::locked::LockedObjects;
+use crate::locked::{LockedObjects, Standing};
 use crate::notes::Notes;
 use mt_base::{LockMode, Refusal, TxnNo};
 use mt_model::Object;
-use std::alloc::{AllocError, Global};
+use std::alloc::Global;
 use std::marker::Model;
 
 /// What is answered where a lock is asked for and nothing is refused.
@@ -48,6 +52,18 @@ impl Model for LockTable {
     } };
 }
 
+// What is answered where this transaction is the oldest that is in the way.
+fn barred(txn: TxnNo, holder: TxnNo) -> Result<Asked, Refusal>
+    ensures asked { IfOk result (λ told. (txn ≤ holder) × (told ≡ asked.Wait holder)) }
+    ensures cause { IfErr result (λ why. (holder < txn) × (why ≡ Refusal.Die holder)) }
+{
+    if holder < txn {
+        Err(Refusal::Die(holder))
+    } else {
+        Ok(Asked::Wait(holder))
+    }
+}
+
 impl LockTable {
     /// A table in which nothing is held. It takes no memory.
     pub fn new(alloc: Global) -> LockTable
@@ -77,34 +93,37 @@ impl LockTable {
         ensures err { OnErr result (held_of self.new ≡ held_of self.old) }
         ensures together { AreTogether (held_of self.new) }
     {
-        match self.objects.barring(txn, &object, mode) {
-            Some(holder) if holder < txn => Err(Refusal::Die(holder)),
-            Some(holder) => Ok(Asked::Wait(holder)),
-            None => {
-                let was_held = self.grant(txn, object, mode)?;
-                Ok(Asked::Granted { was_held })
-            }
+        match self.objects.standing(txn, &object, mode) {
+            Standing::Barred(holder) => barred(txn, holder),
+            Standing::Own => Ok(Asked::Granted { was_held: true }),
+            Standing::Shared => self.grant(txn, object, mode, false),
+            Standing::Alone => self.grant(txn, object, mode, true),
         }
     }
 
-    // One lock more, which nobody is in the way of. Answers whether it was held before.
-    fn grant(&mut self, txn: TxnNo, object: Object, mode: LockMode) -> Result<bool, AllocError>
-        requires { IsFree (held_of self.old) txn object mode }
-        ensures granted { OnOk result (held_of self.new ≡ with_lock (held_of self.old) txn object mode) }
-        ensures was { IfOk result (λ was_held. was_held ≡ held_of self.old txn object mode) }
-        ensures new { OnErr result (held_of self.old txn object mode ≡ false) }
+    // One lock more, which nobody is in the way of and the transaction does not hold. Nobody holds the object where
+    // `alone` is set.
+    fn grant(
+        &mut self,
+        txn: TxnNo,
+        object: Object,
+        mode: LockMode,
+        alone: bool,
+    ) -> Result<Asked, Refusal>
+        requires free { IsFree (held_of self.old) txn object mode }
+        requires new { held_of self.old txn object mode ≡ false }
+        requires alone { alone ≡ true → lookup (same_object object) self.old ≡ None }
+        ensures asked { IfOk result (λ asked. IsAsked (held_of self.old) txn object mode asked (held_of self.new)) }
+        ensures only_memory { IfErr result (λ why. why ≡ Refusal.NoMemory) }
         ensures err { OnErr result (held_of self.new ≡ held_of self.old) }
         ensures together { AreTogether (held_of self.new) }
     {
-        if self.objects.has(txn, &object, mode) {
-            return Ok(true);
-        }
         self.notes.add(txn, &object, mode)?;
-        match self.objects.add(txn, object, mode) {
-            Ok(()) => Ok(false),
+        match self.objects.put(txn, object, mode, alone) {
+            Ok(()) => Ok(Asked::Granted { was_held: false }),
             Err(error) => {
                 self.notes.drop_last(txn);
-                Err(error)
+                Err(error.into())
             }
         }
     }

@@ -1,17 +1,30 @@
-use Rattle.std.proofs.Common.{◌∙◌, ap, subst}
-use Rattle.std.proofs.lemmas.Result.{err_from_is_err_and}
-use Rattle.mt_model.specs.Locks.{IsFree}
+use Rattle.std.proofs.Common.{◌≡◌, ℕ, true, false, Result, Ok, Err, sym, subst}
+use Rattle.std.specs.Prelude.{IfErr}
+use Rattle.mt_base.specs.declared.modes.LockMode.{LockMode}
+use Rattle.mt_base.specs.declared.refusal.Refusal.{Refusal}
+use Rattle.mt_base.specs.declared.refusal.Refusal.TheVariants as refusal
+use Rattle.mt_model.specs.declared.objects.Object.{Object}
+use Rattle.mt_model.specs.Locks.{Held, IsFree}
+use Rattle.mt_slock.specs.Answers.{IsRefused}
 use Rattle.mt_slock.specs.Views.{held_of}
+use Rattle.mt_slock.specs.declared.table.Asked.{Asked}
+use Rattle.mt_slock.proofs.Tables.{with_held}
 use Rattle.mt_slock.proofs.table.LockTable.ask.Goals as goal
 
-pub grant-requires : goal.grant-requires
-grant-requires c = subst (λ t. IsFree (held_of t) c.args.txn c.args.object c.args.mode) c.self.view_is c.in-None.ensures
+pub grant-requires-clause-free : goal.grant-requires-clause-free
+grant-requires-clause-free c = subst (λ t. IsFree (held_of t) c.args.txn c.args.object c.args.mode) c.self.view_is c.in-Shared.ensures.0
 
-pub returns-in_err-was_held-in-None-clause-cause : goal.returns-in_err-was_held-in-None-clause-cause
-returns-in_err-was_held-in-None-clause-cause c =
-    let p = err_from_is_err_and c.from_residual.result c.from_residual.ensures.1 in
-    let free = subst (λ t. IsFree (held_of t) c.args.txn c.args.object c.args.mode) c.self.view_is c.in-None.ensures in
-    rw (p.1, p.2) (free, c.in_err-was_held-in-None.ensures.new)
+pub returns-in-Own-clause-asked : goal.returns-in-Own-clause-asked
+returns-in-Own-clause-asked c =
+    let held = subst (λ t. held_of t c.args.txn c.args.object c.args.mode ≡ true) c.self.view_is c.in-Own.ensures.1 in
+    (subst (λ t. IsFree (held_of t) c.args.txn c.args.object c.args.mode) c.self.view_is c.in-Own.ensures.0, with_held (held_of c.args.self.now) c.args.txn c.args.object c.args.mode held, sym held)
 
-pub returns-clause-asked : goal.returns-clause-asked
-returns-clause-asked c = (subst (λ t. IsFree (held_of t) c.args.txn c.args.object c.args.mode) c.self.view_is c.in-None.ensures, c.in_ok-was_held-in-None.ensures.granted, c.in_ok-was_held-in-None.ensures.was)
+-- where a growth was refused the lock would be granted, and was not held
+refused : (held : Held) (t : ℕ) (x : Object) (m : LockMode) (told : Result Asked Refusal) → IfErr told (λ why. why ≡ refusal.NoMemory) → IsFree held t x m → held t x m ≡ false → IfErr told (λ why. IsRefused held t x m why)
+refused held t x m (Ok asked) only free new = tt
+refused held t x m (Err why) only free new = subst (λ (w : Refusal). IsRefused held t x m w) (sym only) (free, new)
+
+pub returns-in-Shared-clause-cause : goal.returns-in-Shared-clause-cause
+returns-in-Shared-clause-cause c = refused (held_of c.args.self.now) c.args.txn c.args.object c.args.mode c.grant.result c.grant.ensures.only_memory
+    (subst (λ t. IsFree (held_of t) c.args.txn c.args.object c.args.mode) c.self.view_is c.in-Shared.ensures.0)
+    (subst (λ t. held_of t c.args.txn c.args.object c.args.mode ≡ false) c.self.view_is c.in-Shared.ensures.1)

@@ -23,7 +23,7 @@ use Rattle.mt_txn.proofs.Living.{idle_of}
 use Rattle.mt_txn.specs.Causes.{begin_cause, call_cause, first_of, is_busy, is_open, unless}
 use Rattle.mt_txn.specs.Events.{HasAborted, HasCalled, HasForced, HasStepped, IsAnsweredBy, IsBack}
 use Rattle.mt_txn.specs.Events.IsBack.{stands, drops as drops_back, undoes as undoes_back}
-use Rattle.mt_txn.specs.Shown.{FailsForGood, SameSchema, Shows, Stays, StaysRestarting, is_failed}
+use Rattle.mt_txn.specs.Shown.{FailsForGood, LeavesFound, SameSchema, Shows, Stays, StaysRestarting, is_failed}
 use Rattle.mt_txn.specs.declared.answers.AbortStepped.{AbortStepped}
 use Rattle.mt_txn.specs.declared.answers.AbortStepped.TheVariants as abort
 use Rattle.mt_txn.specs.declared.answers.KernelForced.{KernelForced}
@@ -81,7 +81,10 @@ back_moves t s _ stands = ([], stays _ _ (abort_went t))
 back_moves t s _ (drops_back op ps runs given) = ([], drops t op ps runs given)
 back_moves t s _ (undoes_back last inverse ps idle effect inverts given) = (_, undoes t last inverse ps idle effect inverts given)
 
-module _ {D : Type 0} {g : Ghosts D} (seen : D → List ℕ) (may_leave : D → List ℕ → Type 0) (faults : D → ℕ) (k n : Kernel D g) where
+module _ {D : Type 0} {g : Ghosts D} (seen : D → List ℕ) (may_leave : D → List ℕ → Type 0) (moment : D → ℕ) (left_since : D → ℕ → List ℕ → Type 0) (faults : D → ℕ) (k n : Kernel D g) where
+  abbrev Found : Type 0
+  Found = LeavesFound seen may_leave moment left_since k n
+
   abbrev Leads : Base → State → Event → Answer → Type 0
   Leads first s event answer = ∥ ((acts : List Act) × (z : State) × Moves s event answer acts z × Shows seen may_leave first z n) ∥₁
 
@@ -96,21 +99,22 @@ module _ {D : Type 0} {g : Ghosts D} (seen : D → List ℕ) (may_leave : D → 
   fails_err {T} why fails = ((λ before. let all = fails.0 before in let is : ◌≡◌ {A = Result T Refusal} (Err why) (Err refusal.DeviceFailed) = all.0 in (let same : why ≡ refusal.DeviceFailed = cc in ap (λ (w : Refusal). Refused w) same, all.1)), λ broken. let same : why ≡ refusal.DeviceFailed = cc in fails.1 (ap (λ (w : Refusal). Err w) same))
 
   -- nothing comes of it
-  pub still_made : (event : Event) (answer : Answer) → IsStill event answer → Stays seen may_leave k n → IsDue seen may_leave faults k event answer n → SetsPhases k event answer n → SameSchema k n → FailsIn k answer n → StaysRestarting seen may_leave k n
-      → HasMade seen may_leave faults k event answer n
-  still_made event answer is same due phases schema fails restarts = record { leads = λ first s shows. still event answer first s is (same first s shows); due = due; phases = phases; fails = fails; restarts = restarts; schema = schema }
+  pub still_made : (event : Event) (answer : Answer) → IsStill event answer → Stays seen may_leave k n → IsDue seen may_leave faults k event answer n → SetsPhases k event answer n → SameSchema k n → FailsIn k answer n → StaysRestarting seen may_leave k n → Found
+      → HasMade seen may_leave moment left_since faults k event answer n
+  still_made event answer is same due phases schema fails restarts found = record { leads = λ first s shows. still event answer first s is (same first s shows); due = due; phases = phases; fails = fails; restarts = restarts; found = found; schema = schema }
 
   -- ---- a begin
 
   pub begin_made : (session txn : ℕ) → txn ≡ k.parts.live.begun + 1 → begin_cause (is_failed k) k.parts ≡ None → ((first : Base) (s : State) → Shows seen may_leave first s k → Shows seen may_leave first (begun s session) n)
-      → SetsPhases k (Begin session) (Begun txn) n → SameSchema k n → FailsIn k (Begun txn) n → StaysRestarting seen may_leave k n
-      → HasMade seen may_leave faults k (Begin session) (Begun txn) n
-  begin_made session txn number may did phases schema fails restarts = record {
+      → SetsPhases k (Begin session) (Begun txn) n → SameSchema k n → FailsIn k (Begun txn) n → StaysRestarting seen may_leave k n → Found
+      → HasMade seen may_leave moment left_since faults k (Begin session) (Begun txn) n
+  begin_made session txn number may did phases schema fails restarts found = record {
     leads = λ first s shows. ∣ ([], begun s session, subst (λ (t : ℕ). Moves s (Begin session) (Begun t) [] (begun s session)) (next_is first s shows) (begins session), did first s shows) ∣₁;
     due = may;
     phases = phases;
     fails = fails;
     restarts = restarts;
+    found = found;
     schema = schema;
   }
     where
@@ -130,20 +134,20 @@ module _ {D : Type 0} {g : Ghosts D} (seen : D → List ℕ) (may_leave : D → 
       go (Some why) e = absurd (let wrong : ◌≡◌ {A = Result Called Refusal} (Ok told) (Err why) = early why e in cc)
 
   pub call_made : (t : ℕ) (op : Op) (told : Called) → ((why : Refusal) → Cause t op ≡ Some why → ◌≡◌ {A = Result Called Refusal} (Ok told) (Err why)) → (Cause t op ≡ None → IsAnsweredBy seen may_leave k t op (Ok told))
-      → ((first : Base) (s : State) → Shows seen may_leave first s k → HasCalled seen may_leave first s t op (Ok told) n) → SamePhases k n → SameSchema k n → FailsIn k (CalledAs told) n → StaysRestarting seen may_leave k n
-      → HasMade seen may_leave faults k (Call t op) (CalledAs told) n
-  call_made t op told early answer did phases schema fails restarts =
+      → ((first : Base) (s : State) → Shows seen may_leave first s k → HasCalled seen may_leave first s t op (Ok told) n) → SamePhases k n → SameSchema k n → FailsIn k (CalledAs told) n → StaysRestarting seen may_leave k n → Found
+      → HasMade seen may_leave moment left_since faults k (Call t op) (CalledAs told) n
+  call_made t op told early answer did phases schema fails restarts found =
       let none = uncaused t op told early in
-      record { leads = λ first s shows. leads told first s (did first s shows); due = (none, answer none); phases = phases; fails = fails; restarts = restarts; schema = schema }
+      record { leads = λ first s shows. leads told first s (did first s shows); due = (none, answer none); phases = phases; fails = fails; restarts = restarts; found = found; schema = schema }
     where
       leads : (told : Called) (first : Base) (s : State) → HasCalled seen may_leave first s t op (Ok told) n → Leads first s (Call t op) (CalledAs told)
       leads call.Started first s shows = ∣ ([], called s t op, calls t op, shows) ∣₁
       leads (call.Wait holder) first s shows = still (Call t op) (CalledAs (call.Wait holder)) first s (call_waits t op holder) shows
 
   pub call_refused : (t : ℕ) (op : Op) (why : Refusal) → ((y : Refusal) → Cause t op ≡ Some y → ◌≡◌ {A = Result Called Refusal} (Err why) (Err y)) → (Cause t op ≡ None → IsAnsweredBy seen may_leave k t op (Err why))
-      → ((first : Base) (s : State) → Shows seen may_leave first s k → HasCalled seen may_leave first s t op (Err why) n) → SamePhases k n → SameSchema k n → FailsIn k (Refused why) n → StaysRestarting seen may_leave k n
-      → HasMade seen may_leave faults k (Call t op) (Refused why) n
-  call_refused t op why early answer did phases schema fails restarts = still_made (Call t op) (Refused why) (is_refused (Call t op) why) did (go (Cause t op) refl) phases schema fails restarts
+      → ((first : Base) (s : State) → Shows seen may_leave first s k → HasCalled seen may_leave first s t op (Err why) n) → SamePhases k n → SameSchema k n → FailsIn k (Refused why) n → StaysRestarting seen may_leave k n → Found
+      → HasMade seen may_leave moment left_since faults k (Call t op) (Refused why) n
+  call_refused t op why early answer did phases schema fails restarts found = still_made (Call t op) (Refused why) (is_refused (Call t op) why) did (go (Cause t op) refl) phases schema fails restarts found
     where
       go : (c : Option Refusal) → Cause t op ≡ c → IsDue seen may_leave faults k (Call t op) (Refused why) n
       go None e = inr (e, answer e)
@@ -151,9 +155,9 @@ module _ {D : Type 0} {g : Ghosts D} (seen : D → List ℕ) (may_leave : D → 
 
   -- ---- a step
 
-  pub step_made : (t : ℕ) (told : StepTold) → IsStepped k t told n → ((first : Base) (s : State) → Shows seen may_leave first s k → HasStepped seen may_leave first s t (Ok told) n) → SamePhases k n → SameSchema k n → FailsIn k (Stepped told) n → StaysRestarting seen may_leave k n
-      → HasMade seen may_leave faults k (Step t) (Stepped told) n
-  step_made t told due did phases schema fails restarts = record { leads = λ first s shows. leads told first s shows (did first s shows); due = due; phases = phases; fails = fails; restarts = restarts; schema = schema }
+  pub step_made : (t : ℕ) (told : StepTold) → IsStepped k t told n → ((first : Base) (s : State) → Shows seen may_leave first s k → HasStepped seen may_leave first s t (Ok told) n) → SamePhases k n → SameSchema k n → FailsIn k (Stepped told) n → StaysRestarting seen may_leave k n → Found
+      → HasMade seen may_leave moment left_since faults k (Step t) (Stepped told) n
+  step_made t told due did phases schema fails restarts found = record { leads = λ first s shows. leads told first s shows (did first s shows); due = due; phases = phases; fails = fails; restarts = restarts; found = found; schema = schema }
     where
       ends_with : (reply : Reply) (first : Base) (s : State) → Shows seen may_leave first s k → (o : Option Op) → s.running t ≡ o → HasStepped seen may_leave first s t (Ok (step.Replied reply)) n → Leads first s (Step t) (Stepped (step.Replied reply))
       ends_with reply first s shows None none did =
@@ -174,9 +178,9 @@ module _ {D : Type 0} {g : Ghosts D} (seen : D → List ℕ) (may_leave : D → 
 
   -- ---- a step of an abort
 
-  pub back_made : (t : ℕ) (told : AbortStepped) → IsBacked k t told n → ((first : Base) (s : State) → Shows seen may_leave first s k → HasAborted seen may_leave first s t (Ok told) n) → SetsPhases k (AbortStep t) (Backed told) n → SameSchema k n → FailsIn k (Backed told) n → StaysRestarting seen may_leave k n
-      → HasMade seen may_leave faults k (AbortStep t) (Backed told) n
-  back_made t told due did phases schema fails restarts = record { leads = λ first s shows. leads told first s (did first s shows); due = due; phases = phases; fails = fails; restarts = restarts; schema = schema }
+  pub back_made : (t : ℕ) (told : AbortStepped) → IsBacked k t told n → ((first : Base) (s : State) → Shows seen may_leave first s k → HasAborted seen may_leave first s t (Ok told) n) → SetsPhases k (AbortStep t) (Backed told) n → SameSchema k n → FailsIn k (Backed told) n → StaysRestarting seen may_leave k n → Found
+      → HasMade seen may_leave moment left_since faults k (AbortStep t) (Backed told) n
+  back_made t told due did phases schema fails restarts found = record { leads = λ first s shows. leads told first s (did first s shows); due = due; phases = phases; fails = fails; restarts = restarts; found = found; schema = schema }
     where
       leads : (told : AbortStepped) (first : Base) (s : State) → HasAborted seen may_leave first s t (Ok told) n → Leads first s (AbortStep t) (Backed told)
       leads abort.More first s did = ∥∥₁_map did (λ (z, back, shows). let moves = back_moves t s z back in (moves.0, z, moves.1, shows))
@@ -209,9 +213,9 @@ module _ {D : Type 0} {g : Ghosts D} (seen : D → List ℕ) (may_leave : D → 
   flush_told flush.Force written barred nothing = barred refl
   flush_told flush.Clean written barred nothing = nothing refl
 
-  pub force_made : (told : KernelForced) → ((first : Base) (s : State) → Shows seen may_leave first s k → HasForced seen may_leave first s (Ok told) n) → IsDue seen may_leave faults k Force (Forced told) n → SetsPhases k Force (Forced told) n → SameSchema k n → FailsIn k (Forced told) n → StaysRestarting seen may_leave k n
-      → HasMade seen may_leave faults k Force (Forced told) n
-  force_made told did due phases schema fails restarts = record { leads = λ first s shows. leads told first s (did first s shows); due = due; phases = phases; fails = fails; restarts = restarts; schema = schema }
+  pub force_made : (told : KernelForced) → ((first : Base) (s : State) → Shows seen may_leave first s k → HasForced seen may_leave first s (Ok told) n) → IsDue seen may_leave faults k Force (Forced told) n → SetsPhases k Force (Forced told) n → SameSchema k n → FailsIn k (Forced told) n → StaysRestarting seen may_leave k n → Found
+      → HasMade seen may_leave moment left_since faults k Force (Forced told) n
+  force_made told did due phases schema fails restarts found = record { leads = λ first s shows. leads told first s (did first s shows); due = due; phases = phases; fails = fails; restarts = restarts; found = found; schema = schema }
     where
       leads : (told : KernelForced) (first : Base) (s : State) → HasForced seen may_leave first s (Ok told) n → Leads first s Force (Forced told)
       leads forced.More first s did = still Force (Forced forced.More) first s force_went did

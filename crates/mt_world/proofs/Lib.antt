@@ -1,3 +1,4 @@
 mod EventLemmas
 mod ToldLemmas
 mod RunLemmas
+mod CrashLemmas

@@ -188,7 +188,7 @@ module _ {D : Type 0} {g : Ghosts D} (seen : D → List ℕ) (may_leave : D → 
   makes_shows _ _ _ _ n (starts k shows) = shows
   makes_shows _ _ _ z n (goes_on events answers acts more s _ k _ event answer before made) = made.shows
 
-  makes_same : (events : List Event) (answers : List Answer) (acts : List Act) (s : State) (n : Kernel D g) → Makes seen may_leave faults first events answers acts s n → length events ≡ length answers
+  pub makes_same : (events : List Event) (answers : List Answer) (acts : List Act) (s : State) (n : Kernel D g) → Makes seen may_leave faults first events answers acts s n → length events ≡ length answers
   makes_same _ _ _ _ n (starts k shows) = refl
   makes_same _ _ _ z n (goes_on events answers acts more s _ k _ event answer before made) =
       let same = makes_same events answers acts s k before in
@@ -235,16 +235,16 @@ module _ {D : Type 0} {g : Ghosts D} (seen : D → List ℕ) (may_leave : D → 
   pub ran_none : (k : Kernel D g) → Shows seen may_leave first (start first) k → Ran [] [] k
   ran_none k shows = ∣ ([], start first, starts k shows, shows) ∣₁
 
-  ran_more : (events : List Event) (answers : List Answer) (k n : Kernel D g) (event : Event) (answer : Answer) → HasMade seen may_leave faults k event answer n → Ran events answers k → Ran (events ++ event ∷ []) (answers ++ answer ∷ []) n
-  ran_more events answers k n event answer made ran = ∥∥₁_elim ran (hlevel props) (λ (acts, s, before, shows).
+  ran_more : (moment : D → ℕ) (left_since : D → ℕ → List ℕ → Type 0) (events : List Event) (answers : List Answer) (k n : Kernel D g) (event : Event) (answer : Answer) → HasMade seen may_leave moment left_since faults k event answer n → Ran events answers k → Ran (events ++ event ∷ []) (answers ++ answer ∷ []) n
+  ran_more moment left_since events answers k n event answer made ran = ∥∥₁_elim ran (hlevel props) (λ (acts, s, before, shows).
       ∥∥₁_map (made.leads first s shows) (λ (more, z, moves, now).
       (acts ++ more, z, goes_on events answers acts more s z k n event answer before (record { moves = moves; due = made.due; phases = made.phases; fails = made.fails; schema = made.schema; shows = now }), now)))
 
-  pub ran_next : (events : List Event) (i : ℕ) (answers : List Answer) (k n : Kernel D g) (event : Event) (answer : Answer) → i < length events → event ≡ get_or events i event → HasMade seen may_leave faults k event answer n
+  pub ran_next : (moment : D → ℕ) (left_since : D → ℕ → List ℕ → Type 0) (events : List Event) (i : ℕ) (answers : List Answer) (k n : Kernel D g) (event : Event) (answer : Answer) → i < length events → event ≡ get_or events i event → HasMade seen may_leave moment left_since faults k event answer n
       → Ran (take i events) answers k → Ran (take (suc i) events) (answers ++ answer ∷ []) n
-  ran_next events i answers k n event answer lt is made ran =
+  ran_next moment left_since events i answers k n event answer lt is made ran =
       let all : take i events ++ event ∷ [] ≡ take (suc i) events = ap (λ (e : Event). take i events ++ e ∷ []) is ∙ sym (take-suc events i event lt) in
-      subst (λ (es : List Event). Ran es (answers ++ answer ∷ []) n) all (ran_more (take i events) answers k n event answer made ran)
+      subst (λ (es : List Event). Ran es (answers ++ answer ∷ []) n) all (ran_more moment left_since (take i events) answers k n event answer made ran)
 
   pub has_run : (events : List Event) (answers : List Answer) (n : Kernel D g) → Ran events answers n → Restarts seen may_leave first n → ∥ HasRun seen may_leave faults first events answers n ∥₁
   has_run events answers n ran restarts = ∥∥₁_elim ran (hlevel props) (λ (acts, s, made, shows).

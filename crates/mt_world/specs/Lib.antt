@@ -3,3 +3,4 @@ pub mod Moves
 pub mod Due
 pub mod Told
 pub mod Schedules
+pub mod Crashes

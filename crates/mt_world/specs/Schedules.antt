@@ -5,7 +5,7 @@ use Rattle.mt_live.specs.Entries.{IsExplained}
 use Rattle.mt_live.specs.Machine.{State, committed_base, start}
 use Rattle.mt_model.specs.History.{IsActed, IsLegal, run}
 use Rattle.mt_model.specs.Model.{Base}
-use Rattle.mt_txn.specs.Shown.{Restarts, SameSchema, Shows, StaysRestarting}
+use Rattle.mt_txn.specs.Shown.{LeavesFound, Restarts, SameSchema, Shows, StaysRestarting}
 use Rattle.mt_txn.specs.declared.kernel.Kernel.{Kernel}
 use Rattle.mt_world.specs.Acts.{Act, calls_in}
 use Rattle.mt_world.specs.Due.{FailsIn, IsDue, SetsPhases, StayBroken}
@@ -14,17 +14,19 @@ use Rattle.mt_world.specs.Told.{acknowledged, commit_of, told_of}
 use Rattle.mt_world.specs.declared.events.Answer.{Answer}
 use Rattle.mt_world.specs.declared.events.Event.{Event}
 
-module _ {D : Type 0} {g : Ghosts D} (seen : D → List ℕ) (may_leave : D → List ℕ → Type 0) (faults : D → ℕ) where
-  -- An event led a kernel to another, whatever state it showed.
-  pub record HasMade (k : Kernel D g) (event : Event) (answer : Answer) (n : Kernel D g) : Type 0 where
-    pub leads : (first : Base) (s : State) → Shows seen may_leave first s k
-        → ∥ ((acts : List Act) × (z : State) × Moves s event answer acts z × Shows seen may_leave first z n) ∥₁
-    pub due : IsDue seen may_leave faults k event answer n
-    pub phases : SetsPhases k event answer n
-    pub fails : FailsIn k answer n
-    pub restarts : StaysRestarting seen may_leave k n
-    pub schema : SameSchema k n
+-- An event led a kernel to another, whatever state it showed; and whenever a crash came in it, a restart finds what some of the first
+-- commits of the kernel lead to.
+pub record HasMade {D : Type 0} {g : Ghosts D} (seen : D → List ℕ) (may_leave : D → List ℕ → Type 0) (moment : D → ℕ) (left_since : D → ℕ → List ℕ → Type 0) (faults : D → ℕ) (k : Kernel D g) (event : Event) (answer : Answer) (n : Kernel D g) : Type 0 where
+  pub leads : (first : Base) (s : State) → Shows seen may_leave first s k
+      → ∥ ((acts : List Act) × (z : State) × Moves s event answer acts z × Shows seen may_leave first z n) ∥₁
+  pub due : IsDue seen may_leave faults k event answer n
+  pub phases : SetsPhases k event answer n
+  pub fails : FailsIn k answer n
+  pub restarts : StaysRestarting seen may_leave k n
+  pub found : LeavesFound seen may_leave moment left_since k n
+  pub schema : SameSchema k n
 
+module _ {D : Type 0} {g : Ghosts D} (seen : D → List ℕ) (may_leave : D → List ℕ → Type 0) (faults : D → ℕ) where
   -- An event led a kernel in this state to another in that, with what ended in it.
   pub record IsMade (first : Base) (s : State) (k : Kernel D g) (event : Event) (answer : Answer) (acts : List Act) (z : State) (n : Kernel D g) : Type 0 where
     pub moves : Moves s event answer acts z

@@ -10,7 +10,8 @@ use mt_txn::Kernel;
 
 // Begins a transaction.
 fn begin<D: Device>(kernel: &mut Kernel<D>, session: u32) -> Answer
-    ensures { HasMade D.seen D.may_leave D.faults kernel.old (event.Begin session) result kernel.new }
+    ensures { HasMade D.seen D.may_leave D.moment D.left_since D.faults kernel.old (event.Begin session) result
+        kernel.new }
 {
     match kernel.begin(session) {
         Ok(txn) => Answer::Begun(txn),
@@ -20,7 +21,8 @@ fn begin<D: Device>(kernel: &mut Kernel<D>, session: u32) -> Answer
 
 // Calls a copy of an operation.
 fn call<D: Device>(kernel: &mut Kernel<D>, txn: TxnNo, op: &Op) -> Answer
-    ensures { HasMade D.seen D.may_leave D.faults kernel.old (event.Call txn op.now) result kernel.new }
+    ensures { HasMade D.seen D.may_leave D.moment D.left_since D.faults kernel.old (event.Call txn op.now) result
+        kernel.new }
 {
     if kernel.has_failed() {
         return Answer::Refused(Refusal::DeviceFailed);
@@ -36,7 +38,8 @@ fn call<D: Device>(kernel: &mut Kernel<D>, txn: TxnNo, op: &Op) -> Answer
 
 // Makes a step of an operation.
 fn step<D: Device>(kernel: &mut Kernel<D>, txn: TxnNo) -> Answer
-    ensures { HasMade D.seen D.may_leave D.faults kernel.old (event.Step txn) result kernel.new }
+    ensures { HasMade D.seen D.may_leave D.moment D.left_since D.faults kernel.old (event.Step txn) result
+        kernel.new }
 {
     match kernel.step(txn) {
         Ok(stepped) => Answer::Stepped(stepped),
@@ -46,7 +49,8 @@ fn step<D: Device>(kernel: &mut Kernel<D>, txn: TxnNo) -> Answer
 
 // Begins a commit.
 fn commit<D: Device>(kernel: &mut Kernel<D>, txn: TxnNo) -> Answer
-    ensures { HasMade D.seen D.may_leave D.faults kernel.old (event.Commit txn) result kernel.new }
+    ensures { HasMade D.seen D.may_leave D.moment D.left_since D.faults kernel.old (event.Commit txn) result
+        kernel.new }
 {
     match kernel.commit_begin(txn) {
         Ok(place) => Answer::Committing(place),
@@ -56,7 +60,8 @@ fn commit<D: Device>(kernel: &mut Kernel<D>, txn: TxnNo) -> Answer
 
 // Begins an abort.
 fn abort<D: Device>(kernel: &mut Kernel<D>, txn: TxnNo) -> Answer
-    ensures { HasMade D.seen D.may_leave D.faults kernel.old (event.AbortBegin txn) result kernel.new }
+    ensures { HasMade D.seen D.may_leave D.moment D.left_since D.faults kernel.old (event.AbortBegin txn) result
+        kernel.new }
 {
     match kernel.abort_begin(txn) {
         Ok(()) => Answer::Aborting,
@@ -66,7 +71,8 @@ fn abort<D: Device>(kernel: &mut Kernel<D>, txn: TxnNo) -> Answer
 
 // Makes a step of an abort.
 fn go_back<D: Device>(kernel: &mut Kernel<D>, txn: TxnNo) -> Answer
-    ensures { HasMade D.seen D.may_leave D.faults kernel.old (event.AbortStep txn) result kernel.new }
+    ensures { HasMade D.seen D.may_leave D.moment D.left_since D.faults kernel.old (event.AbortStep txn) result
+        kernel.new }
 {
     match kernel.abort_step(txn) {
         Ok(stepped) => Answer::Backed(stepped),
@@ -76,7 +82,8 @@ fn go_back<D: Device>(kernel: &mut Kernel<D>, txn: TxnNo) -> Answer
 
 // Makes a step of a force.
 fn force<D: Device>(kernel: &mut Kernel<D>) -> Answer
-    ensures { HasMade D.seen D.may_leave D.faults kernel.old event.Force result kernel.new }
+    ensures { HasMade D.seen D.may_leave D.moment D.left_since D.faults kernel.old event.Force result
+        kernel.new }
 {
     match kernel.force_step() {
         Ok(forced) => Answer::Forced(forced),
@@ -86,7 +93,8 @@ fn force<D: Device>(kernel: &mut Kernel<D>) -> Answer
 
 // Flushes a frame.
 fn flush<D: Device>(kernel: &mut Kernel<D>) -> Answer
-    ensures { HasMade D.seen D.may_leave D.faults kernel.old event.Flush result kernel.new }
+    ensures { HasMade D.seen D.may_leave D.moment D.left_since D.faults kernel.old event.Flush result
+        kernel.new }
 {
     match kernel.flush_step() {
         Ok(flushed) => Answer::Flushed(flushed),
@@ -96,7 +104,8 @@ fn flush<D: Device>(kernel: &mut Kernel<D>) -> Answer
 
 /// Makes an event by the kernel's call of its name, and gives what that answers.
 pub(crate) fn make<D: Device>(kernel: &mut Kernel<D>, event: &Event) -> Answer
-    ensures { HasMade D.seen D.may_leave D.faults kernel.old event.now result kernel.new }
+    ensures { HasMade D.seen D.may_leave D.moment D.left_since D.faults kernel.old event.now result
+        kernel.new }
 {
     match event {
         Event::Begin(session) => begin(kernel, *session),

@@ -6,6 +6,7 @@ ghost use Rattle.mt_live.specs.Machine.{start};
 ghost use Rattle.mt_restart.specs.Schemas.{counters_in, device_bytes, relations_in, schema_base};
 ghost use Rattle.mt_txn.specs.Shown.{Restarts, SameSchema, Shows};
 ghost use Rattle.mt_model.specs.Model.{Base};
+ghost use Rattle.mt_world.specs.Crashes.{FoundUntil, device_under};
 ghost use Rattle.mt_world.specs.Schedules.{HasRun};
 
 use crate::events::{Answer, Event};
@@ -26,6 +27,10 @@ fn make_all<D: Device>(kernel: &mut Kernel<D>, events: &[Event], answers: &mut V
     ensures ran { (first : Base) → Shows D.seen D.may_leave first (start first) kernel.old
         → Restarts D.seen D.may_leave first kernel.old → ∥ HasRun D.seen D.may_leave D.faults first events.now
         answers.new.items kernel.new ∥₁ }
+    ensures moments { (first : Base) → Shows D.seen D.may_leave first (start first) kernel.old
+        → Restarts D.seen D.may_leave first kernel.old
+        → ∥ FoundUntil D.seen D.may_leave D.moment D.left_since D.faults first events.now answers.new.items kernel.new
+        (device_under kernel.new) ∥₁ }
     ensures schema { SameSchema kernel.old kernel.new }
 {
     for event in events {
@@ -52,6 +57,8 @@ pub fn run_schedule<D: Device + Drop>(
 ) -> Result<(Kernel<D>, Vec<Answer>), (Refusal, D)>
     ensures ran { IfOk result (λ made. ∥ HasRun D.seen D.may_leave D.faults (schema_base schema.now) events.now
         made.1.items made.0 ∥₁) }
+    ensures moments { IfOk result (λ made. ∥ FoundUntil D.seen D.may_leave D.moment D.left_since D.faults
+        (schema_base schema.now) events.now made.1.items made.0 (device_under made.0) ∥₁) }
     ensures schema { IfOk result (λ made. (made.0.relations ≡ relations_in schema.now)
         × (made.0.counters ≡ length (counters_in schema.now))) }
     ensures cause { IfErr result (λ gone. (gone.0 ≡ Refusal.NoMemory)

@@ -1,0 +1,164 @@
+-- What a restart finds where a crash comes within events that are made one after the other.
+use Rattle.std.proofs.Common.{◌≡◌, ◌≢◌, ◌<◌, ◌≤◌, ◌+◌, suc, ℕ, List, [], ◌∷◌, ◌++◌, length, take, get_or, ⊎_elim, refl, ap, sym, subst, ◌∙◌, length-append, arith}
+use Rattle.std.proofs.lemmas.Bool.{cases_lt}
+use Rattle.std.proofs.lemmas.List.{take_all, take-append-le}
+use Rattle.std.proofs.Math.ListN.{get_or-append}
+use Rattle.std.proofs.Math.Seq.{get_or-append_seam, take-suc}
+use mathlib.Core.Logic.{∥∥₁_elim, ∥∥₁_map, ∥∥₁_prop}
+use Rattle.std.proofs.Props.{props}
+use Rattle.mt_base.specs.Limits.{IsRelationCount}
+use Rattle.mt_disk.specs.declared.device.Device.{Ghosts}
+use Rattle.mt_live.proofs.Alone.{put_other, put_own}
+use Rattle.mt_live.specs.Machine.{put, start}
+use Rattle.mt_model.specs.Model.{Base}
+use Rattle.mt_txn.proofs.Restarting.{finds_commits, no_call}
+use Rattle.mt_txn.specs.Restarted.{FindsCommits}
+use Rattle.mt_txn.specs.Shown.{LeavesFound, Restarts, Shows}
+use Rattle.mt_txn.specs.declared.kernel.Kernel.{Kernel}
+use Rattle.mt_world.proofs.RunLemmas.{Ran, has_run, makes_same, ran_none}
+use Rattle.mt_world.specs.Crashes.{FindsBetween, FoundUntil, device_under}
+use Rattle.mt_world.specs.Schedules.{HasMade, HasRun}
+use Rattle.mt_world.specs.declared.events.Answer.{Answer}
+use Rattle.mt_world.specs.declared.events.Event.{Event}
+
+module _ {D : Type 0} {g : Ghosts D} (seen : D → List ℕ) (may_leave : D → List ℕ → Type 0) (moment : D → ℕ) (left_since : D → ℕ → List ℕ → Type 0) (only_now : (d : D) (c : List ℕ) → left_since d (moment d) c → may_leave d c) where
+  -- no call of the device was made
+  pub found_itself : (k : Kernel D g) → LeavesFound seen may_leave moment left_since k k
+  found_itself k = λ first r count. no_call seen may_leave k.relations k.counters first moment left_since only_now k.parts k.parts.operations.store.device refl r count
+
+  module _ (faults : D → ℕ) (first : Base) where
+    abbrev pub Found : List Event → List Answer → Kernel D g → Type 0
+    Found events answers k = ∥ FoundUntil seen may_leave moment left_since faults first events answers k (device_under k) ∥₁
+
+    finds_now : (k : Kernel D g) (c : List ℕ) → Restarts seen may_leave first k → IsRelationCount k.relations → left_since (device_under k) (moment (device_under k)) c → ∥ FindsCommits k.relations k.counters first k.parts c ∥₁
+    finds_now k c starts count left = finds_commits seen may_leave k.relations k.counters first k.parts c starts (only_now (device_under k) c left) count
+
+    pub found_none : (k : Kernel D g) → Shows seen may_leave first (start first) k → Restarts seen may_leave first k → IsRelationCount k.relations → Found [] [] k
+    found_none k shows starts count = ∣ record {
+      behind = λ i. k;
+      last = refl;
+      goes = λ i event answer lt. absurd (omega (arith, lt));
+      ran = λ i le. let none : i ≡ 0 = omega (arith, le) in subst (λ (j : ℕ). ∥ HasRun seen may_leave faults first (take j []) (take j []) k ∥₁) (sym none) (has_run seen may_leave faults first [] [] k (ran_none seen may_leave faults first k shows) starts);
+      later = λ i le. omega arith;
+      each = λ i c le left. ∥∥₁_map (finds_now k c starts count left) (λ f. record { made = 0; past = le; within = omega arith; finds = f });
+    } ∣₁
+
+    module _ (events : List Event) (answers : List Answer) (event : Event) (answer : Answer) (k n : Kernel D g) (made : HasMade seen may_leave moment left_since faults k event answer n)
+        (starts : Restarts seen may_leave first k) (now : Restarts seen may_leave first n) (count : IsRelationCount k.relations) (counts : IsRelationCount n.relations) (same : length events ≡ length answers)
+        (ran : ∥ HasRun seen may_leave faults first (events ++ event ∷ []) (answers ++ answer ∷ []) n ∥₁) (was : FoundUntil seen may_leave moment left_since faults first events answers k (device_under k)) where
+      abbrev next : ℕ → Kernel D g
+      next = put was.behind (length events + 1) n
+
+      old : (i : ℕ) → i ≤ length events → next i ≡ was.behind i
+      old i le = put_other was.behind (length events + 1) n i (λ (e : i ≡ length events + 1). omega (arith, e, le))
+
+      own : next (length events + 1) ≡ n
+      own = put_own was.behind (length events + 1) n
+
+      here : next (length events) ≡ k
+      here = old (length events) (omega arith) ∙ was.last
+
+      longer : length (events ++ event ∷ []) ≡ length events + 1
+      longer = length-append events (event ∷ [])
+
+      longer_told : length (answers ++ answer ∷ []) ≡ length events + 1
+      longer_told = length-append answers (answer ∷ []) ∙ ap (λ (l : ℕ). l + 1) (sym same)
+
+      whole : (i : ℕ) → length events + 1 ≤ i → i ≤ length (events ++ event ∷ []) → i ≡ length events + 1
+      whole i ge le = omega (arith, ge, le, longer)
+
+      goes : (i : ℕ) (e : Event) (a : Answer) → i < length (events ++ event ∷ []) → HasMade seen may_leave moment left_since faults (next i) (get_or (events ++ event ∷ []) i e) (get_or (answers ++ answer ∷ []) i a) (next (i + 1))
+      goes i e a lt = ⊎_elim
+          (λ (less : i < length events).
+          let one : get_or (events ++ event ∷ []) i e ≡ get_or events i e = get_or-append events (event ∷ []) e i less in
+          let two : get_or (answers ++ answer ∷ []) i a ≡ get_or answers i a = get_or-append answers (answer ∷ []) a i (omega (arith, less, same)) in
+          let from : next i ≡ was.behind i = old i (omega (arith, less)) in
+          let to : next (i + 1) ≡ was.behind (i + 1) = old (i + 1) (omega (arith, less)) in
+          subst (λ (X : Type 0). X) (λ j. HasMade seen may_leave moment left_since faults (sym from j) (sym one j) (sym two j) (sym to j)) (was.goes i e a less))
+          (λ (ge : length events ≤ i).
+          let at_last : i ≡ length events = omega (arith, ge, lt, longer) in
+          let one : get_or (events ++ event ∷ []) i e ≡ event = ap (λ (j : ℕ). get_or (events ++ event ∷ []) j e) at_last ∙ get_or-append_seam events event [] e in
+          let two : get_or (answers ++ answer ∷ []) i a ≡ answer = ap (λ (j : ℕ). get_or (answers ++ answer ∷ []) j a) (at_last ∙ same) ∙ get_or-append_seam answers answer [] a in
+          let from : next i ≡ k = ap next at_last ∙ here in
+          let to : next (i + 1) ≡ n = ap (λ (j : ℕ). next (j + 1)) at_last ∙ own in
+          subst (λ (X : Type 0). X) (λ j. HasMade seen may_leave moment left_since faults (sym from j) (sym one j) (sym two j) (sym to j)) made)
+          (cases_lt i (length events))
+
+      ran_to : (i : ℕ) → i ≤ length (events ++ event ∷ []) → ∥ HasRun seen may_leave faults first (take i (events ++ event ∷ [])) (take i (answers ++ answer ∷ [])) (next i) ∥₁
+      ran_to i le = ⊎_elim
+          (λ (less : i < length events + 1).
+          let short : i ≤ length events = omega (arith, less) in
+          let one : take i (events ++ event ∷ []) ≡ take i events = take-append-le i events (event ∷ []) short in
+          let two : take i (answers ++ answer ∷ []) ≡ take i answers = take-append-le i answers (answer ∷ []) (omega (arith, short, same)) in
+          let there : next i ≡ was.behind i = old i short in
+          subst (λ (X : Type 0). X) (λ j. ∥ HasRun seen may_leave faults first (sym one j) (sym two j) (sym there j) ∥₁) (was.ran i short))
+          (λ (ge : length events + 1 ≤ i).
+          let is = whole i ge le in
+          let one : take i (events ++ event ∷ []) ≡ events ++ event ∷ [] = take_all i (events ++ event ∷ []) (omega (arith, is, longer)) in
+          let two : take i (answers ++ answer ∷ []) ≡ answers ++ answer ∷ [] = take_all i (answers ++ answer ∷ []) (omega (arith, is, longer_told)) in
+          let there : next i ≡ n = ap next is ∙ own in
+          subst (λ (X : Type 0). X) (λ j. ∥ HasRun seen may_leave faults first (sym one j) (sym two j) (sym there j) ∥₁) ran)
+          (cases_lt i (length events + 1))
+
+      rises : moment (device_under k) ≤ moment (device_under n)
+      rises = (made.found first starts count).later
+
+      later : (i : ℕ) → i ≤ length (events ++ event ∷ []) → moment (device_under (next i)) ≤ moment (device_under n)
+      later i le = ⊎_elim
+          (λ (less : i < length events + 1).
+          let short : i ≤ length events = omega (arith, less) in
+          let there : moment (device_under (next i)) ≡ moment (device_under (was.behind i)) = ap (λ (m : Kernel D g). moment (device_under m)) (old i short) in
+          let before = was.later i short in let after = rises in omega (arith, there, before, after))
+          (λ (ge : length events + 1 ≤ i).
+          let there : moment (device_under (next i)) ≡ moment (device_under n) = ap (λ (m : Kernel D g). moment (device_under m)) (ap next (whole i ge le) ∙ own) in omega (arith, there))
+          (cases_lt i (length events + 1))
+
+      Finds : Kernel D g → List ℕ → Type 0
+      Finds m c = FindsCommits m.relations m.counters first m.parts c
+
+      each : (i : ℕ) (c : List ℕ) → i ≤ length (events ++ event ∷ []) → left_since (device_under n) (moment (device_under (next i))) c → ∥ FindsBetween first next i (length (events ++ event ∷ [])) c ∥₁
+      each i c le left = ⊎_elim
+          (λ (less : i < length events + 1).
+          let short : i ≤ length events = omega (arith, less) in
+          let since = subst (λ (m : Kernel D g). left_since (device_under n) (moment (device_under m)) c) (old i short) left in
+          ∥∥₁_elim ((made.found first starts count).before (moment (device_under (was.behind i))) c (was.later i short) since) ∥∥₁_prop (⊎_elim
+          (λ before. ∥∥₁_map (was.each i c short before) (λ f. record {
+            made = f.made;
+            past = f.past;
+            within = let w = f.within in omega (arith, w, longer);
+            finds = subst (λ (m : Kernel D g). FindsCommits m.relations m.counters first m.parts c) (sym (old f.made f.within)) f.finds;
+          }))
+          (λ f. ∣ record {
+            made = length events;
+            past = short;
+            within = omega (arith, longer);
+            finds = subst (λ (m : Kernel D g). FindsCommits m.relations m.counters first m.parts c) (sym here) f;
+          } ∣₁)))
+          (λ (ge : length events + 1 ≤ i).
+          let there : next i ≡ n = ap next (whole i ge le) ∙ own in
+          ∥∥₁_map (finds_now n c now counts (subst (λ (m : Kernel D g). left_since (device_under n) (moment (device_under m)) c) there left)) (λ f. record {
+            made = i;
+            past = omega arith;
+            within = le;
+            finds = subst (λ (m : Kernel D g). FindsCommits m.relations m.counters first m.parts c) (sym there) f;
+          }))
+          (cases_lt i (length events + 1))
+
+      more : FoundUntil seen may_leave moment left_since faults first (events ++ event ∷ []) (answers ++ answer ∷ []) n (device_under n)
+      more = record { behind = next; last = ap next longer ∙ own; goes = goes; ran = ran_to; later = later; each = each }
+
+    found_more : (events : List Event) (answers : List Answer) (event : Event) (answer : Answer) (k n : Kernel D g) → HasMade seen may_leave moment left_since faults k event answer n → Restarts seen may_leave first k → IsRelationCount k.relations → IsRelationCount n.relations
+        → Ran seen may_leave faults first (events ++ event ∷ []) (answers ++ answer ∷ []) n → Found events answers k → Found (events ++ event ∷ []) (answers ++ answer ∷ []) n
+    found_more events answers event answer k n made starts count counts ran found =
+        let now = made.restarts first starts in
+        ∥∥₁_elim ran ∥∥₁_prop (λ (acts, s, makes, shows).
+        let same = makes_same seen may_leave faults first (events ++ event ∷ []) (answers ++ answer ∷ []) acts s n makes in
+        let short : length events ≡ length answers = let one = length-append events (event ∷ []) in let two = length-append answers (answer ∷ []) in omega (arith, same, one, two) in
+        ∥∥₁_map found (λ was. more events answers event answer k n made starts now count counts short (has_run seen may_leave faults first (events ++ event ∷ []) (answers ++ answer ∷ []) n ran now) was))
+
+    pub found_next : (events : List Event) (i : ℕ) (answers : List Answer) (k n : Kernel D g) (event : Event) (answer : Answer) → i < length events → event ≡ get_or events i event → HasMade seen may_leave moment left_since faults k event answer n → Restarts seen may_leave first k → IsRelationCount k.relations → IsRelationCount n.relations
+        → Ran seen may_leave faults first (take (suc i) events) (answers ++ answer ∷ []) n → Found (take i events) answers k → Found (take (suc i) events) (answers ++ answer ∷ []) n
+    found_next events i answers k n event answer lt is made starts count counts ran found =
+        let all : take i events ++ event ∷ [] ≡ take (suc i) events = ap (λ (e : Event). take i events ++ e ∷ []) is ∙ sym (take-suc events i event lt) in
+        subst (λ (es : List Event). Found es (answers ++ answer ∷ []) n) all
+        (found_more (take i events) answers event answer k n made starts count counts (subst (λ (es : List Event). Ran seen may_leave faults first es (answers ++ answer ∷ []) n) (sym all) ran) found)

@@ -1,0 +1,34 @@
+-- What a restart finds where a crash comes while events are made.
+use Rattle.std.specs.Prelude.{ℕ, ◌≡◌, ◌<◌, ◌≤◌, ◌+◌, List, get_or, length, take}
+use Rattle.mt_disk.specs.declared.device.Device.{Ghosts}
+use Rattle.mt_model.specs.Model.{Base}
+use Rattle.mt_txn.specs.Restarted.{FindsCommits}
+use Rattle.mt_txn.specs.declared.kernel.Kernel.{Kernel}
+use Rattle.mt_world.specs.Schedules.{HasMade, HasRun}
+use Rattle.mt_world.specs.declared.events.Answer.{Answer}
+use Rattle.mt_world.specs.declared.events.Event.{Event}
+
+abbrev pub device_under : {D : Type 0} → {g : Ghosts D} → Kernel D g → D
+device_under k = k.parts.operations.store.device
+
+-- A restart finds in these bytes what some of the first commits of a kernel lead to, with all of them whose records were durable then. At
+-- least so many events were made by then, and at most so many.
+pub record FindsBetween {D : Type 0} {g : Ghosts D} (first : Base) (behind : ℕ → Kernel D g) (least most : ℕ) (c : List ℕ) : Type 0 where
+  pub made : ℕ
+  pub past : least ≤ made
+  pub within : made ≤ most
+  pub finds : FindsCommits (behind made).relations (behind made).counters first (behind made).parts c
+
+-- The events led from kernel to kernel, the last of which is k, until the device is this one. Whatever a crash leaves since one of these
+-- kernels stood, a restart finds in it what some of the first commits of that one, or of a later one, lead to.
+pub record FoundUntil {D : Type 0} {g : Ghosts D} (seen : D → List ℕ) (may_leave : D → List ℕ → Type 0) (moment : D → ℕ) (left_since : D → ℕ → List ℕ → Type 0) (faults : D → ℕ)
+    (first : Base) (events : List Event) (answers : List Answer) (k : Kernel D g) (device : D) : Type 0 where
+  -- the kernel behind so many events
+  pub behind : ℕ → Kernel D g
+  pub last : behind (length events) ≡ k
+  pub goes : (i : ℕ) (event : Event) (answer : Answer) → i < length events
+      → HasMade seen may_leave moment left_since faults (behind i) (get_or events i event) (get_or answers i answer) (behind (i + 1))
+  pub ran : (i : ℕ) → i ≤ length events → ∥ HasRun seen may_leave faults first (take i events) (take i answers) (behind i) ∥₁
+  pub later : (i : ℕ) → i ≤ length events → moment (device_under (behind i)) ≤ moment device
+  pub each : (i : ℕ) (c : List ℕ) → i ≤ length events → left_since device (moment (device_under (behind i))) c
+      → ∥ FindsBetween first behind i (length events) c ∥₁

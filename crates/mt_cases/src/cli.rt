@@ -456,8 +456,8 @@ fn expect_answers(
 
 #[test]
 fn the_example_schedules_have_their_transcripts(rt: HostRuntime) -> Result<(), Fail> {
-    // the files of `examples/`, in the order counter, locks
-    let cases: [(&[u8], &[u8]); 2] = [
+    // the files of `examples/`, in the order counter, locks, rotation
+    let cases: [(&[u8], &[u8]); 3] = [
         (
             b"begin 1\nbegin 2\ncall 2 add 0 1\ncall 1 add 0 1\nstep 1\nstep 2\nstep 1\nstep 1\nstep 2\nstep 2\nstep 2\ncall 1 add 0 1\ncall 2 add 0 1\nstep 1\nstep 2\nstep 1\nstep 1\nstep 2\nstep 2\nstep 2\ncommit 2\ncommit 1\nforce\nforce\nforce\nforce\n",
             b"begun 1\nbegun 2\nstarted\nstarted\nwent\nwait 1\nwent\ndone\nwent\nwent\ndone\nstarted\nstarted\nwent\nagain\nwent\ndone\nwent\nwent\ndone\ncommitting 1\ncommitting 2\nmore\nmore\nmore\ndurable 2 1\n",
@@ -465,6 +465,10 @@ fn the_example_schedules_have_their_transcripts(rt: HostRuntime) -> Result<(), F
         (
             b"begin 1\nbegin 2\ncall 1 insert 0 a x\nstep 1\nstep 1\nstep 1\nstep 1\nstep 1\nstep 1\nstep 1\nstep 1\ncall 2 get 0 a\ncall 2 insert 0 b y\nstep 2\nstep 2\nstep 2\nstep 2\nstep 2\nstep 2\ncall 1 get 0 b\ncommit 2\nforce\nforce\nforce\nforce\ncall 1 get 0 b\nstep 1\nstep 1\nstep 1\nstep 1\n",
             b"begun 1\nbegun 2\nstarted\nwent\nwent\nwent\nwent\nwent\nwent\nwent\ndone\nrefused 14 Die\nstarted\nwent\nwent\nwent\nwent\nwent\ndone\nwait 2\ncommitting 1\nmore\nmore\nmore\ndurable 2\nstarted\nwent\nwent\nwent\nfound y\n",
+        ),
+        (
+            b"begin 7\ncall 1 add 0 2\nstep 1\nstep 1\nstep 1\nrotate\ncommit 1\nforce\nforce\nforce\nforce\nrotate\nbegin 8\ncall 2 add 0 1\nstep 2\nstep 2\nstep 2\ncommit 2\nrotate\nforce\nforce\nforce\nforce\nrotate\nbegin 9\ncall 3 read 0\nstep 3\nstep 3\n",
+            b"begun 1\nstarted\nwent\nwent\ndone\nrefused 16 Busy\ncommitting 1\nmore\nmore\nmore\ndurable 1\nrotated\nbegun 2\nstarted\nwent\nwent\ndone\ncommitting 2\nrefused 16 Busy\nmore\nmore\nmore\ndurable 2\nrotated\nbegun 3\nstarted\nwent\nvalue 8\n",
         ),
     ];
     for (events, answers) in cases {

@@ -7,7 +7,7 @@ use Rattle.mt_server.specs.Lines.{IsSpelled, IsUnspaced, op_text}
 use Rattle.mt_server.specs.Whole.{is_without, lacks}
 use Rattle.mt_server.proofs.LineLemmas.{cut_within, same_cut}
 use Rattle.mt_world.specs.declared.events.Event.{Event}
-use Rattle.mt_world.specs.declared.events.Event.TheVariants.{Begin, Call, Step, Commit, AbortBegin, AbortStep, Force, Flush}
+use Rattle.mt_world.specs.declared.events.Event.TheVariants.{Begin, Call, Step, Commit, AbortBegin, AbortStep, Force, Flush, Rotate}
 use Rattle.mt_cli.specs.Events.{SpellsEvent, event_text}
 
 -- the first word of an event, and those behind it
@@ -20,6 +20,7 @@ word_of (AbortBegin t) = codes "abort"
 word_of (AbortStep t) = codes "undo"
 word_of Force = codes "force"
 word_of Flush = codes "flush"
+word_of Rotate = codes "rotate"
 
 abbrev pub rest_of : Event → List ℕ
 rest_of (Begin session) = decimal session
@@ -30,6 +31,7 @@ rest_of (AbortBegin t) = decimal t
 rest_of (AbortStep t) = decimal t
 rest_of Force = []
 rest_of Flush = []
+rest_of Rotate = []
 
 -- one word is not several
 no_space : (own word words : List ℕ) → lacks 32 own ≡ true → word ++ 32 ∷ words ≡ own → ⊥
@@ -45,6 +47,7 @@ event_cut word words (AbortBegin t) h e = same_cut 32 word (codes "abort") words
 event_cut word words (AbortStep t) h e = same_cut 32 word (codes "undo") words (decimal t) h (is_without 32 (codes "undo") refl) e
 event_cut word words Force h e = absurd (no_space (codes "force") word words refl e)
 event_cut word words Flush h e = absurd (no_space (codes "flush") word words refl e)
+event_cut word words Rotate h e = absurd (no_space (codes "rotate") word words refl e)
 
 -- no event but a call has anything but a number behind its word
 pub no_number : (word words : List ℕ) → IsUnspaced word → word ≢ codes "call" → ((n : ℕ) → n < 2 ^ 64 → words ≢ decimal n) → (event : Event) → SpellsEvent (word ++ 32 ∷ words) event → ⊥
@@ -56,6 +59,7 @@ no_number word words h other none (AbortBegin t) s = none t s.1 (event_cut word 
 no_number word words h other none (AbortStep t) s = none t s.1 (event_cut word words (AbortStep t) h s.0).1
 no_number word words h other none Force s = no_space (codes "force") word words refl s.0
 no_number word words h other none Flush s = no_space (codes "flush") word words refl s.0
+no_number word words h other none Rotate s = no_space (codes "rotate") word words refl s.0
 
 -- a first word that is none of the six
 pub no_word : (word words : List ℕ) → IsUnspaced word → word ≢ codes "begin" → word ≢ codes "call" → word ≢ codes "step" → word ≢ codes "commit" → word ≢ codes "abort" → word ≢ codes "undo"
@@ -68,6 +72,7 @@ no_word word words h b c s m a u (AbortBegin t) e = a (event_cut word words (Abo
 no_word word words h b c s m a u (AbortStep t) e = u (event_cut word words (AbortStep t) h e.0).0
 no_word word words h b c s m a u Force e = no_space (codes "force") word words refl e.0
 no_word word words h b c s m a u Flush e = no_space (codes "flush") word words refl e.0
+no_word word words h b c s m a u Rotate e = no_space (codes "rotate") word words refl e.0
 
 -- two words that differ at a place
 apart : (xs ys : List ℕ) (i : ℕ) → (get_or xs i 0 ≡ get_or ys i 0 → ⊥) → xs ≡ ys → ⊥
@@ -87,6 +92,7 @@ no_session n wide late event e =
       | AbortStep t ↦ λ e. apart (codes "begin") (codes "undo") 0 (omega arith) (cut (AbortStep t) e).0
       | Force ↦ λ e. no_space (codes "force") (codes "begin") (decimal n) refl e.0
       | Flush ↦ λ e. no_space (codes "flush") (codes "begin") (decimal n) refl e.0
+      | Rotate ↦ λ e. no_space (codes "rotate") (codes "begin") (decimal n) refl e.0
     ] e
 
 -- words that spell no call
@@ -103,19 +109,21 @@ no_call words none event e =
       | AbortStep t ↦ λ e. apart (codes "call") (codes "undo") 0 (omega arith) (cut (AbortStep t) e).0
       | Force ↦ λ e. no_space (codes "force") (codes "call") words refl e.0
       | Flush ↦ λ e. no_space (codes "flush") (codes "call") words refl e.0
+      | Rotate ↦ λ e. no_space (codes "rotate") (codes "call") words refl e.0
     ] e
 
 -- the ways in which words spell no call
 pub call_spaced : (words : List ℕ) → IsUnspaced words → (t : ℕ) (op : Op) → words ≡ decimal t ++ 32 ∷ op_text op → ⊥
 call_spaced words h t op e = cut_within 32 (decimal t) (op_text op) (subst IsUnspaced e h)
 
--- one word that is neither of the two
-pub no_bare_event : (bytes : List ℕ) → IsUnspaced bytes → bytes ≢ codes "force" → bytes ≢ codes "flush" → (event : Event) → SpellsEvent bytes event → ⊥
-no_bare_event bytes h f l (Begin session) e = cut_within 32 (codes "begin") (decimal session) (subst IsUnspaced e.0 h)
-no_bare_event bytes h f l (Call t op) e = cut_within 32 (codes "call") (decimal t ++ 32 ∷ op_text op) (subst IsUnspaced e.0 h)
-no_bare_event bytes h f l (Step t) e = cut_within 32 (codes "step") (decimal t) (subst IsUnspaced e.0 h)
-no_bare_event bytes h f l (Commit t) e = cut_within 32 (codes "commit") (decimal t) (subst IsUnspaced e.0 h)
-no_bare_event bytes h f l (AbortBegin t) e = cut_within 32 (codes "abort") (decimal t) (subst IsUnspaced e.0 h)
-no_bare_event bytes h f l (AbortStep t) e = cut_within 32 (codes "undo") (decimal t) (subst IsUnspaced e.0 h)
-no_bare_event bytes h f l Force e = f e.0
-no_bare_event bytes h f l Flush e = l e.0
+-- one word that is none of the three
+pub no_bare_event : (bytes : List ℕ) → IsUnspaced bytes → bytes ≢ codes "force" → bytes ≢ codes "flush" → bytes ≢ codes "rotate" → (event : Event) → SpellsEvent bytes event → ⊥
+no_bare_event bytes h f l r (Begin session) e = cut_within 32 (codes "begin") (decimal session) (subst IsUnspaced e.0 h)
+no_bare_event bytes h f l r (Call t op) e = cut_within 32 (codes "call") (decimal t ++ 32 ∷ op_text op) (subst IsUnspaced e.0 h)
+no_bare_event bytes h f l r (Step t) e = cut_within 32 (codes "step") (decimal t) (subst IsUnspaced e.0 h)
+no_bare_event bytes h f l r (Commit t) e = cut_within 32 (codes "commit") (decimal t) (subst IsUnspaced e.0 h)
+no_bare_event bytes h f l r (AbortBegin t) e = cut_within 32 (codes "abort") (decimal t) (subst IsUnspaced e.0 h)
+no_bare_event bytes h f l r (AbortStep t) e = cut_within 32 (codes "undo") (decimal t) (subst IsUnspaced e.0 h)
+no_bare_event bytes h f l r Force e = f e.0
+no_bare_event bytes h f l r Flush e = l e.0
+no_bare_event bytes h f l r Rotate e = r e.0

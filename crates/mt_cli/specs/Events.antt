@@ -4,7 +4,7 @@ use Rattle.std.specs.Fmt.{decimal}
 use Rattle.mt_server.specs.Grammars.{AreLines, ReadsIn, SpellsIn}
 use Rattle.mt_server.specs.Lines.{IsSpelled, op_text}
 use Rattle.mt_world.specs.declared.events.Event.{Event}
-use Rattle.mt_world.specs.declared.events.Event.TheVariants.{Begin, Call, Step, Commit, AbortBegin, AbortStep, Force, Flush}
+use Rattle.mt_world.specs.declared.events.Event.TheVariants.{Begin, Call, Step, Commit, AbortBegin, AbortStep, Force, Flush, Rotate}
 
 -- the number of a session, and of a transaction
 abbrev pub IsSession : ℕ → Type 0
@@ -23,6 +23,7 @@ event_text (AbortBegin t) = codes "abort" ++ 32 ∷ decimal t
 event_text (AbortStep t) = codes "undo" ++ 32 ∷ decimal t
 event_text Force = codes "force"
 event_text Flush = codes "flush"
+event_text Rotate = codes "rotate"
 
 -- an event that can be spelled
 abbrev pub IsEvent : Event → Type 0
@@ -34,6 +35,7 @@ IsEvent (AbortBegin t) = IsTxn t
 IsEvent (AbortStep t) = IsTxn t
 IsEvent Force = ⊤
 IsEvent Flush = ⊤
+IsEvent Rotate = ⊤
 
 -- the bytes spell the event
 abbrev pub SpellsEvent : List ℕ → Event → Type 0

@@ -33,9 +33,10 @@ use Rattle.mt_server.specs.Grammars.{AreRefusedFor}
 use Rattle.mt_server.specs.Lines.{line_text, IsInGrammar}
 use Rattle.mt_server.specs.Scripts.{IsScript}
 use Rattle.mt_server.specs.Runs.{IsToldFor, last_line}
-use Rattle.mt_world.specs.Schedules.{HasRun}
+use Rattle.mt_world.specs.Schedules.{HasRunTo}
 use Rattle.mt_world.specs.declared.events.Answer.{Answer as Told}
 use Rattle.mt_world.specs.declared.events.Event.{Event}
+use Rattle.mt_world.specs.declared.standing.Standing.{Standing}
 
 -- two relations without rows, and one counter from 0 to 10 that starts at 5
 pub record IsFirstSchema (schema : Schema) : Type 0 where
@@ -77,8 +78,8 @@ pub record IsTried (bytes was now : Option (List ℕ)) : Type 0 where
 pub record HaveRun {D : Type 0} (g : Ghosts D) (events : List Event) (answers : List Told) : Type 0 where
   pub schema : Schema
   pub first : IsFirstSchema schema
-  pub kernel : Kernel D g
-  pub ran : ∥ HasRun g.seen g.may_leave g.faults (schema_base schema) events answers kernel ∥₁
+  pub standing : Standing D g
+  pub ran : ∥ HasRunTo g.seen g.may_leave g.moment g.left_since g.faults (relations_in schema) (length (counters_in schema)) (schema_base schema) events answers standing ∥₁
 
 -- those that the bytes spell, where they are known, and the texts of the answers were written
 pub record IsScheduled {D : Type 0} (g : Ghosts D) (bytes was now : Option (List ℕ)) : Type 0 where

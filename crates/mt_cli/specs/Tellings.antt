@@ -10,7 +10,7 @@ use Rattle.mt_txn.specs.declared.answers.AbortStepped.TheVariants as abort
 use Rattle.mt_txn.specs.declared.answers.KernelForced.TheVariants as forced
 use Rattle.mt_txn.specs.declared.answers.Stepped.TheVariants as step
 use Rattle.mt_world.specs.declared.events.Answer.{Answer}
-use Rattle.mt_world.specs.declared.events.Answer.TheVariants.{Begun, Called, Stepped, Committing, Aborting, Backed, Forced, Flushed, Refused}
+use Rattle.mt_world.specs.declared.events.Answer.TheVariants.{Begun, Called, Stepped, Committing, Aborting, Backed, Forced, Flushed, Rotated, Refused}
 
 -- the names of transactions, each behind a space
 abbrev pub name_text : ℕ → List ℕ
@@ -39,6 +39,7 @@ told_text (Forced (forced.Durable names)) = codes "durable" ++ concat (map name_
 told_text (Flushed (flush.Page page)) = codes "page " ++ decimal page
 told_text (Flushed flush.Force) = codes "force"
 told_text (Flushed flush.Clean) = codes "clean"
+told_text Rotated = codes "rotated"
 told_text (Refused why) = text_of why
 
 -- an answer's line, and those of several

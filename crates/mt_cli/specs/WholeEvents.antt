@@ -5,7 +5,7 @@ use Rattle.std.proofs.Common.{arith, refl}
 use Rattle.mt_server.specs.Lines.{op_text}
 use Rattle.mt_server.specs.Whole.{IsWhole, decimal_whole, is_without, op_whole, spaced}
 use Rattle.mt_world.specs.declared.events.Event.{Event}
-use Rattle.mt_world.specs.declared.events.Event.TheVariants.{Begin, Call, Step, Commit, AbortBegin, AbortStep, Force, Flush}
+use Rattle.mt_world.specs.declared.events.Event.TheVariants.{Begin, Call, Step, Commit, AbortBegin, AbortStep, Force, Flush, Rotate}
 use Rattle.mt_cli.specs.Events.{IsEvent, event_text}
 
 pub event_whole : (event : Event) → IsEvent event → IsWhole (event_text event)
@@ -17,3 +17,4 @@ event_whole (AbortBegin t) s = spaced (codes "abort") (decimal t) (is_without 10
 event_whole (AbortStep t) s = spaced (codes "undo") (decimal t) (is_without 10 (codes "undo") refl) (decimal_whole t s)
 event_whole Force s = is_without 10 (codes "force") refl
 event_whole Flush s = is_without 10 (codes "flush") refl
+event_whole Rotate s = is_without 10 (codes "rotate") refl

@@ -188,8 +188,8 @@ fn answers_over<D: Device + Drop>(
 {
     let schema = first_schema(alloc)?;
     match run_schedule(alloc, device, &schema, events) {
-        Ok((kernel, answers)) => {
-            let _device = kernel.into_device();
+        Ok((standing, answers)) => {
+            let _device = standing.into_device();
             Ok(answers)
         }
         Err((refusal, _device)) => Err(refusal),

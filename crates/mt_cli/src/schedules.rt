@@ -79,6 +79,8 @@ fn bare_event_of(word: &[u8]) -> Option<Event>
         Some(Event::Force)
     } else if is_text_of(word, "flush") {
         Some(Event::Flush)
+    } else if is_text_of(word, "rotate") {
+        Some(Event::Rotate)
     } else {
         None
     }
@@ -94,6 +96,7 @@ fn bare_event_of(word: &[u8]) -> Option<Event>
 /// | `commit T`, `abort T` | the commit or the abort of transaction T begins |
 /// | `undo T` | the abort of transaction T makes a step |
 /// | `force`, `flush` | the log is forced a step further; a frame is flushed |
+/// | `rotate` | the log is turned over |
 ///
 /// One space stands between two words. S fits 32 bits and T fits 64, in decimal without leading zeros.
 pub(crate) struct ScheduleGrammar;

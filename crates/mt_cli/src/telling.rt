@@ -152,6 +152,7 @@ pub(crate) fn write_told<W: Write>(writer: &mut W, answer: &Answer) -> Result<()
         Answer::Backed(backed) => write_backed(writer, *backed),
         Answer::Forced(forced) => write_forced(writer, forced),
         Answer::Flushed(flushed) => write_flushed(writer, *flushed),
+        Answer::Rotated => put(writer, b"rotated\n"),
         Answer::Refused(refusal) => write_answer(writer, &mt_server::Answer::Refused(*refusal)),
     }
 }

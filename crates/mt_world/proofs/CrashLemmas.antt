@@ -1,9 +1,9 @@
 -- What a restart finds where a crash comes within events that are made one after the other.
-use Rattle.std.proofs.Common.{◌≡◌, ◌≢◌, ◌<◌, ◌≤◌, ◌+◌, suc, ℕ, List, [], ◌∷◌, ◌++◌, length, take, get_or, ⊎_elim, refl, ap, sym, subst, ◌∙◌, length-append, arith}
+use Rattle.std.proofs.Common.{◌≡◌, ◌≢◌, ◌<◌, ◌≤◌, ◌+◌, ℕ, List, [], ◌∷◌, ◌++◌, length, take, get_or, ⊎_elim, refl, ap, sym, subst, ◌∙◌, length-append, arith}
 use Rattle.std.proofs.lemmas.Bool.{cases_lt}
 use Rattle.std.proofs.lemmas.List.{take_all, take-append-le}
 use Rattle.std.proofs.Math.ListN.{get_or-append}
-use Rattle.std.proofs.Math.Seq.{get_or-append_seam, take-suc}
+use Rattle.std.proofs.Math.Seq.{get_or-append_seam}
 use mathlib.Core.Logic.{∥∥₁_elim, ∥∥₁_map, ∥∥₁_prop}
 use Rattle.std.proofs.Props.{props}
 use Rattle.mt_base.specs.Limits.{IsRelationCount}
@@ -12,7 +12,7 @@ use Rattle.mt_live.proofs.Alone.{put_other, put_own}
 use Rattle.mt_live.specs.Machine.{put, start}
 use Rattle.mt_model.specs.Model.{Base}
 use Rattle.mt_txn.proofs.Restarting.{finds_commits, no_call}
-use Rattle.mt_txn.specs.Restarted.{FindsCommits}
+use Rattle.mt_txn.specs.Restarted.{FindsCommits, FindsMeanwhile}
 use Rattle.mt_txn.specs.Shown.{LeavesFound, Restarts, Shows}
 use Rattle.mt_txn.specs.declared.kernel.Kernel.{Kernel}
 use Rattle.mt_world.proofs.RunLemmas.{Ran, has_run, makes_same, ran_none}
@@ -147,7 +147,7 @@ module _ {D : Type 0} {g : Ghosts D} (seen : D → List ℕ) (may_leave : D → 
       more : FoundUntil seen may_leave moment left_since faults first (events ++ event ∷ []) (answers ++ answer ∷ []) n (device_under n)
       more = record { behind = next; last = ap next longer ∙ own; goes = goes; ran = ran_to; later = later; each = each }
 
-    found_more : (events : List Event) (answers : List Answer) (event : Event) (answer : Answer) (k n : Kernel D g) → HasMade seen may_leave moment left_since faults k event answer n → Restarts seen may_leave first k → IsRelationCount k.relations → IsRelationCount n.relations
+    pub found_more : (events : List Event) (answers : List Answer) (event : Event) (answer : Answer) (k n : Kernel D g) → HasMade seen may_leave moment left_since faults k event answer n → Restarts seen may_leave first k → IsRelationCount k.relations → IsRelationCount n.relations
         → Ran seen may_leave faults first (events ++ event ∷ []) (answers ++ answer ∷ []) n → Found events answers k → Found (events ++ event ∷ []) (answers ++ answer ∷ []) n
     found_more events answers event answer k n made starts count counts ran found =
         let now = made.restarts first starts in
@@ -156,9 +156,21 @@ module _ {D : Type 0} {g : Ghosts D} (seen : D → List ℕ) (may_leave : D → 
         let short : length events ≡ length answers = let one = length-append events (event ∷ []) in let two = length-append answers (answer ∷ []) in omega (arith, same, one, two) in
         ∥∥₁_map found (λ was. more events answers event answer k n made starts now count counts short (has_run seen may_leave faults first (events ++ event ∷ []) (answers ++ answer ∷ []) n ran now) was))
 
-    pub found_next : (events : List Event) (i : ℕ) (answers : List Answer) (k n : Kernel D g) (event : Event) (answer : Answer) → i < length events → event ≡ get_or events i event → HasMade seen may_leave moment left_since faults k event answer n → Restarts seen may_leave first k → IsRelationCount k.relations → IsRelationCount n.relations
-        → Ran seen may_leave faults first (take (suc i) events) (answers ++ answer ∷ []) n → Found (take i events) answers k → Found (take (suc i) events) (answers ++ answer ∷ []) n
-    found_next events i answers k n event answer lt is made starts count counts ran found =
-        let all : take i events ++ event ∷ [] ≡ take (suc i) events = ap (λ (e : Event). take i events ++ e ∷ []) is ∙ sym (take-suc events i event lt) in
-        subst (λ (es : List Event). Found es (answers ++ answer ∷ []) n) all
-        (found_more (take i events) answers event answer k n made starts count counts (subst (λ (es : List Event). Ran seen may_leave faults first es (answers ++ answer ∷ []) n) (sym all) ran) found)
+    -- until a device that the last kernel has left
+    pub found_until : (events : List Event) (answers : List Answer) (k : Kernel D g) (device : D) → FindsMeanwhile moment left_since k.relations k.counters first k.parts device → FoundUntil seen may_leave moment left_since faults first events answers k (device_under k)
+        → FoundUntil seen may_leave moment left_since faults first events answers k device
+    found_until events answers k device meanwhile was = record {
+      behind = was.behind;
+      last = was.last;
+      goes = was.goes;
+      ran = was.ran;
+      later = λ i le. let before = was.later i le in let after = meanwhile.later in omega (arith, before, after);
+      each = λ i c le left. ∥∥₁_elim (meanwhile.before (moment (device_under (was.behind i))) c (was.later i le) left) ∥∥₁_prop (⊎_elim
+          (λ before. was.each i c le before)
+          (λ f. ∣ record {
+            made = length events;
+            past = le;
+            within = omega arith;
+            finds = subst (λ (m : Kernel D g). FindsCommits m.relations m.counters first m.parts c) (sym was.last) f;
+          } ∣₁));
+    }

@@ -88,7 +88,7 @@ module _ {D : Type 0} {g : Ghosts D} (seen : D → List ℕ) (may_leave : D → 
   abbrev Leads : Base → State → Event → Answer → Type 0
   Leads first s event answer = ∥ ((acts : List Act) × (z : State) × Moves s event answer acts z × Shows seen may_leave first z n) ∥₁
 
-  still : (event : Event) (answer : Answer) (first : Base) (s : State) → IsStill event answer → Shows seen may_leave first s n → Leads first s event answer
+  pub still : (event : Event) (answer : Answer) (first : Base) (s : State) → IsStill event answer → Shows seen may_leave first s n → Leads first s event answer
   still event answer first s is shows = ∣ ([], s, stays event answer is, shows) ∣₁
 
   -- whether the device has failed, of a call's result
@@ -101,7 +101,7 @@ module _ {D : Type 0} {g : Ghosts D} (seen : D → List ℕ) (may_leave : D → 
   -- nothing comes of it
   pub still_made : (event : Event) (answer : Answer) → IsStill event answer → Stays seen may_leave k n → IsDue seen may_leave faults k event answer n → SetsPhases k event answer n → SameSchema k n → FailsIn k answer n → StaysRestarting seen may_leave k n → Found
       → HasMade seen may_leave moment left_since faults k event answer n
-  still_made event answer is same due phases schema fails restarts found = record { leads = λ first s shows. still event answer first s is (same first s shows); due = due; phases = phases; fails = fails; restarts = restarts; found = found; schema = schema }
+  still_made event answer is same due phases schema fails restarts found = record { leads = λ first s starts shows. still event answer first s is (same first s shows); due = due; phases = phases; fails = fails; restarts = restarts; found = found; schema = schema }
 
   -- ---- a begin
 
@@ -109,7 +109,7 @@ module _ {D : Type 0} {g : Ghosts D} (seen : D → List ℕ) (may_leave : D → 
       → SetsPhases k (Begin session) (Begun txn) n → SameSchema k n → FailsIn k (Begun txn) n → StaysRestarting seen may_leave k n → Found
       → HasMade seen may_leave moment left_since faults k (Begin session) (Begun txn) n
   begin_made session txn number may did phases schema fails restarts found = record {
-    leads = λ first s shows. ∣ ([], begun s session, subst (λ (t : ℕ). Moves s (Begin session) (Begun t) [] (begun s session)) (next_is first s shows) (begins session), did first s shows) ∣₁;
+    leads = λ first s starts shows. ∣ ([], begun s session, subst (λ (t : ℕ). Moves s (Begin session) (Begun t) [] (begun s session)) (next_is first s shows) (begins session), did first s shows) ∣₁;
     due = may;
     phases = phases;
     fails = fails;
@@ -138,7 +138,7 @@ module _ {D : Type 0} {g : Ghosts D} (seen : D → List ℕ) (may_leave : D → 
       → HasMade seen may_leave moment left_since faults k (Call t op) (CalledAs told) n
   call_made t op told early answer did phases schema fails restarts found =
       let none = uncaused t op told early in
-      record { leads = λ first s shows. leads told first s (did first s shows); due = (none, answer none); phases = phases; fails = fails; restarts = restarts; found = found; schema = schema }
+      record { leads = λ first s starts shows. leads told first s (did first s shows); due = (none, answer none); phases = phases; fails = fails; restarts = restarts; found = found; schema = schema }
     where
       leads : (told : Called) (first : Base) (s : State) → HasCalled seen may_leave first s t op (Ok told) n → Leads first s (Call t op) (CalledAs told)
       leads call.Started first s shows = ∣ ([], called s t op, calls t op, shows) ∣₁
@@ -157,7 +157,7 @@ module _ {D : Type 0} {g : Ghosts D} (seen : D → List ℕ) (may_leave : D → 
 
   pub step_made : (t : ℕ) (told : StepTold) → IsStepped k t told n → ((first : Base) (s : State) → Shows seen may_leave first s k → HasStepped seen may_leave first s t (Ok told) n) → SamePhases k n → SameSchema k n → FailsIn k (Stepped told) n → StaysRestarting seen may_leave k n → Found
       → HasMade seen may_leave moment left_since faults k (Step t) (Stepped told) n
-  step_made t told due did phases schema fails restarts found = record { leads = λ first s shows. leads told first s shows (did first s shows); due = due; phases = phases; fails = fails; restarts = restarts; found = found; schema = schema }
+  step_made t told due did phases schema fails restarts found = record { leads = λ first s starts shows. leads told first s shows (did first s shows); due = due; phases = phases; fails = fails; restarts = restarts; found = found; schema = schema }
     where
       ends_with : (reply : Reply) (first : Base) (s : State) → Shows seen may_leave first s k → (o : Option Op) → s.running t ≡ o → HasStepped seen may_leave first s t (Ok (step.Replied reply)) n → Leads first s (Step t) (Stepped (step.Replied reply))
       ends_with reply first s shows None none did =
@@ -180,7 +180,7 @@ module _ {D : Type 0} {g : Ghosts D} (seen : D → List ℕ) (may_leave : D → 
 
   pub back_made : (t : ℕ) (told : AbortStepped) → IsBacked k t told n → ((first : Base) (s : State) → Shows seen may_leave first s k → HasAborted seen may_leave first s t (Ok told) n) → SetsPhases k (AbortStep t) (Backed told) n → SameSchema k n → FailsIn k (Backed told) n → StaysRestarting seen may_leave k n → Found
       → HasMade seen may_leave moment left_since faults k (AbortStep t) (Backed told) n
-  back_made t told due did phases schema fails restarts found = record { leads = λ first s shows. leads told first s (did first s shows); due = due; phases = phases; fails = fails; restarts = restarts; found = found; schema = schema }
+  back_made t told due did phases schema fails restarts found = record { leads = λ first s starts shows. leads told first s (did first s shows); due = due; phases = phases; fails = fails; restarts = restarts; found = found; schema = schema }
     where
       leads : (told : AbortStepped) (first : Base) (s : State) → HasAborted seen may_leave first s t (Ok told) n → Leads first s (AbortStep t) (Backed told)
       leads abort.More first s did = ∥∥₁_map did (λ (z, back, shows). let moves = back_moves t s z back in (moves.0, z, moves.1, shows))
@@ -215,7 +215,7 @@ module _ {D : Type 0} {g : Ghosts D} (seen : D → List ℕ) (may_leave : D → 
 
   pub force_made : (told : KernelForced) → ((first : Base) (s : State) → Shows seen may_leave first s k → HasForced seen may_leave first s (Ok told) n) → IsDue seen may_leave faults k Force (Forced told) n → SetsPhases k Force (Forced told) n → SameSchema k n → FailsIn k (Forced told) n → StaysRestarting seen may_leave k n → Found
       → HasMade seen may_leave moment left_since faults k Force (Forced told) n
-  force_made told did due phases schema fails restarts found = record { leads = λ first s shows. leads told first s (did first s shows); due = due; phases = phases; fails = fails; restarts = restarts; found = found; schema = schema }
+  force_made told did due phases schema fails restarts found = record { leads = λ first s starts shows. leads told first s (did first s shows); due = due; phases = phases; fails = fails; restarts = restarts; found = found; schema = schema }
     where
       leads : (told : KernelForced) (first : Base) (s : State) → HasForced seen may_leave first s (Ok told) n → Leads first s Force (Forced told)
       leads forced.More first s did = still Force (Forced forced.More) first s force_went did

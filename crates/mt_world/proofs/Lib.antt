@@ -2,3 +2,5 @@ mod EventLemmas
 mod ToldLemmas
 mod RunLemmas
 mod CrashLemmas
+mod TurnLemmas
+mod StandingLemmas

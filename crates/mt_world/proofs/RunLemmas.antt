@@ -33,7 +33,7 @@ use Rattle.mt_live.proofs.Shapes.{each_map}
 use Rattle.mt_world.proofs.ToldLemmas.{AreDistinct, AreTold, forward_before, is_forward, named_commit, named_distinct, told_begun, told_booked, told_called, told_dropped, told_ended, told_gone, told_still, told_undone}
 use Rattle.mt_world.specs.Due.{FailsIn, IsBroken, IsDue, SamePhases, SetsPhases, StayBroken}
 use Rattle.mt_world.specs.Moves.{IsStill, Moves}
-use Rattle.mt_world.specs.Moves.IsStill.{is_refused, call_waits, step_went, step_waits, step_again, step_full, commit_begun, abort_begun, abort_went, abort_waits, abort_again, abort_full, force_went, force_idle, flushed}
+use Rattle.mt_world.specs.Moves.IsStill.{is_refused, call_waits, step_went, step_waits, step_again, step_full, commit_begun, abort_begun, abort_went, abort_waits, abort_again, abort_full, force_went, force_idle, flushed, rotated}
 use Rattle.mt_world.specs.Moves.Moves.{stays, begins, calls, ends, drops, undoes, aborts, books}
 use Rattle.mt_world.specs.Schedules.{HasMade, HasRun, Makes}
 use Rattle.mt_world.specs.Schedules.Makes.{starts, goes_on}
@@ -41,7 +41,7 @@ use Rattle.mt_world.specs.Told.{Told, acknowledged, named, nothing_told, tells, 
 use Rattle.mt_world.specs.declared.events.Answer.{Answer}
 use Rattle.mt_world.specs.declared.events.Answer.TheVariants.{Refused}
 use Rattle.mt_world.specs.declared.events.Event.{Event}
-use Rattle.mt_world.specs.declared.events.Event.TheVariants.{Begin, Call as CallOf, Step, Commit, AbortBegin, AbortStep, Force, Flush}
+use Rattle.mt_world.specs.declared.events.Event.TheVariants.{Begin, Call as CallOf, Step, Commit, AbortBegin, AbortStep, Force, Flush, Rotate}
 
 -- ---- what ended
 
@@ -95,7 +95,7 @@ acknowledged_more : (answers : List Answer) (answer : Answer) → acknowledged (
 acknowledged_more [] answer = append-nil (named answer)
 acknowledged_more (a ∷ answers) answer = ap (λ (ts : List ℕ). named a ++ ts) (acknowledged_more answers answer) ∙ sym (append_assoc (named a) (acknowledged answers) (named answer))
 
-stay_more : (answers : List Answer) (answer : Answer) → StayBroken answers → Each (λ x. IsBroken x → IsBroken answer) answers → StayBroken (answers ++ answer ∷ [])
+pub stay_more : (answers : List Answer) (answer : Answer) → StayBroken answers → Each (λ x. IsBroken x → IsBroken answer) answers → StayBroken (answers ++ answer ∷ [])
 stay_more [] answer stay each = (λ broken. tt, tt)
 stay_more (x ∷ answers) answer stay each = (λ broken. each_append IsBroken answers (answer ∷ []) (stay.0 broken) (each.0 broken, tt), stay_more answers answer stay.1 each.1)
 
@@ -144,6 +144,7 @@ module _ {D : Type 0} {g : Ghosts D} (seen : D → List ℕ) (may_leave : D → 
     refused_told (AbortStep t) why same are = same_told same are
     refused_told Force why same are = same_told same are
     refused_told Flush why same are = same_told same are
+    refused_told Rotate why same are = same_told same are
 
     still_tells : (event : Event) (answer : Answer) → IsStill event answer → IsDue seen may_leave faults k event answer n → SetsPhases k event answer n → AreTold s (Phase k) told names → TellsOn s event answer
     still_tells _ _ (is_refused event why) due same are = refused_told event why same are
@@ -162,6 +163,7 @@ module _ {D : Type 0} {g : Ghosts D} (seen : D → List ℕ) (may_leave : D → 
     still_tells _ _ force_went due same are = forced_told same are
     still_tells _ _ force_idle due same are = forced_told same are
     still_tells _ _ (flushed told_so) due same are = same_told same are
+    still_tells _ _ rotated due same are = same_told same are
 
     undone_back : (t : ℕ) → abort_cause (is_failed k) k.parts t ≡ None → SamePhases k n → is_forward (Phase n t) ≡ false
     undone_back t may same = ap is_forward (same.0 t) ∙ aborting_back (is_failed k) (Phase k t) may
@@ -213,7 +215,7 @@ module _ {D : Type 0} {g : Ghosts D} (seen : D → List ℕ) (may_leave : D → 
 
   -- ---- once the device has failed
 
-  abbrev AreBroken : List Answer → Kernel D g → Type 0
+  abbrev pub AreBroken : List Answer → Kernel D g → Type 0
   AreBroken answers n = StayBroken answers × Each (λ x. IsBroken x → is_failed n ≡ true) answers
 
   broken_more : (answers : List Answer) (k n : Kernel D g) (answer : Answer) → FailsIn k answer n → AreBroken answers k → AreBroken (answers ++ answer ∷ []) n
@@ -223,7 +225,7 @@ module _ {D : Type 0} {g : Ghosts D} (seen : D → List ℕ) (may_leave : D → 
         (each_map (λ x. IsBroken x → is_failed k ≡ true) (λ x. IsBroken x → is_failed n ≡ true) (λ x before broken. let was = before broken in ap (λ (y : Kernel D g). is_failed y) (fails.0 was).1 ∙ was) answers failed) (fails.1, tt),
   )
 
-  makes_broken : (events : List Event) (answers : List Answer) (acts : List Act) (s : State) (n : Kernel D g) → Makes seen may_leave faults first events answers acts s n → AreBroken answers n
+  pub makes_broken : (events : List Event) (answers : List Answer) (acts : List Act) (s : State) (n : Kernel D g) → Makes seen may_leave faults first events answers acts s n → AreBroken answers n
   makes_broken _ _ _ _ n (starts k shows) = (tt, tt)
   makes_broken _ _ _ z n (goes_on events answers acts more s _ k _ event answer before made) = broken_more answers k n answer made.fails (makes_broken events answers acts s k before)
 
@@ -235,16 +237,10 @@ module _ {D : Type 0} {g : Ghosts D} (seen : D → List ℕ) (may_leave : D → 
   pub ran_none : (k : Kernel D g) → Shows seen may_leave first (start first) k → Ran [] [] k
   ran_none k shows = ∣ ([], start first, starts k shows, shows) ∣₁
 
-  ran_more : (moment : D → ℕ) (left_since : D → ℕ → List ℕ → Type 0) (events : List Event) (answers : List Answer) (k n : Kernel D g) (event : Event) (answer : Answer) → HasMade seen may_leave moment left_since faults k event answer n → Ran events answers k → Ran (events ++ event ∷ []) (answers ++ answer ∷ []) n
-  ran_more moment left_since events answers k n event answer made ran = ∥∥₁_elim ran (hlevel props) (λ (acts, s, before, shows).
-      ∥∥₁_map (made.leads first s shows) (λ (more, z, moves, now).
+  pub ran_more : (moment : D → ℕ) (left_since : D → ℕ → List ℕ → Type 0) (events : List Event) (answers : List Answer) (k n : Kernel D g) (event : Event) (answer : Answer) → HasMade seen may_leave moment left_since faults k event answer n → Restarts seen may_leave first k → Ran events answers k → Ran (events ++ event ∷ []) (answers ++ answer ∷ []) n
+  ran_more moment left_since events answers k n event answer made restarts ran = ∥∥₁_elim ran (hlevel props) (λ (acts, s, before, shows).
+      ∥∥₁_map (made.leads first s restarts shows) (λ (more, z, moves, now).
       (acts ++ more, z, goes_on events answers acts more s z k n event answer before (record { moves = moves; due = made.due; phases = made.phases; fails = made.fails; schema = made.schema; shows = now }), now)))
-
-  pub ran_next : (moment : D → ℕ) (left_since : D → ℕ → List ℕ → Type 0) (events : List Event) (i : ℕ) (answers : List Answer) (k n : Kernel D g) (event : Event) (answer : Answer) → i < length events → event ≡ get_or events i event → HasMade seen may_leave moment left_since faults k event answer n
-      → Ran (take i events) answers k → Ran (take (suc i) events) (answers ++ answer ∷ []) n
-  ran_next moment left_since events i answers k n event answer lt is made ran =
-      let all : take i events ++ event ∷ [] ≡ take (suc i) events = ap (λ (e : Event). take i events ++ e ∷ []) is ∙ sym (take-suc events i event lt) in
-      subst (λ (es : List Event). Ran es (answers ++ answer ∷ []) n) all (ran_more moment left_since (take i events) answers k n event answer made ran)
 
   pub has_run : (events : List Event) (answers : List Answer) (n : Kernel D g) → Ran events answers n → Restarts seen may_leave first n → ∥ HasRun seen may_leave faults first events answers n ∥₁
   has_run events answers n ran restarts = ∥∥₁_elim ran (hlevel props) (λ (acts, s, made, shows).

@@ -4,9 +4,11 @@ use Rattle.mt_disk.specs.declared.device.Device.{Ghosts}
 use Rattle.mt_model.specs.Model.{Base}
 use Rattle.mt_txn.specs.Restarted.{FindsCommits}
 use Rattle.mt_txn.specs.declared.kernel.Kernel.{Kernel}
-use Rattle.mt_world.specs.Schedules.{HasMade, HasRun}
+use Rattle.mt_world.specs.Schedules.{HasEnded, HasMade, HasRun}
 use Rattle.mt_world.specs.declared.events.Answer.{Answer}
 use Rattle.mt_world.specs.declared.events.Event.{Event}
+use Rattle.mt_world.specs.declared.standing.Standing.{Standing}
+use Rattle.mt_world.specs.declared.standing.Standing.TheVariants.{Stands, Ended}
 
 abbrev pub device_under : {D : Type 0} → {g : Ghosts D} → Kernel D g → D
 device_under k = k.parts.operations.store.device
@@ -32,3 +34,14 @@ pub record FoundUntil {D : Type 0} {g : Ghosts D} (seen : D → List ℕ) (may_l
   pub later : (i : ℕ) → i ≤ length events → moment (device_under (behind i)) ≤ moment device
   pub each : (i : ℕ) (c : List ℕ) → i ≤ length events → left_since device (moment (device_under (behind i))) c
       → ∥ FindsBetween first behind i (length events) c ∥₁
+
+-- where a rotation has ended the kernel, until the device is the one that it left
+pub record FoundUntilEnd {D : Type 0} (g : Ghosts D) (seen : D → List ℕ) (may_leave : D → List ℕ → Type 0) (moment : D → ℕ) (left_since : D → ℕ → List ℕ → Type 0) (faults : D → ℕ)
+    (relations counters : ℕ) (first : Base) (events : List Event) (answers : List Answer) (device : D) : Type 0 where
+  pub ended : HasEnded g seen may_leave moment left_since faults relations counters first events answers device
+  pub until : FoundUntil seen may_leave moment left_since faults first ended.done ended.told ended.kernel device
+
+-- until what stands behind all events
+abbrev pub FoundTo : {D : Type 0} {g : Ghosts D} (seen : D → List ℕ) (may_leave : D → List ℕ → Type 0) (moment : D → ℕ) (left_since : D → ℕ → List ℕ → Type 0) (faults : D → ℕ) → ℕ → ℕ → Base → List Event → List Answer → Standing D g → Type 0
+FoundTo seen may_leave moment left_since faults relations counters first events answers (Stands n) = FoundUntil seen may_leave moment left_since faults first events answers n (device_under n)
+FoundTo {g = g} seen may_leave moment left_since faults relations counters first events answers (Ended device) = FoundUntilEnd g seen may_leave moment left_since faults relations counters first events answers device

@@ -14,6 +14,7 @@ use Rattle.mt_log.specs.Words.{durable}
 use Rattle.mt_pool.specs.Views.{Cleans, IsWaiting, pages}
 use Rattle.mt_pool.specs.declared.flushing.Flushed.{Flushed as FlushTold}
 use Rattle.mt_pool.specs.declared.flushing.Flushed.TheVariants as flush
+use Rattle.mt_restart.specs.Rotated.{IsForceCause, early_cause}
 use Rattle.mt_txn.specs.Causes.{IsFailure, IsFault, abort_cause, begin_cause, call_cause, commit_cause, open_cause, step_cause}
 use Rattle.mt_txn.specs.Events.{IsAnsweredBy, IsForcedBy}
 use Rattle.mt_txn.specs.Shown.{is_failed}
@@ -24,9 +25,9 @@ use Rattle.mt_txn.specs.declared.answers.Stepped.{Stepped as StepTold}
 use Rattle.mt_txn.specs.declared.answers.Stepped.TheVariants as step
 use Rattle.mt_txn.specs.declared.kernel.Kernel.{Kernel}
 use Rattle.mt_world.specs.declared.events.Answer.{Answer}
-use Rattle.mt_world.specs.declared.events.Answer.TheVariants.{Begun, Called, Stepped, Committing, Aborting, Backed, Forced, Flushed, Refused}
+use Rattle.mt_world.specs.declared.events.Answer.TheVariants.{Begun, Called, Stepped, Committing, Aborting, Backed, Forced, Flushed, Rotated, Refused}
 use Rattle.mt_world.specs.declared.events.Event.{Event}
-use Rattle.mt_world.specs.declared.events.Event.TheVariants.{Begin, Call, Step, Commit, AbortBegin, AbortStep, Force, Flush}
+use Rattle.mt_world.specs.declared.events.Event.TheVariants.{Begin, Call, Step, Commit, AbortBegin, AbortStep, Force, Flush, Rotate}
 
 -- ---- why
 
@@ -82,6 +83,9 @@ module _ {D : Type 0} {g : Ghosts D} (seen : D → List ℕ) (may_leave : D → 
   IsDue k Flush (Refused why) n = IsFailure faults (is_failed k) k.parts n.parts why
   IsDue k Flush (Flushed told) n = IsFlushed k told n
   IsDue k Flush answer n = ⊥
+  IsDue k Rotate (Refused why) n = (early_cause k ≡ Some why) ⊎ ((early_cause k ≡ None) × IsForceCause n why)
+  IsDue k Rotate Rotated n = early_cause k ≡ None
+  IsDue k Rotate answer n = ⊥
 
 -- ---- which transactions are open, commit or are to be undone
 

@@ -2,5 +2,6 @@ pub mod Acts
 pub mod Moves
 pub mod Due
 pub mod Told
+pub mod Standings
 pub mod Schedules
 pub mod Crashes

@@ -17,9 +17,9 @@ use Rattle.mt_txn.specs.declared.answers.KernelForced.TheVariants as forced
 use Rattle.mt_txn.specs.declared.answers.Stepped.TheVariants as step
 use Rattle.mt_world.specs.Acts.{Act}
 use Rattle.mt_world.specs.declared.events.Answer.{Answer}
-use Rattle.mt_world.specs.declared.events.Answer.TheVariants.{Begun, Called, Stepped, Committing, Aborting, Backed, Forced, Flushed, Refused}
+use Rattle.mt_world.specs.declared.events.Answer.TheVariants.{Begun, Called, Stepped, Committing, Aborting, Backed, Forced, Flushed, Rotated, Refused}
 use Rattle.mt_world.specs.declared.events.Event.{Event}
-use Rattle.mt_world.specs.declared.events.Event.TheVariants.{Begin, Call, Step, Commit, AbortBegin, AbortStep, Force, Flush}
+use Rattle.mt_world.specs.declared.events.Event.TheVariants.{Begin, Call, Step, Commit, AbortBegin, AbortStep, Force, Flush, Rotate}
 
 -- An answer at which the state stays: a refusal, something in the way, or a part of a step's work.
 pub data IsStill : Event → Answer → Type 0 where
@@ -38,6 +38,7 @@ pub data IsStill : Event → Answer → Type 0 where
   force_went : IsStill Force (Forced forced.More)
   force_idle : IsStill Force (Forced forced.Idle)
   flushed : (told : FlushTold) → IsStill Flush (Flushed told)
+  rotated : IsStill Rotate Rotated
 
 -- An event with its answer leads from a state to another, with what ended in it: one operation at most.
 pub data Moves (s : State) : Event → Answer → List Act → State → Type 0 where

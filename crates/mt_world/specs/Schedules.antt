@@ -1,10 +1,15 @@
--- Any list of events, made on a kernel one after the other.
-use Rattle.std.specs.Prelude.{ℕ, ◌≡◌, List, [], ◌∷◌, ◌++◌, map}
+-- Any list of events, made on a kernel one after the other, and what stands behind them.
+use Rattle.std.specs.Prelude.{ℕ, ◌≡◌, List, [], ◌∷◌, ◌++◌, Option, None, Some, map, ⊤}
+use Rattle.mt_base.specs.declared.refusal.Refusal.{Refusal}
+use Rattle.mt_base.specs.declared.refusal.Refusal.TheVariants as refusal
 use Rattle.mt_disk.specs.declared.device.Device.{Ghosts}
 use Rattle.mt_live.specs.Entries.{IsExplained}
 use Rattle.mt_live.specs.Machine.{State, committed_base, start}
 use Rattle.mt_model.specs.History.{IsActed, IsLegal, run}
 use Rattle.mt_model.specs.Model.{Base}
+use Rattle.mt_restart.specs.Rotated.{IsLeft, StandsForBook}
+use Rattle.mt_restart.specs.declared.rotating.NotRotated.TheVariants.{Ended as IsEnded}
+use Rattle.mt_txn.specs.Restarted.{FindsMeanwhile}
 use Rattle.mt_txn.specs.Shown.{LeavesFound, Restarts, SameSchema, Shows, StaysRestarting}
 use Rattle.mt_txn.specs.declared.kernel.Kernel.{Kernel}
 use Rattle.mt_world.specs.Acts.{Act, calls_in}
@@ -12,12 +17,16 @@ use Rattle.mt_world.specs.Due.{FailsIn, IsDue, SetsPhases, StayBroken}
 use Rattle.mt_world.specs.Moves.{Moves}
 use Rattle.mt_world.specs.Told.{acknowledged, commit_of, told_of}
 use Rattle.mt_world.specs.declared.events.Answer.{Answer}
+use Rattle.mt_world.specs.declared.events.Answer.TheVariants.{Refused}
 use Rattle.mt_world.specs.declared.events.Event.{Event}
+use Rattle.mt_world.specs.declared.events.Event.TheVariants.{Rotate}
+use Rattle.mt_world.specs.declared.standing.Standing.{Standing}
+use Rattle.mt_world.specs.declared.standing.Standing.TheVariants.{Stands, Ended}
 
 -- An event led a kernel to another, whatever state it showed; and whenever a crash came in it, a restart finds what some of the first
 -- commits of the kernel lead to.
 pub record HasMade {D : Type 0} {g : Ghosts D} (seen : D → List ℕ) (may_leave : D → List ℕ → Type 0) (moment : D → ℕ) (left_since : D → ℕ → List ℕ → Type 0) (faults : D → ℕ) (k : Kernel D g) (event : Event) (answer : Answer) (n : Kernel D g) : Type 0 where
-  pub leads : (first : Base) (s : State) → Shows seen may_leave first s k
+  pub leads : (first : Base) (s : State) → Restarts seen may_leave first k → Shows seen may_leave first s k
       → ∥ ((acts : List Act) × (z : State) × Moves s event answer acts z × Shows seen may_leave first z n) ∥₁
   pub due : IsDue seen may_leave faults k event answer n
   pub phases : SetsPhases k event answer n
@@ -59,3 +68,54 @@ module _ {D : Type 0} {g : Ghosts D} (seen : D → List ℕ) (may_leave : D → 
     pub explained : IsExplained (committed_base first state) state.standing state.base
     pub broken : StayBroken answers
     pub restarts : Restarts seen may_leave first n
+
+-- The first of the events ran, and then a rotation was refused and left the device; each later event was refused with 2. The
+-- device stands for what the book leads to, unless it failed.
+pub record HasEnded {D : Type 0} (g : Ghosts D) (seen : D → List ℕ) (may_leave : D → List ℕ → Type 0) (moment : D → ℕ) (left_since : D → ℕ → List ℕ → Type 0) (faults : D → ℕ)
+    (relations counters : ℕ) (first : Base) (events : List Event) (answers : List Answer) (device : D) : Type 0 where
+  pub done : List Event
+  pub later : List Event
+  pub told : List Answer
+  pub kernel : Kernel D g
+  pub why : Refusal
+  pub events_are : events ≡ done ++ Rotate ∷ later
+  pub answers_are : answers ≡ told ++ Refused why ∷ map (λ (event : Event). Refused refusal.DeviceFailed) later
+  pub ran : HasRun seen may_leave faults first done told kernel
+  pub schema : (kernel.relations ≡ relations) × (kernel.counters ≡ counters)
+  pub left : IsLeft seen may_leave moment left_since faults kernel (IsEnded why device)
+  pub stands : StandsForBook may_leave first kernel why device
+  pub broken : StayBroken answers
+
+module _ {D : Type 0} {g : Ghosts D} (seen : D → List ℕ) (may_leave : D → List ℕ → Type 0) (moment : D → ℕ) (left_since : D → ℕ → List ℕ → Type 0) (faults : D → ℕ) where
+  -- A rotation was refused, and only the device of the kernel is left.
+  pub record HasEndedBy (k : Kernel D g) (event : Event) (answer : Answer) (device : D) : Type 0 where
+    pub why : Refusal
+    pub rotation : event ≡ Rotate
+    pub refused : answer ≡ Refused why
+    pub left : IsLeft seen may_leave moment left_since faults k (IsEnded why device)
+    pub found : (first : Base) → Restarts seen may_leave first k → FindsMeanwhile moment left_since k.relations k.counters first k.parts device
+
+  -- what an event made of a kernel
+  abbrev pub HasBecome : Kernel D g → Event → Answer → Standing D g → Type 0
+  HasBecome k event answer (Stands n) = HasMade seen may_leave moment left_since faults k event answer n
+  HasBecome k event answer (Ended device) = HasEndedBy k event answer device
+
+  -- a rotation is not made in place
+  abbrev pub IsMadeInPlace : Kernel D g → Event → Option Answer → Kernel D g → Type 0
+  IsMadeInPlace k event (Some answer) n = HasMade seen may_leave moment left_since faults k event answer n
+  IsMadeInPlace k event None n = (event ≡ Rotate) × (n ≡ k)
+
+  -- and of what stands: once the kernel is gone, each event is refused with 2
+  abbrev pub GoesTo : Standing D g → Event → Answer → Standing D g → Type 0
+  GoesTo (Stands k) event answer next = HasBecome k event answer next
+  GoesTo (Ended device) event answer next = (answer ≡ Refused refusal.DeviceFailed) × (next ≡ Ended device)
+
+  -- what stands behind all events
+  abbrev pub HasRunTo : ℕ → ℕ → Base → List Event → List Answer → Standing D g → Type 0
+  HasRunTo relations counters first events answers (Stands n) = HasRun seen may_leave faults first events answers n
+  HasRunTo relations counters first events answers (Ended device) = HasEnded g seen may_leave moment left_since faults relations counters first events answers device
+
+-- a kernel of so many relations and counters, if one stands
+abbrev pub IsOfSchema : {D : Type 0} → {g : Ghosts D} → ℕ → ℕ → Standing D g → Type 0
+IsOfSchema relations counters (Stands n) = (n.relations ≡ relations) × (n.counters ≡ counters)
+IsOfSchema relations counters (Ended device) = ⊤

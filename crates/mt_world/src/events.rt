@@ -4,7 +4,7 @@ use mt_model::Op;
 use mt_pool::Flushed;
 use mt_txn::{AbortStepped, Called, KernelForced, Stepped};
 
-/// What is asked of a kernel: each event is one of its calls.
+/// What is asked of a kernel: each event is one of its calls, or a rotation of its log.
 #[derive(Debug, Drop)]
 pub enum Event {
     /// A transaction of this session begins.
@@ -23,6 +23,8 @@ pub enum Event {
     Force,
     /// A frame is flushed.
     Flush,
+    /// The log is turned over.
+    Rotate,
 }
 
 /// What the kernel's call answers to an event.
@@ -44,6 +46,9 @@ pub enum Answer {
     Forced(KernelForced),
     /// What was flushed.
     Flushed(Flushed),
-    /// The call was refused, and the state is as before.
+    /// The log is turned over, and the state is as before.
+    Rotated,
+    /// The call was refused, and the state is as before. Where a rotation has ended the kernel, [`Standing::Ended`](crate::Standing)
+    /// says what is left.
     Refused(Refusal),
 }

@@ -8,6 +8,8 @@
 mod events;
 mod making;
 mod schedules;
+mod standing;
 
 pub use events::{Answer, Event};
 pub use schedules::run_schedule;
+pub use standing::Standing;

@@ -1,12 +1,19 @@
-// One event, made by the kernel's call of its name.
-ghost use Rattle.mt_world.specs.Schedules.{HasMade};
+// One event, made by the kernel's call of its name, or by a rotation of its log.
+ghost use Rattle.mt_world.specs.Standings.{IsLeftAs};
+ghost use Rattle.mt_world.specs.Schedules.{GoesTo, HasBecome, HasMade, IsMadeInPlace};
 ghost use Rattle.mt_world.specs.declared.events.Event.TheVariants as event;
 
 use crate::events::{Answer, Event};
+use crate::standing::Standing;
 use mt_base::{Refusal, TxnNo};
 use mt_disk::Device;
 use mt_model::Op;
+use mt_restart::{NotRotated, rotate};
 use mt_txn::Kernel;
+use std::alloc::Global;
+
+// How many pages a kernel keeps in frames.
+pub(crate) const FRAMES: usize = 64;
 
 // Begins a transaction.
 fn begin<D: Device>(kernel: &mut Kernel<D>, session: u32) -> Answer
@@ -102,19 +109,86 @@ fn flush<D: Device>(kernel: &mut Kernel<D>) -> Answer
     }
 }
 
-/// Makes an event by the kernel's call of its name, and gives what that answers.
-pub(crate) fn make<D: Device>(kernel: &mut Kernel<D>, event: &Event) -> Answer
-    ensures { HasMade D.seen D.may_leave D.moment D.left_since D.faults kernel.old event.now result
-        kernel.new }
+// Makes an event by the kernel's call of its name, and gives what that answers; nothing for a rotation, which takes the
+// kernel itself.
+fn make_in_place<D: Device>(kernel: &mut Kernel<D>, event: &Event) -> Option<Answer>
+    ensures { IsMadeInPlace D.seen D.may_leave D.moment D.left_since D.faults kernel.old event.now result kernel.new }
 {
     match event {
-        Event::Begin(session) => begin(kernel, *session),
-        Event::Call(txn, op) => call(kernel, *txn, op),
-        Event::Step(txn) => step(kernel, *txn),
-        Event::Commit(txn) => commit(kernel, *txn),
-        Event::AbortBegin(txn) => abort(kernel, *txn),
-        Event::AbortStep(txn) => go_back(kernel, *txn),
-        Event::Force => force(kernel),
-        Event::Flush => flush(kernel),
+        Event::Begin(session) => Some(begin(kernel, *session)),
+        Event::Call(txn, op) => Some(call(kernel, *txn, op)),
+        Event::Step(txn) => Some(step(kernel, *txn)),
+        Event::Commit(txn) => Some(commit(kernel, *txn)),
+        Event::AbortBegin(txn) => Some(abort(kernel, *txn)),
+        Event::AbortStep(txn) => Some(go_back(kernel, *txn)),
+        Event::Force => Some(force(kernel)),
+        Event::Flush => Some(flush(kernel)),
+        Event::Rotate => None,
+    }
+}
+
+// What stands where a rotation was refused, and its answer.
+fn refused<D: Device>(left: NotRotated<D>) -> (Standing<D>, Answer)
+    ensures { IsLeftAs left result.0 result.1 }
+{
+    match left {
+        NotRotated::Kept(refusal, kernel) => {
+            (Standing::Stands(kernel), Answer::Refused(refusal))
+        }
+        NotRotated::Ended(refusal, device) => {
+            (Standing::Ended(device), Answer::Refused(refusal))
+        }
+    }
+}
+
+// Turns the log over. The tests are those of the rotation: what is refused by them leaves the kernel itself.
+fn turn_over<D: Device + Drop>(alloc: Global, kernel: Kernel<D>) -> (Standing<D>, Answer)
+    ensures { HasBecome D.seen D.may_leave D.moment D.left_since D.faults kernel event.Rotate result.1 result.0 }
+{
+    if kernel.has_failed() {
+        return (
+            Standing::Stands(kernel),
+            Answer::Refused(Refusal::DeviceFailed),
+        );
+    }
+    if !kernel.has_nobody() {
+        return (Standing::Stands(kernel), Answer::Refused(Refusal::Busy));
+    }
+    match rotate(alloc, kernel, FRAMES) {
+        Ok(kernel) => (Standing::Stands(kernel), Answer::Rotated),
+        Err(left) => refused(left),
+    }
+}
+
+// Makes an event on a kernel.
+fn make_on<D: Device + Drop>(
+    alloc: Global,
+    kernel: Kernel<D>,
+    event: &Event,
+) -> (Standing<D>, Answer)
+    ensures { HasBecome D.seen D.may_leave D.moment D.left_since D.faults kernel event.now result.1 result.0 }
+{
+    let mut kernel = kernel;
+    match make_in_place(&mut kernel, event) {
+        Some(answer) => (Standing::Stands(kernel), answer),
+        None => turn_over(alloc, kernel),
+    }
+}
+
+/// Makes an event on what stands, and gives what stands then with the answer. Once a rotation has ended the kernel, each
+/// event is refused with 2.
+pub(crate) fn make<D: Device + Drop>(
+    alloc: Global,
+    standing: Standing<D>,
+    event: &Event,
+) -> (Standing<D>, Answer)
+    ensures { GoesTo D.seen D.may_leave D.moment D.left_since D.faults standing event.now result.1 result.0 }
+{
+    match standing {
+        Standing::Stands(kernel) => make_on(alloc, kernel, event),
+        Standing::Ended(device) => (
+            Standing::Ended(device),
+            Answer::Refused(Refusal::DeviceFailed),
+        ),
     }
 }

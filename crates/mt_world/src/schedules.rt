@@ -4,48 +4,57 @@ ghost use Rattle.std.specs.Vec.{vec_capacity};
 ghost use Rattle.mt_base.specs.declared.refusal.Refusal.{Refusal};
 ghost use Rattle.mt_live.specs.Machine.{start};
 ghost use Rattle.mt_restart.specs.Schemas.{counters_in, device_bytes, relations_in, schema_base};
-ghost use Rattle.mt_txn.specs.Shown.{Restarts, SameSchema, Shows};
+ghost use Rattle.mt_txn.specs.Shown.{Restarts, Shows};
 ghost use Rattle.mt_model.specs.Model.{Base};
-ghost use Rattle.mt_world.specs.Crashes.{FoundUntil, device_under};
-ghost use Rattle.mt_world.specs.Schedules.{HasRun};
+ghost use Rattle.mt_world.specs.Crashes.{FoundTo};
+ghost use Rattle.mt_world.specs.Schedules.{HasRunTo, IsOfSchema};
 
 use crate::events::{Answer, Event};
-use crate::making::make;
+use crate::making::{FRAMES, make};
+use crate::standing::Standing;
 use mt_base::Refusal;
 use mt_disk::Device;
 use mt_restart::{Schema, fresh};
 use mt_txn::Kernel;
 use std::alloc::Global;
 
-// How many pages the kernel keeps in frames.
-const FRAMES: usize = 64;
-
 // Makes the events in their order, and keeps an answer of each.
-fn make_all<D: Device>(kernel: &mut Kernel<D>, events: &[Event], answers: &mut Vec<Answer>)
+fn make_all<D: Device + Drop>(
+    alloc: Global,
+    kernel: Kernel<D>,
+    events: &[Event],
+    answers: &mut Vec<Answer>,
+) -> Standing<D>
     requires none { answers.old.items ≡ [] }
     requires room { vec_len answers.old + length events.now ≤ vec_capacity answers.old }
-    ensures ran { (first : Base) → Shows D.seen D.may_leave first (start first) kernel.old
-        → Restarts D.seen D.may_leave first kernel.old → ∥ HasRun D.seen D.may_leave D.faults first events.now
-        answers.new.items kernel.new ∥₁ }
-    ensures moments { (first : Base) → Shows D.seen D.may_leave first (start first) kernel.old
-        → Restarts D.seen D.may_leave first kernel.old
-        → ∥ FoundUntil D.seen D.may_leave D.moment D.left_since D.faults first events.now answers.new.items kernel.new
-        (device_under kernel.new) ∥₁ }
-    ensures schema { SameSchema kernel.old kernel.new }
+    ensures ran { (first : Base) → Shows D.seen D.may_leave first (start first) kernel
+        → Restarts D.seen D.may_leave first kernel → ∥ HasRunTo D.seen D.may_leave D.moment D.left_since D.faults
+        kernel.relations kernel.counters first events.now answers.new.items result ∥₁ }
+    ensures moments { (first : Base) → Shows D.seen D.may_leave first (start first) kernel
+        → Restarts D.seen D.may_leave first kernel → ∥ FoundTo D.seen D.may_leave D.moment D.left_since D.faults
+        kernel.relations kernel.counters first events.now answers.new.items result ∥₁ }
+    ensures schema { IsOfSchema kernel.relations kernel.counters result }
 {
+    let mut standing = Standing::Stands(kernel);
     for event in events {
-        answers.push_reserved(make(kernel, event));
+        let (next, answer) = make(alloc, standing, event);
+        standing = next;
+        answers.push_reserved(answer);
     }
+    standing
 }
 
 /// Formats a device by the schema, begins a kernel over it in 64 frames, and makes the events in their order, each by
-/// the kernel's call of its name and by nothing else. Gives the kernel, and an answer of each event.
+/// the kernel's call of its name and by nothing else. Gives what stands behind them, and an answer of each event.
 ///
 /// Whatever the events: what ended acted once on the model, in the order of the ends; the committed transactions
 /// replied as they do alone, in the order of the commits; and what stands of the others is explained, whoever of them
 /// is struck out (Weikum 1991, O'Neil 1986). An event of a transaction that is not there is answered with 15; once an
-/// event was refused with 2, each later one is. Whatever a crash leaves behind them can be restarted from, as
-/// [`Kernel::can_restart`] says.
+/// event was refused with 2, each later one is. A rotation while a transaction lives is refused with 16. One that is
+/// refused with the device ends the kernel: each event behind it is refused with 2, and the device is to be opened again.
+///
+/// Whatever a crash leaves while the events are made can be restarted from, as [`Kernel::can_restart`] says: from the
+/// first kernel on, a restart finds what some of the first commits lead to, with all whose records were durable.
 ///
 /// Refused, in this order, with the device, before any event: 1 for want of memory, 5 where the device is shorter than
 /// [`Schema::device_len`], 2 where it failed. After 5 nothing is written.
@@ -54,13 +63,15 @@ pub fn run_schedule<D: Device + Drop>(
     device: D,
     schema: &Schema,
     events: &[Event],
-) -> Result<(Kernel<D>, Vec<Answer>), (Refusal, D)>
-    ensures ran { IfOk result (λ made. ∥ HasRun D.seen D.may_leave D.faults (schema_base schema.now) events.now
+) -> Result<(Standing<D>, Vec<Answer>), (Refusal, D)>
+    ensures ran { IfOk result (λ made. ∥ HasRunTo D.seen D.may_leave D.moment D.left_since D.faults
+        (relations_in schema.now) (length (counters_in schema.now)) (schema_base schema.now) events.now
         made.1.items made.0 ∥₁) }
-    ensures moments { IfOk result (λ made. ∥ FoundUntil D.seen D.may_leave D.moment D.left_since D.faults
-        (schema_base schema.now) events.now made.1.items made.0 (device_under made.0) ∥₁) }
-    ensures schema { IfOk result (λ made. (made.0.relations ≡ relations_in schema.now)
-        × (made.0.counters ≡ length (counters_in schema.now))) }
+    ensures moments { IfOk result (λ made. ∥ FoundTo D.seen D.may_leave D.moment D.left_since D.faults
+        (relations_in schema.now) (length (counters_in schema.now)) (schema_base schema.now) events.now
+        made.1.items made.0 ∥₁) }
+    ensures schema { IfOk result (λ made. IsOfSchema (relations_in schema.now) (length (counters_in schema.now))
+        made.0) }
     ensures cause { IfErr result (λ gone. (gone.0 ≡ Refusal.NoMemory)
         ⊎ ((gone.0 ≡ Refusal.BadLength) × (length (D.seen device) < device_bytes schema.now)
         ⊎ (gone.0 ≡ Refusal.DeviceFailed) × (D.faults device < D.faults gone.1))) }
@@ -68,7 +79,7 @@ pub fn run_schedule<D: Device + Drop>(
     let Ok(mut answers) = Vec::with_capacity(alloc, events.len()) else {
         return Err((Refusal::NoMemory, device));
     };
-    let mut kernel = fresh(alloc, device, schema, FRAMES)?;
-    make_all(&mut kernel, events, &mut answers);
-    Ok((kernel, answers))
+    let kernel = fresh(alloc, device, schema, FRAMES)?;
+    let standing = make_all(alloc, kernel, events, &mut answers);
+    Ok((standing, answers))
 }

@@ -1,4 +1,5 @@
-use Rattle.mt_world.proofs.making.make.Goals as goal
+use Rattle.std.proofs.Common.{refl}
+use Rattle.mt_world.proofs.making.make_in_place.Goals as goal
 
 pub returns-in-Begin : goal.returns-in-Begin
 returns-in-Begin g c = rw c.in-Begin.is c.begin.ensures
@@ -23,3 +24,6 @@ returns-in-Force g c = rw c.in-Force.is c.force.ensures
 
 pub returns-in-Flush : goal.returns-in-Flush
 returns-in-Flush g c = rw c.in-Flush.is c.flush.ensures
+
+pub returns-in-Rotate : goal.returns-in-Rotate
+returns-in-Rotate g c = (c.in-Rotate.is, refl)

@@ -48,7 +48,6 @@ pub enum Answer {
     Flushed(Flushed),
     /// The log is turned over, and the state is as before.
     Rotated,
-    /// The call was refused, and the state is as before. Where a rotation has ended the kernel, [`Standing::Ended`](crate::Standing)
-    /// says what is left.
+    /// It was refused, and the state is as before. A rotation may have ended the kernel; then no kernel stands behind it.
     Refused(Refusal),
 }

@@ -1,5 +1,5 @@
 -- The force steps of a commit that is the only one.
-use Rattle.std.proofs.Common.{◌≡◌, ◌≤◌, ◌<◌, ◌+◌, ◌⊎◌, ◌==◌, ◌||◌, inl, inr, suc, ℕ, Bool, true, false, cond, List, [], ◌∷◌, ◌++◌, length, map, take, drop, Ok, Err, refl, ap, sym, subst, ◌∙◌, arith, length-append}
+use Rattle.std.proofs.Common.{◌≡◌, ◌≤◌, ◌<◌, ◌+◌, ◌⊎◌, ◌==◌, ◌||◌, inl, inr, suc, ℕ, Bool, true, false, cond, List, [], ◌∷◌, ◌++◌, length, map, take, drop, Ok, Err, refl, ap, sym, subst, ◌∙◌, arith}
 use Rattle.std.specs.Prelude.{not, nat_lt}
 use Rattle.std.specs.List.{list_any}
 use Rattle.std.proofs.lemmas.Bool.{cases_lt, le-ltb, lt-ltb}
@@ -10,9 +10,7 @@ use Rattle.mt_disk.specs.declared.device.Device.{Ghosts}
 use Rattle.mt_frame.specs.declared.records.Record.{Record}
 use Rattle.mt_live.proofs.Alone.{alone_commits}
 use Rattle.mt_live.specs.Machine.{booked}
-use Rattle.mt_log.specs.Words.{durable, in_flight, waiting, appended, calls_left, calls_after, IsStep}
-use Rattle.mt_log.specs.declared.log.Forced.TheVariants as log
-use Rattle.mt_log.specs.declared.log.Log.{Log}
+use Rattle.mt_log.specs.Words.{durable}
 use Rattle.mt_model.proofs.Appends.{after-append}
 use Rattle.mt_model.specs.declared.history.Committed.{Committed}
 use Rattle.mt_model.specs.History.{Call, run}

@@ -8,3 +8,4 @@ pub mod UndoLemmas
 pub mod TurnLemmas
 pub mod CallLemmas
 pub mod RunLemmas
+pub mod SessionLemmas

@@ -1,5 +1,5 @@
 -- Where bytes are cut, and which bytes are no line.
-use Rattle.std.proofs.Common.{Bool, true, false, IsTrue, ◌↔◌, arith, append_assoc, take, drop, Option, Result, Ok, Err, inl, inr, w64, ◌≡◌, ◌≢◌, ◌<◌, ◌≤◌, ◌^◌, ◌+◌, ◌%◌, ◌-◌, suc, pos, negsuc, ℕ, ℤ, List, [], ◌∷◌, ◌++◌, length, get_or, refl, ap, sym, ◌∙◌, subst, codes}
+use Rattle.std.proofs.Common.{Bool, true, false, IsTrue, ◌↔◌, arith, append_assoc, take, drop, Option, Result, Ok, Err, inl, inr, w64, ◌≡◌, ◌≢◌, ◌<◌, ◌≤◌, ◌^◌, ◌-◌, suc, pos, negsuc, ℕ, ℤ, List, [], ◌∷◌, ◌++◌, length, get_or, refl, ap, sym, ◌∙◌, subst, codes}
 use Rattle.std.specs.List.{All}
 use Rattle.std.specs.Option.{MatchOption}
 use Rattle.std.specs.Result.{OkIff, result_ok}
@@ -8,14 +8,14 @@ use Rattle.std.proofs.lemmas.Bool.{cases_lt}
 use Rattle.std.proofs.lemmas.Grind.{common_steps}
 use Rattle.std.specs.Fmt.{decimal, signed_decimal}
 use Rattle.std.proofs.lemmas.Int.{ints}
-use Rattle.std.proofs.lemmas.Fmt.{decimal_by_steps, decimal_injective}
-use Rattle.std.proofs.lemmas.List.Elements.{All-nil, All-cons, All-head, All-tail, All-push, All-append, All-weaker}
+use Rattle.std.proofs.lemmas.Fmt.{decimal_injective}
+use Rattle.std.proofs.lemmas.List.Elements.{All-nil, All-cons, All-head, All-tail, All-weaker}
 use Rattle.mt_model.specs.declared.operations.Op.{Op}
 use Rattle.mt_model.specs.declared.operations.Op.TheVariants.{Get, Insert, Update, Delete, Add, Read}
 use Rattle.mt_server.specs.Whole.{decimal_digits, is_without}
 use Rattle.mt_server.specs.declared.lines.Line.{Line}
 use Rattle.mt_server.specs.declared.lines.Line.TheVariants.{Begin, Call, Commit, Abort}
-use Rattle.mt_server.specs.Lines.{IsUnspaced, IsWord, IsText, IsPlace, IsWide, IsSpelled, SpellsStep, SpellsKey, SpellsRow, SpellsOp, Spells, op_text, line_text, IsInGrammar}
+use Rattle.mt_server.specs.Lines.{IsUnspaced, IsWord, IsPlace, IsWide, SpellsStep, SpellsKey, SpellsRow, SpellsOp, Spells, op_text}
 
 -- what stands before the first c, and what behind it
 pub same_cut : (c : ℕ) (xs ys tail rear : List ℕ) → All (λ b. b ≢ c) xs → All (λ b. b ≢ c) ys → xs ++ c ∷ tail ≡ ys ++ c ∷ rear → (xs ≡ ys) × (tail ≡ rear)

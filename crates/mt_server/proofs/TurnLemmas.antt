@@ -26,7 +26,6 @@ use Rattle.mt_kernel.specs.Consistent.{SameRunning, SameStates, SetsState, log_k
 use Rattle.mt_kernel.specs.Runs.{state_in}
 use Rattle.mt_kernel.specs.Work.{undo_steps}
 use Rattle.mt_kernel.specs.declared.parts.Commit.{Commit}
-use Rattle.mt_kernel.specs.declared.parts.Parts.{Parts}
 use Rattle.mt_kernel.specs.declared.parts.Running.{Running}
 use Rattle.mt_txn.proofs.Living.{idle_of, no_commits}
 use Rattle.mt_txn.proofs.Showing.{kept_of, parts_stay}

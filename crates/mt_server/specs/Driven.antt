@@ -1,13 +1,12 @@
 -- A kernel beside the model's play of a script that runs alone on it.
-use Rattle.std.specs.Prelude.{ℕ, ◌≡◌, ◌≢◌, ◌⊎◌, ◌<◌, ◌≤◌, ◌+◌, ◌++◌, true, List, [], ◌∷◌, length, Option, Some, None, Result, Ok, Err, IfOk, IfErr, OnErr}
+use Rattle.std.specs.Prelude.{ℕ, ◌≡◌, ◌≢◌, ◌⊎◌, ◌<◌, ◌≤◌, ◌++◌, true, List, [], ◌∷◌, length, Option, Some, None, Result, Ok, Err, IfOk, IfErr, OnErr}
 use Rattle.mt_base.specs.declared.refusal.Refusal.{Refusal}
 use Rattle.mt_base.specs.declared.refusal.Refusal.TheVariants as refusal
 use Rattle.mt_disk.specs.declared.device.Device.{Ghosts}
 use Rattle.mt_live.specs.Alone.{NobodyLives, IsAlone}
 use Rattle.mt_live.specs.Machine.{State, IsKept, called}
 use Rattle.mt_live.specs.declared.transactions.TxnState.TheVariants.{Open, Committing, Aborting}
-use Rattle.mt_log.specs.Words.{appended, durable, in_flight, calls_left}
-use Rattle.mt_log.specs.declared.log.Log.{Log}
+use Rattle.mt_log.specs.Words.{appended, durable}
 use Rattle.mt_model.specs.History.{Call, run, after}
 use Rattle.mt_model.specs.Model.{Base, reply_of}
 use Rattle.mt_model.specs.declared.operations.Op.{Op}

@@ -6,3 +6,4 @@ pub mod Scripts
 pub mod Plays
 pub mod Driven
 pub mod Runs
+pub mod Sessions

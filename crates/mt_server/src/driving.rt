@@ -1,6 +1,6 @@
 // Operations taken to their replies, and aborts to their ends.
 ghost use Rattle.std.specs.Prelude.{◌≡◌, ◌↔◌, IsTrue, Ok};
-ghost use Rattle.mt_txn.specs.Shown.{SameSchema};
+ghost use Rattle.mt_txn.specs.Shown.{SameSchema, StaysRestarting};
 ghost use Rattle.mt_server.specs.Driven.{HasBacked, HasMoved, HasReplied, HasUndone};
 
 use crate::forcing::{ASKED_AGAIN, make_room, wants_memory};
@@ -34,6 +34,7 @@ fn abort_wants_frame(answer: &Result<AbortStepped, Refusal>) -> bool
 pub fn ask_step<D: Device>(kernel: &mut Kernel<D>, txn: TxnNo) -> Result<Stepped, Refusal>
     ensures moved { HasMoved D.seen D.may_leave D.faults kernel.old txn result kernel.new }
     ensures schema { SameSchema kernel.old kernel.new }
+    ensures restarts { StaysRestarting D.seen D.may_leave kernel.old kernel.new }
 {
     for _ in 0..=ASKED_AGAIN {
         let answer = kernel.step(txn);
@@ -51,6 +52,7 @@ pub fn ask_step<D: Device>(kernel: &mut Kernel<D>, txn: TxnNo) -> Result<Stepped
 pub fn step_to_reply<D: Device>(kernel: &mut Kernel<D>, txn: TxnNo) -> Result<Reply, Refusal>
     ensures replied { HasReplied D.seen D.may_leave D.faults kernel.old txn result kernel.new }
     ensures schema { SameSchema kernel.old kernel.new }
+    ensures restarts { StaysRestarting D.seen D.may_leave kernel.old kernel.new }
 {
     for _step in 0..OPERATION_STEPS {
         match ask_step(kernel, txn)? {
@@ -67,6 +69,7 @@ pub fn step_to_reply<D: Device>(kernel: &mut Kernel<D>, txn: TxnNo) -> Result<Re
 pub fn ask_abort<D: Device>(kernel: &mut Kernel<D>, txn: TxnNo) -> Result<AbortStepped, Refusal>
     ensures backed { HasBacked D.seen D.may_leave D.faults kernel.old txn result kernel.new }
     ensures schema { SameSchema kernel.old kernel.new }
+    ensures restarts { StaysRestarting D.seen D.may_leave kernel.old kernel.new }
 {
     for _ in 0..=ASKED_AGAIN {
         let answer = kernel.abort_step(txn);
@@ -84,6 +87,7 @@ pub fn ask_abort<D: Device>(kernel: &mut Kernel<D>, txn: TxnNo) -> Result<AbortS
 pub fn undo<D: Device>(kernel: &mut Kernel<D>, txn: TxnNo) -> Result<(), Refusal>
     ensures undone { HasUndone D.seen D.may_leave D.faults kernel.old txn result kernel.new }
     ensures schema { SameSchema kernel.old kernel.new }
+    ensures restarts { StaysRestarting D.seen D.may_leave kernel.old kernel.new }
 {
     for _step in 0..ABORT_STEPS {
         match ask_abort(kernel, txn)? {

@@ -1,7 +1,7 @@
 // Forces, and room in the frames.
 ghost use Rattle.std.specs.Prelude.{◌≡◌, ◌↔◌, Err, IfErr, IsTrue};
 ghost use Rattle.mt_base.specs.declared.refusal.Refusal.{Refusal};
-ghost use Rattle.mt_txn.specs.Shown.{SameSchema};
+ghost use Rattle.mt_txn.specs.Shown.{SameSchema, StaysRestarting};
 ghost use Rattle.mt_server.specs.Driven.{Eases, Fails, HasCommitted, IsForcing, NobodyCommits};
 
 use mt_base::{Refusal, TxnNo};
@@ -26,6 +26,7 @@ pub(crate) fn wants_memory<T>(answer: &Result<T, Refusal>) -> bool
 pub fn ask_force<D: Device>(kernel: &mut Kernel<D>) -> Result<KernelForced, Refusal>
     ensures forcing { IsForcing D.seen D.may_leave D.faults kernel.old result kernel.new }
     ensures schema { SameSchema kernel.old kernel.new }
+    ensures restarts { StaysRestarting D.seen D.may_leave kernel.old kernel.new }
 {
     for _ in 0..ASKED_AGAIN {
         let answer = kernel.force_step();
@@ -40,6 +41,7 @@ pub fn ask_force<D: Device>(kernel: &mut Kernel<D>) -> Result<KernelForced, Refu
 pub fn force_commit<D: Device>(kernel: &mut Kernel<D>, txn: TxnNo) -> Result<(), Refusal>
     ensures committed { HasCommitted D.seen D.may_leave D.faults kernel.old txn result kernel.new }
     ensures schema { SameSchema kernel.old kernel.new }
+    ensures restarts { StaysRestarting D.seen D.may_leave kernel.old kernel.new }
 {
     for _step in 0..FORCE_STEPS {
         match ask_force(kernel)? {
@@ -61,6 +63,7 @@ pub fn make_room<D: Device>(kernel: &mut Kernel<D>) -> Result<(), Refusal>
     ensures eases { NobodyCommits kernel.old → Eases D.seen D.may_leave kernel.old kernel.new }
     ensures cause { IfErr result (Fails D.faults kernel.new) }
     ensures schema { SameSchema kernel.old kernel.new }
+    ensures restarts { StaysRestarting D.seen D.may_leave kernel.old kernel.new }
 {
     for _ in 0..=FORCE_STEPS {
         match kernel.flush_step()? {

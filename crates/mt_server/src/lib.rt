@@ -1,8 +1,9 @@
 //! Scripts served to a kernel: a script is read whole, line by line, before any of it runs; it then runs
 //! alone, and each of its lines is answered by a line of the transcript. A refusal is an answer, and the
-//! script goes on.
+//! script goes on. Several scripts are served one after the other, as sessions of their own.
 //!
-//! Readers and writers are passed in, and their bytes are what contracts speak of. Begin at [`run_alone`].
+//! Readers and writers are passed in, and their bytes are what contracts speak of. Begin at [`run_alone`], or at
+//! [`run_sessions`] for several scripts.
 #![tactic(auto)]
 
 mod answers;
@@ -12,6 +13,7 @@ mod grammar;
 mod lines;
 mod reader;
 mod running;
+mod sessions;
 mod turns;
 
 pub use answers::{Answer, Unheard, put, put_all, write_answer, write_reply};
@@ -19,3 +21,4 @@ pub use grammar::Grammar;
 pub use lines::{Line, ScriptGrammar, is_text_of, line_of, number_of, op_of, split_at_space};
 pub use reader::{Script, ScriptFault, read_lines, read_script};
 pub use running::{RunFault, run_alone};
+pub use sessions::{MAX_SESSIONS, run_sessions};

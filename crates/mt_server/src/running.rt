@@ -1,7 +1,7 @@
 // A script, run by itself on a kernel.
 ghost use Rattle.std.specs.Prelude.{◌≡◌, [], ◌∷◌, IfOk, IfErr, OnOk, None, Some};
 ghost use Rattle.mt_base.specs.declared.refusal.Refusal.{Refusal};
-ghost use Rattle.mt_txn.specs.Shown.{SameSchema};
+ghost use Rattle.mt_txn.specs.Shown.{SameSchema, StaysRestarting};
 ghost use Rattle.mt_server.specs.Driven.{IsBeside};
 ghost use Rattle.mt_server.specs.Plays.{Play};
 ghost use Rattle.mt_server.specs.Runs.{BesideEach, HasRun, HasRunLines, IsCutAtEnd, IsCutShort, IsEnded, IsEndedFor, IsLeftFor, IsStopped};
@@ -34,6 +34,7 @@ fn end_unheard<D: Device>(kernel: &mut Kernel<D>, live: Option<TxnNo>) -> RunFau
     ensures left { (p : Play) → IsBeside D.seen D.may_leave p live kernel.old
         → IsLeftFor D.seen D.may_leave D.faults p kernel.new result }
     ensures schema { SameSchema kernel.old kernel.new }
+    ensures restarts { StaysRestarting D.seen D.may_leave kernel.old kernel.new }
 {
     let Some(txn) = live else {
         return RunFault::Output;
@@ -79,6 +80,7 @@ fn run_line<D: Device, W: Write>(
         (λ p. IsCutShort D.seen D.may_leave D.faults p kernel.old (line.now ∷ [])
         (W.contents writer.old) (W.contents writer.new) kernel.new why)) }
     ensures schema { SameSchema kernel.old kernel.new }
+    ensures restarts { StaysRestarting D.seen D.may_leave kernel.old kernel.new }
 {
     let told = match answer(kernel, session, live, line) {
         Ok(told) => told,
@@ -104,6 +106,7 @@ fn run_lines<D: Device, W: Write>(
         (λ p. IsCutShort D.seen D.may_leave D.faults p kernel.old lines.now
         (W.contents writer.old) (W.contents writer.new) kernel.new why)) }
     ensures schema { SameSchema kernel.old kernel.new }
+    ensures restarts { StaysRestarting D.seen D.may_leave kernel.old kernel.new }
 {
     let mut live = None;
     for line in lines {
@@ -122,6 +125,8 @@ fn end_live<D: Device, W: Write>(
         → IsEnded D.seen D.may_leave p (W.contents writer.old) (W.contents writer.new) kernel.new) }
     ensures cut { IfErr result (λ why. (p : Play) → IsBeside D.seen D.may_leave p (Some txn) kernel.old
         → IsCutAtEnd D.seen D.may_leave D.faults p (W.contents writer.old) (W.contents writer.new) kernel.new why) }
+    ensures schema { SameSchema kernel.old kernel.new }
+    ensures restarts { StaysRestarting D.seen D.may_leave kernel.old kernel.new }
 {
     if let Err(refusal) = undo_open(kernel, txn) {
         return Err(end_refused(writer, refusal));
@@ -157,6 +162,9 @@ pub fn run_alone<D: Device, W: Write>(
         (W.contents writer.old) (W.contents writer.new) kernel.new why)) }
     ensures why { IfErr result (λ why. BesideEach D.seen D.may_leave session None kernel.old
         (λ p. IsEndedFor D.faults kernel.new why)) }
+    ensures schema { SameSchema kernel.old kernel.new }
+    // A kernel that can be restarted from a base still can.
+    ensures restarts { StaysRestarting D.seen D.may_leave kernel.old kernel.new }
 {
     match run_lines(kernel, session, script.lines(), writer)? {
         Some(txn) => end_live(kernel, txn, writer),

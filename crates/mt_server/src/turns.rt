@@ -1,6 +1,6 @@
 // What the kernel answers to the lines of a script.
 ghost use Rattle.std.specs.Prelude.{◌≡◌, None, Some};
-ghost use Rattle.mt_txn.specs.Shown.{SameSchema};
+ghost use Rattle.mt_txn.specs.Shown.{SameSchema, StaysRestarting};
 ghost use Rattle.mt_server.specs.Driven.{HasAborted};
 ghost use Rattle.mt_server.specs.Runs.{Answers, AnswersWithin, refused_as};
 ghost use Rattle.mt_server.specs.declared.lines.Line.TheVariants as line;
@@ -31,6 +31,7 @@ fn refused(refusal: Refusal, live: Option<TxnNo>) -> Turn
 pub fn begin<D: Device>(kernel: &mut Kernel<D>, session: u32) -> Turn
     ensures answers { Answers D.seen D.may_leave D.faults session kernel.old None line.Begin result kernel.new }
     ensures schema { SameSchema kernel.old kernel.new }
+    ensures restarts { StaysRestarting D.seen D.may_leave kernel.old kernel.new }
 {
     match kernel.begin(session) {
         Ok(txn) => Ok((Answer::Begun, Some(txn))),
@@ -42,6 +43,7 @@ pub fn begin<D: Device>(kernel: &mut Kernel<D>, session: u32) -> Turn
 pub fn call<D: Device>(kernel: &mut Kernel<D>, txn: TxnNo, op: &Op) -> Turn
     ensures answers { AnswersWithin D.seen D.may_leave D.faults kernel.old txn (line.Call op.now) result kernel.new }
     ensures schema { SameSchema kernel.old kernel.new }
+    ensures restarts { StaysRestarting D.seen D.may_leave kernel.old kernel.new }
 {
     let Ok(copy) = op.try_clone() else {
         return refused(Refusal::NoMemory, Some(txn));
@@ -60,6 +62,7 @@ pub fn call<D: Device>(kernel: &mut Kernel<D>, txn: TxnNo, op: &Op) -> Turn
 pub fn commit<D: Device>(kernel: &mut Kernel<D>, txn: TxnNo) -> Turn
     ensures answers { AnswersWithin D.seen D.may_leave D.faults kernel.old txn line.Commit result kernel.new }
     ensures schema { SameSchema kernel.old kernel.new }
+    ensures restarts { StaysRestarting D.seen D.may_leave kernel.old kernel.new }
 {
     match kernel.commit_begin(txn) {
         Ok(place) => {
@@ -74,6 +77,7 @@ pub fn commit<D: Device>(kernel: &mut Kernel<D>, txn: TxnNo) -> Turn
 pub fn undo_open<D: Device>(kernel: &mut Kernel<D>, txn: TxnNo) -> Result<(), Refusal>
     ensures aborted { HasAborted D.seen D.may_leave D.faults kernel.old txn result kernel.new }
     ensures schema { SameSchema kernel.old kernel.new }
+    ensures restarts { StaysRestarting D.seen D.may_leave kernel.old kernel.new }
 {
     kernel.abort_begin(txn)?;
     undo(kernel, txn)
@@ -83,6 +87,7 @@ pub fn undo_open<D: Device>(kernel: &mut Kernel<D>, txn: TxnNo) -> Result<(), Re
 pub fn abort<D: Device>(kernel: &mut Kernel<D>, txn: TxnNo) -> Turn
     ensures answers { AnswersWithin D.seen D.may_leave D.faults kernel.old txn line.Abort result kernel.new }
     ensures schema { SameSchema kernel.old kernel.new }
+    ensures restarts { StaysRestarting D.seen D.may_leave kernel.old kernel.new }
 {
     undo_open(kernel, txn)?;
     Ok((Answer::Aborted, None))
@@ -92,6 +97,7 @@ pub fn abort<D: Device>(kernel: &mut Kernel<D>, txn: TxnNo) -> Turn
 fn answer_outside<D: Device>(kernel: &mut Kernel<D>, session: u32, line: &Line) -> Turn
     ensures answers { Answers D.seen D.may_leave D.faults session kernel.old None line.now result kernel.new }
     ensures schema { SameSchema kernel.old kernel.new }
+    ensures restarts { StaysRestarting D.seen D.may_leave kernel.old kernel.new }
 {
     match line {
         Line::Begin => begin(kernel, session),
@@ -103,6 +109,7 @@ fn answer_outside<D: Device>(kernel: &mut Kernel<D>, session: u32, line: &Line) 
 fn answer_within<D: Device>(kernel: &mut Kernel<D>, txn: TxnNo, line: &Line) -> Turn
     ensures answers { AnswersWithin D.seen D.may_leave D.faults kernel.old txn line.now result kernel.new }
     ensures schema { SameSchema kernel.old kernel.new }
+    ensures restarts { StaysRestarting D.seen D.may_leave kernel.old kernel.new }
 {
     match line {
         Line::Begin => refused(Refusal::Busy, Some(txn)),
@@ -121,6 +128,7 @@ pub fn answer<D: Device>(
 ) -> Turn
     ensures answers { Answers D.seen D.may_leave D.faults session kernel.old live line.now result kernel.new }
     ensures schema { SameSchema kernel.old kernel.new }
+    ensures restarts { StaysRestarting D.seen D.may_leave kernel.old kernel.new }
 {
     match live {
         None => answer_outside(kernel, session, line),

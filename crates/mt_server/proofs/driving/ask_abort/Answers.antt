@@ -30,11 +30,13 @@ loop-preserved g c =
         goes = λ p start. goes_flushed D.seen D.may_leave D.faults p c.args.txn c.args.kernel.now c.loop.kernel c.abort_step-answer.new.self w.make_room.new.kernel (pages c.loop.kernel.parts.operations.store.pool) c.abort_step-answer.result (c.abort_wants_frame.ensures.0 w.if-abort_wants_frame.true)
             (c.loop.invariant.goes p start) e.aborted e.states e.work w.make_room.ensures.eases;
         schema = (w.make_room.ensures.schema.0 ∙ e.schema.0 ∙ c.loop.invariant.schema.0, w.make_room.ensures.schema.1 ∙ e.schema.1 ∙ c.loop.invariant.schema.1);
+        restarts = λ first r. w.make_room.ensures.restarts first (e.restarts first (c.loop.invariant.restarts first r));
       })
       | else-abort_wants_frame+else-not-wants_memory w ↦ rw w.kernel-is (record {
         goes = λ p start. goes_refused D.seen D.may_leave D.faults p c.args.txn c.args.kernel.now c.loop.kernel c.abort_step-answer.new.self (pages c.loop.kernel.parts.operations.store.pool) c.abort_step-answer.result refusal.NoMemory (w.wants_memory.ensures.0 w.if-not-wants_memory.false)
             (c.loop.invariant.goes p start) e.aborted e.err_states e.work;
         schema = (e.schema.0 ∙ c.loop.invariant.schema.0, e.schema.1 ∙ c.loop.invariant.schema.1);
+        restarts = λ first r. e.restarts first (c.loop.invariant.restarts first r);
       })
     ]
 

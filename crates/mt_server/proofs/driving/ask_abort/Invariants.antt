@@ -1,4 +1,4 @@
-use Rattle.mt_txn.specs.Shown.{SameSchema}
+use Rattle.mt_txn.specs.Shown.{SameSchema, StaysRestarting}
 use Rattle.mt_server.specs.Driven.{IsGoing}
 use Rattle.mt_server.specs.Plays.{Play}
 use Rattle.mt_server.proofs.DriveLemmas.{GoesBy}
@@ -8,4 +8,5 @@ abbrev pub invariant-loop : goal.invariant-loop
 invariant-loop g l = record {
   goes : (p : Play) → IsGoing g.D.Device.seen g.D.Device.may_leave p l.txn l.initial.kernel → GoesBy g.D.Device.seen g.D.Device.may_leave g.D.Device.faults p l.txn l.initial.kernel l.kernel;
   schema : SameSchema l.initial.kernel l.kernel;
+  restarts : StaysRestarting g.D.Device.seen g.D.Device.may_leave l.initial.kernel l.kernel;
 }

@@ -1,7 +1,7 @@
 use Rattle.std.proofs.Common.{List}
 use Rattle.mt_model.specs.History.{Call}
 use Rattle.mt_model.specs.declared.operations.Op.{Op}
-use Rattle.mt_txn.specs.Shown.{SameSchema}
+use Rattle.mt_txn.specs.Shown.{SameSchema, StaysRestarting}
 use Rattle.mt_server.specs.Driven.{IsCalling}
 use Rattle.mt_server.specs.Plays.{Play}
 use Rattle.mt_server.proofs.DriveLemmas.{StandsBy}
@@ -11,4 +11,5 @@ abbrev pub invariant-loop : goal.invariant-loop
 invariant-loop g l = record {
   stands : (p : Play) (calls : List Call) (op : Op) → IsCalling g.D.Device.seen g.D.Device.may_leave p l.txn calls op l.initial.kernel → StandsBy g.D.Device.seen g.D.Device.may_leave g.D.Device.faults p l.txn calls op l.initial.kernel l.kernel;
   schema : SameSchema l.initial.kernel l.kernel;
+  restarts : StaysRestarting g.D.Device.seen g.D.Device.may_leave l.initial.kernel l.kernel;
 }

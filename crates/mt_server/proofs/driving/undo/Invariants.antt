@@ -1,6 +1,6 @@
 use Rattle.std.proofs.Common.{◌+◌, ◌≤◌}
 use Rattle.mt_kernel.specs.Work.{undo_steps}
-use Rattle.mt_txn.specs.Shown.{SameSchema}
+use Rattle.mt_txn.specs.Shown.{SameSchema, StaysRestarting}
 use Rattle.mt_server.specs.Driven.{IsGoing}
 use Rattle.mt_server.specs.Plays.{Play}
 use Rattle.mt_server.proofs.driving.undo.Given as goal
@@ -10,4 +10,5 @@ invariant-loop-step g l = record {
   going : (p : Play) → IsGoing g.D.Device.seen g.D.Device.may_leave p l.txn l.initial.kernel → undo_steps l.initial.kernel.parts l.txn ≤ 5054310
       → IsGoing g.D.Device.seen g.D.Device.may_leave p l.txn l.kernel × (undo_steps l.kernel.parts l.txn + l._step ≤ 5054310);
   schema : SameSchema l.initial.kernel l.kernel;
+  restarts : StaysRestarting g.D.Device.seen g.D.Device.may_leave l.initial.kernel l.kernel;
 }

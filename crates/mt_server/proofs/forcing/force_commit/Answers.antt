@@ -39,6 +39,7 @@ loop-step-preserved g c =
             | in-More w ↦ ending_more D.seen D.may_leave D.faults p c.args.txn calls c.loop-step.kernel c.ask_force.new.kernel (8 - (c.loop-step._step + 1)) e (rw w.in-More.is at c.in_ok-named.ensures.forcing)
           ];
       schema = (c.ask_force.ensures.schema.0 ∙ c.loop-step.invariant.schema.0, c.ask_force.ensures.schema.1 ∙ c.loop-step.invariant.schema.1);
+      restarts = λ first r. c.ask_force.ensures.restarts first (c.loop-step.invariant.restarts first r);
     }
 
 pub returns-clause-committed : goal.returns-clause-committed

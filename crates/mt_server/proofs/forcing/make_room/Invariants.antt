@@ -1,4 +1,4 @@
-use Rattle.mt_txn.specs.Shown.{SameSchema}
+use Rattle.mt_txn.specs.Shown.{SameSchema, StaysRestarting}
 use Rattle.mt_server.specs.Driven.{Eases, NobodyCommits}
 use Rattle.mt_server.proofs.forcing.make_room.Given as goal
 
@@ -6,4 +6,5 @@ abbrev pub invariant-loop : goal.invariant-loop
 invariant-loop g l = record {
   eases : NobodyCommits l.initial.kernel → Eases g.D.Device.seen g.D.Device.may_leave l.initial.kernel l.kernel;
   schema : SameSchema l.initial.kernel l.kernel;
+  restarts : StaysRestarting g.D.Device.seen g.D.Device.may_leave l.initial.kernel l.kernel;
 }

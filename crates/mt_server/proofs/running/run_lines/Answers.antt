@@ -6,7 +6,7 @@ use Rattle.mt_server.proofs.running.run_lines.Goals as goal
 pub loop-line-init : goal.loop-line-init
 loop-line-init g c =
     let D = g.D.Device in
-    record { ran = λ p own b. no_lines D.seen D.may_leave D.faults p c.args.kernel.now _ b; schema = (refl, refl) }
+    record { ran = λ p own b. no_lines D.seen D.may_leave D.faults p c.args.kernel.now _ b; schema = (refl, refl); restarts = λ first r. r }
 
 pub returns-in_err-live-clause-cut : goal.returns-in_err-live-clause-cut
 returns-in_err-live-clause-cut g c =
@@ -24,4 +24,5 @@ loop-line-preserved g c =
       ran = λ p own b. line_more D.seen D.may_leave D.faults p c.args.kernel.now c.args.session c.args.lines.now c.loop-line.line-index c.line-item.result c.loop-line.live c.in_ok-live.live _ _ _ c.loop-line.kernel c.run_line.new.kernel own lt c.line-item.is
           (c.loop-line.invariant.ran p own b) c.in_ok-live.ensures.told;
       schema = (c.run_line.ensures.schema.0 ∙ c.loop-line.invariant.schema.0, c.run_line.ensures.schema.1 ∙ c.loop-line.invariant.schema.1);
+      restarts = λ first r. c.run_line.ensures.restarts first (c.loop-line.invariant.restarts first r);
     })

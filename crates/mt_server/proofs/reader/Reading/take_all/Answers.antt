@@ -1,4 +1,4 @@
-use Rattle.std.proofs.Common.{rules, arith, suc, ◌≡◌, [], ◌∷◌, ◌++◌, ◌+◌, ◌<◌, length, take, drop, get_or, ap, sym, subst, ◌∙◌, add-one}
+use Rattle.std.proofs.Common.{arith, suc, ◌≡◌, [], ◌∷◌, ◌++◌, ◌+◌, ◌<◌, length, take, drop, get_or, ap, sym, subst, ◌∙◌, add-one}
 use Rattle.std.proofs.lemmas.List.{append_assoc}
 use Rattle.std.proofs.Math.Seq.{take-suc, take-length}
 use Rattle.std.proofs.lemmas.Result.{err_from_is_err_and}

@@ -41,14 +41,14 @@ use Rattle.mt_cli.specs.Folders.{Files, IsHeld, IsLent, IsUnmade, Puts, known_in
 
 -- ---- a kernel that was opened
 
-no_member : (ms : List Member) → ((t : ℕ) → option_map (λ (m : Member). m.session) (member_of ms t) ≡ None) → length ms ≡ 0
+pub no_member : (ms : List Member) → ((t : ℕ) → option_map (λ (m : Member). m.session) (member_of ms t) ≡ None) → length ms ≡ 0
 no_member [] none = refl
 no_member (m ∷ ms) none =
     let own : (m.number == m.number) ≡ true = (Decides-eqb m.number m.number).1 refl in
     let lives : Some m.session ≡ None = subst (λ (b : Bool). option_map (λ (x : Member). x.session) (cond b (Some m) (member_of ms m.number)) ≡ None) own (none m.number) in
     absurd cc
 
-empty : (ms : List Member) → length ms ≡ 0 → ms ≡ []
+pub empty : (ms : List Member) → length ms ≡ 0 → ms ≡ []
 empty [] is = refl
 empty (m ∷ ms) is = absurd cc
 

@@ -5,5 +5,7 @@ pub mod CommandLemmas
 pub mod DumpLemmas
 pub mod ExplainLemmas
 pub mod FolderLemmas
+pub mod ReadLemmas
+pub mod ServeLemmas
 pub mod SpellingLemmas
 pub mod Trials

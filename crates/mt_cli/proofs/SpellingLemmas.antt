@@ -14,6 +14,10 @@ use Rattle.mt_cli.specs.Spelling.{AreCounters, AreWide, Bounds, IsNoCounter, IsU
 pub too_large : (word : List ℕ) (m n : ℕ) → word ≡ decimal m → m < 2 ^ 64 → 2 ^ 63 ≤ m → SpellsCount word n → ⊥
 too_large word m n is wide past s = let same : m ≡ n = decimal_injective m n wide (omega (arith, s.1)) (sym is ∙ s.0) in omega (arith, past, s.1, same)
 
+-- a word spells one number
+pub same_count : (word : List ℕ) (m n : ℕ) → SpellsCount word m → SpellsCount word n → m ≡ n
+same_count word m n a b = decimal_injective m n (omega (arith, a.1)) (omega (arith, b.1)) (sym a.0 ∙ b.0)
+
 signed_uncut : (z : ℤ) → IsWide z → IsUncut (signed_decimal z)
 signed_uncut (pos n) w = All-weaker (λ b. (48 ≤ b) × (b ≤ 57)) (λ b. b ≢ 58) (λ b d. omega (arith, d.1)) (decimal n) (decimal_digits n (omega (arith, ints, w.1)))
 signed_uncut (negsuc n) w =

@@ -20,7 +20,8 @@ use Rattle.mt_server.specs.declared.running.RunFault.TheVariants as run
 use Rattle.mt_server.specs.Driven.{IsBeside}
 use Rattle.mt_server.specs.Plays.{Play, IsTurn, acts, refuses, Runs, starts, goes_on, HasPlayed}
 use Rattle.mt_server.specs.Runs.{HasRun, HasTurned, IsCutShort, IsEndedFor}
-use Rattle.mt_cli.specs.Performs.{HasTried, IsEndedBy, IsFirst, IsFirstSchema, IsShort, StandsFirst}
+use Rattle.mt_cli.specs.Performs.{HasTried, IsFirst, IsFirstSchema, IsShort, StandsFirst}
+use Rattle.mt_cli.specs.Serves.{IsEndedBy}
 
 first_play : Schema → Play
 first_play schema = record { session = 1; base = schema_base schema; book = []; under_way = None }
@@ -57,19 +58,19 @@ module _ {D : Type 0} {g : Ghosts D} (seen : D → List ℕ) (may_leave : D → 
     counters = made.1 ∙ ap (λ (ns : List Count). length ns) first.counters;
   }
 
-  -- a run of a kernel of two relations and one counter is one of the model
+  -- a run of a kernel of so many relations and counters is one of the model
   schema_kept : (s e : Play × Kernel D g) (ls : List Line) (as' : List Answer) → Runs (HasTurned seen may_leave) s ls as' e → (e.1.relations ≡ s.1.relations) × (e.1.counters ≡ s.1.counters)
   schema_kept s _ _ _ starts = (refl, refl)
   schema_kept s _ _ _ (goes_on lines answers m e line answer before t) =
       let kept = schema_kept s m lines answers before in (t.schema.0 ∙ kept.0, t.schema.1 ∙ kept.1)
 
-  played : (s e : Play × Kernel D g) (ls : List Line) (as' : List Answer) → s.1.relations ≡ 2 → s.1.counters ≡ 1 → Runs (HasTurned seen may_leave) s ls as' e → HasPlayed 2 1 s.0 ls as' e.0
-  played s _ _ _ relations counters starts = starts
-  played s _ _ _ relations counters (goes_on lines answers m e line answer before t) =
+  pub played : (relations counters : ℕ) (s e : Play × Kernel D g) (ls : List Line) (as' : List Answer) → s.1.relations ≡ relations → s.1.counters ≡ counters → Runs (HasTurned seen may_leave) s ls as' e → HasPlayed relations counters s.0 ls as' e.0
+  played relations counters s _ _ _ rs cs starts = starts
+  played relations counters s _ _ _ rs cs (goes_on lines answers m e line answer before t) =
       let kept = schema_kept s m lines answers before in
       let own = turn_of m.1.relations m.1.counters m.0 e.0 line answer t.turn in
-      goes_on lines answers m.0 e.0 line answer (played s m lines answers relations counters before)
-      (subst (λ (X : Type 0). X) (λ i. IsTurn ((kept.0 ∙ relations) i) ((kept.1 ∙ counters) i) (λ line why. Unit {0}) m.0 line answer e.0) own)
+      goes_on lines answers m.0 e.0 line answer (played relations counters s m lines answers rs cs before)
+      (subst (λ (X : Type 0). X) (λ i. IsTurn ((kept.0 ∙ rs) i) ((kept.1 ∙ cs) i) (λ line why. Unit {0}) m.0 line answer e.0) own)
 
   pub tried_of : (k n : Kernel D g) (lines : List Line) (was now : Option (List ℕ)) → StandsFirst seen may_leave k
       → ((p : Play) → p.session ≡ 1 → IsBeside seen may_leave p None k → HasRun seen may_leave p k lines was now n) → HasTried lines was now
@@ -80,12 +81,12 @@ module _ {D : Type 0} {g : Ghosts D} (seen : D → List ℕ) (may_leave : D → 
         first = at.first;
         answers = x.answers;
         last = x.play;
-        ran = played (at.play, k) (x.play, x.last) lines x.answers at.relations at.counters x.ran;
+        ran = played 2 1 (at.play, k) (x.play, x.last) lines x.answers at.relations at.counters x.ran;
         told = x.told;
       }
 
   module _ (faults : D → ℕ) where
-    ended_by : (n : Kernel D g) (why : RunFault) → IsEndedFor faults n why → IsEndedBy why
+    pub ended_by : (n : Kernel D g) (why : RunFault) → IsEndedFor faults n why → IsEndedBy why
     ended_by n run.Output ended = tt
     ended_by n (run.Refused refusal.NoMemory) ended = inl refl
     ended_by n (run.Refused y) ended = inr (ended (λ e. cc)).0
@@ -103,7 +104,7 @@ module _ {D : Type 0} {g : Ghosts D} (seen : D → List ℕ) (may_leave : D → 
           split = x.split;
           answers = x.answers;
           last = x.play;
-          ran = played (at.play, k) (x.play, x.last) x.before x.answers at.relations at.counters x.ran;
+          ran = played 2 1 (at.play, k) (x.play, x.last) x.before x.answers at.relations at.counters x.ran;
           told = x.told;
           ended = ended_by n why (ended at.play at.first.session at.beside);
         }

@@ -1,5 +1,5 @@
 -- The program's command line, in the words of the crate that reads it.
-use Rattle.std.specs.Prelude.{◌≡◌, ◌≢◌, ◌⊎◌, Any, Bool, true, false, codes, List, [], Option, Some, None, option_map, string_bytes, unwrap_or}
+use Rattle.std.specs.Prelude.{ℕ, ◌≡◌, ◌≢◌, ◌⊎◌, Any, Bool, true, false, codes, List, [], Option, Some, None, map, option_map, string_bytes, unwrap_or}
 use Rattle.clap.specs.Words.{App, Row, app_of, Rule, Text, new_app, new_rule, with_rule, with_subcommand, all_of, first_of, one_of, rule_of, subcommand_of, takes, kind_of, HasKind, IsAmong, Kinds, fault_of}
 use Rattle.clap.specs.declared.builder.action.ArgAction.TheVariants.{Append, SetTrue}
 use Rattle.clap.specs.declared.builder.arg.Arg.{Arg}
@@ -9,9 +9,9 @@ use Rattle.clap.specs.declared.error.Error.{Error}
 use Rattle.clap.specs.declared.error.kind.ErrorKind.{ErrorKind}
 use Rattle.clap.specs.declared.error.kind.ErrorKind.TheVariants.{OutOfMemory, DisplayHelp, DisplayVersion}
 use Rattle.mt_base.specs.declared.refusal.Refusal.TheVariants as refusal
-use Rattle.mt_cli.specs.Spelling.{AreCounters, IsNoCount, IsNoCounter, SpellsCount}
+use Rattle.mt_cli.specs.Spelling.{AreCounters, IsNoCount, IsNoCounter, IsNoneWithin, SpellsCount, SpellsWithin}
 use Rattle.mt_cli.specs.declared.command.Command.{Command}
-use Rattle.mt_cli.specs.declared.command.Command.TheVariants.{Try, Schedule, Check, Format, Dump, Explain, Show}
+use Rattle.mt_cli.specs.declared.command.Command.TheVariants.{Try, Schedule, Check, Format, Dump, Explain, Run, Show}
 use Rattle.mt_cli.specs.declared.numbers.Numbers.{Numbers}
 use Rattle.mt_cli.specs.declared.command.CliFault.{CliFault}
 use Rattle.mt_cli.specs.declared.command.CliFault.TheVariants.{Usage, Refused}
@@ -54,14 +54,24 @@ formatting = with_rule sizing counter_rule
 abbrev pub on_file : Text → App
 on_file name = with_rule (new_app name) (required_rule (codes "file"))
 
+-- `run [--frames N] FILE WORKERS SCRIPT..`
+abbrev pub frames_rule : Rule
+frames_rule = record (new_rule (codes "frames")) { long = Some (codes "frames"); value_names = 1 }
+
+abbrev pub scripts_rule : Rule
+scripts_rule = record (new_rule (codes "script")) { value_names = 1; required = true; action = Some Append }
+
+abbrev pub serving : App
+serving = with_rule (with_rule (with_rule (with_rule (new_app (codes "run")) frames_rule) (required_rule (codes "file"))) (required_rule (codes "workers"))) scripts_rule
+
 -- `mtk`, whose words are those behind its name, one of them the command's name
 abbrev pub bare : App
 bare = record (new_app (codes "mtk")) { top = record (new_app (codes "mtk")).top { has_version = true; no_binary_name = true; subcommand_required = true } }
 
 abbrev pub program : App
 program =
-    with_subcommand (with_subcommand (with_subcommand (with_subcommand (with_subcommand (with_subcommand bare trial.top) scheduling.top) checking.top) formatting.top) (on_file (codes "dump")).top)
-    (on_file (codes "explain")).top
+    with_subcommand (with_subcommand (with_subcommand (with_subcommand (with_subcommand (with_subcommand (with_subcommand bare trial.top) scheduling.top) checking.top) formatting.top) (on_file (codes "dump")).top)
+    (on_file (codes "explain")).top) serving.top
 
 -- a parser of this command line, none of whose arguments counts for others
 pub record Parses (app : App) (parser : Parser) : Type 0 where
@@ -128,23 +138,56 @@ AreNumbersIn (Some found) n = AreNumbersAt found.1 n
 abbrev pub IsMisspelledAt : List Row → Type 0
 IsMisspelledAt rows = IsNoCount (text_at (codes "pages") rows) ⊎ IsNoCount (text_at (codes "area") rows) ⊎ IsNoCount (text_at (codes "relations") rows) ⊎ Any IsNoCounter (counters_at rows)
 
+-- ---- `run`
+
+-- so many frames are asked for: 256 where none are
+abbrev pub AreFrames : Option Text → ℕ → Type 0
+AreFrames None n = n ≡ 256
+AreFrames (Some word) n = SpellsWithin 32 4096 word n
+
+abbrev pub AreNoFrames : Option Text → Type 0
+AreNoFrames None = ⊥
+AreNoFrames (Some word) = IsNoneWithin 32 4096 word
+
+-- the names of the scripts
+abbrev pub scripts_at : List Row → List Text
+scripts_at rows = unwrap_or (all_of (codes "script") rows) []
+
+-- frames, workers and scripts
+pub record IsServingAt (rows : List Row) (n w : ℕ) (names : List Text) : Type 0 where
+  pub frames : AreFrames (first_of (codes "frames") rows) n
+  pub workers : SpellsWithin 1 16 (text_at (codes "workers") rows) w
+  pub scripts : names ≡ scripts_at rows
+
+abbrev pub IsServingIn : Option (Text × List Row) → ℕ → ℕ → List Text → Type 0
+IsServingIn None n w names = ⊥
+IsServingIn (Some found) n w names = IsServingAt found.1 n w names
+
+-- there are no such numbers of frames or of workers
+abbrev pub IsUnlimitedAt : List Row → Type 0
+IsUnlimitedAt rows = AreNoFrames (first_of (codes "frames") rows) ⊎ IsNoneWithin 1 16 (text_at (codes "workers") rows)
+
+-- ----
+
+-- a number is misspelled, or one that `run` names is outside its limits
 abbrev pub IsMisspelled : Option (Text × List Row) → Type 0
 IsMisspelled None = ⊥
-IsMisspelled (Some found) = (found.0 ≡ codes "format") × IsMisspelledAt found.1
+IsMisspelled (Some found) = ((found.0 ≡ codes "format") × IsMisspelledAt found.1) ⊎ ((found.0 ≡ codes "run") × IsUnlimitedAt found.1)
 
 -- no command on a device in a file
 abbrev pub IsRun : Text → Type 0
-IsRun name = (name ≢ codes "check") × (name ≢ codes "format") × (name ≢ codes "dump") × (name ≢ codes "explain")
+IsRun name = (name ≢ codes "check") × (name ≢ codes "format") × (name ≢ codes "dump") × (name ≢ codes "explain") × (name ≢ codes "run")
 
 -- what the words enter is the command of its name, or else `try` of a script, and no text to be shown
 abbrev pub IsEntered : Option (Text × List Row) → Command → Type 0
 IsEntered entered (Try script) = (option_map string_bytes script ≡ script_in entered) × (name_in entered ≢ Some (codes "schedule")) × (name_in entered ≢ Some (codes "check"))
-    × (name_in entered ≢ Some (codes "format")) × (name_in entered ≢ Some (codes "dump")) × (name_in entered ≢ Some (codes "explain"))
+    × (name_in entered ≢ Some (codes "format")) × (name_in entered ≢ Some (codes "dump")) × (name_in entered ≢ Some (codes "explain")) × (name_in entered ≢ Some (codes "run"))
 IsEntered entered (Schedule file) = (option_map string_bytes file ≡ file_in entered) × (name_in entered ≡ Some (codes "schedule"))
 IsEntered entered (Check file pages) = (string_bytes file ≡ device_in entered) × IsFlag (pages_in entered) pages × (name_in entered ≡ Some (codes "check"))
 IsEntered entered (Format file numbers) = (string_bytes file ≡ device_in entered) × AreNumbersIn entered numbers × (name_in entered ≡ Some (codes "format"))
 IsEntered entered (Dump file) = (string_bytes file ≡ device_in entered) × (name_in entered ≡ Some (codes "dump"))
 IsEntered entered (Explain file) = (string_bytes file ≡ device_in entered) × (name_in entered ≡ Some (codes "explain"))
+IsEntered entered (Run frames file workers scripts) = (string_bytes file ≡ device_in entered) × IsServingIn entered frames workers (map string_bytes scripts.items) × (name_in entered ≡ Some (codes "run"))
 IsEntered entered (Show text) = ⊥
 
 -- why words that the parser takes are not read: they are misspelled so, or memory was wanting
@@ -164,7 +207,7 @@ IsMistake kind = (kind ≢ DisplayHelp) × (kind ≢ DisplayVersion)
 abbrev pub IsAsking : List Text → Type 0
 IsAsking words = (fits words ≡ false) × (kind : ErrorKind) × IsAmong kind (faults words) × (IsMistake kind → ⊥)
 
--- the words are no command, and a mistake keeps them from being one; or they are, and spell a number otherwise than a number is spelled
+-- the words are no command, and a mistake keeps them from being one; or they are, and a number in them is not one that may stand there
 abbrev pub IsMistaken : List Text → Type 0
 IsMistaken words = ((fits words ≡ false) × (kind : ErrorKind) × IsAmong kind (faults words) × IsMistake kind) ⊎ IsMisspelled (subcommand_of program words)
 
@@ -177,6 +220,7 @@ IsCommandOf words (Check file pages) = IsEntered (subcommand_of program words) (
 IsCommandOf words (Format file numbers) = IsEntered (subcommand_of program words) (Format file numbers)
 IsCommandOf words (Dump file) = IsEntered (subcommand_of program words) (Dump file)
 IsCommandOf words (Explain file) = IsEntered (subcommand_of program words) (Explain file)
+IsCommandOf words (Run frames file workers scripts) = IsEntered (subcommand_of program words) (Run frames file workers scripts)
 IsCommandOf words (Show text) = IsAsking words
 
 -- words that are a command are refused for want of memory alone, but for a number that they misspell

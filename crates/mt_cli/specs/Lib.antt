@@ -6,6 +6,8 @@ pub mod Explains
 pub mod Folders
 pub mod Formattings
 pub mod Performs
+pub mod Reads
+pub mod Serves
 pub mod Spelling
 pub mod Tellings
 pub mod WholeEvents

@@ -1,5 +1,5 @@
 -- What the program's commands do.
-use Rattle.std.specs.Prelude.{ℕ, pos, ◌≡◌, ◌⊎◌, List, [], ◌∷◌, ◌++◌, length, Option, Some, None, IfSome, option_map, string_bytes, codes}
+use Rattle.std.specs.Prelude.{ℕ, pos, ◌≡◌, ◌⊎◌, List, [], ◌∷◌, ◌++◌, length, Option, Some, None, IfSome, map, option_map, string_bytes, codes}
 use Rattle.std.specs.Io.KnownBytes.{Appends, Keeps}
 use Rattle.mt_base.specs.declared.refusal.Refusal.{Refusal}
 use Rattle.mt_base.specs.declared.refusal.Refusal.TheVariants as refusal
@@ -12,12 +12,11 @@ use Rattle.mt_server.specs.declared.answers.Answer.{Answer}
 use Rattle.mt_server.specs.declared.lines.Line.{Line}
 use Rattle.mt_server.specs.declared.answers.Answer.TheVariants.{Refused as RefusedLine}
 use Rattle.mt_cli.specs.declared.command.Command.{Command}
-use Rattle.mt_cli.specs.declared.command.Command.TheVariants.{Try, Schedule, Check, Format, Dump, Explain, Show}
+use Rattle.mt_cli.specs.declared.command.Command.TheVariants.{Try, Schedule, Check, Format, Dump, Explain, Run, Show}
 use Rattle.mt_cli.specs.declared.numbers.Numbers.{Numbers}
 use Rattle.mt_cli.specs.declared.faults.Fault.{Fault}
 use Rattle.mt_cli.specs.declared.faults.Fault.TheVariants.{Output, Refused}
 use Rattle.mt_server.specs.declared.running.RunFault.{RunFault}
-use Rattle.mt_server.specs.declared.running.RunFault.TheVariants as run
 use Rattle.mt_server.specs.Answers.{AppendsFront, answer_text, transcript_text}
 use Rattle.mt_server.specs.Driven.{IsBeside}
 use Rattle.mt_server.specs.Plays.{Play, HasPlayed}
@@ -28,8 +27,9 @@ use Rattle.mt_cli.specs.Explains.{HasExplained, IsUnexplained}
 use Rattle.mt_cli.specs.Events.{IsEvent, IsSchedule, event_text}
 use Rattle.mt_cli.specs.Folders.{AreKept, Files, IsUnmade, known_in}
 use Rattle.mt_cli.specs.Formattings.{Formats, IsUnformed}
+use Rattle.mt_cli.specs.Reads.{IsUnread, source_of}
+use Rattle.mt_cli.specs.Serves.{HasNotRun, HasRunScripts, IsEndedBy, fault_of}
 use Rattle.mt_cli.specs.Tellings.{told_lines}
-use Rattle.mt_server.specs.Grammars.{AreRefusedFor}
 use Rattle.mt_server.specs.Lines.{line_text, IsInGrammar}
 use Rattle.mt_server.specs.Scripts.{IsScript}
 use Rattle.mt_server.specs.Runs.{IsToldFor, last_line}
@@ -89,16 +89,6 @@ pub record IsScheduled {D : Type 0} (g : Ghosts D) (bytes was now : Option (List
   pub ran : HaveRun g events answers
   pub told : Appends was now (told_lines answers)
 
--- why lines are not read: the bytes are none of the grammar, or could not be had, or memory was wanting
-module _ {L : Type 0} (text : L → List ℕ) (IsIn : L → Type 0) where
-  abbrev pub IsUnread : Option (List ℕ) → Refusal → Type 0
-  IsUnread bytes why = IfSome bytes (λ bs. (why ≡ refusal.DeviceFailed) ⊎ AreRefusedFor text IsIn bs why)
-
--- the bytes of a script or a schedule, where they are known: of the file of its name, or else of the input
-abbrev pub source_of : Files → Option (List ℕ) → Option (List ℕ) → Option (List ℕ)
-source_of files None input = input
-source_of files (Some name) input = known_in files name
-
 -- the folder's files before a command and behind it, and what of the input is known
 pub record Around : Type 0 where
   pub before : Files
@@ -113,6 +103,7 @@ IsDone g (Check file pages) a was now = HasChecked pages (known_in a.before (str
 IsDone g (Format file numbers) a was now = Formats numbers a.before a.after (string_bytes file) × Keeps was now
 IsDone g (Dump file) a was now = HasDumped (known_in a.before (string_bytes file)) was now × StandsOn a.before a.after (string_bytes file)
 IsDone g (Explain file) a was now = HasExplained (known_in a.before (string_bytes file)) was now × AreKept a.before a.after
+IsDone g (Run frames file workers scripts) a was now = HasRunScripts a.before a.after (string_bytes file) (map string_bytes scripts.items) a.input was now
 IsDone g (Show text) a was now = Appends was now (string_bytes text) × AreKept a.before a.after
 
 -- and what the command that words name leaves there
@@ -129,16 +120,6 @@ abbrev pub IsTold : Option (List ℕ) → Option (List ℕ) → Type 0
 IsTold was now = (fault : Fault) × AppendsFront was now (fault_line fault)
 
 -- ---- a command that was not done
-
--- how a run ended is how its command does
-abbrev pub fault_of : RunFault → Fault
-fault_of run.Output = Output
-fault_of (run.Refused why) = Refused why
-
--- a run is cut short by the output, for want of memory, or since the device failed
-abbrev pub IsEndedBy : RunFault → Type 0
-IsEndedBy run.Output = Unit {0}
-IsEndedBy (run.Refused why) = IsUnmade why
 
 -- the first of these lines were answered, and their answers are written, or a beginning of them
 pub record IsShort (lines : List Line) (was now : Option (List ℕ)) (why : RunFault) : Type 0 where
@@ -185,6 +166,7 @@ IsUndone g (Check file pages) a was now fault = IsUnchecked pages (known_in a.be
 IsUndone g (Format file numbers) a was now fault = IsFormatFault numbers fault × AreKept a.before a.after × Keeps was now
 IsUndone g (Dump file) a was now fault = IsUndumped (known_in a.before (string_bytes file)) was now fault × AreLeftBy a.before a.after (string_bytes file) fault
 IsUndone g (Explain file) a was now fault = IsUnexplained (known_in a.before (string_bytes file)) was now fault × AreKept a.before a.after
+IsUndone g (Run frames file workers scripts) a was now fault = HasNotRun a.before a.after (string_bytes file) (map string_bytes scripts.items) a.input was now fault
 IsUndone g (Show text) a was now fault = (fault ≡ Output) × AppendsFront was now (string_bytes text) × AreKept a.before a.after
 
 -- A command ended with a fault, or it was done and the output could not be flushed. The error output has a

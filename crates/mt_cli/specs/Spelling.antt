@@ -1,5 +1,5 @@
--- How the words of a command spell the numbers of a schema.
-use Rattle.std.specs.Prelude.{ℕ, ℤ, ◌≡◌, ◌≢◌, ◌<◌, ◌^◌, List, ◌∷◌, ◌++◌, All, map}
+-- How the words of a command spell numbers.
+use Rattle.std.specs.Prelude.{ℕ, ℤ, ◌≡◌, ◌≢◌, ◌<◌, ◌≤◌, ◌^◌, List, ◌∷◌, ◌++◌, All, map}
 use Rattle.std.specs.Fmt.{decimal, signed_decimal}
 use Rattle.mt_server.specs.Lines.{IsWide, SpellsStep}
 
@@ -9,6 +9,13 @@ SpellsCount word n = (word ≡ decimal n) × (n < 2 ^ 63)
 
 abbrev pub IsNoCount : List ℕ → Type 0
 IsNoCount word = (n : ℕ) → ¬ SpellsCount word n
+
+-- such a number within limits
+abbrev pub SpellsWithin : ℕ → ℕ → List ℕ → ℕ → Type 0
+SpellsWithin low high word n = SpellsCount word n × (low ≤ n) × (n ≤ high)
+
+abbrev pub IsNoneWithin : ℕ → ℕ → List ℕ → Type 0
+IsNoneWithin low high word = (n : ℕ) → ¬ SpellsWithin low high word n
 
 -- bytes with no colon among them
 abbrev pub IsUncut : List ℕ → Type 0

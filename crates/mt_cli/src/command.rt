@@ -5,6 +5,7 @@ ghost use Rattle.mt_cli.specs.CommandLines.{bare, checking, counters_at, formatt
 ghost use Rattle.mt_cli.specs.Spelling.{AreCounters, IsNoCount, IsNoCounter, SpellsCount};
 
 use crate::numbers::{Numbers, count_of, counters_of};
+use crate::run_words::{serving_of, serving_parser};
 use clap::error::ErrorKind;
 use clap::{Arg, ArgAction, ArgMatches, Command as Parser};
 use mt_base::Refusal;
@@ -26,6 +27,14 @@ pub enum Command {
     Dump { file: String },
     /// Tells the log of the device in this file as a history, and what a restart would do.
     Explain { file: String },
+    /// Opens the device in this file with so many frames, and serves the scripts of these names to it; `-` is standard
+    /// input. At most so many workers serve at once: one does.
+    Run {
+        frames: usize,
+        file: String,
+        workers: usize,
+        scripts: Vec<String>,
+    },
     /// Prints this text: the help or the version.
     Show { text: String },
 }
@@ -90,7 +99,7 @@ fn scheduling_parser<'a>(alloc: Global) -> Result<Parser<'a>, AllocError>
 }
 
 /// An argument that must be given.
-fn required<'a>(alloc: Global, id: &'a str, value_name: &'a str, help: &'a str) -> Arg<'a>
+pub(crate) fn required<'a>(alloc: Global, id: &'a str, value_name: &'a str, help: &'a str) -> Arg<'a>
     ensures { IsRuledBy (required_rule id.now) result }
 {
     Arg::new(alloc, id)
@@ -174,12 +183,14 @@ fn parser<'a>(alloc: Global) -> Result<Parser<'a>, AllocError>
     let formatting = formatting_parser(alloc)?;
     let dumping = file_parser(alloc, "dump", DUMP_ABOUT, DUMP_EXAMPLES)?;
     let explaining = file_parser(alloc, "explain", EXPLAIN_ABOUT, EXPLAIN_EXAMPLES)?;
+    let serving = serving_parser(alloc)?;
     let parser = bare(alloc).subcommand(trial)?;
     let parser = parser.subcommand(scheduling)?;
     let parser = parser.subcommand(checking)?;
     let parser = parser.subcommand(formatting)?;
     let parser = parser.subcommand(dumping)?;
-    parser.subcommand(explaining)
+    let parser = parser.subcommand(explaining)?;
+    parser.subcommand(serving)
 }
 
 const EXAMPLES: &str = "Examples:
@@ -188,6 +199,7 @@ const EXAMPLES: &str = "Examples:
   printf 'begin 1\\ncall 1 add 0 1\\nstep 1\\n' | mtk schedule
   mtk format bank.mtk 64 4 2 c0:10:5
   mtk check --pages bank.mtk
+  mtk run bank.mtk 1 bank.script
   mtk dump bank.mtk
   mtk explain bank.mtk";
 
@@ -270,14 +282,14 @@ fn copied(alloc: Global, text: Option<&str>) -> Result<Option<String>, AllocErro
 }
 
 /// The word of an argument that must be given. The parser lets no words pass without it.
-fn text_in<'a>(found: &ArgMatches<'a>, id: &str) -> &'a str
+pub(crate) fn text_in<'a>(found: &ArgMatches<'a>, id: &str) -> &'a str
     ensures { result.now ≡ text_at id.now (rows_of (found_of found.now)) }
 {
     found.get_str(id).unwrap_or("")
 }
 
 /// The file that a command must name, in memory of its own.
-fn required_file(alloc: Global, found: &ArgMatches) -> Result<String, AllocError>
+pub(crate) fn required_file(alloc: Global, found: &ArgMatches) -> Result<String, AllocError>
     ensures { IfOk result (λ file. string_bytes file ≡ text_at (codes "file") (rows_of (found_of found.now))) }
 {
     String::from_str(alloc, text_in(found, "file"))
@@ -362,7 +374,7 @@ fn format_of(alloc: Global, found: &ArgMatches) -> Result<Command, CliFault>
 }
 
 /// A fault that says how an argument is spelled, or `NoMemory`.
-fn misspelled(alloc: Global, rule: &str) -> CliFault
+pub(crate) fn misspelled(alloc: Global, rule: &str) -> CliFault
     ensures { IsMisread ⊤ result }
 {
     match String::from_str(alloc, rule) {
@@ -398,6 +410,8 @@ fn named(alloc: Global, name: &str, found: &ArgMatches) -> Result<Command, CliFa
         Ok(dump_of(alloc, found)?)
     } else if name == "explain" {
         Ok(explain_of(alloc, found)?)
+    } else if name == "run" {
+        serving_of(alloc, found)
     } else {
         Ok(run_of(alloc, name, found)?)
     }

@@ -11,7 +11,10 @@ mod folder;
 mod formatting;
 mod numbers;
 mod performing;
+mod reading;
+mod run_words;
 mod schedules;
+mod serving;
 mod telling;
 
 pub use command::{CliFault, Command, command_of};

@@ -1,8 +1,8 @@
-// The numbers of a schema, as the words of a command spell them.
+// Numbers, as the words of a command spell them.
 ghost use Rattle.std.specs.Prelude.{◌≡◌, ◌∷◌, ◌++◌, ℕ, ℤ, Any, IfNone, IfOk, IfSome, MatchOption, map};
 ghost use Rattle.std.specs.Fmt.{decimal};
 ghost use Rattle.mt_server.specs.Lines.{SpellsStep};
-ghost use Rattle.mt_cli.specs.Spelling.{AreCounters, IsNoCounter, IsUncut, SpellBounds, SpellsBounds, SpellsCount, SpellsCounter};
+ghost use Rattle.mt_cli.specs.Spelling.{AreCounters, IsNoCounter, IsNoneWithin, IsUncut, SpellBounds, SpellsBounds, SpellsCount, SpellsCounter, SpellsWithin};
 
 use mt_server::number_of;
 use std::alloc::{AllocError, Global};
@@ -29,6 +29,22 @@ pub(crate) fn count_of(alloc: Global, word: &[u8]) -> Result<Option<u64>, AllocE
 {
     match number_of(alloc, word)? {
         Some(number) if number <= LARGEST => Ok(Some(number)),
+        Some(_) => Ok(None),
+        None => Ok(None),
+    }
+}
+
+/// The number from `low` to `high` that a word spells as [`count_of`] reads it. The only error is want of memory.
+pub(crate) fn count_within(
+    alloc: Global,
+    word: &[u8],
+    low: u64,
+    high: u64,
+) -> Result<Option<u64>, AllocError>
+    ensures { IfOk result (λ o. MatchOption o (IsNoneWithin low high word.now) (SpellsWithin low high word.now)) }
+{
+    match count_of(alloc, word)? {
+        Some(number) if low <= number && number <= high => Ok(Some(number)),
         Some(_) => Ok(None),
         None => Ok(None),
     }

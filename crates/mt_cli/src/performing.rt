@@ -2,11 +2,11 @@
 ghost use Rattle.std.specs.Prelude.{◌≡◌, ◌≢◌, ◌≤◌, IfOk, IfErr, IfSome, IsOk, MatchResult, OnOk, OnErr, length, map, option_map};
 ghost use Rattle.mt_disk.specs.Memory.{content};
 ghost use Rattle.mt_server.specs.Answers.{AppendsFront};
-ghost use Rattle.mt_server.specs.Grammars.{AreLines};
 ghost use Rattle.mt_cli.specs.CommandLines.{IsMistaken};
 ghost use Rattle.mt_cli.specs.Folders.{AreKept, IsUnmade};
 ghost use Rattle.mt_cli.specs.declared.faults.Fault.{Fault};
-ghost use Rattle.mt_cli.specs.Performs.{IsFirstSchema, StandsFirst, HasTried, HaveRun, IsTried, IsScheduled, IsUnread, IsCutTrial, IsUntried, IsUnscheduled, IsDone, IsUndone, IsWordsDone, IsGivenUp, IsWordsGivenUp, IsTold, Around, source_of, fault_line};
+ghost use Rattle.mt_cli.specs.Performs.{IsFirstSchema, StandsFirst, HasTried, HaveRun, IsTried, IsScheduled, IsCutTrial, IsUntried, IsUnscheduled, IsDone, IsUndone, IsWordsDone, IsGivenUp, IsWordsGivenUp, IsTold, Around, fault_line};
+ghost use Rattle.mt_cli.specs.Reads.{source_of};
 ghost use Rattle.std.specs.Io.KnownBytes.{Appends, Keeps};
 
 use crate::checking::perform_check;
@@ -16,15 +16,15 @@ use crate::explaining::perform_explain;
 use crate::faults::{Fault, tell};
 use crate::folder::Folder;
 use crate::formatting::perform_format;
+use crate::reading::lines_of;
 use crate::schedules::ScheduleGrammar;
+use crate::serving::perform_run;
 use crate::telling::write_all_told;
 use mt_base::Refusal;
 use mt_base::limits::device_bytes;
 use mt_disk::{Device, MemDevice};
 use mt_restart::{Schema, fresh};
-use mt_server::{
-    Grammar, RunFault, Script, ScriptFault, ScriptGrammar, put, read_lines, run_alone,
-};
+use mt_server::{RunFault, Script, ScriptGrammar, put, run_alone};
 use mt_txn::Kernel;
 use mt_world::{Event, run_schedule};
 use std::alloc::Global;
@@ -58,35 +58,6 @@ const FRAMES: usize = 64;
 const WRITES: usize = 80;
 
 const WRITTEN_BYTES: usize = 8_400_000;
-
-/// The lines of the file of this name, or those on standard input where there is no name.
-fn lines_of<G: Grammar, F: Folder, I: Read>(
-    alloc: Global,
-    folder: &mut F,
-    name: Option<&str>,
-    input: &mut I,
-) -> Result<Vec<G::Line>, Refusal>
-    ensures lines { IfOk result (λ lines. IfSome
-        (source_of (F.files folder.old) (option_map (λ n. n.now) name.entry) (I.remaining input.old))
-        (λ bytes. AreLines G.text G.IsIn bytes lines.items)) }
-    ensures unread { IfErr result (IsUnread G.text G.IsIn
-        (source_of (F.files folder.old) (option_map (λ n. n.now) name.entry) (I.remaining input.old))) }
-    ensures kept { AreKept (F.files folder.old) (F.files folder.new) }
-{
-    let read = match name {
-        Some(name) => {
-            let bytes = folder.script(name)?;
-            let mut rest = bytes.as_slice();
-            read_lines::<G, &[u8]>(alloc, &mut rest)
-        }
-        None => read_lines::<G, I>(alloc, input),
-    };
-    match read {
-        Ok(lines) => Ok(lines),
-        Err(ScriptFault::Input) => Err(Refusal::DeviceFailed),
-        Err(ScriptFault::Refused(refusal)) => Err(refusal),
-    }
-}
 
 /// The schema that `try` runs on.
 fn first_schema(alloc: Global) -> Result<Schema, Refusal>
@@ -300,6 +271,20 @@ fn do_command<F: Folder, I: Read, O: Write>(
         }
         Command::Dump { file } => perform_dump(alloc, folder, file.as_str(), out),
         Command::Explain { file } => perform_explain(alloc, folder, file.as_str(), out),
+        Command::Run {
+            frames,
+            file,
+            workers: _,
+            scripts,
+        } => perform_run(
+            alloc,
+            folder,
+            *frames,
+            file.as_str(),
+            scripts.as_slice(),
+            input,
+            out,
+        ),
         Command::Show { text } => show(text.as_str(), out),
     }
 }
@@ -310,9 +295,10 @@ fn do_command<F: Folder, I: Read, O: Write>(
 /// - 1: it was refused, and the refusal's text is on `err`; or `out` could not be written. An input
 ///   that cannot be read, and a file that is not there or cannot be read, is refusal 2.
 ///
-/// A script or a schedule is read whole before any of it runs. A device is only read by `check` and `explain`, and where
-/// `format` is refused each file is as it was. A device that is opened by `dump` is written to, and stands for what it
-/// stood for.
+/// A script or a schedule is read whole before any of it runs, and all scripts of `run` before the first of them runs. A
+/// device is only read by `check` and `explain`, and where `format` is refused each file is as it was. A device that is
+/// opened by `dump` is written to, and stands for what it stood for. `run` serves one script after the other, and gives the
+/// device back to its file whatever came of that; each other file is as it was.
 pub fn perform<F: Folder, I: Read, O: Write, E: Write>(
     alloc: Global,
     command: &Command,

@@ -16,4 +16,5 @@ returns c =
     let third = one_more _ _ _ _ c.in_ok-parser-3.parser second c.in_ok-checking.ensures c.in_ok-parser-3.ensures in
     let fourth = one_more _ _ _ _ c.in_ok-parser-4.parser third c.in_ok-formatting.ensures c.in_ok-parser-4.ensures in
     let fifth = one_more _ _ _ _ c.in_ok-parser-5.parser fourth c.in_ok-dumping.ensures c.in_ok-parser-5.ensures in
-    IfOk-weaker c.subcommand-6.result _ _ (λ r added. one_more _ _ _ _ r fifth c.in_ok-explaining.ensures added) c.subcommand-6.ensures
+    let sixth = one_more _ _ _ _ c.in_ok-parser-6.parser fifth c.in_ok-explaining.ensures c.in_ok-parser-6.ensures in
+    IfOk-weaker c.subcommand-7.result _ _ (λ r added. one_more _ _ _ _ r sixth c.in_ok-serving.ensures added) c.subcommand-7.ensures

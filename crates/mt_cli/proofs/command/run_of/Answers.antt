@@ -20,4 +20,5 @@ returns-in_ok-script c = (
   λ e. c.requires.1 (inner _ _ e),
   λ e. c.requires.2 (inner _ _ e),
   λ e. c.requires.3 (inner _ _ e),
+  λ e. c.requires.4 (inner _ _ e),
 )

@@ -1,0 +1,103 @@
+-- Scripts that were read, one behind the other.
+use Rattle.std.proofs.Common.{◌≡◌, ◌<◌, ◌+◌, ◌∙◌, inl, inr, suc, ℕ, Bool, true, false, cond, List, [], ◌∷◌, ◌++◌, Option, Some, None, IfSome, length, take, drop, get_or, map, is_some, option_map, refl, ap, sym, subst, take-append-drop}
+use Rattle.std.proofs.Math.Seq.{drop-cons}
+use Rattle.std.proofs.lemmas.List.{map-append, map_more}
+use Rattle.mt_base.specs.declared.refusal.Refusal.{Refusal}
+use Rattle.mt_base.specs.declared.refusal.Refusal.TheVariants as refusal
+use Rattle.mt_server.specs.Lines.{line_text, IsInGrammar}
+use Rattle.mt_server.specs.Scripts.{IsScript}
+use Rattle.mt_server.specs.Sessions.{lines_in}
+use Rattle.mt_server.specs.declared.reader.Script.{Script}
+use Rattle.mt_server.specs.declared.lines.Line.{Line}
+use Rattle.mt_cli.specs.Folders.{AreKept, Files, known_in}
+use Rattle.mt_cli.specs.Reads.{AreRead, AreUnread, IsReadAt, IsUnread, bytes_at, input_behind, is_input, none_read, one_read, source_of}
+
+-- the source of a name that is cut out of the choice
+pub named : (files : Files) (name : List ℕ) (input : Option (List ℕ)) → source_of files (cond (is_input name) None (Some name)) input ≡ bytes_at files name input
+named files name input = go (is_input name)
+  where
+    go : (t : Bool) → source_of files (cond t None (Some name)) input ≡ cond t input (known_in files name)
+    go true = refl
+    go false = refl
+
+pub no_input : (name : List ℕ) → is_input name ≡ false → is_some (cond (is_input name) None (Some name)) ≡ true
+no_input name is = ap (λ (t : Bool). is_some (cond t None (Some name))) is
+
+-- what is known of the input is still so
+abbrev pub IsKnown : Option (List ℕ) → Option (List ℕ) → Type 0
+IsKnown left held = IfSome left (λ bs. held ≡ Some bs)
+
+pub known_first : (input : Option (List ℕ)) → IsKnown input input
+known_first None = tt
+known_first (Some bs) = refl
+
+module _ (files now : Files) (name : List ℕ) (left held : Option (List ℕ)) (kept : AreKept files now) (known : IsKnown left held) where
+  -- what holds of the bytes now does so of those that were known
+  pub first_known : (P : List ℕ → Type 0) → IfSome (bytes_at now name held) P → IfSome (bytes_at files name left) P
+  first_known P is = go (is_input name) left known is
+    where
+      go : (t : Bool) (o : Option (List ℕ)) → IsKnown o held → IfSome (cond t held (known_in now name)) P → IfSome (cond t o (known_in files name)) P
+      go true None k x = tt
+      go true (Some bs) k x = subst (λ (h : Option (List ℕ)). IfSome h P) k x
+      go false o k x = subst (λ (h : Option (List ℕ)). IfSome h P) (kept.all name) x
+
+  pub still_known : (later : Option (List ℕ)) → (is_input name ≡ false → later ≡ held) → IsKnown (input_behind name left) later
+  still_known later same = go (is_input name) refl left known
+    where
+      go : (t : Bool) → is_input name ≡ t → (o : Option (List ℕ)) → IsKnown o held → IsKnown (cond t None o) later
+      go true e o k = tt
+      go false e None k = tt
+      go false e (Some bs) k = same e ∙ k
+
+-- ---- the loop
+
+-- so many of the scripts were read, and the files are as they were
+pub record IsAt (files : Files) (input : Option (List ℕ)) (names : List (List ℕ)) (scripts : List (List Line)) (now : Files) (held : Option (List ℕ)) : Type 0 where
+  pub left : Option (List ℕ)
+  pub read : AreRead files input names scripts left
+  pub known : IsKnown left held
+  pub kept : AreKept files now
+
+pub at_first : (files : Files) (input : Option (List ℕ)) → IsAt files input [] [] files input
+at_first files input = record { left = input; read = none_read; known = known_first input; kept = record { told = refl; all = λ n. refl } }
+
+pub one_more : (files now later : Files) (input held after : Option (List ℕ)) (names : List (List ℕ)) (scripts : List (List Line)) (name : List ℕ) (lines : List Line) → IsAt files input names scripts now held → IsReadAt now held name lines after → AreKept now later
+    → IsAt files input (names ++ name ∷ []) (scripts ++ lines ∷ []) later after
+one_more files now later input held after names scripts name lines at x kept = record {
+  left = input_behind name at.left;
+  read = one_read names scripts at.left name lines at.read (first_known files now name at.left held at.kept at.known (λ bs. IsScript bs lines) x.spelled);
+  known = still_known files now name at.left held at.kept at.known after x.untouched;
+  kept = record { told = kept.told ∙ at.kept.told; all = λ n. kept.all n ∙ at.kept.all n };
+}
+
+-- the next one was not
+pub not_more : (files now : Files) (input held : Option (List ℕ)) (names before rest : List (List ℕ)) (scripts : List (List Line)) (name : List ℕ) (why : Refusal) → names ≡ before ++ name ∷ rest → IsAt files input before scripts now held
+    → IsUnread line_text IsInGrammar (bytes_at now name held) why → AreUnread files input names why
+not_more files now input held names before rest scripts name why split at unread = record {
+  before = before;
+  name = name;
+  rest = rest;
+  split = split;
+  scripts = scripts;
+  left = at.left;
+  read = at.read;
+  unread = first_known files now name at.left held at.kept at.known _ unread;
+}
+
+-- for want of memory
+pub no_memory : (bytes : Option (List ℕ)) → IsUnread line_text IsInGrammar bytes refusal.NoMemory
+no_memory None = tt
+no_memory (Some bs) = inr tt
+
+-- the names around a place
+pub names_about : {X : Type 0} (f : X → List ℕ) (xs : List X) (i : ℕ) (d : X) → i < length xs → d ≡ get_or xs i d → map f xs ≡ map f (take i xs) ++ f d ∷ map f (drop (suc i) xs)
+names_about {X} f xs i d lt is =
+    ap (map f) (sym (take-append-drop i xs)) ∙ map-append f (take i xs) (drop i xs) ∙ ap (λ (t : List X). map f (take i xs) ++ map f t) (drop-cons xs i d lt)
+    ∙ ap (λ (y : X). map f (take i xs) ++ f y ∷ map f (drop (suc i) xs)) (sym is)
+
+pub at_more : {X : Type 0} (f : X → List ℕ) (xs : List X) (i : ℕ) (d : X) (ss : List Script) (s : Script) (files now later : Files) (input held after : Option (List ℕ)) → i < length xs → d ≡ get_or xs i d → IsAt files input (map f (take i xs)) (map lines_in ss) now held
+    → IsReadAt now held (f d) (lines_in s) after → AreKept now later → IsAt files input (map f (take (i + 1) xs)) (map lines_in (ss ++ s ∷ [])) later after
+at_more {X} f xs i d ss s files now later input held after lt is at x kept =
+    let names : map f (take i xs) ++ f d ∷ [] ≡ map f (take (i + 1) xs) = ap (λ (y : X). map f (take i xs) ++ f y ∷ []) is ∙ sym (map_more f xs i d lt) in
+    let scripts : map lines_in ss ++ lines_in s ∷ [] ≡ map lines_in (ss ++ s ∷ []) = sym (map-append lines_in ss (s ∷ [])) in
+    subst (λ (X : Type 0). X) (λ j. IsAt files input (names j) (scripts j) later after) (one_more files now later input held after (map f (take i xs)) (map lines_in ss) (f d) (lines_in s) at x kept)

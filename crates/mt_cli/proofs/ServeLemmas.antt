@@ -1,0 +1,167 @@
+-- Scripts that were served to a device, and to a file.
+use Rattle.std.proofs.Common.{◌≡◌, ◌≢◌, ◌∙◌, ◌+◌, inl, inr, ℕ, Bool, true, false, List, [], ◌∷◌, ◌++◌, length, take, Option, None, Result, Ok, Err, IfErr, IfOk, IsErrAnd, IsOk, OnOk, refl, sym, ap, subst}
+use Rattle.std.proofs.Props.{props}
+use mathlib.Core.Logic.{∥∥₁_elim, ∥∥₁_map, ∥∥₁_prop}
+use Rattle.mt_base.specs.Limits.{IsRelationCount}
+use Rattle.mt_base.specs.declared.refusal.Refusal.{Refusal}
+use Rattle.mt_base.specs.declared.refusal.Refusal.TheVariants as refusal
+use Rattle.mt_disk.specs.declared.device.Device.{Ghosts}
+use Rattle.mt_live.specs.Machine.{State, start}
+use Rattle.mt_model.specs.History.{after}
+use Rattle.mt_model.specs.Model.{Base}
+use Rattle.mt_model.specs.declared.history.Committed.{Committed}
+use Rattle.mt_replay.specs.Stands.{CanRestart}
+use Rattle.mt_restart.specs.Resumed.{IsOpened}
+use Rattle.mt_txn.proofs.GoingOn.{all_booked}
+use Rattle.mt_txn.specs.Restarted.{FindsCommits, all_commits}
+use Rattle.mt_txn.specs.Shown.{Restarts, SameSchema, StaysRestarting}
+use Rattle.mt_txn.specs.declared.kernel.Kernel.{Kernel}
+use Rattle.mt_server.proofs.RunLemmas.{cut_ended}
+use Rattle.mt_server.specs.Driven.{IsBeside}
+use Rattle.mt_server.specs.Plays.{Play}
+use Rattle.mt_server.specs.Runs.{IsCutShort}
+use Rattle.mt_server.specs.Sessions.{AreCutShort, HasServed, HaveServed, HavePlayed, IsCutWithin, unheard_line, cut_script, Serves, no_script, then_script, in_session}
+use Rattle.mt_server.specs.declared.answers.Answer.{Answer}
+use Rattle.mt_server.specs.declared.lines.Line.{Line}
+use Rattle.mt_server.specs.declared.running.RunFault.{RunFault}
+use Rattle.mt_cli.proofs.DumpLemmas.{empty, no_member}
+use Rattle.mt_cli.proofs.FolderLemmas.{kept_then, put_then}
+use Rattle.mt_cli.proofs.Trials.{ended_by, played}
+use Rattle.mt_cli.specs.Dumps.{StandAs}
+use Rattle.mt_cli.specs.Folders.{AreKept, Files, IsFileRefusal, IsHeld, IsLent, Puts}
+use Rattle.mt_cli.specs.Reads.{HaveBeenRead}
+use Rattle.mt_cli.specs.Serves.{AreShortOn, AreUnserved, HasNotRun, HaveServedOn, IsOnBase, IsServedIn, IsShortOf, IsShortWithin, unheard_session, short_session, IsUnservedIn, unserved, no_device, StandForSome, first_on, fault_of}
+use Rattle.mt_cli.specs.declared.faults.Fault.{Fault}
+
+module _ {D : Type 0} {g : Ghosts D} (seen : D → List ℕ) (may_leave : D → List ℕ → Type 0) where
+  -- a kernel that was opened on a base stands beside the model there
+  pub beside_first : (relations counters : ℕ) (b : Base) (k : Kernel D g) → IsOpened seen may_leave relations counters b k → IsBeside seen may_leave (first_on b) None k
+  beside_first relations counters b k opened = record { shown = ∣ (b, start b, opened.shows, (record { book = refl; base = refl }, λ u. refl)) ∣₁; nothing = refl }
+
+  -- sessions of a kernel are sessions of the model
+  schema_kept : (s e : Play × Kernel D g) (ls : List (List Line)) (ts : List (List Answer)) → Serves (HasServed seen may_leave) s ls ts e → (e.1.relations ≡ s.1.relations) × (e.1.counters ≡ s.1.counters)
+  schema_kept s _ _ _ no_script = (refl, refl)
+  schema_kept s e _ _ (then_script scripts transcripts mid end lines told before x) = let kept = schema_kept s mid scripts transcripts before in (x.schema.0 ∙ kept.0, x.schema.1 ∙ kept.1)
+
+  pub all_played : (relations counters : ℕ) (s e : Play × Kernel D g) (ls : List (List Line)) (ts : List (List Answer)) → s.1.relations ≡ relations → s.1.counters ≡ counters → Serves (HasServed seen may_leave) s ls ts e → HavePlayed relations counters s.0 ls ts e.0
+  all_played relations counters s _ _ _ rs cs no_script = no_script
+  all_played relations counters s _ _ _ rs cs (then_script scripts transcripts mid end lines told before x) =
+      let kept = schema_kept s mid scripts transcripts before in
+      then_script scripts transcripts mid.0 end.0 lines told (all_played relations counters s mid scripts transcripts rs cs before) (record {
+        answers = x.answers;
+        play = x.play;
+        ran = played seen may_leave relations counters (in_session mid.0 (length scripts + 1), mid.1) (x.play, x.last) lines x.answers (kept.0 ∙ rs) (kept.1 ∙ cs) x.ran;
+        told_is = x.told_is;
+        end_is = x.end_is;
+      })
+
+  -- ---- what the device stands for
+
+  -- nobody lives where a kernel stands beside a play, and its book is the play's
+  resting : (p : Play) (n : Kernel D g) → IsBeside seen may_leave p None n → ∥ ((length n.parts.live.members ≡ 0) × (n.parts.book.items ≡ p.book)) ∥₁
+  resting p n beside = ∥∥₁_elim beside.shown ∥∥₁_prop (λ (first, s, shows, (is, nobody)).
+      ∥∥₁_map shows (λ (origin, base, at, x). (
+        no_member n.parts.live.members (λ t. sym (ap (λ (z : State). z.sessions t) x.state) ∙ nobody t),
+        sym (ap (λ (z : State). z.book) x.state) ∙ is.book,
+      )))
+
+  pub stands_some : (relations counters : ℕ) (b : Base) (p : Play) (n : Kernel D g) (c : List ℕ) → n.relations ≡ relations → n.counters ≡ counters → Restarts seen may_leave b n → IsBeside seen may_leave p None n
+      → ((first : Base) → Restarts seen may_leave first n → ∥ FindsCommits n.relations n.counters first n.parts c ∥₁) → StandForSome relations counters b p.book c
+  stands_some relations counters b p n c rs cs restarts beside finds = ∥∥₁_elim (resting p n beside) ∥∥₁_prop (λ (nobody, book).
+      ∥∥₁_elim (all_booked seen may_leave n.parts n.relations n.counters b nobody restarts) ∥∥₁_prop (λ all.
+      ∥∥₁_map (finds b restarts) (λ f. (
+        f.count,
+        subst (λ (X : Type 0). X) (λ i. CanRestart (rs i) (cs i) c ((f.is ∙ ap (λ (cs : List Committed). after b (take f.count cs)) (all ∙ book)) i)) f.found,
+      ))))
+
+  -- ---- serving
+
+  pub served_on : (relations counters : ℕ) (b : Base) (k n : Kernel D g) (scripts : List (List Line)) (was now : Option (List ℕ)) (c : List ℕ) → IsOpened seen may_leave relations counters b k → SameSchema k n → StaysRestarting seen may_leave k n
+      → ((p : Play) → IsBeside seen may_leave p None k → HaveServed seen may_leave p k scripts was now n)
+      → ((first : Base) → Restarts seen may_leave first n → ∥ FindsCommits n.relations n.counters first n.parts c ∥₁) → HaveServedOn relations counters b scripts was now c
+  served_on relations counters b k n scripts was now c opened schema stays ran finds =
+      let x = ran (first_on b) (beside_first relations counters b k opened) in
+      record {
+        transcripts = x.transcripts;
+        last = x.play;
+        played = all_played relations counters (first_on b, k) (x.play, n) scripts x.transcripts opened.relations_are opened.counters_are x.served;
+        told = x.told;
+        stands = stands_some relations counters b x.play n c (schema.0 ∙ opened.relations_are) (schema.1 ∙ opened.counters_are) (stays b opened.restarts) x.beside finds;
+      }
+
+  module _ (faults : D → ℕ) where
+    short_of : (relations counters : ℕ) (p : Play) (k n : Kernel D g) (lines : List Line) (was now : Option (List ℕ)) (why : RunFault) → k.relations ≡ relations → k.counters ≡ counters → IsCutShort seen may_leave faults p k lines was now n why
+        → IsShortOf relations counters p lines was now why
+    short_of relations counters p k n lines was now why rs cs x = record {
+      before = x.before;
+      rest = x.rest;
+      split = x.split;
+      answers = x.answers;
+      last = x.play;
+      ran = played seen may_leave relations counters (p, k) (x.play, x.last) x.before x.answers rs cs x.ran;
+      told = x.told;
+      ended = ended_by seen may_leave faults n why (cut_ended seen may_leave faults p k lines was now n why x);
+    }
+
+    within : (relations counters : ℕ) (p : Play) (k n : Kernel D g) (i : ℕ) (lines : List Line) (was now : Option (List ℕ)) (why : RunFault) → k.relations ≡ relations → k.counters ≡ counters → IsCutWithin seen may_leave faults p k i lines was now n why
+        → IsShortWithin relations counters p i lines was now why
+    within relations counters p k n i lines was now _ rs cs (unheard_line front same) = unheard_session front
+    within relations counters p k n i lines was now _ rs cs (cut_script mid why told cut) = short_session mid why told (short_of relations counters (in_session p i) k n lines mid now why rs cs cut)
+
+    pub short_on : (relations counters : ℕ) (b : Base) (k n : Kernel D g) (scripts : List (List Line)) (was now : Option (List ℕ)) (why : RunFault) → IsOpened seen may_leave relations counters b k
+        → ((p : Play) → IsBeside seen may_leave p None k → AreCutShort seen may_leave faults p k scripts was now n why) → AreShortOn relations counters b scripts was now why
+    short_on relations counters b k n scripts was now why opened cut =
+        let x = cut (first_on b) (beside_first relations counters b k opened) in
+        let kept = schema_kept (first_on b, k) (x.ran.play, x.last) x.before x.ran.transcripts x.ran.served in
+        record {
+          before = x.before;
+          lines = x.lines;
+          rest = x.rest;
+          split = x.split;
+          transcripts = x.ran.transcripts;
+          last = x.ran.play;
+          played = all_played relations counters (first_on b, k) (x.ran.play, x.last) x.before x.ran.transcripts opened.relations_are opened.counters_are x.ran.served;
+          mid = x.mid;
+          told = x.ran.told;
+          within = within relations counters x.ran.play x.last n (length x.before + 1) x.lines x.mid now why (kept.0 ∙ opened.relations_are) (kept.1 ∙ opened.counters_are) x.within;
+        }
+
+-- ---- on bytes
+
+-- what holds on each base that it was opened on, on some and on the one that the bytes stand for
+pub on_base : (c : List ℕ) (On Opened : ℕ → ℕ → Base → Type 0) → ((n m : ℕ) (b : Base) → Opened n m b → On n m b) → (n m : ℕ) (b : Base) → Opened n m b → ((n m : ℕ) (b : Base) → CanRestart n m c b → Opened n m b) → IsOnBase c On
+on_base c On Opened on n m b first can = record { some = (n, m, b, on n m b first); stood_for = λ n m b stands. on n m b (can n m b stands) }
+
+-- how a command ends is how its run did
+pub ok_through : (P : Type 0) (r : Result (Unit {0}) RunFault) (e : Result (Unit {0}) Fault) → OnOk e (IsOk r) → OnOk r P → OnOk e P
+ok_through P (Ok x) (Ok y) is p = p
+ok_through P (Err why) (Ok y) is p = let bad : false ≡ true = is in absurd cc
+ok_through P r (Err fault) is p = tt
+
+pub err_through : (Q : RunFault → Type 0) (r : Result (Unit {0}) RunFault) (e : Result (Unit {0}) Fault) → IfErr e (λ fault. IsErrAnd r (λ why. fault ≡ fault_of why)) → IfErr r Q → IfErr e (λ fault. (why : RunFault) × Q why × (fault ≡ fault_of why))
+err_through Q r (Ok y) is q = tt
+err_through Q (Ok x) (Err fault) is q = absurd is
+err_through Q (Err why) (Err fault) is q = (why, q, is)
+
+-- ---- the file
+
+pub put_back : (old mid new : Files) (name d : List ℕ) → IsLent old mid name → Puts mid new name d → Puts old new name d
+put_back old mid new name d lent put = record { told = put.told ∙ lent.told; held = put.held; others = λ other apart. put.others other apart ∙ lent.others other apart }
+
+-- behind reads that left each file as it was
+held_before : (old mid : Files) (name bytes : List ℕ) → AreKept old mid → IsHeld mid name bytes → IsHeld old name bytes
+held_before old mid name bytes kept held = λ is. sym (kept.all name) ∙ held (kept.told ∙ is)
+
+pub served_then : (old mid new : Files) (name : List ℕ) (scripts : List (List Line)) (was now : Option (List ℕ)) → AreKept old mid → IsServedIn mid new name scripts was now → IsServedIn old new name scripts was now
+served_then old mid new name scripts was now kept x = record {
+  before = x.before;
+  behind = x.behind;
+  held = held_before old mid name x.before kept x.held;
+  put = put_then old mid new name x.behind kept x.put;
+  served = x.served;
+}
+
+pub unserved_then : (old mid new : Files) (name : List ℕ) (scripts : List (List Line)) (was now : Option (List ℕ)) (fault : Fault) → AreKept old mid → IsUnservedIn mid new name scripts was now fault → IsUnservedIn old new name scripts was now fault
+unserved_then old mid new name scripts was now _ kept (no_device why cause still keeps) =
+    no_device why (subst (λ (o : Option (List ℕ)). IsFileRefusal o why) (kept.all name) cause) (kept_then old mid new kept still) keeps
+unserved_then old mid new name scripts was now _ kept (unserved before behind fault held put x) = unserved before behind fault (held_before old mid name before kept held) (put_then old mid new name behind kept put) x

@@ -1,0 +1,60 @@
+-- Scripts that are read by name: from files, and from the input where the name is a dash.
+use Rattle.std.specs.Prelude.{ℕ, ◌≡◌, ◌⊎◌, Bool, cond, false, List, [], ◌∷◌, ◌++◌, Option, Some, None, IfSome, bytes_eq, codes}
+use Rattle.mt_base.specs.declared.refusal.Refusal.{Refusal}
+use Rattle.mt_base.specs.declared.refusal.Refusal.TheVariants as refusal
+use Rattle.mt_server.specs.Grammars.{AreRefusedFor}
+use Rattle.mt_server.specs.Lines.{line_text, IsInGrammar}
+use Rattle.mt_server.specs.Scripts.{IsScript}
+use Rattle.mt_server.specs.declared.lines.Line.{Line}
+use Rattle.mt_cli.specs.Folders.{Files, known_in}
+
+-- the bytes of a script or a schedule, where they are known: of the file of its name, or else of the input
+abbrev pub source_of : Files → Option (List ℕ) → Option (List ℕ) → Option (List ℕ)
+source_of files None input = input
+source_of files (Some name) input = known_in files name
+
+-- why lines are not read: the bytes are none of the grammar, or could not be had, or memory was wanting
+module _ {L : Type 0} (text : L → List ℕ) (IsIn : L → Type 0) where
+  abbrev pub IsUnread : Option (List ℕ) → Refusal → Type 0
+  IsUnread bytes why = IfSome bytes (λ bs. (why ≡ refusal.DeviceFailed) ⊎ AreRefusedFor text IsIn bs why)
+
+-- ---- several
+
+-- the name stands for the input
+abbrev pub is_input : List ℕ → Bool
+is_input name = bytes_eq name (codes "-")
+
+-- the bytes of a script of this name, where they are known
+abbrev pub bytes_at : Files → List ℕ → Option (List ℕ) → Option (List ℕ)
+bytes_at files name input = cond (is_input name) input (known_in files name)
+
+-- what is known of the input behind that: nothing, once it was read
+abbrev pub input_behind : List ℕ → Option (List ℕ) → Option (List ℕ)
+input_behind name input = cond (is_input name) None input
+
+-- One script is read, and the input only where the name stands for it.
+pub record IsReadAt (files : Files) (input : Option (List ℕ)) (name : List ℕ) (lines : List Line) (later : Option (List ℕ)) : Type 0 where
+  pub spelled : IfSome (bytes_at files name input) (λ bs. IsScript bs lines)
+  pub untouched : is_input name ≡ false → later ≡ input
+
+-- The scripts of these names are read one after the other: the bytes of each are its lines, where they are known. So much is known of the
+-- input then.
+pub data AreRead (files : Files) (input : Option (List ℕ)) : List (List ℕ) → List (List Line) → Option (List ℕ) → Type 0 where
+  none_read : AreRead files input [] [] input
+  one_read : (names : List (List ℕ)) (scripts : List (List Line)) (left : Option (List ℕ)) (name : List ℕ) (lines : List Line)
+      → AreRead files input names scripts left → IfSome (bytes_at files name left) (λ bs. IsScript bs lines)
+      → AreRead files input (names ++ name ∷ []) (scripts ++ lines ∷ []) (input_behind name left)
+
+abbrev pub HaveBeenRead : Files → Option (List ℕ) → List (List ℕ) → List (List Line) → Type 0
+HaveBeenRead files input names scripts = (left : Option (List ℕ)) × AreRead files input names scripts left
+
+-- The first of them were read, and the next one was not, for this.
+pub record AreUnread (files : Files) (input : Option (List ℕ)) (names : List (List ℕ)) (why : Refusal) : Type 0 where
+  pub before : List (List ℕ)
+  pub name : List ℕ
+  pub rest : List (List ℕ)
+  pub split : names ≡ before ++ name ∷ rest
+  pub scripts : List (List Line)
+  pub left : Option (List ℕ)
+  pub read : AreRead files input before scripts left
+  pub unread : IsUnread line_text IsInGrammar (bytes_at files name left) why

@@ -1,0 +1,129 @@
+-- Scripts that are served to the device in a file.
+use Rattle.std.specs.Prelude.{ℕ, ◌≡◌, ◌<◌, ◌+◌, List, [], ◌∷◌, ◌++◌, length, take, Option, None}
+use Rattle.std.specs.Io.KnownBytes.{Appends, Keeps}
+use Rattle.mt_base.specs.declared.refusal.Refusal.{Refusal}
+use Rattle.mt_base.specs.declared.refusal.Refusal.TheVariants as refusal
+use Rattle.mt_model.specs.History.{after}
+use Rattle.mt_model.specs.Model.{Base}
+use Rattle.mt_model.specs.declared.history.Committed.{Committed}
+use Rattle.mt_replay.specs.Stands.{CanRestart}
+use Rattle.mt_server.specs.Answers.{AppendsFront}
+use Rattle.mt_server.specs.Plays.{Play, HasPlayed}
+use Rattle.mt_server.specs.Runs.{IsToldFor}
+use Rattle.mt_server.specs.Sessions.{HavePlayed, in_session, session_line, sessions_text}
+use Rattle.mt_server.specs.declared.answers.Answer.{Answer}
+use Rattle.mt_server.specs.declared.lines.Line.{Line}
+use Rattle.mt_server.specs.declared.running.RunFault.{RunFault}
+use Rattle.mt_server.specs.declared.running.RunFault.TheVariants as run
+use Rattle.mt_cli.specs.Dumps.{IsBarred, IsEarly, StandAs}
+use Rattle.mt_cli.specs.Folders.{AreKept, Files, IsFileRefusal, IsHeld, IsUnmade, Puts, known_in}
+use Rattle.mt_cli.specs.Reads.{AreUnread, HaveBeenRead}
+use Rattle.mt_cli.specs.declared.faults.Fault.{Fault}
+use Rattle.mt_cli.specs.declared.faults.Fault.TheVariants.{Output, Refused}
+
+-- ---- how a run ends
+
+-- how a run ended is how its command does
+abbrev pub fault_of : RunFault → Fault
+fault_of run.Output = Output
+fault_of (run.Refused why) = Refused why
+
+-- a run is cut short by the output, for want of memory, or since the device failed
+abbrev pub IsEndedBy : RunFault → Type 0
+IsEndedBy run.Output = Unit {0}
+IsEndedBy (run.Refused why) = IsUnmade why
+
+-- ---- on a base
+
+-- the model as serving begins on a base, with nothing committed
+abbrev pub first_on : Base → Play
+first_on b = record { session = 0; base = b; book = []; under_way = None }
+
+-- the bytes stand for what some of the first of these commits lead to
+abbrev pub StandForSome : ℕ → ℕ → Base → List Committed → List ℕ → Type 0
+StandForSome relations counters b book d = ∥ ((count : ℕ) × CanRestart relations counters d (after b (take count book))) ∥₁
+
+-- The scripts were served one after the other, as the model plays them on this base, and their texts were written. The device's bytes stand
+-- for what some of the first commits lead to.
+pub record HaveServedOn (relations counters : ℕ) (b : Base) (scripts : List (List Line)) (was now : Option (List ℕ)) (d : List ℕ) : Type 0 where
+  pub transcripts : List (List Answer)
+  pub last : Play
+  pub played : HavePlayed relations counters (first_on b) scripts transcripts last
+  pub told : Appends was now (sessions_text transcripts)
+  pub stands : StandForSome relations counters b last.book d
+
+-- A script was cut short: the first of its lines were answered, and their answers are written, or a beginning of them.
+pub record IsShortOf (relations counters : ℕ) (p : Play) (lines : List Line) (was now : Option (List ℕ)) (why : RunFault) : Type 0 where
+  pub before : List Line
+  pub rest : List Line
+  pub split : lines ≡ before ++ rest
+  pub answers : List Answer
+  pub last : Play
+  pub ran : HasPlayed relations counters p before answers last
+  pub told : IsToldFor was now answers why
+  pub ended : IsEndedBy why
+
+-- so a session, or its line was not written whole
+pub data IsShortWithin (relations counters : ℕ) (p : Play) (i : ℕ) (lines : List Line) (was now : Option (List ℕ)) : RunFault → Type 0 where
+  unheard_session : AppendsFront was now (session_line i) → IsShortWithin relations counters p i lines was now run.Output
+  short_session : (mid : Option (List ℕ)) (why : RunFault) → Appends was mid (session_line i) → IsShortOf relations counters (in_session p i) lines mid now why
+      → IsShortWithin relations counters p i lines was now why
+
+-- the first scripts were served, and the next was cut short
+pub record AreShortOn (relations counters : ℕ) (b : Base) (scripts : List (List Line)) (was now : Option (List ℕ)) (why : RunFault) : Type 0 where
+  pub before : List (List Line)
+  pub lines : List Line
+  pub rest : List (List Line)
+  pub split : scripts ≡ before ++ lines ∷ rest
+  pub transcripts : List (List Answer)
+  pub last : Play
+  pub played : HavePlayed relations counters (first_on b) before transcripts last
+  pub mid : Option (List ℕ)
+  pub told : Appends was mid (sessions_text transcripts)
+  pub within : IsShortWithin relations counters last (length before + 1) lines mid now why
+
+-- ---- on a device's bytes
+
+-- it is so on some base, and on the one that the bytes stand for, if they stand for one
+pub record IsOnBase (c : List ℕ) (On : ℕ → ℕ → Base → Type 0) : Type 0 where
+  pub some : (relations : ℕ) × (counters : ℕ) × (b : Base) × On relations counters b
+  pub stood_for : (relations counters : ℕ) (b : Base) → CanRestart relations counters c b → On relations counters b
+
+abbrev pub ServesFrom : List ℕ → List (List Line) → Option (List ℕ) → Option (List ℕ) → List ℕ → Type 0
+ServesFrom c scripts was now d = IsOnBase c (λ relations counters b. HaveServedOn relations counters b scripts was now d)
+
+-- Why scripts were not served to a device of bytes c, which has bytes d now: there are too many, or it is not opened; and else one of them
+-- was cut short.
+pub data AreUnserved (c : List ℕ) (scripts : List (List Line)) (was now : Option (List ℕ)) (d : List ℕ) : Fault → Type 0 where
+  too_many : 64 < length scripts → d ≡ c → Keeps was now → AreUnserved c scripts was now d (Refused refusal.BadLength)
+  not_begun : (why : Refusal) → IsBarred c why → StandAs c d → (IsEarly why → d ≡ c) → Keeps was now → AreUnserved c scripts was now d (Refused why)
+  cut_among : (why : RunFault) (fault : Fault) → IsOnBase c (λ relations counters b. AreShortOn relations counters b scripts was now why) → fault ≡ fault_of why
+      → AreUnserved c scripts was now d fault
+
+-- ---- on a file
+
+-- They were served to the device in the file of this name. Each other file is as before.
+pub record IsServedIn (old new : Files) (file : List ℕ) (scripts : List (List Line)) (was now : Option (List ℕ)) : Type 0 where
+  pub before : List ℕ
+  pub behind : List ℕ
+  pub held : IsHeld old file before
+  pub put : Puts old new file behind
+  pub served : ServesFrom before scripts was now behind
+
+-- why they were not: the file is not opened, and each is as before; or its device is back in it, and each other one is as before
+pub data IsUnservedIn (old new : Files) (file : List ℕ) (scripts : List (List Line)) (was now : Option (List ℕ)) : Fault → Type 0 where
+  no_device : (why : Refusal) → IsFileRefusal (known_in old file) why → AreKept old new → Keeps was now → IsUnservedIn old new file scripts was now (Refused why)
+  unserved : (before behind : List ℕ) (fault : Fault) → IsHeld old file before → Puts old new file behind → AreUnserved before scripts was now behind fault
+      → IsUnservedIn old new file scripts was now fault
+
+-- the scripts of these names were read, and served
+pub record HasRunScripts (old new : Files) (file : List ℕ) (names : List (List ℕ)) (input was now : Option (List ℕ)) : Type 0 where
+  pub scripts : List (List Line)
+  pub read : HaveBeenRead old input names scripts
+  pub served : IsServedIn old new file scripts was now
+
+-- or they were not: nothing is written where they are not read
+pub data HasNotRun (old new : Files) (file : List ℕ) (names : List (List ℕ)) (input was now : Option (List ℕ)) : Fault → Type 0 where
+  unread_scripts : (why : Refusal) → AreUnread old input names why → AreKept old new → Keeps was now → HasNotRun old new file names input was now (Refused why)
+  unserved_scripts : (scripts : List (List Line)) (fault : Fault) → HaveBeenRead old input names scripts → IsUnservedIn old new file scripts was now fault
+      → HasNotRun old new file names input was now fault

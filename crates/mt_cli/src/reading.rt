@@ -1,0 +1,91 @@
+// Scripts and schedules, read by name.
+ghost use Rattle.std.specs.Prelude.{◌≡◌, Some, None, IfErr, IfOk, IfSome, cond, is_some, map, option_map, string_bytes, true};
+ghost use Rattle.mt_server.specs.Grammars.{AreLines};
+ghost use Rattle.mt_server.specs.Lines.{line_text, IsInGrammar};
+ghost use Rattle.mt_server.specs.Sessions.{lines_in};
+ghost use Rattle.mt_cli.specs.Folders.{AreKept};
+ghost use Rattle.mt_cli.specs.Reads.{AreUnread, HaveBeenRead, IsReadAt, IsUnread, bytes_at, is_input, source_of};
+
+use crate::folder::Folder;
+use mt_base::Refusal;
+use mt_server::{Grammar, Script, ScriptFault, ScriptGrammar, read_lines};
+use std::alloc::Global;
+use std::io::Read;
+
+/// The lines of the file of this name, or those on standard input where there is no name.
+pub(crate) fn lines_of<G: Grammar, F: Folder, I: Read>(
+    alloc: Global,
+    folder: &mut F,
+    name: Option<&str>,
+    input: &mut I,
+) -> Result<Vec<G::Line>, Refusal>
+    ensures lines { IfOk result (λ lines. IfSome
+        (source_of (F.files folder.old) (option_map (λ n. n.now) name.entry) (I.remaining input.old))
+        (λ bytes. AreLines G.text G.IsIn bytes lines.items)) }
+    ensures unread { IfErr result (IsUnread G.text G.IsIn
+        (source_of (F.files folder.old) (option_map (λ n. n.now) name.entry) (I.remaining input.old))) }
+    ensures kept { AreKept (F.files folder.old) (F.files folder.new) }
+    ensures untouched { is_some (option_map (λ n. n.now) name.entry) ≡ true
+        → I.remaining input.new ≡ I.remaining input.old }
+{
+    let read = match name {
+        Some(name) => {
+            let bytes = folder.script(name)?;
+            let mut rest = bytes.as_slice();
+            read_lines::<G, &[u8]>(alloc, &mut rest)
+        }
+        None => read_lines::<G, I>(alloc, input),
+    };
+    match read {
+        Ok(lines) => Ok(lines),
+        Err(ScriptFault::Input) => Err(Refusal::DeviceFailed),
+        Err(ScriptFault::Refused(refusal)) => Err(refusal),
+    }
+}
+
+/// The file that a script's name names, or `None` where it stands for standard input.
+fn file_named(name: &str) -> Option<&str>
+    ensures { option_map (λ n. n.now) result ≡ cond (is_input name.now) None (Some name.now) }
+{
+    if name == "-" { None } else { Some(name) }
+}
+
+/// The script of this name; `-` is standard input.
+fn script_of<F: Folder, I: Read>(
+    alloc: Global,
+    folder: &mut F,
+    name: &str,
+    input: &mut I,
+) -> Result<Script, Refusal>
+    ensures read { IfOk result (λ script. IsReadAt (F.files folder.old) (I.remaining input.old) name.now
+        (lines_in script) (I.remaining input.new)) }
+    ensures unread { IfErr result (IsUnread line_text IsInGrammar
+        (bytes_at (F.files folder.old) name.now (I.remaining input.old))) }
+    ensures kept { AreKept (F.files folder.old) (F.files folder.new) }
+{
+    let lines = lines_of::<ScriptGrammar, F, I>(alloc, folder, file_named(name), input)?;
+    Ok(Script::new(lines))
+}
+
+/// The scripts of these names, read one after the other; `-` is standard input, of which the first of that name has all.
+/// The folder is as before. Refused for the first that is not read: by `NoMemory`; by `DeviceFailed` where there is no such
+/// file or it cannot be read; and by `BadLine` of its first line that is not in the grammar.
+pub(crate) fn scripts_of<F: Folder, I: Read>(
+    alloc: Global,
+    folder: &mut F,
+    names: &[String],
+    input: &mut I,
+) -> Result<Vec<Script>, Refusal>
+    ensures read { IfOk result (λ scripts. HaveBeenRead (F.files folder.old) (I.remaining input.old)
+        (map string_bytes names.now) (map lines_in scripts.items)) }
+    ensures unread { IfErr result (AreUnread (F.files folder.old) (I.remaining input.old)
+        (map string_bytes names.now)) }
+    ensures kept { AreKept (F.files folder.old) (F.files folder.new) }
+{
+    let mut scripts = Vec::new(alloc);
+    for name in names {
+        let script = script_of(alloc, folder, name.as_str(), input)?;
+        scripts.push(script)?;
+    }
+    Ok(scripts)
+}

@@ -1,0 +1,126 @@
+// `run`: scripts, served to the device in a file.
+ghost use Rattle.std.specs.Prelude.{◌≡◌, ◌≤◌, ℕ, IfErr, IsErrAnd, IsOk, OnOk, length, map, string_bytes};
+ghost use Rattle.mt_disk.specs.Disk.{Only};
+ghost use Rattle.mt_model.specs.Model.{Base};
+ghost use Rattle.mt_restart.specs.Resumed.{IsOpened};
+ghost use Rattle.mt_server.specs.Sessions.{lines_in};
+ghost use Rattle.mt_cli.specs.Serves.{AreShortOn, AreUnserved, HasNotRun, HasRunScripts, HaveServedOn, IsServedIn, IsUnservedIn, ServesFrom, fault_of};
+
+use crate::faults::Fault;
+use crate::folder::Folder;
+use crate::reading::scripts_of;
+use mt_base::Refusal;
+use mt_disk::Device;
+use mt_restart::open;
+use mt_server::{MAX_SESSIONS, RunFault, Script, run_sessions};
+use mt_txn::Kernel;
+use std::alloc::Global;
+use std::io::{Read, Write};
+
+/// Serves scripts to a kernel that was just opened, and gives its device back.
+fn serve_opened<D: Device + Drop, O: Write>(
+    kernel: Kernel<D>,
+    scripts: &[Script],
+    out: &mut O,
+) -> (Result<(), RunFault>, D)
+    requires few { length scripts.now ≤ 64 }
+    ensures served { OnOk result.0 ((relations counters : ℕ) (b : Base)
+        → IsOpened D.seen D.may_leave relations counters b kernel → HaveServedOn relations counters b
+        (map lines_in scripts.now) (O.contents out.old) (O.contents out.new) (D.seen result.1)) }
+    ensures short { IfErr result.0 (λ why. (relations counters : ℕ) (b : Base)
+        → IsOpened D.seen D.may_leave relations counters b kernel → AreShortOn relations counters b
+        (map lines_in scripts.now) (O.contents out.old) (O.contents out.new) why) }
+{
+    let mut kernel = kernel;
+    let ran = run_sessions(&mut kernel, scripts, out);
+    kernel.can_restart();
+    (ran, kernel.into_device())
+}
+
+/// How a command ends whose run ended so.
+fn ended(ran: Result<(), RunFault>) -> Result<(), Fault>
+    ensures ok { OnOk result (IsOk ran) }
+    ensures err { IfErr result (λ fault. IsErrAnd ran (λ why. fault ≡ fault_of why)) }
+{
+    match ran {
+        Ok(()) => Ok(()),
+        Err(RunFault::Output) => Err(Fault::Output),
+        Err(RunFault::Refused(refusal)) => Err(Fault::Refused(refusal)),
+    }
+}
+
+/// Opens a device and serves scripts to it, and gives it back, whatever came of that.
+fn serve_over<D: Device + Drop, O: Write>(
+    alloc: Global,
+    device: D,
+    frames: usize,
+    scripts: &[Script],
+    out: &mut O,
+) -> (Result<(), Fault>, D)
+    requires settled { Only (D.seen device) (D.may_leave device) }
+    ensures served { OnOk result.0 (ServesFrom (D.seen device) (map lines_in scripts.now)
+        (O.contents out.old) (O.contents out.new) (D.seen result.1)) }
+    ensures unserved { IfErr result.0 (AreUnserved (D.seen device) (map lines_in scripts.now)
+        (O.contents out.old) (O.contents out.new) (D.seen result.1)) }
+{
+    if scripts.len() > MAX_SESSIONS {
+        return (Err(Fault::Refused(Refusal::BadLength)), device);
+    }
+    match open(alloc, device, frames) {
+        Ok(kernel) => {
+            let (ran, device) = serve_opened(kernel, scripts, out);
+            (ended(ran), device)
+        }
+        Err((refusal, device)) => (Err(Fault::Refused(refusal)), device),
+    }
+}
+
+/// Serves scripts to the device in the file of this name.
+fn serve_file<F: Folder, O: Write>(
+    alloc: Global,
+    folder: &mut F,
+    frames: usize,
+    name: &str,
+    scripts: &[Script],
+    out: &mut O,
+) -> Result<(), Fault>
+    ensures served { OnOk result (IsServedIn (F.files folder.old) (F.files folder.new) name.now
+        (map lines_in scripts.now) (O.contents out.old) (O.contents out.new)) }
+    ensures unserved { IfErr result (IsUnservedIn (F.files folder.old) (F.files folder.new) name.now
+        (map lines_in scripts.now) (O.contents out.old) (O.contents out.new)) }
+{
+    let device = match folder.device(name) {
+        Ok(device) => device,
+        Err(refusal) => return Err(Fault::Refused(refusal)),
+    };
+    let served = serve_over(alloc, device, frames, scripts, out);
+    let (told, device) = served;
+    folder.back(name, device);
+    told
+}
+
+/// Does `run`: reads all scripts, then opens the device in the file of this name with so many frames, and serves the
+/// scripts to it, one after the other. The device is back in its file then, whatever came of that, and each other file is
+/// as it was. Nothing is written to the output before the device is opened.
+///
+/// Refused for the first script that is not read; by `BadLength` where there are more than 64 of them; for what keeps the
+/// device from being opened; and where a script does not run to its end, by `NoMemory` or `DeviceFailed`.
+pub(crate) fn perform_run<F: Folder, I: Read, O: Write>(
+    alloc: Global,
+    folder: &mut F,
+    frames: usize,
+    name: &str,
+    scripts: &[String],
+    input: &mut I,
+    out: &mut O,
+) -> Result<(), Fault>
+    ensures ran { OnOk result (HasRunScripts (F.files folder.old) (F.files folder.new) name.now
+        (map string_bytes scripts.now) (I.remaining input.old) (O.contents out.old) (O.contents out.new)) }
+    ensures not_run { IfErr result (HasNotRun (F.files folder.old) (F.files folder.new) name.now
+        (map string_bytes scripts.now) (I.remaining input.old) (O.contents out.old) (O.contents out.new)) }
+{
+    match scripts_of(alloc, folder, scripts, input) {
+        Ok(scripts) => serve_file(alloc, folder, frames, name, scripts.as_slice(), out),
+        Err(refusal) => Err(Fault::Refused(refusal)),
+    }
+}

@@ -13,4 +13,6 @@ mod formats;
 #[cfg(test)]
 mod running;
 #[cfg(test)]
+mod runs;
+#[cfg(test)]
 mod used;

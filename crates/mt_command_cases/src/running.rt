@@ -15,9 +15,22 @@ pub fn leaves(
     out: &[u8],
     err: &[u8],
 ) -> bool {
+    leaves_from(alloc, folder, words, b"", status, out, err)
+}
+
+/// So with these bytes on its input.
+pub fn leaves_from(
+    alloc: Global,
+    folder: &mut MemFolder,
+    words: &[&str],
+    input: &[u8],
+    status: u8,
+    out: &[u8],
+    err: &[u8],
+) -> bool {
     let mut written = Vec::new(alloc);
     let mut told = Vec::new(alloc);
-    let mut input: &[u8] = b"";
+    let mut input = input;
     let ended = perform_words(alloc, words, folder, &mut input, &mut written, &mut told);
     ended == status && written.as_slice() == out && told.as_slice() == err
 }

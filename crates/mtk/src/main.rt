@@ -3,7 +3,7 @@
 
 use mt_cli::{DiskFolder, perform_words};
 use std::env;
-use std::io::{self, BufWriter};
+use std::io::{self, LineWriter};
 use std::process::ExitCode;
 
 /// Does what the command line asks for, with the standard streams and the files of the system.
@@ -16,7 +16,8 @@ fn main(rt: HostRuntime) -> io::Result<ExitCode> {
     }
     let mut folder = DiskFolder::new(&rt);
     let mut input = rt.reader();
-    let mut out = BufWriter::new(alloc, rt.stdout())?;
+    // each line is written out by itself, so that a commit is told of when it is durable
+    let mut out = LineWriter::new(alloc, rt.stdout())?;
     let mut err = rt.stderr();
     let status = perform_words(
         alloc,

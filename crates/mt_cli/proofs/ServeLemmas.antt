@@ -1,10 +1,6 @@
 -- Scripts that were served to a device, and to a file.
-use Rattle.std.proofs.Common.{◌≡◌, ◌≢◌, ◌∙◌, ◌+◌, inl, inr, ℕ, Bool, true, false, List, [], ◌∷◌, ◌++◌, length, take, Option, None, Result, Ok, Err, IfErr, IfOk, IsErrAnd, IsOk, OnOk, refl, sym, ap, subst}
-use Rattle.std.proofs.Props.{props}
+use Rattle.std.proofs.Common.{◌≡◌, ◌∙◌, ◌+◌, ℕ, true, false, List, length, take, Option, None, Result, Ok, Err, IfErr, IsErrAnd, IsOk, OnOk, refl, sym, ap, subst}
 use mathlib.Core.Logic.{∥∥₁_elim, ∥∥₁_map, ∥∥₁_prop}
-use Rattle.mt_base.specs.Limits.{IsRelationCount}
-use Rattle.mt_base.specs.declared.refusal.Refusal.{Refusal}
-use Rattle.mt_base.specs.declared.refusal.Refusal.TheVariants as refusal
 use Rattle.mt_disk.specs.declared.device.Device.{Ghosts}
 use Rattle.mt_live.specs.Machine.{State, start}
 use Rattle.mt_model.specs.History.{after}
@@ -13,7 +9,7 @@ use Rattle.mt_model.specs.declared.history.Committed.{Committed}
 use Rattle.mt_replay.specs.Stands.{CanRestart}
 use Rattle.mt_restart.specs.Resumed.{IsOpened}
 use Rattle.mt_txn.proofs.GoingOn.{all_booked}
-use Rattle.mt_txn.specs.Restarted.{FindsCommits, all_commits}
+use Rattle.mt_txn.specs.Restarted.{FindsCommits}
 use Rattle.mt_txn.specs.Shown.{Restarts, SameSchema, StaysRestarting}
 use Rattle.mt_txn.specs.declared.kernel.Kernel.{Kernel}
 use Rattle.mt_server.proofs.RunLemmas.{cut_ended}
@@ -24,13 +20,11 @@ use Rattle.mt_server.specs.Sessions.{AreCutShort, HasServed, HaveServed, HavePla
 use Rattle.mt_server.specs.declared.answers.Answer.{Answer}
 use Rattle.mt_server.specs.declared.lines.Line.{Line}
 use Rattle.mt_server.specs.declared.running.RunFault.{RunFault}
-use Rattle.mt_cli.proofs.DumpLemmas.{empty, no_member}
+use Rattle.mt_cli.proofs.DumpLemmas.{no_member}
 use Rattle.mt_cli.proofs.FolderLemmas.{kept_then, put_then}
 use Rattle.mt_cli.proofs.Trials.{ended_by, played}
-use Rattle.mt_cli.specs.Dumps.{StandAs}
 use Rattle.mt_cli.specs.Folders.{AreKept, Files, IsFileRefusal, IsHeld, IsLent, Puts}
-use Rattle.mt_cli.specs.Reads.{HaveBeenRead}
-use Rattle.mt_cli.specs.Serves.{AreShortOn, AreUnserved, HasNotRun, HaveServedOn, IsOnBase, IsServedIn, IsShortOf, IsShortWithin, unheard_session, short_session, IsUnservedIn, unserved, no_device, StandForSome, first_on, fault_of}
+use Rattle.mt_cli.specs.Serves.{AreShortOn, HaveServedOn, IsOnBase, IsServedIn, IsShortOf, IsShortWithin, unheard_session, short_session, IsUnservedIn, unserved, no_device, StandForSome, first_on, fault_of}
 use Rattle.mt_cli.specs.declared.faults.Fault.{Fault}
 
 module _ {D : Type 0} {g : Ghosts D} (seen : D → List ℕ) (may_leave : D → List ℕ → Type 0) where

@@ -16,17 +16,31 @@ use thiserror::Error;
 #[derive(Debug, Drop)]
 pub enum Command {
     /// Runs one script over a device in memory, from this file, or from standard input.
-    Try { script: Option<String> },
+    Try {
+        script: Option<String>,
+    },
     /// Runs a schedule of events over a device in memory, from this file, or from standard input.
-    Schedule { file: Option<String> },
+    Schedule {
+        file: Option<String>,
+    },
     /// Tells what the log of the device in this file holds, and has its pages inspected where that is asked for.
-    Check { file: String, pages: bool },
+    Check {
+        file: String,
+        pages: bool,
+    },
     /// Makes a device of a schema of these numbers in this file, or in its place.
-    Format { file: String, numbers: Numbers },
+    Format {
+        file: String,
+        numbers: Numbers,
+    },
     /// Opens the device in this file, and prints its base.
-    Dump { file: String },
+    Dump {
+        file: String,
+    },
     /// Tells the log of the device in this file as a history, and what a restart would do.
-    Explain { file: String },
+    Explain {
+        file: String,
+    },
     /// Opens the device in this file with so many frames, and serves the scripts of these names to it; `-` is standard
     /// input. At most so many workers serve at once: one does.
     Run {
@@ -36,7 +50,9 @@ pub enum Command {
         scripts: Vec<String>,
     },
     /// Prints this text: the help or the version.
-    Show { text: String },
+    Show {
+        text: String,
+    },
 }
 
 /// Why a command line names no command.
@@ -99,7 +115,12 @@ fn scheduling_parser<'a>(alloc: Global) -> Result<Parser<'a>, AllocError>
 }
 
 /// An argument that must be given.
-pub(crate) fn required<'a>(alloc: Global, id: &'a str, value_name: &'a str, help: &'a str) -> Arg<'a>
+pub(crate) fn required<'a>(
+    alloc: Global,
+    id: &'a str,
+    value_name: &'a str,
+    help: &'a str,
+) -> Arg<'a>
     ensures { IsRuledBy (required_rule id.now) result }
 {
     Arg::new(alloc, id)

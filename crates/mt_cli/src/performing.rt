@@ -297,8 +297,8 @@ fn do_command<F: Folder, I: Read, O: Write>(
 ///
 /// A script or a schedule is read whole before any of it runs, and all scripts of `run` before the first of them runs. A
 /// device is only read by `check` and `explain`, and where `format` is refused each file is as it was. A device that is
-/// opened by `dump` is written to, and stands for what it stood for. `run` serves one script after the other, and gives the
-/// device back to its file whatever came of that; each other file is as it was.
+/// opened by `dump` is written to, and stands for what it stood for. `run` serves one script after the other, and gives
+/// the device back to its file whatever came of that; each other file is as it was.
 pub fn perform<F: Folder, I: Read, O: Write, E: Write>(
     alloc: Global,
     command: &Command,

@@ -67,9 +67,9 @@ fn script_of<F: Folder, I: Read>(
     Ok(Script::new(lines))
 }
 
-/// The scripts of these names, read one after the other; `-` is standard input, of which the first of that name has all.
-/// The folder is as before. Refused for the first that is not read: by `NoMemory`; by `DeviceFailed` where there is no such
-/// file or it cannot be read; and by `BadLine` of its first line that is not in the grammar.
+/// The scripts of these names, read one after the other; `-` is standard input, of which the first of that name has
+/// all. The folder is as before. Refused for the first that is not read: by `NoMemory`; by `DeviceFailed` where there
+/// is no such file or it cannot be read; and by `BadLine` of its first line that is not in the grammar.
 pub(crate) fn scripts_of<F: Folder, I: Read>(
     alloc: Global,
     folder: &mut F,

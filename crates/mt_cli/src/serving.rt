@@ -100,11 +100,11 @@ fn serve_file<F: Folder, O: Write>(
 }
 
 /// Does `run`: reads all scripts, then opens the device in the file of this name with so many frames, and serves the
-/// scripts to it, one after the other. The device is back in its file then, whatever came of that, and each other file is
-/// as it was. Nothing is written to the output before the device is opened.
+/// scripts to it, one after the other. The device is back in its file then, whatever came of that, and each other file
+/// is as it was. Nothing is written to the output before the device is opened.
 ///
-/// Refused for the first script that is not read; by `BadLength` where there are more than 64 of them; for what keeps the
-/// device from being opened; and where a script does not run to its end, by `NoMemory` or `DeviceFailed`.
+/// Refused for the first script that is not read; by `BadLength` where there are more than 64 of them; for what keeps
+/// the device from being opened; and where a script does not run to its end, by `NoMemory` or `DeviceFailed`.
 pub(crate) fn perform_run<F: Folder, I: Read, O: Write>(
     alloc: Global,
     folder: &mut F,

@@ -1,6 +1,7 @@
 use crate::common::{device_of, kernel_over, put_away};
 use mt_base::Refusal;
-use mt_cli::{MemFolder, perform_words};
+use mt_cli::perform_words;
+use mt_folder::MemFolder;
 use mt_disk::FaultDevice;
 use mt_server::{RunFault, Script, ScriptFault, read_script, run_alone};
 use std::alloc::Global;

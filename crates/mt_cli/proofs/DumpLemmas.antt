@@ -35,9 +35,9 @@ use Rattle.mt_txn.specs.Shown.{Shows}
 use Rattle.mt_txn.specs.Surveyed.{TellsBase, TellsPages}
 use Rattle.mt_txn.specs.declared.kernel.Kernel.{Kernel}
 use Rattle.mt_cli.proofs.CheckLemmas.{cause_by}
-use Rattle.mt_cli.proofs.FolderLemmas.{held_known, lent_and_back}
+use Rattle.mt_folder.proofs.FolderLemmas.{held_known, lent_and_back}
 use Rattle.mt_cli.specs.Dumps.{AreLeft, DumpsOf, Dumps, IsBarred, IsEarly, IsUnopened, StandAs, StandsOn, TellsOfBase}
-use Rattle.mt_cli.specs.Folders.{Files, IsHeld, IsLent, IsUnmade, Puts, known_in}
+use Rattle.mt_folder.specs.Folders.{Files, IsHeld, IsLent, IsUnmade, Puts, known_in}
 
 -- ---- a kernel that was opened
 

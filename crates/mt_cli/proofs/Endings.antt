@@ -14,7 +14,7 @@ use Rattle.mt_cli.specs.Checks.{HasChecked}
 use Rattle.mt_cli.specs.Dumps.{HasDumped}
 use Rattle.mt_cli.specs.Explains.{HasExplained}
 use Rattle.mt_cli.specs.Events.{IsSchedule}
-use Rattle.mt_cli.specs.Folders.{Files}
+use Rattle.mt_folder.specs.Folders.{Files}
 use Rattle.mt_cli.specs.Serves.{HasRunScripts, HaveServedOn}
 use Rattle.mt_model.specs.Model.{Base}
 use Rattle.mt_server.specs.declared.lines.Line.{Line}

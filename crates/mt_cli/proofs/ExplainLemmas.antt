@@ -8,10 +8,10 @@ use Rattle.mt_log.specs.Holds.{HoldsBatches, places_from}
 use Rattle.mt_log.specs.Masters.{BreaksMaster, IsRuling, IsUnformatted, area_end, area_start}
 use Rattle.mt_log.specs.declared.batch.Batch.{Batch}
 use Rattle.mt_replay.specs.Refused.{BreaksLog, IsCause, in_master}
-use Rattle.mt_cli.proofs.FolderLemmas.{held_known}
+use Rattle.mt_folder.proofs.FolderLemmas.{held_known}
 use Rattle.mt_cli.specs.Checks.{IsUntold}
 use Rattle.mt_cli.specs.Explains.{AreBatchesIn, IsLogIn, IsLogOf}
-use Rattle.mt_cli.specs.Folders.{Files, IsHeld, known_in}
+use Rattle.mt_folder.specs.Folders.{Files, IsHeld, known_in}
 
 -- what a scan finds is what the area of its slot holds
 pub batches_in : {T E : Type 0} (items : T → List Batch) (seen : List ℕ) (slot : MasterSlot) (start end : ℕ) (r : Result T E) → IsRuling seen slot → start ≡ area_start slot → end ≡ area_end slot

@@ -4,7 +4,6 @@ pub mod CheckLemmas
 pub mod CommandLemmas
 pub mod DumpLemmas
 pub mod ExplainLemmas
-pub mod FolderLemmas
 pub mod ReadLemmas
 pub mod ServeLemmas
 pub mod SpellingLemmas

@@ -9,7 +9,7 @@ use Rattle.mt_server.specs.Scripts.{IsScript}
 use Rattle.mt_server.specs.Sessions.{lines_in}
 use Rattle.mt_server.specs.declared.reader.Script.{Script}
 use Rattle.mt_server.specs.declared.lines.Line.{Line}
-use Rattle.mt_cli.specs.Folders.{AreKept, Files, known_in}
+use Rattle.mt_folder.specs.Folders.{AreKept, Files, known_in}
 use Rattle.mt_cli.specs.Reads.{AreRead, AreUnread, IsReadAt, IsUnread, bytes_at, input_behind, is_input, none_read, one_read, source_of}
 
 -- the source of a name that is cut out of the choice

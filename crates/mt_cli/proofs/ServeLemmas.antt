@@ -21,9 +21,9 @@ use Rattle.mt_server.specs.declared.answers.Answer.{Answer}
 use Rattle.mt_server.specs.declared.lines.Line.{Line}
 use Rattle.mt_server.specs.declared.running.RunFault.{RunFault}
 use Rattle.mt_cli.proofs.DumpLemmas.{no_member}
-use Rattle.mt_cli.proofs.FolderLemmas.{kept_then, put_then}
+use Rattle.mt_folder.proofs.FolderLemmas.{kept_then, put_then}
 use Rattle.mt_cli.proofs.Trials.{ended_by, played}
-use Rattle.mt_cli.specs.Folders.{AreKept, Files, IsFileRefusal, IsHeld, IsLent, Puts}
+use Rattle.mt_folder.specs.Folders.{AreKept, Files, IsFileRefusal, IsHeld, IsLent, Puts}
 use Rattle.mt_cli.specs.Serves.{AreShortOn, HaveServedOn, IsOnBase, IsServedIn, IsShortOf, IsShortWithin, unheard_session, short_session, IsUnservedIn, unserved, no_device, StandForSome, first_on, fault_of}
 use Rattle.mt_cli.specs.declared.faults.Fault.{Fault}
 

@@ -16,7 +16,7 @@ use Rattle.mt_space.specs.Changes.{PageBytes}
 use Rattle.mt_steps.specs.Held.{Holds}
 use Rattle.mt_steps.specs.Plans.{IsGood}
 use Rattle.mt_cli.specs.Checks.{IsOf, number_line}
-use Rattle.mt_cli.specs.Folders.{AreKept, Files, IsFileRefusal, IsHeld, Puts}
+use Rattle.mt_folder.specs.Folders.{AreKept, Files, IsFileRefusal, IsHeld, Puts}
 use Rattle.mt_explain.specs.Listings.{counter_lines, row_line}
 use Rattle.mt_cli.specs.declared.faults.Fault.{Fault}
 use Rattle.mt_cli.specs.declared.faults.Fault.TheVariants.{Output, Refused}

@@ -3,7 +3,6 @@ pub mod CommandLines
 pub mod Dumps
 pub mod Events
 pub mod Explains
-pub mod Folders
 pub mod Formattings
 pub mod Performs
 pub mod Reads

@@ -25,7 +25,7 @@ use Rattle.mt_cli.specs.CommandLines.{IsCommandOf}
 use Rattle.mt_cli.specs.Dumps.{AreLeftBy, HasDumped, IsUndumped, StandsOn}
 use Rattle.mt_cli.specs.Explains.{HasExplained, IsUnexplained}
 use Rattle.mt_cli.specs.Events.{IsEvent, IsSchedule, event_text}
-use Rattle.mt_cli.specs.Folders.{AreKept, Files, IsUnmade, known_in}
+use Rattle.mt_folder.specs.Folders.{AreKept, Files, IsUnmade, known_in}
 use Rattle.mt_cli.specs.Formattings.{Formats, IsUnformed}
 use Rattle.mt_cli.specs.Reads.{IsUnread, source_of}
 use Rattle.mt_cli.specs.Serves.{HasNotRun, HasRunScripts, IsEndedBy, fault_of}

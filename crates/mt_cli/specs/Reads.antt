@@ -6,7 +6,7 @@ use Rattle.mt_server.specs.Grammars.{AreRefusedFor}
 use Rattle.mt_server.specs.Lines.{line_text, IsInGrammar}
 use Rattle.mt_server.specs.Scripts.{IsScript}
 use Rattle.mt_server.specs.declared.lines.Line.{Line}
-use Rattle.mt_cli.specs.Folders.{Files, known_in}
+use Rattle.mt_folder.specs.Folders.{Files, known_in}
 
 -- the bytes of a script or a schedule, where they are known: of the file of its name, or else of the input
 abbrev pub source_of : Files → Option (List ℕ) → Option (List ℕ) → Option (List ℕ)

@@ -16,7 +16,7 @@ use Rattle.mt_server.specs.declared.lines.Line.{Line}
 use Rattle.mt_server.specs.declared.running.RunFault.{RunFault}
 use Rattle.mt_server.specs.declared.running.RunFault.TheVariants as run
 use Rattle.mt_cli.specs.Dumps.{IsBarred, IsEarly, StandAs}
-use Rattle.mt_cli.specs.Folders.{AreKept, Files, IsFileRefusal, IsHeld, IsUnmade, Puts, known_in}
+use Rattle.mt_folder.specs.Folders.{AreKept, Files, IsFileRefusal, IsHeld, IsUnmade, Puts, known_in}
 use Rattle.mt_cli.specs.Reads.{AreUnread, HaveBeenRead}
 use Rattle.mt_cli.specs.declared.faults.Fault.{Fault}
 use Rattle.mt_cli.specs.declared.faults.Fault.TheVariants.{Output, Refused}

@@ -5,13 +5,13 @@ ghost use Rattle.std.specs.Io.KnownBytes.{Appends};
 ghost use Rattle.mt_replay.specs.Refused.{BreaksFormat, IsCause};
 ghost use Rattle.mt_server.specs.Answers.{AppendsFront};
 ghost use Rattle.mt_cli.specs.Checks.{HasChecked, IsRefusedFor, IsSurveyed, IsUnchecked, IsUntold, Tells, TellsOf, check_text, figure_line, pages_text, report_text};
-ghost use Rattle.mt_cli.specs.Folders.{AreKept, known_in};
+ghost use Rattle.mt_folder.specs.Folders.{AreKept, known_in};
 
 use crate::faults::Fault;
-use crate::folder::Folder;
 use crate::telling::write_number;
 use mt_base::Refusal;
 use mt_disk::Device;
+use mt_folder::Folder;
 use mt_restart::{Report, inspect, report};
 use mt_server::{Unheard, put};
 use std::alloc::Global;

@@ -8,14 +8,14 @@ ghost use Rattle.mt_model.specs.Views.{rows_of};
 ghost use Rattle.mt_restart.specs.Resumed.{IsOpened};
 ghost use Rattle.mt_server.specs.Answers.{AppendsFront};
 ghost use Rattle.mt_cli.specs.Dumps.{AreLeft, AreLeftBy, Dumps, DumpsOf, HasDumped, IsBarred, IsEarly, IsUndumped, IsUnopened, StandAs, StandsOn, TellsOfBase, dump_text, sizes_text};
-ghost use Rattle.mt_cli.specs.Folders.{IsUnmade, known_in};
+ghost use Rattle.mt_folder.specs.Folders.{IsUnmade, known_in};
 
 use crate::checking::write_figures;
 use crate::faults::Fault;
-use crate::folder::Folder;
 use mt_base::Refusal;
 use mt_disk::Device;
 use mt_explain::{write_counters, write_rows};
+use mt_folder::Folder;
 use mt_op::Survey;
 use mt_restart::open;
 use mt_server::Unheard;

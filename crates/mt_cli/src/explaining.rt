@@ -6,13 +6,13 @@ ghost use Rattle.mt_log.specs.Masters.{IsRuling, area_end, area_start};
 ghost use Rattle.mt_replay.specs.Refused.{BreaksLog, IsCause};
 ghost use Rattle.mt_cli.specs.Checks.{IsUntold};
 ghost use Rattle.mt_cli.specs.Explains.{AreBatchesIn, HasExplained, IsLogIn, IsLogOf, IsUnexplained, RecountsLog};
-ghost use Rattle.mt_cli.specs.Folders.{AreKept, known_in};
+ghost use Rattle.mt_folder.specs.Folders.{AreKept, known_in};
 
 use crate::faults::Fault;
-use crate::folder::Folder;
 use mt_base::Refusal;
 use mt_disk::Device;
 use mt_explain::{History, history_of, write_history};
+use mt_folder::Folder;
 use mt_frame::MasterSlot;
 use mt_log::{AreaPlace, Batch, ruling_slot, scan};
 use std::alloc::Global;

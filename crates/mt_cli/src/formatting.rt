@@ -1,11 +1,11 @@
 // `format`: a device that is made in a file.
 ghost use Rattle.std.specs.Prelude.{IfErr, IfOk, MatchOption, OnErr, OnOk};
-ghost use Rattle.mt_cli.specs.Folders.{AreKept, IsUnmade};
+ghost use Rattle.mt_folder.specs.Folders.{AreKept, IsUnmade};
 ghost use Rattle.mt_cli.specs.Formattings.{AreNarrow, AreWithin, Formats, IsSchemaOf, IsUnformed, IsUnmadeOf, PutsFormatted};
 
-use crate::folder::Folder;
 use crate::numbers::Numbers;
 use mt_base::Refusal;
+use mt_folder::Folder;
 use mt_restart::{Schema, format};
 use std::alloc::Global;
 

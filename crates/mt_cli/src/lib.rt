@@ -7,7 +7,6 @@ mod command;
 mod dumping;
 mod explaining;
 mod faults;
-mod folder;
 mod formatting;
 mod numbers;
 mod performing;
@@ -18,6 +17,5 @@ mod serving;
 mod telling;
 
 pub use command::{CliFault, Command, command_of};
-pub use folder::{DiskFolder, Folder, MemFolder};
 pub use numbers::Numbers;
 pub use performing::{perform, perform_words};

@@ -3,11 +3,11 @@ ghost use Rattle.std.specs.Prelude.{◌≡◌, Some, None, IfErr, IfOk, IfSome, 
 ghost use Rattle.mt_server.specs.Grammars.{AreLines};
 ghost use Rattle.mt_server.specs.Lines.{line_text, IsInGrammar};
 ghost use Rattle.mt_server.specs.Sessions.{lines_in};
-ghost use Rattle.mt_cli.specs.Folders.{AreKept};
+ghost use Rattle.mt_folder.specs.Folders.{AreKept};
 ghost use Rattle.mt_cli.specs.Reads.{AreUnread, HaveBeenRead, IsReadAt, IsUnread, bytes_at, is_input, source_of};
 
-use crate::folder::Folder;
 use mt_base::Refusal;
+use mt_folder::Folder;
 use mt_server::{Grammar, Script, ScriptFault, ScriptGrammar, read_lines};
 use std::alloc::Global;
 use std::io::Read;

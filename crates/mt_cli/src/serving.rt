@@ -7,10 +7,10 @@ ghost use Rattle.mt_server.specs.Sessions.{lines_in};
 ghost use Rattle.mt_cli.specs.Serves.{AreShortOn, AreUnserved, HasNotRun, HasRunScripts, HaveServedOn, IsServedIn, IsUnservedIn, ServesFrom, fault_of};
 
 use crate::faults::Fault;
-use crate::folder::Folder;
 use crate::reading::scripts_of;
 use mt_base::Refusal;
 use mt_disk::Device;
+use mt_folder::Folder;
 use mt_restart::open;
 use mt_server::{MAX_SESSIONS, RunFault, Script, run_sessions};
 use mt_txn::Kernel;

@@ -1,7 +1,7 @@
 // What is told of a device in a file, whole or damaged.
 use crate::running::{formatted, leaves};
 use mt_base::Refusal;
-use mt_cli::MemFolder;
+use mt_folder::MemFolder;
 use std::alloc::Global;
 use std::test::Fail;
 

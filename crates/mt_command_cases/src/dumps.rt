@@ -2,7 +2,7 @@
 use crate::running::{FORMAT, file, formatted, leaves};
 use crate::used::used;
 use mt_base::Refusal;
-use mt_cli::MemFolder;
+use mt_folder::MemFolder;
 use std::alloc::Global;
 use std::test::Fail;
 

@@ -2,7 +2,7 @@
 use crate::running::{file, leaves, writes};
 use crate::used::{added, used};
 use mt_base::Refusal;
-use mt_cli::MemFolder;
+use mt_folder::MemFolder;
 use std::alloc::Global;
 use std::test::Fail;
 

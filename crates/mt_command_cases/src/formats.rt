@@ -1,7 +1,7 @@
 // A device that is made in a file, or in the place of one.
 use crate::running::{FORMAT, file, leaves};
 use mt_base::Refusal;
-use mt_cli::MemFolder;
+use mt_folder::MemFolder;
 use std::alloc::Global;
 use std::test::Fail;
 

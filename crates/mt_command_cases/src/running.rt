@@ -1,6 +1,7 @@
 // Commands that are run over a folder in memory.
 use mt_base::Refusal;
-use mt_cli::{Folder, MemFolder, perform_words};
+use mt_cli::perform_words;
+use mt_folder::{Folder, MemFolder};
 use std::alloc::Global;
 
 /// The words of a format for the schema of the worked rows.

@@ -1,7 +1,7 @@
 // Scripts that are served to the device in a file, and what the file then stands for.
 use crate::running::{FORMAT, file, formatted, leaves, leaves_from};
 use mt_base::Refusal;
-use mt_cli::MemFolder;
+use mt_folder::MemFolder;
 use std::alloc::{AllocError, Global};
 use std::test::Fail;
 

@@ -1,7 +1,8 @@
 //! The program `mtk`: the command line, with the standard streams and the files of the system.
 #![tactic(auto)]
 
-use mt_cli::{DiskFolder, perform_words};
+use mt_cli::perform_words;
+use mt_folder::DiskFolder;
 use std::env;
 use std::io::{self, LineWriter};
 use std::process::ExitCode;

@@ -1,4 +1,4 @@
-use Rattle.mt_cli.proofs.FolderLemmas.{lent_and_back}
+use Rattle.mt_folder.proofs.FolderLemmas.{lent_and_back}
 use Rattle.mt_cli.proofs.checking.told_of_file.Goals as goal
 
 pub returns-clause-kept : goal.returns-clause-kept

@@ -1,5 +1,5 @@
 use Rattle.mt_cli.proofs.ExplainLemmas.{log_in, untold_in}
-use Rattle.mt_cli.proofs.FolderLemmas.{lent_and_back}
+use Rattle.mt_folder.proofs.FolderLemmas.{lent_and_back}
 use Rattle.mt_cli.proofs.explaining.log_of_file.Goals as goal
 
 pub returns-clause-log : goal.returns-clause-log

@@ -1,5 +1,5 @@
 use Rattle.std.proofs.lemmas.Result.{on_err_weaker, on_ok_weaker}
-use Rattle.mt_cli.proofs.FolderLemmas.{kept_then, put_then}
+use Rattle.mt_folder.proofs.FolderLemmas.{kept_then, put_then}
 use Rattle.mt_cli.proofs.formatting.put_formatted.Goals as goal
 
 pub returns-in-Ok-clause-put : goal.returns-in-Ok-clause-put

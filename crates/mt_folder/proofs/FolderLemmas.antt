@@ -1,12 +1,13 @@
 -- Files by name: what is found under a name, and what is known of a folder after a change.
-use Rattle.std.proofs.Common.{◌≡◌, ◌≢◌, ◌∙◌, ◌<◌, ◌++◌, ◌∷◌, [], ℕ, suc, zero, Bool, true, false, cond, List, Option, Some, None, bytes_eq, length, get_or, option_map, is_some, refl, ap, sym, subst, arith, nat_lt}
+use Rattle.std.proofs.Common.{◌≡◌, ◌≢◌, ◌∙◌, ◌<◌, ◌+◌, ◌++◌, ◌∷◌, [], ℕ, suc, zero, Bool, true, false, cond, List, Option, Some, None, bytes_eq, length, get_or, option_map, is_some, refl, ap, sym, subst, arith, nat_lt, inl, inr}
 use Rattle.std.specs.List.{find, position, position_or_len, slice_set}
 use Rattle.std.specs.Option.{option_or}
+use Rattle.std.proofs.lemmas.Bool.{cases_lt}
+use Rattle.std.proofs.lemmas.Bool.Decides.{nat_tests}
 use Rattle.std.proofs.lemmas.List.Folds.{find-append, find-set, find_past}
 use Rattle.std.proofs.lemmas.List.Quantifiers.{position-Some}
 use Rattle.std.proofs.lemmas.Slice.Eq.{bytes_eq-Decides}
-use Rattle.clap.proofs.RemoveLemmas.{find-none}
-use Rattle.mt_cli.specs.Folders.{AreKept, Files, Gives, IsHeld, IsLent, IsThere, Puts, file_of, known_in}
+use Rattle.mt_folder.specs.Folders.{AreKept, Files, Gives, IsHeld, IsLent, IsThere, Puts, file_of, known_in}
 
 File : Type 0
 File = List ℕ × List ℕ
@@ -14,6 +15,31 @@ File = List ℕ × List ℕ
 -- the name is the file's
 abbrev pub is_named : List ℕ → (List ℕ × List ℕ) → Bool
 is_named name f = bytes_eq f.0 name
+
+-- none is found where none has a place
+find_none : {X : Type 0} (p : X → Bool) (xs : List X) → position p xs ≡ None → find p xs ≡ None
+find_none p [] none = refl
+find_none p (x ∷ xs) none = go (p x) refl (λ rest. find_none p xs rest)
+  where
+    go : (t : Bool) → p x ≡ t → (position p xs ≡ None → find p xs ≡ None) → find p (x ∷ xs) ≡ None
+    go true e rec =
+        let t : nat_lt 0 (suc (length xs)) ≡ true = grind (arith, nat_tests) in
+        let shown : position p (x ∷ xs) ≡ cond (nat_lt 0 (suc (length xs))) (Some 0) None = rw e refl in
+        let bad : Some 0 ≡ None = sym (rw t at shown) ∙ none in
+        cc
+    go false e rec =
+        let n = position_or_len p xs in
+        elim (cases_lt n (length xs)) [
+          | inl under ↦
+              let t : nat_lt (1 + n) (suc (length xs)) ≡ true = grind (arith, nat_tests) in
+              let shown : position p (x ∷ xs) ≡ cond (nat_lt (1 + n) (suc (length xs))) (Some (1 + n)) None = rw e refl in
+              let bad : Some (1 + n) ≡ None = sym (rw t at shown) ∙ none in
+              cc
+          | inr over ↦
+              let t : nat_lt n (length xs) ≡ false = grind (arith, nat_tests) in
+              let rest : position p xs ≡ None = rw t refl in
+              rw e (rec rest)
+        ]
 
 -- the first that passes
 first_is : {X : Type 0} (p : X → Bool) (xs : List X) (i : ℕ) (x : X) → i < length xs → x ≡ get_or xs i x → p x ≡ true → ((k : ℕ) → k < i → p (get_or xs k x) ≡ false) → find p xs ≡ Some x
@@ -31,7 +57,7 @@ place_is p xs i at = go (nat_lt (position_or_len p xs) (length xs)) at
     go false e = absurd cc
 
 pub no_place : (name : List ℕ) (files : List (List ℕ × List ℕ)) → None ≡ position (is_named name) files → file_of name files ≡ None
-no_place name files none = ap (option_map (λ f. f.1)) (find-none (is_named name) files (sym none))
+no_place name files none = ap (option_map (λ f. f.1)) (find_none (is_named name) files (sym none))
 
 pub at_place : (name : List ℕ) (files : List (List ℕ × List ℕ)) (i : ℕ) (f : List ℕ × List ℕ) → Some i ≡ position (is_named name) files → f ≡ get_or files i f → file_of name files ≡ Some f.1
 at_place name files i f place at =
@@ -67,7 +93,7 @@ pub put_new : (name bytes : List ℕ) (files : List (List ℕ × List ℕ)) → 
 put_new name bytes files none =
     let same : bytes_eq name name ≡ true = (bytes_eq-Decides name name).1 refl in
     let last : find (is_named name) ((name, bytes) ∷ []) ≡ Some (name, bytes) = rw same refl in
-    ap (option_map (λ f. f.1)) (find-append (is_named name) files ((name, bytes) ∷ []) ∙ ap (λ o. option_or o (find (is_named name) ((name, bytes) ∷ []))) (find-none (is_named name) files (sym none)) ∙ last)
+    ap (option_map (λ f. f.1)) (find-append (is_named name) files ((name, bytes) ∷ []) ∙ ap (λ o. option_or o (find (is_named name) ((name, bytes) ∷ []))) (find_none (is_named name) files (sym none)) ∙ last)
 
 or_none : {X : Type 0} (o : Option X) → option_or o None ≡ o
 or_none None = refl

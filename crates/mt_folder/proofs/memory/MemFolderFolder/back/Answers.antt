@@ -1,5 +1,5 @@
-use Rattle.mt_cli.proofs.FolderLemmas.{gave, not_there}
-use Rattle.mt_cli.proofs.folder.MemFolderFolder.back.Goals as goal
+use Rattle.mt_folder.proofs.FolderLemmas.{gave, not_there}
+use Rattle.mt_folder.proofs.memory.MemFolderFolder.back.Goals as goal
 
 pub unreachable-requires : goal.unreachable-requires
 unreachable-requires c = not_there c.args.self.now.files.items c.args.name.now c.in-None.ensures c.requires

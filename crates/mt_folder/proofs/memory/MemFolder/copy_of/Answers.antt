@@ -1,6 +1,6 @@
 use Rattle.std.proofs.Common.{Some, inl, refl, sym, ap, ◌∙◌}
-use Rattle.mt_cli.proofs.FolderLemmas.{at_place, no_place}
-use Rattle.mt_cli.proofs.folder.MemFolder.copy_of.Goals as goal
+use Rattle.mt_folder.proofs.FolderLemmas.{at_place, no_place}
+use Rattle.mt_folder.proofs.memory.MemFolder.copy_of.Goals as goal
 
 pub returns-in_ok-copy-in-Some-clause-held : goal.returns-in_ok-copy-in-Some-clause-held
 returns-in_ok-copy-in-Some-clause-held c =

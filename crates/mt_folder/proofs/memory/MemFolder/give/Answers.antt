@@ -1,6 +1,6 @@
 use Rattle.std.proofs.Common.{ap}
 use Rattle.std.specs.List.{slice_set}
-use Rattle.mt_cli.proofs.folder.MemFolder.give.Goals as goal
+use Rattle.mt_folder.proofs.memory.MemFolder.give.Goals as goal
 
 pub returns : goal.returns
 returns c = record {

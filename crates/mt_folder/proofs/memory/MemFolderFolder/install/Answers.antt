@@ -1,6 +1,6 @@
 use Rattle.std.proofs.lemmas.Result.{on_ok_weaker}
-use Rattle.mt_cli.proofs.FolderLemmas.{added, gave}
-use Rattle.mt_cli.proofs.folder.MemFolderFolder.install.Goals as goal
+use Rattle.mt_folder.proofs.FolderLemmas.{added, gave}
+use Rattle.mt_folder.proofs.memory.MemFolderFolder.install.Goals as goal
 
 pub returns-in-Some-clause-put : goal.returns-in-Some-clause-put
 returns-in-Some-clause-put c = gave c.args.self.now.files.items _ c.in-Some.place c.args.name.now _ c.in-Some.ensures (rw c.into_bytes-bytes.ensures at c.give.ensures)

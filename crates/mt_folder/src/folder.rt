@@ -1,0 +1,62 @@
+// Files that a program reaches by name.
+use mt_base::Refusal;
+use mt_disk::Device;
+
+/// Where the program finds files by name: scripts that it reads whole, and devices.
+///
+/// The device in a file is lent by [`Folder::device`] and given [`Folder::back`]. A device that is to have a name is
+/// made beside the file of that name by [`Folder::make`], and then put in its place by [`Folder::install`] or let go by
+/// [`Folder::discard`].
+pub trait Folder {
+    ghost use Rattle.std.specs.Prelude.{◌≡◌, ℕ, List, Option, length, IfOk, IfErr, IfSome, OnOk, OnErr};
+    ghost use Rattle.mt_disk.specs.Disk.{Only};
+    ghost use Rattle.mt_folder.specs.Folders.{AreKept, IsFileRefusal, IsHeld, IsLent, IsThere, IsUnmade, Puts, known_in};
+
+    /// A device in a file.
+    type Device: Device + Drop;
+
+    /// What is held under each name, where that is known.
+    ghost files: { Self → Option (List ℕ → Option (List ℕ)) };
+
+    /// The bytes of the script of this name. Refused by `NoMemory`, and by `DeviceFailed` where
+    /// there is no such file or it cannot be read. The folder is as before.
+    fn script(&mut self, name: &str) -> Result<Vec<u8>, Refusal>
+        ensures held { IfOk result (λ bytes. IfSome (known_in (files self.old) name.now)
+            (λ held. bytes.items ≡ held)) }
+        ensures cause { IfErr result (IsFileRefusal (known_in (files self.old) name.now)) }
+        ensures kept { AreKept (files self.old) (files self.new) };
+
+    /// The device in the file of this name, with just its bytes, until it is given back; it is synced. Refused by
+    /// `NoMemory`, and by `DeviceFailed` where there is no such file or it cannot be opened to be read and written; the
+    /// folder is then as before.
+    fn device(&mut self, name: &str) -> Result<Self::Device, Refusal>
+        ensures held { IfOk result (λ device. IsHeld (files self.old) name.now (Self.Device.seen device)) }
+        ensures settled { IfOk result (λ device. Only (Self.Device.seen device) (Self.Device.may_leave device)) }
+        ensures cause { IfErr result (IsFileRefusal (known_in (files self.old) name.now)) }
+        ensures lent { OnOk result (IsLent (files self.old) (files self.new) name.now) }
+        ensures err { OnErr result (AreKept (files self.old) (files self.new)) };
+
+    /// Takes a device back that was lent of this name: the file has the device's bytes.
+    fn back(&mut self, name: &str, device: Self::Device)
+        requires { IsThere (files self.old) name.now }
+        ensures { Puts (files self.old) (files self.new) name.now (Self.Device.seen device) };
+
+    /// A device of so many bytes, made beside the file of this name, if there is one. Refused by `NoMemory`, and by
+    /// `DeviceFailed` where it cannot be made. The folder is as before.
+    fn make(&mut self, name: &str, len: u64) -> Result<Self::Device, Refusal>
+        ensures long { IfOk result (λ device. length (Self.Device.seen device) ≡ len) }
+        ensures why { IfErr result IsUnmade }
+        ensures kept { AreKept (files self.old) (files self.new) };
+
+    /// Puts a device that was made for this name in its place: the file has the device's bytes, and what it had before
+    /// is gone. Refused by `NoMemory`, and by `DeviceFailed` where the name cannot be given; the device is then let go,
+    /// and the folder as before.
+    fn install(&mut self, name: &str, device: Self::Device) -> Result<(), Refusal>
+        ensures put { OnOk result (Puts (files self.old) (files self.new) name.now (Self.Device.seen device)) }
+        ensures why { IfErr result IsUnmade }
+        ensures err { OnErr result (AreKept (files self.old) (files self.new)) };
+
+    /// Lets a device go that was made for this name. The folder is as before.
+    fn discard(&mut self, name: &str, device: Self::Device)
+        ensures { AreKept (files self.old) (files self.new) };
+}

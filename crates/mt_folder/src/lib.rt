@@ -1,0 +1,12 @@
+//! Files that a program reaches by name: scripts, which it reads whole, and devices, which are lent to it and given
+//! back. A program that takes a [`Folder`] runs over the system's files, [`DiskFolder`], and in tests over memory,
+//! [`MemFolder`].
+#![tactic(auto)]
+
+mod folder;
+mod memory;
+mod system;
+
+pub use folder::Folder;
+pub use memory::MemFolder;
+pub use system::DiskFolder;

@@ -1,0 +1,89 @@
+// The files of the system.
+ghost use Rattle.std.specs.Prelude.{◌≡◌};
+
+use crate::folder::Folder;
+use mt_base::Refusal;
+use mt_disk::FileDevice;
+use std::alloc::{AllocError, Global};
+use std::fs;
+use std::rt::Files;
+
+/// The files of the system, by their paths.
+///
+/// A device is made in a file beside the one that it is to replace, whose name has `.mtk-new` behind it, and renamed
+/// once it is installed: a format that fails or is cut off leaves an older file of that name as it was.
+#[derive(Drop)]
+pub struct DiskFolder<'a, R> {
+    rt: &'a R,
+}
+
+/// What is added to a file's name for the one that is made beside it.
+const BESIDE: &str = ".mtk-new";
+
+/// The name of the file that is made beside the one of this name.
+fn beside(alloc: Global, name: &str) -> Result<String, AllocError> {
+    let mut beside = String::from_str(alloc, name)?;
+    beside.push_str(BESIDE)?;
+    Ok(beside)
+}
+
+/// Removes a file that could not be given its name, as far as that goes, and tells that the device failed.
+fn given_up<R: Files>(rt: &R, path: &str) -> Refusal
+    ensures { result ≡ Refusal.DeviceFailed }
+{
+    let _ = fs::remove_file(rt, path);
+    Refusal::DeviceFailed
+}
+
+impl<'a, R> DiskFolder<'a, R> {
+    /// The files that this runtime reaches.
+    pub fn new(rt: &'a R) -> DiskFolder<'a, R> {
+        DiskFolder { rt }
+    }
+}
+
+impl<R: Files + AllocGlobal> Folder for DiskFolder<'_, R> {
+    ghost use Rattle.std.specs.Prelude.{None};
+
+    type Device = FileDevice<R::File>;
+
+    ghost files = { λ _. None };
+
+    fn script(&mut self, name: &str) -> Result<Vec<u8>, Refusal> {
+        match fs::read(self.rt, name) {
+            Ok(bytes) => Ok(bytes),
+            Err(_) => Err(Refusal::DeviceFailed),
+        }
+    }
+
+    fn device(&mut self, name: &str) -> Result<FileDevice<R::File>, Refusal> {
+        FileDevice::open(self.rt, name)
+    }
+
+    fn back(&mut self, _name: &str, _device: FileDevice<R::File>) {}
+
+    fn make(&mut self, name: &str, len: u64) -> Result<FileDevice<R::File>, Refusal> {
+        let beside = beside(self.rt.alloc(), name)?;
+        match FileDevice::make(self.rt, beside.as_str(), len) {
+            Ok(device) => Ok(device),
+            Err(refusal) => {
+                let _ = fs::remove_file(self.rt, beside.as_str());
+                Err(refusal)
+            }
+        }
+    }
+
+    fn install(&mut self, name: &str, _device: FileDevice<R::File>) -> Result<(), Refusal> {
+        let beside = beside(self.rt.alloc(), name)?;
+        match fs::rename(self.rt, beside.as_str(), name) {
+            Ok(()) => Ok(()),
+            Err(_) => Err(given_up(self.rt, beside.as_str())),
+        }
+    }
+
+    fn discard(&mut self, name: &str, _device: FileDevice<R::File>) {
+        if let Ok(beside) = beside(self.rt.alloc(), name) {
+            let _ = fs::remove_file(self.rt, beside.as_str());
+        }
+    }
+}

@@ -1,9 +1,10 @@
 use crate::common::{device_of, kernel_over, put_away};
 use mt_base::Refusal;
 use mt_cli::perform_words;
-use mt_folder::MemFolder;
 use mt_disk::FaultDevice;
-use mt_server::{RunFault, Script, ScriptFault, read_script, run_alone};
+use mt_folder::MemFolder;
+use mt_script::{Script, ScriptFault, read_script};
+use mt_server::{RunFault, run_alone};
 use std::alloc::Global;
 use std::io::{self, ErrorKind, Read, Write};
 use std::process::Abort;

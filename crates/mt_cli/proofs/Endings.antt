@@ -3,10 +3,10 @@ use Rattle.std.proofs.Common.{◌≡◌, ◌∙◌, Bool, ℕ, List, Option, Non
 use Rattle.std.specs.Result.{MatchResult, IfErr, OnOk}
 use Rattle.std.specs.Io.KnownBytes.{Keeps}
 use Rattle.mt_disk.specs.declared.device.Device.{Ghosts}
-use Rattle.mt_server.specs.Answers.{AppendsFront}
-use Rattle.mt_server.proofs.TextLemmas.{appends_kept}
-use Rattle.mt_cli.specs.declared.command.Command.{Command}
-use Rattle.mt_cli.specs.declared.command.Command.TheVariants.{Try, Schedule, Check, Format, Dump, Explain, Run, Show}
+use Rattle.mt_script.specs.Answers.{AppendsFront}
+use Rattle.mt_script.proofs.TextLemmas.{appends_kept}
+use Rattle.mt_args.specs.declared.command.Command.{Command}
+use Rattle.mt_args.specs.declared.command.Command.TheVariants.{Try, Schedule, Check, Format, Dump, Explain, Run, Show}
 use Rattle.mt_cli.specs.declared.faults.Fault.{Fault}
 use Rattle.mt_cli.specs.declared.faults.Fault.TheVariants.{Output}
 use Rattle.mt_cli.specs.Performs.{Around, HaveRun, IsDone, IsGivenUp, IsScheduled, IsTried, IsUndone, IsUnscheduled, fault_line, unheard}
@@ -17,7 +17,7 @@ use Rattle.mt_cli.specs.Events.{IsSchedule}
 use Rattle.mt_folder.specs.Folders.{Files}
 use Rattle.mt_cli.specs.Serves.{HasRunScripts, HaveServedOn}
 use Rattle.mt_model.specs.Model.{Base}
-use Rattle.mt_server.specs.declared.lines.Line.{Line}
+use Rattle.mt_script.specs.declared.lines.Line.{Line}
 use Rattle.mt_cli.specs.Tellings.{told_lines}
 use Rattle.mt_world.specs.declared.events.Answer.{Answer as Told}
 use Rattle.mt_world.specs.declared.events.Event.{Event}

@@ -3,9 +3,9 @@ use Rattle.std.proofs.Common.{arith, ◌≡◌, ◌≢◌, ◌<◌, ◌^◌, ℕ
 use Rattle.std.specs.Fmt.{decimal}
 use Rattle.std.proofs.lemmas.Fmt.{decimal_injective}
 use Rattle.mt_model.specs.declared.operations.Op.{Op}
-use Rattle.mt_server.specs.Lines.{IsSpelled, IsUnspaced, op_text}
-use Rattle.mt_server.specs.Whole.{is_without, lacks}
-use Rattle.mt_server.proofs.LineLemmas.{cut_within, same_cut}
+use Rattle.mt_script.specs.Lines.{IsSpelled, IsUnspaced, op_text}
+use Rattle.mt_script.specs.Whole.{is_without, lacks}
+use Rattle.mt_script.proofs.LineLemmas.{cut_within, same_cut}
 use Rattle.mt_world.specs.declared.events.Event.{Event}
 use Rattle.mt_world.specs.declared.events.Event.TheVariants.{Begin, Call, Step, Commit, AbortBegin, AbortStep, Force, Flush, Rotate}
 use Rattle.mt_cli.specs.Events.{SpellsEvent, event_text}

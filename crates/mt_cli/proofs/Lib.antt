@@ -1,10 +1,8 @@
 pub mod Endings
 pub mod EventLemmas
 pub mod CheckLemmas
-pub mod CommandLemmas
 pub mod DumpLemmas
 pub mod ExplainLemmas
 pub mod ReadLemmas
 pub mod ServeLemmas
-pub mod SpellingLemmas
 pub mod Trials

@@ -4,11 +4,11 @@ use Rattle.std.proofs.Math.Seq.{drop-cons}
 use Rattle.std.proofs.lemmas.List.{map-append, map_more}
 use Rattle.mt_base.specs.declared.refusal.Refusal.{Refusal}
 use Rattle.mt_base.specs.declared.refusal.Refusal.TheVariants as refusal
-use Rattle.mt_server.specs.Lines.{line_text, IsInGrammar}
-use Rattle.mt_server.specs.Scripts.{IsScript}
+use Rattle.mt_script.specs.Lines.{line_text, IsInGrammar}
+use Rattle.mt_script.specs.Scripts.{IsScript}
 use Rattle.mt_server.specs.Sessions.{lines_in}
-use Rattle.mt_server.specs.declared.reader.Script.{Script}
-use Rattle.mt_server.specs.declared.lines.Line.{Line}
+use Rattle.mt_script.specs.declared.reader.Script.{Script}
+use Rattle.mt_script.specs.declared.lines.Line.{Line}
 use Rattle.mt_folder.specs.Folders.{AreKept, Files, known_in}
 use Rattle.mt_cli.specs.Reads.{AreRead, AreUnread, IsReadAt, IsUnread, bytes_at, input_behind, is_input, none_read, one_read, source_of}
 

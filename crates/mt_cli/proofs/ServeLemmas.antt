@@ -17,8 +17,8 @@ use Rattle.mt_server.specs.Driven.{IsBeside}
 use Rattle.mt_server.specs.Plays.{Play}
 use Rattle.mt_server.specs.Runs.{IsCutShort}
 use Rattle.mt_server.specs.Sessions.{AreCutShort, HasServed, HaveServed, HavePlayed, IsCutWithin, unheard_line, cut_script, Serves, no_script, then_script, in_session}
-use Rattle.mt_server.specs.declared.answers.Answer.{Answer}
-use Rattle.mt_server.specs.declared.lines.Line.{Line}
+use Rattle.mt_script.specs.declared.answers.Answer.{Answer}
+use Rattle.mt_script.specs.declared.lines.Line.{Line}
 use Rattle.mt_server.specs.declared.running.RunFault.{RunFault}
 use Rattle.mt_cli.proofs.DumpLemmas.{no_member}
 use Rattle.mt_folder.proofs.FolderLemmas.{kept_then, put_then}

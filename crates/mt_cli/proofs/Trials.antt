@@ -13,8 +13,8 @@ use Rattle.mt_txn.specs.Shown.{Shows}
 use Rattle.mt_txn.specs.declared.kernel.Kernel.{Kernel}
 use Rattle.mt_restart.specs.Schemas.{counters_in, relations_in, schema_base}
 use Rattle.mt_restart.specs.declared.schema.Schema.{Schema}
-use Rattle.mt_server.specs.declared.lines.Line.{Line}
-use Rattle.mt_server.specs.declared.answers.Answer.{Answer}
+use Rattle.mt_script.specs.declared.lines.Line.{Line}
+use Rattle.mt_script.specs.declared.answers.Answer.{Answer}
 use Rattle.mt_server.specs.declared.running.RunFault.{RunFault}
 use Rattle.mt_server.specs.declared.running.RunFault.TheVariants as run
 use Rattle.mt_server.specs.Driven.{IsBeside}

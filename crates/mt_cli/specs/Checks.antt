@@ -10,7 +10,7 @@ use Rattle.mt_replay.specs.Refused.{BreaksFormat, BreaksLog, IsCause}
 use Rattle.mt_restart.specs.Inspected.{IsInspected}
 use Rattle.mt_restart.specs.Reported.{IsReport}
 use Rattle.mt_restart.specs.declared.told.Report.{Report}
-use Rattle.mt_server.specs.Answers.{AppendsFront}
+use Rattle.mt_script.specs.Answers.{AppendsFront}
 use Rattle.mt_folder.specs.Folders.{IsFileRefusal}
 use Rattle.mt_cli.specs.declared.faults.Fault.{Fault}
 use Rattle.mt_cli.specs.declared.faults.Fault.TheVariants.{Output, Refused}

@@ -1,8 +1,8 @@
 -- The lines of a schedule, as bytes: an event each.
 use Rattle.std.specs.Prelude.{ℕ, ◌<◌, ◌^◌, List, ◌∷◌, ◌++◌, Option, codes, ⊤}
 use Rattle.std.specs.Fmt.{decimal}
-use Rattle.mt_server.specs.Grammars.{AreLines, ReadsIn, SpellsIn}
-use Rattle.mt_server.specs.Lines.{IsSpelled, op_text}
+use Rattle.mt_script.specs.Grammars.{AreLines, ReadsIn, SpellsIn}
+use Rattle.mt_script.specs.Lines.{IsSpelled, op_text}
 use Rattle.mt_world.specs.declared.events.Event.{Event}
 use Rattle.mt_world.specs.declared.events.Event.TheVariants.{Begin, Call, Step, Commit, AbortBegin, AbortStep, Force, Flush, Rotate}
 

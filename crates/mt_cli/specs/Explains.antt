@@ -8,7 +8,7 @@ use Rattle.mt_log.specs.Holds.{places_from}
 use Rattle.mt_log.specs.Masters.{area_start}
 use Rattle.mt_log.specs.declared.batch.Batch.{Batch}
 use Rattle.mt_replay.specs.Stands.{HasArea}
-use Rattle.mt_server.specs.Answers.{AppendsFront}
+use Rattle.mt_script.specs.Answers.{AppendsFront}
 use Rattle.mt_cli.specs.Checks.{IsOf, IsUntold}
 use Rattle.mt_explain.specs.Explanations.{explained}
 use Rattle.mt_explain.specs.Histories.{Recounts}

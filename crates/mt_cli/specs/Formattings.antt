@@ -8,7 +8,7 @@ use Rattle.mt_restart.specs.Schemas.{counters_in, mib_in, pages_in, relations_in
 use Rattle.mt_restart.specs.Within.{IsWithinLimits}
 use Rattle.mt_restart.specs.declared.schema.Schema.{Schema}
 use Rattle.mt_folder.specs.Folders.{Files, Puts}
-use Rattle.mt_cli.specs.declared.numbers.Numbers.{Numbers}
+use Rattle.mt_args.specs.declared.numbers.Numbers.{Numbers}
 
 -- they lie within the limits
 abbrev pub AreWithin : Numbers → Type 0

@@ -1,5 +1,4 @@
 pub mod Checks
-pub mod CommandLines
 pub mod Dumps
 pub mod Events
 pub mod Explains
@@ -7,6 +6,5 @@ pub mod Formattings
 pub mod Performs
 pub mod Reads
 pub mod Serves
-pub mod Spelling
 pub mod Tellings
 pub mod WholeEvents

@@ -8,20 +8,20 @@ use Rattle.mt_model.specs.Views.{rows_of}
 use Rattle.mt_txn.specs.declared.kernel.Kernel.{Kernel}
 use Rattle.mt_restart.specs.Schemas.{counters_in, device_bytes, relations_in, schema_base}
 use Rattle.mt_restart.specs.declared.schema.Schema.{Schema}
-use Rattle.mt_server.specs.declared.answers.Answer.{Answer}
-use Rattle.mt_server.specs.declared.lines.Line.{Line}
-use Rattle.mt_server.specs.declared.answers.Answer.TheVariants.{Refused as RefusedLine}
-use Rattle.mt_cli.specs.declared.command.Command.{Command}
-use Rattle.mt_cli.specs.declared.command.Command.TheVariants.{Try, Schedule, Check, Format, Dump, Explain, Run, Show}
-use Rattle.mt_cli.specs.declared.numbers.Numbers.{Numbers}
+use Rattle.mt_script.specs.declared.answers.Answer.{Answer}
+use Rattle.mt_script.specs.declared.lines.Line.{Line}
+use Rattle.mt_script.specs.declared.answers.Answer.TheVariants.{Refused as RefusedLine}
+use Rattle.mt_args.specs.declared.command.Command.{Command}
+use Rattle.mt_args.specs.declared.command.Command.TheVariants.{Try, Schedule, Check, Format, Dump, Explain, Run, Show}
+use Rattle.mt_args.specs.declared.numbers.Numbers.{Numbers}
 use Rattle.mt_cli.specs.declared.faults.Fault.{Fault}
 use Rattle.mt_cli.specs.declared.faults.Fault.TheVariants.{Output, Refused}
 use Rattle.mt_server.specs.declared.running.RunFault.{RunFault}
-use Rattle.mt_server.specs.Answers.{AppendsFront, answer_text, transcript_text}
+use Rattle.mt_script.specs.Answers.{AppendsFront, answer_text, transcript_text}
 use Rattle.mt_server.specs.Driven.{IsBeside}
 use Rattle.mt_server.specs.Plays.{Play, HasPlayed}
 use Rattle.mt_cli.specs.Checks.{HasChecked, IsUnchecked}
-use Rattle.mt_cli.specs.CommandLines.{IsCommandOf}
+use Rattle.mt_args.specs.CommandLines.{IsCommandOf}
 use Rattle.mt_cli.specs.Dumps.{AreLeftBy, HasDumped, IsUndumped, StandsOn}
 use Rattle.mt_cli.specs.Explains.{HasExplained, IsUnexplained}
 use Rattle.mt_cli.specs.Events.{IsEvent, IsSchedule, event_text}
@@ -30,8 +30,8 @@ use Rattle.mt_cli.specs.Formattings.{Formats, IsUnformed}
 use Rattle.mt_cli.specs.Reads.{IsUnread, source_of}
 use Rattle.mt_cli.specs.Serves.{HasNotRun, HasRunScripts, IsEndedBy, fault_of}
 use Rattle.mt_cli.specs.Tellings.{told_lines}
-use Rattle.mt_server.specs.Lines.{line_text, IsInGrammar}
-use Rattle.mt_server.specs.Scripts.{IsScript}
+use Rattle.mt_script.specs.Lines.{line_text, IsInGrammar}
+use Rattle.mt_script.specs.Scripts.{IsScript}
 use Rattle.mt_server.specs.Runs.{IsToldFor, last_line}
 use Rattle.mt_world.specs.Schedules.{HasRunTo}
 use Rattle.mt_world.specs.declared.events.Answer.{Answer as Told}

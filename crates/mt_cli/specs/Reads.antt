@@ -2,10 +2,10 @@
 use Rattle.std.specs.Prelude.{ℕ, ◌≡◌, ◌⊎◌, Bool, cond, false, List, [], ◌∷◌, ◌++◌, Option, Some, None, IfSome, bytes_eq, codes}
 use Rattle.mt_base.specs.declared.refusal.Refusal.{Refusal}
 use Rattle.mt_base.specs.declared.refusal.Refusal.TheVariants as refusal
-use Rattle.mt_server.specs.Grammars.{AreRefusedFor}
-use Rattle.mt_server.specs.Lines.{line_text, IsInGrammar}
-use Rattle.mt_server.specs.Scripts.{IsScript}
-use Rattle.mt_server.specs.declared.lines.Line.{Line}
+use Rattle.mt_script.specs.Grammars.{AreRefusedFor}
+use Rattle.mt_script.specs.Lines.{line_text, IsInGrammar}
+use Rattle.mt_script.specs.Scripts.{IsScript}
+use Rattle.mt_script.specs.declared.lines.Line.{Line}
 use Rattle.mt_folder.specs.Folders.{Files, known_in}
 
 -- the bytes of a script or a schedule, where they are known: of the file of its name, or else of the input

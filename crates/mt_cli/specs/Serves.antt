@@ -7,12 +7,12 @@ use Rattle.mt_model.specs.History.{after}
 use Rattle.mt_model.specs.Model.{Base}
 use Rattle.mt_model.specs.declared.history.Committed.{Committed}
 use Rattle.mt_replay.specs.Stands.{CanRestart}
-use Rattle.mt_server.specs.Answers.{AppendsFront}
+use Rattle.mt_script.specs.Answers.{AppendsFront}
 use Rattle.mt_server.specs.Plays.{Play, HasPlayed}
 use Rattle.mt_server.specs.Runs.{IsToldFor}
 use Rattle.mt_server.specs.Sessions.{HavePlayed, in_session, session_line, sessions_text}
-use Rattle.mt_server.specs.declared.answers.Answer.{Answer}
-use Rattle.mt_server.specs.declared.lines.Line.{Line}
+use Rattle.mt_script.specs.declared.answers.Answer.{Answer}
+use Rattle.mt_script.specs.declared.lines.Line.{Line}
 use Rattle.mt_server.specs.declared.running.RunFault.{RunFault}
 use Rattle.mt_server.specs.declared.running.RunFault.TheVariants as run
 use Rattle.mt_cli.specs.Dumps.{IsBarred, IsEarly, StandAs}

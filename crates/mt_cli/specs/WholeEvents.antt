@@ -2,8 +2,8 @@
 use Rattle.std.specs.Prelude.{◌∷◌, ◌++◌, codes}
 use Rattle.std.specs.Fmt.{decimal}
 use Rattle.std.proofs.Common.{arith, refl}
-use Rattle.mt_server.specs.Lines.{op_text}
-use Rattle.mt_server.specs.Whole.{IsWhole, decimal_whole, is_without, op_whole, spaced}
+use Rattle.mt_script.specs.Lines.{op_text}
+use Rattle.mt_script.specs.Whole.{IsWhole, decimal_whole, is_without, op_whole, spaced}
 use Rattle.mt_world.specs.declared.events.Event.{Event}
 use Rattle.mt_world.specs.declared.events.Event.TheVariants.{Begin, Call, Step, Commit, AbortBegin, AbortStep, Force, Flush, Rotate}
 use Rattle.mt_cli.specs.Events.{IsEvent, event_text}

@@ -3,7 +3,7 @@ ghost use Rattle.std.specs.Prelude.{◌≡◌, IfErr, IfOk, OnErr, OnOk, map};
 ghost use Rattle.std.specs.List.{concat};
 ghost use Rattle.std.specs.Io.KnownBytes.{Appends};
 ghost use Rattle.mt_replay.specs.Refused.{BreaksFormat, IsCause};
-ghost use Rattle.mt_server.specs.Answers.{AppendsFront};
+ghost use Rattle.mt_script.specs.Answers.{AppendsFront};
 ghost use Rattle.mt_cli.specs.Checks.{HasChecked, IsRefusedFor, IsSurveyed, IsUnchecked, IsUntold, Tells, TellsOf, check_text, figure_line, pages_text, report_text};
 ghost use Rattle.mt_folder.specs.Folders.{AreKept, known_in};
 
@@ -13,7 +13,7 @@ use mt_base::Refusal;
 use mt_disk::Device;
 use mt_folder::Folder;
 use mt_restart::{Report, inspect, report};
-use mt_server::{Unheard, put};
+use mt_script::{Unheard, put};
 use std::alloc::Global;
 use std::io::Write;
 

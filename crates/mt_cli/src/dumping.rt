@@ -6,7 +6,7 @@ ghost use Rattle.mt_model.specs.Model.{Base};
 ghost use Rattle.mt_model.specs.Rows.{IsOrdered};
 ghost use Rattle.mt_model.specs.Views.{rows_of};
 ghost use Rattle.mt_restart.specs.Resumed.{IsOpened};
-ghost use Rattle.mt_server.specs.Answers.{AppendsFront};
+ghost use Rattle.mt_script.specs.Answers.{AppendsFront};
 ghost use Rattle.mt_cli.specs.Dumps.{AreLeft, AreLeftBy, Dumps, DumpsOf, HasDumped, IsBarred, IsEarly, IsUndumped, IsUnopened, StandAs, StandsOn, TellsOfBase, dump_text, sizes_text};
 ghost use Rattle.mt_folder.specs.Folders.{IsUnmade, known_in};
 
@@ -18,7 +18,7 @@ use mt_explain::{write_counters, write_rows};
 use mt_folder::Folder;
 use mt_op::Survey;
 use mt_restart::open;
-use mt_server::Unheard;
+use mt_script::Unheard;
 use mt_txn::Kernel;
 use std::alloc::Global;
 use std::io::Write;

@@ -1,9 +1,9 @@
 // Why a command did not end well, and what is told of it.
-ghost use Rattle.mt_server.specs.Answers.{AppendsFront};
+ghost use Rattle.mt_script.specs.Answers.{AppendsFront};
 ghost use Rattle.mt_cli.specs.Performs.{fault_line};
 
 use mt_base::Refusal;
-use mt_server::{Answer, put, write_answer};
+use mt_script::{Answer, put, write_answer};
 use std::io::Write;
 
 /// Why a command did not end well.

@@ -3,7 +3,7 @@ ghost use Rattle.std.specs.Prelude.{IfErr, IfOk, MatchOption, OnErr, OnOk};
 ghost use Rattle.mt_folder.specs.Folders.{AreKept, IsUnmade};
 ghost use Rattle.mt_cli.specs.Formattings.{AreNarrow, AreWithin, Formats, IsSchemaOf, IsUnformed, IsUnmadeOf, PutsFormatted};
 
-use crate::numbers::Numbers;
+use mt_args::Numbers;
 use mt_base::Refusal;
 use mt_folder::Folder;
 use mt_restart::{Schema, format};

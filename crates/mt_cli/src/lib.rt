@@ -3,19 +3,14 @@
 #![tactic(auto)]
 
 mod checking;
-mod command;
 mod dumping;
 mod explaining;
 mod faults;
 mod formatting;
-mod numbers;
 mod performing;
 mod reading;
-mod run_words;
 mod schedules;
 mod serving;
 mod telling;
 
-pub use command::{CliFault, Command, command_of};
-pub use numbers::Numbers;
 pub use performing::{perform, perform_words};

@@ -1,8 +1,8 @@
 // The commands, done.
 ghost use Rattle.std.specs.Prelude.{◌≡◌, ◌≢◌, ◌≤◌, IfOk, IfErr, IfSome, IsOk, MatchResult, OnOk, OnErr, length, map, option_map};
 ghost use Rattle.mt_disk.specs.Memory.{content};
-ghost use Rattle.mt_server.specs.Answers.{AppendsFront};
-ghost use Rattle.mt_cli.specs.CommandLines.{IsMistaken};
+ghost use Rattle.mt_script.specs.Answers.{AppendsFront};
+ghost use Rattle.mt_args.specs.CommandLines.{IsMistaken};
 ghost use Rattle.mt_folder.specs.Folders.{AreKept, IsUnmade};
 ghost use Rattle.mt_cli.specs.declared.faults.Fault.{Fault};
 ghost use Rattle.mt_cli.specs.Performs.{IsFirstSchema, StandsFirst, HasTried, HaveRun, IsTried, IsScheduled, IsCutTrial, IsUntried, IsUnscheduled, IsDone, IsUndone, IsWordsDone, IsGivenUp, IsWordsGivenUp, IsTold, Around, fault_line};
@@ -10,7 +10,6 @@ ghost use Rattle.mt_cli.specs.Reads.{source_of};
 ghost use Rattle.std.specs.Io.KnownBytes.{Appends, Keeps};
 
 use crate::checking::perform_check;
-use crate::command::{CliFault, Command, command_of};
 use crate::dumping::perform_dump;
 use crate::explaining::perform_explain;
 use crate::faults::{Fault, tell};
@@ -19,12 +18,14 @@ use crate::reading::lines_of;
 use crate::schedules::ScheduleGrammar;
 use crate::serving::perform_run;
 use crate::telling::write_all_told;
+use mt_args::{CliFault, Command, command_of};
 use mt_base::Refusal;
 use mt_base::limits::device_bytes;
 use mt_disk::{Device, MemDevice};
 use mt_folder::Folder;
 use mt_restart::{Schema, fresh};
-use mt_server::{RunFault, Script, ScriptGrammar, put, run_alone};
+use mt_script::{Script, ScriptGrammar, put};
+use mt_server::{RunFault, run_alone};
 use mt_txn::Kernel;
 use mt_world::{Event, run_schedule};
 use std::alloc::Global;

@@ -1,14 +1,14 @@
 // Scripts and schedules, read by name.
 ghost use Rattle.std.specs.Prelude.{◌≡◌, Some, None, IfErr, IfOk, IfSome, cond, is_some, map, option_map, string_bytes, true};
-ghost use Rattle.mt_server.specs.Grammars.{AreLines};
-ghost use Rattle.mt_server.specs.Lines.{line_text, IsInGrammar};
+ghost use Rattle.mt_script.specs.Grammars.{AreLines};
+ghost use Rattle.mt_script.specs.Lines.{line_text, IsInGrammar};
 ghost use Rattle.mt_server.specs.Sessions.{lines_in};
 ghost use Rattle.mt_folder.specs.Folders.{AreKept};
 ghost use Rattle.mt_cli.specs.Reads.{AreUnread, HaveBeenRead, IsReadAt, IsUnread, bytes_at, is_input, source_of};
 
 use mt_base::Refusal;
 use mt_folder::Folder;
-use mt_server::{Grammar, Script, ScriptFault, ScriptGrammar, read_lines};
+use mt_script::{Grammar, Script, ScriptFault, ScriptGrammar, read_lines};
 use std::alloc::Global;
 use std::io::Read;
 

@@ -1,11 +1,11 @@
 // The lines of a schedule, each an event that is read from its bytes.
 ghost use Rattle.std.specs.Prelude.{◌≡◌, ◌≢◌, ◌∷◌, ◌++◌, IfOk, codes};
 ghost use Rattle.std.specs.Fmt.{decimal};
-ghost use Rattle.mt_server.specs.Lines.{IsUnspaced};
+ghost use Rattle.mt_script.specs.Lines.{IsUnspaced};
 ghost use Rattle.mt_cli.specs.Events.{ReadsEvent};
 
 use mt_base::TxnNo;
-use mt_server::{Grammar, is_text_of, number_of, op_of, split_at_space};
+use mt_script::{Grammar, is_text_of, number_of, op_of, split_at_space};
 use mt_world::Event;
 use std::alloc::{AllocError, Global};
 

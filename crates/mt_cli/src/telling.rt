@@ -4,13 +4,13 @@ ghost use Rattle.std.specs.Fmt.{decimal};
 ghost use Rattle.std.specs.Io.KnownBytes.{Appends};
 ghost use Rattle.std.specs.List.{concat};
 ghost use Rattle.mt_cli.specs.Tellings.{name_text, told_line, told_lines};
-ghost use Rattle.mt_server.specs.Answers.{AppendsFront};
+ghost use Rattle.mt_script.specs.Answers.{AppendsFront};
 ghost use Rattle.mt_world.specs.declared.events.Answer.TheVariants as answer;
 
 use itoa::Buffer;
 use mt_base::TxnNo;
 use mt_pool::Flushed;
-use mt_server::{Unheard, put, put_all, write_answer, write_reply};
+use mt_script::{Unheard, put, put_all, write_answer, write_reply};
 use mt_txn::{AbortStepped, Called, KernelForced, Stepped};
 use mt_world::Answer;
 use std::io::Write;
@@ -153,7 +153,7 @@ pub(crate) fn write_told<W: Write>(writer: &mut W, answer: &Answer) -> Result<()
         Answer::Forced(forced) => write_forced(writer, forced),
         Answer::Flushed(flushed) => write_flushed(writer, *flushed),
         Answer::Rotated => put(writer, b"rotated\n"),
-        Answer::Refused(refusal) => write_answer(writer, &mt_server::Answer::Refused(*refusal)),
+        Answer::Refused(refusal) => write_answer(writer, &mt_script::Answer::Refused(*refusal)),
     }
 }
 

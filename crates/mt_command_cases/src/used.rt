@@ -3,7 +3,8 @@ use mt_base::{CtrNo, Refusal};
 use mt_disk::MemDevice;
 use mt_model::Op;
 use mt_restart::{Schema, fresh};
-use mt_server::{RunFault, read_script, run_alone};
+use mt_script::read_script;
+use mt_server::{RunFault, run_alone};
 use mt_txn::{Kernel, KernelForced};
 use std::alloc::Global;
 

@@ -2,7 +2,7 @@
 use Rattle.std.proofs.Common.{◌≡◌, ◌+◌, ◌<◌, arith, suc, zero, ℕ, List, [], ◌∷◌, ◌++◌, Option, length, take, drop, get_or, ap, sym, ◌∙◌, append_assoc, append-nil}
 use Rattle.std.specs.Io.KnownBytes.{Appends}
 use Rattle.std.proofs.KnownBytes.{Appends-trans}
-use Rattle.mt_server.specs.Answers.{AppendsFront}
+use Rattle.mt_script.specs.Answers.{AppendsFront}
 use Rattle.mt_explain.specs.Listings.{numbered}
 
 -- a beginning of the last part

@@ -5,7 +5,7 @@ ghost use Rattle.std.specs.List.{AllByRecursion, concat, list_all};
 ghost use Rattle.std.specs.Io.KnownBytes.{Appends};
 ghost use Rattle.mt_frame.specs.Grammar.{IsOperation};
 ghost use Rattle.mt_replay.specs.Losers.{all_finished, finished_of};
-ghost use Rattle.mt_server.specs.Answers.{AppendsFront};
+ghost use Rattle.mt_script.specs.Answers.{AppendsFront};
 ghost use Rattle.mt_explain.specs.Listings.{numbered};
 ghost use Rattle.mt_explain.specs.Explanations.{added_line, batch_lines, batch_start, change_line, done_line, entry_line, image_end, image_line, inverse_line, is_plain, key_text, keyed_line, keyed_start, length_end, op_start, put_back_line, record_line, restart_start, txn_line, undo_line, undo_lines, undoes_text, valued_line};
 
@@ -16,7 +16,7 @@ use mt_base::{Bytes, CtrNo, OpNo, PageNo, RelNo, TxnNo};
 use mt_frame::{LoggedOp, Record};
 use mt_log::Batch;
 use mt_replay::Loser;
-use mt_server::{Unheard, put, put_all};
+use mt_script::{Unheard, put, put_all};
 use std::io::Write;
 
 /// Whether all bytes of a key are printable, and none of them is a quote.

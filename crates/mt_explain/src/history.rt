@@ -6,14 +6,14 @@ ghost use Rattle.mt_base.specs.declared.refusal.Refusal.{Refusal};
 ghost use Rattle.mt_explain.specs.Histories.{Recounts, history_text};
 ghost use Rattle.mt_frame.specs.Grammar.{IsOperation};
 ghost use Rattle.mt_replay.specs.Losers.{AreOfGrammar};
-ghost use Rattle.mt_server.specs.Answers.{AppendsFront};
+ghost use Rattle.mt_script.specs.Answers.{AppendsFront};
 
 use crate::entries::{write_all_put_back, write_all_undone, write_batches};
 use crate::unfinished::{Unfinished, unfinished_of};
 use mt_base::Refusal;
 use mt_log::Batch;
 use mt_replay::{Loser, losers_of};
-use mt_server::Unheard;
+use mt_script::Unheard;
 use std::alloc::Global;
 use std::io::Write;
 

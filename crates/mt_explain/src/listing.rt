@@ -2,13 +2,13 @@
 ghost use Rattle.std.specs.Prelude.{◌≡◌, ◌<◌, OnErr, OnOk, codes, map, slice_index_or};
 ghost use Rattle.std.specs.List.{concat};
 ghost use Rattle.std.specs.Io.KnownBytes.{Appends};
-ghost use Rattle.mt_server.specs.Answers.{AppendsFront};
+ghost use Rattle.mt_script.specs.Answers.{AppendsFront};
 ghost use Rattle.mt_explain.specs.Listings.{byte_text, counter_line, counter_lines, digit, hex_text, row_line, row_start};
 
 use itoa::Buffer;
 use mt_base::{Bytes, RelNo};
 use mt_model::{Count, Row};
-use mt_server::{Unheard, put, put_all};
+use mt_script::{Unheard, put, put_all};
 use std::io::Write;
 
 /// The digits of a hexadecimal number.

@@ -32,8 +32,8 @@ use Rattle.mt_txn.specs.Causes.{call_cause, count_cause, first_of, is_key, is_st
 use Rattle.mt_txn.specs.Events.{HasCalled, IsAnsweredBy}
 use Rattle.mt_txn.specs.Shown.{Shows, is_failed}
 use Rattle.mt_txn.specs.declared.kernel.Kernel.{Kernel}
-use Rattle.mt_server.specs.declared.answers.Answer.TheVariants.{Replied, Refused}
-use Rattle.mt_server.specs.declared.lines.Line.TheVariants as line
+use Rattle.mt_script.specs.declared.answers.Answer.TheVariants.{Replied, Refused}
+use Rattle.mt_script.specs.declared.lines.Line.TheVariants as line
 use Rattle.mt_server.proofs.TurnLemmas.{answered_refused, left_of, opened_idle, opened_stays, open_is, turn_acts}
 use Rattle.mt_server.proofs.UndoLemmas.{pages_few}
 use Rattle.mt_server.specs.Driven.{HasBroken, IsCalling, IsDueTo, IsOpened, IsTested}

@@ -1,6 +1,3 @@
-pub mod LineLemmas
-mod ScriptLemmas
-pub mod TextLemmas
 pub mod ForceLemmas
 pub mod DueLemmas
 pub mod DriveLemmas

@@ -9,18 +9,18 @@ use Rattle.mt_base.specs.declared.refusal.Refusal.TheVariants as refusal
 use Rattle.mt_disk.specs.declared.device.Device.{Ghosts}
 use Rattle.mt_model.specs.History.{Call}
 use Rattle.mt_txn.specs.declared.kernel.Kernel.{Kernel}
-use Rattle.mt_server.specs.declared.lines.Line.{Line}
-use Rattle.mt_server.specs.declared.lines.Line.TheVariants as line
-use Rattle.mt_server.specs.declared.answers.Answer.{Answer}
-use Rattle.mt_server.specs.declared.answers.Answer.TheVariants.{Aborted, Refused}
+use Rattle.mt_script.specs.declared.lines.Line.{Line}
+use Rattle.mt_script.specs.declared.lines.Line.TheVariants as line
+use Rattle.mt_script.specs.declared.answers.Answer.{Answer}
+use Rattle.mt_script.specs.declared.answers.Answer.TheVariants.{Aborted, Refused}
 use Rattle.mt_server.specs.declared.running.RunFault.{RunFault}
 use Rattle.mt_server.specs.declared.running.RunFault.TheVariants as fault
-use Rattle.mt_server.specs.Answers.{AppendsFront, answer_text, transcript_text}
+use Rattle.mt_script.specs.Answers.{AppendsFront, answer_text, transcript_text}
 use Rattle.mt_txn.specs.Shown.{SameSchema}
 use Rattle.mt_server.specs.Driven.{IsBeside, IsDueTo, IsGivenUp, IsResting}
 use Rattle.mt_server.specs.Plays.{Play, IsTurn, acts, refuses, Runs, starts, goes_on, after_at, put_off}
 use Rattle.mt_server.specs.Runs.{HasRun, HasRunLines, HasTurned, IsAnswered, IsCutAtEnd, IsCutShort, IsEnded, IsEndedFor, nothing, aborted, failed, IsLeftFor, IsStopped, IsToldFor, failure_line, last_line}
-use Rattle.mt_server.proofs.TextLemmas.{front_then}
+use Rattle.mt_script.proofs.TextLemmas.{front_then}
 
 -- ---- texts
 

@@ -8,11 +8,11 @@ use mathlib.Core.Logic.{∥∥₁_map}
 use Rattle.mt_disk.specs.declared.device.Device.{Ghosts}
 use Rattle.mt_txn.specs.Shown.{SameSchema}
 use Rattle.mt_txn.specs.declared.kernel.Kernel.{Kernel}
-use Rattle.mt_server.specs.declared.answers.Answer.{Answer}
-use Rattle.mt_server.specs.declared.lines.Line.{Line}
-use Rattle.mt_server.specs.declared.reader.Script.{Script}
+use Rattle.mt_script.specs.declared.answers.Answer.{Answer}
+use Rattle.mt_script.specs.declared.lines.Line.{Line}
+use Rattle.mt_script.specs.declared.reader.Script.{Script}
 use Rattle.mt_server.specs.declared.running.RunFault.{RunFault}
-use Rattle.mt_server.specs.Answers.{transcript_text}
+use Rattle.mt_script.specs.Answers.{transcript_text}
 use Rattle.mt_server.specs.Driven.{IsBeside}
 use Rattle.mt_server.specs.Plays.{Play, put_off}
 use Rattle.mt_server.specs.Runs.{HasRun, last_line}

@@ -32,9 +32,9 @@ use Rattle.mt_txn.proofs.Showing.{kept_of, parts_stay}
 use Rattle.mt_txn.specs.Causes.{begin_cause, commit_cause, first_of, is_busy, is_open, open_cause, unless}
 use Rattle.mt_txn.specs.Shown.{SameSchema, Shows, Stays, is_failed}
 use Rattle.mt_txn.specs.declared.kernel.Kernel.{Kernel}
-use Rattle.mt_server.specs.declared.answers.Answer.TheVariants.{Begun, Committed, Refused}
-use Rattle.mt_server.specs.declared.lines.Line.{Line}
-use Rattle.mt_server.specs.declared.lines.Line.TheVariants as line
+use Rattle.mt_script.specs.declared.answers.Answer.TheVariants.{Begun, Committed, Refused}
+use Rattle.mt_script.specs.declared.lines.Line.{Line}
+use Rattle.mt_script.specs.declared.lines.Line.TheVariants as line
 use Rattle.mt_server.proofs.DriveLemmas.{nobody_commits, nobody_there}
 use Rattle.mt_txn.proofs.Due.{due_start}
 use Rattle.mt_server.proofs.ForceLemmas.{fails_for, well_of}

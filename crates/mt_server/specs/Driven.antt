@@ -25,8 +25,8 @@ use Rattle.mt_txn.specs.declared.answers.Stepped.TheVariants as step
 use Rattle.mt_txn.specs.declared.answers.AbortStepped.{AbortStepped}
 use Rattle.mt_txn.specs.declared.answers.AbortStepped.TheVariants as abort
 use Rattle.mt_txn.specs.declared.kernel.Kernel.{Kernel}
-use Rattle.mt_server.specs.declared.lines.Line.{Line}
-use Rattle.mt_server.specs.declared.lines.Line.TheVariants as line
+use Rattle.mt_script.specs.declared.lines.Line.{Line}
+use Rattle.mt_script.specs.declared.lines.Line.TheVariants as line
 use Rattle.mt_server.specs.Plays.{Play, committed, put_off}
 
 -- the book and what it leaves are the model's

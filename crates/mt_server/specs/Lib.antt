@@ -1,8 +1,3 @@
-pub mod Answers
-pub mod Grammars
-pub mod Lines
-pub mod Whole
-pub mod Scripts
 pub mod Plays
 pub mod Driven
 pub mod Runs

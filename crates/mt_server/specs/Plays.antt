@@ -8,10 +8,10 @@ use Rattle.mt_model.specs.declared.operations.Op.TheVariants.{Get, Insert, Updat
 use Rattle.mt_model.specs.Model.{Base, reply_of}
 use Rattle.mt_model.specs.History.{Call, run}
 use Rattle.mt_txn.specs.Causes.{first_of, name_cause, size_cause}
-use Rattle.mt_server.specs.declared.lines.Line.{Line}
-use Rattle.mt_server.specs.declared.lines.Line.TheVariants as line
-use Rattle.mt_server.specs.declared.answers.Answer.{Answer}
-use Rattle.mt_server.specs.declared.answers.Answer.TheVariants.{Begun, Replied, Committed as CommittedAt, Aborted, Refused}
+use Rattle.mt_script.specs.declared.lines.Line.{Line}
+use Rattle.mt_script.specs.declared.lines.Line.TheVariants as line
+use Rattle.mt_script.specs.declared.answers.Answer.{Answer}
+use Rattle.mt_script.specs.declared.answers.Answer.TheVariants.{Begun, Replied, Committed as CommittedAt, Aborted, Refused}
 
 -- whose script it is, what the commits leave, the commits, and the calls of the transaction that is open, if one is
 pub record Play : Type 0 where

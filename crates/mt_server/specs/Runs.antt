@@ -7,12 +7,12 @@ use Rattle.mt_disk.specs.declared.device.Device.{Ghosts}
 use Rattle.mt_model.specs.History.{Call}
 use Rattle.mt_txn.specs.Shown.{SameSchema}
 use Rattle.mt_txn.specs.declared.kernel.Kernel.{Kernel}
-use Rattle.mt_server.specs.declared.lines.Line.{Line}
-use Rattle.mt_server.specs.declared.answers.Answer.{Answer}
-use Rattle.mt_server.specs.declared.answers.Answer.TheVariants.{Aborted, Refused}
+use Rattle.mt_script.specs.declared.lines.Line.{Line}
+use Rattle.mt_script.specs.declared.answers.Answer.{Answer}
+use Rattle.mt_script.specs.declared.answers.Answer.TheVariants.{Aborted, Refused}
 use Rattle.mt_server.specs.declared.running.RunFault.{RunFault}
 use Rattle.mt_server.specs.declared.running.RunFault.TheVariants as fault
-use Rattle.mt_server.specs.Answers.{AppendsFront, transcript_text}
+use Rattle.mt_script.specs.Answers.{AppendsFront, transcript_text}
 use Rattle.mt_server.specs.Driven.{IsLeft, IsBeside, IsDueTo, IsGivenUp, HasBroken, Fails}
 use Rattle.mt_server.specs.Plays.{Play, IsTurn, Runs, put_off}
 

@@ -5,12 +5,12 @@ use Rattle.std.specs.Io.KnownBytes.{Appends}
 use Rattle.mt_disk.specs.declared.device.Device.{Ghosts}
 use Rattle.mt_txn.specs.Shown.{SameSchema}
 use Rattle.mt_txn.specs.declared.kernel.Kernel.{Kernel}
-use Rattle.mt_server.specs.declared.answers.Answer.{Answer}
-use Rattle.mt_server.specs.declared.lines.Line.{Line}
-use Rattle.mt_server.specs.declared.reader.Script.{Script}
+use Rattle.mt_script.specs.declared.answers.Answer.{Answer}
+use Rattle.mt_script.specs.declared.lines.Line.{Line}
+use Rattle.mt_script.specs.declared.reader.Script.{Script}
 use Rattle.mt_server.specs.declared.running.RunFault.{RunFault}
 use Rattle.mt_server.specs.declared.running.RunFault.TheVariants as fault
-use Rattle.mt_server.specs.Answers.{AppendsFront, transcript_text}
+use Rattle.mt_script.specs.Answers.{AppendsFront, transcript_text}
 use Rattle.mt_server.specs.Driven.{IsBeside}
 use Rattle.mt_server.specs.Plays.{Play, HasPlayed, Runs, put_off}
 use Rattle.mt_server.specs.Runs.{HasTurned, IsCutShort, last_line}

@@ -6,19 +6,11 @@
 //! [`run_sessions`] for several scripts.
 #![tactic(auto)]
 
-mod answers;
 mod driving;
 mod forcing;
-mod grammar;
-mod lines;
-mod reader;
 mod running;
 mod sessions;
 mod turns;
 
-pub use answers::{Answer, Unheard, put, put_all, write_answer, write_reply};
-pub use grammar::Grammar;
-pub use lines::{Line, ScriptGrammar, is_text_of, line_of, number_of, op_of, split_at_space};
-pub use reader::{Script, ScriptFault, read_lines, read_script};
 pub use running::{RunFault, run_alone};
 pub use sessions::{MAX_SESSIONS, run_sessions};

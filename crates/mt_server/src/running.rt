@@ -6,12 +6,10 @@ ghost use Rattle.mt_server.specs.Driven.{IsBeside};
 ghost use Rattle.mt_server.specs.Plays.{Play};
 ghost use Rattle.mt_server.specs.Runs.{BesideEach, HasRun, HasRunLines, IsCutAtEnd, IsCutShort, IsEnded, IsEndedFor, IsLeftFor, IsStopped};
 
-use crate::answers::{Answer, write_answer};
-use crate::lines::Line;
-use crate::reader::Script;
 use crate::turns::{answer, undo_open};
 use mt_base::{Refusal, TxnNo};
 use mt_disk::Device;
+use mt_script::{Answer, Line, Script, write_answer};
 use mt_txn::Kernel;
 use std::io::Write;
 use thiserror::Error;

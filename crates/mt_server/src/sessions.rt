@@ -2,16 +2,15 @@
 ghost use Rattle.std.specs.Prelude.{◌≡◌, ◌≤◌, None, IfErr, OnErr, OnOk, length, map};
 ghost use Rattle.std.specs.Io.KnownBytes.{Appends};
 ghost use Rattle.mt_txn.specs.Shown.{SameSchema, StaysRestarting};
-ghost use Rattle.mt_server.specs.Answers.{AppendsFront};
+ghost use Rattle.mt_script.specs.Answers.{AppendsFront};
 ghost use Rattle.mt_server.specs.Driven.{IsBeside};
 ghost use Rattle.mt_server.specs.Plays.{Play};
 ghost use Rattle.mt_server.specs.Sessions.{AreCutShort, HaveServed, IsCutWithin, IsServed, lines_in, session_line};
 
-use crate::answers::{Unheard, put_all};
-use crate::reader::Script;
 use crate::running::{RunFault, run_alone};
 use itoa::Buffer;
 use mt_disk::Device;
+use mt_script::{Script, Unheard, put_all};
 use mt_txn::Kernel;
 use std::io::Write;
 

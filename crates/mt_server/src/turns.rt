@@ -3,15 +3,14 @@ ghost use Rattle.std.specs.Prelude.{◌≡◌, None, Some};
 ghost use Rattle.mt_txn.specs.Shown.{SameSchema, StaysRestarting};
 ghost use Rattle.mt_server.specs.Driven.{HasAborted};
 ghost use Rattle.mt_server.specs.Runs.{Answers, AnswersWithin, refused_as};
-ghost use Rattle.mt_server.specs.declared.lines.Line.TheVariants as line;
+ghost use Rattle.mt_script.specs.declared.lines.Line.TheVariants as line;
 
-use crate::answers::Answer;
 use crate::driving::{step_to_reply, undo};
 use crate::forcing::force_commit;
-use crate::lines::Line;
 use mt_base::{Refusal, TxnNo};
 use mt_disk::Device;
 use mt_model::Op;
+use mt_script::{Answer, Line};
 use mt_txn::{Called, Kernel};
 
 /// An answer, and the transaction that is open then; or the refusal for which the line is given up.

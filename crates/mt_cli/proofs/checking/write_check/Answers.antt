@@ -1,7 +1,7 @@
 use Rattle.std.proofs.Common.{[], ◌++◌, ◌≡◌, subst, ap, append-nil, ◌∙◌, rules}
 use Rattle.std.proofs.lemmas.Result.{err_from_is_err_and, on_err_weaker}
-use Rattle.mt_server.specs.Answers.{AppendsFront}
-use Rattle.mt_server.proofs.TextLemmas.{front_then, front_whole}
+use Rattle.mt_script.specs.Answers.{AppendsFront}
+use Rattle.mt_script.proofs.TextLemmas.{front_then, front_whole}
 use Rattle.mt_cli.specs.Checks.{pages_text, report_text}
 use Rattle.mt_cli.proofs.checking.write_check.Goals as goal
 

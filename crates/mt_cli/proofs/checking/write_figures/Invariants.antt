@@ -1,6 +1,6 @@
 use Rattle.std.proofs.Common.{take}
 use Rattle.std.specs.Io.KnownBytes.{Appends}
-use Rattle.mt_server.proofs.TextLemmas.{all_bytes}
+use Rattle.mt_script.proofs.TextLemmas.{all_bytes}
 use Rattle.mt_cli.specs.Checks.{figure_line}
 use Rattle.mt_cli.proofs.checking.write_figures.Given as goal
 

@@ -3,7 +3,7 @@ use Rattle.std.specs.List.{concat}
 use Rattle.std.proofs.KnownBytes.{Appends-trans}
 use Rattle.std.proofs.lemmas.Result.{err_from_is_err_and, on_err_weaker}
 use Rattle.mt_model.specs.Views.{counters_of, rows_of}
-use Rattle.mt_server.proofs.TextLemmas.{front_whole}
+use Rattle.mt_script.proofs.TextLemmas.{front_whole}
 use Rattle.mt_explain.proofs.ListingLemmas.{front_next}
 use Rattle.mt_cli.specs.Dumps.{sizes_text}
 use Rattle.mt_explain.specs.Listings.{counter_lines, row_line}

@@ -1,7 +1,7 @@
 use Rattle.std.proofs.Common.{subst}
 use Rattle.std.proofs.KnownBytes.{Keeps-refl}
 use Rattle.std.specs.Io.KnownBytes.{Appends}
-use Rattle.mt_server.specs.Answers.{AppendsFront}
+use Rattle.mt_script.specs.Answers.{AppendsFront}
 use Rattle.mt_explain.proofs.HistoryLemmas.{text_is}
 use Rattle.mt_cli.specs.Explains.{unheard_log, untold_log}
 use Rattle.mt_cli.proofs.explaining.perform_explain.Goals as goal

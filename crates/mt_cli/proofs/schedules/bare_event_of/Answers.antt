@@ -1,4 +1,4 @@
-use Rattle.mt_server.proofs.LineLemmas.{differs}
+use Rattle.mt_script.proofs.LineLemmas.{differs}
 use Rattle.mt_cli.proofs.EventLemmas.{no_bare_event}
 use Rattle.mt_cli.proofs.schedules.bare_event_of.Goals as goal
 

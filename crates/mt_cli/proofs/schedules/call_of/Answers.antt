@@ -1,8 +1,8 @@
 use Rattle.std.proofs.Common.{◌≢◌, ◌<◌, ◌^◌, ℕ, sym, ◌∙◌}
 use Rattle.std.specs.Fmt.{decimal}
 use Rattle.mt_model.specs.declared.operations.Op.{Op}
-use Rattle.mt_server.specs.Lines.{SpellsOp, op_text}
-use Rattle.mt_server.proofs.LineLemmas.{decimal_unspaced, same_cut}
+use Rattle.mt_script.specs.Lines.{SpellsOp, op_text}
+use Rattle.mt_script.proofs.LineLemmas.{decimal_unspaced, same_cut}
 use Rattle.mt_cli.proofs.EventLemmas.{call_spaced, no_call}
 use Rattle.mt_cli.proofs.schedules.call_of.Goals as goal
 

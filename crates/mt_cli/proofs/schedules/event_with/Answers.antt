@@ -1,6 +1,6 @@
 use Rattle.std.proofs.Common.{◌≢◌, ◌<◌, ◌^◌, ℕ}
 use Rattle.std.specs.Fmt.{decimal}
-use Rattle.mt_server.proofs.LineLemmas.{differs}
+use Rattle.mt_script.proofs.LineLemmas.{differs}
 use Rattle.mt_cli.proofs.EventLemmas.{no_number}
 use Rattle.mt_cli.proofs.schedules.event_with.Goals as goal
 

@@ -2,7 +2,7 @@ use Rattle.std.proofs.Common.{[], ◌∷◌, ◌++◌, codes, map}
 use Rattle.std.specs.List.{concat}
 use Rattle.std.proofs.lemmas.Result.{err_from_is_err_and, on_err_weaker}
 use Rattle.std.proofs.KnownBytes.{Appends-trans}
-use Rattle.mt_server.proofs.TextLemmas.{front_then, front_whole}
+use Rattle.mt_script.proofs.TextLemmas.{front_then, front_whole}
 use Rattle.mt_cli.specs.Tellings.{name_text}
 use Rattle.mt_cli.proofs.telling.write_durable.Goals as goal
 

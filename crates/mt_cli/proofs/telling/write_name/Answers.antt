@@ -1,8 +1,8 @@
 use Rattle.std.proofs.Common.{rules, [], ◌∷◌, ◌≡◌, ap, append-nil, subst, ◌∙◌}
 use Rattle.std.specs.Fmt.{decimal}
 use Rattle.std.proofs.lemmas.Result.{err_from_is_err_and, on_err_weaker}
-use Rattle.mt_server.specs.Answers.{AppendsFront}
-use Rattle.mt_server.proofs.TextLemmas.{front_then, front_whole}
+use Rattle.mt_script.specs.Answers.{AppendsFront}
+use Rattle.mt_script.proofs.TextLemmas.{front_then, front_whole}
 use Rattle.mt_cli.proofs.telling.write_name.Goals as goal
 
 pub returns-in_err-put-clause-front : goal.returns-in_err-put-clause-front

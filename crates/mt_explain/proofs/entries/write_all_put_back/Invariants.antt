@@ -1,6 +1,6 @@
 use Rattle.std.proofs.Common.{take}
 use Rattle.std.specs.Io.KnownBytes.{Appends}
-use Rattle.mt_server.proofs.TextLemmas.{all_bytes}
+use Rattle.mt_script.proofs.TextLemmas.{all_bytes}
 use Rattle.mt_explain.specs.Explanations.{put_back_line}
 use Rattle.mt_explain.proofs.entries.write_all_put_back.Given as goal
 

@@ -3,8 +3,8 @@ use Rattle.std.specs.Io.KnownBytes.{Appends}
 use Rattle.std.proofs.lemmas.Result.{err_from_is_err_and}
 use Rattle.std.proofs.KnownBytes.{Appends-trans}
 use Rattle.mt_replay.specs.Losers.{all_finished, finished_of}
-use Rattle.mt_server.specs.Answers.{AppendsFront}
-use Rattle.mt_server.proofs.TextLemmas.{front_whole}
+use Rattle.mt_script.specs.Answers.{AppendsFront}
+use Rattle.mt_script.proofs.TextLemmas.{front_whole}
 use Rattle.mt_explain.proofs.HistoryLemmas.{undo_about, undo_more}
 use Rattle.mt_explain.proofs.ListingLemmas.{front_next}
 use Rattle.mt_explain.specs.Explanations.{undo_line, undo_lines}

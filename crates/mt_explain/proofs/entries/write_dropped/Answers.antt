@@ -1,6 +1,6 @@
 use Rattle.std.proofs.Common.{codes}
 use Rattle.std.proofs.lemmas.Result.{err_from_is_err_and, on_err_weaker}
-use Rattle.mt_server.proofs.TextLemmas.{front_whole}
+use Rattle.mt_script.proofs.TextLemmas.{front_whole}
 use Rattle.mt_explain.proofs.ListingLemmas.{front_next}
 use Rattle.mt_explain.specs.Explanations.{op_start}
 use Rattle.mt_explain.proofs.entries.write_dropped.Goals as goal

@@ -1,6 +1,6 @@
 use Rattle.std.proofs.KnownBytes.{Appends-trans}
 use Rattle.std.proofs.lemmas.Result.{err_from_is_err_and, on_err_weaker}
-use Rattle.mt_server.proofs.TextLemmas.{front_whole}
+use Rattle.mt_script.proofs.TextLemmas.{front_whole}
 use Rattle.mt_explain.proofs.ListingLemmas.{front_next}
 use Rattle.mt_explain.specs.Explanations.{done_line, op_start, undoes_text}
 use Rattle.mt_explain.proofs.entries.write_end.Goals as goal

@@ -1,6 +1,6 @@
 use Rattle.std.proofs.Common.{take}
 use Rattle.std.specs.Io.KnownBytes.{Appends}
-use Rattle.mt_server.proofs.TextLemmas.{all_bytes}
+use Rattle.mt_script.proofs.TextLemmas.{all_bytes}
 use Rattle.mt_explain.specs.Explanations.{record_line}
 use Rattle.mt_explain.proofs.entries.write_records.Given as goal
 

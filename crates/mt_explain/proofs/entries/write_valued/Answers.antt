@@ -1,6 +1,6 @@
 use Rattle.std.proofs.KnownBytes.{Appends-trans}
 use Rattle.std.proofs.lemmas.Result.{err_from_is_err_and, on_err_weaker}
-use Rattle.mt_server.proofs.TextLemmas.{front_whole}
+use Rattle.mt_script.proofs.TextLemmas.{front_whole}
 use Rattle.mt_explain.proofs.ListingLemmas.{front_next}
 use Rattle.mt_explain.specs.Explanations.{key_text, keyed_start, length_end}
 use Rattle.mt_explain.proofs.entries.write_valued.Goals as goal

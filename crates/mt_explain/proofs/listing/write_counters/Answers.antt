@@ -2,8 +2,8 @@ use Rattle.std.proofs.Common.{arith, suc, ◌<◌, ◌≡◌, ◌+◌, length, t
 use Rattle.std.proofs.lemmas.Result.{err_from_is_err_and}
 use Rattle.std.proofs.KnownBytes.{Appends-trans}
 use Rattle.mt_model.specs.Tables.{no_count}
-use Rattle.mt_server.specs.Answers.{AppendsFront}
-use Rattle.mt_server.proofs.TextLemmas.{front_whole}
+use Rattle.mt_script.specs.Answers.{AppendsFront}
+use Rattle.mt_script.proofs.TextLemmas.{front_whole}
 use Rattle.mt_explain.specs.Listings.{counter_line, counter_lines, numbered}
 use Rattle.mt_explain.proofs.ListingLemmas.{front_next, numbered_about, numbered_more}
 use Rattle.mt_explain.proofs.listing.write_counters.Goals as goal

@@ -1,8 +1,8 @@
 use Rattle.std.proofs.Common.{arith, suc, ◌≡◌, ◌<◌, ◌++◌, length, take, drop, ap, sym, subst, ◌∙◌, add-one}
 use Rattle.std.proofs.lemmas.Result.{err_from_is_err_and}
 use Rattle.std.proofs.KnownBytes.{Appends-trans}
-use Rattle.mt_server.specs.Answers.{AppendsFront}
-use Rattle.mt_server.proofs.TextLemmas.{all_about, all_bytes, all_more, front_then}
+use Rattle.mt_script.specs.Answers.{AppendsFront}
+use Rattle.mt_script.proofs.TextLemmas.{all_about, all_bytes, all_more, front_then}
 use Rattle.mt_explain.specs.Listings.{row_line}
 use Rattle.mt_explain.proofs.listing.write_rows.Goals as goal
 

@@ -1,8 +1,8 @@
 use Rattle.std.proofs.Common.{refl, subst, sym}
 use Rattle.std.specs.Io.KnownBytes.{Appends}
 use Rattle.mt_base.specs.declared.refusal.Refusal.TheVariants as refusal
-use Rattle.mt_server.specs.declared.answers.Answer.TheVariants.{Refused}
-use Rattle.mt_server.specs.Answers.{AppendsFront}
+use Rattle.mt_script.specs.declared.answers.Answer.TheVariants.{Refused}
+use Rattle.mt_script.specs.Answers.{AppendsFront}
 use Rattle.mt_server.proofs.RunLemmas.{text_one}
 use Rattle.mt_server.proofs.running.end_failed.Goals as goal
 

@@ -1,5 +1,5 @@
 use Rattle.std.proofs.Common.{refl, Some}
-use Rattle.mt_server.specs.declared.lines.Line.TheVariants as line
+use Rattle.mt_script.specs.declared.lines.Line.TheVariants as line
 use Rattle.mt_server.specs.Plays.{put_off}
 use Rattle.mt_server.proofs.TurnLemmas.{turn_acts}
 use Rattle.mt_server.proofs.turns.abort.Goals as goal

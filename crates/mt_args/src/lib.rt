@@ -1,0 +1,9 @@
+//! The words of a command line: which command they name, with its numbers and the files that it names.
+#![tactic(auto)]
+
+mod command;
+mod numbers;
+mod run_words;
+
+pub use command::{CliFault, Command, command_of};
+pub use numbers::Numbers;

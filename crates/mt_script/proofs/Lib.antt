@@ -1,0 +1,3 @@
+pub mod LineLemmas
+mod ScriptLemmas
+pub mod TextLemmas

@@ -1,0 +1,5 @@
+pub mod Answers
+pub mod Grammars
+pub mod Lines
+pub mod Whole
+pub mod Scripts

@@ -1,0 +1,15 @@
+//! Scripts and transcripts as text. A script is read whole, line by line, by a [`Grammar`] of its lines, and each line of a
+//! transcript is the text of an [`Answer`].
+//!
+//! Readers and writers are passed in, and their bytes are what contracts speak of. Begin at [`read_script`].
+#![tactic(auto)]
+
+mod answers;
+mod grammar;
+mod lines;
+mod reader;
+
+pub use answers::{Answer, Unheard, put, put_all, write_answer, write_reply};
+pub use grammar::Grammar;
+pub use lines::{Line, ScriptGrammar, is_text_of, line_of, number_of, op_of, split_at_space};
+pub use reader::{Script, ScriptFault, read_lines, read_script};

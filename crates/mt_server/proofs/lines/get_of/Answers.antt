@@ -1,7 +1,0 @@
-use Rattle.std.proofs.Common.{ℕ, List}
-use Rattle.mt_server.specs.Lines.{SpellsKey}
-use Rattle.mt_server.proofs.LineLemmas.{no_get}
-use Rattle.mt_server.proofs.lines.get_of.Goals as goal
-
-pub returns-in_default : goal.returns-in_default
-returns-in_default c = let none : (r : ℕ) (k : List ℕ) → SpellsKey c.args.words.now r k → ⊥ = rw c.in_default.is at c.in_ok-relation.ensures in no_get c.args.words.now none

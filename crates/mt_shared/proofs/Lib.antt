@@ -1,3 +1,4 @@
+pub mod Crossing
 pub mod Books
 pub mod Keeping
 pub mod Oks

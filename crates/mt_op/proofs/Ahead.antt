@@ -3,7 +3,7 @@ use Rattle.std.proofs.Common.{◌≡◌, ◌+◌, ℕ, List, [], inr, refl, sym,
 use Rattle.std.specs.Prelude.{Result, Ok, Err, IfErr, OnErr}
 use Rattle.mt_base.specs.declared.refusal.Refusal.{Refusal}
 use Rattle.mt_disk.specs.Disk.{LeavesOnly}
-use Rattle.mt_log.specs.Words.{appended, used, area_size}
+use Rattle.mt_log.specs.Words.{appended, durable, used, area_size}
 use Rattle.mt_frame.specs.declared.records.Record.{Record}
 use Rattle.mt_space.specs.Changes.{PageBytes}
 use Rattle.mt_pool.specs.Kept.{IsKept, Explains}
@@ -91,7 +91,7 @@ module _ {D : Type 0} (seen : D → List ℕ) (may_leave : D → List ℕ → Ty
     (right : (opening : PageBytes) (relations counters : ℕ) → IsRight seen may_leave opening relations counters o → IsRight seen may_leave opening relations counters m)
     (rests : (opening : PageBytes) → Rests (world seen opening o) (world seen opening m))
     (moments : (opening : PageBytes) → IsKept seen may_leave opening o.store → LeavesOnly moment left_since o.store.device m.store.device (Explains opening o.store))
-    (spent : used m.store.log ≡ used o.store.log) (area : area_size m.store.log ≡ area_size o.store.log) (map : m.map ≡ o.map) (locks : m.locks ≡ o.locks) where
+    (spent : used m.store.log ≡ used o.store.log) (area : area_size m.store.log ≡ area_size o.store.log) (lasting : durable m.store.log ≡ durable o.store.log) (map : m.map ≡ o.map) (locks : m.locks ≡ o.locks) where
   records : appended m.store.log ≡ appended o.store.log
   records = (rests (λ n. [])).records
 
@@ -104,6 +104,7 @@ module _ {D : Type 0} (seen : D → List ℕ) (may_leave : D → List ℕ → Ty
     moments = moments;
     log = ap (λ (n : ℕ). n + s.left) spent;
     area = area;
+    durable = lasting;
     budget = budget;
     claims = idle_gives (own_needs s.op s.split) (reserved_of o.map.space) (reserved_of m.map.space) r idle (ap (λ (x : SpaceMap). reserved_of x.space) map);
     full = full;
@@ -131,6 +132,7 @@ module _ {D : Type 0} (seen : D → List ℕ) (may_leave : D → List ℕ → Ty
     moments = λ opening kept. subst (λ (d : D). LeavesOnly moment left_since o.store.device d (Explains opening o.store)) (sym device) (moments opening kept);
     log = a.log ∙ ap (λ (n : ℕ). n + s.left) spent;
     area = a.area ∙ area;
+    durable = a.durable ∙ lasting;
     budget = a.budget;
     claims = subst (λ (x : SpaceMap). GivesBack (own_needs s.op s.split) (reserved_of x.space) (reserved_of n.map.space) r) map a.claims;
     full = λ is. absurd (never is);

@@ -5,7 +5,7 @@ use Rattle.mt_base.specs.declared.refusal.Refusal.{Refusal}
 use Rattle.mt_base.specs.declared.refusal.Refusal.TheVariants as refusal
 use Rattle.mt_disk.specs.Disk.{LeavesOnly}
 use Rattle.mt_frame.specs.declared.records.Record.{Record}
-use Rattle.mt_log.specs.Words.{appended, used, area_size}
+use Rattle.mt_log.specs.Words.{appended, durable, used, area_size}
 use Rattle.mt_log.specs.declared.log.Log.{Log}
 use Rattle.mt_space.specs.Changes.{PageBytes}
 use Rattle.mt_pool.specs.Kept.{IsKept, Explains}
@@ -39,6 +39,7 @@ pub record TakesBack {D : Type 0} (seen : D → List ℕ) (may_leave : D → Lis
   pub few : s.standing ≤ 8
   pub log : used n.store.log + t.left ≡ used o.store.log + s.left
   pub area : area_size n.store.log ≡ area_size o.store.log
+  pub durable : durable n.store.log ≡ durable o.store.log
   pub claimed : claimed n ≡ claimed o
   pub records : TellsDropped s (appended o.store.log) (appended n.store.log) r
   pub locks : n.locks ≡ o.locks
@@ -89,6 +90,7 @@ module _ {D : Type 0} (seen : D → List ℕ) (may_leave : D → List ℕ → Ty
     few = few;
     log = refl;
     area = refl;
+    durable = refl;
     claimed = refl;
     records = sym (append-nil (appended o.store.log)) ∙ ap (λ (n : ℕ). appended o.store.log ++ dropped_with s.txn s.number n) (sym none);
     locks = refl;
@@ -119,6 +121,7 @@ module _ {D : Type 0} (seen : D → List ℕ) (may_leave : D → List ℕ → Ty
     few = few;
     log = ap (λ (l : Log). used l + s.left) log;
     area = ap (λ (l : Log). area_size l) log;
+    durable = ap (λ (l : Log). durable l) log;
     claimed = same_claims;
     records = none_tells s (appended o.store.log) (appended m.store.log) r none (ap (λ (l : Log). appended l) log);
     locks = locks;
@@ -143,6 +146,7 @@ module _ {D : Type 0} (seen : D → List ℕ) (may_leave : D → List ℕ → Ty
     few = few;
     log = b.log ∙ ap (λ (l : Log). used l + s.left) log;
     area = b.area ∙ ap (λ (l : Log). area_size l) log;
+    durable = b.durable ∙ ap (λ (l : Log). durable l) log;
     claimed = ap (λ (x : SpaceMap). reserved_of x.space) b.map ∙ same_claims;
     records = subst (λ (l : Log). TellsDropped s (appended l) (appended n.store.log) r) log b.records;
     locks = b.locks ∙ locks;

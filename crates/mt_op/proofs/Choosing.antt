@@ -4,7 +4,7 @@ use Rattle.std.specs.Prelude.{Result, Ok, Err, IfErr}
 use Rattle.mt_base.specs.declared.refusal.Refusal.{Refusal}
 use Rattle.mt_base.specs.declared.refusal.Refusal.TheVariants as refusal
 use Rattle.mt_disk.specs.Disk.{LeavesOnly}
-use Rattle.mt_log.specs.Words.{appended, used, area_size}
+use Rattle.mt_log.specs.Words.{appended, durable, used, area_size}
 use Rattle.mt_log.specs.declared.log.Log.{Log}
 use Rattle.mt_model.specs.declared.operations.Op.{Op}
 use Rattle.mt_plock.specs.declared.guards.PageLock.{PageLock}
@@ -214,6 +214,7 @@ pub record MakesStep {D : Type 0} (seen : D → List ℕ) (may_leave : D → Lis
   pub moments : (opening : PageBytes) → IsKept seen may_leave opening o.store → LeavesOnly moment left_since o.store.device n.store.device (Explains opening o.store)
   pub log : used n.store.log + t.left ≡ used o.store.log + s.left
   pub area : area_size n.store.log ≡ area_size o.store.log
+  pub durable : durable n.store.log ≡ durable o.store.log
   pub budget : HasBudget t
   pub claims : GivesBack (own_needs s.op s.split) (claimed o) (claimed n) r
   pub full : r ≡ Ok stepped.Flush → IsFull o.store.pool × (n ≡ o)
@@ -240,6 +241,7 @@ module _ {D : Type 0} (seen : D → List ℕ) (may_leave : D → List ℕ → Ty
     moments = a.moments;
     log = a.log;
     area = a.area;
+    durable = a.durable;
     budget = a.budget;
     claims = a.claims;
     full = a.full;
@@ -261,6 +263,7 @@ module _ {D : Type 0} (seen : D → List ℕ) (may_leave : D → List ℕ → Ty
     moments = p.moments;
     log = λ i. used (p.log i) + p.left i;
     area = ap (λ (l : Log). area_size l) p.log;
+    durable = ap (λ (l : Log). durable l) p.log;
     budget = p.budget;
     claims = ap (λ (x : SpaceMap). reserved_of x.space) p.map;
     full = λ is. absurd cc;
@@ -283,6 +286,7 @@ module _ {D : Type 0} (seen : D → List ℕ) (may_leave : D → List ℕ → Ty
     moments = p.moments;
     log = λ i. used (p.log i) + p.left i;
     area = ap (λ (l : Log). area_size l) p.log;
+    durable = ap (λ (l : Log). durable l) p.log;
     budget = p.budget;
     claims = on_keeps (Ok a) (own_needs s.op s.split) (claimed o) (claimed n) unready (ap (λ (x : SpaceMap). reserved_of x.space) p.map);
     full = λ is. p.full (none_some (Ok a) (Ok (Some a)) a refl refl is);
@@ -311,6 +315,7 @@ module _ {D : Type 0} (seen : D → List ℕ) (may_leave : D → List ℕ → Ty
         moments = λ opening kept. subst (λ (x : Operations D). IsKept seen may_leave opening x.store → LeavesOnly moment left_since x.store.device z.store.device (Explains opening x.store)) made.0 (a.moments opening) kept;
         log = a.log ∙ (λ i. used (p.log i) + p.left i);
         area = a.area ∙ ap (λ (l : Log). area_size l) p.log;
+        durable = a.durable ∙ ap (λ (l : Log). durable l) p.log;
         budget = a.budget;
         claims = subst (λ (X : Type 0). X) (λ i. GivesBack (own_needs (same.op i) (same.split i)) (reserved_of (p.map i).space) (claimed z) r) a.claims;
         full = λ is. let f = a.full is in (subst (λ (x : Operations D). IsFull x.store.pool) made.0 f.0, f.1 ∙ made.0);

@@ -3,7 +3,7 @@ use Rattle.std.specs.Prelude.{◌≡◌, ◌≤◌, ◌+◌, ℕ, List, Option, 
 use Rattle.mt_base.specs.declared.refusal.Refusal.{Refusal}
 use Rattle.mt_base.specs.declared.refusal.Refusal.TheVariants as refusal
 use Rattle.mt_disk.specs.Disk.{LeavesOnly}
-use Rattle.mt_log.specs.Words.{appended, used, area_size}
+use Rattle.mt_log.specs.Words.{appended, durable, used, area_size}
 use Rattle.mt_space.specs.Changes.{PageBytes}
 use Rattle.mt_pool.specs.Kept.{IsKept, Explains}
 use Rattle.mt_pool.specs.Views.{IsFull}
@@ -29,6 +29,7 @@ pub record GoesAhead {D : Type 0} (seen : D → List ℕ) (may_leave : D → Lis
   pub moments : (opening : PageBytes) → IsKept seen may_leave opening o.store → LeavesOnly moment left_since o.store.device n.store.device (Explains opening o.store)
   pub log : used n.store.log + t.left ≡ used o.store.log + s.left
   pub area : area_size n.store.log ≡ area_size o.store.log
+  pub durable : durable n.store.log ≡ durable o.store.log
   pub budget : HasBudget t
   pub claims : GivesBack (own_needs s.op s.split) (claimed o) (claimed n) r
   pub full : r ≡ Ok stepped.Flush → IsFull o.store.pool × (n ≡ o)
@@ -54,6 +55,7 @@ pub record PutsOneBack {D : Type 0} (seen : D → List ℕ) (may_leave : D → L
   pub never : r ≡ Ok taken.Flush → ⊥
   pub log : used n.store.log + t.left ≡ used o.store.log + s.left
   pub area : area_size n.store.log ≡ area_size o.store.log
+  pub durable : durable n.store.log ≡ durable o.store.log
   pub map : n.map ≡ o.map
   pub records : TellsDropped s (appended o.store.log) (appended n.store.log) r
   pub locks : n.locks ≡ o.locks

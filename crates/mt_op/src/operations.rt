@@ -4,7 +4,7 @@ ghost use Rattle.mt_disk.specs.Disk.{LeavesOnly, HasCause};
 ghost use Rattle.mt_frame.specs.Grammar.{IsTxn, IsOp, IsRecord};
 ghost use Rattle.mt_frame.specs.History.{may_stand, txn_of};
 ghost use Rattle.mt_frame.specs.Lengths.{record_length};
-ghost use Rattle.mt_log.specs.Words.{appended, durable, in_flight, waiting, used, area_size, calls_left, has_failed, IsStep};
+ghost use Rattle.mt_log.specs.Words.{appended, durable, in_flight, waiting, used, area_size, calls_left, has_failed, IsStep, Moves};
 ghost use Rattle.mt_model.specs.Model.{IsWithin};
 ghost use Rattle.mt_space.specs.Changes.{PageBytes};
 ghost use Rattle.mt_pool.specs.Kept.{IsKept, HasOpening, Explains};
@@ -287,6 +287,7 @@ impl<D: Device> Operations<D> {
         ensures claimed { claimed self.new ≡ claimed self.old }
         ensures appended { appended self.new.store.log ≡ appended self.old.store.log }
         ensures step { IfOk result (λ forced. IsStep self.old.store.log forced self.new.store.log) }
+        ensures moves { Moves self.old.store.log self.new.store.log }
         ensures used { used self.new.store.log ≤ used self.old.store.log }
         ensures area { area_size self.new.store.log ≡ area_size self.old.store.log }
         ensures only_device { IfErr result (λ why. why ≡ Refusal.DeviceFailed) }

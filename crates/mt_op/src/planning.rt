@@ -5,7 +5,7 @@ ghost use Rattle.mt_steps.specs.Logged.{logged_of};
 ghost use Rattle.mt_base.specs.declared.modes.Mode.TheVariants.{Write};
 ghost use Rattle.mt_disk.specs.Disk.{LeavesOnly};
 ghost use Rattle.mt_model.specs.Model.{IsWithin};
-ghost use Rattle.mt_log.specs.Words.{appended, used, area_size};
+ghost use Rattle.mt_log.specs.Words.{appended, durable, used, area_size};
 ghost use Rattle.mt_plock.specs.Holding.{lock_of};
 ghost use Rattle.mt_space.specs.Changes.{PageBytes, after, IsUntouched};
 ghost use Rattle.mt_pool.specs.Kept.{IsKept, Explains};
@@ -73,6 +73,7 @@ impl<D: Device> Operations<D> {
             (Explains opening self.old.store) }
         ensures log { used self.new.store.log + scope.new.left ≡ used self.old.store.log + scope.old.left }
         ensures area { area_size self.new.store.log ≡ area_size self.old.store.log }
+        ensures durable { durable self.new.store.log ≡ durable self.old.store.log }
         ensures budget { HasBudget scope.new }
         ensures claims { GivesBack (own_needs scope.old.op scope.old.split) (claimed self.old) (claimed self.new)
             result }

@@ -5,7 +5,7 @@ ghost use Rattle.mt_frame.specs.History.{may_stand};
 ghost use Rattle.mt_pool.specs.Views.{IsThere};
 ghost use Rattle.mt_space.specs.declared.changes.PageChange.{PageChange};
 ghost use Rattle.mt_frame.specs.declared.records.Record.TheVariants.{OpEnd};
-ghost use Rattle.mt_log.specs.Words.{appended, used, area_size};
+ghost use Rattle.mt_log.specs.Words.{appended, durable, used, area_size};
 ghost use Rattle.mt_file.specs.Rooms.{fits_of};
 ghost use Rattle.mt_space.specs.Changes.{PageBytes, Agrees, after, AreShort};
 ghost use Rattle.mt_slots.specs.Page.{IsShaped};
@@ -135,6 +135,7 @@ impl<D: Device> Operations<D> {
         ensures locks { self.new.locks ≡ self.old.locks }
         ensures log { used self.new.store.log + scope.new.left ≡ used self.old.store.log + scope.old.left }
         ensures area { area_size self.new.store.log ≡ area_size self.old.store.log }
+        ensures durable { durable self.new.store.log ≡ durable self.old.store.log }
         ensures scope { scope.new ≡ record scope.old { left = scope.new.left } }
         ensures same { OnErr result (scope.new ≡ scope.old) }
         ensures only_memory { IfErr result (λ why. why ≡ Refusal.NoMemory) }

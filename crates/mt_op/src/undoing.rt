@@ -7,7 +7,7 @@ ghost use Rattle.mt_disk.specs.Disk.{LeavesOnly};
 ghost use Rattle.mt_frame.specs.Grammar.{IsRecord};
 ghost use Rattle.mt_frame.specs.History.{may_stand};
 ghost use Rattle.mt_frame.specs.declared.records.Record.TheVariants.{OpDropped};
-ghost use Rattle.mt_log.specs.Words.{appended, used, area_size};
+ghost use Rattle.mt_log.specs.Words.{appended, durable, used, area_size};
 ghost use Rattle.mt_space.specs.Changes.{PageBytes};
 ghost use Rattle.mt_pool.specs.Kept.{IsKept, HasOpening, Explains};
 ghost use Rattle.mt_op.specs.World.{IsUnderWay, changes_in, held_in, looked};
@@ -57,6 +57,7 @@ impl<D: Device> Operations<D> {
         ensures few { scope.old.standing ≤ 8 }
         ensures log { used self.new.store.log + scope.new.left ≡ used self.old.store.log + scope.old.left }
         ensures area { area_size self.new.store.log ≡ area_size self.old.store.log }
+        ensures durable { durable self.new.store.log ≡ durable self.old.store.log }
         ensures claimed { claimed self.new ≡ claimed self.old }
         ensures records { TellsDropped scope.old (appended self.old.store.log) (appended self.new.store.log) result }
         ensures locks { self.new.locks ≡ self.old.locks }
@@ -145,6 +146,7 @@ impl<D: Device> Operations<D> {
         ensures used { OnOk result (used self.new.store.log ≡ used self.old.store.log + 22) }
         ensures err_used { OnErr result (used self.new.store.log ≡ used self.old.store.log) }
         ensures area { area_size self.new.store.log ≡ area_size self.old.store.log }
+        ensures durable { durable self.new.store.log ≡ durable self.old.store.log }
         ensures only_memory { IfErr result (λ why. why ≡ Refusal.NoMemory) }
     {
         self.store.append(Record::OpDropped {

@@ -358,6 +358,7 @@ impl<D: Device> Store<D> {
         ensures ends_none { (t o : ℕ) → IsUnfinished t o (appended self.old.log)
             → IsUnfinished t o (appended self.new.log) }
         ensures used { OnOk result (used self.new.log ≤ used self.old.log + log_size change.now.edits.items + 4096) }
+        ensures durable { durable self.new.log ≡ durable self.old.log }
         ensures err_appended { OnErr result (appended self.new.log ≡ appended self.old.log) }
         ensures err_used { OnErr result (used self.new.log ≡ used self.old.log) }
         ensures err_pool { OnErr result (self.new.pool ≡ self.old.pool) }

@@ -3,7 +3,7 @@ use mathlib.Core.Logic.{∥∥₁_elim, ∥∥₁_map}
 use Rattle.std.proofs.Common.{◌<◌, ◌≤◌, ◌+◌, ◌-◌, ◌++◌, [], ℕ, refl, sym, ap, ◌∙◌, subst, arith}
 use Rattle.std.specs.Prelude.{Err, IsSome}
 use Rattle.std.proofs.lemmas.Result.{err_from_is_err_and}
-use Rattle.mt_log.specs.Words.{appended, used, area_size}
+use Rattle.mt_log.specs.Words.{appended, durable, used, area_size}
 use Rattle.mt_log.specs.declared.log.Log.{Log}
 use Rattle.mt_frame.specs.declared.records.Record.TheVariants.{OpDropped}
 use Rattle.mt_pool.specs.Views.{waits_for}
@@ -51,6 +51,7 @@ returns-in_err-append_dropped g c =
         never = λ is. absurd cc;
         log = ap (λ (u : ℕ). u + s.left) e.err_used;
         area = f.area;
+        durable = f.durable;
         map = f.map;
         records = (e.rests (λ n. [])).records;
         locks = f.locks;
@@ -79,6 +80,7 @@ returns g c = let f = c.append_dropped.ensures in let b = c.put_back.ensures in 
         log = let took = c.in_ok-append_dropped.ensures.used in let same = ap (λ (l : Log). used l) b.log in let was = c.used-before.ensures in let now = c.used.ensures in
             let kept : 22 ≤ s.left = ∥∥₁_elim c.requires.right (hlevel props) (λ (opening, relations, counters, right, k). kept_to_drop relations counters (world seen opening o) s k c.requires.stage c.requires.last c.requires.budget) in omega (arith, took, same, was, now, kept);
         area = ap (λ (l : Log). area_size l) b.log ∙ f.area;
+        durable = ap (λ (l : Log). durable l) b.log ∙ f.durable;
         map = b.map ∙ f.map;
         records = ap (λ (l : Log). appended l) b.log ∙ (c.in_ok-append_dropped.ensures.notes (λ n. [])).records ∙ ap (λ (standing : ℕ). appended o.store.log ++ dropped_with s.txn s.number standing) (sym c.requires.last);
         locks = b.locks ∙ f.locks;

@@ -8,7 +8,7 @@ use Rattle.mt_disk.specs.Disk.{LeavesOnly}
 use Rattle.mt_frame.specs.Grammar.{IsOperation}
 use Rattle.mt_frame.specs.declared.records.LoggedOp.{LoggedOp}
 use Rattle.mt_file.specs.declared.rooms.Rooms.{Rooms}
-use Rattle.mt_log.specs.Words.{used, area_size}
+use Rattle.mt_log.specs.Words.{durable, used, area_size}
 use Rattle.mt_pool.specs.Kept.{Explains}
 use Rattle.mt_pool.specs.Views.{pages}
 use Rattle.mt_pool.specs.declared.store.Store.{Store}
@@ -146,7 +146,7 @@ returns-in_err-first g c = let d = g.D.Device in let o = c.args.self.now in let 
     record {
       ahead = subst (GoesAhead d.seen d.may_leave d.moment d.left_since d.faults o o s s) (sym is)
           (idle_ahead d.seen d.may_leave d.moment d.left_since d.faults o o s (λ opening relations counters right. right) (λ opening. rests_same (world d.seen opening o))
-          (λ opening kept. no_call d.seen d.may_leave opening o.store kept d.moment d.left_since g.met.D.Device.only_now) refl refl refl refl (Err refusal.NoMemory) tt c.requires.writing c.requires.budget
+          (λ opening kept. no_call d.seen d.may_leave opening o.store kept d.moment d.left_since g.met.D.Device.only_now) refl refl refl refl refl (Err refusal.NoMemory) tt c.requires.writing c.requires.budget
           (λ is. absurd cc) (inl refl) (no_fault _ _ (Err refusal.NoMemory) refl refl));
       device = refl;
       ready = rw p.1 tt;
@@ -168,7 +168,7 @@ returns-in_err-append_end g c = let d = g.D.Device in let o = c.args.self.now in
           (idle_ahead d.seen d.may_leave d.moment d.left_since d.faults o n s
           (λ opening relations counters right. right_rests d.seen d.may_leave opening relations counters o n right (f.kept opening right.kept) (e.rests opening) f.map f.rooms) e.rests
           (λ opening kept. subst (λ (x : g.row.D.Denot). LeavesOnly d.moment d.left_since o.store.device x (Explains opening o.store)) (sym f.device) (no_call d.seen d.may_leave opening o.store kept d.moment d.left_since g.met.D.Device.only_now))
-          spent f.area f.map f.locks (Err refusal.NoMemory) tt c.requires.writing c.requires.budget
+          spent f.area f.durable f.map f.locks (Err refusal.NoMemory) tt c.requires.writing c.requires.budget
           (λ is. absurd cc) (inl refl) (no_fault _ _ (Err refusal.NoMemory) refl (ap d.faults f.device))));
       device = f.device;
       ready = rw p.1 tt;
@@ -226,6 +226,10 @@ returns g c = let d = g.D.Device in let seen = d.seen in let o = c.args.self.now
         area = ap (λ (x : Store g.row.D.Denot). area_size x.log) n.store ∙ elim c.match-done.branch [
           | in-Some+in_ok-append_end w ↦ ap (λ (x : Operations g.row.D.Denot). area_size x.store.log) w.self-is ∙ w.append_end.ensures.area
           | in_default w ↦ ap (λ (x : Operations g.row.D.Denot). area_size x.store.log) w.self-is
+        ];
+        durable = ap (λ (x : Store g.row.D.Denot). durable x.log) n.store ∙ elim c.match-done.branch [
+          | in-Some+in_ok-append_end w ↦ ap (λ (x : Operations g.row.D.Denot). durable x.store.log) w.self-is ∙ w.append_end.ensures.durable
+          | in_default w ↦ ap (λ (x : Operations g.row.D.Denot). durable x.store.log) w.self-is
         ];
         budget = elim c.match-done.branch [
           | in-Some+in_ok-append_end w ↦ ended_budget s _ w.append_end.new.scope.left (ap (λ (t : OpScope). record t { stage = Ready }) (w.scope-is ∙ w.append_end.ensures.scope)) c.requires.budget

@@ -1,7 +1,7 @@
 use Rattle.std.proofs.Props.{props}
 use mathlib.Core.Logic.{∥∥₁_elim}
 use Rattle.std.proofs.Common.{◌<◌, ◌-◌, ◌+◌, refl, subst, arith, ap}
-use Rattle.mt_log.specs.Words.{appended, used, area_size}
+use Rattle.mt_log.specs.Words.{appended, durable, used, area_size}
 use Rattle.mt_log.specs.declared.log.Log.{Log}
 use Rattle.mt_pool.specs.Views.{waits_for, pages}
 use Rattle.std.specs.Prelude.{IsSome, ℕ}
@@ -45,6 +45,7 @@ returns g c = let b = c.put_back.ensures in let seen = g.D.Device.seen in let ma
       never = λ is. absurd cc;
       log = ap (λ (l : Log). used l + s.left) b.log;
       area = ap (λ (l : Log). area_size l) b.log;
+      durable = ap (λ (l : Log). durable l) b.log;
       map = b.map;
       records = ap (λ (l : Log). appended l) b.log;
       locks = b.locks;

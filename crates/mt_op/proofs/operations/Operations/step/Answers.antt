@@ -20,6 +20,7 @@ returns-then-eq g c = let d = g.D.Device in
       moments = e.moments;
       log = e.log;
       area = e.area;
+      durable = e.durable;
       budget = e.budget;
       claims = e.claims;
       full = e.full;
@@ -44,6 +45,7 @@ returns-in_err-stepped g c = let d = g.D.Device in let o = c.args.self.now in le
       moments = e.moments;
       log = e.log;
       area = e.area;
+      durable = e.durable;
       budget = e.budget;
       claims = e.claims;
       full = e.full;
@@ -70,6 +72,7 @@ returns-in-Some g c = let d = g.D.Device in let o = c.args.self.now in let s = c
       moments = e.moments;
       log = e.log;
       area = e.area;
+      durable = e.durable;
       budget = e.budget;
       claims = e.claims;
       full = e.full;
@@ -110,6 +113,7 @@ returns-in-None g c = let d = g.D.Device in let o = c.args.self.now in let s = c
       moments = e.moments;
       log = e.log;
       area = e.area;
+      durable = e.durable;
       budget = e.budget;
       claims = e.claims;
       full = e.full;

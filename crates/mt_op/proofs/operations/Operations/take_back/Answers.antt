@@ -30,6 +30,7 @@ returns-then-scope-eq0 g c = let d = g.D.Device in
       few = b.few;
       log = b.log;
       area = b.area;
+      durable = b.durable;
       claimed = b.claimed;
       records = b.records;
       locks = b.locks;
@@ -57,6 +58,7 @@ returns-in_err-bring g c = let d = g.D.Device in let f = c.bring.ensures in let 
       few = b.few;
       log = b.log;
       area = b.area;
+      durable = b.durable;
       claimed = b.claimed;
       records = b.records;
       locks = b.locks;
@@ -82,6 +84,7 @@ returns-then-not-branch g c = let d = g.D.Device in let f = c.bring.ensures in l
       few = b.few;
       log = b.log;
       area = b.area;
+      durable = b.durable;
       claimed = b.claimed;
       records = b.records;
       locks = b.locks;
@@ -119,6 +122,7 @@ returns g c = let d = g.D.Device in let f = c.bring.ensures in let o = c.args.se
       few = b.few;
       log = b.log;
       area = b.area;
+      durable = b.durable;
       claimed = b.claimed;
       records = b.records;
       locks = b.locks;

@@ -3,7 +3,7 @@ use Rattle.std.specs.Prelude.{Ok, Err}
 use Rattle.std.proofs.lemmas.List.{get_or_default}
 use Rattle.std.proofs.lemmas.Result.{err_from_is_err_and}
 use Rattle.mt_base.specs.declared.refusal.Refusal.TheVariants as refusal
-use Rattle.mt_log.specs.Words.{used, area_size}
+use Rattle.mt_log.specs.Words.{durable, used, area_size}
 use Rattle.mt_pool.specs.Views.{IsThere}
 use Rattle.mt_space.specs.declared.changes.PageChange.{PageChange}
 use Rattle.mt_op.specs.World.{changes_in}
@@ -22,7 +22,7 @@ returns-in_err-bring g c = let d = g.D.Device in let f = c.bring.ensures in let 
       map = f.map;
       stage = c.requires.writing;
       ahead = subst (GoesAhead d.seen d.may_leave d.moment d.left_since d.faults o c.bring.new.self s s) (sym (p.1 ∙ ap Err (p.2 ∙ c.in_err-bring.ensures.only_device)))
-          (idle_ahead d.seen d.may_leave d.moment d.left_since d.faults o c.bring.new.self s f.right f.rests f.moments (ap used f.log) (ap area_size f.log) f.map f.locks (Err refusal.DeviceFailed) tt c.requires.writing c.requires.budget
+          (idle_ahead d.seen d.may_leave d.moment d.left_since d.faults o c.bring.new.self s f.right f.rests f.moments (ap used f.log) (ap area_size f.log) (ap durable f.log) f.map f.locks (Err refusal.DeviceFailed) tt c.requires.writing c.requires.budget
           (λ is. absurd cc) (inr refl) (fault_told _ _ c.bring.result _ (Err refusal.DeviceFailed) f.cause c.in_err-bring.was refl));
     }
 
@@ -31,7 +31,7 @@ returns-then-not-branch g c = let d = g.D.Device in let f = c.bring.ensures in
     record {
       map = f.map;
       stage = c.requires.writing;
-      ahead = idle_ahead d.seen d.may_leave d.moment d.left_since d.faults c.args.self.now c.bring.new.self c.args.scope.now f.right f.rests f.moments (ap used f.log) (ap area_size f.log) f.map f.locks (Ok stepped.Flush) tt c.requires.writing c.requires.budget
+      ahead = idle_ahead d.seen d.may_leave d.moment d.left_since d.faults c.args.self.now c.bring.new.self c.args.scope.now f.right f.rests f.moments (ap used f.log) (ap area_size f.log) (ap durable f.log) f.map f.locks (Ok stepped.Flush) tt c.requires.writing c.requires.budget
           (λ is. f.full (c.in_ok-bring.was ∙ ap Ok c.if-not-branch.true)) tt (no_fault_ok _ _ _ (unfailed _ _ c.bring.result _ f.cause c.in_ok-bring.was));
     }
 
@@ -53,7 +53,7 @@ returns g c = let d = g.D.Device in let f = c.bring.ensures in
     record {
       map = c.write_there.ensures.map ∙ f.map;
       stage = c.write_there.ensures.stage;
-      ahead = ahead_behind d.seen d.may_leave d.moment d.left_since d.faults c.args.self.now c.bring.new.self c.args.scope.now f.right f.rests f.moments (ap used f.log) (ap area_size f.log) f.map f.locks c.write_there.new.self c.write_there.new.scope c.write_there.result
+      ahead = ahead_behind d.seen d.may_leave d.moment d.left_since d.faults c.args.self.now c.bring.new.self c.args.scope.now f.right f.rests f.moments (ap used f.log) (ap area_size f.log) (ap durable f.log) f.map f.locks c.write_there.new.self c.write_there.new.scope c.write_there.result
           c.write_there.ensures.ahead c.write_there.ensures.device c.write_there.ensures.never (unfailed _ _ c.bring.result _ f.cause c.in_ok-bring.was);
     }
 

@@ -36,7 +36,7 @@ returns-in_err-write g c = let d = g.D.Device in let f = c.in_err-write.ensures 
       ahead = subst (GoesAhead d.seen d.may_leave d.moment d.left_since d.faults o n s s) (sym is)
           (idle_ahead d.seen d.may_leave d.moment d.left_since d.faults o n s
           (λ opening relations counters right. right_rests d.seen d.may_leave opening relations counters o n right (f.kept opening right.kept) (store_stays d.seen d.may_leave opening o c.write.new.self f.device f.err_pool f.err_appended) refl refl)
-          (λ opening. store_stays d.seen d.may_leave opening o c.write.new.self f.device f.err_pool f.err_appended) f.moments f.err_used f.area refl refl (Err refusal.NoMemory) tt c.requires.writing c.requires.budget
+          (λ opening. store_stays d.seen d.may_leave opening o c.write.new.self f.device f.err_pool f.err_appended) f.moments f.err_used f.area f.durable refl refl (Err refusal.NoMemory) tt c.requires.writing c.requires.budget
           (λ is. absurd cc) (inl refl) (no_fault _ _ (Err refusal.NoMemory) refl (ap d.faults f.device)));
       device = f.device;
       map = refl;
@@ -70,6 +70,7 @@ returns g c = let f = c.in_ok-write.ensures in let seen = g.D.Device.seen in let
         moments = f.moments;
         log = let within = write_within s _ _ _ c.requires.writing c.requires.budget c.requires.more short.size f.used in omega arith;
         area = f.area;
+        durable = f.durable;
         budget = write_left s t _ _ _ c.requires.writing c.requires.budget c.requires.more short.size f.used refl refl c.requires.writing refl (λ i. (s.left + c.used-before.ensures i) - c.used.ensures i);
         claims = refl;
         full = λ is. absurd cc;

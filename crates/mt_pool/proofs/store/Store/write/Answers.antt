@@ -146,3 +146,9 @@ pub change_all-requires-clause-within : goal.change_all-requires-clause-within
 change_all-requires-clause-within g c = let s = c.args.self.now in let r = c.requires in let page = c.args.change.now.page in let seen = g.D.Device.seen s.device in
     subst (λ (es : List Edit). All (λ (e : Edit). e.start + length e.bytes ≤ 4096) es) (sym c.deref.ensures.value)
     (edits_within (view s.pool seen page) c.args.change.now (view_whole s.pool seen page (steady g.D.Device.seen g.D.Device.may_leave s r.kept).frames r.there) r.short)
+
+pub returns-in_err-place-clause-durable : goal.returns-in_err-place-clause-durable
+returns-in_err-place-clause-durable g c = c.in_err-place.ensures.err_longer.durable_same
+
+pub returns-clause-durable : goal.returns-clause-durable
+returns-clause-durable g c = c.in_ok-place.ensures.longer.durable_same

@@ -6,7 +6,7 @@ use Rattle.mt_base.specs.declared.modes.LockMode.{LockMode}
 use Rattle.mt_base.specs.declared.modes.LockMode.TheVariants.{Read, Write, Add}
 use Rattle.mt_model.specs.Locks.{same_mode}
 use Rattle.mt_slock.specs.declared.holders.Holder.{Holder}
-use Rattle.mt_slock.specs.Views.{is_holder, is_among, conflicts, least_of, IsUnbarred, IsOldestBar}
+use Rattle.mt_slock.specs.Views.{is_holder, is_among, conflicts, in_order, least_of, IsUnbarred, IsOldestBar}
 
 -- ---- tests
 
@@ -95,6 +95,12 @@ pub among-filter : (hs : List Holder) (t : ℕ) (m : LockMode) (u : ℕ) (n : Lo
     → is_among (filter (is_other t m) hs) u n ≡ (is_among hs u n && not ((u == t) && same_mode m n))
 among-filter [] t m u n = refl
 among-filter (x ∷ xs) t m u n = filter_step t m u n x xs (is_holder t m x) refl (among-filter xs t m u n)
+
+-- ---- the first, and those behind it
+
+pub in_order_push : (first : Option Holder) (hs : List Holder) (h : Holder) → in_order first (hs ++ h ∷ []) ≡ in_order first hs ++ h ∷ []
+in_order_push None hs h = refl
+in_order_push (Some f) hs h = refl
 
 -- ---- the oldest in the way
 

@@ -1,5 +1,5 @@
 -- What a table of locks holds: its entries, each an object with its holders, as a test of locks.
-use Rattle.std.specs.Prelude.{ℕ, ◌≡◌, ◌≢◌, [], ◌≤◌, ◌==◌, ◌&&◌, Bool, true, false, not, min, List, Option, None, Some}
+use Rattle.std.specs.Prelude.{ℕ, ◌≡◌, ◌≢◌, [], ◌∷◌, ◌≤◌, ◌==◌, ◌&&◌, Bool, true, false, not, min, List, Option, None, Some}
 use Rattle.std.specs.List.{list_any}
 use Rattle.std.specs.Map.{lookup}
 use Rattle.mt_base.specs.Modes.{granted_together}
@@ -12,6 +12,11 @@ use Rattle.mt_slock.specs.declared.holders.Holder.{Holder}
 -- this transaction, in this mode
 abbrev pub is_holder : ℕ → LockMode → Holder → Bool
 is_holder t m h = (t == h.txn) && same_mode h.mode m
+
+-- the holders of an object: the first, where it still holds it, and those behind it
+abbrev pub in_order : Option Holder → List Holder → List Holder
+in_order None hs = hs
+in_order (Some h) hs = h ∷ hs
 
 -- it is among the holders of an object
 abbrev pub is_among : List Holder → ℕ → LockMode → Bool

@@ -1,5 +1,6 @@
-ghost use Rattle.std.specs.Prelude.{◌≡◌, ◌++◌, ◌∷◌, [], filter, not, length, IfOk, OnOk, OnErr, MatchOption, IsTrue, ◌↔◌};
-ghost use Rattle.mt_slock.specs.Views.{is_holder, is_among, conflicts, least_of, IsUnbarred, IsOldestBar};
+ghost use Rattle.std.specs.Prelude.{◌≡◌, ◌++◌, ◌∷◌, [], List, filter, not, OnOk, OnErr, MatchOption, IsTrue, ◌↔◌, ◌||◌};
+ghost use Rattle.mt_slock.specs.Views.{is_holder, is_among, conflicts, in_order, least_of, IsUnbarred, IsOldestBar};
+ghost use Rattle.mt_slock.specs.declared.holders.Holder.{Holder};
 
 use mt_base::{LockMode, TxnNo};
 use std::alloc::{AllocError, Global};
@@ -38,36 +39,92 @@ impl Holder {
     }
 }
 
-/// The holders of one object, in order of grant.
+// The first holder, where it is in the way of this transaction's lock in this mode.
+fn barred_by(first: Option<Holder>, txn: TxnNo, mode: LockMode) -> Option<TxnNo>
+    ensures { MatchOption result (IsUnbarred (in_order first []) txn mode) (IsOldestBar (in_order first []) txn mode) }
+{
+    match first {
+        Some(holder) if holder.bars(txn, mode) => Some(holder.txn),
+        _ => None,
+    }
+}
+
+// The oldest of the holders that is in the way of this transaction's lock in this mode.
+fn oldest_bar(first: Option<Holder>, others: &[Holder], txn: TxnNo, mode: LockMode) -> Option<TxnNo>
+    ensures { MatchOption result (IsUnbarred (in_order first others.now) txn mode)
+        (IsOldestBar (in_order first others.now) txn mode) }
+{
+    let mut oldest = barred_by(first, txn, mode);
+    for holder in others {
+        if holder.bars(txn, mode) {
+            oldest = Some(older(oldest, holder.txn));
+        }
+    }
+    oldest
+}
+
+// Whether the first holder is this transaction, in this mode.
+fn is_first(first: Option<Holder>, txn: TxnNo, mode: LockMode) -> bool
+    ensures { (hs : List Holder) → is_among (in_order first hs) txn mode ≡ (result || is_among hs txn mode) }
+{
+    match first {
+        Some(holder) => holder.is(txn, mode),
+        None => false,
+    }
+}
+
+// Whether a transaction is among these holders, in a mode.
+fn is_in(holders: &[Holder], txn: TxnNo, mode: LockMode) -> bool
+    ensures { result ≡ is_among holders.now txn mode }
+{
+    holders.iter().any(|holder| holder.is(txn, mode))
+}
+
+// The first holder, but for this transaction in this mode.
+fn without(first: Option<Holder>, txn: TxnNo, mode: LockMode) -> Option<Holder>
+    ensures { (hs : List Holder) → in_order result (filter (λ h. not (is_holder txn mode h)) hs)
+        ≡ filter (λ h. not (is_holder txn mode h)) (in_order first hs) }
+{
+    match first {
+        Some(holder) if !holder.is(txn, mode) => Some(holder),
+        _ => None,
+    }
+}
+
+/// The holders of one object, in order of grant. One alone takes no memory.
 #[derive(Debug, Drop)]
 pub struct Holders {
-    list: Vec<Holder>,
+    // where it still holds the object
+    first: Option<Holder>,
+    others: Vec<Holder>,
 }
 
 impl Model for Holders {
     ghost use Rattle.std.specs.Prelude.{List};
+    ghost use Rattle.mt_slock.specs.Views.{in_order};
     ghost use Rattle.mt_slock.specs.declared.holders.Holder.{Holder};
 
     ghost Value = { List Holder };
 
-    ghost view = { λ h. h.list.items };
+    ghost view = { λ h. in_order h.first h.others.items };
 }
 
 impl Holders {
-    /// One holder. The only error is want of memory.
-    pub fn one(alloc: Global, holder: Holder) -> Result<Holders, AllocError>
-        ensures { IfOk result (λ holders. holders ≡ holder ∷ []) }
+    /// One holder. It takes no memory.
+    pub fn one(alloc: Global, holder: Holder) -> Holders
+        ensures { result ≡ holder ∷ [] }
     {
-        let mut list = Vec::new(alloc);
-        list.push(holder)?;
-        Ok(Holders { list })
+        Holders {
+            first: Some(holder),
+            others: Vec::new(alloc),
+        }
     }
 
     /// Whether a transaction is among them, in a mode.
     pub fn has(&self, txn: TxnNo, mode: LockMode) -> bool
         ensures { result ≡ is_among self.now txn mode }
     {
-        self.list.iter().any(|holder| holder.is(txn, mode))
+        is_first(self.first, txn, mode) || is_in(&self.others, txn, mode)
     }
 
     /// The oldest of the other transactions among them that hold the object in a mode that conflicts with this
@@ -75,13 +132,7 @@ impl Holders {
     pub fn barring(&self, txn: TxnNo, mode: LockMode) -> Option<TxnNo>
         ensures { MatchOption result (IsUnbarred self.now txn mode) (IsOldestBar self.now txn mode) }
     {
-        let mut oldest = None;
-        for holder in &self.list {
-            if holder.bars(txn, mode) {
-                oldest = Some(older(oldest, holder.txn));
-            }
-        }
-        oldest
+        oldest_bar(self.first, &self.others, txn, mode)
     }
 
     /// One holder more, last. The only error is want of memory.
@@ -89,7 +140,7 @@ impl Holders {
         ensures added { OnOk result (self.new ≡ self.old ++ holder ∷ []) }
         ensures err { OnErr result (self.new ≡ self.old) }
     {
-        self.list.push(holder)?;
+        self.others.push(holder)?;
         Ok(())
     }
 
@@ -97,13 +148,14 @@ impl Holders {
     pub fn remove(&mut self, txn: TxnNo, mode: LockMode)
         ensures { self.new ≡ filter (λ h. not (is_holder txn mode h)) self.old }
     {
-        self.list.retain(|holder| !holder.is(txn, mode));
+        self.first = without(self.first, txn, mode);
+        self.others.retain(|holder| !holder.is(txn, mode));
     }
 
     /// Whether there are none.
     pub fn is_empty(&self) -> bool
         ensures { IsTrue result ↔ (self.now ≡ []) }
     {
-        self.list.is_empty()
+        self.first.is_none() && self.others.is_empty()
     }
 }

@@ -90,7 +90,7 @@ impl LockedObjects {
         match self.holders.get_mut(&object) {
             Some(holders) => holders.add(holder),
             None => {
-                let holders = Holders::one(self.alloc, holder)?;
+                let holders = Holders::one(self.alloc, holder);
                 self.holders.insert(object, holders)?;
                 Ok(())
             }
@@ -104,7 +104,7 @@ impl LockedObjects {
         ensures err { OnErr result (held_of self.new ≡ held_of self.old) }
         ensures idle { HasNoIdle self.old → HasNoIdle self.new }
     {
-        let holders = Holders::one(self.alloc, Holder { txn, mode })?;
+        let holders = Holders::one(self.alloc, Holder { txn, mode });
         self.holders.insert(object, holders)?;
         Ok(())
     }

@@ -11,11 +11,11 @@ use Rattle.mt_slock.proofs.Among.{among-push, or_false}
 use Rattle.mt_slock.proofs.Keys.{same_lookup, updated}
 use Rattle.mt_slock.proofs.Entries.{with_changed, same_changed, still_no_idle, some_not_empty, grown_not_empty}
 use Rattle.mt_slock.proofs.locked.LockedObjects.add.Goals as goal
-use Rattle.mt_slock.proofs.locked.LockedObjects.add.Goals.{in-Key-2, in-Counter-2, Joined-object}
+use Rattle.mt_slock.proofs.locked.LockedObjects.add.Goals.{in-Key-1, in-Counter-1, Joined-object}
 
 -- the entries once the holders have been written back
 written : (c : Joined-object) → c.match-object.self ≡ (c.get_mut.follows.lender c.add.new.self).entries
-written c = elim c.match-object.branch [ in-Key-2 w ↦ w.self-is | in-Counter-2 w ↦ w.self-is ]
+written c = elim c.match-object.branch [ in-Key-1 w ↦ w.self-is | in-Counter-1 w ↦ w.self-is ]
 
 found : (c : Joined-object) → lookup (same_object c.args.object) c.args.self.now ≡ Some c.in-Some.holders.now
 found c =
@@ -58,7 +58,7 @@ returns-in_ok-insert-in-None-clause-added c =
     let t = c.args.txn in
     let x = c.args.object in
     let m = c.args.mode in
-    let hs : List Holder = c.in_ok-holders-in-None.holders in
+    let hs : List Holder = c.one-holders.result in
     let es : List (Object × List Holder) = c.args.self.now in
     let old : Object → Option (List Holder) = λ q. lookup (same_object q) es in
     let new : Object → Option (List Holder) = λ q. lookup (same_object q) c.insert.new.self.entries in
@@ -69,7 +69,7 @@ returns-in_ok-insert-in-None-clause-added c =
     λ i u y n. with_changed old new x (Some hs)
     (λ q. updated x (Some hs) c.get_mut.follows.lender-at-none.entries c.insert.new.self.entries update.0 q
     ∙ ap (λ (l : List (Object × List Holder)). cond (same_object x q) (Some hs) (lookup (same_object q) l)) same) t m
-    (λ v k. ap (λ (l : List Holder). is_among l v k) c.in_ok-holders-in-None.ensures ∙ (or_false ((v == t) && same_mode m k) ∙ ap (λ (o : Option (List Holder)). holds_in o v k || ((v == t) && same_mode m k)) (sym missing)))
+    (λ v k. ap (λ (l : List Holder). is_among l v k) c.one-holders.ensures ∙ (or_false ((v == t) && same_mode m k) ∙ ap (λ (o : Option (List Holder)). holds_in o v k || ((v == t) && same_mode m k)) (sym missing)))
     u y n i
 
 pub returns-in-Some-clause-idle : goal.returns-in-Some-clause-idle
@@ -82,10 +82,10 @@ returns-in-Some-clause-idle c = λ idle.
 pub returns-in_ok-insert-in-None-clause-idle : goal.returns-in_ok-insert-in-None-clause-idle
 returns-in_ok-insert-in-None-clause-idle c = λ idle.
     let x = c.args.object in
-    let hs : List Holder = c.in_ok-holders-in-None.holders in
+    let hs : List Holder = c.one-holders.result in
     let es : List (Object × List Holder) = c.args.self.now in
     let same : c.get_mut.follows.lender-at-none.entries ≡ es = ap (λ k. k.entries) (c.get_mut.follows.holds-at-none) ∙ c.self.view_is in
-    let one : hs ≢ [] = λ e. absurd (one_not_empty (record { txn = c.args.txn; mode = c.args.mode }) (sym c.in_ok-holders-in-None.ensures ∙ e)) in
+    let one : hs ≢ [] = λ e. absurd (one_not_empty (record { txn = c.args.txn; mode = c.args.mode }) (sym c.one-holders.ensures ∙ e)) in
     let update = c.in_ok-insert-in-None.ensures.updates in
     still_no_idle x (Some hs) es c.insert.new.self.entries
     (λ q. updated x (Some hs) c.get_mut.follows.lender-at-none.entries c.insert.new.self.entries update.0 q

@@ -1,5 +1,5 @@
 -- Log bytes: what is kept for an operation is enough, and stays so.
-use Rattle.std.proofs.Common.{◌≡◌, ℕ, ◌+◌, ◌-◌, ◌*◌, ◌<◌, ◌≤◌, length, sym, ap, ◌∙◌, subst, if◌then◌else◌, arith}
+use Rattle.std.proofs.Common.{◌≡◌, ℕ, ◌+◌, ◌-◌, ◌*◌, ◌<◌, ◌≤◌, length, None, sym, ap, ◌∙◌, subst, if◌then◌else◌, arith}
 use Rattle.mt_log.specs.Words.{area_size}
 use Rattle.mt_log.specs.declared.log.Log.{Log}
 use Rattle.mt_model.specs.declared.operations.Op.{Op}
@@ -41,5 +41,5 @@ write_left s t before used size stage k more short grown op changes is_writing w
 }
 
 -- one that has ended needs none
-pub ended_budget : (s t : OpScope) (left : ℕ) → t ≡ record s { left = left; stage = Ready } → HasBudget s → HasBudget t
+pub ended_budget : (s t : OpScope) (left : ℕ) → t ≡ record s { left = left; reply = None; stage = Ready } → HasBudget s → HasBudget t
 ended_budget s t left is k = subst HasBudget (sym is) (record { enough = omega arith; reads = k.reads })

@@ -43,6 +43,9 @@ end_stands w s done txn k =
     let named : (s.txn == 0) ≡ false = ne_eqb s.txn 0 (λ e. let some = txn.0 in omega arith) in
     rw (named, k.unfinished.transaction, k.due done) refl
 
+pub one_reply : (a b : Reply) → Some a ≡ Some b → a ≡ b
+one_reply a b e = cc
+
 -- it has a reply
 pub has_reply : (relations counters : ℕ) (w : World) (s : OpScope) → IsUnderWay relations counters w s → s.stage ≡ Writing → IsSome s.reply
 has_reply relations counters w s k stage = let at : IsWriting relations counters w s = subst (IsAt relations counters w s) stage k.at in rw at.plan.replies refl
@@ -182,7 +185,7 @@ module _ {D : Type 0} (seen : D → List ℕ) (may_leave : D → List ℕ → Ty
 
 module _ {D : Type 0} (seen : D → List ℕ) (may_leave : D → List ℕ → Type 0) (opening : PageBytes) (relations counters : ℕ) (o : Operations D) (s t : OpScope) (reply : Reply)
     (right : IsRight seen may_leave opening relations counters o) (k : IsUnderWay relations counters (world seen opening o) s) (stage : s.stage ≡ Writing) (is : s.reply ≡ Some reply)
-    (left : ℕ) (moves : t ≡ record s { left = left; stage = Ready }) where
+    (left : ℕ) (moves : t ≡ record s { left = left; reply = None; stage = Ready }) where
   abbrev w : World
   w = world seen opening o
 
@@ -251,7 +254,7 @@ module _ {D : Type 0} (seen : D → List ℕ) (may_leave : D → List ℕ → Ty
       → IsRight seen may_leave opening relations counters n × Acts relations counters w (world seen opening n) s t reply
   finished done m n due all noted kept store locks map space claims rooms fits =
       let z = world seen opening m in
-      let moved : world seen opening n ≡ z = λ i. world seen opening (record { store = store i; locks = locks i; rooms = m.rooms; map = m.map }) in
+      let moved : world seen opening n ≡ z = λ i. world seen opening (record m { store = store i; locks = locks i }) in
       let e = ends relations counters w z s done noted right.sound k stage all reply is in
       let total : pages o.store.pool ≡ pages n.store.pool = sym noted.area.total ∙ sym (ap (λ (x : Store D). pages x.pool) store) in
       let kinds : n.map.kinds ≡ held_in (world seen opening n) 0 = map ∙ sym (ap (λ (x : World). held_in x 0) moved ∙ ap (λ (f : PageBytes). f 0) e.1) in (
@@ -275,7 +278,7 @@ module _ {D : Type 0} (seen : D → List ℕ) (may_leave : D → List ℕ → Ty
       → n.map.space.0 ≡ mapped n.map.kinds (pages o.store.pool) → reserved_of n.map.space ≤ free_of n.map.space → length n.rooms.0 ≡ length o.rooms.0 → AreRooms n.rooms.0 (after (changes_in s) (held_in w))
       → IsRight seen may_leave opening relations counters n × Acts relations counters w (world seen opening n) s t reply
   finished_quietly n quiet store locks map space claims rooms fits =
-      let moved : world seen opening n ≡ w = λ i. world seen opening (record { store = store i; locks = locks i; rooms = o.rooms; map = o.map }) in
+      let moved : world seen opening n ≡ w = λ i. world seen opening (record o { store = store i; locks = locks i }) in
       let none = nothing_changes relations counters w s reply right.sound k stage is quiet in
       let held : after (changes_in s) (held_in w) ≡ held_in w = ap (λ (cs : List PageChange). after cs (held_in w)) none in
       let total : pages o.store.pool ≡ pages n.store.pool = sym (ap (λ (x : Store D). pages x.pool) store) in

@@ -37,7 +37,7 @@ right_rests seen may_leave opening relations counters o n k kept m map rooms =
 
 -- the store with other frames
 abbrev pub with_store : {D : Type 0} → Operations D → Store D → Operations D
-with_store o s = record { store = s; locks = o.locks; rooms = o.rooms; map = o.map }
+with_store o s = record o { store = s }
 
 pub store_rests : {D : Type 0} (seen : D → List ℕ) (opening : PageBytes) (o : Operations D) (s : Store D)
     → s.log ≡ o.store.log → pages s.pool ≡ pages o.store.pool → ((q : ℕ) → q < pages o.store.pool → view s.pool (seen s.device) q ≡ view o.store.pool (seen o.store.device) q)

@@ -1,6 +1,6 @@
 -- What pages in memory take, noted page by page.
 use mathlib.Core.Logic.{∥∥₁_elim}
-use Rattle.std.proofs.Common.{◌≡◌, ◌≢◌, ◌<◌, ◌≤◌, ◌+◌, ◌∙◌, ℕ, List, [], length, refl, sym, ap, subst, arith, below_more, length-set}
+use Rattle.std.proofs.Common.{◌≡◌, ◌≢◌, ◌<◌, ◌≤◌, ◌+◌, ◌∙◌, ℕ, List, [], length, sym, ap, subst, arith, below_more, length-set}
 use Rattle.std.proofs.Math.ListN.{get_or, set}
 use Rattle.std.proofs.Props.{props}
 use Rattle.std.proofs.lemmas.List.{get_or-set_same, get_or-set_other}

@@ -148,7 +148,7 @@ impl<D: Device> Operations<D> {
         ensures scope { KeepsScope scope.old scope.new result }
         ensures only_memory { IfErr result (λ why. why ≡ Refusal.NoMemory) }
     {
-        scope.seen.reserve()?;
+        scope.seen.reserve(&mut self.spare)?;
         match self.hold(scope, page, mode)? {
             Stepped::Went => {
                 scope.seen.put(page, self.store.pool.view(page));

@@ -33,7 +33,7 @@ use mt_plock::PageLocks;
 use mt_pool::{Fetched, Flushed, Pool, Store};
 use mt_space::pages::{MAP, RECORDS};
 use mt_space::{Changes, Pages};
-use mt_steps::Copies;
+use mt_steps::{Copies, SpareCopies};
 use std::alloc::Global;
 
 /// The store of one kernel, with the page locks of its operations, what each page of records takes, and the
@@ -44,6 +44,8 @@ pub struct Operations<D: Device> {
     pub(crate) locks: PageLocks,
     pub(crate) rooms: Rooms,
     pub(crate) map: SpaceMap,
+    // of operations that have ended
+    pub(crate) spare: SpareCopies,
 }
 
 /// Operations that could not begin: why not, and the store that they were to have.
@@ -96,6 +98,7 @@ impl<D: Device + Drop> Operations<D> {
             locks,
             rooms,
             map,
+            spare: SpareCopies::new(alloc),
         };
         match operations.note_rooms() {
             Ok(()) => Ok(operations),
@@ -105,6 +108,7 @@ impl<D: Device + Drop> Operations<D> {
                     locks: _,
                     rooms: _,
                     map: _,
+                    spare: _,
                 } = operations;
                 Err(NotOpened { refusal, store })
             }
@@ -128,6 +132,7 @@ impl<D: Device + Drop> Operations<D> {
             locks: _,
             rooms: _,
             map: _,
+            spare: _,
         } = operations;
         store.device
     }

@@ -21,6 +21,7 @@ use mt_file::{Rooms, fits};
 use mt_plock::PageLocks;
 use mt_pool::Store;
 use mt_space::pages::{MAP, RECORDS};
+use mt_steps::SpareCopies;
 use std::alloc::{AllocError, Global};
 
 /// What operations keep beside their store.
@@ -29,6 +30,7 @@ pub struct Idle {
     pub(crate) locks: PageLocks,
     pub(crate) rooms: Rooms,
     pub(crate) map: SpaceMap,
+    pub(crate) spare: SpareCopies,
 }
 
 // What each page of records takes.
@@ -63,7 +65,13 @@ impl Idle {
         let rooms = rooms_of(alloc, pages)?;
         let map = SpaceMap::of(alloc, &pages[usize::from(MAP)], pages.len() as u16)?;
         let locks = PageLocks::new(alloc);
-        Ok(Idle { locks, rooms, map })
+        let spare = SpareCopies::new(alloc);
+        Ok(Idle {
+            locks,
+            rooms,
+            map,
+            spare,
+        })
     }
 }
 
@@ -87,8 +95,17 @@ impl<D: Device> Operations<D> {
             locks,
             rooms,
             map,
+            spare,
         } = self;
-        (store, Idle { locks, rooms, map })
+        (
+            store,
+            Idle {
+                locks,
+                rooms,
+                map,
+                spare,
+            },
+        )
     }
 
     /// Operations over a store whose log has no record but the images that its area began with, with what others kept
@@ -102,12 +119,18 @@ impl<D: Device> Operations<D> {
         ensures locks { result.locks ≡ idle.locks }
         ensures claimed { claimed result ≡ reserved_of idle.map.space }
     {
-        let Idle { locks, rooms, map } = idle;
+        let Idle {
+            locks,
+            rooms,
+            map,
+            spare,
+        } = idle;
         Operations {
             store,
             locks,
             rooms,
             map,
+            spare,
         }
     }
 }

@@ -101,15 +101,15 @@ impl<D: Device> Operations<D> {
         ensures ended { (result ≡ Ok stepped.Went → ⊥) × (result ≡ Ok stepped.Flush → ⊥) }
         ensures only_memory { IfErr result (λ why. why ≡ Refusal.NoMemory) }
     {
-        let (first, second, done) = told(scope)?;
+        let (answer, done) = told(scope)?;
         if let Some(done) = done {
             self.append_end(scope, done)?;
         }
         let claim = pages_for(&scope.op, scope.split);
         self.map.settle(&scope.changes, claim);
         self.note_looked(scope);
-        scope.stage = Stage::Ready;
-        Ok(Stepped::Ready(first, second))
+        let reply = made_ready(scope);
+        Ok(Stepped::Ready(reply, answer))
     }
 
     // Appends the operation's end.
@@ -220,22 +220,33 @@ impl<D: Device> Operations<D> {
     }
 }
 
-// The reply of an operation, twice, and what its end logs of it.
-fn told(scope: &OpScope) -> Result<(Reply, Reply, Option<LoggedOp>), Refusal>
+// The operation is ready, and gives its reply away.
+fn made_ready(scope: &mut OpScope) -> Reply
+    requires { IsSome scope.old.reply }
+    ensures reply { scope.old.reply ≡ Some result }
+    ensures scope { scope.new ≡ record scope.old { reply = None; stage = Ready } }
+{
+    scope.stage = Stage::Ready;
+    let Some(reply) = scope.reply.take() else {
+        unreachable!()
+    };
+    reply
+}
+
+// A copy of an operation's reply, and what its end logs of it.
+fn told(scope: &OpScope) -> Result<(Reply, Option<LoggedOp>), Refusal>
     requires { IsSome scope.now.reply }
     ensures reply { IfOk result (λ told. scope.now.reply ≡ Some told.0) }
-    ensures twice { IfOk result (λ told. told.1 ≡ told.0) }
-    ensures logged { IfOk result (λ told. told.2 ≡ logged_of scope.now.op told.0) }
+    ensures logged { IfOk result (λ told. told.1 ≡ logged_of scope.now.op told.0) }
     ensures operation { (relations counters : ℕ) → relations ≤ 64 → counters ≤ 128
         → IsWithin relations counters scope.now.op
-        → IfOk result (λ told. HasSmallReply told.0 → IfSome told.2 IsOperation) }
+        → IfOk result (λ told. HasSmallReply told.0 → IfSome told.1 IsOperation) }
     ensures only_memory { IfErr result (λ why. why ≡ Refusal.NoMemory) }
 {
     let Some(reply) = &scope.reply else {
         unreachable!()
     };
-    let first = reply.try_clone()?;
-    let second = reply.try_clone()?;
+    let copy = reply.try_clone()?;
     let done = logged(&scope.op, reply)?;
-    Ok((first, second, done))
+    Ok((copy, done))
 }

@@ -219,7 +219,7 @@ impl<D: Device> Operations<D> {
         self.release(scope); // nothing else of it is left
     }
 
-    // Gives the operation's locks back, and spends it.
+    // Gives the operation's locks back, and spends it. The memory of its copies is kept for those of others.
     fn release(&mut self, scope: OpScope)
         requires locks { locks_of scope.number self.old.locks ≡ scope.guards.items }
         ensures leaves { (opening : PageBytes) → Leaves (world D.seen opening self.old) (world D.seen opening self.new)
@@ -238,7 +238,7 @@ impl<D: Device> Operations<D> {
             left: _,
             room: _,
             guards,
-            seen: _,
+            seen,
             stage: _,
             changes: _,
             reply: _,
@@ -246,5 +246,6 @@ impl<D: Device> Operations<D> {
             standing: _,
         } = scope;
         self.locks.release_all(guards);
+        self.spare.keep(seen);
     }
 }

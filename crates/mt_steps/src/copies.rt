@@ -7,9 +7,48 @@ use crate::draft::{PageCopy, copy_of};
 use mt_base::PageNo;
 use mt_space::Pages;
 use std::alloc::{AllocError, Global};
+use std::marker::Model;
+use std::mem::swap;
 
 // Most operations look at no more pages: the directory, a bucket's, and one of records or the map, or two.
 const USUAL_PAGES: usize = 4;
+
+// The memory of more copies is given back when they are done with.
+const SPARE_PAGES: usize = 8;
+
+/// The memory of copies that are done with, for those of the next operation. Contracts see nothing of it.
+#[derive(Drop)]
+pub struct SpareCopies {
+    list: Vec<PageCopy>,
+}
+
+impl Model for SpareCopies {
+    ghost Value = { Unit {0} };
+
+    ghost view = { λ spare. tt };
+
+    ghost invariant = { λ spare. spare.list.items ≡ [] };
+}
+
+impl SpareCopies {
+    /// No memory yet.
+    pub fn new(alloc: Global) -> SpareCopies {
+        SpareCopies {
+            list: Vec::new(alloc),
+        }
+    }
+
+    /// Keeps the memory of these copies, which are done with, where there is more of it than is kept so far, and not more
+    /// than most operations want.
+    pub fn keep(&mut self, copies: Copies) {
+        let Copies { total: _, mut list } = copies;
+        let room = list.capacity();
+        if self.list.capacity() < room && room <= SPARE_PAGES {
+            list.clear();
+            swap(&mut self.list, &mut list);
+        }
+    }
+}
 
 /// Copies of some of a device's pages, those that an operation has looked at: no other page is at hand.
 #[derive(Drop)]
@@ -30,15 +69,20 @@ impl Copies {
         }
     }
 
-    /// Makes room for one copy more, and with the first for as many as most operations want. The only error is want of
-    /// memory.
-    pub fn reserve(&mut self) -> Result<(), AllocError>
+    /// Makes room for one copy more, and with the first for as many as most operations want: the first takes the memory
+    /// that is kept, if there is any. The only error is want of memory.
+    pub fn reserve(&mut self, spare: &mut SpareCopies) -> Result<(), AllocError>
         ensures total { self.new.total ≡ self.old.total }
         ensures same { self.new.list.items ≡ self.old.list.items }
         ensures room { OnOk result (vec_len self.new.list < vec_capacity self.new.list) }
     {
-        let wanted = if self.list.is_empty() { USUAL_PAGES } else { 1 };
-        self.list.reserve(wanted)
+        if !self.list.is_empty() {
+            return self.list.reserve(1);
+        }
+        if self.list.capacity() < spare.list.capacity() {
+            swap(&mut self.list, &mut spare.list);
+        }
+        self.list.reserve(USUAL_PAGES)
     }
 
     /// Puts a page's bytes behind the other copies, in the room that was made for them.

@@ -19,7 +19,7 @@ mod planning;
 mod updating;
 
 pub use act::Act;
-pub use copies::Copies;
+pub use copies::{Copies, SpareCopies};
 pub use counters::{SchemaSizes, add, check, counter, sizes};
 pub use laws::formatted_pages_are_good;
 pub use listing::{base_without_rows, list_rows};

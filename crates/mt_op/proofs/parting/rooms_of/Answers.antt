@@ -1,7 +1,7 @@
 use mathlib.Core.Logic.{∥∥₁_map}
 use Rattle.std.proofs.Common.{◌≡◌, ℕ, [], get_or, subst, arith}
 use Rattle.mt_file.proofs.Shaped.{shaped_of}
-use Rattle.mt_op.proofs.Roomed.{some_pages, all_rooms, one_noted, one_passed}
+use Rattle.mt_op.proofs.Roomed.{some_pages}
 use Rattle.mt_op.proofs.parting.rooms_of.Goals as goal
 
 pub bounds-pages-from : goal.bounds-pages-from

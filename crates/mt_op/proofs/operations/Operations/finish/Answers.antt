@@ -1,7 +1,8 @@
 use Rattle.std.proofs.Props.{props}
 use mathlib.Core.Logic.{∥∥₁_elim, ∥∥₁_map}
-use Rattle.std.proofs.Common.{ℕ, List, get_or, ◌≡◌, ◌≤◌, ◌+◌, ◌∙◌, inl, length, refl, sym, ap, subst, Option, arith}
-use Rattle.std.specs.Prelude.{IfSome, Err}
+use Rattle.std.proofs.Common.{ℕ, List, ◌≡◌, ◌≤◌, ◌+◌, ◌∙◌, inl, length, None, refl, sym, ap, subst, Option, arith}
+use Rattle.std.specs.Prelude.{IfSome, IsSome, Err}
+use Rattle.mt_model.specs.declared.operations.Reply.{Reply}
 use Rattle.std.proofs.lemmas.Result.{err_from_is_err_and}
 use Rattle.mt_base.specs.declared.refusal.Refusal.TheVariants as refusal
 use Rattle.mt_disk.specs.Disk.{LeavesOnly}
@@ -15,7 +16,8 @@ use Rattle.mt_pool.specs.declared.store.Store.{Store}
 use Rattle.mt_pool.proofs.Kept.{no_call}
 use Rattle.mt_space.specs.Rooms.{mapped, free_of, reserved_of}
 use Rattle.mt_steps.specs.Plans.{own_needs}
-use Rattle.mt_op.specs.Operations.{world}
+use Rattle.mt_op.specs.Operations.{world, Acts}
+use Rattle.mt_op.specs.Work.{work_of}
 use Rattle.mt_op.specs.Stepping.{GoesAhead}
 use Rattle.mt_op.specs.declared.operations.Operations.{Operations}
 use Rattle.mt_op.specs.declared.scope.OpScope.{OpScope}
@@ -26,7 +28,7 @@ use Rattle.mt_op.proofs.Budget.{ended_budget}
 use Rattle.mt_op.proofs.Faulting.{no_fault, no_fault_ok}
 use Rattle.mt_op.proofs.Going.{rests_same}
 use Rattle.mt_op.proofs.Right.{right_rests}
-use Rattle.mt_op.proofs.Finished.{has_reply, end_stands, planned_reply, open_still, settle_asks, settle_claimed, settle_mapped, settle_gives, settle_frees, note_asks, note_whole, note_inside, note_few, note_followed, finished, finished_quietly}
+use Rattle.mt_op.proofs.Finished.{has_reply, end_stands, planned_reply, open_still, settle_asks, settle_claimed, settle_mapped, settle_gives, settle_frees, one_reply, note_asks, note_whole, note_inside, note_few, note_followed, finished, finished_quietly}
 use Rattle.mt_pool.specs.Same.{Operation-prop}
 use Rattle.mt_op.proofs.Known.{known_within}
 use Rattle.mt_op.proofs.operations.Operations.finish.Goals as goal
@@ -35,16 +37,24 @@ use Rattle.mt_op.proofs.operations.Operations.finish.Goals.{in-Some+in_ok-append
 pub told-requires : goal.told-requires
 told-requires g c = ∥∥₁_elim c.requires.right (hlevel props) (λ (opening, relations, counters, right, k, few, some). has_reply relations counters (world g.D.Device.seen opening c.args.self.now) c.args.scope.now k c.requires.writing)
 
+pub made_ready-reply-requires : goal.made_ready-reply-requires
+made_ready-reply-requires g c = ∥∥₁_elim c.requires.right (hlevel props) (λ (opening, relations, counters, right, k, few, some).
+    let own : c.match-done.scope.reply ≡ c.args.scope.now.reply = elim c.match-done.branch [
+      | in-Some+in_ok-append_end w ↦ ap (λ (t : OpScope). t.reply) (w.scope-is ∙ w.append_end.ensures.scope)
+      | in_default w ↦ ap (λ (t : OpScope). t.reply) w.scope-is
+    ] in
+    subst (λ (r : Option Reply). IsSome r) (sym own) (has_reply relations counters (world g.D.Device.seen opening c.args.self.now) c.args.scope.now k c.requires.writing))
+
 pub append_end-requires-clause-numbers : goal.append_end-requires-clause-numbers
 append_end-requires-clause-numbers g c = let k = known_within g.D.Device.seen g.D.Device.may_leave c.args.self.now c.args.scope.now c.requires.right in (k.txn, k.op)
 
 pub append_end-requires-clause-operation : goal.append_end-requires-clause-operation
-append_end-requires-clause-operation g c = ∥∥₁_elim c.requires.right (Operation-prop c.in-Some.done) (λ (opening, relations, counters, right, k, few, some). let plan = planned_reply relations counters (world g.D.Device.seen opening c.args.self.now) c.args.scope.now _ right.sound k c.requires.writing c.in_ok-first.ensures.reply in
-    subst (λ (x : Option LoggedOp). IfSome x IsOperation) c.in-Some.is (c.in_ok-first.ensures.operation relations counters few some k.within plan.small))
+append_end-requires-clause-operation g c = ∥∥₁_elim c.requires.right (Operation-prop c.in-Some.done) (λ (opening, relations, counters, right, k, few, some). let plan = planned_reply relations counters (world g.D.Device.seen opening c.args.self.now) c.args.scope.now _ right.sound k c.requires.writing c.in_ok-answer.ensures.reply in
+    subst (λ (x : Option LoggedOp). IfSome x IsOperation) c.in-Some.is (c.in_ok-answer.ensures.operation relations counters few some k.within plan.small))
 
 pub append_end-requires-clause-rules : goal.append_end-requires-clause-rules
 append_end-requires-clause-rules g c = ∥∥₁_elim c.requires.right (hlevel props) (λ (opening, relations, counters, right, k, few, some). let w = world g.D.Device.seen opening c.args.self.now in
-    end_stands w c.args.scope.now c.in-Some.done k.txn (open_still relations counters w c.args.scope.now _ right.sound k c.requires.writing c.in_ok-first.ensures.reply))
+    end_stands w c.args.scope.now c.in-Some.done k.txn (open_still relations counters w c.args.scope.now _ right.sound k c.requires.writing c.in_ok-answer.ensures.reply))
 
 pub settle-requires-clause-short : goal.settle-requires-clause-short
 settle-requires-clause-short g c = ∥∥₁_map c.requires.right (λ (opening, relations, counters, right, k, few, some). let seen = g.D.Device.seen in let s = c.args.scope.now in let o = c.args.self.now in
@@ -60,7 +70,7 @@ settle-requires-clause-short g c = ∥∥₁_map c.requires.right (λ (opening, 
       | in-Some+in_ok-append_end w ↦ ap (λ (t : OpScope). own_needs t.op t.split) (w.scope-is ∙ w.append_end.ensures.scope)
       | in_default w ↦ ap (λ (t : OpScope). own_needs t.op t.split) w.scope-is
     ] in
-    settle_asks seen g.D.Device.may_leave opening relations counters o s _ right k c.requires.writing c.in_ok-first.ensures.reply c.match-done.self.map c.match-done.scope map_same changes c.pages_for-claim.result own)
+    settle_asks seen g.D.Device.may_leave opening relations counters o s _ right k c.requires.writing c.in_ok-answer.ensures.reply c.match-done.self.map c.match-done.scope map_same changes c.pages_for-claim.result own)
 
 pub settle-requires-clause-claimed : goal.settle-requires-clause-claimed
 settle-requires-clause-claimed g c = ∥∥₁_elim c.requires.right (hlevel props) (λ (opening, relations, counters, right, k, few, some). let seen = g.D.Device.seen in let s = c.args.scope.now in let o = c.args.self.now in
@@ -76,7 +86,7 @@ settle-requires-clause-claimed g c = ∥∥₁_elim c.requires.right (hlevel pro
       | in-Some+in_ok-append_end w ↦ ap (λ (t : OpScope). own_needs t.op t.split) (w.scope-is ∙ w.append_end.ensures.scope)
       | in_default w ↦ ap (λ (t : OpScope). own_needs t.op t.split) w.scope-is
     ] in
-    settle_claimed seen g.D.Device.may_leave opening relations counters o s _ right k c.requires.writing c.in_ok-first.ensures.reply c.match-done.self.map c.match-done.scope map_same changes c.pages_for-claim.result own c.requires.claims)
+    settle_claimed seen g.D.Device.may_leave opening relations counters o s _ right k c.requires.writing c.in_ok-answer.ensures.reply c.match-done.self.map c.match-done.scope map_same changes c.pages_for-claim.result own c.requires.claims)
 
 pub settle-requires-clause-mapped : goal.settle-requires-clause-mapped
 settle-requires-clause-mapped g c = ∥∥₁_elim c.requires.right (hlevel props) (λ (opening, relations, counters, right, k, few, some). let seen = g.D.Device.seen in let s = c.args.scope.now in let o = c.args.self.now in
@@ -88,7 +98,7 @@ settle-requires-clause-mapped g c = ∥∥₁_elim c.requires.right (hlevel prop
       | in-Some+in_ok-append_end w ↦ ap (λ (t : OpScope). t.changes) w.scope-is ∙ ap (λ (t : OpScope). t.changes) w.append_end.ensures.scope
       | in_default w ↦ ap (λ (t : OpScope). t.changes) w.scope-is
     ] in
-    settle_mapped seen g.D.Device.may_leave opening relations counters o s _ right k c.requires.writing c.in_ok-first.ensures.reply c.match-done.self.map c.match-done.scope map_same changes)
+    settle_mapped seen g.D.Device.may_leave opening relations counters o s _ right k c.requires.writing c.in_ok-answer.ensures.reply c.match-done.self.map c.match-done.scope map_same changes)
 
 pub note_looked-requires-clause-pages : goal.note_looked-requires-clause-pages
 note_looked-requires-clause-pages g c = ∥∥₁_map c.requires.right (λ (opening, relations, counters, right, k, few, some). let seen = g.D.Device.seen in let s = c.args.scope.now in let o = c.args.self.now in
@@ -104,8 +114,8 @@ note_looked-requires-clause-pages g c = ∥∥₁_map c.requires.right (λ (open
       | in-Some+in_ok-append_end w ↦ ap (λ (t : OpScope). t.changes) w.scope-is ∙ ap (λ (t : OpScope). t.changes) w.append_end.ensures.scope
       | in_default w ↦ ap (λ (t : OpScope). t.changes) w.scope-is
     ] in
-    let given = settle_gives seen g.D.Device.may_leave opening relations counters o s _ right k c.requires.writing c.in_ok-first.ensures.reply c.match-done.self.map c.match-done.scope map_same changes c.settle.new.self.kinds c.settle.ensures.kinds in
-    note_asks seen g.D.Device.may_leave opening relations counters o s _ right k c.requires.writing c.in_ok-first.ensures.reply c.match-done.scope copies c.settle.new.self.kinds changes given)
+    let given = settle_gives seen g.D.Device.may_leave opening relations counters o s _ right k c.requires.writing c.in_ok-answer.ensures.reply c.match-done.self.map c.match-done.scope map_same changes c.settle.new.self.kinds c.settle.ensures.kinds in
+    note_asks seen g.D.Device.may_leave opening relations counters o s _ right k c.requires.writing c.in_ok-answer.ensures.reply c.match-done.scope copies c.settle.new.self.kinds changes given)
 
 pub note_looked-requires-clause-whole : goal.note_looked-requires-clause-whole
 note_looked-requires-clause-whole g c = ∥∥₁_elim c.requires.right (hlevel props) (λ (opening, relations, counters, right, k, few, some). let seen = g.D.Device.seen in let s = c.args.scope.now in let o = c.args.self.now in
@@ -113,7 +123,7 @@ note_looked-requires-clause-whole g c = ∥∥₁_elim c.requires.right (hlevel 
       | in-Some+in_ok-append_end w ↦ ap (λ (t : OpScope). t.seen) w.scope-is ∙ ap (λ (t : OpScope). t.seen) w.append_end.ensures.scope
       | in_default w ↦ ap (λ (t : OpScope). t.seen) w.scope-is
     ] in
-    note_whole seen g.D.Device.may_leave opening relations counters o s _ right k c.requires.writing c.in_ok-first.ensures.reply c.match-done.scope copies)
+    note_whole seen g.D.Device.may_leave opening relations counters o s _ right k c.requires.writing c.in_ok-answer.ensures.reply c.match-done.scope copies)
 
 pub note_looked-requires-clause-inside : goal.note_looked-requires-clause-inside
 note_looked-requires-clause-inside g c = ∥∥₁_elim c.requires.right (hlevel props) (λ (opening, relations, counters, right, k, few, some). let seen = g.D.Device.seen in let s = c.args.scope.now in let o = c.args.self.now in
@@ -125,7 +135,7 @@ note_looked-requires-clause-inside g c = ∥∥₁_elim c.requires.right (hlevel
       | in-Some+in_ok-append_end w ↦ ap (λ (o : Operations g.row.D.Denot). length o.rooms.0) w.self-is ∙ ap (λ (x : Rooms). length x.0) w.append_end.ensures.rooms
       | in_default w ↦ ap (λ (o : Operations g.row.D.Denot). length o.rooms.0) w.self-is
     ] in
-    note_inside seen g.D.Device.may_leave opening relations counters o s _ right k c.requires.writing c.in_ok-first.ensures.reply c.match-done.scope copies _ rooms)
+    note_inside seen g.D.Device.may_leave opening relations counters o s _ right k c.requires.writing c.in_ok-answer.ensures.reply c.match-done.scope copies _ rooms)
 
 pub note_looked-requires-clause-few : goal.note_looked-requires-clause-few
 note_looked-requires-clause-few g c = ∥∥₁_elim c.requires.right (hlevel props) (λ (opening, relations, counters, right, k, few, some). let seen = g.D.Device.seen in let s = c.args.scope.now in let o = c.args.self.now in
@@ -137,12 +147,12 @@ note_looked-requires-clause-few g c = ∥∥₁_elim c.requires.right (hlevel pr
       | in-Some+in_ok-append_end w ↦ ap (λ (o : Operations g.row.D.Denot). length o.rooms.0) w.self-is ∙ ap (λ (x : Rooms). length x.0) w.append_end.ensures.rooms
       | in_default w ↦ ap (λ (o : Operations g.row.D.Denot). length o.rooms.0) w.self-is
     ] in
-    note_few seen g.D.Device.may_leave opening relations counters o s _ right k c.requires.writing c.in_ok-first.ensures.reply c.match-done.scope copies _ rooms)
+    note_few seen g.D.Device.may_leave opening relations counters o s _ right k c.requires.writing c.in_ok-answer.ensures.reply c.match-done.scope copies _ rooms)
 
-pub returns-in_err-first : goal.returns-in_err-first
-returns-in_err-first g c = let d = g.D.Device in let o = c.args.self.now in let s = c.args.scope.now in
+pub returns-in_err-answer : goal.returns-in_err-answer
+returns-in_err-answer g c = let d = g.D.Device in let o = c.args.self.now in let s = c.args.scope.now in
     let p = err_from_is_err_and c.from_residual.result c.from_residual.ensures.1 in
-    let is = p.1 ∙ ap Err (p.2 ∙ c.in_err-first.ensures.only_memory) in
+    let is = p.1 ∙ ap Err (p.2 ∙ c.in_err-answer.ensures.only_memory) in
     record {
       ahead = subst (GoesAhead d.seen d.may_leave d.moment d.left_since d.faults o o s s) (sym is)
           (idle_ahead d.seen d.may_leave d.moment d.left_since d.faults o o s (λ opening relations counters right. right) (λ opening. rests_same (world d.seen opening o))
@@ -178,8 +188,14 @@ returns-in_err-append_end g c = let d = g.D.Device in let o = c.args.self.now in
 
 pub returns : goal.returns
 returns g c = let d = g.D.Device in let seen = d.seen in let o = c.args.self.now in let s = c.args.scope.now in
-    let is = c.in_ok-first.ensures.reply in
-    let f = c.settle.ensures in let n = c.note_looked.ensures in
+    let is = c.in_ok-answer.ensures.reply in
+    let f = c.settle.ensures in let n = c.note_looked.ensures in let t = c.made_ready-reply.new.scope in
+    let ready : t ≡ record c.match-done.scope { reply = None; stage = Ready } = c.made_ready-reply.ensures.scope in
+    let own : c.match-done.scope.reply ≡ s.reply = elim c.match-done.branch [
+      | in-Some+in_ok-append_end w ↦ ap (λ (t : OpScope). t.reply) (w.scope-is ∙ w.append_end.ensures.scope)
+      | in_default w ↦ ap (λ (t : OpScope). t.reply) w.scope-is
+    ] in
+    let same : c.in_ok-answer.answer ≡ c.made_ready-reply.result = one_reply _ _ (sym is ∙ sym own ∙ c.made_ready-reply.ensures.reply) in
     let device : c.note_looked.new.self.store.device ≡ o.store.device = ap (λ (x : Store g.row.D.Denot). x.device) n.store ∙ elim c.match-done.branch [
       | in-Some+in_ok-append_end w ↦ ap (λ (x : Operations g.row.D.Denot). x.store.device) w.self-is ∙ w.append_end.ensures.device
       | in_default w ↦ ap (λ (x : Operations g.row.D.Denot). x.store.device) w.self-is
@@ -195,31 +211,31 @@ returns g c = let d = g.D.Device in let seen = d.seen in let o = c.args.self.now
               let rooms : c.match-done.self.rooms.0 ≡ o.rooms.0 = ap (λ (x : Operations g.row.D.Denot). x.rooms.0) w.self-is ∙ ap (λ (x : Rooms). x.0) e.rooms in
               let given = settle_gives seen d.may_leave opening relations counters o s _ right k c.requires.writing is c.match-done.self.map c.match-done.scope map_same changes c.settle.new.self.kinds f.kinds in
               let free = settle_frees seen d.may_leave opening relations counters o s _ right k c.requires.writing is c.match-done.self.map c.match-done.scope map_same changes c.settle.new.self.space.0 c.settle.new.self.kinds f.free in
-              let done = finished seen d.may_leave opening relations counters o s _ c.in_ok-first.first right k c.requires.writing is w.append_end.new.scope.left (ap (λ (t : OpScope). record t { stage = Ready }) scope)
-              w.in-Some.done m c.note_looked.new.self (sym c.in_ok-first.ensures.logged ∙ w.in-Some.is) c.requires.all (w.in_ok-append_end.ensures.notes opening) (e.kept opening right.kept)
+              let done = finished seen d.may_leave opening relations counters o s _ c.in_ok-answer.answer right k c.requires.writing is w.append_end.new.scope.left (ready ∙ ap (λ (t : OpScope). record t { reply = None; stage = Ready }) scope)
+              w.in-Some.done m c.note_looked.new.self (sym c.in_ok-answer.ensures.logged ∙ w.in-Some.is) c.requires.all (w.in_ok-append_end.ensures.notes opening) (e.kept opening right.kept)
               (n.store ∙ ap (λ (x : Operations g.row.D.Denot). x.store) w.self-is) (n.locks ∙ ap (λ (x : Operations g.row.D.Denot). x.locks) w.self-is) (ap (λ (x : SpaceMap). x.kinds) n.map ∙ given)
               (subst (λ (x : SpaceMap). x.space.0 ≡ mapped x.kinds (pages o.store.pool)) (sym n.map) free) (subst (λ (x : SpaceMap). reserved_of x.space ≤ free_of x.space) (sym n.map) f.room)
               (n.rooms ∙ ap (λ (xs : List ℕ). length xs) rooms)
-              (note_followed seen d.may_leave opening relations counters o s _ c.in_ok-first.first right k c.requires.writing is w.append_end.new.scope.left (ap (λ (t : OpScope). record t { stage = Ready }) scope)
+              (note_followed seen d.may_leave opening relations counters o s _ c.in_ok-answer.answer right k c.requires.writing is w.append_end.new.scope.left (ready ∙ ap (λ (t : OpScope). record t { reply = None; stage = Ready }) scope)
               c.match-done.scope scope c.settle.new.self.kinds c.match-done.self.rooms.0 c.note_looked.new.self.rooms.0 given n.rooms rooms n.noted) in
-              (done.0, (done.1, c.in_ok-first.ensures.twice))
+              (done.0, (subst (Acts relations counters (world seen opening o) (world seen opening c.note_looked.new.self) s t) same done.1, same))
           | in_default w ↦
               let map_same : c.match-done.self.map ≡ o.map = ap (λ (x : Operations g.row.D.Denot). x.map) w.self-is in
               let changes : c.match-done.scope.changes ≡ s.changes = ap (λ (t : OpScope). t.changes) w.scope-is in
               let rooms : c.match-done.self.rooms.0 ≡ o.rooms.0 = ap (λ (x : Operations g.row.D.Denot). x.rooms.0) w.self-is in
               let given = settle_gives seen d.may_leave opening relations counters o s _ right k c.requires.writing is c.match-done.self.map c.match-done.scope map_same changes c.settle.new.self.kinds f.kinds in
               let free = settle_frees seen d.may_leave opening relations counters o s _ right k c.requires.writing is c.match-done.self.map c.match-done.scope map_same changes c.settle.new.self.space.0 c.settle.new.self.kinds f.free in
-              let done = finished_quietly seen d.may_leave opening relations counters o s _ c.in_ok-first.first right k c.requires.writing is s.left (ap (λ (t : OpScope). record t { stage = Ready }) w.scope-is)
-              c.note_looked.new.self (sym c.in_ok-first.ensures.logged ∙ w.in_default.is)
+              let done = finished_quietly seen d.may_leave opening relations counters o s _ c.in_ok-answer.answer right k c.requires.writing is s.left (ready ∙ ap (λ (t : OpScope). record t { reply = None; stage = Ready }) w.scope-is)
+              c.note_looked.new.self (sym c.in_ok-answer.ensures.logged ∙ w.in_default.is)
               (n.store ∙ ap (λ (x : Operations g.row.D.Denot). x.store) w.self-is) (n.locks ∙ ap (λ (x : Operations g.row.D.Denot). x.locks) w.self-is) (ap (λ (x : SpaceMap). x.kinds) n.map ∙ given)
               (subst (λ (x : SpaceMap). x.space.0 ≡ mapped x.kinds (pages o.store.pool)) (sym n.map) free) (subst (λ (x : SpaceMap). reserved_of x.space ≤ free_of x.space) (sym n.map) f.room)
               (n.rooms ∙ ap (λ (xs : List ℕ). length xs) rooms)
-              (note_followed seen d.may_leave opening relations counters o s _ c.in_ok-first.first right k c.requires.writing is s.left (ap (λ (t : OpScope). record t { stage = Ready }) w.scope-is)
+              (note_followed seen d.may_leave opening relations counters o s _ c.in_ok-answer.answer right k c.requires.writing is s.left (ready ∙ ap (λ (t : OpScope). record t { reply = None; stage = Ready }) w.scope-is)
               c.match-done.scope w.scope-is c.settle.new.self.kinds c.match-done.self.rooms.0 c.note_looked.new.self.rooms.0 given n.rooms rooms n.noted) in
-              (done.0, (done.1, c.in_ok-first.ensures.twice))
+              (done.0, (subst (Acts relations counters (world seen opening o) (world seen opening c.note_looked.new.self) s t) same done.1, same))
         ];
         moments = λ opening kept. subst (λ (x : g.row.D.Denot). LeavesOnly d.moment d.left_since o.store.device x (Explains opening o.store)) (sym device) (no_call seen d.may_leave opening o.store kept d.moment d.left_since g.met.D.Device.only_now);
-        log = ap (λ (x : Store g.row.D.Denot). used x.log + c.match-done.scope.left) n.store ∙ elim c.match-done.branch [
+        log = (λ i. used c.note_looked.new.self.store.log + (ready i).left) ∙ ap (λ (x : Store g.row.D.Denot). used x.log + c.match-done.scope.left) n.store ∙ elim c.match-done.branch [
           | in-Some+in_ok-append_end w ↦ (λ i. used (w.self-is i).store.log + (w.scope-is i).left) ∙ w.append_end.ensures.log
           | in_default w ↦ (λ i. used (w.self-is i).store.log + (w.scope-is i).left)
         ];
@@ -232,8 +248,8 @@ returns g c = let d = g.D.Device in let seen = d.seen in let o = c.args.self.now
           | in_default w ↦ ap (λ (x : Operations g.row.D.Denot). durable x.store.log) w.self-is
         ];
         budget = elim c.match-done.branch [
-          | in-Some+in_ok-append_end w ↦ ended_budget s _ w.append_end.new.scope.left (ap (λ (t : OpScope). record t { stage = Ready }) (w.scope-is ∙ w.append_end.ensures.scope)) c.requires.budget
-          | in_default w ↦ ended_budget s _ s.left (ap (λ (t : OpScope). record t { stage = Ready }) w.scope-is) c.requires.budget
+          | in-Some+in_ok-append_end w ↦ ended_budget s _ w.append_end.new.scope.left (ready ∙ ap (λ (t : OpScope). record t { reply = None; stage = Ready }) (w.scope-is ∙ w.append_end.ensures.scope)) c.requires.budget
+          | in_default w ↦ ended_budget s _ s.left (ready ∙ ap (λ (t : OpScope). record t { reply = None; stage = Ready }) w.scope-is) c.requires.budget
         ];
         claims = elim c.match-done.branch [
           | in-Some+in_ok-append_end w ↦
@@ -245,14 +261,14 @@ returns g c = let d = g.D.Device in let seen = d.seen in let o = c.args.self.now
         ];
         full = λ e. absurd cc;
         went = λ e. absurd cc;
-        stage = refl;
-        work = refl;
+        stage = ap (λ (x : OpScope). x.stage) ready;
+        work = ap work_of ready;
         records = tt;
         locks = n.locks ∙ elim c.match-done.branch [
           | in-Some+in_ok-append_end w ↦ ap (λ (x : Operations g.row.D.Denot). x.locks) w.self-is ∙ w.append_end.ensures.locks
           | in_default w ↦ ap (λ (x : Operations g.row.D.Denot). x.locks) w.self-is
         ];
-        room = elim c.match-done.branch [
+        room = ap (λ (x : OpScope). x.room) ready ∙ elim c.match-done.branch [
           | in-Some+in_ok-append_end w ↦ ap (λ (t : OpScope). t.room) (w.scope-is ∙ w.append_end.ensures.scope)
           | in_default w ↦ ap (λ (t : OpScope). t.room) w.scope-is
         ];
@@ -263,7 +279,7 @@ returns g c = let d = g.D.Device in let seen = d.seen in let o = c.args.self.now
         faults = no_fault_ok _ _ _ (ap d.faults device);
       };
       device = device;
-      ready = refl;
+      ready = ap (λ (x : OpScope). x.stage) ready;
       ended = ((λ e. absurd cc), (λ e. absurd cc));
       only_memory = tt;
     }

@@ -55,6 +55,20 @@ fn ask(escrow: &mut Escrow, txn: TxnNo, op: &Op) -> Result<(), Refusal>
     Ok(())
 }
 
+// The object of an operation, which is spent. It takes no memory.
+fn into_object(op: Op) -> Object
+    ensures { result ≡ object_of op }
+{
+    match op {
+        Op::Get(relation, key) => Object::Key(relation, key),
+        Op::Insert(relation, key, _value) => Object::Key(relation, key),
+        Op::Update(relation, key, _value) => Object::Key(relation, key),
+        Op::Delete(relation, key) => Object::Key(relation, key),
+        Op::Add(counter, _) => Object::Counter(counter),
+        Op::Read(counter) => Object::Counter(counter),
+    }
+}
+
 // The place of a transaction's operation among those under way, if it has one.
 fn place_in(running: &[Running], txn: TxnNo) -> Option<usize>
     ensures { IsPlaceOf running.now txn result }
@@ -87,18 +101,18 @@ impl<D: Device> Parts<D> {
         &mut self,
         alloc: Global,
         txn: TxnNo,
-        op: &Op,
+        op: Op,
         split: bool,
     ) -> Result<Called, Refusal>
         requires safe { ∥ ((origin : Origin) × (base : Base) × IsConsistent D.seen D.may_leave origin base self.old
-            × MayBeCalled origin self.old txn op.now) ∥₁ }
+            × MayBeCalled origin self.old txn op) ∥₁ }
         requires few { self.old.last < 2 ^ 40 }
         ensures called { (origin : Origin) (base : Base) → IsConsistent D.seen D.may_leave origin base self.old
-            → MayBeCalled origin self.old txn op.now
-            → IsCalled D.seen D.may_leave origin base (state_of self.old base) self.new txn op.now result }
+            → MayBeCalled origin self.old txn op
+            → IsCalled D.seen D.may_leave origin base (state_of self.old base) self.new txn op result }
         ensures answer { (origin : Origin) (base : Base) → IsConsistent D.seen D.may_leave origin base self.old
-            → MayBeCalled origin self.old txn op.now
-            → IsAnswered D.seen origin self.old (log_kept self.old) txn op.now split result }
+            → MayBeCalled origin self.old txn op
+            → IsAnswered D.seen origin self.old (log_kept self.old) txn op split result }
         ensures states { SameStates self.old self.new }
         ensures runs { CallRuns txn (2 * pages self.old.operations.store.pool + 9) self.old.running.items
             self.new.running.items result }
@@ -107,12 +121,10 @@ impl<D: Device> Parts<D> {
         ensures restartable { StaysRestartable D.seen D.may_leave self.old self.new }
     {
         let own = op.try_clone()?;
-        let end = op.try_clone()?;
         let object = op.object()?;
-        let again = op.object()?;
         self.live.room(txn)?;
         self.running.reserve(1)?;
-        self.lock(alloc, txn, op, own, end, split, object, &again)
+        self.lock(alloc, txn, op, own, split, object)
     }
 
     // Whether the log has room for so many bytes beside those that are kept.
@@ -126,7 +138,8 @@ impl<D: Device> Parts<D> {
         bytes < log.area_size() - log.used() - left_in(self.running.as_slice()) - self.reserved
     }
 
-    // Starts an operation for which all is granted, where there are pages and log bytes for it and for its inverse.
+    // Starts an operation for which all is granted, where there are pages and log bytes for it and for its inverse. Where it is
+    // refused it is given back.
     fn start(
         &mut self,
         alloc: Global,
@@ -134,7 +147,7 @@ impl<D: Device> Parts<D> {
         own: Op,
         end: Op,
         split: bool,
-    ) -> Result<(), Refusal>
+    ) -> Result<(), (Refusal, Op)>
         requires granted { ∥ ((origin : Origin) × (base : Base) × (locks : List (Object × List Holder))
             × (escrow : Escrowed) × IsGranted D.seen D.may_leave origin base locks escrow self.old txn end) ∥₁ }
         requires same { own ≡ end }
@@ -149,7 +162,8 @@ impl<D: Device> Parts<D> {
             → OnOk result (HasReserves D.seen origin self.old (log_kept self.old) end split) }
         ensures cause { (origin : Origin) (base : Base) (locks : List (Object × List Holder)) (escrow : Escrowed)
             → IsGranted D.seen D.may_leave origin base locks escrow self.old txn end
-            → IfErr result (IsUnreserved D.seen origin self.old (log_kept self.old) end split) }
+            → IfErr result (λ gone. IsUnreserved D.seen origin self.old (log_kept self.old) end split gone.0) }
+        ensures back { IfErr result (λ gone. gone.1 ≡ end) }
         ensures err { OnErr result (IsRestored D.seen D.may_leave self.old self.new) }
         ensures live { self.new.live ≡ self.old.live }
         ensures runs { OnOk result (RunsBehind txn (2 * pages self.old.operations.store.pool + 9)
@@ -161,10 +175,13 @@ impl<D: Device> Parts<D> {
         let pages = pages_for(&own, split) + pages_to_undo(&own);
         let bytes = bytes_to_undo(&own);
         let takes = self.log_takes(2 * bytes);
-        self.operations.claim(pages)?;
+        match self.operations.claim(pages) {
+            Ok(()) => {}
+            Err(why) => return Err((why, end)),
+        }
         if !takes {
             self.operations.give_back(pages);
-            return Err(Refusal::LogFull);
+            return Err((Refusal::LogFull, end));
         }
         let number = self.last + 1;
         match self
@@ -179,36 +196,37 @@ impl<D: Device> Parts<D> {
             }
             Err(why) => {
                 self.operations.give_back(pages);
-                Err(why)
+                Err((why, end))
             }
         }
     }
 
-    // Asks leave for an operation that is an add, and starts it. Its lock is had.
+    // Asks leave for an operation that is an add, and starts it. Its lock is had. Where it is refused it is given
+    // back.
     fn admit(
         &mut self,
         alloc: Global,
         txn: TxnNo,
-        op: &Op,
+        op: Op,
         own: Op,
-        end: Op,
         split: bool,
-    ) -> Result<(), Refusal>
+    ) -> Result<(), (Refusal, Op)>
         requires locked { ∥ ((origin : Origin) × (base : Base) × (locks : List (Object × List Holder))
-            × IsLocked D.seen D.may_leave origin base locks self.old txn op.now) ∥₁ }
-        requires same { (own ≡ op.now) × (end ≡ op.now) }
+            × IsLocked D.seen D.may_leave origin base locks self.old txn op) ∥₁ }
+        requires same { own ≡ op }
         requires room { vec_len self.old.running < vec_capacity self.old.running }
         requires few { self.old.last < 2 ^ 40 }
         ensures ok { (origin : Origin) (base : Base) (locks : List (Object × List Holder))
-            → IsLocked D.seen D.may_leave origin base locks self.old txn op.now
+            → IsLocked D.seen D.may_leave origin base locks self.old txn op
             → OnOk result
-            (CallsIn D.seen D.may_leave origin base (without_call locks self.old.escrow self.old) self.new txn op.now) }
+            (CallsIn D.seen D.may_leave origin base (without_call locks self.old.escrow self.old) self.new txn op) }
         ensures may { (origin : Origin) (base : Base) (locks : List (Object × List Holder))
-            → IsLocked D.seen D.may_leave origin base locks self.old txn op.now
-            → OnOk result (IsAdmittedBy D.seen origin self.old (log_kept self.old) txn op.now split) }
+            → IsLocked D.seen D.may_leave origin base locks self.old txn op
+            → OnOk result (IsAdmittedBy D.seen origin self.old (log_kept self.old) txn op split) }
         ensures cause { (origin : Origin) (base : Base) (locks : List (Object × List Holder))
-            → IsLocked D.seen D.may_leave origin base locks self.old txn op.now
-            → IfErr result (IsRefusedBehind D.seen origin self.old (log_kept self.old) txn op.now split) }
+            → IsLocked D.seen D.may_leave origin base locks self.old txn op
+            → IfErr result (λ gone. IsRefusedBehind D.seen origin self.old (log_kept self.old) txn op split gone.0) }
+        ensures back { IfErr result (λ gone. gone.1 ≡ op) }
         ensures err { OnErr result (IsRestored D.seen D.may_leave self.old self.new) }
         ensures live { self.new.live ≡ self.old.live }
         ensures runs { OnOk result (RunsBehind txn (2 * pages self.old.operations.store.pool + 9)
@@ -217,12 +235,15 @@ impl<D: Device> Parts<D> {
         ensures store { self.new.operations.store ≡ self.old.operations.store }
         ensures book { self.new.book ≡ self.old.book }
     {
-        ask(&mut self.escrow, txn, op)?;
-        match self.start(alloc, txn, own, end, split) {
+        match ask(&mut self.escrow, txn, &op) {
+            Ok(()) => {}
+            Err(why) => return Err((why, op)),
+        }
+        match self.start(alloc, txn, own, op, split) {
             Ok(()) => Ok(()),
-            Err(why) => {
-                let_go(&mut self.escrow, txn, op);
-                Err(why)
+            Err((why, op)) => {
+                let_go(&mut self.escrow, txn, &op);
+                Err((why, op))
             }
         }
     }
@@ -232,24 +253,22 @@ impl<D: Device> Parts<D> {
         &mut self,
         alloc: Global,
         txn: TxnNo,
-        op: &Op,
+        op: Op,
         own: Op,
-        end: Op,
         split: bool,
         object: Object,
-        again: &Object,
     ) -> Result<Called, Refusal>
         requires safe { ∥ ((origin : Origin) × (base : Base) × IsConsistent D.seen D.may_leave origin base self.old
-            × MayRun origin self.old txn op.now) ∥₁ }
-        requires same { (own ≡ op.now) × (end ≡ op.now) × (object ≡ object_of op.now) × (again.now ≡ object_of op.now) }
+            × MayRun origin self.old txn op) ∥₁ }
+        requires same { (own ≡ op) × (object ≡ object_of op) }
         requires room { vec_len self.old.running < vec_capacity self.old.running }
         requires few { self.old.last < 2 ^ 40 }
         ensures called { (origin : Origin) (base : Base) → IsConsistent D.seen D.may_leave origin base self.old
-            → MayRun origin self.old txn op.now
-            → IsCalled D.seen D.may_leave origin base (state_of self.old base) self.new txn op.now result }
+            → MayRun origin self.old txn op
+            → IsCalled D.seen D.may_leave origin base (state_of self.old base) self.new txn op result }
         ensures answer { (origin : Origin) (base : Base) → IsConsistent D.seen D.may_leave origin base self.old
-            → MayRun origin self.old txn op.now
-            → IsAnswered D.seen origin self.old (log_kept self.old) txn op.now split result }
+            → MayRun origin self.old txn op
+            → IsAnswered D.seen origin self.old (log_kept self.old) txn op split result }
         ensures live { self.new.live ≡ self.old.live }
         ensures runs { CallRuns txn (2 * pages self.old.operations.store.pool + 9) self.old.running.items
             self.new.running.items result }
@@ -261,13 +280,13 @@ impl<D: Device> Parts<D> {
         match self.locks.ask(txn, object, mode)? {
             Asked::Wait(holder) => Ok(Called::Wait(holder)),
             Asked::Granted { was_held } => {
-                match self.admit(alloc, txn, op, own, end, split) {
+                match self.admit(alloc, txn, op, own, split) {
                     Ok(()) => Ok(Called::Started),
-                    Err(why) => {
+                    Err((why, op)) => {
                         if was_held {
                             return Err(why);
                         }
-                        self.locks.take_out(txn, again, mode);
+                        self.locks.take_out(txn, &into_object(op), mode);
                         Err(why)
                     }
                 }

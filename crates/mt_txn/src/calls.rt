@@ -53,6 +53,6 @@ impl<D: Device> Kernel<D> {
         if let Some(why) = self.call_cause(txn, &op) {
             return Err(why);
         }
-        self.parts.call(self.alloc, txn, &op, true)
+        self.parts.call(self.alloc, txn, op, true)
     }
 }

@@ -1,46 +1,46 @@
 use mathlib.Core.Logic.{∥∥₁_elim}
 use Rattle.std.proofs.Props.{props}
-use Rattle.std.proofs.Common.{sym, subst}
+use Rattle.std.proofs.Common.{sym, subst, ⊎_elim}
 use Rattle.mt_model.specs.Model.{IsWithin}
-use Rattle.mt_model.specs.declared.operations.Op.{Op}
-use Rattle.mt_live.specs.Machine.{called}
-use Rattle.mt_kernel.specs.Consistent.{state_of, without_call, IsIn, IsGranted}
 use Rattle.mt_kernel.proofs.Locked.{granted_from}
-use Rattle.mt_kernel.specs.Causes.{HasReserves, IsUnreserved}
+use Rattle.mt_kernel.specs.Causes.{IsRefusedBehind}
 use Rattle.mt_kernel.specs.Consistent.{log_kept}
 use Rattle.mt_kernel.proofs.Refusing.{behind}
 use Rattle.mt_kernel.proofs.parts.Parts.admit.Goals as goal
 
 pub ask-requires : goal.ask-requires
 ask-requires g c = record {
-  within = ∥∥₁_elim c.requires.locked (hlevel props) (λ (origin, base, was, l). ∣ (origin.relations, subst (λ n. IsWithin origin.relations n c.args.op.now) (sym l.was.fit.escrowed.all) l.may.within) ∣₁);
+  within = ∥∥₁_elim c.requires.locked (hlevel props) (λ (origin, base, was, l). ∣ (origin.relations, subst (λ n. IsWithin origin.relations n c.args.op) (sym l.was.fit.escrowed.all) l.may.within) ∣₁);
 }
 
 pub start-requires-clause-granted : goal.start-requires-clause-granted
-start-requires-clause-granted g c = ∥∥₁_elim c.requires.locked (hlevel props) (λ (origin, base, locks, l). let k = c.args.self.now in let e = c.in_ok-ask.ensures in ∣ (
+start-requires-clause-granted g c = ∥∥₁_elim c.requires.locked (hlevel props) (λ (origin, base, locks, l). let k = c.args.self.now in let e = c.in-Ok.ensures in ∣ (
   origin,
   base,
   locks,
   k.escrow,
-  subst (λ (o : Op). IsGranted g.D.Device.seen g.D.Device.may_leave origin base locks k.escrow (record k { escrow = c.ask.new.escrow }) c.args.txn o) (sym c.requires.same.1)
-      (granted_from g.D.Device.seen g.D.Device.may_leave origin base locks k (record k { escrow = c.ask.new.escrow }) c.args.txn c.args.op.now l e.granted c.ask.ensures.committed e.admitted),
+  granted_from g.D.Device.seen g.D.Device.may_leave origin base locks k (record k { escrow = c.ask.new.escrow }) c.args.txn c.args.op l e.granted c.ask.ensures.committed e.admitted,
 ) ∣₁)
 
-pub returns-in-Ok-clause-ok : goal.returns-in-Ok-clause-ok
-returns-in-Ok-clause-ok g c = λ origin base locks l. let k = c.args.self.now in let e = c.in_ok-ask.ensures in
-    subst (λ (o : Op). IsIn g.D.Device.seen g.D.Device.may_leave origin base (called (state_of (without_call locks k.escrow k) base) c.args.txn o) c.start.new.self) c.requires.same.1
-    (c.in-Ok.ensures.ok origin base locks k.escrow (subst (λ (o : Op). IsGranted g.D.Device.seen g.D.Device.may_leave origin base locks k.escrow (record k { escrow = c.ask.new.escrow }) c.args.txn o) (sym c.requires.same.1)
-    (granted_from g.D.Device.seen g.D.Device.may_leave origin base locks k (record k { escrow = c.ask.new.escrow }) c.args.txn c.args.op.now l e.granted c.ask.ensures.committed e.admitted)))
+pub returns-in-Ok-start-clause-ok : goal.returns-in-Ok-start-clause-ok
+returns-in-Ok-start-clause-ok g c = λ origin base locks l. let k = c.args.self.now in let e = c.in-Ok.ensures in
+    c.in-Ok-start.ensures.ok origin base locks k.escrow
+    (granted_from g.D.Device.seen g.D.Device.may_leave origin base locks k (record k { escrow = c.ask.new.escrow }) c.args.txn c.args.op l e.granted c.ask.ensures.committed e.admitted)
 
-pub returns-in-Ok-clause-may : goal.returns-in-Ok-clause-may
-returns-in-Ok-clause-may g c = λ origin base locks l. let k = c.args.self.now in let e = c.in_ok-ask.ensures in (
+pub returns-in-Ok-start-clause-may : goal.returns-in-Ok-start-clause-may
+returns-in-Ok-start-clause-may g c = λ origin base locks l. let k = c.args.self.now in let e = c.in-Ok.ensures in (
   e.admitted,
-  subst (λ (o : Op). HasReserves g.D.Device.seen origin k (log_kept k) o c.args.split) c.requires.same.1 (c.in-Ok.ensures.may origin base locks k.escrow (subst (λ (o : Op). IsGranted g.D.Device.seen g.D.Device.may_leave origin base locks k.escrow (record k { escrow = c.ask.new.escrow }) c.args.txn o) (sym c.requires.same.1)
-      (granted_from g.D.Device.seen g.D.Device.may_leave origin base locks k (record k { escrow = c.ask.new.escrow }) c.args.txn c.args.op.now l e.granted c.ask.ensures.committed e.admitted))),
+  c.in-Ok-start.ensures.may origin base locks k.escrow
+      (granted_from g.D.Device.seen g.D.Device.may_leave origin base locks k (record k { escrow = c.ask.new.escrow }) c.args.txn c.args.op l e.granted c.ask.ensures.committed e.admitted),
 )
 
+pub returns-in-Err-start-clause-cause : goal.returns-in-Err-start-clause-cause
+returns-in-Err-start-clause-cause g c = λ origin base locks l. let k = c.args.self.now in let e = c.in-Ok.ensures in
+    behind g.D.Device.seen origin k (log_kept k) c.args.txn c.args.op c.args.split c.in-Err-start.why e.admitted
+    (c.in-Err-start.ensures.cause origin base locks k.escrow
+    (granted_from g.D.Device.seen g.D.Device.may_leave origin base locks k (record k { escrow = c.ask.new.escrow }) c.args.txn c.args.op l e.granted c.ask.ensures.committed e.admitted))
+
 pub returns-in-Err-clause-cause : goal.returns-in-Err-clause-cause
-returns-in-Err-clause-cause g c = λ origin base locks l. let k = c.args.self.now in let e = c.in_ok-ask.ensures in
-    behind g.D.Device.seen origin k (log_kept k) c.args.txn c.args.op.now c.args.split c.in-Err.why e.admitted
-    (subst (λ (o : Op). IsUnreserved g.D.Device.seen origin k (log_kept k) o c.args.split c.in-Err.why) c.requires.same.1 (c.in-Err.ensures.cause origin base locks k.escrow (subst (λ (o : Op). IsGranted g.D.Device.seen g.D.Device.may_leave origin base locks k.escrow (record k { escrow = c.ask.new.escrow }) c.args.txn o) (sym c.requires.same.1)
-    (granted_from g.D.Device.seen g.D.Device.may_leave origin base locks k (record k { escrow = c.ask.new.escrow }) c.args.txn c.args.op.now l e.granted c.ask.ensures.committed e.admitted))))
+returns-in-Err-clause-cause g c = λ origin base locks l. let k = c.args.self.now in
+    ⊎_elim (λ m. subst (IsRefusedBehind g.D.Device.seen origin k (log_kept k) c.args.txn c.args.op c.args.split) (sym m) tt)
+    (λ e. subst (IsRefusedBehind g.D.Device.seen origin k (log_kept k) c.args.txn c.args.op c.args.split) (sym e.0) e.1) c.in-Err.ensures.cause

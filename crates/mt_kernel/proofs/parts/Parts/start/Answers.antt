@@ -10,10 +10,8 @@ use Rattle.mt_kernel.specs.declared.parts.Parts.{Parts}
 use Rattle.mt_kernel.specs.declared.parts.Running.{Running}
 use Rattle.mt_kernel.proofs.Calling.{called_in, next_fresh, needs_few}
 use mathlib.Core.Logic.{∥∥₁_elim}
-use Rattle.std.proofs.Common.{◌<◌, ◌≤◌, Err}
-use Rattle.std.specs.Prelude.{IfErr}
+use Rattle.std.proofs.Common.{◌<◌, ◌≤◌}
 use Rattle.std.proofs.Props.{props}
-use Rattle.std.proofs.lemmas.Result.{err_from_is_err_and}
 use Rattle.mt_pool.proofs.Steady.{steady}
 use Rattle.mt_pool.specs.Same.{Pool-prop}
 use Rattle.mt_pool.specs.Views.{pages}
@@ -26,7 +24,7 @@ pub overflow_add-pages : goal.overflow_add-pages
 overflow_add-pages g c = let few = needs_few c.args.own c.args.split in let a = c.pages_for.ensures in let b = c.pages_to_undo.ensures.pages in omega arith
 
 pub returns-then-not-takes-clause-err : goal.returns-then-not-takes-clause-err
-returns-then-not-takes-clause-err g c = let e = c.give_back.ensures in let f = c.in_ok-claim.ensures in record {
+returns-then-not-takes-clause-err g c = let e = c.give_back.ensures in let f = c.in-Ok.ensures in record {
   same = refl;
   right = λ opening relations counters right. e.right opening relations counters (c.claim.ensures.right opening relations counters right);
   store = e.store ∙ c.claim.ensures.store;
@@ -34,8 +32,8 @@ returns-then-not-takes-clause-err g c = let e = c.give_back.ensures in let f = c
   claimed = let a = e.claimed in let d = f.claimed in omega arith;
 }
 
-pub returns-in-Err-clause-err : goal.returns-in-Err-clause-err
-returns-in-Err-clause-err g c = let e = c.give_back-in-Err.ensures in let f = c.in_ok-claim.ensures in record {
+pub returns-in-Err-begin_op-clause-err : goal.returns-in-Err-begin_op-clause-err
+returns-in-Err-begin_op-clause-err g c = let e = c.give_back-in-Err-begin_op.ensures in let f = c.in-Ok.ensures in record {
   same = refl;
   right = λ opening relations counters right. e.right opening relations counters (c.claim.ensures.right opening relations counters right);
   store = e.store ∙ c.claim.ensures.store;
@@ -46,9 +44,9 @@ returns-in-Err-clause-err g c = let e = c.give_back-in-Err.ensures in let f = c.
 pub overflow_add-self : goal.overflow_add-self
 overflow_add-self g c = let sum = c.if-not-takes.ensures.sum in omega arith
 
-pub returns-in-Ok-clause-ok : goal.returns-in-Ok-clause-ok
-returns-in-Ok-clause-ok g c = λ origin base locks escrow granted.
-    let seen = g.D.Device.seen in let k = c.args.self.now in let e = c.in-Ok.ensures in let f = c.in_ok-claim.ensures in let m = c.claim.ensures in let s = c.in-Ok.scope in
+pub returns-in-Ok-begin_op-clause-ok : goal.returns-in-Ok-begin_op-clause-ok
+returns-in-Ok-begin_op-clause-ok g c = λ origin base locks escrow granted.
+    let seen = g.D.Device.seen in let k = c.args.self.now in let e = c.in-Ok-begin_op.ensures in let f = c.in-Ok.ensures in let m = c.claim.ensures in let s = c.in-Ok-begin_op.scope in
     let fit = granted.was.fit in
     let right = m.right origin.pages origin.relations origin.counters fit.right in
     let same : c.args.own ≡ c.args.end = c.requires.same in
@@ -79,11 +77,10 @@ returns-in-Ok-clause-ok g c = λ origin base locks escrow granted.
 pub log_takes-takes-requires : goal.log_takes-takes-requires
 log_takes-takes-requires g c = ∥∥₁_elim c.requires.granted (hlevel props) (λ (origin, base, locks, escrow, granted). granted.was.fit.log)
 
-pub returns-in_err-claim-clause-cause : goal.returns-in_err-claim-clause-cause
-returns-in_err-claim-clause-cause g c = λ origin base locks escrow granted. let k = c.args.self.now in let seen = g.D.Device.seen in let f = c.in_err-claim.ensures in
-    let p = err_from_is_err_and c.from_residual.result c.from_residual.ensures.1 in
+pub returns-in-Err-clause-cause : goal.returns-in-Err-clause-cause
+returns-in-Err-clause-cause g c = λ origin base locks escrow granted. let k = c.args.self.now in let seen = g.D.Device.seen in let f = c.in-Err.ensures in
     let pages : c.pages_for.result + c.pages_to_undo.result ≡ pages_asked c.args.end c.args.split = (λ i. c.pages_for.ensures i + c.pages_to_undo.ensures.pages i) ∙ (λ i. own_needs (c.requires.same i) c.args.split + undo_pages (c.requires.same i)) in
-    subst (λ r. IfErr r (IsUnreserved seen origin k (log_kept k) c.args.end c.args.split)) (sym (p.1 ∙ ap Err (p.2 ∙ f.why)))
+    subst (IsUnreserved seen origin k (log_kept k) c.args.end c.args.split) (sym f.why)
     (subst (λ n. pages_free seen origin k < claimed k.operations + n) pages (f.cause origin.pages origin.relations origin.counters granted.was.fit.right))
 
 pub returns-then-not-takes-clause-cause : goal.returns-then-not-takes-clause-cause
@@ -91,7 +88,7 @@ returns-then-not-takes-clause-cause g c = λ origin base locks escrow granted. l
     let pages : c.pages_for.result + c.pages_to_undo.result ≡ pages_asked c.args.end c.args.split = (λ i. c.pages_for.ensures i + c.pages_to_undo.ensures.pages i) ∙ (λ i. own_needs (c.requires.same i) c.args.split + undo_pages (c.requires.same i)) in
     let bytes : c.bytes_to_undo-bytes.result ≡ undo_bytes c.args.end = c.bytes_to_undo-bytes.ensures ∙ ap undo_bytes c.requires.same in
     let full = c.if-not-takes.ensures.full in (
-      subst (λ n. claimed k.operations + n ≤ pages_free seen origin k) pages (c.in_ok-claim.ensures.fits origin.pages origin.relations origin.counters granted.was.fit.right),
+      subst (λ n. claimed k.operations + n ≤ pages_free seen origin k) pages (c.in-Ok.ensures.fits origin.pages origin.relations origin.counters granted.was.fit.right),
       omega (arith, bytes, full),
     )
 
@@ -104,17 +101,17 @@ begin_op-requires-clause-numbers g c = ∥∥₁_elim c.requires.granted (hlevel
     let named = txn_named g.D.Device.seen g.D.Device.may_leave origin base (without_call locks escrow c.args.self.now) c.args.txn granted.was.fit granted.may.at_work in
     let few = c.requires.few in let is = c.new.ensures in (named, (omega arith, omega arith)))
 
-pub returns-in-Ok-clause-may : goal.returns-in-Ok-clause-may
-returns-in-Ok-clause-may g c = λ origin base locks escrow granted. let k = c.args.self.now in let seen = g.D.Device.seen in
+pub returns-in-Ok-begin_op-clause-may : goal.returns-in-Ok-begin_op-clause-may
+returns-in-Ok-begin_op-clause-may g c = λ origin base locks escrow granted. let k = c.args.self.now in let seen = g.D.Device.seen in
     let pages : c.pages_for.result + c.pages_to_undo.result ≡ pages_asked c.args.end c.args.split = (λ i. c.pages_for.ensures i + c.pages_to_undo.ensures.pages i) ∙ (λ i. own_needs (c.requires.same i) c.args.split + undo_pages (c.requires.same i)) in
     let bytes : c.bytes_to_undo-bytes.result ≡ undo_bytes c.args.end = c.bytes_to_undo-bytes.ensures ∙ ap undo_bytes c.requires.same in
     let takes = c.if-not-takes.ensures.takes in (
-      subst (λ n. claimed k.operations + n ≤ pages_free seen origin k) pages (c.in_ok-claim.ensures.fits origin.pages origin.relations origin.counters granted.was.fit.right),
+      subst (λ n. claimed k.operations + n ≤ pages_free seen origin k) pages (c.in-Ok.ensures.fits origin.pages origin.relations origin.counters granted.was.fit.right),
       omega (arith, bytes, takes),
     )
 
-pub returns-in-Ok-clause-runs : goal.returns-in-Ok-clause-runs
-returns-in-Ok-clause-runs g c = let e = c.in-Ok.ensures in let r : Running = record { scope = c.in-Ok.scope; op = c.args.end } in (
+pub returns-in-Ok-begin_op-clause-runs : goal.returns-in-Ok-begin_op-clause-runs
+returns-in-Ok-begin_op-clause-runs g c = let e = c.in-Ok-begin_op.ensures in let r : Running = record { scope = c.in-Ok-begin_op.scope; op = c.args.end } in (
   r,
   e.named.0,
   e.work ∙ ap (λ n. 2 * n + 9) (ap (λ o. pages o.pool) c.claim.ensures.store),

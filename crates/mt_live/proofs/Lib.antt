@@ -16,3 +16,4 @@ pub mod Lasts
 pub mod Ends
 pub mod MemberLists
 pub mod Wells
+pub mod Behind

@@ -91,6 +91,10 @@ abbrev pub AreRising : ℕ → List Member → ℕ → Type 0
 AreRising low [] high = low ≤ high
 AreRising low (m ∷ ms) high = (low < m.number) × AreRising m.number ms high
 
+-- they rise, whatever their bounds
+abbrev pub AreInOrder : List Member → Type 0
+AreInOrder ms = (high : ℕ) × AreRising 0 ms high
+
 abbrev pub rooms : Member → ℕ
 rooms m = cond m.has_room 1 0
 

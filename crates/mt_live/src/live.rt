@@ -1,4 +1,4 @@
-ghost use Rattle.std.specs.Prelude.{ℕ, [], ◌∷◌, ◌++◌, ◌≡◌, ◌==◌, ◌<◌, ◌+◌, ◌^◌, true, false, None, Some, IfOk, IfErr, OnOk, OnErr, MatchOption, length};
+ghost use Rattle.std.specs.Prelude.{ℕ, [], ◌∷◌, ◌++◌, ◌≡◌, ◌≢◌, ◌==◌, ◌<◌, ◌≤◌, ◌+◌, ◌^◌, true, false, None, Some, IfOk, IfErr, OnOk, OnErr, MatchOption, length, slice_index_or};
 ghost use Rattle.std.specs.List.{position};
 ghost use Rattle.std.specs.Option.{option_map};
 ghost use Rattle.mt_base.specs.declared.refusal.Refusal.{Refusal};
@@ -7,7 +7,7 @@ ghost use Rattle.mt_live.specs.Entries.{Entry, calls, kept};
 ghost use Rattle.mt_live.specs.Undoing.{only, others, last_effect, cut_back};
 ghost use Rattle.mt_live.specs.Machine.{put};
 ghost use Rattle.mt_live.specs.Members.{Member, fresh, with_room, with_call, with_state, taken_back, committed_of, last_operation};
-ghost use Rattle.mt_live.specs.Lives.{member_of, is_member, has_room, AreNumbered, IsAbove, IsFirst, IsChanged};
+ghost use Rattle.mt_live.specs.Lives.{member_of, is_member, has_room, AreInOrder, AreNumbered, IsAbove, IsFirst, IsChanged};
 
 use crate::places::{Place, cut_from, take_out};
 use crate::transactions::{Transaction, TxnState};
@@ -56,16 +56,43 @@ impl Model for Live {
         IsWell l.begun l.transactions.items l.order.items (vec_len l.order) (vec_capacity l.order) };
 }
 
-// Where the transaction of a number is, if it is there.
-fn place_of(transactions: &[Transaction], txn: TxnNo) -> Option<usize>
+// A place before which the transaction of a number is not: as many as numbers lie between it and the last can stand
+// behind it.
+fn first_place(transactions: &[Transaction], txn: TxnNo) -> usize
+    requires { AreInOrder transactions.now }
+    ensures within { result ≤ length transactions.now }
+    ensures before { (k : ℕ) → k < result → (d : Member) → (slice_index_or transactions.now k d).number ≢ txn }
+{
+    let Some(last) = transactions.last() else {
+        return 0;
+    };
+    match last.number().get().checked_sub(txn.get()) {
+        Some(behind) => (transactions.len() - 1).saturating_sub(behind as usize),
+        None => transactions.len(),
+    }
+}
+
+// Where the transaction of a number is among these, if it is there.
+fn place_among(transactions: &[Transaction], txn: TxnNo) -> Option<usize>
     ensures { result ≡ position (λ m. m.number == txn) transactions.now }
 {
     transactions.iter().position(|one| one.number() == txn)
 }
 
+// Where the transaction of a number is, if it is there.
+fn place_of(transactions: &[Transaction], txn: TxnNo) -> Option<usize>
+    requires { AreInOrder transactions.now }
+    ensures { result ≡ position (λ m. m.number == txn) transactions.now }
+{
+    let first = first_place(transactions, txn);
+    let behind = place_among(&transactions[first..], txn)?;
+    Some(first + behind)
+}
+
 // Where a transaction is that is there.
 fn place_in(transactions: &[Transaction], txn: TxnNo) -> usize
-    requires { is_member transactions.now txn ≡ true }
+    requires rising { AreInOrder transactions.now }
+    requires there { is_member transactions.now txn ≡ true }
     ensures { IsFirst transactions.now txn result }
 {
     let Some(place) = place_of(transactions, txn) else {

@@ -1,5 +1,5 @@
 -- What a table of locks holds: its entries, each an object with its holders, as a test of locks.
-use Rattle.std.specs.Prelude.{ℕ, ◌≡◌, ◌≢◌, [], ◌∷◌, ◌≤◌, ◌==◌, ◌&&◌, Bool, true, false, not, min, List, Option, None, Some}
+use Rattle.std.specs.Prelude.{ℕ, ◌≡◌, ◌≢◌, [], ◌∷◌, ◌≤◌, ◌==◌, ◌&&◌, Bool, true, false, not, min, filter, slice_get, List, Option, None, Some}
 use Rattle.std.specs.List.{list_any}
 use Rattle.std.specs.Map.{lookup}
 use Rattle.mt_base.specs.Modes.{granted_together}
@@ -48,6 +48,15 @@ holds_in (Some hs) t m = is_among hs t m
 -- each object is held by the holders of its entry
 abbrev pub held_of : List (Object × List Holder) → Held
 held_of es t x m = holds_in (lookup (same_object x) es) t m
+
+-- at this place stands an object, with holders of whom none is left without this transaction in this mode
+pub record IsAlone (es : List (Object × List Holder)) (t : ℕ) (x : Object) (m : LockMode) (place : ℕ) : Type 0 where
+  pub key : Object
+  pub holders : List Holder
+  pub at : slice_get es place ≡ Some (key, holders)
+  pub same : same_object x key ≡ true
+  pub found : lookup (same_object x) es ≡ Some holders
+  pub alone : filter (λ h. not (is_holder t m h)) holders ≡ []
 
 -- no object stands there that nobody holds
 abbrev pub HasNoIdle : List (Object × List Holder) → Type 0

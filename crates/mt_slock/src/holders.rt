@@ -1,4 +1,5 @@
 ghost use Rattle.std.specs.Prelude.{◌≡◌, ◌++◌, ◌∷◌, [], List, filter, not, OnOk, OnErr, MatchOption, IsTrue, ◌↔◌, ◌||◌};
+ghost use Rattle.std.specs.Bool.{OnTrue};
 ghost use Rattle.mt_slock.specs.Views.{is_holder, is_among, conflicts, in_order, least_of, IsUnbarred, IsOldestBar};
 ghost use Rattle.mt_slock.specs.declared.holders.Holder.{Holder};
 
@@ -93,7 +94,7 @@ fn without(first: Option<Holder>, txn: TxnNo, mode: LockMode) -> Option<Holder>
 
 /// The holders of one object, in order of grant. One alone takes no memory.
 #[derive(Debug, Drop)]
-pub struct Holders {
+pub(crate) struct Holders {
     // where it still holds the object
     first: Option<Holder>,
     others: Vec<Holder>,
@@ -111,7 +112,7 @@ impl Model for Holders {
 
 impl Holders {
     /// One holder. It takes no memory.
-    pub fn one(alloc: Global, holder: Holder) -> Holders
+    pub(crate) fn one(alloc: Global, holder: Holder) -> Holders
         ensures { result ≡ holder ∷ [] }
     {
         Holders {
@@ -121,7 +122,7 @@ impl Holders {
     }
 
     /// Whether a transaction is among them, in a mode.
-    pub fn has(&self, txn: TxnNo, mode: LockMode) -> bool
+    pub(crate) fn has(&self, txn: TxnNo, mode: LockMode) -> bool
         ensures { result ≡ is_among self.now txn mode }
     {
         is_first(self.first, txn, mode) || is_in(&self.others, txn, mode)
@@ -129,14 +130,14 @@ impl Holders {
 
     /// The oldest of the other transactions among them that hold the object in a mode that conflicts with this
     /// one.
-    pub fn barring(&self, txn: TxnNo, mode: LockMode) -> Option<TxnNo>
+    pub(crate) fn barring(&self, txn: TxnNo, mode: LockMode) -> Option<TxnNo>
         ensures { MatchOption result (IsUnbarred self.now txn mode) (IsOldestBar self.now txn mode) }
     {
         oldest_bar(self.first, &self.others, txn, mode)
     }
 
     /// One holder more, last. The only error is want of memory.
-    pub fn add(&mut self, holder: Holder) -> Result<(), AllocError>
+    pub(crate) fn add(&mut self, holder: Holder) -> Result<(), AllocError>
         ensures added { OnOk result (self.new ≡ self.old ++ holder ∷ []) }
         ensures err { OnErr result (self.new ≡ self.old) }
     {
@@ -145,15 +146,22 @@ impl Holders {
     }
 
     /// All but a transaction in a mode, in their order.
-    pub fn remove(&mut self, txn: TxnNo, mode: LockMode)
+    pub(crate) fn remove(&mut self, txn: TxnNo, mode: LockMode)
         ensures { self.new ≡ filter (λ h. not (is_holder txn mode h)) self.old }
     {
         self.first = without(self.first, txn, mode);
         self.others.retain(|holder| !holder.is(txn, mode));
     }
 
+    /// Whether none is left without a transaction in a mode, where that stands before all others.
+    pub(crate) fn ends_without(&self, txn: TxnNo, mode: LockMode) -> bool
+        ensures { OnTrue result (filter (λ h. not (is_holder txn mode h)) self.now ≡ []) }
+    {
+        without(self.first, txn, mode).is_none() && self.others.is_empty()
+    }
+
     /// Whether there are none.
-    pub fn is_empty(&self) -> bool
+    pub(crate) fn is_empty(&self) -> bool
         ensures { IsTrue result ↔ (self.now ≡ []) }
     {
         self.first.is_none() && self.others.is_empty()

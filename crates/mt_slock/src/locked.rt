@@ -1,9 +1,9 @@
-ghost use Rattle.std.specs.Prelude.{◌≡◌, IfOk, OnOk, OnErr, None, true};
+ghost use Rattle.std.specs.Prelude.{◌≡◌, IfSome, OnOk, OnErr, None, true};
 ghost use Rattle.std.specs.Map.{lookup};
 ghost use Rattle.mt_model.specs.Model.{same_object};
 ghost use Rattle.mt_model.specs.Locks.{no_locks, with_lock, without_lock};
 ghost use Rattle.mt_slock.specs.Answers.{Stands};
-ghost use Rattle.mt_slock.specs.Views.{held_of, HasNoIdle};
+ghost use Rattle.mt_slock.specs.Views.{held_of, HasNoIdle, IsAlone};
 ghost use Rattle.mt_slock.specs.Noted.{without_locks};
 
 use crate::holders::{Holder, Holders};
@@ -16,7 +16,7 @@ use std::marker::Model;
 
 /// How an object is held, for a transaction that asks for it in a mode.
 #[derive(Clone, Copy, Debug)]
-pub enum Standing {
+pub(crate) enum Standing {
     /// This is the oldest of the other transactions that hold it in a mode that conflicts.
     Barred(TxnNo),
     /// The transaction holds it so itself, and nobody is in the way.
@@ -29,7 +29,7 @@ pub enum Standing {
 
 /// The objects that are locked, each with its holders in order of grant.
 #[derive(Drop)]
-pub struct LockedObjects {
+pub(crate) struct LockedObjects {
     alloc: Global,
     holders: IndexMap<Object, Holders>,
 }
@@ -46,7 +46,7 @@ impl Model for LockedObjects {
 
 impl LockedObjects {
     /// No objects.
-    pub fn new(alloc: Global) -> LockedObjects
+    pub(crate) fn new(alloc: Global) -> LockedObjects
         ensures held { held_of result ≡ no_locks }
         ensures idle { HasNoIdle result }
     {
@@ -57,7 +57,7 @@ impl LockedObjects {
     }
 
     /// Whether a transaction holds an object in a mode.
-    pub fn has(&self, txn: TxnNo, object: &Object, mode: LockMode) -> bool
+    pub(crate) fn has(&self, txn: TxnNo, object: &Object, mode: LockMode) -> bool
         ensures { result ≡ held_of self.now txn object.now mode }
     {
         match self.holders.get(object) {
@@ -67,7 +67,7 @@ impl LockedObjects {
     }
 
     /// How an object is held, for a transaction that asks for it in this mode.
-    pub fn standing(&self, txn: TxnNo, object: &Object, mode: LockMode) -> Standing
+    pub(crate) fn standing(&self, txn: TxnNo, object: &Object, mode: LockMode) -> Standing
         ensures { Stands self.now txn object.now mode result }
     {
         let Some(holders) = self.holders.get(object) else {
@@ -81,7 +81,12 @@ impl LockedObjects {
     }
 
     /// One lock more. The only error is want of memory.
-    pub fn add(&mut self, txn: TxnNo, object: Object, mode: LockMode) -> Result<(), AllocError>
+    pub(crate) fn add(
+        &mut self,
+        txn: TxnNo,
+        object: Object,
+        mode: LockMode,
+    ) -> Result<(), AllocError>
         ensures added { OnOk result (held_of self.new ≡ with_lock (held_of self.old) txn object mode) }
         ensures err { OnErr result (held_of self.new ≡ held_of self.old) }
         ensures idle { HasNoIdle self.old → HasNoIdle self.new }
@@ -110,7 +115,7 @@ impl LockedObjects {
     }
 
     /// One lock more, on an object that nobody holds where `alone` is set. The only error is want of memory.
-    pub fn put(
+    pub(crate) fn put(
         &mut self,
         txn: TxnNo,
         object: Object,
@@ -129,8 +134,31 @@ impl LockedObjects {
         }
     }
 
+    // The place of an object that nobody holds but this transaction in this mode.
+    fn place_alone(&self, txn: TxnNo, object: &Object, mode: LockMode) -> Option<usize>
+        ensures { IfSome result (IsAlone self.now txn object.now mode) }
+    {
+        let (place, _object, holders) = self.holders.get_full(object)?;
+        if holders.ends_without(txn, mode) {
+            Some(place)
+        } else {
+            None
+        }
+    }
+
     /// One lock less, if it was held. An object that nobody holds any more goes.
-    pub fn remove(&mut self, txn: TxnNo, object: &Object, mode: LockMode)
+    pub(crate) fn remove(&mut self, txn: TxnNo, object: &Object, mode: LockMode)
+        ensures removed { held_of self.new ≡ without_lock (held_of self.old) txn object.now mode }
+        ensures idle { HasNoIdle self.old → HasNoIdle self.new }
+    {
+        match self.place_alone(txn, object, mode) {
+            Some(place) => drop(self.holders.swap_remove_index(place)),
+            None => self.remove_beside(txn, object, mode),
+        }
+    }
+
+    // One lock less, if it was held, on an object that others may hold.
+    fn remove_beside(&mut self, txn: TxnNo, object: &Object, mode: LockMode)
         ensures removed { held_of self.new ≡ without_lock (held_of self.old) txn object.now mode }
         ensures idle { HasNoIdle self.old → HasNoIdle self.new }
     {
@@ -144,7 +172,7 @@ impl LockedObjects {
     }
 
     /// These locks of a transaction less, those of them that were held.
-    pub fn remove_all(&mut self, txn: TxnNo, locks: &[Lock])
+    pub(crate) fn remove_all(&mut self, txn: TxnNo, locks: &[Lock])
         ensures removed { held_of self.new ≡ without_locks (held_of self.old) txn locks.now }
         ensures idle { HasNoIdle self.old → HasNoIdle self.new }
     {

@@ -11,9 +11,9 @@ use std::marker::Model;
 
 /// A lock: an object, and the mode in which it is held.
 #[derive(Debug, Drop)]
-pub struct Lock {
-    pub object: Object,
-    pub mode: LockMode,
+pub(crate) struct Lock {
+    pub(crate) object: Object,
+    pub(crate) mode: LockMode,
 }
 
 impl Lock {
@@ -37,7 +37,7 @@ fn copy_of(object: &Object) -> Result<Object, AllocError>
 
 /// The locks of one transaction, in order of grant.
 #[derive(Debug, Drop)]
-pub struct LockList {
+pub(crate) struct LockList {
     list: Vec<Lock>,
 }
 
@@ -52,7 +52,7 @@ impl Model for LockList {
 
 impl LockList {
     /// No locks.
-    pub fn new(alloc: Global) -> LockList
+    pub(crate) fn new(alloc: Global) -> LockList
         ensures { result ≡ [] }
     {
         LockList {
@@ -61,7 +61,7 @@ impl LockList {
     }
 
     /// One lock more, last. The only error is want of memory.
-    pub fn push(&mut self, lock: Lock) -> Result<(), AllocError>
+    pub(crate) fn push(&mut self, lock: Lock) -> Result<(), AllocError>
         ensures added { OnOk result (self.new ≡ self.old ++ lock ∷ []) }
         ensures err { OnErr result (self.new ≡ self.old) }
     {
@@ -70,14 +70,14 @@ impl LockList {
     }
 
     /// The last one goes.
-    pub fn pop(&mut self)
+    pub(crate) fn pop(&mut self)
         ensures { self.new ≡ front self.old }
     {
         self.list.pop();
     }
 
     /// Whether this lock is the last.
-    pub fn ends_with(&self, object: &Object, mode: LockMode) -> bool
+    pub(crate) fn ends_with(&self, object: &Object, mode: LockMode) -> bool
         ensures { IsTrue result ↔ EndsWith self.now object.now mode }
     {
         match self.list.last() {
@@ -87,7 +87,7 @@ impl LockList {
     }
 
     /// The locks, lent.
-    pub fn as_slice(&self) -> &[Lock]
+    pub(crate) fn as_slice(&self) -> &[Lock]
         ensures { result.now ≡ self.now }
     {
         self.list.as_slice()
@@ -96,7 +96,7 @@ impl LockList {
 
 /// The locks that each transaction holds, in order of grant, by which they are found when it ends.
 #[derive(Drop)]
-pub struct Notes {
+pub(crate) struct Notes {
     alloc: Global,
     locks: IndexMap<TxnNo, LockList>,
 }
@@ -112,7 +112,7 @@ impl Model for Notes {
 
 impl Notes {
     /// No notes.
-    pub fn new(alloc: Global) -> Notes
+    pub(crate) fn new(alloc: Global) -> Notes
         ensures { notes_of result ≡ no_notes }
     {
         Notes {
@@ -122,7 +122,12 @@ impl Notes {
     }
 
     /// Notes a lock, the last of its transaction. The only error is want of memory.
-    pub fn add(&mut self, txn: TxnNo, object: &Object, mode: LockMode) -> Result<(), AllocError>
+    pub(crate) fn add(
+        &mut self,
+        txn: TxnNo,
+        object: &Object,
+        mode: LockMode,
+    ) -> Result<(), AllocError>
         ensures added { OnOk result (notes_of self.new ≡ with_note (notes_of self.old) txn object.now mode) }
         ensures err { OnErr result (notes_of self.new ≡ notes_of self.old) }
     {
@@ -140,7 +145,7 @@ impl Notes {
     }
 
     /// Whether this lock is the last that is noted of a transaction.
-    pub fn ends_with(&self, txn: TxnNo, object: &Object, mode: LockMode) -> bool
+    pub(crate) fn ends_with(&self, txn: TxnNo, object: &Object, mode: LockMode) -> bool
         ensures { IsTrue result ↔ EndsWith (notes_of self.now txn) object.now mode }
     {
         match self.locks.get(&txn) {
@@ -150,7 +155,7 @@ impl Notes {
     }
 
     /// The last lock of a transaction is noted no more.
-    pub fn drop_last(&mut self, txn: TxnNo)
+    pub(crate) fn drop_last(&mut self, txn: TxnNo)
         ensures { notes_of self.new ≡ without_last (notes_of self.old) txn }
     {
         if let Some(locks) = self.locks.get_mut(&txn) {
@@ -159,7 +164,7 @@ impl Notes {
     }
 
     /// Takes what is noted of a transaction.
-    pub fn take(&mut self, txn: TxnNo) -> LockList
+    pub(crate) fn take(&mut self, txn: TxnNo) -> LockList
         ensures locks { result ≡ notes_of self.old txn }
         ensures rest { notes_of self.new ≡ without_notes (notes_of self.old) txn }
     {

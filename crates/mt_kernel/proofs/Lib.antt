@@ -40,6 +40,7 @@ pub mod Ranges
 pub mod Leads
 pub mod Between
 pub mod Finding
-pub mod Restarts
 pub mod Prefixed
+pub mod Lasting
+pub mod Restarts
 pub mod Turning

@@ -20,7 +20,7 @@ use Rattle.mt_live.specs.Members.{Member, has_inverse, with_call, with_room, wit
 use Rattle.mt_live.specs.Undoing.{only, others, last_effect, cut_back}
 use Rattle.mt_live.specs.declared.transactions.TxnState.{TxnState}
 use Rattle.mt_live.specs.declared.transactions.TxnState.TheVariants.{Open, Committing}
-use Rattle.mt_log.specs.Words.{appended, area_size}
+use Rattle.mt_log.specs.Words.{appended, durable, area_size}
 use Rattle.mt_model.proofs.Appends.{run-append, after-append}
 use Rattle.mt_model.proofs.Split.{filter-swap}
 use Rattle.mt_model.proofs.Undo.{base_effectless}
@@ -47,6 +47,7 @@ use Rattle.mt_steps.specs.Repeated.{held}
 use Rattle.mt_kernel.proofs.Did.{AreApartFrom, Tallies, tally_same, tally_end, tally_undone, tally_commit, tally_abort, tally_booked, without_did, effects_turn, effects_only, did_last, did_push, rising_apart, only_gone, calls_did}
 use Rattle.mt_kernel.proofs.Finding.{idle_did, acted_last, inverse_logged}
 use Rattle.mt_kernel.proofs.Imaged.{images_held, images_quiet}
+use Rattle.mt_kernel.proofs.Lasting.{lasts_same, lasts_then, stays_told, begins_told, leaves_told, starts_told}
 use Rattle.mt_kernel.proofs.Leads.{calls_append, leads_quietly, logged_did, logged_is}
 use Rattle.mt_kernel.proofs.Members.{changed_other}
 use Rattle.mt_kernel.proofs.Recovering.{effects_acted, recovers}
@@ -54,7 +55,7 @@ use Rattle.mt_live.specs.Laws.{in_turn}
 use Rattle.mt_kernel.proofs.Between.{appends_none}
 use Rattle.mt_kernel.specs.Booked.{txns_of}
 use Rattle.mt_kernel.specs.Consistent.{Origin, session_in, state_in, state_of, IsConsistent, IsTold}
-use Rattle.mt_kernel.specs.Restartable.{did, effects_of, entry_of, numbers_did, numbers_of, TellsOf, Recovers, IsRestartable, SameArea, IsQuiet, AppendsQuietly, AppendsEnd, QuietlyAppends, SameBook, NotesEnd, NotesUndone}
+use Rattle.mt_kernel.specs.Restartable.{did, effects_of, entry_of, numbers_did, numbers_of, TellsOf, Recovers, IsRestartable, TellsBook, Lasts, SameArea, IsQuiet, AppendsQuietly, AppendsEnd, QuietlyAppends, SameBook, NotesEnd, NotesUndone}
 use Rattle.mt_kernel.specs.Runs.{is_at_work, is_open, TakesBack}
 use Rattle.mt_kernel.specs.declared.parts.Commit.{Commit}
 use Rattle.mt_kernel.specs.declared.parts.Parts.{Parts}
@@ -207,8 +208,8 @@ module _ {D : Type 0} (seen : D → List ℕ) (may_leave : D → List ℕ → Ty
 
   -- nothing is appended that tells
   pub stays : (k n : Parts D) (later : Base) → IsConsistent seen may_leave origin later n → QuietlyAppends origin.pages k n → length n.live.members ≤ 64
-      → Now n (appended n.operations.store.log) later → IsRestartable origin k → IsRestartable origin n
-  stays k n later safe q few now r =
+      → Now n (appended n.operations.store.log) later → TellsBook origin n → IsRestartable origin k → IsRestartable origin n
+  stays k n later safe q few now booked r =
       let old = appended k.operations.store.log in
       record {
         beginnings = λ area. let each = moved_each k n q.area r area in
@@ -216,6 +217,7 @@ module _ {D : Type 0} (seen : D → List ℕ) (may_leave : D → List ℕ → Ty
             (λ front back is. quiet_recovers origin.pages old front (q.appends.quiet front back is) origin.relations origin.counters (pages n.operations.store.pool) (area_size n.operations.store.log) origin.begun (begin_all (Recovers origin n) old each)));
         begun = r.begun;
         tells = tells_of n (appended n.operations.store.log) later safe now;
+        booked = booked;
         few = few;
       }
 
@@ -223,8 +225,8 @@ module _ {D : Type 0} (seen : D → List ℕ) (may_leave : D → List ℕ → Ty
   pub grows : (k n : Parts D) (later : Base) (entry : Record) → IsConsistent seen may_leave origin later n → SameArea k n → length n.live.members ≤ 64
       → appended n.operations.store.log ≡ appended k.operations.store.log ++ entry ∷ []
       → (LeadsOn origin.relations origin.counters (pages k.operations.store.pool) origin.pages (appended k.operations.store.log) → LeadsOn origin.relations origin.counters (pages k.operations.store.pool) origin.pages (appended n.operations.store.log))
-      → Now n (appended n.operations.store.log) later → IsRestartable origin k → IsRestartable origin n
-  grows k n later entry safe same few is leads now r =
+      → Now n (appended n.operations.store.log) later → TellsBook origin n → IsRestartable origin k → IsRestartable origin n
+  grows k n later entry safe same few is leads now booked r =
       let old = appended k.operations.store.log in
       let tells = tells_of n (appended n.operations.store.log) later safe now in
       let led : LeadsOn origin.relations origin.counters (pages k.operations.store.pool) origin.pages old → LeadsOn origin.relations origin.counters (pages n.operations.store.pool) origin.pages (appended n.operations.store.log) = λ was. subst (λ (t : ℕ). LeadsOn origin.relations origin.counters t origin.pages (appended n.operations.store.log)) (sym same.total) (leads was) in
@@ -236,13 +238,14 @@ module _ {D : Type 0} (seen : D → List ℕ) (may_leave : D → List ℕ → Ty
             subst (EachBeginning (Recovers origin n)) (sym is) (begin_one (Recovers origin n) old entry each (subst (Recovers origin n) is whole));
         begun = r.begun;
         tells = tells;
+        booked = booked;
         few = few;
       }
 
   -- ---- nothing is told anew
 
   pub same_area : (k n : Parts D) → n.operations.store ≡ k.operations.store → SameArea k n
-  same_area k n store = record { total = ap (λ s. pages s.pool) store; bytes = ap (λ s. area_size s.log) store }
+  same_area k n store = record { total = ap (λ s. pages s.pool) store; bytes = ap (λ s. area_size s.log) store; lasts = lasts_same k n (ap (λ s. durable s.log) store) }
 
   pub quiet_store : (k n : Parts D) → n.operations.store ≡ k.operations.store → QuietlyAppends origin.pages k n
   quiet_store k n store = record { area = same_area k n store; appends = appends_none origin.pages (appended k.operations.store.log) (appended n.operations.store.log) (ap (λ s. appended s.log) store) }
@@ -255,15 +258,15 @@ module _ {D : Type 0} (seen : D → List ℕ) (may_leave : D → List ℕ → Ty
       let bases : base ≡ later = sym (base_is k base safe_k) ∙ (λ i. runs (after origin.first (sym book.book i)) (sym standing i)) ∙ base_is n later safe_n in
       let tally : Tallies (map effects_of was.since) (txns_of k.commits.items) (num n.live.members) (filter did k.live.standing) (tells old) = tally_same (map effects_of was.since) (txns_of k.commits.items) (num k.live.members) (num n.live.members) (filter did k.live.standing) (tells old) was.tally numbers in
       let here : Now n old later = record { since = was.since; book = book.book ∙ was.book; tally = subst (λ (X : Type 0). X) (λ i. Tallies (map effects_of was.since) (txns_of (sym book.commits i)) (num n.live.members) (filter did (sym standing i)) (tells old)) tally; leads = was.leads ∙ bases } in
-      stays k n later safe_n q few (appended_now n old (appended n.operations.store.log) later q.appends here) r
+      stays k n later safe_n q few (appended_now n old (appended n.operations.store.log) later q.appends here) (stays_told seen may_leave origin k n later safe_n q.area.lasts book r.booked) r
 
   pub store_same : (k n : Parts D) (base later : Base) → IsConsistent seen may_leave origin base k → IsConsistent seen may_leave origin later n → n.operations.store ≡ k.operations.store → SameBook k n → n.live ≡ k.live → IsRestartable origin k → IsRestartable origin n
   store_same k n base later safe_k safe_n store book live r = stays_same k n base later safe_k safe_n (quiet_store k n store) book (ap (λ l. l.standing) live) (λ t. ap (λ l. num l.members t) live) (subst (λ l. length l.members ≤ 64) (sym live) r.few) r
 
   pub rests_same : (k n : Parts D) (base later : Base) → IsConsistent seen may_leave origin base k → IsConsistent seen may_leave origin later n → Rests (world seen origin.pages k.operations) (world seen origin.pages n.operations)
-      → area_size n.operations.store.log ≡ area_size k.operations.store.log → SameBook k n → n.live ≡ k.live → IsRestartable origin k → IsRestartable origin n
-  rests_same k n base later safe_k safe_n rests area book live r = stays_same k n base later safe_k safe_n
-      (record { area = record { total = rests.area.total; bytes = area }; appends = appends_none origin.pages (appended k.operations.store.log) (appended n.operations.store.log) rests.records })
+      → area_size n.operations.store.log ≡ area_size k.operations.store.log → Lasts k n → SameBook k n → n.live ≡ k.live → IsRestartable origin k → IsRestartable origin n
+  rests_same k n base later safe_k safe_n rests area lasts book live r = stays_same k n base later safe_k safe_n
+      (record { area = record { total = rests.area.total; bytes = area; lasts = lasts }; appends = appends_none origin.pages (appended k.operations.store.log) (appended n.operations.store.log) rests.records })
       book (ap (λ l. l.standing) live) (λ t. ap (λ l. num l.members t) live) (subst (λ l. length l.members ≤ 64) (sym live) r.few) r
 
   pub goes_on : (k n : Parts D) (base later : Base) → IsConsistent seen may_leave origin base k → IsConsistent seen may_leave origin later n → QuietlyAppends origin.pages k n → n.book ≡ k.book → n.commits ≡ k.commits → n.live ≡ k.live → IsRestartable origin k → IsRestartable origin n
@@ -271,7 +274,7 @@ module _ {D : Type 0} (seen : D → List ℕ) (may_leave : D → List ℕ → Ty
 
   -- in the same store
   pub area_then : (k m n : Parts D) → SameArea k m → n.operations.store ≡ m.operations.store → SameArea k n
-  area_then k m n same store = record { total = ap (λ s. pages s.pool) store ∙ same.total; bytes = ap (λ s. area_size s.log) store ∙ same.bytes }
+  area_then k m n same store = record { total = ap (λ s. pages s.pool) store ∙ same.total; bytes = ap (λ s. area_size s.log) store ∙ same.bytes; lasts = lasts_then k m n same.lasts store }
 
   pub quiet_then : (k m n : Parts D) → QuietlyAppends origin.pages k m → n.operations.store ≡ m.operations.store → QuietlyAppends origin.pages k n
   quiet_then k m n q store = record { area = area_then k m n q.area store; appends = record { more = q.appends.more; is = ap (λ s. appended s.log) store ∙ q.appends.is; quiet = q.appends.quiet } }
@@ -368,7 +371,7 @@ module _ {D : Type 0} (seen : D → List ℕ) (may_leave : D → List ℕ → Ty
           let nothing : inverse_of r.scope.op (reply_of base r.scope.op) ≡ None = none_of (inverse_of r.scope.op (reply_of base r.scope.op)) (ap (λ (y : Reply). is_some (inverse_of r.scope.op y)) replies ∙ logged_did r.scope.op reply ∙ ap is_some is) in
           let tally = tally_same (map effects_of was.since) (txns_of k.commits.items) (num k.live.members) (num n.live.members) (filter did k.live.standing) (tells old) was.tally numbers in
           let now : Now n old later = record { since = was.since; book = e.same.book ∙ was.book; tally = tally_in (tells old) (filter did k.live.standing) entries tally; leads = was.leads ∙ sym (later_is ∙ base_effectless base r.scope.op nothing) } in
-          stays k n later safe_n (record { area = same; appends = appends_none origin.pages old (appended n.operations.store.log) records }) few (subst (λ (rs : List Record). Now n rs later) (sym records) now) restartable
+          stays k n later safe_n (record { area = same; appends = appends_none origin.pages old (appended n.operations.store.log) records }) few (subst (λ (rs : List Record). Now n rs later) (sym records) now) (stays_told seen may_leave origin k n later safe_n same.lasts e.same restartable.booked) restartable
         where
           none_of : {A : Type 0} (o : Option A) → is_some o ≡ false → o ≡ None
           none_of None is = refl
@@ -388,7 +391,7 @@ module _ {D : Type 0} (seen : D → List ℕ) (may_leave : D → List ℕ → Ty
           let tally = tally_end (map effects_of was.since) (txns_of k.commits.items) (num k.live.members) (num n.live.members) (filter did k.live.standing) (tells old) was.tally f (apart_from k.live.members k.commits.items t safe_k.fit.queued.each working) mine rest in
           let led : run origin.begun (calls_in (old ++ it ∷ [])) ≡ later = ap (run origin.begun) (calls_append old (it ∷ [])) ∙ run-append origin.begun (calls_in old) (call_of done ∷ []) ∙ (λ i. base_after (was.leads i) (tells_it.0 i)) ∙ sym later_is in
           let now : Now n (old ++ it ∷ []) later = record { since = was.since; book = e.same.book ∙ was.book; tally = subst (Tallies (map effects_of was.since) (txns_of n.commits.items) (num n.live.members) (filter did n.live.standing)) (sym now_told) (tally_in (record { live = (tells old).live ++ f ∷ []; books = (tells old).books }) (filter did k.live.standing ++ entry_of f ∷ []) entries tally); leads = led } in
-          grows k n later it safe_n same few records a.leads (subst (λ (rs : List Record). Now n rs later) (sym records) now) restartable
+          grows k n later it safe_n same few records a.leads (subst (λ (rs : List Record). Now n rs later) (sym records) now) (stays_told seen may_leave origin k n later safe_n same.lasts e.same restartable.booked) restartable
 
   -- ---- an inverse has ended
 
@@ -473,7 +476,7 @@ module _ {D : Type 0} (seen : D → List ℕ) (may_leave : D → List ℕ → Ty
           tallied tally =
               let here = subst (λ (X : Type 0). X) (λ i. Tallies (map effects_of was.since) (txns_of (sym e.same.commits i)) (num n.live.members) (sym stands i) (sym now_told i)) tally in
               let now : Now n (old ++ it ∷ []) (base_after base r.scope.op) = record { since = was.since; book = e.same.book ∙ was.book; tally = here; leads = led } in
-              grows k n (base_after base r.scope.op) it safe_n same few records a.leads (subst (λ (rs : List Record). Now n rs (base_after base r.scope.op)) (sym records) now) restartable
+              grows k n (base_after base r.scope.op) it safe_n same few records a.leads (subst (λ (rs : List Record). Now n rs (base_after base r.scope.op)) (sym records) now) (stays_told seen may_leave origin k n (base_after base r.scope.op) safe_n same.lasts e.same restartable.booked) restartable
 
           at : (o : Option ℕ) → last_place m.member.calls ≡ o → IsRestartable origin n
           at None place = let none : operation_at m.member None ≡ Some r.scope.undoes = ap (operation_at m.member) (sym place) ∙ named in absurd cc
@@ -500,8 +503,9 @@ module _ {D : Type 0} (seen : D → List ℕ) (may_leave : D → List ℕ → Ty
 
   pub committed : (k n : Parts D) (base later : Base) (it : Commit) → IsConsistent seen may_leave origin base k → IsConsistent seen may_leave origin later n → SameArea k n
       → appended n.operations.store.log ≡ appended k.operations.store.log ++ CommitOf it.txn ∷ [] → IsChanged k.live.members n.live.members it.txn (λ m. with_state m Committing) → length n.live.members ≡ length k.live.members
-      → n.live.standing ≡ k.live.standing → n.book.items ≡ k.book.items → n.commits.items ≡ k.commits.items ++ it ∷ [] → is_open (member_of k.live.members it.txn) ≡ true → IsRestartable origin k → IsRestartable origin n
-  committed k n base later it safe_k safe_n same records members count standing book commits working r =
+      → n.live.standing ≡ k.live.standing → n.book.items ≡ k.book.items → n.commits.items ≡ k.commits.items ++ it ∷ [] → is_open (member_of k.live.members it.txn) ≡ true
+      → durable n.operations.store.log ≡ durable k.operations.store.log → length (durable k.operations.store.log) < it.place → IsRestartable origin k → IsRestartable origin n
+  committed k n base later it safe_k safe_n same records members count standing book commits working lasting behind r =
       let old = appended k.operations.store.log in
       let t = it.txn in
       let was = now_of k old base safe_k r.tells in
@@ -515,7 +519,7 @@ module _ {D : Type 0} (seen : D → List ℕ) (may_leave : D → List ℕ → Ty
       let here = subst (λ (X : Type 0). X) (λ i. Tallies (map effects_of was.since) (names i) (num n.live.members) (filter did (sym standing i)) (now_told i)) tally in
       let now : Now n (old ++ CommitOf t ∷ []) later = record { since = was.since; book = book ∙ was.book; tally = here; leads = ap (run origin.begun) (ends_calls old (CommitOf t) refl) ∙ was.leads ∙ bases } in
       grows k n later (CommitOf t) safe_n same (subst (λ (x : ℕ). x ≤ 64) (sym count) r.few) records (ends_leads old (appended n.operations.store.log) (CommitOf t) (pages k.operations.store.pool) (ap held (logged_more origin.pages old (CommitOf t ∷ []))) refl records)
-      (subst (λ (rs : List Record). Now n rs later) (sym records) now) r
+      (subst (λ (rs : List Record). Now n rs later) (sym records) now) (begins_told seen may_leave origin k n it lasting book commits behind r.booked) r
 
   pub aborted : (k n : Parts D) (base later : Base) (t : ℕ) → IsConsistent seen may_leave origin base k → IsConsistent seen may_leave origin later n → SameArea k n
       → appended n.operations.store.log ≡ appended k.operations.store.log ++ AbortEnd t ∷ [] → ((u : ℕ) → member_of n.live.members u ≡ put (member_of k.live.members) t None u) → length n.live.members + 1 ≡ length k.live.members
@@ -535,7 +539,7 @@ module _ {D : Type 0} (seen : D → List ℕ) (may_leave : D → List ℕ → Ty
       let now : Now n (old ++ AbortEnd t ∷ []) later = record { since = was.since; book = book.book ∙ was.book; tally = here; leads = ap (run origin.begun) (ends_calls old (AbortEnd t) refl) ∙ was.leads ∙ bases } in
       let few = r.few in
       grows k n later (AbortEnd t) safe_n same (omega (arith, few, count)) records (ends_leads old (appended n.operations.store.log) (AbortEnd t) (pages k.operations.store.pool) (ap held (logged_more origin.pages old (AbortEnd t ∷ []))) refl records)
-      (subst (λ (rs : List Record). Now n rs later) (sym records) now) r
+      (subst (λ (rs : List Record). Now n rs later) (sym records) now) (stays_told seen may_leave origin k n later safe_n same.lasts book r.booked) r
 
   -- ---- a commit is booked
 
@@ -545,8 +549,8 @@ module _ {D : Type 0} (seen : D → List ℕ) (may_leave : D → List ℕ → Ty
 
   pub leaves : (k n : Parts D) (base later : Base) (c : Commit) (cs : List Commit) (done : Committed) → IsConsistent seen may_leave origin base k → IsConsistent seen may_leave origin later n → n.operations.store ≡ k.operations.store
       → k.commits.items ≡ c ∷ cs → n.commits.items ≡ cs → n.book.items ≡ k.book.items ++ done ∷ [] → done.calls ≡ calls (kept (only c.txn) k.live.standing)
-      → ((u : ℕ) → member_of n.live.members u ≡ put (member_of k.live.members) c.txn None u) → length n.live.members + 1 ≡ length k.live.members → n.live.standing ≡ kept (others c.txn) k.live.standing → IsRestartable origin k → IsRestartable origin n
-  leaves k n base later c cs done safe_k safe_n store queue rest book its_calls members count standing r =
+      → ((u : ℕ) → member_of n.live.members u ≡ put (member_of k.live.members) c.txn None u) → length n.live.members + 1 ≡ length k.live.members → n.live.standing ≡ kept (others c.txn) k.live.standing → c.place ≤ length (durable k.operations.store.log) → IsRestartable origin k → IsRestartable origin n
+  leaves k n base later c cs done safe_k safe_n store queue rest book its_calls members count standing there r =
       let old = appended k.operations.store.log in
       let t = c.txn in
       let was = now_of k old base safe_k r.tells in
@@ -565,7 +569,7 @@ module _ {D : Type 0} (seen : D → List ℕ) (may_leave : D → List ℕ → Ty
       let here : Now n old later = record { since = was.since ++ done ∷ []; book = whole; tally = subst (λ (X : Type 0). X) (λ i. Tallies (books i) (txns_of (sym rest i)) (num n.live.members) (stands i) (tells old)) tally; leads = was.leads ∙ bases } in
       let q = quiet_store k n store in
       let few = r.few in
-      stays k n later safe_n q (omega (arith, few, count)) (appended_now n old (appended n.operations.store.log) later q.appends here) r
+      stays k n later safe_n q (omega (arith, few, count)) (appended_now n old (appended n.operations.store.log) later q.appends here) (leaves_told seen may_leave origin k n c cs done store queue rest book there r.booked) r
 
   -- ---- the log's area begins
 
@@ -599,5 +603,6 @@ module _ {D : Type 0} (seen : D → List ℕ) (may_leave : D → List ℕ → Ty
         beginnings = λ area front back is. quiet_recovers origin.pages [] front (quiet front back is) origin.relations origin.counters total (area_size k.operations.store.log) origin.begun (recovered area);
         begun = begun;
         tells = tells_of k records origin.begun safe now;
+        booked = starts_told seen may_leave origin k book commits;
         few = let nobody : length k.live.members ≡ 0 = ap (λ (ms : List Member). length ms) members in omega (arith, nobody);
       }

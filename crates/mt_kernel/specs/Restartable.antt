@@ -1,5 +1,5 @@
 -- What the log's records tell of the transactions, and that a restart over each beginning of them finds its base.
-use Rattle.std.specs.Prelude.{ℕ, ◌≡◌, ◌≤◌, ◌++◌, Bool, cond, List, [], ◌∷◌, Option, Some, None, filter, map, length, Result, Ok, Err}
+use Rattle.std.specs.Prelude.{ℕ, ◌≡◌, ◌≤◌, ◌+◌, ◌++◌, Bool, cond, List, [], ◌∷◌, Option, Some, None, filter, map, length, Result, Ok, Err}
 use Rattle.mt_base.specs.declared.refusal.Refusal.{Refusal}
 use Rattle.mt_frame.specs.declared.records.Record.{Record}
 use Rattle.mt_live.specs.Entries.{Entry, runs}
@@ -7,7 +7,7 @@ use Rattle.mt_live.specs.Laws.{in_turn, without_all}
 use Rattle.mt_live.specs.Lives.{member_of, IsChanged}
 use Rattle.mt_live.specs.Members.{Member, has_inverse, with_call, taken_back}
 use Rattle.mt_live.specs.Undoing.{cut_back}
-use Rattle.mt_log.specs.Words.{appended, area_size}
+use Rattle.mt_log.specs.Words.{appended, durable, area_size}
 use Rattle.mt_model.specs.History.{Call, run, after}
 use Rattle.mt_model.specs.Model.{Base}
 use Rattle.mt_model.specs.declared.history.Committed.{Committed}
@@ -20,7 +20,7 @@ use Rattle.mt_pool.specs.Views.{pages}
 use Rattle.mt_replay.specs.Recoverable.{EachBeginning, IsRecoverable, LeadsOn, pages_held}
 use Rattle.mt_replay.specs.Told.{Told, Finished, tell, tells, its, op_of, reply_in, calls_in, calls_of}
 use Rattle.mt_space.specs.Changes.{PageBytes}
-use Rattle.mt_kernel.specs.Booked.{txns_of}
+use Rattle.mt_kernel.specs.Booked.{txns_of, durable_count}
 use Rattle.mt_kernel.specs.Consistent.{Origin, session_in, IsConsistent}
 use Rattle.mt_kernel.specs.Runs.{is_at_work}
 use Rattle.mt_kernel.specs.declared.parts.Parts.{Parts}
@@ -70,6 +70,12 @@ abbrev pub Recovers : {D : Type 0} → Origin → Parts D → List Record → Ty
 Recovers origin k records = IsRecoverable origin.relations origin.counters (pages k.operations.store.pool)
     (area_size k.operations.store.log) origin.pages origin.begun records
 
+-- The durable records tell of each commit that was booked since the area began. Of those under way they tell of each whose record is one
+-- of them.
+abbrev pub TellsBook : {D : Type 0} → Origin → Parts D → Type 0
+TellsBook origin k = length k.book.items + durable_count k.commits.items (length (durable k.operations.store.log))
+    ≤ length origin.earlier + length (tells (durable k.operations.store.log)).books
+
 -- A restart over each beginning of the records finds its base, if the area has 4 MiB at least: at most 64 transactions
 -- live, and such an area has room for the images of the pages that inverses change. The area began on what the commits
 -- from before it lead to.
@@ -77,14 +83,20 @@ pub record IsRestartable {D : Type 0} (origin : Origin) (k : Parts D) : Type 0 w
   pub beginnings : 4194304 ≤ area_size k.operations.store.log → EachBeginning (Recovers origin k) (appended k.operations.store.log)
   pub begun : origin.begun ≡ after origin.first origin.earlier
   pub tells : TellsOf origin k (appended k.operations.store.log)
+  pub booked : TellsBook origin k
   pub few : length k.live.members ≤ 64
 
 -- ---- what a step appends
 
--- as many pages, and an area as large
+-- what was durable is
+abbrev pub Lasts : {D : Type 0} → Parts D → Parts D → Type 0
+Lasts k n = (more : List Record) × (durable n.operations.store.log ≡ durable k.operations.store.log ++ more)
+
+-- as many pages, and an area as large in which no durable record was lost
 pub record SameArea {D : Type 0} (k n : Parts D) : Type 0 where
   pub total : pages n.operations.store.pool ≡ pages k.operations.store.pool
   pub bytes : area_size n.operations.store.log ≡ area_size k.operations.store.log
+  pub lasts : Lasts k n
 
 -- behind these records others tell nothing, and the pages held stay
 pub record IsQuiet (opening : PageBytes) (records more : List Record) : Type 0 where

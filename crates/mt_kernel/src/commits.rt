@@ -146,7 +146,10 @@ impl<D: Device> Parts<D> {
         ensures running { self.new.running ≡ self.old.running }
         ensures states { SameUncommitted self.old self.new }
         ensures undo { LeavesUndo self.old self.new }
-        ensures restartable { StaysRestartable D.seen D.may_leave self.old self.new }
+        // Where its record is durable.
+        ensures restartable { (c : Commit) (cs : List Commit) → self.old.commits.items ≡ c ∷ cs
+            → c.place ≤ length (durable self.old.operations.store.log)
+            → StaysRestartable D.seen D.may_leave self.old self.new }
     {
         let reserved = self.reserved;
         let Commit { txn, place: _ } = self.commits.remove(0);
@@ -175,7 +178,9 @@ impl<D: Device> Parts<D> {
         ensures running { self.new.running ≡ self.old.running }
         ensures states { SameUncommitted self.old self.new }
         ensures undo { LeavesUndo self.old self.new }
-        ensures restartable { StaysRestartable D.seen D.may_leave self.old self.new }
+        // Where the records up to this place are durable: none is booked that a crash may take away.
+        ensures restartable { place ≤ length (durable self.old.operations.store.log)
+            → StaysRestartable D.seen D.may_leave self.old self.new }
     {
         let count = durable_count(self.commits.as_slice(), place);
         for _booked in 0..count {

@@ -148,7 +148,7 @@ module _ {D : Type 0} {g : Ghosts D} (seen : D → List ℕ) (may_leave : D → 
       schema = (schema.0 ∙ keeps.schema.0, schema.1 ∙ keeps.schema.1);
       found = λ first starts count.
           then_finds seen may_leave k.relations k.counters first moment left_since only_now k.parts m.parts n.parts.operations.store.device
-          (λ c f. ∥∥₁_map (same_commits seen may_leave k m first nobody still starts keeps.state) (λ same. finds_back seen may_leave k.relations k.counters first k.parts m.parts same more grown c f))
+          (λ c f. ∥∥₁_map (same_commits seen may_leave k m first nobody still starts keeps.state) (λ same. finds_back seen may_leave k.relations k.counters first k.parts m.parts same.0 same.1 more grown c f))
           (keeps.found first starts count)
           (subst (λ (X : Type 0). X) (λ i. FindsMeanwhile moment left_since (keeps.schema.0 i) (keeps.schema.1 i) first m.parts n.parts.operations.store.device) (found first (keeps.restarts first starts) (subst IsRelationCount (sym keeps.schema.0) count)));
     }
@@ -176,7 +176,7 @@ module _ {D : Type 0} {g : Ghosts D} (seen : D → List ℕ) (may_leave : D → 
         → FindsMeanwhile moment left_since m.relations m.counters first m.parts new → FindsMeanwhile moment left_since k.relations k.counters first k.parts new
     found_behind k m first new nobody still keeps (more, grown) starts count found =
         then_finds seen may_leave k.relations k.counters first moment left_since only_now k.parts m.parts new
-        (λ c f. ∥∥₁_map (same_commits seen may_leave k m first nobody still starts keeps.state) (λ same. finds_back seen may_leave k.relations k.counters first k.parts m.parts same more grown c f))
+        (λ c f. ∥∥₁_map (same_commits seen may_leave k m first nobody still starts keeps.state) (λ same. finds_back seen may_leave k.relations k.counters first k.parts m.parts same.0 same.1 more grown c f))
         (keeps.found first starts count)
         (subst (λ (X : Type 0). X) (λ i. FindsMeanwhile moment left_since (keeps.schema.0 i) (keeps.schema.1 i) first m.parts new) found)
 
@@ -232,6 +232,5 @@ early_busy k is some = ap (λ (b : Bool). survey_cause b k.parts) is ∙ busy (l
 pub stands_before : {D : Type 0} {g : Ghosts D} (seen : D → List ℕ) (may_leave : D → List ℕ → Type 0) (k m : Kernel D g) (first : Base) (why : Refusal) (device : D) → HasNobody k → HasNobody m → Stays seen may_leave k m → SameSchema k m → Restarts seen may_leave first k → Restarts seen may_leave first m → StandsForBook may_leave first m why device
     → StandsForBook may_leave first k why device
 stands_before seen may_leave k m first why device nobody still stays schema starts later stands other c left =
-    ∥∥₁_elim (same_commits seen may_leave k m first nobody still starts stays) ∥∥₁_prop (λ same. ∥∥₁_elim (all_booked seen may_leave k.parts k.relations k.counters first nobody starts) ∥∥₁_prop (λ mine. ∥∥₁_elim (all_booked seen may_leave m.parts m.relations m.counters first still later) ∥∥₁_prop (λ its.
-    let book : m.parts.book.items ≡ k.parts.book.items = sym its ∙ same ∙ mine in
-    ∥∥₁_map (stands other c left) (λ can. subst (λ (X : Type 0). X) (λ i. CanRestart (schema.0 i) (schema.1 i) c (after first (book i))) can))))
+    ∥∥₁_elim (same_commits seen may_leave k m first nobody still starts stays) ∥∥₁_prop (λ same.
+    ∥∥₁_map (stands other c left) (λ can. subst (λ (X : Type 0). X) (λ i. CanRestart (schema.0 i) (schema.1 i) c (after first (same.1 i))) can))

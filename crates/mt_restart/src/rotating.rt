@@ -76,7 +76,7 @@ fn turn_over<D: Device + Drop>(
 ///
 /// The log is forced, and the device recovered as [`open`](crate::open) does: it is synced, its pages are read back
 /// and written in place where they are not, and the other area begins and comes to rule. Whenever a crash comes in this
-/// call, a restart finds what some of the first commits lead to, with all whose records were durable.
+/// call, a restart finds what some of the first commits lead to, with the whole book of the kernel.
 ///
 /// Refused with the kernel, whose state is as before:
 /// - [`Refusal::DeviceFailed`], where its device has failed, or fails in the force;

@@ -118,11 +118,12 @@ module _ {D : Type 0} (seen : D → List ℕ) (may_leave : D → List ℕ → Ty
   all_booked k relations counters first nobody r = ∥∥₁_map r (λ (origin, base, x). booked_only k nobody origin base x.consistent)
 
 module _ {D : Type 0} {g : Ghosts D} (seen : D → List ℕ) (may_leave : D → List ℕ → Type 0) where
-  -- and the same where the state stays
-  pub same_commits : (k m : Kernel D g) (first : Base) → length k.parts.live.members ≡ 0 → length m.parts.live.members ≡ 0 → Restarts seen may_leave first k → Stays seen may_leave k m → ∥ all_commits m.parts ≡ all_commits k.parts ∥₁
+  -- and the same where the state stays, and so is the book
+  pub same_commits : (k m : Kernel D g) (first : Base) → length k.parts.live.members ≡ 0 → length m.parts.live.members ≡ 0 → Restarts seen may_leave first k → Stays seen may_leave k m → ∥ (all_commits m.parts ≡ all_commits k.parts) × (m.parts.book.items ≡ k.parts.book.items) ∥₁
   same_commits k m first nobody still r stays = ∥∥₁_elim r ∥∥₁_prop (λ (origin, base, x).
       ∥∥₁_map (stays first (state_of k.parts base) ∣ (origin, base, x.is, record { consistent = x.consistent; state = refl }) ∣₁) (λ (later, now, is, y).
-      booked_only seen may_leave m.parts still later now y.consistent ∙ sym (ap (λ (s : State). s.book) y.state) ∙ sym (booked_only seen may_leave k.parts nobody origin base x.consistent)))
+      let book : m.parts.book.items ≡ k.parts.book.items = sym (ap (λ (s : State). s.book) y.state) in
+      (booked_only seen may_leave m.parts still later now y.consistent ∙ book ∙ sym (booked_only seen may_leave k.parts nobody origin base x.consistent), book)))
 
   -- a kernel's own facts say that nobody commits
   pub nobody_commits : (k : Kernel D g) → length k.parts.live.members ≡ 0 → IsWell seen may_leave k.relations k.counters k.parts → ∥ k.parts.commits.items ≡ [] ∥₁

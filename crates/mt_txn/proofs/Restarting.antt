@@ -1,6 +1,6 @@
 -- A kernel stays one that can be restarted from each beginning of its records.
 use Rattle.std.proofs.Common.{◌≡◌, ◌<◌, ◌≤◌, ◌+◌, ◌-◌, ◌++◌, inl, inr, ⊎_elim, ℕ, List, length, take, Result, Ok, Err, refl, sym, ap, ◌∙◌, subst, arith}
-use Rattle.std.specs.Prelude.{OnOk, OnErr}
+use Rattle.std.specs.Prelude.{OnOk, OnErr, IfOk}
 use Rattle.std.proofs.Props.{props}
 use Rattle.std.proofs.lemmas.List.{take_all}
 use mathlib.Core.Logic.{∥∥₁_elim, ∥∥₁_map, ∥∥₁_prop}
@@ -11,8 +11,10 @@ use Rattle.mt_frame.specs.declared.slots.MasterSlot.{MasterSlot}
 use Rattle.mt_live.specs.Machine.{State}
 use Rattle.mt_log.specs.Batch.{joined}
 use Rattle.mt_log.specs.Holds.{HoldsBatches}
+use Rattle.mt_log.specs.declared.log.Forced.{Forced}
+use Rattle.mt_log.specs.declared.log.Forced.TheVariants as forced
 use Rattle.mt_log.specs.declared.log.Log.{Log}
-use Rattle.mt_log.specs.Words.{appended, durable, area_size, area_start, area_end}
+use Rattle.mt_log.specs.Words.{appended, durable, area_size, area_start, area_end, IsStep}
 use Rattle.mt_model.specs.History.{after}
 use Rattle.mt_model.specs.Model.{Base, base_after}
 use Rattle.mt_model.specs.declared.history.Committed.{Committed}
@@ -57,6 +59,10 @@ size_is slot log start end = sizes (area_start log) (area_end log) (start_of slo
   where
     sizes : (a b s n : ℕ) → s ≡ a → s + n ≡ b → b - a ≡ n
     sizes a b s n p q = omega (arith, p, q)
+
+-- a force that has ended answers the place of the last durable record
+pub place_durable : (old new : Log) (place : ℕ) (r : Result Forced Refusal) → r ≡ Ok (forced.Durable place) → IfOk r (λ f. IsStep old f new) → place ≤ length (durable new)
+place_durable old new place r is made = let step = subst (λ (x : Result Forced Refusal). IfOk x (λ f. IsStep old f new)) is made in let at = step.6 in omega (arith, at)
 
 module _ {D : Type 0} (seen : D → List ℕ) (may_leave : D → List ℕ → Type 0) where
   -- parts that are consistent become so
@@ -151,10 +157,12 @@ module _ {D : Type 0} (seen : D → List ℕ) (may_leave : D → List ℕ → Ty
         let tells_durable : length (tells (durable log)).books ≤ length (tells front).books = subst (λ (rs : List Record). length (tells (durable log)).books ≤ length (tells rs).books) (sym e.beginning.has_durable) (tells_more (durable log) e.beginning.more) in
         let begun = x.restartable.begun in
         let tells_of = x.restartable.tells in
+        let booked = x.restartable.booked in
         record {
           base = stands_for origin.begun front;
           found = restarted k origin base c x e schema;
           count = length origin.earlier + length (tells front).books;
+          acknowledged = omega (arith, booked, tells_durable);
           durable = omega (arith, tells_durable);
           is = stands_first origin.begun (commits_since seen may_leave origin base k x.consistent begun tells_of) (appended log) front e.beginning.rest all tells_of.telling.books (since_legal seen may_leave origin base k x.consistent begun tells_of)
               ∙ after_earlier seen may_leave origin base k x.consistent begun tells_of (length (tells front).books)
@@ -207,12 +215,13 @@ module _ {D : Type 0} (seen : D → List ℕ) (may_leave : D → List ℕ → Ty
             (λ f. ∥∥₁_map (back c f) (λ b. inr b)));
       }
 
-    -- what is found of parts with the same commits, of which as many at least are durable, is found of k
-    pub finds_back : (k m : Parts D) → all_commits m ≡ all_commits k → (more : List Record) → durable m.operations.store.log ≡ durable k.operations.store.log ++ more → (c : List ℕ) → FindsCommits relations counters first m c → FindsCommits relations counters first k c
-    finds_back k m same more grown c f = record {
+    -- what is found of parts with the same commits, of which as many at least are durable, and with the same book, is found of k
+    pub finds_back : (k m : Parts D) → all_commits m ≡ all_commits k → m.book.items ≡ k.book.items → (more : List Record) → durable m.operations.store.log ≡ durable k.operations.store.log ++ more → (c : List ℕ) → FindsCommits relations counters first m c → FindsCommits relations counters first k c
+    finds_back k m same book more grown c f = record {
       base = f.base;
       found = f.found;
       count = f.count;
+      acknowledged = let all = f.acknowledged in let size : length m.book.items ≡ length k.book.items = ap (λ (cs : List Committed). length cs) book in omega (arith, all, size);
       durable = let few = f.durable in let tells_durable : length (tells (durable k.operations.store.log)).books ≤ length (tells (durable m.operations.store.log)).books = subst (λ (rs : List Record). length (tells (durable k.operations.store.log)).books ≤ length (tells rs).books) (sym grown) (tells_more (durable k.operations.store.log) more) in omega (arith, few, tells_durable);
       is = f.is ∙ ap (λ (cs : List Committed). after first (take f.count cs)) same;
     }
@@ -223,6 +232,7 @@ module _ {D : Type 0} (seen : D → List ℕ) (may_leave : D → List ℕ → Ty
       base = b;
       found = can;
       count = f.count + length (all_commits k);
+      acknowledged = let all = f.acknowledged in omega (arith, all);
       durable = let few = f.durable in omega (arith, few);
       is = is ∙ ap (after first) (sym (take_all (f.count + length (all_commits k)) (all_commits k) (omega arith)));
     }

@@ -109,8 +109,8 @@ impl<D: Device> Kernel<D> {
     {}
 
     /// Whatever a crash leaves now, a restart finds what some of the first commits lead to, each alone, in their order:
-    /// those of the book, and behind them those under way. Each commit whose record is durable is one of them. Each call
-    /// says so of a crash within it, of the commits that were there before.
+    /// those of the book, and behind them those under way. Each commit of the book is one of them, and each whose record
+    /// is durable. Each call says so of a crash within it, of the commits that were there before.
     pub fn can_restart(&self)
         ensures { (first : Base) (c : List ℕ) → Restarts D.seen D.may_leave first self.now
             → D.may_leave self.now.parts.operations.store.device c → IsRelationCount self.now.relations

@@ -23,6 +23,7 @@ use Rattle.mt_kernel.proofs.Aborted.{may_end}
 use Rattle.mt_pool.specs.Views.{pages}
 use Rattle.mt_kernel.specs.Work.{abort_steps, effects_left, undo_steps}
 use Rattle.mt_kernel.proofs.Undoing.{undo_idle, none_left}
+use Rattle.mt_kernel.proofs.Lasting.{lasts_same}
 use Rattle.mt_kernel.proofs.Restarts.{aborted, rests_same}
 use Rattle.std.proofs.Common.{refl}
 use Rattle.mt_kernel.proofs.parts.Parts.abort_end.Goals as goal
@@ -83,9 +84,10 @@ returns-in_err-append-clause-err_left g c = let k = c.args.self.now in let p = e
 
 pub returns-in_err-append-clause-restartable : goal.returns-in_err-append-clause-restartable
 returns-in_err-append-clause-restartable g c = λ origin base later safe_k safe_n r. let k = c.args.self.now in
-    rests_same g.D.Device.seen g.D.Device.may_leave origin k (record k { operations = c.append.new.self }) base later safe_k safe_n (c.in_err-append.ensures.rests origin.pages) c.append.ensures.area (record { book = refl; commits = refl }) refl r
+    rests_same g.D.Device.seen g.D.Device.may_leave origin k (record k { operations = c.append.new.self }) base later safe_k safe_n (c.in_err-append.ensures.rests origin.pages) c.append.ensures.area
+    (lasts_same k (record k { operations = c.append.new.self }) c.append.ensures.durable) (record { book = refl; commits = refl }) refl r
 
 pub returns-clause-restartable : goal.returns-clause-restartable
 returns-clause-restartable g c = λ origin base later safe_k safe_n r. let k = c.args.self.now in let f = c.in_ok-append.ensures in let m = c.leave.ensures in
     let n : Parts g.row.D.Denot = record k { operations = c.append.new.self; live = c.leave.new.self; locks = c.release.new.self; reserved = k.reserved - 128 } in
-    aborted g.D.Device.seen g.D.Device.may_leave origin k n base later c.args.txn safe_k safe_n (record { total = (f.notes origin.pages).area.total; bytes = c.append.ensures.area }) (f.notes origin.pages).records m.member m.count m.standing (record { book = refl; commits = refl }) c.requires.at_work c.requires.nothing r
+    aborted g.D.Device.seen g.D.Device.may_leave origin k n base later c.args.txn safe_k safe_n (record { total = (f.notes origin.pages).area.total; bytes = c.append.ensures.area; lasts = lasts_same k n c.append.ensures.durable }) (f.notes origin.pages).records m.member m.count m.standing (record { book = refl; commits = refl }) c.requires.at_work c.requires.nothing r

@@ -15,6 +15,7 @@ use Rattle.mt_op.specs.Holds.{IsNext}
 use Rattle.mt_kernel.specs.Steps.{TellsOther}
 use Rattle.mt_kernel.proofs.Holders.{tells_other}
 use Rattle.mt_kernel.proofs.Between.{step_appends, step_total}
+use Rattle.mt_kernel.proofs.Lasting.{lasts_same}
 use Rattle.mt_kernel.specs.Restartable.{StepAppends}
 use Rattle.mt_kernel.specs.declared.parts.Parts.{Parts}
 use Rattle.mt_kernel.proofs.parts.Parts.advance.Goals as goal
@@ -92,6 +93,6 @@ returns-clause-appends g c = λ origin base safe y now.
     let total = step_total origin.relations origin.counters w z r.scope q.scope c.step.result was.under went.1 in
     let new : q ≡ y = sym (now ∙ get_or-set_same k.running.items c.args.place q y c.requires.within) in
     subst (λ (x : Running). StepAppends origin k n x.scope c.step.result) new (record {
-      area = record { total = total; bytes = e.area };
+      area = record { total = total; bytes = e.area; lasts = lasts_same k n e.durable };
       appends = step_appends origin w z r.scope q.scope c.step.result refl refl total went.0.sound went.1 e.records e.stage;
     })

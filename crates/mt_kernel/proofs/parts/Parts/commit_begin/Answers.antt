@@ -1,6 +1,6 @@
 use mathlib.Core.Logic.{∥∥₁_elim}
 use Rattle.std.proofs.Props.{props}
-use Rattle.std.proofs.Common.{◌≡◌, ◌∙◌, ◌-◌, ◌++◌, ◌∷◌, [], List, length, refl, ap, arith}
+use Rattle.std.proofs.Common.{◌≡◌, ◌∙◌, ◌-◌, ◌<◌, ◌++◌, ◌∷◌, [], List, length, refl, ap, arith, length-append}
 use Rattle.std.proofs.lemmas.List.{length_push}
 use Rattle.mt_frame.specs.declared.records.Record.{Record}
 use Rattle.mt_frame.specs.declared.records.Record.TheVariants as record_of
@@ -10,13 +10,14 @@ use Rattle.mt_kernel.proofs.Committing.{committing_in}
 use Rattle.mt_kernel.proofs.Enough.{end_enough}
 use Rattle.mt_kernel.proofs.Resting.{rests_in}
 use Rattle.mt_kernel.proofs.Rooms.{rooms_in}
-use Rattle.mt_log.specs.Words.{appended}
+use Rattle.mt_log.specs.Words.{appended, durable, in_flight, waiting}
 use Rattle.mt_kernel.proofs.Sounds.{opening_of, named_of, unended_of}
 use Rattle.mt_kernel.proofs.Committing.{may_commit}
 use Rattle.mt_kernel.proofs.Calling.{open_some}
 use Rattle.mt_kernel.proofs.Members.{states_set}
 use Rattle.mt_live.specs.Lives.{member_of}
 use Rattle.mt_live.specs.declared.transactions.TxnState.TheVariants.{Committing}
+use Rattle.mt_kernel.proofs.Lasting.{lasts_same}
 use Rattle.mt_kernel.proofs.Restarts.{committed, rests_same}
 use Rattle.mt_kernel.proofs.parts.Parts.commit_begin.Goals as goal
 
@@ -73,11 +74,17 @@ returns-clause-queue g c = let it : Commit = record { txn = c.args.txn; place = 
 pub returns-in_err-place-clause-restartable : goal.returns-in_err-place-clause-restartable
 returns-in_err-place-clause-restartable g c = λ origin base later safe_k safe_n r. let k = c.args.self.now in
     let n : Parts g.row.D.Denot = record k { operations = c.append.new.self; commits = c.reserve.new.self; book = c.reserve-2.new.self } in
-    rests_same g.D.Device.seen g.D.Device.may_leave origin k n base later safe_k safe_n (c.in_err-place.ensures.rests origin.pages) c.append.ensures.area (record { book = c.reserve-2.ensures.items; commits = c.reserve.ensures.items }) refl r
+    rests_same g.D.Device.seen g.D.Device.may_leave origin k n base later safe_k safe_n (c.in_err-place.ensures.rests origin.pages) c.append.ensures.area (lasts_same k n c.append.ensures.durable) (record { book = c.reserve-2.ensures.items; commits = c.reserve.ensures.items }) refl r
 
 pub returns-clause-restartable : goal.returns-clause-restartable
 returns-clause-restartable g c = λ origin base later safe_k safe_n r. let k = c.args.self.now in let a = c.reserve.ensures in let b = c.reserve-2.ensures in let f = c.in_ok-place.ensures in let m = c.set_state.ensures in let p = c.push_reserved.ensures in
     let it : Commit = record { txn = c.args.txn; place = c.in_ok-place.place } in
     let n : Parts g.row.D.Denot = record k { operations = c.append.new.self; live = c.set_state.new.self; commits = c.push_reserved.new.self; book = c.reserve-2.new.self; reserved = k.reserved - 14 } in
     let pushed : n.commits.items ≡ k.commits.items ++ it ∷ [] = p.items ∙ (λ i. a.items i ++ it ∷ []) in
-    committed g.D.Device.seen g.D.Device.may_leave origin k n base later it safe_k safe_n (record { total = (f.notes origin.pages).area.total; bytes = c.append.ensures.area }) (f.notes origin.pages).records m.member m.count m.standing b.items pushed c.requires.at_work r
+    let records = ap (λ (rs : List Record). length rs) (f.notes origin.pages).records in
+    let more = length_push (appended k.operations.store.log) (record_of.Commit c.args.txn) in
+    let front = length-append (durable k.operations.store.log) (in_flight k.operations.store.log ++ waiting k.operations.store.log) in
+    let place = f.place in
+    let behind : length (durable k.operations.store.log) < it.place = omega (arith, place, records, more, front) in
+    committed g.D.Device.seen g.D.Device.may_leave origin k n base later it safe_k safe_n (record { total = (f.notes origin.pages).area.total; bytes = c.append.ensures.area; lasts = lasts_same k n c.append.ensures.durable }) (f.notes origin.pages).records m.member m.count m.standing b.items pushed c.requires.at_work
+    c.append.ensures.durable behind r

@@ -1,7 +1,8 @@
 use Rattle.std.proofs.Common.{arith, ap}
-use Rattle.mt_log.specs.Words.{used, area_size}
+use Rattle.mt_log.specs.Words.{durable, used, area_size}
 use Rattle.mt_kernel.proofs.Resting.{rests_in}
 use Rattle.mt_kernel.proofs.Sounds.{opening_of}
+use Rattle.mt_kernel.proofs.Lasting.{lasts_same}
 use Rattle.mt_kernel.proofs.Restarts.{rests_same}
 use Rattle.std.proofs.Common.{refl}
 use Rattle.mt_kernel.proofs.parts.Parts.flush_step.Goals as goal
@@ -16,4 +17,5 @@ flush_step-requires g c = record { kept = opening_of g.D.Device.seen g.D.Device.
 
 pub returns-clause-restartable : goal.returns-clause-restartable
 returns-clause-restartable g c = λ origin base later safe_k safe_n r. let k = c.args.self.now in
-    rests_same g.D.Device.seen g.D.Device.may_leave origin k (record k { operations = c.flush_step.new.self }) base later safe_k safe_n (c.flush_step.ensures.rests origin.pages) (ap (λ l. area_size l) c.flush_step.ensures.log) (record { book = refl; commits = refl }) refl r
+    rests_same g.D.Device.seen g.D.Device.may_leave origin k (record k { operations = c.flush_step.new.self }) base later safe_k safe_n (c.flush_step.ensures.rests origin.pages) (ap (λ l. area_size l) c.flush_step.ensures.log)
+    (lasts_same k (record k { operations = c.flush_step.new.self }) (ap (λ l. durable l) c.flush_step.ensures.log)) (record { book = refl; commits = refl }) refl r

@@ -1,5 +1,6 @@
 use Rattle.mt_kernel.proofs.Resting.{rests_in}
 use Rattle.mt_kernel.proofs.Sounds.{opening_of}
+use Rattle.mt_kernel.proofs.Lasting.{lasts_moved}
 use Rattle.mt_kernel.proofs.Restarts.{rests_same}
 use Rattle.std.proofs.Common.{refl}
 use Rattle.mt_kernel.proofs.parts.Parts.force_step.Goals as goal
@@ -13,4 +14,5 @@ force_step-requires g c = record { kept = opening_of g.D.Device.seen g.D.Device.
 
 pub returns-clause-restartable : goal.returns-clause-restartable
 returns-clause-restartable g c = λ origin base later safe_k safe_n r. let k = c.args.self.now in
-    rests_same g.D.Device.seen g.D.Device.may_leave origin k (record k { operations = c.force_step.new.self }) base later safe_k safe_n (c.force_step.ensures.rests origin.pages) c.force_step.ensures.area (record { book = refl; commits = refl }) refl r
+    rests_same g.D.Device.seen g.D.Device.may_leave origin k (record k { operations = c.force_step.new.self }) base later safe_k safe_n (c.force_step.ensures.rests origin.pages) c.force_step.ensures.area
+    (lasts_moved k (record k { operations = c.force_step.new.self }) c.force_step.ensures.moves) (record { book = refl; commits = refl }) refl r

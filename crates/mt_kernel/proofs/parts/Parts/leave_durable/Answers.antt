@@ -1,9 +1,11 @@
-use Rattle.std.proofs.Common.{◌≡◌, ◌<◌, ◌∙◌, ◌++◌, List, suc, length, drop, get_or, refl, sym, ap, subst, arith, append-nil}
+use Rattle.std.proofs.Common.{◌≡◌, ◌<◌, ◌≤◌, ◌∙◌, ◌++◌, List, suc, length, drop, get_or, refl, sym, ap, subst, arith, append-nil}
 use Rattle.std.specs.Prelude.{take}
 use Rattle.mt_kernel.specs.Booked.{booked_each, durable_count, txns_of}
 use Rattle.mt_kernel.specs.Consistent.{state_of, IsIn}
 use Rattle.mt_kernel.specs.declared.parts.Commit.{Commit}
+use Rattle.mt_log.specs.Words.{durable}
 use Rattle.mt_kernel.proofs.Durables.{left_sound, next_left, left_more}
+use Rattle.mt_kernel.proofs.Lasting.{count_grows, counted_within}
 use Rattle.mt_kernel.proofs.parts.Parts.leave_durable.Goals as goal
 
 pub loop-booked-init : goal.loop-booked-init
@@ -14,7 +16,7 @@ loop-booked-init g c = let within = c.durable_count-count.ensures.within in let 
   running = refl;
   states = λ u other. refl;
   undo = λ u. omega arith;
-  restarts = λ origin base later safe_k safe_n r. r;
+  restarts = λ there origin base later safe_k safe_n r. r;
   count = omega arith;
 }
 
@@ -44,9 +46,12 @@ loop-booked-preserved g c = let k = c.args.self.now in let d : Commit = record {
       running = e.running ∙ was.running;
       states = λ u other. e.states u (λ commits. other (sym (was.states u other) ∙ commits)) ∙ was.states u other;
       undo = λ u. let less = e.undo u in let before = was.undo u in omega (arith, less, before);
-      restarts = λ origin base later safe_k safe_n r.
+      restarts = λ there origin base later safe_k safe_n r.
           let mid = (was.left.state origin base safe_k).consistent in
-          e.restartable origin base later mid safe_n (was.restarts origin base base safe_k mid r);
+          let less = c.loop-booked-test.true in
+          let low = counted_within k.commits.items (length (durable k.operations.store.log)) at d (omega (arith, there, less)) in
+          let same : length (durable c.loop-booked.self.operations.store.log) ≡ length (durable k.operations.store.log) = ap (λ s. length (durable s.log)) was.store in
+          e.restartable (get_or k.commits.items at d) (drop (suc at) k.commits.items) queue (omega (arith, low, same)) origin base later mid safe_n (was.restarts there origin base base safe_k mid r);
       count = was.count;
     }
 
@@ -73,4 +78,7 @@ pub returns-clause-undo : goal.returns-clause-undo
 returns-clause-undo g c = c.loop-booked.invariant.undo
 
 pub returns-clause-restartable : goal.returns-clause-restartable
-returns-clause-restartable g c = c.loop-booked.invariant.restarts
+returns-clause-restartable g c = λ there. let k = c.args.self.now in
+    let is = c.durable_count-count.ensures.count ∙ ap (λ (xs : List Commit). durable_count xs c.args.place) c.as_slice.ensures.value in
+    let more = count_grows k.commits.items c.args.place (length (durable k.operations.store.log)) there in
+    c.loop-booked.invariant.restarts (omega (arith, is, more))

@@ -1,4 +1,6 @@
 use Rattle.std.proofs.Common.{◌≡◌, ◌+◌, ◌-◌, ◌≤◌, length, vec_len, vec_capacity}
+use Rattle.mt_log.specs.Words.{durable}
+use Rattle.mt_kernel.specs.Booked.{durable_count}
 use Rattle.mt_kernel.specs.Consistent.{SameUncommitted}
 use Rattle.mt_kernel.specs.Restartable.{StaysRestartable}
 use Rattle.mt_kernel.specs.Work.{LeavesUndo}
@@ -13,6 +15,6 @@ invariant-loop-booked g l = record {
   running : l.self.running ≡ l.initial.self.running;
   states : SameUncommitted l.initial.self l.self;
   undo : LeavesUndo l.initial.self l.self;
-  restarts : StaysRestartable g.D.Device.seen g.D.Device.may_leave l.initial.self l.self;
+  restarts : l.count ≤ durable_count l.initial.self.commits.items (length (durable l.initial.self.operations.store.log)) → StaysRestartable g.D.Device.seen g.D.Device.may_leave l.initial.self l.self;
   count : l.count ≤ length l.initial.self.commits.items;
 }

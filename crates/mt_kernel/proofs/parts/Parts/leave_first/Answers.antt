@@ -1,10 +1,11 @@
 use mathlib.Core.Logic.{∥∥₁_elim}
 use Rattle.std.proofs.Props.{props}
-use Rattle.std.proofs.Common.{◌≡◌, ◌∙◌, ◌+◌, ◌-◌, ◌∷◌, ℕ, None, refl, sym, ap, subst, arith}
+use Rattle.std.proofs.Common.{◌≡◌, ◌∙◌, ◌≤◌, ◌+◌, ◌-◌, ◌∷◌, ℕ, None, length, refl, sym, ap, subst, arith}
 use Rattle.std.specs.List.{sum_by}
 use Rattle.mt_live.specs.Lives.{is_member, member_of}
 use Rattle.mt_live.specs.Machine.{booked, put}
 use Rattle.mt_live.specs.Undoing.{others}
+use Rattle.mt_log.specs.Words.{durable}
 use Rattle.mt_kernel.specs.Consistent.{state_of, session_in, IsIn}
 use Rattle.mt_kernel.specs.Runs.{call_pages, call_bytes}
 use Rattle.mt_kernel.specs.declared.parts.Commit.{Commit}
@@ -65,13 +66,12 @@ returns g c = record {
   store = c.give_back.ensures.store;
   rest = λ first cs queue. let k = c.args.self.now in let r = c.remove-txn.ensures in
       (ap (λ (x : Commit). x.txn) (first_is k.commits.items c.remove-txn.result first cs queue r.value), r.items ∙ first_rest k.commits.items first cs queue);
-  restartable = λ origin base later safe_k safe_n restartable. let k = c.args.self.now in let r = c.remove-txn.ensures in let m = c.leave-done.ensures in
-      let (first, cs, queue) = c.requires.some in
+  restartable = λ first cs queue there origin base later safe_k safe_n restartable. let k = c.args.self.now in let r = c.remove-txn.ensures in let m = c.leave-done.ensures in
       let found = c.remove-txn.result in
       let is : found ≡ first = first_is k.commits.items found first cs queue r.value in
       let n : Parts g.row.D.Denot = record k { operations = c.give_back.new.self; live = c.leave-done.new.self; book = c.push_reserved.new.self; locks = c.release.new.self; escrow = c.commit.new.self; commits = c.remove-txn.new.self; reserved = k.reserved - (114 + c.all_bytes_kept.result) } in
       leaves g.D.Device.seen g.D.Device.may_leave origin k n base later found cs c.leave-done.result safe_k safe_n c.give_back.ensures.store (queue ∙ (λ i. sym is i ∷ cs)) (r.items ∙ first_rest k.commits.items first cs queue)
-      c.push_reserved.ensures.items m.calls m.member m.count m.standing restartable;
+      c.push_reserved.ensures.items m.calls m.member m.count m.standing (subst (λ (x : Commit). x.place ≤ length (durable k.operations.store.log)) (sym is) there) restartable;
   running = refl;
   undo = let k = c.args.self.now in
       let n : Parts g.row.D.Denot = record k { operations = c.give_back.new.self; live = c.leave-done.new.self; book = c.push_reserved.new.self; locks = c.release.new.self; escrow = c.commit.new.self; commits = c.remove-txn.new.self; reserved = k.reserved - (114 + c.all_bytes_kept.result) } in

@@ -2,10 +2,11 @@ use Rattle.std.proofs.Common.{ap, arith}
 use mathlib.Core.Logic.{∥∥₁_map}
 use Rattle.mt_kernel.proofs.Resting.{rests_in}
 use Rattle.mt_kernel.proofs.Surveyed.{nobody_locks}
-use Rattle.mt_log.specs.Words.{area_size, used}
+use Rattle.mt_log.specs.Words.{area_size, durable, used}
 use Rattle.mt_op.proofs.Surveyed.{read_rests, read_right}
 use Rattle.mt_op.specs.declared.space_map.SpaceMap.{SpaceMap}
 use Rattle.mt_space.specs.Rooms.{reserved_of}
+use Rattle.mt_kernel.proofs.Lasting.{lasts_same}
 use Rattle.mt_kernel.proofs.Restarts.{rests_same}
 use Rattle.std.proofs.Common.{refl}
 use Rattle.mt_kernel.proofs.parts.Parts.survey.Goals as goal
@@ -29,4 +30,4 @@ returns-clause-state g c = λ origin base safe.
 
 pub returns-clause-restartable : goal.returns-clause-restartable
 returns-clause-restartable g c = λ origin base later safe_k safe_n r. let D = g.D.Device in let k = c.args.self.now in let read = c.survey.ensures.read in
-    rests_same D.seen D.may_leave origin k (record k { operations = c.survey.new.self }) base later safe_k safe_n (read_rests D.seen D.may_leave D.moment D.left_since origin.pages k.operations c.survey.new.self read) (ap (λ l. area_size l) read.log) (record { book = refl; commits = refl }) refl r
+    rests_same D.seen D.may_leave origin k (record k { operations = c.survey.new.self }) base later safe_k safe_n (read_rests D.seen D.may_leave D.moment D.left_since origin.pages k.operations c.survey.new.self read) (ap (λ l. area_size l) read.log) (lasts_same k (record k { operations = c.survey.new.self }) (ap (λ l. durable l) read.log)) (record { book = refl; commits = refl }) refl r

@@ -17,6 +17,8 @@ use Rattle.mt_op.specs.Moves.{SameOp}
 use Rattle.mt_kernel.specs.Work.{LeavesStanding}
 use Rattle.mt_kernel.proofs.Undoing.{puts_back}
 use Rattle.mt_kernel.proofs.Between.{back_appends, goes_total}
+use Rattle.mt_kernel.proofs.Lasting.{lasts_same}
+use Rattle.mt_kernel.specs.declared.parts.Parts.{Parts}
 use Rattle.mt_kernel.proofs.parts.Parts.take_back.Goals as goal
 
 pub returns-clause-back : goal.returns-clause-back
@@ -78,7 +80,8 @@ returns-clause-appends g c = λ origin base safe.
     let w = world seen origin.pages k.operations in let z = world seen origin.pages c.take_back.new.self in
     let was : IsRunning origin.relations origin.counters w k.last r = subst (IsRunning origin.relations origin.counters w k.last) (sym c.index_mut.ensures.value) (safe.runs c.args.place r c.requires.within) in
     let gone = e.goes origin.pages origin.relations origin.counters safe.fit.right was.under in
+    let n : Parts g.row.D.Denot = record k { operations = c.take_back.new.self; running = with_item k.running c.args.place (record { scope = c.take_back.new.scope; op = r.op }) } in
     record {
-      area = record { total = goes_total origin.relations origin.counters w z r.scope c.take_back.new.scope was.under gone.1; bytes = e.area };
+      area = record { total = goes_total origin.relations origin.counters w z r.scope c.take_back.new.scope was.under gone.1; bytes = e.area; lasts = lasts_same k n e.durable };
       appends = back_appends origin.relations origin.counters w z r.scope c.take_back.new.scope c.take_back.result refl gone.1 e.records;
     }

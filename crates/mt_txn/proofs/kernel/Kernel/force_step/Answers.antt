@@ -4,6 +4,7 @@ use Rattle.mt_pool.specs.Kept.{Explains}
 use Rattle.mt_pool.specs.declared.store.Store.{Store}
 use Rattle.std.proofs.Common.{refl}
 use Rattle.std.proofs.Common.{◌++◌, ◌∙◌, ℕ, List, ap, sym, subst, arith}
+use Rattle.std.specs.Prelude.{Ok}
 use Rattle.std.proofs.lemmas.Result.{err_from_is_err_and}
 use Rattle.mt_kernel.specs.Booked.{booked_each, durable_txns}
 use Rattle.mt_pool.specs.declared.pool.Pool.{Pool}
@@ -11,7 +12,7 @@ use Rattle.mt_txn.specs.Well.{ShowsIn}
 use Rattle.mt_kernel.proofs.Lessening.{undo_same}
 use Rattle.mt_txn.proofs.Answering.{err_forced}
 use Rattle.mt_txn.proofs.Showing.{sound_of, led, well_led, stays_led}
-use Rattle.mt_txn.proofs.Restarting.{meanwhile, no_call, restarts_on, stays_goes}
+use Rattle.mt_txn.proofs.Restarting.{meanwhile, no_call, place_durable, restarts_on, stays_goes}
 use Rattle.mt_txn.proofs.kernel.Kernel.force_step.Goals as goal
 
 pub force_step-told-requires : goal.force_step-told-requires
@@ -34,7 +35,7 @@ pub leave_durable-requires-clause-safe : goal.leave_durable-requires-clause-safe
 leave_durable-requires-clause-safe g c = sound_of g.D.Device.seen g.D.Device.may_leave c.args.self.now.relations c.args.self.now.counters c.force_step-told.new.self (well_led g.D.Device.seen g.D.Device.may_leave c.args.self.now.relations c.args.self.now.counters c.args.self.now.parts c.force_step-told.new.self (λ z. z) (stays_led g.D.Device.seen g.D.Device.may_leave c.args.self.now.relations c.args.self.now.counters c.args.self.now.parts c.force_step-told.new.self c.force_step-told.ensures.state) c.args.self.now.well)
 
 pub invariant_of-self-in-Durable : goal.invariant_of-self-in-Durable
-invariant_of-self-in-Durable g c = record { well = well_led g.D.Device.seen g.D.Device.may_leave c.args.self.now.relations c.args.self.now.counters c.force_step-told.new.self c.leave_durable.new.self (λ z. booked_each z (durable_txns c.force_step-told.new.self.commits.items c.in-Durable.place)) (λ origin base safe. (base, c.leave_durable.ensures.left origin base safe)) (well_led g.D.Device.seen g.D.Device.may_leave c.args.self.now.relations c.args.self.now.counters c.args.self.now.parts c.force_step-told.new.self (λ z. z) (stays_led g.D.Device.seen g.D.Device.may_leave c.args.self.now.relations c.args.self.now.counters c.args.self.now.parts c.force_step-told.new.self c.force_step-told.ensures.state) c.args.self.now.well); starts = ∥∥₁_map c.args.self.now.starts (λ (first, r). let D = g.D.Device in let k = c.args.self.now in (first, restarts_on D.seen D.may_leave k.relations k.counters first c.force_step-told.new.self c.leave_durable.new.self (λ origin base safe. (base, (c.leave_durable.ensures.left origin base safe).consistent)) c.leave_durable.ensures.restartable (restarts_on D.seen D.may_leave k.relations k.counters first k.parts c.force_step-told.new.self (stays_goes D.seen D.may_leave k.parts c.force_step-told.new.self c.force_step-told.ensures.state) (c.force_step-told.ensures.restartable) r))); schema = c.args.self.now.schema }
+invariant_of-self-in-Durable g c = record { well = well_led g.D.Device.seen g.D.Device.may_leave c.args.self.now.relations c.args.self.now.counters c.force_step-told.new.self c.leave_durable.new.self (λ z. booked_each z (durable_txns c.force_step-told.new.self.commits.items c.in-Durable.place)) (λ origin base safe. (base, c.leave_durable.ensures.left origin base safe)) (well_led g.D.Device.seen g.D.Device.may_leave c.args.self.now.relations c.args.self.now.counters c.args.self.now.parts c.force_step-told.new.self (λ z. z) (stays_led g.D.Device.seen g.D.Device.may_leave c.args.self.now.relations c.args.self.now.counters c.args.self.now.parts c.force_step-told.new.self c.force_step-told.ensures.state) c.args.self.now.well); starts = ∥∥₁_map c.args.self.now.starts (λ (first, r). let D = g.D.Device in let k = c.args.self.now in (first, restarts_on D.seen D.may_leave k.relations k.counters first c.force_step-told.new.self c.leave_durable.new.self (λ origin base safe. (base, (c.leave_durable.ensures.left origin base safe).consistent)) (c.leave_durable.ensures.restartable (place_durable k.parts.operations.store.log c.force_step-told.new.self.operations.store.log c.in-Durable.place c.force_step-told.result (c.in_ok-told.was ∙ ap Ok c.in-Durable.is) c.force_step-told.ensures.step)) (restarts_on D.seen D.may_leave k.relations k.counters first k.parts c.force_step-told.new.self (stays_goes D.seen D.may_leave k.parts c.force_step-told.new.self c.force_step-told.ensures.state) (c.force_step-told.ensures.restartable) r))); schema = c.args.self.now.schema }
 
 pub returns-in-More-clause-forced : goal.returns-in-More-clause-forced
 returns-in-More-clause-forced g c = λ first s shows. led g.D.Device.seen g.D.Device.may_leave c.args.self.now.relations c.args.self.now.counters c.args.self.now.parts c.force_step-told.new.self (λ z. z) first s (stays_led g.D.Device.seen g.D.Device.may_leave c.args.self.now.relations c.args.self.now.counters c.args.self.now.parts c.force_step-told.new.self c.force_step-told.ensures.state) shows
@@ -72,7 +73,7 @@ returns-in-Idle-clause-restarts g c = λ first r. let D = g.D.Device in let k = 
 
 pub returns-in-Durable-clause-restarts : goal.returns-in-Durable-clause-restarts
 returns-in-Durable-clause-restarts g c = λ first r. let D = g.D.Device in let k = c.args.self.now in
-    restarts_on D.seen D.may_leave k.relations k.counters first c.force_step-told.new.self c.leave_durable.new.self (λ origin base safe. (base, (c.leave_durable.ensures.left origin base safe).consistent)) c.leave_durable.ensures.restartable
+    restarts_on D.seen D.may_leave k.relations k.counters first c.force_step-told.new.self c.leave_durable.new.self (λ origin base safe. (base, (c.leave_durable.ensures.left origin base safe).consistent)) (c.leave_durable.ensures.restartable (place_durable k.parts.operations.store.log c.force_step-told.new.self.operations.store.log c.in-Durable.place c.force_step-told.result (c.in_ok-told.was ∙ ap Ok c.in-Durable.is) c.force_step-told.ensures.step))
     (restarts_on D.seen D.may_leave k.relations k.counters first k.parts c.force_step-told.new.self (stays_goes D.seen D.may_leave k.parts c.force_step-told.new.self c.force_step-told.ensures.state) (c.force_step-told.ensures.restartable) r)
 
 pub returns-then-has_failed-clause-moments : goal.returns-then-has_failed-clause-moments

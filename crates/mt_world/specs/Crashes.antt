@@ -13,8 +13,8 @@ use Rattle.mt_world.specs.declared.standing.Standing.TheVariants.{Stands, Ended}
 abbrev pub device_under : {D : Type 0} → {g : Ghosts D} → Kernel D g → D
 device_under k = k.parts.operations.store.device
 
--- A restart finds in these bytes what some of the first commits of a kernel lead to, with all of them whose records were durable then. At
--- least so many events were made by then, and at most so many.
+-- A restart finds in these bytes what some of the first commits of a kernel lead to. All that were acknowledged by then are among them, for they
+-- are its book; and all whose records were durable. At least so many events were made by then, and at most so many.
 pub record FindsBetween {D : Type 0} {g : Ghosts D} (first : Base) (behind : ℕ → Kernel D g) (least most : ℕ) (c : List ℕ) : Type 0 where
   pub made : ℕ
   pub past : least ≤ made

@@ -54,7 +54,7 @@ fn make_all<D: Device + Drop>(
 /// refused with the device ends the kernel: each event behind it is refused with 2, and the device is to be opened again.
 ///
 /// Whatever a crash leaves while the events are made can be restarted from, as [`Kernel::can_restart`] says: from the
-/// first kernel on, a restart finds what some of the first commits lead to, with all whose records were durable.
+/// first kernel on, a restart finds what some of the first commits lead to, with all that were acknowledged by then.
 ///
 /// Refused, in this order, with the device, before any event: 1 for want of memory, 5 where the device is shorter than
 /// [`Schema::device_len`], 2 where it failed. After 5 nothing is written.

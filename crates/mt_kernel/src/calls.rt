@@ -138,8 +138,8 @@ impl<D: Device> Parts<D> {
         bytes < log.area_size() - log.used() - left_in(self.running.as_slice()) - self.reserved
     }
 
-    // Starts an operation for which all is granted, where there are pages and log bytes for it and for its inverse. Where it is
-    // refused it is given back.
+    // Starts an operation for which all is granted, where there are pages and log bytes for it and for its inverse.
+    // Where it is refused it is given back.
     fn start(
         &mut self,
         alloc: Global,

@@ -61,7 +61,8 @@ impl Model for Live {
 fn first_place(transactions: &[Transaction], txn: TxnNo) -> usize
     requires { AreInOrder transactions.now }
     ensures within { result ≤ length transactions.now }
-    ensures before { (k : ℕ) → k < result → (d : Member) → (slice_index_or transactions.now k d).number ≢ txn }
+    ensures before { (k : ℕ) → k < result → (d : Member)
+        → (slice_index_or transactions.now k d).number ≢ txn }
 {
     let Some(last) = transactions.last() else {
         return 0;

@@ -16,6 +16,7 @@ use Rattle.mt_live.specs.declared.transactions.TxnState.{TxnState}
 use Rattle.mt_live.specs.declared.transactions.TxnState.TheVariants.{Open, Committing, Aborting}
 use Rattle.mt_mark.proofs.Fronts.{prefix_self, prefix_trans}
 use Rattle.mt_model.specs.History.{IsLegal}
+use Rattle.mt_model.specs.Model as model
 use Rattle.mt_model.specs.Views.{base_of}
 use Rattle.mt_model.specs.declared.history.Committed.{Committed}
 use Rattle.mt_model.specs.declared.operations.Op.{Op}
@@ -66,6 +67,10 @@ module _ {D : Type 0} {g : Ghosts D} (seen : D → List ℕ) (may_leave : D → 
   -- from some state to one of the same book
   abbrev pub Goes : Base → State → Kernel D g → Type 0
   Goes b s n = ∥ ((z : State) × (z.book ≡ s.book) × Shows seen may_leave (base_of b) z n) ∥₁
+
+  -- shown from the base that this one is seen as
+  pub began_so : (b : Base) (k : Kernel D g) (first : model.Base) (s : State) → base_of b ≡ first → Shows seen may_leave first s k → BeganOn seen may_leave b k
+  began_so b k first s same shows = ∣ (s, subst (λ (f : model.Base). Shows seen may_leave f s k) (sym same) shows) ∣₁
 
   book_of : (b : Base) (k : Kernel D g) (s : State) → Shows seen may_leave (base_of b) s k → s.book ≡ k.parts.book.items
   book_of b k s shows = ∥∥₁_elim (legal_of seen may_leave k.relations k.counters k.parts (base_of b) s shows) (hlevel (props, Books-set)) (λ (same, legal). same)

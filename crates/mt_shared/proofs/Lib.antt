@@ -1,4 +1,3 @@
-pub mod Crossing
 pub mod Books
 pub mod Keeping
 pub mod Oks

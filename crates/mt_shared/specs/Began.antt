@@ -1,10 +1,11 @@
 -- What a kernel shows, whatever its state.
-use Rattle.std.specs.Prelude.{ℕ, List}
+use Rattle.std.specs.Prelude.{ℕ, List, [], ◌∷◌}
 use Rattle.mt_disk.specs.declared.device.Device.{Ghosts}
 use Rattle.mt_live.specs.Machine.{State}
 use Rattle.mt_model.specs.Views.{base_of}
 use Rattle.mt_model.specs.declared.history.Committed.{Committed}
 use Rattle.mt_model.specs.declared.tables.Base.{Base}
+use Rattle.mt_shared.specs.Names.{no_base}
 use Rattle.mt_txn.specs.Shown.{Shows}
 use Rattle.mt_txn.specs.declared.kernel.Kernel.{Kernel}
 
@@ -16,3 +17,8 @@ BeganOn seen may_leave base k = ∥ ((s : State) × Shows seen may_leave (base_o
 pub record BasedSeen : Type 0 where
   pub base : Base
   pub book : List Committed
+
+-- the first of a history of bases
+abbrev pub first_base : List Base → Base
+first_base [] = no_base
+first_base (b ∷ bs) = b

@@ -4,28 +4,28 @@ ghost use mathlib.Core.List.{IsPrefix};
 ghost use Rattle.mt_mark.specs.Legal.{IsLegal};
 ghost use Rattle.mt_shared.specs.Began.{BeganOn};
 
-use mt_base::{Refusal, TxnNo};
+use mt_base::{History, Refusal, TxnNo};
 use mt_disk::Device;
 use mt_model::{Base, Committed, Op};
 use mt_pool::Flushed;
 use mt_txn::{AbortStepped, Called, Kernel, KernelForced, Stepped};
 use std::marker::Model;
-use std::snapshot::Snapshot;
 
-/// A kernel, with the base that it began on, which contracts alone see.
+/// A kernel, with the base that it began on, which contracts alone see: it is the first of a history. Threads may pass
+/// a history on, and so what holds it.
 pub struct Based<D: Device> {
     kernel: Kernel<D>,
-    base: Snapshot<Base>,
+    base: History<Base>,
 }
 
 impl<D: Device> Model for Based<D> {
-    ghost use Rattle.mt_shared.specs.Began.{BasedSeen, BeganOn};
+    ghost use Rattle.mt_shared.specs.Began.{BasedSeen, BeganOn, first_base};
 
     ghost Value = { BasedSeen };
 
-    ghost view = { λ b. record { base = b.base.value; book = b.kernel.parts.book.items } };
+    ghost view = { λ b. record { base = first_base b.base.items; book = b.kernel.parts.book.items } };
 
-    ghost invariant = { λ b. BeganOn D.seen D.may_leave b.base.value b.kernel };
+    ghost invariant = { λ b. BeganOn D.seen D.may_leave (first_base b.base.items) b.kernel };
 }
 
 impl<D: Device> Based<D> {
@@ -36,7 +36,7 @@ impl<D: Device> Based<D> {
     {
         Based {
             kernel,
-            base: Snapshot::of(base),
+            base: History::new().and(base),
         }
     }
 

@@ -1,0 +1,14 @@
+//! The tests of threads that share a kernel, through public calls of `mt_shared`: sixteen of them commit at once, one
+//! sees another's commit while its own transaction is open, and a pass finds what its last transaction left.
+#![tactic(auto)]
+
+#[cfg(test)]
+mod kernels;
+#[cfg(test)]
+mod looks;
+#[cfg(test)]
+mod rows;
+#[cfg(test)]
+mod sessions;
+#[cfg(test)]
+mod transfers;

@@ -1,5 +1,6 @@
 -- Scripts that were served to a device, and to a file.
-use Rattle.std.proofs.Common.{◌≡◌, ◌∙◌, ◌+◌, ℕ, true, false, List, length, take, Option, None, Result, Ok, Err, IfErr, IsErrAnd, IsOk, OnOk, refl, sym, ap, subst}
+use Rattle.std.proofs.Common.{◌≡◌, ◌∙◌, ◌+◌, ℕ, true, false, List, length, take, Option, None, Result, Ok, Err, IfErr, IsErrAnd, IsOk, OnOk, refl, sym, ap, subst, arith}
+use Rattle.std.proofs.lemmas.List.{take_all}
 use mathlib.Core.Logic.{∥∥₁_elim, ∥∥₁_map, ∥∥₁_prop}
 use Rattle.mt_disk.specs.declared.device.Device.{Ghosts}
 use Rattle.mt_live.specs.Machine.{State, start}
@@ -9,7 +10,7 @@ use Rattle.mt_model.specs.declared.history.Committed.{Committed}
 use Rattle.mt_replay.specs.Stands.{CanRestart}
 use Rattle.mt_restart.specs.Resumed.{IsOpened}
 use Rattle.mt_txn.proofs.GoingOn.{all_booked}
-use Rattle.mt_txn.specs.Restarted.{FindsCommits}
+use Rattle.mt_txn.specs.Restarted.{all_commits, FindsCommits}
 use Rattle.mt_txn.specs.Shown.{Restarts, SameSchema, StaysRestarting}
 use Rattle.mt_txn.specs.declared.kernel.Kernel.{Kernel}
 use Rattle.mt_server.proofs.RunLemmas.{cut_ended}
@@ -24,7 +25,7 @@ use Rattle.mt_cli.proofs.DumpLemmas.{no_member}
 use Rattle.mt_folder.proofs.FolderLemmas.{kept_then, put_then}
 use Rattle.mt_cli.proofs.Trials.{ended_by, played}
 use Rattle.mt_folder.specs.Folders.{AreKept, Files, IsFileRefusal, IsHeld, IsLent, Puts}
-use Rattle.mt_cli.specs.Serves.{AreShortOn, HaveServedOn, IsOnBase, IsServedIn, IsShortOf, IsShortWithin, unheard_session, short_session, IsUnservedIn, unserved, no_device, StandForSome, first_on, fault_of}
+use Rattle.mt_cli.specs.Serves.{AreShortOn, HaveServedOn, IsOnBase, IsServedIn, IsShortOf, IsShortWithin, unheard_session, short_session, IsUnservedIn, unserved, no_device, StandForAll, first_on, fault_of}
 use Rattle.mt_cli.specs.declared.faults.Fault.{Fault}
 
 module _ {D : Type 0} {g : Ghosts D} (seen : D → List ℕ) (may_leave : D → List ℕ → Type 0) where
@@ -59,14 +60,15 @@ module _ {D : Type 0} {g : Ghosts D} (seen : D → List ℕ) (may_leave : D → 
         sym (ap (λ (z : State). z.book) x.state) ∙ is.book,
       )))
 
-  pub stands_some : (relations counters : ℕ) (b : Base) (p : Play) (n : Kernel D g) (c : List ℕ) → n.relations ≡ relations → n.counters ≡ counters → Restarts seen may_leave b n → IsBeside seen may_leave p None n
-      → ((first : Base) → Restarts seen may_leave first n → ∥ FindsCommits n.relations n.counters first n.parts c ∥₁) → StandForSome relations counters b p.book c
-  stands_some relations counters b p n c rs cs restarts beside finds = ∥∥₁_elim (resting p n beside) ∥∥₁_prop (λ (nobody, book).
+  pub stands_all : (relations counters : ℕ) (b : Base) (p : Play) (n : Kernel D g) (c : List ℕ) → n.relations ≡ relations → n.counters ≡ counters → Restarts seen may_leave b n → IsBeside seen may_leave p None n
+      → ((first : Base) → Restarts seen may_leave first n → ∥ FindsCommits n.relations n.counters first n.parts c ∥₁) → StandForAll relations counters b p.book c
+  stands_all relations counters b p n c rs cs restarts beside finds = ∥∥₁_elim (resting p n beside) ∥∥₁_prop (λ (nobody, book).
       ∥∥₁_elim (all_booked seen may_leave n.parts n.relations n.counters b nobody restarts) ∥∥₁_prop (λ all.
-      ∥∥₁_map (finds b restarts) (λ f. (
-        f.count,
-        subst (λ (X : Type 0). X) (λ i. CanRestart (rs i) (cs i) c ((f.is ∙ ap (λ (cs : List Committed). after b (take f.count cs)) (all ∙ book)) i)) f.found,
-      ))))
+      ∥∥₁_map (finds b restarts) (λ f.
+      let size : length (all_commits n.parts) ≡ length n.parts.book.items = ap (λ (cs : List Committed). length cs) all in
+      let booked = f.acknowledged in
+      let whole : take f.count (all_commits n.parts) ≡ p.book = take_all f.count (all_commits n.parts) (omega (arith, size, booked)) ∙ all ∙ book in
+      subst (λ (X : Type 0). X) (λ i. CanRestart (rs i) (cs i) c ((f.is ∙ ap (after b) whole) i)) f.found)))
 
   -- ---- serving
 
@@ -80,7 +82,7 @@ module _ {D : Type 0} {g : Ghosts D} (seen : D → List ℕ) (may_leave : D → 
         last = x.play;
         played = all_played relations counters (first_on b, k) (x.play, n) scripts x.transcripts opened.relations_are opened.counters_are x.served;
         told = x.told;
-        stands = stands_some relations counters b x.play n c (schema.0 ∙ opened.relations_are) (schema.1 ∙ opened.counters_are) (stays b opened.restarts) x.beside finds;
+        stands = stands_all relations counters b x.play n c (schema.0 ∙ opened.relations_are) (schema.1 ∙ opened.counters_are) (stays b opened.restarts) x.beside finds;
       }
 
   module _ (faults : D → ℕ) where

@@ -1,5 +1,5 @@
 -- Scripts that are served to the device in a file.
-use Rattle.std.specs.Prelude.{ℕ, ◌≡◌, ◌<◌, ◌+◌, List, [], ◌∷◌, ◌++◌, length, take, Option, None}
+use Rattle.std.specs.Prelude.{ℕ, ◌≡◌, ◌<◌, ◌+◌, List, [], ◌∷◌, ◌++◌, length, Option, None}
 use Rattle.std.specs.Io.KnownBytes.{Appends, Keeps}
 use Rattle.mt_base.specs.declared.refusal.Refusal.{Refusal}
 use Rattle.mt_base.specs.declared.refusal.Refusal.TheVariants as refusal
@@ -39,18 +39,18 @@ IsEndedBy (run.Refused why) = IsUnmade why
 abbrev pub first_on : Base → Play
 first_on b = record { session = 0; base = b; book = []; under_way = None }
 
--- the bytes stand for what some of the first of these commits lead to
-abbrev pub StandForSome : ℕ → ℕ → Base → List Committed → List ℕ → Type 0
-StandForSome relations counters b book d = ∥ ((count : ℕ) × CanRestart relations counters d (after b (take count book))) ∥₁
+-- the bytes stand for what all of these commits lead to
+abbrev pub StandForAll : ℕ → ℕ → Base → List Committed → List ℕ → Type 0
+StandForAll relations counters b book d = ∥ CanRestart relations counters d (after b book) ∥₁
 
 -- The scripts were served one after the other, as the model plays them on this base, and their texts were written. The device's bytes stand
--- for what some of the first commits lead to.
+-- for what all commits lead to.
 pub record HaveServedOn (relations counters : ℕ) (b : Base) (scripts : List (List Line)) (was now : Option (List ℕ)) (d : List ℕ) : Type 0 where
   pub transcripts : List (List Answer)
   pub last : Play
   pub played : HavePlayed relations counters (first_on b) scripts transcripts last
   pub told : Appends was now (sessions_text transcripts)
-  pub stands : StandForSome relations counters b last.book d
+  pub stands : StandForAll relations counters b last.book d
 
 -- A script was cut short: the first of its lines were answered, and their answers are written, or a beginning of them.
 pub record IsShortOf (relations counters : ℕ) (p : Play) (lines : List Line) (was now : Option (List ℕ)) (why : RunFault) : Type 0 where

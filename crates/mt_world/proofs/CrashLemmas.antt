@@ -1,7 +1,7 @@
 -- What a restart finds where a crash comes within events that are made one after the other.
-use Rattle.std.proofs.Common.{◌≡◌, ◌≢◌, ◌<◌, ◌≤◌, ◌+◌, ℕ, List, [], ◌∷◌, ◌++◌, length, take, get_or, ⊎_elim, refl, ap, sym, subst, ◌∙◌, length-append, arith}
+use Rattle.std.proofs.Common.{◌≡◌, ◌≢◌, ◌<◌, ◌≤◌, ◌+◌, ℕ, List, [], ◌∷◌, ◌++◌, length, map, take, get_or, ⊎_elim, refl, ap, sym, subst, ◌∙◌, length-append, arith}
 use Rattle.std.proofs.lemmas.Bool.{cases_lt}
-use Rattle.std.proofs.lemmas.List.{take_all, take-append-le}
+use Rattle.std.proofs.lemmas.List.{length-map, take_all, take-append-le}
 use Rattle.std.proofs.Math.ListN.{get_or-append}
 use Rattle.std.proofs.Math.Seq.{get_or-append_seam}
 use mathlib.Core.Logic.{∥∥₁_elim, ∥∥₁_map, ∥∥₁_prop}
@@ -9,8 +9,9 @@ use Rattle.std.proofs.Props.{props}
 use Rattle.mt_base.specs.Limits.{IsRelationCount}
 use Rattle.mt_disk.specs.declared.device.Device.{Ghosts}
 use Rattle.mt_live.proofs.Alone.{put_other, put_own}
-use Rattle.mt_live.specs.Machine.{put, start}
+use Rattle.mt_live.specs.Machine.{State, put, start}
 use Rattle.mt_model.specs.Model.{Base}
+use Rattle.mt_model.specs.declared.history.Committed.{Committed}
 use Rattle.mt_txn.proofs.Restarting.{finds_commits, no_call}
 use Rattle.mt_txn.specs.Restarted.{FindsCommits, FindsMeanwhile}
 use Rattle.mt_txn.specs.Shown.{LeavesFound, Restarts, Shows}
@@ -18,6 +19,7 @@ use Rattle.mt_txn.specs.declared.kernel.Kernel.{Kernel}
 use Rattle.mt_world.proofs.RunLemmas.{Ran, has_run, makes_same, ran_none}
 use Rattle.mt_world.specs.Crashes.{FindsBetween, FoundUntil, device_under}
 use Rattle.mt_world.specs.Schedules.{HasMade, HasRun}
+use Rattle.mt_world.specs.Told.{acknowledged, commit_of, told_of}
 use Rattle.mt_world.specs.declared.events.Answer.{Answer}
 use Rattle.mt_world.specs.declared.events.Event.{Event}
 
@@ -33,12 +35,21 @@ module _ {D : Type 0} {g : Ghosts D} (seen : D → List ℕ) (may_leave : D → 
     finds_now : (k : Kernel D g) (c : List ℕ) → Restarts seen may_leave first k → IsRelationCount k.relations → left_since (device_under k) (moment (device_under k)) c → ∥ FindsCommits k.relations k.counters first k.parts c ∥₁
     finds_now k c starts count left = finds_commits seen may_leave k.relations k.counters first k.parts c starts (only_now (device_under k) c left) count
 
+    -- what was acknowledged is the book
+    answered_of : (events : List Event) (answers : List Answer) (k : Kernel D g) → ∥ HasRun seen may_leave faults first events answers k ∥₁ → length k.parts.book.items ≡ length (acknowledged answers)
+    answered_of events answers k some = ∥∥₁_elim some (hlevel props) (λ r. ∥∥₁_elim r.shows (hlevel props) (λ (origin, base, is, x).
+        let book : length r.state.book ≡ length k.parts.book.items = ap (λ (s : State). length s.book) x.state in
+        let told : length r.state.book ≡ length (map (λ t. commit_of (told_of events answers t)) (acknowledged answers)) = ap (λ (cs : List Committed). length cs) r.told in
+        let size = length-map (acknowledged answers) (λ t. commit_of (told_of events answers t)) in
+        omega (arith, book, told, size)))
+
     pub found_none : (k : Kernel D g) → Shows seen may_leave first (start first) k → Restarts seen may_leave first k → IsRelationCount k.relations → Found [] [] k
     found_none k shows starts count = ∣ record {
       behind = λ i. k;
       last = refl;
       goes = λ i event answer lt. absurd (omega (arith, lt));
       ran = λ i le. let none : i ≡ 0 = omega (arith, le) in subst (λ (j : ℕ). ∥ HasRun seen may_leave faults first (take j []) (take j []) k ∥₁) (sym none) (has_run seen may_leave faults first [] [] k (ran_none seen may_leave faults first k shows) starts);
+      answered = λ i le. let none : i ≡ 0 = omega (arith, le) in subst (λ (j : ℕ). length k.parts.book.items ≡ length (acknowledged (take j []))) (sym none) (answered_of [] [] k (has_run seen may_leave faults first [] [] k (ran_none seen may_leave faults first k shows) starts));
       later = λ i le. omega arith;
       each = λ i c le left. ∥∥₁_map (finds_now k c starts count left) (λ f. record { made = 0; past = le; within = omega arith; finds = f });
     } ∣₁
@@ -145,7 +156,7 @@ module _ {D : Type 0} {g : Ghosts D} (seen : D → List ℕ) (may_leave : D → 
           (cases_lt i (length events + 1))
 
       more : FoundUntil seen may_leave moment left_since faults first (events ++ event ∷ []) (answers ++ answer ∷ []) n (device_under n)
-      more = record { behind = next; last = ap next longer ∙ own; goes = goes; ran = ran_to; later = later; each = each }
+      more = record { behind = next; last = ap next longer ∙ own; goes = goes; ran = ran_to; answered = λ i le. answered_of (take i (events ++ event ∷ [])) (take i (answers ++ answer ∷ [])) (next i) (ran_to i le); later = later; each = each }
 
     pub found_more : (events : List Event) (answers : List Answer) (event : Event) (answer : Answer) (k n : Kernel D g) → HasMade seen may_leave moment left_since faults k event answer n → Restarts seen may_leave first k → IsRelationCount k.relations → IsRelationCount n.relations
         → Ran seen may_leave faults first (events ++ event ∷ []) (answers ++ answer ∷ []) n → Found events answers k → Found (events ++ event ∷ []) (answers ++ answer ∷ []) n
@@ -164,6 +175,7 @@ module _ {D : Type 0} {g : Ghosts D} (seen : D → List ℕ) (may_leave : D → 
       last = was.last;
       goes = was.goes;
       ran = was.ran;
+      answered = was.answered;
       later = λ i le. let before = was.later i le in let after = meanwhile.later in omega (arith, before, after);
       each = λ i c le left. ∥∥₁_elim (meanwhile.before (moment (device_under (was.behind i))) c (was.later i le) left) ∥∥₁_prop (⊎_elim
           (λ before. was.each i c le before)

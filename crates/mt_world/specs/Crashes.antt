@@ -5,6 +5,7 @@ use Rattle.mt_model.specs.Model.{Base}
 use Rattle.mt_txn.specs.Restarted.{FindsCommits}
 use Rattle.mt_txn.specs.declared.kernel.Kernel.{Kernel}
 use Rattle.mt_world.specs.Schedules.{HasEnded, HasMade, HasRun}
+use Rattle.mt_world.specs.Told.{acknowledged}
 use Rattle.mt_world.specs.declared.events.Answer.{Answer}
 use Rattle.mt_world.specs.declared.events.Event.{Event}
 use Rattle.mt_world.specs.declared.standing.Standing.{Standing}
@@ -31,6 +32,8 @@ pub record FoundUntil {D : Type 0} {g : Ghosts D} (seen : D → List ℕ) (may_l
   pub goes : (i : ℕ) (event : Event) (answer : Answer) → i < length events
       → HasMade seen may_leave moment left_since faults (behind i) (get_or events i event) (get_or answers i answer) (behind (i + 1))
   pub ran : (i : ℕ) → i ≤ length events → ∥ HasRun seen may_leave faults first (take i events) (take i answers) (behind i) ∥₁
+  -- its book has each commit that was acknowledged by then
+  pub answered : (i : ℕ) → i ≤ length events → length (behind i).parts.book.items ≡ length (acknowledged (take i answers))
   pub later : (i : ℕ) → i ≤ length events → moment (device_under (behind i)) ≤ moment device
   pub each : (i : ℕ) (c : List ℕ) → i ≤ length events → left_since device (moment (device_under (behind i))) c
       → ∥ FindsBetween first behind i (length events) c ∥₁

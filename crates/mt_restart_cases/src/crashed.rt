@@ -1,5 +1,5 @@
 // What an inspection finds where a crash comes in the course of a commit, an insert or an abort.
-use crate::devices::left;
+use crate::devices::{FILLS, left};
 use crate::driving::{abort_step, add, force, force_in_part, insert, kernel_of, run, start, step};
 use mt_base::{Refusal, TxnNo};
 use mt_disk::{Fill, MemDevice};
@@ -14,15 +14,6 @@ enum Shown {
     Row,
     Other,
 }
-
-/// The fills, and of 0x5A and 0xA5 as bytes: the second one opens a gate.
-const FILLS: [Fill; 5] = [
-    Fill::Old,
-    Fill::New,
-    Fill::FrontHalf,
-    Fill::Byte(0x5A),
-    Fill::Byte(0xA5),
-];
 
 // ---- a commit
 

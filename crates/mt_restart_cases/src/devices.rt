@@ -9,6 +9,15 @@ use std::alloc::{AllocError, Global};
 /// How many bytes the two log areas of 4 MiB take.
 const AREAS: usize = 8_388_608;
 
+/// What a crash may leave of each write since the last sync. Of the two bytes the second opens a gate.
+pub const FILLS: [Fill; 5] = [
+    Fill::Old,
+    Fill::New,
+    Fill::FrontHalf,
+    Fill::Byte(0x5A),
+    Fill::Byte(0xA5),
+];
+
 /// The schema of the worked rows, over so many pages: two relations, and a counter from 0 to 10 that starts at 5.
 pub fn row_schema(alloc: Global, pages: u16) -> Result<Schema, Refusal> {
     Schema::new(alloc, pages, 4, 2, &[(0, 10, 5)])

@@ -1,8 +1,8 @@
-// A kernel over a device in memory, in as many frames as there are pages: what is in the way of a call is told as
+// A kernel in as many frames as there are pages, over a device in memory: what is in the way of a call is told as
 // `Refusal::Busy`.
 use crate::devices::{empty_device, row_schema};
 use mt_base::{Bytes, CtrNo, Refusal, RelNo, TxnNo};
-use mt_disk::MemDevice;
+use mt_disk::{Device, MemDevice};
 use mt_model::Op;
 use mt_pool::Flushed;
 use mt_restart::fresh;
@@ -39,7 +39,7 @@ pub fn add(step: i64) -> Op {
 }
 
 /// Calls an operation.
-pub fn start(kernel: &mut Kernel<MemDevice>, txn: TxnNo, op: Op) -> Result<(), Refusal> {
+pub fn start<D: Device>(kernel: &mut Kernel<D>, txn: TxnNo, op: Op) -> Result<(), Refusal> {
     match kernel.call(txn, op)? {
         Called::Started => Ok(()),
         Called::Wait(_) => Err(Refusal::Busy),
@@ -47,7 +47,7 @@ pub fn start(kernel: &mut Kernel<MemDevice>, txn: TxnNo, op: Op) -> Result<(), R
 }
 
 /// Makes a step of an operation, and answers whether it has ended.
-pub fn step(kernel: &mut Kernel<MemDevice>, txn: TxnNo) -> Result<bool, Refusal> {
+pub fn step<D: Device>(kernel: &mut Kernel<D>, txn: TxnNo) -> Result<bool, Refusal> {
     match kernel.step(txn)? {
         Stepped::Went | Stepped::Again => Ok(false),
         Stepped::Replied(_) => Ok(true),
@@ -56,7 +56,7 @@ pub fn step(kernel: &mut Kernel<MemDevice>, txn: TxnNo) -> Result<bool, Refusal>
 }
 
 /// Makes an operation from its call to its reply.
-pub fn run(kernel: &mut Kernel<MemDevice>, txn: TxnNo, op: Op) -> Result<(), Refusal> {
+pub fn run<D: Device>(kernel: &mut Kernel<D>, txn: TxnNo, op: Op) -> Result<(), Refusal> {
     start(kernel, txn, op)?;
     for _step in 0..1000u16 {
         if step(kernel, txn)? {
@@ -67,7 +67,7 @@ pub fn run(kernel: &mut Kernel<MemDevice>, txn: TxnNo, op: Op) -> Result<(), Ref
 }
 
 // Makes a step of a force, and answers whether there is no more to do.
-fn is_forced(kernel: &mut Kernel<MemDevice>) -> Result<bool, Refusal> {
+fn is_forced<D: Device>(kernel: &mut Kernel<D>) -> Result<bool, Refusal> {
     match kernel.force_step()? {
         KernelForced::More => Ok(false),
         KernelForced::Idle | KernelForced::Durable(_) => Ok(true),
@@ -75,7 +75,7 @@ fn is_forced(kernel: &mut Kernel<MemDevice>) -> Result<bool, Refusal> {
 }
 
 /// Makes so many steps of a force, each of which is a call of the device.
-pub fn force_in_part(kernel: &mut Kernel<MemDevice>, steps: u8) -> Result<(), Refusal> {
+pub fn force_in_part<D: Device>(kernel: &mut Kernel<D>, steps: u8) -> Result<(), Refusal> {
     for _step in 0..steps {
         is_forced(kernel)?;
     }
@@ -83,7 +83,7 @@ pub fn force_in_part(kernel: &mut Kernel<MemDevice>, steps: u8) -> Result<(), Re
 }
 
 /// Makes what is logged durable.
-pub fn force(kernel: &mut Kernel<MemDevice>) -> Result<(), Refusal> {
+pub fn force<D: Device>(kernel: &mut Kernel<D>) -> Result<(), Refusal> {
     for _step in 0..8u8 {
         if is_forced(kernel)? {
             return Ok(());
@@ -93,13 +93,13 @@ pub fn force(kernel: &mut Kernel<MemDevice>) -> Result<(), Refusal> {
 }
 
 /// Commits a transaction, and makes it durable.
-pub fn commit(kernel: &mut Kernel<MemDevice>, txn: TxnNo) -> Result<(), Refusal> {
+pub fn commit<D: Device>(kernel: &mut Kernel<D>, txn: TxnNo) -> Result<(), Refusal> {
     kernel.commit_begin(txn)?;
     force(kernel)
 }
 
 /// Makes a step of an abort, and answers whether it has ended.
-pub fn abort_step(kernel: &mut Kernel<MemDevice>, txn: TxnNo) -> Result<bool, Refusal> {
+pub fn abort_step<D: Device>(kernel: &mut Kernel<D>, txn: TxnNo) -> Result<bool, Refusal> {
     match kernel.abort_step(txn)? {
         AbortStepped::More | AbortStepped::Again => Ok(false),
         AbortStepped::Ended => Ok(true),
@@ -108,7 +108,7 @@ pub fn abort_step(kernel: &mut Kernel<MemDevice>, txn: TxnNo) -> Result<bool, Re
 }
 
 /// Writes a page in its slot, if one may be written, and answers whether one was.
-pub fn flush(kernel: &mut Kernel<MemDevice>) -> Result<bool, Refusal> {
+pub fn flush<D: Device>(kernel: &mut Kernel<D>) -> Result<bool, Refusal> {
     match kernel.flush_step()? {
         Flushed::Page(_) => Ok(true),
         Flushed::Force | Flushed::Clean => Ok(false),

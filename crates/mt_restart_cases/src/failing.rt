@@ -1,26 +1,19 @@
 // A commit over a device that fails at one of its calls, and what the device is opened with again.
 use crate::devices::{empty_device, inspected, recovered, row_schema};
-use crate::driving::insert;
+use crate::driving::{insert, run};
 use mt_base::Refusal;
 use mt_disk::{FaultDevice, MemDevice};
 use mt_restart::fresh;
-use mt_txn::{Called, Kernel, Stepped};
+use mt_txn::Kernel;
 use std::alloc::Global;
 use std::test::Fail;
 
 // Inserts a row, and begins its commit.
 fn insert_row(alloc: Global, kernel: &mut Kernel<FaultDevice<MemDevice>>) -> Result<(), Refusal> {
     let txn = kernel.begin(1)?;
-    let Called::Started = kernel.call(txn, insert(alloc, b"a", b"x")?)? else {
-        return Err(Refusal::Busy);
-    };
-    for _step in 0..1000u16 {
-        if let Stepped::Replied(_) = kernel.step(txn)? {
-            kernel.commit_begin(txn)?;
-            return Ok(());
-        }
-    }
-    Err(Refusal::Busy)
+    run(kernel, txn, insert(alloc, b"a", b"x")?)?;
+    kernel.commit_begin(txn)?;
+    Ok(())
 }
 
 // How many of the four steps of the commit's force went well.

@@ -18,4 +18,6 @@ mod recovered;
 #[cfg(test)]
 mod rotated;
 #[cfg(test)]
+mod stopped;
+#[cfg(test)]
 mod swept;

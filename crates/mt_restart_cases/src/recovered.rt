@@ -1,6 +1,6 @@
 // Recoveries of a device on which transactions had committed while others were under way, and what is left where a
 // recovery is stopped.
-use crate::devices::{crashed, device_of, inspected, recovered};
+use crate::devices::{FILLS, crashed, device_of, inspected, recovered};
 use crate::driving::{
     add, commit, delete, flush, force, insert, kernel_of, run, start, step, update,
 };
@@ -134,13 +134,7 @@ fn stands(alloc: Global, device: &MemDevice, fill: Fill) -> Result<bool, Refusal
 // How many of five crashes leave the same base.
 fn standing(alloc: Global, device: &MemDevice) -> Result<u8, Refusal> {
     let mut count = 0u8;
-    for fill in [
-        Fill::Old,
-        Fill::New,
-        Fill::FrontHalf,
-        Fill::Byte(0x5A),
-        Fill::Byte(0xA5),
-    ] {
+    for fill in FILLS {
         count = count.saturating_add(u8::from(stands(alloc, device, fill)?));
     }
     Ok(count)

@@ -1,5 +1,5 @@
 // A log that turns over between transactions: the book goes on, and whatever is left stands for the same base.
-use crate::devices::{crashed, device_of, inspected};
+use crate::devices::{FILLS, crashed, device_of, inspected};
 use crate::driving::{add, commit, insert, kernel_of, run};
 use mt_base::Refusal;
 use mt_disk::{FaultDevice, Fill, MemDevice};
@@ -136,13 +136,7 @@ fn stopped_at(alloc: Global, bytes: &[u8], n: u64) -> Result<Option<(bool, MemDe
 // How many of five crashes leave the base.
 fn standing(alloc: Global, device: &MemDevice) -> Result<u8, Refusal> {
     let mut count = 0u8;
-    for fill in [
-        Fill::Old,
-        Fill::New,
-        Fill::FrontHalf,
-        Fill::Byte(0x5A),
-        Fill::Byte(0xA5),
-    ] {
+    for fill in FILLS {
         let mut left = crashed(alloc, device, fill)?;
         let is_base = inspected(alloc, &mut left)?.as_slice() == BASE;
         count = count.saturating_add(u8::from(is_base));

@@ -49,6 +49,10 @@ fn expect_transcript(
     Ok(())
 }
 
+/// What is told behind the refusal of a line.
+const BAD_LINE: &[u8] =
+    b"s: that line is not in the grammar; see docs/SCRIPTS.md and docs/SCHEDULES.md\n";
+
 /// A script that is refused before any of it runs.
 fn expect_bad_line(
     rt: &(impl Abort + AllocGlobal),
@@ -56,7 +60,9 @@ fn expect_bad_line(
     told: &[u8],
 ) -> Result<(), Fail> {
     let ran = run(rt, &["try", "s"], script)?;
-    expect_ran(rt, &ran, 1, b"", told);
+    let mut whole = told.to_vec(rt.alloc())?;
+    whole.extend_from_slice(BAD_LINE)?;
+    expect_ran(rt, &ran, 1, b"", whole.as_slice());
     Ok(())
 }
 

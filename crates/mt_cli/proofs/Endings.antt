@@ -9,7 +9,7 @@ use Rattle.mt_args.specs.declared.command.Command.{Command}
 use Rattle.mt_args.specs.declared.command.Command.TheVariants.{Try, Schedule, Check, Format, Dump, Explain, Run, Show}
 use Rattle.mt_cli.specs.declared.faults.Fault.{Fault}
 use Rattle.mt_cli.specs.declared.faults.Fault.TheVariants.{Output}
-use Rattle.mt_cli.specs.Performs.{Around, HaveRun, IsDone, IsGivenUp, IsScheduled, IsTried, IsUndone, IsUnscheduled, fault_line, unheard}
+use Rattle.mt_cli.specs.Performs.{Around, HaveRun, IsDone, IsGivenUp, IsScheduled, IsToldOf, IsTried, IsUndone, IsUnscheduled, unheard}
 use Rattle.mt_cli.specs.Checks.{HasChecked}
 use Rattle.mt_cli.specs.Dumps.{HasDumped}
 use Rattle.mt_cli.specs.Explains.{HasExplained}
@@ -92,6 +92,6 @@ module _ {D : Type 0} (g : Ghosts D) where
       unheard events answers spelled (subst (λ (es : List Event). HaveRun g es answers) same ran) (subst (λ (xs : List Told). AppendsFront was now (told_lines xs)) all front)
 
   pub given_up_of : (command : Command) (a : Around) (was mid now old new : Option (List ℕ)) (r : Result (Unit {0}) Fault) → OnOk r (IsDone g command a was mid) → IfErr r (IsUndone g command a was mid)
-      → Keeps mid now → MatchResult r (λ u. AppendsFront old new (fault_line Output)) (λ fault. AppendsFront old new (fault_line fault)) → IsGivenUp g command a was now old new
+      → Keeps mid now → MatchResult r (λ u. IsToldOf command Output old new) (λ fault. IsToldOf command fault old new) → IsGivenUp g command a was now old new
   given_up_of command a was mid now old new (Ok u) done undone kept told = record { given_up = (Output, mid, inr (done, refl), kept, told) }
   given_up_of command a was mid now old new (Err fault) done undone kept told = record { given_up = (fault, mid, inl undone, kept, told) }

@@ -1,3 +1,4 @@
+pub mod AdviceLemmas
 pub mod Endings
 pub mod EventLemmas
 pub mod CheckLemmas

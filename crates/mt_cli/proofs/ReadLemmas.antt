@@ -1,7 +1,7 @@
 -- Scripts that were read, one behind the other.
-use Rattle.std.proofs.Common.{◌≡◌, ◌<◌, ◌+◌, ◌∙◌, inr, suc, ℕ, Bool, true, false, cond, List, [], ◌∷◌, ◌++◌, Option, Some, None, IfSome, length, take, drop, get_or, map, is_some, refl, ap, sym, subst, take-append-drop}
+use Rattle.std.proofs.Common.{◌≡◌, ◌<◌, ◌+◌, ◌∙◌, inr, suc, ℕ, Bool, true, false, cond, List, [], ◌∷◌, ◌++◌, Option, Some, None, IfSome, length, take, drop, get_or, map, is_some, refl, ap, sym, subst, arith, take-append-drop, length-take-le}
 use Rattle.std.proofs.Math.Seq.{drop-cons}
-use Rattle.std.proofs.lemmas.List.{map-append, map_more}
+use Rattle.std.proofs.lemmas.List.{length-map, map-append, map_more}
 use Rattle.mt_base.specs.declared.refusal.Refusal.{Refusal}
 use Rattle.mt_base.specs.declared.refusal.Refusal.TheVariants as refusal
 use Rattle.mt_script.specs.Lines.{line_text, IsInGrammar}
@@ -71,13 +71,14 @@ one_more files now later input held after names scripts name lines at x kept = r
 }
 
 -- the next one was not
-pub not_more : (files now : Files) (input held : Option (List ℕ)) (names before rest : List (List ℕ)) (scripts : List (List Line)) (name : List ℕ) (why : Refusal) → names ≡ before ++ name ∷ rest → IsAt files input before scripts now held
-    → IsUnread line_text IsInGrammar (bytes_at now name held) why → AreUnread files input names why
-not_more files now input held names before rest scripts name why split at unread = record {
+pub not_more : (files now : Files) (input held : Option (List ℕ)) (names before rest : List (List ℕ)) (scripts : List (List Line)) (name : List ℕ) (place : ℕ) (why : Refusal) → names ≡ before ++ name ∷ rest → length before ≡ place → IsAt files input before scripts now held
+    → IsUnread line_text IsInGrammar (bytes_at now name held) why → AreUnread files input names place why
+not_more files now input held names before rest scripts name place why split many at unread = record {
   before = before;
   name = name;
   rest = rest;
   split = split;
+  many = many;
   scripts = scripts;
   left = at.left;
   read = at.read;
@@ -101,3 +102,6 @@ at_more {X} f xs i d ss s files now later input held after lt is at x kept =
     let names : map f (take i xs) ++ f d ∷ [] ≡ map f (take (i + 1) xs) = ap (λ (y : X). map f (take i xs) ++ f y ∷ []) is ∙ sym (map_more f xs i d lt) in
     let scripts : map lines_in ss ++ lines_in s ∷ [] ≡ map lines_in (ss ++ s ∷ []) = sym (map-append lines_in ss (s ∷ [])) in
     subst (λ (X : Type 0). X) (λ j. IsAt files input (names j) (scripts j) later after) (one_more files now later input held after (map f (take i xs)) (map lines_in ss) (f d) (lines_in s) at x kept)
+
+pub many_before : {X : Type 0} (f : X → List ℕ) (xs : List X) (i : ℕ) → i < length xs → length (map f (take i xs)) ≡ i
+many_before f xs i lt = length-map (take i xs) f ∙ length-take-le i xs (omega arith)

@@ -25,8 +25,11 @@ use Rattle.mt_cli.proofs.DumpLemmas.{no_member}
 use Rattle.mt_folder.proofs.FolderLemmas.{kept_then, put_then}
 use Rattle.mt_cli.proofs.Trials.{ended_by, played}
 use Rattle.mt_folder.specs.Folders.{AreKept, Files, IsFileRefusal, IsHeld, IsLent, Puts}
-use Rattle.mt_cli.specs.Serves.{AreShortOn, HaveServedOn, IsOnBase, IsServedIn, IsShortOf, IsShortWithin, unheard_session, short_session, IsUnservedIn, unserved, no_device, StandForAll, first_on, fault_of}
+use Rattle.mt_cli.specs.Serves.{AreShortOn, HasNotRun, HaveServedOn, IsOnBase, IsServedIn, IsShortOf, IsShortWithin, unheard_session, short_session, IsUnservedIn, unserved, no_device, StandForAll, first_on, fault_of, unread_scripts}
+use Rattle.mt_cli.specs.Reads.{HasNoScript}
 use Rattle.mt_cli.specs.declared.faults.Fault.{Fault}
+use Rattle.mt_cli.specs.declared.faults.Fault.TheVariants.{Output, Refused, Unread}
+use Rattle.std.specs.Io.KnownBytes.{Keeps}
 
 module _ {D : Type 0} {g : Ghosts D} (seen : D → List ℕ) (may_leave : D → List ℕ → Type 0) where
   -- a kernel that was opened on a base stands beside the model there
@@ -161,3 +164,9 @@ pub unserved_then : (old mid new : Files) (name : List ℕ) (scripts : List (Lis
 unserved_then old mid new name scripts was now _ kept (no_device why cause still keeps) =
     no_device why (subst (λ (o : Option (List ℕ)). IsFileRefusal o why) (kept.all name) cause) (kept_then old mid new kept still) keeps
 unserved_then old mid new name scripts was now _ kept (unserved before behind fault held put x) = unserved before behind fault (held_before old mid name before kept held) (put_then old mid new name behind kept put) x
+
+-- a script was not read
+pub unread_of : (old new : Files) (file : List ℕ) (names : List (List ℕ)) (input was now : Option (List ℕ)) (fault : Fault) → HasNoScript old input names fault → AreKept old new → Keeps was now → HasNotRun old new file names input was now fault
+unread_of old new file names input was now Output bad kept keeps = absurd bad
+unread_of old new file names input was now (Refused why) bad kept keeps = absurd bad
+unread_of old new file names input was now (Unread why at) x kept keeps = unread_scripts at why x kept keeps

@@ -19,7 +19,7 @@ use Rattle.mt_cli.specs.Checks.{IsOf, number_line}
 use Rattle.mt_folder.specs.Folders.{AreKept, Files, IsFileRefusal, IsHeld, Puts}
 use Rattle.mt_explain.specs.Listings.{counter_lines, row_line}
 use Rattle.mt_cli.specs.declared.faults.Fault.{Fault}
-use Rattle.mt_cli.specs.declared.faults.Fault.TheVariants.{Output, Refused}
+use Rattle.mt_cli.specs.declared.faults.Fault.TheVariants.{Output, Refused, Unread}
 
 -- ---- what is printed
 
@@ -92,3 +92,4 @@ pub data IsUndumped (bytes was now : Option (List ℕ)) : Fault → Type 0 where
 abbrev pub AreLeftBy : Files → Files → List ℕ → Fault → Type 0
 AreLeftBy old new name Output = StandsOn old new name
 AreLeftBy old new name (Refused why) = AreLeft old new name why
+AreLeftBy old new name (Unread why at) = ⊥

@@ -1,3 +1,4 @@
+pub mod Advice
 pub mod Checks
 pub mod Dumps
 pub mod Events

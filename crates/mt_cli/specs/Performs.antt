@@ -10,16 +10,16 @@ use Rattle.mt_restart.specs.Schemas.{counters_in, device_bytes, relations_in, sc
 use Rattle.mt_restart.specs.declared.schema.Schema.{Schema}
 use Rattle.mt_script.specs.declared.answers.Answer.{Answer}
 use Rattle.mt_script.specs.declared.lines.Line.{Line}
-use Rattle.mt_script.specs.declared.answers.Answer.TheVariants.{Refused as RefusedLine}
 use Rattle.mt_args.specs.declared.command.Command.{Command}
 use Rattle.mt_args.specs.declared.command.Command.TheVariants.{Try, Schedule, Check, Format, Dump, Explain, Run, Show}
 use Rattle.mt_args.specs.declared.numbers.Numbers.{Numbers}
 use Rattle.mt_cli.specs.declared.faults.Fault.{Fault}
-use Rattle.mt_cli.specs.declared.faults.Fault.TheVariants.{Output, Refused}
+use Rattle.mt_cli.specs.declared.faults.Fault.TheVariants.{Output, Refused, Unread}
 use Rattle.mt_server.specs.declared.running.RunFault.{RunFault}
-use Rattle.mt_script.specs.Answers.{AppendsFront, answer_text, transcript_text}
+use Rattle.mt_script.specs.Answers.{AppendsFront, transcript_text}
 use Rattle.mt_server.specs.Driven.{IsBeside}
 use Rattle.mt_server.specs.Plays.{Play, HasPlayed}
+use Rattle.mt_cli.specs.Advice.{about, told_text}
 use Rattle.mt_cli.specs.Checks.{HasChecked, IsUnchecked}
 use Rattle.mt_args.specs.CommandLines.{IsCommandOf}
 use Rattle.mt_cli.specs.Dumps.{AreLeftBy, HasDumped, IsUndumped, StandsOn}
@@ -110,14 +110,13 @@ IsDone g (Show text) a was now = Appends was now (string_bytes text) × AreKept 
 abbrev pub IsWordsDone : {D : Type 0} → Ghosts D → List (List ℕ) → Around → Option (List ℕ) → Option (List ℕ) → Type 0
 IsWordsDone g words a was now = (command : Command) × IsCommandOf words command × IsDone g command a was now
 
--- the line that tells of a fault
-abbrev pub fault_line : Fault → List ℕ
-fault_line Output = codes "the output cannot be written\n"
-fault_line (Refused why) = answer_text (RefusedLine why) ++ 10 ∷ []
-
--- such a line was written, or a beginning of it
+-- the line of a fault was written, and behind it what it is about and what to do, or a beginning of that
 abbrev pub IsTold : Option (List ℕ) → Option (List ℕ) → Type 0
-IsTold was now = (fault : Fault) × AppendsFront was now (fault_line fault)
+IsTold was now = (name : List ℕ) × (fault : Fault) × AppendsFront was now (told_text name fault)
+
+-- so of a fault of a command
+abbrev pub IsToldOf : Command → Fault → Option (List ℕ) → Option (List ℕ) → Type 0
+IsToldOf command fault was now = AppendsFront was now (told_text (about command fault) fault)
 
 -- ---- a command that was not done
 
@@ -157,6 +156,7 @@ pub data IsUnscheduled {D : Type 0} (g : Ghosts D) (bytes was now : Option (List
 abbrev pub IsFormatFault : Numbers → Fault → Type 0
 IsFormatFault numbers Output = ⊥
 IsFormatFault numbers (Refused why) = IsUnformed numbers why
+IsFormatFault numbers (Unread why at) = ⊥
 
 -- what a command that ended with this fault left on the output, and of the files
 abbrev pub IsUndone : {D : Type 0} → Ghosts D → Command → Around → Option (List ℕ) → Option (List ℕ) → Fault → Type 0
@@ -169,14 +169,14 @@ IsUndone g (Explain file) a was now fault = IsUnexplained (known_in a.before (st
 IsUndone g (Run frames file workers scripts) a was now fault = HasNotRun a.before a.after (string_bytes file) (map string_bytes scripts.items) a.input was now fault
 IsUndone g (Show text) a was now fault = (fault ≡ Output) × AppendsFront was now (string_bytes text) × AreKept a.before a.after
 
--- A command ended with a fault, or it was done and the output could not be flushed. The error output has a
--- line that tells of it, or a beginning of that line.
+-- A command ended with a fault, or it was done and the output could not be flushed. The error output tells of it, and what to do, or has a
+-- beginning of that.
 pub record IsGivenUp {D : Type 0} (g : Ghosts D) (command : Command) (a : Around) (was now old new : Option (List ℕ)) : Type 0 where
   pub given_up : (fault : Fault) × (mid : Option (List ℕ)) × (IsUndone g command a was mid fault ⊎ (IsDone g command a was mid × (fault ≡ Output)))
-      × Keeps mid now × AppendsFront old new (fault_line fault)
+      × Keeps mid now × IsToldOf command fault old new
 
 -- and so did the command that words name, or memory was wanting to read them
 abbrev pub IsWordsGivenUp : {D : Type 0} → Ghosts D → List (List ℕ) → Around → Option (List ℕ) → Option (List ℕ) → Option (List ℕ) → Option (List ℕ) → Type 0
 IsWordsGivenUp g words a was now old new =
     ((command : Command) × IsCommandOf words command × IsGivenUp g command a was now old new)
-    ⊎ (Keeps was now × AppendsFront old new (fault_line (Refused refusal.NoMemory)) × AreKept a.before a.after)
+    ⊎ (Keeps was now × AppendsFront old new (told_text [] (Refused refusal.NoMemory)) × AreKept a.before a.after)

@@ -1,5 +1,5 @@
 -- Scripts that are read by name: from files, and from the input where the name is a dash.
-use Rattle.std.specs.Prelude.{ℕ, ◌≡◌, ◌⊎◌, Bool, cond, false, List, [], ◌∷◌, ◌++◌, Option, Some, None, IfSome, bytes_eq, codes}
+use Rattle.std.specs.Prelude.{ℕ, ◌≡◌, ◌⊎◌, Bool, cond, false, List, [], ◌∷◌, ◌++◌, Option, Some, None, IfSome, bytes_eq, codes, length}
 use Rattle.mt_base.specs.declared.refusal.Refusal.{Refusal}
 use Rattle.mt_base.specs.declared.refusal.Refusal.TheVariants as refusal
 use Rattle.mt_script.specs.Grammars.{AreRefusedFor}
@@ -7,6 +7,8 @@ use Rattle.mt_script.specs.Lines.{line_text, IsInGrammar}
 use Rattle.mt_script.specs.Scripts.{IsScript}
 use Rattle.mt_script.specs.declared.lines.Line.{Line}
 use Rattle.mt_folder.specs.Folders.{Files, known_in}
+use Rattle.mt_cli.specs.declared.faults.Fault.{Fault}
+use Rattle.mt_cli.specs.declared.faults.Fault.TheVariants.{Output, Refused, Unread}
 
 -- the bytes of a script or a schedule, where they are known: of the file of its name, or else of the input
 abbrev pub source_of : Files → Option (List ℕ) → Option (List ℕ) → Option (List ℕ)
@@ -48,13 +50,20 @@ pub data AreRead (files : Files) (input : Option (List ℕ)) : List (List ℕ) �
 abbrev pub HaveBeenRead : Files → Option (List ℕ) → List (List ℕ) → List (List Line) → Type 0
 HaveBeenRead files input names scripts = (left : Option (List ℕ)) × AreRead files input names scripts left
 
--- The first of them were read, and the next one was not, for this.
-pub record AreUnread (files : Files) (input : Option (List ℕ)) (names : List (List ℕ)) (why : Refusal) : Type 0 where
+-- The first so many of them were read, and the next one was not, for this.
+pub record AreUnread (files : Files) (input : Option (List ℕ)) (names : List (List ℕ)) (at : ℕ) (why : Refusal) : Type 0 where
   pub before : List (List ℕ)
   pub name : List ℕ
   pub rest : List (List ℕ)
   pub split : names ≡ before ++ name ∷ rest
+  pub many : length before ≡ at
   pub scripts : List (List Line)
   pub left : Option (List ℕ)
   pub read : AreRead files input before scripts left
   pub unread : IsUnread line_text IsInGrammar (bytes_at files name left) why
+
+-- that is the fault: one of them, by its place, was not read
+abbrev pub HasNoScript : Files → Option (List ℕ) → List (List ℕ) → Fault → Type 0
+HasNoScript files input names (Unread why at) = AreUnread files input names at why
+HasNoScript files input names (Refused why) = ⊥
+HasNoScript files input names Output = ⊥

@@ -19,7 +19,7 @@ use Rattle.mt_cli.specs.Dumps.{IsBarred, IsEarly, StandAs}
 use Rattle.mt_folder.specs.Folders.{AreKept, Files, IsFileRefusal, IsHeld, IsUnmade, Puts, known_in}
 use Rattle.mt_cli.specs.Reads.{AreUnread, HaveBeenRead}
 use Rattle.mt_cli.specs.declared.faults.Fault.{Fault}
-use Rattle.mt_cli.specs.declared.faults.Fault.TheVariants.{Output, Refused}
+use Rattle.mt_cli.specs.declared.faults.Fault.TheVariants.{Output, Refused, Unread}
 
 -- ---- how a run ends
 
@@ -124,6 +124,7 @@ pub record HasRunScripts (old new : Files) (file : List ℕ) (names : List (List
 
 -- or they were not: nothing is written where they are not read
 pub data HasNotRun (old new : Files) (file : List ℕ) (names : List (List ℕ)) (input was now : Option (List ℕ)) : Fault → Type 0 where
-  unread_scripts : (why : Refusal) → AreUnread old input names why → AreKept old new → Keeps was now → HasNotRun old new file names input was now (Refused why)
+  unread_scripts : (at : ℕ) (why : Refusal) → AreUnread old input names at why → AreKept old new → Keeps was now
+      → HasNotRun old new file names input was now (Unread why at)
   unserved_scripts : (scripts : List (List Line)) (fault : Fault) → HaveBeenRead old input names scripts → IsUnservedIn old new file scripts was now fault
       → HasNotRun old new file names input was now fault

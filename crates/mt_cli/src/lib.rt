@@ -1,4 +1,4 @@
-//! The command line of `mtk`: which command words name, and what it does. Files and streams are passed in, so
+//! The commands of `mtk`: what each of them does, and what is told where it is refused. Files and streams are passed in, so
 //! all of it runs in tests too; the program is one call of [`perform_words`].
 #![tactic(auto)]
 

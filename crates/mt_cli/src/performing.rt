@@ -5,14 +5,14 @@ ghost use Rattle.mt_script.specs.Answers.{AppendsFront};
 ghost use Rattle.mt_args.specs.CommandLines.{IsMistaken};
 ghost use Rattle.mt_folder.specs.Folders.{AreKept, IsUnmade};
 ghost use Rattle.mt_cli.specs.declared.faults.Fault.{Fault};
-ghost use Rattle.mt_cli.specs.Performs.{IsFirstSchema, StandsFirst, HasTried, HaveRun, IsTried, IsScheduled, IsCutTrial, IsUntried, IsUnscheduled, IsDone, IsUndone, IsWordsDone, IsGivenUp, IsWordsGivenUp, IsTold, Around, fault_line};
+ghost use Rattle.mt_cli.specs.Performs.{IsFirstSchema, StandsFirst, HasTried, HaveRun, IsTried, IsScheduled, IsCutTrial, IsUntried, IsUnscheduled, IsDone, IsUndone, IsWordsDone, IsGivenUp, IsWordsGivenUp, IsTold, IsToldOf, Around};
 ghost use Rattle.mt_cli.specs.Reads.{source_of};
 ghost use Rattle.std.specs.Io.KnownBytes.{Appends, Keeps};
 
 use crate::checking::perform_check;
 use crate::dumping::perform_dump;
 use crate::explaining::perform_explain;
-use crate::faults::{Fault, tell};
+use crate::faults::{Fault, tell, tell_about};
 use crate::formatting::perform_format;
 use crate::reading::lines_of;
 use crate::schedules::ScheduleGrammar;
@@ -207,13 +207,18 @@ fn perform_schedule<F: Folder, I: Read, O: Write>(
 }
 
 /// Flushes the output after a command, and answers the status.
-fn finish<O: Write, E: Write>(done: Result<(), Fault>, out: &mut O, err: &mut E) -> u8
+fn finish<O: Write, E: Write>(
+    command: &Command,
+    done: Result<(), Fault>,
+    out: &mut O,
+    err: &mut E,
+) -> u8
     ensures kept { Keeps (O.contents out.old) (O.contents out.new) }
     ensures done { result ≡ 0 → IsOk done × (err.new ≡ err.old) }
     ensures status { result ≢ 0 → result ≡ 1 }
     ensures told { result ≢ 0 → MatchResult done
-        (λ _. AppendsFront (E.contents err.old) (E.contents err.new) (fault_line Fault.Output))
-        (λ fault. AppendsFront (E.contents err.old) (E.contents err.new) (fault_line fault)) }
+        (λ _. IsToldOf command.now Fault.Output (E.contents err.old) (E.contents err.new))
+        (λ fault. IsToldOf command.now fault (E.contents err.old) (E.contents err.new)) }
 {
     let flushed = out.flush();
     let fault = match done {
@@ -221,7 +226,7 @@ fn finish<O: Write, E: Write>(done: Result<(), Fault>, out: &mut O, err: &mut E)
         Ok(()) => Fault::Output,
         Err(fault) => fault,
     };
-    tell(err, &fault);
+    tell(err, command, &fault);
     REFUSED
 }
 
@@ -293,8 +298,9 @@ fn do_command<F: Folder, I: Read, O: Write>(
 /// Does a command, and answers the status of the program:
 ///
 /// - 0: it was done. Refusals within a transcript count as done.
-/// - 1: it was refused, and the refusal's text is on `err`; or `out` could not be written. An input
-///   that cannot be read, and a file that is not there or cannot be read, is refusal 2.
+/// - 1: it was refused, and the refusal's text is on `err`, with the file that it is about and what to do in a line
+///   behind it; or `out` could not be written. An input that cannot be read, and a file that is not there or cannot be
+///   read, is refusal 2.
 ///
 /// A script or a schedule is read whole before any of it runs, and all scripts of `run` before the first of them runs. A
 /// device is only read by `check` and `explain`, and where `format` is refused each file is as it was. A device that is
@@ -317,7 +323,7 @@ pub fn perform<F: Folder, I: Read, O: Write, E: Write>(
         (O.contents out.old) (O.contents out.new) (E.contents err.old) (E.contents err.new) }
 {
     let done = do_command(alloc, command, folder, input, out);
-    finish(done, out, err)
+    finish(command, done, out, err)
 }
 
 /// Does the command that these words name, those behind the program's name, and answers the status:
@@ -348,7 +354,7 @@ pub fn perform_words<F: Folder, I: Read, O: Write, E: Write>(
             MISUSED
         }
         Err(CliFault::Refused(refusal)) => {
-            tell(err, &Fault::Refused(refusal));
+            tell_about(err, "", &Fault::Refused(refusal));
             REFUSED
         }
     }

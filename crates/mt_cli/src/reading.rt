@@ -4,8 +4,9 @@ ghost use Rattle.mt_script.specs.Grammars.{AreLines};
 ghost use Rattle.mt_script.specs.Lines.{line_text, IsInGrammar};
 ghost use Rattle.mt_server.specs.Sessions.{lines_in};
 ghost use Rattle.mt_folder.specs.Folders.{AreKept};
-ghost use Rattle.mt_cli.specs.Reads.{AreUnread, HaveBeenRead, IsReadAt, IsUnread, bytes_at, is_input, source_of};
+ghost use Rattle.mt_cli.specs.Reads.{HasNoScript, HaveBeenRead, IsReadAt, IsUnread, bytes_at, is_input, source_of};
 
+use crate::faults::Fault;
 use mt_base::Refusal;
 use mt_folder::Folder;
 use mt_script::{Grammar, Script, ScriptFault, ScriptGrammar, read_lines};
@@ -75,17 +76,24 @@ pub(crate) fn scripts_of<F: Folder, I: Read>(
     folder: &mut F,
     names: &[String],
     input: &mut I,
-) -> Result<Vec<Script>, Refusal>
+) -> Result<Vec<Script>, Fault>
     ensures read { IfOk result (λ scripts. HaveBeenRead (F.files folder.old) (I.remaining input.old)
         (map string_bytes names.now) (map lines_in scripts.items)) }
-    ensures unread { IfErr result (AreUnread (F.files folder.old) (I.remaining input.old)
+    ensures unread { IfErr result (HasNoScript (F.files folder.old) (I.remaining input.old)
         (map string_bytes names.now)) }
     ensures kept { AreKept (F.files folder.old) (F.files folder.new) }
 {
     let mut scripts = Vec::new(alloc);
     for name in names {
-        let script = script_of(alloc, folder, name.as_str(), input)?;
-        scripts.push(script)?;
+        let at = scripts.len();
+        let script = match script_of(alloc, folder, name.as_str(), input) {
+            Ok(script) => script,
+            Err(refusal) => return Err(Fault::Unread(refusal, at)),
+        };
+        match scripts.push(script) {
+            Ok(()) => {}
+            Err(_) => return Err(Fault::Unread(Refusal::NoMemory, at)),
+        }
     }
     Ok(scripts)
 }

@@ -122,6 +122,6 @@ pub(crate) fn perform_run<F: Folder, I: Read, O: Write>(
 {
     match scripts_of(alloc, folder, scripts, input) {
         Ok(scripts) => serve_file(alloc, folder, frames, name, scripts.as_slice(), out),
-        Err(refusal) => Err(Fault::Refused(refusal)),
+        Err(fault) => Err(fault),
     }
 }

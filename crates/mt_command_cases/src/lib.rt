@@ -3,6 +3,8 @@
 #![tactic(auto)]
 
 #[cfg(test)]
+mod advice;
+#[cfg(test)]
 mod checks;
 #[cfg(test)]
 mod dumps;

@@ -1,0 +1,8 @@
+use Rattle.std.proofs.Common.{[], ◌++◌, ◌≡◌, List, ℕ, Option, Result, Ok, Err, OnOk, OnErr, refl, append-nil, sym}
+use Rattle.std.specs.Io.KnownBytes.{Appends}
+use Rattle.mt_script.specs.Answers.{AppendsFront}
+use Rattle.mt_cli.proofs.AdviceLemmas.{all_or_front}
+use Rattle.mt_cli.proofs.faults.tell_about.Goals as goal
+
+pub returns : goal.returns
+returns g c = all_or_front _ _ _ c.write_told.result c.write_told.ensures.all c.write_told.ensures.front

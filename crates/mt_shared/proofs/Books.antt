@@ -24,13 +24,23 @@ take_prefix (x ∷ ts) us zero p e = absurd (omega arith)
 take_prefix (x ∷ ts) [] (suc n) p e = absurd (cc (p.1))
 take_prefix (x ∷ ts) (u ∷ us) (suc n) p e = let r = take_prefix ts us n (p.0, cc (p.1)) (omega arith) in cc (r, p.1)
 
--- the history with the book's next entry
-pub grown : (list : List Entry) (book : List Committed) (e : Entry) → IsPrefix (dones list) book → slice_get book (length (dones list)) ≡ Some e.done → IsPrefix (dones (list ++ e ∷ [])) book
-grown list book e p at = subst (λ l. IsPrefix l book) (sym (dones-append list (e ∷ []))) (snoc_prefix (dones list) book e.done p at)
-
 pub dones-length : (list : List Entry) → length (dones list) ≡ length list
 dones-length [] = refl
 dones-length (x ∷ xs) = ap suc (dones-length xs)
+
+-- behind the end of a list there is nothing
+pub no_next : {A : Type 0} (ts : List A) (t : A) → slice_get ts (length ts) ≡ Some t → ⊥
+no_next [] t e = absurd cc
+no_next (x ∷ ts) t e = no_next ts t e
+
+-- so of a history that is the whole book
+pub none_behind : (book : List Committed) (list : List Entry) (at : ℕ) (t : Committed) → book ≡ dones list → at ≡ length list → slice_get book at ≡ Some t → ⊥
+none_behind book list at t whole is there =
+    no_next (dones list) t (ap (λ (n : ℕ). slice_get (dones list) n) (dones-length list ∙ sym is) ∙ (ap (λ (b : List Committed). slice_get b at) (sym whole) ∙ there))
+
+-- the history with the book's next entry
+pub grown : (list : List Entry) (book : List Committed) (e : Entry) → IsPrefix (dones list) book → slice_get book (length (dones list)) ≡ Some e.done → IsPrefix (dones (list ++ e ∷ [])) book
+grown list book e p at = subst (λ l. IsPrefix l book) (sym (dones-append list (e ∷ []))) (snoc_prefix (dones list) book e.done p at)
 
 pub front_legal : (b : Base) (ts us : List Committed) → IsPrefix ts us → IsLegal b us → IsLegal b ts
 front_legal b ts us p h = IsLegal-front b ts p.0 (subst (IsLegal b) (sym p.1) h)

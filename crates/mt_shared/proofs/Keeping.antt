@@ -26,7 +26,7 @@ use Rattle.mt_txn.proofs.Showing.{legal_of, parts_stay}
 use Rattle.mt_txn.specs.Causes.{first_of, is_busy, is_open, step_cause, unless}
 use Rattle.mt_txn.specs.Events.{HasAborted, HasCalled, HasForced, HasStepped, IsBack}
 use Rattle.mt_txn.specs.Events.IsBack.{stands, drops, undoes}
-use Rattle.mt_txn.specs.Shown.{SameSchema, Shows, Stays, is_failed}
+use Rattle.mt_txn.specs.Shown.{Restarts, SameSchema, Shows, Stays, StaysRestarting, is_failed}
 use Rattle.mt_txn.specs.declared.answers.AbortStepped.{AbortStepped}
 use Rattle.mt_txn.specs.declared.answers.AbortStepped.TheVariants as abort
 use Rattle.mt_txn.specs.declared.answers.KernelForced.{KernelForced}
@@ -69,22 +69,35 @@ module _ {D : Type 0} {g : Ghosts D} (seen : D → List ℕ) (may_leave : D → 
   Goes b s n = ∥ ((z : State) × (z.book ≡ s.book) × Shows seen may_leave (base_of b) z n) ∥₁
 
   -- shown from the base that this one is seen as
-  pub began_so : (b : Base) (k : Kernel D g) (first : model.Base) (s : State) → base_of b ≡ first → Shows seen may_leave first s k → BeganOn seen may_leave b k
-  began_so b k first s same shows = ∣ (s, subst (λ (f : model.Base). Shows seen may_leave f s k) (sym same) shows) ∣₁
+  pub began_so : (b : Base) (k : Kernel D g) (first : model.Base) (s : State) → base_of b ≡ first → Shows seen may_leave first s k → Restarts seen may_leave first k → BeganOn seen may_leave b k
+  began_so b k first s same shows again =
+      (∣ (s, subst (λ (f : model.Base). Shows seen may_leave f s k) (sym same) shows) ∣₁, subst (λ (f : model.Base). Restarts seen may_leave f k) (sym same) again)
 
   book_of : (b : Base) (k : Kernel D g) (s : State) → Shows seen may_leave (base_of b) s k → s.book ≡ k.parts.book.items
   book_of b k s shows = ∥∥₁_elim (legal_of seen may_leave k.relations k.counters k.parts (base_of b) s shows) (hlevel (props, Books-set)) (λ (same, legal). same)
 
   pub legal_book : (b : Base) (k : Kernel D g) → BeganOn seen may_leave b k → IsLegal (base_of b) k.parts.book.items
-  legal_book b k began = ∥∥₁_elim began (IsLegal-prop (base_of b) k.parts.book.items) (λ (s, shows).
+  legal_book b k began = ∥∥₁_elim began.0 (IsLegal-prop (base_of b) k.parts.book.items) (λ (s, shows).
       ∥∥₁_elim (legal_of seen may_leave k.relations k.counters k.parts (base_of b) s shows) (IsLegal-prop (base_of b) k.parts.book.items) (λ (same, legal). legal))
 
-  pub still_began : (b : Base) (k n : Kernel D g) → ((s : State) → Shows seen may_leave (base_of b) s k → Goes b s n) → BeganOn seen may_leave b k → BeganOn seen may_leave b n
-  still_began b k n go began = ∥∥₁_elim began (hlevel props) (λ (s, shows). ∥∥₁_map (go s shows) (λ (z, same, now). (z, now)))
+  pub still_began : (b : Base) (k n : Kernel D g) → ((s : State) → Shows seen may_leave (base_of b) s k → Goes b s n) → StaysRestarting seen may_leave k n → BeganOn seen may_leave b k → BeganOn seen may_leave b n
+  still_began b k n go again began = (∥∥₁_elim began.0 (hlevel props) (λ (s, shows). ∥∥₁_map (go s shows) (λ (z, same, now). (z, now))), again (base_of b) began.1)
 
   pub same_book : (b : Base) (k n : Kernel D g) → ((s : State) → Shows seen may_leave (base_of b) s k → Goes b s n) → BeganOn seen may_leave b k → n.parts.book.items ≡ k.parts.book.items
-  same_book b k n go began = ∥∥₁_elim began (hlevel (props, Books-set)) (λ (s, shows). ∥∥₁_elim (go s shows) (hlevel (props, Books-set)) (λ (z, same, now).
+  same_book b k n go began = ∥∥₁_elim began.0 (hlevel (props, Books-set)) (λ (s, shows). ∥∥₁_elim (go s shows) (hlevel (props, Books-set)) (λ (z, same, now).
       sym (book_of b n z now) ∙ (same ∙ book_of b k s shows)))
+
+  -- ---- a log turned over
+
+  -- it is in whatever state it was, where it can be restarted
+  abbrev pub GoesOn : Kernel D g → Kernel D g → Type 0
+  GoesOn k n = (first : model.Base) (s : State) → Restarts seen may_leave first k → Shows seen may_leave first s k → Shows seen may_leave first s n
+
+  pub turned_began : (b : Base) (k n : Kernel D g) → GoesOn k n → StaysRestarting seen may_leave k n → BeganOn seen may_leave b k → BeganOn seen may_leave b n
+  turned_began b k n go again began = (∥∥₁_map began.0 (λ (s, shows). (s, go (base_of b) s began.1 shows)), again (base_of b) began.1)
+
+  pub turned_book : (b : Base) (k n : Kernel D g) → GoesOn k n → BeganOn seen may_leave b k → n.parts.book.items ≡ k.parts.book.items
+  turned_book b k n go began = same_book b k n (λ s shows. ∣ (s, refl, go (base_of b) s began.1 shows) ∣₁) began
 
   -- ---- calls that leave the book
 
@@ -135,9 +148,9 @@ module _ {D : Type 0} {g : Ghosts D} (seen : D → List ℕ) (may_leave : D → 
   forces_one b n (Ok (forced.Durable names)) s has = ∣ (booked_each s names.items, books_grow s names.items, has) ∣₁
   forces_one b n (Err why) s has = ∣ (s, prefix_self s.book, has) ∣₁
 
-  pub forced_began : (b : Base) (k n : Kernel D g) (r : Result KernelForced Refusal) → ((s : State) → Shows seen may_leave (base_of b) s k → HasForced seen may_leave (base_of b) s r n) → BeganOn seen may_leave b k → BeganOn seen may_leave b n
-  forced_began b k n r did began = ∥∥₁_elim began (hlevel props) (λ (s, shows). ∥∥₁_map (forces_one b n r s (did s shows)) (λ (z, more, now). (z, now)))
+  pub forced_began : (b : Base) (k n : Kernel D g) (r : Result KernelForced Refusal) → ((s : State) → Shows seen may_leave (base_of b) s k → HasForced seen may_leave (base_of b) s r n) → StaysRestarting seen may_leave k n → BeganOn seen may_leave b k → BeganOn seen may_leave b n
+  forced_began b k n r did again began = (∥∥₁_elim began.0 (hlevel props) (λ (s, shows). ∥∥₁_map (forces_one b n r s (did s shows)) (λ (z, more, now). (z, now))), again (base_of b) began.1)
 
   pub forced_grows : (b : Base) (k n : Kernel D g) (r : Result KernelForced Refusal) → ((s : State) → Shows seen may_leave (base_of b) s k → HasForced seen may_leave (base_of b) s r n) → BeganOn seen may_leave b k → IsPrefix k.parts.book.items n.parts.book.items
-  forced_grows b k n r did began = begins k.parts.book.items n.parts.book.items (∥∥₁_elim began (hlevel props) (λ (s, shows). ∥∥₁_map (forces_one b n r s (did s shows)) (λ (z, more, now).
+  forced_grows b k n r did began = begins k.parts.book.items n.parts.book.items (∥∥₁_elim began.0 (hlevel props) (λ (s, shows). ∥∥₁_map (forces_one b n r s (did s shows)) (λ (z, more, now).
       subst (λ (x : List Committed × List Committed). IsPrefix x.0 x.1) (λ i. (book_of b k s shows i, book_of b n z now i)) more)))

@@ -6,12 +6,16 @@ use Rattle.mt_model.specs.Views.{base_of}
 use Rattle.mt_model.specs.declared.history.Committed.{Committed}
 use Rattle.mt_model.specs.declared.tables.Base.{Base}
 use Rattle.mt_shared.specs.Names.{no_base}
-use Rattle.mt_txn.specs.Shown.{Shows}
+use Rattle.mt_txn.specs.Shown.{Restarts, Shows}
 use Rattle.mt_txn.specs.declared.kernel.Kernel.{Kernel}
 
 -- it began on this base, and is in some state of the laws
+abbrev pub StandsOn : {D : Type 0} → {g : Ghosts D} → (D → List ℕ) → (D → List ℕ → Type 0) → Base → Kernel D g → Type 0
+StandsOn seen may_leave base k = ∥ ((s : State) × Shows seen may_leave (base_of base) s k) ∥₁
+
+-- and it can be restarted
 abbrev pub BeganOn : {D : Type 0} → {g : Ghosts D} → (D → List ℕ) → (D → List ℕ → Type 0) → Base → Kernel D g → Type 0
-BeganOn seen may_leave base k = ∥ ((s : State) × Shows seen may_leave (base_of base) s k) ∥₁
+BeganOn seen may_leave base k = StandsOn seen may_leave base k × Restarts seen may_leave (base_of base) k
 
 -- the base that a kernel began on, and its book of durable transactions
 pub record BasedSeen : Type 0 where

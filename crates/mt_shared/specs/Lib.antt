@@ -1,3 +1,4 @@
 pub mod Began
 pub mod Names
+pub mod Refusals
 pub mod Seen

@@ -1,5 +1,5 @@
 -- What contracts see of a pass and of the locked kernel.
-use Rattle.std.specs.Prelude.{◌≡◌, ◌≢◌, ◌⊎◌, ℕ, ◌+◌, List, [], ◌∷◌, ◌++◌, length, take, slice_get, Some, All}
+use Rattle.std.specs.Prelude.{◌≡◌, ◌≢◌, ◌⊎◌, Bool, true, false, Result, Ok, Err, ℕ, ◌+◌, List, [], ◌∷◌, ◌++◌, length, take, slice_get, Some, All}
 use Rattle.atomic_table.specs.Seated.{TableId}
 use Rattle.mt_mark.specs.Held.{Held}
 use Rattle.mt_mark.specs.Legal.{IsLegal}
@@ -16,10 +16,11 @@ pub record PassSeen : Type 0 where
   pub number : ℕ
   pub seen : List Entry
 
--- the durable book, and the history at the mark
+-- the durable book, the history at the mark, and whether a rotation left no more of the kernel
 pub record LockedSeen : Type 0 where
   pub book : List Committed
   pub list : List Entry
+  pub is_left : Bool
 
 -- The pass's new list is legal, begins with all that it had seen, has this length, and ends with the entry. No other entry past the old list is this pass's.
 pub record Extends (b : Base) (old : PassSeen) (entry : Entry) (place : ℕ) (new : PassSeen) : Type 0 where
@@ -74,3 +75,27 @@ pub record IsMarked (kernel : BasedSeen) (end : Held) (seats : List Held) : Type
   pub confirmed : IsConfirmed end.view
   pub book : dones end.view.list ≡ kernel.book
   pub seats_are : All (Beside end) seats
+
+-- the base that a kernel began on, its book of durable transactions, and whether a rotation left no more of it
+pub record KeptSeen : Type 0 where
+  pub base : Base
+  pub book : List Committed
+  pub is_left : Bool
+
+abbrev pub whole : BasedSeen → KeptSeen
+whole b = record { base = b.base; book = b.book; is_left = false }
+
+abbrev pub seen_of : {X : Type 0} → Result BasedSeen X → BasedSeen → KeptSeen
+seen_of (Ok b) past = whole b
+seen_of (Err x) past = record { base = past.base; book = past.book; is_left = true }
+
+-- base and book are as they were
+pub record KeepsAll (old : BasedSeen) (new : KeptSeen) : Type 0 where
+  pub base : new.base ≡ old.base
+  pub book : new.book ≡ old.book
+
+-- nothing is left of the kernel that was not before, unless the book has so many transactions
+pub record IsTurned (commits : ℕ) (old new : KeptSeen) : Type 0 where
+  pub base : new.base ≡ old.base
+  pub book : new.book ≡ old.book
+  pub left : (new.is_left ≡ old.is_left) ⊎ (length old.book ≡ commits)

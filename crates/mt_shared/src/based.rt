@@ -1,5 +1,5 @@
 // A kernel beside the base that it began on.
-ghost use Rattle.std.specs.Prelude.{◌≡◌, IfOk, IfErr};
+ghost use Rattle.std.specs.Prelude.{◌≡◌};
 ghost use mathlib.Core.List.{IsPrefix};
 ghost use Rattle.mt_mark.specs.Legal.{IsLegal};
 ghost use Rattle.mt_shared.specs.Began.{BeganOn};
@@ -14,8 +14,8 @@ use std::marker::Model;
 /// A kernel, with the base that it began on, which contracts alone see: it is the first of a history. Threads may pass
 /// a history on, and so what holds it.
 pub struct Based<D: Device> {
-    kernel: Kernel<D>,
-    base: History<Base>,
+    pub(crate) kernel: Kernel<D>,
+    pub(crate) base: History<Base>,
 }
 
 impl<D: Device> Model for Based<D> {
@@ -53,6 +53,11 @@ impl<D: Device> Based<D> {
         ensures legal { IsLegal self.now.base self.now.book }
     {
         self.kernel.book()
+    }
+
+    /// Whether the kernel's device has failed.
+    pub fn has_failed(&self) -> bool {
+        self.kernel.has_failed()
     }
 
     pub fn begin(&mut self, session: u32) -> Result<TxnNo, Refusal>

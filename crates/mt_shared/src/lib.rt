@@ -14,11 +14,14 @@
 
 mod based;
 mod gate;
+mod kept;
 mod locked;
 mod naming;
 mod opened;
 mod pass;
+mod past;
 mod shared;
+mod turned;
 mod txn;
 
 pub use gate::{Gate, Point};

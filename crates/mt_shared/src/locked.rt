@@ -1,41 +1,45 @@
-ghost use Rattle.std.specs.Prelude.{◌≡◌, ◌+◌, ◌++◌, ◌∷◌, [], ◌≤◌, length, OnOk, IfErr, IsTrue, ◌↔◌, slice_get, Some, All};
+ghost use Rattle.std.specs.Prelude.{◌≡◌, ◌+◌, ◌++◌, ◌∷◌, [], ◌≤◌, length, OnOk, IfOk, IfErr, IsTrue, ◌↔◌, slice_get, Some, All, true};
 ghost use mathlib.Core.List.{IsPrefix};
 ghost use Rattle.mt_mark.specs.Legal.{IsLegal};
 ghost use Rattle.mt_mark.specs.Rule.{dones, Holds};
 ghost use Rattle.mt_shared.specs.Began.{BeganOn};
+ghost use Rattle.mt_shared.specs.Refusals.{IsTurnFault};
 ghost use Rattle.mt_shared.specs.Seen.{PassSeen, Entered, CannotEnter};
 
-use crate::based::Based;
+use crate::kept::Kept;
 use crate::naming::Naming;
 use crate::pass::Pass;
 use crate::txn::Txn;
 use mt_base::{Refusal, TxnNo};
 use mt_disk::Device;
 use mt_mark::{End, Entry};
-use mt_model::Op;
+use mt_model::{Committed, Op};
 use mt_pool::Flushed;
 use mt_txn::{AbortStepped, Called, Kernel, KernelForced, Stepped};
+use std::alloc::Global;
 use std::marker::{Model, PhantomData};
 
-/// What lies under the lock: the kernel, with its end of the mark. Its first commits are the history, as many as the
-/// mark counts. Contracts see the book and the history.
+/// What lies under the lock: the kernel, or what a rotation left of it, with its end of the mark. Its first commits are
+/// the history, as many as the mark counts. Contracts see the book and the history.
 pub struct Locked<D: Device, J: Naming> {
-    pub(crate) kernel: Based<D>,
+    pub(crate) kernel: Kept<D>,
     pub(crate) end: End,
+    // how many hold new transactions back
+    pub(crate) holding: u32,
     pub(crate) of: PhantomData<J>,
 }
 
 impl<D: Device, J: Naming> Model for Locked<D, J> {
-    ghost use Rattle.std.specs.Prelude.{◌≡◌};
+    ghost use Rattle.std.specs.Prelude.{◌≡◌, true};
     ghost use mathlib.Core.List.{IsPrefix};
     ghost use Rattle.mt_mark.specs.Rule.{dones, IsConfirmed};
     ghost use Rattle.mt_shared.specs.Seen.{LockedSeen};
 
     ghost Value = { LockedSeen };
 
-    ghost view = { λ l. record { book = l.kernel.book; list = l.end.view.list } };
+    ghost view = { λ l. record { book = l.kernel.book; list = l.end.view.list; is_left = l.kernel.is_left } };
 
-    ghost invariant = { λ l. (l.end.mark ≡ J.mark) × (l.end.view.base ≡ J.base) × (l.kernel.base ≡ J.base) × IsConfirmed l.end.view × IsPrefix (dones l.end.view.list) l.kernel.book };
+    ghost invariant = { λ l. (l.end.mark ≡ J.mark) × (l.end.view.base ≡ J.base) × (l.kernel.base ≡ J.base) × IsConfirmed l.end.view × IsPrefix (dones l.end.view.list) l.kernel.book × (l.kernel.is_left ≡ true → l.kernel.book ≡ dones l.end.view.list) };
 }
 
 impl<D: Device, J: Naming> Locked<D, J> {
@@ -64,23 +68,23 @@ impl<D: Device, J: Naming> Locked<D, J> {
         Ok(())
     }
 
-    // Whether the book has this transaction at this place, from 0.
+    // Whether the book has this transaction at the mark's place, from 0.
     fn has(&self, at: u64, entry: &Entry) -> bool
+        requires at { at ≡ length self.now.list }
         ensures is { IsTrue result ↔ (slice_get self.now.book at ≡ Some entry.now.done) }
         ensures legal { IsLegal J.base self.now.book }
     {
-        let book = self.kernel.book();
-        if at >= book.len() as u64 {
-            return false;
+        match self.kernel.book() {
+            Some(book) => has_at(book, at, entry),
+            None => false,
         }
-        book[at as usize].equals(&entry.done)
     }
 
     // Whether the book has so many entries.
     pub(crate) fn has_booked(&self, place: u64) -> bool
         ensures { IsTrue result ↔ (place ≤ length self.now.book) }
     {
-        place <= self.kernel.book().len() as u64
+        place <= self.kernel.len()
     }
 
     pub(crate) fn begin(&mut self, session: u32) -> Result<TxnNo, Refusal>
@@ -166,15 +170,63 @@ impl<D: Device, J: Naming> Locked<D, J> {
         }
     }
 
-    pub(crate) fn into_kernel(self) -> Kernel<D>
-        ensures book { result.parts.book.items ≡ self.book }
-        ensures began { BeganOn D.seen D.may_leave J.base result }
+    // Whether a rotation left no kernel.
+    pub(crate) fn is_left(&self) -> bool
+        ensures { result ≡ self.now.is_left }
+    {
+        self.kernel.is_left()
+    }
+
+    // Whether new transactions are held back.
+    pub(crate) fn holds_back(&self) -> bool {
+        self.holding != 0
+    }
+
+    pub(crate) fn hold_back(&mut self)
+        ensures { self.new ≡ self.old }
+    {
+        self.holding = self.holding.saturating_add(1);
+    }
+
+    pub(crate) fn let_on(&mut self)
+        ensures { self.new ≡ self.old }
+    {
+        self.holding = self.holding.saturating_sub(1);
+    }
+
+    pub(crate) fn into_kernel(self) -> Result<Kernel<D>, Option<D>>
+        ensures book { IfOk result (λ k. k.parts.book.items ≡ self.book) }
+        ensures began { IfOk result (BeganOn D.seen D.may_leave J.base) }
+        ensures left { IfErr result (λ _. self.is_left ≡ true) }
     {
         let Locked {
             kernel,
             end: _,
+            holding: _,
             of: _,
         } = self;
         kernel.into_kernel()
     }
+}
+
+impl<D: Device + Drop, J: Naming> Locked<D, J> {
+    // Turns the log over, where each transaction of the book is entered and none lives; whether it did.
+    pub(crate) fn rotate(&mut self, alloc: Global, frames: usize) -> Result<bool, Refusal>
+        ensures why { IfErr result IsTurnFault }
+        ensures book { self.new.book ≡ self.old.book }
+        ensures list { self.new.list ≡ self.old.list }
+    {
+        let entered = self.end.check();
+        self.kernel.rotate(entered, alloc, frames)
+    }
+}
+
+// Whether a book has this transaction at this place, from 0.
+fn has_at(book: &[Committed], at: u64, entry: &Entry) -> bool
+    ensures { IsTrue result ↔ (slice_get book.now at ≡ Some entry.now.done) }
+{
+    if at >= book.len() as u64 {
+        return false;
+    }
+    book[at as usize].equals(&entry.done)
 }

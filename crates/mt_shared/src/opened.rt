@@ -5,6 +5,7 @@ ghost use Rattle.mt_shared.specs.Seen.{PassSeen, OpenedSeen, Beside, IsMarked};
 
 use crate::based::Based;
 use crate::gate::Gate;
+use crate::kept::Kept;
 use crate::locked::Locked;
 use crate::naming::Naming;
 use crate::pass::Pass;
@@ -79,8 +80,9 @@ impl<D: Device> Opened<D> {
             return Err(kernel.into_kernel());
         };
         let locked = Locked {
-            kernel,
+            kernel: Kept::new(kernel),
             end,
+            holding: 0,
             of: PhantomData,
         };
         let shared = Shared::over(locked, gate, count);

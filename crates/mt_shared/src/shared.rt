@@ -4,6 +4,7 @@ ghost use Rattle.mt_base.specs.declared.refusal.Refusal.TheVariants.{DeviceFaile
 ghost use Rattle.mt_mark.specs.Rule.{dones};
 ghost use Rattle.mt_model.specs.declared.operations.Reply.{Reply};
 ghost use Rattle.mt_shared.specs.Began.{BeganOn};
+ghost use Rattle.mt_shared.specs.Refusals.{IsTurnFault, IsTurnRefusal};
 ghost use Rattle.mt_shared.specs.Seen.{PassSeen, Extends, Looked, fresh, with_call};
 
 use crate::gate::{Gate, Point, Wanted};
@@ -73,9 +74,9 @@ impl<D: Device, G: Gate + Drop, J: Naming> Shared<D, G, J> {
         why
     }
 
-    /// The kernel, for where a close is refused. What lives is gone with it.
-    pub fn abandon(self) -> Kernel<D>
-        ensures { BeganOn D.seen D.may_leave J.base result }
+    /// The kernel, or the device that a rotation left of it, for where a close is refused. What lives is gone with it.
+    pub fn abandon(self) -> Result<Kernel<D>, Option<D>>
+        ensures { IfOk result (BeganOn D.seen D.may_leave J.base) }
     {
         let Shared {
             locked,
@@ -112,13 +113,25 @@ impl<D: Device, G: Gate + Drop, J: Naming> Shared<D, G, J> {
         if pass.is_busy {
             return Err(Refusal::Busy);
         }
-        let number = match self.locked.lock(rt).begin(session) {
+        let number = match self.begun(rt, session) {
             Ok(number) => number,
             Err(why) => return Err(self.refusing(why)),
         };
         pass.is_busy = true;
         self.tell(session, Point::Began);
         Ok(Txn::begun(alloc, number, pass.number, session))
+    }
+
+    // Begins a transaction once none is held back.
+    fn begun<R: Wait>(&self, rt: &R, session: u32) -> Result<TxnNo, Refusal> {
+        let mut locked = self.locked.lock(rt);
+        for _ in rt.forever() {
+            if !locked.holds_back() {
+                return locked.begin(session);
+            }
+            locked = self.moved.wait(rt, locked);
+        }
+        unreachable!()
     }
 
     /// Runs an operation to its end. The token keeps it with its reply, [`Txn::calls`].
@@ -374,7 +387,7 @@ impl<D: Device, G: Gate + Drop, J: Naming> Shared<D, G, J> {
     /// has seen.
     ///
     /// Refused, in this order, with all that was handed in: 15 where a pass is missing, 16 where one of them has a
-    /// transaction.
+    /// transaction, 2 where a rotation left no kernel.
     pub fn close(self, passes: Vec<Pass<J>>) -> Result<Kernel<D>, Closed<D, G, J>>
         ensures seen { IfOk result (λ k.
             All (λ (p : PassSeen). IsPrefix (dones p.seen) k.parts.book.items) passes.items) }
@@ -397,14 +410,83 @@ impl<D: Device, G: Gate + Drop, J: Naming> Shared<D, G, J> {
         }
         let Shared {
             locked,
-            moved: _,
-            gate: _,
-            wanted: _,
-            count: _,
+            moved,
+            gate,
+            wanted,
+            count,
         } = self;
         let mut locked = locked.into_inner();
+        if locked.is_left() {
+            let shared = Shared {
+                locked: Mutex::new(locked),
+                moved,
+                gate,
+                wanted,
+                count,
+            };
+            let why = Refusal::DeviceFailed;
+            return Err(Closed {
+                why,
+                shared,
+                passes,
+            });
+        }
         locked.meet_all(passes);
-        Ok(locked.into_kernel())
+        match locked.into_kernel() {
+            Ok(kernel) => Ok(kernel),
+            Err(_) => unreachable!(),
+        }
+    }
+}
+
+impl<D: Device + Drop, G: Gate + Drop, J: Naming> Shared<D, G, J> {
+    /// Turns the kernel's log over, while no transaction lives. It waits for the lock alone. The history goes on, and
+    /// so do the passes. The kernel then has so many pages in frames.
+    ///
+    /// Refused, in this order: 2 where the device has failed; 16 where a transaction lives, or one is durable and not
+    /// yet in the history. Nothing has changed then. Further as [`mt_restart::rotate`]: 1, 11, 2. Where that gives the
+    /// device alone, each later call is refused with 2, and the device is to be opened again.
+    pub fn rotate<R: Wait>(&self, rt: &R, alloc: Global, frames: usize) -> Result<(), Refusal>
+        ensures why { IfErr result IsTurnRefusal }
+    {
+        let told = self.locked.lock(rt).rotate(alloc, frames);
+        self.moved.notify_all();
+        match told {
+            Ok(true) => Ok(()),
+            Ok(false) => Err(Refusal::Busy),
+            Err(why) => Err(why),
+        }
+    }
+
+    // New transactions go on, and this is told.
+    fn let_on(
+        &self,
+        mut locked: MutexGuard<'_, Locked<D, J>>,
+        told: Result<(), Refusal>,
+    ) -> Result<(), Refusal>
+        ensures { result ≡ told }
+    {
+        locked.let_on();
+        self.moved.notify_all();
+        told
+    }
+
+    /// Holds new transactions back until none lives, turns the log over as [`Shared::rotate`], and lets them go on.
+    ///
+    /// Refused as that, but for 16.
+    pub fn turn_over<R: Wait>(&self, rt: &R, alloc: Global, frames: usize) -> Result<(), Refusal>
+        ensures why { IfErr result IsTurnFault }
+    {
+        let mut locked = self.locked.lock(rt);
+        locked.hold_back();
+        for _ in rt.forever() {
+            match locked.rotate(alloc, frames) {
+                Ok(false) => locked = self.moved.wait(rt, locked),
+                Ok(true) => return self.let_on(locked, Ok(())),
+                Err(why) => return self.let_on(locked, Err(why)),
+            }
+        }
+        unreachable!()
     }
 }
 

@@ -68,21 +68,29 @@ pub fn opened_of(
     opened_over(alloc, device, &schema, &base, count)
 }
 
-/// The kernel behind a close, or behind what is given up where that is refused; and whether it was closed.
-pub fn closed<D: Device, J: Naming>(
+/// The kernel behind a close; or the device, where that is refused.
+pub fn closed<D: Device + Drop, J: Naming>(
     shared: Shared<D, NoGate, J>,
     passes: Vec<Pass<J>>,
-) -> (Kernel<D>, bool) {
+) -> Result<Kernel<D>, Option<D>> {
     match shared.close(passes) {
-        Ok(kernel) => (kernel, true),
+        Ok(kernel) => Ok(kernel),
         Err(closed) => {
             let Closed {
                 why: _,
                 shared,
                 passes: _,
             } = closed;
-            (shared.abandon(), false)
+            Err(given_up(shared))
         }
+    }
+}
+
+/// The device of what is given up.
+pub fn given_up<D: Device + Drop, J: Naming>(shared: Shared<D, NoGate, J>) -> Option<D> {
+    match shared.abandon() {
+        Ok(kernel) => Some(kernel.into_device()),
+        Err(device) => device,
     }
 }
 

@@ -1,7 +1,7 @@
 // One thread sees another's commit while its own transaction is open.
 ghost use Rattle.std.specs.Prelude.{◌≡◌};
 
-use crate::kernels::{NoGate, Told, closed, opened_of, told_of};
+use crate::kernels::{NoGate, Told, closed, given_up, opened_of, told_of};
 use crate::sessions::{end, has_replied, run_insert, take_back};
 use mt_base::Refusal;
 use mt_disk::{Device, MemDevice};
@@ -138,37 +138,29 @@ fn by_two<D: Device + Send, J: Naming + Send + Sync, R: Threads + Wait + Clock +
 }
 
 // The kernel behind the work of both, under a name; and what they were told, if it could be closed.
-fn named_looks<D: Device + Send, J: Naming + Send + Sync, R: Threads + Wait + Clock + Sync>(
+fn named_looks<D: Device + Drop + Send, J: Naming + Send + Sync, R: Threads + Wait + Clock + Sync>(
     rt: &R,
     alloc: Global,
     opened: Opened<D>,
-) -> (Kernel<D>, Option<(Heard, u64)>)
+) -> Result<(Kernel<D>, Heard, u64), Option<D>>
     requires { (opened.mark ≡ J.mark) × (opened.base ≡ J.base) }
 {
     let (shared, passes) = match opened.named::<NoGate, J>(alloc, NoGate) {
         Ok(made) => made,
-        Err(kernel) => return (kernel, None),
+        Err(kernel) => return Err(Some(kernel.into_device())),
     };
     let (passes, heard, place) = match by_two(rt, alloc, &shared, passes) {
         Ok(done) => done,
-        Err(_) => return (shared.abandon(), None),
+        Err(_) => return Err(given_up(shared)),
     };
-    let (kernel, is_closed) = closed(shared, passes);
-    (
-        kernel,
-        if is_closed {
-            Some((heard, place))
-        } else {
-            None
-        },
-    )
+    Ok((closed(shared, passes)?, heard, place))
 }
 
 fn looked<R: Threads + Wait + Clock + Sync>(
     rt: &R,
     alloc: Global,
     opened: Opened<MemDevice>,
-) -> (Kernel<MemDevice>, Option<(Heard, u64)>) {
+) -> Result<(Kernel<MemDevice>, Heard, u64), Option<MemDevice>> {
     named_looks::<MemDevice, Brand, R>(rt, alloc, opened)
 }
 
@@ -176,21 +168,23 @@ fn looked<R: Threads + Wait + Clock + Sync>(
 fn look_on<R: Threads + Wait + Clock + Sync>(
     rt: &R,
     alloc: Global,
-) -> Result<(Option<(Heard, u64)>, Told), Refusal> {
+) -> Result<(Heard, u64, Told), Refusal> {
     let opened = opened_of(alloc, 64, &[(0, 10, 5)], 2)?;
-    let (kernel, heard) = looked(rt, alloc, opened);
-    Ok((heard, told_of(kernel)?))
+    match looked(rt, alloc, opened) {
+        Ok((kernel, heard, place)) => Ok((heard, place, told_of(kernel)?)),
+        Err(_) => Err(Refusal::Stranger),
+    }
 }
 
 /// A thread that has inserted a row sees the other's commit, at place 1, before it commits, at place 2.
 #[test]
 fn a_look_shows_the_other_commit(rt: HostRuntime) -> Result<(), Fail> {
-    let (heard, told) = look_on(&rt, rt.alloc())?;
+    let (heard, place, told) = look_on(&rt, rt.alloc())?;
     let first = Heard {
         done: true,
         saw: true,
         place: 2,
     };
-    assert!(rt; heard == Some((first, 1)) && told.commits == 2 && told.rows == 2);
+    assert!(rt; heard == first && place == 1 && told.commits == 2 && told.rows == 2);
     Ok(())
 }

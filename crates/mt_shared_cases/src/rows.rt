@@ -25,7 +25,11 @@ fn operation(alloc: Global, place: u64) -> Result<(Op, Reply), Refusal> {
         1 => Ok((Op::Insert(row, key, x), Reply::Done)),
         2 => Ok((Op::Update(row, key, y), Reply::Was(x))),
         3 => Ok((Op::Get(row, key), Reply::Found(y))),
-        _ => Ok((Op::Get(row, Bytes::copy_of(alloc, b"b")?), Reply::Missing)),
+        4 => Ok((Op::Get(row, Bytes::copy_of(alloc, b"b")?), Reply::Missing)),
+        _ => Ok((
+            Op::Insert(row, Bytes::copy_of(alloc, b"b")?, y),
+            Reply::Done,
+        )),
     }
 }
 
@@ -71,8 +75,23 @@ fn rests<D: Device, J: Naming, R: Wait>(
     Ok(false)
 }
 
+// The log is turned over, though not while a transaction lives.
+fn turns<D: Device + Drop, J: Naming, R: Wait>(
+    rt: &R,
+    alloc: Global,
+    shared: &Shared<D, NoGate, J>,
+    pass: &mut Pass<J>,
+) -> Result<bool, Refusal> {
+    let txn = shared.begin(rt, alloc, pass, 1)?;
+    let early = shared.rotate(rt, alloc, 64);
+    take_back(rt, shared, pass, txn);
+    shared.rotate(rt, alloc, 64)?;
+    shared.turn_over(rt, alloc, 64)?;
+    Ok(matches!(early, Err(Refusal::Busy)))
+}
+
 // All of it, by one pass.
-fn find<D: Device, J: Naming, R: Wait>(
+fn find<D: Device + Drop, J: Naming, R: Wait>(
     rt: &R,
     alloc: Global,
     shared: &Shared<D, NoGate, J>,
@@ -83,46 +102,52 @@ fn find<D: Device, J: Naming, R: Wait>(
             return Ok(false);
         }
     }
-    let is_back = takes_back(rt, alloc, shared, pass)?;
-    Ok(is_back && does(rt, alloc, shared, pass, 4)? && rests(rt, shared)?)
+    let is_back = takes_back(rt, alloc, shared, pass)? && does(rt, alloc, shared, pass, 4)?;
+    let is_turned = rests(rt, shared)? && turns(rt, alloc, shared, pass)?;
+    Ok(is_back && is_turned && does(rt, alloc, shared, pass, 5)?)
 }
 
 // The kernel behind it, under a name, and whether all went so.
-fn named_rows<D: Device, J: Naming, R: Wait>(
+fn named_rows<D: Device + Drop, J: Naming, R: Wait>(
     rt: &R,
     alloc: Global,
     opened: Opened<D>,
-) -> (Kernel<D>, bool)
+) -> Result<(Kernel<D>, bool), Option<D>>
     requires { (opened.mark ≡ J.mark) × (opened.base ≡ J.base) }
 {
     let (shared, passes) = match opened.named::<NoGate, J>(alloc, NoGate) {
         Ok(made) => made,
-        Err(kernel) => return (kernel, false),
+        Err(kernel) => return Err(Some(kernel.into_device())),
     };
     let mut passes = passes;
     let found = match passes.as_mut_slice().first_mut() {
         Some(pass) => find(rt, alloc, &shared, pass),
         None => Ok(false),
     };
-    let (kernel, is_closed) = closed(shared, passes);
-    (kernel, is_closed && matches!(found, Ok(true)))
+    Ok((closed(shared, passes)?, matches!(found, Ok(true))))
 }
 
-fn found<R: Wait>(rt: &R, alloc: Global, opened: Opened<MemDevice>) -> (Kernel<MemDevice>, bool) {
+fn found<R: Wait>(
+    rt: &R,
+    alloc: Global,
+    opened: Opened<MemDevice>,
+) -> Result<(Kernel<MemDevice>, bool), Option<MemDevice>> {
     named_rows::<MemDevice, Brand, R>(rt, alloc, opened)
 }
 
 // Whether all went so, and what the kernel tells behind it.
 fn find_rows<R: Wait>(rt: &R, alloc: Global) -> Result<(bool, Told), Refusal> {
     let opened = opened_of(alloc, 64, &[(0, 10, 0)], 1)?;
-    let (kernel, is_found) = found(rt, alloc, opened);
-    Ok((is_found, told_of(kernel)?))
+    match found(rt, alloc, opened) {
+        Ok((kernel, is_found)) => Ok((is_found, told_of(kernel)?)),
+        Err(_) => Err(Refusal::Stranger),
+    }
 }
 
 /// A transaction finds what the pass's last one committed, and not what another took back.
 #[test]
 fn a_pass_finds_what_it_committed(rt: HostRuntime) -> Result<(), Fail> {
     let (is_found, told) = find_rows(&rt, rt.alloc())?;
-    assert!(rt; is_found && told.commits == 4 && told.rows == 1);
+    assert!(rt; is_found && told.commits == 5 && told.rows == 2);
     Ok(())
 }

@@ -1,7 +1,7 @@
 // Many threads transfer between counters, and insert rows.
 ghost use Rattle.std.specs.Prelude.{◌≡◌, ◌≤◌};
 
-use crate::kernels::{NoGate, Told, closed, opened_of, told_of};
+use crate::kernels::{NoGate, Told, closed, given_up, opened_of, told_of};
 use crate::sessions::{end, run_insert, take_back};
 use mt_base::{CtrNo, Refusal};
 use mt_disk::{Device, MemDevice};
@@ -95,8 +95,21 @@ fn make_surely<D: Device, J: Naming, R: Wait>(
     false
 }
 
+/// The turn before which the first worker turns the log over.
+const TURNED: u32 = 100;
+
+// Turns the log over, if it is the first worker's turn to; whether that was not refused.
+fn turns_over<D: Device + Drop, J: Naming, R: Wait>(
+    rt: &R,
+    alloc: Global,
+    shared: &Shared<D, NoGate, J>,
+    turn: (u32, u32),
+) -> bool {
+    turn != (0, TURNED) || shared.turn_over(rt, alloc, 64).is_ok()
+}
+
 // All turns of a worker. Gives its pass back, with the number of turns that were committed.
-fn work<D: Device, J: Naming, R: Wait>(
+fn work<D: Device + Drop, J: Naming, R: Wait>(
     rt: &R,
     alloc: Global,
     shared: &Shared<D, NoGate, J>,
@@ -105,7 +118,8 @@ fn work<D: Device, J: Naming, R: Wait>(
     let mut pass = pass;
     let mut made = 0u32;
     for turn in 0..TRANSFERS + ROWS {
-        if make_surely(rt, alloc, shared, &mut pass, (worker, turn)) {
+        let turned = turns_over(rt, alloc, shared, (worker, turn));
+        if turned && make_surely(rt, alloc, shared, &mut pass, (worker, turn)) {
             made = made.wrapping_add(1);
         }
     }
@@ -141,7 +155,7 @@ fn counted<J: Naming>(
 }
 
 // Each worker in a thread of its own.
-fn work_all<D: Device + Send, J: Naming + Send + Sync, R: Threads + Wait + Sync>(
+fn work_all<D: Device + Drop + Send, J: Naming + Send + Sync, R: Threads + Wait + Sync>(
     rt: &R,
     alloc: Global,
     shared: &Shared<D, NoGate, J>,
@@ -153,23 +167,22 @@ fn work_all<D: Device + Send, J: Naming + Send + Sync, R: Threads + Wait + Sync>
 }
 
 // The kernel behind the work of all, under a name, with the number of turns that were committed.
-fn named_work<D: Device + Send, J: Naming + Send + Sync, R: Threads + Wait + Sync>(
+fn named_work<D: Device + Drop + Send, J: Naming + Send + Sync, R: Threads + Wait + Sync>(
     rt: &R,
     alloc: Global,
     opened: Opened<D>,
-) -> (Kernel<D>, u32)
+) -> Result<(Kernel<D>, u32), Option<D>>
     requires { (opened.mark ≡ J.mark) × (opened.base ≡ J.base) }
 {
     let (shared, passes) = match opened.named::<NoGate, J>(alloc, NoGate) {
         Ok(made) => made,
-        Err(kernel) => return (kernel, 0),
+        Err(kernel) => return Err(Some(kernel.into_device())),
     };
     let (passes, made) = match work_all(rt, alloc, &shared, passes) {
         Ok(done) => done,
-        Err(_) => return (shared.abandon(), 0),
+        Err(_) => return Err(given_up(shared)),
     };
-    let (kernel, is_closed) = closed(shared, passes);
-    (kernel, if is_closed { made } else { 0 })
+    Ok((closed(shared, passes)?, made))
 }
 
 // The kernel behind the work of all.
@@ -177,7 +190,7 @@ fn worked<R: Threads + Wait + Sync>(
     rt: &R,
     alloc: Global,
     opened: Opened<MemDevice>,
-) -> (Kernel<MemDevice>, u32) {
+) -> Result<(Kernel<MemDevice>, u32), Option<MemDevice>> {
     named_work::<MemDevice, Brand, R>(rt, alloc, opened)
 }
 
@@ -192,11 +205,14 @@ fn transfer<R: Threads + Wait + Sync>(
 {
     let counters = [(-10_000i64, 10_000i64, 0i64); 8];
     let opened = opened_of(alloc, 256, &counters, threads)?;
-    let (kernel, made) = worked(rt, alloc, opened);
-    Ok((made, told_of(kernel)?))
+    match worked(rt, alloc, opened) {
+        Ok((kernel, made)) => Ok((made, told_of(kernel)?)),
+        Err(_) => Err(Refusal::Stranger),
+    }
 }
 
-/// Each of sixteen threads makes 200 transfers and inserts 50 rows, and commits each of them. All of it stands, and each
+/// Each of sixteen threads makes 200 transfers and inserts 50 rows, and commits each of them; in their midst one
+/// turns the log over. All of it stands, and each
 /// counter gave as often as it took.
 #[test]
 fn sixteen_threads_commit_all(rt: HostRuntime) -> Result<(), Fail> {

@@ -6,7 +6,7 @@ use Rattle.mt_shared.proofs.based.Based.begin.Goals as goal
 
 pub invariant_of-self : goal.invariant_of-self
 invariant_of-self g c = let D = g.D.Device in let b = first_base c.self.inside.base.items in let k = c.self.inside.kernel in let n = c.begin.new.self in
-    still_began D.seen D.may_leave b k n (begins_one D.seen D.may_leave b k n c.args.session c.begin.result (λ s shows. c.begin.ensures.begun (base_of b) s shows) c.begin.ensures.err c.begin.ensures.schema) c.self.invariant
+    still_began D.seen D.may_leave b k n (begins_one D.seen D.may_leave b k n c.args.session c.begin.result (λ s shows. c.begin.ensures.begun (base_of b) s shows) c.begin.ensures.err c.begin.ensures.schema) c.begin.ensures.restarts c.self.invariant
 
 pub returns : goal.returns
 returns g c = let D = g.D.Device in let b = first_base c.self.inside.base.items in let k = c.self.inside.kernel in let n = c.begin.new.self in

@@ -5,7 +5,7 @@ use Rattle.mt_shared.proofs.based.Based.flush_step.Goals as goal
 
 pub invariant_of-self : goal.invariant_of-self
 invariant_of-self g c = let D = g.D.Device in let b = first_base c.self.inside.base.items in let k = c.self.inside.kernel in let n = c.flush_step.new.self in
-    still_began D.seen D.may_leave b k n (stays D.seen D.may_leave b k n c.flush_step.ensures.state) c.self.invariant
+    still_began D.seen D.may_leave b k n (stays D.seen D.may_leave b k n c.flush_step.ensures.state) c.flush_step.ensures.restarts c.self.invariant
 
 pub returns : goal.returns
 returns g c = let D = g.D.Device in let b = first_base c.self.inside.base.items in let k = c.self.inside.kernel in let n = c.flush_step.new.self in

@@ -6,7 +6,7 @@ use Rattle.mt_shared.proofs.based.Based.step.Goals as goal
 
 pub invariant_of-self : goal.invariant_of-self
 invariant_of-self g c = let D = g.D.Device in let b = first_base c.self.inside.base.items in let k = c.self.inside.kernel in let n = c.step.new.self in
-    still_began D.seen D.may_leave b k n (λ s shows. steps_one D.seen D.may_leave b k n c.args.txn c.step.result c.step.ensures.may s shows (c.step.ensures.stepped (base_of b) s shows)) c.self.invariant
+    still_began D.seen D.may_leave b k n (λ s shows. steps_one D.seen D.may_leave b k n c.args.txn c.step.result c.step.ensures.may s shows (c.step.ensures.stepped (base_of b) s shows)) c.step.ensures.restarts c.self.invariant
 
 pub returns : goal.returns
 returns g c = let D = g.D.Device in let b = first_base c.self.inside.base.items in let k = c.self.inside.kernel in let n = c.step.new.self in

@@ -7,7 +7,7 @@ use Rattle.mt_mark.specs.declared.view.Entry.{Entry}
 use Rattle.mt_mark.specs.Held.{Held}
 use Rattle.mt_mark.specs.Rule.{dones, Holds}
 use Rattle.mt_shared.specs.Seen.{PassSeen, LockedSeen, Entered}
-use Rattle.mt_shared.proofs.Books.{grown, entered, front_legal, dones-length}
+use Rattle.mt_shared.proofs.Books.{grown, entered, front_legal, dones-length, none_behind}
 use Rattle.mt_shared.proofs.locked.Locked.enter.Goals as goal
 
 -- the book begins with the history and the token's entry
@@ -37,7 +37,7 @@ invariant_of-self-3 g c =
     let list = c.self.inside.end.view.list in
     let f = front book list e e c.check-at.result i.4 s.stands (h.is.0 c.if-not-has.false) refl in
     let now = n.list ∙ ap (λ (x : Held). x.view.list ++ e ∷ []) s.same in
-    (n.mark.0 ∙ (ap (λ (x : Held). x.mark) s.same ∙ i.0), n.end.0.1 ∙ (ap (λ (x : Held). x.view.base) s.same ∙ i.1), i.2, n.end.1, subst (λ l. IsPrefix (dones l) book) (sym now) f)
+    (n.mark.0 ∙ (ap (λ (x : Held). x.mark) s.same ∙ i.0), n.end.0.1 ∙ (ap (λ (x : Held). x.view.base) s.same ∙ i.1), i.2, n.end.1, subst (λ l. IsPrefix (dones l) book) (sym now) f, λ left. absurd (none_behind book list c.check-at.result e.done (i.5 left) s.stands (h.is.0 c.if-not-has.false)))
 
 pub returns-clause-entered : goal.returns-clause-entered
 returns-clause-entered g c =
@@ -50,7 +50,7 @@ returns-clause-entered g c =
     let book = c.self.inside.kernel.book in
     let list = c.self.inside.end.view.list in
     let f = front book list e e c.check-at.result i.4 s.stands (h.is.0 c.if-not-has.false) refl in
-    let locked : LockedSeen = record { book = book; list = list } in
+    let locked : LockedSeen = record { book = book; list = list; is_left = c.self.inside.kernel.is_left } in
     let old : PassSeen = record { number = c.pass.inside.number; seen = c.pass.inside.seat.view.list } in
     let new : PassSeen = record { number = c.pass.inside.number; seen = c.enter.new.seat.view.list } in
     let seen = n.seen ∙ ap (λ (x : Held). x.view.list ++ e ∷ []) s.same in

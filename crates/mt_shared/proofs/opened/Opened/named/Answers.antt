@@ -1,4 +1,4 @@
-use Rattle.std.proofs.Common.{◌∙◌, [], ap, subst}
+use Rattle.std.proofs.Common.{◌≡◌, ◌∙◌, Bool, true, false, [], ap, subst, sym}
 use Rattle.std.proofs.lemmas.List.{append-nil}
 use Rattle.mt_mark.specs.Rule.{dones}
 use Rattle.mt_shared.specs.Began.{BeganOn}
@@ -13,7 +13,8 @@ pub invariant_of-locked : goal.invariant_of-locked
 invariant_of-locked g c = let i = c.self.invariant in
     let mark = ap (λ (x : OpenedSeen). x.mark) c.self.view_is ∙ c.requires.name.0 in
     let base = ap (λ (x : OpenedSeen). x.base) c.self.view_is ∙ c.requires.name.1 in
-    (mark, i.0 ∙ base, base, i.1, ([], append-nil _ ∙ i.2))
+    let n = c.new.ensures in
+    (mark, i.0 ∙ base, n.base ∙ base, i.1, ([], append-nil _ ∙ (i.2 ∙ sym n.book)), λ left. absurd (let wrong : ◌≡◌ {A = Bool} true false = sym left ∙ n.is in cc))
 
 pub returns-clause-passes : goal.returns-clause-passes
 returns-clause-passes g c = λ k d h. ap dones (c.in-Ok.ensures k d h) ∙ (c.self.invariant.2 ∙ ap (λ (x : OpenedSeen). x.book) c.self.view_is)

@@ -1,0 +1,188 @@
+// A kernel under the lock, or what a rotation left of it.
+ghost use Rattle.std.specs.Prelude.{◌≡◌, true, false, length, IfOk, IfErr, IfSome, IfNone};
+ghost use mathlib.Core.List.{IsPrefix};
+ghost use Rattle.mt_mark.specs.Legal.{IsLegal};
+ghost use Rattle.mt_shared.specs.Began.{BeganOn};
+ghost use Rattle.mt_shared.specs.Refusals.{IsTurnFault};
+ghost use Rattle.mt_shared.specs.Seen.{IsTurned};
+
+use crate::based::Based;
+use crate::past::Past;
+use crate::turned::{Turned, turn};
+use mt_base::{Refusal, TxnNo};
+use mt_disk::Device;
+use mt_model::{Committed, Op};
+use mt_pool::Flushed;
+use mt_txn::{AbortStepped, Called, Kernel, KernelForced, Stepped};
+use std::alloc::Global;
+use std::marker::Model;
+use std::mem;
+
+/// A kernel; or, where a rotation left none, its device with its past. Then each call is refused with 2.
+pub struct Kept<D: Device> {
+    held: Result<Based<D>, Option<D>>,
+    past: Past,
+}
+
+impl<D: Device> Model for Kept<D> {
+    ghost use Rattle.mt_shared.specs.Seen.{KeptSeen, seen_of};
+
+    ghost Value = { KeptSeen };
+
+    ghost view = { λ k. seen_of k.held k.past };
+}
+
+impl<D: Device> Kept<D> {
+    pub fn new(kernel: Based<D>) -> Kept<D>
+        ensures base { result.base ≡ kernel.base }
+        ensures book { result.book ≡ kernel.book }
+        ensures is { result.is_left ≡ false }
+    {
+        Kept {
+            held: Ok(kernel),
+            past: Past::none(),
+        }
+    }
+
+    /// The kernel, or the device that was left of it.
+    pub fn into_kernel(self) -> Result<Kernel<D>, Option<D>>
+        ensures began { IfOk result (BeganOn D.seen D.may_leave self.base) }
+        ensures book { IfOk result (λ k. k.parts.book.items ≡ self.book) }
+        ensures left { IfErr result (λ _. self.is_left ≡ true) }
+    {
+        let Kept { held, past: _ } = self;
+        match held {
+            Ok(kernel) => Ok(kernel.into_kernel()),
+            Err(device) => Err(device),
+        }
+    }
+
+    /// Whether a rotation left none.
+    pub fn is_left(&self) -> bool
+        ensures { result ≡ self.now.is_left }
+    {
+        self.held.is_err()
+    }
+
+    /// The book, of a kernel.
+    pub fn book(&self) -> Option<&[Committed]>
+        ensures some { IfSome result (λ b. b.now ≡ self.now.book) }
+        ensures none { IfNone result (self.now.is_left ≡ true) }
+        ensures legal { IsLegal self.now.base self.now.book }
+    {
+        match &self.held {
+            Ok(kernel) => Some(kernel.book()),
+            Err(_) => {
+                self.past.is_legal();
+                None
+            }
+        }
+    }
+
+    pub fn len(&self) -> u64
+        ensures { result ≡ length self.now.book }
+    {
+        match &self.held {
+            Ok(kernel) => kernel.book().len() as u64,
+            Err(_) => self.past.len(),
+        }
+    }
+
+    pub fn begin(&mut self, session: u32) -> Result<TxnNo, Refusal>
+        ensures { self.new ≡ self.old }
+    {
+        match &mut self.held {
+            Ok(kernel) => kernel.begin(session),
+            Err(_) => Err(Refusal::DeviceFailed),
+        }
+    }
+
+    pub fn call(&mut self, txn: TxnNo, op: Op) -> Result<Called, Refusal>
+        ensures { self.new ≡ self.old }
+    {
+        match &mut self.held {
+            Ok(kernel) => kernel.call(txn, op),
+            Err(_) => Err(Refusal::DeviceFailed),
+        }
+    }
+
+    pub fn step(&mut self, txn: TxnNo) -> Result<Stepped, Refusal>
+        ensures { self.new ≡ self.old }
+    {
+        match &mut self.held {
+            Ok(kernel) => kernel.step(txn),
+            Err(_) => Err(Refusal::DeviceFailed),
+        }
+    }
+
+    pub fn commit_begin(&mut self, txn: TxnNo) -> Result<u64, Refusal>
+        ensures { self.new ≡ self.old }
+    {
+        match &mut self.held {
+            Ok(kernel) => kernel.commit_begin(txn),
+            Err(_) => Err(Refusal::DeviceFailed),
+        }
+    }
+
+    pub fn abort_begin(&mut self, txn: TxnNo) -> Result<(), Refusal>
+        ensures { self.new ≡ self.old }
+    {
+        match &mut self.held {
+            Ok(kernel) => kernel.abort_begin(txn),
+            Err(_) => Err(Refusal::DeviceFailed),
+        }
+    }
+
+    pub fn abort_step(&mut self, txn: TxnNo) -> Result<AbortStepped, Refusal>
+        ensures { self.new ≡ self.old }
+    {
+        match &mut self.held {
+            Ok(kernel) => kernel.abort_step(txn),
+            Err(_) => Err(Refusal::DeviceFailed),
+        }
+    }
+
+    pub fn flush_step(&mut self) -> Result<Flushed, Refusal>
+        ensures { self.new ≡ self.old }
+    {
+        match &mut self.held {
+            Ok(kernel) => kernel.flush_step(),
+            Err(_) => Err(Refusal::DeviceFailed),
+        }
+    }
+
+    pub fn force_step(&mut self) -> Result<KernelForced, Refusal>
+        ensures base { self.new.base ≡ self.old.base }
+        ensures is { self.new.is_left ≡ self.old.is_left }
+        ensures book { IsPrefix self.old.book self.new.book }
+        ensures left { self.old.is_left ≡ true → self.new.book ≡ self.old.book }
+    {
+        match &mut self.held {
+            Ok(kernel) => kernel.force_step(),
+            Err(_) => Err(Refusal::DeviceFailed),
+        }
+    }
+}
+
+impl<D: Device + Drop> Kept<D> {
+    /// Turns the log over, where so many commits are all and no transaction lives; whether it did.
+    pub fn rotate(&mut self, commits: u64, alloc: Global, frames: usize) -> Result<bool, Refusal>
+        ensures turned { IsTurned commits self.old self.new }
+        ensures why { IfErr result IsTurnFault }
+    {
+        if self.is_left() {
+            return Err(Refusal::DeviceFailed);
+        }
+        match mem::replace(&mut self.held, Err(None)) {
+            Ok(kernel) => {
+                let Turned { held, past, told } = turn(kernel, commits, alloc, frames);
+                self.past = past;
+                if let Ok(other) = mem::replace(&mut self.held, held) {
+                    let _device = other.into_kernel().into_device();
+                }
+                told
+            }
+            Err(_) => unreachable!(),
+        }
+    }
+}

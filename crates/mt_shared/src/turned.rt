@@ -1,0 +1,83 @@
+// A rotation of a kernel with its base.
+ghost use Rattle.std.specs.Prelude.{◌≡◌, Ok, IfErr};
+ghost use Rattle.mt_shared.specs.Seen.{IsTurned, KeepsAll, seen_of, whole};
+ghost use Rattle.mt_shared.specs.Refusals.{IsTurnFault};
+
+use crate::based::Based;
+use crate::past::{Past, told_of};
+use mt_base::Refusal;
+use mt_disk::Device;
+use mt_restart::{NotRotated, rotate};
+use std::alloc::Global;
+
+/// What a rotation gives: the kernel, or the device that was left of it; its past, where none is left; and whether the
+/// log was turned over, which it is not while something is under way.
+pub struct Turned<D: Device> {
+    pub held: Result<Based<D>, Option<D>>,
+    pub past: Past,
+    pub told: Result<bool, Refusal>,
+}
+
+// The kernel, and what is told.
+fn kept<D: Device>(kernel: Based<D>, told: Result<bool, Refusal>) -> Turned<D>
+    ensures held { result.held ≡ Ok kernel }
+    ensures told { result.told ≡ told }
+{
+    Turned {
+        held: Ok(kernel),
+        past: Past::none(),
+        told,
+    }
+}
+
+// What a refusal with the kernel comes to. But for these, a transaction lives.
+fn outcome(why: Refusal) -> Result<bool, Refusal>
+    ensures { IfErr result IsTurnFault }
+{
+    match why {
+        Refusal::NoMemory | Refusal::DeviceFailed | Refusal::LogFull => Err(why),
+        _ => Ok(false),
+    }
+}
+
+/// Turns a kernel's log over, where its book has so many commits, and no transaction lives.
+pub fn turn<D: Device + Drop>(
+    kernel: Based<D>,
+    commits: u64,
+    alloc: Global,
+    frames: usize,
+) -> Turned<D>
+    ensures turned { IsTurned commits (whole kernel) (seen_of result.held result.past) }
+    ensures why { IfErr result.told IsTurnFault }
+{
+    if kernel.has_failed() {
+        return kept(kernel, Err(Refusal::DeviceFailed));
+    }
+    if kernel.book().len() as u64 != commits {
+        return kept(kernel, Ok(false));
+    }
+    rotated(kernel, alloc, frames)
+}
+
+fn rotated<D: Device + Drop>(kernel: Based<D>, alloc: Global, frames: usize) -> Turned<D>
+    ensures keeps { KeepsAll kernel (seen_of result.held result.past) }
+    ensures why { IfErr result.told IsTurnFault }
+{
+    let book = kernel.book();
+    let len = book.len() as u64;
+    let told = told_of(book);
+    let Based { kernel, base } = kernel;
+    match rotate(alloc, kernel, frames) {
+        Ok(kernel) => kept(Based { kernel, base }, Ok(true)),
+        Err(NotRotated::Kept(why, kernel)) => kept(Based { kernel, base }, outcome(why)),
+        Err(NotRotated::Ended(why, device)) => Turned {
+            held: Err(Some(device)),
+            past: Past {
+                len,
+                base,
+                book: told,
+            },
+            told: outcome(why),
+        },
+    }
+}

@@ -14,6 +14,8 @@ mod driving;
 #[cfg(test)]
 mod failing;
 #[cfg(test)]
+mod large;
+#[cfg(test)]
 mod recovered;
 #[cfg(test)]
 mod rotated;

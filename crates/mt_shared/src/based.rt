@@ -4,6 +4,7 @@ ghost use mathlib.Core.List.{IsPrefix};
 ghost use Rattle.mt_mark.specs.Legal.{IsLegal};
 ghost use Rattle.mt_shared.specs.Began.{BeganOn};
 
+use crate::log_use::{LogUse, log_use_of};
 use mt_base::{History, Refusal, TxnNo};
 use mt_disk::Device;
 use mt_model::{Base, Committed, Op};
@@ -58,6 +59,11 @@ impl<D: Device> Based<D> {
     /// Whether the kernel's device has failed.
     pub fn has_failed(&self) -> bool {
         self.kernel.has_failed()
+    }
+
+    /// How much of the log's area is in use.
+    pub fn log_use(&self) -> LogUse {
+        log_use_of(&self.kernel)
     }
 
     pub fn begin(&mut self, session: u32) -> Result<TxnNo, Refusal>

@@ -7,6 +7,7 @@ ghost use Rattle.mt_shared.specs.Refusals.{IsTurnFault};
 ghost use Rattle.mt_shared.specs.Seen.{IsTurned};
 
 use crate::based::Based;
+use crate::log_use::LogUse;
 use crate::past::Past;
 use crate::turned::{Turned, turn};
 use mt_base::{Refusal, TxnNo};
@@ -85,6 +86,14 @@ impl<D: Device> Kept<D> {
         match &self.held {
             Ok(kernel) => kernel.book().len() as u64,
             Err(_) => self.past.len(),
+        }
+    }
+
+    /// How much of the log's area is in use; none where a rotation left no kernel.
+    pub fn log_use(&self) -> Option<LogUse> {
+        match &self.held {
+            Ok(kernel) => Some(kernel.log_use()),
+            Err(_) => None,
         }
     }
 

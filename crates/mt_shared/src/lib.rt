@@ -16,6 +16,7 @@ mod based;
 mod gate;
 mod kept;
 mod locked;
+mod log_use;
 mod naming;
 mod opened;
 mod pass;
@@ -26,6 +27,7 @@ mod txn;
 
 pub use gate::{Gate, Point};
 pub use locked::Locked;
+pub use log_use::LogUse;
 pub use naming::Naming;
 pub use opened::Opened;
 pub use pass::Pass;

@@ -7,6 +7,7 @@ ghost use Rattle.mt_shared.specs.Refusals.{IsTurnFault};
 ghost use Rattle.mt_shared.specs.Seen.{PassSeen, Entered, CannotEnter};
 
 use crate::kept::Kept;
+use crate::log_use::LogUse;
 use crate::naming::Naming;
 use crate::pass::Pass;
 use crate::txn::Txn;
@@ -175,6 +176,11 @@ impl<D: Device, J: Naming> Locked<D, J> {
         ensures { result ≡ self.now.is_left }
     {
         self.kernel.is_left()
+    }
+
+    // How much of the log's area is in use.
+    pub(crate) fn log_use(&self) -> Option<LogUse> {
+        self.kernel.log_use()
     }
 
     // Whether new transactions are held back.

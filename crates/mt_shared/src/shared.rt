@@ -9,6 +9,7 @@ ghost use Rattle.mt_shared.specs.Seen.{PassSeen, Extends, Looked, fresh, with_ca
 
 use crate::gate::{Gate, Point, Wanted};
 use crate::locked::Locked;
+use crate::log_use::LogUse;
 use crate::naming::Naming;
 use crate::pass::Pass;
 use crate::txn::{Refused, Txn};
@@ -294,6 +295,20 @@ impl<D: Device, G: Gate + Drop, J: Naming> Shared<D, G, J> {
                 Err(why) => Err(self.refusing(why)),
             },
             Err(why) => Err(self.refusing(why)),
+        }
+    }
+
+    /// How much of the log's area is in use; none where a rotation left no kernel. It waits for the lock alone.
+    pub fn used<R: Wait>(&self, rt: &R) -> Option<LogUse> {
+        self.locked.lock(rt).log_use()
+    }
+
+    /// Whether more than half of the log's area is in use, so that it is time to [`turn_over`](Shared::turn_over). It
+    /// waits for the lock alone.
+    pub fn is_half_used<R: Wait>(&self, rt: &R) -> bool {
+        match self.used(rt) {
+            Some(log) => log.is_above_half(),
+            None => false,
         }
     }
 

@@ -1,6 +1,7 @@
 // A kernel that goes on over the other area of its log.
 ghost use Rattle.std.specs.Prelude.{◌≡◌, ◌↔◌, ℕ, List, IsTrue};
 ghost use Rattle.mt_kernel.specs.Consistent.{IsFresh};
+ghost use Rattle.mt_log.specs.Words.{area_size, used};
 ghost use Rattle.mt_model.specs.History.{after};
 ghost use Rattle.mt_model.specs.Model.{Base};
 ghost use Rattle.mt_replay.specs.Stands.{CanRestart};
@@ -20,6 +21,21 @@ impl<D: Device> Kernel<D> {
         ensures { IsTrue result ↔ HasNobody self.now }
     {
         self.parts.live().count() == 0
+    }
+
+    /// How many bytes of the log's area are in use: those before the place of the next batch, and 5 more and its own
+    /// length for each record that is in no batch yet.
+    pub fn used(&self) -> u64
+        ensures { result ≡ used self.now.parts.operations.store.log }
+    {
+        self.parts.log().used()
+    }
+
+    /// How many bytes the log's area has.
+    pub fn area_size(&self) -> u64
+        ensures { result ≡ area_size self.now.parts.operations.store.log }
+    {
+        self.parts.log().area_size()
     }
 
     /// Where nobody lives and all that was appended is durable, a restart finds what the whole book leads to, whatever a

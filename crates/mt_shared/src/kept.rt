@@ -97,6 +97,14 @@ impl<D: Device> Kept<D> {
         }
     }
 
+    /// Whether the device has failed, or a rotation left no kernel. Each call is refused then.
+    pub fn has_failed(&self) -> bool {
+        match &self.held {
+            Ok(kernel) => kernel.has_failed(),
+            Err(_) => true,
+        }
+    }
+
     pub fn begin(&mut self, session: u32) -> Result<TxnNo, Refusal>
         ensures { self.new ≡ self.old }
     {

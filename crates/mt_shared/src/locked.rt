@@ -20,6 +20,17 @@ use mt_txn::{AbortStepped, Called, Kernel, KernelForced, Stepped};
 use std::alloc::Global;
 use std::marker::{Model, PhantomData};
 
+// What who tends is to do.
+#[derive(Clone, Copy, PartialEq, Eq, Debug)]
+pub(crate) enum Due {
+    // To force and to flush, until nothing is left.
+    Work,
+    // To sleep until a transaction ends.
+    Nothing,
+    // To come to an end.
+    End,
+}
+
 /// What lies under the lock: the kernel, or what a rotation left of it, with its end of the mark. Its first commits are
 /// the history, as many as the mark counts. Contracts see the book and the history.
 pub struct Locked<D: Device, J: Naming> {
@@ -27,6 +38,8 @@ pub struct Locked<D: Device, J: Naming> {
     pub(crate) end: End,
     // how many hold new transactions back
     pub(crate) holding: u32,
+    // what who tends is to do
+    pub(crate) due: Due,
     pub(crate) of: PhantomData<J>,
 }
 
@@ -200,6 +213,40 @@ impl<D: Device, J: Naming> Locked<D, J> {
         self.holding = self.holding.saturating_sub(1);
     }
 
+    // What who tends is to do. Where the device has failed, that is to ask, and to be refused.
+    pub(crate) fn due(&self) -> Due {
+        match self.due {
+            Due::Nothing if self.kernel.has_failed() => Due::Work,
+            due => due,
+        }
+    }
+
+    // A transaction has ended: pages may be flushed from now on. Whether there was nothing to do before.
+    pub(crate) fn stir(&mut self) -> bool
+        ensures { self.new ≡ self.old }
+    {
+        let is_first = self.due == Due::Nothing;
+        if is_first {
+            self.due = Due::Work;
+        }
+        is_first
+    }
+
+    // Nothing is left to force, and no page can be flushed.
+    pub(crate) fn settle(&mut self)
+        ensures { self.new ≡ self.old }
+    {
+        if self.due == Due::Work {
+            self.due = Due::Nothing;
+        }
+    }
+
+    pub(crate) fn end_tending(&mut self)
+        ensures { self.new ≡ self.old }
+    {
+        self.due = Due::End;
+    }
+
     pub(crate) fn into_kernel(self) -> Result<Kernel<D>, Option<D>>
         ensures book { IfOk result (λ k. k.parts.book.items ≡ self.book) }
         ensures began { IfOk result (BeganOn D.seen D.may_leave J.base) }
@@ -209,6 +256,7 @@ impl<D: Device, J: Naming> Locked<D, J> {
             kernel,
             end: _,
             holding: _,
+            due: _,
             of: _,
         } = self;
         kernel.into_kernel()

@@ -6,7 +6,7 @@ ghost use Rattle.mt_shared.specs.Seen.{PassSeen, OpenedSeen, Beside, IsMarked};
 use crate::based::Based;
 use crate::gate::Gate;
 use crate::kept::Kept;
-use crate::locked::Locked;
+use crate::locked::{Due, Locked};
 use crate::naming::Naming;
 use crate::pass::Pass;
 use crate::shared::Shared;
@@ -83,6 +83,7 @@ impl<D: Device> Opened<D> {
             kernel: Kept::new(kernel),
             end,
             holding: 0,
+            due: Due::Work,
             of: PhantomData,
         };
         let shared = Shared::over(locked, gate, count);

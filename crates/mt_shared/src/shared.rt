@@ -8,7 +8,7 @@ ghost use Rattle.mt_shared.specs.Refusals.{IsTurnFault, IsTurnRefusal};
 ghost use Rattle.mt_shared.specs.Seen.{PassSeen, Extends, Looked, fresh, with_call};
 
 use crate::gate::{Gate, Point, Wanted};
-use crate::locked::Locked;
+use crate::locked::{Due, Locked};
 use crate::log_use::LogUse;
 use crate::naming::Naming;
 use crate::pass::Pass;
@@ -25,6 +25,8 @@ use std::sync::{Condvar, Mutex, MutexGuard, Wait};
 pub struct Shared<D: Device, G: Gate + Drop, J: Naming> {
     locked: Mutex<Locked<D, J>>,
     moved: Condvar,
+    // on which who tends sleeps
+    due: Condvar,
     gate: G,
     wanted: Wanted,
     count: usize,
@@ -52,6 +54,7 @@ impl<D: Device, G: Gate + Drop, J: Naming> Shared<D, G, J> {
         Shared {
             locked: Mutex::new(locked),
             moved: Condvar::new(),
+            due: Condvar::new(),
             gate,
             wanted,
             count,
@@ -70,9 +73,25 @@ impl<D: Device, G: Gate + Drop, J: Naming> Shared<D, G, J> {
         ensures { result ≡ why }
     {
         if why == Refusal::DeviceFailed {
-            self.moved.notify_all();
+            self.wake_all();
         }
         why
+    }
+
+    // Wakes all that sleep, who tends too.
+    fn wake_all(&self) {
+        self.moved.notify_all();
+        self.due.notify_all();
+    }
+
+    // A transaction has ended. Wakes who waits for it, and who tends where that had nothing to do.
+    fn ended(&self, locked: &mut Locked<D, J>)
+        ensures { locked.new ≡ locked.old }
+    {
+        self.moved.notify_all();
+        if locked.stir() {
+            self.due.notify_all();
+        }
     }
 
     /// The kernel, or the device that a rotation left of it, for where a close is refused. What lives is gone with it.
@@ -82,6 +101,7 @@ impl<D: Device, G: Gate + Drop, J: Naming> Shared<D, G, J> {
         let Shared {
             locked,
             moved: _,
+            due: _,
             gate: _,
             wanted: _,
             count: _,
@@ -253,7 +273,7 @@ impl<D: Device, G: Gate + Drop, J: Naming> Shared<D, G, J> {
         for _ in rt.forever() {
             match locked.abort_step(number) {
                 Ok(AbortStepped::Ended) => {
-                    self.moved.notify_all();
+                    self.ended(&mut locked);
                     return Ok(());
                 }
                 Ok(AbortStepped::More) => self.moved.notify_all(),
@@ -291,11 +311,35 @@ impl<D: Device, G: Gate + Drop, J: Naming> Shared<D, G, J> {
             }
             Ok(KernelForced::Idle) => match locked.flush_step() {
                 Ok(Flushed::Page(_)) => Ok(Tended::Worked),
-                Ok(_) => Ok(Tended::Idle),
+                Ok(_) => {
+                    locked.settle();
+                    Ok(Tended::Idle)
+                }
                 Err(why) => Err(self.refusing(why)),
             },
             Err(why) => Err(self.refusing(why)),
         }
+    }
+
+    /// Sleeps until there may be something to tend, and answers true; false once [`Shared::end_tending`] was called.
+    /// It is for the thread that calls [`Shared::tend`], after an `Idle`: a transaction that ends wakes it, and so does
+    /// the device that fails. Then `tend` answers 2.
+    pub fn await_due<R: Wait>(&self, rt: &R) -> bool {
+        let mut locked = self.locked.lock(rt);
+        for _ in rt.forever() {
+            match locked.due() {
+                Due::Work => return true,
+                Due::End => return false,
+                Due::Nothing => locked = self.due.wait(rt, locked),
+            }
+        }
+        unreachable!()
+    }
+
+    /// Ends the sleep of each [`Shared::await_due`], now and from now on. It waits for the lock alone.
+    pub fn end_tending<R: Wait>(&self, rt: &R) {
+        self.locked.lock(rt).end_tending();
+        self.due.notify_all();
     }
 
     /// How much of the log's area is in use; none where a rotation left no kernel. It waits for the lock alone.
@@ -343,7 +387,7 @@ impl<D: Device, G: Gate + Drop, J: Naming> Shared<D, G, J> {
                 Ok(place)
             }
             Err(Refusal::DeviceFailed) => {
-                self.moved.notify_all();
+                self.wake_all();
                 Err(lost(pass, txn))
             }
             Err(why) => {
@@ -373,7 +417,7 @@ impl<D: Device, G: Gate + Drop, J: Naming> Shared<D, G, J> {
         'turns: for _ in rt.forever() {
             match locked.enter(place, pass, kept) {
                 Ok(()) => {
-                    self.moved.notify_all();
+                    self.ended(&mut locked);
                     return Ok(place);
                 }
                 Err(back) => kept = back,
@@ -389,7 +433,7 @@ impl<D: Device, G: Gate + Drop, J: Naming> Shared<D, G, J> {
                     Ok(KernelForced::Durable(_)) => self.moved.notify_all(),
                     Ok(KernelForced::Idle) => locked = self.moved.wait(rt, locked),
                     Err(_) => {
-                        self.moved.notify_all();
+                        self.wake_all();
                         return Err(lost(pass, kept));
                     }
                 }
@@ -426,6 +470,7 @@ impl<D: Device, G: Gate + Drop, J: Naming> Shared<D, G, J> {
         let Shared {
             locked,
             moved,
+            due,
             gate,
             wanted,
             count,
@@ -435,6 +480,7 @@ impl<D: Device, G: Gate + Drop, J: Naming> Shared<D, G, J> {
             let shared = Shared {
                 locked: Mutex::new(locked),
                 moved,
+                due,
                 gate,
                 wanted,
                 count,
@@ -465,7 +511,7 @@ impl<D: Device + Drop, G: Gate + Drop, J: Naming> Shared<D, G, J> {
         ensures why { IfErr result IsTurnRefusal }
     {
         let told = self.locked.lock(rt).rotate(alloc, frames);
-        self.moved.notify_all();
+        self.wake_all();
         match told {
             Ok(true) => Ok(()),
             Ok(false) => Err(Refusal::Busy),
@@ -482,7 +528,7 @@ impl<D: Device + Drop, G: Gate + Drop, J: Naming> Shared<D, G, J> {
         ensures { result ≡ told }
     {
         locked.let_on();
-        self.moved.notify_all();
+        self.wake_all();
         told
     }
 

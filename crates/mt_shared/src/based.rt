@@ -12,9 +12,9 @@ use mt_pool::Flushed;
 use mt_txn::{AbortStepped, Called, Kernel, KernelForced, Stepped};
 use std::marker::Model;
 
-/// A kernel, with the base that it began on, which contracts alone see: it is the first of a history. Threads may pass
-/// a history on, and so what holds it.
-pub struct Based<D: Device> {
+// A kernel, with the base that it began on, which contracts alone see: it is the first of a history. Threads may pass
+// a history on, and so what holds it.
+pub(crate) struct Based<D: Device> {
     pub(crate) kernel: Kernel<D>,
     pub(crate) base: History<Base>,
 }
@@ -30,7 +30,7 @@ impl<D: Device> Model for Based<D> {
 }
 
 impl<D: Device> Based<D> {
-    pub fn new(kernel: Kernel<D>, base: &Base) -> Based<D>
+    pub(crate) fn new(kernel: Kernel<D>, base: &Base) -> Based<D>
         requires { BeganOn D.seen D.may_leave base.now kernel }
         ensures base { result.base ≡ base.now }
         ensures book { result.book ≡ kernel.parts.book.items }
@@ -41,7 +41,7 @@ impl<D: Device> Based<D> {
         }
     }
 
-    pub fn into_kernel(self) -> Kernel<D>
+    pub(crate) fn into_kernel(self) -> Kernel<D>
         ensures began { BeganOn D.seen D.may_leave self.base result }
         ensures book { result.parts.book.items ≡ self.book }
     {
@@ -49,67 +49,67 @@ impl<D: Device> Based<D> {
         kernel
     }
 
-    pub fn book(&self) -> &[Committed]
+    pub(crate) fn book(&self) -> &[Committed]
         ensures book { result.now ≡ self.now.book }
         ensures legal { IsLegal self.now.base self.now.book }
     {
         self.kernel.book()
     }
 
-    /// Whether the kernel's device has failed.
-    pub fn has_failed(&self) -> bool {
+    // Whether the kernel's device has failed.
+    pub(crate) fn has_failed(&self) -> bool {
         self.kernel.has_failed()
     }
 
-    /// How much of the log's area is in use.
-    pub fn log_use(&self) -> LogUse {
+    // How much of the log's area is in use.
+    pub(crate) fn log_use(&self) -> LogUse {
         log_use_of(&self.kernel)
     }
 
-    pub fn begin(&mut self, session: u32) -> Result<TxnNo, Refusal>
+    pub(crate) fn begin(&mut self, session: u32) -> Result<TxnNo, Refusal>
         ensures { self.new ≡ self.old }
     {
         self.kernel.begin(session)
     }
 
-    pub fn call(&mut self, txn: TxnNo, op: Op) -> Result<Called, Refusal>
+    pub(crate) fn call(&mut self, txn: TxnNo, op: Op) -> Result<Called, Refusal>
         ensures { self.new ≡ self.old }
     {
         self.kernel.call(txn, op)
     }
 
-    pub fn step(&mut self, txn: TxnNo) -> Result<Stepped, Refusal>
+    pub(crate) fn step(&mut self, txn: TxnNo) -> Result<Stepped, Refusal>
         ensures { self.new ≡ self.old }
     {
         self.kernel.step(txn)
     }
 
-    pub fn commit_begin(&mut self, txn: TxnNo) -> Result<u64, Refusal>
+    pub(crate) fn commit_begin(&mut self, txn: TxnNo) -> Result<u64, Refusal>
         ensures { self.new ≡ self.old }
     {
         self.kernel.commit_begin(txn)
     }
 
-    pub fn force_step(&mut self) -> Result<KernelForced, Refusal>
+    pub(crate) fn force_step(&mut self) -> Result<KernelForced, Refusal>
         ensures base { self.new.base ≡ self.old.base }
         ensures book { IsPrefix self.old.book self.new.book }
     {
         self.kernel.force_step()
     }
 
-    pub fn flush_step(&mut self) -> Result<Flushed, Refusal>
+    pub(crate) fn flush_step(&mut self) -> Result<Flushed, Refusal>
         ensures { self.new ≡ self.old }
     {
         self.kernel.flush_step()
     }
 
-    pub fn abort_begin(&mut self, txn: TxnNo) -> Result<(), Refusal>
+    pub(crate) fn abort_begin(&mut self, txn: TxnNo) -> Result<(), Refusal>
         ensures { self.new ≡ self.old }
     {
         self.kernel.abort_begin(txn)
     }
 
-    pub fn abort_step(&mut self, txn: TxnNo) -> Result<AbortStepped, Refusal>
+    pub(crate) fn abort_step(&mut self, txn: TxnNo) -> Result<AbortStepped, Refusal>
         ensures { self.new ≡ self.old }
     {
         self.kernel.abort_step(txn)

@@ -19,8 +19,8 @@ use std::alloc::Global;
 use std::marker::Model;
 use std::mem;
 
-/// A kernel; or, where a rotation left none, its device with its past. Then each call is refused with 2.
-pub struct Kept<D: Device> {
+// A kernel; or, where a rotation left none, its device with its past. Then each call is refused with 2.
+pub(crate) struct Kept<D: Device> {
     held: Result<Based<D>, Option<D>>,
     past: Past,
 }
@@ -34,7 +34,7 @@ impl<D: Device> Model for Kept<D> {
 }
 
 impl<D: Device> Kept<D> {
-    pub fn new(kernel: Based<D>) -> Kept<D>
+    pub(crate) fn new(kernel: Based<D>) -> Kept<D>
         ensures base { result.base ≡ kernel.base }
         ensures book { result.book ≡ kernel.book }
         ensures is { result.is_left ≡ false }
@@ -45,8 +45,8 @@ impl<D: Device> Kept<D> {
         }
     }
 
-    /// The kernel, or the device that was left of it.
-    pub fn into_kernel(self) -> Result<Kernel<D>, Option<D>>
+    // The kernel, or the device that was left of it.
+    pub(crate) fn into_kernel(self) -> Result<Kernel<D>, Option<D>>
         ensures began { IfOk result (BeganOn D.seen D.may_leave self.base) }
         ensures book { IfOk result (λ k. k.parts.book.items ≡ self.book) }
         ensures left { IfErr result (λ _. self.is_left ≡ true) }
@@ -58,15 +58,15 @@ impl<D: Device> Kept<D> {
         }
     }
 
-    /// Whether a rotation left none.
-    pub fn is_left(&self) -> bool
+    // Whether a rotation left none.
+    pub(crate) fn is_left(&self) -> bool
         ensures { result ≡ self.now.is_left }
     {
         self.held.is_err()
     }
 
-    /// The book, of a kernel.
-    pub fn book(&self) -> Option<&[Committed]>
+    // The book, of a kernel.
+    pub(crate) fn book(&self) -> Option<&[Committed]>
         ensures some { IfSome result (λ b. b.now ≡ self.now.book) }
         ensures none { IfNone result (self.now.is_left ≡ true) }
         ensures legal { IsLegal self.now.base self.now.book }
@@ -80,7 +80,7 @@ impl<D: Device> Kept<D> {
         }
     }
 
-    pub fn len(&self) -> u64
+    pub(crate) fn len(&self) -> u64
         ensures { result ≡ length self.now.book }
     {
         match &self.held {
@@ -89,23 +89,23 @@ impl<D: Device> Kept<D> {
         }
     }
 
-    /// How much of the log's area is in use; none where a rotation left no kernel.
-    pub fn log_use(&self) -> Option<LogUse> {
+    // How much of the log's area is in use; none where a rotation left no kernel.
+    pub(crate) fn log_use(&self) -> Option<LogUse> {
         match &self.held {
             Ok(kernel) => Some(kernel.log_use()),
             Err(_) => None,
         }
     }
 
-    /// Whether the device has failed, or a rotation left no kernel. Each call is refused then.
-    pub fn has_failed(&self) -> bool {
+    // Whether the device has failed, or a rotation left no kernel. Each call is refused then.
+    pub(crate) fn has_failed(&self) -> bool {
         match &self.held {
             Ok(kernel) => kernel.has_failed(),
             Err(_) => true,
         }
     }
 
-    pub fn begin(&mut self, session: u32) -> Result<TxnNo, Refusal>
+    pub(crate) fn begin(&mut self, session: u32) -> Result<TxnNo, Refusal>
         ensures { self.new ≡ self.old }
     {
         match &mut self.held {
@@ -114,7 +114,7 @@ impl<D: Device> Kept<D> {
         }
     }
 
-    pub fn call(&mut self, txn: TxnNo, op: Op) -> Result<Called, Refusal>
+    pub(crate) fn call(&mut self, txn: TxnNo, op: Op) -> Result<Called, Refusal>
         ensures { self.new ≡ self.old }
     {
         match &mut self.held {
@@ -123,7 +123,7 @@ impl<D: Device> Kept<D> {
         }
     }
 
-    pub fn step(&mut self, txn: TxnNo) -> Result<Stepped, Refusal>
+    pub(crate) fn step(&mut self, txn: TxnNo) -> Result<Stepped, Refusal>
         ensures { self.new ≡ self.old }
     {
         match &mut self.held {
@@ -132,7 +132,7 @@ impl<D: Device> Kept<D> {
         }
     }
 
-    pub fn commit_begin(&mut self, txn: TxnNo) -> Result<u64, Refusal>
+    pub(crate) fn commit_begin(&mut self, txn: TxnNo) -> Result<u64, Refusal>
         ensures { self.new ≡ self.old }
     {
         match &mut self.held {
@@ -141,7 +141,7 @@ impl<D: Device> Kept<D> {
         }
     }
 
-    pub fn abort_begin(&mut self, txn: TxnNo) -> Result<(), Refusal>
+    pub(crate) fn abort_begin(&mut self, txn: TxnNo) -> Result<(), Refusal>
         ensures { self.new ≡ self.old }
     {
         match &mut self.held {
@@ -150,7 +150,7 @@ impl<D: Device> Kept<D> {
         }
     }
 
-    pub fn abort_step(&mut self, txn: TxnNo) -> Result<AbortStepped, Refusal>
+    pub(crate) fn abort_step(&mut self, txn: TxnNo) -> Result<AbortStepped, Refusal>
         ensures { self.new ≡ self.old }
     {
         match &mut self.held {
@@ -159,7 +159,7 @@ impl<D: Device> Kept<D> {
         }
     }
 
-    pub fn flush_step(&mut self) -> Result<Flushed, Refusal>
+    pub(crate) fn flush_step(&mut self) -> Result<Flushed, Refusal>
         ensures { self.new ≡ self.old }
     {
         match &mut self.held {
@@ -168,7 +168,7 @@ impl<D: Device> Kept<D> {
         }
     }
 
-    pub fn force_step(&mut self) -> Result<KernelForced, Refusal>
+    pub(crate) fn force_step(&mut self) -> Result<KernelForced, Refusal>
         ensures base { self.new.base ≡ self.old.base }
         ensures is { self.new.is_left ≡ self.old.is_left }
         ensures book { IsPrefix self.old.book self.new.book }
@@ -182,8 +182,13 @@ impl<D: Device> Kept<D> {
 }
 
 impl<D: Device + Drop> Kept<D> {
-    /// Turns the log over, where so many commits are all and no transaction lives; whether it did.
-    pub fn rotate(&mut self, commits: u64, alloc: Global, frames: usize) -> Result<bool, Refusal>
+    // Turns the log over, where so many commits are all and no transaction lives; whether it did.
+    pub(crate) fn rotate(
+        &mut self,
+        commits: u64,
+        alloc: Global,
+        frames: usize,
+    ) -> Result<bool, Refusal>
         ensures turned { IsTurned commits self.old self.new }
         ensures why { IfErr result IsTurnFault }
     {

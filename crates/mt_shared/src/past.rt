@@ -6,9 +6,9 @@ use mt_base::History;
 use mt_model::{Base, Committed};
 use std::marker::Model;
 
-/// The base that a kernel began on, and the book that it had, for contracts alone; and how long that was.
+// The base that a kernel began on, and the book that it had, for contracts alone; and how long that was.
 #[derive(Drop)]
-pub struct Past {
+pub(crate) struct Past {
     pub(crate) len: u64,
     pub(crate) base: History<Base>,
     pub(crate) book: History<Committed>,
@@ -27,8 +27,8 @@ impl Model for Past {
 }
 
 impl Past {
-    /// A past without commits.
-    pub fn none() -> Past {
+    // A past without commits.
+    pub(crate) fn none() -> Past {
         Past {
             len: 0,
             base: History::new(),
@@ -36,22 +36,22 @@ impl Past {
         }
     }
 
-    /// Its book is legal from its base on.
-    pub fn is_legal(&self)
+    // Its book is legal from its base on.
+    pub(crate) fn is_legal(&self)
         ensures { IsLegal self.now.base self.now.book }
     {
         let _ = &self.len;
     }
 
-    pub fn len(&self) -> u64
+    pub(crate) fn len(&self) -> u64
         ensures { result ≡ length self.now.book }
     {
         self.len
     }
 }
 
-/// A book as contracts see it.
-pub fn told_of(book: &[Committed]) -> History<Committed>
+// A book as contracts see it.
+pub(crate) fn told_of(book: &[Committed]) -> History<Committed>
     ensures { result.items ≡ book.now }
 {
     let mut told = History::new();

@@ -10,12 +10,12 @@ use mt_disk::Device;
 use mt_restart::{NotRotated, rotate};
 use std::alloc::Global;
 
-/// What a rotation gives: the kernel, or the device that was left of it; its past, where none is left; and whether the
-/// log was turned over, which it is not while something is under way.
-pub struct Turned<D: Device> {
-    pub held: Result<Based<D>, Option<D>>,
-    pub past: Past,
-    pub told: Result<bool, Refusal>,
+// What a rotation gives: the kernel, or the device that was left of it; its past, where none is left; and whether the
+// log was turned over, which it is not while something is under way.
+pub(crate) struct Turned<D: Device> {
+    pub(crate) held: Result<Based<D>, Option<D>>,
+    pub(crate) past: Past,
+    pub(crate) told: Result<bool, Refusal>,
 }
 
 // The kernel, and what is told.
@@ -40,8 +40,8 @@ fn outcome(why: Refusal) -> Result<bool, Refusal>
     }
 }
 
-/// Turns a kernel's log over, where its book has so many commits, and no transaction lives.
-pub fn turn<D: Device + Drop>(
+// Turns a kernel's log over, where its book has so many commits, and no transaction lives.
+pub(crate) fn turn<D: Device + Drop>(
     kernel: Based<D>,
     commits: u64,
     alloc: Global,

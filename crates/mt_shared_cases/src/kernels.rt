@@ -23,6 +23,9 @@ impl Gate for NoGate {
     }
 }
 
+/// A kernel in memory that threads share.
+pub type Memory<J> = Shared<MemDevice, NoGate, J>;
+
 // A device in memory of so many bytes, each of them 0.
 fn empty_device(alloc: Global, size: u64) -> Result<MemDevice, Refusal> {
     let bytes = vec![in alloc; 0u8; size as usize]?;
@@ -68,42 +71,32 @@ pub fn opened_of(
     opened_over(alloc, device, &schema, &base, count)
 }
 
-/// The kernel behind a close; or the device, where that is refused.
-pub fn closed<D: Device + Drop, J: Naming>(
-    shared: Shared<D, NoGate, J>,
-    passes: Vec<Pass<J>>,
-) -> Result<Kernel<D>, Option<D>> {
-    match shared.close(passes) {
-        Ok(kernel) => Ok(kernel),
-        Err(closed) => {
-            let Closed {
-                why: _,
-                shared,
-                passes: _,
-            } = closed;
-            Err(given_up(shared))
+/// The same under a name, with its passes.
+pub fn shared_of<J: Naming>(
+    alloc: Global,
+    opened: Opened<MemDevice>,
+) -> Result<(Memory<J>, Vec<Pass<J>>), Refusal>
+    requires { (opened.mark ≡ J.mark) × (opened.base ≡ J.base) }
+{
+    match opened.named::<NoGate, J>(alloc, NoGate) {
+        Ok(made) => Ok(made),
+        Err(kernel) => {
+            let _device = kernel.into_device();
+            Err(Refusal::NoMemory)
         }
     }
 }
 
-/// The device of what is given up.
-pub fn given_up<D: Device + Drop, J: Naming>(shared: Shared<D, NoGate, J>) -> Option<D> {
-    match shared.abandon() {
-        Ok(kernel) => Some(kernel.into_device()),
-        Err(device) => device,
-    }
-}
-
 /// What a kernel has in its book and on its pages: its commits, its rows, and its counters that are not at 0.
-#[derive(Clone, Copy, Debug)]
+#[derive(Drop)]
 pub struct Told {
     pub commits: usize,
     pub rows: usize,
     pub moved: usize,
 }
 
-/// What a kernel in which nobody lives tells. The kernel is let go.
-pub fn told_of(kernel: Kernel<MemDevice>) -> Result<Told, Refusal> {
+// What a kernel in which nobody lives tells. The kernel is let go.
+fn told_of(kernel: Kernel<MemDevice>) -> Result<Told, Refusal> {
     let mut kernel = kernel;
     let commits = kernel.book().len();
     let survey = kernel.survey();
@@ -115,4 +108,27 @@ pub fn told_of(kernel: Kernel<MemDevice>) -> Result<Told, Refusal> {
         rows: base.rows().len(),
         moved,
     })
+}
+
+/// What the kernel tells behind a close.
+pub fn told_behind<J: Naming>(shared: Memory<J>, passes: Vec<Pass<J>>) -> Result<Told, Refusal> {
+    match shared.close(passes) {
+        Ok(kernel) => told_of(kernel),
+        Err(closed) => {
+            let Closed {
+                why,
+                shared,
+                passes: _,
+            } = closed;
+            give_up(shared);
+            Err(why)
+        }
+    }
+}
+
+// Lets go of what is shared.
+fn give_up<J: Naming>(shared: Memory<J>) {
+    if let Ok(kernel) = shared.abandon() {
+        let _device = kernel.into_device();
+    }
 }

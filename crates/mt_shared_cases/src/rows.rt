@@ -1,14 +1,13 @@
 // What a pass finds of its own transactions.
 ghost use Rattle.std.specs.Prelude.{◌≡◌};
 
-use crate::kernels::{NoGate, Told, closed, opened_of, told_of};
-use crate::sessions::{end, has_replied, run_insert, take_back};
+use crate::kernels::{Memory, Told, opened_of, shared_of, told_behind};
+use crate::sessions::{end, insert, run_insert, take_back};
 use mt_base::{Bytes, Refusal, RelNo};
-use mt_disk::{Device, MemDevice};
+use mt_disk::MemDevice;
 use mt_model::{Op, Reply};
-use mt_shared::{Naming, Opened, Pass, Shared, Tended};
-use mt_txn::Kernel;
-use std::alloc::Global;
+use mt_shared::{Naming, Opened, Pass, Tended, Txn};
+use std::alloc::{AllocError, Global};
 use std::marker::Brand;
 use std::sync::Wait;
 use std::test::Fail;
@@ -16,44 +15,68 @@ use std::test::Fail;
 /// The most steps until nothing is left to be forced or flushed.
 const STEPS: u32 = 1000;
 
-// The operation of the transaction at this place, and what it is to be replied.
-fn operation(alloc: Global, place: u64) -> Result<(Op, Reply), Refusal> {
-    let row = RelNo::new(0);
+// A get of a key of relation 0.
+fn get(alloc: Global, key: &[u8]) -> Result<Op, AllocError> {
+    Ok(Op::Get(RelNo::new(0), Bytes::copy_of(alloc, key)?))
+}
+
+// An update of the first row.
+fn update(alloc: Global) -> Result<Op, AllocError> {
     let key = Bytes::copy_of(alloc, b"a")?;
-    let (x, y) = (Bytes::copy_of(alloc, b"x")?, Bytes::copy_of(alloc, b"y")?);
+    Ok(Op::Update(RelNo::new(0), key, Bytes::copy_of(alloc, b"y")?))
+}
+
+// The operation of the transaction at this place.
+fn operation(alloc: Global, place: u64) -> Result<Op, AllocError> {
     match place {
-        1 => Ok((Op::Insert(row, key, x), Reply::Done)),
-        2 => Ok((Op::Update(row, key, y), Reply::Was(x))),
-        3 => Ok((Op::Get(row, key), Reply::Found(y))),
-        4 => Ok((Op::Get(row, Bytes::copy_of(alloc, b"b")?), Reply::Missing)),
-        _ => Ok((
-            Op::Insert(row, Bytes::copy_of(alloc, b"b")?, y),
-            Reply::Done,
-        )),
+        1 => insert(alloc, b"a", b"x"),
+        2 => update(alloc),
+        3 => get(alloc, b"a"),
+        4 => get(alloc, b"b"),
+        _ => insert(alloc, b"b", b"y"),
+    }
+}
+
+// Whether that is to be replied so.
+fn is_due(place: u64, reply: &Reply) -> bool {
+    match reply {
+        Reply::Done => place == 1 || place == 5,
+        Reply::Was(value) => place == 2 && value.as_slice() == b"x".as_slice(),
+        Reply::Found(value) => place == 3 && value.as_slice() == b"y".as_slice(),
+        Reply::Missing => place == 4,
+        _ => false,
+    }
+}
+
+// Whether the transaction at this place was replied what is due.
+fn has_due<J: Naming>(txn: &Txn<J>, place: u64) -> bool {
+    match txn.calls().last() {
+        Some((_op, reply)) => is_due(place, reply),
+        None => false,
     }
 }
 
 // Runs it in a transaction of its own; whether it is replied so, and committed at its place.
-fn does<D: Device, J: Naming, R: Wait>(
+fn does<J: Naming, R: Wait>(
     rt: &R,
     alloc: Global,
-    shared: &Shared<D, NoGate, J>,
+    shared: &Memory<J>,
     pass: &mut Pass<J>,
     place: u64,
 ) -> Result<bool, Refusal> {
-    let (op, want) = operation(alloc, place)?;
+    let op = operation(alloc, place)?;
     let mut txn = shared.begin(rt, alloc, pass, 1)?;
     let ran = shared.run(rt, &mut txn, op);
-    let is_wanted = ran.is_ok() && has_replied(&txn, &want);
+    let is_wanted = ran.is_ok() && has_due(&txn, place);
     let at = end(rt, shared, pass, txn);
     Ok(is_wanted && at == place)
 }
 
 // A row that is inserted and taken back enters no history.
-fn takes_back<D: Device, J: Naming, R: Wait>(
+fn takes_back<J: Naming, R: Wait>(
     rt: &R,
     alloc: Global,
-    shared: &Shared<D, NoGate, J>,
+    shared: &Memory<J>,
     pass: &mut Pass<J>,
 ) -> Result<bool, Refusal> {
     let mut txn = shared.begin(rt, alloc, pass, 1)?;
@@ -62,39 +85,51 @@ fn takes_back<D: Device, J: Naming, R: Wait>(
     Ok(ran.is_ok() && shared.look(pass) == 3)
 }
 
-// Forces and flushes until nothing is left to be; whether that came.
-fn rests<D: Device, J: Naming, R: Wait>(
-    rt: &R,
-    shared: &Shared<D, NoGate, J>,
-) -> Result<bool, Refusal> {
+// Forces and flushes until nothing is left to be, and ends that; whether it was due before, and is not behind.
+fn rests<J: Naming, R: Wait>(rt: &R, shared: &Memory<J>) -> Result<bool, Refusal> {
+    let was_due = shared.await_due(rt);
     for _step in 0..STEPS {
         if shared.tend(rt)? == Tended::Idle {
-            return Ok(true);
+            shared.end_tending(rt);
+            return Ok(was_due && !shared.await_due(rt));
         }
     }
     Ok(false)
 }
 
-// The log is turned over, though not while a transaction lives.
-fn turns<D: Device + Drop, J: Naming, R: Wait>(
+// How many bytes of the log's area are in use, if they are not more than half.
+fn used<J: Naming, R: Wait>(rt: &R, shared: &Memory<J>) -> u64 {
+    if shared.is_half_used(rt) {
+        return 0;
+    }
+    match shared.used(rt) {
+        Some(log) => log.used,
+        None => 0,
+    }
+}
+
+// The log is turned over, though not while a transaction lives. Fewer bytes of its area are in use then.
+fn turns<J: Naming, R: Wait>(
     rt: &R,
     alloc: Global,
-    shared: &Shared<D, NoGate, J>,
+    shared: &Memory<J>,
     pass: &mut Pass<J>,
 ) -> Result<bool, Refusal> {
     let txn = shared.begin(rt, alloc, pass, 1)?;
     let early = shared.rotate(rt, alloc, 64);
     take_back(rt, shared, pass, txn);
+    let before = used(rt, shared);
     shared.rotate(rt, alloc, 64)?;
     shared.turn_over(rt, alloc, 64)?;
-    Ok(matches!(early, Err(Refusal::Busy)))
+    let behind = used(rt, shared);
+    Ok(matches!(early, Err(Refusal::Busy)) && 0 < behind && behind < before)
 }
 
 // All of it, by one pass.
-fn find<D: Device + Drop, J: Naming, R: Wait>(
+fn find<J: Naming, R: Wait>(
     rt: &R,
     alloc: Global,
-    shared: &Shared<D, NoGate, J>,
+    shared: &Memory<J>,
     pass: &mut Pass<J>,
 ) -> Result<bool, Refusal> {
     for place in 1..4u64 {
@@ -107,41 +142,28 @@ fn find<D: Device + Drop, J: Naming, R: Wait>(
     Ok(is_back && is_turned && does(rt, alloc, shared, pass, 5)?)
 }
 
-// The kernel behind it, under a name, and whether all went so.
-fn named_rows<D: Device + Drop, J: Naming, R: Wait>(
+// Whether all went so, under a name, and what the kernel tells behind it.
+fn named_rows<J: Naming, R: Wait>(
     rt: &R,
     alloc: Global,
-    opened: Opened<D>,
-) -> Result<(Kernel<D>, bool), Option<D>>
+    opened: Opened<MemDevice>,
+) -> Result<(bool, Told), Refusal>
     requires { (opened.mark ≡ J.mark) × (opened.base ≡ J.base) }
 {
-    let (shared, passes) = match opened.named::<NoGate, J>(alloc, NoGate) {
-        Ok(made) => made,
-        Err(kernel) => return Err(Some(kernel.into_device())),
-    };
+    let (shared, passes) = shared_of::<J>(alloc, opened)?;
     let mut passes = passes;
     let found = match passes.as_mut_slice().first_mut() {
         Some(pass) => find(rt, alloc, &shared, pass),
         None => Ok(false),
     };
-    Ok((closed(shared, passes)?, matches!(found, Ok(true))))
+    let told = told_behind(shared, passes)?;
+    Ok((matches!(found, Ok(true)), told))
 }
 
-fn found<R: Wait>(
-    rt: &R,
-    alloc: Global,
-    opened: Opened<MemDevice>,
-) -> Result<(Kernel<MemDevice>, bool), Option<MemDevice>> {
-    named_rows::<MemDevice, Brand, R>(rt, alloc, opened)
-}
-
-// Whether all went so, and what the kernel tells behind it.
+// Of a kernel in memory.
 fn find_rows<R: Wait>(rt: &R, alloc: Global) -> Result<(bool, Told), Refusal> {
     let opened = opened_of(alloc, 64, &[(0, 10, 0)], 1)?;
-    match found(rt, alloc, opened) {
-        Ok((kernel, is_found)) => Ok((is_found, told_of(kernel)?)),
-        Err(_) => Err(Refusal::Stranger),
-    }
+    named_rows::<Brand, R>(rt, alloc, opened)
 }
 
 /// A transaction finds what the pass's last one committed, and not what another took back.

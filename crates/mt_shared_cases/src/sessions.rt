@@ -1,19 +1,13 @@
 // Transactions of a pass, each spent in any case.
-use crate::kernels::NoGate;
+use crate::kernels::Memory;
 use mt_base::{Bytes, Refusal, RelNo};
-use mt_disk::Device;
 use mt_model::{Op, Reply};
-use mt_shared::{Naming, Pass, Refused, Shared, Txn};
+use mt_shared::{Naming, Pass, Refused, Txn};
 use std::alloc::{AllocError, Global};
 use std::sync::Wait;
 
 /// Takes a transaction back.
-pub fn take_back<D: Device, J: Naming, R: Wait>(
-    rt: &R,
-    shared: &Shared<D, NoGate, J>,
-    pass: &mut Pass<J>,
-    txn: Txn<J>,
-) {
+pub fn take_back<J: Naming, R: Wait>(rt: &R, shared: &Memory<J>, pass: &mut Pass<J>, txn: Txn<J>) {
     let mut kept = txn;
     for _ in rt.forever() {
         match shared.abort(rt, pass, kept) {
@@ -31,12 +25,7 @@ pub fn take_back<D: Device, J: Naming, R: Wait>(
 }
 
 /// Commits a transaction, and answers its place; 0 where that is refused, and the transaction is taken back.
-pub fn end<D: Device, J: Naming, R: Wait>(
-    rt: &R,
-    shared: &Shared<D, NoGate, J>,
-    pass: &mut Pass<J>,
-    txn: Txn<J>,
-) -> u64 {
+pub fn end<J: Naming, R: Wait>(rt: &R, shared: &Memory<J>, pass: &mut Pass<J>, txn: Txn<J>) -> u64 {
     match shared.commit(rt, pass, txn) {
         Ok(place) => place,
         Err(Refused { why: _, txn: None }) => 0,
@@ -59,10 +48,10 @@ pub fn insert(alloc: Global, key: &[u8], value: &[u8]) -> Result<Op, AllocError>
 }
 
 /// Runs an insert of a value under a key of relation 0.
-pub fn run_insert<D: Device, J: Naming, R: Wait>(
+pub fn run_insert<J: Naming, R: Wait>(
     rt: &R,
     alloc: Global,
-    shared: &Shared<D, NoGate, J>,
+    shared: &Memory<J>,
     txn: &mut Txn<J>,
     (key, value): (&[u8], &[u8]),
 ) -> Result<(), Refusal> {

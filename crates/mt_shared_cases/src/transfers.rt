@@ -1,19 +1,22 @@
 // Many threads transfer between counters, and insert rows.
-ghost use Rattle.std.specs.Prelude.{◌≡◌, ◌≤◌};
+ghost use Rattle.std.specs.Prelude.{◌≡◌};
 
-use crate::kernels::{NoGate, Told, closed, given_up, opened_of, told_of};
+use crate::kernels::{Memory, Told, opened_of, shared_of, told_behind};
 use crate::sessions::{end, run_insert, take_back};
 use mt_base::{CtrNo, Refusal};
-use mt_disk::{Device, MemDevice};
+use mt_disk::MemDevice;
 use mt_model::Op;
-use mt_shared::{Naming, Opened, Pass, Shared, Txn};
-use mt_txn::Kernel;
-use std::alloc::{AllocError, Global};
+use mt_shared::{Naming, Opened, Pass, Tended, Txn};
+use std::alloc::Global;
 use std::marker::Brand;
 use std::sync::Wait;
+use std::sync::atomic::{AtomicU64, Ordering};
 use std::test::Fail;
 use std::thread;
-use std::thread::Threads;
+use std::thread::{Threads, join};
+
+/// The threads that work.
+const WORKERS: usize = 16;
 
 /// Transfers of each, and rows that it inserts.
 const TRANSFERS: u32 = 200;
@@ -32,9 +35,9 @@ fn counter(number: u32, on: u32) -> CtrNo {
 }
 
 // Takes 1 from a counter and gives it to the next.
-fn transfers<D: Device, J: Naming, R: Wait>(
+fn transfers<J: Naming, R: Wait>(
     rt: &R,
-    shared: &Shared<D, NoGate, J>,
+    shared: &Memory<J>,
     txn: &mut Txn<J>,
     number: u32,
 ) -> Result<(), Refusal> {
@@ -43,10 +46,10 @@ fn transfers<D: Device, J: Naming, R: Wait>(
 }
 
 // What a worker does in its turn of this number: a transfer, or a row where its turns of transfers are over.
-fn run_turn<D: Device, J: Naming, R: Wait>(
+fn run_turn<J: Naming, R: Wait>(
     rt: &R,
     alloc: Global,
-    shared: &Shared<D, NoGate, J>,
+    shared: &Memory<J>,
     txn: &mut Txn<J>,
     (worker, turn): (u32, u32),
 ) -> Result<(), Refusal> {
@@ -59,10 +62,10 @@ fn run_turn<D: Device, J: Naming, R: Wait>(
 }
 
 // A turn in a transaction of its own; answers whether it was committed.
-fn make_turn<D: Device, J: Naming, R: Wait>(
+fn make_turn<J: Naming, R: Wait>(
     rt: &R,
     alloc: Global,
-    shared: &Shared<D, NoGate, J>,
+    shared: &Memory<J>,
     pass: &mut Pass<J>,
     turn: (u32, u32),
 ) -> bool {
@@ -79,10 +82,10 @@ fn make_turn<D: Device, J: Naming, R: Wait>(
 }
 
 // A turn, begun anew where another was in the way.
-fn make_surely<D: Device, J: Naming, R: Wait>(
+fn make_surely<J: Naming, R: Wait>(
     rt: &R,
     alloc: Global,
-    shared: &Shared<D, NoGate, J>,
+    shared: &Memory<J>,
     pass: &mut Pass<J>,
     turn: (u32, u32),
 ) -> bool {
@@ -99,124 +102,111 @@ fn make_surely<D: Device, J: Naming, R: Wait>(
 const TURNED: u32 = 100;
 
 // Turns the log over, if it is the first worker's turn to; whether that was not refused.
-fn turns_over<D: Device + Drop, J: Naming, R: Wait>(
+fn turns_over<J: Naming, R: Wait>(
     rt: &R,
     alloc: Global,
-    shared: &Shared<D, NoGate, J>,
+    shared: &Memory<J>,
     turn: (u32, u32),
 ) -> bool {
     turn != (0, TURNED) || shared.turn_over(rt, alloc, 64).is_ok()
 }
 
-// All turns of a worker. Gives its pass back, with the number of turns that were committed.
-fn work<D: Device + Drop, J: Naming, R: Wait>(
+// All turns of a worker. Counts those that were committed.
+fn work<J: Naming, R: Wait>(
     rt: &R,
     alloc: Global,
-    shared: &Shared<D, NoGate, J>,
-    (worker, pass): (u32, Pass<J>),
-) -> (Pass<J>, u32) {
-    let mut pass = pass;
-    let mut made = 0u32;
+    shared: &Memory<J>,
+    pass: &mut Pass<J>,
+    worker: u32,
+    made: &AtomicU64,
+) {
     for turn in 0..TRANSFERS + ROWS {
         let turned = turns_over(rt, alloc, shared, (worker, turn));
-        if turned && make_surely(rt, alloc, shared, &mut pass, (worker, turn)) {
-            made = made.wrapping_add(1);
+        if turned && make_surely(rt, alloc, shared, pass, (worker, turn)) {
+            made.fetch_add(1, Ordering::SeqCst);
         }
     }
-    (pass, made)
 }
 
-// Each pass with a number of its own.
-fn numbered<J: Naming>(
-    alloc: Global,
-    passes: Vec<Pass<J>>,
-) -> Result<Vec<(u32, Pass<J>)>, AllocError> {
-    let mut jobs = Vec::with_capacity(alloc, passes.len())?;
-    let mut number = 0u32;
-    for pass in passes {
-        jobs.push((number, pass))?;
-        number = number.wrapping_add(1);
-    }
-    Ok(jobs)
-}
-
-// The passes of the workers, and how many of their turns were committed in all.
-fn counted<J: Naming>(
-    alloc: Global,
-    done: Vec<(Pass<J>, u32)>,
-) -> Result<(Vec<Pass<J>>, u32), AllocError> {
-    let mut passes = Vec::with_capacity(alloc, done.len())?;
-    let mut made = 0u32;
-    for (pass, turns) in done {
-        passes.push(pass)?;
-        made = made.wrapping_add(turns);
-    }
-    Ok((passes, made))
-}
-
-// Each worker in a thread of its own.
-fn work_all<D: Device + Drop + Send, J: Naming + Send + Sync, R: Threads + Wait + Sync>(
+// Each worker in a thread of its own. Then nobody is to tend.
+fn work_all<J: Naming + Send + Sync, R: Threads + Wait + Sync>(
     rt: &R,
     alloc: Global,
-    shared: &Shared<D, NoGate, J>,
-    passes: Vec<Pass<J>>,
-) -> Result<(Vec<Pass<J>>, u32), AllocError> {
-    let jobs = numbered(alloc, passes)?;
-    let done = thread::map_vec(rt, jobs, &|job| work(rt, alloc, shared, job))?;
-    counted(alloc, done)
+    shared: &Memory<J>,
+    passes: &mut [Pass<J>],
+    made: &AtomicU64,
+) {
+    thread::for_each_mut(
+        rt,
+        passes,
+        WORKERS,
+        &|number, pass| { work(rt, alloc, shared, pass, (number % WORKERS) as u32, made) },
+    );
+    shared.end_tending(rt);
 }
 
-// The kernel behind the work of all, under a name, with the number of turns that were committed.
-fn named_work<D: Device + Drop + Send, J: Naming + Send + Sync, R: Threads + Wait + Sync>(
+// Tends while the others work; whether nothing was left to be forced or flushed at the end.
+fn tends<J: Naming, R: Wait>(rt: &R, shared: &Memory<J>) -> bool {
+    for _ in rt.forever() {
+        match shared.tend(rt) {
+            Ok(Tended::Worked) => {}
+            Ok(Tended::Idle) => {
+                if !shared.await_due(rt) {
+                    return true;
+                }
+            }
+            Err(_) => return false,
+        }
+    }
+    unreachable!()
+}
+
+// All of them, beside one that tends. How many turns were committed; 0 where that one failed.
+fn work_tended<J: Naming + Send + Sync, R: Threads + Wait + Sync>(
     rt: &R,
     alloc: Global,
-    opened: Opened<D>,
-) -> Result<(Kernel<D>, u32), Option<D>>
-    requires { (opened.mark ≡ J.mark) × (opened.base ≡ J.base) }
-{
-    let (shared, passes) = match opened.named::<NoGate, J>(alloc, NoGate) {
-        Ok(made) => made,
-        Err(kernel) => return Err(Some(kernel.into_device())),
-    };
-    let (passes, made) = match work_all(rt, alloc, &shared, passes) {
-        Ok(done) => done,
-        Err(_) => return Err(given_up(shared)),
-    };
-    Ok((closed(shared, passes)?, made))
+    shared: &Memory<J>,
+    passes: &mut [Pass<J>],
+) -> u64 {
+    let made = AtomicU64::new(0);
+    let (rested, ()) = join(
+        rt,
+        || tends(rt, shared),
+        || work_all(rt, alloc, shared, passes, &made),
+    );
+    if rested {
+        made.load(Ordering::SeqCst)
+    } else {
+        0
+    }
 }
 
-// The kernel behind the work of all.
-fn worked<R: Threads + Wait + Sync>(
+// The same under a name, and what the kernel tells behind it.
+fn named_work<J: Naming + Send + Sync, R: Threads + Wait + Sync>(
     rt: &R,
     alloc: Global,
     opened: Opened<MemDevice>,
-) -> Result<(Kernel<MemDevice>, u32), Option<MemDevice>> {
-    named_work::<MemDevice, Brand, R>(rt, alloc, opened)
+) -> Result<(u64, Told), Refusal>
+    requires { (opened.mark ≡ J.mark) × (opened.base ≡ J.base) }
+{
+    let (shared, passes) = shared_of::<J>(alloc, opened)?;
+    let mut passes = passes;
+    let made = work_tended(rt, alloc, &shared, passes.as_mut_slice());
+    Ok((made, told_behind(shared, passes)?))
 }
 
-// What was committed by so many threads at once, and what stands behind it: turns that were committed, and what the
-// kernel tells.
-fn transfer<R: Threads + Wait + Sync>(
-    rt: &R,
-    alloc: Global,
-    threads: usize,
-) -> Result<(u32, Told), Refusal>
-    requires { threads ≤ 16 }
-{
+// Of a kernel in memory.
+fn transfer<R: Threads + Wait + Sync>(rt: &R, alloc: Global) -> Result<(u64, Told), Refusal> {
     let counters = [(-10_000i64, 10_000i64, 0i64); 8];
-    let opened = opened_of(alloc, 256, &counters, threads)?;
-    match worked(rt, alloc, opened) {
-        Ok((kernel, made)) => Ok((made, told_of(kernel)?)),
-        Err(_) => Err(Refusal::Stranger),
-    }
+    let opened = opened_of(alloc, 256, &counters, WORKERS)?;
+    named_work::<Brand, R>(rt, alloc, opened)
 }
 
 /// Each of sixteen threads makes 200 transfers and inserts 50 rows, and commits each of them; in their midst one
-/// turns the log over. All of it stands, and each
-/// counter gave as often as it took.
+/// turns the log over, and another forces and flushes. All of it stands, and each counter gave as often as it took.
 #[test]
 fn sixteen_threads_commit_all(rt: HostRuntime) -> Result<(), Fail> {
-    let (made, told) = transfer(&rt, rt.alloc(), 16)?;
+    let (made, told) = transfer(&rt, rt.alloc())?;
     assert!(rt; made == 4000 && told.commits == 4000 && told.rows == 800 && told.moved == 0);
     Ok(())
 }

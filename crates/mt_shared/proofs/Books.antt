@@ -1,5 +1,5 @@
 -- A history that begins a book.
-use Rattle.std.proofs.Common.{◌≡◌, ℕ, zero, suc, ◌+◌, List, [], ◌∷◌, ◌++◌, length, take, refl, ap, sym, ◌∙◌, subst, arith, length-append, append_assoc, Some, slice_get}
+use Rattle.std.proofs.Common.{◌≡◌, ℕ, zero, suc, ◌+◌, List, [], ◌∷◌, ◌++◌, length, take, refl, ap, sym, ◌∙◌, subst, arith, length-append, ◌≤◌, Some, slice_get}
 use mathlib.Core.List.{IsPrefix}
 use Rattle.mt_model.specs.declared.tables.Base.{Base}
 use Rattle.mt_model.specs.declared.history.Committed.{Committed}
@@ -62,7 +62,12 @@ entered b locked place old new e held number seen front legal long =
       durable = ap dones seen ∙ take_prefix all locked.book place front (dones-length (locked.list ++ e ∷ []) ∙ (sym (ap length seen) ∙ size));
     }
 
--- what a pass has seen begins the book
-pub seen_front : (p : ℕ) (seen list now : List Entry) (book : List Committed) → Holds p seen now → now ≡ list → IsPrefix (dones list) book → IsPrefix (dones seen) book
-seen_front p seen list now book held is front =
-    (dones held.0 ++ front.0, sym (append_assoc (dones seen) (dones held.0) front.0) ∙ (ap (λ l. l ++ front.0) (sym (dones-append seen held.0) ∙ ap dones (held.1 ∙ is)) ∙ front.1))
+-- a beginning as long as the whole is the whole
+pub whole_front : {A : Type 0} (ts us : List A) → IsPrefix ts us → length us ≤ length ts → ts ≡ us
+whole_front [] [] p long = refl
+whole_front [] (u ∷ us) p long = absurd (omega arith)
+whole_front (x ∷ ts) [] p long = absurd (cc (p.1))
+whole_front (x ∷ ts) (u ∷ us) p long = let r = whole_front ts us (p.0, cc (p.1)) (omega arith) in cc (r, p.1)
+
+pub begins_book : (seen list : List Entry) (p : ℕ) (book : List Committed) → Holds p seen list → dones list ≡ book → IsPrefix (dones seen) book
+begins_book seen list p book held is = (dones held.0, sym (dones-append seen held.0) ∙ (ap dones held.1 ∙ is))

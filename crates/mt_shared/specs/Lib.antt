@@ -2,3 +2,4 @@ pub mod Began
 pub mod Names
 pub mod Refusals
 pub mod Seen
+pub mod Whole

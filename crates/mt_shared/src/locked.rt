@@ -1,10 +1,11 @@
-ghost use Rattle.std.specs.Prelude.{◌≡◌, ◌+◌, ◌++◌, ◌∷◌, [], ◌≤◌, length, OnOk, IfOk, IfErr, IsTrue, ◌↔◌, slice_get, Some, All, true};
+ghost use Rattle.std.specs.Prelude.{◌≡◌, ◌+◌, ◌++◌, ◌∷◌, [], ◌≤◌, length, OnOk, IfOk, IfErr, IfNone, IsTrue, ◌↔◌, slice_get, Some, All, true};
 ghost use mathlib.Core.List.{IsPrefix};
 ghost use Rattle.mt_mark.specs.Legal.{IsLegal};
 ghost use Rattle.mt_mark.specs.Rule.{dones, Holds};
 ghost use Rattle.mt_shared.specs.Began.{BeganOn};
 ghost use Rattle.mt_shared.specs.Refusals.{IsTurnFault};
 ghost use Rattle.mt_shared.specs.Seen.{PassSeen, Entered, CannotEnter};
+ghost use Rattle.mt_shared.specs.Whole.{HasAllOf, IsWhole};
 
 use crate::kept::Kept;
 use crate::log_use::LogUse;
@@ -165,16 +166,31 @@ impl<D: Device, J: Naming> Locked<D, J> {
         Ok(())
     }
 
-    // What a pass has seen begins the book.
+    // Why this cannot be closed, if it cannot. Each durable transaction is entered by its pass, and is waited for.
+    pub(crate) fn close_cause(&mut self) -> Option<Refusal>
+        ensures same { self.new ≡ self.old }
+        ensures whole { IfNone result (IsWhole self.old) }
+    {
+        let entered = self.end.check();
+        if self.kernel.is_left() {
+            Some(Refusal::DeviceFailed)
+        } else if entered != self.kernel.len() {
+            Some(Refusal::Busy)
+        } else {
+            None
+        }
+    }
+
+    // What a pass has seen begins the history, which has no further entry of its own.
     fn meet(&mut self, mut pass: Pass<J>)
-        ensures seen { IsPrefix (dones pass.seen) self.old.book }
+        ensures own { Holds pass.number pass.seen self.old.list }
         ensures same { self.new ≡ self.old }
     {
         pass.seat.meet(&mut self.end);
     }
 
     pub(crate) fn meet_all(&mut self, mut passes: Vec<Pass<J>>)
-        ensures seen { All (λ (p : PassSeen). IsPrefix (dones p.seen) self.old.book) passes.items }
+        ensures own { All (λ (p : PassSeen). Holds p.number p.seen self.old.list) passes.items }
         ensures same { self.new ≡ self.old }
     {
         'passes: while passes.len() > 0 {
@@ -184,11 +200,18 @@ impl<D: Device, J: Naming> Locked<D, J> {
         }
     }
 
-    // Whether a rotation left no kernel.
-    pub(crate) fn is_left(&self) -> bool
-        ensures { result ≡ self.now.is_left }
+    // The kernel of what is whole, which each pass meets.
+    pub(crate) fn into_met(self, passes: Vec<Pass<J>>) -> Kernel<D>
+        requires { IsWhole self }
+        ensures own { HasAllOf result.parts.book.items passes.items }
+        ensures began { BeganOn D.seen D.may_leave J.base result }
     {
-        self.kernel.is_left()
+        let mut met = self;
+        met.meet_all(passes);
+        match met.into_kernel() {
+            Ok(kernel) => kernel,
+            Err(_) => unreachable!(),
+        }
     }
 
     // How much of the log's area is in use.

@@ -6,6 +6,7 @@ ghost use Rattle.mt_model.specs.declared.operations.Reply.{Reply};
 ghost use Rattle.mt_shared.specs.Began.{BeganOn};
 ghost use Rattle.mt_shared.specs.Refusals.{IsTurnFault, IsTurnRefusal};
 ghost use Rattle.mt_shared.specs.Seen.{PassSeen, Extends, Looked, fresh, with_call};
+ghost use Rattle.mt_shared.specs.Whole.{HasAllOf};
 
 use crate::gate::{Gate, Point, Wanted};
 use crate::locked::{Due, Locked};
@@ -442,30 +443,34 @@ impl<D: Device, G: Gate + Drop, J: Naming> Shared<D, G, J> {
         unreachable!()
     }
 
+    // A close that is refused, with all that was handed in.
+    fn still_open(self, why: Refusal, passes: Vec<Pass<J>>) -> Closed<D, G, J>
+        ensures { result.passes ≡ passes }
+    {
+        Closed {
+            why,
+            shared: self,
+            passes,
+        }
+    }
+
     /// The kernel, once all passes are back and none of them has a transaction. Its book begins with what each pass
-    /// has seen.
+    /// has seen, and has no further transaction of that pass.
     ///
-    /// Refused, in this order, with all that was handed in: 15 where a pass is missing, 16 where one of them has a
-    /// transaction, 2 where a rotation left no kernel.
+    /// Refused, in this order, with all that was handed in: 15 where a pass is missing; 16 where one of them has a
+    /// transaction; 2 where a rotation left no kernel; 16 where a durable transaction is not in the history.
     pub fn close(self, passes: Vec<Pass<J>>) -> Result<Kernel<D>, Closed<D, G, J>>
         ensures seen { IfOk result (λ k.
             All (λ (p : PassSeen). IsPrefix (dones p.seen) k.parts.book.items) passes.items) }
+        ensures own { IfOk result (λ k. HasAllOf k.parts.book.items passes.items) }
         ensures began { IfOk result (λ k. BeganOn D.seen D.may_leave J.base k) }
         ensures back { IfErr result (λ c. c.passes.items ≡ passes.items) }
     {
         if passes.len() != self.count {
-            return Err(Closed {
-                why: Refusal::Stranger,
-                shared: self,
-                passes,
-            });
+            return Err(self.still_open(Refusal::Stranger, passes));
         }
         if passes.iter().any(|p| p.is_busy) {
-            return Err(Closed {
-                why: Refusal::Busy,
-                shared: self,
-                passes,
-            });
+            return Err(self.still_open(Refusal::Busy, passes));
         }
         let Shared {
             locked,
@@ -476,26 +481,19 @@ impl<D: Device, G: Gate + Drop, J: Naming> Shared<D, G, J> {
             count,
         } = self;
         let mut locked = locked.into_inner();
-        if locked.is_left() {
-            let shared = Shared {
-                locked: Mutex::new(locked),
-                moved,
-                due,
-                gate,
-                wanted,
-                count,
-            };
-            let why = Refusal::DeviceFailed;
-            return Err(Closed {
-                why,
-                shared,
-                passes,
-            });
-        }
-        locked.meet_all(passes);
-        match locked.into_kernel() {
-            Ok(kernel) => Ok(kernel),
-            Err(_) => unreachable!(),
+        match locked.close_cause() {
+            None => Ok(locked.into_met(passes)),
+            Some(why) => {
+                let shared = Shared {
+                    locked: Mutex::new(locked),
+                    moved,
+                    due,
+                    gate,
+                    wanted,
+                    count,
+                };
+                Err(shared.still_open(why, passes))
+            }
         }
     }
 }

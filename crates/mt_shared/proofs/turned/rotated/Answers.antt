@@ -1,8 +1,8 @@
-use Rattle.std.proofs.Common.{◌≡◌, ◌∙◌, ap, subst}
+use Rattle.std.proofs.Common.{◌∙◌, ap, subst}
 use Rattle.mt_restart.specs.Rotated.{IsLeft}
 use Rattle.mt_restart.specs.declared.rotating.NotRotated.{NotRotated}
 use Rattle.mt_shared.specs.Began.{BasedSeen, first_base}
-use Rattle.mt_shared.specs.Seen.{KeepsAll, seen_of}
+use Rattle.mt_shared.specs.Seen.{seen_of}
 use Rattle.mt_shared.proofs.Keeping.{turned_began, turned_book}
 use Rattle.mt_shared.proofs.turned.rotated.Goals as goal
 

@@ -1,12 +1,13 @@
-use Rattle.std.proofs.Common.{subst}
-use mathlib.Core.List.{IsPrefix}
-use Rattle.mt_mark.specs.Rule.{dones}
+use Rattle.std.proofs.Common.{ℕ, List, subst}
+use Rattle.mt_mark.specs.Rule.{Holds}
+use Rattle.mt_mark.specs.declared.view.Entry.{Entry}
 use Rattle.mt_shared.specs.Seen.{PassSeen, LockedSeen}
-use Rattle.mt_shared.proofs.Books.{seen_front}
 use Rattle.mt_shared.proofs.locked.Locked.meet.Goals as goal
 
-pub returns-clause-seen : goal.returns-clause-seen
-returns-clause-seen g c =
+pub returns-clause-own : goal.returns-clause-own
+returns-clause-own g c =
     let m = c.meet.ensures in
-    let f = seen_front _ _ _ _ _ m.others m.seen c.self.invariant.4 in
-    subst (λ (x : PassSeen × LockedSeen). IsPrefix (dones x.0.seen) x.1.book) (λ i. (c.pass.view_is i, c.self.view_is i)) f
+    let seat = c.pass.inside.seat.view in
+    let list = c.self.inside.end.view.list in
+    let held : Holds c.pass.inside.number seat.list list = subst (λ (x : ℕ × List Entry). Holds x.0 seat.list x.1) (λ i. (c.pass.invariant.2 i, m.seen i)) m.others in
+    subst (λ (x : PassSeen × LockedSeen). Holds x.0.number x.0.seen x.1.list) (λ i. (c.pass.view_is i, c.self.view_is i)) held

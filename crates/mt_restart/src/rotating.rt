@@ -1,7 +1,9 @@
 // The log of a kernel turned over.
 ghost use Rattle.std.specs.Prelude.{◌≡◌, IfOk, IfErr, None, OnOk};
 ghost use Rattle.mt_live.specs.Machine.{State};
+ghost use Rattle.mt_log.specs.Words.{appended};
 ghost use Rattle.mt_model.specs.Model.{Base};
+ghost use Rattle.mt_op.specs.Begun.{AreImages};
 ghost use Rattle.mt_txn.specs.Restarted.{FindsMeanwhile};
 ghost use Rattle.mt_txn.specs.Shown.{Restarts, SameSchema, Shows};
 ghost use Rattle.mt_txn.specs.Turned.{HasNobody, IsForced};
@@ -51,6 +53,7 @@ fn turn_over<D: Device + Drop>(
     requires nobody { HasNobody kernel }
     requires forced { IsForced kernel }
     ensures goes_on { IfOk result (GoesOver D.seen D.may_leave kernel) }
+    ensures begun { IfOk result (λ n. AreImages (appended n.parts.operations.store.log)) }
     ensures moments { (first : Base) → Restarts D.seen D.may_leave first kernel
         → FindsMeanwhile D.moment D.left_since kernel.relations kernel.counters first kernel.parts (device_of result) }
     ensures settled { IfErr result (λ gone. (first : Base) → Restarts D.seen D.may_leave first kernel
@@ -99,6 +102,8 @@ pub fn rotate<D: Device + Drop>(
     ensures restarted { (first : Base) → Restarts D.seen D.may_leave first kernel
         → IfOk result (Restarts D.seen D.may_leave first) }
     ensures same { IfOk result (SameSchema kernel) }
+    // The log has no record but the images that its area began with.
+    ensures begun { IfOk result (λ n. AreImages (appended n.parts.operations.store.log)) }
     // Whenever a crash comes in this call.
     ensures moments { (first : Base) → Restarts D.seen D.may_leave first kernel
         → FindsMeanwhile D.moment D.left_since kernel.relations kernel.counters first kernel.parts (device_in result) }

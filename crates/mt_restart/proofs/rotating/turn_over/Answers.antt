@@ -1,7 +1,9 @@
 use Rattle.std.proofs.Common.{◌∙◌, ◌<◌, sym, ap, subst}
 use mathlib.Core.Logic.{∥∥₁_elim, ∥∥₁_map, ∥∥₁_prop}
 use Rattle.mt_base.specs.declared.refusal.Refusal.{Refusal}
+use Rattle.mt_log.specs.Words.{appended}
 use Rattle.mt_model.specs.History.{after}
+use Rattle.mt_op.specs.Begun.{AreImages}
 use Rattle.mt_op.specs.declared.operations.Operations.{Operations}
 use Rattle.mt_replay.specs.Stands.{CanRestart}
 use Rattle.mt_txn.specs.Restarted.{FindsMeanwhile}
@@ -32,6 +34,10 @@ returns-in-Ok-clause-goes_on g c =
     goes_on D.seen D.may_leave c.only_own_pages_matter.ensures k first c.part-device.result.1 c.parts_over-operations.result.0 c.parts_over-operations.result.1 c.args.frames r.restored.pages.items r.beside c.part-device.ensures.rest c.requires.nobody starts c.in-Ok.ensures.recovered.beside
     (c.in-Ok.ensures.shows k.relations k.counters (after first k.parts.book.items) here) (base_in_bounds k.relations k.counters (D.seen c.part-device.result.0) (after first k.parts.book.items) here) c.parts_over-operations.ensures.opens))
     c.join.ensures.resumed c.join.ensures.schema
+
+pub returns-in-Ok-clause-begun : goal.returns-in-Ok-clause-begun
+returns-in-Ok-clause-begun g c =
+    subst (λ (o : Operations g.row.D.Denot). AreImages (appended o.store.log)) (sym c.join.ensures.operations) c.parts_over-operations.ensures.fresh.images
 
 pub returns-in-Ok-clause-moments : goal.returns-in-Ok-clause-moments
 returns-in-Ok-clause-moments g c = λ first starts.

@@ -45,13 +45,13 @@ first_on seen may s log d l f only =
 
 -- ---- the first slot rules, and names the pages and that area
 
-first_start : (s : Schema) → start_of (first_slot s) ≡ pages_end s
+pub first_start : (s : Schema) → start_of (first_slot s) ≡ pages_end s
 first_start s = omega arith
 
-first_end : (s : Schema) → end_of (first_slot s) ≡ area_end s
+pub first_end : (s : Schema) → end_of (first_slot s) ≡ area_end s
 first_end s = omega arith
 
-first_rules : (s : Schema) (c : List ℕ) → IsFormattedAs s c → IsRuling c (first_slot s)
+pub first_rules : (s : Schema) (c : List ℕ) → IsFormattedAs s c → IsRuling c (first_slot s)
 first_rules s c f = inl (record {
   own = record { fits = record { epoch = (omega arith, omega arith); area = omega arith; pages = s.page_count; mib = s.area_size }; text = f.master; long = f.long };
   beside = inl f.other;

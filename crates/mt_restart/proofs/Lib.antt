@@ -23,3 +23,4 @@ mod Listing
 mod Surveying
 mod Opened
 mod Rotations
+mod Founded

@@ -3,8 +3,9 @@ ghost use Rattle.std.specs.Prelude.{◌≡◌, ◌⊎◌, ◌+◌, ◌*◌, ◌<
 ghost use Rattle.mt_base.specs.declared.refusal.Refusal.{Refusal};
 ghost use Rattle.mt_disk.specs.Disk.{Has, Only, Torn, Follows, LeavesOnly, HasCause};
 ghost use Rattle.mt_frame.specs.SlotText.{slot_text};
+ghost use Rattle.mt_replay.specs.Stands.{CanRestart};
 ghost use Rattle.mt_restart.specs.Formats.{HasFirstPages, IsFormattedAs, IsFormattedOrShut, IsReady, IsShut, ButForGates, FormatBegins, Tears, empty_area, first_slot};
-ghost use Rattle.mt_restart.specs.Schemas.{pages_in, pages_end, device_bytes};
+ghost use Rattle.mt_restart.specs.Schemas.{pages_in, pages_end, device_bytes, relations_in, counters_in, schema_base};
 ghost use Rattle.mt_restart.specs.declared.schema.Schema.{Schema};
 
 use crate::Schema;
@@ -132,7 +133,7 @@ fn write_all<D: Device>(device: &mut D, schema: &Schema) -> Result<(), DeviceFau
 /// page and an empty first log area, and syncs; writes the first master slot behind its gate, and syncs; opens
 /// the gate, and syncs. It takes no memory.
 ///
-/// Then the device holds the schema's first base, whatever a crash leaves. A crash in this call leaves what it might
+/// Then the device holds the schema's first base, whatever a crash leaves, and [`open`](crate::open) finds it. A crash in this call leaves what it might
 /// have left before, but for the gates of the master slots; or no open master slot; or the schema's format.
 ///
 /// A device that is shorter than the schema needs is refused with [`Refusal::BadLength`], before any call of it. The
@@ -140,6 +141,9 @@ fn write_all<D: Device>(device: &mut D, schema: &Schema) -> Result<(), DeviceFau
 /// bytes behind those that the schema needs are as before in any case.
 pub fn format<D: Device>(device: &mut D, schema: &Schema) -> Result<(), Refusal>
     ensures formatted { OnOk result (IsFormattedAs schema.now (D.seen device.new)) }
+    // A restart finds the schema's first base in it.
+    ensures stands { OnOk result (CanRestart (relations_in schema.now) (length (counters_in schema.now))
+        (D.seen device.new) (schema_base schema.now)) }
     ensures durable { OnOk result (Only (D.seen device.new) (D.may_leave device.new)) }
     // Whenever a crash comes in this call.
     ensures moments { LeavesOnly D.moment D.left_since device.old device.new
@@ -156,6 +160,7 @@ pub fn format<D: Device>(device: &mut D, schema: &Schema) -> Result<(), Refusal>
     if device.len() < schema.device_len() {
         return Err(Refusal::BadLength);
     }
+    schema.base.keeps_bounds();
     write_all(device, schema)?;
     Ok(())
 }

@@ -8,14 +8,17 @@ ghost use Rattle.mt_model.specs.Model.{Base, IsBase};
 ghost use Rattle.mt_replay.specs.Stands.{CanRestart};
 ghost use Rattle.mt_steps.specs.Held.{Holds};
 ghost use Rattle.mt_txn.specs.Well.{Opens};
+ghost use Rattle.mt_restart.specs.Formats.{IsFormattedAs};
 ghost use Rattle.mt_restart.specs.Recovered.{IsCauseToStop, IsRecovered, StandsStill};
 ghost use Rattle.mt_restart.specs.Resumed.{IsOpened, device_of};
+ghost use Rattle.mt_restart.specs.declared.schema.Schema.{Schema};
 
 use crate::beside::Beside;
 use crate::recovering::{Recovered, recover};
 use mt_base::Refusal;
 use mt_disk::Device;
 use mt_escrow::Escrow;
+use mt_frame::slots_are_read_back;
 use mt_op::Operations;
 use mt_pool::Store;
 use mt_replay::only_own_pages_matter;
@@ -79,7 +82,8 @@ fn kernel_over<D: Device + Drop>(alloc: Global, device: D, recovered: Recovered)
 /// - [`Refusal::NoMemory`];
 /// - [`Refusal::DeviceFailed`], where the device failed in this call;
 /// - [`Refusal::NotFormatted`] and [`Refusal::BadFormat`], as `replay` of mt_replay says;
-/// - [`Refusal::LogFull`], where the ruling slot has the last epoch, or the images have no room in the next area.
+/// - [`Refusal::LogFull`], where the ruling slot has the last epoch, or the images have no room in the next area: never
+///   as the device was formatted.
 ///
 /// Its bytes are as they were, but where it failed.
 pub fn open<D: Device + Drop>(
@@ -95,6 +99,9 @@ pub fn open<D: Device + Drop>(
     ensures no_other_refusal { (relations counters : ℕ) (b : Base) → CanRestart relations counters (D.seen device) b
         → IfErr result (λ gone. (gone.0 ≡ Refusal.NoMemory)
         ⊎ ((gone.0 ≡ Refusal.DeviceFailed) ⊎ (gone.0 ≡ Refusal.LogFull))) }
+    // As it is formatted its log can turn over.
+    ensures never_full { (s : Schema) → IsFormattedAs s (D.seen device)
+        → IfErr result (λ gone. gone.0 ≡ Refusal.LogFull → ⊥) }
     // Whenever a crash comes in this call.
     ensures moments { (relations counters : ℕ) (b : Base) → CanRestart relations counters (D.seen device) b
         → LeavesOnly D.moment D.left_since device (device_of result)
@@ -110,6 +117,7 @@ pub fn open<D: Device + Drop>(
         → D.seen gone.1 ≡ D.seen device) }
     ensures cause { IfErr result (λ gone. IsCauseToStop (D.seen device) (D.faults device < D.faults gone.1) gone.0) }
 {
+    slots_are_read_back();
     only_own_pages_matter();
     let mut device = device;
     match recover(alloc, &mut device, frames) {

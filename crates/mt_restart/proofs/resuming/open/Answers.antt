@@ -1,10 +1,11 @@
-use Rattle.std.proofs.Common.{length, refl, sym, subst}
+use Rattle.std.proofs.Common.{◌<◌, length, refl, sym, subst}
 use Rattle.mt_base.specs.declared.refusal.Refusal.{Refusal}
 use Rattle.mt_disk.specs.Disk.{LeavesOnly}
 use Rattle.mt_index.specs.Checks.{bytes_of}
 use Rattle.mt_restart.proofs.Based.{base_of_good}
 use Rattle.mt_restart.proofs.Calls.{not_refused, refused_so}
 use Rattle.mt_restart.proofs.Opened.{base_in_bounds, opened_as}
+use Rattle.mt_restart.proofs.Founded.{never_full}
 use Rattle.mt_restart.specs.Recovered.{StandsStill}
 use Rattle.mt_restart.proofs.resuming.open.Goals as goal
 
@@ -39,3 +40,6 @@ returns-in-Err-clause-settled g c = λ relations counters b can not.
 
 pub returns-in-Err-clause-moments : goal.returns-in-Err-clause-moments
 returns-in-Err-clause-moments g c = c.recover.ensures.moments
+
+pub returns-in-Err-clause-never_full : goal.returns-in-Err-clause-never_full
+returns-in-Err-clause-never_full g c = λ s formatted. never_full c.slots_are_read_back.ensures s (g.D.Device.seen c.args.device) (g.D.Device.faults c.args.device < g.D.Device.faults c.recover.new.device) c.in-Err.refusal formatted c.in-Err.ensures.cause

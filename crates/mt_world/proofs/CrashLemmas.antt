@@ -1,5 +1,5 @@
 -- What a restart finds where a crash comes within events that are made one after the other.
-use Rattle.std.proofs.Common.{◌≡◌, ◌≢◌, ◌<◌, ◌≤◌, ◌+◌, ℕ, List, [], ◌∷◌, ◌++◌, length, map, take, get_or, ⊎_elim, refl, ap, sym, subst, ◌∙◌, length-append, arith}
+use Rattle.std.proofs.Common.{◌≡◌, ◌⊎◌, ◌<◌, ◌≤◌, ◌+◌, ℕ, List, [], ◌∷◌, ◌++◌, length, map, take, get_or, ⊎_elim, inl, inr, refl, ap, sym, subst, ◌∙◌, length-append, arith}
 use Rattle.std.proofs.lemmas.Bool.{cases_lt}
 use Rattle.std.proofs.lemmas.List.{length-map, take_all, take-append-le}
 use Rattle.std.proofs.Math.ListN.{get_or-append}
@@ -17,7 +17,7 @@ use Rattle.mt_txn.specs.Restarted.{FindsCommits, FindsMeanwhile}
 use Rattle.mt_txn.specs.Shown.{LeavesFound, Restarts, Shows}
 use Rattle.mt_txn.specs.declared.kernel.Kernel.{Kernel}
 use Rattle.mt_world.proofs.RunLemmas.{Ran, has_run, makes_same, ran_none}
-use Rattle.mt_world.specs.Crashes.{FindsBetween, FoundUntil, device_under}
+use Rattle.mt_world.specs.Crashes.{FindsBetween, FindsSince, FoundUntil, device_under}
 use Rattle.mt_world.specs.Schedules.{HasMade, HasRun}
 use Rattle.mt_world.specs.Told.{acknowledged, commit_of, told_of}
 use Rattle.mt_world.specs.declared.events.Answer.{Answer}
@@ -28,23 +28,23 @@ module _ {D : Type 0} {g : Ghosts D} (seen : D → List ℕ) (may_leave : D → 
   pub found_itself : (k : Kernel D g) → LeavesFound seen may_leave moment left_since k k
   found_itself k = λ first r count. no_call seen may_leave k.relations k.counters first moment left_since only_now k.parts k.parts.operations.store.device refl r count
 
-  module _ (faults : D → ℕ) (first : Base) where
+  module _ (faults : D → ℕ) (since : D) (first : Base) where
     abbrev pub Found : List Event → List Answer → Kernel D g → Type 0
-    Found events answers k = ∥ FoundUntil seen may_leave moment left_since faults first events answers k (device_under k) ∥₁
+    Found events answers k = ∥ FoundUntil seen may_leave moment left_since faults since first events answers k (device_under k) ∥₁
 
     finds_now : (k : Kernel D g) (c : List ℕ) → Restarts seen may_leave first k → IsRelationCount k.relations → left_since (device_under k) (moment (device_under k)) c → ∥ FindsCommits k.relations k.counters first k.parts c ∥₁
     finds_now k c starts count left = finds_commits seen may_leave k.relations k.counters first k.parts c starts (only_now (device_under k) c left) count
 
     -- what was acknowledged is the book
-    answered_of : (events : List Event) (answers : List Answer) (k : Kernel D g) → ∥ HasRun seen may_leave faults first events answers k ∥₁ → length k.parts.book.items ≡ length (acknowledged answers)
+    pub answered_of : (events : List Event) (answers : List Answer) (k : Kernel D g) → ∥ HasRun seen may_leave faults first events answers k ∥₁ → length k.parts.book.items ≡ length (acknowledged answers)
     answered_of events answers k some = ∥∥₁_elim some (hlevel props) (λ r. ∥∥₁_elim r.shows (hlevel props) (λ (origin, base, is, x).
         let book : length r.state.book ≡ length k.parts.book.items = ap (λ (s : State). length s.book) x.state in
         let told : length r.state.book ≡ length (map (λ t. commit_of (told_of events answers t)) (acknowledged answers)) = ap (λ (cs : List Committed). length cs) r.told in
         let size = length-map (acknowledged answers) (λ t. commit_of (told_of events answers t)) in
         omega (arith, book, told, size)))
 
-    pub found_none : (k : Kernel D g) → Shows seen may_leave first (start first) k → Restarts seen may_leave first k → IsRelationCount k.relations → Found [] [] k
-    found_none k shows starts count = ∣ record {
+    pub found_none : (k : Kernel D g) → Shows seen may_leave first (start first) k → Restarts seen may_leave first k → FindsSince moment left_since since first k → IsRelationCount k.relations → Found [] [] k
+    found_none k shows starts found count = ∣ record {
       behind = λ i. k;
       last = refl;
       goes = λ i event answer lt. absurd (omega (arith, lt));
@@ -52,11 +52,14 @@ module _ {D : Type 0} {g : Ghosts D} (seen : D → List ℕ) (may_leave : D → 
       answered = λ i le. let none : i ≡ 0 = omega (arith, le) in subst (λ (j : ℕ). length k.parts.book.items ≡ length (acknowledged (take j []))) (sym none) (answered_of [] [] k (has_run seen may_leave faults first [] [] k (ran_none seen may_leave faults first k shows) starts));
       later = λ i le. omega arith;
       each = λ i c le left. ∥∥₁_map (finds_now k c starts count left) (λ f. record { made = 0; past = le; within = omega arith; finds = f });
+      begun = found.later;
+      all = λ c left. ∥∥₁_map (found.each c left) (λ f. record { made = 0; past = omega arith; within = omega arith; finds = f });
+      before = λ t c le left. ∥∥₁_map (found.before t c le left) (⊎_elim (λ was. inl was) (λ f. inr (record { made = 0; past = omega arith; within = omega arith; finds = f })));
     } ∣₁
 
     module _ (events : List Event) (answers : List Answer) (event : Event) (answer : Answer) (k n : Kernel D g) (made : HasMade seen may_leave moment left_since faults k event answer n)
         (starts : Restarts seen may_leave first k) (now : Restarts seen may_leave first n) (count : IsRelationCount k.relations) (counts : IsRelationCount n.relations) (same : length events ≡ length answers)
-        (ran : ∥ HasRun seen may_leave faults first (events ++ event ∷ []) (answers ++ answer ∷ []) n ∥₁) (was : FoundUntil seen may_leave moment left_since faults first events answers k (device_under k)) where
+        (ran : ∥ HasRun seen may_leave faults first (events ++ event ∷ []) (answers ++ answer ∷ []) n ∥₁) (was : FoundUntil seen may_leave moment left_since faults since first events answers k (device_under k)) where
       abbrev next : ℕ → Kernel D g
       next = put was.behind (length events + 1) n
 
@@ -127,24 +130,31 @@ module _ {D : Type 0} {g : Ghosts D} (seen : D → List ℕ) (may_leave : D → 
       Finds : Kernel D g → List ℕ → Type 0
       Finds m c = FindsCommits m.relations m.counters first m.parts c
 
+      -- what is found of an earlier kernel, and of k
+      wider : (i : ℕ) (c : List ℕ) → FindsBetween first was.behind i (length events) c → FindsBetween first next i (length (events ++ event ∷ [])) c
+      wider i c f = record {
+        made = f.made;
+        past = f.past;
+        within = let w = f.within in omega (arith, w, longer);
+        finds = subst (λ (m : Kernel D g). FindsCommits m.relations m.counters first m.parts c) (sym (old f.made f.within)) f.finds;
+      }
+
+      found_here : (i : ℕ) (c : List ℕ) → i ≤ length events → FindsCommits k.relations k.counters first k.parts c → FindsBetween first next i (length (events ++ event ∷ [])) c
+      found_here i c le f = record {
+        made = length events;
+        past = le;
+        within = omega (arith, longer);
+        finds = subst (λ (m : Kernel D g). FindsCommits m.relations m.counters first m.parts c) (sym here) f;
+      }
+
       each : (i : ℕ) (c : List ℕ) → i ≤ length (events ++ event ∷ []) → left_since (device_under n) (moment (device_under (next i))) c → ∥ FindsBetween first next i (length (events ++ event ∷ [])) c ∥₁
       each i c le left = ⊎_elim
           (λ (less : i < length events + 1).
           let short : i ≤ length events = omega (arith, less) in
-          let since = subst (λ (m : Kernel D g). left_since (device_under n) (moment (device_under m)) c) (old i short) left in
-          ∥∥₁_elim ((made.found first starts count).before (moment (device_under (was.behind i))) c (was.later i short) since) ∥∥₁_prop (⊎_elim
-          (λ before. ∥∥₁_map (was.each i c short before) (λ f. record {
-            made = f.made;
-            past = f.past;
-            within = let w = f.within in omega (arith, w, longer);
-            finds = subst (λ (m : Kernel D g). FindsCommits m.relations m.counters first m.parts c) (sym (old f.made f.within)) f.finds;
-          }))
-          (λ f. ∣ record {
-            made = length events;
-            past = short;
-            within = omega (arith, longer);
-            finds = subst (λ (m : Kernel D g). FindsCommits m.relations m.counters first m.parts c) (sym here) f;
-          } ∣₁)))
+          let then = subst (λ (m : Kernel D g). left_since (device_under n) (moment (device_under m)) c) (old i short) left in
+          ∥∥₁_elim ((made.found first starts count).before (moment (device_under (was.behind i))) c (was.later i short) then) ∥∥₁_prop (⊎_elim
+          (λ before. ∥∥₁_map (was.each i c short before) (wider i c))
+          (λ f. ∣ found_here i c short f ∣₁)))
           (λ (ge : length events + 1 ≤ i).
           let there : next i ≡ n = ap next (whole i ge le) ∙ own in
           ∥∥₁_map (finds_now n c now counts (subst (λ (m : Kernel D g). left_since (device_under n) (moment (device_under m)) c) there left)) (λ f. record {
@@ -155,8 +165,29 @@ module _ {D : Type 0} {g : Ghosts D} (seen : D → List ℕ) (may_leave : D → 
           }))
           (cases_lt i (length events + 1))
 
-      more : FoundUntil seen may_leave moment left_since faults first (events ++ event ∷ []) (answers ++ answer ∷ []) n (device_under n)
-      more = record { behind = next; last = ap next longer ∙ own; goes = goes; ran = ran_to; answered = λ i le. answered_of (take i (events ++ event ∷ [])) (take i (answers ++ answer ∷ [])) (next i) (ran_to i le); later = later; each = each }
+      all : (c : List ℕ) → left_since (device_under n) (moment since) c → ∥ FindsBetween first next 0 (length (events ++ event ∷ [])) c ∥₁
+      all c left = ∥∥₁_elim ((made.found first starts count).before (moment since) c was.begun left) ∥∥₁_prop (⊎_elim
+          (λ earlier. ∥∥₁_map (was.all c earlier) (wider 0 c))
+          (λ f. ∣ found_here 0 c (omega arith) f ∣₁))
+
+      before : (t : ℕ) (c : List ℕ) → t ≤ moment since → left_since (device_under n) t c → ∥ left_since since t c ⊎ FindsBetween first next 0 (length (events ++ event ∷ [])) c ∥₁
+      before t c le left = ∥∥₁_elim ((made.found first starts count).before t c (let begun = was.begun in omega (arith, le, begun)) left) ∥∥₁_prop (⊎_elim
+          (λ earlier. ∥∥₁_map (was.before t c le earlier) (⊎_elim (λ first_of_all. inl first_of_all) (λ f. inr (wider 0 c f))))
+          (λ f. ∣ inr (found_here 0 c (omega arith) f) ∣₁))
+
+      more : FoundUntil seen may_leave moment left_since faults since first (events ++ event ∷ []) (answers ++ answer ∷ []) n (device_under n)
+      more = record {
+        behind = next;
+        last = ap next longer ∙ own;
+        goes = goes;
+        ran = ran_to;
+        answered = λ i le. answered_of (take i (events ++ event ∷ [])) (take i (answers ++ answer ∷ [])) (next i) (ran_to i le);
+        later = later;
+        each = each;
+        begun = let earlier = was.begun in let up = rises in omega (arith, earlier, up);
+        all = all;
+        before = before;
+      }
 
     pub found_more : (events : List Event) (answers : List Answer) (event : Event) (answer : Answer) (k n : Kernel D g) → HasMade seen may_leave moment left_since faults k event answer n → Restarts seen may_leave first k → IsRelationCount k.relations → IsRelationCount n.relations
         → Ran seen may_leave faults first (events ++ event ∷ []) (answers ++ answer ∷ []) n → Found events answers k → Found (events ++ event ∷ []) (answers ++ answer ∷ []) n
@@ -168,8 +199,8 @@ module _ {D : Type 0} {g : Ghosts D} (seen : D → List ℕ) (may_leave : D → 
         ∥∥₁_map found (λ was. more events answers event answer k n made starts now count counts short (has_run seen may_leave faults first (events ++ event ∷ []) (answers ++ answer ∷ []) n ran now) was))
 
     -- until a device that the last kernel has left
-    pub found_until : (events : List Event) (answers : List Answer) (k : Kernel D g) (device : D) → FindsMeanwhile moment left_since k.relations k.counters first k.parts device → FoundUntil seen may_leave moment left_since faults first events answers k (device_under k)
-        → FoundUntil seen may_leave moment left_since faults first events answers k device
+    pub found_until : (events : List Event) (answers : List Answer) (k : Kernel D g) (device : D) → FindsMeanwhile moment left_since k.relations k.counters first k.parts device → FoundUntil seen may_leave moment left_since faults since first events answers k (device_under k)
+        → FoundUntil seen may_leave moment left_since faults since first events answers k device
     found_until events answers k device meanwhile was = record {
       behind = was.behind;
       last = was.last;
@@ -179,10 +210,28 @@ module _ {D : Type 0} {g : Ghosts D} (seen : D → List ℕ) (may_leave : D → 
       later = λ i le. let before = was.later i le in let after = meanwhile.later in omega (arith, before, after);
       each = λ i c le left. ∥∥₁_elim (meanwhile.before (moment (device_under (was.behind i))) c (was.later i le) left) ∥∥₁_prop (⊎_elim
           (λ before. was.each i c le before)
-          (λ f. ∣ record {
-            made = length events;
-            past = le;
-            within = omega arith;
-            finds = subst (λ (m : Kernel D g). FindsCommits m.relations m.counters first m.parts c) (sym was.last) f;
-          } ∣₁));
+          (λ f. ∣ last_finds i c le f ∣₁));
+      begun = let before = was.begun in let after = meanwhile.later in omega (arith, before, after);
+      all = λ c left. ∥∥₁_elim (meanwhile.before (moment since) c was.begun left) ∥∥₁_prop (⊎_elim
+          (λ before. was.all c before)
+          (λ f. ∣ last_finds 0 c (omega arith) f ∣₁));
+      before = λ t c le left. ∥∥₁_elim (meanwhile.before t c (let begun = was.begun in omega (arith, le, begun)) left) ∥∥₁_prop (⊎_elim
+          (λ before. was.before t c le before)
+          (λ f. ∣ inr (last_finds 0 c (omega arith) f) ∣₁));
+    }
+      where
+        last_finds : (i : ℕ) (c : List ℕ) → i ≤ length events → FindsCommits k.relations k.counters first k.parts c → FindsBetween first was.behind i (length events) c
+        last_finds i c le f = record {
+          made = length events;
+          past = le;
+          within = omega arith;
+          finds = subst (λ (m : Kernel D g). FindsCommits m.relations m.counters first m.parts c) (sym was.last) f;
+        }
+
+    -- the device of a kernel itself
+    pub since_itself : (k : Kernel D g) → since ≡ device_under k → Restarts seen may_leave first k → IsRelationCount k.relations → FindsSince moment left_since since first k
+    since_itself k same starts count = record {
+      later = let at = ap moment same in omega (arith, at);
+      each = λ c left. finds_now k c starts count (subst (λ (d : D). left_since (device_under k) (moment d) c) same left);
+      before = λ t c le left. ∣ inl (subst (λ (d : D). left_since d t c) (sym same) left) ∣₁;
     }

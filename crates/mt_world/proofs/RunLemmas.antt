@@ -1,19 +1,26 @@
 -- Events one after the other, and what follows of all that ended in them.
-use Rattle.std.proofs.Common.{◌≡◌, ◌≢◌, ◌<◌, ◌+◌, suc, ℕ, Bool, true, false, List, [], ◌∷◌, ◌++◌, length, take, get_or, Option, Some, None, is_some, ⊎_elim, refl, ap, sym, subst, ◌∙◌, append_assoc, append-nil, length-append, arith}
+use Rattle.std.proofs.Common.{◌≡◌, ◌≢◌, ◌+◌, ℕ, Bool, true, false, List, [], ◌∷◌, ◌++◌, length, map, take, drop, Option, Some, None, is_some, ⊎_elim, refl, ap, ap₂, sym, subst, ◌∙◌, append_assoc, append-nil, length-append, take-append-drop, arith}
 use Rattle.std.specs.Prelude.{All, AllPairs, if◌then◌else◌}
 use Rattle.std.proofs.lemmas.Bool.{cases_eq}
-use Rattle.std.proofs.Math.Seq.{take-suc}
+use Rattle.std.proofs.lemmas.List.{map-append, take_all}
+use Rattle.std.proofs.lemmas.List.Elements.{All-head}
+use Rattle.std.specs.Option.{option_map}
 use mathlib.Core.Logic.{∥∥₁_elim, ∥∥₁_map}
 use Rattle.std.proofs.Props.{props}
 use Rattle.mt_disk.specs.declared.device.Device.{Ghosts}
 use Rattle.mt_base.specs.declared.refusal.Refusal.{Refusal}
 use Rattle.mt_base.specs.declared.refusal.Refusal.TheVariants as refusal
-use Rattle.mt_kernel.specs.Booked.{booked_each, durable_count, session_at}
-use Rattle.mt_kernel.specs.Consistent.{SameUncommitted, SetsState}
+use Rattle.mt_kernel.specs.Booked.{booked_each, durable_count, session_at, txns_of}
+use Rattle.mt_kernel.specs.Consistent.{SameCommits, SameUncommitted, SetsState, session_in, session_or}
 use Rattle.mt_kernel.specs.Runs.{state_in}
 use Rattle.mt_kernel.specs.declared.parts.Commit.{Commit as CommitUnderWay}
 use Rattle.mt_live.proofs.Alone.{put_other, put_own}
 use Rattle.mt_live.proofs.Keeping.{kept_explained}
+use Rattle.mt_live.specs.Entries.{calls as calls_of_entries, kept}
+use Rattle.mt_live.specs.Laws.{in_turn}
+use Rattle.mt_live.specs.Lives.{member_of}
+use Rattle.mt_live.specs.Members.{Member}
+use Rattle.mt_live.specs.Undoing.{only}
 use Rattle.mt_live.specs.Machine.{State, IsKept, begun, booked, called, dropped, ended, gone, put, start, undone}
 use Rattle.mt_live.specs.Sound.{Each}
 use Rattle.mt_live.specs.declared.transactions.TxnState.{TxnState}
@@ -21,23 +28,26 @@ use Rattle.mt_live.specs.declared.transactions.TxnState.TheVariants.{Open, Commi
 use Rattle.mt_model.proofs.Appends.{acted_append, run-append}
 use Rattle.mt_model.specs.History.{IsActed, run}
 use Rattle.mt_model.specs.Model.{Base}
+use Rattle.mt_model.specs.declared.history.Committed.{Committed}
 use Rattle.mt_txn.proofs.Living.{lives_of}
 use Rattle.mt_txn.proofs.Showing.{kept_of}
 use Rattle.mt_txn.specs.Causes.{abort_cause, busy_cause, first_of, is_aborting, is_open, unless}
+use Rattle.mt_txn.specs.Restarted.{all_commits}
 use Rattle.mt_txn.specs.Shown.{Restarts, Shows, is_failed}
 use Rattle.mt_txn.specs.declared.kernel.Kernel.{Kernel}
 use Rattle.mt_world.specs.Acts.{Act, calls_in}
 use Rattle.mt_world.proofs.EventLemmas.{open_state}
+use Rattle.mt_world.proofs.OrderLemmas.{acknowledged_more, committing_more, told_more}
 use Rattle.mt_live.proofs.Events.{each_append}
 use Rattle.mt_live.proofs.Shapes.{each_map}
-use Rattle.mt_world.proofs.ToldLemmas.{AreDistinct, AreTold, forward_before, is_forward, named_commit, named_distinct, told_begun, told_booked, told_called, told_dropped, told_ended, told_gone, told_still, told_undone}
+use Rattle.mt_world.proofs.ToldLemmas.{AreDistinct, AreTold, forward_before, is_forward, named_commit, named_distinct, told_begun, told_booked, told_called, told_dropped, told_ended, told_gone, told_in_turn, told_still, told_undone}
 use Rattle.mt_world.specs.Due.{FailsIn, IsBroken, IsDue, SamePhases, SetsPhases, StayBroken}
 use Rattle.mt_world.specs.Moves.{IsStill, Moves}
 use Rattle.mt_world.specs.Moves.IsStill.{is_refused, call_waits, step_went, step_waits, step_again, step_full, commit_begun, abort_begun, abort_went, abort_waits, abort_again, abort_full, force_went, force_idle, flushed, rotated}
 use Rattle.mt_world.specs.Moves.Moves.{stays, begins, calls, ends, drops, undoes, aborts, books}
 use Rattle.mt_world.specs.Schedules.{HasMade, HasRun, Makes}
 use Rattle.mt_world.specs.Schedules.Makes.{starts, goes_on}
-use Rattle.mt_world.specs.Told.{Told, acknowledged, named, nothing_told, tells, told_from, told_of}
+use Rattle.mt_world.specs.Told.{Told, acknowledged, commit_of, commit_order, committing, named, nothing_told, started_by, tells, told_of}
 use Rattle.mt_world.specs.declared.events.Answer.{Answer}
 use Rattle.mt_world.specs.declared.events.Answer.TheVariants.{Refused}
 use Rattle.mt_world.specs.declared.events.Event.{Event}
@@ -82,18 +92,30 @@ none_back : (o : Option TxnState) → is_some o ≡ false → is_forward o ≡ f
 none_back None none = refl
 none_back (Some x) none = absurd cc
 
--- ---- what one more event tells
+-- ---- of commits under way
 
-told_more : (t : ℕ) (told : Told) (events : List Event) (answers : List Answer) (event : Event) (answer : Answer) → length events ≡ length answers
-    → told_from t told (events ++ event ∷ []) (answers ++ answer ∷ []) ≡ tells t (told_from t told events answers) event answer
-told_more t told [] [] event answer same = refl
-told_more t told [] (a ∷ answers) event answer same = absurd (omega arith)
-told_more t told (e ∷ events) [] event answer same = absurd (omega arith)
-told_more t told (e ∷ events) (a ∷ answers) event answer same = told_more t (tells t told e a) events answers event answer (omega arith)
+-- where nobody lives, none is
+pub none_under_way : (ms : List Member) (cs : List CommitUnderWay) → All (λ (c : CommitUnderWay). state_in ms c.txn ≡ Some IsCommitting) cs → ((t : ℕ) → is_some (state_in ms t) ≡ false) → cs ≡ []
+none_under_way ms [] each dead = refl
+none_under_way ms (c ∷ cs) each dead =
+    let commits : is_some (state_in ms c.txn) ≡ true = ap (λ (o : Option TxnState). is_some o) (All-head (λ (d : CommitUnderWay). state_in ms d.txn ≡ Some IsCommitting) c cs each) in
+    let wrong : true ≡ false = sym commits ∙ dead c.txn in absurd cc
 
-acknowledged_more : (answers : List Answer) (answer : Answer) → acknowledged (answers ++ answer ∷ []) ≡ acknowledged answers ++ named answer
-acknowledged_more [] answer = append-nil (named answer)
-acknowledged_more (a ∷ answers) answer = ap (λ (ts : List ℕ). named a ++ ts) (acknowledged_more answers answer) ∙ sym (append_assoc (named a) (acknowledged answers) (named answer))
+-- one more is under way behind the others
+one_more : (cs ds : List CommitUnderWay) (t : ℕ) → (c : CommitUnderWay) × (c.txn ≡ t) × (ds ≡ cs ++ c ∷ []) → txns_of ds ≡ txns_of cs ++ t ∷ []
+one_more cs ds t (c, own, is) =
+    ap (λ (l : List CommitUnderWay). txns_of l) is ∙ map-append (λ (d : CommitUnderWay). d.txn) cs (c ∷ []) ∙ ap (λ (u : ℕ). txns_of cs ++ u ∷ []) own
+
+-- the first of them leave
+first_leave : (cs ds : List CommitUnderWay) (names : List ℕ) (n : ℕ) → names ≡ txns_of (take n cs) → ds ≡ drop n cs → names ++ txns_of ds ≡ txns_of cs
+first_leave cs ds names n are rest =
+    ap₂ (λ (ts us : List ℕ). ts ++ us) are (ap (λ (l : List CommitUnderWay). txns_of l) rest)
+    ∙ sym (map-append (λ (d : CommitUnderWay). d.txn) (take n cs) (drop n cs)) ∙ ap (λ (l : List CommitUnderWay). txns_of l) (take-append-drop n cs)
+
+-- the session of a transaction that lives
+session_known : (o : Option Member) (n : ℕ) → option_map (λ (m : Member). m.session) o ≡ Some n → session_or o ≡ n
+session_known None n is = absurd cc
+session_known (Some m) n is = cc
 
 pub stay_more : (answers : List Answer) (answer : Answer) → StayBroken answers → Each (λ x. IsBroken x → IsBroken answer) answers → StayBroken (answers ++ answer ∷ [])
 stay_more [] answer stay each = (λ broken. tt, tt)
@@ -186,6 +208,55 @@ module _ {D : Type 0} {g : Ghosts D} (seen : D → List ℕ) (may_leave : D → 
         (subst (Each (λ t. Phase k t ≡ Some IsCommitting)) (sym due.2) (named_commit (Phase k) (durable_count k.parts.commits.items due.0) k.parts.commits.items each))
         phases (λ u dead. none_back (Phase n u) (sym (lives_of seen may_leave n.relations n.counters n.parts first (booked_each s ts.items) shows u) ∙ dead)) are
 
+  -- ---- the commits that have begun
+
+  module _ (s : State) (k n : Kernel D g) where
+    abbrev Queues : Event → Answer → Type 0
+    Queues event answer = named answer ++ txns_of n.parts.commits.items ≡ txns_of k.parts.commits.items ++ started_by event answer
+
+    same_queue : SameCommits k.parts n.parts → txns_of n.parts.commits.items ≡ txns_of k.parts.commits.items ++ []
+    same_queue same = ap (λ (cs : List CommitUnderWay). txns_of cs) same ∙ sym (append-nil (txns_of k.parts.commits.items))
+
+    refused_queues : (event : Event) (why : Refusal) → SetsPhases k event (Refused why) n → Queues event (Refused why)
+    refused_queues (Begin session) why same = same_queue same.1
+    refused_queues (CallOf t op) why same = same_queue same.1
+    refused_queues (Step t) why same = same_queue same.1
+    refused_queues (Commit t) why same = same_queue same.1
+    refused_queues (AbortBegin t) why same = same_queue same.1
+    refused_queues (AbortStep t) why same = same_queue same.1
+    refused_queues Force why same = same_queue same.1
+    refused_queues Flush why same = same_queue same.1
+    refused_queues Rotate why same = same_queue same.1
+
+    still_queues : (event : Event) (answer : Answer) → IsStill event answer → IsDue seen may_leave faults k event answer n → SetsPhases k event answer n → Queues event answer
+    still_queues _ _ (is_refused event why) due same = refused_queues event why same
+    still_queues _ _ (call_waits t op holder) due same = same_queue same.1
+    still_queues _ _ (step_went t) due same = same_queue same.1
+    still_queues _ _ (step_waits t other) due same = same_queue same.1
+    still_queues _ _ (step_again t) due same = same_queue same.1
+    still_queues _ _ (step_full t) due same = same_queue same.1
+    still_queues _ _ (commit_begun t place) due sets = one_more k.parts.commits.items n.parts.commits.items t sets.1
+    still_queues _ _ (abort_begun t) due sets = same_queue sets.1
+    still_queues _ _ (abort_went t) due same = same_queue same.1
+    still_queues _ _ (abort_waits t other) due same = same_queue same.1
+    still_queues _ _ (abort_again t) due same = same_queue same.1
+    still_queues _ _ (abort_full t) due same = same_queue same.1
+    still_queues _ _ force_went due same = same_queue due.1
+    still_queues _ _ force_idle due same = same_queue due.1
+    still_queues _ _ (flushed told_so) due same = same_queue same.1
+    still_queues _ _ rotated due same = same_queue same.1
+
+    moves_queue : (z : State) (event : Event) (answer : Answer) (more : List Act) → Moves s event answer more z → IsDue seen may_leave faults k event answer n → SetsPhases k event answer n → Queues event answer
+    moves_queue _ _ _ _ (stays event answer is) due phases = still_queues event answer is due phases
+    moves_queue z _ _ _ (begins session) due phases = same_queue phases.1
+    moves_queue z _ _ _ (calls t op) due phases = same_queue phases.1
+    moves_queue z _ _ _ (ends t op runs) due phases = same_queue phases.1
+    moves_queue z _ _ _ (drops t op ps runs given) due phases = same_queue phases.1
+    moves_queue z _ _ _ (undoes t last inverse ps idle effect inverts given) due phases = same_queue phases.1
+    moves_queue z _ _ _ (aborts t nothing) due phases = same_queue phases.2
+    moves_queue z _ _ _ (books ts) due phases =
+        first_leave k.parts.commits.items n.parts.commits.items ts.items (durable_count k.parts.commits.items due.0) due.2 due.3 ∙ sym (append-nil (txns_of k.parts.commits.items))
+
   makes_shows : (events : List Event) (answers : List Answer) (acts : List Act) (s : State) (n : Kernel D g) → Makes seen may_leave faults first events answers acts s n → Shows seen may_leave first s n
   makes_shows _ _ _ _ n (starts k shows) = shows
   makes_shows _ _ _ z n (goes_on events answers acts more s _ k _ event answer before made) = made.shows
@@ -212,6 +283,43 @@ module _ {D : Type 0} {g : Ghosts D} (seen : D → List ℕ) (may_leave : D → 
       subst (AreTold z (Phase n) (λ t. told_of (events ++ event ∷ []) (answers ++ answer ∷ []) t)) (sym (acknowledged_more answers answer))
       (subst (λ (told : ℕ → Told). AreTold z (Phase n) told (acknowledged answers ++ named answer)) (λ i t. sym (told_more t nothing_told events answers event answer (makes_same events answers acts s k before)) i)
       (moves_told s k n (λ t. told_of events answers t) (acknowledged answers) z event answer more made.moves made.due made.phases made.shows kept queued.each queued.apart are)))))
+
+  -- the acknowledged ones, and those under way behind them, are all that have begun
+  makes_queue : (events : List Event) (answers : List Answer) (acts : List Act) (s : State) (n : Kernel D g) → Makes seen may_leave faults first events answers acts s n
+      → ∥ acknowledged answers ++ txns_of n.parts.commits.items ≡ committing events answers ∥₁
+  makes_queue _ _ _ _ n (starts k shows) = ∥∥₁_map shows (λ (origin, base, is, x).
+      ap (λ (cs : List CommitUnderWay). txns_of cs) (none_under_way k.parts.live.members k.parts.commits.items x.consistent.fit.queued.each (λ t. sym (lives_of seen may_leave k.relations k.counters k.parts first (start first) shows t))))
+  makes_queue _ _ _ z n (goes_on events answers acts more s _ k _ event answer before made) = ∥∥₁_map (makes_queue events answers acts s k before) (λ was.
+      let queues = moves_queue s k n z event answer more made.moves made.due made.phases in
+      ap (λ (ts : List ℕ). ts ++ txns_of n.parts.commits.items) (acknowledged_more answers answer)
+      ∙ append_assoc (acknowledged answers) (named answer) (txns_of n.parts.commits.items)
+      ∙ ap (λ (ts : List ℕ). acknowledged answers ++ ts) queues
+      ∙ sym (append_assoc (acknowledged answers) (txns_of k.parts.commits.items) (started_by event answer))
+      ∙ ap (λ (ts : List ℕ). ts ++ started_by event answer) was
+      ∙ sym (committing_more events answers event answer (makes_same events answers acts s k before)))
+
+  -- each with what its session was told
+  order_of : (events : List Event) (answers : List Answer) (s : State) (n : Kernel D g) → AreTold s (Phase n) (λ t. told_of events answers t) (acknowledged answers) → Shows seen may_leave first s n
+      → acknowledged answers ++ txns_of n.parts.commits.items ≡ committing events answers → ∥ all_commits n.parts ≡ commit_order events answers ∥₁
+  order_of events answers s n are shows queue = ∥∥₁_map shows (λ (origin, base, is, x).
+      let told : ℕ → Told = λ t. told_of events answers t in
+      let ms = n.parts.live.members in
+      let cs = n.parts.commits.items in
+      let queued = x.consistent.fit.queued in
+      let whole : take (length cs) cs ≡ cs = take_all (length cs) cs (omega arith) in
+      let distinct : AreDistinct (txns_of cs) = subst (λ (l : List CommitUnderWay). AreDistinct (txns_of l)) whole (named_distinct (length cs) cs queued.apart) in
+      let commit : Each (λ t. Phase n t ≡ Some IsCommitting) (txns_of cs) = subst (λ (l : List CommitUnderWay). Each (λ t. Phase n t ≡ Some IsCommitting) (txns_of l)) whole (named_commit (Phase n) (length cs) cs queued.each) in
+      let known : (t : ℕ) → Phase n t ≡ Some IsCommitting → (session_in ms t ≡ (told t).session) × (calls_of_entries (kept (only t) n.parts.live.standing) ≡ (told t).calls) =
+      (λ t commits. let is_told = are.each t (ap is_forward commits) in (
+        session_known (member_of ms t) (told t).session (sym (ap (λ (y : State). y.sessions t) x.state) ∙ is_told.session),
+        sym (ap (λ (y : State). calls_of_entries (kept (only t) y.standing)) x.state) ∙ is_told.calls,
+      )) in
+      let turn : in_turn (session_in ms) (txns_of cs) n.parts.live.standing ≡ map (λ t. commit_of (told t)) (txns_of cs) =
+      told_in_turn (session_in ms) told (txns_of cs) n.parts.live.standing distinct (each_map _ _ known (txns_of cs) commit) in
+      let book : n.parts.book.items ≡ map (λ t. commit_of (told t)) (acknowledged answers) = sym (ap (λ (y : State). y.book) x.state) ∙ are.book in
+      ap₂ (λ (xs ys : List Committed). xs ++ ys) book turn
+      ∙ sym (map-append (λ t. commit_of (told t)) (acknowledged answers) (txns_of cs))
+      ∙ ap (λ (ts : List ℕ). map (λ t. commit_of (told t)) ts) queue)
 
   -- ---- once the device has failed
 
@@ -245,6 +353,8 @@ module _ {D : Type 0} {g : Ghosts D} (seen : D → List ℕ) (may_leave : D → 
   pub has_run : (events : List Event) (answers : List Answer) (n : Kernel D g) → Ran events answers n → Restarts seen may_leave first n → ∥ HasRun seen may_leave faults first events answers n ∥₁
   has_run events answers n ran restarts = ∥∥₁_elim ran (hlevel props) (λ (acts, s, made, shows).
       ∥∥₁_elim (makes_told events answers acts s n made) (hlevel props) (λ told.
+      ∥∥₁_elim (makes_queue events answers acts s n made) (hlevel props) (λ queue.
+      ∥∥₁_elim (order_of events answers s n told shows queue) (hlevel props) (λ order.
       ∥∥₁_map (kept_of seen may_leave n.relations n.counters n.parts first s shows) (λ kept.
       let acted = makes_acted events answers acts s n made in record {
         acts = acts;
@@ -254,8 +364,10 @@ module _ {D : Type 0} {g : Ghosts D} (seen : D → List ℕ) (may_leave : D → 
         acted = acted.0;
         held = acted.1;
         told = told.book;
+        order = order;
+        queue = queue;
         legal = kept.legal;
         explained = kept_explained first s kept;
         broken = (makes_broken events answers acts s n made).0;
         restarts = restarts;
-      })))
+      })))))

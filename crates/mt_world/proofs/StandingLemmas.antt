@@ -1,8 +1,7 @@
 -- Events one after the other, whatever stands.
-use Rattle.std.proofs.Common.{◌≡◌, ◌<◌, ◌+◌, suc, ℕ, true, List, [], ◌∷◌, ◌++◌, length, map, take, get_or, Some, None, refl, ap, sym, subst, ◌∙◌, append_assoc}
+use Rattle.std.proofs.Common.{◌≡◌, ◌<◌, suc, ℕ, true, List, [], ◌∷◌, ◌++◌, length, map, take, get_or, Some, None, ap, sym, subst, ◌∙◌, append_assoc}
 use Rattle.std.proofs.lemmas.List.{map-append}
 use Rattle.std.proofs.Math.Seq.{take-suc}
-use Rattle.std.specs.Prelude.{⊤}
 use mathlib.Core.Logic.{∥∥₁_elim, ∥∥₁_map, ∥∥₁_prop}
 use Rattle.mt_base.specs.declared.refusal.Refusal.TheVariants as refusal
 use Rattle.mt_disk.specs.declared.device.Device.{Ghosts}
@@ -16,7 +15,7 @@ use Rattle.mt_txn.specs.declared.kernel.Kernel.{Kernel}
 use Rattle.mt_world.proofs.CrashLemmas.{Found, found_more, found_none, found_until}
 use Rattle.mt_world.proofs.RunLemmas.{Ran, has_run, makes_broken, ran_more, ran_none, stay_more}
 use Rattle.mt_world.proofs.TurnLemmas.{early_failed}
-use Rattle.mt_world.specs.Crashes.{FoundTo, FoundUntilEnd}
+use Rattle.mt_world.specs.Crashes.{FindsSince, FoundTo, FoundUntilEnd}
 use Rattle.mt_world.specs.Due.{IsBroken, StayBroken}
 use Rattle.mt_world.specs.Schedules.{GoesTo, HasEndedBy, HasRun, HasRunTo, IsOfSchema}
 use Rattle.mt_world.specs.declared.events.Answer.{Answer}
@@ -37,27 +36,27 @@ module _ {D : Type 0} (g : Ghosts D) (seen : D → List ℕ) (may_leave : D → 
   schema_more relations counters (Stands k) (Ended device) event answer made is = tt
   schema_more relations counters (Ended device) next event answer goes is = subst (IsOfSchema relations counters) (sym goes.1) tt
 
-  module _ (relations counters : ℕ) (first : Base) where
+  module _ (relations counters : ℕ) (since : D) (first : Base) where
     -- the events so far have led to this kernel
     pub record RunsOn (events : List Event) (answers : List Answer) (n : Kernel D g) : Type 0 where
       pub ran : Ran seen may_leave faults first events answers n
       pub starts : Restarts seen may_leave first n
-      pub found : Found seen may_leave moment left_since only_now faults first events answers n
+      pub found : Found seen may_leave moment left_since only_now faults since first events answers n
       pub schema : (n.relations ≡ relations) × (n.counters ≡ counters)
 
     abbrev pub EndsAs : List Event → List Answer → D → Type 0
-    EndsAs events answers device = FoundUntilEnd g seen may_leave moment left_since faults relations counters first events answers device
+    EndsAs events answers device = FoundUntilEnd g seen may_leave moment left_since faults relations counters since first events answers device
 
     -- or to what is left of one
     abbrev pub RunsTo : List Event → List Answer → Standing D g → Type 0
     RunsTo events answers (Stands n) = RunsOn events answers n
     RunsTo events answers (Ended device) = ∥ EndsAs events answers device ∥₁
 
-    pub runs_none : (k : Kernel D g) → Shows seen may_leave first (start first) k → Restarts seen may_leave first k → (k.relations ≡ relations) × (k.counters ≡ counters) → RunsTo [] [] (Stands k)
-    runs_none k shows starts schema = record {
+    pub runs_none : (k : Kernel D g) → Shows seen may_leave first (start first) k → Restarts seen may_leave first k → FindsSince moment left_since since first k → (k.relations ≡ relations) × (k.counters ≡ counters) → RunsTo [] [] (Stands k)
+    runs_none k shows starts finds schema = record {
       ran = ran_none seen may_leave faults first k shows;
       starts = starts;
-      found = found_none seen may_leave moment left_since only_now faults first k shows starts k.schema;
+      found = found_none seen may_leave moment left_since only_now faults since first k shows starts finds k.schema;
       schema = schema;
     }
 
@@ -86,7 +85,7 @@ module _ {D : Type 0} (g : Ghosts D) (seen : D → List ℕ) (may_leave : D → 
             stands = by.left.1 first runs.starts;
             broken = unbroken events answers answer k by.left.0 run;
           };
-          until = found_until seen may_leave moment left_since only_now faults first events answers k device (by.found first runs.starts) found;
+          until = found_until seen may_leave moment left_since only_now faults since first events answers k device (by.found first runs.starts) found;
         }))
 
     refuses : (events : List Event) (answers : List Answer) (event : Event) (answer : Answer) (device : D) → answer ≡ Refused refusal.DeviceFailed → EndsAs events answers device → EndsAs (events ++ event ∷ []) (answers ++ answer ∷ []) device
@@ -118,7 +117,7 @@ module _ {D : Type 0} (g : Ghosts D) (seen : D → List ℕ) (may_leave : D → 
         record {
           ran = ran;
           starts = made.restarts first runs.starts;
-          found = found_more seen may_leave moment left_since only_now faults first events answers event answer k n made runs.starts k.schema n.schema ran runs.found;
+          found = found_more seen may_leave moment left_since only_now faults since first events answers event answer k n made runs.starts k.schema n.schema ran runs.found;
           schema = (made.schema.0 ∙ runs.schema.0, made.schema.1 ∙ runs.schema.1);
         }
     runs_more events answers (Stands k) (Ended device) event answer by runs = ends events answers k event answer device runs by
@@ -135,6 +134,6 @@ module _ {D : Type 0} (g : Ghosts D) (seen : D → List ℕ) (may_leave : D → 
     has_run_to events answers (Stands n) runs = has_run seen may_leave faults first events answers n runs.ran runs.starts
     has_run_to events answers (Ended device) runs = ∥∥₁_map runs (λ f. f.ended)
 
-    pub found_to : (events : List Event) (answers : List Answer) (standing : Standing D g) → RunsTo events answers standing → ∥ FoundTo seen may_leave moment left_since faults relations counters first events answers standing ∥₁
+    pub found_to : (events : List Event) (answers : List Answer) (standing : Standing D g) → RunsTo events answers standing → ∥ FoundTo seen may_leave moment left_since faults relations counters since first events answers standing ∥₁
     found_to events answers (Stands n) runs = runs.found
     found_to events answers (Ended device) runs = runs

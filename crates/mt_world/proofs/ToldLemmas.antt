@@ -12,6 +12,7 @@ use Rattle.mt_live.proofs.Alone.{put_other, put_own}
 use Rattle.mt_live.proofs.Events.{each_append}
 use Rattle.mt_live.proofs.Shapes.{each_map}
 use Rattle.mt_live.specs.Entries.{Entry, calls, kept}
+use Rattle.mt_live.specs.Laws.{in_turn}
 use Rattle.mt_live.specs.Machine.{State, IsKept, begun, booked, called, dropped, ended, gone, is_live, put, undone}
 use Rattle.mt_live.specs.Sound.{Each}
 use Rattle.mt_live.specs.Undoing.{cut_back, is_effect, last_effect, only, others}
@@ -362,3 +363,14 @@ pub named_distinct : (n : ℕ) (cs : List Commit) → AllPairs (λ (a b : Commit
 named_distinct zero cs apart = tt
 named_distinct (suc n) [] apart = tt
 named_distinct (suc n) (c ∷ cs) apart = (apart_from c.txn n cs (pairs_head (λ (a b : Commit). a.txn ≢ b.txn) c cs apart), named_distinct n cs (pairs_tail (λ (a b : Commit). a.txn ≢ b.txn) c cs apart))
+
+-- ---- commits under way, one after the other
+
+pub told_in_turn : (session : ℕ → ℕ) (told : ℕ → Told) (ts : List ℕ) (es : List Entry) → AreDistinct ts → Each (λ t. (session t ≡ (told t).session) × (calls (kept (only t) es) ≡ (told t).calls)) ts
+    → in_turn session ts es ≡ map (λ t. commit_of (told t)) ts
+told_in_turn session told [] es distinct each = refl
+told_in_turn session told (t ∷ ts) es distinct each =
+    ap₂ (λ (c : Committed) (cs : List Committed). c ∷ cs) (λ i. record { session = each.0.0 i; calls = each.0.1 i })
+    (told_in_turn session told ts (kept (others t) es) distinct.1
+    (each_two (λ u. u ≢ t) (λ u. (session u ≡ (told u).session) × (calls (kept (only u) es) ≡ (told u).calls)) (λ u. (session u ≡ (told u).session) × (calls (kept (only u) (kept (others t) es)) ≡ (told u).calls))
+    (λ u other is. (is.0, ap calls (kept_apart u t es other) ∙ is.1)) ts distinct.0 each.1))

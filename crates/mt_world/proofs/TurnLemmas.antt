@@ -1,5 +1,5 @@
 -- What a rotation does to a kernel in which nobody lives.
-use Rattle.std.proofs.Common.{◌≡◌, ◌≢◌, ◌⊎◌, ⊎_elim, inl, inr, ℕ, Bool, true, false, List, [], length, Option, Some, None, is_some, Err, subst, suc, zero, refl, ap, sym, ◌∙◌}
+use Rattle.std.proofs.Common.{◌≡◌, ⊎_elim, inl, ℕ, Bool, true, false, List, [], length, Option, Some, None, is_some, Err, subst, suc, zero, refl, ap, sym, ◌∙◌}
 use Rattle.std.specs.Prelude.{if◌then◌else◌, nat_eq}
 use Rattle.std.proofs.Math.Dec.{eqb-suc-zero}
 use Rattle.std.proofs.Props.{props}
@@ -8,7 +8,7 @@ use Rattle.mt_base.specs.declared.refusal.Refusal.{Refusal}
 use Rattle.mt_base.specs.declared.refusal.Refusal.TheVariants as refusal
 use Rattle.mt_disk.specs.declared.device.Device.{Ghosts}
 use Rattle.mt_kernel.proofs.First.{none_of_none}
-use Rattle.mt_kernel.specs.Consistent.{SameUncommitted, state_of}
+use Rattle.mt_kernel.specs.Consistent.{state_of}
 use Rattle.mt_kernel.specs.Runs.{state_in}
 use Rattle.mt_kernel.specs.declared.parts.Commit.{Commit}
 use Rattle.mt_live.specs.Machine.{State, is_live}
@@ -22,7 +22,7 @@ use Rattle.mt_txn.proofs.GoingOn.{nobody_commits, nobody_still}
 use Rattle.mt_txn.proofs.Living.{lives_of}
 use Rattle.mt_txn.specs.Causes.{survey_cause}
 use Rattle.mt_txn.specs.Restarted.{FindsMeanwhile}
-use Rattle.mt_txn.specs.Shown.{LeavesFound, Restarts, SameSchema, Shows, StaysRestarting, is_failed}
+use Rattle.mt_txn.specs.Shown.{Restarts, SameSchema, Shows, StaysRestarting, is_failed}
 use Rattle.mt_txn.specs.Turned.{HasNobody}
 use Rattle.mt_txn.specs.Well.{IsWell}
 use Rattle.mt_txn.specs.declared.kernel.Kernel.{Kernel}

@@ -1,7 +1,12 @@
 -- What a restart finds where a crash comes while events are made.
-use Rattle.std.specs.Prelude.{ℕ, ◌≡◌, ◌<◌, ◌≤◌, ◌+◌, List, get_or, length, take}
+use Rattle.std.specs.Prelude.{ℕ, ◌≡◌, ◌⊎◌, ◌<◌, ◌≤◌, ◌+◌, List, get_or, length, take}
+use Rattle.mt_disk.specs.Disk.{LeavesOnly}
 use Rattle.mt_disk.specs.declared.device.Device.{Ghosts}
 use Rattle.mt_model.specs.Model.{Base}
+use Rattle.mt_replay.specs.Stands.{CanRestart}
+use Rattle.mt_restart.specs.Formats.{FormatBegins}
+use Rattle.mt_restart.specs.Schemas.{counters_in, relations_in, schema_base}
+use Rattle.mt_restart.specs.declared.schema.Schema.{Schema}
 use Rattle.mt_txn.specs.Restarted.{FindsCommits}
 use Rattle.mt_txn.specs.declared.kernel.Kernel.{Kernel}
 use Rattle.mt_world.specs.Schedules.{HasEnded, HasMade, HasRun}
@@ -22,10 +27,19 @@ pub record FindsBetween {D : Type 0} {g : Ghosts D} (first : Base) (behind : ℕ
   pub within : made ≤ most
   pub finds : FindsCommits (behind made).relations (behind made).counters first (behind made).parts c
 
+-- Whatever a crash left since the device of a kernel was this one, a restart finds in it what some of the first commits of the kernel lead to.
+pub record FindsSince {D : Type 0} {g : Ghosts D} (moment : D → ℕ) (left_since : D → ℕ → List ℕ → Type 0) (since : D) (first : Base) (k : Kernel D g) : Type 0 where
+  pub later : moment since ≤ moment (device_under k)
+  pub each : (c : List ℕ) → left_since (device_under k) (moment since) c → ∥ FindsCommits k.relations k.counters first k.parts c ∥₁
+  -- the same, for a run of calls that began before
+  pub before : (t : ℕ) (c : List ℕ) → t ≤ moment since → left_since (device_under k) t c
+      → ∥ left_since since t c ⊎ FindsCommits k.relations k.counters first k.parts c ∥₁
+
 -- The events led from kernel to kernel, the last of which is k, until the device is this one. Whatever a crash leaves since one of these
--- kernels stood, a restart finds in it what some of the first commits of that one, or of a later one, lead to.
+-- kernels stood, a restart finds in it what some of the first commits of that one, or of a later one, lead to. And so it does in what a crash
+-- leaves since the device was another one, before the first kernel stood.
 pub record FoundUntil {D : Type 0} {g : Ghosts D} (seen : D → List ℕ) (may_leave : D → List ℕ → Type 0) (moment : D → ℕ) (left_since : D → ℕ → List ℕ → Type 0) (faults : D → ℕ)
-    (first : Base) (events : List Event) (answers : List Answer) (k : Kernel D g) (device : D) : Type 0 where
+    (since : D) (first : Base) (events : List Event) (answers : List Answer) (k : Kernel D g) (device : D) : Type 0 where
   -- the kernel behind so many events
   pub behind : ℕ → Kernel D g
   pub last : behind (length events) ≡ k
@@ -37,14 +51,49 @@ pub record FoundUntil {D : Type 0} {g : Ghosts D} (seen : D → List ℕ) (may_l
   pub later : (i : ℕ) → i ≤ length events → moment (device_under (behind i)) ≤ moment device
   pub each : (i : ℕ) (c : List ℕ) → i ≤ length events → left_since device (moment (device_under (behind i))) c
       → ∥ FindsBetween first behind i (length events) c ∥₁
+  pub begun : moment since ≤ moment device
+  pub all : (c : List ℕ) → left_since device (moment since) c → ∥ FindsBetween first behind 0 (length events) c ∥₁
+  -- the same, for a run of calls that began before
+  pub before : (t : ℕ) (c : List ℕ) → t ≤ moment since → left_since device t c
+      → ∥ left_since since t c ⊎ FindsBetween first behind 0 (length events) c ∥₁
 
 -- where a rotation has ended the kernel, until the device is the one that it left
 pub record FoundUntilEnd {D : Type 0} (g : Ghosts D) (seen : D → List ℕ) (may_leave : D → List ℕ → Type 0) (moment : D → ℕ) (left_since : D → ℕ → List ℕ → Type 0) (faults : D → ℕ)
-    (relations counters : ℕ) (first : Base) (events : List Event) (answers : List Answer) (device : D) : Type 0 where
+    (relations counters : ℕ) (since : D) (first : Base) (events : List Event) (answers : List Answer) (device : D) : Type 0 where
   pub ended : HasEnded g seen may_leave moment left_since faults relations counters first events answers device
-  pub until : FoundUntil seen may_leave moment left_since faults first ended.done ended.told ended.kernel device
+  pub until : FoundUntil seen may_leave moment left_since faults since first ended.done ended.told ended.kernel device
 
 -- until what stands behind all events
-abbrev pub FoundTo : {D : Type 0} {g : Ghosts D} (seen : D → List ℕ) (may_leave : D → List ℕ → Type 0) (moment : D → ℕ) (left_since : D → ℕ → List ℕ → Type 0) (faults : D → ℕ) → ℕ → ℕ → Base → List Event → List Answer → Standing D g → Type 0
-FoundTo seen may_leave moment left_since faults relations counters first events answers (Stands n) = FoundUntil seen may_leave moment left_since faults first events answers n (device_under n)
-FoundTo {g = g} seen may_leave moment left_since faults relations counters first events answers (Ended device) = FoundUntilEnd g seen may_leave moment left_since faults relations counters first events answers device
+abbrev pub FoundTo : {D : Type 0} {g : Ghosts D} (seen : D → List ℕ) (may_leave : D → List ℕ → Type 0) (moment : D → ℕ) (left_since : D → ℕ → List ℕ → Type 0) (faults : D → ℕ) → ℕ → ℕ → D → Base → List Event → List Answer → Standing D g → Type 0
+FoundTo seen may_leave moment left_since faults relations counters since first events answers (Stands n) = FoundUntil seen may_leave moment left_since faults since first events answers n (device_under n)
+FoundTo {g = g} seen may_leave moment left_since faults relations counters since first events answers (Ended device) = FoundUntilEnd g seen may_leave moment left_since faults relations counters since first events answers device
+
+-- ---- from the format on
+
+-- a restart finds the schema's first base in these bytes
+abbrev pub StandsFirst : Schema → List ℕ → Type 0
+StandsFirst s c = CanRestart (relations_in s) (length (counters_in s)) c (schema_base s)
+
+-- what a crash leaves of a device while it is formatted, and then while it is opened
+abbrev pub BeginsOrStands : Schema → (List ℕ → Type 0) → List ℕ → Type 0
+BeginsOrStands s contents c = FormatBegins s contents c ⊎ StandsFirst s c
+
+-- A device was formatted by the schema, and then stood for its first base, whatever a crash left.
+pub record HasFormatted {D : Type 0} (may_leave : D → List ℕ → Type 0) (moment : D → ℕ) (left_since : D → ℕ → List ℕ → Type 0) (s : Schema) (device formatted : D) : Type 0 where
+  pub meanwhile : LeavesOnly moment left_since device formatted (FormatBegins s (may_leave device))
+  pub stands : (c : List ℕ) → may_leave formatted c → StandsFirst s c
+
+-- And a kernel was opened on it.
+pub record HasBegun {D : Type 0} {g : Ghosts D} (may_leave : D → List ℕ → Type 0) (moment : D → ℕ) (left_since : D → ℕ → List ℕ → Type 0) (s : Schema) (device : D) (k : Kernel D g) : Type 0 where
+  pub formatted : D
+  pub format : HasFormatted may_leave moment left_since s device formatted
+  pub since : FindsSince moment left_since formatted (schema_base s) k
+
+-- A device was formatted, a kernel was opened on it, and then the events were made. Whenever a crash comes from the format on, a restart finds
+-- what some of the first commits lead to, beginning with the schema's first base.
+pub record FoundFromFormat {D : Type 0} {g : Ghosts D} (seen : D → List ℕ) (may_leave : D → List ℕ → Type 0) (moment : D → ℕ) (left_since : D → ℕ → List ℕ → Type 0) (faults : D → ℕ)
+    (s : Schema) (device : D) (events : List Event) (answers : List Answer) (standing : Standing D g) : Type 0 where
+  -- the device behind its format
+  pub formatted : D
+  pub format : HasFormatted may_leave moment left_since s device formatted
+  pub until : FoundTo seen may_leave moment left_since faults (relations_in s) (length (counters_in s)) formatted (schema_base s) events answers standing

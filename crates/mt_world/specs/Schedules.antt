@@ -3,19 +3,20 @@ use Rattle.std.specs.Prelude.{ℕ, ◌≡◌, List, [], ◌∷◌, ◌++◌, Opt
 use Rattle.mt_base.specs.declared.refusal.Refusal.{Refusal}
 use Rattle.mt_base.specs.declared.refusal.Refusal.TheVariants as refusal
 use Rattle.mt_disk.specs.declared.device.Device.{Ghosts}
+use Rattle.mt_kernel.specs.Booked.{txns_of}
 use Rattle.mt_live.specs.Entries.{IsExplained}
 use Rattle.mt_live.specs.Machine.{State, committed_base, start}
 use Rattle.mt_model.specs.History.{IsActed, IsLegal, run}
 use Rattle.mt_model.specs.Model.{Base}
 use Rattle.mt_restart.specs.Rotated.{IsLeft, StandsForBook}
 use Rattle.mt_restart.specs.declared.rotating.NotRotated.TheVariants.{Ended as IsEnded}
-use Rattle.mt_txn.specs.Restarted.{FindsMeanwhile}
+use Rattle.mt_txn.specs.Restarted.{FindsMeanwhile, all_commits}
 use Rattle.mt_txn.specs.Shown.{LeavesFound, Restarts, SameSchema, Shows, StaysRestarting}
 use Rattle.mt_txn.specs.declared.kernel.Kernel.{Kernel}
 use Rattle.mt_world.specs.Acts.{Act, calls_in}
 use Rattle.mt_world.specs.Due.{FailsIn, IsDue, SetsPhases, StayBroken}
 use Rattle.mt_world.specs.Moves.{Moves}
-use Rattle.mt_world.specs.Told.{acknowledged, commit_of, told_of}
+use Rattle.mt_world.specs.Told.{acknowledged, commit_of, commit_order, committing, told_of}
 use Rattle.mt_world.specs.declared.events.Answer.{Answer}
 use Rattle.mt_world.specs.declared.events.Answer.TheVariants.{Refused}
 use Rattle.mt_world.specs.declared.events.Event.{Event}
@@ -55,7 +56,8 @@ module _ {D : Type 0} {g : Ghosts D} (seen : D → List ℕ) (may_leave : D → 
   -- What ended replied as the model does, one operation after the other, and leads to the base that the pages hold. The book has the
   -- acknowledged commits in their order, each with the replies that its session was told; and they are what its transactions do alone, one
   -- after the other. What stands of the others is explained, whoever of them is struck out. Behind the first refusal 2 each answer is that.
-  -- And whatever a crash leaves of the kernel can be restarted from.
+  -- The book, and behind it the commits under way, are all commits that have begun, in the order in which they did. And whatever a crash
+  -- leaves of the kernel can be restarted from.
   pub record HasRun (first : Base) (events : List Event) (answers : List Answer) (n : Kernel D g) : Type 0 where
     pub acts : List Act
     pub state : State
@@ -64,6 +66,9 @@ module _ {D : Type 0} {g : Ghosts D} (seen : D → List ℕ) (may_leave : D → 
     pub acted : IsActed first (calls_in acts)
     pub held : run first (calls_in acts) ≡ state.base
     pub told : state.book ≡ map (λ t. commit_of (told_of events answers t)) (acknowledged answers)
+    -- in the order of their records
+    pub order : all_commits n.parts ≡ commit_order events answers
+    pub queue : acknowledged answers ++ txns_of n.parts.commits.items ≡ committing events answers
     pub legal : IsLegal first state.book
     pub explained : IsExplained (committed_base first state) state.standing state.base
     pub broken : StayBroken answers

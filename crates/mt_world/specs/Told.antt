@@ -1,5 +1,5 @@
 -- What events and their answers tell of a transaction, and which commits they acknowledge.
-use Rattle.std.specs.Prelude.{ℕ, ◌==◌, cond, List, [], ◌∷◌, ◌++◌, Option, Some, None}
+use Rattle.std.specs.Prelude.{ℕ, ◌==◌, cond, List, [], ◌∷◌, ◌++◌, map, Option, Some, None}
 use Rattle.mt_kernel.specs.declared.calls.Called.TheVariants as call
 use Rattle.mt_model.specs.History.{Call as Replied}
 use Rattle.mt_model.specs.declared.history.Committed.{Committed}
@@ -8,9 +8,9 @@ use Rattle.mt_model.specs.declared.operations.Reply.{Reply}
 use Rattle.mt_txn.specs.declared.answers.KernelForced.TheVariants as forced
 use Rattle.mt_txn.specs.declared.answers.Stepped.TheVariants as step
 use Rattle.mt_world.specs.declared.events.Answer.{Answer}
-use Rattle.mt_world.specs.declared.events.Answer.TheVariants.{Begun, Called, Stepped, Forced}
+use Rattle.mt_world.specs.declared.events.Answer.TheVariants.{Begun, Called, Stepped, Committing, Forced}
 use Rattle.mt_world.specs.declared.events.Event.{Event}
-use Rattle.mt_world.specs.declared.events.Event.TheVariants.{Begin, Call, Step}
+use Rattle.mt_world.specs.declared.events.Event.TheVariants.{Begin, Call, Step, Commit}
 
 -- whose it is, what it was last told has started, and the operations that it had a reply to
 pub record Told : Type 0 where
@@ -54,3 +54,18 @@ named answer = []
 abbrev pub acknowledged : List Answer → List ℕ
 acknowledged [] = []
 acknowledged (answer ∷ answers) = named answer ++ acknowledged answers
+
+-- the transaction whose commit an event begins, if it does
+abbrev pub started_by : Event → Answer → List ℕ
+started_by (Commit t) (Committing place) = t ∷ []
+started_by event answer = []
+
+-- the commits that have begun, in the order in which they did
+abbrev pub committing : List Event → List Answer → List ℕ
+committing [] answers = []
+committing (event ∷ events) [] = []
+committing (event ∷ events) (answer ∷ answers) = started_by event answer ++ committing events answers
+
+-- these commits: each session's, with the operations that it had a reply to
+abbrev pub commit_order : List Event → List Answer → List Committed
+commit_order events answers = map (λ t. commit_of (told_of events answers t)) (committing events answers)

@@ -2,11 +2,12 @@
 ghost use Rattle.std.specs.Prelude.{◌≡◌, ◌⊎◌, ◌<◌, ◌≤◌, ◌+◌, [], length, vec_len, IfOk, IfErr};
 ghost use Rattle.std.specs.Vec.{vec_capacity};
 ghost use Rattle.mt_base.specs.declared.refusal.Refusal.{Refusal};
+ghost use Rattle.mt_disk.specs.Disk.{LeavesOnly};
 ghost use Rattle.mt_live.specs.Machine.{start};
 ghost use Rattle.mt_restart.specs.Schemas.{counters_in, device_bytes, relations_in, schema_base};
 ghost use Rattle.mt_txn.specs.Shown.{Restarts, Shows};
 ghost use Rattle.mt_model.specs.Model.{Base};
-ghost use Rattle.mt_world.specs.Crashes.{FoundTo};
+ghost use Rattle.mt_world.specs.Crashes.{BeginsOrStands, FindsSince, FoundFromFormat, FoundTo, HasBegun};
 ghost use Rattle.mt_world.specs.Schedules.{HasRunTo, IsOfSchema};
 
 use crate::events::{Answer, Event};
@@ -14,7 +15,7 @@ use crate::making::{FRAMES, make};
 use crate::standing::Standing;
 use mt_base::Refusal;
 use mt_disk::Device;
-use mt_restart::{Schema, fresh};
+use mt_restart::{Schema, format, open};
 use mt_txn::Kernel;
 use std::alloc::Global;
 
@@ -30,9 +31,10 @@ fn make_all<D: Device + Drop>(
     ensures ran { (first : Base) → Shows D.seen D.may_leave first (start first) kernel
         → Restarts D.seen D.may_leave first kernel → ∥ HasRunTo D.seen D.may_leave D.moment D.left_since D.faults
         kernel.relations kernel.counters first events.now answers.new.items result ∥₁ }
-    ensures moments { (first : Base) → Shows D.seen D.may_leave first (start first) kernel
-        → Restarts D.seen D.may_leave first kernel → ∥ FoundTo D.seen D.may_leave D.moment D.left_since D.faults
-        kernel.relations kernel.counters first events.now answers.new.items result ∥₁ }
+    ensures moments { (since : D) (first : Base) → Shows D.seen D.may_leave first (start first) kernel
+        → Restarts D.seen D.may_leave first kernel → FindsSince D.moment D.left_since since first kernel
+        → ∥ FoundTo D.seen D.may_leave D.moment D.left_since D.faults kernel.relations kernel.counters since first
+        events.now answers.new.items result ∥₁ }
     ensures schema { IsOfSchema kernel.relations kernel.counters result }
 {
     let mut standing = Standing::Stands(kernel);
@@ -44,8 +46,32 @@ fn make_all<D: Device + Drop>(
     standing
 }
 
-/// Formats a device by the schema, begins a kernel over it in 64 frames, and makes the events in their order, each by
-/// the kernel's call of its name and by nothing else. Gives what stands behind them, and an answer of each event.
+/// Formats a device by the schema, and opens it.
+pub(crate) fn begin_on<D: Device + Drop>(
+    alloc: Global,
+    device: D,
+    schema: &Schema,
+) -> Result<Kernel<D>, (Refusal, D)>
+    ensures shows { IfOk result (Shows D.seen D.may_leave (schema_base schema.now) (start (schema_base schema.now))) }
+    ensures restarts { IfOk result (Restarts D.seen D.may_leave (schema_base schema.now)) }
+    ensures schema { IfOk result (λ kernel. (kernel.relations ≡ relations_in schema.now)
+        × (kernel.counters ≡ length (counters_in schema.now))) }
+    ensures begun { IfOk result (HasBegun D.may_leave D.moment D.left_since schema.now device) }
+    ensures err { IfErr result (λ gone. LeavesOnly D.moment D.left_since device gone.1
+        (BeginsOrStands schema.now (D.may_leave device))) }
+    ensures cause { IfErr result (λ gone. (gone.0 ≡ Refusal.NoMemory)
+        ⊎ ((gone.0 ≡ Refusal.BadLength) × (length (D.seen device) < device_bytes schema.now)
+        ⊎ (gone.0 ≡ Refusal.DeviceFailed) × (D.faults device < D.faults gone.1))) }
+{
+    let mut device = device;
+    match format(&mut device, schema) {
+        Ok(()) => open(alloc, device, FRAMES),
+        Err(refusal) => Err((refusal, device)),
+    }
+}
+
+/// Formats a device by the schema, opens it in 64 frames, and makes the events in their order, each by the kernel's call
+/// of its name and by nothing else. Gives what stands behind them, and an answer of each event.
 ///
 /// Whatever the events: what ended acted once on the model, in the order of the ends; the committed transactions
 /// replied as they do alone, in the order of the commits; and what stands of the others is explained, whoever of them
@@ -53,11 +79,13 @@ fn make_all<D: Device + Drop>(
 /// event was refused with 2, each later one is. A rotation while a transaction lives is refused with 16. One that is
 /// refused with the device ends the kernel: each event behind it is refused with 2, and the device is to be opened again.
 ///
-/// Whatever a crash leaves while the events are made can be restarted from, as [`Kernel::can_restart`] says: from the
-/// first kernel on, a restart finds what some of the first commits lead to, with all that were acknowledged by then.
+/// A crash while the device is formatted leaves what [`format`] says. Whatever a crash leaves from then on can be
+/// restarted from: a restart finds what some of the first commits lead to, with all that were acknowledged by then, and
+/// before the first commit the schema's first base.
 ///
 /// Refused, in this order, with the device, before any event: 1 for want of memory, 5 where the device is shorter than
-/// [`Schema::device_len`], 2 where it failed. After 5 nothing is written.
+/// [`Schema::device_len`], 2 where it failed. After 5 nothing is written. After 1 and 2 a crash leaves what one leaves
+/// while a device is formatted, or the schema's first base.
 pub fn run_schedule<D: Device + Drop>(
     alloc: Global,
     device: D,
@@ -67,9 +95,10 @@ pub fn run_schedule<D: Device + Drop>(
     ensures ran { IfOk result (λ made. ∥ HasRunTo D.seen D.may_leave D.moment D.left_since D.faults
         (relations_in schema.now) (length (counters_in schema.now)) (schema_base schema.now) events.now
         made.1.items made.0 ∥₁) }
-    ensures moments { IfOk result (λ made. ∥ FoundTo D.seen D.may_leave D.moment D.left_since D.faults
-        (relations_in schema.now) (length (counters_in schema.now)) (schema_base schema.now) events.now
-        made.1.items made.0 ∥₁) }
+    ensures moments { IfOk result (λ made. ∥ FoundFromFormat D.seen D.may_leave D.moment D.left_since D.faults
+        schema.now device events.now made.1.items made.0 ∥₁) }
+    ensures err { IfErr result (λ gone. LeavesOnly D.moment D.left_since device gone.1
+        (BeginsOrStands schema.now (D.may_leave device))) }
     ensures schema { IfOk result (λ made. IsOfSchema (relations_in schema.now) (length (counters_in schema.now))
         made.0) }
     ensures cause { IfErr result (λ gone. (gone.0 ≡ Refusal.NoMemory)
@@ -79,7 +108,7 @@ pub fn run_schedule<D: Device + Drop>(
     let Ok(mut answers) = Vec::with_capacity(alloc, events.len()) else {
         return Err((Refusal::NoMemory, device));
     };
-    let kernel = fresh(alloc, device, schema, FRAMES)?;
+    let kernel = begin_on(alloc, device, schema)?;
     let standing = make_all(alloc, kernel, events, &mut answers);
     Ok((standing, answers))
 }

@@ -1,6 +1,4 @@
 use Rattle.std.proofs.Common.{◌≡◌, ◌∙◌, true, false, sym}
-use Rattle.mt_txn.specs.Shown.{is_failed}
-use Rattle.mt_txn.specs.Turned.{HasNobody}
 use Rattle.mt_world.proofs.TurnLemmas.{busy_turn, failed_turn, left_turn, turned}
 use Rattle.mt_world.proofs.making.turn_over.Goals as goal
 

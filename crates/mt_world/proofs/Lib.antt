@@ -6,3 +6,4 @@ mod CrashLemmas
 mod TurnLemmas
 mod StandingLemmas
 mod BeginLemmas
+mod StopLemmas

@@ -5,3 +5,6 @@ pub mod Told
 pub mod Standings
 pub mod Schedules
 pub mod Crashes
+pub mod Stopping
+pub mod Heard
+pub mod Stopped

@@ -3,14 +3,19 @@
 //! [`run_schedule`] is what the other crates come to. Its clause `ran` says of every list of events: each operation that
 //! ended acted once on the model, in the order of the ends; the book is what its transactions do alone, one after the
 //! other; and what stands of the others is explained, whoever of them is struck out. Its clause `moments` says what a
-//! restart finds, whenever a crash comes meanwhile.
+//! restart finds, whenever a crash comes meanwhile. [`crash_run`] makes a run that is stopped, and gives what a crash
+//! leaves then.
 #![tactic(auto)]
 
+mod crashing;
 mod events;
 mod making;
+mod ordering;
 mod schedules;
 mod standing;
+mod stopping;
 
+pub use crashing::{CrashRun, crash_run};
 pub use events::{Answer, Event};
 pub use schedules::run_schedule;
 pub use standing::Standing;

@@ -1,0 +1,224 @@
+-- What a restart finds in what a crash leaves of a run that was stopped.
+use Rattle.std.proofs.Common.{◌≡◌, ◌<◌, ◌≤◌, ⊎_elim, ℕ, List, [], ◌∷◌, ◌++◌, length, map, take, refl, ap, ap₂, sym, subst, ◌∙◌, append_assoc, append-nil, length-append, arith}
+use Rattle.std.proofs.lemmas.Bool.{cases_lt}
+use Rattle.std.proofs.lemmas.List.{length-map, take_all}
+use Rattle.std.proofs.Props.{props}
+use mathlib.Core.Logic.{∥∥₁_elim, ∥∥₁_map, ∥∥₁_prop}
+use Rattle.mt_base.specs.declared.refusal.Refusal.{Refusal}
+use Rattle.mt_base.specs.declared.refusal.Refusal.TheVariants as refusal
+use Rattle.mt_disk.specs.LeftBy.{LeftBy}
+use Rattle.mt_disk.specs.Memory.{MayLeave}
+use Rattle.mt_disk.specs.declared.device.Device.{Ghosts}
+use Rattle.mt_disk.specs.declared.memory.Fill.{Fill}
+use Rattle.mt_disk.specs.declared.memory.MemDevice.{MemDevice}
+use Rattle.mt_kernel.specs.Booked.{txns_of}
+use Rattle.mt_model.specs.History.{after}
+use Rattle.mt_model.specs.Model.{Base}
+use Rattle.mt_model.specs.declared.history.Committed.{Committed}
+use Rattle.mt_replay.specs.Stands.{CanRestart}
+use Rattle.mt_restart.specs.Schemas.{counters_in, relations_in, schema_base}
+use Rattle.mt_restart.specs.declared.schema.Schema.{Schema}
+use Rattle.mt_txn.specs.Restarted.{FindsCommits, all_commits}
+use Rattle.mt_txn.specs.declared.kernel.Kernel.{Kernel}
+use Rattle.mt_world.proofs.CrashLemmas.{answered_of}
+use Rattle.mt_world.proofs.RunLemmas.{makes_same}
+use Rattle.mt_world.specs.Crashes.{FoundFromFormat, FoundUntil, device_under}
+use Rattle.mt_world.specs.Schedules.{HasEnded, HasRun, HasRunTo, IsOfSchema}
+use Rattle.mt_world.specs.Standings.{device_at}
+use Rattle.mt_world.specs.Stopped.{FindsFirst, IsCrashRun}
+use Rattle.mt_world.specs.Stopping.{below}
+use Rattle.mt_world.specs.Told.{Told, acknowledged, commit_of, commit_order, committing, named, nothing_told, started_by, tells, told_from, told_of}
+use Rattle.mt_world.specs.declared.crashing.CrashRun.{CrashRun}
+use Rattle.mt_world.specs.declared.events.Answer.{Answer}
+use Rattle.mt_world.specs.declared.events.Answer.TheVariants.{Refused}
+use Rattle.mt_world.specs.declared.events.Event.{Event}
+use Rattle.mt_world.specs.declared.events.Event.TheVariants.{Begin, Call, Step, Commit, AbortBegin, AbortStep, Force, Flush, Rotate}
+use Rattle.mt_world.specs.declared.standing.Standing.{Standing}
+use Rattle.mt_world.specs.declared.standing.Standing.TheVariants.{Stands, Ended}
+use Rattle.mt_world.specs.declared.stopping.StoppingDevice.{StoppingDevice}
+
+-- ---- what a refused event tells
+
+refused_tells : (t : ℕ) (x : Told) (event : Event) (why : Refusal) → tells t x event (Refused why) ≡ x
+refused_tells t x (Begin session) why = refl
+refused_tells t x (Call u op) why = refl
+refused_tells t x (Step u) why = refl
+refused_tells t x (Commit u) why = refl
+refused_tells t x (AbortBegin u) why = refl
+refused_tells t x (AbortStep u) why = refl
+refused_tells t x Force why = refl
+refused_tells t x Flush why = refl
+refused_tells t x Rotate why = refl
+
+refused_starts : (event : Event) (why : Refusal) → started_by event (Refused why) ≡ []
+refused_starts (Begin session) why = refl
+refused_starts (Call u op) why = refl
+refused_starts (Step u) why = refl
+refused_starts (Commit u) why = refl
+refused_starts (AbortBegin u) why = refl
+refused_starts (AbortStep u) why = refl
+refused_starts Force why = refl
+refused_starts Flush why = refl
+refused_starts Rotate why = refl
+
+abbrev all_refused : List Event → List Answer
+all_refused events = map (λ (event : Event). Refused refusal.DeviceFailed) events
+
+told_behind : (t : ℕ) (x : Told) (later : List Event) → told_from t x later (all_refused later) ≡ x
+told_behind t x [] = refl
+told_behind t x (event ∷ later) = ap (λ (y : Told). told_from t y later (all_refused later)) (refused_tells t x event refusal.DeviceFailed) ∙ told_behind t x later
+
+committing_behind : (later : List Event) → committing later (all_refused later) ≡ []
+committing_behind [] = refl
+committing_behind (event ∷ later) = ap (λ (ts : List ℕ). ts ++ committing later (all_refused later)) (refused_starts event refusal.DeviceFailed) ∙ committing_behind later
+
+acknowledged_behind : (later : List Event) → acknowledged (all_refused later) ≡ []
+acknowledged_behind [] = refl
+acknowledged_behind (event ∷ later) = acknowledged_behind later
+
+-- ---- events, and more behind them
+
+told_both : (t : ℕ) (x : Told) (events more : List Event) (answers told : List Answer) → length events ≡ length answers → told_from t x (events ++ more) (answers ++ told) ≡ told_from t (told_from t x events answers) more told
+told_both t x [] more [] told same = refl
+told_both t x [] more (a ∷ answers) told same = absurd (omega arith)
+told_both t x (e ∷ events) more [] told same = absurd (omega arith)
+told_both t x (e ∷ events) more (a ∷ answers) told same = told_both t (tells t x e a) events more answers told (omega arith)
+
+committing_both : (events more : List Event) (answers told : List Answer) → length events ≡ length answers → committing (events ++ more) (answers ++ told) ≡ committing events answers ++ committing more told
+committing_both [] more [] told same = refl
+committing_both [] more (a ∷ answers) told same = absurd (omega arith)
+committing_both (e ∷ events) more [] told same = absurd (omega arith)
+committing_both (e ∷ events) more (a ∷ answers) told same =
+    ap (λ (ts : List ℕ). started_by e a ++ ts) (committing_both events more answers told (omega arith)) ∙ sym (append_assoc (started_by e a) (committing events answers) (committing more told))
+
+acknowledged_both : (answers told : List Answer) → acknowledged (answers ++ told) ≡ acknowledged answers ++ acknowledged told
+acknowledged_both [] told = refl
+acknowledged_both (a ∷ answers) told = ap (λ (ts : List ℕ). named a ++ ts) (acknowledged_both answers told) ∙ sym (append_assoc (named a) (acknowledged answers) (acknowledged told))
+
+module _ {D : Type 0} {g : Ghosts D} (seen : D → List ℕ) (may_leave : D → List ℕ → Type 0) (moment : D → ℕ) (left_since : D → ℕ → List ℕ → Type 0) (faults : D → ℕ) (relations counters : ℕ) (first : Base) (events : List Event) (answers : List Answer) where
+  -- ---- where a rotation has ended the kernel
+
+  module _ (device : D) (e : HasEnded g seen may_leave moment left_since faults relations counters first events answers device) where
+    done_same : length e.done ≡ length e.told
+    done_same = makes_same seen may_leave faults first e.done e.told e.ran.acts e.ran.state e.kernel e.ran.made
+
+    ended_same : length events ≡ length answers
+    ended_same =
+        let one = ap (λ (es : List Event). length es) e.events_are in let two = ap (λ (as' : List Answer). length as') e.answers_are in
+        let front = length-append e.done (Rotate ∷ e.later) in let back = length-append e.told (Refused e.why ∷ all_refused e.later) in
+        let size = length-map e.later (λ (event : Event). Refused refusal.DeviceFailed) in let same = done_same in
+        omega (arith, one, two, front, back, size, same)
+
+    ended_told : (t : ℕ) → told_of events answers t ≡ told_of e.done e.told t
+    ended_told t =
+        ap₂ (λ (es : List Event) (as' : List Answer). told_of es as' t) e.events_are e.answers_are
+        ∙ told_both t nothing_told e.done (Rotate ∷ e.later) e.told (Refused e.why ∷ all_refused e.later) done_same
+        ∙ told_behind t (told_of e.done e.told t) e.later
+
+    ended_committing : committing events answers ≡ committing e.done e.told
+    ended_committing =
+        ap₂ committing e.events_are e.answers_are
+        ∙ committing_both e.done (Rotate ∷ e.later) e.told (Refused e.why ∷ all_refused e.later) done_same
+        ∙ ap (λ (ts : List ℕ). committing e.done e.told ++ ts) (committing_behind e.later) ∙ append-nil (committing e.done e.told)
+
+    ended_order : commit_order events answers ≡ commit_order e.done e.told
+    ended_order =
+        ap (λ (f : ℕ → Committed). map f (committing events answers)) (λ i t. commit_of (ended_told t i))
+        ∙ ap (λ (ts : List ℕ). map (λ t. commit_of (told_of e.done e.told t)) ts) ended_committing
+
+    ended_acknowledged : acknowledged answers ≡ acknowledged e.told
+    ended_acknowledged =
+        ap acknowledged e.answers_are ∙ acknowledged_both e.told (Refused e.why ∷ all_refused e.later)
+        ∙ ap (λ (ts : List ℕ). acknowledged e.told ++ ts) (acknowledged_behind e.later) ∙ append-nil (acknowledged e.told)
+
+  pub same_length : (standing : Standing D g) → ∥ HasRunTo seen may_leave moment left_since faults relations counters first events answers standing ∥₁ → length answers ≡ length events
+  same_length (Stands n) ran = ∥∥₁_elim ran (hlevel props) (λ r. sym (makes_same seen may_leave faults first events answers r.acts r.state n r.made))
+  same_length (Ended device) ran = ∥∥₁_elim ran (hlevel props) (λ e. sym (ended_same device e))
+
+module _ {D : Type 0} {g : Ghosts D} (seen : D → List ℕ) (may_leave : D → List ℕ → Type 0) (moment : D → ℕ) (left_since : D → ℕ → List ℕ → Type 0) (counts_now : (d : D) (t : ℕ) (c : List ℕ) → t ≤ moment d → may_leave d c → left_since d t c)
+    (only_now : (d : D) (c : List ℕ) → left_since d (moment d) c → may_leave d c) (faults : D → ℕ) (s : Schema) (since : D) where
+  -- ---- what a restart finds of a kernel
+
+  module _ (events : List Event) (answers : List Answer) (k : Kernel D g) (run : HasRun seen may_leave faults (schema_base s) events answers k) (relations_are : k.relations ≡ relations_in s) (counters_are : k.counters ≡ length (counters_in s)) where
+    abbrev Finds : List ℕ → Type 0
+    Finds c = FindsFirst s (length (acknowledged answers)) (commit_order events answers) c
+
+    few : length (acknowledged answers) ≤ length (commit_order events answers)
+    few =
+        let all = ap (λ (ts : List ℕ). length ts) run.queue in
+        let both = length-append (acknowledged answers) (txns_of k.parts.commits.items) in
+        let size = length-map (committing events answers) (λ t. commit_of (told_of events answers t)) in
+        omega (arith, all, both, size)
+
+    at_base : (n : ℕ) (c : List ℕ) (b : Base) → b ≡ after (schema_base s) (take n (all_commits k.parts)) → CanRestart k.relations k.counters c b → CanRestart (relations_in s) (length (counters_in s)) c (after (schema_base s) (take n (commit_order events answers)))
+    at_base n c b is can = subst (λ (X : Type 0). X) (λ i. CanRestart (relations_are i) (counters_are i) c ((is ∙ ap (λ (cs : List Committed). after (schema_base s) (take n cs)) run.order) i)) can
+
+    first_some : (c : List ℕ) → FindsCommits k.relations k.counters (schema_base s) k.parts c → Finds c
+    first_some c f =
+        let order = commit_order events answers in
+        let book = answered_of seen may_leave moment left_since only_now faults since (schema_base s) events answers k ∣ run ∣₁ in
+        let least = f.acknowledged in
+        ⊎_elim
+        (λ (less : f.count < length order). record {
+          count = f.count;
+          past = omega (arith, book, least);
+          within = omega (arith, less);
+          finds = at_base f.count c f.base f.is f.found;
+        })
+        (λ (ge : length order ≤ f.count). record {
+          count = length order;
+          past = few;
+          within = omega arith;
+          finds = subst (λ (cs : List Committed). CanRestart (relations_in s) (length (counters_in s)) c (after (schema_base s) cs)) (take_all f.count order ge ∙ sym (take_all (length order) order (omega arith))) (at_base f.count c f.base f.is f.found);
+        })
+        (cases_lt f.count (length order))
+
+    pub finds_of : (device : D) → FoundUntil seen may_leave moment left_since faults since (schema_base s) events answers k device → (c : List ℕ) → may_leave device c → ∥ Finds c ∥₁
+    finds_of device u c left =
+        let n = length events in
+        let then = counts_now device (moment (device_under (u.behind n))) c (u.later n (omega arith)) left in
+        ∥∥₁_map (u.each n c (omega arith) then) (λ f.
+        let at : f.made ≡ n = let past = f.past in let within = f.within in omega (arith, past, within) in
+        let same : u.behind f.made ≡ k = ap u.behind at ∙ u.last in
+        first_some c (subst (λ (m : Kernel D g). FindsCommits m.relations m.counters (schema_base s) m.parts c) same f.finds))
+
+module _ {D : Type 0} {g : Ghosts D} (seen : D → List ℕ) (may_leave : D → List ℕ → Type 0) (moment : D → ℕ) (left_since : D → ℕ → List ℕ → Type 0) (counts_now : (d : D) (t : ℕ) (c : List ℕ) → t ≤ moment d → may_leave d c → left_since d t c)
+    (only_now : (d : D) (c : List ℕ) → left_since d (moment d) c → may_leave d c) (faults : D → ℕ) (s : Schema) (device : D) where
+  -- ---- whatever stands
+
+  pub found_first : (events : List Event) (answers : List Answer) (standing : Standing D g) → ∥ HasRunTo seen may_leave moment left_since faults (relations_in s) (length (counters_in s)) (schema_base s) events answers standing ∥₁
+      → IsOfSchema (relations_in s) (length (counters_in s)) standing → ∥ FoundFromFormat seen may_leave moment left_since faults s device events answers standing ∥₁ → (c : List ℕ) → may_leave (device_at standing) c
+      → ∥ FindsFirst s (length (acknowledged answers)) (commit_order events answers) c ∥₁
+  found_first events answers (Stands n) ran schema found c left = ∥∥₁_elim ran ∥∥₁_prop (λ run. ∥∥₁_elim found ∥∥₁_prop (λ f.
+      finds_of seen may_leave moment left_since counts_now only_now faults s f.formatted events answers n run schema.0 schema.1 (device_under n) f.until c left))
+  found_first events answers (Ended gone) ran schema found c left = ∥∥₁_elim found ∥∥₁_prop (λ f.
+      let e = f.until.ended in
+      let acknowledged_are = ended_acknowledged seen may_leave moment left_since faults (relations_in s) (length (counters_in s)) (schema_base s) events answers gone e in
+      let order_is = ended_order seen may_leave moment left_since faults (relations_in s) (length (counters_in s)) (schema_base s) events answers gone e in
+      ∥∥₁_map (finds_of seen may_leave moment left_since counts_now only_now faults s f.formatted e.done e.told e.kernel e.ran e.schema.0 e.schema.1 gone f.until.until c left)
+      (λ x. subst (λ (X : Type 0). X) (λ i. FindsFirst s (length (sym acknowledged_are i)) (sym order_is i) c) x))
+
+-- ---- of a device in memory that was stopped
+
+pub stopped_same : {g : Ghosts (StoppingDevice MemDevice)} (s : Schema) (events : List Event) (answers : List Answer) (standing : Standing (StoppingDevice MemDevice) g)
+    → ∥ HasRunTo g.seen g.may_leave g.moment g.left_since g.faults (relations_in s) (length (counters_in s)) (schema_base s) events answers standing ∥₁ → length answers ≡ length events
+stopped_same {g = g} s events answers standing ran = same_length g.seen g.may_leave g.moment g.left_since g.faults (relations_in s) (length (counters_in s)) (schema_base s) events answers standing ran
+
+pub crash_of : {g : Ghosts (StoppingDevice MemDevice)} → ((d : StoppingDevice MemDevice) (t : ℕ) (c : List ℕ) → t ≤ g.moment d → g.may_leave d c → g.left_since d t c) → ((d : StoppingDevice MemDevice) (c : List ℕ) → g.left_since d (g.moment d) c → g.may_leave d c)
+    → (s : Schema) (device : StoppingDevice MemDevice) (events : List Event) (answers : List Answer) (standing : Standing (StoppingDevice MemDevice) g) (fill : Fill) (run : CrashRun)
+    → ∥ HasRunTo g.seen g.may_leave g.moment g.left_since g.faults (relations_in s) (length (counters_in s)) (schema_base s) events answers standing ∥₁
+    → IsOfSchema (relations_in s) (length (counters_in s)) standing → ∥ FoundFromFormat g.seen g.may_leave g.moment g.left_since g.faults s device events answers standing ∥₁
+    → g.may_leave (device_at standing) run.content.items → MayLeave (below (device_at standing)) run.content.items → LeftBy (below (device_at standing)) fill run.content.items
+    → run.order.items ≡ commit_order events answers → run.acked ≡ length (acknowledged answers) → ∥ IsCrashRun g s events fill run ∥₁
+crash_of {g = g} counts_now only_now s device events answers standing fill run ran schema found now may left order acked =
+    ∥∥₁_elim ran ∥∥₁_prop (λ r.
+    ∥∥₁_map (found_first g.seen g.may_leave g.moment g.left_since counts_now only_now g.faults s device events answers standing ran schema found run.content.items now) (λ f. record {
+      answers = answers;
+      standing = standing;
+      ran = r;
+      may = may;
+      left = left;
+      order = order;
+      acked = acked;
+      found = subst (λ (X : Type 0). X) (λ i. FindsFirst s (sym acked i) (sym order i) run.content.items) f;
+    }))

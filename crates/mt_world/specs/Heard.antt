@@ -1,0 +1,6 @@
+-- What a transaction was told, as it is kept in memory.
+use Rattle.mt_world.specs.Told.{Told}
+use Rattle.mt_world.specs.declared.ordering.Heard.{Heard}
+
+abbrev pub told_by : Heard → Told
+told_by h = record { session = h.session; started = h.started; calls = h.calls }

@@ -24,42 +24,6 @@ fn four_calls<D: Device>(device: &mut D) -> ([bool; 4], [u8; 4])
     (went, read)
 }
 
-#[test]
-fn memory_is_written(rt: HostRuntime) -> Result<(), Fail> {
-    let mut device = MemDevice::new(rt.alloc(), vec![in rt.alloc(); 0u8; 8]?, 2, 4)?;
-    let (went, read) = four_calls(&mut device);
-    assert!(rt; went == [true; 4]);
-    assert!(rt; &read == b"\0abc");
-    assert!(rt; device.bytes() == b"\0\0abd\0\0\0".as_slice());
-    Ok(())
-}
-
-/// Five writes, of 5, 4, 1, 0 and 0 bytes, a sync and a write of 4: which of them went well.
-fn seven_calls<D: Device>(device: &mut D) -> [bool; 7]
-    requires { 8 ≤ length (D.seen device.old) }
-{
-    [
-        device.write_at(0, b"wxyz?").is_ok(),
-        device.write_at(0, b"wxyz").is_ok(),
-        device.write_at(4, b"?").is_ok(),
-        device.write_at(4, b"").is_ok(),
-        device.write_at(4, b"").is_ok(),
-        device.sync().is_ok(),
-        device.write_at(4, b"more").is_ok(),
-    ]
-}
-
-// Room for two writes and four bytes in all: five are too many, and so is a third write.
-#[test]
-fn memory_has_its_room(rt: HostRuntime) -> Result<(), Fail> {
-    let mut device = MemDevice::new(rt.alloc(), vec![in rt.alloc(); 0u8; 8]?, 2, 4)?;
-    let went = seven_calls(&mut device);
-    assert!(rt; went == [false, true, false, true, false, true, true]);
-    let bytes = device.into_bytes();
-    assert!(rt; bytes.as_slice() == b"wxyzmore".as_slice());
-    Ok(())
-}
-
 /// Four calls of a device that fails at its nth: which of them went well, and the third byte behind them.
 fn failing_at(alloc: Global, n: u64) -> Result<([bool; 4], Option<u8>), AllocError> {
     let memory = MemDevice::new(alloc, vec![in alloc; 0u8; 8]?, 2, 8)?;

@@ -1,8 +1,8 @@
 // Texts worked out by hand from the format, and batches that are read and written again.
 use mt_base::{OpNo, Refusal, TxnNo};
 use mt_frame::{
-    AreaRules, CLOSED_GATE, LoggedOp, MasterSlot, OPEN_GATE, Record, SlotRead, decode_batch,
-    decode_body, decode_slot, encode_batch, encode_slot, push_record,
+    CLOSED_GATE, LoggedOp, MasterSlot, OPEN_GATE, Record, SlotRead, decode_batch, decode_body,
+    decode_slot, encode_batch, encode_slot, push_record,
 };
 use std::alloc::Global;
 use std::test::Fail;
@@ -312,61 +312,4 @@ fn tells_what_is_no_slot(rt: HostRuntime) {
         bad[at] = byte;
         assert!(rt; decode_slot(&bad) == want, "at {at}");
     }
-}
-
-// The end of an add by transaction 1: of operation `op`, which undoes `undoes`.
-fn push_end(body: &mut Vec<u8>, op: u8, undoes: u8) -> Result<(), Fail> {
-    body.extend_from_slice(&[2, 0, 0, 0, 0, 0, 0, 0, 1])?;
-    body.extend_from_slice(&[0, 0, 0, 0, 0, 0, 0, op])?;
-    body.extend_from_slice(&[0, 0, 0, 0, 0, 0, 0, undoes])?;
-    body.extend_from_slice(&[4, 0, 0, 0, 0, 0, 0, 0, 0, 1])?;
-    Ok(())
-}
-
-// Whether the records may stand in a batch behind the first, with none before them.
-fn may_stand(alloc: Global, body: &[u8]) -> Result<bool, Fail> {
-    let records = decode_body(alloc, body)?.ok_or("no body")?;
-    let mut rules = AreaRules::new(alloc);
-    Ok(rules.admit(false, records.as_slice())?)
-}
-
-// Whether three ends of adds may stand in a batch behind the first.
-fn may_ends_stand(alloc: Global, ends: [(u8, u8); 3]) -> Result<bool, Fail> {
-    let mut body = Vec::new(alloc);
-    for (op, undoes) in ends {
-        push_end(&mut body, op, undoes)?;
-    }
-    may_stand(alloc, body.as_slice())
-}
-
-// Two forward operations, an inverse of the first, another, and an inverse of an inverse.
-#[test]
-fn tests_the_rules_of_inverses(rt: HostRuntime) -> Result<(), Fail> {
-    for (ends, want) in [
-        ([(1, 0), (2, 0), (3, 1)], true),
-        ([(1, 0), (2, 1), (3, 1)], false),
-        ([(1, 0), (2, 1), (3, 2)], false),
-        ([(1, 0), (2, 3), (3, 0)], false),
-        ([(1, 0), (1, 0), (2, 1)], true),
-    ] {
-        assert!(rt; may_ends_stand(rt.alloc(), ends)? == want);
-    }
-    Ok(())
-}
-
-#[test]
-fn tests_the_rules_of_an_area(rt: HostRuntime) -> Result<(), Fail> {
-    let one = [4, 0, 0, 0, 0, 0, 0, 0, 1];
-    let twice = [4, 0, 0, 0, 0, 0, 0, 0, 1, 5, 0, 0, 0, 0, 0, 0, 0, 1];
-    let no_image = [
-        1, 0, 0, 0, 0, 0, 0, 0, 1, 0, 0, 0, 0, 0, 0, 0, 2, 0, 2, 0, 0, 0x1f, 0, 1, 6, 7,
-    ];
-    for (body, want) in [
-        (one.as_slice(), true),
-        (twice.as_slice(), false),
-        (no_image.as_slice(), false),
-    ] {
-        assert!(rt; may_stand(rt.alloc(), body)? == want);
-    }
-    Ok(())
 }

@@ -4,7 +4,7 @@ ghost use Rattle.std.specs.Prelude.{◌≡◌, ◌<◌, ◌≤◌, length, slice
 
 use crate::common::name_of;
 use mt_base::ranges::{put, u16_at};
-use mt_base::{Edit, Mode, PageNo, RecordName, RelNo};
+use mt_base::{Edit, PageNo, RecordName, RelNo};
 use mt_bucket::{count, depth, empty, next};
 use mt_index::{Add, Amend, Find, check, depth as bits, plan_add, plan_drop, plan_find, plan_set};
 use mt_space::{Changes, PageChange, Pages};
@@ -48,15 +48,6 @@ impl Pages for Copies {
             _ => None,
         }
     }
-}
-
-/// The map with no page free.
-fn filled(space: &[u8; 4096]) -> [u8; 4096]
-    ensures { length result ≡ 4096 }
-{
-    let mut new = *space;
-    put(&mut new, 6, &[3; 58]);
-    new
 }
 
 /// An index without entries: page 3 is its only bucket.
@@ -141,14 +132,6 @@ fn free_pages(copies: &Copies) -> usize {
     copies.space[..64].iter().filter(|kind| **kind == 0).count()
 }
 
-/// Whether this page is needed, to be written.
-fn asks_for(answer: &Add, number: u16) -> bool {
-    match answer {
-        Add::Need(page, mode) => page.get() == number && *mode == Mode::Write,
-        _ => false,
-    }
-}
-
 /// How many pages are free, the directory's bits and its first two pointers, and of page 3 how deep it is, how many
 /// entries it has and which page is behind it.
 fn summary(copies: &Copies) -> [usize; 7] {
@@ -207,34 +190,6 @@ fn without_splits_it_chains_at_once(rt: HostRuntime) -> Result<(), Fail> {
     assert!(rt; grown.had_room == [true; 3]);
     assert!(rt; grown.summaries[1] == [59, 0, 3, 0, 0, 58, 4] && grown.counts[0] == 1);
     assert!(rt; grown.summaries[2] == [59, 0, 3, 0, 0, 58, 4]);
-    Ok(())
-}
-
-/// An index whose pages are full of 174 relations' keys.
-fn full(alloc: Global) -> Result<Option<Copies>, AllocError> {
-    let mut copies = formatted();
-    let had_room = add_all(alloc, &mut copies, 174, false)?;
-    Ok(if had_room { Some(copies) } else { None })
-}
-
-/// What is answered to one key more.
-fn plan_one_more(alloc: Global, copies: &Copies) -> Result<Add, AllocError> {
-    plan_add(alloc, copies, RelNo::new(200), b"a", name_of(6, 0), false)
-}
-
-/// Whether page 6 is asked for, and whether an index without free pages is full.
-fn ask_for_more(alloc: Global, copies: &mut Copies) -> Result<[bool; 2], AllocError> {
-    let asks = asks_for(&plan_one_more(alloc, copies)?, 6);
-    copies.space = filled(&copies.space);
-    let is_full = matches!(plan_one_more(alloc, copies)?, Add::Full);
-    Ok([asks, is_full])
-}
-
-#[test]
-fn a_page_that_is_not_at_hand_is_asked_for(rt: HostRuntime) -> Result<(), Fail> {
-    let mut copies = full(rt.alloc())?.ok_or("no room")?;
-    let answers = ask_for_more(rt.alloc(), &mut copies)?;
-    assert!(rt; answers == [true; 2]);
     Ok(())
 }
 

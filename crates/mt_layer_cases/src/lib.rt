@@ -14,8 +14,6 @@ mod disk;
 #[cfg(test)]
 mod escrow;
 #[cfg(test)]
-mod file;
-#[cfg(test)]
 mod frame;
 #[cfg(test)]
 mod index;
@@ -29,8 +27,6 @@ mod mark;
 mod model;
 #[cfg(test)]
 mod plock;
-#[cfg(test)]
-mod pool;
 #[cfg(test)]
 mod replay;
 #[cfg(test)]

@@ -159,15 +159,3 @@ fn an_abort_is_half_done(rt: HostRuntime) -> Result<(), Fail> {
     assert!(rt; half == (2, Some(TxnState::Aborting)) && calls == 0);
     Ok(())
 }
-
-/// The number of the first of two.
-fn first_number(alloc: Global) -> Result<u64, Refusal> {
-    let (_live, first, _) = two_live(alloc)?;
-    Ok(first.get())
-}
-
-#[test]
-fn numbers_begin_with_1(rt: HostRuntime) -> Result<(), Fail> {
-    assert!(rt; first_number(rt.alloc())? == 1);
-    Ok(())
-}

@@ -2,8 +2,8 @@ ghost use Rattle.std.specs.Prelude.{◌≡◌, ◌<◌};
 ghost use Rattle.mt_base.specs.Limits.{IsKey};
 ghost use Rattle.mt_model.specs.Views.{relations_of};
 
-use mt_base::{Bytes, CtrNo, LockMode, Refusal, RelNo};
-use mt_model::{Base, Calls, Committed, Object, Op, Reply, Row};
+use mt_base::{Bytes, CtrNo, Refusal, RelNo};
+use mt_model::{Base, Calls, Committed, Op, Reply, Row};
 use std::alloc::Global;
 use std::test::Fail;
 
@@ -58,18 +58,6 @@ fn rows_stand_in_order(rt: HostRuntime) -> Result<(), Fail> {
     Ok(())
 }
 
-/// How many counters a new base has, and the number of the first.
-fn counters_of_new(alloc: Global) -> Result<(usize, i64), Refusal> {
-    let base = Base::new(alloc, 1, &[(-5, 5, 3)])?;
-    Ok((base.counters().len(), base.counter(CtrNo::new(0)).number))
-}
-
-#[test]
-fn a_base_begins_with_its_counters(rt: HostRuntime) -> Result<(), Fail> {
-    assert!(rt; counters_of_new(rt.alloc())? == (1, 3));
-    Ok(())
-}
-
 /// An addition and a reading, with their replies.
 fn two_calls(alloc: Global) -> Result<Committed, Refusal> {
     let mut calls = Calls::new(Vec::new(alloc));
@@ -108,31 +96,5 @@ fn about_calls(alloc: Global) -> Result<(bool, bool, usize), Refusal> {
 #[test]
 fn calls_keep_their_order(rt: HostRuntime) -> Result<(), Fail> {
     assert!(rt; about_calls(rt.alloc())? == (true, true, 2));
-    Ok(())
-}
-
-/// Whether an operation is on this object, and its mode.
-fn is_on(op: &Op, object: &Object) -> Result<(bool, LockMode), Refusal> {
-    let own = op.object()?;
-    Ok((own == *object, op.mode()))
-}
-
-/// Whether a get is on its key, and its mode.
-fn get_is_on_its_key(alloc: Global) -> Result<(bool, LockMode), Refusal> {
-    let key = Object::Key(RelNo::new(1), Bytes::copy_of(alloc, b"k")?);
-    let get = Op::Get(RelNo::new(1), Bytes::copy_of(alloc, b"k")?);
-    is_on(&get, &key)
-}
-
-/// And of an add and of its counter.
-fn add_is_on_its_counter() -> Result<(bool, LockMode), Refusal> {
-    let add = Op::Add(CtrNo::new(1), 2);
-    is_on(&add, &Object::Counter(CtrNo::new(1)))
-}
-
-#[test]
-fn operations_name_their_objects(rt: HostRuntime) -> Result<(), Fail> {
-    assert!(rt; get_is_on_its_key(rt.alloc())? == (true, LockMode::Read));
-    assert!(rt; add_is_on_its_counter()? == (true, LockMode::Add));
     Ok(())
 }

@@ -62,24 +62,3 @@ fn the_smallest_is_waited_for(rt: HostRuntime) -> Result<(), Fail> {
     locks.release(five);
     Ok(())
 }
-
-/// Keeps a guard.
-fn keep(rt: &impl Abort, guards: &mut Vec<PageGuard>, guard: PageGuard) {
-    match guards.push(guard) {
-        Ok(()) => {}
-        Err(_) => panic!(rt; "no memory"),
-    }
-}
-
-#[test]
-fn an_operation_gives_all_back(rt: HostRuntime) -> Result<(), Fail> {
-    let mut guards = Vec::new(rt.alloc());
-    let mut locks = PageLocks::new(rt.alloc());
-    keep(&rt, &mut guards, grants(&rt, &mut locks, 1, 7, Mode::Read));
-    let other = grants(&rt, &mut locks, 2, 8, Mode::Read);
-    keep(&rt, &mut guards, grants(&rt, &mut locks, 1, 7, Mode::Write));
-    locks.release_all(guards);
-    assert_eq!(rt; locks.locks().len(), 1);
-    locks.release(other);
-    Ok(())
-}

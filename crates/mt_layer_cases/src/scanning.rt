@@ -5,8 +5,8 @@ ghost use Rattle.mt_disk.specs.Memory.{content};
 use crate::log::{device_of, memory_left_at, place};
 use mt_base::{Refusal, TxnNo};
 use mt_disk::{Device, FaultDevice, MemDevice};
-use mt_frame::{Record, decode_body};
-use mt_log::{AreaPlace, Batch, begin_area, begin_area_with, scan};
+use mt_frame::Record;
+use mt_log::{Batch, begin_area, scan};
 use std::alloc::Global;
 use std::test::Fail;
 
@@ -146,71 +146,5 @@ fn each_call_that_begins_an_area_fails_in_turn(rt: HostRuntime) -> Result<(), Fa
             "at {n}"
         );
     }
-    Ok(())
-}
-
-/// Where an area lies that one page's image fills.
-fn image_place() -> AreaPlace
-    ensures start { result.start ≡ 8 }
-    ensures end { result.end ≡ 4134 }
-{
-    AreaPlace {
-        start: 8,
-        end: 4134,
-    }
-}
-
-/// Begins an area with the image of page 3, all of zeros. Answers the bytes that are used then, and the image.
-fn begin_with_image(alloc: Global, device: &mut MemDevice) -> Result<(u64, Record), Fail>
-    requires { length (content device.old) ≡ 4134 }
-{
-    let mut text = [0u8; 4120];
-    text[0] = 1;
-    text[18] = 3;
-    text[19] = 1;
-    let mut images = decode_body(alloc, &text)?.ok_or("no images")?;
-    let log = begin_area_with(alloc, device, image_place(), &images)?;
-    let image = images.pop().ok_or("no image")?;
-    Ok((log.used(), image))
-}
-
-/// What a scan finds for a device of so many pages: how many records are in the only batch, and whether the first is
-/// this one.
-fn only_batch(
-    alloc: Global,
-    device: &mut MemDevice,
-    pages: u16,
-    image: &Record,
-) -> Result<(usize, bool), Refusal> {
-    if device.len() < 4134 {
-        return Err(Refusal::BadLength);
-    }
-    let found = scan(alloc, device, image_place(), pages)?;
-    match found.as_slice() {
-        [first] => match first.records.as_slice() {
-            [record, ..] => Ok((first.records.len(), record.equals(image))),
-            [] => Ok((0, false)),
-        },
-        _ => Ok((0, false)),
-    }
-}
-
-/// The bytes used, and what is found for four pages and for three.
-fn image_scanned(alloc: Global) -> Result<(u64, [Result<(usize, bool), Refusal>; 2]), Fail> {
-    let mut device = MemDevice::new(alloc, vec![in alloc; 0u8; 4134]?, 4, 4134)?;
-    let (used, image) = begin_with_image(alloc, &mut device)?;
-    let found = [
-        only_batch(alloc, &mut device, 4, &image),
-        only_batch(alloc, &mut device, 3, &image),
-    ];
-    Ok((used, found))
-}
-
-#[test]
-fn an_area_begins_with_images_of_the_devices_pages(rt: HostRuntime) -> Result<(), Fail> {
-    let (used, found) = image_scanned(rt.alloc())?;
-    assert!(rt; used == 4125);
-    // page 3 is past the last of three pages
-    assert!(rt; found == [Ok((1, true)), Err(Refusal::BadFormat(8))]);
     Ok(())
 }

@@ -1,9 +1,8 @@
-ghost use Rattle.std.specs.Prelude.{◌≤◌, length};
 ghost use Rattle.mt_slots.specs.Page.{IsShaped};
 
 use mt_base::ranges::u16_at;
 use mt_base::{Edit, RelNo, edits_of};
-use mt_slots::{check, empty, get, insert, live, remove, replace, room};
+use mt_slots::{check, empty, insert, live, remove, room};
 use std::alloc::{AllocError, Global};
 use std::test::Fail;
 
@@ -129,89 +128,5 @@ fn an_insert_changes_three_short_ranges(rt: HostRuntime) -> Result<(), Fail> {
     let (slots, before) = insert_four(&mut page);
     assert!(rt; slots == [Some(0), Some(1), Some(2), Some(3)]);
     assert!(rt; differ_by_fourth(rt.alloc(), &before, &page)?);
-    Ok(())
-}
-
-// Gives the record in slot 0 another value, if there is one.
-fn replace_first(page: &mut [u8], value: &[u8]) -> bool
-    requires shaped { IsShaped page.old }
-    requires value_fits { length value.now ≤ 4096 }
-    ensures { IsShaped page.new }
-{
-    match get(page, 0) {
-        Some(_) => replace(page, 0, value),
-        None => false,
-    }
-}
-
-// Tries a value of 2,011 bytes in slot 0 and one of 2,010: which fits, and the room behind each.
-fn replace_twice(page: &mut [u8; 4096]) -> ([bool; 2], [u16; 2])
-    requires { IsShaped page.old }
-    ensures { IsShaped page.new }
-{
-    let longer = replace_first(page, &[9u8; 2011]);
-    let before = room(page);
-    let longest = replace_first(page, &[9u8; 2010]);
-    ([longer, longest], [before, room(page)])
-}
-
-#[test]
-fn a_new_value_stays_in_its_slot_where_it_fits(rt: HostRuntime) -> Result<(), Fail> {
-    let (mut page, _, _) = filled();
-    // 986 bytes are free and 1,024 are the old value's, so 2,010 fit and one more does not
-    let (fit, rooms) = replace_twice(&mut page);
-    assert!(rt; fit == [false, true] && rooms == [986, 0]);
-    let checks = [
-        check(&page, 2, 2010),
-        check(&page, 2, 2009),
-        check(&page, 1, 2010),
-    ];
-    assert!(rt; checks == [true, false, false]);
-    Ok(())
-}
-
-// Two records, the second below the first.
-fn page_of_two() -> Option<[u8; 4096]> {
-    let mut page = [0u8; 4096];
-    empty(&mut page);
-    insert(&mut page, RelNo::new(0), b"b", b"123")?;
-    insert(&mut page, RelNo::new(0), b"a", b"456")?;
-    Some(page)
-}
-
-// Whether a page is refused once these bytes are in it.
-fn is_refused(page: &[u8; 4096], bytes: &[(usize, u8)]) -> bool {
-    let mut wrong = *page;
-    for &(at, byte) in bytes {
-        if at < 4096 {
-            wrong[at] = byte;
-        }
-    }
-    !check(&wrong, 1, 3)
-}
-
-#[test]
-fn broken_pages_are_told_apart(rt: HostRuntime) -> Result<(), Fail> {
-    let page = page_of_two().ok_or("no room")?;
-    assert!(rt; check(&page, 1, 3));
-    let wrong: [&[(usize, u8)]; 7] = [
-        // a byte behind the count is not zero
-        &[(7, 1)],
-        // more slots than the page has bytes for
-        &[(0, 4)],
-        // a record that begins within the table
-        &[(8, 0), (9, 12)],
-        // a record that passes the page's end
-        &[(8, 0x0f), (9, 0xff)],
-        // a head that says another length than the record's own
-        &[(11, 9)],
-        // an empty slot with a place
-        &[(10, 0), (11, 0)],
-        // two slots that name one record
-        &[(12, page[8]), (13, page[9])],
-    ];
-    for bytes in wrong {
-        assert!(rt; is_refused(&page, bytes), "{bytes:?}");
-    }
     Ok(())
 }

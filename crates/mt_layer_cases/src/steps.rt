@@ -1,7 +1,7 @@
 ghost use Rattle.std.specs.Prelude.{◌≡◌, length};
 
 use mt_base::CtrNo;
-use mt_steps::{add, check, counter};
+use mt_steps::counter;
 use std::test::Fail;
 
 // Of two relations and two counters: -5 to 10, now 6, and -10^15 to 10^15, now 0.
@@ -29,32 +29,5 @@ fn a_counter_is_read(rt: HostRuntime) -> Result<(), Fail> {
     let second = counter(&page, CtrNo::new(1));
     assert_eq!(rt; second.low, -1_000_000_000_000_000);
     assert_eq!(rt; second.high, 1_000_000_000_000_000);
-    Ok(())
-}
-
-#[test]
-fn an_add_stays_within_the_bounds(rt: HostRuntime) -> Result<(), Fail> {
-    let mut page = two_counters();
-    if !check(&page, 2, 2) {
-        assert!(rt; false);
-        return Ok(());
-    }
-    assert!(rt; add(&mut page, CtrNo::new(0), 4));
-    assert_eq!(rt; page[31], 10);
-    assert_eq!(rt; counter(&page, CtrNo::new(0)).number, 10);
-    Ok(())
-}
-
-#[test]
-fn a_page_that_breaks_a_rule_is_told(rt: HostRuntime) -> Result<(), Fail> {
-    let mut page = two_counters();
-    assert!(rt; check(&page, 2, 2));
-    assert!(rt; !check(&page, 1, 2));
-    assert!(rt; !check(&page, 2, 1));
-    page[31] = 11;
-    assert!(rt; !check(&page, 2, 2));
-    page[31] = 10;
-    page[7] = 1;
-    assert!(rt; !check(&page, 2, 2));
     Ok(())
 }

@@ -109,44 +109,6 @@ fn four_steps<D: Device>(store: &mut Store<D>) -> [Result<Forced, Refusal>; 4]
     ]
 }
 
-/// What six steps of writing back answered.
-fn six_steps<D: Device>(store: &mut Store<D>) -> [Result<bool, Refusal>; 6]
-    requires kept { (opening : ℕ → List ℕ) × IsKept D.seen D.may_leave opening store.old }
-    ensures kept { (opening : ℕ → List ℕ) × IsKept D.seen D.may_leave opening store.new }
-    ensures pages { pages store.new.pool ≡ pages store.old.pool }
-{
-    [
-        store.write_back_step(),
-        store.write_back_step(),
-        store.write_back_step(),
-        store.write_back_step(),
-        store.write_back_step(),
-        store.write_back_step(),
-    ]
-}
-
-/// Puts a stamped page's bytes back, if it is in a frame and has an image.
-fn unstamp<D: Device>(store: &mut Store<D>, page: PageNo) -> bool
-    requires kept { (opening : ℕ → List ℕ) × IsKept D.seen D.may_leave opening store.old }
-    requires inside { page < pages store.old.pool }
-    ensures kept { (opening : ℕ → List ℕ) × IsKept D.seen D.may_leave opening store.new }
-{
-    if !store.pool.is_there(page) || store.pool.needs_image(page) {
-        return false;
-    }
-    store.restore(page, 7, &[0; 3]);
-    true
-}
-
-/// What a sync of the device answers.
-fn syncs<D: Device>(store: &mut Store<D>) -> Result<(), DeviceFault>
-    requires kept { (opening : ℕ → List ℕ) × IsKept D.seen D.may_leave opening store.old }
-    ensures kept { (opening : ℕ → List ℕ) × IsKept D.seen D.may_leave opening store.new }
-    ensures pages { pages store.new.pool ≡ pages store.old.pool }
-{
-    store.sync()
-}
-
 /// What a fetch of a page answers.
 fn fetches<D: Device>(store: &mut Store<D>, page: PageNo) -> Result<Fetched, DeviceFault>
     requires kept { (opening : ℕ → List ℕ) × IsKept D.seen D.may_leave opening store.old }
@@ -164,50 +126,6 @@ fn flushes<D: Device>(store: &mut Store<D>) -> Result<Flushed, DeviceFault>
     ensures pages { pages store.new.pool ≡ pages store.old.pool }
 {
     store.flush_step()
-}
-
-/// What came of a page that is written back, and again once its stamp is put back: the steps before and behind it, and
-/// whether the device was synced and the stamp put back between them.
-#[derive(Clone, Copy)]
-struct WrittenBack {
-    first: [Result<bool, Refusal>; 6],
-    is_synced: bool,
-    is_unstamped: bool,
-    second: [Result<bool, Refusal>; 6],
-}
-
-fn write_back<D: Device>(store: &mut Store<D>, page: PageNo) -> WrittenBack
-    requires kept { (opening : ℕ → List ℕ) × IsKept D.seen D.may_leave opening store.old }
-    requires inside { page < pages store.old.pool }
-{
-    let first = six_steps(store);
-    let is_synced = syncs(store).is_ok();
-    let is_unstamped = unstamp(store, page);
-    WrittenBack {
-        first,
-        is_synced,
-        is_unstamped,
-        second: six_steps(store),
-    }
-}
-
-/// What came of page 3, once it was stamped.
-fn stamp_and_write_back(alloc: Global) -> Result<(Fetched, WrittenBack), Refusal> {
-    let mut store = formatted(alloc)?;
-    let page = PageNo::new(3);
-    let stamped = stamp(alloc, &mut store, page)?;
-    Ok((stamped, write_back(&mut store, page)))
-}
-
-#[test]
-fn pages_are_written_back(rt: HostRuntime) -> Result<(), Fail> {
-    let (stamped, written) = stamp_and_write_back(rt.alloc())?;
-    let (yes, no) = (Ok(true), Ok(false));
-    assert!(rt; stamped == Fetched::There && written.is_synced && written.is_unstamped);
-    // Four steps of a force, the page, and nothing.
-    assert!(rt; written.first == [yes, yes, yes, yes, yes, no]);
-    assert!(rt; written.second == [yes, no, no, no, no, no]);
-    Ok(())
 }
 
 /// The place of a record of no page, and what four steps of its force answer.

@@ -8,7 +8,9 @@ mod cli;
 #[cfg(test)]
 mod common;
 #[cfg(test)]
-mod op;
+mod numbers;
+#[cfg(test)]
+mod operations;
 #[cfg(test)]
 mod paged;
 #[cfg(test)]

@@ -2,7 +2,7 @@
 ghost use Rattle.std.specs.Prelude.{◌≤◌};
 
 pub mod driving;
-mod random;
+pub mod random;
 
 use crate::common::put_away;
 use driving::{Told, aborted, called, committed, kernel_of, run, stepped};

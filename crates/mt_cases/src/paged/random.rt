@@ -3,8 +3,7 @@ ghost use Rattle.std.specs.Prelude.{◌<◌};
 
 use super::driving::{Told, committed, kernel_of, run};
 use crate::common::put_away;
-use crate::op::driving::is_within;
-use crate::op::random::Numbers;
+use crate::numbers::{Numbers, is_within};
 use mt_base::{Bytes, CtrNo, Refusal, RelNo, TxnNo};
 use mt_disk::MemDevice;
 use mt_model::{Base, Calls, Committed, Op, Reply, Row};
@@ -438,9 +437,9 @@ fn differing_in(base: &mut Base, calls: &Calls) -> Result<u64, Refusal> {
     Ok(differing)
 }
 
-// The model behind the transactions of the book, and to how many of them it replies otherwise.
-fn replayed(alloc: Global, book: &[Committed]) -> Result<(Base, u64), Refusal> {
-    let mut base = Base::new(alloc, 2, &COUNTERS)?;
+/// A base behind the transactions of a book, and to how many of them the model replies otherwise.
+pub fn replayed(base: Base, book: &[Committed]) -> Result<(Base, u64), Refusal> {
+    let mut base = base;
     let mut differing = 0;
     for entry in book {
         if differing_in(&mut base, &entry.calls)? != 0 {
@@ -466,8 +465,8 @@ fn rows_apart(first: &[Row], second: &[Row]) -> u64 {
     apart
 }
 
-// Whether the two have the same rows and the same counters.
-fn is_same_base(first: &Base, second: &Base) -> bool {
+/// Whether the two have the same rows and the same counters.
+pub fn is_same_base(first: &Base, second: &Base) -> bool {
     rows_apart(first.rows(), second.rows()) == 0 && first.counters() == second.counters()
 }
 
@@ -493,7 +492,8 @@ fn looked_at(alloc: Global, kernel: &mut Kernel<MemDevice>) -> Result<(usize, u6
         Some(entry) => entry.calls.len(),
         None => 0,
     };
-    let (base, differing) = replayed(alloc, kernel.book())?;
+    let first = Base::new(alloc, 2, &COUNTERS)?;
+    let (base, differing) = replayed(first, kernel.book())?;
     let survey = kernel.survey()?;
     Ok((looks, differing, is_same_base(&survey.base, &base)))
 }

@@ -3,7 +3,7 @@ ghost use Rattle.std.specs.Prelude.{◌≡◌, length, IfOk};
 ghost use Rattle.mt_disk.specs.Memory.{content};
 
 use crate::log::{device_of, memory_left_at, place};
-use mt_base::{Refusal, TxnNo};
+use mt_base::Refusal;
 use mt_disk::{Device, FaultDevice, MemDevice};
 use mt_frame::Record;
 use mt_log::{Batch, begin_area, scan};
@@ -35,16 +35,19 @@ fn answer(alloc: Global, area: &[u8]) -> Result<usize, Refusal> {
     batches_in(alloc, &mut holding(alloc, area)?)
 }
 
+/// Whether this is the commit of transaction 1.
+fn is_commit(entry: &Record) -> bool {
+    matches!(entry, Record::Commit { txn } if txn.get() == 1)
+}
+
 /// Whether these are the empty first batch and one of a commit behind it, at their places.
 fn are_first_two(batches: &[Batch]) -> bool {
-    let commit = Record::Commit { txn: TxnNo::new(1) };
     match batches {
         [first, second] => {
             first.place == 8
                 && first.records.is_empty()
                 && second.place == 13
-                && second.records.len() == 1
-                && second.records[0].equals(&commit)
+                && matches!(second.records.as_slice(), [entry] if is_commit(entry))
         }
         _ => false,
     }

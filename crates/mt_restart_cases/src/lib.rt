@@ -20,6 +20,8 @@ mod recovered;
 #[cfg(test)]
 mod rotated;
 #[cfg(test)]
+mod scheduled;
+#[cfg(test)]
 mod stopped;
 #[cfg(test)]
 mod swept;

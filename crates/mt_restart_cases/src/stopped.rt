@@ -145,9 +145,14 @@ fn opened_until(alloc: Global, device: MemDevice, n: u64) -> Result<(bool, MemDe
     }
 }
 
-// Stops an opening of these bytes at each call in turn: at how many, if what is left then stands each time for this base.
-// Where nothing was written yet the device serves for the next turn.
-fn stops_of(alloc: Global, bytes: &[u8], base: &[u8], fill: Fill) -> Result<Option<u64>, Refusal> {
+/// Stops an opening of these bytes at each call in turn: at how many, if what is left then stands each time for this base.
+/// Where nothing was written yet the device serves for the next turn.
+pub fn stops_of(
+    alloc: Global,
+    bytes: &[u8],
+    base: &[u8],
+    fill: Fill,
+) -> Result<Option<u64>, Refusal> {
     let mut device = device_of(alloc, bytes.to_vec(alloc)?)?;
     for n in 1..1000u64 {
         let (went_well, stopped) = opened_until(alloc, device, n)?;

@@ -24,3 +24,4 @@ mod Surveying
 mod Opened
 mod Rotations
 mod Founded
+mod Counted

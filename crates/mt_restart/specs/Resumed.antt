@@ -3,7 +3,8 @@ use Rattle.std.specs.Prelude.{◌≡◌, ℕ, List, Result, Ok, Err}
 use Rattle.mt_base.specs.declared.refusal.Refusal.{Refusal}
 use Rattle.mt_disk.specs.declared.device.Device.{Ghosts}
 use Rattle.mt_live.specs.Machine.{start}
-use Rattle.mt_model.specs.Model.{Base}
+use Rattle.mt_model.specs.Model.{Base, IsBase}
+use Rattle.mt_steps.specs.Listed.{IsSame}
 use Rattle.mt_txn.specs.Shown.{Restarts, Shows}
 use Rattle.mt_txn.specs.declared.kernel.Kernel.{Kernel}
 
@@ -13,6 +14,11 @@ pub record IsOpened {D : Type 0} {g : Ghosts D} (seen : D → List ℕ) (may_lea
   pub counters_are : k.counters ≡ counters
   pub shows : Shows seen may_leave b (start b) k
   pub restarts : Restarts seen may_leave b k
+
+-- It begins on this base, and on each that has the same rows and the same counters, as many as it has.
+pub record BeginsOn {D : Type 0} {g : Ghosts D} (seen : D → List ℕ) (may_leave : D → List ℕ → Type 0) (b : Base) (k : Kernel D g) : Type 0 where
+  pub opened : IsOpened seen may_leave k.relations k.counters b k
+  pub same : (m : Base) → IsSame k.counters m b → IsBase m → IsOpened seen may_leave k.relations k.counters m k
 
 -- the device, in the kernel or handed back
 abbrev pub device_of : {D : Type 0} → {g : Ghosts D} → Result (Kernel D g) (Refusal × D) → D

@@ -10,7 +10,7 @@ ghost use Rattle.mt_steps.specs.Held.{Holds};
 ghost use Rattle.mt_txn.specs.Well.{Opens};
 ghost use Rattle.mt_restart.specs.Formats.{IsFormattedAs};
 ghost use Rattle.mt_restart.specs.Recovered.{IsCauseToStop, IsRecovered, StandsStill};
-ghost use Rattle.mt_restart.specs.Resumed.{IsOpened, device_of};
+ghost use Rattle.mt_restart.specs.Resumed.{BeginsOn, IsOpened, device_of};
 ghost use Rattle.mt_restart.specs.declared.schema.Schema.{Schema};
 
 use crate::beside::Beside;
@@ -96,6 +96,8 @@ pub fn open<D: Device + Drop>(
     // On any bytes it is a kernel on some base.
     ensures begins { IfOk result (λ kernel. (b : Base)
         × IsOpened D.seen D.may_leave kernel.relations kernel.counters b kernel) }
+    // What lies behind its last counter is open.
+    ensures counted { IfOk result (λ kernel. (b : Base) × BeginsOn D.seen D.may_leave b kernel) }
     ensures no_other_refusal { (relations counters : ℕ) (b : Base) → CanRestart relations counters (D.seen device) b
         → IfErr result (λ gone. (gone.0 ≡ Refusal.NoMemory)
         ⊎ ((gone.0 ≡ Refusal.DeviceFailed) ⊎ (gone.0 ≡ Refusal.LogFull))) }

@@ -5,6 +5,7 @@ use Rattle.mt_index.specs.Checks.{bytes_of}
 use Rattle.mt_restart.proofs.Based.{base_of_good}
 use Rattle.mt_restart.proofs.Calls.{not_refused, refused_so}
 use Rattle.mt_restart.proofs.Opened.{base_in_bounds, opened_as}
+use Rattle.mt_restart.proofs.Counted.{begins_on}
 use Rattle.mt_restart.proofs.Founded.{never_full}
 use Rattle.mt_restart.specs.Recovered.{StandsStill}
 use Rattle.mt_restart.proofs.resuming.open.Goals as goal
@@ -24,6 +25,13 @@ returns-in-Ok-clause-begins g c =
     let based = base_of_good checked.relations checked.counters (length items) (bytes_of items) checked.good in
     let o = c.kernel_over.ensures.opened based.0 based.1 based.2 in
     (based.0, record { relations_are = refl; counters_are = refl; shows = o.shows; restarts = o.restarts })
+
+pub returns-in-Ok-clause-counted : goal.returns-in-Ok-clause-counted
+returns-in-Ok-clause-counted g c =
+    let r = c.in-Ok.recovered in
+    let pages = bytes_of r.restored.pages.items in let checked = c.in-Ok.ensures.recovered.checked in
+    let based = base_of_good checked.relations checked.counters (length r.restored.pages.items) pages checked.good in
+    (based.0, begins_on g.D.Device.seen g.D.Device.may_leave c.kernel_over.result pages r.beside.relations r.beside.counters based.0 c.in-Ok.ensures.recovered.beside.counters based.1 based.2 c.kernel_over.ensures.opened)
 
 pub returns-in-Ok-clause-moments : goal.returns-in-Ok-clause-moments
 returns-in-Ok-clause-moments g c = λ relations counters b can.

@@ -6,3 +6,10 @@ pub mod TurnLemmas
 pub mod CallLemmas
 pub mod RunLemmas
 pub mod SessionLemmas
+mod TranscriptLemmas
+mod HeardLemmas
+mod HearingLemmas
+mod AttemptLemmas
+mod SessionRuns
+mod CrewLemmas
+mod ServingLemmas

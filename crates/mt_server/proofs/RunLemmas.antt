@@ -21,17 +21,9 @@ use Rattle.mt_server.specs.Driven.{IsBeside, IsDueTo, IsGivenUp, IsResting}
 use Rattle.mt_server.specs.Plays.{Play, IsTurn, acts, refuses, Runs, starts, goes_on, after_at, put_off}
 use Rattle.mt_server.specs.Runs.{HasRun, HasRunLines, HasTurned, IsAnswered, IsCutAtEnd, IsCutShort, IsEnded, IsEndedFor, nothing, aborted, failed, IsLeftFor, IsStopped, IsToldFor, failure_line, last_line}
 use Rattle.mt_script.proofs.TextLemmas.{front_then}
+use Rattle.mt_server.proofs.TranscriptLemmas.{runs_then, text_joined, text_one}
 
 -- ---- texts
-
-text_joined : (as' bs : List Answer) → transcript_text (as' ++ bs) ≡ transcript_text as' ++ transcript_text bs
-unfolding transcript_text
-text_joined [] bs = refl
-text_joined (a ∷ as') bs = ap (λ (t : List ℕ). answer_text a ++ 10 ∷ t) (text_joined as' bs) ∙ sym (append_assoc (answer_text a) (10 ∷ transcript_text as') (transcript_text bs))
-
-pub text_one : (a : Answer) → transcript_text (a ∷ []) ≡ answer_text a ++ 10 ∷ []
-unfolding transcript_text
-text_one a = refl
 
 text_none : (a : Option (List ℕ)) → Appends a a (transcript_text [])
 unfolding transcript_text
@@ -76,12 +68,6 @@ after_session p (Some calls) line.Abort = refl
 turn_session : {IsDue : Line → Refusal → Type 0} → (relations counters : ℕ) (p q : Play) (l : Line) (a : Answer) → IsTurn relations counters IsDue p l a q → q.session ≡ p.session
 turn_session relations counters p _ l _ (acts none) = after_session p p.under_way l
 turn_session relations counters p _ l _ (refuses why cause) = refl
-
-runs_then : {S : Type 0} {Turn : S → Line → Answer → S → Type 0} → (s m e : S) (ls ms : List Line) (as' bs : List Answer) → Runs Turn s ls as' m → Runs Turn m ms bs e → Runs Turn s (ls ++ ms) (as' ++ bs) e
-runs_then {Turn = Turn} s m _ ls _ as' _ first starts = subst (λ (X : Type 0). X) (λ i. Runs Turn s (sym (append-nil ls) i) (sym (append-nil as') i) m) first
-runs_then {Turn = Turn} s m _ ls _ as' _ first (goes_on lines answers k e line answer before turn) =
-    subst (λ (X : Type 0). X) (λ i. Runs Turn s (append_assoc ls lines (line ∷ []) i) (append_assoc as' answers (answer ∷ []) i) e)
-    (goes_on (ls ++ lines) (as' ++ answers) k e line answer (runs_then s m k ls lines as' answers first before) turn)
 
 -- ---- a line
 

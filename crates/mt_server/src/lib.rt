@@ -6,11 +6,20 @@
 //! [`run_sessions`] for several scripts.
 #![tactic(auto)]
 
+mod attempts;
+mod crew;
 mod driving;
 mod forcing;
+mod placing;
 mod running;
+mod serving;
+mod session;
 mod sessions;
+mod transcript;
+mod turning;
 mod turns;
 
 pub use running::{RunFault, run_alone};
+pub use serving::{Served, serve};
 pub use sessions::{MAX_SESSIONS, run_sessions};
+pub use transcript::Transcript;

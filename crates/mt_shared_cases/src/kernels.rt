@@ -26,8 +26,8 @@ impl Gate for NoGate {
 /// A kernel in memory that threads share.
 pub type Memory<J> = Shared<MemDevice, NoGate, J>;
 
-// A device in memory of so many bytes, each of them 0.
-fn empty_device(alloc: Global, size: u64) -> Result<MemDevice, Refusal> {
+/// A device in memory of so many bytes, each of them 0.
+pub fn empty_device(alloc: Global, size: u64) -> Result<MemDevice, Refusal> {
     let bytes = vec![in alloc; 0u8; size as usize]?;
     Ok(MemDevice::new(alloc, bytes, 4200, 8_400_000)?)
 }

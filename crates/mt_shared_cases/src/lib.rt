@@ -1,5 +1,6 @@
-//! The tests of threads that share a kernel, through public calls of `mt_shared`: sixteen of them commit at once, one
-//! sees another's commit while its own transaction is open, and a pass finds what its last transaction left.
+//! The tests of threads that share a kernel, through public calls of `mt_shared` and `mt_server`: sixteen of them commit
+//! at once, one sees another's commit while its own transaction is open, and a pass finds what its last transaction left.
+//! Scripts are served by one thread, and by sixteen.
 #![tactic(auto)]
 
 #[cfg(test)]
@@ -8,6 +9,8 @@ mod kernels;
 mod looks;
 #[cfg(test)]
 mod rows;
+#[cfg(test)]
+mod served;
 #[cfg(test)]
 mod sessions;
 #[cfg(test)]

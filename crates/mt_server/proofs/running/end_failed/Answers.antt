@@ -3,7 +3,7 @@ use Rattle.std.specs.Io.KnownBytes.{Appends}
 use Rattle.mt_base.specs.declared.refusal.Refusal.TheVariants as refusal
 use Rattle.mt_script.specs.declared.answers.Answer.TheVariants.{Refused}
 use Rattle.mt_script.specs.Answers.{AppendsFront}
-use Rattle.mt_server.proofs.RunLemmas.{text_one}
+use Rattle.mt_server.proofs.TranscriptLemmas.{text_one}
 use Rattle.mt_server.proofs.running.end_failed.Goals as goal
 
 pub returns-in-Ok : goal.returns-in-Ok

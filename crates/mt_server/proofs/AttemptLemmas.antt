@@ -1,0 +1,214 @@
+-- The lines of a transaction over a shared kernel.
+use Rattle.std.proofs.Common.{◌≡◌, ◌≢◌, ◌<◌, ◌≤◌, ◌+◌, ◌-◌, ◌^◌, ℕ, zero, suc, List, [], ◌∷◌, ◌++◌, Option, Some, None, Result, Ok, Err, IsSome, arith, length, take, drop, get_or, refl, ap, sym, subst, ◌∙◌, append_assoc, append-nil, length-append, length-drop, take-append-drop}
+use Rattle.std.proofs.Math.Seq.{drop-cons, take-suc, take-length}
+use mathlib.Core.List.{IsPrefix}
+use Rattle.mt_base.specs.declared.refusal.Refusal.{Refusal}
+use Rattle.mt_base.specs.declared.refusal.Refusal.TheVariants as refusal
+use Rattle.mt_mark.proofs.Fronts.{prefix_trans}
+use Rattle.mt_mark.specs.declared.view.Entry.{Entry}
+use Rattle.mt_model.specs.History.{Call}
+use Rattle.mt_model.specs.declared.tables.Base.{Base}
+use Rattle.mt_script.specs.Answers.{transcript_text}
+use Rattle.mt_script.specs.declared.answers.Answer.{Answer}
+use Rattle.mt_script.specs.declared.answers.Answer.TheVariants.{Begun, Aborted, Refused}
+use Rattle.mt_script.specs.declared.lines.Line.{Line}
+use Rattle.mt_script.specs.declared.lines.Line.TheVariants as line
+use Rattle.mt_server.specs.Plays.{Runs, starts, goes_on}
+use Rattle.mt_server.specs.Heard.{Heard, Hears, IsRefusable, begins, refuses}
+use Rattle.mt_server.specs.Hearing.{AreFew, Place, Ending, HasFailed, HasRan, HasServed, IsAt, IsStopped, IsTurned, Reached, Running, Served, Turning, Turns, and_begin, between, entry_of, within}
+use Rattle.mt_server.specs.declared.attempts.Ran.{Ran}
+use Rattle.mt_server.specs.declared.attempts.Ran.TheVariants as ran
+use Rattle.mt_server.specs.declared.turning.Stop.{Stop}
+use Rattle.mt_server.specs.declared.turning.Stop.TheVariants as stop
+use Rattle.mt_server.proofs.TranscriptLemmas.{all_told, none_told, runs_then}
+use Rattle.mt_shared.specs.Seen.{PassSeen, fresh}
+
+module _ (b : Base) (session : ℕ) where
+  pub none_served : (start : Place) (was : List ℕ) → HasServed b session start [] was was start
+  none_served start was = record { answers = []; served = starts; text = none_told was }
+
+  one_served : (start end : Place) (l : Line) (a : Answer) (was now : List ℕ) → Turns b session start l a end → now ≡ was ++ transcript_text (a ∷ []) → HasServed b session start (l ∷ []) was now end
+  one_served start end l a was now turns text = record { answers = a ∷ []; served = goes_on [] [] start end l a starts turns; text = text }
+
+  pub served_then : (start mid end : Place) (ls ms : List Line) (was at now : List ℕ) → HasServed b session start ls was at mid → HasServed b session mid ms at now end → HasServed b session start (ls ++ ms) was now end
+  served_then start mid end ls ms was at now first next = record {
+    answers = first.answers ++ next.answers;
+    served = runs_then start mid end ls ms first.answers next.answers first.served next.served;
+    text = all_told first.answers next.answers was at now first.text next.text;
+  }
+
+  served_prefix : (start end : Place) (ls : List Line) (was now : List ℕ) → HasServed b session start ls was now end → IsPrefix was now
+  served_prefix start end ls was now s = (transcript_text s.answers, sym s.text)
+
+  -- ---- within a transaction
+
+  pub begun_at : (booked : List (ℕ × List Call)) (txn : Entry) (pass : PassSeen) (lines : List Line) (was : List ℕ) → txn.pass ≡ pass.number → txn.done.session ≡ session
+      → Reached b session (within booked txn.done.calls pass) (take 0 lines) was was (Some txn) pass
+  begun_at booked txn pass lines was own mine = record {
+    end = within booked txn.done.calls pass;
+    pass_is = refl;
+    at = (refl, λ i. entry_of (own i) (mine i) txn.done.calls);
+    served = none_served (within booked txn.done.calls pass) was;
+  }
+
+  pub own_at : {start : Place} {lines : List Line} {was now : List ℕ} → (t : Entry) (pass : PassSeen) → Reached b session start lines was now (Some t) pass → (t.pass ≡ pass.number) × (t.done.session ≡ session)
+  own_at t pass r = (ap (λ (e : Entry). e.pass) r.at.1 ∙ ap (λ (x : PassSeen). x.number) r.pass_is, ap (λ (e : Entry). e.done.session) r.at.1)
+
+  -- where it stands
+  place_is : (p : Place) (calls : List Call) (pass : PassSeen) → p.heard.under_way ≡ Some calls → p.pass ≡ pass → p ≡ within p.heard.booked calls pass
+  place_is p calls pass open_is pass_is = λ i. record { heard = record { under_way = open_is i; booked = p.heard.booked }; pass = pass_is i }
+
+  pub line_more : (start : Place) (lines : List Line) (n : ℕ) (l : Line) (was mid now : List ℕ) (t : Entry) (pass new : PassSeen) (token : Option Entry) → n < length lines → l ≡ get_or lines n l
+      → Reached b session start (take n lines) was mid (Some t) pass → Turning b t pass l mid now new (Ok token) → Reached b session start (take (suc n) lines) was now token new
+  line_more start lines n l was mid now t pass new token lt is r turning =
+      let from : r.end ≡ within r.end.heard.booked t.done.calls pass = place_is r.end t.done.calls pass r.at.0 r.pass_is in
+      let mine : t.done.session ≡ session = (own_at t pass r).1 in
+      let x = subst (λ (n : ℕ). IsTurned b n (within r.end.heard.booked t.done.calls pass) l mid now token new) mine (turning r.end.heard.booked) in
+      let all : take n lines ++ l ∷ [] ≡ take (suc n) lines = ap (λ (y : Line). take n lines ++ y ∷ []) is ∙ sym (take-suc lines n l lt) in
+      let turns : Turns b session r.end l x.answer x.end = subst (λ (p : Place). Turns b session p l x.answer x.end) (sym from) x.turns in
+      record {
+        end = x.end;
+        pass_is = x.pass_is;
+        at = x.at;
+        served = subst (λ (ls : List Line). HasServed b session start ls was now x.end) all
+            (served_then start r.end x.end (take n lines) (l ∷ []) was mid now r.served (one_served r.end x.end l x.answer mid now turns x.text));
+      }
+
+  pub waits_on : (l : Line) (mid now : List ℕ) (t kept : Entry) (pass new : PassSeen) → Turning b t pass l mid now new (Ok (Some kept)) → new ≡ pass
+  waits_on l mid now t kept pass new turning = (turning []).waits
+
+  pub ended_at : (start : Place) (lines : List Line) (n : ℕ) (was now : List ℕ) (new : PassSeen) → n ≤ length lines → Reached b session start (take n lines) was now None new → HasRan b session start lines was now new (ran.Ended n)
+  ended_at start lines n was now new le r = (r.end, r.pass_is, r.at, le, r.served)
+
+  pub stopped_at : (start : Place) (lines : List Line) (n : ℕ) (l : Line) (was mid now : List ℕ) (t : Entry) (pass new : PassSeen) (s : Stop) → pass ≡ start.pass → Reached b session start (take n lines) was mid (Some t) pass
+      → Turning b t pass l mid now new (Err s) → Running b session start lines was now new (Err s)
+  stopped_at start lines n l was mid now t pass new stop.Died same r (stays, front) = (stays ∙ same, prefix_trans was mid now (served_prefix start r.end (take n lines) was mid r.served) front)
+  stopped_at start lines n l was mid now t pass new stop.Failed same r (stays, text) = record {
+    before = take n lines;
+    rest = drop n lines;
+    split = sym (take-append-drop n lines);
+    end = r.end;
+    pass_is = r.pass_is ∙ sym stays;
+    mid = mid;
+    served = r.served;
+    text = text;
+  }
+  stopped_at start lines n l was mid now t pass new stop.Unheard same r stopped = tt
+
+  pub at_end : (start : Place) (lines : List Line) (was mid now : List ℕ) (t : Entry) (pass new : PassSeen) (result : Result Ran Stop) → Reached b session start (take (length lines) lines) was mid (Some t) pass
+      → Ending pass mid now new result → Running b session start lines was now new result
+  at_end start lines was mid now t pass new (Ok (ran.Ended count)) r ends = absurd ends
+  at_end start lines was mid now t pass new (Ok ran.AtEnd) r (stays, text) =
+      (r.end, mid, r.pass_is ∙ sym stays, subst (λ (u : Option (List Call)). IsSome u) (sym r.at.0) refl, subst (λ (ls : List Line). HasServed b session start ls was mid r.end) (take-length lines) r.served, text)
+  at_end start lines was mid now t pass new (Err stop.Died) r ends = absurd ends
+  at_end start lines was mid now t pass new (Err stop.Failed) r (stays, text) = record {
+    before = lines;
+    rest = [];
+    split = sym (append-nil lines);
+    end = r.end;
+    pass_is = r.pass_is ∙ sym stays;
+    mid = mid;
+    served = subst (λ (ls : List Line). HasServed b session start ls was mid r.end) (take-length lines) r.served;
+    text = text;
+  }
+  at_end start lines was mid now t pass new (Err stop.Unheard) r ends = tt
+
+  -- ---- from the begin on
+
+  pub few_ran : (start : Place) (lines : List Line) (was now : List ℕ) (new : PassSeen) (result : Result Ran Stop) → length lines + 1 < 2 ^ 64 → Running b session start lines was now new result → AreFew result
+  few_ran start lines was now new (Ok (ran.Ended count)) room (end, pass_is, ended, le, served) = omega (arith, room, le)
+  few_ran start lines was now new (Ok ran.AtEnd) room r = tt
+  few_ran start lines was now new (Err s) room r = tt
+
+  begun : (booked : List (ℕ × List Call)) (pass : PassSeen) (was mid : List ℕ) → mid ≡ was ++ transcript_text (Begun ∷ []) → HasServed b session (between booked pass) (line.Begin ∷ []) was mid (within booked [] pass)
+  begun booked pass was mid text = one_served (between booked pass) (within booked [] pass) line.Begin Begun was mid (record { hears = begins refl; grows = refl }) text
+
+  pub run_behind : (booked : List (ℕ × List Call)) (pass : PassSeen) (lines : List Line) (was mid now : List ℕ) (new : PassSeen) (result : Result Ran Stop) → mid ≡ was ++ transcript_text (Begun ∷ [])
+      → Running b session (within booked [] pass) lines mid now new result → Running b session (between booked pass) (line.Begin ∷ lines) was now new (and_begin result)
+  run_behind booked pass lines was mid now new (Ok (ran.Ended count)) text (end, pass_is, ended, le, served) =
+      (end, pass_is, ended, omega (arith, le), served_then (between booked pass) (within booked [] pass) end (line.Begin ∷ []) (take count lines) was mid now (begun booked pass was mid text) served)
+  run_behind booked pass lines was mid now new (Ok ran.AtEnd) text (end, at, pass_is, live, served, told) =
+      (end, at, pass_is, live, served_then (between booked pass) (within booked [] pass) end (line.Begin ∷ []) lines was mid at (begun booked pass was mid text) served, told)
+  run_behind booked pass lines was mid now new (Err stop.Died) text (stays, front) =
+      (stays, prefix_trans was mid now (transcript_text (Begun ∷ []), sym text) front)
+  run_behind booked pass lines was mid now new (Err stop.Failed) text f = record {
+    before = line.Begin ∷ f.before;
+    rest = f.rest;
+    split = ap (λ (ls : List Line). line.Begin ∷ ls) f.split;
+    end = f.end;
+    pass_is = f.pass_is;
+    mid = f.mid;
+    served = served_then (between booked pass) (within booked [] pass) f.end (line.Begin ∷ []) f.before was mid f.mid (begun booked pass was mid text) f.served;
+    text = f.text;
+  }
+  run_behind booked pass lines was mid now new (Err stop.Unheard) text u = tt
+
+  pub begin_refused : (booked : List (ℕ × List Call)) (pass new : PassSeen) (lines : List Line) (why : Refusal) (was now : List ℕ) → new ≡ pass → now ≡ was ++ transcript_text (Refused why ∷ [])
+      → HasRan b session (between booked pass) (line.Begin ∷ lines) was now new (ran.Ended 1)
+  begin_refused booked pass new lines why was now same text =
+      (between booked pass, sym same, refl, omega arith, one_served (between booked pass) (between booked pass) line.Begin (Refused why) was now (record { hears = refuses line.Begin why tt; grows = refl }) text)
+
+  pub begin_failed : (booked : List (ℕ × List Call)) (pass new : PassSeen) (lines : List Line) (was now : List ℕ) (s : Stop) → new ≡ pass → s ≢ stop.Died → ((p : PassSeen) → IsStopped p was now p s)
+      → Running b session (between booked pass) lines was now new (Err s)
+  begin_failed booked pass new lines was now stop.Died same lives stops = absurd (lives refl)
+  begin_failed booked pass new lines was now stop.Failed same lives stops = record {
+    before = [];
+    rest = lines;
+    split = refl;
+    end = between booked pass;
+    pass_is = sym same;
+    mid = was;
+    served = none_served (between booked pass) was;
+    text = (stops pass).1;
+  }
+  begin_failed booked pass new lines was now stop.Unheard same lives stops = tt
+
+  -- an answer that found no memory says nothing
+  pub unheard : (start : Place) (lines : List Line) (was now : List ℕ) (new : PassSeen) (s : Stop) → s ≡ stop.Unheard → Running b session start lines was now new (Err s)
+  unheard start lines was now new s is = subst (λ (x : Stop). Running b session start lines was now new (Err x)) (sym is) tt
+
+  -- with the token that the begin gave
+  pub run_fresh : (booked : List (ℕ × List Call)) (pass at : PassSeen) (txn : Entry) (lines : List Line) (was mid now : List ℕ) (new : PassSeen) (result : Result Ran Stop) → at ≡ pass → txn ≡ fresh pass.number session → mid ≡ was ++ transcript_text (Begun ∷ [])
+      → Running b txn.done.session (within booked txn.done.calls at) lines mid now new result → Running b session (between booked pass) (line.Begin ∷ lines) was now new (and_begin result)
+  run_fresh booked pass at txn lines was mid now new result same token text runs =
+      run_behind booked pass lines was mid now new result text (subst (λ (x : Entry × PassSeen). Running b x.0.done.session (within booked x.0.done.calls x.1) lines mid now new result) (λ i. (token i, same i)) runs)
+
+  -- from where the loop began
+  pub same_start : (booked : List (ℕ × List Call)) (pass at : PassSeen) (lines : List Line) (was mid now : List ℕ) (new : PassSeen) (result : Result Ran Stop) → at ≡ pass → mid ≡ was
+      → Running b session (between booked at) lines mid now new result → Running b session (between booked pass) lines was now new result
+  same_start booked pass at lines was mid now new result same text runs =
+      subst (λ (x : PassSeen × List ℕ). Running b session (between booked x.0) lines x.1 now new result) (λ i. (same i, text i)) runs
+
+  pub outside : (booked : List (ℕ × List Call)) (pass : PassSeen) (lines : List Line) (at : ℕ) (l : Line) (was now : List ℕ) → at < length lines → l ≡ get_or lines at l → (l ≡ line.Begin → ⊥) → now ≡ was ++ transcript_text (Refused refusal.Stranger ∷ [])
+      → HasRan b session (between booked pass) (drop at lines) was now pass (ran.Ended 1)
+  outside booked pass lines at l was now lt is other text =
+      let first : drop at lines ≡ l ∷ drop (suc at) lines = drop-cons lines at l lt ∙ ap (λ (y : Line). y ∷ drop (suc at) lines) (sym is) in
+      let turns : Turns b session (between booked pass) l (Refused refusal.Stranger) (between booked pass) = record { hears = refuses l refusal.Stranger (stranger l other); grows = refl } in
+      subst (λ (ls : List Line). HasRan b session (between booked pass) ls was now pass (ran.Ended 1)) (sym first)
+      (between booked pass, refl, refl, omega arith, one_served (between booked pass) (between booked pass) l (Refused refusal.Stranger) was now turns text)
+    where
+      stranger : (x : Line) → (x ≡ line.Begin → ⊥) → IsRefusable None x refusal.Stranger
+      stranger line.Begin not_begin = absurd (not_begin refl)
+      stranger (line.Call op) not_begin = refl
+      stranger line.Commit not_begin = refl
+      stranger line.Abort not_begin = refl
+
+  pub from_begin : (booked : List (ℕ × List Call)) (pass : PassSeen) (lines : List Line) (at : ℕ) (l : Line) (was now : List ℕ) (new : PassSeen) (result : Result Ran Stop) → at < length lines → l ≡ get_or lines at l → l ≡ line.Begin
+      → Running b session (between booked pass) (line.Begin ∷ drop (suc at) lines) was now new result → Running b session (between booked pass) (drop at lines) was now new result
+  from_begin booked pass lines at l was now new result lt is begin runs =
+      let first : drop at lines ≡ line.Begin ∷ drop (suc at) lines = drop-cons lines at l lt ∙ ap (λ (y : Line). y ∷ drop (suc at) lines) (sym is ∙ begin) in
+      subst (λ (ls : List Line). Running b session (between booked pass) ls was now new result) (sym first) runs
+
+take_front : (xs rest : List ℕ) → take (length xs) (xs ++ rest) ≡ xs
+take_front [] rest = refl
+take_front (x ∷ xs) rest = ap (λ (t : List ℕ). x ∷ t) (take_front xs rest)
+
+-- what was written of a run that died is cut off
+pub cut_back : (first was now cut : List ℕ) (n : ℕ) → was ≡ first → IsPrefix was now → n ≡ length first → cut ≡ take n now → cut ≡ first
+cut_back first was now cut n same (rest, grown) count is =
+    let whole : now ≡ first ++ rest = sym grown ∙ ap (λ (t : List ℕ). t ++ rest) same in
+    is ∙ ((λ i. take (count i) (whole i)) ∙ take_front first rest)
+
+-- a slice from a place on
+pub rest_from : (lines : List Line) (n : ℕ) → take (length lines - n) (drop n lines) ≡ drop n lines
+rest_from lines n = ap (λ (k : ℕ). take k (drop n lines)) (sym (length-drop n lines)) ∙ take-length (drop n lines)

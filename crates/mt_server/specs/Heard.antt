@@ -1,0 +1,91 @@
+-- What sessions over a shared kernel are answered, and what the history has of them.
+use Rattle.std.specs.Prelude.{ℕ, ◌≡◌, ◌<◌, ◌+◌, List, [], ◌∷◌, ◌++◌, length, Option, Some, None, All, get_or}
+use Rattle.mt_base.specs.declared.refusal.Refusal.{Refusal}
+use Rattle.mt_base.specs.declared.refusal.Refusal.TheVariants as refusal
+use Rattle.mt_model.specs.History.{Call}
+use Rattle.mt_model.specs.declared.history.Committed.{Committed}
+use Rattle.mt_model.specs.declared.operations.Op.{Op}
+use Rattle.mt_model.specs.declared.operations.Reply.{Reply}
+use Rattle.mt_script.specs.Answers.{transcript_text}
+use Rattle.mt_script.specs.declared.answers.Answer.{Answer}
+use Rattle.mt_script.specs.declared.answers.Answer.TheVariants.{Begun, Replied, Committed as CommittedAt, Aborted, Refused}
+use Rattle.mt_script.specs.declared.lines.Line.{Line}
+use Rattle.mt_script.specs.declared.lines.Line.TheVariants as line
+use Rattle.mt_script.specs.declared.reader.Script.{Script}
+use Rattle.mt_server.specs.Plays.{Runs}
+use Rattle.mt_server.specs.Runs.{last_line}
+use Rattle.mt_server.specs.Sessions.{lines_in}
+
+-- ---- answers
+
+-- the calls of the transaction that is open, if one is, and the commits so far: the place of each, with its calls
+pub record Heard : Type 0 where
+  pub under_way : Option (List Call)
+  pub booked : List (ℕ × List Call)
+
+abbrev pub silence : Heard
+silence = record { under_way = None; booked = [] }
+
+-- A line may be refused so: by 15 what is not a begin, and by nothing else, where no transaction is open; by 16 a begin where one is. An
+-- abort is not refused.
+abbrev pub IsRefusable : Option (List Call) → Line → Refusal → Type 0
+IsRefusable None line.Begin why = Unit {0}
+IsRefusable None (line.Call op) why = why ≡ refusal.Stranger
+IsRefusable None line.Commit why = why ≡ refusal.Stranger
+IsRefusable None line.Abort why = why ≡ refusal.Stranger
+IsRefusable (Some calls) line.Begin why = why ≡ refusal.Busy
+IsRefusable (Some calls) (line.Call op) why = Unit {0}
+IsRefusable (Some calls) line.Commit why = Unit {0}
+IsRefusable (Some calls) line.Abort why = ⊥
+
+-- An answer to a line. A commit keeps the calls that were replied to since the begin; a transaction that dies is gone.
+pub data Hears (h : Heard) : Line → Answer → Heard → Type 0 where
+  begins : h.under_way ≡ None → Hears h line.Begin Begun (record h { under_way = Some [] })
+  replies : (calls : List Call) (op : Op) (reply : Reply) → h.under_way ≡ Some calls
+      → Hears h (line.Call op) (Replied reply) (record h { under_way = Some (calls ++ (op, reply) ∷ []) })
+  commits : (calls : List Call) (place : ℕ) → h.under_way ≡ Some calls
+      → Hears h line.Commit (CommittedAt place) (record { under_way = None; booked = h.booked ++ (place, calls) ∷ [] })
+  aborts : (calls : List Call) → h.under_way ≡ Some calls → Hears h line.Abort Aborted (record h { under_way = None })
+  dies : (calls : List Call) (op : Op) (holder : ℕ) → h.under_way ≡ Some calls
+      → Hears h (line.Call op) (Refused (refusal.Die holder)) (record h { under_way = None })
+  refuses : (line : Line) (why : Refusal) → IsRefusable h.under_way line why → Hears h line (Refused why) h
+
+-- what stands behind the answers: that the open transaction is aborted, where the script is at its end; or that the device failed
+pub data IsEnd (u : Option (List Call)) : List Line → List Answer → Type 0 where
+  ends : IsEnd u [] (last_line u)
+  fails : (rest : List Line) → IsEnd u rest (Refused refusal.DeviceFailed ∷ [])
+
+-- ---- the history
+
+-- a session's transaction with these calls has this place in the book, from 1
+pub record StandsAt (session : ℕ) (book : List Committed) (place : ℕ) (calls : List Call) : Type 0 where
+  pub before : List Committed
+  pub behind : List Committed
+  pub book_is : book ≡ before ++ record { session = session; calls = calls } ∷ behind
+  pub place_is : length before + 1 ≡ place
+
+-- the places rise, up to this one
+pub data Rise : List (ℕ × List Call) → ℕ → Type 0 where
+  nowhere : Rise [] 0
+  higher : (booked : List (ℕ × List Call)) (last place : ℕ) (calls : List Call) → Rise booked last → last < place → Rise (booked ++ (place, calls) ∷ []) place
+
+-- The transcript of a session: the text of what its lines were answered. Each commit that it tells has the place that it tells, in this book,
+-- with the calls that were replied to; and the places rise.
+pub record IsTold (session : ℕ) (lines : List Line) (text : List ℕ) (book : List Committed) : Type 0 where
+  pub before : List Line
+  pub rest : List Line
+  pub lines_are : lines ≡ before ++ rest
+  pub answers : List Answer
+  pub last : List Answer
+  pub heard : Heard
+  pub hears : Runs Hears silence before answers heard
+  pub end : IsEnd heard.under_way rest last
+  pub text_is : text ≡ transcript_text (answers ++ last)
+  pub stands : All (λ (c : ℕ × List Call). StandsAt session book c.0 c.1) heard.booked
+  pub highest : ℕ
+  pub rises : Rise heard.booked highest
+
+-- there is one for each script, in their order, of which the first is session 1
+pub record AreTold (scripts : List Script) (texts : List (List ℕ)) (book : List Committed) : Type 0 where
+  pub count : length texts ≡ length scripts
+  pub each : (i : ℕ) (script : Script) → i < length scripts → script ≡ get_or scripts i script → IsTold (i + 1) (lines_in script) (get_or texts i []) book

@@ -1,0 +1,152 @@
+// A transaction of a session over a shared kernel, from its begin to its end.
+ghost use Rattle.std.specs.Prelude.{◌≡◌, ◌≢◌, ◌+◌, ◌<◌, ◌^◌, ◌∷◌, false, ℕ, List, IfErr, length};
+ghost use Rattle.mt_model.specs.History.{Call};
+ghost use Rattle.mt_script.specs.declared.lines.Line.TheVariants as line;
+ghost use Rattle.mt_server.specs.Hearing.{AreFew, Ending, Running, and_begin, between, within};
+ghost use Rattle.mt_server.specs.declared.turning.Stop.TheVariants as stop;
+
+use crate::turning::{Stop, fail, refuse, take_back, tell_aborted, tell_begun, turn};
+use mt_base::Refusal;
+use mt_disk::Device;
+use mt_script::Line;
+use mt_shared::{Gate, Naming, Pass, Shared, Txn};
+use std::alloc::Global;
+use std::sync::Wait;
+use std::thread;
+
+/// How often a transaction is run that dies.
+pub(crate) const RUNS: u32 = 100;
+
+/// How far a transaction has come.
+#[derive(Clone, Copy, PartialEq, Eq, Debug)]
+pub enum Ran {
+    /// It has ended, and so many lines are answered, its begin among them.
+    Ended(usize),
+    /// It was open at the script's end, and was taken back.
+    AtEnd,
+}
+
+/// Takes back what is open at the script's end, and tells that.
+fn end<D: Device, G: Gate + Drop, J: Naming, R: Wait>(
+    rt: &R,
+    shared: &Shared<D, G, J>,
+    pass: &mut Pass<J>,
+    txn: Txn<J>,
+    out: &mut Vec<u8>,
+) -> Result<Ran, Stop>
+    ensures { Ending pass.old out.old.items out.new.items pass.new result }
+{
+    if !take_back(rt, shared, pass, txn) {
+        return Err(fail(out));
+    }
+    tell_aborted(out)?;
+    Ok(Ran::AtEnd)
+}
+
+/// Answers the lines behind a begin until the transaction has ended. The begin is not counted.
+fn go_on<D: Device, G: Gate + Drop, J: Naming, R: Wait>(
+    rt: &R,
+    shared: &Shared<D, G, J>,
+    pass: &mut Pass<J>,
+    txn: Txn<J>,
+    lines: &[Line],
+    may_die: bool,
+    out: &mut Vec<u8>,
+) -> Result<Ran, Stop>
+    requires own { txn.pass ≡ pass.old.number }
+    ensures runs { (booked : List (ℕ × List Call)) → Running J.base txn.done.session (within booked txn.done.calls pass.old)
+        lines.now out.old.items out.new.items pass.new result }
+    ensures lives { may_die ≡ false → IfErr result (λ told. told ≢ stop.Died) }
+{
+    let mut kept = txn;
+    let mut count = 0;
+    for line in lines {
+        count += 1;
+        match turn(rt, shared, pass, kept, line, may_die, out)? {
+            Some(back) => kept = back,
+            None => return Ok(Ran::Ended(count)),
+        }
+    }
+    end(rt, shared, pass, kept, out)
+}
+
+/// Counts the begin among the lines that were answered.
+fn and_begin(told: Result<Ran, Stop>) -> Result<Ran, Stop>
+    requires few { AreFew told }
+    ensures { result ≡ and_begin told }
+{
+    match told {
+        Ok(Ran::Ended(count)) => Ok(Ran::Ended(count + 1)),
+        Ok(Ran::AtEnd) => Ok(Ran::AtEnd),
+        Err(why) => Err(why),
+    }
+}
+
+/// Runs a transaction once. The lines are those behind its begin.
+fn run_once<D: Device, G: Gate + Drop, J: Naming, R: Wait>(
+    rt: &R,
+    alloc: Global,
+    shared: &Shared<D, G, J>,
+    pass: &mut Pass<J>,
+    session: u32,
+    lines: &[Line],
+    may_die: bool,
+    out: &mut Vec<u8>,
+) -> Result<Ran, Stop>
+    requires room { length lines.now + 1 < 2 ^ 64 }
+    ensures runs { (booked : List (ℕ × List Call)) → Running J.base session (between booked pass.old)
+        (line.Begin ∷ lines.now) out.old.items out.new.items pass.new result }
+    ensures lives { may_die ≡ false → IfErr result (λ told. told ≢ stop.Died) }
+{
+    match shared.begin(rt, alloc, pass, session) {
+        Ok(txn) => match tell_begun(out) {
+            Ok(()) => and_begin(go_on(rt, shared, pass, txn, lines, may_die, out)),
+            Err(why) => {
+                take_back(rt, shared, pass, txn);
+                Err(why)
+            }
+        },
+        Err(Refusal::DeviceFailed) => Err(fail(out)),
+        Err(why) => {
+            refuse(out, why)?;
+            Ok(Ran::Ended(1))
+        }
+    }
+}
+
+/// Lets other threads go on before the next run, each time twice as often, up to 4,096 times.
+fn back_off(run: u32) {
+    for _ in 0..1u32 << run.min(12) {
+        thread::yield_now();
+    }
+}
+
+/// Runs a transaction. Where it dies, its answers are dropped, and it is run again, a hundred times at most.
+pub(crate) fn run_surely<D: Device, G: Gate + Drop, J: Naming, R: Wait>(
+    rt: &R,
+    alloc: Global,
+    shared: &Shared<D, G, J>,
+    pass: &mut Pass<J>,
+    session: u32,
+    lines: &[Line],
+    out: &mut Vec<u8>,
+) -> Result<Ran, Stop>
+    requires room { length lines.now + 1 < 2 ^ 64 }
+    ensures runs { (booked : List (ℕ × List Call)) → Running J.base session (between booked pass.old)
+        (line.Begin ∷ lines.now) out.old.items out.new.items pass.new result }
+    ensures lives { IfErr result (λ told. told ≢ stop.Died) }
+{
+    let kept = out.len();
+    for run in 1..RUNS {
+        match run_once(rt, alloc, shared, pass, session, lines, true, out) {
+            Err(Stop::Died) => {
+                out.truncate(kept);
+                back_off(run);
+            }
+            Ok(ran) => return Ok(ran),
+            Err(Stop::Failed) => return Err(Stop::Failed),
+            Err(Stop::Unheard) => return Err(Stop::Unheard),
+        }
+    }
+    run_once(rt, alloc, shared, pass, session, lines, false, out)
+}

@@ -1,0 +1,197 @@
+// Scripts, served to a device by threads that share a kernel.
+ghost use Rattle.std.specs.Prelude.{◌≡◌, ◌⊎◌, ◌<◌, ◌≤◌, ◌^◌, ℕ, List, All, IfOk, IfErr, length};
+ghost use mathlib.Core.List.{IsPrefix};
+ghost use Rattle.mt_base.specs.declared.refusal.Refusal.{Refusal};
+ghost use Rattle.mt_mark.specs.Rule.{dones};
+ghost use Rattle.mt_model.specs.declared.history.Committed.{Committed};
+ghost use Rattle.mt_server.specs.Crews.{IsBlank, IsBoard};
+ghost use Rattle.mt_server.specs.Heard.{AreTold};
+ghost use Rattle.mt_server.specs.Serves.{IsBaseOf, IsServedOn};
+ghost use Rattle.mt_shared.specs.Began.{BeganOn};
+ghost use Rattle.mt_shared.specs.Seen.{PassSeen};
+
+use crate::crew::{crew, gather};
+use crate::placing::{Board, blank};
+use crate::sessions::MAX_SESSIONS;
+use crate::transcript::Transcript;
+use mt_base::Refusal;
+use mt_disk::Device;
+use mt_restart::open;
+use mt_script::Script;
+use mt_shared::{Closed, Gate, Naming, Opened, Pass, Shared};
+use mt_txn::Kernel;
+use std::alloc::Global;
+use std::marker::Brand;
+use std::sync::Wait;
+use std::thread::Threads;
+
+/// The most workers; and so many passes a kernel is shared by.
+const MAX_WORKERS: usize = 64;
+
+/// The kernel behind all sessions, and the transcript of each script, in the order of the scripts.
+pub struct Served<D: Device> {
+    pub kernel: Kernel<D>,
+    pub transcripts: Vec<Transcript>,
+}
+
+/// Lets go of what is shared, with its device.
+fn give_up<D: Device + Drop, G: Gate + Drop, J: Naming>(shared: Shared<D, G, J>) {
+    match shared.abandon() {
+        Ok(kernel) => drop(kernel.into_device()),
+        Err(device) => drop(device),
+    }
+}
+
+/// Closes what was shared, once each transcript is in its place.
+fn close<D: Device + Drop, G: Gate + Drop, J: Naming>(
+    shared: Shared<D, G, J>,
+    passes: Vec<Pass<J>>,
+    scripts: &[Script],
+    board: Board,
+) -> Result<Served<D>, Refusal>
+    requires placed { (book : List Committed) → All (λ (p : PassSeen). IsPrefix (dones p.seen) book) passes.items
+        → IsBoard scripts.now board book }
+    ensures told { IfOk result (λ s. AreTold scripts.now s.transcripts.items s.kernel.parts.book.items) }
+    ensures began { IfOk result (λ s. BeganOn D.seen D.may_leave J.base s.kernel) }
+{
+    match shared.close(passes) {
+        Ok(kernel) => {
+            if !board.is_full() {
+                drop(kernel.into_device());
+                return Err(Refusal::NoMemory);
+            }
+            let Board { texts, filled: _ } = board;
+            Ok(Served {
+                kernel,
+                transcripts: texts,
+            })
+        }
+        Err(
+            Closed {
+                why,
+                shared,
+                passes: _,
+            },
+        ) => {
+            give_up(shared);
+            Err(why)
+        }
+    }
+}
+
+/// Serves scripts to a kernel that is shared under a name.
+fn serve_named<
+    D: Device + Drop + Send,
+    G: Gate + Drop + Send + Sync,
+    J: Naming + Send + Sync,
+    R: Threads + Wait + Sync,
+>(
+    rt: &R,
+    alloc: Global,
+    opened: Opened<D>,
+    frames: usize,
+    scripts: &[Script],
+    board: Board,
+    gate: G,
+) -> Result<Served<D>, Refusal>
+    requires name { (opened.mark ≡ J.mark) × (opened.base ≡ J.base) }
+    requires few { length scripts.now ≤ 64 }
+    requires blank { IsBlank (length scripts.now) board }
+    ensures told { IfOk result (λ s. AreTold scripts.now s.transcripts.items s.kernel.parts.book.items) }
+    ensures began { IfOk result (λ s. BeganOn D.seen D.may_leave opened.base s.kernel) }
+{
+    let (shared, passes) = match opened.named::<G, J>(alloc, gate) {
+        Ok(made) => made,
+        Err(kernel) => {
+            drop(kernel.into_device());
+            return Err(Refusal::NoMemory);
+        }
+    };
+    let mut board = board;
+    let done = match crew(rt, alloc, &shared, frames, scripts, passes) {
+        Ok(done) => done,
+        Err(_) => {
+            give_up(shared);
+            return Err(Refusal::NoMemory);
+        }
+    };
+    match gather(alloc, scripts, done, &mut board) {
+        Ok(passes) => close(shared, passes, scripts, board),
+        Err(_) => {
+            give_up(shared);
+            Err(Refusal::NoMemory)
+        }
+    }
+}
+
+/// Opens a device, and makes the mark of its kernel, with a seat for each of so many workers.
+fn open_for<D: Device + Drop>(
+    alloc: Global,
+    device: D,
+    frames: usize,
+    workers: usize,
+) -> Result<Opened<D>, Refusal>
+    requires few { workers < 2 ^ 32 }
+    ensures { IfOk result (λ opened. IsBaseOf (D.seen device) opened.base) }
+{
+    let mut kernel = match open(alloc, device, frames) {
+        Ok(kernel) => kernel,
+        Err((why, device)) => {
+            drop(device);
+            return Err(why);
+        }
+    };
+    let base = match kernel.survey() {
+        Ok(survey) => survey.base,
+        Err(why) => {
+            drop(kernel.into_device());
+            return Err(why);
+        }
+    };
+    base.keeps_bounds();
+    match Opened::new(alloc, kernel, &base, workers) {
+        Ok(opened) => Ok(opened),
+        Err(kernel) => {
+            drop(kernel.into_device());
+            Err(Refusal::NoMemory)
+        }
+    }
+}
+
+/// Opens a device with so many pages in frames, and serves scripts to it by workers that share its kernel. Each script is
+/// a session of its own, numbered from 1 in the order of the scripts. A worker takes the next script that no other has
+/// taken, and runs it from its first line to its last; one more thread forces the log and flushes pages meanwhile. The
+/// thread that calls is one of the workers. A thread that cannot be started is left out.
+///
+/// A transaction that has to die is taken back, its answers are dropped, and it is run again from its begin. In its
+/// hundredth run the line that makes it die is answered so, and the transaction is aborted. One that is open at its
+/// script's end is aborted, with the line `aborted`. Where the device fails, that is the last line of each session.
+///
+/// Where more than half of the log's area is in use, that thread turns the log over: new transactions wait until none
+/// lives, and then go on. So the log of many short transactions does not fill.
+///
+/// There are as many workers as are asked for, of 1 to 64. At each point that the gate wants to be told of, it is.
+///
+/// Refused, in this order: 5 where there are more than [`MAX_SESSIONS`] scripts, then as [`open`](mt_restart::open). After
+/// that 1 where a transcript found no memory, and what was committed stands; and 2 where a rotation left no kernel. A
+/// refusal lets the device go.
+pub fn serve<D: Device + Drop + Send, G: Gate + Drop + Send + Sync, R: Threads + Wait + Sync>(
+    rt: &R,
+    alloc: Global,
+    device: D,
+    frames: usize,
+    scripts: Vec<Script>,
+    workers: usize,
+    gate: G,
+) -> Result<Served<D>, Refusal>
+    ensures told { IfOk result (λ s. AreTold scripts.items s.transcripts.items s.kernel.parts.book.items) }
+    ensures began { IfOk result (λ s. IsServedOn D.seen D.may_leave (D.seen device) s.kernel) }
+    ensures few { IfOk result (λ _. length scripts.items ≤ 64) }
+{
+    if scripts.len() > MAX_SESSIONS {
+        return Err(Refusal::BadLength);
+    }
+    let board = blank(alloc, scripts.len())?;
+    let opened = open_for(alloc, device, frames, workers.clamp(1, MAX_WORKERS))?;
+    serve_named::<D, G, Brand, R>(rt, alloc, opened, frames, scripts.as_slice(), board, gate)
+}

@@ -1,0 +1,77 @@
+// A session over a shared kernel, from its script's first line to the last.
+ghost use Rattle.std.specs.Prelude.{◌≡◌, ◌≢◌, ◌↔◌, ◌<◌, ℕ, List, IfOk, IfErr, IsTrue, drop, length};
+ghost use Rattle.mt_model.specs.History.{Call};
+ghost use Rattle.mt_script.specs.declared.lines.Line.TheVariants.{Begin};
+ghost use Rattle.mt_server.specs.Hearing.{IsSession, Running, between};
+ghost use Rattle.mt_server.specs.Sessions.{lines_in};
+ghost use Rattle.mt_server.specs.declared.turning.Stop.TheVariants as stop;
+
+use crate::attempts::{Ran, run_surely};
+use crate::transcript::Transcript;
+use crate::turning::{Stop, refuse};
+use mt_base::Refusal;
+use mt_disk::Device;
+use mt_script::{Line, Script};
+use mt_shared::{Gate, Naming, Pass, Shared};
+use std::alloc::Global;
+use std::sync::Wait;
+
+/// Whether a line begins a transaction.
+fn is_begin(line: &Line) -> bool
+    ensures { IsTrue result ↔ (line.now ≡ Begin) }
+{
+    matches!(line, Line::Begin)
+}
+
+/// Answers the lines from a place on, between two transactions: a whole transaction, or one line outside of any.
+fn go_from<D: Device, G: Gate + Drop, J: Naming, R: Wait>(
+    rt: &R,
+    alloc: Global,
+    shared: &Shared<D, G, J>,
+    pass: &mut Pass<J>,
+    session: u32,
+    lines: &[Line],
+    at: usize,
+    out: &mut Vec<u8>,
+) -> Result<Ran, Stop>
+    requires at { at < length lines.now }
+    ensures runs { (booked : List (ℕ × List Call)) → Running J.base session (between booked pass.old)
+        (drop at lines.now) out.old.items out.new.items pass.new result }
+    ensures lives { IfErr result (λ told. told ≢ stop.Died) }
+{
+    if is_begin(&lines[at]) {
+        return run_surely(rt, alloc, shared, pass, session, &lines[at + 1..], out);
+    }
+    refuse(out, Refusal::Stranger)?;
+    Ok(Ran::Ended(1))
+}
+
+/// Runs a session: its script's lines in their order, each with its answer.
+///
+/// Refused with 1 where an answer found no memory. What is committed stands, and nothing is open then.
+pub(crate) fn run_session<D: Device, G: Gate + Drop, J: Naming, R: Wait>(
+    rt: &R,
+    alloc: Global,
+    shared: &Shared<D, G, J>,
+    pass: &mut Pass<J>,
+    session: u32,
+    script: &Script,
+) -> Result<Transcript, Refusal>
+    ensures { IfOk result (λ text. IsSession J.base session (lines_in script.now) text pass.old pass.new) }
+{
+    let lines = script.lines();
+    let mut out = Vec::new(alloc);
+    let mut at = 0;
+    'lines: for _ in rt.forever() {
+        if at >= lines.len() {
+            return Ok(Transcript::new(out));
+        }
+        match go_from(rt, alloc, shared, pass, session, lines, at, &mut out) {
+            Ok(Ran::Ended(count)) => at += count,
+            Ok(Ran::AtEnd) => return Ok(Transcript::new(out)),
+            Err(Stop::Failed) => return Ok(Transcript::new(out)),
+            Err(Stop::Died | Stop::Unheard) => return Err(Refusal::NoMemory),
+        }
+    }
+    unreachable!()
+}

@@ -4,29 +4,56 @@
 use mt_cli::perform_words;
 use mt_folder::DiskFolder;
 use std::env;
-use std::io::{self, LineWriter};
+use std::io::{self, ErrorKind, LineWriter, Write};
 use std::process::ExitCode;
 
-/// Does what the command line asks for, with the standard streams and the files of the system.
-fn main(rt: HostRuntime) -> io::Result<ExitCode> {
+/// The status of a program that found no memory for the words of its command line.
+const REFUSED: u8 = 1;
+
+/// The status of a command line with a word that is no text.
+const MISUSED: u8 = 2;
+
+/// Does what the command line asks for, with the standard streams and the files of the system, and gives the status. It
+/// fails where a word is not UTF-8, and where there is no memory for the words.
+fn done(rt: &HostRuntime) -> io::Result<u8> {
     let alloc = rt.alloc();
-    let own: Vec<String> = env::args(&rt)?.skip(1).collect(alloc)?;
+    let own: Vec<String> = env::args(rt)?.skip(1).collect(alloc)?;
     let mut words = Vec::with_capacity(alloc, own.len())?;
     for word in &own {
         words.push(word.as_str())?;
     }
-    let mut folder = DiskFolder::new(&rt);
+    let mut folder = DiskFolder::new(rt);
     let mut input = rt.reader();
     // each line is written out by itself, so that a commit is told of when it is durable
     let mut out = LineWriter::new(alloc, rt.stdout())?;
     let mut err = rt.stderr();
-    let status = perform_words(
+    Ok(perform_words(
         alloc,
         words.as_slice(),
         &mut folder,
         &mut input,
         &mut out,
         &mut err,
-    );
-    Ok(ExitCode::from(status))
+    ))
+}
+
+/// Tells why the command line is not read, and gives the status.
+fn unread<W: Write>(err: &mut W, why: ErrorKind) -> u8 {
+    let text: &[u8] = match why {
+        ErrorKind::OutOfMemory => b"refused 1 NoMemory\n",
+        _ => b"error: a word of the command line is not UTF-8\n",
+    };
+    // where that cannot be told either, the status alone tells it
+    let _told = err.write(text);
+    match why {
+        ErrorKind::OutOfMemory => REFUSED,
+        _ => MISUSED,
+    }
+}
+
+fn main(rt: HostRuntime) -> io::Result<ExitCode> {
+    match done(&rt) {
+        Ok(status) => Ok(ExitCode::from(status)),
+        Err(fault) => Ok(ExitCode::from(unread(&mut rt.stderr(), fault.kind()))),
+    }
 }

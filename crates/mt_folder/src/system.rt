@@ -1,11 +1,13 @@
 // The files of the system.
-ghost use Rattle.std.specs.Prelude.{◌≡◌};
+ghost use Rattle.std.specs.Prelude.{◌≡◌, None};
+ghost use Rattle.mt_folder.specs.Folders.{IsFileRefusal};
 
 use crate::folder::Folder;
 use mt_base::Refusal;
 use mt_disk::FileDevice;
 use std::alloc::{AllocError, Global};
 use std::fs;
+use std::io::ErrorKind;
 use std::rt::Files;
 
 /// The files of the system, by their paths.
@@ -25,6 +27,16 @@ fn beside(alloc: Global, name: &str) -> Result<String, AllocError> {
     let mut beside = String::from_str(alloc, name)?;
     beside.push_str(BESIDE)?;
     Ok(beside)
+}
+
+/// Why a file is not read: for want of memory, or since it cannot be.
+fn refusal_of(why: ErrorKind) -> Refusal
+    ensures { IsFileRefusal None result }
+{
+    match why {
+        ErrorKind::OutOfMemory => Refusal::NoMemory,
+        _ => Refusal::DeviceFailed,
+    }
 }
 
 /// Removes a file that could not be given its name, as far as that goes, and tells that the device failed.
@@ -52,7 +64,7 @@ impl<R: Files + AllocGlobal> Folder for DiskFolder<'_, R> {
     fn script(&mut self, name: &str) -> Result<Vec<u8>, Refusal> {
         match fs::read(self.rt, name) {
             Ok(bytes) => Ok(bytes),
-            Err(_) => Err(Refusal::DeviceFailed),
+            Err(fault) => Err(refusal_of(fault.kind())),
         }
     }
 

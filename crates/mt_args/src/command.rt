@@ -42,7 +42,7 @@ pub enum Command {
         file: String,
     },
     /// Opens the device in this file with so many frames, and serves the scripts of these names to it; `-` is standard
-    /// input. At most so many workers serve at once: one does.
+    /// input. So many workers serve at once; one serves them one after the other.
     Run {
         frames: usize,
         file: String,

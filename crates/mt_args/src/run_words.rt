@@ -33,8 +33,8 @@ prints
   done
   committed 1
 
-All scripts are read before the first one runs. They are served one after the other, each as a session
-of its own: WORKERS is the most that may serve at once, and one does.";
+All scripts are read before the first one runs. Each is a session of its own. One worker serves them one
+after the other; more workers serve them at once, and the sessions are printed when all are done.";
 
 /// The option `--frames N`.
 fn frames_option<'a>(alloc: Global) -> Arg<'a>

@@ -8,7 +8,9 @@ use mt_server::{RunFault, run_alone};
 use std::alloc::Global;
 use std::io::{self, ErrorKind, Read, Write};
 use std::process::Abort;
+use std::sync::Wait;
 use std::test::Fail;
+use std::thread::Threads;
 
 /// What a run of the program left: its status, its output and its error output.
 #[derive(Drop)]
@@ -19,14 +21,26 @@ struct Ran {
 }
 
 /// Runs `mtk` with these words over a folder with one script, `s`.
-fn run(rt: &(impl Abort + AllocGlobal), words: &[&str], script: &[u8]) -> Result<Ran, Fail> {
+fn run(
+    rt: &(impl Abort + AllocGlobal + Threads + Wait + Sync),
+    words: &[&str],
+    script: &[u8],
+) -> Result<Ran, Fail> {
     let alloc = rt.alloc();
     let mut folder = MemFolder::new(alloc);
     folder.put("s", script)?;
     let mut out = Vec::new(alloc);
     let mut err = Vec::new(alloc);
     let mut input: &[u8] = b"begin\nadd 0 1\nread 0\ncommit\n";
-    let status = perform_words(alloc, words, &mut folder, &mut input, &mut out, &mut err);
+    let status = perform_words(
+        rt,
+        alloc,
+        words,
+        &mut folder,
+        &mut input,
+        &mut out,
+        &mut err,
+    );
     Ok(Ran { status, out, err })
 }
 
@@ -46,7 +60,7 @@ fn expect_ran(rt: &(impl Abort + AllocGlobal), ran: &Ran, status: u8, out: &[u8]
 
 /// The transcript of a script that is run.
 fn expect_transcript(
-    rt: &(impl Abort + AllocGlobal),
+    rt: &(impl Abort + AllocGlobal + Threads + Wait + Sync),
     script: &[u8],
     transcript: &[u8],
 ) -> Result<(), Fail> {
@@ -61,7 +75,7 @@ const BAD_LINE: &[u8] =
 
 /// A script that is refused before any of it runs.
 fn expect_bad_line(
-    rt: &(impl Abort + AllocGlobal),
+    rt: &(impl Abort + AllocGlobal + Threads + Wait + Sync),
     script: &[u8],
     told: &[u8],
 ) -> Result<(), Fail> {
@@ -218,7 +232,15 @@ fn a_failing_reader_is_refusal_2(rt: HostRuntime) -> Result<(), Fail> {
     let mut err = Vec::new(alloc);
     let mut input = Broken { rest: b"begin\n" };
     let words = ["try"];
-    let status = perform_words(alloc, &words, &mut folder, &mut input, &mut out, &mut err);
+    let status = perform_words(
+        &rt,
+        alloc,
+        &words,
+        &mut folder,
+        &mut input,
+        &mut out,
+        &mut err,
+    );
     let ran = Ran { status, out, err };
     expect_ran(&rt, &ran, 1, b"", b"refused 2 DeviceFailed\n");
     Ok(())
@@ -250,14 +272,26 @@ impl Write for Narrow {
 }
 
 /// A script that is run over a writer with this room, and what it left.
-fn run_narrow(rt: &(impl Abort + AllocGlobal), room: usize, mut script: &[u8]) -> Ran {
+fn run_narrow(
+    rt: &(impl Abort + AllocGlobal + Threads + Wait + Sync),
+    room: usize,
+    mut script: &[u8],
+) -> Ran {
     let alloc = rt.alloc();
     let mut folder = MemFolder::new(alloc);
     let taken = Vec::new(alloc);
     let mut out = Narrow { room, taken };
     let mut err = Vec::new(alloc);
     let words = ["try"];
-    let status = perform_words(alloc, &words, &mut folder, &mut script, &mut out, &mut err);
+    let status = perform_words(
+        rt,
+        alloc,
+        &words,
+        &mut folder,
+        &mut script,
+        &mut out,
+        &mut err,
+    );
     let Narrow { room: _, taken } = out;
     Ran {
         status,
@@ -459,7 +493,7 @@ fn the_examples_have_their_transcripts(rt: HostRuntime) -> Result<(), Fail> {
 
 /// That a schedule of these events has these answers.
 fn expect_answers(
-    rt: &(impl Abort + AllocGlobal),
+    rt: &(impl Abort + AllocGlobal + Threads + Wait + Sync),
     events: &[u8],
     answers: &[u8],
 ) -> Result<(), Fail> {

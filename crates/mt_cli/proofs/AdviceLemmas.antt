@@ -1,5 +1,5 @@
 -- What a writer was told, whole or in part.
-use Rattle.std.proofs.Common.{[], ◌++◌, ◌≡◌, List, ℕ, Option, Result, Ok, Err, OnOk, OnErr, append-nil, subst, sym}
+use Rattle.std.proofs.Common.{[], ◌≡◌, List, ℕ, Option, Result, Ok, Err, OnOk, OnErr, append-nil, subst, sym}
 use Rattle.std.specs.Io.KnownBytes.{Appends}
 use Rattle.std.specs.Result.{MatchResult}
 use Rattle.mt_script.specs.Answers.{AppendsFront}

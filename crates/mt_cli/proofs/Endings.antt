@@ -15,7 +15,7 @@ use Rattle.mt_cli.specs.Dumps.{HasDumped}
 use Rattle.mt_cli.specs.Explains.{HasExplained}
 use Rattle.mt_cli.specs.Events.{IsSchedule}
 use Rattle.mt_folder.specs.Folders.{Files}
-use Rattle.mt_cli.specs.Serves.{HasRunScripts, HaveServedOn}
+use Rattle.mt_cli.specs.Serves.{HasRunScripts, HaveServedOn, IsServedAtOnce, IsServedIn}
 use Rattle.mt_model.specs.Model.{Base}
 use Rattle.mt_script.specs.declared.lines.Line.{Line}
 use Rattle.mt_cli.specs.Tellings.{told_lines}
@@ -51,24 +51,33 @@ explained_kept bytes was mid now done kept = record { batches = done.batches; of
 served_kept : (relations counters : ℕ) (b : Base) (scripts : List (List Line)) (was mid now : Option (List ℕ)) (d : List ℕ) → HaveServedOn relations counters b scripts was mid d → Keeps mid now → HaveServedOn relations counters b scripts was now d
 served_kept relations counters b scripts was mid now d x kept = record { transcripts = x.transcripts; last = x.last; played = x.played; told = appends_kept was mid now _ x.told kept; stands = x.stands }
 
-run_kept : (old new : Files) (file : List ℕ) (names : List (List ℕ)) (input was mid now : Option (List ℕ)) → HasRunScripts old new file names input was mid → Keeps mid now → HasRunScripts old new file names input was now
-run_kept old new file names input was mid now done kept =
-    let x = done.served in
+in_turn_kept : (old new : Files) (file : List ℕ) (scripts : List (List Line)) (was mid now : Option (List ℕ)) → IsServedIn old new file scripts was mid → Keeps mid now → IsServedIn old new file scripts was now
+in_turn_kept old new file scripts was mid now x kept =
     let s = x.served.some in
     record {
-      scripts = done.scripts;
-      read = done.read;
+      before = x.before;
+      behind = x.behind;
+      held = x.held;
+      put = x.put;
       served = record {
-        before = x.before;
-        behind = x.behind;
-        held = x.held;
-        put = x.put;
-        served = record {
-          some = (s.0, s.1, s.2, served_kept s.0 s.1 s.2 done.scripts was mid now x.behind s.3 kept);
-          stood_for = λ n m b can. served_kept n m b done.scripts was mid now x.behind (x.served.stood_for n m b can) kept;
-        };
+        some = (s.0, s.1, s.2, served_kept s.0 s.1 s.2 scripts was mid now x.behind s.3 kept);
+        stood_for = λ n m b can. served_kept n m b scripts was mid now x.behind (x.served.stood_for n m b can) kept;
       };
     }
+
+at_once_kept : (old new : Files) (file : List ℕ) (scripts : List (List Line)) (was mid now : Option (List ℕ)) → IsServedAtOnce old new file scripts was mid → Keeps mid now → IsServedAtOnce old new file scripts was now
+at_once_kept old new file scripts was mid now x kept = record { texts = x.texts; served = x.served; told = appends_kept was mid now _ x.told kept }
+
+run_kept : (workers : ℕ) (old new : Files) (file : List ℕ) (names : List (List ℕ)) (input was mid now : Option (List ℕ)) → HasRunScripts workers old new file names input was mid → Keeps mid now
+    → HasRunScripts workers old new file names input was now
+run_kept workers old new file names input was mid now done kept = record {
+  scripts = done.scripts;
+  read = done.read;
+  served = (
+    λ one. in_turn_kept old new file done.scripts was mid now (done.served.0 one) kept,
+    λ several. at_once_kept old new file done.scripts was mid now (done.served.1 several) kept,
+  );
+}
 
 module _ {D : Type 0} (g : Ghosts D) where
   scheduled_kept : (bytes was mid now : Option (List ℕ)) → IsScheduled g bytes was mid → Keeps mid now → IsScheduled g bytes was now
@@ -82,7 +91,7 @@ module _ {D : Type 0} (g : Ghosts D) where
   done_kept (Format file numbers) a was mid now done kept = (done.0, keeps_kept was mid now done.1 kept)
   done_kept (Dump file) a was mid now done kept = (dumped_kept _ was mid now done.0 kept, done.1)
   done_kept (Explain file) a was mid now done kept = (explained_kept _ was mid now done.0 kept, done.1)
-  done_kept (Run frames file workers scripts) a was mid now done kept = run_kept _ _ _ _ _ was mid now done kept
+  done_kept (Run frames file workers scripts) a was mid now done kept = run_kept workers _ _ _ _ _ was mid now done kept
   done_kept (Show text) a was mid now done kept = (appends_kept was mid now _ done.0 kept, done.1)
 
   -- the output failed within the answers of a run

@@ -1,4 +1,5 @@
 pub mod AdviceLemmas
+pub mod AtOnceLemmas
 pub mod Endings
 pub mod EventLemmas
 pub mod CheckLemmas

@@ -12,6 +12,7 @@ use Rattle.mt_restart.specs.Resumed.{IsOpened}
 use Rattle.mt_txn.proofs.GoingOn.{all_booked}
 use Rattle.mt_txn.specs.Restarted.{all_commits, FindsCommits}
 use Rattle.mt_txn.specs.Shown.{Restarts, SameSchema, StaysRestarting}
+use Rattle.mt_txn.specs.Turned.{HasNobody}
 use Rattle.mt_txn.specs.declared.kernel.Kernel.{Kernel}
 use Rattle.mt_server.proofs.RunLemmas.{cut_ended}
 use Rattle.mt_server.specs.Driven.{IsBeside}
@@ -63,15 +64,19 @@ module _ {D : Type 0} {g : Ghosts D} (seen : D → List ℕ) (may_leave : D → 
         sym (ap (λ (z : State). z.book) x.state) ∙ is.book,
       )))
 
+  -- where nobody lives, all commits of a kernel are those of its book
+  pub stands_book : (b : Base) (n : Kernel D g) (c : List ℕ) → HasNobody n → Restarts seen may_leave b n → ∥ FindsCommits n.relations n.counters b n.parts c ∥₁ → StandForAll n.relations n.counters b n.parts.book.items c
+  stands_book b n c nobody restarts finds = ∥∥₁_elim (all_booked seen may_leave n.parts n.relations n.counters b nobody restarts) ∥∥₁_prop (λ all.
+      ∥∥₁_map finds (λ f.
+      let size : length (all_commits n.parts) ≡ length n.parts.book.items = ap (λ (cs : List Committed). length cs) all in
+      let booked = f.acknowledged in
+      let whole : take f.count (all_commits n.parts) ≡ n.parts.book.items = take_all f.count (all_commits n.parts) (omega (arith, size, booked)) ∙ all in
+      subst (CanRestart n.relations n.counters c) (f.is ∙ ap (after b) whole) f.found))
+
   pub stands_all : (relations counters : ℕ) (b : Base) (p : Play) (n : Kernel D g) (c : List ℕ) → n.relations ≡ relations → n.counters ≡ counters → Restarts seen may_leave b n → IsBeside seen may_leave p None n
       → ((first : Base) → Restarts seen may_leave first n → ∥ FindsCommits n.relations n.counters first n.parts c ∥₁) → StandForAll relations counters b p.book c
   stands_all relations counters b p n c rs cs restarts beside finds = ∥∥₁_elim (resting p n beside) ∥∥₁_prop (λ (nobody, book).
-      ∥∥₁_elim (all_booked seen may_leave n.parts n.relations n.counters b nobody restarts) ∥∥₁_prop (λ all.
-      ∥∥₁_map (finds b restarts) (λ f.
-      let size : length (all_commits n.parts) ≡ length n.parts.book.items = ap (λ (cs : List Committed). length cs) all in
-      let booked = f.acknowledged in
-      let whole : take f.count (all_commits n.parts) ≡ p.book = take_all f.count (all_commits n.parts) (omega (arith, size, booked)) ∙ all ∙ book in
-      subst (λ (X : Type 0). X) (λ i. CanRestart (rs i) (cs i) c ((f.is ∙ ap (after b) whole) i)) f.found)))
+      subst (λ (X : Type 0). X) (λ i. StandForAll (rs i) (cs i) b (book i) c) (stands_book b n c nobody restarts (finds b restarts)))
 
   -- ---- serving
 
@@ -148,7 +153,7 @@ pub put_back : (old mid new : Files) (name d : List ℕ) → IsLent old mid name
 put_back old mid new name d lent put = record { told = put.told ∙ lent.told; held = put.held; others = λ other apart. put.others other apart ∙ lent.others other apart }
 
 -- behind reads that left each file as it was
-held_before : (old mid : Files) (name bytes : List ℕ) → AreKept old mid → IsHeld mid name bytes → IsHeld old name bytes
+pub held_before : (old mid : Files) (name bytes : List ℕ) → AreKept old mid → IsHeld mid name bytes → IsHeld old name bytes
 held_before old mid name bytes kept held = λ is. sym (kept.all name) ∙ held (kept.told ∙ is)
 
 pub served_then : (old mid new : Files) (name : List ℕ) (scripts : List (List Line)) (was now : Option (List ℕ)) → AreKept old mid → IsServedIn mid new name scripts was now → IsServedIn old new name scripts was now
@@ -166,7 +171,7 @@ unserved_then old mid new name scripts was now _ kept (no_device why cause still
 unserved_then old mid new name scripts was now _ kept (unserved before behind fault held put x) = unserved before behind fault (held_before old mid name before kept held) (put_then old mid new name behind kept put) x
 
 -- a script was not read
-pub unread_of : (old new : Files) (file : List ℕ) (names : List (List ℕ)) (input was now : Option (List ℕ)) (fault : Fault) → HasNoScript old input names fault → AreKept old new → Keeps was now → HasNotRun old new file names input was now fault
-unread_of old new file names input was now Output bad kept keeps = absurd bad
-unread_of old new file names input was now (Refused why) bad kept keeps = absurd bad
-unread_of old new file names input was now (Unread why at) x kept keeps = unread_scripts at why x kept keeps
+pub unread_of : (workers : ℕ) (old new : Files) (file : List ℕ) (names : List (List ℕ)) (input was now : Option (List ℕ)) (fault : Fault) → HasNoScript old input names fault → AreKept old new → Keeps was now → HasNotRun workers old new file names input was now fault
+unread_of workers old new file names input was now Output bad kept keeps = absurd bad
+unread_of workers old new file names input was now (Refused why) bad kept keeps = absurd bad
+unread_of workers old new file names input was now (Unread why at) x kept keeps = unread_scripts at why x kept keeps

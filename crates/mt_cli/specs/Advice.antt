@@ -1,5 +1,5 @@
 -- What is told of a command that did not end well.
-use Rattle.std.specs.Prelude.{ℕ, List, [], ◌∷◌, ◌++◌, Option, Some, None, cond, codes, get_or, length, map, string_bytes, ◌==◌}
+use Rattle.std.specs.Prelude.{ℕ, List, [], ◌∷◌, ◌++◌, Some, None, cond, codes, get_or, length, map, string_bytes, ◌==◌}
 use Rattle.mt_base.specs.declared.refusal.Refusal.{Refusal}
 use Rattle.mt_base.specs.declared.refusal.Refusal.TheVariants as refusal
 use Rattle.mt_script.specs.Answers.{answer_text}
@@ -19,7 +19,7 @@ fault_line (Unread why at) = answer_text (RefusedLine why) ++ 10 ∷ []
 -- what to do about a refusal of a command
 abbrev pub advice_on : Refusal → List ℕ
 advice_on refusal.NoMemory = codes "there is not enough memory; `run` takes less with fewer frames"
-advice_on refusal.DeviceFailed = codes "see that it is there, that it can be read and written, and that its disk has room"
+advice_on refusal.DeviceFailed = codes "see that it is there, can be read and written, is open in no other program, and that its disk has room"
 advice_on refusal.NotFormatted = codes "this is no device, or its format did not end; `mtk format` makes one"
 advice_on (refusal.BadFormat place) = codes "the bytes at that place are none that a device can have; keep a copy of the file"
 advice_on refusal.BadLength = codes "a number is outside its limits, or there are more than 64 scripts; see `mtk --help`"

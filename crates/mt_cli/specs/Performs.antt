@@ -1,5 +1,5 @@
 -- What the program's commands do.
-use Rattle.std.specs.Prelude.{ℕ, pos, ◌≡◌, ◌⊎◌, List, [], ◌∷◌, ◌++◌, length, Option, None, IfSome, map, option_map, string_bytes, codes}
+use Rattle.std.specs.Prelude.{ℕ, pos, ◌≡◌, ◌⊎◌, List, [], ◌∷◌, ◌++◌, length, Option, None, IfSome, map, option_map, string_bytes}
 use Rattle.std.specs.Io.KnownBytes.{Appends, Keeps}
 use Rattle.mt_base.specs.declared.refusal.Refusal.{Refusal}
 use Rattle.mt_base.specs.declared.refusal.Refusal.TheVariants as refusal
@@ -103,7 +103,7 @@ IsDone g (Check file pages) a was now = HasChecked pages (known_in a.before (str
 IsDone g (Format file numbers) a was now = Formats numbers a.before a.after (string_bytes file) × Keeps was now
 IsDone g (Dump file) a was now = HasDumped (known_in a.before (string_bytes file)) was now × StandsOn a.before a.after (string_bytes file)
 IsDone g (Explain file) a was now = HasExplained (known_in a.before (string_bytes file)) was now × AreKept a.before a.after
-IsDone g (Run frames file workers scripts) a was now = HasRunScripts a.before a.after (string_bytes file) (map string_bytes scripts.items) a.input was now
+IsDone g (Run frames file workers scripts) a was now = HasRunScripts workers a.before a.after (string_bytes file) (map string_bytes scripts.items) a.input was now
 IsDone g (Show text) a was now = Appends was now (string_bytes text) × AreKept a.before a.after
 
 -- and what the command that words name leaves there
@@ -166,7 +166,7 @@ IsUndone g (Check file pages) a was now fault = IsUnchecked pages (known_in a.be
 IsUndone g (Format file numbers) a was now fault = IsFormatFault numbers fault × AreKept a.before a.after × Keeps was now
 IsUndone g (Dump file) a was now fault = IsUndumped (known_in a.before (string_bytes file)) was now fault × AreLeftBy a.before a.after (string_bytes file) fault
 IsUndone g (Explain file) a was now fault = IsUnexplained (known_in a.before (string_bytes file)) was now fault × AreKept a.before a.after
-IsUndone g (Run frames file workers scripts) a was now fault = HasNotRun a.before a.after (string_bytes file) (map string_bytes scripts.items) a.input was now fault
+IsUndone g (Run frames file workers scripts) a was now fault = HasNotRun workers a.before a.after (string_bytes file) (map string_bytes scripts.items) a.input was now fault
 IsUndone g (Show text) a was now fault = (fault ≡ Output) × AppendsFront was now (string_bytes text) × AreKept a.before a.after
 
 -- A command ended with a fault, or it was done and the output could not be flushed. The error output tells of it, and what to do, or has a

@@ -1,22 +1,27 @@
 -- Scripts that are served to the device in a file.
-use Rattle.std.specs.Prelude.{ℕ, ◌≡◌, ◌<◌, ◌+◌, List, [], ◌∷◌, ◌++◌, length, Option, None}
+use Rattle.std.specs.Prelude.{ℕ, ◌≡◌, ◌<◌, ◌≤◌, ◌+◌, List, [], ◌∷◌, ◌++◌, length, Bool, true, false, Option, None}
 use Rattle.std.specs.Io.KnownBytes.{Appends, Keeps}
 use Rattle.mt_base.specs.declared.refusal.Refusal.{Refusal}
 use Rattle.mt_base.specs.declared.refusal.Refusal.TheVariants as refusal
-use Rattle.mt_model.specs.History.{after}
+use Rattle.mt_explain.specs.Listings.{numbered}
+use Rattle.mt_model.specs.History.{after, IsLegal}
 use Rattle.mt_model.specs.Model.{Base}
+use Rattle.mt_model.specs.Views.{base_of}
 use Rattle.mt_model.specs.declared.history.Committed.{Committed}
+use Rattle.mt_model.specs.declared.tables.Base.{Base as Tables}
 use Rattle.mt_replay.specs.Stands.{CanRestart}
 use Rattle.mt_script.specs.Answers.{AppendsFront}
+use Rattle.mt_server.specs.Heard.{AreTold}
 use Rattle.mt_server.specs.Plays.{Play, HasPlayed}
 use Rattle.mt_server.specs.Runs.{IsToldFor}
+use Rattle.mt_server.specs.Serves.{IsBaseOf, IsUnserved}
 use Rattle.mt_server.specs.Sessions.{HavePlayed, in_session, session_line, sessions_text}
 use Rattle.mt_script.specs.declared.answers.Answer.{Answer}
 use Rattle.mt_script.specs.declared.lines.Line.{Line}
 use Rattle.mt_server.specs.declared.running.RunFault.{RunFault}
 use Rattle.mt_server.specs.declared.running.RunFault.TheVariants as run
 use Rattle.mt_cli.specs.Dumps.{IsBarred, IsEarly, StandAs}
-use Rattle.mt_folder.specs.Folders.{AreKept, Files, IsFileRefusal, IsHeld, IsUnmade, Puts, known_in}
+use Rattle.mt_folder.specs.Folders.{AreKept, Files, IsFileRefusal, IsHeld, IsLent, IsUnmade, Puts, known_in}
 use Rattle.mt_cli.specs.Reads.{AreUnread, HaveBeenRead}
 use Rattle.mt_cli.specs.declared.faults.Fault.{Fault}
 use Rattle.mt_cli.specs.declared.faults.Fault.TheVariants.{Output, Refused, Unread}
@@ -116,15 +121,84 @@ pub data IsUnservedIn (old new : Files) (file : List ℕ) (scripts : List (List 
   unserved : (before behind : List ℕ) (fault : Fault) → IsHeld old file before → Puts old new file behind → AreUnserved before scripts was now behind fault
       → IsUnservedIn old new file scripts was now fault
 
+-- ---- at once, by several workers
+
+-- a session's transcript, behind its line
+abbrev pub session_text : ℕ → List ℕ → List ℕ
+session_text i text = session_line i ++ text
+
+-- those of all sessions, of which the first is session 1
+abbrev pub texts_in_order : List (List ℕ) → List ℕ
+texts_in_order texts = numbered session_text 1 texts
+
+-- the bytes stand for what all of these commits lead to; where the device has failed, for that, or for what they and some further ones lead to
+abbrev pub StandForBook : Bool → ℕ → ℕ → Base → List Committed → List ℕ → Type 0
+StandForBook false relations counters b book d = StandForAll relations counters b book d
+StandForBook true relations counters b book d = ∥ ((further : List Committed) × CanRestart relations counters d (after b (book ++ further))) ∥₁
+
+-- They were served at once to a device of bytes c, and each has its transcript. The commits that the transcripts tell are those of one book, which is legal on
+-- the base of c. The device has bytes d now, which stand for that book. Where the device has failed a transcript may end with 2.
+pub record AreServedAtOnce (failed : Bool) (c : List ℕ) (scripts : List (List Line)) (texts : List (List ℕ)) (d : List ℕ) : Type 0 where
+  pub first : Tables
+  pub is : IsBaseOf c first
+  pub book : List Committed
+  pub legal : IsLegal (base_of first) book
+  pub told : AreTold failed scripts texts book
+  pub relations : ℕ
+  pub counters : ℕ
+  pub stands : StandForBook failed relations counters (base_of first) book d
+
+-- how a command ends behind that, whose transcripts were not all written or whose device failed
+abbrev pub IsEndOf : Bool → Fault → Type 0
+IsEndOf false fault = fault ≡ Output
+IsEndOf true fault = fault ≡ Refused refusal.DeviceFailed
+
+-- so to the device in the file of this name; each other file is as before
+pub record AreServedAtOnceIn (failed : Bool) (old new : Files) (file : List ℕ) (scripts : List (List Line)) (texts : List (List ℕ)) : Type 0 where
+  pub before : List ℕ
+  pub behind : List ℕ
+  pub held : IsHeld old file before
+  pub put : Puts old new file behind
+  pub served : AreServedAtOnce failed before scripts texts behind
+
+-- so, and the transcripts were written
+pub record IsServedAtOnce (old new : Files) (file : List ℕ) (scripts : List (List Line)) (was now : Option (List ℕ)) : Type 0 where
+  pub texts : List (List ℕ)
+  pub served : AreServedAtOnceIn false old new file scripts texts
+  pub told : Appends was now (texts_in_order texts)
+
+-- Why they were not. The file is not opened, or there are too many of them: each file is as before. Or serving is refused, and the device is let go: what
+-- its file has is not told, and each other one is as before. Or they were served, and a beginning of the transcripts is written: the output failed, or the
+-- device did.
+pub data IsUnservedAtOnce (old new : Files) (file : List ℕ) (scripts : List (List Line)) (was now : Option (List ℕ)) : Fault → Type 0 where
+  no_device_at_once : (why : Refusal) → IsFileRefusal (known_in old file) why → AreKept old new → Keeps was now → IsUnservedAtOnce old new file scripts was now (Refused why)
+  too_many_at_once : 64 < length scripts → AreKept old new → Keeps was now → IsUnservedAtOnce old new file scripts was now (Refused refusal.BadLength)
+  let_go : (before : List ℕ) (why : Refusal) → IsHeld old file before → IsUnserved before (length scripts) why → IsLent old new file → Keeps was now
+      → IsUnservedAtOnce old new file scripts was now (Refused why)
+  unheard_at_once : (texts : List (List ℕ)) → AreServedAtOnceIn false old new file scripts texts → AppendsFront was now (texts_in_order texts)
+      → IsUnservedAtOnce old new file scripts was now Output
+  failed_at_once : (texts : List (List ℕ)) → AreServedAtOnceIn true old new file scripts texts → AppendsFront was now (texts_in_order texts)
+      → IsUnservedAtOnce old new file scripts was now (Refused refusal.DeviceFailed)
+
+-- ---- by so many workers
+
+-- one serves in turn, and several at once
+abbrev pub AreServedBy : ℕ → Files → Files → List ℕ → List (List Line) → Option (List ℕ) → Option (List ℕ) → Type 0
+AreServedBy workers old new file scripts was now = (workers ≤ 1 → IsServedIn old new file scripts was now) × (1 < workers → IsServedAtOnce old new file scripts was now)
+
+abbrev pub AreUnservedBy : ℕ → Files → Files → List ℕ → List (List Line) → Option (List ℕ) → Option (List ℕ) → Fault → Type 0
+AreUnservedBy workers old new file scripts was now fault =
+    (workers ≤ 1 → IsUnservedIn old new file scripts was now fault) × (1 < workers → IsUnservedAtOnce old new file scripts was now fault)
+
 -- the scripts of these names were read, and served
-pub record HasRunScripts (old new : Files) (file : List ℕ) (names : List (List ℕ)) (input was now : Option (List ℕ)) : Type 0 where
+pub record HasRunScripts (workers : ℕ) (old new : Files) (file : List ℕ) (names : List (List ℕ)) (input was now : Option (List ℕ)) : Type 0 where
   pub scripts : List (List Line)
   pub read : HaveBeenRead old input names scripts
-  pub served : IsServedIn old new file scripts was now
+  pub served : AreServedBy workers old new file scripts was now
 
 -- or they were not: nothing is written where they are not read
-pub data HasNotRun (old new : Files) (file : List ℕ) (names : List (List ℕ)) (input was now : Option (List ℕ)) : Fault → Type 0 where
+pub data HasNotRun (workers : ℕ) (old new : Files) (file : List ℕ) (names : List (List ℕ)) (input was now : Option (List ℕ)) : Fault → Type 0 where
   unread_scripts : (at : ℕ) (why : Refusal) → AreUnread old input names at why → AreKept old new → Keeps was now
-      → HasNotRun old new file names input was now (Unread why at)
-  unserved_scripts : (scripts : List (List Line)) (fault : Fault) → HaveBeenRead old input names scripts → IsUnservedIn old new file scripts was now fault
-      → HasNotRun old new file names input was now fault
+      → HasNotRun workers old new file names input was now (Unread why at)
+  unserved_scripts : (scripts : List (List Line)) (fault : Fault) → HaveBeenRead old input names scripts → AreUnservedBy workers old new file scripts was now fault
+      → HasNotRun workers old new file names input was now fault

@@ -90,7 +90,7 @@ fn advice_for(refusal: &Refusal) -> &'static str
     match refusal {
         Refusal::NoMemory => "there is not enough memory; `run` takes less with fewer frames",
         Refusal::DeviceFailed => {
-            "see that it is there, that it can be read and written, and that its disk has room"
+            "see that it is there, can be read and written, is open in no other program, and that its disk has room"
         }
         Refusal::NotFormatted => {
             "this is no device, or its format did not end; `mtk format` makes one"

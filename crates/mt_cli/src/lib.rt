@@ -2,6 +2,7 @@
 //! all of it runs in tests too; the program is one call of [`perform_words`].
 #![tactic(auto)]
 
+mod at_once;
 mod checking;
 mod dumping;
 mod explaining;
@@ -11,6 +12,7 @@ mod performing;
 mod reading;
 mod schedules;
 mod serving;
+mod silence;
 mod telling;
 
 pub use performing::{perform, perform_words};

@@ -9,6 +9,7 @@ ghost use Rattle.mt_cli.specs.Performs.{IsFirstSchema, StandsFirst, HasTried, Ha
 ghost use Rattle.mt_cli.specs.Reads.{source_of};
 ghost use Rattle.std.specs.Io.KnownBytes.{Appends, Keeps};
 
+use crate::at_once::Service;
 use crate::checking::perform_check;
 use crate::dumping::perform_dump;
 use crate::explaining::perform_explain;
@@ -30,6 +31,8 @@ use mt_txn::Kernel;
 use mt_world::{Event, run_schedule};
 use std::alloc::Global;
 use std::io::{Read, Write};
+use std::sync::Wait;
+use std::thread::Threads;
 
 /// The status of a command that was done; refusals within a transcript count as done.
 const DONE: u8 = 0;
@@ -243,7 +246,8 @@ fn show<O: Write>(text: &str, out: &mut O) -> Result<(), Fault>
 }
 
 /// Does a command.
-fn do_command<F: Folder, I: Read, O: Write>(
+fn do_command<F: Folder, I: Read, O: Write, R: Threads + Wait + Sync>(
+    rt: &R,
     alloc: Global,
     command: &Command,
     folder: &mut F,
@@ -280,17 +284,16 @@ fn do_command<F: Folder, I: Read, O: Write>(
         Command::Run {
             frames,
             file,
-            workers: _,
+            workers,
             scripts,
-        } => perform_run(
-            alloc,
-            folder,
-            *frames,
-            file.as_str(),
-            scripts.as_slice(),
-            input,
-            out,
-        ),
+        } => {
+            let service = Service {
+                name: file.as_str(),
+                frames: *frames,
+                workers: *workers,
+            };
+            perform_run(rt, alloc, folder, service, scripts.as_slice(), input, out)
+        }
         Command::Show { text } => show(text.as_str(), out),
     }
 }
@@ -302,11 +305,13 @@ fn do_command<F: Folder, I: Read, O: Write>(
 ///   behind it; or `out` could not be written. An input that cannot be read, and a file that is not there or cannot be
 ///   read, is refusal 2.
 ///
-/// A script or a schedule is read whole before any of it runs, and all scripts of `run` before the first of them runs. A
-/// device is only read by `check` and `explain`, and where `format` is refused each file is as it was. A device that is
-/// opened by `dump` is written to, and stands for what it stood for. `run` serves one script after the other, and gives
-/// the device back to its file whatever came of that; each other file is as it was.
-pub fn perform<F: Folder, I: Read, O: Write, E: Write>(
+/// A script or a schedule is read whole before any of it runs, and all scripts of `run` before the first of them runs.
+/// A device is only read by `check` and `explain`, and where `format` is refused each file is as it was. A device that
+/// is opened by `dump` is written to, and stands for what it stood for. `run` serves one script after the other where it
+/// has one worker, and else all at once, by threads; it may wait then. It gives the device back to its file, but where
+/// serving by several workers is refused: what the file has is not told then. Each other file is as it was.
+pub fn perform<F: Folder, I: Read, O: Write, E: Write, R: Threads + Wait + Sync>(
+    rt: &R,
     alloc: Global,
     command: &Command,
     folder: &mut F,
@@ -322,13 +327,14 @@ pub fn perform<F: Folder, I: Read, O: Write, E: Write>(
         (record { before = F.files folder.old; after = F.files folder.new; input = I.remaining input.old })
         (O.contents out.old) (O.contents out.new) (E.contents err.old) (E.contents err.new) }
 {
-    let done = do_command(alloc, command, folder, input, out);
+    let done = do_command(rt, alloc, command, folder, input, out);
     finish(command, done, out, err)
 }
 
 /// Does the command that these words name, those behind the program's name, and answers the status:
 /// that of [`perform`], or 2 with what is wrong on `err` where they name none.
-pub fn perform_words<F: Folder, I: Read, O: Write, E: Write>(
+pub fn perform_words<F: Folder, I: Read, O: Write, E: Write, R: Threads + Wait + Sync>(
+    rt: &R,
     alloc: Global,
     words: &[&str],
     folder: &mut F,
@@ -348,7 +354,7 @@ pub fn perform_words<F: Folder, I: Read, O: Write, E: Write>(
         × (folder.new ≡ folder.old) }
 {
     match command_of(alloc, words) {
-        Ok(command) => perform(alloc, &command, folder, input, out, err),
+        Ok(command) => perform(rt, alloc, &command, folder, input, out, err),
         Err(CliFault::Usage(text)) => {
             let _ = put(err, text.as_str().as_bytes());
             MISUSED

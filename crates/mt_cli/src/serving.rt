@@ -6,6 +6,7 @@ ghost use Rattle.mt_restart.specs.Resumed.{IsOpened};
 ghost use Rattle.mt_server.specs.Sessions.{lines_in};
 ghost use Rattle.mt_cli.specs.Serves.{AreShortOn, AreUnserved, HasNotRun, HasRunScripts, HaveServedOn, IsServedIn, IsUnservedIn, ServesFrom, fault_of};
 
+use crate::at_once::{Service, serve_file_at_once};
 use crate::faults::Fault;
 use crate::reading::scripts_of;
 use mt_base::Refusal;
@@ -17,6 +18,8 @@ use mt_server::{MAX_SESSIONS, RunFault, run_sessions};
 use mt_txn::Kernel;
 use std::alloc::Global;
 use std::io::{Read, Write};
+use std::sync::Wait;
+use std::thread::Threads;
 
 /// Serves scripts to a kernel that was just opened, and gives its device back.
 fn serve_opened<D: Device + Drop, O: Write>(
@@ -101,27 +104,43 @@ fn serve_file<F: Folder, O: Write>(
 }
 
 /// Does `run`: reads all scripts, then opens the device in the file of this name with so many frames, and serves the
-/// scripts to it, one after the other. The device is back in its file then, whatever came of that, and each other file
-/// is as it was. Nothing is written to the output before the device is opened.
+/// scripts to it: one after the other where there is one worker, and else at once. The device is then back in its file,
+/// and each other file is as it was. By one worker nothing is written to the output before the device is opened, and by
+/// several not before all scripts are served.
 ///
-/// Refused for the first script that is not read; by `BadLength` where there are more than 64 of them; for what keeps
-/// the device from being opened; and where a script does not run to its end, by `NoMemory` or `DeviceFailed`.
-pub(crate) fn perform_run<F: Folder, I: Read, O: Write>(
+/// Refused for the first script that is not read; for a file that cannot be opened; by `BadLength` where there are more
+/// than 64 scripts; and for what keeps the device from being opened. Further by one worker where a script does not run
+/// to its end, by `NoMemory` or `DeviceFailed`, and by several where the device failed meanwhile, by `DeviceFailed`,
+/// behind the transcripts. Where `serve` of mt_server is refused, it lets the device go: what its file has is not told.
+pub(crate) fn perform_run<F: Folder, I: Read, O: Write, R: Threads + Wait + Sync>(
+    rt: &R,
     alloc: Global,
     folder: &mut F,
-    frames: usize,
-    name: &str,
+    service: Service,
     scripts: &[String],
     input: &mut I,
     out: &mut O,
 ) -> Result<(), Fault>
-    ensures ran { OnOk result (HasRunScripts (F.files folder.old) (F.files folder.new) name.now
-        (map string_bytes scripts.now) (I.remaining input.old) (O.contents out.old) (O.contents out.new)) }
-    ensures not_run { IfErr result (HasNotRun (F.files folder.old) (F.files folder.new) name.now
-        (map string_bytes scripts.now) (I.remaining input.old) (O.contents out.old) (O.contents out.new)) }
+    ensures ran { OnOk result (HasRunScripts service.entry.workers (F.files folder.old) (F.files folder.new)
+        service.entry.name.now (map string_bytes scripts.now) (I.remaining input.old)
+        (O.contents out.old) (O.contents out.new)) }
+    ensures not_run { IfErr result (HasNotRun service.entry.workers (F.files folder.old) (F.files folder.new)
+        service.entry.name.now (map string_bytes scripts.now) (I.remaining input.old)
+        (O.contents out.old) (O.contents out.new)) }
 {
-    match scripts_of(alloc, folder, scripts, input) {
-        Ok(scripts) => serve_file(alloc, folder, frames, name, scripts.as_slice(), out),
-        Err(fault) => Err(fault),
+    let scripts = match scripts_of(alloc, folder, scripts, input) {
+        Ok(scripts) => scripts,
+        Err(fault) => return Err(fault),
+    };
+    if service.workers > 1 {
+        return serve_file_at_once(rt, alloc, folder, service, scripts, out);
     }
+    serve_file(
+        alloc,
+        folder,
+        service.frames,
+        service.name,
+        scripts.as_slice(),
+        out,
+    )
 }

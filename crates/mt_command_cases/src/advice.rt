@@ -2,15 +2,16 @@
 use crate::running::{FORMAT, leaves};
 use mt_base::Refusal;
 use mt_folder::MemFolder;
-use std::alloc::Global;
+use std::sync::Wait;
 use std::test::Fail;
+use std::thread::Threads;
 
 /// Refusals with the lines behind them.
 const NO_DEVICE: &[u8] =
     b"refused 3 NotFormatted\ns: this is no device, or its format did not end; `mtk format` makes one\n";
 
 const NO_FILE: &[u8] =
-    b"refused 2 DeviceFailed\nnone: see that it is there, that it can be read and written, and that its disk has room\n";
+    b"refused 2 DeviceFailed\nnone: see that it is there, can be read and written, is open in no other program, and that its disk has room\n";
 
 const NO_LINE: &[u8] =
     b"refused 18 BadLine 1\ns: that line is not in the grammar; see docs/SCRIPTS.md and docs/SCHEDULES.md\n";
@@ -19,38 +20,33 @@ const NO_SCHEMA: &[u8] =
     b"refused 5 BadLength\nd: a number is outside its limits, or there are more than 64 scripts; see `mtk --help`\n";
 
 // A folder with a device `b`, and scripts of which `s` has a bad line.
-fn folder_of(alloc: Global) -> Result<MemFolder, Refusal> {
-    let mut folder = MemFolder::new(alloc);
+fn folder_of(rt: &(impl AllocGlobal + Threads + Wait + Sync)) -> Result<MemFolder, Refusal> {
+    let mut folder = MemFolder::new(rt.alloc());
     folder.put("s", b"fetch\n")?;
     folder.put("t", b"begin\ncommit\n")?;
-    leaves(alloc, &mut folder, &FORMAT, 0, b"", b"");
+    leaves(rt, &mut folder, &FORMAT, 0, b"", b"");
     Ok(folder)
 }
 
-// Whether each refusal names its file: of several scripts the one that was not read, and else the device.
-fn advised(alloc: Global) -> Result<[bool; 5], Refusal> {
-    let mut folder = folder_of(alloc)?;
+// Whether each refusal names its file: of several scripts the one that was not read, and else the device, also where
+// several workers were to serve it.
+fn advised(rt: &(impl AllocGlobal + Threads + Wait + Sync)) -> Result<[bool; 6], Refusal> {
+    let mut folder = folder_of(rt)?;
     let folder = &mut folder;
     let schema = ["format", "d", "1", "4", "2"];
     Ok([
-        leaves(alloc, folder, &["check", "s"], 1, b"", NO_DEVICE),
-        leaves(alloc, folder, &["dump", "none"], 1, b"", NO_FILE),
-        leaves(
-            alloc,
-            folder,
-            &["run", "b", "1", "t", "none"],
-            1,
-            b"",
-            NO_FILE,
-        ),
-        leaves(alloc, folder, &["run", "b", "1", "t", "s"], 1, b"", NO_LINE),
-        leaves(alloc, folder, &schema, 1, b"", NO_SCHEMA),
+        leaves(rt, folder, &["check", "s"], 1, b"", NO_DEVICE),
+        leaves(rt, folder, &["dump", "none"], 1, b"", NO_FILE),
+        leaves(rt, folder, &["run", "b", "1", "t", "none"], 1, b"", NO_FILE),
+        leaves(rt, folder, &["run", "b", "1", "t", "s"], 1, b"", NO_LINE),
+        leaves(rt, folder, &["run", "s", "2", "t"], 1, b"", NO_DEVICE),
+        leaves(rt, folder, &schema, 1, b"", NO_SCHEMA),
     ])
 }
 
 #[test]
 fn a_refusal_names_its_file(rt: HostRuntime) -> Result<(), Fail> {
-    let told = advised(rt.alloc())?;
-    assert!(rt; told == [true; 5]);
+    let told = advised(&rt)?;
+    assert!(rt; told == [true; 6]);
     Ok(())
 }

@@ -3,8 +3,9 @@ use crate::running::{FORMAT, file, formatted, leaves};
 use crate::used::used;
 use mt_base::Refusal;
 use mt_folder::MemFolder;
-use std::alloc::Global;
+use std::sync::Wait;
 use std::test::Fail;
+use std::thread::Threads;
 
 /// A base without rows, whose one counter is at its start.
 const EMPTY: &[u8] = b"depth 0\nfree 60\ncounter 0 5\n";
@@ -21,31 +22,31 @@ const CHECK: [&str; 2] = ["check", "b"];
 const DUMP: [&str; 2] = ["dump", "b"];
 
 // A device that was just formatted is checked, dumped, and checked again: the dump has opened it.
-fn dumped_once(alloc: Global) -> Result<[bool; 4], Refusal> {
-    let mut folder = MemFolder::new(alloc);
+fn dumped_once(rt: &(impl AllocGlobal + Threads + Wait + Sync)) -> Result<[bool; 4], Refusal> {
+    let mut folder = MemFolder::new(rt.alloc());
     Ok([
-        leaves(alloc, &mut folder, &FORMAT, 0, b"", b""),
-        leaves(alloc, &mut folder, &CHECK, 0, BEFORE, b""),
-        leaves(alloc, &mut folder, &DUMP, 0, EMPTY, b""),
-        leaves(alloc, &mut folder, &CHECK, 0, BEHIND, b""),
+        leaves(rt, &mut folder, &FORMAT, 0, b"", b""),
+        leaves(rt, &mut folder, &CHECK, 0, BEFORE, b""),
+        leaves(rt, &mut folder, &DUMP, 0, EMPTY, b""),
+        leaves(rt, &mut folder, &CHECK, 0, BEHIND, b""),
     ])
 }
 
 #[test]
 fn a_dump_opens_the_device(rt: HostRuntime) -> Result<(), Fail> {
-    let told = dumped_once(rt.alloc())?;
+    let told = dumped_once(&rt)?;
     assert!(rt; told == [true; 4]);
     Ok(())
 }
 
 // A used device is dumped twice, and its pages are looked at.
-fn dumped_twice(alloc: Global) -> Result<[bool; 3], Refusal> {
-    let mut folder = MemFolder::new(alloc);
-    folder.put("b", used(alloc)?.as_slice())?;
-    let first = leaves(alloc, &mut folder, &DUMP, 0, ROWS, b"");
-    let again = leaves(alloc, &mut folder, &DUMP, 0, ROWS, b"");
+fn dumped_twice(rt: &(impl AllocGlobal + Threads + Wait + Sync)) -> Result<[bool; 3], Refusal> {
+    let mut folder = MemFolder::new(rt.alloc());
+    folder.put("b", used(rt.alloc())?.as_slice())?;
+    let first = leaves(rt, &mut folder, &DUMP, 0, ROWS, b"");
+    let again = leaves(rt, &mut folder, &DUMP, 0, ROWS, b"");
     let other = leaves(
-        alloc,
+        rt,
         &mut folder,
         &["dump", "c"],
         1,
@@ -57,34 +58,38 @@ fn dumped_twice(alloc: Global) -> Result<[bool; 3], Refusal> {
 
 #[test]
 fn a_dump_tells_the_committed_base(rt: HostRuntime) -> Result<(), Fail> {
-    let told = dumped_twice(rt.alloc())?;
+    let told = dumped_twice(&rt)?;
     assert!(rt; told == [true; 3]);
     Ok(())
 }
 
 // Whether a dump of these bytes is refused so, and leaves them.
-fn is_barred(alloc: Global, bytes: &[u8], err: &[u8]) -> Result<bool, Refusal> {
-    let mut folder = MemFolder::new(alloc);
+fn is_barred(
+    rt: &(impl AllocGlobal + Threads + Wait + Sync),
+    bytes: &[u8],
+    err: &[u8],
+) -> Result<bool, Refusal> {
+    let mut folder = MemFolder::new(rt.alloc());
     folder.put("b", bytes)?;
-    let told = leaves(alloc, &mut folder, &DUMP, 1, b"", err);
+    let told = leaves(rt, &mut folder, &DUMP, 1, b"", err);
     Ok(told && file(&mut folder)?.as_slice() == bytes)
 }
 
 // No device, and one whose directory is too deep.
-fn barred(alloc: Global) -> Result<[bool; 2], Refusal> {
-    let mut bytes = formatted(alloc)?;
+fn barred(rt: &(impl AllocGlobal + Threads + Wait + Sync)) -> Result<[bool; 2], Refusal> {
+    let mut bytes = formatted(rt)?;
     if let Some(depth) = bytes.get_mut(12_288) {
         *depth = 10;
     }
     Ok([
-        is_barred(alloc, b"none", b"refused 3 NotFormatted\n")?,
-        is_barred(alloc, bytes.as_slice(), b"refused 4 BadFormat 12288\n")?,
+        is_barred(rt, b"none", b"refused 3 NotFormatted\n")?,
+        is_barred(rt, bytes.as_slice(), b"refused 4 BadFormat 12288\n")?,
     ])
 }
 
 #[test]
 fn a_refused_dump_leaves_the_file(rt: HostRuntime) -> Result<(), Fail> {
-    let left = barred(rt.alloc())?;
+    let left = barred(&rt)?;
     assert!(rt; left == [true; 2]);
     Ok(())
 }

@@ -2,7 +2,8 @@
 use mt_base::Refusal;
 use mt_cli::perform_words;
 use mt_folder::{Folder, MemFolder};
-use std::alloc::Global;
+use std::sync::Wait;
+use std::thread::Threads;
 
 /// The words of a format for the schema of the worked rows.
 pub const FORMAT: [&str; 6] = ["format", "b", "64", "4", "2", "c0:10:5"];
@@ -10,19 +11,19 @@ pub const FORMAT: [&str; 6] = ["format", "b", "64", "4", "2", "c0:10:5"];
 /// Whether `mtk` with these words over this folder ends with this status, and writes just this; of what is told of a
 /// refusal these are the first bytes.
 pub fn leaves(
-    alloc: Global,
+    rt: &(impl AllocGlobal + Threads + Wait + Sync),
     folder: &mut MemFolder,
     words: &[&str],
     status: u8,
     out: &[u8],
     err: &[u8],
 ) -> bool {
-    leaves_from(alloc, folder, words, b"", status, out, err)
+    leaves_from(rt, folder, words, b"", status, out, err)
 }
 
 /// So with these bytes on its input.
 pub fn leaves_from(
-    alloc: Global,
+    rt: &(impl AllocGlobal + Threads + Wait + Sync),
     folder: &mut MemFolder,
     words: &[&str],
     input: &[u8],
@@ -30,10 +31,18 @@ pub fn leaves_from(
     out: &[u8],
     err: &[u8],
 ) -> bool {
-    let mut written = Vec::new(alloc);
-    let mut told = Vec::new(alloc);
+    let mut written = Vec::new(rt.alloc());
+    let mut told = Vec::new(rt.alloc());
     let mut input = input;
-    let ended = perform_words(alloc, words, folder, &mut input, &mut written, &mut told);
+    let ended = perform_words(
+        rt,
+        rt.alloc(),
+        words,
+        folder,
+        &mut input,
+        &mut written,
+        &mut told,
+    );
     let is_told = if status == 1 {
         told.as_slice().starts_with(err)
     } else {
@@ -48,20 +57,33 @@ pub fn file(folder: &mut MemFolder) -> Result<Vec<u8>, Refusal> {
 }
 
 /// A device that was just formatted, as the bytes of its file.
-pub fn formatted(alloc: Global) -> Result<Vec<u8>, Refusal> {
-    let mut folder = MemFolder::new(alloc);
-    if !leaves(alloc, &mut folder, &FORMAT, 0, b"", b"") {
+pub fn formatted(rt: &(impl AllocGlobal + Threads + Wait + Sync)) -> Result<Vec<u8>, Refusal> {
+    let mut folder = MemFolder::new(rt.alloc());
+    if !leaves(rt, &mut folder, &FORMAT, 0, b"", b"") {
         return Err(Refusal::NotFormatted);
     }
     file(&mut folder)
 }
 
 /// Whether `mtk` with these words over this folder ends well, and writes these bytes somewhere in its output.
-pub fn writes(alloc: Global, folder: &mut MemFolder, words: &[&str], bytes: &[u8]) -> bool {
-    let mut written = Vec::new(alloc);
-    let mut told = Vec::new(alloc);
+pub fn writes(
+    rt: &(impl AllocGlobal + Threads + Wait + Sync),
+    folder: &mut MemFolder,
+    words: &[&str],
+    bytes: &[u8],
+) -> bool {
+    let mut written = Vec::new(rt.alloc());
+    let mut told = Vec::new(rt.alloc());
     let mut input: &[u8] = b"";
-    let ended = perform_words(alloc, words, folder, &mut input, &mut written, &mut told);
+    let ended = perform_words(
+        rt,
+        rt.alloc(),
+        words,
+        folder,
+        &mut input,
+        &mut written,
+        &mut told,
+    );
     let mut within = false;
     for from in 0..written.len() {
         within = within || written.as_slice()[from..].starts_with(bytes);

@@ -7,8 +7,8 @@ use crate::{Device, DeviceFault, MemDevice};
 use mt_base::limits::PAGE_BYTES;
 use mt_base::{History, Refusal};
 use std::alloc::{AllocError, Global};
-use std::fs::{OpenFile, OpenOptions};
-use std::io::{Read, Seek, SeekFrom, Write};
+use std::fs::{File, OpenFile, OpenOptions};
+use std::io::{ErrorKind, Read, Seek, SeekFrom, Write};
 use std::rt::Files;
 
 /// Writes without a sync that a file's device has room for, beside one for each page of its file.
@@ -25,6 +25,9 @@ const SPARE_WRITES: usize = 64;
 /// later write and sync fails as well, since a system may forget after a failed sync what it could
 /// not write, and answer the next one well.
 ///
+/// Nobody else opens the file meanwhile, as long as they open it so too: its lock is taken, as `flock` does, and let go
+/// with the device.
+///
 /// It has room without a sync for a write to each page of 4096 bytes and 64 more, with as many bytes
 /// as the file has and 262,144 more: enough to format it whole.
 #[derive(Drop)]
@@ -35,21 +38,23 @@ pub struct FileDevice<F> {
     failures: History<DeviceFault>,
 }
 
-impl<F: Read + Write + Seek + OpenFile + Drop> FileDevice<F> {
-    ghost use Rattle.mt_disk.specs.File.{copy_in, file_failures, IsBroken, IsFresh, AsksFile};
+impl FileDevice<File> {
+    ghost use Rattle.mt_disk.specs.File.{copy_in, IsFresh};
 
     /// The device in the file of this path, of the file's length. What the file holds is synced
-    /// first, so that none of it can be lost any more. Refused by `NoMemory` for want of memory, and
-    /// by `DeviceFailed` where the file cannot be opened to be read and written, or read, or does
-    /// not keep its length; it is then as it was.
-    pub fn open<R: Files<File = F> + AllocGlobal>(
+    /// first, so that none of it can be lost any more. A file that may be read alone is opened so,
+    /// and each write to it is a fault. Refused by `NoMemory` for want of memory, and by
+    /// `DeviceFailed` where the file cannot be opened, or is open as a device, here or in another
+    /// program, or cannot be read, or does not keep its length; it is then as it was.
+    pub fn open<R: Files<File = File> + AllocGlobal>(
         rt: &R,
         path: &str,
-    ) -> Result<FileDevice<F>, Refusal>
+    ) -> Result<FileDevice<File>, Refusal>
         ensures fresh { IfOk result (λ device. IsFresh device) }
         ensures refusals { IfErr result (λ refusal. (refusal ≡ Refusal.NoMemory) ⊎ (refusal ≡ Refusal.DeviceFailed)) }
     {
         let mut file = opened(rt, path)?;
+        lock(&file)?;
         let bytes = read_whole(rt.alloc(), &mut file)?;
         let memory = copy_of(rt.alloc(), bytes)?;
         Ok(FileDevice {
@@ -62,18 +67,21 @@ impl<F: Read + Write + Seek + OpenFile + Drop> FileDevice<F> {
 
     /// A device of so many bytes, all of them 0, in a file of this path; what the file held before
     /// is gone. Refused by `NoMemory` for want of memory, before the file is touched, and by
-    /// `DeviceFailed` where the file cannot be made or written, which may then be there in part.
-    pub fn make<R: Files<File = F> + AllocGlobal>(
+    /// `DeviceFailed` where the file is open as a device, and is then as it was, or cannot be made or
+    /// written, and may then be there in part.
+    pub fn make<R: Files<File = File> + AllocGlobal>(
         rt: &R,
         path: &str,
         len: u64,
-    ) -> Result<FileDevice<F>, Refusal>
+    ) -> Result<FileDevice<File>, Refusal>
         ensures content { IfOk result (λ device. content (copy_in device) ≡ replicate len 0) }
         ensures fresh { IfOk result (λ device. IsFresh device) }
         ensures refusals { IfErr result (λ refusal. (refusal ≡ Refusal.NoMemory) ⊎ (refusal ≡ Refusal.DeviceFailed)) }
     {
         let memory = zeros(rt.alloc(), len)?;
         let mut file = created(rt, path)?;
+        lock(&file)?;
+        resize(&file, len)?;
         put(&mut file, 0, memory.bytes())?;
         settle_file(&mut file)?;
         Ok(FileDevice {
@@ -83,6 +91,10 @@ impl<F: Read + Write + Seek + OpenFile + Drop> FileDevice<F> {
             failures: History::new(),
         })
     }
+}
+
+impl<F: Read + Write + Seek + OpenFile + Drop> FileDevice<F> {
+    ghost use Rattle.mt_disk.specs.File.{copy_in, file_failures, IsBroken, AsksFile};
 
     /// Notes a failure of the file, after which it is not asked again.
     fn fail(&mut self) -> DeviceFault
@@ -137,19 +149,42 @@ fn zeros(alloc: Global, len: u64) -> Result<MemDevice, AllocError>
     copy_of(alloc, bytes)
 }
 
+/// The file of this path, to be read and written; or to be read, where that alone is allowed.
 fn opened<R: Files>(rt: &R, path: &str) -> Result<R::File, DeviceFault> {
-    Ok(OpenOptions::new().read(true).write(true).open(rt, path)?)
+    match OpenOptions::new().read(true).write(true).open(rt, path) {
+        Ok(file) => Ok(file),
+        Err(fault) => match fault.kind() {
+            ErrorKind::PermissionDenied | ErrorKind::ReadOnlyFilesystem => {
+                Ok(OpenOptions::new().read(true).open(rt, path)?)
+            }
+            _ => Err(DeviceFault),
+        },
+    }
 }
 
+/// The file of this path, made where there is none. It keeps its bytes until its lock is taken.
 fn created<R: Files>(rt: &R, path: &str) -> Result<R::File, DeviceFault> {
     Ok(
         OpenOptions::new()
             .read(true)
             .write(true)
             .create(true)
-            .truncate(true)
             .open(rt, path)?,
     )
+}
+
+/// Takes the file's lock, which the system lets go with the last handle of this opening.
+fn lock(file: &File) -> Result<(), DeviceFault> {
+    match file.try_lock() {
+        Ok(()) => Ok(()),
+        Err(_) => Err(DeviceFault),
+    }
+}
+
+/// Cuts the file, or makes it longer by bytes that are 0.
+fn resize<F: OpenFile>(file: &F, len: u64) -> Result<(), DeviceFault> {
+    file.set_len(len)?;
+    Ok(())
 }
 
 /// The file's length, by a seek: asking for all that is known of a file between two writes makes

@@ -12,8 +12,8 @@ pub trait Folder {
     ghost use Rattle.mt_disk.specs.Disk.{Only};
     ghost use Rattle.mt_folder.specs.Folders.{AreKept, IsFileRefusal, IsHeld, IsLent, IsThere, IsUnmade, Puts, known_in};
 
-    /// A device in a file.
-    type Device: Device + Drop;
+    /// A device in a file; threads may use it.
+    type Device: Device + Drop + Send;
 
     /// What is held under each name, where that is known.
     ghost files: { Self → Option (List ℕ → Option (List ℕ)) };
@@ -49,8 +49,8 @@ pub trait Folder {
         ensures kept { AreKept (files self.old) (files self.new) };
 
     /// Puts a device that was made for this name in its place: the file has the device's bytes, and what it had before
-    /// is gone. Refused by `NoMemory`, and by `DeviceFailed` where the name cannot be given; the device is then let go,
-    /// and the folder as before.
+    /// is gone. Refused by `NoMemory`, and by `DeviceFailed` where the name cannot be given, or what has it is in use; the
+    /// device is then let go, and the folder as before.
     fn install(&mut self, name: &str, device: Self::Device) -> Result<(), Refusal>
         ensures put { OnOk result (Puts (files self.old) (files self.new) name.now (Self.Device.seen device)) }
         ensures why { IfErr result IsUnmade }

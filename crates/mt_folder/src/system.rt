@@ -1,5 +1,5 @@
 // The files of the system.
-ghost use Rattle.std.specs.Prelude.{◌≡◌, None};
+ghost use Rattle.std.specs.Prelude.{◌≡◌, None, IfErr};
 ghost use Rattle.mt_folder.specs.Folders.{IsFileRefusal};
 
 use crate::folder::Folder;
@@ -7,13 +7,15 @@ use mt_base::Refusal;
 use mt_disk::FileDevice;
 use std::alloc::{AllocError, Global};
 use std::fs;
+use std::fs::{File, OpenOptions};
 use std::io::ErrorKind;
 use std::rt::Files;
 
 /// The files of the system, by their paths.
 ///
 /// A device is made in a file beside the one that it is to replace, whose name has `.mtk-new` behind it, and renamed
-/// once it is installed: a format that fails or is cut off leaves an older file of that name as it was.
+/// once it is installed: a format that fails or is cut off leaves an older file of that name as it was. A file that is open
+/// as a device, here or in another program, is not replaced.
 #[derive(Drop)]
 pub struct DiskFolder<'a, R> {
     rt: &'a R,
@@ -47,6 +49,19 @@ fn given_up<R: Files>(rt: &R, path: &str) -> Refusal
     Refusal::DeviceFailed
 }
 
+/// The file of this path with its lock, or `None` where there is no file to be read. Refused where it is open as a device.
+fn kept_out<R: Files<File = File>>(rt: &R, path: &str) -> Result<Option<File>, Refusal>
+    ensures { IfErr result (λ why. why ≡ Refusal.DeviceFailed) }
+{
+    let Ok(file) = OpenOptions::new().read(true).open(rt, path) else {
+        return Ok(None);
+    };
+    match file.try_lock() {
+        Ok(()) => Ok(Some(file)),
+        Err(_) => Err(Refusal::DeviceFailed),
+    }
+}
+
 impl<'a, R> DiskFolder<'a, R> {
     /// The files that this runtime reaches.
     pub fn new(rt: &'a R) -> DiskFolder<'a, R> {
@@ -54,10 +69,10 @@ impl<'a, R> DiskFolder<'a, R> {
     }
 }
 
-impl<R: Files + AllocGlobal> Folder for DiskFolder<'_, R> {
+impl<R: Files<File = File> + AllocGlobal> Folder for DiskFolder<'_, R> {
     ghost use Rattle.std.specs.Prelude.{None};
 
-    type Device = FileDevice<R::File>;
+    type Device = FileDevice<File>;
 
     ghost files = { λ _. None };
 
@@ -68,13 +83,13 @@ impl<R: Files + AllocGlobal> Folder for DiskFolder<'_, R> {
         }
     }
 
-    fn device(&mut self, name: &str) -> Result<FileDevice<R::File>, Refusal> {
+    fn device(&mut self, name: &str) -> Result<FileDevice<File>, Refusal> {
         FileDevice::open(self.rt, name)
     }
 
-    fn back(&mut self, _name: &str, _device: FileDevice<R::File>) {}
+    fn back(&mut self, _name: &str, _device: FileDevice<File>) {}
 
-    fn make(&mut self, name: &str, len: u64) -> Result<FileDevice<R::File>, Refusal> {
+    fn make(&mut self, name: &str, len: u64) -> Result<FileDevice<File>, Refusal> {
         let beside = beside(self.rt.alloc(), name)?;
         match FileDevice::make(self.rt, beside.as_str(), len) {
             Ok(device) => Ok(device),
@@ -85,15 +100,18 @@ impl<R: Files + AllocGlobal> Folder for DiskFolder<'_, R> {
         }
     }
 
-    fn install(&mut self, name: &str, _device: FileDevice<R::File>) -> Result<(), Refusal> {
+    fn install(&mut self, name: &str, _device: FileDevice<File>) -> Result<(), Refusal> {
         let beside = beside(self.rt.alloc(), name)?;
+        let Ok(_replaced) = kept_out(self.rt, name) else {
+            return Err(given_up(self.rt, beside.as_str()));
+        };
         match fs::rename(self.rt, beside.as_str(), name) {
             Ok(()) => Ok(()),
             Err(_) => Err(given_up(self.rt, beside.as_str())),
         }
     }
 
-    fn discard(&mut self, name: &str, _device: FileDevice<R::File>) {
+    fn discard(&mut self, name: &str, _device: FileDevice<File>) {
         if let Ok(beside) = beside(self.rt.alloc(), name) {
             let _ = fs::remove_file(self.rt, beside.as_str());
         }

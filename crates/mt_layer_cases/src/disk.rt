@@ -10,6 +10,8 @@ const PATH: &str = "mt_disk_test_device";
 
 const CUT_PATH: &str = "mt_disk_test_cut_device";
 
+const HELD_PATH: &str = "mt_disk_test_held_device";
+
 /// A write, a read, a sync and a write: which of them went well, and what was read.
 fn four_calls<D: Device>(device: &mut D) -> ([bool; 4], [u8; 4])
     requires { 8 ≤ length (D.seen device.old) }
@@ -132,5 +134,27 @@ fn a_file_cut_short_is_a_fault(rt: HostRuntime) -> Result<(), Fail> {
     let fault = Err(DeviceFault);
     assert!(rt; calls == [Ok(()), fault, Ok(()), fault, fault]);
     assert!(rt; &read == b"ab\0");
+    Ok(())
+}
+
+/// Whether another opening of a file that is a device's is refused, and so a making anew; and how long it is once it is let go.
+fn tries_beside(rt: &HostRuntime) -> Result<([bool; 2], u64), Refusal> {
+    let device = FileDevice::make(rt, HELD_PATH, 8)?;
+    let refused = [
+        matches!(FileDevice::open(rt, HELD_PATH), Err(Refusal::DeviceFailed)),
+        matches!(
+            FileDevice::make(rt, HELD_PATH, 4),
+            Err(Refusal::DeviceFailed)
+        ),
+    ];
+    drop(device);
+    Ok((refused, FileDevice::open(rt, HELD_PATH)?.len()))
+}
+
+#[test]
+fn a_file_is_one_device_at_a_time(rt: HostRuntime) -> Result<(), Fail> {
+    let tries = tries_beside(&rt)?;
+    fs::remove_file(&rt, HELD_PATH)?;
+    assert!(rt; tries == ([true; 2], 8));
     Ok(())
 }

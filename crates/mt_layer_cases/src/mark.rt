@@ -38,6 +38,7 @@ fn two_passes_enter_one_history(rt: HostRuntime) -> Result<(), Fail> {
     let (Some(mut second), Some(mut first)) = (seats.pop(), seats.pop()) else {
         return Err(Fail::new("two seats"));
     };
+    assert_eq!(rt; end.passes(), 2);
     let entry = Entry {
         pass: second.number(),
         done: idle(alloc, 7),

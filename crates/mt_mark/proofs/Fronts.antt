@@ -8,7 +8,7 @@ use Rattle.mt_model.specs.Views.{base_of}
 use Rattle.mt_model.proofs.Appends.{legal_front}
 use Rattle.mt_mark.specs.Legal.{IsLegal}
 use Rattle.mt_mark.specs.declared.view.Entry.{Entry}
-use Rattle.mt_mark.specs.Rule.{NoneBy, dones, labelled}
+use Rattle.mt_mark.specs.Rule.{AllMade, IsFrom, NoneBy, dones, labelled}
 
 pub prefix_self : {A : Type 0} (xs : List A) → IsPrefix xs xs
 prefix_self xs = ([], append-nil xs)
@@ -82,3 +82,20 @@ length-labelled (t ∷ ts) = ap suc (length-labelled ts)
 -- a beginning of a legal list is legal
 pub IsLegal-front : (b : Base) (xs ys : List Committed) → IsLegal b (xs ++ ys) → IsLegal b xs
 IsLegal-front b xs ys h = legal_front (base_of b) xs ys h
+
+AllMade-append : (made : ℕ) (xs ys : List Entry) → AllMade made xs → AllMade made ys → AllMade made (xs ++ ys)
+AllMade-append made [] ys a b = b
+AllMade-append made (x ∷ xs) ys a b = (a.0, a.1, AllMade-append made xs ys a.2 b)
+
+AllMade-later : (made : ℕ) (xs : List Entry) → AllMade made xs → AllMade (made + 1) xs
+AllMade-later made [] a = tt
+AllMade-later made (x ∷ xs) a = (a.0, (let l = a.1 in omega arith), AllMade-later made xs a.2)
+
+-- a history with one more entry, of a pass that was made
+pub from_next : (book : List Committed) (made : ℕ) (log list : List Entry) (e : Entry) → IsFrom book made log → log ++ e ∷ [] ≡ list → 1 ≤ e.pass → e.pass < made → IsFrom book made list
+from_next book made log list e f is some below =
+    (f.0 ++ e ∷ [], sym (append_assoc (labelled book) f.0 (e ∷ [])) ∙ (ap (λ l. l ++ e ∷ []) f.1 ∙ is), AllMade-append made f.0 (e ∷ []) f.2 (some, below, tt))
+
+-- one more pass is made
+pub from_later : (book : List Committed) (made : ℕ) (log : List Entry) → IsFrom book made log → IsFrom book (made + 1) log
+from_later book made log f = (f.0, f.1, AllMade-later made f.0 f.2)

@@ -17,8 +17,8 @@ use Rattle.mt_mark.proofs.Fronts.{IsLegal-front}
 use Rattle.mt_mark.specs.declared.view.Entry.{Entry}
 use Rattle.mt_mark.specs.declared.view.About.{About}
 use Rattle.mt_mark.specs.declared.view.View.{View}
-use Rattle.mt_mark.specs.Rule.{NoneBy, dones, labelled, Holds, IsEnd, IsPass, Fits, Kept, first_end, Looks, Names, Enters, Settles, Checks, note, end_note, pass_note, one_more, new_pass, heard, spent}
-use Rattle.mt_mark.proofs.Fronts.{prefix_self, prefix_trans, prefix_shorter, prefix_whole, prefix_length, same_front, append_cancel, NoneBy-append, NoneBy-back, NoneBy-fore, none_past, dones-append, dones-labelled, length-labelled}
+use Rattle.mt_mark.specs.Rule.{NoneBy, dones, labelled, Holds, IsFrom, IsEnd, IsPass, Fits, Kept, first_end, Looks, Names, Enters, Settles, Checks, note, end_note, pass_note, one_more, new_pass, heard, spent}
+use Rattle.mt_mark.proofs.Fronts.{prefix_self, prefix_trans, prefix_shorter, prefix_whole, prefix_length, same_front, append_cancel, NoneBy-append, NoneBy-back, NoneBy-fore, none_past, dones-append, dones-labelled, length-labelled, from_next, from_later}
 
 off : false ≡ true → ⊥
 off e = true≢false (sym e)
@@ -45,15 +45,16 @@ views_more F views w others mine j u e =
     (at_end views w u j e)
 
 -- what the rule says of a view that does not change, as the lists grow
-grow : (b : Base) (seat : ℕ → ℕ) (made : ℕ) (log list log' list' xs : List Entry) (by : ℕ) (v : View)
-    → Fits b seat made log list by v → IsPrefix list list' → log ++ xs ≡ log' → (v.keeps ≡ true → list ≡ list') → (v.sees ≡ true → NoneBy v.number xs)
-    → Fits b seat made log' list' by v
-grow b seat made log list log' list' xs by v f p is same clear =
+grow : (k : About) (seat : ℕ → ℕ) (made : ℕ) (log list log' list' xs : List Entry) (by : ℕ) (v : View)
+    → Fits k seat made log list by v → IsPrefix list list' → log ++ xs ≡ log' → (v.keeps ≡ true → list ≡ list') → (v.sees ≡ true → NoneBy v.number xs)
+    → Fits k seat made log' list' by v
+grow k seat made log list log' list' xs by v f p is same clear =
     record {
-      keeper = λ k. let e = f.keeper k in record { first = e.first; all = e.all ∙ same k; made = e.made; base = e.base };
+      keeper = λ k. let e = f.keeper k in record { first = e.first; all = e.all ∙ same k; made = e.made; base = e.base; book = e.book };
       pass = λ s. let h = f.pass s in
           record {
             apart = h.apart;
+            above = h.above;
             below = h.below;
             sits = h.sits;
             base = h.base;
@@ -94,15 +95,17 @@ begins k n is legal =
       log = list;
       list = list;
       word = ap (λ m. m ∷ []) (is ∙ sym same);
+      one = omega arith;
+      from = ([], append-nil list, tt);
       begins = prefix_self list;
       near = omega arith;
       legal = subst (IsLegal b) (sym (dones-labelled k.book.value.items)) legal;
       fits = one list (omega (arith, same));
     }
   where
-    one : (list : List Entry) → length k.book.value.items ≤ length list → (by : ℕ) (v : View) → get_elem? (first_end k ∷ []) by ≡ some v → Fits k.base.value (λ _. 0) 1 (labelled k.book.value.items) (labelled k.book.value.items) by v
-    one list le zero v e = subst (Fits k.base.value (λ _. 0) 1 (labelled k.book.value.items) (labelled k.book.value.items) 0) (some-injective _ _ e)
-        record { keeper = λ _. record { first = refl; all = refl; made = refl; base = refl }; pass = λ s. absurd (off s); told = (labelled k.book.value.items, refl); sure = omega (arith, length-labelled k.book.value.items) }
+    one : (list : List Entry) → length k.book.value.items ≤ length list → (by : ℕ) (v : View) → get_elem? (first_end k ∷ []) by ≡ some v → Fits k (λ _. 0) 1 (labelled k.book.value.items) (labelled k.book.value.items) by v
+    one list le zero v e = subst (Fits k (λ _. 0) 1 (labelled k.book.value.items) (labelled k.book.value.items) 0) (some-injective _ _ e)
+        record { keeper = λ _. record { first = refl; all = refl; made = refl; base = refl; book = refl }; pass = λ s. absurd (off s); told = (labelled k.book.value.items, refl); sure = omega (arith, length-labelled k.book.value.items) }
     one list le (suc by) v e = absurd (some-ne-none v (sym e))
 
 -- a pass looks
@@ -115,9 +118,9 @@ looks k slots id v sees s h homes at range =
     let list = v.0.list ++ rest in
     let is : list ≡ h.log = p.holds.1 in
     let w : View = record v.0 { list = list } in
-    let fw : Fits b h.seat h.made h.log h.list id w = record {
+    let fw : Fits k h.seat h.made h.log h.list id w = record {
       keeper = λ q. absurd (off (sym p.apart ∙ q));
-      pass = λ _. record { apart = p.apart; below = p.below; sits = p.sits; base = p.base; holds = ([], append-nil list ∙ is, tt) };
+      pass = λ _. record { apart = p.apart; above = p.above; below = p.below; sits = p.sits; base = p.base; holds = ([], append-nil list ∙ is, tt) };
       told = mine.told;
       sure = mine.sure;
     } in (
@@ -130,10 +133,12 @@ looks k slots id v sees s h homes at range =
         log = h.log;
         list = h.list;
         word = word_now s.words (length h.log) (slice_index s.words 0) h.word (word_is s.words (length h.log) h.word);
+        one = h.one;
+        from = h.from;
         begins = h.begins;
         near = h.near;
         legal = h.legal;
-        fits = views_set (Fits b h.seat h.made h.log h.list) s.views id w (λ j u _ e. h.fits j u e) fw;
+        fits = views_set (Fits k h.seat h.made h.log h.list) s.views id w (λ j u _ e. h.fits j u e) fw;
       },
       (refl, (rest, refl, p.holds.2, ap length is ∙ sym (word_is s.words (length h.log) h.word), subst (λ c. IsLegal c (dones list)) (sym p.base) (IsLegal-dones b list h.list (subst (λ l. IsPrefix l h.list) (sym is) h.begins) h.legal))),
     )
@@ -152,14 +157,14 @@ names k slots id v e keeper sure legal s h homes at range =
     let same : length h.log ≡ length v.0.list = (let q = prefix_length h.log h.list h.begins in let r = mine.sure in let l = ap length p.all in omega arith) in
     let longer : IsPrefix h.list list = (e ∷ [], ap (λ l. l ++ e ∷ []) (sym p.all)) in
     let w : View = record v.0 { list = list } in
-    let fw : Fits b h.seat h.made h.log list id w = record {
-      keeper = λ q. record { first = p.first; all = refl; made = p.made; base = p.base };
+    let fw : Fits k h.seat h.made h.log list id w = record {
+      keeper = λ q. record { first = p.first; all = refl; made = p.made; base = p.base; book = p.book };
       pass = λ q. absurd (off (sym (mine.pass q).apart ∙ keeper));
       told = prefix_trans v.0.told h.list list mine.told longer;
       sure = mine.sure;
     } in
-    let other : (j : ℕ) (u : View) → j ≢ id → get_elem? s.views j ≡ some u → Fits b h.seat h.made h.log list j u =
-    λ j u away there. grow b h.seat h.made h.log h.list h.log list [] j u (h.fits j u there) longer (append-nil h.log) (λ q. absurd (away (((h.fits j u there).keeper q).first ∙ sym p.first))) (λ _. tt) in (
+    let other : (j : ℕ) (u : View) → j ≢ id → get_elem? s.views j ≡ some u → Fits k h.seat h.made h.log list j u =
+    λ j u away there. grow k h.seat h.made h.log h.list h.log list [] j u (h.fits j u there) longer (append-nil h.log) (λ q. absurd (away (((h.fits j u there).keeper q).first ∙ sym p.first))) (λ _. tt) in (
       w,
       keeps,
       tt,
@@ -169,10 +174,12 @@ names k slots id v e keeper sure legal s h homes at range =
         log = h.log;
         list = list;
         word = word_now s.words (length h.log) (either (eqb (slice_index s.words 0) 0) 0 (slice_index s.words 0)) h.word (same_word (slice_index s.words 0) ∙ word_is s.words (length h.log) h.word);
+        one = h.one;
+        from = h.from;
         begins = prefix_trans h.log h.list list h.begins longer;
         near = omega (arith, snoc_length v.0.list e);
         legal = subst (λ c. IsLegal c (dones list)) p.base legal;
-        fits = views_set (Fits b h.seat h.made h.log list) s.views id w other fw;
+        fits = views_set (Fits k h.seat h.made h.log list) s.views id w other fw;
       },
       (refl, (e, refl, refl, subst (λ l. IsPrefix v.0.told l) (sym p.all) mine.told, sym same ∙ sym (word_is s.words (length h.log) h.word))),
     )
@@ -196,14 +203,14 @@ enters k slots id v at pre e sees told own long seen sure s h homes there range 
     let one : next ≡ e ∷ [] = sym parts.1 in
     let w : View = record v.0 { list = v.0.told } in
     let word : slice_index s.words 0 ≡ at = word_is s.words (length h.log) h.word ∙ here in
-    let fw : Fits b h.seat h.made h.list h.list id w = record {
+    let fw : Fits k h.seat h.made h.list h.list id w = record {
       keeper = λ q. absurd (off (sym p.apart ∙ q));
-      pass = λ _. record { apart = p.apart; below = p.below; sits = p.sits; base = p.base; holds = ([], append-nil v.0.told ∙ whole, tt) };
+      pass = λ _. record { apart = p.apart; above = p.above; below = p.below; sits = p.sits; base = p.base; holds = ([], append-nil v.0.told ∙ whole, tt) };
       told = mine.told;
       sure = (let r = mine.sure in let q = prefix_length h.log h.list h.begins in omega arith);
     } in
-    let other : (j : ℕ) (u : View) → j ≢ id → get_elem? s.views j ≡ some u → Fits b h.seat h.made h.list h.list j u =
-    λ j u away stands. grow b h.seat h.made h.log h.list h.list h.list next j u (h.fits j u stands) (prefix_self h.list) h.begins.1 (λ _. refl)
+    let other : (j : ℕ) (u : View) → j ≢ id → get_elem? s.views j ≡ some u → Fits k h.seat h.made h.list h.list j u =
+    λ j u away stands. grow k h.seat h.made h.log h.list h.list h.list next j u (h.fits j u stands) (prefix_self h.list) h.begins.1 (λ _. refl)
     (λ q. subst (NoneBy u.number) (sym one) ((λ same. away (sym ((h.fits j u stands).pass q).sits ∙ (ap h.seat (sym same ∙ own) ∙ p.sits))), tt)) in (
       w,
       keeps,
@@ -214,10 +221,12 @@ enters k slots id v at pre e sees told own long seen sure s h homes there range 
         log = h.list;
         list = h.list;
         word = word_to s.words (length h.log) (length h.list) (either (eqb (slice_index s.words 0) at) (at + 1) (slice_index s.words 0)) h.word (new_word (slice_index s.words 0) at word ∙ (sym told_length ∙ ap length whole));
+        one = h.one;
+        from = from_next k.book.value.items h.made h.log h.list e h.from (ap (λ l. h.log ++ l) (sym one) ∙ h.begins.1) (subst (λ n. 1 ≤ n) (sym own) p.above) (subst (λ n. n < h.made) (sym own) p.below);
         begins = prefix_self h.list;
         near = omega arith;
         legal = h.legal;
-        fits = views_set (Fits b h.seat h.made h.list h.list) s.views id w other fw;
+        fits = views_set (Fits k h.seat h.made h.list h.list) s.views id w other fw;
       },
       (refl, refl, word, (pre, e, told, (p.holds.0, p.holds.1 ∙ sym parts.0, p.holds.2))),
     )
@@ -231,9 +240,9 @@ settles k slots id v sees longer sure s h homes at range =
     let front : IsPrefix v.0.told h.log = prefix_shorter v.0.told h.log h.list mine.told h.begins (let r = mine.sure in omega arith) in
     let split : p.holds.0 ≡ longer.0 ++ front.0 = append_cancel v.0.list p.holds.0 (longer.0 ++ front.0) (p.holds.1 ∙ (sym front.1 ∙ (ap (λ l. l ++ front.0) (sym longer.1) ∙ append_assoc v.0.list longer.0 front.0))) in
     let w : View = record v.0 { list = v.0.told } in
-    let fw : Fits b h.seat h.made h.log h.list id w = record {
+    let fw : Fits k h.seat h.made h.log h.list id w = record {
       keeper = λ q. absurd (off (sym p.apart ∙ q));
-      pass = λ _. record { apart = p.apart; below = p.below; sits = p.sits; base = p.base; holds = (front.0, front.1, NoneBy-back v.0.number longer.0 front.0 (subst (NoneBy v.0.number) split p.holds.2)) };
+      pass = λ _. record { apart = p.apart; above = p.above; below = p.below; sits = p.sits; base = p.base; holds = (front.0, front.1, NoneBy-back v.0.number longer.0 front.0 (subst (NoneBy v.0.number) split p.holds.2)) };
       told = mine.told;
       sure = mine.sure;
     } in (
@@ -246,10 +255,12 @@ settles k slots id v sees longer sure s h homes at range =
         log = h.log;
         list = h.list;
         word = word_now s.words (length h.log) (slice_index s.words 0) h.word (word_is s.words (length h.log) h.word);
+        one = h.one;
+        from = h.from;
         begins = h.begins;
         near = h.near;
         legal = h.legal;
-        fits = views_set (Fits b h.seat h.made h.log h.list) s.views id w (λ j u _ e. h.fits j u e) fw;
+        fits = views_set (Fits k h.seat h.made h.log h.list) s.views id w (λ j u _ e. h.fits j u e) fw;
       },
       (refl, refl, (longer.0, longer.1, NoneBy-fore v.0.number longer.0 front.0 (subst (NoneBy v.0.number) split p.holds.2))),
     )
@@ -260,7 +271,8 @@ checks k slots id v keeper sure s h homes at range =
     let b = k.base.value in
     let mine = h.fits id v.0 at in
     let p = mine.keeper keeper in
-    let same : length h.log ≡ length v.0.list = (let q = prefix_length h.log h.list h.begins in let r = mine.sure in let l = ap length p.all in omega arith) in (
+    let same : length h.log ≡ length v.0.list = (let q = prefix_length h.log h.list h.begins in let r = mine.sure in let l = ap length p.all in omega arith) in
+    let whole : h.log ≡ h.list = prefix_whole h.log h.list h.begins (let l = ap length p.all in omega arith) in (
       v.0,
       keeps,
       tt,
@@ -270,19 +282,26 @@ checks k slots id v keeper sure s h homes at range =
         log = h.log;
         list = h.list;
         word = word_now s.words (length h.log) (slice_index s.words 0) h.word (word_is s.words (length h.log) h.word);
+        one = h.one;
+        from = h.from;
         begins = h.begins;
         near = h.near;
         legal = h.legal;
-        fits = views_set (Fits b h.seat h.made h.log h.list) s.views id v.0 (λ j u _ e. h.fits j u e) mine;
+        fits = views_set (Fits k h.seat h.made h.log h.list) s.views id v.0 (λ j u _ e. h.fits j u e) mine;
       },
-      (refl, subst (λ l. IsPrefix v.0.told l) (sym p.all) mine.told, sym same ∙ sym (word_is s.words (length h.log) h.word)),
+      (
+        refl,
+        subst (λ l. IsPrefix v.0.told l) (sym p.all) mine.told,
+        sym same ∙ sym (word_is s.words (length h.log) h.word),
+        subst (λ (x : List Committed × ℕ × List Entry). IsFrom x.0 x.1 x.2) (λ i. (sym p.book i, sym p.made i, (whole ∙ sym p.all) i)) h.from,
+      ),
     )
 
-fits_note : (b : Base) (seat : ℕ → ℕ) (made : ℕ) (log list : List Entry) (by : ℕ) (v : View) (told : List Entry) (sure : ℕ) → IsPrefix told list → sure ≤ length log → Fits b seat made log list by (note v told sure)
-fits_note b seat made log list by v told sure p le = record { keeper = λ q. absurd (off q); pass = λ q. absurd (off q); told = p; sure = le }
+fits_note : (k : About) (seat : ℕ → ℕ) (made : ℕ) (log list : List Entry) (by : ℕ) (v : View) (told : List Entry) (sure : ℕ) → IsPrefix told list → sure ≤ length log → Fits k seat made log list by (note v told sure)
+fits_note k seat made log list by v told sure p le = record { keeper = λ q. absurd (off q); pass = λ q. absurd (off q); told = p; sure = le }
 
 -- a view that stays, and a new one
-splits_keep : (k : About) (s : State Entry View) (id : ℕ) (v right : View) (h : Kept k s) → get_elem? s.views id ≡ some v → ((by : ℕ) → Fits k.base.value h.seat h.made h.log h.list by right)
+splits_keep : (k : About) (s : State Entry View) (id : ℕ) (v right : View) (h : Kept k s) → get_elem? s.views id ≡ some v → ((by : ℕ) → Fits k h.seat h.made h.log h.list by right)
     → Kept k record { words = s.words; homes = s.homes; views = set s.views id v ++ right ∷ [] }
 splits_keep k s id v right h at new =
     record {
@@ -291,35 +310,37 @@ splits_keep k s id v right h at new =
       log = h.log;
       list = h.list;
       word = h.word;
+      one = h.one;
+      from = h.from;
       begins = h.begins;
       near = h.near;
       legal = h.legal;
-      fits = views_more (Fits k.base.value h.seat h.made h.log h.list) (set s.views id v) right (views_set (Fits k.base.value h.seat h.made h.log h.list) s.views id v (λ j u _ e. h.fits j u e) (h.fits id v at)) (new (length (set s.views id v)));
+      fits = views_more (Fits k h.seat h.made h.log h.list) (set s.views id v) right (views_set (Fits k h.seat h.made h.log h.list) s.views id v (λ j u _ e. h.fits j u e) (h.fits id v at)) (new (length (set s.views id v)));
     }
 
 -- the end writes a note
 pub end_notes : (k : About) (id : ℕ) (v : View) → v.keeps ≡ true → Splits (Kept k) id v v (end_note v)
 end_notes k id v keeper s h at =
     let mine = h.fits id v at in
-    splits_keep k s id v (end_note v) h at (λ by. fits_note k.base.value h.seat h.made h.log h.list by v v.list v.sure (subst (λ l. IsPrefix l h.list) (sym (mine.keeper keeper).all) (prefix_self h.list)) mine.sure)
+    splits_keep k s id v (end_note v) h at (λ by. fits_note k h.seat h.made h.log h.list by v v.list v.sure (subst (λ l. IsPrefix l h.list) (sym (mine.keeper keeper).all) (prefix_self h.list)) mine.sure)
 
 -- a pass writes a note
 pub pass_notes : (k : About) (id : ℕ) (v : View) → v.sees ≡ true → Splits (Kept k) id v v (pass_note v)
 pass_notes k id v sees s h at =
     let p = (h.fits id v at).pass sees in
     let log_front : IsPrefix v.list h.log = (p.holds.0, p.holds.1) in
-    splits_keep k s id v (pass_note v) h at (λ by. fits_note k.base.value h.seat h.made h.log h.list by v v.list (length v.list) (prefix_trans v.list h.log h.list log_front h.begins) (prefix_length v.list h.log log_front))
+    splits_keep k s id v (pass_note v) h at (λ by. fits_note k h.seat h.made h.log h.list by v v.list (length v.list) (prefix_trans v.list h.log h.list log_front h.begins) (prefix_length v.list h.log log_front))
 
 -- a seat hears a note, of any kind
 pub hears : (k : About) (id : ℕ) (v : View) (other : ℕ) (u : View) → Joins (Kept k) id v other u (heard v u) spent
 hears k id v other u s h at apart there =
     let b = k.base.value in
-    let F = Fits b h.seat h.made h.log h.list in
+    let F = Fits k h.seat h.made h.log h.list in
     let mine = h.fits id v at in
     let theirs : F other u = ⊎_elim (λ (t : (other ≡ id) × (heard v u ≡ u)). absurd (apart t.0)) (λ (t : (other ≢ id) × (get_elem? s.views other ≡ some u)). h.fits other u t.1) (at_set s.views id other (heard v u) u there) in
     let now : F id (heard v u) = record {
-      keeper = λ q. let e = mine.keeper q in record { first = e.first; all = e.all; made = e.made; base = e.base };
-      pass = λ q. let e = mine.pass q in record { apart = e.apart; below = e.below; sits = e.sits; base = e.base; holds = e.holds };
+      keeper = λ q. let e = mine.keeper q in record { first = e.first; all = e.all; made = e.made; base = e.base; book = e.book };
+      pass = λ q. let e = mine.pass q in record { apart = e.apart; above = e.above; below = e.below; sits = e.sits; base = e.base; holds = e.holds };
       told = theirs.told;
       sure = (let x = mine.sure in let y = theirs.sure in omega arith);
     } in
@@ -330,6 +351,8 @@ hears k id v other u s h at apart there =
       log = h.log;
       list = h.list;
       word = h.word;
+      one = h.one;
+      from = h.from;
       begins = h.begins;
       near = h.near;
       legal = h.legal;
@@ -354,24 +377,24 @@ new_passes k id v keeper sure s h at =
     let p = mine.keeper keeper in
     let left = set s.views id (one_more v) in
     let seat = sits_at h.seat h.made (length left) in
-    let F = Fits b seat (h.made + 1) h.log h.list in
+    let F = Fits k seat (h.made + 1) h.log h.list in
     let same : h.log ≡ h.list = prefix_whole h.log h.list h.begins (let r = mine.sure in let l = ap length p.all in omega arith) in
     let other : (j : ℕ) (u : View) → j ≢ id → get_elem? s.views j ≡ some u → F j u = λ j u away there. let f = h.fits j u there in
     record {
       keeper = λ q. absurd (away ((f.keeper q).first ∙ sym p.first));
-      pass = λ q. let g = f.pass q in record { apart = g.apart; below = (let l = g.below in omega arith); sits = sits_old h.seat h.made (length left) u.number g.below ∙ g.sits; base = g.base; holds = g.holds };
+      pass = λ q. let g = f.pass q in record { apart = g.apart; above = g.above; below = (let l = g.below in omega arith); sits = sits_old h.seat h.made (length left) u.number g.below ∙ g.sits; base = g.base; holds = g.holds };
       told = f.told;
       sure = f.sure;
     } in
     let now : F id (one_more v) = record {
-      keeper = λ q. record { first = p.first; all = p.all; made = ap (λ m. m + 1) p.made; base = p.base };
+      keeper = λ q. record { first = p.first; all = p.all; made = ap (λ m. m + 1) p.made; base = p.base; book = p.book };
       pass = λ q. absurd (off (sym (mine.pass q).apart ∙ keeper));
       told = mine.told;
       sure = mine.sure;
     } in
     let comes : F (length left) (new_pass v) = record {
       keeper = λ q. absurd (off q);
-      pass = λ _. record { apart = refl; below = (let m = p.made in omega arith); sits = sits_new h.seat h.made (length left) v.made p.made; base = p.base; holds = ([], append-nil v.list ∙ (p.all ∙ sym same), tt) };
+      pass = λ _. record { apart = refl; above = (let m = p.made in let o = h.one in omega arith); below = (let m = p.made in omega arith); sits = sits_new h.seat h.made (length left) v.made p.made; base = p.base; holds = ([], append-nil v.list ∙ (p.all ∙ sym same), tt) };
       told = (h.list, refl);
       sure = omega arith;
     } in
@@ -381,6 +404,8 @@ new_passes k id v keeper sure s h at =
       log = h.log;
       list = h.list;
       word = h.word;
+      one = (let o = h.one in omega arith);
+      from = from_later k.book.value.items h.made h.log h.from;
       begins = h.begins;
       near = h.near;
       legal = h.legal;

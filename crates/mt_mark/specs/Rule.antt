@@ -1,5 +1,5 @@
 -- The rule of the mark, and what its steps tell.
-use Rattle.std.specs.Prelude.{◌≡◌, ◌≢◌, ℕ, ◌+◌, ◌<◌, ◌≤◌, max, Bool, true, false, List, [], ◌∷◌, ◌++◌, map, length}
+use Rattle.std.specs.Prelude.{◌≡◌, ◌≢◌, ℕ, ◌+◌, ◌<◌, ◌≤◌, max, Bool, true, false, cond, eqb, List, [], ◌∷◌, ◌++◌, map, length}
 use mathlib.Core.Option.{some}
 use mathlib.Core.List.{IsPrefix}
 use lib.ListN.{get_elem?}
@@ -16,6 +16,16 @@ abbrev pub NoneBy : ℕ → List Entry → Type 0
 NoneBy p [] = Unit {0}
 NoneBy p (e ∷ es) = (e.pass ≢ p) × NoneBy p es
 
+-- how many entries of a list are this pass's
+abbrev pub own : ℕ → List Entry → ℕ
+own p [] = 0
+own p (e ∷ es) = cond (eqb e.pass p) 1 0 + own p es
+
+-- each entry is of a pass that has been made, which are those from 1 on below this number
+abbrev pub AllMade : ℕ → List Entry → Type 0
+AllMade made [] = Unit {0}
+AllMade made (e ∷ es) = (1 ≤ e.pass) × (e.pass < made) × AllMade made es
+
 -- the list, passes aside
 abbrev pub dones : List Entry → List Committed
 dones es = map (λ e. e.done) es
@@ -24,44 +34,53 @@ dones es = map (λ e. e.done) es
 abbrev pub labelled : List Committed → List Entry
 labelled ts = map (λ t. record { pass = 0; done = t }) ts
 
+-- a list begins with the book that stood when the mark was made, and goes on by entries of passes
+abbrev pub IsFrom : List Committed → ℕ → List Entry → Type 0
+IsFrom book made list = (rest : List Entry) × (labelled book ++ rest ≡ list) × AllMade made rest
+
 -- what was seen begins the history, which has no further entry of this pass
 abbrev pub Holds : ℕ → List Entry → List Entry → Type 0
 Holds p seen log = (rest : List Entry) × (seen ++ rest ≡ log) × NoneBy p rest
 
-pub record IsEnd (b : Base) (count : ℕ) (list : List Entry) (by : ℕ) (v : View) : Type 0 where
+pub record IsEnd (k : About) (count : ℕ) (list : List Entry) (by : ℕ) (v : View) : Type 0 where
   pub first : by ≡ 0
   pub all : v.list ≡ list
   pub made : v.made ≡ count
-  pub base : v.base ≡ b
+  pub base : v.base ≡ k.base.value
+  pub book : v.book ≡ k.book.value.items
 
-pub record IsPass (b : Base) (seat : ℕ → ℕ) (made : ℕ) (log : List Entry) (by : ℕ) (v : View) : Type 0 where
+pub record IsPass (k : About) (seat : ℕ → ℕ) (made : ℕ) (log : List Entry) (by : ℕ) (v : View) : Type 0 where
   pub apart : v.keeps ≡ false
+  pub above : 1 ≤ v.number
   pub below : v.number < made
   pub sits : seat v.number ≡ by
-  pub base : v.base ≡ b
+  pub base : v.base ≡ k.base.value
   pub holds : Holds v.number v.list log
 
 -- what the rule says of one view
-pub record Fits (b : Base) (seat : ℕ → ℕ) (made : ℕ) (log list : List Entry) (by : ℕ) (v : View) : Type 0 where
-  pub keeper : v.keeps ≡ true → IsEnd b made list by v
-  pub pass : v.sees ≡ true → IsPass b seat made log by v
+pub record Fits (k : About) (seat : ℕ → ℕ) (made : ℕ) (log list : List Entry) (by : ℕ) (v : View) : Type 0 where
+  pub keeper : v.keeps ≡ true → IsEnd k made list by v
+  pub pass : v.sees ≡ true → IsPass k seat made log by v
   pub told : IsPrefix v.told list
   pub sure : v.sure ≤ length log
 
--- The history is as long as the word says, and legal. The end's list begins with it, and goes on by one entry at most.
+-- The history is as long as the word says, and legal. It is the book that stood at first, and behind it entries of
+-- passes. The end's list begins with it, and goes on by one entry at most.
 pub record Kept (k : About) (s : State Entry View) : Type 0 where
   pub made : ℕ
   pub seat : ℕ → ℕ
   pub log : List Entry
   pub list : List Entry
   pub word : s.words ≡ length log ∷ []
+  pub one : 1 ≤ made
+  pub from : IsFrom k.book.value.items made log
   pub begins : IsPrefix log list
   pub near : length list ≤ length log + 1
   pub legal : IsLegal k.base.value (dones list)
-  pub fits : (by : ℕ) (v : View) → get_elem? s.views by ≡ some v → Fits k.base.value seat made log list by v
+  pub fits : (by : ℕ) (v : View) → get_elem? s.views by ≡ some v → Fits k seat made log list by v
 
 abbrev pub first_end : About → View
-first_end k = record { keeps = true; sees = false; number = 0; made = 1; list = labelled k.book.value.items; told = []; sure = length k.book.value.items; base = k.base.value }
+first_end k = record { keeps = true; sees = false; number = 0; made = 1; list = labelled k.book.value.items; told = []; sure = length k.book.value.items; base = k.base.value; book = k.book.value.items }
 
 -- the history so far was seen; it has no further entry of this pass
 abbrev pub LooksTo : View → ℕ → View → Type 0
@@ -94,7 +113,7 @@ abbrev pub Settles : Step Entry → Me Entry View → ℕ → Me Entry View → 
 Settles s v found w = (w.1 ≡ v.1) × (w.0 ≡ record v.0 { list = v.0.told }) × Holds v.0.number v.0.list v.0.told
 
 abbrev pub Checks : Step Entry → Me Entry View → ℕ → Me Entry View → Type 0
-Checks s v found w = (w ≡ v) × IsPrefix v.0.told v.0.list × (length v.0.list ≡ found)
+Checks s v found w = (w ≡ v) × IsPrefix v.0.told v.0.list × (length v.0.list ≡ found) × IsFrom v.0.book v.0.made v.0.list
 
 abbrev pub note : View → List Entry → ℕ → View
 note v told sure = record v { keeps = false; sees = false; list = []; told = told; sure = sure }
@@ -115,11 +134,11 @@ abbrev pub heard : View → View → View
 heard v w = record v { told = w.told; sure = max v.sure w.sure }
 
 abbrev pub spent : View
-spent = record { keeps = false; sees = false; number = 0; made = 0; list = []; told = []; sure = 0; base = record { relations = 0; rows = []; counters = [] } }
+spent = record { keeps = false; sees = false; number = 0; made = 0; list = []; told = []; sure = 0; base = record { relations = 0; rows = []; counters = [] }; book = [] }
 
 -- only what a step tells may change
 abbrev pub SamePass : View → View → Type 0
 SamePass v w = (w.number ≡ v.number) × (w.base ≡ v.base)
 
 abbrev pub SameEnd : View → View → Type 0
-SameEnd v w = (w.made ≡ v.made) × (w.base ≡ v.base)
+SameEnd v w = (w.made ≡ v.made) × (w.base ≡ v.base) × (w.book ≡ v.book)

@@ -2,7 +2,7 @@ ghost use Rattle.std.specs.Prelude.{◌≡◌, ◌+◌, ◌<◌, ◌≤◌, ◌^
 ghost use mathlib.Core.List.{IsPrefix};
 ghost use Rattle.mt_mark.specs.Legal.{IsLegal};
 ghost use Rattle.mt_mark.specs.Held.{Held, IsNewSeat};
-ghost use Rattle.mt_mark.specs.Rule.{LooksTo, IsConfirmed, CanEnter, dones, labelled, heard, pass_note, end_note, Holds, OthersThen, new_pass, SamePass, SameEnd};
+ghost use Rattle.mt_mark.specs.Rule.{LooksTo, IsConfirmed, CanEnter, dones, labelled, heard, pass_note, end_note, Holds, IsFrom, OthersThen, new_pass, SamePass, SameEnd};
 
 use crate::rule::{Check, EndNote, Enter, Hear, Law, Look, Name, NewPass, PassNote, Settle};
 use crate::view::{About, Entry, View};
@@ -141,7 +141,8 @@ pub fn new(
     requires room { count < 2 ^ 32 }
     requires legal { IsLegal about.now.base.value about.now.book.value.items }
     ensures end { IfOk result (λ r. (r.0.view.list ≡ labelled about.now.book.value.items)
-        × (r.0.view.base ≡ about.now.base.value) × IsConfirmed r.0.view) }
+        × (r.0.view.base ≡ about.now.base.value) × (r.0.view.book ≡ about.now.book.value.items)
+        × IsConfirmed r.0.view) }
     ensures count { IfOk result (λ r. vec_len r.1 ≡ count) }
     ensures seats { IfOk result (λ r. (k : ℕ) (d : Held) → k < count → IsNewSeat r.0 k (slice_index_or r.1.items k d)) }
 {
@@ -244,13 +245,21 @@ impl End {
         self.hear(seat); // it has seen the whole list, so all of it is counted
     }
 
-    /// Answers where the mark stands.
+    /// Answers where the mark stands. All behind the book that stood when it was made are entries of its passes.
     pub fn check(&mut self) -> u64
         requires confirmed { IsConfirmed self.old.view }
         ensures same { self.new ≡ self.old }
         ensures told { IsPrefix self.old.view.told self.old.view.list }
         ensures stands { result ≡ length self.old.view.list }
+        ensures from { IsFrom self.old.view.book self.old.view.made self.old.view.list }
     {
         self.word.shared.load::<Check>(&mut self.place, 0)
+    }
+
+    /// How many passes there are. Their numbers are those from 1 to this one.
+    pub fn passes(&self) -> u64
+        ensures { self.now.view.made ≡ result + 1 }
+    {
+        self.made - 1
     }
 }

@@ -22,8 +22,8 @@ pub struct About {
 ///
 /// The end `keeps` the list, and may have named one entry more than the word counts. A pass `sees` a
 /// beginning of the history. By a note each is `told` of the other's list, which begins the end's, and that
-/// `sure` entries at least are counted. `made` counts the numbers that passes have been given, and `base` is
-/// the base at the opening.
+/// `sure` entries at least are counted. `made` is one more than there are passes, whose numbers are those below
+/// it from 1 on. `base` is the base at the opening, and `book` the book that stood when the mark was made.
 pub struct View {
     pub keeps: bool,
     pub sees: bool,
@@ -33,4 +33,5 @@ pub struct View {
     pub told: LinkedList<Entry>,
     pub sure: u64,
     pub base: Base,
+    pub book: LinkedList<Committed>,
 }

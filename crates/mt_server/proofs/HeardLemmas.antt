@@ -1,10 +1,10 @@
 -- What a session has heard, and what its pass has seen.
-use Rattle.std.proofs.Common.{◌≡◌, ◌≢◌, ◌<◌, ◌≤◌, ◌+◌, ℕ, suc, List, [], ◌∷◌, ◌++◌, Option, Some, None, All, arith, length, map, refl, ap, sym, subst, ◌∙◌, append_assoc, append-nil, length-append}
+use Rattle.std.proofs.Common.{◌≡◌, ◌≢◌, ◌<◌, ◌≤◌, ◌+◌, ℕ, suc, List, [], ◌∷◌, ◌++◌, Option, Some, None, All, Bool, true, cond, eqb, eq-eqb, ne_eqb, arith, length, map, refl, ap, sym, subst, ◌∙◌, append_assoc, append-nil, length-append}
 use Rattle.std.proofs.lemmas.List.{length-map}
 use Rattle.std.proofs.lemmas.List.Elements.{All-nil, All-push, All-weaker}
 use mathlib.Core.List.{IsPrefix}
 use Rattle.mt_mark.proofs.Fronts.{prefix_self, prefix_trans, dones-append}
-use Rattle.mt_mark.specs.Rule.{dones}
+use Rattle.mt_mark.specs.Rule.{NoneBy, dones, own}
 use Rattle.mt_mark.specs.declared.view.Entry.{Entry}
 use Rattle.mt_model.specs.History.{Call}
 use Rattle.mt_model.specs.declared.history.Committed.{Committed}
@@ -13,7 +13,7 @@ use Rattle.mt_script.specs.declared.answers.Answer.{Answer}
 use Rattle.mt_script.specs.declared.answers.Answer.TheVariants.{Committed as CommittedAt}
 use Rattle.mt_script.specs.declared.lines.Line.{Line}
 use Rattle.mt_server.specs.Plays.{Runs, starts, goes_on}
-use Rattle.mt_server.specs.Heard.{Heard, silence, Hears, begins, replies, commits, aborts, dies, refuses, StandsAt, Rise, nowhere, higher, IsTold}
+use Rattle.mt_server.specs.Heard.{Heard, silence, Hears, begins, replies, commits, aborts, dies, refuses, StandsAt, Rise, nowhere, higher, IsEnd, ends, fails, IsTold}
 use Rattle.mt_server.specs.Hearing.{Place, entry_of, Grows, IsSession, Turns, Served}
 use Rattle.mt_shared.specs.Seen.{PassSeen, Extends}
 
@@ -33,21 +33,60 @@ all_stand_on : (session : ℕ) (book more : List Committed) (booked : List (ℕ 
 all_stand_on session book more booked grown all = All-weaker (λ (c : ℕ × List Call). StandsAt session book c.0 c.1) (λ (c : ℕ × List Call). StandsAt session more c.0 c.1) (λ c s. stands_on session book more c.0 c.1 grown s) booked all
 
 -- what is told of a book is told of a longer one
-pub told_on : (session : ℕ) (lines : List Line) (text : List ℕ) (book more : List Committed) → IsPrefix book more → IsTold session lines text book → IsTold session lines text more
-told_on session lines text book more grown t = record {
+pub told_on : (failed : Bool) (session : ℕ) (lines : List Line) (text : List ℕ) (booked : List (ℕ × List Call)) (book more : List Committed) → IsPrefix book more → IsTold failed session lines text booked book → IsTold failed session lines text booked more
+told_on failed session lines text booked book more grown t = record {
   before = t.before;
   rest = t.rest;
   lines_are = t.lines_are;
   answers = t.answers;
   last = t.last;
-  heard = t.heard;
+  open_then = t.open_then;
   hears = t.hears;
   end = t.end;
   text_is = t.text_is;
-  stands = all_stand_on session book more t.heard.booked grown t.stands;
+  stands = all_stand_on session book more booked grown t.stands;
   highest = t.highest;
   rises = t.rises;
 }
+
+-- and where the device may have failed
+may_fail : (a b : Bool) (u : Option (List Call)) (rest : List Line) (last : List Answer) → (a ≡ true → b ≡ true) → IsEnd a u rest last → IsEnd b u rest last
+may_fail a b u _ _ may ends = ends
+may_fail a b u _ _ may (fails rest failed) = fails rest (may failed)
+
+pub told_failing : (a b : Bool) (session : ℕ) (lines : List Line) (text : List ℕ) (booked : List (ℕ × List Call)) (book : List Committed) → (a ≡ true → b ≡ true) → IsTold a session lines text booked book → IsTold b session lines text booked book
+told_failing a b session lines text booked book may t = record {
+  before = t.before;
+  rest = t.rest;
+  lines_are = t.lines_are;
+  answers = t.answers;
+  last = t.last;
+  open_then = t.open_then;
+  hears = t.hears;
+  end = may_fail a b t.open_then t.rest t.last may t.end;
+  text_is = t.text_is;
+  stands = t.stands;
+  highest = t.highest;
+  rises = t.rises;
+}
+
+-- ---- how many entries are a pass's
+
+own-append : (p : ℕ) (xs ys : List Entry) → own p (xs ++ ys) ≡ own p xs + own p ys
+own-append p [] ys = omega arith
+own-append p (e ∷ es) ys = let rest = own-append p es ys in omega arith
+
+own-none : (p : ℕ) (xs : List Entry) → NoneBy p xs → own p xs ≡ 0
+own-none p [] none = refl
+own-none p (e ∷ es) (other, none) =
+    let head : ◌≡◌ {A = ℕ} (cond {A = ℕ} (eqb e.pass p) 1 0) 0 = ap (λ (t : Bool). cond {A = ℕ} t 1 0) (ne_eqb e.pass p other) in
+    let rest = own-none p es none in
+    omega arith
+
+own-one : (p : ℕ) (e : Entry) → e.pass ≡ p → own p (e ∷ []) ≡ 1
+own-one p e mine =
+    let head : ◌≡◌ {A = ℕ} (cond {A = ℕ} (eqb e.pass p) 1 0) 1 = ap (λ (t : Bool). cond {A = ℕ} t 1 0) (eq-eqb e.pass p mine) in
+    omega arith
 
 -- ---- a session goes on
 
@@ -62,6 +101,7 @@ pub record Stood (session : ℕ) (old : PassSeen) (p : Place) : Type 0 where
   pub highest : ℕ
   pub rises : Rise p.heard.booked highest
   pub near : highest ≤ length p.pass.seen
+  pub counted : own p.pass.number p.pass.seen ≡ own old.number old.seen + length p.heard.booked
 
 nothing_yet : (session : ℕ) (old : PassSeen) → Stood session old (record { heard = silence; pass = old })
 nothing_yet session old = record {
@@ -71,6 +111,7 @@ nothing_yet session old = record {
   highest = 0;
   rises = nowhere;
   near = omega arith;
+  counted = omega arith;
 }
 
 -- nothing is committed
@@ -78,7 +119,18 @@ same_stood : (session : ℕ) (old : PassSeen) (p : Place) (u : Option (List Call
     → Stood session old (record { heard = record { under_way = u; booked = p.heard.booked }; pass = pass })
 same_stood session old p u pass same s =
     let at : (x : PassSeen) → Type 0 = λ x. Stood session old (record { heard = record { under_way = u; booked = p.heard.booked }; pass = x }) in
-    subst at (sym same) (record { number = s.number; begun = s.begun; stands = s.stands; highest = s.highest; rises = s.rises; near = s.near })
+    subst at (sym same) (record { number = s.number; begun = s.begun; stands = s.stands; highest = s.highest; rises = s.rises; near = s.near; counted = s.counted })
+
+add_push : (n : ℕ) (booked : List (ℕ × List Call)) (c : ℕ × List Call) → n + length booked + 1 ≡ n + length (booked ++ c ∷ [])
+add_push n booked c = omega (arith, length-append booked (c ∷ []))
+
+counts_one : (n : ℕ) (seen between : List Entry) (e : Entry) (pass : PassSeen) → pass.number ≡ n → pass.seen ≡ (seen ++ between) ++ e ∷ [] → NoneBy n between → e.pass ≡ n → (many was : ℕ) → own n seen ≡ was + many → own pass.number pass.seen ≡ was + many + 1
+counts_one n seen between e pass number list others mine many was counted =
+    let front = own-append n seen between in
+    let all = own-append n (seen ++ between) (e ∷ []) in
+    let none = own-none n between others in
+    let one = own-one n e mine in
+    ap (λ (x : ℕ × List Entry). own x.0 x.1) (λ i. (number i, list i)) ∙ omega (arith, front, all, none, one, counted)
 
 -- a commit more
 more_stood : (b : Base) (session : ℕ) (old : PassSeen) (p : Place) (place : ℕ) (calls : List Call) (pass : PassSeen) → Extends b p.pass (entry_of p.pass.number session calls) place pass → Stood session old p
@@ -88,7 +140,7 @@ more_stood b session old p place calls pass x s =
     let front : List Entry = p.pass.seen ++ x.between in
     let long : length pass.seen ≡ length front + 1 = ap length x.list ∙ length-append front (e ∷ []) in
     let grown : IsPrefix p.pass.seen pass.seen = (x.between ++ e ∷ [], sym (append_assoc p.pass.seen x.between (e ∷ [])) ∙ sym x.list) in
-    let own : StandsAt session (dones pass.seen) place calls = record {
+    let mine : StandsAt session (dones pass.seen) place calls = record {
       before = dones front;
       behind = [];
       book_is = ap dones x.list ∙ dones-append front (e ∷ []);
@@ -98,10 +150,11 @@ more_stood b session old p place calls pass x s =
       number = x.number ∙ s.number;
       begun = prefix_trans old.seen p.pass.seen pass.seen s.begun grown;
       stands = All-push (λ (c : ℕ × List Call). StandsAt session (dones pass.seen) c.0 c.1) p.heard.booked (place, calls)
-          (all_stand_on session (dones p.pass.seen) (dones pass.seen) p.heard.booked (dones-prefix p.pass.seen pass.seen grown) s.stands) own;
+          (all_stand_on session (dones p.pass.seen) (dones pass.seen) p.heard.booked (dones-prefix p.pass.seen pass.seen grown) s.stands) mine;
       highest = place;
       rises = higher p.heard.booked s.highest place calls s.rises (omega (arith, s.near, x.long, long, length-append p.pass.seen x.between));
       near = omega (arith, x.long);
+      counted = counts_one p.pass.number p.pass.seen x.between e pass x.number x.list x.others refl (length p.heard.booked) (own old.number old.seen) s.counted ∙ add_push (own old.number old.seen) p.heard.booked (place, calls);
     }
 
 some_same : (u v : List Call) → ◌≡◌ {A = Option (List Call)} (Some u) (Some v) → u ≡ v
@@ -128,8 +181,8 @@ heard_of b session s _ _ _ starts = starts
 heard_of b session s _ _ _ (goes_on lines answers mid end line answer before turn) = goes_on lines answers mid.heard end.heard line answer (heard_of b session s mid lines answers before) turn.hears
 
 -- what a session was told holds in each book that begins with what its pass has seen
-pub session_told : (b : Base) (session : ℕ) (lines : List Line) (text : List ℕ) (old new : PassSeen) (book : List Committed) → IsSession b session lines text old new → IsPrefix (dones new.seen) book → IsTold session lines text book
-session_told b session lines text old new book s front =
+pub session_told : (failed : Bool) (b : Base) (session : ℕ) (lines : List Line) (text : List ℕ) (old new : PassSeen) (book : List Committed) → (s : IsSession failed b session lines text old new) → IsPrefix (dones new.seen) book → IsTold failed session lines text s.end.heard.booked book
+session_told failed b session lines text old new book s front =
     let start : Place = record { heard = silence; pass = old } in
     let stood = stood_on b session old start s.end s.before s.answers (nothing_yet session old) s.served in
     let seen : IsPrefix (dones s.end.pass.seen) book = subst (λ (x : PassSeen). IsPrefix (dones x.seen) book) (sym s.pass_is) front in
@@ -139,7 +192,7 @@ session_told b session lines text old new book s front =
       lines_are = s.lines_are;
       answers = s.answers;
       last = s.last;
-      heard = s.end.heard;
+      open_then = s.end.heard.under_way;
       hears = heard_of b session start s.end s.before s.answers s.served;
       end = s.ends;
       text_is = s.text_is;
@@ -148,8 +201,14 @@ session_told b session lines text old new book s front =
       rises = stood.rises;
     }
 
+-- it tells of each commit that its pass has more of its own
+pub session_counts : (failed : Bool) (b : Base) (session : ℕ) (lines : List Line) (text : List ℕ) (old new : PassSeen) → (s : IsSession failed b session lines text old new) → own new.number new.seen ≡ own old.number old.seen + length s.end.heard.booked
+session_counts failed b session lines text old new s =
+    let stood = stood_on b session old (record { heard = silence; pass = old }) s.end s.before s.answers (nothing_yet session old) s.served in
+    subst (λ (x : PassSeen). own x.number x.seen ≡ own old.number old.seen + length s.end.heard.booked) s.pass_is stood.counted
+
 -- and its pass has seen what it had seen before
-pub session_grows : (b : Base) (session : ℕ) (lines : List Line) (text : List ℕ) (old new : PassSeen) → IsSession b session lines text old new → IsPrefix (dones old.seen) (dones new.seen)
-session_grows b session lines text old new s =
+pub session_grows : (failed : Bool) (b : Base) (session : ℕ) (lines : List Line) (text : List ℕ) (old new : PassSeen) → IsSession failed b session lines text old new → IsPrefix (dones old.seen) (dones new.seen)
+session_grows failed b session lines text old new s =
     let stood = stood_on b session old (record { heard = silence; pass = old }) s.end s.before s.answers (nothing_yet session old) s.served in
     dones-prefix old.seen new.seen (subst (λ (x : PassSeen). IsPrefix old.seen x.seen) s.pass_is stood.begun)

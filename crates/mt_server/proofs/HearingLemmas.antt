@@ -13,11 +13,24 @@ use Rattle.mt_script.specs.declared.answers.Answer.{Answer}
 use Rattle.mt_script.specs.declared.answers.Answer.TheVariants.{Replied, Committed as CommittedAt, Aborted, Refused}
 use Rattle.mt_script.specs.declared.lines.Line.{Line}
 use Rattle.mt_script.specs.declared.lines.Line.TheVariants as line
-use Rattle.mt_server.specs.Heard.{Heard, Hears, replies, commits, aborts, dies, refuses, IsRefusable}
+use Rattle.mt_server.specs.Heard.{Heard, Hears, replies, commits, aborts, dies, refuses, IsRefusable, LetsGoOn, LetsLive}
 use Rattle.mt_server.specs.Hearing.{Place, Ending, entry_of, IsAt, IsStopped, IsTurned, Telling, Turning, Waits, between, within}
 use Rattle.mt_server.specs.declared.turning.Stop.{Stop}
 use Rattle.mt_server.specs.declared.turning.Stop.TheVariants as stop
 use Rattle.mt_shared.specs.Seen.{PassSeen, Extends, with_call}
+
+-- what is neither 2 nor 14
+pub lets_live : (why : Refusal) → ((holder : ℕ) → why ≡ refusal.Die holder → ⊥) → (why ≡ refusal.DeviceFailed → ⊥) → LetsLive why
+lets_live (refusal.Die holder) alive well = alive holder refl
+lets_live refusal.DeviceFailed alive well = well refl
+lets_live _ alive well = tt
+
+pub lets_go_on : (why : Refusal) → (why ≡ refusal.DeviceFailed → ⊥) → LetsGoOn why
+lets_go_on refusal.DeviceFailed well = well refl
+lets_go_on _ well = tt
+
+pub gone_not_back : (o : Option Entry) (t : Entry) → o ≡ None → o ≡ Some t → ⊥
+gone_not_back o t gone back = let wrong : ◌≡◌ {A = Option Entry} None (Some t) = sym gone ∙ back in absurd cc
 
 pub stops_behind : (pass new : PassSeen) (was now : List ℕ) (s : Stop) → new ≡ pass → ((p : PassSeen) → IsStopped p was now p s) → IsStopped pass was now new s
 stops_behind pass new was now s same stops = subst (λ (x : PassSeen). IsStopped pass was now x s) (sym same) (stops pass)

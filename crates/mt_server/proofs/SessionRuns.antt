@@ -1,5 +1,5 @@
 -- A session over a shared kernel: its transactions, one behind the other, and its end.
-use Rattle.std.proofs.Common.{◌≡◌, ◌<◌, ◌≤◌, ◌+◌, ℕ, List, [], ◌∷◌, ◌++◌, Option, Some, None, Result, Ok, Err, IsSome, arith, length, take, drop, refl, ap, sym, subst, ◌∙◌, append_assoc, append-nil, length-drop, take-append-drop}
+use Rattle.std.proofs.Common.{◌≡◌, ◌<◌, ◌≤◌, ◌+◌, ℕ, List, [], ◌∷◌, ◌++◌, Option, Some, None, Result, Ok, Err, IsSome, true, false, arith, length, take, drop, refl, ap, sym, subst, ◌∙◌, append_assoc, append-nil, length-drop, take-append-drop}
 use Rattle.std.proofs.Math.Seq.{take-add, take-length}
 use Rattle.mt_model.specs.History.{Call}
 use Rattle.mt_model.specs.declared.tables.Base.{Base}
@@ -48,7 +48,7 @@ module _ (b : Base) (session : ℕ) (old : PassSeen) (lines : List Line) where
   whole_text : (answers last : List Answer) (mid now : List ℕ) → mid ≡ transcript_text answers → now ≡ mid ++ transcript_text last → now ≡ transcript_text (answers ++ last)
   whole_text answers last mid now before told = all_told answers last [] mid now before told
 
-  pub all_answered : (at : ℕ) (text : List ℕ) (pass : PassSeen) → length lines ≤ at → Stands at text pass → IsSession b session lines text old pass
+  pub all_answered : (at : ℕ) (text : List ℕ) (pass : PassSeen) → length lines ≤ at → Stands at text pass → IsSession false b session lines text old pass
   all_answered at text pass past s =
       let whole : at ≡ length lines = omega (arith, past, s.0) in
       let served = subst (λ (ls : List Line). HasServed b session (between [] old) ls [] text s.1.end) (ap (λ (n : ℕ). take n lines) whole ∙ take-length lines) s.1.served in
@@ -61,7 +61,7 @@ module _ (b : Base) (session : ℕ) (old : PassSeen) (lines : List Line) where
         end = s.1.end;
         pass_is = s.1.pass_is;
         served = served.served;
-        ends = subst (IsEnd s.1.end.heard.under_way []) (ap last_line s.1.at) ends;
+        ends = subst (IsEnd false s.1.end.heard.under_way []) (ap last_line s.1.at) ends;
         text_is = served.text ∙ ap transcript_text (sym (append-nil served.answers));
       }
 
@@ -69,7 +69,7 @@ module _ (b : Base) (session : ℕ) (old : PassSeen) (lines : List Line) where
   aborted_last None some = absurd cc
   aborted_last (Some calls) some = refl
 
-  pub aborted_end : (at : ℕ) (was now : List ℕ) (pass new : PassSeen) → (s : Stands at was pass) → ((booked : List (ℕ × List Call)) → HasRan b session (between booked pass) (drop at lines) was now new ran.AtEnd) → IsSession b session lines now old new
+  pub aborted_end : (at : ℕ) (was now : List ℕ) (pass new : PassSeen) → (s : Stands at was pass) → ((booked : List (ℕ × List Call)) → HasRan b session (between booked pass) (drop at lines) was now new ran.AtEnd) → IsSession false b session lines now old new
   aborted_end at was now pass new s ran =
       let (end, mid, pass_is, live, served, text) = ran s.1.end.heard.booked in
       let all = subst (λ (ls : List Line). HasServed b session (between [] old) ls [] mid end) (take-append-drop at lines) (behind at was mid pass end (drop at lines) s served) in
@@ -82,11 +82,11 @@ module _ (b : Base) (session : ℕ) (old : PassSeen) (lines : List Line) where
         end = end;
         pass_is = pass_is;
         served = all.served;
-        ends = subst (IsEnd end.heard.under_way []) (aborted_last end.heard.under_way live) ends;
+        ends = subst (IsEnd false end.heard.under_way []) (aborted_last end.heard.under_way live) ends;
         text_is = whole_text all.answers (Aborted ∷ []) mid now all.text text;
       }
 
-  pub failed_end : (at : ℕ) (was now : List ℕ) (pass new : PassSeen) → (s : Stands at was pass) → ((booked : List (ℕ × List Call)) → HasFailed b session (between booked pass) (drop at lines) was now new) → IsSession b session lines now old new
+  pub failed_end : (at : ℕ) (was now : List ℕ) (pass new : PassSeen) → (s : Stands at was pass) → ((booked : List (ℕ × List Call)) → HasFailed b session (between booked pass) (drop at lines) was now new) → IsSession true b session lines now old new
   failed_end at was now pass new s failed =
       let f = failed s.1.end.heard.booked in
       let all = behind at was f.mid pass f.end f.before s f.served in
@@ -99,6 +99,6 @@ module _ (b : Base) (session : ℕ) (old : PassSeen) (lines : List Line) where
         end = f.end;
         pass_is = f.pass_is;
         served = all.served;
-        ends = fails f.rest;
+        ends = fails f.rest refl;
         text_is = whole_text all.answers _ f.mid now all.text f.text;
       }

@@ -1,30 +1,47 @@
 -- What workers give back, and the places of transcripts.
-use Rattle.std.specs.Prelude.{ℕ, ◌≡◌, ◌<◌, ◌+◌, Bool, true, false, List, [], length, All, get_or}
-use Rattle.mt_mark.specs.Rule.{dones}
+use Rattle.std.specs.Prelude.{ℕ, ◌≡◌, ◌<◌, ◌+◌, Bool, true, false, List, [], ◌∷◌, ◌++◌, length, get_or, Result, IfOk, Vec}
+use Rattle.std.specs.declared.alloc.AllocError.{AllocError}
+use Rattle.std.specs.declared.alloc.Global.{Global}
+use Rattle.mt_mark.specs.Rule.{dones, own}
+use Rattle.mt_model.specs.History.{Call}
 use Rattle.mt_model.specs.declared.history.Committed.{Committed}
-use Rattle.mt_script.specs.declared.reader.Script.{Script}
-use Rattle.mt_server.specs.Heard.{IsTold}
-use Rattle.mt_server.specs.Sessions.{lines_in}
+use Rattle.mt_script.specs.declared.lines.Line.{Line}
+use Rattle.mt_server.specs.Heard.{IsTold, all_booked}
 use Rattle.mt_server.specs.declared.placing.Board.{Board}
+use Rattle.mt_server.specs.declared.placing.Told.{Told}
 use Rattle.mt_shared.specs.Seen.{PassSeen}
 
--- the transcript of the script at this place, from 0
-pub record IsToldOf (scripts : List Script) (book : List Committed) (at : ℕ) (text : List ℕ) : Type 0 where
-  pub script : Script
-  pub within : at < length scripts
-  pub script_is : script ≡ get_or scripts at script
-  pub told : IsTold (at + 1) (lines_in script) text book
+-- the transcript of the script at its place, from 0, which tells of these commits
+pub record IsToldOf (scripts : List (List Line)) (book : List Committed) (t : Told) (booked : List (ℕ × List Call)) : Type 0 where
+  pub lines : List Line
+  pub within : t.at < length scripts
+  pub lines_are : lines ≡ get_or scripts t.at lines
+  pub told : IsTold t.has_failed (t.at + 1) lines t.text booked book
 
--- each of these is one, as far as the pass has seen
-abbrev pub AreHeard : List Script → PassSeen → List (ℕ × List ℕ) → Type 0
-AreHeard scripts pass told = All (λ (t : ℕ × List ℕ). IsToldOf scripts (dones pass.seen) t.0 t.1) told
+-- each of these is one, and so many commits they tell together
+pub data AreToldOf (scripts : List (List Line)) (book : List Committed) : List Told → ℕ → Type 0 where
+  nothing_told : AreToldOf scripts book [] 0
+  one_more : (told : List Told) (count : ℕ) (t : Told) (booked : List (ℕ × List Call)) → AreToldOf scripts book told count → IsToldOf scripts book t booked
+      → AreToldOf scripts book (told ++ t ∷ []) (count + length booked)
 
--- what is in its place is the transcript of that script
-pub record IsBoard (scripts : List Script) (board : Board) (book : List Committed) : Type 0 where
+-- as far as the pass has seen, and they tell of each commit of its own
+abbrev pub AreHeard : List (List Line) → PassSeen → List Told → Type 0
+AreHeard scripts pass told = AreToldOf scripts (dones pass.seen) told (own pass.number pass.seen)
+
+-- nothing is told where one of them found no memory
+abbrev pub HasDone : List (List Line) → PassSeen → Result (Vec Told Global) AllocError → Type 0
+HasDone scripts pass done = IfOk done (λ told. AreHeard scripts pass told.items)
+
+-- What is in its place is the transcript of that script, and so many commits they tell together.
+pub record IsBoard (scripts : List (List Line)) (board : Board) (book : List Committed) (count : ℕ) : Type 0 where
   pub texts : length board.texts.items ≡ length scripts
   pub filled : length board.filled.items ≡ length scripts
-  pub each : (i : ℕ) (script : Script) → i < length scripts → script ≡ get_or scripts i script → get_or board.filled.items i false ≡ true
-      → IsTold (i + 1) (lines_in script) (get_or board.texts.items i []) book
+  pub booked : List (List (ℕ × List Call))
+  pub many : length booked ≡ length scripts
+  pub each : (i : ℕ) (lines : List Line) → i < length scripts → lines ≡ get_or scripts i lines → get_or board.filled.items i false ≡ true
+      → IsTold board.has_failed (i + 1) lines (get_or board.texts.items i []) (get_or booked i []) book
+  pub empty : (i : ℕ) → get_or board.filled.items i false ≡ false → get_or booked i [] ≡ []
+  pub counted : all_booked booked ≡ count
 
 pub record IsBlank (count : ℕ) (board : Board) : Type 0 where
   pub texts : length board.texts.items ≡ count

@@ -1,5 +1,5 @@
 -- What sessions over a shared kernel are answered, and what the history has of them.
-use Rattle.std.specs.Prelude.{ℕ, ◌≡◌, ◌<◌, ◌+◌, List, [], ◌∷◌, ◌++◌, length, Option, Some, None, All, get_or}
+use Rattle.std.specs.Prelude.{Bool, true, ℕ, ◌≡◌, ◌<◌, ◌+◌, List, [], ◌∷◌, ◌++◌, length, Option, Some, None, All, get_or}
 use Rattle.mt_base.specs.declared.refusal.Refusal.{Refusal}
 use Rattle.mt_base.specs.declared.refusal.Refusal.TheVariants as refusal
 use Rattle.mt_model.specs.History.{Call}
@@ -11,10 +11,8 @@ use Rattle.mt_script.specs.declared.answers.Answer.{Answer}
 use Rattle.mt_script.specs.declared.answers.Answer.TheVariants.{Begun, Replied, Committed as CommittedAt, Aborted, Refused}
 use Rattle.mt_script.specs.declared.lines.Line.{Line}
 use Rattle.mt_script.specs.declared.lines.Line.TheVariants as line
-use Rattle.mt_script.specs.declared.reader.Script.{Script}
 use Rattle.mt_server.specs.Plays.{Runs}
 use Rattle.mt_server.specs.Runs.{last_line}
-use Rattle.mt_server.specs.Sessions.{lines_in}
 
 -- ---- answers
 
@@ -26,16 +24,26 @@ pub record Heard : Type 0 where
 abbrev pub silence : Heard
 silence = record { under_way = None; booked = [] }
 
--- A line may be refused so: by 15 what is not a begin, and by nothing else, where no transaction is open; by 16 a begin where one is. An
--- abort is not refused.
+-- a session goes on behind a refusal, unless the device failed
+abbrev pub LetsGoOn : Refusal → Type 0
+LetsGoOn refusal.DeviceFailed = ⊥
+LetsGoOn why = Unit {0}
+
+-- and so does its transaction, unless it dies of it
+abbrev pub LetsLive : Refusal → Type 0
+LetsLive (refusal.Die holder) = ⊥
+LetsLive why = LetsGoOn why
+
+-- A line may be refused so, and the session goes on: by 15 what is not a begin, and by nothing else, where no transaction is open; by 16 a
+-- begin where one is. An abort is not refused. Nor is anything by 2; and an operation by 14 only if its transaction is gone then.
 abbrev pub IsRefusable : Option (List Call) → Line → Refusal → Type 0
-IsRefusable None line.Begin why = Unit {0}
+IsRefusable None line.Begin why = LetsGoOn why
 IsRefusable None (line.Call op) why = why ≡ refusal.Stranger
 IsRefusable None line.Commit why = why ≡ refusal.Stranger
 IsRefusable None line.Abort why = why ≡ refusal.Stranger
 IsRefusable (Some calls) line.Begin why = why ≡ refusal.Busy
-IsRefusable (Some calls) (line.Call op) why = Unit {0}
-IsRefusable (Some calls) line.Commit why = Unit {0}
+IsRefusable (Some calls) (line.Call op) why = LetsLive why
+IsRefusable (Some calls) line.Commit why = LetsGoOn why
 IsRefusable (Some calls) line.Abort why = ⊥
 
 -- An answer to a line. A commit keeps the calls that were replied to since the begin; a transaction that dies is gone.
@@ -50,10 +58,10 @@ pub data Hears (h : Heard) : Line → Answer → Heard → Type 0 where
       → Hears h (line.Call op) (Refused (refusal.Die holder)) (record h { under_way = None })
   refuses : (line : Line) (why : Refusal) → IsRefusable h.under_way line why → Hears h line (Refused why) h
 
--- what stands behind the answers: that the open transaction is aborted, where the script is at its end; or that the device failed
-pub data IsEnd (u : Option (List Call)) : List Line → List Answer → Type 0 where
-  ends : IsEnd u [] (last_line u)
-  fails : (rest : List Line) → IsEnd u rest (Refused refusal.DeviceFailed ∷ [])
+-- what stands behind the answers: that the open transaction is aborted, where the script is at its end; or that the device failed, if it has
+pub data IsEnd (failed : Bool) (u : Option (List Call)) : List Line → List Answer → Type 0 where
+  ends : IsEnd failed u [] (last_line u)
+  fails : (rest : List Line) → failed ≡ true → IsEnd failed u rest (Refused refusal.DeviceFailed ∷ [])
 
 -- ---- the history
 
@@ -69,23 +77,31 @@ pub data Rise : List (ℕ × List Call) → ℕ → Type 0 where
   nowhere : Rise [] 0
   higher : (booked : List (ℕ × List Call)) (last place : ℕ) (calls : List Call) → Rise booked last → last < place → Rise (booked ++ (place, calls) ∷ []) place
 
--- The transcript of a session: the text of what its lines were answered. Each commit that it tells has the place that it tells, in this book,
--- with the calls that were replied to; and the places rise.
-pub record IsTold (session : ℕ) (lines : List Line) (text : List ℕ) (book : List Committed) : Type 0 where
+-- The transcript of a session: the text of what its lines were answered. These are the commits that it tells, each with its place and the calls
+-- that were replied to; each has that place in this book, and the places rise. It ends with 2 only if the device has failed.
+pub record IsTold (failed : Bool) (session : ℕ) (lines : List Line) (text : List ℕ) (booked : List (ℕ × List Call)) (book : List Committed) : Type 0 where
   pub before : List Line
   pub rest : List Line
   pub lines_are : lines ≡ before ++ rest
   pub answers : List Answer
   pub last : List Answer
-  pub heard : Heard
-  pub hears : Runs Hears silence before answers heard
-  pub end : IsEnd heard.under_way rest last
+  pub open_then : Option (List Call)
+  pub hears : Runs Hears silence before answers (record { under_way = open_then; booked = booked })
+  pub end : IsEnd failed open_then rest last
   pub text_is : text ≡ transcript_text (answers ++ last)
-  pub stands : All (λ (c : ℕ × List Call). StandsAt session book c.0 c.1) heard.booked
+  pub stands : All (λ (c : ℕ × List Call). StandsAt session book c.0 c.1) booked
   pub highest : ℕ
-  pub rises : Rise heard.booked highest
+  pub rises : Rise booked highest
 
--- there is one for each script, in their order, of which the first is session 1
-pub record AreTold (scripts : List Script) (texts : List (List ℕ)) (book : List Committed) : Type 0 where
+-- how many commits these tell together
+abbrev pub all_booked : List (List (ℕ × List Call)) → ℕ
+all_booked [] = 0
+all_booked (booked ∷ more) = length booked + all_booked more
+
+-- There is one for each script, in their order, of which the first is session 1. The book has no commit but those that they tell.
+pub record AreTold (failed : Bool) (scripts : List (List Line)) (texts : List (List ℕ)) (book : List Committed) : Type 0 where
   pub count : length texts ≡ length scripts
-  pub each : (i : ℕ) (script : Script) → i < length scripts → script ≡ get_or scripts i script → IsTold (i + 1) (lines_in script) (get_or texts i []) book
+  pub booked : List (List (ℕ × List Call))
+  pub each : (i : ℕ) (lines : List Line) → i < length scripts → lines ≡ get_or scripts i lines → IsTold failed (i + 1) lines (get_or texts i []) (get_or booked i []) book
+  pub many : length booked ≡ length scripts
+  pub whole : length book ≡ all_booked booked

@@ -1,5 +1,5 @@
 -- How a session goes on over a shared kernel, beside what its pass sees.
-use Rattle.std.specs.Prelude.{ℕ, suc, ◌≡◌, ◌≤◌, ◌<◌, ◌+◌, ◌^◌, List, [], ◌∷◌, ◌++◌, length, take, Option, Some, None, IsSome, Result, Ok, Err}
+use Rattle.std.specs.Prelude.{Bool, ℕ, suc, ◌≡◌, ◌≤◌, ◌<◌, ◌+◌, ◌^◌, List, [], ◌∷◌, ◌++◌, length, take, Option, Some, None, IsSome, Result, Ok, Err}
 use mathlib.Core.List.{IsPrefix}
 use Rattle.mt_base.specs.declared.refusal.Refusal.TheVariants as refusal
 use Rattle.mt_mark.specs.declared.view.Entry.{Entry}
@@ -146,8 +146,8 @@ Ending pass was now new (Err stop.Unheard) = Unit {0}
 
 -- ---- a session
 
--- A script was answered from its first line on, beside this pass.
-pub record IsSession (b : Base) (session : ℕ) (lines : List Line) (text : List ℕ) (old new : PassSeen) : Type 0 where
+-- A script was answered from its first line on, beside this pass. Its device has failed, or it has not.
+pub record IsSession (failed : Bool) (b : Base) (session : ℕ) (lines : List Line) (text : List ℕ) (old new : PassSeen) : Type 0 where
   pub before : List Line
   pub rest : List Line
   pub lines_are : lines ≡ before ++ rest
@@ -156,5 +156,5 @@ pub record IsSession (b : Base) (session : ℕ) (lines : List Line) (text : List
   pub end : Place
   pub pass_is : end.pass ≡ new
   pub served : Served b session (between [] old) before answers end
-  pub ends : IsEnd end.heard.under_way rest last
+  pub ends : IsEnd failed end.heard.under_way rest last
   pub text_is : text ≡ transcript_text (answers ++ last)

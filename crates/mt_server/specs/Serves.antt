@@ -1,11 +1,14 @@
 -- A kernel behind sessions that shared it.
-use Rattle.std.specs.Prelude.{ℕ, List}
+use Rattle.std.specs.Prelude.{ℕ, ◌<◌, ◌≤◌, ◌⊎◌, List}
+use Rattle.mt_base.specs.declared.refusal.Refusal.{Refusal}
+use Rattle.mt_base.specs.declared.refusal.Refusal.TheVariants as refusal
 use Rattle.mt_disk.specs.declared.device.Device.{Ghosts}
 use Rattle.mt_model.specs.History.{IsLegal}
 use Rattle.mt_model.specs.Model as model
 use Rattle.mt_model.specs.Views.{base_of}
 use Rattle.mt_model.specs.declared.tables.Base.{Base}
 use Rattle.mt_replay.specs.Stands.{CanRestart}
+use Rattle.mt_restart.specs.Recovered.{IsCauseToStop}
 use Rattle.mt_shared.specs.Began.{BeganOn}
 use Rattle.mt_steps.specs.Listed.{IsSame}
 use Rattle.mt_txn.specs.declared.kernel.Kernel.{Kernel}
@@ -20,3 +23,22 @@ pub record IsServedOn {D : Type 0} {g : Ghosts D} (seen : D → List ℕ) (may_l
   pub is : IsBaseOf c first
   pub began : BeganOn seen may_leave first k
   pub legal : IsLegal (base_of first) k.parts.book.items
+
+-- ---- refusals
+
+-- how serving ends once the device is open: for want of memory, since it failed, or as a survey or a close is refused
+abbrev pub IsLate : Refusal → Type 0
+IsLate refusal.NoMemory = Unit {0}
+IsLate refusal.DeviceFailed = Unit {0}
+IsLate refusal.Stranger = Unit {0}
+IsLate refusal.Busy = Unit {0}
+IsLate why = ⊥
+
+-- or what keeps a device of these bytes from being opened
+abbrev pub IsUnopened : List ℕ → Refusal → Type 0
+IsUnopened c why = IsCauseToStop c (Unit {0}) why ⊎ IsLate why
+
+-- why so many scripts are not served to it: there are too many, and only then that is the cause
+pub data IsUnserved (c : List ℕ) (count : ℕ) : Refusal → Type 0 where
+  too_many : 64 < count → IsUnserved c count refusal.BadLength
+  cut_short : (why : Refusal) → count ≤ 64 → IsUnopened c why → IsUnserved c count why

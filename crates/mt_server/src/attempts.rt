@@ -1,9 +1,12 @@
 // A transaction of a session over a shared kernel, from its begin to its end.
 ghost use Rattle.std.specs.Prelude.{◌≡◌, ◌≢◌, ◌+◌, ◌<◌, ◌^◌, ◌∷◌, false, ℕ, List, IfErr, length};
 ghost use Rattle.mt_model.specs.History.{Call};
+ghost use Rattle.mt_model.specs.declared.tables.Base.{Base};
+ghost use Rattle.mt_script.specs.declared.lines.Line.{Line};
 ghost use Rattle.mt_script.specs.declared.lines.Line.TheVariants as line;
 ghost use Rattle.mt_server.specs.Hearing.{AreFew, Ending, Running, and_begin, between, within};
 ghost use Rattle.mt_server.specs.declared.turning.Stop.TheVariants as stop;
+ghost use Rattle.mt_shared.specs.Seen.{PassSeen};
 
 use crate::turning::{Stop, fail, refuse, take_back, tell_aborted, tell_begun, turn};
 use mt_base::Refusal;
@@ -54,8 +57,8 @@ fn go_on<D: Device, G: Gate + Drop, J: Naming, R: Wait>(
     out: &mut Vec<u8>,
 ) -> Result<Ran, Stop>
     requires own { txn.pass ≡ pass.old.number }
-    ensures runs { (booked : List (ℕ × List Call)) → Running J.base txn.done.session (within booked txn.done.calls pass.old)
-        lines.now out.old.items out.new.items pass.new result }
+    ensures runs { (booked : List (ℕ × List Call)) → Running J.base txn.done.session
+        (within booked txn.done.calls pass.old) lines.now out.old.items out.new.items pass.new result }
     ensures lives { may_die ≡ false → IfErr result (λ told. told ≢ stop.Died) }
 {
     let mut kept = txn;
@@ -79,6 +82,21 @@ fn and_begin(told: Result<Ran, Stop>) -> Result<Ran, Stop>
         Ok(Ran::Ended(count)) => Ok(Ran::Ended(count + 1)),
         Ok(Ran::AtEnd) => Ok(Ran::AtEnd),
         Err(why) => Err(why),
+    }
+}
+
+/// Answers a begin that was refused. The session goes on behind it, unless the device failed.
+fn unbegun(out: &mut Vec<u8>, why: Refusal) -> Result<Ran, Stop>
+    ensures runs { (b : Base) (session : ℕ) (booked : List (ℕ × List Call)) (pass : PassSeen) (lines : List Line)
+        → Running b session (between booked pass) (line.Begin ∷ lines) out.old.items out.new.items pass result }
+    ensures lives { IfErr result (λ told. told ≢ stop.Died) }
+{
+    match why {
+        Refusal::DeviceFailed => Err(fail(out)),
+        _ => {
+            refuse(out, why)?;
+            Ok(Ran::Ended(1))
+        }
     }
 }
 
@@ -106,11 +124,7 @@ fn run_once<D: Device, G: Gate + Drop, J: Naming, R: Wait>(
                 Err(why)
             }
         },
-        Err(Refusal::DeviceFailed) => Err(fail(out)),
-        Err(why) => {
-            refuse(out, why)?;
-            Ok(Ran::Ended(1))
-        }
+        Err(why) => unbegun(out, why),
     }
 }
 

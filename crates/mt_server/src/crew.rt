@@ -1,14 +1,15 @@
 // Workers that serve scripts over a shared kernel, beside one that tends it.
-ghost use Rattle.std.specs.Prelude.{◌≡◌, ◌≤◌, ℕ, List, All, IfOk, length};
+ghost use Rattle.std.specs.Prelude.{◌+◌, ◌≤◌, ℕ, List, All, IfOk, length, map};
 ghost use mathlib.Core.List.{IsPrefix};
 ghost use Rattle.mt_mark.specs.Rule.{dones};
 ghost use Rattle.mt_model.specs.declared.history.Committed.{Committed};
-ghost use Rattle.mt_server.specs.Crews.{AreHeard, IsBoard};
+ghost use Rattle.mt_server.specs.Crews.{AreHeard, HasDone, IsBoard};
+ghost use Rattle.mt_server.specs.Sessions.{lines_in};
 ghost use Rattle.mt_shared.specs.Seen.{PassSeen};
+ghost use Rattle.mt_shared.specs.Whole.{IsNew, all_own};
 
-use crate::placing::Board;
+use crate::placing::{Board, Told};
 use crate::session::run_session;
-use crate::transcript::Transcript;
 use crossbeam_channel::{Receiver, bounded};
 use mt_base::Refusal;
 use mt_disk::Device;
@@ -19,12 +20,11 @@ use std::sync::Wait;
 use std::thread;
 use std::thread::{Threads, join};
 
-/// What a worker gives back: its pass, and the transcripts of the scripts that it took, each with its script's place.
-pub(crate) type Done<J> = (Pass<J>, Vec<(usize, Transcript)>);
+/// What a worker gives back: its pass, and the transcripts of the scripts that it took. There are none where one of them
+/// found no memory.
+pub(crate) type Done<J> = (Pass<J>, Result<Vec<Told>, AllocError>);
 
-/// Serves the next script of the queue; whether there was one.
-///
-/// Refused with 1 where a transcript found no memory.
+/// Serves the next script of the queue; whether there was one. The only error is that a transcript found no memory.
 fn serve_next<D: Device, G: Gate + Drop, J: Naming, R: Wait>(
     rt: &R,
     alloc: Global,
@@ -32,11 +32,11 @@ fn serve_next<D: Device, G: Gate + Drop, J: Naming, R: Wait>(
     queue: &Receiver<u32, Global>,
     scripts: &[Script],
     pass: &mut Pass<J>,
-    told: &mut Vec<(usize, Transcript)>,
-) -> Result<bool, Refusal>
+    told: &mut Vec<Told>,
+) -> Result<bool, AllocError>
     requires few { length scripts.now ≤ 64 }
-    ensures { IfOk result (λ _. AreHeard scripts.now pass.old told.old.items
-        → AreHeard scripts.now pass.new told.new.items) }
+    ensures { IfOk result (λ _. AreHeard (map lines_in scripts.now) pass.old told.old.items
+        → AreHeard (map lines_in scripts.now) pass.new told.new.items) }
 {
     told.reserve(1)?;
     let Ok(number) = queue.try_recv(rt) else {
@@ -46,12 +46,16 @@ fn serve_next<D: Device, G: Gate + Drop, J: Naming, R: Wait>(
     if at >= scripts.len() {
         return Ok(false);
     }
-    let text = run_session(rt, alloc, shared, pass, number + 1, &scripts[at])?;
-    told.push_reserved((at, text));
+    let (text, has_failed) = run_session(rt, alloc, shared, pass, number + 1, &scripts[at])?;
+    told.push_reserved(Told {
+        at,
+        text,
+        has_failed,
+    });
     Ok(true)
 }
 
-/// Serves scripts until none is left in the queue. Where memory is short, no transcript is given back.
+/// Serves scripts until none is left in the queue, or memory is short.
 fn work<D: Device, G: Gate + Drop, J: Naming, R: Wait>(
     rt: &R,
     alloc: Global,
@@ -61,15 +65,16 @@ fn work<D: Device, G: Gate + Drop, J: Naming, R: Wait>(
     pass: Pass<J>,
 ) -> Done<J>
     requires few { length scripts.now ≤ 64 }
-    ensures { AreHeard scripts.now result.0 result.1.items }
+    requires fresh { IsNew J.book pass }
+    ensures { HasDone (map lines_in scripts.now) result.0 result.1 }
 {
     let mut pass = pass;
     let mut told = Vec::new(alloc);
     'turns: for _ in rt.forever() {
         match serve_next(rt, alloc, shared, queue, scripts, &mut pass, &mut told) {
             Ok(true) => {}
-            Ok(false) => return (pass, told),
-            Err(_) => return (pass, Vec::new(alloc)),
+            Ok(false) => return (pass, Ok(told)),
+            Err(short) => return (pass, Err(short)),
         }
     }
     unreachable!()
@@ -123,14 +128,16 @@ fn work_all<
     passes: Vec<Pass<J>>,
 ) -> Result<Vec<Done<J>>, AllocError>
     requires few { length scripts.now ≤ 64 }
-    ensures { IfOk result (λ done. All (λ d. AreHeard scripts.now d.0 d.1.items) done.items) }
+    requires fresh { All (IsNew J.book) passes.items }
+    ensures { IfOk result (λ done. All (λ d. HasDone (map lines_in scripts.now) d.0 d.1) done.items) }
 {
     let done = thread::map_vec(
         rt,
         passes,
         &|pass: Pass<J>| -> Done<J>
-            requires { length scripts.now ≤ 64 }
-            ensures { AreHeard scripts.entry.now result.0 result.1.items }
+            requires few { length scripts.now ≤ 64 }
+            requires fresh { IsNew J.book pass }
+            ensures { HasDone (map lines_in scripts.entry.now) result.0 result.1 }
         { work(rt, alloc, shared, queue, scripts, pass) },
     )?;
     Ok(done)
@@ -151,7 +158,8 @@ fn queue_of<R: Wait>(
     Ok(queue)
 }
 
-/// The scripts are served by as many workers as there are passes, while one more thread tends the kernel.
+/// The scripts are served by as many workers as there are passes, while one more thread tends the kernel. Where that cannot
+/// be started, it is tended once they are served.
 pub(crate) fn crew<
     D: Device + Drop + Send,
     G: Gate + Drop + Send + Sync,
@@ -166,43 +174,49 @@ pub(crate) fn crew<
     passes: Vec<Pass<J>>,
 ) -> Result<Vec<Done<J>>, AllocError>
     requires few { length scripts.now ≤ 64 }
-    ensures { IfOk result (λ done. All (λ d. AreHeard scripts.now d.0 d.1.items) done.items) }
+    requires fresh { All (IsNew J.book) passes.items }
+    ensures { IfOk result (λ done. All (λ d. HasDone (map lines_in scripts.now) d.0 d.1) done.items) }
 {
     let queue = queue_of(rt, alloc, scripts.len() as u32)?;
     let from = &queue;
-    let (done, ()) = join(
+    let ((), done) = join(
         rt,
+        || tend(rt, alloc, shared, frames),
         move || -> Result<Vec<Done<J>>, AllocError>
-            requires { length scripts.now ≤ 64 }
-            ensures { IfOk result (λ done. All (λ d. AreHeard scripts.entry.now d.0 d.1.items) done.items) }
+            requires few { length scripts.now ≤ 64 }
+            requires fresh { All (IsNew J.book) passes.items }
+            ensures { IfOk result (λ done. All (λ d. HasDone (map lines_in scripts.entry.now) d.0 d.1) done.items) }
         {
             let done = work_all(rt, alloc, shared, from, scripts, passes);
             shared.end_tending(rt);
             done
         },
-        || tend(rt, alloc, shared, frames),
     );
     done
 }
 
-/// The passes of the workers. Their transcripts are put in their places.
+/// The passes of the workers. Their transcripts are put in their places, each of which has to be empty. There is an error
+/// too where a worker found no memory for a transcript.
 pub(crate) fn gather<J: Naming>(
     alloc: Global,
     scripts: &[Script],
     done: Vec<Done<J>>,
     board: &mut Board,
 ) -> Result<Vec<Pass<J>>, AllocError>
-    requires heard { All (λ d. AreHeard scripts.now d.0 d.1.items) done.items }
-    ensures { IfOk result (λ passes. (book : List Committed)
+    requires heard { All (λ d. HasDone (map lines_in scripts.now) d.0 d.1) done.items }
+    ensures { IfOk result (λ passes. (book : List Committed) (count : ℕ)
         → All (λ (p : PassSeen). IsPrefix (dones p.seen) book) passes.items
-        → IsBoard scripts.now board.old book → IsBoard scripts.now board.new book) }
+        → IsBoard (map lines_in scripts.now) board.old book count
+        → IsBoard (map lines_in scripts.now) board.new book (count + all_own passes.items)) }
 {
     let mut done = done;
     let mut passes = Vec::with_capacity(alloc, done.len())?;
     'crew: while done.len() > 0 {
         if let Some((pass, told)) = done.pop() {
             passes.push(pass)?;
-            board.place_all(told);
+            if !board.place_all(told?) {
+                return Err(AllocError);
+            }
         }
     }
     Ok(passes)

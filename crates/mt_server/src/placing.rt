@@ -1,18 +1,27 @@
 // Transcripts, each in its script's place.
-ghost use Rattle.std.specs.Prelude.{◌≡◌, ◌<◌, ℕ, List, All, IfOk, IsTrue, length};
+ghost use Rattle.std.specs.Prelude.{◌≡◌, ◌+◌, true, ℕ, List, IfOk, IsTrue, length};
+ghost use Rattle.mt_model.specs.History.{Call};
 ghost use Rattle.mt_model.specs.declared.history.Committed.{Committed};
-ghost use Rattle.mt_script.specs.declared.reader.Script.{Script};
-ghost use Rattle.mt_server.specs.Crews.{IsBoard, IsBlank, IsFull, IsToldOf};
+ghost use Rattle.mt_script.specs.declared.lines.Line.{Line};
+ghost use Rattle.mt_server.specs.Crews.{AreToldOf, IsBoard, IsBlank, IsFull, IsToldOf};
 
 use crate::transcript::Transcript;
-use mt_script::Script;
 use std::alloc::{AllocError, Global};
 
-/// A place for the transcript of each script, and whether it is there.
+/// The transcript of the script at this place, from 0, and whether it ends with the refusal 2.
+#[derive(Drop)]
+pub struct Told {
+    pub at: usize,
+    pub text: Transcript,
+    pub has_failed: bool,
+}
+
+/// A place for the transcript of each script, and whether it is there; and whether one of them ends with the refusal 2.
 #[derive(Drop)]
 pub struct Board {
     pub texts: Vec<Transcript>,
     pub filled: Vec<bool>,
+    pub has_failed: bool,
 }
 
 /// So many empty transcripts.
@@ -32,33 +41,56 @@ pub(crate) fn blank(alloc: Global, count: usize) -> Result<Board, AllocError>
 {
     let texts = empty_texts(alloc, count)?;
     let filled = vec![in alloc; false; count]?;
-    Ok(Board { texts, filled })
+    Ok(Board {
+        texts,
+        filled,
+        has_failed: false,
+    })
 }
 
 impl Board {
-    /// Puts a transcript in its place.
-    fn place(&mut self, at: usize, text: Transcript)
-        ensures { (scripts : List Script) (book : List Committed) → IsToldOf scripts book at text
-            → IsBoard scripts self.old book → IsBoard scripts self.new book }
+    /// Puts a transcript in its place, where that is empty; whether it was.
+    fn place(&mut self, told: Told) -> bool
+        ensures { IsTrue result → (scripts : List (List Line)) (book : List Committed) (booked : List (ℕ × List Call))
+            (count : ℕ) → IsToldOf scripts book told booked → IsBoard scripts self.old book count
+            → IsBoard scripts self.new book (count + length booked) }
     {
-        if at < self.texts.len() && at < self.filled.len() {
-            self.texts[at] = text;
-            self.filled[at] = true;
+        let Told {
+            at,
+            text,
+            has_failed,
+        } = told;
+        if at >= self.texts.len() || at >= self.filled.len() || self.filled[at] {
+            return false;
         }
+        self.texts[at] = text;
+        self.filled[at] = true;
+        self.has_failed |= has_failed;
+        true
     }
 
-    /// Puts each of them in its place.
-    pub(crate) fn place_all(&mut self, told: Vec<(usize, Transcript)>)
-        ensures { (scripts : List Script) (book : List Committed)
-            → All (λ (t : ℕ × List ℕ). IsToldOf scripts book t.0 t.1) told.items
-            → IsBoard scripts self.old book → IsBoard scripts self.new book }
+    /// Puts each of them in its place; whether all of these were empty.
+    pub(crate) fn place_all(&mut self, told: Vec<Told>) -> bool
+        ensures { IsTrue result → (scripts : List (List Line)) (book : List Committed) (more count : ℕ)
+            → AreToldOf scripts book told.items more → IsBoard scripts self.old book count
+            → IsBoard scripts self.new book (count + more) }
     {
         let mut told = told;
         'told: while told.len() > 0 {
-            if let Some((at, text)) = told.pop() {
-                self.place(at, text);
+            if let Some(last) = told.pop() {
+                if !self.place(last) {
+                    return false;
+                }
             }
         }
+        true
+    }
+
+    /// Whether the refusal 2 that a transcript ends with, if one does, has its cause: that the device has failed.
+    pub(crate) fn has_cause(&self, has_failed: bool) -> bool
+        ensures { IsTrue result → self.now.has_failed ≡ true → has_failed ≡ true }
+    {
+        has_failed || !self.has_failed
     }
 
     /// Whether each place has its transcript.

@@ -1,14 +1,16 @@
 // Scripts, served to a device by threads that share a kernel.
-ghost use Rattle.std.specs.Prelude.{◌≡◌, ◌⊎◌, ◌<◌, ◌≤◌, ◌^◌, ℕ, List, All, IfOk, IfErr, length};
+ghost use Rattle.std.specs.Prelude.{◌≡◌, ◌<◌, ◌≤◌, ◌^◌, [], ℕ, List, All, IfErr, IfOk, length, map};
 ghost use mathlib.Core.List.{IsPrefix};
-ghost use Rattle.mt_base.specs.declared.refusal.Refusal.{Refusal};
 ghost use Rattle.mt_mark.specs.Rule.{dones};
 ghost use Rattle.mt_model.specs.declared.history.Committed.{Committed};
 ghost use Rattle.mt_server.specs.Crews.{IsBlank, IsBoard};
 ghost use Rattle.mt_server.specs.Heard.{AreTold};
-ghost use Rattle.mt_server.specs.Serves.{IsBaseOf, IsServedOn};
+ghost use Rattle.mt_server.specs.Serves.{IsBaseOf, IsLate, IsServedOn, IsUnopened, IsUnserved};
+ghost use Rattle.mt_server.specs.Sessions.{lines_in};
 ghost use Rattle.mt_shared.specs.Began.{BeganOn};
 ghost use Rattle.mt_shared.specs.Seen.{PassSeen};
+ghost use Rattle.mt_shared.specs.Whole.{all_own};
+ghost use Rattle.mt_txn.specs.Shown.{is_failed};
 
 use crate::crew::{crew, gather};
 use crate::placing::{Board, blank};
@@ -49,10 +51,13 @@ fn close<D: Device + Drop, G: Gate + Drop, J: Naming>(
     scripts: &[Script],
     board: Board,
 ) -> Result<Served<D>, Refusal>
+    requires first { J.book ≡ [] }
     requires placed { (book : List Committed) → All (λ (p : PassSeen). IsPrefix (dones p.seen) book) passes.items
-        → IsBoard scripts.now board book }
-    ensures told { IfOk result (λ s. AreTold scripts.now s.transcripts.items s.kernel.parts.book.items) }
+        → IsBoard (map lines_in scripts.now) board book (all_own passes.items) }
+    ensures told { IfOk result (λ s.
+        AreTold (is_failed s.kernel) (map lines_in scripts.now) s.transcripts.items s.kernel.parts.book.items) }
     ensures began { IfOk result (λ s. BeganOn D.seen D.may_leave J.base s.kernel) }
+    ensures late { IfErr result IsLate }
 {
     match shared.close(passes) {
         Ok(kernel) => {
@@ -60,7 +65,15 @@ fn close<D: Device + Drop, G: Gate + Drop, J: Naming>(
                 drop(kernel.into_device());
                 return Err(Refusal::NoMemory);
             }
-            let Board { texts, filled: _ } = board;
+            if !board.has_cause(kernel.has_failed()) {
+                drop(kernel.into_device());
+                return Err(Refusal::DeviceFailed);
+            }
+            let Board {
+                texts,
+                filled: _,
+                has_failed: _,
+            } = board;
             Ok(Served {
                 kernel,
                 transcripts: texts,
@@ -94,11 +107,14 @@ fn serve_named<
     board: Board,
     gate: G,
 ) -> Result<Served<D>, Refusal>
-    requires name { (opened.mark ≡ J.mark) × (opened.base ≡ J.base) }
+    requires name { (opened.mark ≡ J.mark) × (opened.base ≡ J.base) × (opened.book ≡ J.book) }
+    requires first { opened.book ≡ [] }
     requires few { length scripts.now ≤ 64 }
     requires blank { IsBlank (length scripts.now) board }
-    ensures told { IfOk result (λ s. AreTold scripts.now s.transcripts.items s.kernel.parts.book.items) }
+    ensures told { IfOk result (λ s.
+        AreTold (is_failed s.kernel) (map lines_in scripts.now) s.transcripts.items s.kernel.parts.book.items) }
     ensures began { IfOk result (λ s. BeganOn D.seen D.may_leave opened.base s.kernel) }
+    ensures late { IfErr result IsLate }
 {
     let (shared, passes) = match opened.named::<G, J>(alloc, gate) {
         Ok(made) => made,
@@ -132,7 +148,9 @@ fn open_for<D: Device + Drop>(
     workers: usize,
 ) -> Result<Opened<D>, Refusal>
     requires few { workers < 2 ^ 32 }
-    ensures { IfOk result (λ opened. IsBaseOf (D.seen device) opened.base) }
+    ensures base { IfOk result (λ opened. IsBaseOf (D.seen device) opened.base) }
+    ensures first { IfOk result (λ opened. opened.book ≡ []) }
+    ensures refused { IfErr result (IsUnopened (D.seen device)) }
 {
     let mut kernel = match open(alloc, device, frames) {
         Ok(kernel) => kernel,
@@ -172,9 +190,9 @@ fn open_for<D: Device + Drop>(
 ///
 /// There are as many workers as are asked for, of 1 to 64. At each point that the gate wants to be told of, it is.
 ///
-/// Refused, in this order: 5 where there are more than [`MAX_SESSIONS`] scripts, then as [`open`](mt_restart::open). After
-/// that 1 where a transcript found no memory, and what was committed stands; and 2 where a rotation left no kernel. A
-/// refusal lets the device go.
+/// Refused, in this order: 5 if and only if there are more than [`MAX_SESSIONS`] scripts, then as
+/// [`open`](mt_restart::open). After that 1 where a transcript found no memory, and what was committed stands; and 2 where
+/// a rotation left no kernel. Where the kernel cannot be closed, that refusal. A refusal lets the device go.
 pub fn serve<D: Device + Drop + Send, G: Gate + Drop + Send + Sync, R: Threads + Wait + Sync>(
     rt: &R,
     alloc: Global,
@@ -184,14 +202,21 @@ pub fn serve<D: Device + Drop + Send, G: Gate + Drop + Send + Sync, R: Threads +
     workers: usize,
     gate: G,
 ) -> Result<Served<D>, Refusal>
-    ensures told { IfOk result (λ s. AreTold scripts.items s.transcripts.items s.kernel.parts.book.items) }
+    ensures told { IfOk result (λ s.
+        AreTold (is_failed s.kernel) (map lines_in scripts.items) s.transcripts.items s.kernel.parts.book.items) }
     ensures began { IfOk result (λ s. IsServedOn D.seen D.may_leave (D.seen device) s.kernel) }
     ensures few { IfOk result (λ _. length scripts.items ≤ 64) }
+    ensures refused { IfErr result (IsUnserved (D.seen device) (length scripts.items)) }
 {
     if scripts.len() > MAX_SESSIONS {
         return Err(Refusal::BadLength);
     }
-    let board = blank(alloc, scripts.len())?;
-    let opened = open_for(alloc, device, frames, workers.clamp(1, MAX_WORKERS))?;
+    let Ok(board) = blank(alloc, scripts.len()) else {
+        return Err(Refusal::NoMemory);
+    };
+    let opened = match open_for(alloc, device, frames, workers.clamp(1, MAX_WORKERS)) {
+        Ok(opened) => opened,
+        Err(why) => return Err(why),
+    };
     serve_named::<D, G, Brand, R>(rt, alloc, opened, frames, scripts.as_slice(), board, gate)
 }

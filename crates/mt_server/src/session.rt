@@ -13,7 +13,7 @@ use mt_base::Refusal;
 use mt_disk::Device;
 use mt_script::{Line, Script};
 use mt_shared::{Gate, Naming, Pass, Shared};
-use std::alloc::Global;
+use std::alloc::{AllocError, Global};
 use std::sync::Wait;
 
 /// Whether a line begins a transaction.
@@ -46,9 +46,10 @@ fn go_from<D: Device, G: Gate + Drop, J: Naming, R: Wait>(
     Ok(Ran::Ended(1))
 }
 
-/// Runs a session: its script's lines in their order, each with its answer.
+/// Runs a session: its script's lines in their order, each with its answer. Answers its transcript, and whether the device
+/// has failed, which is its last answer then.
 ///
-/// Refused with 1 where an answer found no memory. What is committed stands, and nothing is open then.
+/// The only error is that an answer found no memory. What is committed stands, and nothing is open then.
 pub(crate) fn run_session<D: Device, G: Gate + Drop, J: Naming, R: Wait>(
     rt: &R,
     alloc: Global,
@@ -56,21 +57,22 @@ pub(crate) fn run_session<D: Device, G: Gate + Drop, J: Naming, R: Wait>(
     pass: &mut Pass<J>,
     session: u32,
     script: &Script,
-) -> Result<Transcript, Refusal>
-    ensures { IfOk result (λ text. IsSession J.base session (lines_in script.now) text pass.old pass.new) }
+) -> Result<(Transcript, bool), AllocError>
+    ensures { IfOk result (λ told.
+        IsSession told.1 J.base session (lines_in script.now) told.0 pass.old pass.new) }
 {
     let lines = script.lines();
     let mut out = Vec::new(alloc);
     let mut at = 0;
     'lines: for _ in rt.forever() {
         if at >= lines.len() {
-            return Ok(Transcript::new(out));
+            return Ok((Transcript::new(out), false));
         }
         match go_from(rt, alloc, shared, pass, session, lines, at, &mut out) {
             Ok(Ran::Ended(count)) => at += count,
-            Ok(Ran::AtEnd) => return Ok(Transcript::new(out)),
-            Err(Stop::Failed) => return Ok(Transcript::new(out)),
-            Err(Stop::Died | Stop::Unheard) => return Err(Refusal::NoMemory),
+            Ok(Ran::AtEnd) => return Ok((Transcript::new(out), false)),
+            Err(Stop::Failed) => return Ok((Transcript::new(out), true)),
+            Err(Stop::Died | Stop::Unheard) => return Err(AllocError),
         }
     }
     unreachable!()

@@ -1,4 +1,6 @@
 pub mod Books
+pub mod Counts
+pub mod Idle
 pub mod Keeping
 pub mod Oks
 pub mod Sets

@@ -2,4 +2,5 @@ pub mod Began
 pub mod Names
 pub mod Refusals
 pub mod Seen
+pub mod Turns
 pub mod Whole

@@ -1,4 +1,4 @@
--- Why a log is not turned over.
+-- Which refusals a call of what is shared has.
 use Rattle.std.specs.Prelude.{⊤}
 use Rattle.mt_base.specs.declared.refusal.Refusal.{Refusal}
 use Rattle.mt_base.specs.declared.refusal.Refusal.TheVariants as refusal
@@ -14,3 +14,10 @@ IsTurnFault _ = ⊥
 abbrev pub IsTurnRefusal : Refusal → Type 0
 IsTurnRefusal refusal.Busy = ⊤
 IsTurnRefusal why = IsTurnFault why
+
+-- 2, 15 or 16
+abbrev pub IsCloseRefusal : Refusal → Type 0
+IsCloseRefusal refusal.DeviceFailed = ⊤
+IsCloseRefusal refusal.Stranger = ⊤
+IsCloseRefusal refusal.Busy = ⊤
+IsCloseRefusal _ = ⊥

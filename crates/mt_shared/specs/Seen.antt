@@ -1,9 +1,9 @@
 -- What contracts see of a pass and of the locked kernel.
-use Rattle.std.specs.Prelude.{◌≡◌, ◌≢◌, ◌⊎◌, Bool, true, false, Result, Ok, Err, ℕ, ◌+◌, List, [], ◌∷◌, ◌++◌, length, take, slice_get, Some, All}
+use Rattle.std.specs.Prelude.{◌≡◌, ◌≢◌, ◌≤◌, ◌⊎◌, Bool, true, false, Result, Ok, Err, ℕ, ◌+◌, List, [], ◌∷◌, ◌++◌, length, take, slice_get, Some, All}
 use Rattle.atomic_table.specs.Seated.{TableId}
 use Rattle.mt_mark.specs.Held.{Held}
 use Rattle.mt_mark.specs.Legal.{IsLegal}
-use Rattle.mt_mark.specs.Rule.{dones, IsConfirmed, NoneBy}
+use Rattle.mt_mark.specs.Rule.{dones, labelled, IsConfirmed, NoneBy}
 use Rattle.mt_mark.specs.declared.view.Entry.{Entry}
 use Rattle.mt_model.specs.declared.history.Committed.{Committed}
 use Rattle.mt_model.specs.declared.operations.Op.{Op}
@@ -68,12 +68,14 @@ pub record Beside (end seat : Held) : Type 0 where
   pub mark : seat.mark ≡ end.mark
   pub base : seat.view.base ≡ end.view.base
   pub list : seat.view.list ≡ end.view.list
+  pub above : 1 ≤ seat.view.number
 
 -- an end and seats of one mark, about a kernel: its history is the book
 pub record IsMarked (kernel : BasedSeen) (end : Held) (seats : List Held) : Type 0 where
   pub base : end.view.base ≡ kernel.base
   pub confirmed : IsConfirmed end.view
-  pub book : dones end.view.list ≡ kernel.book
+  pub list : end.view.list ≡ labelled kernel.book
+  pub book : end.view.book ≡ kernel.book
   pub seats_are : All (Beside end) seats
 
 -- the base that a kernel began on, its book of durable transactions, and whether a rotation left no more of it

@@ -1,8 +1,11 @@
 // A kernel beside the base that it began on.
-ghost use Rattle.std.specs.Prelude.{◌≡◌};
+ghost use Rattle.std.specs.Prelude.{◌≡◌, false, IfOk, IfErr, IsTrue};
 ghost use mathlib.Core.List.{IsPrefix};
 ghost use Rattle.mt_mark.specs.Legal.{IsLegal};
-ghost use Rattle.mt_shared.specs.Began.{BeganOn};
+ghost use Rattle.mt_shared.specs.Began.{BeganOn, IsIdle};
+ghost use Rattle.mt_shared.specs.Turns.{IsUseOn};
+ghost use Rattle.mt_txn.specs.Shown.{is_failed};
+ghost use Rattle.mt_txn.specs.Turned.{HasNobody};
 
 use crate::log_use::{LogUse, log_use_of};
 use mt_base::{History, Refusal, TxnNo};
@@ -49,6 +52,20 @@ impl<D: Device> Based<D> {
         kernel
     }
 
+    // The kernel, if it has failed or nobody lives in it; or all as it was.
+    pub(crate) fn into_idle(self) -> Result<Kernel<D>, Based<D>>
+        ensures began { IfOk result (BeganOn D.seen D.may_leave self.base) }
+        ensures book { IfOk result (λ k. k.parts.book.items ≡ self.book) }
+        ensures idle { IfOk result (λ k. is_failed k ≡ false → IsIdle k) }
+        ensures same { IfErr result (λ k. k ≡ self) }
+    {
+        if !has_ended(&self.kernel) {
+            return Err(self);
+        }
+        let Based { kernel, base: _ } = self;
+        Ok(kernel)
+    }
+
     pub(crate) fn book(&self) -> &[Committed]
         ensures book { result.now ≡ self.now.book }
         ensures legal { IsLegal self.now.base self.now.book }
@@ -62,7 +79,9 @@ impl<D: Device> Based<D> {
     }
 
     // How much of the log's area is in use.
-    pub(crate) fn log_use(&self) -> LogUse {
+    pub(crate) fn log_use(&self) -> LogUse
+        ensures { IsUseOn ⟦<D as Device>⟧ self.now.base result }
+    {
         log_use_of(&self.kernel)
     }
 
@@ -114,4 +133,11 @@ impl<D: Device> Based<D> {
     {
         self.kernel.abort_step(txn)
     }
+}
+
+// Whether a kernel has failed, or nobody lives in it.
+fn has_ended<D: Device>(kernel: &Kernel<D>) -> bool
+    ensures { IsTrue result → is_failed kernel.now ≡ false → HasNobody kernel.now }
+{
+    kernel.has_failed() || kernel.has_nobody()
 }

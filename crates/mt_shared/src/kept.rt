@@ -1,10 +1,12 @@
 // A kernel under the lock, or what a rotation left of it.
-ghost use Rattle.std.specs.Prelude.{◌≡◌, true, false, length, IfOk, IfErr, IfSome, IfNone};
+ghost use Rattle.std.specs.Prelude.{◌≡◌, Ok, true, false, length, IfOk, IfErr, IfSome, IfNone};
 ghost use mathlib.Core.List.{IsPrefix};
 ghost use Rattle.mt_mark.specs.Legal.{IsLegal};
-ghost use Rattle.mt_shared.specs.Began.{BeganOn};
+ghost use Rattle.mt_shared.specs.Began.{BeganOn, IsIdle};
+ghost use Rattle.mt_txn.specs.Shown.{is_failed};
 ghost use Rattle.mt_shared.specs.Refusals.{IsTurnFault};
 ghost use Rattle.mt_shared.specs.Seen.{IsTurned};
+ghost use Rattle.mt_shared.specs.Turns.{HasTurned, IsUseOn};
 
 use crate::based::Based;
 use crate::log_use::LogUse;
@@ -58,6 +60,33 @@ impl<D: Device> Kept<D> {
         }
     }
 
+    // The kernel, if it has failed or nobody lives in it; or all as it was.
+    pub(crate) fn into_idle(self) -> Result<Kernel<D>, Kept<D>>
+        ensures began { IfOk result (BeganOn D.seen D.may_leave self.base) }
+        ensures book { IfOk result (λ k. k.parts.book.items ≡ self.book) }
+        ensures idle { IfOk result (λ k. is_failed k ≡ false → IsIdle k) }
+        ensures same { IfErr result (λ k. k ≡ self) }
+    {
+        let Kept { held, past } = self;
+        match held {
+            Ok(kernel) => match kernel.into_idle() {
+                Ok(kernel) => Ok(kernel),
+                Err(kernel) => {
+                    Err(Kept {
+                        held: Ok(kernel),
+                        past,
+                    })
+                }
+            },
+            Err(device) => {
+                Err(Kept {
+                    held: Err(device),
+                    past,
+                })
+            }
+        }
+    }
+
     // Whether a rotation left none.
     pub(crate) fn is_left(&self) -> bool
         ensures { result ≡ self.now.is_left }
@@ -90,7 +119,9 @@ impl<D: Device> Kept<D> {
     }
 
     // How much of the log's area is in use; none where a rotation left no kernel.
-    pub(crate) fn log_use(&self) -> Option<LogUse> {
+    pub(crate) fn log_use(&self) -> Option<LogUse>
+        ensures { IfSome result (IsUseOn ⟦<D as Device>⟧ self.now.base) }
+    {
         match &self.held {
             Ok(kernel) => Some(kernel.log_use()),
             Err(_) => None,
@@ -191,6 +222,7 @@ impl<D: Device + Drop> Kept<D> {
     ) -> Result<bool, Refusal>
         ensures turned { IsTurned commits self.old self.new }
         ensures why { IfErr result IsTurnFault }
+        ensures did { result ≡ Ok true → HasTurned ⟦<D as Device>⟧ self.old.base }
     {
         if self.is_left() {
             return Err(Refusal::DeviceFailed);

@@ -13,6 +13,7 @@
 #![tactic(auto)]
 
 mod based;
+mod closing;
 mod gate;
 mod kept;
 mod locked;

@@ -1,12 +1,15 @@
-ghost use Rattle.std.specs.Prelude.{◌≡◌, ◌+◌, ◌++◌, ◌∷◌, [], ◌≤◌, length, OnOk, IfOk, IfErr, IfNone, IsTrue, ◌↔◌, slice_get, Some, All, true};
+ghost use Rattle.std.specs.Prelude.{◌≡◌, ◌+◌, ◌++◌, ◌∷◌, [], ◌≤◌, false, length, OnOk, IfOk, IfErr, IfNone, IfSome, Ok, IsTrue, ◌↔◌, slice_get, Some, All, true};
 ghost use mathlib.Core.List.{IsPrefix};
 ghost use Rattle.mt_mark.specs.Legal.{IsLegal};
 ghost use Rattle.mt_mark.specs.Rule.{dones, Holds};
-ghost use Rattle.mt_shared.specs.Began.{BeganOn};
-ghost use Rattle.mt_shared.specs.Refusals.{IsTurnFault};
+ghost use Rattle.mt_shared.specs.Began.{BeganOn, IsIdle};
+ghost use Rattle.mt_shared.specs.Refusals.{IsCloseRefusal, IsTurnFault};
 ghost use Rattle.mt_shared.specs.Seen.{PassSeen, Entered, CannotEnter};
-ghost use Rattle.mt_shared.specs.Whole.{HasAllOf, IsWhole};
+ghost use Rattle.mt_shared.specs.Turns.{HasTurned, IsUseOn};
+ghost use Rattle.mt_txn.specs.Shown.{is_failed};
+ghost use Rattle.mt_shared.specs.Whole.{HasAllOf, IsOfAll, IsWhole, all_own};
 
+use crate::closing::{are_all, meet_all};
 use crate::kept::Kept;
 use crate::log_use::LogUse;
 use crate::naming::Naming;
@@ -44,6 +47,13 @@ pub struct Locked<D: Device, J: Naming> {
     pub(crate) of: PhantomData<J>,
 }
 
+// A close that was refused, with all that was handed in.
+pub(crate) struct Unclosed<D: Device, J: Naming> {
+    pub(crate) why: Refusal,
+    pub(crate) locked: Locked<D, J>,
+    pub(crate) passes: Vec<Pass<J>>,
+}
+
 impl<D: Device, J: Naming> Model for Locked<D, J> {
     ghost use Rattle.std.specs.Prelude.{◌≡◌, true};
     ghost use mathlib.Core.List.{IsPrefix};
@@ -54,7 +64,7 @@ impl<D: Device, J: Naming> Model for Locked<D, J> {
 
     ghost view = { λ l. record { book = l.kernel.book; list = l.end.view.list; is_left = l.kernel.is_left } };
 
-    ghost invariant = { λ l. (l.end.mark ≡ J.mark) × (l.end.view.base ≡ J.base) × (l.kernel.base ≡ J.base) × IsConfirmed l.end.view × IsPrefix (dones l.end.view.list) l.kernel.book × (l.kernel.is_left ≡ true → l.kernel.book ≡ dones l.end.view.list) };
+    ghost invariant = { λ l. (l.end.mark ≡ J.mark) × (l.end.view.base ≡ J.base) × (l.kernel.base ≡ J.base) × IsConfirmed l.end.view × IsPrefix (dones l.end.view.list) l.kernel.book × (l.kernel.is_left ≡ true → l.kernel.book ≡ dones l.end.view.list) × (l.end.view.book ≡ J.book) };
 }
 
 impl<D: Device, J: Naming> Locked<D, J> {
@@ -167,12 +177,18 @@ impl<D: Device, J: Naming> Locked<D, J> {
     }
 
     // Why this cannot be closed, if it cannot. Each durable transaction is entered by its pass, and is waited for.
-    pub(crate) fn close_cause(&mut self) -> Option<Refusal>
+    fn close_cause(&mut self, passes: &[Pass<J>]) -> Option<Refusal>
         ensures same { self.new ≡ self.old }
         ensures whole { IfNone result (IsWhole self.old) }
+        ensures all { IfNone result (IsOfAll J.book passes.now self.old.list) }
+        ensures why { IfSome result IsCloseRefusal }
     {
         let entered = self.end.check();
-        if self.kernel.is_left() {
+        if !are_all(self.end.passes(), passes) {
+            Some(Refusal::Stranger)
+        } else if passes.iter().any(|p| p.is_busy) {
+            Some(Refusal::Busy)
+        } else if self.kernel.is_left() {
             Some(Refusal::DeviceFailed)
         } else if entered != self.kernel.len() {
             Some(Refusal::Busy)
@@ -181,41 +197,73 @@ impl<D: Device, J: Naming> Locked<D, J> {
         }
     }
 
-    // What a pass has seen begins the history, which has no further entry of its own.
-    fn meet(&mut self, mut pass: Pass<J>)
-        ensures own { Holds pass.number pass.seen self.old.list }
-        ensures same { self.new ≡ self.old }
+    // The kernel of what is whole, which each pass meets; or all as it was, where a transaction lives in a kernel that has
+    // not failed.
+    fn into_met(self, passes: Vec<Pass<J>>) -> Result<Kernel<D>, Unclosed<D, J>>
+        requires whole { IsWhole self }
+        requires all { IsOfAll J.book passes.items self.list }
+        ensures own { IfOk result (λ k. HasAllOf k.parts.book.items passes.items) }
+        ensures count { IfOk result (λ k. length k.parts.book.items ≡ length J.book + all_own passes.items) }
+        ensures began { IfOk result (BeganOn D.seen D.may_leave J.base) }
+        ensures idle { IfOk result (λ k. is_failed k ≡ false → IsIdle k) }
+        ensures why { IfErr result (λ u. IsCloseRefusal u.why) }
+        ensures back { IfErr result (λ u. u.passes.items ≡ passes.items) }
     {
-        pass.seat.meet(&mut self.end);
-    }
-
-    pub(crate) fn meet_all(&mut self, mut passes: Vec<Pass<J>>)
-        ensures own { All (λ (p : PassSeen). Holds p.number p.seen self.old.list) passes.items }
-        ensures same { self.new ≡ self.old }
-    {
-        'passes: while passes.len() > 0 {
-            if let Some(pass) = passes.pop() {
-                self.meet(pass);
+        let Locked {
+            kernel,
+            end,
+            holding,
+            due,
+            of,
+        } = self;
+        match kernel.into_idle() {
+            Ok(kernel) => {
+                meet_all(end, passes);
+                Ok(kernel)
+            }
+            Err(kernel) => {
+                let locked = Locked {
+                    kernel,
+                    end,
+                    holding,
+                    due,
+                    of,
+                };
+                Err(Unclosed {
+                    why: Refusal::Busy,
+                    locked,
+                    passes,
+                })
             }
         }
     }
 
-    // The kernel of what is whole, which each pass meets.
-    pub(crate) fn into_met(self, passes: Vec<Pass<J>>) -> Kernel<D>
-        requires { IsWhole self }
-        ensures own { HasAllOf result.parts.book.items passes.items }
-        ensures began { BeganOn D.seen D.may_leave J.base result }
+    // The kernel, once these are all passes and none has a transaction; or all as it was, and why.
+    pub(crate) fn close(self, passes: Vec<Pass<J>>) -> Result<Kernel<D>, Unclosed<D, J>>
+        ensures own { IfOk result (λ k. HasAllOf k.parts.book.items passes.items) }
+        ensures count { IfOk result (λ k. length k.parts.book.items ≡ length J.book + all_own passes.items) }
+        ensures began { IfOk result (BeganOn D.seen D.may_leave J.base) }
+        ensures idle { IfOk result (λ k. is_failed k ≡ false → IsIdle k) }
+        ensures why { IfErr result (λ u. IsCloseRefusal u.why) }
+        ensures back { IfErr result (λ u. u.passes.items ≡ passes.items) }
     {
-        let mut met = self;
-        met.meet_all(passes);
-        match met.into_kernel() {
-            Ok(kernel) => kernel,
-            Err(_) => unreachable!(),
+        let mut locked = self;
+        match locked.close_cause(passes.as_slice()) {
+            None => locked.into_met(passes),
+            Some(why) => {
+                Err(Unclosed {
+                    why,
+                    locked,
+                    passes,
+                })
+            }
         }
     }
 
     // How much of the log's area is in use.
-    pub(crate) fn log_use(&self) -> Option<LogUse> {
+    pub(crate) fn log_use(&self) -> Option<LogUse>
+        ensures { IfSome result (IsUseOn ⟦<D as Device>⟧ J.base) }
+    {
         self.kernel.log_use()
     }
 
@@ -290,6 +338,7 @@ impl<D: Device + Drop, J: Naming> Locked<D, J> {
     // Turns the log over, where each transaction of the book is entered and none lives; whether it did.
     pub(crate) fn rotate(&mut self, alloc: Global, frames: usize) -> Result<bool, Refusal>
         ensures why { IfErr result IsTurnFault }
+        ensures did { result ≡ Ok true → HasTurned ⟦<D as Device>⟧ J.base }
         ensures book { self.new.book ≡ self.old.book }
         ensures list { self.new.list ≡ self.old.list }
     {

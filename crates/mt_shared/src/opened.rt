@@ -1,7 +1,8 @@
 ghost use Rattle.std.specs.Prelude.{◌≡◌, ◌<◌, ◌^◌, All, IfOk, IfErr, vec_len};
-ghost use Rattle.mt_mark.specs.Rule.{dones};
+ghost use Rattle.mt_mark.specs.Rule.{dones, labelled};
 ghost use Rattle.mt_shared.specs.Began.{BeganOn};
 ghost use Rattle.mt_shared.specs.Seen.{PassSeen, OpenedSeen, Beside, IsMarked};
+ghost use Rattle.mt_shared.specs.Whole.{IsNew};
 
 use crate::based::Based;
 use crate::gate::Gate;
@@ -28,7 +29,7 @@ pub struct Opened<D: Device> {
 
 impl<D: Device> Model for Opened<D> {
     ghost use Rattle.std.specs.Prelude.{◌≡◌, All};
-    ghost use Rattle.mt_mark.specs.Rule.{dones, IsConfirmed};
+    ghost use Rattle.mt_mark.specs.Rule.{labelled, IsConfirmed};
     ghost use Rattle.mt_mark.specs.Held.{Held};
     ghost use Rattle.mt_shared.specs.Seen.{OpenedSeen, Beside};
 
@@ -36,7 +37,7 @@ impl<D: Device> Model for Opened<D> {
 
     ghost view = { λ o. record { mark = o.end.mark; base = o.kernel.base; book = o.kernel.book } };
 
-    ghost invariant = { λ o. (o.end.view.base ≡ o.kernel.base) × IsConfirmed o.end.view × (dones o.end.view.list ≡ o.kernel.book) × All (Beside o.end) o.seats.items };
+    ghost invariant = { λ o. (o.end.view.base ≡ o.kernel.base) × IsConfirmed o.end.view × (o.end.view.list ≡ labelled o.kernel.book) × (o.end.view.book ≡ o.kernel.book) × All (Beside o.end) o.seats.items };
 }
 
 impl<D: Device> Opened<D> {
@@ -63,19 +64,20 @@ impl<D: Device> Opened<D> {
         }
     }
 
-    /// The same under a name, shared, with its passes. Where memory is short, the kernel comes back.
+    /// The same under a name, shared, with its passes. Each has seen the book, in which nothing is its own. Where memory
+    /// is short, the kernel comes back.
     pub fn named<G: Gate + Drop, J: Naming>(
         self,
         alloc: Global,
         gate: G,
     ) -> Result<(Shared<D, G, J>, Vec<Pass<J>>), Kernel<D>>
-        requires name { (self.mark ≡ J.mark) × (self.base ≡ J.base) }
+        requires name { (self.mark ≡ J.mark) × (self.base ≡ J.base) × (self.book ≡ J.book) }
         ensures passes { IfOk result (λ r. All (λ (p : PassSeen). dones p.seen ≡ self.book) r.1.items) }
+        ensures fresh { IfOk result (λ r. All (IsNew J.book) r.1.items) }
         ensures err { IfErr result (λ k. k.parts.book.items ≡ self.book) }
         ensures began { IfErr result (λ k. BeganOn D.seen D.may_leave self.base k) }
     {
         let Opened { kernel, end, seats } = self;
-        let count = seats.len();
         let Ok(passes) = passes_of::<J>(alloc, &end, seats) else {
             return Err(kernel.into_kernel());
         };
@@ -86,7 +88,7 @@ impl<D: Device> Opened<D> {
             due: Due::Work,
             of: PhantomData,
         };
-        let shared = Shared::over(locked, gate, count);
+        let shared = Shared::over(locked, gate);
         Ok((shared, passes))
     }
 }
@@ -133,8 +135,9 @@ fn passes_of<J: Naming>(
     mut seats: Vec<Seat>,
 ) -> Result<Vec<Pass<J>>, AllocError>
     requires name { (end.now.mark ≡ J.mark) × (end.now.view.base ≡ J.base) }
+    requires list { end.now.view.list ≡ labelled J.book }
     requires seats { All (Beside end.now) seats.items }
-    ensures { IfOk result (λ v. All (λ (p : PassSeen). p.seen ≡ end.now.view.list) v.items) }
+    ensures { IfOk result (λ v. All (IsNew J.book) v.items) }
 {
     let mut passes = Vec::with_capacity(alloc, seats.len())?;
     'seats: while let Some(seat) = seats.pop() {
@@ -145,8 +148,9 @@ fn passes_of<J: Naming>(
 
 fn pass_of<J: Naming>(end: &End, seat: Seat) -> Pass<J>
     requires name { (end.now.mark ≡ J.mark) × (end.now.view.base ≡ J.base) }
+    requires list { end.now.view.list ≡ labelled J.book }
     requires seat { Beside end.now seat }
-    ensures { result.seen ≡ end.now.view.list }
+    ensures { IsNew J.book result }
 {
     Pass {
         number: seat.number(),

@@ -1,15 +1,17 @@
-ghost use Rattle.std.specs.Prelude.{◌≡◌, ◌↔◌, All, None, IfOk, IfErr, OnOk, OnErr, IfSome};
+ghost use Rattle.std.specs.Prelude.{◌≡◌, ◌≢◌, ◌+◌, ◌↔◌, All, false, length, None, IfOk, IfErr, OnOk, OnErr, IfSome};
 ghost use mathlib.Core.List.{IsPrefix};
-ghost use Rattle.mt_base.specs.declared.refusal.Refusal.TheVariants.{DeviceFailed};
+ghost use Rattle.mt_base.specs.declared.refusal.Refusal.TheVariants.{DeviceFailed, Stranger};
 ghost use Rattle.mt_mark.specs.Rule.{dones};
 ghost use Rattle.mt_model.specs.declared.operations.Reply.{Reply};
-ghost use Rattle.mt_shared.specs.Began.{BeganOn};
-ghost use Rattle.mt_shared.specs.Refusals.{IsTurnFault, IsTurnRefusal};
+ghost use Rattle.mt_shared.specs.Began.{BeganOn, IsIdle};
+ghost use Rattle.mt_shared.specs.Refusals.{IsCloseRefusal, IsTurnFault, IsTurnRefusal};
 ghost use Rattle.mt_shared.specs.Seen.{PassSeen, Extends, Looked, fresh, with_call};
-ghost use Rattle.mt_shared.specs.Whole.{HasAllOf};
+ghost use Rattle.mt_shared.specs.Turns.{HasTurned, IsUseOn};
+ghost use Rattle.mt_txn.specs.Shown.{is_failed};
+ghost use Rattle.mt_shared.specs.Whole.{HasAllOf, all_own};
 
 use crate::gate::{Gate, Point, Wanted};
-use crate::locked::{Due, Locked};
+use crate::locked::{Due, Locked, Unclosed};
 use crate::log_use::LogUse;
 use crate::naming::Naming;
 use crate::pass::Pass;
@@ -21,6 +23,11 @@ use mt_pool::Flushed;
 use mt_txn::{AbortStepped, Called, Kernel, KernelForced, Stepped};
 use std::alloc::Global;
 use std::sync::{Condvar, Mutex, MutexGuard, Wait};
+use std::thread;
+
+/// How often who commits lets other threads go on before it forces the log by itself. What they commit meanwhile is forced
+/// with it.
+const TURNS: u32 = 8;
 
 /// A kernel that threads share, with the commit mark beside it: one history for all.
 pub struct Shared<D: Device, G: Gate + Drop, J: Naming> {
@@ -30,7 +37,6 @@ pub struct Shared<D: Device, G: Gate + Drop, J: Naming> {
     due: Condvar,
     gate: G,
     wanted: Wanted,
-    count: usize,
 }
 
 /// A close that was refused, with all that was handed in.
@@ -50,7 +56,7 @@ pub enum Tended {
 }
 
 impl<D: Device, G: Gate + Drop, J: Naming> Shared<D, G, J> {
-    pub(crate) fn over(locked: Locked<D, J>, gate: G, count: usize) -> Shared<D, G, J> {
+    pub(crate) fn over(locked: Locked<D, J>, gate: G) -> Shared<D, G, J> {
         let wanted = Wanted::of(&gate);
         Shared {
             locked: Mutex::new(locked),
@@ -58,7 +64,6 @@ impl<D: Device, G: Gate + Drop, J: Naming> Shared<D, G, J> {
             due: Condvar::new(),
             gate,
             wanted,
-            count,
         }
     }
 
@@ -105,7 +110,6 @@ impl<D: Device, G: Gate + Drop, J: Naming> Shared<D, G, J> {
             due: _,
             gate: _,
             wanted: _,
-            count: _,
         } = self;
         locked.into_inner().into_kernel()
     }
@@ -239,6 +243,8 @@ impl<D: Device, G: Gate + Drop, J: Naming> Shared<D, G, J> {
     /// Refused: 15 where the token is of another pass; 2 where the device failed, and then the token is gone.
     pub fn abort<R: Wait>(&self, rt: &R, pass: &mut Pass<J>, txn: Txn<J>) -> Result<(), Refused<J>>
         ensures same { pass.new ≡ pass.old }
+        ensures own { OnOk result (txn.pass ≡ pass.old.number) }
+        ensures stranger { IfErr result (λ r. txn.pass ≢ pass.old.number → r.why ≡ Stranger) }
         ensures back { IfErr result (λ r. IfSome r.txn (λ t. t ≡ txn)) }
         ensures gone { IfErr result (λ r. (r.txn ≡ None) ↔ (r.why ≡ DeviceFailed)) }
     {
@@ -344,7 +350,9 @@ impl<D: Device, G: Gate + Drop, J: Naming> Shared<D, G, J> {
     }
 
     /// How much of the log's area is in use; none where a rotation left no kernel. It waits for the lock alone.
-    pub fn used<R: Wait>(&self, rt: &R) -> Option<LogUse> {
+    pub fn used<R: Wait>(&self, rt: &R) -> Option<LogUse>
+        ensures { IfSome result (IsUseOn ⟦<D as Device>⟧ J.base) }
+    {
         self.locked.lock(rt).log_use()
     }
 
@@ -370,6 +378,8 @@ impl<D: Device, G: Gate + Drop, J: Naming> Shared<D, G, J> {
     ) -> Result<u64, Refused<J>>
         ensures entered { IfOk result (λ p. Extends J.base pass.old txn p pass.new) }
         ensures same { OnErr result (pass.new ≡ pass.old) }
+        ensures own { OnOk result (txn.pass ≡ pass.old.number) }
+        ensures stranger { IfErr result (λ r. txn.pass ≢ pass.old.number → r.why ≡ Stranger) }
         ensures back { IfErr result (λ r. IfSome r.txn (λ t. t ≡ txn)) }
         ensures gone { IfErr result (λ r. (r.txn ≡ None) ↔ (r.why ≡ DeviceFailed)) }
     {
@@ -415,6 +425,7 @@ impl<D: Device, G: Gate + Drop, J: Naming> Shared<D, G, J> {
     {
         let mut locked = self.locked.lock(rt);
         let mut kept = txn;
+        let mut turns = 0;
         'turns: for _ in rt.forever() {
             match locked.enter(place, pass, kept) {
                 Ok(()) => {
@@ -425,27 +436,47 @@ impl<D: Device, G: Gate + Drop, J: Naming> Shared<D, G, J> {
             }
             if locked.has_booked(place) {
                 locked = self.moved.wait(rt, locked);
+            } else if turns < TURNS {
+                turns += 1;
+                drop(locked);
+                thread::yield_now();
+                locked = self.locked.lock(rt);
             } else {
-                match locked.force_step() {
-                    Ok(KernelForced::More) | Err(Refusal::NoMemory) => {
-                        drop(locked);
-                        locked = self.locked.lock(rt);
-                    }
-                    Ok(KernelForced::Durable(_)) => self.moved.notify_all(),
-                    Ok(KernelForced::Idle) => locked = self.moved.wait(rt, locked),
-                    Err(_) => {
-                        self.wake_all();
-                        return Err(lost(pass, kept));
-                    }
+                match self.force_on(rt, locked) {
+                    Ok(next) => locked = next,
+                    Err(_) => return Err(lost(pass, kept)),
                 }
             }
         }
         unreachable!()
     }
 
+    // Makes a step of a force. The lock is let go between two steps, and where another thread makes it.
+    fn force_on<'a, R: Wait>(
+        &'a self,
+        rt: &R,
+        mut locked: MutexGuard<'a, Locked<D, J>>,
+    ) -> Result<MutexGuard<'a, Locked<D, J>>, Refusal> {
+        match locked.force_step() {
+            Ok(KernelForced::More) | Err(Refusal::NoMemory) => {
+                drop(locked);
+                Ok(self.locked.lock(rt))
+            }
+            Ok(KernelForced::Durable(_)) => {
+                self.moved.notify_all();
+                Ok(locked)
+            }
+            Ok(KernelForced::Idle) => Ok(self.moved.wait(rt, locked)),
+            Err(why) => {
+                self.wake_all();
+                Err(why)
+            }
+        }
+    }
+
     // A close that is refused, with all that was handed in.
     fn still_open(self, why: Refusal, passes: Vec<Pass<J>>) -> Closed<D, G, J>
-        ensures { result.passes ≡ passes }
+        ensures { (result.passes ≡ passes) × (result.why ≡ why) }
     {
         Closed {
             why,
@@ -455,42 +486,44 @@ impl<D: Device, G: Gate + Drop, J: Naming> Shared<D, G, J> {
     }
 
     /// The kernel, once all passes are back and none of them has a transaction. Its book begins with what each pass
-    /// has seen, and has no further transaction of that pass.
+    /// has seen, and has no further transaction of that pass. It has as many as stood when the mark was made and the
+    /// passes have committed together, so no other. Unless it has failed, nobody lives in it, and it holds no lock.
     ///
     /// Refused, in this order, with all that was handed in: 15 where a pass is missing; 16 where one of them has a
-    /// transaction; 2 where a rotation left no kernel; 16 where a durable transaction is not in the history.
+    /// transaction; 2 where a rotation left no kernel; 16 where a durable transaction is not in the history, or one lives in
+    /// a kernel that has not failed.
     pub fn close(self, passes: Vec<Pass<J>>) -> Result<Kernel<D>, Closed<D, G, J>>
         ensures seen { IfOk result (λ k.
             All (λ (p : PassSeen). IsPrefix (dones p.seen) k.parts.book.items) passes.items) }
         ensures own { IfOk result (λ k. HasAllOf k.parts.book.items passes.items) }
+        ensures count { IfOk result (λ k. length k.parts.book.items ≡ length J.book + all_own passes.items) }
         ensures began { IfOk result (λ k. BeganOn D.seen D.may_leave J.base k) }
+        ensures idle { IfOk result (λ k. is_failed k ≡ false → IsIdle k) }
+        ensures why { IfErr result (λ c. IsCloseRefusal c.why) }
         ensures back { IfErr result (λ c. c.passes.items ≡ passes.items) }
     {
-        if passes.len() != self.count {
-            return Err(self.still_open(Refusal::Stranger, passes));
-        }
-        if passes.iter().any(|p| p.is_busy) {
-            return Err(self.still_open(Refusal::Busy, passes));
-        }
         let Shared {
             locked,
             moved,
             due,
             gate,
             wanted,
-            count,
         } = self;
-        let mut locked = locked.into_inner();
-        match locked.close_cause() {
-            None => Ok(locked.into_met(passes)),
-            Some(why) => {
+        match locked.into_inner().close(passes) {
+            Ok(kernel) => Ok(kernel),
+            Err(
+                Unclosed {
+                    why,
+                    locked,
+                    passes,
+                },
+            ) => {
                 let shared = Shared {
                     locked: Mutex::new(locked),
                     moved,
                     due,
                     gate,
                     wanted,
-                    count,
                 };
                 Err(shared.still_open(why, passes))
             }
@@ -506,6 +539,7 @@ impl<D: Device + Drop, G: Gate + Drop, J: Naming> Shared<D, G, J> {
     /// yet in the history. Nothing has changed then. Further as [`mt_restart::rotate`]: 1, 11, 2. Where that gives the
     /// device alone, each later call is refused with 2, and the device is to be opened again.
     pub fn rotate<R: Wait>(&self, rt: &R, alloc: Global, frames: usize) -> Result<(), Refusal>
+        ensures turned { OnOk result (HasTurned ⟦<D as Device>⟧ J.base) }
         ensures why { IfErr result IsTurnRefusal }
     {
         let told = self.locked.lock(rt).rotate(alloc, frames);
@@ -534,6 +568,7 @@ impl<D: Device + Drop, G: Gate + Drop, J: Naming> Shared<D, G, J> {
     ///
     /// Refused as that, but for 16.
     pub fn turn_over<R: Wait>(&self, rt: &R, alloc: Global, frames: usize) -> Result<(), Refusal>
+        ensures turned { OnOk result (HasTurned ⟦<D as Device>⟧ J.base) }
         ensures why { IfErr result IsTurnFault }
     {
         let mut locked = self.locked.lock(rt);

@@ -1,7 +1,8 @@
 // A rotation of a kernel with its base.
-ghost use Rattle.std.specs.Prelude.{◌≡◌, Ok, IfErr};
+ghost use Rattle.std.specs.Prelude.{◌≡◌, Ok, true, false, IfOk, IfErr};
 ghost use Rattle.mt_shared.specs.Seen.{IsTurned, KeepsAll, seen_of, whole};
 ghost use Rattle.mt_shared.specs.Refusals.{IsTurnFault};
+ghost use Rattle.mt_shared.specs.Turns.{HasTurned};
 
 use crate::based::Based;
 use crate::past::{Past, told_of};
@@ -32,7 +33,8 @@ fn kept<D: Device>(kernel: Based<D>, told: Result<bool, Refusal>) -> Turned<D>
 
 // What a refusal with the kernel comes to. But for these, a transaction lives.
 fn outcome(why: Refusal) -> Result<bool, Refusal>
-    ensures { IfErr result IsTurnFault }
+    ensures why { IfErr result IsTurnFault }
+    ensures not { IfOk result (λ did. did ≡ false) }
 {
     match why {
         Refusal::NoMemory | Refusal::DeviceFailed | Refusal::LogFull => Err(why),
@@ -49,6 +51,7 @@ pub(crate) fn turn<D: Device + Drop>(
 ) -> Turned<D>
     ensures turned { IsTurned commits (whole kernel) (seen_of result.held result.past) }
     ensures why { IfErr result.told IsTurnFault }
+    ensures did { result.told ≡ Ok true → HasTurned ⟦<D as Device>⟧ kernel.base }
 {
     if kernel.has_failed() {
         return kept(kernel, Err(Refusal::DeviceFailed));
@@ -62,6 +65,7 @@ pub(crate) fn turn<D: Device + Drop>(
 fn rotated<D: Device + Drop>(kernel: Based<D>, alloc: Global, frames: usize) -> Turned<D>
     ensures keeps { KeepsAll kernel (seen_of result.held result.past) }
     ensures why { IfErr result.told IsTurnFault }
+    ensures did { result.told ≡ Ok true → HasTurned ⟦<D as Device>⟧ kernel.base }
 {
     let book = kernel.book();
     let len = book.len() as u64;

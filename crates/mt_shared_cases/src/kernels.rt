@@ -76,7 +76,7 @@ pub fn shared_of<J: Naming>(
     alloc: Global,
     opened: Opened<MemDevice>,
 ) -> Result<(Memory<J>, Vec<Pass<J>>), Refusal>
-    requires { (opened.mark ≡ J.mark) × (opened.base ≡ J.base) }
+    requires { (opened.mark ≡ J.mark) × (opened.base ≡ J.base) × (opened.book ≡ J.book) }
 {
     match opened.named::<NoGate, J>(alloc, NoGate) {
         Ok(made) => Ok(made),

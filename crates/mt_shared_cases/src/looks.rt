@@ -117,7 +117,7 @@ fn named_looks<J: Naming + Send + Sync, R: Threads + Wait + Clock + Sync>(
     alloc: Global,
     opened: Opened<MemDevice>,
 ) -> Result<((u64, u64), Told), Refusal>
-    requires { (opened.mark ≡ J.mark) × (opened.base ≡ J.base) }
+    requires { (opened.mark ≡ J.mark) × (opened.base ≡ J.base) × (opened.book ≡ J.book) }
 {
     let (shared, passes) = shared_of::<J>(alloc, opened)?;
     let mut passes = passes;

@@ -148,7 +148,7 @@ fn named_rows<J: Naming, R: Wait>(
     alloc: Global,
     opened: Opened<MemDevice>,
 ) -> Result<(bool, Told), Refusal>
-    requires { (opened.mark ≡ J.mark) × (opened.base ≡ J.base) }
+    requires { (opened.mark ≡ J.mark) × (opened.base ≡ J.base) × (opened.book ≡ J.book) }
 {
     let (shared, passes) = shared_of::<J>(alloc, opened)?;
     let mut passes = passes;

@@ -187,7 +187,7 @@ fn named_work<J: Naming + Send + Sync, R: Threads + Wait + Sync>(
     alloc: Global,
     opened: Opened<MemDevice>,
 ) -> Result<(u64, Told), Refusal>
-    requires { (opened.mark ≡ J.mark) × (opened.base ≡ J.base) }
+    requires { (opened.mark ≡ J.mark) × (opened.base ≡ J.base) × (opened.book ≡ J.book) }
 {
     let (shared, passes) = shared_of::<J>(alloc, opened)?;
     let mut passes = passes;

@@ -4,8 +4,12 @@
 use mt_cli::perform_words;
 use mt_folder::DiskFolder;
 use std::env;
+use std::fs::File;
 use std::io::{self, ErrorKind, LineWriter, Write};
 use std::process::ExitCode;
+use std::rt::{Files, Runtime};
+use std::sync::Wait;
+use std::thread::Threads;
 
 /// The status of a program that found no memory for the words of its command line.
 const REFUSED: u8 = 1;
@@ -13,9 +17,13 @@ const REFUSED: u8 = 1;
 /// The status of a command line with a word that is no text.
 const MISUSED: u8 = 2;
 
-/// Does what the command line asks for, with the standard streams and the files of the system, and gives the status. It
-/// fails where a word is not UTF-8, and where there is no memory for the words.
-fn done(rt: &HostRuntime) -> io::Result<u8> {
+/// Does what the command line asks for, with this output and error output and the input and the files of the system, and
+/// gives the status. It fails where a word is not UTF-8, and where there is no memory for the words.
+fn done<
+    R: Runtime + Files<File = File> + AllocGlobal + Threads + Wait + Sync,
+    O: Write + Drop,
+    E: Write,
+>(rt: &R, out: O, err: &mut E) -> io::Result<u8> {
     let alloc = rt.alloc();
     let own: Vec<String> = env::args(rt)?.skip(1).collect(alloc)?;
     let mut words = Vec::with_capacity(alloc, own.len())?;
@@ -25,15 +33,15 @@ fn done(rt: &HostRuntime) -> io::Result<u8> {
     let mut folder = DiskFolder::new(rt);
     let mut input = rt.reader();
     // each line is written out by itself, so that a commit is told of when it is durable
-    let mut out = LineWriter::new(alloc, rt.stdout())?;
-    let mut err = rt.stderr();
+    let mut out = LineWriter::new(alloc, out)?;
     Ok(perform_words(
+        rt,
         alloc,
         words.as_slice(),
         &mut folder,
         &mut input,
         &mut out,
-        &mut err,
+        err,
     ))
 }
 
@@ -52,7 +60,7 @@ fn unread<W: Write>(err: &mut W, why: ErrorKind) -> u8 {
 }
 
 fn main(rt: HostRuntime) -> io::Result<ExitCode> {
-    match done(&rt) {
+    match done(&rt, rt.stdout(), &mut rt.stderr()) {
         Ok(status) => Ok(ExitCode::from(status)),
         Err(fault) => Ok(ExitCode::from(unread(&mut rt.stderr(), fault.kind()))),
     }

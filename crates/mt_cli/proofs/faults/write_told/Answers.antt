@@ -1,4 +1,4 @@
-use Rattle.std.proofs.Common.{[], ◌++◌, ◌≡◌, subst, ap, append-nil, ◌∙◌}
+use Rattle.std.proofs.Common.{[], ◌++◌, subst, ap, append-nil, ◌∙◌}
 use Rattle.std.proofs.lemmas.Result.{err_from_is_err_and, on_err_weaker}
 use Rattle.mt_script.specs.Answers.{AppendsFront}
 use Rattle.mt_script.proofs.TextLemmas.{front_then, front_whole}

@@ -1,18 +1,20 @@
-use Rattle.std.proofs.Common.{ℕ, List, All, subst, sym}
-use mathlib.Core.List.{IsPrefix}
-use Rattle.std.proofs.lemmas.List.Elements.{All-pop, All-push}
-use Rattle.mt_mark.specs.Rule.{dones}
-use Rattle.mt_server.specs.Crews.{AreHeard, IsToldOf}
-use Rattle.mt_server.proofs.CrewLemmas.{all_told_on, pass_pushed, popped}
-use Rattle.mt_shared.specs.Seen.{PassSeen}
+use Rattle.std.proofs.Common.{ℕ, ◌≡◌, ◌+◌, List, All, [], arith, ap, map, subst, sym, refl}
+use Rattle.std.proofs.lemmas.List.Elements.{All-pop}
+use Rattle.mt_server.specs.Crews.{HasDone, IsBoard}
+use Rattle.mt_server.specs.Sessions.{lines_in}
+use Rattle.mt_server.proofs.CrewLemmas.{pass_placed, popped}
+use Rattle.mt_shared.specs.Whole.{all_own}
 use Rattle.mt_server.proofs.crew.gather.Goals as goal
 
-pub crew-preserved-in-Some : goal.crew-preserved-in-Some
-crew-preserved-in-Some g c =
-    let both = popped (λ d. AreHeard c.args.scripts.now d.0 d.1.items) c.crew.done.items c.pop.new.self.items c.pop.result (c.in-Some.pass, c.in-Some.told) c.pop.ensures.items c.in-Some.is c.crew.invariant.heard in
+pub crew-init : goal.crew-init
+crew-init g c = record { heard = c.requires.heard; placed = λ book count seen board. subst (IsBoard (map lines_in c.args.scripts.now) c.args.board.now book) (omega (arith, ap all_own c.in_ok-passes.ensures.items)) board }
+
+pub crew-preserved-else-not-place_all : goal.crew-preserved-else-not-place_all
+crew-preserved-else-not-place_all g c =
+    let scripts = map lines_in c.args.scripts.now in
+    let both = popped (λ d. HasDone scripts d.0 d.1) c.crew.done.items c.pop.new.self.items c.pop.result _ c.pop.ensures.items c.in-Some.is c.crew.invariant.heard in
     record {
       heard = both.0;
-      placed = λ book seen board.
-          let split = pass_pushed book c.crew.passes.items c.push.new.self.items c.in-Some.pass c.in_ok-push.ensures.items seen in
-          c.place_all.ensures c.args.scripts.now book (all_told_on c.args.scripts.now (dones c.in-Some.pass.seen) book c.in-Some.told.items split.1 both.1) (c.crew.invariant.placed book split.0 board);
+      placed = λ book count seen board. pass_placed scripts c.args.board.now c.crew.board c.place_all.new.self book c.crew.passes.items c.push.new.self.items c.in-Some.pass c.in_ok-told.field-0.items count c.in_ok-push.ensures.items seen
+          (λ front was. c.crew.invariant.placed book count front was) (λ more there told now. c.if-not-place_all.ensures refl scripts book more there told now) (subst (HasDone scripts c.in-Some.pass) c.in_ok-told.was both.1) board;
     }

@@ -1,11 +1,17 @@
-use Rattle.std.proofs.Common.{IfOk, subst, sym}
+use Rattle.std.proofs.Common.{arith, IfOk, length, map, subst, sym, ◌∙◌}
+use Rattle.std.proofs.lemmas.List.{length-map}
 use Rattle.mt_model.specs.declared.tables.Base.{Base}
 use Rattle.mt_server.proofs.ServingLemmas.{blank_board}
+use Rattle.mt_server.specs.Crews.{IsBlank, IsBoard}
+use Rattle.mt_server.specs.Sessions.{lines_in}
 use Rattle.mt_shared.specs.Began.{BeganOn}
 use Rattle.mt_server.proofs.serving.serve_named.Goals as goal
 
 pub close-requires : goal.close-requires
-close-requires g c = record { placed = λ book seen. c.in-Ok-gather.ensures book seen (blank_board c.args.scripts.now c.args.board book c.requires.blank) }
+close-requires g c =
+    let scripts = map lines_in c.args.scripts.now in
+    let blank = subst (λ n. IsBlank n c.args.board) (sym (length-map c.args.scripts.now lines_in)) c.requires.blank in
+    record { first = sym c.requires.name.2 ∙ c.requires.first; placed = λ book seen. subst (IsBoard scripts _ book) (omega arith) (c.in-Ok-gather.ensures book 0 seen (blank_board scripts c.args.board book blank)) }
 
 pub returns-in-Ok-gather-clause-began : goal.returns-in-Ok-gather-clause-began
 returns-in-Ok-gather-clause-began g c =

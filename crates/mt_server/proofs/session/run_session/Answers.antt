@@ -1,4 +1,4 @@
-use Rattle.std.proofs.Common.{◌≡◌, ◌+◌, ◌≤◌, ℕ, List, Err, length, drop, arith, ap, refl, subst, sym}
+use Rattle.std.proofs.Common.{false, true, ◌≡◌, ◌+◌, ◌≤◌, ℕ, List, Err, length, drop, arith, ap, refl, subst, sym}
 use Rattle.mt_model.specs.History.{Call}
 use Rattle.mt_script.specs.declared.lines.Line.{Line}
 use Rattle.mt_server.specs.Sessions.{lines_in}
@@ -15,7 +15,7 @@ lines-init g c = (tt, tt, subst (λ (t : List ℕ). Stands g.J.Naming.base c.arg
 
 pub returns-then-at-lines : goal.returns-then-at-lines
 returns-then-at-lines g c =
-    subst (λ (t : List ℕ). IsSession g.J.Naming.base c.args.session (lines_in c.args.script.now) t c.args.pass.now c.lines.pass) (sym c.new.ensures)
+    subst (λ (t : List ℕ). IsSession false g.J.Naming.base c.args.session (lines_in c.args.script.now) t c.args.pass.now c.lines.pass) (sym c.new.ensures)
     (all_answered g.J.Naming.base c.args.session c.args.pass.now (lines_in c.args.script.now) c.lines.at c.lines.out.items c.lines.pass (omega (arith, ap length c.lines-lines.ensures)) c.lines.invariant.2)
 
 pub lines-preserved : goal.lines-preserved
@@ -36,14 +36,14 @@ overflow_add-at g c =
 
 pub returns-in-Ok-AtEnd : goal.returns-in-Ok-AtEnd
 returns-in-Ok-AtEnd g c =
-    subst (λ (t : List ℕ). IsSession g.J.Naming.base c.args.session (lines_in c.args.script.now) t c.args.pass.now c.go_from.new.pass) (sym c.new-in-Ok-AtEnd.ensures)
+    subst (λ (t : List ℕ). IsSession false g.J.Naming.base c.args.session (lines_in c.args.script.now) t c.args.pass.now c.go_from.new.pass) (sym c.new-in-Ok-AtEnd.ensures)
     (aborted_end g.J.Naming.base c.args.session c.args.pass.now (lines_in c.args.script.now) c.lines.at c.lines.out.items c.go_from.new.out.items c.lines.pass c.go_from.new.pass c.lines.invariant.2
     (λ (booked : List (ℕ × List Call)). subst (λ (x : Ran × List Line). HasRan g.J.Naming.base c.args.session (between booked c.lines.pass) (drop c.lines.at x.1) c.lines.out.items c.go_from.new.out.items c.go_from.new.pass x.0)
     (λ i. (c.in-Ok-AtEnd.field-0-is i, c.lines-lines.ensures i)) (c.in-Ok-AtEnd.ensures.runs booked)))
 
 pub returns-in-Err-Failed : goal.returns-in-Err-Failed
 returns-in-Err-Failed g c =
-    subst (λ (t : List ℕ). IsSession g.J.Naming.base c.args.session (lines_in c.args.script.now) t c.args.pass.now c.go_from.new.pass) (sym c.new-in-Err-Failed.ensures)
+    subst (λ (t : List ℕ). IsSession true g.J.Naming.base c.args.session (lines_in c.args.script.now) t c.args.pass.now c.go_from.new.pass) (sym c.new-in-Err-Failed.ensures)
     (failed_end g.J.Naming.base c.args.session c.args.pass.now (lines_in c.args.script.now) c.lines.at c.lines.out.items c.go_from.new.out.items c.lines.pass c.go_from.new.pass c.lines.invariant.2
     (λ (booked : List (ℕ × List Call)). subst (λ (x : Stop × List Line). Running g.J.Naming.base c.args.session (between booked c.lines.pass) (drop c.lines.at x.1) c.lines.out.items c.go_from.new.out.items c.go_from.new.pass (Err x.0))
     (λ i. (c.in-Err-Failed.field-0-is i, c.lines-lines.ensures i)) (c.in-Err-Failed.ensures.runs booked)))

@@ -1,13 +1,15 @@
 use Rattle.std.proofs.Common.{arith, ap, sym, ◌∙◌}
-use Rattle.mt_mark.specs.Rule.{dones}
-use Rattle.mt_mark.proofs.Fronts.{dones-labelled}
+use Rattle.mt_mark.specs.Rule.{labelled}
 use Rattle.mt_shared.proofs.Oks.{three_ok}
 use Rattle.mt_shared.proofs.opened.marked.Goals as goal
 
 pub returns : goal.returns
-returns g c = three_ok _ _ _ _ c.new.result c.new.ensures.end c.new.ensures.count c.new.ensures.seats (λ r end count seats. record {
-  base = end.1 ∙ (c.of.ensures ∙ sym c.requires.base);
-  confirmed = end.2;
-  book = ap dones end.0 ∙ (dones-labelled _ ∙ (ap (λ v. v.items) c.of-2.ensures ∙ (c.in_ok-book.ensures ∙ c.book.ensures.book)));
-  seats_are = λ k d h. let s = seats k d (let n = count in let o = r.1.ok in omega arith) in record { mark = s.mark; base = s.base; list = s.list };
-})
+returns g c = three_ok _ _ _ _ c.new.result c.new.ensures.end c.new.ensures.count c.new.ensures.seats (λ r end count seats.
+    let book = ap (λ v. v.items) c.of-2.ensures ∙ (c.in_ok-book.ensures ∙ c.book.ensures.book) in
+    record {
+      base = end.1 ∙ (c.of.ensures ∙ sym c.requires.base);
+      confirmed = end.3;
+      list = end.0 ∙ ap labelled book;
+      book = end.2 ∙ book;
+      seats_are = λ k d h. let s = seats k d (let n = count in let o = r.1.ok in omega arith) in record { mark = s.mark; base = s.base; list = s.list; above = (let n = s.number in omega arith) };
+    })

@@ -2,7 +2,9 @@ use Rattle.std.proofs.Common.{◌∙◌, ap, subst}
 use Rattle.mt_restart.specs.Rotated.{IsLeft}
 use Rattle.mt_restart.specs.declared.rotating.NotRotated.{NotRotated}
 use Rattle.mt_shared.specs.Began.{BasedSeen, first_base}
+use Rattle.mt_model.specs.Views.{base_of}
 use Rattle.mt_shared.specs.Seen.{seen_of}
+use Rattle.mt_shared.specs.Turns.{IsTurn}
 use Rattle.mt_shared.proofs.Keeping.{turned_began, turned_book}
 use Rattle.mt_shared.proofs.turned.rotated.Goals as goal
 
@@ -35,3 +37,22 @@ returns-in-Err-Kept-clause-keeps g c = let D = g.D.Device in
       base = ap (λ r. (seen_of r past).base) held ∙ ap (λ (x : BasedSeen). x.base) c.kernel.view_is;
       book = ap (λ r. (seen_of r past).book) held ∙ (same ∙ ap (λ (x : BasedSeen). x.book) c.kernel.view_is);
     }
+
+pub returns-in-Ok-clause-did : goal.returns-in-Ok-clause-did
+returns-in-Ok-clause-did g c = let D = g.D.Device in
+    let b = first_base c.kernel.inside.base.items in
+    let k = c.kernel.inside.kernel in
+    let n = c.in-Ok.kernel in
+    let e = c.in-Ok.ensures in
+    let began = c.kernel.invariant in
+    let turn : IsTurn D b = record {
+      was = k;
+      began = began;
+      may = e.may;
+      now = n;
+      begins = turned_began D.seen D.may_leave b k n e.shows e.restarted began;
+      shows = λ s shows. e.shows (base_of b) s began.1 shows;
+      book = turned_book D.seen D.may_leave b k n e.shows began;
+      images = e.begun;
+    } in
+    λ _. ∣ subst (λ (x : BasedSeen). IsTurn D x.base) c.kernel.view_is turn ∣₁

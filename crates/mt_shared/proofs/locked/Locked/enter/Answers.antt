@@ -37,7 +37,7 @@ invariant_of-self-3 g c =
     let list = c.self.inside.end.view.list in
     let f = front book list e e c.check-at.result i.4 s.stands (h.is.0 c.if-not-has.false) refl in
     let now = n.list ∙ ap (λ (x : Held). x.view.list ++ e ∷ []) s.same in
-    (n.mark.0 ∙ (ap (λ (x : Held). x.mark) s.same ∙ i.0), n.end.0.1 ∙ (ap (λ (x : Held). x.view.base) s.same ∙ i.1), i.2, n.end.1, subst (λ l. IsPrefix (dones l) book) (sym now) f, λ left. absurd (none_behind book list c.check-at.result e.done (i.5 left) s.stands (h.is.0 c.if-not-has.false)))
+    (n.mark.0 ∙ (ap (λ (x : Held). x.mark) s.same ∙ i.0), n.end.0.1 ∙ (ap (λ (x : Held). x.view.base) s.same ∙ i.1), i.2, n.end.1, subst (λ l. IsPrefix (dones l) book) (sym now) f, λ left. absurd (none_behind book list c.check-at.result e.done (i.5 left) s.stands (h.is.0 c.if-not-has.false)), n.end.0.2 ∙ (ap (λ (x : Held). x.view.book) s.same ∙ i.6))
 
 pub returns-clause-entered : goal.returns-clause-entered
 returns-clause-entered g c =

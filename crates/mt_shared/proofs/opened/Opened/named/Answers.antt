@@ -1,6 +1,7 @@
 use Rattle.std.proofs.Common.{◌≡◌, ◌∙◌, Bool, true, false, [], ap, subst, sym}
 use Rattle.std.proofs.lemmas.List.{append-nil}
-use Rattle.mt_mark.specs.Rule.{dones}
+use Rattle.mt_mark.specs.Rule.{dones, labelled}
+use Rattle.mt_mark.proofs.Fronts.{dones-labelled}
 use Rattle.mt_shared.specs.Began.{BeganOn}
 use Rattle.mt_shared.specs.Seen.{OpenedSeen}
 use Rattle.mt_shared.proofs.opened.Opened.named.Goals as goal
@@ -13,8 +14,12 @@ pub invariant_of-locked : goal.invariant_of-locked
 invariant_of-locked g c = let i = c.self.invariant in
     let mark = ap (λ (x : OpenedSeen). x.mark) c.self.view_is ∙ c.requires.name.0 in
     let base = ap (λ (x : OpenedSeen). x.base) c.self.view_is ∙ c.requires.name.1 in
+    let book = ap (λ (x : OpenedSeen). x.book) c.self.view_is ∙ c.requires.name.2 in
     let n = c.new.ensures in
-    (mark, i.0 ∙ base, n.base ∙ base, i.1, ([], append-nil _ ∙ (i.2 ∙ sym n.book)), λ left. absurd (let wrong : ◌≡◌ {A = Bool} true false = sym left ∙ n.is in cc))
+    (mark, i.0 ∙ base, n.base ∙ base, i.1, ([], append-nil _ ∙ (ap dones i.2 ∙ (dones-labelled _ ∙ sym n.book))), λ left. absurd (let wrong : ◌≡◌ {A = Bool} true false = sym left ∙ n.is in cc), i.3 ∙ book)
 
 pub returns-clause-passes : goal.returns-clause-passes
-returns-clause-passes g c = λ k d h. ap dones (c.in-Ok.ensures k d h) ∙ (c.self.invariant.2 ∙ ap (λ (x : OpenedSeen). x.book) c.self.view_is)
+returns-clause-passes g c = λ k d h. ap dones (c.in-Ok.ensures k d h).seen ∙ (dones-labelled _ ∙ sym c.requires.name.2)
+
+pub passes_of-requires-clause-list : goal.passes_of-requires-clause-list
+passes_of-requires-clause-list g c = c.self.invariant.2 ∙ ap labelled (ap (λ (x : OpenedSeen). x.book) c.self.view_is ∙ c.requires.name.2)

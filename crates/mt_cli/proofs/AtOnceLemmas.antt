@@ -1,0 +1,151 @@
+-- Scripts that were served at once, to a device and to a file.
+use Rattle.std.proofs.Common.{◌≡◌, ◌∙◌, ◌<◌, ◌≤◌, ◌+◌, ◌-◌, ◌++◌, ℕ, List, length, take, Bool, true, false, Option, Result, Ok, Err, refl, sym, ap, subst, arith}
+use Rattle.std.proofs.Math.Seq.{take-append-add}
+use Rattle.std.specs.Io.KnownBytes.{Appends}
+use Rattle.std.specs.Result.{IfErr, OnErr, OnOk}
+use mathlib.Core.Logic.{∥∥₁_map}
+use Rattle.mt_disk.specs.declared.device.Device.{Ghosts}
+use Rattle.mt_folder.proofs.FolderLemmas.{kept_then, put_then}
+use Rattle.mt_folder.specs.Folders.{AreKept, Files, IsFileRefusal, IsHeld, IsLent, Puts}
+use Rattle.mt_kernel.specs.Booked.{txns_of}
+use Rattle.mt_kernel.specs.Consistent.{session_in}
+use Rattle.mt_live.specs.Laws.{in_turn}
+use Rattle.mt_model.specs.History.{Call, after}
+use Rattle.mt_model.specs.Model.{Base}
+use Rattle.mt_model.specs.Views.{base_of}
+use Rattle.mt_model.specs.declared.history.Committed.{Committed}
+use Rattle.mt_replay.specs.Stands.{CanRestart}
+use Rattle.mt_script.specs.Answers.{AppendsFront}
+use Rattle.mt_script.specs.declared.answers.Answer.{Answer}
+use Rattle.mt_script.specs.declared.lines.Line.{Line}
+use Rattle.mt_server.specs.Heard.{AreTold, IsEnd, ends, fails}
+use Rattle.mt_server.specs.Serves.{IsServedOn}
+use Rattle.mt_txn.specs.Restarted.{all_commits, FindsCommits}
+use Rattle.mt_txn.specs.Shown.{Restarts, is_failed}
+use Rattle.mt_txn.specs.Turned.{HasNobody}
+use Rattle.mt_txn.specs.declared.kernel.Kernel.{Kernel}
+use Rattle.mt_cli.proofs.ServeLemmas.{held_before, put_back, stands_book}
+use Rattle.mt_cli.specs.Serves.{AreServedAtOnce, AreServedAtOnceIn, AreServedBy, AreUnservedBy, IsServedAtOnce, IsServedIn, IsUnservedAtOnce, IsUnservedIn, failed_at_once, let_go, no_device_at_once, too_many_at_once, unheard_at_once, IsEndOf, StandForBook, texts_in_order}
+use Rattle.mt_cli.specs.declared.faults.Fault.{Fault}
+
+-- ---- the kernel
+
+-- transcripts that are so told are so where the device may have failed
+end_anyway : (failed : Bool) (u : Option (List Call)) (rest : List Line) (last : List Answer) → IsEnd failed u rest last → IsEnd true u rest last
+end_anyway failed u _ _ ends = ends
+end_anyway failed u _ _ (fails rest has) = fails rest refl
+
+told_anyway : (failed : Bool) (scripts : List (List Line)) (texts : List (List ℕ)) (book : List Committed) → AreTold failed scripts texts book → AreTold true scripts texts book
+told_anyway failed scripts texts book x = record {
+  count = x.count;
+  booked = x.booked;
+  each = λ i lines lt is.
+      let t = x.each i lines lt is in
+      record {
+        before = t.before;
+        rest = t.rest;
+        lines_are = t.lines_are;
+        answers = t.answers;
+        last = t.last;
+        open_then = t.open_then;
+        hears = t.hears;
+        end = end_anyway failed t.open_then t.rest t.last t.end;
+        text_is = t.text_is;
+        stands = t.stands;
+        highest = t.highest;
+        rises = t.rises;
+      };
+  many = x.many;
+  whole = x.whole;
+}
+
+module _ {D : Type 0} {g : Ghosts D} (seen : D → List ℕ) (may_leave : D → List ℕ → Type 0) where
+  -- what a restart finds is what the book leads to, and perhaps some of the commits under way behind it
+  stands_more : (b : Base) (n : Kernel D g) (d : List ℕ) → ∥ FindsCommits n.relations n.counters b n.parts d ∥₁ → StandForBook true n.relations n.counters b n.parts.book.items d
+  stands_more b n d finds = ∥∥₁_map finds (λ f.
+      let book = n.parts.book.items in
+      let under_way = in_turn (session_in n.parts.live.members) (txns_of n.parts.commits.items) n.parts.live.standing in
+      let over = f.count - length book in
+      let booked = f.acknowledged in
+      let count : length book + over ≡ f.count = omega (arith, booked) in
+      let is : take f.count (all_commits n.parts) ≡ book ++ take over under_way =
+      subst (λ (i : ℕ). take i (all_commits n.parts) ≡ book ++ take over under_way) count (take-append-add book under_way over) in
+      (take over under_way, subst (CanRestart n.relations n.counters d) (f.is ∙ ap (after b) is) f.found))
+
+  -- it is so of a kernel that is or is not cut off
+  pub served_at_once : (c : List ℕ) (scripts : List (List Line)) (texts : List (List ℕ)) (n : Kernel D g) (d : List ℕ) → IsServedOn seen may_leave c n → AreTold (is_failed n) scripts texts n.parts.book.items
+      → ((first : Base) → Restarts seen may_leave first n → ∥ FindsCommits n.relations n.counters first n.parts d ∥₁) → (cut : Bool) → (cut ≡ false → HasNobody n × (is_failed n ≡ false)) → AreServedAtOnce cut c scripts texts d
+  served_at_once c scripts texts n d x told finds false rests = record {
+    first = x.first;
+    is = x.is;
+    book = n.parts.book.items;
+    legal = x.legal;
+    told = subst (λ (f : Bool). AreTold f scripts texts n.parts.book.items) (rests refl).1 told;
+    relations = n.relations;
+    counters = n.counters;
+    stands = stands_book seen may_leave (base_of x.first) n d (rests refl).0 x.began.1 (finds (base_of x.first) x.began.1);
+  }
+  served_at_once c scripts texts n d x told finds true rests = record {
+    first = x.first;
+    is = x.is;
+    book = n.parts.book.items;
+    legal = x.legal;
+    told = told_anyway (is_failed n) scripts texts n.parts.book.items told;
+    relations = n.relations;
+    counters = n.counters;
+    stands = stands_more (base_of x.first) n d (finds (base_of x.first) x.began.1);
+  }
+
+-- ---- the file
+
+module _ (old mid new : Files) (file before behind : List ℕ) (scripts : List (List Line)) (texts : List (List ℕ)) (held : IsHeld old file before) (lent : IsLent old mid file) (put : Puts mid new file behind) where
+  -- the device is back in its file
+  back_in : (failed : Bool) → AreServedAtOnce failed before scripts texts behind → AreServedAtOnceIn failed old new file scripts texts
+  back_in failed served = record { before = before; behind = behind; held = held; put = put_back old mid new file behind lent put; served = served }
+
+  pub told_at_once : (failed : Bool) (was now : Option (List ℕ)) (r : Result (Unit {0}) Fault) → AreServedAtOnce failed before scripts texts behind → OnOk r ((failed ≡ false) × Appends was now (texts_in_order texts))
+      → OnOk r (IsServedAtOnce old new file scripts was now)
+  told_at_once failed was now (Ok u) served (whole, told) = record { texts = texts; served = subst (λ (f : Bool). AreServedAtOnceIn f old new file scripts texts) whole (back_in failed served); told = told }
+  told_at_once failed was now (Err fault) served told = tt
+
+  pub untold_at_once : (failed : Bool) (was now : Option (List ℕ)) (r : Result (Unit {0}) Fault) → AreServedAtOnce failed before scripts texts behind → OnErr r (AppendsFront was now (texts_in_order texts)) → IfErr r (IsEndOf failed)
+      → IfErr r (IsUnservedAtOnce old new file scripts was now)
+  untold_at_once failed was now (Ok u) served front why = tt
+  untold_at_once false was now (Err fault) served front why = subst (IsUnservedAtOnce old new file scripts was now) (sym why) (unheard_at_once texts (back_in false served) front)
+  untold_at_once true was now (Err fault) served front why = subst (IsUnservedAtOnce old new file scripts was now) (sym why) (failed_at_once texts (back_in true served) front)
+
+-- ---- behind reads that left each file as it was
+
+lent_then : (old mid new : Files) (name : List ℕ) → AreKept old mid → IsLent mid new name → IsLent old new name
+lent_then old mid new name kept lent = record { told = lent.told ∙ kept.told; there = lent.there; others = λ other apart. lent.others other apart ∙ kept.all other }
+
+in_then : (old mid new : Files) (file : List ℕ) (scripts : List (List Line)) (texts : List (List ℕ)) → AreKept old mid → (failed : Bool)
+    → AreServedAtOnceIn failed mid new file scripts texts → AreServedAtOnceIn failed old new file scripts texts
+in_then old mid new file scripts texts kept failed x = record { before = x.before; behind = x.behind; held = held_before old mid file x.before kept x.held; put = put_then old mid new file x.behind kept x.put; served = x.served }
+
+pub at_once_then : (old mid new : Files) (file : List ℕ) (scripts : List (List Line)) (was now : Option (List ℕ)) → AreKept old mid → IsServedAtOnce mid new file scripts was now → IsServedAtOnce old new file scripts was now
+at_once_then old mid new file scripts was now kept x = record { texts = x.texts; served = in_then old mid new file scripts x.texts kept false x.served; told = x.told }
+
+pub not_at_once_then : (old mid new : Files) (file : List ℕ) (scripts : List (List Line)) (was now : Option (List ℕ)) (fault : Fault) → AreKept old mid → IsUnservedAtOnce mid new file scripts was now fault
+    → IsUnservedAtOnce old new file scripts was now fault
+not_at_once_then old mid new file scripts was now _ kept (no_device_at_once why cause still keeps) =
+    no_device_at_once why (subst (λ (o : Option (List ℕ)). IsFileRefusal o why) (kept.all file) cause) (kept_then old mid new kept still) keeps
+not_at_once_then old mid new file scripts was now _ kept (too_many_at_once many still keeps) = too_many_at_once many (kept_then old mid new kept still) keeps
+not_at_once_then old mid new file scripts was now _ kept (let_go before why held cause lent keeps) = let_go before why (held_before old mid file before kept held) cause (lent_then old mid new file kept lent) keeps
+not_at_once_then old mid new file scripts was now _ kept (unheard_at_once texts x front) = unheard_at_once texts (in_then old mid new file scripts texts kept false x) front
+not_at_once_then old mid new file scripts was now _ kept (failed_at_once texts x front) = failed_at_once texts (in_then old mid new file scripts texts kept true x) front
+
+-- ---- so many workers
+
+module _ (workers : ℕ) (old new : Files) (file : List ℕ) (scripts : List (List Line)) (was now : Option (List ℕ)) where
+  pub by_several : 1 < workers → IsServedAtOnce old new file scripts was now → AreServedBy workers old new file scripts was now
+  by_several several x = (λ one. absurd (omega (arith, one, several)), λ u. x)
+
+  pub by_one : workers ≤ 1 → IsServedIn old new file scripts was now → AreServedBy workers old new file scripts was now
+  by_one one x = (λ u. x, λ several. absurd (omega (arith, one, several)))
+
+  pub not_by_several : (fault : Fault) → 1 < workers → IsUnservedAtOnce old new file scripts was now fault → AreUnservedBy workers old new file scripts was now fault
+  not_by_several fault several x = (λ one. absurd (omega (arith, one, several)), λ u. x)
+
+  pub not_by_one : (fault : Fault) → workers ≤ 1 → IsUnservedIn old new file scripts was now fault → AreUnservedBy workers old new file scripts was now fault
+  not_by_one fault one x = (λ u. x, λ several. absurd (omega (arith, one, several)))

@@ -1,0 +1,173 @@
+// `run` by several workers: scripts, served at once to the device in a file.
+ghost use Rattle.std.specs.Prelude.{◌≡◌, ℕ, IfErr, IfOk, List, OnErr, OnOk, false, length, map};
+ghost use Rattle.std.specs.Io.KnownBytes.{Appends};
+ghost use Rattle.mt_script.specs.Answers.{AppendsFront};
+ghost use Rattle.mt_script.specs.declared.lines.Line.{Line};
+ghost use Rattle.mt_server.specs.Heard.{AreTold};
+ghost use Rattle.mt_server.specs.Serves.{IsServedOn, IsUnserved};
+ghost use Rattle.mt_server.specs.Sessions.{lines_in};
+ghost use Rattle.mt_txn.specs.Shown.{is_failed};
+ghost use Rattle.mt_txn.specs.Turned.{HasNobody};
+ghost use Rattle.mt_cli.specs.Serves.{AreServedAtOnce, IsEndOf, IsServedAtOnce, IsUnservedAtOnce, session_text, texts_in_order};
+
+use crate::faults::Fault;
+use crate::silence::Silence;
+use itoa::Buffer;
+use mt_base::Refusal;
+use mt_disk::Device;
+use mt_folder::Folder;
+use mt_script::{Script, Unheard, put_all};
+use mt_server::{MAX_SESSIONS, Served, Transcript, serve};
+use mt_txn::Kernel;
+use std::alloc::Global;
+use std::io::Write;
+use std::sync::Wait;
+use std::thread::Threads;
+
+/// Which device is served: the name of its file, the pages in frames, and how many workers serve it.
+#[derive(Clone, Copy)]
+pub(crate) struct Service<'a> {
+    pub name: &'a str,
+    pub frames: usize,
+    pub workers: usize,
+}
+
+/// What scripts that were served at once leave: their transcripts, the device, and whether it failed meanwhile.
+struct Behind<D: Device> {
+    transcripts: Vec<Transcript>,
+    device: D,
+    has_failed: bool,
+}
+
+/// Whether a kernel's device has failed, or a transaction is still open in it, as one is only then.
+fn is_cut_off<D: Device>(kernel: &Kernel<D>) -> bool
+    ensures { result ≡ false → HasNobody kernel.now × (is_failed kernel.now ≡ false) }
+{
+    kernel.has_failed() || !kernel.has_nobody()
+}
+
+/// Takes the device out of a kernel behind all sessions.
+fn left_behind<D: Device + Drop>(kernel: Kernel<D>, transcripts: Vec<Transcript>) -> Behind<D>
+    ensures { (c : List ℕ) (scripts : List (List Line)) → IsServedOn D.seen D.may_leave c kernel
+        → AreTold (is_failed kernel) scripts transcripts.items kernel.parts.book.items
+        → AreServedAtOnce result.has_failed c scripts result.transcripts.items (D.seen result.device) }
+{
+    kernel.can_restart();
+    let has_failed = is_cut_off(&kernel);
+    Behind {
+        transcripts,
+        device: kernel.into_device(),
+        has_failed,
+    }
+}
+
+/// Serves scripts to a device by several workers, and takes the device back.
+fn serve_over_at_once<D: Device + Drop + Send, R: Threads + Wait + Sync>(
+    rt: &R,
+    alloc: Global,
+    device: D,
+    frames: usize,
+    scripts: Vec<Script>,
+    workers: usize,
+) -> Result<Behind<D>, Refusal>
+    ensures served { IfOk result (λ b. AreServedAtOnce b.has_failed (D.seen device) (map lines_in scripts.items)
+        b.transcripts.items (D.seen b.device)) }
+    ensures refused { IfErr result (IsUnserved (D.seen device) (length scripts.items)) }
+{
+    let Served {
+        kernel,
+        transcripts,
+    } = serve(rt, alloc, device, frames, scripts, workers, Silence)?;
+    Ok(left_behind(kernel, transcripts))
+}
+
+/// Writes the line of a session, and its transcript. Where the writer fails, it has written a beginning of them.
+fn write_session<W: Write>(
+    writer: &mut W,
+    session: usize,
+    transcript: &Transcript,
+) -> Result<(), Unheard>
+    ensures all { OnOk result (Appends (W.contents writer.old) (W.contents writer.new)
+        (session_text session transcript.now)) }
+    ensures front { OnErr result (AppendsFront (W.contents writer.old) (W.contents writer.new)
+        (session_text session transcript.now)) }
+{
+    let mut digits = Buffer::new();
+    let digits = digits.format(session);
+    put_all(
+        writer,
+        &[b"session ", digits.as_bytes(), b"\n", transcript.as_bytes()],
+    )
+}
+
+/// Writes transcripts in order, as sessions from 1 on. Where the writer fails, it has written a beginning of them.
+fn write_sessions<W: Write>(writer: &mut W, transcripts: &[Transcript]) -> Result<(), Unheard>
+    ensures all { OnOk result (Appends (W.contents writer.old) (W.contents writer.new)
+        (texts_in_order transcripts.now)) }
+    ensures front { OnErr result (AppendsFront (W.contents writer.old) (W.contents writer.new)
+        (texts_in_order transcripts.now)) }
+{
+    for (place, transcript) in transcripts.iter().enumerate() {
+        write_session(writer, place + 1, transcript)?;
+    }
+    Ok(())
+}
+
+/// Writes the transcripts of scripts that were served, and tells how the command ends: by the device's failure, if it
+/// failed meanwhile, and else by that of the output, if that failed.
+fn tell_sessions<O: Write>(
+    out: &mut O,
+    transcripts: &[Transcript],
+    has_failed: bool,
+) -> Result<(), Fault>
+    ensures told { OnOk result ((has_failed ≡ false)
+        × Appends (O.contents out.old) (O.contents out.new) (texts_in_order transcripts.now)) }
+    ensures front { OnErr result (AppendsFront (O.contents out.old) (O.contents out.new)
+        (texts_in_order transcripts.now)) }
+    ensures why { IfErr result (IsEndOf has_failed) }
+{
+    let told = write_sessions(out, transcripts);
+    if has_failed {
+        return Err(Fault::Refused(Refusal::DeviceFailed));
+    }
+    match told {
+        Ok(()) => Ok(()),
+        Err(_) => Err(Fault::Output),
+    }
+}
+
+/// Serves scripts by several workers to the device in the file of this name, and writes their transcripts.
+pub(crate) fn serve_file_at_once<F: Folder, O: Write, R: Threads + Wait + Sync>(
+    rt: &R,
+    alloc: Global,
+    folder: &mut F,
+    service: Service,
+    scripts: Vec<Script>,
+    out: &mut O,
+) -> Result<(), Fault>
+    ensures served { OnOk result (IsServedAtOnce (F.files folder.old) (F.files folder.new) service.entry.name.now
+        (map lines_in scripts.items) (O.contents out.old) (O.contents out.new)) }
+    ensures unserved { IfErr result (IsUnservedAtOnce (F.files folder.old) (F.files folder.new) service.entry.name.now
+        (map lines_in scripts.items) (O.contents out.old) (O.contents out.new)) }
+{
+    let device = match folder.device(service.name) {
+        Ok(device) => device,
+        Err(refusal) => return Err(Fault::Refused(refusal)),
+    };
+    if scripts.len() > MAX_SESSIONS {
+        folder.back(service.name, device);
+        return Err(Fault::Refused(Refusal::BadLength));
+    }
+    match serve_over_at_once(rt, alloc, device, service.frames, scripts, service.workers) {
+        Ok(behind) => {
+            let Behind {
+                transcripts,
+                device,
+                has_failed,
+            } = behind;
+            folder.back(service.name, device);
+            tell_sessions(out, transcripts.as_slice(), has_failed)
+        }
+        Err(refusal) => Err(Fault::Refused(refusal)),
+    }
+}

@@ -1,0 +1,14 @@
+// A gate that nobody stands at.
+use mt_shared::{Gate, Point};
+
+/// Wants to be told of nothing.
+#[derive(Drop)]
+pub(crate) struct Silence;
+
+impl Gate for Silence {
+    fn at(&self, _session: u32, _point: Point) {}
+
+    fn wants(&self, _point: Point) -> bool {
+        false
+    }
+}

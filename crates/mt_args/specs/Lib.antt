@@ -1,2 +1,3 @@
 pub mod CommandLines
 pub mod Spelling
+pub mod Tables

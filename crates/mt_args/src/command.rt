@@ -1,13 +1,14 @@
 // The command line, read by `clap`.
-ghost use Rattle.std.specs.Prelude.{◌≡◌, List, [], Any, IfOk, IfErr, Some, codes, map, option_map, string_bytes, ⊤};
-ghost use Rattle.clap.specs.Words.{Text, app_of, found_of, rows_of, subcommand_rows_of};
-ghost use Rattle.mt_args.specs.CommandLines.{bare, checking, counters_at, formatting, on_file, program, required_rule, scheduling, sizing, text_at, trial, AreNumbersAt, Parses, IsCommandOf, IsEntered, IsFaultAt, IsFaultOf, IsMisread, IsMisspelled, IsMisspelledAt, IsRuledBy, IsRun};
+ghost use Rattle.std.specs.Prelude.{◌≡◌, ◌≢◌, List, [], Any, IfOk, IfErr, Some, codes, map, option_map, string_bytes, ⊤};
+ghost use Rattle.clap.specs.Words.{Text, found_of, rows_of, subcommand_rows_of};
+ghost use Rattle.mt_args.specs.CommandLines.{counters_at, text_at, AreNumbersAt, IsCommandOf, IsEntered, IsFaultAt, IsFaultOf, IsMisread, IsMisspelled, IsMisspelledAt, IsRun};
 ghost use Rattle.mt_args.specs.Spelling.{AreCounters, IsNoCount, IsNoCounter, SpellsCount};
 
 use crate::numbers::{Numbers, count_of, counters_of};
-use crate::run_words::{serving_of, serving_parser};
+use crate::parsers::parser;
+use crate::run_words::serving_of;
+use clap::ArgMatches;
 use clap::error::ErrorKind;
-use clap::{Arg, ArgAction, ArgMatches, Command as Parser};
 use mt_base::Refusal;
 use std::alloc::{AllocError, Global};
 use thiserror::Error;
@@ -78,158 +79,6 @@ impl From<AllocError> for CliFault {
     }
 }
 
-/// `mtk` without its commands.
-fn bare<'a>(alloc: Global) -> Parser<'a>
-    ensures { app_of result ≡ bare }
-{
-    Parser::new(alloc, "mtk")
-        .version("0.1.0")
-        .about("A multilevel transaction kernel with escrow counters")
-        .after_help(EXAMPLES)
-        .no_binary_name(true)
-        .subcommand_required(true)
-}
-
-/// `try [SCRIPT]`
-fn trial_parser<'a>(alloc: Global) -> Result<Parser<'a>, AllocError>
-    ensures { IfOk result (Parses trial) }
-{
-    let script = Arg::new(alloc, "script")
-        .value_name("SCRIPT")
-        .help("The script's file; without it, standard input");
-    Parser::new(alloc, "try")
-        .about("Run one script over a device in memory and print its transcript")
-        .arg(script)
-}
-
-/// `schedule [FILE]`
-fn scheduling_parser<'a>(alloc: Global) -> Result<Parser<'a>, AllocError>
-    ensures { IfOk result (Parses scheduling) }
-{
-    let file = Arg::new(alloc, "file")
-        .value_name("FILE")
-        .help("The schedule's file; without it, standard input");
-    Parser::new(alloc, "schedule")
-        .about("Run events of several transactions over a device in memory and print their answers")
-        .arg(file)
-}
-
-/// An argument that must be given.
-pub(crate) fn required<'a>(
-    alloc: Global,
-    id: &'a str,
-    value_name: &'a str,
-    help: &'a str,
-) -> Arg<'a>
-    ensures { IsRuledBy (required_rule id.now) result }
-{
-    Arg::new(alloc, id)
-        .value_name(value_name)
-        .required(true)
-        .help(help)
-}
-
-/// `check [--pages] FILE`
-fn checking_parser<'a>(alloc: Global) -> Result<Parser<'a>, AllocError>
-    ensures { IfOk result (Parses checking) }
-{
-    let pages = Arg::new(alloc, "pages")
-        .long("pages")
-        .action(ArgAction::SetTrue)
-        .help("Look at each page too, as a restart would find it");
-    let file = required(alloc, "file", "FILE", "The device's file");
-    Parser::new(alloc, "check")
-        .about("Tell what the log of a device holds, without a write")
-        .after_help(CHECK_EXAMPLES)
-        .arg(pages)?
-        .arg(file)
-}
-
-/// `format FILE PAGES AREA RELATIONS`, without its counters
-fn sizes_parser<'a>(alloc: Global) -> Result<Parser<'a>, AllocError>
-    ensures { IfOk result (Parses sizing) }
-{
-    let file = required(alloc, "file", "FILE", "The device's file, made or replaced");
-    let pages = required(alloc, "pages", "PAGES", "Pages of 4096 bytes, 16 to 4000");
-    let area = required(
-        alloc,
-        "area",
-        "AREA",
-        "MiB of each of the two log areas, 4 to 64",
-    );
-    let relations = required(alloc, "relations", "RELATIONS", "Relations, 1 to 64");
-    Parser::new(alloc, "format")
-        .about("Make a device with an empty base")
-        .after_help(FORMAT_EXAMPLES)
-        .arg(file)?
-        .arg(pages)?
-        .arg(area)?
-        .arg(relations)
-}
-
-/// `format FILE PAGES AREA RELATIONS [COUNTER..]`
-fn formatting_parser<'a>(alloc: Global) -> Result<Parser<'a>, AllocError>
-    ensures { IfOk result (Parses formatting) }
-{
-    let counters = Arg::new(alloc, "counter")
-        .value_name("COUNTER")
-        .action(ArgAction::Append)
-        .help("A counter from LOW to HIGH that begins at START: cLOW:HIGH:START");
-    sizes_parser(alloc)?.arg(counters)
-}
-
-/// A command of this name on a device in a file: `NAME FILE`.
-fn file_parser<'a>(
-    alloc: Global,
-    name: &'a str,
-    about: &'a str,
-    examples: &'a str,
-) -> Result<Parser<'a>, AllocError>
-    ensures { IfOk result (Parses (on_file name.now)) }
-{
-    let file = required(alloc, "file", "FILE", "The device's file");
-    Parser::new(alloc, name)
-        .about(about)
-        .after_help(examples)
-        .arg(file)
-}
-
-/// The program's command line.
-fn parser<'a>(alloc: Global) -> Result<Parser<'a>, AllocError>
-    ensures { IfOk result (λ parser. app_of parser ≡ program) }
-{
-    let trial = trial_parser(alloc)?;
-    let scheduling = scheduling_parser(alloc)?;
-    let checking = checking_parser(alloc)?;
-    let formatting = formatting_parser(alloc)?;
-    let dumping = file_parser(alloc, "dump", DUMP_ABOUT, DUMP_EXAMPLES)?;
-    let explaining = file_parser(alloc, "explain", EXPLAIN_ABOUT, EXPLAIN_EXAMPLES)?;
-    let serving = serving_parser(alloc)?;
-    let parser = bare(alloc).subcommand(trial)?;
-    let parser = parser.subcommand(scheduling)?;
-    let parser = parser.subcommand(checking)?;
-    let parser = parser.subcommand(formatting)?;
-    let parser = parser.subcommand(dumping)?;
-    let parser = parser.subcommand(explaining)?;
-    parser.subcommand(serving)
-}
-
-const EXAMPLES: &str = "Examples:
-  mtk try bank.script
-  printf 'begin\\ninsert 0 a x\\ncommit\\n' | mtk try
-  printf 'begin 1\\ncall 1 add 0 1\\nstep 1\\n' | mtk schedule
-  mtk format bank.mtk 64 4 2 c0:10:5
-  mtk check --pages bank.mtk
-  mtk run bank.mtk 1 bank.script
-  mtk dump bank.mtk
-  mtk explain bank.mtk";
-
-const FORMAT_EXAMPLES: &str = "Example:
-  mtk format bank.mtk 64 4 2 c0:10:5 c-1000:1000:0
-
-makes a device of 64 pages and two log areas of 4 MiB, with 2 relations and 2 counters: the first
-goes from 0 to 10 and begins at 5, the second from -1000 to 1000 and begins at 0";
-
 const PAGES_RULE: &str =
     "error: PAGES is not spelled as a number: decimal, without a sign or leading zeros
 
@@ -253,44 +102,6 @@ const COUNTER_RULE: &str =
 
 For more information, try '--help'.
 ";
-
-const CHECK_EXAMPLES: &str = "Example:
-  mtk check --pages bank.mtk
-
-prints
-  epoch 1
-  area 0
-  batches 1
-  records 0
-  commits 0
-  pages ok";
-
-const DUMP_ABOUT: &str = "Open a device, as after a crash, and print its rows and counters";
-
-const DUMP_EXAMPLES: &str = "Example:
-  mtk dump bank.mtk
-
-prints, of two relations with one row and of one counter
-  depth 0
-  free 59
-  row 0 61 78
-  counter 0 5
-
-Keys and values are hexadecimal digits, two of each byte, and an empty value is a dash. The device is
-opened as after a crash, and so written to: unfinished transactions are undone.";
-
-const EXPLAIN_ABOUT: &str = "Tell the log of a device as a history, without a write";
-
-const EXPLAIN_EXAMPLES: &str = "Example:
-  mtk explain bank.mtk
-
-prints a line for each record of the log, with the number of its batch and that batch's place in the file
-  batch 2 at 270341 txn 1 op 1 page 2 from 31 length 1 with image
-  batch 2 at 270341 txn 1 op 1 add 0 1
-
-and then what a restart would do, in its order: put unfinished operations back, and undo those of
-unfinished transactions
-  restart txn 1 op 1 undone by add 0 -1";
 
 /// A text, in memory of its own.
 fn copied(alloc: Global, text: Option<&str>) -> Result<Option<String>, AllocError>
@@ -418,23 +229,34 @@ fn run_of(alloc: Global, name: &str, found: &ArgMatches) -> Result<Command, Allo
     }
 }
 
+/// The command of this name, which has no numbers, with what was found behind it.
+fn numberless(alloc: Global, name: &str, found: &ArgMatches) -> Result<Command, AllocError>
+    requires format { name.now ≢ codes "format" }
+    requires run { name.now ≢ codes "run" }
+    ensures { IfOk result (IsEntered (Some (name.now, rows_of (found_of found.now)))) }
+{
+    if name == "check" {
+        check_of(alloc, found)
+    } else if name == "dump" {
+        dump_of(alloc, found)
+    } else if name == "explain" {
+        explain_of(alloc, found)
+    } else {
+        run_of(alloc, name, found)
+    }
+}
+
 /// The command of this name, with what was found behind it.
 fn named(alloc: Global, name: &str, found: &ArgMatches) -> Result<Command, CliFault>
     ensures command { IfOk result (IsEntered (Some (name.now, rows_of (found_of found.now)))) }
     ensures fault { IfErr result (IsMisread (IsMisspelled (Some (name.now, rows_of (found_of found.now))))) }
 {
-    if name == "check" {
-        Ok(check_of(alloc, found)?)
-    } else if name == "format" {
+    if name == "format" {
         format_of(alloc, found)
-    } else if name == "dump" {
-        Ok(dump_of(alloc, found)?)
-    } else if name == "explain" {
-        Ok(explain_of(alloc, found)?)
     } else if name == "run" {
         serving_of(alloc, found)
     } else {
-        Ok(run_of(alloc, name, found)?)
+        Ok(numberless(alloc, name, found)?)
     }
 }
 

@@ -3,6 +3,7 @@
 
 mod command;
 mod numbers;
+mod parsers;
 mod run_words;
 
 pub use command::{CliFault, Command, command_of};

@@ -1,12 +1,12 @@
 // `run`, as words name it.
 ghost use Rattle.std.specs.Prelude.{◌≡◌, IfErr, IfOk, Some, codes, map, string_bytes};
 ghost use Rattle.clap.specs.Words.{first_of, found_of, rows_of};
-ghost use Rattle.mt_args.specs.CommandLines.{frames_rule, scripts_at, scripts_rule, serving, AreFrames, AreNoFrames, IsEntered, IsMisread, IsMisspelled, IsRuledBy, Parses};
+ghost use Rattle.mt_args.specs.CommandLines.{scripts_at, AreFrames, AreNoFrames, IsEntered, IsMisread, IsMisspelled};
 ghost use Rattle.mt_args.specs.Spelling.{IsNoneWithin, SpellsWithin};
 
-use crate::command::{CliFault, Command, misspelled, required, required_file, text_in};
+use crate::command::{CliFault, Command, misspelled, required_file, text_in};
 use crate::numbers::count_within;
-use clap::{Arg, ArgAction, ArgMatches, Command as Parser};
+use clap::ArgMatches;
 use std::alloc::{AllocError, Global};
 
 /// Frames where none are asked for.
@@ -23,61 +23,6 @@ const WORKERS_RULE: &str =
 
 For more information, try '--help'.
 ";
-
-const RUN_EXAMPLES: &str = "Example:
-  printf 'begin\\ninsert 0 a x\\ncommit\\n' | mtk run bank.mtk 1 -
-
-prints
-  session 1
-  begun
-  done
-  committed 1
-
-All scripts are read before the first one runs. Each is a session of its own. One worker serves them one
-after the other; more workers serve them at once, and the sessions are printed when all are done.";
-
-/// The option `--frames N`.
-fn frames_option<'a>(alloc: Global) -> Arg<'a>
-    ensures { IsRuledBy frames_rule result }
-{
-    Arg::new(alloc, "frames")
-        .long("frames")
-        .value_name("N")
-        .help("Pages that the kernel keeps in frames, 32 to 4096; 256 where it is not given")
-}
-
-/// The arguments `SCRIPT..`
-fn scripts_argument<'a>(alloc: Global) -> Arg<'a>
-    ensures { IsRuledBy scripts_rule result }
-{
-    Arg::new(alloc, "script")
-        .value_name("SCRIPT")
-        .required(true)
-        .action(ArgAction::Append)
-        .help("The scripts' files, at most 64; - is standard input")
-}
-
-/// `run [--frames N] FILE WORKERS SCRIPT..`
-pub(crate) fn serving_parser<'a>(alloc: Global) -> Result<Parser<'a>, AllocError>
-    ensures { IfOk result (Parses serving) }
-{
-    let frames = frames_option(alloc);
-    let file = required(alloc, "file", "FILE", "The device's file");
-    let workers = required(
-        alloc,
-        "workers",
-        "WORKERS",
-        "The most scripts that are served at once, 1 to 16",
-    );
-    let scripts = scripts_argument(alloc);
-    Parser::new(alloc, "run")
-        .about("Open a device, serve scripts to it and print their transcripts")
-        .after_help(RUN_EXAMPLES)
-        .arg(frames)?
-        .arg(file)?
-        .arg(workers)?
-        .arg(scripts)
-}
 
 /// The number within limits that a word spells. `Usage` where it spells none, with the text of that rule.
 fn number_within(

@@ -1,7 +1,7 @@
 use Rattle.std.proofs.Common.{ap, ◌∙◌, true}
 use Rattle.clap.specs.Words.{Shape}
 use Rattle.clap.specs.Simple.{app_of_fields, on_top}
-use Rattle.mt_args.proofs.command.bare.Goals as goal
+use Rattle.mt_args.proofs.parsers.bare.Goals as goal
 
 pub returns : goal.returns
 returns c =

@@ -1,4 +1,5 @@
 -- What a restart finds in what a crash leaves of a run that was stopped.
+use Rattle.std.specs.Prelude.{◌+◌, ◌-◌, ◌^◌, min, IfOk, Result, Ok, Err}
 use Rattle.std.proofs.Common.{◌≡◌, ◌<◌, ◌≤◌, ⊎_elim, ℕ, List, [], ◌∷◌, ◌++◌, length, map, take, refl, ap, ap₂, sym, subst, ◌∙◌, append_assoc, append-nil, length-append, arith}
 use Rattle.std.proofs.lemmas.Bool.{cases_lt}
 use Rattle.std.proofs.lemmas.List.{length-map, take_all}
@@ -25,8 +26,8 @@ use Rattle.mt_world.proofs.RunLemmas.{makes_same}
 use Rattle.mt_world.specs.Crashes.{FoundFromFormat, FoundUntil, device_under}
 use Rattle.mt_world.specs.Schedules.{HasEnded, HasRun, HasRunTo, IsOfSchema}
 use Rattle.mt_world.specs.Standings.{device_at}
-use Rattle.mt_world.specs.Stopped.{FindsFirst, IsCrashRun}
-use Rattle.mt_world.specs.Stopping.{below}
+use Rattle.mt_world.specs.Stopped.{BeginsWithin, FindsFirst, IsCrashRun, IsStoppedRun}
+use Rattle.mt_world.specs.Stopping.{StopsAt, below}
 use Rattle.mt_world.specs.Told.{Told, acknowledged, commit_of, commit_order, committing, named, nothing_told, started_by, tells, told_from, told_of}
 use Rattle.mt_world.specs.declared.crashing.CrashRun.{CrashRun}
 use Rattle.mt_world.specs.declared.events.Answer.{Answer}
@@ -205,20 +206,31 @@ pub stopped_same : {g : Ghosts (StoppingDevice MemDevice)} (s : Schema) (events 
 stopped_same {g = g} s events answers standing ran = same_length g.seen g.may_leave g.moment g.left_since g.faults (relations_in s) (length (counters_in s)) (schema_base s) events answers standing ran
 
 pub crash_of : {g : Ghosts (StoppingDevice MemDevice)} → ((d : StoppingDevice MemDevice) (t : ℕ) (c : List ℕ) → t ≤ g.moment d → g.may_leave d c → g.left_since d t c) → ((d : StoppingDevice MemDevice) (c : List ℕ) → g.left_since d (g.moment d) c → g.may_leave d c)
-    → (s : Schema) (device : StoppingDevice MemDevice) (events : List Event) (answers : List Answer) (standing : Standing (StoppingDevice MemDevice) g) (fill : Fill) (run : CrashRun)
+    → (s : Schema) (device : StoppingDevice MemDevice) (events : List Event) (answers : List Answer) (standing : Standing (StoppingDevice MemDevice) g) (limit : ℕ) (fill : Fill) (run : CrashRun)
     → ∥ HasRunTo g.seen g.may_leave g.moment g.left_since g.faults (relations_in s) (length (counters_in s)) (schema_base s) events answers standing ∥₁
     → IsOfSchema (relations_in s) (length (counters_in s)) standing → ∥ FoundFromFormat g.seen g.may_leave g.moment g.left_since g.faults s device events answers standing ∥₁
-    → g.may_leave (device_at standing) run.content.items → MayLeave (below (device_at standing)) run.content.items → LeftBy (below (device_at standing)) fill run.content.items
-    → run.order.items ≡ commit_order events answers → run.acked ≡ length (acknowledged answers) → ∥ IsCrashRun g s events fill run ∥₁
-crash_of {g = g} counts_now only_now s device events answers standing fill run ran schema found now may left order acked =
+    → StopsAt limit (device_at standing) → g.may_leave (device_at standing) run.content.items → MayLeave (below (device_at standing)) run.content.items → LeftBy (below (device_at standing)) fill run.content.items
+    → run.order.items ≡ commit_order events answers → run.acked ≡ length (acknowledged answers) → ∥ IsStoppedRun g s events limit fill run ∥₁
+crash_of {g = g} counts_now only_now s device events answers standing limit fill run ran schema found stops now may left order acked =
     ∥∥₁_elim ran ∥∥₁_prop (λ r.
     ∥∥₁_map (found_first g.seen g.may_leave g.moment g.left_since counts_now only_now g.faults s device events answers standing ran schema found run.content.items now) (λ f. record {
       answers = answers;
       standing = standing;
       ran = r;
+      stops = stops;
       may = may;
       left = left;
       order = order;
       acked = acked;
       found = subst (λ (X : Type 0). X) (λ i. FindsFirst s (sym acked i) (sym order i) run.content.items) f;
     }))
+
+-- where it takes so many calls more than a format and an opening took
+pub counted_run : {g : Ghosts (StoppingDevice MemDevice)} (s : Schema) (events : List Event) (before calls limit : ℕ) (fill : Fill) (result : Result CrashRun Refusal) → limit ≡ min (before + calls) (2 ^ 64 - 1) → ∥ BeginsWithin g s before ∥₁
+    → IfOk result (λ run. ∥ IsStoppedRun g s events limit fill run ∥₁) → IfOk result (λ run. ∥ IsCrashRun g s events calls fill run ∥₁)
+counted_run {g = g} s events before calls limit fill (Ok run) is begins stopped = ∥∥₁_elim begins ∥∥₁_prop (λ b. ∥∥₁_map stopped (λ r. record {
+  before = before;
+  begins = b;
+  stopped = subst (λ (l : ℕ). IsStoppedRun g s events l fill run) is r;
+}))
+counted_run s events before calls limit fill (Err why) is begins stopped = stopped

@@ -14,12 +14,13 @@ use Rattle.mt_script.specs.Answers.{AppendsFront}
 use Rattle.mt_server.specs.Heard.{AreTold}
 use Rattle.mt_server.specs.Plays.{Play, HasPlayed}
 use Rattle.mt_server.specs.Runs.{IsToldFor}
-use Rattle.mt_server.specs.Serves.{IsBaseOf, IsUnserved}
+use Rattle.mt_server.specs.Serves.{IsUnserved}
 use Rattle.mt_server.specs.Sessions.{HavePlayed, in_session, session_line, sessions_text}
 use Rattle.mt_script.specs.declared.answers.Answer.{Answer}
 use Rattle.mt_script.specs.declared.lines.Line.{Line}
 use Rattle.mt_server.specs.declared.running.RunFault.{RunFault}
 use Rattle.mt_server.specs.declared.running.RunFault.TheVariants as run
+use Rattle.mt_shared.specs.Opens.{IsBaseOf}
 use Rattle.mt_cli.specs.Dumps.{IsBarred, IsEarly, StandAs}
 use Rattle.mt_folder.specs.Folders.{AreKept, Files, IsFileRefusal, IsHeld, IsLent, IsUnmade, Puts, known_in}
 use Rattle.mt_cli.specs.Reads.{AreUnread, HaveBeenRead}

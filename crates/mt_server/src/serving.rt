@@ -5,7 +5,7 @@ ghost use Rattle.mt_mark.specs.Rule.{dones};
 ghost use Rattle.mt_model.specs.declared.history.Committed.{Committed};
 ghost use Rattle.mt_server.specs.Crews.{IsBlank, IsBoard};
 ghost use Rattle.mt_server.specs.Heard.{AreTold};
-ghost use Rattle.mt_server.specs.Serves.{IsBaseOf, IsLate, IsServedOn, IsUnopened, IsUnserved};
+ghost use Rattle.mt_server.specs.Serves.{IsLate, IsServedOn, IsUnserved};
 ghost use Rattle.mt_server.specs.Sessions.{lines_in};
 ghost use Rattle.mt_shared.specs.Began.{BeganOn};
 ghost use Rattle.mt_shared.specs.Seen.{PassSeen};
@@ -18,7 +18,6 @@ use crate::sessions::MAX_SESSIONS;
 use crate::transcript::Transcript;
 use mt_base::Refusal;
 use mt_disk::Device;
-use mt_restart::open;
 use mt_script::Script;
 use mt_shared::{Closed, Gate, Naming, Opened, Pass, Shared};
 use mt_txn::Kernel;
@@ -140,42 +139,6 @@ fn serve_named<
     }
 }
 
-/// Opens a device, and makes the mark of its kernel, with a seat for each of so many workers.
-fn open_for<D: Device + Drop>(
-    alloc: Global,
-    device: D,
-    frames: usize,
-    workers: usize,
-) -> Result<Opened<D>, Refusal>
-    requires few { workers < 2 ^ 32 }
-    ensures base { IfOk result (λ opened. IsBaseOf (D.seen device) opened.base) }
-    ensures first { IfOk result (λ opened. opened.book ≡ []) }
-    ensures refused { IfErr result (IsUnopened (D.seen device)) }
-{
-    let mut kernel = match open(alloc, device, frames) {
-        Ok(kernel) => kernel,
-        Err((why, device)) => {
-            drop(device);
-            return Err(why);
-        }
-    };
-    let base = match kernel.survey() {
-        Ok(survey) => survey.base,
-        Err(why) => {
-            drop(kernel.into_device());
-            return Err(why);
-        }
-    };
-    base.keeps_bounds();
-    match Opened::new(alloc, kernel, &base, workers) {
-        Ok(opened) => Ok(opened),
-        Err(kernel) => {
-            drop(kernel.into_device());
-            Err(Refusal::NoMemory)
-        }
-    }
-}
-
 /// Opens a device with so many pages in frames, and serves scripts to it by workers that share its kernel. Each script is
 /// a session of its own, numbered from 1 in the order of the scripts. A worker takes the next script that no other has
 /// taken, and runs it from its first line to its last; one more thread forces the log and flushes pages meanwhile. The
@@ -214,9 +177,12 @@ pub fn serve<D: Device + Drop + Send, G: Gate + Drop + Send + Sync, R: Threads +
     let Ok(board) = blank(alloc, scripts.len()) else {
         return Err(Refusal::NoMemory);
     };
-    let opened = match open_for(alloc, device, frames, workers.clamp(1, MAX_WORKERS)) {
+    let opened = match Opened::open(alloc, device, frames, workers.clamp(1, MAX_WORKERS)) {
         Ok(opened) => opened,
-        Err(why) => return Err(why),
+        Err((why, device)) => {
+            drop(device);
+            return Err(why);
+        }
     };
     serve_named::<D, G, Brand, R>(rt, alloc, opened, frames, scripts.as_slice(), board, gate)
 }

@@ -1,5 +1,6 @@
 pub mod Began
 pub mod Names
+pub mod Opens
 pub mod Refusals
 pub mod Seen
 pub mod Turns

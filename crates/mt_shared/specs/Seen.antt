@@ -57,11 +57,12 @@ fresh pass session = record { pass = pass; done = record { session = session; ca
 abbrev pub with_call : Entry → Op → Reply → Entry
 with_call t op reply = record { pass = t.pass; done = record { session = t.done.session; calls = t.done.calls ++ (op, reply) ∷ [] } }
 
--- which mark it is, and the kernel's first base and book
+-- which mark it is, the kernel's first base and book, and how many passes there are to be
 pub record OpenedSeen : Type 0 where
   pub mark : TableId
   pub base : Base
   pub book : List Committed
+  pub count : ℕ
 
 -- a seat of the same mark, which has seen all that the end has
 pub record Beside (end seat : Held) : Type 0 where
@@ -70,13 +71,14 @@ pub record Beside (end seat : Held) : Type 0 where
   pub list : seat.view.list ≡ end.view.list
   pub above : 1 ≤ seat.view.number
 
--- an end and seats of one mark, about a kernel: its history is the book
-pub record IsMarked (kernel : BasedSeen) (end : Held) (seats : List Held) : Type 0 where
+-- an end and so many seats of one mark, about a kernel: its history is the book
+pub record IsMarked (kernel : BasedSeen) (count : ℕ) (end : Held) (seats : List Held) : Type 0 where
   pub base : end.view.base ≡ kernel.base
   pub confirmed : IsConfirmed end.view
   pub list : end.view.list ≡ labelled kernel.book
   pub book : end.view.book ≡ kernel.book
   pub seats_are : All (Beside end) seats
+  pub many : length seats ≡ count
 
 -- the base that a kernel began on, its book of durable transactions, and whether a rotation left no more of it
 pub record KeptSeen : Type 0 where

@@ -24,6 +24,11 @@ pub record IsNew (book : List Committed) (p : PassSeen) : Type 0 where
   pub seen : p.seen ≡ labelled book
   pub none : own p.number p.seen ≡ 0
 
+-- there are so many passes, and each of them is new
+pub record AreNew (book : List Committed) (count : ℕ) (passes : List PassSeen) : Type 0 where
+  pub long : length passes ≡ count
+  pub each : All (IsNew book) passes
+
 -- one of the passes has this number
 abbrev pub HasNumber : ℕ → List PassSeen → Type 0
 HasNumber n [] = ⊥

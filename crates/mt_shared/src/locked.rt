@@ -40,6 +40,8 @@ pub(crate) enum Due {
 pub struct Locked<D: Device, J: Naming> {
     pub(crate) kernel: Kept<D>,
     pub(crate) end: End,
+    // the place of the commit that was appended last
+    pub(crate) appended: u64,
     // how many hold new transactions back
     pub(crate) holding: u32,
     // what who tends is to do
@@ -105,11 +107,23 @@ impl<D: Device, J: Naming> Locked<D, J> {
         }
     }
 
-    // Whether the book has so many entries.
-    pub(crate) fn has_booked(&self, place: u64) -> bool
-        ensures { IsTrue result ↔ (place ≤ length self.now.book) }
+    // Whether the book has nothing behind this place.
+    pub(crate) fn is_last(&self, place: u64) -> bool {
+        self.kernel.len() <= place
+    }
+
+    // Whether a commit was appended that is not in the book yet.
+    pub(crate) fn is_committing(&self) -> bool {
+        self.kernel.len() < self.appended
+    }
+
+    // Whether who commits at this place makes force steps: it is the next to be entered, and not in the book yet. Where the
+    // device has failed, that is how it is told.
+    pub(crate) fn is_to_force(&mut self, place: u64) -> bool
+        ensures { self.new ≡ self.old }
     {
-        place <= self.kernel.len()
+        let is_next = place > 0 && self.end.check() == place - 1;
+        place > self.kernel.len() && (is_next || self.kernel.has_failed())
     }
 
     pub(crate) fn begin(&mut self, session: u32) -> Result<TxnNo, Refusal>
@@ -133,7 +147,9 @@ impl<D: Device, J: Naming> Locked<D, J> {
     pub(crate) fn commit_begin(&mut self, txn: TxnNo) -> Result<u64, Refusal>
         ensures { self.new ≡ self.old }
     {
-        self.kernel.commit_begin(txn)
+        let place = self.kernel.commit_begin(txn)?;
+        self.appended = place;
+        Ok(place)
     }
 
     pub(crate) fn abort_begin(&mut self, txn: TxnNo) -> Result<(), Refusal>
@@ -212,6 +228,7 @@ impl<D: Device, J: Naming> Locked<D, J> {
         let Locked {
             kernel,
             end,
+            appended,
             holding,
             due,
             of,
@@ -225,6 +242,7 @@ impl<D: Device, J: Naming> Locked<D, J> {
                 let locked = Locked {
                     kernel,
                     end,
+                    appended,
                     holding,
                     due,
                     of,
@@ -326,6 +344,7 @@ impl<D: Device, J: Naming> Locked<D, J> {
         let Locked {
             kernel,
             end: _,
+            appended: _,
             holding: _,
             due: _,
             of: _,

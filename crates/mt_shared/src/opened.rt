@@ -1,8 +1,9 @@
-ghost use Rattle.std.specs.Prelude.{◌≡◌, ◌<◌, ◌^◌, All, IfOk, IfErr, vec_len};
+ghost use Rattle.std.specs.Prelude.{◌≡◌, ◌<◌, ◌^◌, [], All, IfOk, IfErr, vec_len};
 ghost use Rattle.mt_mark.specs.Rule.{dones, labelled};
 ghost use Rattle.mt_shared.specs.Began.{BeganOn};
+ghost use Rattle.mt_shared.specs.Opens.{IsBaseOf, IsUnshared};
 ghost use Rattle.mt_shared.specs.Seen.{PassSeen, OpenedSeen, Beside, IsMarked};
-ghost use Rattle.mt_shared.specs.Whole.{IsNew};
+ghost use Rattle.mt_shared.specs.Whole.{AreNew, IsNew};
 
 use crate::based::Based;
 use crate::gate::Gate;
@@ -11,9 +12,11 @@ use crate::locked::{Due, Locked};
 use crate::naming::Naming;
 use crate::pass::Pass;
 use crate::shared::Shared;
+use mt_base::Refusal;
 use mt_disk::Device;
 use mt_mark::{About, End, Seat};
 use mt_model::{Base, Committed};
+use mt_restart::open;
 use mt_txn::Kernel;
 use std::alloc::{AllocError, Global};
 use std::marker::{Model, PhantomData};
@@ -28,14 +31,14 @@ pub struct Opened<D: Device> {
 }
 
 impl<D: Device> Model for Opened<D> {
-    ghost use Rattle.std.specs.Prelude.{◌≡◌, All};
+    ghost use Rattle.std.specs.Prelude.{◌≡◌, All, vec_len};
     ghost use Rattle.mt_mark.specs.Rule.{labelled, IsConfirmed};
     ghost use Rattle.mt_mark.specs.Held.{Held};
     ghost use Rattle.mt_shared.specs.Seen.{OpenedSeen, Beside};
 
     ghost Value = { OpenedSeen };
 
-    ghost view = { λ o. record { mark = o.end.mark; base = o.kernel.base; book = o.kernel.book } };
+    ghost view = { λ o. record { mark = o.end.mark; base = o.kernel.base; book = o.kernel.book; count = vec_len o.seats } };
 
     ghost invariant = { λ o. (o.end.view.base ≡ o.kernel.base) × IsConfirmed o.end.view × (o.end.view.list ≡ labelled o.kernel.book) × (o.end.view.book ≡ o.kernel.book) × All (Beside o.end) o.seats.items };
 }
@@ -54,6 +57,7 @@ impl<D: Device> Opened<D> {
         requires count { count < 2 ^ 32 }
         requires began { BeganOn D.seen D.may_leave base.now kernel }
         ensures ok { IfOk result (λ o. (o.base ≡ base.now) × (o.book ≡ kernel.parts.book.items)) }
+        ensures many { IfOk result (λ o. o.count ≡ count) }
         ensures book { IfErr result (λ k. k.parts.book.items ≡ kernel.parts.book.items) }
         ensures began { IfErr result (λ k. BeganOn D.seen D.may_leave base.now k) }
     {
@@ -64,7 +68,7 @@ impl<D: Device> Opened<D> {
         }
     }
 
-    /// The same under a name, shared, with its passes. Each has seen the book, in which nothing is its own. Where memory
+    /// The same under a name, shared, with as many passes as were asked for. Each has seen the book, in which nothing is its own. Where memory
     /// is short, the kernel comes back.
     pub fn named<G: Gate + Drop, J: Naming>(
         self,
@@ -74,6 +78,7 @@ impl<D: Device> Opened<D> {
         requires name { (self.mark ≡ J.mark) × (self.base ≡ J.base) × (self.book ≡ J.book) }
         ensures passes { IfOk result (λ r. All (λ (p : PassSeen). dones p.seen ≡ self.book) r.1.items) }
         ensures fresh { IfOk result (λ r. All (IsNew J.book) r.1.items) }
+        ensures many { IfOk result (λ r. vec_len r.1 ≡ self.count) }
         ensures err { IfErr result (λ k. k.parts.book.items ≡ self.book) }
         ensures began { IfErr result (λ k. BeganOn D.seen D.may_leave self.base k) }
     {
@@ -84,12 +89,47 @@ impl<D: Device> Opened<D> {
         let locked = Locked {
             kernel: Kept::new(kernel),
             end,
+            appended: 0,
             holding: 0,
             due: Due::Work,
             of: PhantomData,
         };
         let shared = Shared::over(locked, gate);
         Ok((shared, passes))
+    }
+}
+
+impl<D: Device + Drop> Opened<D> {
+    /// Opens a device with so many pages in frames, 32 to 4096, and makes the mark of its kernel, with a seat for each of
+    /// so many passes. The history is empty, and begins on the base that the bytes stood for, which a survey tells.
+    ///
+    /// Refused as [`open`](mt_restart::open) and [`Kernel::survey`], and with 1 where the mark finds no memory. The device
+    /// is handed back.
+    pub fn open(
+        alloc: Global,
+        device: D,
+        frames: usize,
+        count: usize,
+    ) -> Result<Opened<D>, (Refusal, D)>
+        requires count { count < 2 ^ 32 }
+        ensures base { IfOk result (λ opened. IsBaseOf (D.seen device) opened.base) }
+        ensures first { IfOk result (λ opened. opened.book ≡ []) }
+        ensures many { IfOk result (λ opened. opened.count ≡ count) }
+        ensures refused { IfErr result (λ gone. IsUnshared (D.seen device) gone.0) }
+    {
+        let mut kernel = match open(alloc, device, frames) {
+            Ok(kernel) => kernel,
+            Err((why, device)) => return Err((why, device)),
+        };
+        let base = match kernel.survey() {
+            Ok(survey) => survey.base,
+            Err(why) => return Err((why, kernel.into_device())),
+        };
+        base.keeps_bounds();
+        match Opened::new(alloc, kernel, &base, count) {
+            Ok(opened) => Ok(opened),
+            Err(kernel) => Err((Refusal::NoMemory, kernel.into_device())),
+        }
     }
 }
 
@@ -102,7 +142,7 @@ fn marked<D: Device>(
 ) -> Result<(End, Vec<Seat>), AllocError>
     requires count { count < 2 ^ 32 }
     requires base { kernel.now.base ≡ base.now }
-    ensures { IfOk result (λ r. IsMarked kernel.now r.0 r.1.items) }
+    ensures { IfOk result (λ r. IsMarked kernel.now count r.0 r.1.items) }
 {
     let book = copy_of(alloc, kernel.book())?;
     let from = book.len() as u64;
@@ -137,7 +177,7 @@ fn passes_of<J: Naming>(
     requires name { (end.now.mark ≡ J.mark) × (end.now.view.base ≡ J.base) }
     requires list { end.now.view.list ≡ labelled J.book }
     requires seats { All (Beside end.now) seats.items }
-    ensures { IfOk result (λ v. All (IsNew J.book) v.items) }
+    ensures { IfOk result (λ v. AreNew J.book (vec_len seats) v.items) }
 {
     let mut passes = Vec::with_capacity(alloc, seats.len())?;
     'seats: while let Some(seat) = seats.pop() {

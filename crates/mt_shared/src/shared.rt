@@ -22,17 +22,20 @@ use mt_model::{Op, Reply};
 use mt_pool::Flushed;
 use mt_txn::{AbortStepped, Called, Kernel, KernelForced, Stepped};
 use std::alloc::Global;
+use std::array;
 use std::sync::{Condvar, Mutex, MutexGuard, Wait};
-use std::thread;
 
-/// How often who commits lets other threads go on before it forces the log by itself. What they commit meanwhile is forced
-/// with it.
-const TURNS: u32 = 8;
+/// At how many places of the book threads that commit are woken one by one. Where more of them wait at once, some are
+/// woken that go back to sleep.
+const TURNS: usize = 64;
 
 /// A kernel that threads share, with the commit mark beside it: one history for all.
 pub struct Shared<D: Device, G: Gate + Drop, J: Naming> {
     locked: Mutex<Locked<D, J>>,
+    // on which who waits for an operation, or for a transaction to end, sleeps
     moved: Condvar,
+    // on which who commits sleeps until its turn, by its place in the book
+    turns: [Condvar; TURNS],
     // on which who tends sleeps
     due: Condvar,
     gate: G,
@@ -61,10 +64,16 @@ impl<D: Device, G: Gate + Drop, J: Naming> Shared<D, G, J> {
         Shared {
             locked: Mutex::new(locked),
             moved: Condvar::new(),
+            turns: array::from_fn(|_| Condvar::new()),
             due: Condvar::new(),
             gate,
             wanted,
         }
+    }
+
+    // Where who commits at this place sleeps.
+    fn turn(&self, place: u64) -> &Condvar {
+        &self.turns[(place % TURNS as u64) as usize]
     }
 
     // Tells the gate, if it wants to be told.
@@ -84,18 +93,36 @@ impl<D: Device, G: Gate + Drop, J: Naming> Shared<D, G, J> {
         why
     }
 
-    // Wakes all that sleep, who tends too.
+    // Wakes all that sleep, who tends and who commits too.
     fn wake_all(&self) {
         self.moved.notify_all();
         self.due.notify_all();
+        for turn in &self.turns {
+            turn.notify_all();
+        }
     }
 
-    // A transaction has ended. Wakes who waits for it, and who tends where that had nothing to do.
-    fn ended(&self, locked: &mut Locked<D, J>)
-        ensures { locked.new ≡ locked.old }
-    {
+    // A transaction was taken back. Wakes who waits for it, and who tends where that had nothing to do.
+    fn taken_back(&self, mut locked: MutexGuard<'_, Locked<D, J>>) {
+        let is_due = locked.stir();
+        drop(locked);
         self.moved.notify_all();
-        if locked.stir() {
+        if is_due {
+            self.due.notify_all();
+        }
+    }
+
+    // A commit is in the history. Once the lock is free this wakes who commits at the next place, and who waits until all
+    // are in the history; behind the last that is durable also who tends, where that had nothing to do.
+    fn has_entered(&self, mut locked: MutexGuard<'_, Locked<D, J>>, place: u64) {
+        let is_due = locked.is_last(place) && locked.stir();
+        let is_awaited = locked.holds_back();
+        drop(locked);
+        self.turn(place.wrapping_add(1)).notify_all();
+        if is_awaited {
+            self.moved.notify_all();
+        }
+        if is_due {
             self.due.notify_all();
         }
     }
@@ -107,6 +134,7 @@ impl<D: Device, G: Gate + Drop, J: Naming> Shared<D, G, J> {
         let Shared {
             locked,
             moved: _,
+            turns: _,
             due: _,
             gate: _,
             wanted: _,
@@ -280,7 +308,7 @@ impl<D: Device, G: Gate + Drop, J: Naming> Shared<D, G, J> {
         for _ in rt.forever() {
             match locked.abort_step(number) {
                 Ok(AbortStepped::Ended) => {
-                    self.ended(&mut locked);
+                    self.taken_back(locked);
                     return Ok(());
                 }
                 Ok(AbortStepped::More) => self.moved.notify_all(),
@@ -304,33 +332,41 @@ impl<D: Device, G: Gate + Drop, J: Naming> Shared<D, G, J> {
         unreachable!()
     }
 
-    /// One step of a force; where there is nothing to force, one page is flushed. It is for a thread that does so in
-    /// the background, and waits for the lock alone.
+    /// One step of a force; where there is nothing to force, or a commit waits to be durable, which who commits forces,
+    /// one page is flushed. It is for a thread that does so in the background, and waits for the lock alone.
     ///
     /// Refused: 2 where the device has failed or fails in this call; 1 for want of memory.
     pub fn tend<R: Wait>(&self, rt: &R) -> Result<Tended, Refusal> {
         let mut locked = self.locked.lock(rt);
+        if locked.is_committing() {
+            return self.flushed(locked);
+        }
         match locked.force_step() {
             Ok(KernelForced::More) => Ok(Tended::Worked),
             Ok(KernelForced::Durable(_)) => {
                 self.moved.notify_all();
                 Ok(Tended::Worked)
             }
-            Ok(KernelForced::Idle) => match locked.flush_step() {
-                Ok(Flushed::Page(_)) => Ok(Tended::Worked),
-                Ok(_) => {
-                    locked.settle();
-                    Ok(Tended::Idle)
-                }
-                Err(why) => Err(self.refusing(why)),
-            },
+            Ok(KernelForced::Idle) => self.flushed(locked),
+            Err(why) => Err(self.refusing(why)),
+        }
+    }
+
+    // Flushes a page. Where none can be flushed, nothing is due until a transaction ends.
+    fn flushed(&self, mut locked: MutexGuard<'_, Locked<D, J>>) -> Result<Tended, Refusal> {
+        match locked.flush_step() {
+            Ok(Flushed::Page(_)) => Ok(Tended::Worked),
+            Ok(_) => {
+                locked.settle();
+                Ok(Tended::Idle)
+            }
             Err(why) => Err(self.refusing(why)),
         }
     }
 
     /// Sleeps until there may be something to tend, and answers true; false once [`Shared::end_tending`] was called.
-    /// It is for the thread that calls [`Shared::tend`], after an `Idle`: a transaction that ends wakes it, and so does
-    /// the device that fails. Then `tend` answers 2.
+    /// It is for the thread that calls [`Shared::tend`], after an `Idle`. A transaction that is taken back wakes it, and so
+    /// does the last durable commit, once it is in the history. The device that fails wakes it too; then `tend` answers 2.
     pub fn await_due<R: Wait>(&self, rt: &R) -> bool {
         let mut locked = self.locked.lock(rt);
         for _ in rt.forever() {
@@ -367,8 +403,8 @@ impl<D: Device, G: Gate + Drop, J: Naming> Shared<D, G, J> {
 
     /// Commits, and answers the place in the history, from 1. The transaction is durable then, and in the history.
     ///
-    /// It makes force steps until its commit is durable, and then waits until those before it are entered; neither
-    /// needs the device. Refused: 15 where the token is of another pass, then as [`Kernel::commit_begin`], and the
+    /// It waits until the commits before it are entered. If its own is not durable then, it makes force steps until it
+    /// is; what others have appended meanwhile is forced with it. Refused: 15 where the token is of another pass, then as [`Kernel::commit_begin`], and the
     /// token comes back; 2 where the device failed before the commit was durable, and then the token is gone.
     pub fn commit<R: Wait>(
         &self,
@@ -390,10 +426,10 @@ impl<D: Device, G: Gate + Drop, J: Naming> Shared<D, G, J> {
             });
         }
         let session = txn.session;
-        let begun = self.locked.lock(rt).commit_begin(txn.number);
-        match begun {
+        let mut locked = self.locked.lock(rt);
+        match locked.commit_begin(txn.number) {
             Ok(place) => {
-                let place = self.entered(rt, pass, txn, place)?;
+                let place = self.entered(rt, locked, pass, txn, place)?;
                 self.tell(session, Point::Committed);
                 Ok(place)
             }
@@ -410,10 +446,11 @@ impl<D: Device, G: Gate + Drop, J: Naming> Shared<D, G, J> {
         }
     }
 
-    // Makes a commit durable and enters it. What is in the book already needs no device.
-    fn entered<R: Wait>(
-        &self,
+    // Enters a commit, once it is its turn and it is durable.
+    fn entered<'a, R: Wait>(
+        &'a self,
         rt: &R,
+        locked: MutexGuard<'a, Locked<D, J>>,
         pass: &mut Pass<J>,
         txn: Txn<J>,
         place: u64,
@@ -423,39 +460,44 @@ impl<D: Device, G: Gate + Drop, J: Naming> Shared<D, G, J> {
         ensures same { OnErr result (pass.new ≡ pass.old) }
         ensures gone { IfErr result (λ r. (r.txn ≡ None) × (r.why ≡ DeviceFailed)) }
     {
-        let mut locked = self.locked.lock(rt);
+        let mut locked = locked;
         let mut kept = txn;
-        let mut turns = 0;
         'turns: for _ in rt.forever() {
             match locked.enter(place, pass, kept) {
                 Ok(()) => {
-                    self.ended(&mut locked);
+                    self.has_entered(locked, place);
                     return Ok(place);
                 }
                 Err(back) => kept = back,
             }
-            if locked.has_booked(place) {
-                locked = self.moved.wait(rt, locked);
-            } else if turns < TURNS {
-                turns += 1;
-                drop(locked);
-                thread::yield_now();
-                locked = self.locked.lock(rt);
-            } else {
-                match self.force_on(rt, locked) {
-                    Ok(next) => locked = next,
-                    Err(_) => return Err(lost(pass, kept)),
-                }
+            match self.come_nearer(rt, locked, place) {
+                Ok(next) => locked = next,
+                Err(_) => return Err(lost(pass, kept)),
             }
         }
         unreachable!()
     }
 
-    // Makes a step of a force. The lock is let go between two steps, and where another thread makes it.
+    // Makes a step of a force where the commit at this place is the next to be entered. It waits for its turn before.
+    fn come_nearer<'a, R: Wait>(
+        &'a self,
+        rt: &R,
+        mut locked: MutexGuard<'a, Locked<D, J>>,
+        place: u64,
+    ) -> Result<MutexGuard<'a, Locked<D, J>>, Refusal> {
+        if locked.is_to_force(place) {
+            self.force_on(rt, locked, place)
+        } else {
+            Ok(self.turn(place).wait(rt, locked))
+        }
+    }
+
+    // Makes a step of a force. The lock is let go between two steps.
     fn force_on<'a, R: Wait>(
         &'a self,
         rt: &R,
         mut locked: MutexGuard<'a, Locked<D, J>>,
+        place: u64,
     ) -> Result<MutexGuard<'a, Locked<D, J>>, Refusal> {
         match locked.force_step() {
             Ok(KernelForced::More) | Err(Refusal::NoMemory) => {
@@ -466,7 +508,7 @@ impl<D: Device, G: Gate + Drop, J: Naming> Shared<D, G, J> {
                 self.moved.notify_all();
                 Ok(locked)
             }
-            Ok(KernelForced::Idle) => Ok(self.moved.wait(rt, locked)),
+            Ok(KernelForced::Idle) => Ok(self.turn(place).wait(rt, locked)),
             Err(why) => {
                 self.wake_all();
                 Err(why)
@@ -505,6 +547,7 @@ impl<D: Device, G: Gate + Drop, J: Naming> Shared<D, G, J> {
         let Shared {
             locked,
             moved,
+            turns,
             due,
             gate,
             wanted,
@@ -521,6 +564,7 @@ impl<D: Device, G: Gate + Drop, J: Naming> Shared<D, G, J> {
                 let shared = Shared {
                     locked: Mutex::new(locked),
                     moved,
+                    turns,
                     due,
                     gate,
                     wanted,

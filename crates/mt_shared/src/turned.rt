@@ -1,5 +1,5 @@
 // A rotation of a kernel with its base.
-ghost use Rattle.std.specs.Prelude.{◌≡◌, Ok, true, false, IfOk, IfErr};
+ghost use Rattle.std.specs.Prelude.{◌≡◌, ◌↔◌, Ok, true, false, length, IfOk, IfErr, IsTrue};
 ghost use Rattle.mt_shared.specs.Seen.{IsTurned, KeepsAll, seen_of, whole};
 ghost use Rattle.mt_shared.specs.Refusals.{IsTurnFault};
 ghost use Rattle.mt_shared.specs.Turns.{HasTurned};
@@ -42,6 +42,13 @@ fn outcome(why: Refusal) -> Result<bool, Refusal>
     }
 }
 
+// Whether its book has just so many commits.
+fn has_just<D: Device>(kernel: &Based<D>, commits: u64) -> bool
+    ensures { IsTrue result ↔ (length kernel.now.book ≡ commits) }
+{
+    kernel.book().len() as u64 == commits
+}
+
 // Turns a kernel's log over, where its book has so many commits, and no transaction lives.
 pub(crate) fn turn<D: Device + Drop>(
     kernel: Based<D>,
@@ -56,7 +63,7 @@ pub(crate) fn turn<D: Device + Drop>(
     if kernel.has_failed() {
         return kept(kernel, Err(Refusal::DeviceFailed));
     }
-    if kernel.book().len() as u64 != commits {
+    if !has_just(&kernel, commits) {
         return kept(kernel, Ok(false));
     }
     rotated(kernel, alloc, frames)

@@ -11,5 +11,6 @@ returns g c = three_ok _ _ _ _ c.new.result c.new.ensures.end c.new.ensures.coun
       confirmed = end.3;
       list = end.0 ∙ ap labelled book;
       book = end.2 ∙ book;
+      many = (let n = count in let o = r.1.ok in omega arith);
       seats_are = λ k d h. let s = seats k d (let n = count in let o = r.1.ok in omega arith) in record { mark = s.mark; base = s.base; list = s.list; above = (let n = s.number in omega arith) };
     })

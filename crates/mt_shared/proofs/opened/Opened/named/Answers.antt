@@ -19,7 +19,7 @@ invariant_of-locked g c = let i = c.self.invariant in
     (mark, i.0 ∙ base, n.base ∙ base, i.1, ([], append-nil _ ∙ (ap dones i.2 ∙ (dones-labelled _ ∙ sym n.book))), λ left. absurd (let wrong : ◌≡◌ {A = Bool} true false = sym left ∙ n.is in cc), i.3 ∙ book)
 
 pub returns-clause-passes : goal.returns-clause-passes
-returns-clause-passes g c = λ k d h. ap dones (c.in-Ok.ensures k d h).seen ∙ (dones-labelled _ ∙ sym c.requires.name.2)
+returns-clause-passes g c = λ k d h. ap dones (c.in-Ok.ensures.each k d h).seen ∙ (dones-labelled _ ∙ sym c.requires.name.2)
 
 pub passes_of-requires-clause-list : goal.passes_of-requires-clause-list
 passes_of-requires-clause-list g c = c.self.invariant.2 ∙ ap labelled (ap (λ (x : OpenedSeen). x.book) c.self.view_is ∙ c.requires.name.2)

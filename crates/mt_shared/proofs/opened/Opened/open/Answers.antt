@@ -1,9 +1,9 @@
 use Rattle.std.proofs.Common.{inr, refl, subst, sym, ◌∙◌}
 use Rattle.mt_model.specs.Views.{base_of}
 use Rattle.mt_model.specs.declared.tables.Base.{Base}
-use Rattle.mt_server.proofs.ServingLemmas.{began_on_survey, book_at_first, same_as_told, unopened_by, unsurveyed}
+use Rattle.mt_shared.proofs.Openings.{began_on_survey, book_at_first, same_as_told, unopened_by, unsurveyed}
 use Rattle.mt_steps.specs.Listed.{IsSame}
-use Rattle.mt_server.proofs.serving.open_for.Goals as goal
+use Rattle.mt_shared.proofs.opened.Opened.open.Goals as goal
 
 pub new-requires-clause-began : goal.new-requires-clause-began
 new-requires-clause-began g c =

@@ -61,6 +61,7 @@ unmarked_late : (why : Refusal) → IsUnmarked why → IsLate why
 unmarked_late refusal.NoMemory _ = tt
 unmarked_late refusal.DeviceFailed _ = tt
 unmarked_late refusal.Busy _ = tt
+unmarked_late why unmarked = absurd unmarked
 
 -- what was not opened is not served
 pub unopened_by : (c : List ℕ) (why : Refusal) → IsUnshared c why → IsUnopened c why

@@ -22,4 +22,4 @@ returns-clause-refused g c =
 pub returns-clause-began : goal.returns-clause-began
 returns-clause-began g c =
     let D = g.D.Device in
-    IfOk-weaker c.serve_named.result _ _ (λ s began. served_on D.seen D.may_leave (D.seen c.args.device) c.in-Ok.opened.base s.kernel c.in-Ok.ensures.base began) c.serve_named.ensures.began
+    IfOk-weaker c.serve_named.result _ _ (λ s began. served_on D.seen D.may_leave (D.seen c.args.device) c.in-Ok-open.opened.base s.kernel c.in-Ok-open.ensures.base began) c.serve_named.ensures.began

@@ -35,13 +35,11 @@ fn take_back<J: Naming, R: Wait>(rt: &R, shared: &Both<J>, pass: &mut Pass<J>, t
     let mut kept = txn;
     for _ in rt.forever() {
         match shared.abort(rt, pass, kept) {
-            Ok(()) | Err(Refused { why: _, txn: None }) => return,
-            Err(
-                Refused {
-                    why: _,
-                    txn: Some(back),
-                },
-            ) => kept = back,
+            Ok(()) => return,
+            Err(Refused { why: _, txn }) => match txn {
+                Some(back) => kept = back,
+                None => return,
+            },
         }
     }
     unreachable!()
@@ -56,14 +54,10 @@ fn end<J: Naming, R: Wait>(
 ) -> Result<u64, Refusal> {
     match shared.commit(rt, pass, txn) {
         Ok(place) => Ok(place),
-        Err(Refused { why, txn: None }) => Err(why),
-        Err(
-            Refused {
-                why,
-                txn: Some(back),
-            },
-        ) => {
-            take_back(rt, shared, pass, back);
+        Err(Refused { why, txn }) => {
+            if let Some(back) = txn {
+                take_back(rt, shared, pass, back);
+            }
             Err(why)
         }
     }
@@ -169,8 +163,9 @@ fn transferred<R: Threads + Wait + Sync>(rt: &R, alloc: Global) -> Result<[i64; 
 }
 
 fn main(rt: HostRuntime) -> io::Result<()> {
-    match transferred(&rt, rt.alloc()) {
-        Ok([from, to]) => println!(rt; "counter 0 stands at {from}, counter 1 at {to}"),
-        Err(why) => println!(rt; "{why}"),
-    }
+    let (from, to) = match transferred(&rt, rt.alloc()) {
+        Ok(numbers) => (numbers[0], numbers[1]),
+        Err(why) => return println!(rt; "{why}"),
+    };
+    println!(rt; "counter 0 stands at {from}, counter 1 at {to}")
 }

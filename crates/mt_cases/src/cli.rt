@@ -1,6 +1,6 @@
 use crate::common::{device_of, kernel_over, put_away};
 use mt_base::Refusal;
-use mt_cli::perform_words;
+use mt_cli::{Silence, perform_words};
 use mt_disk::FaultDevice;
 use mt_folder::MemFolder;
 use mt_script::{Script, ScriptFault, read_script};
@@ -40,6 +40,7 @@ fn run(
         &mut input,
         &mut out,
         &mut err,
+        Silence,
     );
     Ok(Ran { status, out, err })
 }
@@ -71,7 +72,7 @@ fn expect_transcript(
 
 /// What is told behind the refusal of a line.
 const BAD_LINE: &[u8] =
-    b"s: that line is not in the grammar; see docs/SCRIPTS.md and docs/SCHEDULES.md\n";
+    b"s: that line is not in the grammar, or no line feed ends it; see docs/SCRIPTS.md and docs/SCHEDULES.md\n";
 
 /// A script that is refused before any of it runs.
 fn expect_bad_line(
@@ -240,6 +241,7 @@ fn a_failing_reader_is_refusal_2(rt: HostRuntime) -> Result<(), Fail> {
         &mut input,
         &mut out,
         &mut err,
+        Silence,
     );
     let ran = Ran { status, out, err };
     expect_ran(&rt, &ran, 1, b"", b"refused 2 DeviceFailed\n");
@@ -291,6 +293,7 @@ fn run_narrow(
         &mut script,
         &mut out,
         &mut err,
+        Silence,
     );
     let Narrow { room: _, taken } = out;
     Ran {
@@ -306,7 +309,8 @@ fn a_failing_writer_has_a_beginning_of_the_transcript(rt: HostRuntime) {
     let script = b"begin\ninsert 0 a x\ncommit\nbegin\ninsert 0 b y\n".as_slice();
     for room in [0, 8, transcript.len() - 1, transcript.len()] {
         let ran = run_narrow(&rt, room, script);
-        let told = b"the output cannot be written\n";
+        let told =
+            b"the output cannot be written\nstandard output: see that its disk has room and that its reader goes on; what was committed stands\n";
         expect_ran(&rt, &ran, 1, &transcript[..room], told);
     }
 }

@@ -1,5 +1,5 @@
 -- Scripts that were served to a device, and to a file.
-use Rattle.std.proofs.Common.{◌≡◌, ◌∙◌, ◌+◌, ℕ, true, false, List, length, take, Option, None, Result, Ok, Err, IfErr, IsErrAnd, IsOk, OnOk, refl, sym, ap, subst, arith}
+use Rattle.std.proofs.Common.{◌≡◌, ◌∙◌, ◌+◌, inl, inr, ℕ, true, false, List, length, take, Option, None, Result, Ok, Err, IfErr, IsErrAnd, IsOk, OnOk, refl, sym, ap, subst, arith}
 use Rattle.std.proofs.lemmas.List.{take_all}
 use mathlib.Core.Logic.{∥∥₁_elim, ∥∥₁_map, ∥∥₁_prop}
 use Rattle.mt_disk.specs.declared.device.Device.{Ghosts}
@@ -14,19 +14,22 @@ use Rattle.mt_txn.specs.Restarted.{all_commits, FindsCommits}
 use Rattle.mt_txn.specs.Shown.{Restarts, SameSchema, StaysRestarting}
 use Rattle.mt_txn.specs.Turned.{HasNobody}
 use Rattle.mt_txn.specs.declared.kernel.Kernel.{Kernel}
-use Rattle.mt_server.proofs.RunLemmas.{cut_ended}
+use Rattle.mt_base.specs.declared.refusal.Refusal.TheVariants as refusal
 use Rattle.mt_server.specs.Driven.{IsBeside}
 use Rattle.mt_server.specs.Plays.{Play}
-use Rattle.mt_server.specs.Runs.{IsCutShort}
-use Rattle.mt_server.specs.Sessions.{AreCutShort, HasServed, HaveServed, HavePlayed, IsCutWithin, unheard_line, cut_script, Serves, no_script, then_script, in_session}
+use Rattle.mt_server.specs.Turnovers.{IsCutOff, IsLeftBy, why_in}
+use Rattle.mt_server.specs.Sessions.{AreCutShort, HasServed, HaveServed, HavePlayed, IsCutWithin, unheard_line, cut_script, Serves, StandsEach, no_script, then_script, in_session}
 use Rattle.mt_script.specs.declared.answers.Answer.{Answer}
 use Rattle.mt_script.specs.declared.lines.Line.{Line}
+use Rattle.mt_server.specs.declared.rotating.NotServed.{NotServed}
+use Rattle.mt_server.specs.declared.rotating.NotServed.TheVariants.{Kept, Ended}
 use Rattle.mt_server.specs.declared.running.RunFault.{RunFault}
+use Rattle.mt_server.specs.declared.running.RunFault.TheVariants as run
 use Rattle.mt_cli.proofs.DumpLemmas.{no_member}
 use Rattle.mt_folder.proofs.FolderLemmas.{kept_then, put_then}
 use Rattle.mt_cli.proofs.Trials.{ended_by, played}
 use Rattle.mt_folder.specs.Folders.{AreKept, Files, IsFileRefusal, IsHeld, IsLent, Puts}
-use Rattle.mt_cli.specs.Serves.{AreShortOn, HasNotRun, HaveServedOn, IsOnBase, IsServedIn, IsShortOf, IsShortWithin, unheard_session, short_session, IsUnservedIn, unserved, no_device, StandForAll, first_on, fault_of, unread_scripts}
+use Rattle.mt_cli.specs.Serves.{AreEndedBy, AreShortOn, HasNotRun, HaveServedOn, IsOnBase, IsServedIn, IsShortOf, IsShortWithin, unheard_session, short_session, IsUnservedIn, unserved, no_device, StandForAll, first_on, fault_of, unread_scripts}
 use Rattle.mt_cli.specs.Reads.{HasNoScript}
 use Rattle.mt_cli.specs.declared.faults.Fault.{Fault}
 use Rattle.mt_cli.specs.declared.faults.Fault.TheVariants.{Output, Refused, Unread}
@@ -35,7 +38,7 @@ use Rattle.std.specs.Io.KnownBytes.{Keeps}
 module _ {D : Type 0} {g : Ghosts D} (seen : D → List ℕ) (may_leave : D → List ℕ → Type 0) where
   -- a kernel that was opened on a base stands beside the model there
   pub beside_first : (relations counters : ℕ) (b : Base) (k : Kernel D g) → IsOpened seen may_leave relations counters b k → IsBeside seen may_leave (first_on b) None k
-  beside_first relations counters b k opened = record { shown = ∣ (b, start b, opened.shows, (record { book = refl; base = refl }, λ u. refl)) ∣₁; nothing = refl }
+  beside_first relations counters b k opened = record { shown = ∣ (b, start b, opened.shows, (record { first_is = refl; book = refl; base = refl }, λ u. refl)) ∣₁; nothing = refl }
 
   -- sessions of a kernel are sessions of the model
   schema_kept : (s e : Play × Kernel D g) (ls : List (List Line)) (ts : List (List Answer)) → Serves (HasServed seen may_leave) s ls ts e → (e.1.relations ≡ s.1.relations) × (e.1.counters ≡ s.1.counters)
@@ -49,7 +52,7 @@ module _ {D : Type 0} {g : Ghosts D} (seen : D → List ℕ) (may_leave : D → 
       then_script scripts transcripts mid.0 end.0 lines told (all_played relations counters s mid scripts transcripts rs cs before) (record {
         answers = x.answers;
         play = x.play;
-        ran = played seen may_leave relations counters (in_session mid.0 (length scripts + 1), mid.1) (x.play, x.last) lines x.answers (kept.0 ∙ rs) (kept.1 ∙ cs) x.ran;
+        ran = played seen may_leave relations counters (in_session mid.0 (length scripts + 1), x.begun) (x.play, x.last) lines x.answers (x.over.schema.0 ∙ kept.0 ∙ rs) (x.over.schema.1 ∙ kept.1 ∙ cs) x.ran;
         told_is = x.told_is;
         end_is = x.end_is;
       })
@@ -81,10 +84,10 @@ module _ {D : Type 0} {g : Ghosts D} (seen : D → List ℕ) (may_leave : D → 
   -- ---- serving
 
   pub served_on : (relations counters : ℕ) (b : Base) (k n : Kernel D g) (scripts : List (List Line)) (was now : Option (List ℕ)) (c : List ℕ) → IsOpened seen may_leave relations counters b k → SameSchema k n → StaysRestarting seen may_leave k n
-      → ((p : Play) → IsBeside seen may_leave p None k → HaveServed seen may_leave p k scripts was now n)
+      → StandsEach seen may_leave k (λ p. HaveServed seen may_leave p k scripts was now n)
       → ((first : Base) → Restarts seen may_leave first n → ∥ FindsCommits n.relations n.counters first n.parts c ∥₁) → HaveServedOn relations counters b scripts was now c
   served_on relations counters b k n scripts was now c opened schema stays ran finds =
-      let x = ran (first_on b) (beside_first relations counters b k opened) in
+      let x = ran (first_on b) (beside_first relations counters b k opened) opened.restarts in
       record {
         transcripts = x.transcripts;
         last = x.play;
@@ -94,28 +97,38 @@ module _ {D : Type 0} {g : Ghosts D} (seen : D → List ℕ) (may_leave : D → 
       }
 
   module _ (faults : D → ℕ) where
-    short_of : (relations counters : ℕ) (p : Play) (k n : Kernel D g) (lines : List Line) (was now : Option (List ℕ)) (why : RunFault) → k.relations ≡ relations → k.counters ≡ counters → IsCutShort seen may_leave faults p k lines was now n why
-        → IsShortOf relations counters p lines was now why
-    short_of relations counters p k n lines was now why rs cs x = record {
+    -- why a run ended of which this is left
+    ended_among : (relations counters : ℕ) (left : NotServed D g) (q : Play) → IsLeftBy seen may_leave faults relations counters left q → AreEndedBy (why_in left)
+    ended_among relations counters (Kept run.Output n) q x = tt
+    ended_among relations counters (Kept (run.Refused why) n) q x = inl (ended_by seen may_leave faults n (run.Refused why) x.1)
+    ended_among relations counters (Ended run.Output device) q x = tt
+    ended_among relations counters (Ended (run.Refused refusal.NoMemory) device) q x = inl (inl refl)
+    ended_among relations counters (Ended (run.Refused refusal.DeviceFailed) device) q x = inl (inr refl)
+    ended_among relations counters (Ended (run.Refused refusal.LogFull) device) q x = inr refl
+    ended_among relations counters (Ended (run.Refused why) device) q x = absurd x.0
+
+    short_of : (relations counters : ℕ) (p : Play) (k : Kernel D g) (lines : List Line) (was now : Option (List ℕ)) (left : NotServed D g) → k.relations ≡ relations → k.counters ≡ counters → IsCutOff seen may_leave faults p k lines was now left
+        → IsShortOf relations counters p lines was now (why_in left)
+    short_of relations counters p k lines was now left rs cs (begun, over, x) = record {
       before = x.before;
       rest = x.rest;
       split = x.split;
       answers = x.answers;
       last = x.play;
-      ran = played seen may_leave relations counters (p, k) (x.play, x.last) x.before x.answers rs cs x.ran;
+      ran = played seen may_leave relations counters (p, begun) (x.play, x.last) x.before x.answers (over.schema.0 ∙ rs) (over.schema.1 ∙ cs) x.ran;
       told = x.told;
-      ended = ended_by seen may_leave faults n why (cut_ended seen may_leave faults p k lines was now n why x);
+      ended = ended_among k.relations k.counters left x.play x.left;
     }
 
-    within : (relations counters : ℕ) (p : Play) (k n : Kernel D g) (i : ℕ) (lines : List Line) (was now : Option (List ℕ)) (why : RunFault) → k.relations ≡ relations → k.counters ≡ counters → IsCutWithin seen may_leave faults p k i lines was now n why
-        → IsShortWithin relations counters p i lines was now why
-    within relations counters p k n i lines was now _ rs cs (unheard_line front same) = unheard_session front
-    within relations counters p k n i lines was now _ rs cs (cut_script mid why told cut) = short_session mid why told (short_of relations counters (in_session p i) k n lines mid now why rs cs cut)
+    within : (relations counters : ℕ) (p : Play) (k : Kernel D g) (i : ℕ) (lines : List Line) (was now : Option (List ℕ)) (left : NotServed D g) → k.relations ≡ relations → k.counters ≡ counters → IsCutWithin seen may_leave faults p k i lines was now left
+        → IsShortWithin relations counters p i lines was now (why_in left)
+    within relations counters p k i lines was now _ rs cs (unheard_line n front same) = unheard_session front
+    within relations counters p k i lines was now _ rs cs (cut_script mid left told cut) = short_session mid (why_in left) told (short_of relations counters (in_session p i) k lines mid now left rs cs cut)
 
-    pub short_on : (relations counters : ℕ) (b : Base) (k n : Kernel D g) (scripts : List (List Line)) (was now : Option (List ℕ)) (why : RunFault) → IsOpened seen may_leave relations counters b k
-        → ((p : Play) → IsBeside seen may_leave p None k → AreCutShort seen may_leave faults p k scripts was now n why) → AreShortOn relations counters b scripts was now why
-    short_on relations counters b k n scripts was now why opened cut =
-        let x = cut (first_on b) (beside_first relations counters b k opened) in
+    pub short_on : (relations counters : ℕ) (b : Base) (k : Kernel D g) (scripts : List (List Line)) (was now : Option (List ℕ)) (left : NotServed D g) → IsOpened seen may_leave relations counters b k
+        → StandsEach seen may_leave k (λ p. AreCutShort seen may_leave faults p k scripts was now left) → AreShortOn relations counters b scripts was now (why_in left)
+    short_on relations counters b k scripts was now left opened cut =
+        let x = cut (first_on b) (beside_first relations counters b k opened) opened.restarts in
         let kept = schema_kept (first_on b, k) (x.ran.play, x.last) x.before x.ran.transcripts x.ran.served in
         record {
           before = x.before;
@@ -127,7 +140,7 @@ module _ {D : Type 0} {g : Ghosts D} (seen : D → List ℕ) (may_leave : D → 
           played = all_played relations counters (first_on b, k) (x.ran.play, x.last) x.before x.ran.transcripts opened.relations_are opened.counters_are x.ran.served;
           mid = x.mid;
           told = x.ran.told;
-          within = within relations counters x.ran.play x.last n (length x.before + 1) x.lines x.mid now why (kept.0 ∙ opened.relations_are) (kept.1 ∙ opened.counters_are) x.within;
+          within = within relations counters x.ran.play x.last (length x.before + 1) x.lines x.mid now left (kept.0 ∙ opened.relations_are) (kept.1 ∙ opened.counters_are) x.within;
         }
 
 -- ---- on bytes

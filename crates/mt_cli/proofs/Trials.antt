@@ -24,7 +24,7 @@ use Rattle.mt_cli.specs.Performs.{HasTried, IsFirst, IsFirstSchema, IsShort, Sta
 use Rattle.mt_cli.specs.Serves.{IsEndedBy}
 
 first_play : Schema → Play
-first_play schema = record { session = 1; base = schema_base schema; book = []; under_way = None }
+first_play schema = record { session = 1; first = schema_base schema; base = schema_base schema; book = []; under_way = None }
 
 no_rows : (rs : List Row) (r : ℕ) (k : List ℕ) → length rs ≡ 0 → value_at rs r k ≡ None
 no_rows [] r k none = refl
@@ -53,7 +53,7 @@ module _ {D : Type 0} {g : Ghosts D} (seen : D → List ℕ) (may_leave : D → 
   stands_first schema k first shows made = record {
     play = first_play schema;
     first = is_first schema first;
-    beside = record { shown = ∣ (schema_base schema, start (schema_base schema), shows, (record { book = refl; base = refl }, λ u. refl)) ∣₁; nothing = refl };
+    beside = record { shown = ∣ (schema_base schema, start (schema_base schema), shows, (record { first_is = refl; book = refl; base = refl }, λ u. refl)) ∣₁; nothing = refl };
     relations = made.0 ∙ first.relations;
     counters = made.1 ∙ ap (λ (ns : List Count). length ns) first.counters;
   }

@@ -1,5 +1,5 @@
 -- What is told of a command that did not end well.
-use Rattle.std.specs.Prelude.{ℕ, List, [], ◌∷◌, ◌++◌, Some, None, cond, codes, get_or, length, map, string_bytes, ◌==◌}
+use Rattle.std.specs.Prelude.{ℕ, List, [], ◌∷◌, ◌++◌, Some, None, cond, codes, get_or, length, map, nat_lt, string_bytes, ◌==◌}
 use Rattle.mt_base.specs.declared.refusal.Refusal.{Refusal}
 use Rattle.mt_base.specs.declared.refusal.Refusal.TheVariants as refusal
 use Rattle.mt_script.specs.Answers.{answer_text}
@@ -16,44 +16,66 @@ fault_line Output = codes "the output cannot be written\n"
 fault_line (Refused why) = answer_text (RefusedLine why) ++ 10 ∷ []
 fault_line (Unread why at) = answer_text (RefusedLine why) ++ 10 ∷ []
 
+-- what to do about bytes that break the format at a place: below 8192 it is a master slot, which tells the length
+abbrev pub advice_at : ℕ → List ℕ
+advice_at place = cond (nat_lt place 8192) (codes "the file is shorter than its first bytes tell, or these are damaged; take a copy that is whole")
+    (codes "the bytes at that place are none that a device can have; keep a copy of the file")
+
 -- what to do about a refusal of a command
 abbrev pub advice_on : Refusal → List ℕ
 advice_on refusal.NoMemory = codes "there is not enough memory; `run` takes less with fewer frames"
 advice_on refusal.DeviceFailed = codes "see that it is there, can be read and written, is open in no other program, and that its disk has room"
 advice_on refusal.NotFormatted = codes "this is no device, or its format did not end; `mtk format` makes one"
-advice_on (refusal.BadFormat place) = codes "the bytes at that place are none that a device can have; keep a copy of the file"
+advice_on (refusal.BadFormat place) = advice_at place
 advice_on refusal.BadLength = codes "a number is outside its limits, or there are more than 64 scripts; see `mtk --help`"
 advice_on refusal.LogFull = codes "its log cannot be turned over; keep the file, which `mtk check` still reads"
-advice_on (refusal.BadLine line) = codes "that line is not in the grammar; see docs/SCRIPTS.md and docs/SCHEDULES.md"
-advice_on _ = []
+advice_on (refusal.BadLine line) = codes "that line is not in the grammar, or no line feed ends it; see docs/SCRIPTS.md and docs/SCHEDULES.md"
+advice_on _ = codes "see docs/COMMANDS.md"
+
+-- and about a script that was not read
+abbrev pub advice_on_script : Refusal → List ℕ
+advice_on_script refusal.DeviceFailed = codes "see that it is there and can be read"
+advice_on_script why = advice_on why
 
 abbrev pub advice_of : Fault → List ℕ
-advice_of Output = []
+advice_of Output = codes "see that its disk has room and that its reader goes on; what was committed stands"
 advice_of (Refused why) = advice_on why
-advice_of (Unread why at) = advice_on why
+advice_of (Unread why at) = advice_on_script why
 
--- a script's name, as people are told it
+-- a file's name, as people are told it, and a script's
+abbrev pub shown_file : List ℕ → List ℕ
+shown_file name = cond (length name == 0) (codes "''") name
+
 abbrev pub shown_name : List ℕ → List ℕ
-shown_name name = cond (is_input name) (codes "standard input") name
+shown_name name = cond (is_input name) (codes "standard input") (shown_file name)
 
--- the file that a fault of a command is about, or the input
+-- the file that a command names first, or the input
+abbrev pub named_in : Command → List ℕ
+named_in (Try None) = codes "standard input"
+named_in (Try (Some name)) = shown_file (string_bytes name)
+named_in (Schedule None) = codes "standard input"
+named_in (Schedule (Some name)) = shown_file (string_bytes name)
+named_in (Check file pages) = shown_file (string_bytes file)
+named_in (Format file numbers) = shown_file (string_bytes file)
+named_in (Dump file) = shown_file (string_bytes file)
+named_in (Explain file) = shown_file (string_bytes file)
+named_in (Run frames file workers scripts) = shown_file (string_bytes file)
+named_in (Show text) = codes "mtk"
+
+-- the script at this place of those that it names, of which all but `run` name one
+abbrev pub script_in : Command → ℕ → List ℕ
+script_in (Run frames file workers scripts) at = shown_name (get_or (map string_bytes scripts.items) at [])
+script_in command at = named_in command
+
+-- the file or the stream that a fault of a command is about
 abbrev pub about : Command → Fault → List ℕ
-about (Try None) fault = codes "standard input"
-about (Try (Some name)) fault = string_bytes name
-about (Schedule None) fault = codes "standard input"
-about (Schedule (Some name)) fault = string_bytes name
-about (Check file pages) fault = string_bytes file
-about (Format file numbers) fault = string_bytes file
-about (Dump file) fault = string_bytes file
-about (Explain file) fault = string_bytes file
-about (Run frames file workers scripts) Output = string_bytes file
-about (Run frames file workers scripts) (Refused why) = string_bytes file
-about (Run frames file workers scripts) (Unread why at) = shown_name (get_or (map string_bytes scripts.items) at [])
-about (Show text) fault = []
+about command Output = codes "standard output"
+about command (Refused why) = named_in command
+about command (Unread why at) = script_in command at
 
--- the line behind it: what it is about, and what to do; none where there is nothing to say
+-- the line behind it: what it is about, and what to do
 abbrev pub advice_line : List ℕ → List ℕ → List ℕ
-advice_line name advice = cond (length name == 0) [] (cond (length advice == 0) [] (name ++ (codes ": " ++ (advice ++ 10 ∷ []))))
+advice_line name advice = name ++ (codes ": " ++ (advice ++ 10 ∷ []))
 
 abbrev pub told_text : List ℕ → Fault → List ℕ
 told_text name fault = fault_line fault ++ advice_line name (advice_of fault)

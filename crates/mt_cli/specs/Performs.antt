@@ -1,5 +1,5 @@
 -- What the program's commands do.
-use Rattle.std.specs.Prelude.{ℕ, pos, ◌≡◌, ◌⊎◌, List, [], ◌∷◌, ◌++◌, length, Option, None, IfSome, map, option_map, string_bytes}
+use Rattle.std.specs.Prelude.{ℕ, pos, ◌≡◌, ◌⊎◌, List, [], ◌∷◌, ◌++◌, length, Option, None, IfSome, map, option_map, string_bytes, codes}
 use Rattle.std.specs.Io.KnownBytes.{Appends, Keeps}
 use Rattle.mt_base.specs.declared.refusal.Refusal.{Refusal}
 use Rattle.mt_base.specs.declared.refusal.Refusal.TheVariants as refusal
@@ -141,13 +141,13 @@ pub data IsCutTrial (lines : List Line) (was now : Option (List ℕ)) : Fault �
 
 -- why a script of these bytes was not run to its end: nothing is written where it is not read
 pub data IsUntried (bytes was now : Option (List ℕ)) : Fault → Type 0 where
-  unread : (why : Refusal) → IsUnread line_text IsInGrammar bytes why → Keeps was now → IsUntried bytes was now (Refused why)
+  unread : (why : Refusal) → IsUnread line_text IsInGrammar bytes why → Keeps was now → IsUntried bytes was now (Unread why 0)
   untried : (lines : List Line) (fault : Fault) → IfSome bytes (λ bs. IsScript bs lines) → IsCutTrial lines was now fault → IsUntried bytes was now fault
 
 -- why a schedule of these bytes did not run to its end: nothing is written where it is not read or no kernel is made,
 -- and else the output failed within the texts of the answers
 pub data IsUnscheduled {D : Type 0} (g : Ghosts D) (bytes was now : Option (List ℕ)) : Fault → Type 0 where
-  unspelled : (why : Refusal) → IsUnread event_text IsEvent bytes why → Keeps was now → IsUnscheduled g bytes was now (Refused why)
+  unspelled : (why : Refusal) → IsUnread event_text IsEvent bytes why → Keeps was now → IsUnscheduled g bytes was now (Unread why 0)
   unbegun : (why : Refusal) → IsUnmade why → Keeps was now → IsUnscheduled g bytes was now (Refused why)
   unheard : (events : List Event) (answers : List Told) → IfSome bytes (λ bs. IsSchedule bs events) → HaveRun g events answers
       → AppendsFront was now (told_lines answers) → IsUnscheduled g bytes was now Output
@@ -179,4 +179,4 @@ pub record IsGivenUp {D : Type 0} (g : Ghosts D) (command : Command) (a : Around
 abbrev pub IsWordsGivenUp : {D : Type 0} → Ghosts D → List (List ℕ) → Around → Option (List ℕ) → Option (List ℕ) → Option (List ℕ) → Option (List ℕ) → Type 0
 IsWordsGivenUp g words a was now old new =
     ((command : Command) × IsCommandOf words command × IsGivenUp g command a was now old new)
-    ⊎ (Keeps was now × AppendsFront old new (told_text [] (Refused refusal.NoMemory)) × AreKept a.before a.after)
+    ⊎ (Keeps was now × AppendsFront old new (told_text (codes "mtk") (Refused refusal.NoMemory)) × AreKept a.before a.after)

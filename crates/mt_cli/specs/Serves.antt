@@ -1,5 +1,5 @@
 -- Scripts that are served to the device in a file.
-use Rattle.std.specs.Prelude.{ℕ, ◌≡◌, ◌<◌, ◌≤◌, ◌+◌, List, [], ◌∷◌, ◌++◌, length, Bool, true, false, Option, None}
+use Rattle.std.specs.Prelude.{ℕ, ◌≡◌, ◌⊎◌, ◌<◌, ◌≤◌, ◌+◌, List, [], ◌∷◌, ◌++◌, length, Bool, true, false, Option, None}
 use Rattle.std.specs.Io.KnownBytes.{Appends, Keeps}
 use Rattle.mt_base.specs.declared.refusal.Refusal.{Refusal}
 use Rattle.mt_base.specs.declared.refusal.Refusal.TheVariants as refusal
@@ -39,11 +39,16 @@ abbrev pub IsEndedBy : RunFault → Type 0
 IsEndedBy run.Output = Unit {0}
 IsEndedBy (run.Refused why) = IsUnmade why
 
+-- so are scripts, or since a log that was to be turned over cannot be
+abbrev pub AreEndedBy : RunFault → Type 0
+AreEndedBy run.Output = Unit {0}
+AreEndedBy (run.Refused why) = IsUnmade why ⊎ (why ≡ refusal.LogFull)
+
 -- ---- on a base
 
 -- the model as serving begins on a base, with nothing committed
 abbrev pub first_on : Base → Play
-first_on b = record { session = 0; base = b; book = []; under_way = None }
+first_on b = record { session = 0; first = b; base = b; book = []; under_way = None }
 
 -- the bytes stand for what all of these commits lead to
 abbrev pub StandForAll : ℕ → ℕ → Base → List Committed → List ℕ → Type 0
@@ -67,7 +72,7 @@ pub record IsShortOf (relations counters : ℕ) (p : Play) (lines : List Line) (
   pub last : Play
   pub ran : HasPlayed relations counters p before answers last
   pub told : IsToldFor was now answers why
-  pub ended : IsEndedBy why
+  pub ended : AreEndedBy why
 
 -- so a session, or its line was not written whole
 pub data IsShortWithin (relations counters : ℕ) (p : Play) (i : ℕ) (lines : List Line) (was now : Option (List ℕ)) : RunFault → Type 0 where

@@ -11,13 +11,13 @@ ghost use Rattle.mt_txn.specs.Turned.{HasNobody};
 ghost use Rattle.mt_cli.specs.Serves.{AreServedAtOnce, IsEndOf, IsServedAtOnce, IsUnservedAtOnce, session_text, texts_in_order};
 
 use crate::faults::Fault;
-use crate::silence::Silence;
 use itoa::Buffer;
 use mt_base::Refusal;
 use mt_disk::Device;
 use mt_folder::Folder;
 use mt_script::{Script, Unheard, put_all};
 use mt_server::{MAX_SESSIONS, Served, Transcript, serve};
+use mt_shared::Gate;
 use mt_txn::Kernel;
 use std::alloc::Global;
 use std::io::Write;
@@ -62,13 +62,18 @@ fn left_behind<D: Device + Drop>(kernel: Kernel<D>, transcripts: Vec<Transcript>
 }
 
 /// Serves scripts to a device by several workers, and takes the device back.
-fn serve_over_at_once<D: Device + Drop + Send, R: Threads + Wait + Sync>(
+fn serve_over_at_once<
+    D: Device + Drop + Send,
+    G: Gate + Drop + Send + Sync,
+    R: Threads + Wait + Sync,
+>(
     rt: &R,
     alloc: Global,
     device: D,
     frames: usize,
     scripts: Vec<Script>,
     workers: usize,
+    gate: G,
 ) -> Result<Behind<D>, Refusal>
     ensures served { IfOk result (λ b. AreServedAtOnce b.has_failed (D.seen device) (map lines_in scripts.items)
         b.transcripts.items (D.seen b.device)) }
@@ -77,7 +82,7 @@ fn serve_over_at_once<D: Device + Drop + Send, R: Threads + Wait + Sync>(
     let Served {
         kernel,
         transcripts,
-    } = serve(rt, alloc, device, frames, scripts, workers, Silence)?;
+    } = serve(rt, alloc, device, frames, scripts, workers, gate)?;
     Ok(left_behind(kernel, transcripts))
 }
 
@@ -136,14 +141,21 @@ fn tell_sessions<O: Write>(
     }
 }
 
-/// Serves scripts by several workers to the device in the file of this name, and writes their transcripts.
-pub(crate) fn serve_file_at_once<F: Folder, O: Write, R: Threads + Wait + Sync>(
+/// Serves scripts by several workers to the device in the file of this name, and writes their transcripts. The gate is told
+/// of what it wants to be told of meanwhile.
+pub(crate) fn serve_file_at_once<
+    F: Folder,
+    O: Write,
+    G: Gate + Drop + Send + Sync,
+    R: Threads + Wait + Sync,
+>(
     rt: &R,
     alloc: Global,
     folder: &mut F,
     service: Service,
     scripts: Vec<Script>,
     out: &mut O,
+    gate: G,
 ) -> Result<(), Fault>
     ensures served { OnOk result (IsServedAtOnce (F.files folder.old) (F.files folder.new) service.entry.name.now
         (map lines_in scripts.items) (O.contents out.old) (O.contents out.new)) }
@@ -158,7 +170,15 @@ pub(crate) fn serve_file_at_once<F: Folder, O: Write, R: Threads + Wait + Sync>(
         folder.back(service.name, device);
         return Err(Fault::Refused(Refusal::BadLength));
     }
-    match serve_over_at_once(rt, alloc, device, service.frames, scripts, service.workers) {
+    match serve_over_at_once(
+        rt,
+        alloc,
+        device,
+        service.frames,
+        scripts,
+        service.workers,
+        gate,
+    ) {
         Ok(behind) => {
             let Behind {
                 transcripts,

@@ -3,10 +3,11 @@ ghost use Rattle.std.specs.Prelude.{◌≡◌, [], OnOk, OnErr, get_or, map, str
 ghost use Rattle.std.specs.Io.KnownBytes.{Appends};
 ghost use Rattle.mt_script.specs.Answers.{AppendsFront};
 ghost use Rattle.mt_cli.specs.Performs.{IsToldOf};
-ghost use Rattle.mt_cli.specs.Advice.{about, advice_line, advice_of, advice_on, fault_line, shown_name, told_text};
+ghost use Rattle.mt_cli.specs.Advice.{about, advice_at, advice_line, advice_of, advice_on, advice_on_script, fault_line, named_in, script_in, shown_file, shown_name, told_text};
 
 use mt_args::Command;
 use mt_base::Refusal;
+use mt_base::limits::MASTER_BYTES;
 use mt_script::{Answer, Unheard, put, put_all, write_answer};
 use std::io::Write;
 
@@ -27,6 +28,19 @@ const NO_OUTPUT: &str = "the output cannot be written\n";
 /// What the input is called.
 const INPUT: &str = "standard input";
 
+/// What the output is called.
+const OUTPUT: &str = "standard output";
+
+/// What the program is called, where no file is meant.
+pub(crate) const PROGRAM: &str = "mtk";
+
+/// A file's name, as people are told it: one without a letter is shown, too.
+fn shown(name: &str) -> &str
+    ensures { result.now ≡ shown_file name.now }
+{
+    if name.is_empty() { "''" } else { name }
+}
+
 /// What people are told of the name of the script at a place of those that are named.
 fn script_name(scripts: &[String], at: usize) -> &str
     ensures { result.now ≡ shown_name (get_or (map string_bytes scripts.now) at []) }
@@ -36,37 +50,59 @@ fn script_name(scripts: &[String], at: usize) -> &str
             if name.as_str() == "-" {
                 INPUT
             } else {
-                name.as_str()
+                shown(name.as_str())
             }
         }
-        None => "",
+        None => shown(""),
     }
 }
 
-/// The name of the file that a fault of a command is about, or what the input is called.
-fn name_for<'a>(command: &'a Command, fault: &Fault) -> &'a str
-    ensures { result.now ≡ about command.now fault.now }
+/// The file that a command names first, or what the input is called.
+fn named_in(command: &Command) -> &str
+    ensures { result.now ≡ named_in command.now }
 {
     match command {
-        Command::Try { script: Some(name) } => name.as_str(),
+        Command::Try { script: Some(name) } => shown(name.as_str()),
         Command::Try { script: None } => INPUT,
-        Command::Schedule { file: Some(name) } => name.as_str(),
+        Command::Schedule { file: Some(name) } => shown(name.as_str()),
         Command::Schedule { file: None } => INPUT,
-        Command::Check { file, pages: _ } => file.as_str(),
-        Command::Format { file, numbers: _ } => file.as_str(),
-        Command::Dump { file } => file.as_str(),
-        Command::Explain { file } => file.as_str(),
+        Command::Check { file, pages: _ } => shown(file.as_str()),
+        Command::Format { file, numbers: _ } => shown(file.as_str()),
+        Command::Dump { file } => shown(file.as_str()),
+        Command::Explain { file } => shown(file.as_str()),
         Command::Run {
             frames: _,
             file,
             workers: _,
+            scripts: _,
+        } => shown(file.as_str()),
+        Command::Show { text: _ } => PROGRAM,
+    }
+}
+
+/// The name of the script at a place of those that a command names.
+fn script_in(command: &Command, at: usize) -> &str
+    ensures { result.now ≡ script_in command.now at }
+{
+    match command {
+        Command::Run {
+            frames: _,
+            file: _,
+            workers: _,
             scripts,
-        } => match fault {
-            Fault::Unread(_, at) => script_name(scripts.as_slice(), *at),
-            Fault::Output => file.as_str(),
-            Fault::Refused(_) => file.as_str(),
-        },
-        Command::Show { text: _ } => "",
+        } => script_name(scripts.as_slice(), at),
+        _ => named_in(command),
+    }
+}
+
+/// The name of the file or of the stream that a fault of a command is about.
+fn name_for<'a>(command: &'a Command, fault: &Fault) -> &'a str
+    ensures { result.now ≡ about command.now fault.now }
+{
+    match fault {
+        Fault::Output => OUTPUT,
+        Fault::Refused(_) => named_in(command),
+        Fault::Unread(_, at) => script_in(command, *at),
     }
 }
 
@@ -83,7 +119,18 @@ fn write_fault<W: Write>(writer: &mut W, fault: &Fault) -> Result<(), Unheard>
     }
 }
 
-/// What to do about a refusal of a command; nothing where there is nothing to say.
+/// What to do about bytes that break the format at a place.
+fn advice_at(place: u64) -> &'static str
+    ensures { result.now ≡ advice_at place }
+{
+    if place < MASTER_BYTES {
+        "the file is shorter than its first bytes tell, or these are damaged; take a copy that is whole"
+    } else {
+        "the bytes at that place are none that a device can have; keep a copy of the file"
+    }
+}
+
+/// What to do about a refusal of a command.
 fn advice_for(refusal: &Refusal) -> &'static str
     ensures { result.now ≡ advice_on refusal.now }
 {
@@ -95,9 +142,7 @@ fn advice_for(refusal: &Refusal) -> &'static str
         Refusal::NotFormatted => {
             "this is no device, or its format did not end; `mtk format` makes one"
         }
-        Refusal::BadFormat(_) => {
-            "the bytes at that place are none that a device can have; keep a copy of the file"
-        }
+        Refusal::BadFormat(place) => advice_at(*place),
         Refusal::BadLength => {
             "a number is outside its limits, or there are more than 64 scripts; see `mtk --help`"
         }
@@ -105,9 +150,19 @@ fn advice_for(refusal: &Refusal) -> &'static str
             "its log cannot be turned over; keep the file, which `mtk check` still reads"
         }
         Refusal::BadLine(_) => {
-            "that line is not in the grammar; see docs/SCRIPTS.md and docs/SCHEDULES.md"
+            "that line is not in the grammar, or no line feed ends it; see docs/SCRIPTS.md and docs/SCHEDULES.md"
         }
-        _ => "",
+        _ => "see docs/COMMANDS.md",
+    }
+}
+
+/// What to do about a script that was not read.
+fn advice_for_script(refusal: &Refusal) -> &'static str
+    ensures { result.now ≡ advice_on_script refusal.now }
+{
+    match refusal {
+        Refusal::DeviceFailed => "see that it is there and can be read",
+        _ => advice_for(refusal),
     }
 }
 
@@ -116,22 +171,21 @@ fn advice_about(fault: &Fault) -> &'static str
     ensures { result.now ≡ advice_of fault.now }
 {
     match fault {
-        Fault::Output => "",
+        Fault::Output => {
+            "see that its disk has room and that its reader goes on; what was committed stands"
+        }
         Fault::Refused(refusal) => advice_for(refusal),
-        Fault::Unread(refusal, _) => advice_for(refusal),
+        Fault::Unread(refusal, _) => advice_for_script(refusal),
     }
 }
 
-/// Writes the line of what a fault is about and what to do, where there is something to say.
+/// Writes the line of what a fault is about and what to do.
 fn write_advice<W: Write>(writer: &mut W, name: &str, advice: &str) -> Result<(), Unheard>
     ensures all { OnOk result (Appends (W.contents writer.old) (W.contents writer.new)
         (advice_line name.now advice.now)) }
     ensures front { OnErr result (AppendsFront (W.contents writer.old) (W.contents writer.new)
         (advice_line name.now advice.now)) }
 {
-    if name.is_empty() || advice.is_empty() {
-        return Ok(());
-    }
     put_all(writer, &[name.as_bytes(), b": ", advice.as_bytes(), b"\n"])
 }
 

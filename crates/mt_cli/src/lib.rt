@@ -15,4 +15,6 @@ mod serving;
 mod silence;
 mod telling;
 
+pub use mt_shared::{Gate, Point};
 pub use performing::{perform, perform_words};
+pub use silence::Silence;

@@ -1,9 +1,11 @@
 // The commands, done.
-ghost use Rattle.std.specs.Prelude.{◌≡◌, ◌≢◌, ◌≤◌, IfOk, IfErr, IfSome, IsOk, MatchResult, OnOk, OnErr, length, map, option_map};
+ghost use Rattle.std.specs.Prelude.{◌≡◌, ◌≢◌, ◌≤◌, IfOk, IfErr, IfSome, IsOk, MatchResult, codes, OnOk, OnErr, length, map, option_map};
 ghost use Rattle.mt_disk.specs.Memory.{content};
 ghost use Rattle.mt_script.specs.Answers.{AppendsFront};
 ghost use Rattle.mt_args.specs.CommandLines.{IsMistaken};
 ghost use Rattle.mt_folder.specs.Folders.{AreKept, IsUnmade};
+ghost use Rattle.mt_cli.specs.Advice.{told_text};
+ghost use Rattle.mt_base.specs.declared.refusal.Refusal.{Refusal};
 ghost use Rattle.mt_cli.specs.declared.faults.Fault.{Fault};
 ghost use Rattle.mt_cli.specs.Performs.{IsFirstSchema, StandsFirst, HasTried, HaveRun, IsTried, IsScheduled, IsCutTrial, IsUntried, IsUnscheduled, IsDone, IsUndone, IsWordsDone, IsGivenUp, IsWordsGivenUp, IsTold, IsToldOf, Around};
 ghost use Rattle.mt_cli.specs.Reads.{source_of};
@@ -13,7 +15,7 @@ use crate::at_once::Service;
 use crate::checking::perform_check;
 use crate::dumping::perform_dump;
 use crate::explaining::perform_explain;
-use crate::faults::{Fault, tell, tell_about};
+use crate::faults::{Fault, PROGRAM, tell, tell_about};
 use crate::formatting::perform_format;
 use crate::reading::lines_of;
 use crate::schedules::ScheduleGrammar;
@@ -27,6 +29,7 @@ use mt_folder::Folder;
 use mt_restart::{Schema, fresh};
 use mt_script::{Script, ScriptGrammar, put};
 use mt_server::{RunFault, run_alone};
+use mt_shared::Gate;
 use mt_txn::Kernel;
 use mt_world::{Event, run_schedule};
 use std::alloc::Global;
@@ -147,7 +150,7 @@ fn perform_try<F: Folder, I: Read, O: Write>(
 {
     match lines_of::<ScriptGrammar, F, I>(alloc, folder, name, input) {
         Ok(lines) => try_script(alloc, &Script::new(lines), out),
-        Err(refusal) => Err(Fault::Refused(refusal)),
+        Err(refusal) => Err(Fault::Unread(refusal, 0)),
     }
 }
 
@@ -198,7 +201,7 @@ fn perform_schedule<F: Folder, I: Read, O: Write>(
 {
     let events = match lines_of::<ScheduleGrammar, F, I>(alloc, folder, name, input) {
         Ok(events) => events,
-        Err(refusal) => return Err(Fault::Refused(refusal)),
+        Err(refusal) => return Err(Fault::Unread(refusal, 0)),
     };
     match answers_of(alloc, events.as_slice()) {
         Ok(answers) => match write_all_told(out, answers.as_slice()) {
@@ -246,13 +249,14 @@ fn show<O: Write>(text: &str, out: &mut O) -> Result<(), Fault>
 }
 
 /// Does a command.
-fn do_command<F: Folder, I: Read, O: Write, R: Threads + Wait + Sync>(
+fn do_command<F: Folder, I: Read, O: Write, G: Gate + Drop + Send + Sync, R: Threads + Wait + Sync>(
     rt: &R,
     alloc: Global,
     command: &Command,
     folder: &mut F,
     input: &mut I,
     out: &mut O,
+    gate: G,
 ) -> Result<(), Fault>
     ensures done { OnOk result (IsDone ⟦<MemDevice as Device>⟧ command.now
         (record { before = F.files folder.old; after = F.files folder.new; input = I.remaining input.old })
@@ -292,7 +296,16 @@ fn do_command<F: Folder, I: Read, O: Write, R: Threads + Wait + Sync>(
                 frames: *frames,
                 workers: *workers,
             };
-            perform_run(rt, alloc, folder, service, scripts.as_slice(), input, out)
+            perform_run(
+                rt,
+                alloc,
+                folder,
+                service,
+                scripts.as_slice(),
+                input,
+                out,
+                gate,
+            )
         }
         Command::Show { text } => show(text.as_str(), out),
     }
@@ -310,7 +323,16 @@ fn do_command<F: Folder, I: Read, O: Write, R: Threads + Wait + Sync>(
 /// is opened by `dump` is written to, and stands for what it stood for. `run` serves one script after the other where it
 /// has one worker, and else all at once, by threads; it may wait then. It gives the device back to its file, but where
 /// serving by several workers is refused: what the file has is not told then. Each other file is as it was.
-pub fn perform<F: Folder, I: Read, O: Write, E: Write, R: Threads + Wait + Sync>(
+///
+/// The gate is told where sessions stand that are served at once, of what it wants to be told of.
+pub fn perform<
+    F: Folder,
+    I: Read,
+    O: Write,
+    E: Write,
+    G: Gate + Drop + Send + Sync,
+    R: Threads + Wait + Sync,
+>(
     rt: &R,
     alloc: Global,
     command: &Command,
@@ -318,6 +340,7 @@ pub fn perform<F: Folder, I: Read, O: Write, E: Write, R: Threads + Wait + Sync>
     input: &mut I,
     out: &mut O,
     err: &mut E,
+    gate: G,
 ) -> u8
     ensures done { result ≡ 0 → IsDone ⟦<MemDevice as Device>⟧ command.now
         (record { before = F.files folder.old; after = F.files folder.new; input = I.remaining input.old })
@@ -327,13 +350,28 @@ pub fn perform<F: Folder, I: Read, O: Write, E: Write, R: Threads + Wait + Sync>
         (record { before = F.files folder.old; after = F.files folder.new; input = I.remaining input.old })
         (O.contents out.old) (O.contents out.new) (E.contents err.old) (E.contents err.new) }
 {
-    let done = do_command(rt, alloc, command, folder, input, out);
+    let done = do_command(rt, alloc, command, folder, input, out, gate);
     finish(command, done, out, err)
+}
+
+/// Tells on the error output that there is no memory for what the words of a command line name.
+fn tell_unread<E: Write>(err: &mut E)
+    ensures { AppendsFront (E.contents err.old) (E.contents err.new)
+        (told_text (codes "mtk") (Fault.Refused Refusal.NoMemory)) }
+{
+    tell_about(err, PROGRAM, &Fault::Refused(Refusal::NoMemory));
 }
 
 /// Does the command that these words name, those behind the program's name, and answers the status:
 /// that of [`perform`], or 2 with what is wrong on `err` where they name none.
-pub fn perform_words<F: Folder, I: Read, O: Write, E: Write, R: Threads + Wait + Sync>(
+pub fn perform_words<
+    F: Folder,
+    I: Read,
+    O: Write,
+    E: Write,
+    G: Gate + Drop + Send + Sync,
+    R: Threads + Wait + Sync,
+>(
     rt: &R,
     alloc: Global,
     words: &[&str],
@@ -341,6 +379,7 @@ pub fn perform_words<F: Folder, I: Read, O: Write, E: Write, R: Threads + Wait +
     input: &mut I,
     out: &mut O,
     err: &mut E,
+    gate: G,
 ) -> u8
     ensures status { result ≤ 2 }
     ensures done { result ≡ 0 → IsWordsDone ⟦<MemDevice as Device>⟧ (map (λ word. word.now) words.now)
@@ -354,13 +393,14 @@ pub fn perform_words<F: Folder, I: Read, O: Write, E: Write, R: Threads + Wait +
         × (folder.new ≡ folder.old) }
 {
     match command_of(alloc, words) {
-        Ok(command) => perform(rt, alloc, &command, folder, input, out, err),
+        Ok(command) => perform(rt, alloc, &command, folder, input, out, err, gate),
         Err(CliFault::Usage(text)) => {
             let _ = put(err, text.as_str().as_bytes());
             MISUSED
         }
-        Err(CliFault::Refused(refusal)) => {
-            tell_about(err, "", &Fault::Refused(refusal));
+        // for want of memory alone
+        Err(CliFault::Refused(_)) => {
+            tell_unread(err);
             REFUSED
         }
     }

@@ -15,6 +15,7 @@ use mt_folder::Folder;
 use mt_restart::open;
 use mt_script::Script;
 use mt_server::{MAX_SESSIONS, RunFault, run_sessions};
+use mt_shared::Gate;
 use mt_txn::Kernel;
 use std::alloc::Global;
 use std::io::{Read, Write};
@@ -23,7 +24,9 @@ use std::thread::Threads;
 
 /// Serves scripts to a kernel that was just opened, and gives its device back.
 fn serve_opened<D: Device + Drop, O: Write>(
+    alloc: Global,
     kernel: Kernel<D>,
+    frames: usize,
     scripts: &[Script],
     out: &mut O,
 ) -> (Result<(), RunFault>, D)
@@ -35,10 +38,16 @@ fn serve_opened<D: Device + Drop, O: Write>(
         → IsOpened D.seen D.may_leave relations counters b kernel → AreShortOn relations counters b
         (map lines_in scripts.now) (O.contents out.old) (O.contents out.new) why) }
 {
-    let mut kernel = kernel;
-    let ran = run_sessions(&mut kernel, scripts, out);
-    kernel.can_restart();
-    (ran, kernel.into_device())
+    match run_sessions(alloc, kernel, frames, scripts, out) {
+        Ok(kernel) => {
+            kernel.can_restart();
+            (Ok(()), kernel.into_device())
+        }
+        Err(left) => {
+            let (why, device) = left.into_device();
+            (Err(why), device)
+        }
+    }
 }
 
 /// How a command ends whose run ended so.
@@ -72,7 +81,7 @@ fn serve_over<D: Device + Drop, O: Write>(
     }
     match open(alloc, device, frames) {
         Ok(kernel) => {
-            let (ran, device) = serve_opened(kernel, scripts, out);
+            let (ran, device) = serve_opened(alloc, kernel, frames, scripts, out);
             (ended(ran), device)
         }
         Err((refusal, device)) => (Err(Fault::Refused(refusal)), device),
@@ -110,9 +119,15 @@ fn serve_file<F: Folder, O: Write>(
 ///
 /// Refused for the first script that is not read; for a file that cannot be opened; by `BadLength` where there are more
 /// than 64 scripts; and for what keeps the device from being opened. Further by one worker where a script does not run
-/// to its end, by `NoMemory` or `DeviceFailed`, and by several where the device failed meanwhile, by `DeviceFailed`,
+/// to its end, by `NoMemory`, `DeviceFailed` or `LogFull`, and by several where the device failed meanwhile, by `DeviceFailed`,
 /// behind the transcripts. Where `serve` of mt_server is refused, it lets the device go: what its file has is not told.
-pub(crate) fn perform_run<F: Folder, I: Read, O: Write, R: Threads + Wait + Sync>(
+pub(crate) fn perform_run<
+    F: Folder,
+    I: Read,
+    O: Write,
+    G: Gate + Drop + Send + Sync,
+    R: Threads + Wait + Sync,
+>(
     rt: &R,
     alloc: Global,
     folder: &mut F,
@@ -120,6 +135,7 @@ pub(crate) fn perform_run<F: Folder, I: Read, O: Write, R: Threads + Wait + Sync
     scripts: &[String],
     input: &mut I,
     out: &mut O,
+    gate: G,
 ) -> Result<(), Fault>
     ensures ran { OnOk result (HasRunScripts service.entry.workers (F.files folder.old) (F.files folder.new)
         service.entry.name.now (map string_bytes scripts.now) (I.remaining input.old)
@@ -133,7 +149,7 @@ pub(crate) fn perform_run<F: Folder, I: Read, O: Write, R: Threads + Wait + Sync
         Err(fault) => return Err(fault),
     };
     if service.workers > 1 {
-        return serve_file_at_once(rt, alloc, folder, service, scripts, out);
+        return serve_file_at_once(rt, alloc, folder, service, scripts, out, gate);
     }
     serve_file(
         alloc,

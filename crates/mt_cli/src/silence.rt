@@ -3,7 +3,7 @@ use mt_shared::{Gate, Point};
 
 /// Wants to be told of nothing.
 #[derive(Drop)]
-pub(crate) struct Silence;
+pub struct Silence;
 
 impl Gate for Silence {
     fn at(&self, _session: u32, _point: Point) {}

@@ -1,6 +1,6 @@
 // Commands that are run over a folder in memory.
 use mt_base::Refusal;
-use mt_cli::perform_words;
+use mt_cli::{Silence, perform_words};
 use mt_folder::{Folder, MemFolder};
 use std::sync::Wait;
 use std::thread::Threads;
@@ -42,6 +42,7 @@ pub fn leaves_from(
         &mut input,
         &mut written,
         &mut told,
+        Silence,
     );
     let is_told = if status == 1 {
         told.as_slice().starts_with(err)
@@ -83,6 +84,7 @@ pub fn writes(
         &mut input,
         &mut written,
         &mut told,
+        Silence,
     );
     let mut within = false;
     for from in 0..written.len() {

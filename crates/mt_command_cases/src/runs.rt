@@ -1,5 +1,5 @@
 // Scripts that are served to the device in a file, and what the file then stands for.
-use crate::running::{FORMAT, file, formatted, leaves, leaves_from};
+use crate::running::{FORMAT, file, formatted, leaves, leaves_from, writes};
 use mt_base::Refusal;
 use mt_folder::MemFolder;
 use std::alloc::{AllocError, Global};
@@ -83,6 +83,44 @@ fn run_in_turn(rt: &(impl AllocGlobal + Threads + Wait + Sync)) -> Result<[bool;
 fn scripts_are_served_in_turn(rt: HostRuntime) -> Result<(), Fail> {
     let told = run_in_turn(&rt)?;
     assert!(rt; told == [true; 4]);
+    Ok(())
+}
+
+// A script that inserts a row and then updates it so often, each time in a transaction of its own, with 1,000 bytes that
+// all change. Its commits write more than 4 MiB of log.
+fn updates(alloc: Global, count: usize) -> Result<Vec<u8>, AllocError> {
+    let odd = vec![in alloc; b'x'; 1000]?;
+    let even = vec![in alloc; b'y'; 1000]?;
+    let mut script = Vec::new(alloc);
+    script.extend_from_slice(b"begin\ninsert 0 a z\ncommit\n")?;
+    for turn in 0..count {
+        script.extend_from_slice(b"begin\nupdate 0 a ")?;
+        script.extend_from_slice(if turn % 2 == 0 {
+            even.as_slice()
+        } else {
+            odd.as_slice()
+        })?;
+        script.extend_from_slice(b"\ncommit\n")?;
+    }
+    Ok(script)
+}
+
+// By one worker, in areas of 4 MiB: each transaction commits, and the epoch behind the format and the opening tells that
+// the log was turned over.
+fn turned_over(rt: &(impl AllocGlobal + Threads + Wait + Sync)) -> Result<[bool; 3], Refusal> {
+    let mut folder = MemFolder::new(rt.alloc());
+    folder.put("s", updates(rt.alloc(), 1500)?.as_slice())?;
+    Ok([
+        leaves(rt, &mut folder, &FORMAT, 0, b"", b""),
+        writes(rt, &mut folder, &RUN, b"\ncommitted 1501\n"),
+        !writes(rt, &mut folder, &["check", "b"], b"epoch 2\n"),
+    ])
+}
+
+#[test]
+fn the_log_of_one_session_is_turned_over(rt: HostRuntime) -> Result<(), Fail> {
+    let told = turned_over(&rt)?;
+    assert!(rt; told == [true; 3]);
     Ok(())
 }
 

@@ -182,7 +182,7 @@ module _ {D : Type 0} {g : Ghosts D} (seen : D → List ℕ) (may_leave : D → 
       calls ++ (op, reply_of (run p.base calls) op) ∷ [],
       refl,
       record {
-        shown = ∥∥₁_map opened.shown (λ (first, s, shows, plays). (first, s, shows, (record { book = plays.0.book; base = plays.0.base }, plays.1)));
+        shown = ∥∥₁_map opened.shown (λ (first, s, shows, plays). (first, s, shows, (record { first_is = plays.0.first_is; book = plays.0.book; base = plays.0.base }, plays.1)));
         state = opened.state;
       },
     ),

@@ -95,7 +95,7 @@ module _ {D : Type 0} {g : Ghosts D} (seen : D → List ℕ) (may_leave : D → 
   }
 
   calling_left : (k n : Kernel D g) → IsCalling seen may_leave p t calls op k → Stays seen may_leave k n → ShowsOne seen may_leave (λ first s. IsPlayed first p s) n
-  calling_left k n c stays = ∥∥₁_map c.shown (λ (first, s, kept, plays, shows). (first, called s t op, stays first (called s t op) shows, record { book = plays.0.book; base = plays.0.base }))
+  calling_left k n c stays = ∥∥₁_map c.shown (λ (first, s, kept, plays, shows). (first, called s t op, stays first (called s t op) shows, record { first_is = plays.0.first_is; book = plays.0.book; base = plays.0.base }))
 
   calling_nobody : (k : Kernel D g) → IsCalling seen may_leave p t calls op k → NobodyCommits k
   calling_nobody k c u is = ∥∥₁_elim c.shown (hlevel props) (λ (first, s, kept, plays, shows).
@@ -121,7 +121,7 @@ module _ {D : Type 0} {g : Ghosts D} (seen : D → List ℕ) (may_leave : D → 
         ended (called s t op) t op,
         (did first (called s t op) shows op (own_is s.running t (Some op))).0,
         (
-          record { book = plays.0.book; base = plays.0.base },
+          record { first_is = plays.0.first_is; book = plays.0.book; base = plays.0.base },
           subst (λ (b : Base). IsAlone (ended (called s t op) t op) t p.session (calls ++ (op, reply_of (run b calls) op) ∷ [])) (on first s plays.0) (alone_acts first s t p.session calls op kept plays.1),
         ),
       ));
@@ -190,8 +190,8 @@ module _ {D : Type 0} {g : Ghosts D} (seen : D → List ℕ) (may_leave : D → 
 
 undone_back : (p : Play) (t : ℕ) (first : Base) (s z : State) → IsBack s t z → IsUndone first p t s → IsUndone first p t z
 undone_back p t first s _ stands u = u
-undone_back p t first s _ (drops op ps runs given) u = record { played = record { book = u.played.book; base = u.played.base }; others = u.others }
-undone_back p t first s _ (undoes last i ps idle effect inverts given) u = record { played = record { book = u.played.book; base = u.played.base }; others = u.others }
+undone_back p t first s _ (drops op ps runs given) u = record { played = record { first_is = u.played.first_is; book = u.played.book; base = u.played.base }; others = u.others }
+undone_back p t first s _ (undoes last i ps idle effect inverts given) u = record { played = record { first_is = u.played.first_is; book = u.played.book; base = u.played.base }; others = u.others }
 
 module _ {D : Type 0} {g : Ghosts D} (seen : D → List ℕ) (may_leave : D → List ℕ → Type 0) (faults : D → ℕ) (p : Play) (t : ℕ) where
   going_stays : (k n : Kernel D g) → IsGoing seen may_leave p t k → Stays seen may_leave k n → SameStates k.parts n.parts → IsGoing seen may_leave p t n
@@ -230,7 +230,7 @@ module _ {D : Type 0} {g : Ghosts D} (seen : D → List ℕ) (may_leave : D → 
       gone s t,
       (did first s shows).0,
       (
-        record { book = undone.played.book; base = undone.played.base },
+        record { first_is = undone.played.first_is; book = undone.played.book; base = undone.played.base },
         λ u. ⊎_elim (λ (same : u ≡ t). ap (put s.sessions t None) same ∙ own_is s.sessions t None) (λ (apart : u ≢ t). other_is s u apart ∙ undone.others u apart) (cases_eq u t),
       ),
     ));

@@ -104,6 +104,7 @@ module _ {D : Type 0} {g : Ghosts D} (seen : D → List ℕ) (may_leave : D → 
                     now,
                     (
                       record {
+                        first_is = played.first_is;
                         book = leaves.0 ∙ ap (λ (cs : List Committed). cs ++ last ∷ []) played.book;
                         base = after-append first p.book (last ∷ []) ∙ ap (λ (b : Base). run b calls) played.base;
                       },

@@ -19,7 +19,7 @@ use Rattle.mt_script.specs.Answers.{AppendsFront, answer_text, transcript_text}
 use Rattle.mt_txn.specs.Shown.{SameSchema}
 use Rattle.mt_server.specs.Driven.{IsBeside, IsDueTo, IsGivenUp, IsResting}
 use Rattle.mt_server.specs.Plays.{Play, IsTurn, acts, refuses, Runs, starts, goes_on, after_at, put_off}
-use Rattle.mt_server.specs.Runs.{HasRun, HasRunLines, HasTurned, IsAnswered, IsCutAtEnd, IsCutShort, IsEnded, IsEndedFor, nothing, aborted, failed, IsLeftFor, IsStopped, IsToldFor, failure_line, last_line}
+use Rattle.mt_server.specs.Runs.{HasRun, HasRunLines, HasTurned, IsAnswered, IsCut, IsCutAtEnd, IsCutShort, IsEnded, IsEndedFor, nothing, aborted, failed, IsLeftFor, IsStopped, IsToldFor, failure_line, last_line}
 use Rattle.mt_script.proofs.TextLemmas.{front_then}
 use Rattle.mt_server.proofs.TranscriptLemmas.{runs_then, text_joined, text_one}
 
@@ -29,7 +29,7 @@ text_none : (a : Option (List ℕ)) → Appends a a (transcript_text [])
 unfolding transcript_text
 text_none a = Appends-nil a
 
-appends_all : (a b c : Option (List ℕ)) (xs ys : List Answer) → Appends a b (transcript_text xs) → Appends b c (transcript_text ys) → Appends a c (transcript_text (xs ++ ys))
+pub appends_all : (a b c : Option (List ℕ)) (xs ys : List Answer) → Appends a b (transcript_text xs) → Appends b c (transcript_text ys) → Appends a c (transcript_text (xs ++ ys))
 appends_all a b c xs ys p q = subst (Appends a c) (sym (text_joined xs ys)) (Appends-trans a b c (transcript_text xs) (transcript_text ys) p q)
 
 appends_front : (a b c : Option (List ℕ)) (xs ys : List Answer) → Appends a b (transcript_text xs) → AppendsFront b c (transcript_text ys) → AppendsFront a c (transcript_text (xs ++ ys))
@@ -44,12 +44,12 @@ pub silent : (a : Option (List ℕ)) (y : Refusal) → (y ≡ refusal.DeviceFail
 silent a y other = subst (λ (t : List Answer). Appends a a (transcript_text t)) (sym (no_line y other)) (text_none a)
 
 -- what ends a run behind answers, behind those before them
-told_behind : (a b c : Option (List ℕ)) (xs ys : List Answer) (why : RunFault) → Appends a b (transcript_text xs) → IsToldFor b c ys why → IsToldFor a c (xs ++ ys) why
+pub told_behind : (a b c : Option (List ℕ)) (xs ys : List Answer) (why : RunFault) → Appends a b (transcript_text xs) → IsToldFor b c ys why → IsToldFor a c (xs ++ ys) why
 told_behind a b c xs ys fault.Output before (last, is, front) = (last, is, subst (λ (t : List Answer). AppendsFront a c (transcript_text t)) (sym (append_assoc xs ys last)) (appends_front a b c xs (ys ++ last) before front))
 told_behind a b c xs ys (fault.Refused why) before (inl all) = inl (subst (λ (t : List Answer). Appends a c (transcript_text t)) (sym (append_assoc xs ys (failure_line why))) (appends_all a b c xs (ys ++ failure_line why) before all))
 told_behind a b c xs ys (fault.Refused why) before (inr front) = inr (appends_front a b c xs ys before front)
 
-stopped_told : (was now : Option (List ℕ)) (y : Refusal) (why : RunFault) → IsStopped was now y why → IsToldFor was now [] why
+pub stopped_told : (was now : Option (List ℕ)) (y : Refusal) (why : RunFault) → IsStopped was now y why → IsToldFor was now [] why
 stopped_told was now y fault.Output (is, front) = (Refused refusal.DeviceFailed ∷ [], failed, subst (λ (x : Refusal). AppendsFront was now (transcript_text (failure_line x))) is front)
 stopped_told was now y (fault.Refused why) (is, all) = inl (subst (λ (x : Refusal). Appends was now (transcript_text (failure_line x))) (sym is) all)
 
@@ -76,7 +76,7 @@ module _ {D : Type 0} {g : Ghosts D} (seen : D → List ℕ) (may_leave : D → 
   abbrev Turned : Play × Kernel D g → List Line → List Answer → Play × Kernel D g → Type 0
   Turned = Runs (HasTurned seen may_leave)
 
-  runs_session : (s e : Play × Kernel D g) (ls : List Line) (as' : List Answer) → Turned s ls as' e → e.0.session ≡ s.0.session
+  pub runs_session : (s e : Play × Kernel D g) (ls : List Line) (as' : List Answer) → Turned s ls as' e → e.0.session ≡ s.0.session
   runs_session s _ _ _ starts = refl
   runs_session s _ _ _ (goes_on lines answers m e line answer before t) = turn_session m.1.relations m.1.counters m.0 e.0 line answer t.turn ∙ runs_session s m lines answers before
 
@@ -149,9 +149,9 @@ module _ {D : Type 0} {g : Ghosts D} (seen : D → List ℕ) (may_leave : D → 
         beside = x.beside;
       }
 
-  cut_behind : (ls ms rest lines : List Line) (live : Option ℕ) (a b c : Option (List ℕ)) (m n : Kernel D g) (why : RunFault) → lines ≡ ls ++ (ms ++ rest) → (ran : HasRunLines seen may_leave p k ls a b live m)
-      → IsCutShort seen may_leave faults ran.play m ms b c n why → IsCutShort seen may_leave faults p k lines a c n why
-  cut_behind ls ms rest lines live a b c m n why whole ran x = record {
+  cut_behind : (Left : Play → Type 0) (ls ms rest lines : List Line) (live : Option ℕ) (a b c : Option (List ℕ)) (m : Kernel D g) (why : RunFault) → lines ≡ ls ++ (ms ++ rest) → (ran : HasRunLines seen may_leave p k ls a b live m)
+      → IsCut seen may_leave Left ran.play m ms b c why → IsCut seen may_leave Left p k lines a c why
+  cut_behind Left ls ms rest lines live a b c m why whole ran x = record {
     before = ls ++ x.before;
     rest = x.rest ++ rest;
     split = whole ∙ ap (λ (t : List Line). ls ++ (t ++ rest)) x.split ∙ ap (λ (t : List Line). ls ++ t) (append_assoc x.before x.rest rest) ∙ sym (append_assoc ls x.before (x.rest ++ rest));
@@ -170,7 +170,7 @@ module _ {D : Type 0} {g : Ghosts D} (seen : D → List ℕ) (may_leave : D → 
       let x = cut ran.play (runs_session (p, k) (ran.play, m) (take i lines) ran.answers ran.ran ∙ own) ran.beside in
       let whole : lines ≡ take i lines ++ (l ∷ [] ++ drop (suc i) lines) =
       sym (take-append-drop i lines) ∙ ap (λ (t : List Line). take i lines ++ t) (drop-cons lines i l lt) ∙ ap (λ (y : Line). take i lines ++ y ∷ drop (suc i) lines) (sym is) in
-      cut_behind (take i lines) (l ∷ []) (drop (suc i) lines) lines live a b c m n why whole ran x
+      cut_behind (λ q. IsLeftFor seen may_leave faults q n why) (take i lines) (l ∷ []) (drop (suc i) lines) lines live a b c m why whole ran x
 
   -- ---- the script's end
 
@@ -183,7 +183,7 @@ module _ {D : Type 0} {g : Ghosts D} (seen : D → List ℕ) (may_leave : D → 
     told =
         let none : ran.answers ++ last_line ran.play.under_way ≡ ran.answers = ap (λ (u : Option (List Call)). ran.answers ++ last_line u) ran.beside.nothing ∙ append-nil ran.answers in
         subst (λ (t : List Answer). Appends a b (transcript_text t)) (sym none) ran.told;
-    beside = record { shown = ∥∥₁_map ran.beside.shown (λ (first, s, shows, (played, nobody)). (first, s, shows, (record { book = played.book; base = played.base }, nobody))); nothing = refl };
+    beside = record { shown = ∥∥₁_map ran.beside.shown (λ (first, s, shows, (played, nobody)). (first, s, shows, (record { first_is = played.first_is; book = played.book; base = played.base }, nobody))); nothing = refl };
   }
 
   pub ended_run : (lines : List Line) (t : ℕ) (a b c : Option (List ℕ)) (m n : Kernel D g) → HasRunLines seen may_leave p k lines a b (Some t) m → ((q : Play) → IsBeside seen may_leave q (Some t) m → IsEnded seen may_leave q b c n)
@@ -225,7 +225,7 @@ module _ {D : Type 0} {g : Ghosts D} (seen : D → List ℕ) (may_leave : D → 
   end_written was now n rests text = record { told = subst (Appends was now) (sym (text_one Aborted)) text; beside = rests }
 
   pub left_resting : (n : Kernel D g) → IsResting seen may_leave p n → IsResting seen may_leave (put_off p) n
-  left_resting n r = record { shown = ∥∥₁_map r.shown (λ (first, s, shows, (played, nobody)). (first, s, shows, (record { book = played.book; base = played.base }, nobody))); nothing = refl }
+  left_resting n r = record { shown = ∥∥₁_map r.shown (λ (first, s, shows, (played, nobody)). (first, s, shows, (record { first_is = played.first_is; book = played.book; base = played.base }, nobody))); nothing = refl }
 
   pub cut_ended : (lines : List Line) (a b : Option (List ℕ)) (n : Kernel D g) (why : RunFault) → IsCutShort seen may_leave faults p k lines a b n why → IsEndedFor faults n why
   cut_ended lines a b n fault.Output cut = tt

@@ -1,22 +1,25 @@
 -- Sessions that were served, one behind the other, and how they end early.
-use Rattle.std.proofs.Common.{◌≡◌, ◌<◌, ◌+◌, suc, ℕ, List, [], ◌∷◌, ◌++◌, Option, None, arith, length, take, drop, get_or, map, refl, ap, sym, subst, ◌∙◌, append_assoc, append-nil, length-append, take-append-drop}
+use Rattle.std.proofs.Common.{◌≡◌, ◌<◌, ◌+◌, suc, ℕ, List, [], ◌∷◌, ◌++◌, Option, None, Result, Ok, Err, IfOk, arith, length, take, drop, get_or, map, refl, ap, sym, subst, ◌∙◌, append_assoc, append-nil, length-append, take-append-drop}
 use Rattle.std.specs.Io.KnownBytes.{Appends}
 use Rattle.std.proofs.KnownBytes.{Appends-nil, Appends-trans}
 use Rattle.std.proofs.Math.Seq.{drop-cons}
 use Rattle.std.proofs.lemmas.List.{length-map, length-take-le, map-append, map_more}
 use mathlib.Core.Logic.{∥∥₁_map}
 use Rattle.mt_disk.specs.declared.device.Device.{Ghosts}
-use Rattle.mt_txn.specs.Shown.{SameSchema}
+use Rattle.mt_model.specs.Model.{Base}
+use Rattle.mt_txn.specs.Shown.{Restarts, SameSchema, StaysRestarting}
 use Rattle.mt_txn.specs.declared.kernel.Kernel.{Kernel}
 use Rattle.mt_script.specs.declared.answers.Answer.{Answer}
 use Rattle.mt_script.specs.declared.lines.Line.{Line}
 use Rattle.mt_script.specs.declared.reader.Script.{Script}
-use Rattle.mt_server.specs.declared.running.RunFault.{RunFault}
+use Rattle.mt_server.specs.declared.rotating.NotServed.{NotServed}
 use Rattle.mt_script.specs.Answers.{transcript_text}
 use Rattle.mt_server.specs.Driven.{IsBeside}
 use Rattle.mt_server.specs.Plays.{Play, put_off}
-use Rattle.mt_server.specs.Runs.{HasRun, last_line}
-use Rattle.mt_server.specs.Sessions.{AreCutShort, HaveServed, IsCutWithin, IsServed, Serves, no_script, then_script, in_session, lines_in, session_line, sessions_from, sessions_text}
+use Rattle.mt_server.specs.Runs.{last_line}
+use Rattle.mt_server.specs.Turnovers.{BesideFrom, HasRunOut}
+use Rattle.mt_server.proofs.TurnoverLemmas.{runs_first}
+use Rattle.mt_server.specs.Sessions.{AreCutShort, HaveServed, IsCutWithin, IsServed, Serves, StandsEach, no_script, then_script, in_session, lines_in, session_line, sessions_from, sessions_text}
 
 -- ---- texts
 
@@ -49,20 +52,33 @@ module _ {D : Type 0} {g : Ghosts D} (seen : D → List ℕ) (may_leave : D → 
 
   -- where nobody lives, it is beside a play of any session
   pub beside_session : (i : ℕ) → IsBeside seen may_leave p None k → IsBeside seen may_leave (in_session p i) None k
-  beside_session i r = record { shown = ∥∥₁_map r.shown (λ (first, s, shows, (played, nobody)). (first, s, shows, (record { book = played.book; base = played.base }, nobody))); nothing = r.nothing }
+  beside_session i r = record { shown = ∥∥₁_map r.shown (λ (first, s, shows, (played, nobody)). (first, s, shows, (record { first_is = played.first_is; book = played.book; base = played.base }, nobody))); nothing = r.nothing }
 
-  pub session_served : (i : ℕ) (lines : List Line) (a b c : Option (List ℕ)) (n : Kernel D g) → Appends a b (session_line i) → SameSchema k n → HasRun seen may_leave (in_session p i) k lines b c n → IsServed seen may_leave p k i lines a c n
-  session_served i lines a b c n heading schema ran = record {
+  pub session_served : (i : ℕ) (lines : List Line) (a b c : Option (List ℕ)) (n : Kernel D g) → Appends a b (session_line i) → SameSchema k n → Restarts seen may_leave p.first n → HasRunOut seen may_leave (in_session p i) k lines b c n
+      → IsServed seen may_leave p k i lines a c n
+  session_served i lines a b c n heading schema restarts (begun, over, ran) = record {
     transcript = ran.answers ++ last_line ran.play.under_way;
     end = put_off ran.play;
-    served = record { answers = ran.answers; play = ran.play; last = ran.last; ran = ran.ran; told_is = refl; end_is = refl; beside = ran.beside; schema = schema };
+    served = record {
+      answers = ran.answers;
+      play = ran.play;
+      last = ran.last;
+      begun = begun;
+      over = over;
+      ran = ran.ran;
+      told_is = refl;
+      end_is = refl;
+      beside = ran.beside;
+      restarts = subst (λ (x : Base). Restarts seen may_leave x n) (sym (runs_first seen may_leave (in_session p i, begun) (ran.play, ran.last) lines ran.answers ran.ran)) restarts;
+      schema = schema;
+    };
     told = Appends-trans a b c (session_line i) (transcript_text (ran.answers ++ last_line ran.play.under_way)) heading ran.told;
   }
 
   -- ---- sessions
 
-  pub none_served : (a : Option (List ℕ)) → IsBeside seen may_leave p None k → HaveServed seen may_leave p k [] a a k
-  none_served a beside = record { transcripts = []; play = p; served = no_script; told = none_told a; beside = beside }
+  pub none_served : (a : Option (List ℕ)) → IsBeside seen may_leave p None k → Restarts seen may_leave p.first k → HaveServed seen may_leave p k [] a a k
+  none_served a beside restarts = record { transcripts = []; play = p; served = no_script; told = none_told a; beside = beside; restarts = restarts }
 
   one_more : (scripts : List (List Line)) (lines : List Line) (a b c : Option (List ℕ)) (m n : Kernel D g) → (ran : HaveServed seen may_leave p k scripts a b m)
       → IsServed seen may_leave ran.play m (length scripts + 1) lines b c n → HaveServed seen may_leave p k (scripts ++ lines ∷ []) a c n
@@ -75,6 +91,7 @@ module _ {D : Type 0} {g : Ghosts D} (seen : D → List ℕ) (may_leave : D → 
         served = then_script scripts ran.transcripts (ran.play, m) (x.end, n) lines x.transcript ran.served x.served;
         told = subst (Appends a c) (sym (sessions_more 1 ran.transcripts x.transcript)) (Appends-trans a b c (sessions_text ran.transcripts) _ ran.told own);
         beside = x.served.beside;
+        restarts = x.served.restarts;
       }
 
   -- so many of the scripts
@@ -82,15 +99,15 @@ module _ {D : Type 0} {g : Ghosts D} (seen : D → List ℕ) (may_leave : D → 
   front_count scripts i lt = length-map (take i scripts) lines_in ∙ length-take-le i scripts (omega (arith, lt))
 
   pub served_more : (scripts : List Script) (i : ℕ) (s : Script) (a b c : Option (List ℕ)) (m n : Kernel D g) → i < length scripts → s ≡ get_or scripts i s → HaveServed seen may_leave p k (map lines_in (take i scripts)) a b m
-      → ((q : Play) → IsBeside seen may_leave q None m → IsServed seen may_leave q m (i + 1) (lines_in s) b c n) → HaveServed seen may_leave p k (map lines_in (take (i + 1) scripts)) a c n
+      → StandsEach seen may_leave m (λ q. IsServed seen may_leave q m (i + 1) (lines_in s) b c n) → HaveServed seen may_leave p k (map lines_in (take (i + 1) scripts)) a c n
   served_more scripts i s a b c m n lt is ran next =
-      let x = subst (λ (j : ℕ). IsServed seen may_leave ran.play m (j + 1) (lines_in s) b c n) (sym (front_count scripts i lt)) (next ran.play ran.beside) in
+      let x = subst (λ (j : ℕ). IsServed seen may_leave ran.play m (j + 1) (lines_in s) b c n) (sym (front_count scripts i lt)) (next ran.play ran.beside ran.restarts) in
       let all : map lines_in (take i scripts) ++ lines_in s ∷ [] ≡ map lines_in (take (i + 1) scripts) = ap (λ (y : Script). map lines_in (take i scripts) ++ lines_in y ∷ []) is ∙ sym (map_more lines_in scripts i s lt) in
       subst (λ (ls : List (List Line)). HaveServed seen may_leave p k ls a c n) all (one_more (map lines_in (take i scripts)) (lines_in s) a b c m n ran x)
 
-  pub served_cut : (scripts : List Script) (i : ℕ) (s : Script) (a b c : Option (List ℕ)) (m n : Kernel D g) (why : RunFault) → i < length scripts → s ≡ get_or scripts i s → HaveServed seen may_leave p k (map lines_in (take i scripts)) a b m
-      → ((q : Play) → IsBeside seen may_leave q None m → IsCutWithin seen may_leave faults q m (i + 1) (lines_in s) b c n why) → AreCutShort seen may_leave faults p k (map lines_in scripts) a c n why
-  served_cut scripts i s a b c m n why lt is ran next = record {
+  pub served_cut : (scripts : List Script) (i : ℕ) (s : Script) (a b c : Option (List ℕ)) (m : Kernel D g) (left : NotServed D g) → i < length scripts → s ≡ get_or scripts i s → HaveServed seen may_leave p k (map lines_in (take i scripts)) a b m
+      → StandsEach seen may_leave m (λ q. IsCutWithin seen may_leave faults q m (i + 1) (lines_in s) b c left) → AreCutShort seen may_leave faults p k (map lines_in scripts) a c left
+  served_cut scripts i s a b c m left lt is ran next = record {
     before = map lines_in (take i scripts);
     lines = lines_in s;
     rest = map lines_in (drop (suc i) scripts);
@@ -100,5 +117,13 @@ module _ {D : Type 0} {g : Ghosts D} (seen : D → List ℕ) (may_leave : D → 
     mid = b;
     last = m;
     ran = ran;
-    within = subst (λ (j : ℕ). IsCutWithin seen may_leave faults ran.play m (j + 1) (lines_in s) b c n why) (sym (front_count scripts i lt)) (next ran.play ran.beside);
+    within = subst (λ (j : ℕ). IsCutWithin seen may_leave faults ran.play m (j + 1) (lines_in s) b c left) (sym (front_count scripts i lt)) (next ran.play ran.beside ran.restarts);
   }
+
+-- where its script ran to its end
+pub session_served_of : {D : Type 0} {g : Ghosts D} (seen : D → List ℕ) (may_leave : D → List ℕ → Type 0) (faults : D → ℕ) (k : Kernel D g) (i : ℕ) (lines : List Line) (a b c : Option (List ℕ)) (r : Result (Kernel D g) (NotServed D g)) → Appends a b (session_line i)
+    → IfOk r (SameSchema k) → IfOk r (StaysRestarting seen may_leave k) → IfOk r (λ n. BesideFrom seen may_leave i None k (λ q. HasRunOut seen may_leave q k lines b c n))
+    → IfOk r (λ n. StandsEach seen may_leave k (λ p. IsServed seen may_leave p k i lines a c n))
+session_served_of seen may_leave faults k i lines a b c (Err left) heading schema stays ran = tt
+session_served_of seen may_leave faults k i lines a b c (Ok n) heading schema stays ran = λ p beside restarts.
+    session_served seen may_leave faults p k i lines a b c n heading schema (stays p.first restarts) (ran (in_session p i) refl (beside_session seen may_leave faults p k i beside) restarts)

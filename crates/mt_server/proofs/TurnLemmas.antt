@@ -161,7 +161,7 @@ module _ {D : Type 0} {g : Ghosts D} (seen : D → List ℕ) (may_leave : D → 
               begun s session,
               did first s shows,
               (
-                record { book = played.book; base = played.base },
+                record { first_is = played.first_is; book = played.book; base = played.base },
                 subst (λ (X : Type 0). X) (λ i. IsAlone (begun s session) (next_is first s shows i) (sym own i) []) (begins_alone first s session kept nobody),
               ),
             ) ∣₁));

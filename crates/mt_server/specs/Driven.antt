@@ -29,8 +29,9 @@ use Rattle.mt_script.specs.declared.lines.Line.{Line}
 use Rattle.mt_script.specs.declared.lines.Line.TheVariants as line
 use Rattle.mt_server.specs.Plays.{Play, committed, put_off}
 
--- the book and what it leaves are the model's
+-- the book, the base that it begins on and what it leaves are the model's
 pub record IsPlayed (first : Base) (p : Play) (s : State) : Type 0 where
+  pub first_is : first ≡ p.first
   pub book : s.book ≡ p.book
   pub base : after first p.book ≡ p.base
 

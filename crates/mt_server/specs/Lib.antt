@@ -1,6 +1,7 @@
 pub mod Plays
 pub mod Driven
 pub mod Runs
+pub mod Turnovers
 pub mod Sessions
 pub mod Heard
 pub mod Hearing

@@ -13,9 +13,10 @@ use Rattle.mt_script.specs.declared.lines.Line.TheVariants as line
 use Rattle.mt_script.specs.declared.answers.Answer.{Answer}
 use Rattle.mt_script.specs.declared.answers.Answer.TheVariants.{Begun, Replied, Committed as CommittedAt, Aborted, Refused}
 
--- whose script it is, what the commits leave, the commits, and the calls of the transaction that is open, if one is
+-- whose script it is, the base that the commits began on, what they leave, the commits, and the calls of the transaction that is open, if one is
 pub record Play : Type 0 where
   pub session : ℕ
+  pub first : Base
   pub base : Base
   pub book : List Committed
   pub under_way : Option (List Call)

@@ -78,6 +78,18 @@ module _ {D : Type 0} {g : Ghosts D} (seen : D → List ℕ) (may_leave : D → 
     pub told : Appends was now (transcript_text (answers ++ last_line play.under_way))
     pub beside : IsBeside seen may_leave (put_off play) None n
 
+  -- The run ended early: these of its lines had their answers, of which the last may be unheard. So much is left of it.
+  pub record IsCut (Left : Play → Type 0) (p : Play) (k : Kernel D g) (lines : List Line) (was now : Option (List ℕ)) (why : RunFault) : Type 0 where
+    pub before : List Line
+    pub rest : List Line
+    pub split : lines ≡ before ++ rest
+    pub answers : List Answer
+    pub play : Play
+    pub last : Kernel D g
+    pub ran : Runs HasTurned (p, k) before answers (play, last)
+    pub told : IsToldFor was now answers why
+    pub left : Left play
+
 module _ {D : Type 0} {g : Ghosts D} (seen : D → List ℕ) (may_leave : D → List ℕ → Type 0) (faults : D → ℕ) where
   -- What is left behind answers where a run ended early. Where the writer failed, the open transaction is aborted, or the device has
   -- failed; where a step was given up, what was committed stands.
@@ -85,17 +97,9 @@ module _ {D : Type 0} {g : Ghosts D} (seen : D → List ℕ) (may_leave : D → 
   IsLeftFor q n fault.Output = IsBeside seen may_leave (put_off q) None n ⊎ (IsLeft seen may_leave q n × HasBroken faults n)
   IsLeftFor q n (fault.Refused why) = IsGivenUp seen may_leave faults q n why
 
-  -- The run ended early: these of its lines had their answers, of which the last may be unheard.
-  pub record IsCutShort (p : Play) (k : Kernel D g) (lines : List Line) (was now : Option (List ℕ)) (n : Kernel D g) (why : RunFault) : Type 0 where
-    pub before : List Line
-    pub rest : List Line
-    pub split : lines ≡ before ++ rest
-    pub answers : List Answer
-    pub play : Play
-    pub last : Kernel D g
-    pub ran : Runs (HasTurned seen may_leave) (p, k) before answers (play, last)
-    pub told : IsToldFor was now answers why
-    pub left : IsLeftFor play n why
+  -- the run ended early, and left the kernel so
+  abbrev pub IsCutShort : Play → Kernel D g → List Line → Option (List ℕ) → Option (List ℕ) → Kernel D g → RunFault → Type 0
+  IsCutShort p k lines was now n why = IsCut seen may_leave (λ q. IsLeftFor q n why) p k lines was now why
 
 module _ {D : Type 0} {g : Ghosts D} (seen : D → List ℕ) (may_leave : D → List ℕ → Type 0) where
   -- ---- a line

@@ -6,11 +6,13 @@
 //! [`run_sessions`] for several scripts.
 #![tactic(auto)]
 
+mod alone;
 mod attempts;
 mod crew;
 mod driving;
 mod forcing;
 mod placing;
+mod rotating;
 mod running;
 mod serving;
 mod session;
@@ -19,6 +21,7 @@ mod transcript;
 mod turning;
 mod turns;
 
+pub use rotating::NotServed;
 pub use running::{RunFault, run_alone};
 pub use serving::{Served, serve};
 pub use sessions::{MAX_SESSIONS, run_sessions};

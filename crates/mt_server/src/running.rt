@@ -54,7 +54,7 @@ fn end_failed<W: Write>(writer: &mut W) -> RunFault
 }
 
 /// Answers how the run ends after a step that was refused. That the device failed is written.
-fn end_refused<W: Write>(writer: &mut W, refusal: Refusal) -> RunFault
+pub(crate) fn end_refused<W: Write>(writer: &mut W, refusal: Refusal) -> RunFault
     ensures { IsStopped (W.contents writer.old) (W.contents writer.new) refusal result }
 {
     match refusal {
@@ -64,7 +64,7 @@ fn end_refused<W: Write>(writer: &mut W, refusal: Refusal) -> RunFault
 }
 
 /// Answers one line, and writes the answer. Answers the transaction that is open then.
-fn run_line<D: Device, W: Write>(
+pub(crate) fn run_line<D: Device, W: Write>(
     kernel: &mut Kernel<D>,
     session: u32,
     live: Option<TxnNo>,
@@ -114,7 +114,7 @@ fn run_lines<D: Device, W: Write>(
 }
 
 /// Aborts the transaction that is open where the script ends, and writes that.
-fn end_live<D: Device, W: Write>(
+pub(crate) fn end_live<D: Device, W: Write>(
     kernel: &mut Kernel<D>,
     txn: TxnNo,
     writer: &mut W,

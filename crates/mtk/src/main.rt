@@ -1,11 +1,14 @@
 //! The program `mtk`: the command line, with the standard streams and the files of the system.
 #![tactic(auto)]
 
+mod progress;
+
+use crate::progress::Progress;
 use mt_cli::perform_words;
 use mt_folder::DiskFolder;
 use std::env;
 use std::fs::File;
-use std::io::{self, ErrorKind, LineWriter, Write};
+use std::io::{self, ErrorKind, IsTerminal, LineWriter, Write};
 use std::process::ExitCode;
 use std::rt::{Files, Runtime};
 use std::sync::Wait;
@@ -18,12 +21,14 @@ const REFUSED: u8 = 1;
 const MISUSED: u8 = 2;
 
 /// Does what the command line asks for, with this output and error output and the input and the files of the system, and
-/// gives the status. It fails where a word is not UTF-8, and where there is no memory for the words.
+/// gives the status. How far a run has come is told as `progress` says. It fails where a word is not UTF-8, and where there
+/// is no memory for the words.
 fn done<
     R: Runtime + Files<File = File> + AllocGlobal + Threads + Wait + Sync,
     O: Write + Drop,
     E: Write,
->(rt: &R, out: O, err: &mut E) -> io::Result<u8> {
+    P: Write + Copy + Send + Sync,
+>(rt: &R, out: O, err: &mut E, progress: Progress<P>) -> io::Result<u8> {
     let alloc = rt.alloc();
     let own: Vec<String> = env::args(rt)?.skip(1).collect(alloc)?;
     let mut words = Vec::with_capacity(alloc, own.len())?;
@@ -42,13 +47,16 @@ fn done<
         &mut input,
         &mut out,
         err,
+        progress,
     ))
 }
 
 /// Tells why the command line is not read, and gives the status.
 fn unread<W: Write>(err: &mut W, why: ErrorKind) -> u8 {
     let text: &[u8] = match why {
-        ErrorKind::OutOfMemory => b"refused 1 NoMemory\n",
+        ErrorKind::OutOfMemory => {
+            b"refused 1 NoMemory\nmtk: there is not enough memory; `run` takes less with fewer frames\n"
+        }
         _ => b"error: a word of the command line is not UTF-8\n",
     };
     // where that cannot be told either, the status alone tells it
@@ -60,7 +68,8 @@ fn unread<W: Write>(err: &mut W, why: ErrorKind) -> u8 {
 }
 
 fn main(rt: HostRuntime) -> io::Result<ExitCode> {
-    match done(&rt, rt.stdout(), &mut rt.stderr()) {
+    let progress = Progress::new(rt.stderr(), rt.stderr().is_terminal());
+    match done(&rt, rt.stdout(), &mut rt.stderr(), progress) {
         Ok(status) => Ok(ExitCode::from(status)),
         Err(fault) => Ok(ExitCode::from(unread(&mut rt.stderr(), fault.kind()))),
     }

@@ -1,19 +1,14 @@
-use Rattle.std.proofs.lemmas.Result.{IfErr-weaker, on_ok_weaker}
 use Rattle.mt_cli.proofs.ServeLemmas.{served_on, short_on}
 use Rattle.mt_cli.proofs.serving.serve_opened.Goals as goal
 
-pub returns-clause-served : goal.returns-clause-served
-returns-clause-served g c =
+pub returns-in-Ok-clause-served : goal.returns-in-Ok-clause-served
+returns-in-Ok-clause-served g c = λ relations counters b opened.
     let D = g.D.Device in
-    let n = c.run_sessions-ran.new.kernel in
-    on_ok_weaker c.run_sessions-ran.result
-    (λ ran relations counters b opened. served_on D.seen D.may_leave relations counters b c.args.kernel n _ _ _ _ opened c.run_sessions-ran.ensures.schema c.run_sessions-ran.ensures.restarts ran
-    (λ first restarts. rw c.into_device.ensures (c.can_restart.ensures first (D.seen n.parts.operations.store.device) restarts (g.met.D.Device.present n.parts.operations.store.device) n.schema)))
-    c.run_sessions-ran.ensures.ran
+    let n = c.in-Ok.kernel in
+    served_on D.seen D.may_leave relations counters b c.args.kernel n _ _ _ _ opened c.in-Ok.ensures.schema c.in-Ok.ensures.restarts c.in-Ok.ensures.ran
+    (λ first restarts. rw c.into_device.ensures (c.can_restart.ensures first (D.seen n.parts.operations.store.device) restarts (g.met.D.Device.present n.parts.operations.store.device) n.schema))
 
-pub returns-clause-short : goal.returns-clause-short
-returns-clause-short g c =
+pub returns-in-Err-clause-short : goal.returns-in-Err-clause-short
+returns-in-Err-clause-short g c = λ relations counters b opened.
     let D = g.D.Device in
-    IfErr-weaker c.run_sessions-ran.result _ _
-    (λ why cut relations counters b opened. short_on D.seen D.may_leave D.faults relations counters b c.args.kernel c.run_sessions-ran.new.kernel _ _ _ why opened cut)
-    c.run_sessions-ran.ensures.cut
+    rw c.into_device-why.ensures.why (short_on D.seen D.may_leave D.faults relations counters b c.args.kernel _ _ _ c.in-Err.left opened c.in-Err.ensures.cut)

@@ -6,3 +6,4 @@ pub mod Work
 pub mod Booked
 pub mod Restartable
 pub mod Turned
+pub mod PageLocks

@@ -12,6 +12,8 @@ ghost use Rattle.mt_kernel.specs.Restartable.{QuietlyAppends, StaysRestartable};
 ghost use Rattle.mt_kernel.specs.Steps.{LeavesExplained, WantsFrame};
 ghost use Rattle.mt_kernel.specs.Work.{LeavesStanding, LowersBack, undo_steps};
 ghost use Rattle.mt_kernel.specs.declared.parts.Running.{Running};
+ghost use Rattle.mt_plock.specs.Releasing.{locks_without};
+ghost use Rattle.mt_kernel.specs.PageLocks.{GivesLocksBack};
 
 use crate::ends::let_go;
 use crate::parts::{Parts, Running};
@@ -32,6 +34,7 @@ impl<D: Device> Parts<D> {
             × (state_in self.old.live.members r.scope.txn ≡ Some Aborting)) }
         ensures live { self.new.live ≡ self.old.live }
         ensures commits { self.new.commits ≡ self.old.commits }
+        ensures locks { self.new.operations.locks ≡ self.old.operations.locks }
         ensures full { result ≡ Ok TakenBack.Flush → WantsFrame self.old self.new }
         ensures length { length self.new.running.items ≡ length self.old.running.items }
         ensures same { (origin : Origin) (base : Base) → IsConsistent D.seen D.may_leave origin base self.old
@@ -61,6 +64,8 @@ impl<D: Device> Parts<D> {
         requires forward { AtPlace self.old.running.items place (λ r. r.scope.undoes ≡ 0) }
         ensures items { self.new.running.items ≡ remove self.old.running.items place }
         ensures store { self.new.operations.store ≡ self.old.operations.store }
+        ensures locks { AtPlace self.old.running.items place (λ r. self.new.operations.locks
+            ≡ locks_without r.scope.number self.old.operations.locks) }
         ensures live { self.new.live ≡ self.old.live }
         ensures commits { self.new.commits ≡ self.old.commits }
         ensures drops { (origin : Origin) (base : Base) → IsClearedAt D.seen D.may_leave origin base self.old place
@@ -92,6 +97,7 @@ impl<D: Device> Parts<D> {
             → BacksIn D.seen D.may_leave origin base self.old self.new place result }
         ensures lowers { AtPlace self.old.running.items place (λ r. LowersBack result
             (undo_steps self.old r.scope.txn) (undo_steps self.new r.scope.txn)) }
+        ensures locks { AtPlace self.old.running.items place (λ r. GivesLocksBack self.old self.new r result) }
         ensures live { self.new.live ≡ self.old.live }
         ensures commits { self.new.commits ≡ self.old.commits }
         ensures full { result ≡ Ok TakenBack.Flush → WantsFrame self.old self.new }

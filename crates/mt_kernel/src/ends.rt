@@ -8,6 +8,7 @@ ghost use Rattle.mt_model.specs.Model.{Base, base_after};
 ghost use Rattle.mt_model.specs.declared.operations.Reply.{Reply};
 ghost use Rattle.mt_kernel.specs.Consistent.{SameStates, EndsIn, UndoesIn, IsReadyAt, AtPlace, Origin, state_of, IsIn, IsReady};
 ghost use Rattle.mt_kernel.specs.Restartable.{NotesEnd, NotesUndone};
+ghost use Rattle.mt_plock.specs.Releasing.{locks_without};
 ghost use Rattle.mt_kernel.specs.declared.parts.Running.{Running};
 
 use crate::parts::{Parts, Running};
@@ -39,6 +40,8 @@ impl<D: Device> Parts<D> {
         requires within { place < length self.old.running.items }
         requires forward { AtPlace self.old.running.items place (λ r. r.scope.undoes ≡ 0) }
         ensures items { self.new.running.items ≡ remove self.old.running.items place }
+        ensures locks { AtPlace self.old.running.items place (λ r. self.new.operations.locks
+            ≡ locks_without r.scope.number self.old.operations.locks) }
         ensures store { self.new.operations.store ≡ self.old.operations.store }
         ensures states { SameStates self.old self.new }
         ensures commits { self.new.commits ≡ self.old.commits }
@@ -63,6 +66,8 @@ impl<D: Device> Parts<D> {
         requires within { place < length self.old.running.items }
         requires back { AtPlace self.old.running.items place (λ r. r.scope.undoes ≢ 0) }
         ensures items { self.new.running.items ≡ remove self.old.running.items place }
+        ensures locks { AtPlace self.old.running.items place (λ r. self.new.operations.locks
+            ≡ locks_without r.scope.number self.old.operations.locks) }
         ensures store { self.new.operations.store ≡ self.old.operations.store }
         ensures states { SameStates self.old self.new }
         ensures commits { self.new.commits ≡ self.old.commits }

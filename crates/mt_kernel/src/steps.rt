@@ -11,6 +11,8 @@ ghost use Rattle.mt_op.specs.Faults.{TellsFaults};
 ghost use Rattle.mt_op.specs.Operations.{IsCause};
 ghost use Rattle.mt_kernel.specs.Restartable.{StaysRestartable, StepAppends};
 ghost use Rattle.mt_kernel.specs.Steps.{LeavesExplained, Steps, UndoSteps, TellsOther, NamesOther, WantsFrame};
+ghost use Rattle.mt_kernel.specs.PageLocks.{KeepsPageLocks};
+ghost use Rattle.mt_op.specs.Holds.{IsNext, KeepsLocks};
 ghost use Rattle.mt_kernel.specs.declared.parts.Running.{Running};
 
 use crate::parts::Parts;
@@ -58,6 +60,8 @@ impl<D: Device> Parts<D> {
         ensures full { result ≡ Ok Stepped.Flush → WantsFrame self.old self.new }
         ensures works { (r q : Running) → r ≡ slice_index_or self.old.running.items place r
             → q ≡ slice_index_or self.new.running.items place q → Works r.scope q.scope result }
+        ensures locks { AtPlace self.old.running.items place (λ r. KeepsLocks r.scope.number
+            (IsNext self.old.operations.rooms.0 r.scope) self.old.operations.locks self.new.operations.locks result) }
         ensures why { IfErr result IsCause }
         ensures faults { TellsFaults (D.faults self.old.operations.store.device)
             (D.faults self.new.operations.store.device) result }
@@ -96,6 +100,7 @@ impl<D: Device> Parts<D> {
             → Steps D.seen D.may_leave origin base self.old self.new place result }
         ensures other { (origin : Origin) (base : Base) → IsConsistent D.seen D.may_leave origin base self.old
             → AtPlace self.old.running.items place (λ r. NamesOther self.new.running.items r.scope.txn result) }
+        ensures locks { AtPlace self.old.running.items place (λ r. KeepsPageLocks self.old self.new r result) }
         ensures moments { LeavesExplained D.seen D.may_leave D.moment D.left_since self.old self.new }
         ensures restartable { StaysRestartable D.seen D.may_leave self.old self.new }
     {
@@ -136,6 +141,7 @@ impl<D: Device> Parts<D> {
             → UndoSteps D.seen D.may_leave origin base self.old self.new place result }
         ensures other { (origin : Origin) (base : Base) → IsConsistent D.seen D.may_leave origin base self.old
             → AtPlace self.old.running.items place (λ r. NamesOther self.new.running.items r.scope.txn result) }
+        ensures locks { AtPlace self.old.running.items place (λ r. KeepsPageLocks self.old self.new r result) }
         ensures moments { LeavesExplained D.seen D.may_leave D.moment D.left_since self.old self.new }
         ensures restartable { StaysRestartable D.seen D.may_leave self.old self.new }
     {

@@ -37,6 +37,7 @@ impl<D: Device> Parts<D> {
         ensures fewer { result ≡ Ok true → undo_steps self.new txn < undo_steps self.old txn }
         ensures err_left { OnErr result (undo_steps self.new txn ≤ undo_steps self.old txn) }
         ensures store { self.new.operations.store ≡ self.old.operations.store }
+        ensures locks { self.new.operations.locks ≡ self.old.operations.locks }
         ensures live { self.new.live ≡ self.old.live }
         ensures commits { self.new.commits ≡ self.old.commits }
         ensures only_memory { IfErr result (λ why. why ≡ Refusal.NoMemory) }
@@ -77,6 +78,7 @@ impl<D: Device> Parts<D> {
         ensures others { SameStatesBut self.old self.new txn }
         ensures out { OnOk result (state_in self.new.live.members txn ≡ None) }
         ensures err_states { OnErr result (SameStates self.old self.new) }
+        ensures locks { self.new.operations.locks ≡ self.old.operations.locks }
         ensures commits { self.new.commits ≡ self.old.commits }
         ensures none_left { OnOk result (undo_steps self.old txn ≡ 0) }
         ensures err_left { OnErr result (undo_steps self.new txn ≤ undo_steps self.old txn) }

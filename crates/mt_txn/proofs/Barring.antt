@@ -16,6 +16,11 @@ use Rattle.mt_kernel.specs.declared.steps.Going.{Going}
 use Rattle.mt_kernel.specs.declared.steps.Going.TheVariants as going
 use Rattle.mt_txn.proofs.Showing.{at_place}
 use Rattle.mt_txn.specs.Well.{IsWell}
+use Rattle.std.proofs.Common.{sym, ◌≢◌, Ok, inl}
+use Rattle.std.proofs.lemmas.List.Elements.{All-get_or}
+use Rattle.mt_kernel.specs.PageLocks.{KeepsPageLocks}
+use Rattle.mt_kernel.specs.declared.steps.Stepping.TheVariants.{Going as GoingOn}
+use Rattle.mt_txn.specs.PageLocks.{AbortsLocks, BeginsAnew, StepsLocks}
 use Rattle.mt_txn.specs.Work.{IsToldAs, IsAbortToldAs, IsAnother, IsForOther, IsAbortForOther}
 use Rattle.mt_txn.specs.declared.answers.AbortStepped.{AbortStepped}
 use Rattle.mt_txn.specs.declared.answers.AbortStepped.TheVariants as abort
@@ -79,3 +84,37 @@ module _ {D : Type 0} (seen : D → List ℕ) (may_leave : D → List ℕ → Ty
   abort_other k n t place g abort.Again own goes well told = again_other k n t place told.0 g own goes well told.1
   abort_other k n t place g abort.Flush own goes well told = tt
   abort_other k n t place g abort.Ended own goes well told = tt
+
+  -- no operation under way has that number, and one has
+  unowned : (rs : List Running) (holder u : ℕ) → IsOwnerOf rs holder (Some u) → IsOwnerOf rs holder None → ⊥
+  unowned rs holder u (place, within, owns) none =
+      let at = at_place rs place within in
+      subst (λ (x : Running). x.scope.number ≢ holder) (sym at.1) (All-get_or (λ (x : Running). x.scope.number ≢ holder) rs place at.0 within none) (owns at.0 at.1).0
+
+  -- whose number is no operation's under way is not waited for
+  awaits_some : (k n : Parts D) (t place holder : ℕ) (g : Going) → AtPlace k.running.items place (λ r. r.scope.txn ≡ t) → GoesOn k n place g → IsWell seen may_leave relations counters k → g ≡ going.Wait holder → IsOwnerOf n.running.items holder None → ⊥
+  awaits_some k n t place holder g own goes well waits none = ∥∥₁_elim well (hlevel props) (λ (origin, base, is, safe).
+      let o : IsOfOther n.running.items t holder = subst (AwaitsOther n.running.items t) waits (named_at k n t place g origin base own goes safe) in
+      unowned n.running.items holder o.0 o.2 none)
+
+  again_locks : (k n : Parts D) (t place holder : ℕ) (g : Going) (r : Running) → AtPlace k.running.items place (λ q. q.scope.txn ≡ t) → GoesOn k n place g → IsWell seen may_leave relations counters k → ((g ≡ going.Wait holder) × IsOwnerOf n.running.items holder None) ⊎ (g ≡ going.Again holder)
+      → KeepsPageLocks k n r (Ok (GoingOn g)) → BeginsAnew k n r
+  again_locks k n t place holder g r own goes well told keeps = ⊎_elim
+      (λ (waits : (g ≡ going.Wait holder) × IsOwnerOf n.running.items holder None). absurd (awaits_some k n t place holder g own goes well waits.0 waits.1))
+      (λ (again : g ≡ going.Again holder). (holder, subst (λ (x : Going). KeepsPageLocks k n r (Ok (GoingOn x))) again keeps)) told
+
+  pub step_locks : (k n : Parts D) (t place : ℕ) (g : Going) (x : Stepped) (r : Running) → AtPlace k.running.items place (λ q. q.scope.txn ≡ t) → GoesOn k n place g → IsWell seen may_leave relations counters k → IsToldAs n.running.items g x
+      → KeepsPageLocks k n r (Ok (GoingOn g)) → StepsLocks k n r (Ok x)
+  step_locks k n t place g (step.Replied reply) r own goes well told keeps = absurd told
+  step_locks k n t place g step.Went r own goes well told keeps = subst (λ (x : Going). KeepsPageLocks k n r (Ok (GoingOn x))) told keeps
+  step_locks k n t place g (step.Wait other) r own goes well told keeps = (told.0, told.2, subst (λ (x : Going). KeepsPageLocks k n r (Ok (GoingOn x))) told.1 keeps)
+  step_locks k n t place g step.Again r own goes well told keeps = again_locks k n t place told.0 g r own goes well told.1 keeps
+  step_locks k n t place g step.Flush r own goes well told keeps = subst (λ (x : Going). KeepsPageLocks k n r (Ok (GoingOn x))) told keeps
+
+  pub abort_locks : (k n : Parts D) (t place : ℕ) (g : Going) (x : AbortStepped) (r : Running) → AtPlace k.running.items place (λ q. q.scope.txn ≡ t) → GoesOn k n place g → IsWell seen may_leave relations counters k → IsAbortToldAs n.running.items g x
+      → KeepsPageLocks k n r (Ok (GoingOn g)) → AbortsLocks k n r (Ok x)
+  abort_locks k n t place g abort.More r own goes well told keeps = inl (subst (λ (x : Going). KeepsPageLocks k n r (Ok (GoingOn x))) told keeps)
+  abort_locks k n t place g (abort.Wait other) r own goes well told keeps = (told.0, told.2, subst (λ (x : Going). KeepsPageLocks k n r (Ok (GoingOn x))) told.1 keeps)
+  abort_locks k n t place g abort.Again r own goes well told keeps = again_locks k n t place told.0 g r own goes well told.1 keeps
+  abort_locks k n t place g abort.Flush r own goes well told keeps = subst (λ (x : Going). KeepsPageLocks k n r (Ok (GoingOn x))) told keeps
+  abort_locks k n t place g abort.Ended r own goes well told keeps = absurd told

@@ -7,3 +7,4 @@ pub mod Surveyed
 pub mod Restarted
 pub mod Turned
 pub mod Due
+pub mod PageLocks

@@ -1,5 +1,5 @@
 // Aborts, by the inverses of what was done.
-ghost use Rattle.std.specs.Prelude.{◌≡◌, ◌≢◌, ◌⊎◌, ◌<◌, ◌≤◌, length, All, Ok, IfOk, IfErr, OnOk, OnErr, None, Some, Err, true};
+ghost use Rattle.std.specs.Prelude.{◌≡◌, ◌≢◌, ◌⊎◌, ◌<◌, ◌≤◌, length, All, Ok, IfOk, IfErr, OnOk, OnErr, None, Some, Err, true, false};
 ghost use Rattle.mt_base.specs.declared.refusal.Refusal.{Refusal};
 ghost use Rattle.mt_live.specs.Machine.{State};
 ghost use Rattle.mt_model.specs.Model.{Base};
@@ -10,11 +10,12 @@ ghost use Rattle.mt_kernel.specs.Steps.{WantsFrame};
 ghost use Rattle.mt_kernel.specs.Work.{most_steps, undo_steps};
 ghost use Rattle.mt_pool.specs.Views.{pages};
 ghost use Rattle.mt_kernel.specs.declared.parts.Running.{Running};
-ghost use Rattle.mt_txn.specs.Causes.{IsFault, abort_cause, open_cause};
+ghost use Rattle.mt_txn.specs.Causes.{IsFault, abort_cause, is_busy, open_cause};
 ghost use Rattle.mt_txn.specs.Events.{HasAborted};
 ghost use Rattle.mt_txn.specs.Shown.{FailsForGood, SameSchema, Shows, Stays, StaysRestarting, is_failed};
 ghost use Rattle.mt_txn.specs.Work.{IsAbortToldAs, IsAbortForOther, LowersAbort};
 ghost use Rattle.mt_txn.specs.Shown.{LeavesFound};
+ghost use Rattle.mt_txn.specs.PageLocks.{AbortsLocks, OfRunning};
 
 use crate::answers::AbortStepped;
 use crate::kernel::{Kernel, is_failure};
@@ -66,6 +67,8 @@ impl<D: Device> Kernel<D> {
             (undo_steps self.old.parts txn) (undo_steps self.new.parts txn) }
         ensures other { IfOk result (λ stepped. IsAbortForOther self.old.parts.live.members txn stepped) }
         ensures full { result ≡ Ok AbortStepped.Flush → WantsFrame self.old.parts self.new.parts }
+        ensures locks { AtPlace self.old.parts.running.items place
+            (λ r. AbortsLocks self.old.parts self.new.parts r result) }
         ensures commits { SameCommits self.old.parts self.new.parts }
         ensures err_states { OnErr result (SameStates self.old.parts self.new.parts) }
         ensures out { result ≡ Ok AbortStepped.Ended → (state_in self.new.parts.live.members txn ≡ None)
@@ -99,6 +102,8 @@ impl<D: Device> Kernel<D> {
             (undo_steps self.old.parts txn) (undo_steps self.new.parts txn) }
         ensures other { IfOk result (λ stepped. IsAbortForOther self.old.parts.live.members txn stepped) }
         ensures full { result ≡ Ok AbortStepped.Flush → WantsFrame self.old.parts self.new.parts }
+        ensures locks { AtPlace self.old.parts.running.items place
+            (λ r. AbortsLocks self.old.parts self.new.parts r result) }
         ensures commits { SameCommits self.old.parts self.new.parts }
         ensures err_states { OnErr result (SameStates self.old.parts self.new.parts) }
         ensures out { result ≡ Ok AbortStepped.Ended → (state_in self.new.parts.live.members txn ≡ None)
@@ -148,6 +153,7 @@ impl<D: Device> Kernel<D> {
             (undo_steps self.old.parts txn) (undo_steps self.new.parts txn) }
         ensures other { IfOk result (λ stepped. IsAbortForOther self.old.parts.live.members txn stepped) }
         ensures full { result ≡ Ok AbortStepped.Flush → WantsFrame self.old.parts self.new.parts }
+        ensures locks { self.new.parts.operations.locks ≡ self.old.parts.operations.locks }
         ensures commits { SameCommits self.old.parts self.new.parts }
         ensures err_states { OnErr result (SameStates self.old.parts self.new.parts) }
         ensures out { result ≡ Ok AbortStepped.Ended → (state_in self.new.parts.live.members txn ≡ None)
@@ -186,6 +192,11 @@ impl<D: Device> Kernel<D> {
             (undo_steps self.old.parts txn) (undo_steps self.new.parts txn) }
         ensures other { IfOk result (λ stepped. IsAbortForOther self.old.parts.live.members txn stepped) }
         ensures full { result ≡ Ok AbortStepped.Flush → WantsFrame self.old.parts self.new.parts }
+        ensures locks { abort_cause (is_failed self.old) self.old.parts txn ≡ None
+            → is_busy self.old.parts txn ≡ true → OfRunning self.old.parts.running.items txn
+            (λ r. AbortsLocks self.old.parts self.new.parts r result) }
+        ensures idle { is_busy self.old.parts txn ≡ false
+            → self.new.parts.operations.locks ≡ self.old.parts.operations.locks }
         ensures commits { SameCommits self.old.parts self.new.parts }
         ensures err_states { OnErr result (SameStates self.old.parts self.new.parts) }
         ensures out { result ≡ Ok AbortStepped.Ended → (state_in self.new.parts.live.members txn ≡ None)

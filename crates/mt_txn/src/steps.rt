@@ -10,6 +10,7 @@ ghost use Rattle.mt_txn.specs.Work.{IsToldAs, IsForOther, LowersSteps};
 ghost use Rattle.mt_kernel.specs.Consistent.{SameCommits, SameStates};
 ghost use Rattle.mt_txn.specs.Causes.{IsFault, step_cause};
 ghost use Rattle.mt_txn.specs.Events.{HasStepped};
+ghost use Rattle.mt_txn.specs.PageLocks.{OfRunning, StepsLocks};
 ghost use Rattle.mt_txn.specs.Shown.{FailsForGood, SameSchema, Shows, StaysRestarting, is_failed};
 ghost use Rattle.mt_txn.specs.Shown.{LeavesFound};
 
@@ -37,6 +38,9 @@ impl<D: Device> Kernel<D> {
         ensures full { result ≡ Ok Stepped.Flush → WantsFrame self.old.parts self.new.parts }
         ensures commits { SameCommits self.old.parts self.new.parts }
         ensures other { IfOk result (λ stepped. IsForOther self.old.parts.live.members txn stepped) }
+        ensures locks { step_cause (is_failed self.old) self.old.parts txn ≡ None
+            → OfRunning self.old.parts.running.items txn
+            (λ r. StepsLocks self.old.parts self.new.parts r result) }
         ensures states { SameStates self.old.parts self.new.parts }
         ensures fails { FailsForGood self.old result self.new }
         ensures unmoved { (why : Refusal) → step_cause (is_failed self.old) self.old.parts txn ≡ Some why

@@ -91,3 +91,9 @@ pub returns-clause-restartable : goal.returns-clause-restartable
 returns-clause-restartable g c = λ origin base later safe_k safe_n r. let k = c.args.self.now in let f = c.in_ok-append.ensures in let m = c.leave.ensures in
     let n : Parts g.row.D.Denot = record k { operations = c.append.new.self; live = c.leave.new.self; locks = c.release.new.self; reserved = k.reserved - 128 } in
     aborted g.D.Device.seen g.D.Device.may_leave origin k n base later c.args.txn safe_k safe_n (record { total = (f.notes origin.pages).area.total; bytes = c.append.ensures.area; lasts = lasts_same k n c.append.ensures.durable }) (f.notes origin.pages).records m.member m.count m.standing (record { book = refl; commits = refl }) c.requires.at_work c.requires.nothing r
+
+pub returns-in_err-append-clause-locks : goal.returns-in_err-append-clause-locks
+returns-in_err-append-clause-locks g c = (c.in_err-append.ensures.rests (λ p. [])).locks
+
+pub returns-clause-locks : goal.returns-clause-locks
+returns-clause-locks g c = (c.in_ok-append.ensures.notes (λ p. [])).locks

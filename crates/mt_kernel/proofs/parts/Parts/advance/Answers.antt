@@ -11,7 +11,7 @@ use Rattle.mt_kernel.specs.declared.parts.Running.{Running}
 use Rattle.mt_kernel.specs.Runs.{IsRunning, left_of}
 use Rattle.mt_kernel.proofs.Advancing.{advanced, needs_claimed, steps_same}
 use Rattle.mt_op.specs.Work.{Works}
-use Rattle.mt_op.specs.Holds.{IsNext}
+use Rattle.mt_op.specs.Holds.{IsNext, KeepsLocks}
 use Rattle.mt_kernel.specs.Steps.{TellsOther}
 use Rattle.mt_kernel.proofs.Holders.{tells_other}
 use Rattle.mt_kernel.proofs.Between.{step_appends, step_total}
@@ -73,6 +73,12 @@ returns-clause-works g c = λ x y at now.
     let old : r ≡ x = c.index_mut.ensures.value ∙ sym (get_or_default k.running.items c.args.place x r c.requires.within) ∙ sym at in
     let new : q ≡ y = sym (now ∙ get_or-set_same k.running.items c.args.place q y c.requires.within) in
     subst (λ (X : Type 0). X) (λ i. Works (old i).scope (new i).scope c.step.result) c.step.ensures.work
+
+pub returns-clause-locks : goal.returns-clause-locks
+returns-clause-locks g c = λ x at.
+    let k = c.args.self.now in let r = c.index_mut.result.now in
+    let old : r ≡ x = c.index_mut.ensures.value ∙ sym (get_or_default k.running.items c.args.place x r c.requires.within) ∙ sym at in
+    subst (λ (y : Running). KeepsLocks y.scope.number (IsNext k.operations.rooms.0 y.scope) k.operations.locks c.step.new.self.locks c.step.result) old c.step.ensures.locks
 
 pub returns-clause-other : goal.returns-clause-other
 returns-clause-other g c = λ origin base safe x at.

@@ -14,6 +14,8 @@ use Rattle.mt_op.specs.Moves.{SameOp}
 use Rattle.mt_kernel.specs.Consistent.{state_of, DropsIn, GoesBack}
 use Rattle.mt_kernel.specs.declared.parts.Running.{Running}
 use Rattle.mt_kernel.proofs.Restarts.{goes_on, quiet_then}
+use Rattle.mt_plock.specs.Releasing.{locks_without}
+use Rattle.mt_kernel.specs.PageLocks.{GivesLocksBack}
 use Rattle.mt_kernel.proofs.parts.Parts.back_step.Goals as goal
 
 pub drop_out-requires-clause-cleared : goal.drop_out-requires-clause-cleared
@@ -106,3 +108,17 @@ returns-in_err-take_back-clause-restartable g c = λ origin base later safe_k sa
 pub returns-in-Clear-clause-restartable : goal.returns-in-Clear-clause-restartable
 returns-in-Clear-clause-restartable g c = λ origin base later safe_k safe_n r. let e = c.take_back.ensures in let d = c.drop_out.ensures in let k = c.args.self.now in let m = c.take_back.new.self in let n = c.drop_out.new.self in let seen = g.D.Device.seen in let may_leave = g.D.Device.may_leave in
     goes_on seen may_leave origin k n base later safe_k safe_n (quiet_then seen may_leave origin k m n (e.appends origin base safe_k) d.store) (d.book ∙ e.book) (d.commits ∙ e.commits) (d.live ∙ e.live) r
+
+pub returns-in-Clear-clause-locks : goal.returns-in-Clear-clause-locks
+returns-in-Clear-clause-locks g c = λ x at. ∥∥₁_elim c.requires.safe (hlevel props) (λ (origin, base, safe).
+    let place = c.args.place in let items = c.take_back.new.self.running.items in
+    let inside : place < length items = let same = c.take_back.ensures.length in let within = c.requires.within in omega arith in
+    let q : Running = get_or items place x in
+    let now : q ≡ get_or items place q = get_or_default items place x q inside in
+    let same : SameOp x.scope q.scope = c.take_back.ensures.same origin base safe x q at now in
+    c.drop_out.ensures.locks q now ∙ ap (λ n. locks_without n c.take_back.new.self.operations.locks) same.number ∙ ap (locks_without x.scope.number) c.take_back.ensures.locks)
+
+pub returns-in_err-take_back-clause-locks : goal.returns-in_err-take_back-clause-locks
+returns-in_err-take_back-clause-locks g c = λ x at.
+    let p = err_from_is_err_and c.from_residual.result c.from_residual.ensures.1 in
+    subst (GivesLocksBack c.args.self.now c.take_back.new.self x) (sym p.1) c.take_back.ensures.locks

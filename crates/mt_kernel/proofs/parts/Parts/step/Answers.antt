@@ -25,6 +25,9 @@ use Rattle.mt_kernel.specs.Runs.{is_open}
 use Rattle.mt_kernel.specs.Restartable.{StepAppends}
 use Rattle.mt_kernel.specs.Runs.{IsOwned}
 use Rattle.mt_kernel.proofs.Restarts.{area_then, at_place, end_then, ended as ends_restartable, goes_on, notes_then}
+use Rattle.mt_op.specs.Holds.{IsNext, KeepsLocks}
+use Rattle.mt_plock.specs.Releasing.{locks_without}
+use Rattle.mt_kernel.specs.PageLocks.{KeepsPageLocks}
 use Rattle.mt_kernel.proofs.parts.Parts.step.Goals as goal
 
 pub note_end-requires-clause-forward : goal.note_end-requires-clause-forward
@@ -204,3 +207,37 @@ returns-in_err-reply-clause-restartable g c = λ origin base later safe_k safe_n
     let (q, now) = at_place n.running.items place inside in
     let quiet = subst (StepAppends origin k n q.scope) c.in_err-reply.was (c.advance.ensures.appends origin base safe_k q now) in
     goes_on g.D.Device.seen g.D.Device.may_leave origin k n base later safe_k safe_n (record { area = quiet.area; appends = quiet.appends }) c.advance.ensures.book c.advance.ensures.commits c.advance.ensures.live r
+
+pub returns-in-Ready-clause-locks : goal.returns-in-Ready-clause-locks
+returns-in-Ready-clause-locks g c = λ x at.
+    let k = c.args.self.now in let place = c.args.place in
+    let kept : c.advance.new.self.operations.locks ≡ k.operations.locks = subst (KeepsLocks x.scope.number (IsNext k.operations.rooms.0 x.scope) k.operations.locks c.advance.new.self.operations.locks) (c.in_ok-reply.was ∙ ap Ok c.in-Ready.is) (c.advance.ensures.locks x at) in
+    ∥∥₁_elim c.requires.safe (hlevel props) (λ (origin, base, safe).
+    let items = c.advance.new.self.running.items in
+    let inside : place < length items = let same = c.advance.ensures.length in let within = c.requires.within in omega arith in
+    let q : Running = get_or items place x in
+    let now : q ≡ get_or items place q = get_or_default items place x q inside in
+    let same : SameOp x.scope q.scope = c.advance.ensures.same origin base safe x q at now in
+    c.note_end.ensures.locks q now ∙ ap (λ n. locks_without n c.advance.new.self.operations.locks) same.number ∙ ap (locks_without x.scope.number) kept)
+
+pub returns-in-Went-clause-locks : goal.returns-in-Went-clause-locks
+returns-in-Went-clause-locks g c = λ x at. let k = c.args.self.now in
+    subst (KeepsLocks x.scope.number (IsNext k.operations.rooms.0 x.scope) k.operations.locks c.advance.new.self.operations.locks) (c.in_ok-reply.was ∙ ap Ok c.in-Went.is) (c.advance.ensures.locks x at)
+
+pub returns-in-Wait-clause-locks : goal.returns-in-Wait-clause-locks
+returns-in-Wait-clause-locks g c = λ x at. let k = c.args.self.now in
+    subst (KeepsLocks x.scope.number (IsNext k.operations.rooms.0 x.scope) k.operations.locks c.advance.new.self.operations.locks) (c.in_ok-reply.was ∙ ap Ok c.in-Wait.is) (c.advance.ensures.locks x at)
+
+pub returns-in-Again-clause-locks : goal.returns-in-Again-clause-locks
+returns-in-Again-clause-locks g c = λ x at. let k = c.args.self.now in
+    subst (KeepsLocks x.scope.number (IsNext k.operations.rooms.0 x.scope) k.operations.locks c.advance.new.self.operations.locks) (c.in_ok-reply.was ∙ ap Ok c.in-Again.is) (c.advance.ensures.locks x at)
+
+pub returns-in-Flush-clause-locks : goal.returns-in-Flush-clause-locks
+returns-in-Flush-clause-locks g c = λ x at. let k = c.args.self.now in
+    subst (KeepsLocks x.scope.number (IsNext k.operations.rooms.0 x.scope) k.operations.locks c.advance.new.self.operations.locks) (c.in_ok-reply.was ∙ ap Ok c.in-Flush.is) (c.advance.ensures.locks x at)
+
+pub returns-in_err-reply-clause-locks : goal.returns-in_err-reply-clause-locks
+returns-in_err-reply-clause-locks g c = λ x at. let k = c.args.self.now in
+    let p = err_from_is_err_and c.from_residual.result c.from_residual.ensures.1 in
+    subst (λ (res : Result Stepping Refusal). KeepsPageLocks k c.advance.new.self x res) (sym p.1)
+    (subst (KeepsLocks x.scope.number (IsNext k.operations.rooms.0 x.scope) k.operations.locks c.advance.new.self.operations.locks) c.in_err-reply.was (c.advance.ensures.locks x at))

@@ -6,7 +6,8 @@ use Rattle.mt_kernel.specs.Work.{Lowers, steps_in}
 use Rattle.mt_kernel.specs.declared.steps.Stepping.{Stepping}
 use Rattle.mt_pool.specs.Views.{pages}
 use Rattle.mt_txn.proofs.Answering.{going_lowers}
-use Rattle.mt_txn.proofs.Barring.{step_other}
+use Rattle.mt_txn.proofs.Barring.{step_locks, step_other}
+use Rattle.mt_kernel.specs.PageLocks.{KeepsPageLocks}
 use Rattle.mt_txn.specs.Work.{LowersSteps}
 use Rattle.mt_txn.specs.declared.answers.Stepped.{Stepped}
 use Rattle.mt_kernel.specs.Consistent.{AtPlace}
@@ -104,3 +105,21 @@ returns-in-Ended-clause-moments g c = λ first r schema. let D = g.D.Device in l
 pub returns-in-Going-clause-moments : goal.returns-in-Going-clause-moments
 returns-in-Going-clause-moments g c = λ first r schema. let D = g.D.Device in let k = c.args.self.now in
     meanwhile D.seen D.may_leave k.relations k.counters first D.moment D.left_since g.met.D.Device.only_now k.parts _ c.step-told.ensures.moments r schema
+
+pub returns-in-Going-clause-locks : goal.returns-in-Going-clause-locks
+returns-in-Going-clause-locks g c = λ may. let k = c.args.self.now.parts in let n = c.step-told.new.self in let place = c.in-Some-place_of.place in
+    let seen = g.D.Device.seen in let may_leave = g.D.Device.may_leave in
+    let was = c.in_ok-reply.was ∙ ap Ok c.in-Going.is in (
+      place,
+      c.in-Some-place_of.ensures.place.0,
+      λ r at. (
+        c.in-Some-place_of.ensures.place.1 r at,
+        step_locks seen may_leave c.args.self.now.relations c.args.self.now.counters k n c.args.txn place c.in-Going.going c.stepped.result r c.in-Some-place_of.ensures.place.1
+            (record {
+              within = c.in-Some-place_of.ensures.place.0;
+              states = c.step-told.ensures.states;
+              consistent = λ origin base safe. (subst (Steps seen may_leave origin base k n place) was (c.step-told.ensures.steps origin base safe)).consistent;
+              names = λ origin base safe. subst (λ (x : Result Stepping Refusal). AtPlace k.running.items place (λ q. NamesOther n.running.items q.scope.txn x)) was (c.step-told.ensures.other origin base safe);
+            }) c.args.self.now.well c.stepped.ensures (subst (KeepsPageLocks k n r) was (c.step-told.ensures.locks r at)),
+      ),
+    )

@@ -7,7 +7,8 @@ use Rattle.mt_kernel.specs.Consistent.{AtPlace}
 use Rattle.mt_kernel.specs.Steps.{UndoSteps, NamesOther}
 use Rattle.mt_kernel.specs.declared.steps.Stepping.{Stepping}
 use Rattle.mt_txn.proofs.Answering.{err_aborted, going_aborted, going_left}
-use Rattle.mt_txn.proofs.Barring.{abort_goes, abort_other}
+use Rattle.mt_kernel.specs.PageLocks.{KeepsPageLocks}
+use Rattle.mt_txn.proofs.Barring.{abort_locks, abort_goes, abort_other}
 use Rattle.mt_txn.proofs.Showing.{sound_of, undo_shown, undo_well, inverse_stage, UndoShown}
 use Rattle.std.proofs.Common.{◌≤◌, sym}
 use Rattle.mt_pool.specs.Views.{pages}
@@ -95,3 +96,15 @@ returns-in-Ended-clause-moments g c = λ first r schema. let D = g.D.Device in l
 pub returns-in-Going-clause-moments : goal.returns-in-Going-clause-moments
 returns-in-Going-clause-moments g c = λ first r schema. let D = g.D.Device in let k = c.args.self.now in
     meanwhile D.seen D.may_leave k.relations k.counters first D.moment D.left_since g.met.D.Device.only_now k.parts _ c.undo_step-told.ensures.moments r schema
+
+pub returns-in-Going-clause-locks : goal.returns-in-Going-clause-locks
+returns-in-Going-clause-locks g c = λ r at. let k = c.args.self.now.parts in let n = c.undo_step-told.new.self in let place = c.args.place in
+    let seen = g.D.Device.seen in let may_leave = g.D.Device.may_leave in
+    let was = c.in_ok-reply.was ∙ ap Ok c.in-Going.is in
+    abort_locks seen may_leave c.args.self.now.relations c.args.self.now.counters k n c.args.txn place c.in-Going.going c.going.result r (λ q there. (c.requires.own q there).0)
+    (record {
+      within = c.requires.within;
+      states = c.undo_step-told.ensures.states;
+      consistent = λ origin base safe. (subst (UndoSteps seen may_leave origin base k n place) was (c.undo_step-told.ensures.steps origin base safe)).consistent;
+      names = λ origin base safe. subst (λ (x : Result Stepping Refusal). AtPlace k.running.items place (λ q. NamesOther n.running.items q.scope.txn x)) was (c.undo_step-told.ensures.other origin base safe);
+    }) c.args.self.now.well c.going.ensures (subst (KeepsPageLocks k n r) was (c.undo_step-told.ensures.locks r at))

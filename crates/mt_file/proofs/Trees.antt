@@ -1,10 +1,10 @@
 -- The tree of rooms.
-use Rattle.std.proofs.Common.{◌≡◌, ◌≢◌, ℕ, zero, suc, ◌+◌, ◌-◌, ◌*◌, ◌/◌, ◌<◌, ◌≤◌, max, Bool, true, false, if◌then◌else◌, List, length, get_or, set, replicate, refl, sym, ◌∙◌, ap, ap₂, arith, ⊎_elim}
+use Rattle.std.proofs.Common.{◌≡◌, ◌≢◌, ℕ, zero, suc, ◌+◌, ◌-◌, ◌*◌, ◌/◌, ◌%◌, ◌<◌, ◌≤◌, max, List, length, get_or, set, replicate, refl, sym, ◌∙◌, ap, ap₂, arith, ⊎_elim}
 use Rattle.std.proofs.lemmas.List.{get_or-set_same, get_or-set_other, get_or-replicate, get_or_past, length-replicate}
 use Rattle.std.proofs.lemmas.Bool.{cases_eq, cases_lt}
 use Rattle.mt_space.specs.Changes.{PageBytes}
 use Rattle.mt_space.specs.Kinds.{kind}
-use Rattle.mt_file.specs.Rooms.{fits_of, AreRooms, Room, fits_at, is_held, shown, Takes, IsMax, IsTreeBut, IsKept}
+use Rattle.mt_file.specs.Rooms.{fits_of, AreRooms, Takes, IsMax, IsTreeBut, IsKept, above, IsPassed, IsPassedTo, IsFirstLeaf, HasNone}
 
 -- a change of a byte that is neither a node nor a child of it
 pub stays_max : (old new : List ℕ) (i : ℕ) → get_or new i 0 ≡ get_or old i 0 → get_or new (2 * i) 0 ≡ get_or old (2 * i) 0 → get_or new (2 * i + 1) 0 ≡ get_or old (2 * i + 1) 0
@@ -39,21 +39,120 @@ one_up tree node size low high but = λ i from to ne. ⊎_elim
     (but i from to other))
     (cases_eq i node)
 
--- no node is larger than the root
-pub below_root : (tree : List ℕ) (n i : ℕ) → ((k : ℕ) → 1 ≤ k → k < 4096 → IsMax tree k) → i ≤ n → 1 ≤ i → i < 8192 → get_or tree i 0 ≤ get_or tree 1 0
-below_root tree zero i all le low high = absurd (omega arith)
-below_root tree (suc n) i all le low high = ⊎_elim
-    (λ (e : i ≡ 1). let same = ap (λ (k : ℕ). get_or tree k 0) e in omega arith)
-    (λ (ne : i ≢ 1).
-    let up = below_root tree n (i / 2) all (omega arith) (omega arith) (omega arith) in
-    let is = all (i / 2) (omega arith) (omega arith) in
+-- ---- a walk through the tree
+
+-- a leaf is no less than what is above it, and what is above it in one order with what is above others
+pub above_least : (height i : ℕ) → above height i ≤ i
+above_least zero i = omega arith
+above_least (suc height) i = let low = above_least height i in omega arith
+
+above_order : (height i j : ℕ) → i ≤ j → above height i ≤ above height j
+above_order zero i j le = le
+above_order (suc height) i j le = let low = above_order height i j le in omega arith
+
+-- nothing above a leaf has less than it
+above_most : (tree : List ℕ) (height i : ℕ) → ((k : ℕ) → 1 ≤ k → k < 4096 → IsMax tree k) → i < 8192 → 1 ≤ above height i → get_or tree i 0 ≤ get_or tree (above height i) 0
+above_most tree zero i all within some = omega arith
+above_most tree (suc height) i all within some =
+    let node = above height i in
+    let up = above_most tree height i all within (omega arith) in
+    let low = above_least height i in
+    let is = all (node / 2) (omega arith) (omega arith) in
     ⊎_elim
-    (λ (left : i ≡ 2 * (i / 2)). let same = ap (λ (k : ℕ). get_or tree k 0) left in omega arith)
-    (λ (ne : i ≢ 2 * (i / 2)).
-    let right : i ≡ 2 * (i / 2) + 1 = omega arith in
+    (λ (left : node ≡ 2 * (node / 2)). let same = ap (λ (k : ℕ). get_or tree k 0) left in omega arith)
+    (λ (ne : node ≢ 2 * (node / 2)).
+    let right : node ≡ 2 * (node / 2) + 1 = omega arith in
     let same = ap (λ (k : ℕ). get_or tree k 0) right in omega arith)
-    (cases_eq i (2 * (i / 2))))
-    (cases_eq i 1)
+    (cases_eq node (2 * (node / 2)))
+
+-- what is above the last leaf is odd, since each bit of the last leaf is one
+abbrev ones : ℕ → ℕ
+ones zero = 0
+ones (suc bits) = 2 * ones bits + 1
+
+fewer_ones : (height bits : ℕ) → above height (ones bits) ≡ ones (bits - height)
+fewer_ones zero bits = ap ones (omega arith)
+fewer_ones (suc height) bits = ap (λ (k : ℕ). k / 2) (fewer_ones height bits) ∙ half (bits - height) ∙ ap ones (omega arith)
+  where
+    half : (n : ℕ) → ones n / 2 ≡ ones (n - 1)
+    half zero = refl
+    half (suc n) = let same : ones (suc n - 1) ≡ ones n = ap ones (omega arith) in omega arith
+
+last_odd : (height : ℕ) → 1 ≤ above height 8191 → above height 8191 ≡ 2 * (above height 8191 / 2) + 1
+last_odd height some = let is : above height 8191 ≡ ones (13 - height) = fewer_ones height 13 in odd (13 - height) (above height 8191) is some
+  where
+    odd : (n last : ℕ) → last ≡ ones n → 1 ≤ last → last ≡ 2 * (last / 2) + 1
+    odd zero last is some = absurd (omega arith)
+    odd (suc n) last is some = omega arith
+
+module _ (tree : List ℕ) (from least : ℕ) (all : (i : ℕ) → 1 ≤ i → i < 4096 → IsMax tree i) (leaf : (4096 ≤ from) × (from < 8192)) where
+  abbrev pub passed_begin : IsPassedTo tree from least from
+  passed_begin = record {
+    height = 0;
+    low = let low = leaf.0 in omega arith;
+    high = let high = leaf.1 in omega arith;
+    before = λ i low within lt. absurd (omega arith);
+  }
+
+  pub less_below : (height node i : ℕ) → 1 ≤ node → get_or tree node 0 < least → i < 8192 → above height i ≡ node → get_or tree i 0 < least
+  less_below height node i some less within is =
+      let most = above_most tree height i all within (omega arith) in
+      let same = ap (λ (k : ℕ). get_or tree k 0) is in omega arith
+
+  abbrev pub passed_next : (node : ℕ) (p : IsPassedTo tree from least node) → get_or tree node 0 < least → node < above p.height 8191 → IsPassedTo tree from least (node + 1)
+  passed_next node p less lt = let low = p.low in record {
+    height = p.height;
+    low = omega arith;
+    high = omega arith;
+    before = λ i behind within under. ⊎_elim
+        (λ (is : above p.height i ≡ node). less_below p.height node i (omega arith) less within is)
+        (λ (other : above p.height i ≢ node). p.before i behind within (omega arith))
+        (cases_eq (above p.height i) node);
+  }
+
+  abbrev pub passed_up : (node : ℕ) → IsPassedTo tree from least node → node % 2 ≡ 0 → IsPassedTo tree from least (node / 2)
+  passed_up node p even = let low = p.low in let high = p.high in record {
+    height = suc p.height;
+    low = omega arith;
+    high = omega arith;
+    before = λ i behind within under. p.before i behind within (omega arith);
+  }
+
+  pub passed_down : (node : ℕ) → IsPassedTo tree from least node → node < 4096 → IsPassedTo tree from least (2 * node)
+  passed_down node p inner = go p.height p.low p.high p.before
+    where
+      go : (height : ℕ) → above height (from - 1) < node → node ≤ above height 8191 → IsPassed tree from least height node → IsPassedTo tree from least (2 * node)
+      go zero low high before = let leaves = leaf.0 in absurd (omega arith)
+      go (suc height) low high before = record {
+        height = height;
+        low = omega arith;
+        high = omega arith;
+        before = λ i behind within under. before i behind within (omega arith);
+      }
+
+  pub passed_right : (node : ℕ) (p : IsPassedTo tree from least (2 * node)) → get_or tree (2 * node) 0 < least → IsPassedTo tree from least (2 * node + 1)
+  passed_right node p less = let high = p.high in let low = p.low in let odd = last_odd p.height (omega arith) in passed_next (2 * node) p less (omega arith)
+
+  pub none_passed : (node : ℕ) (p : IsPassedTo tree from least node) → get_or tree node 0 < least → node ≡ above p.height 8191 → HasNone tree from least
+  none_passed node p less last i behind within =
+      let low = p.low in
+      let order = above_order p.height i 8191 (omega arith) in
+      ⊎_elim
+      (λ (is : above p.height i ≡ node). less_below p.height node i (omega arith) less within is)
+      (λ (other : above p.height i ≢ node). p.before i behind within (omega arith))
+      (cases_eq (above p.height i) node)
+
+  pub first_leaf : (node : ℕ) → IsPassedTo tree from least node → 4096 ≤ node → least ≤ get_or tree node 0 → IsFirstLeaf tree from least node
+  first_leaf node p high enough = go p.height p.low p.high p.before
+    where
+      go : (height : ℕ) → above height (from - 1) < node → node ≤ above height 8191 → IsPassed tree from least height node → IsFirstLeaf tree from least node
+      go zero low high before = record {
+        behind = omega arith;
+        there = omega arith;
+        enough = enough;
+        first = λ i behind lt. before i behind (omega arith) lt;
+      }
+      go (suc height) low up before = let least = above_least height 8191 in absurd (omega arith)
 
 -- at the beginning nothing is shown
 same_all : {X : Type 0} (n i : ℕ) (x : X) → get_or (replicate n x) i x ≡ x
@@ -62,46 +161,35 @@ same_all n i x = ⊎_elim
     (λ (le : n ≤ i). get_or_past (replicate n x) i x (let long = length-replicate n x in omega arith))
     (cases_lt i n)
 
-none_of : (fits : List ℕ) (held : List Bool) (tree : List ℕ) (n : ℕ) → length fits ≡ n → length held ≡ n → length tree ≡ 8192 → n ≤ 4000
-    → ((i : ℕ) → get_or fits i 0 ≡ 0) → ((i : ℕ) → get_or held i false ≡ false) → ((i : ℕ) → get_or tree i 0 ≡ 0) → IsKept (fits, held) tree
-none_of fits held tree n a b c few zeros flags nodes = record {
+none_of : (fits tree : List ℕ) (n : ℕ) → length fits ≡ n → length tree ≡ 8192 → n ≤ 4000
+    → ((i : ℕ) → get_or fits i 0 ≡ 0) → ((i : ℕ) → get_or tree i 0 ≡ 0) → IsKept fits tree
+none_of fits tree n a c few zeros nodes = record {
   few = omega arith;
-  both = omega arith;
   size = c;
   nodes = λ i from to. nodes i ∙ sym (ap₂ max (nodes (2 * i)) (nodes (2 * i + 1)));
-  leaves = λ p lt. nodes (4096 + p) ∙ sym (ap₂ (λ (b : Bool) (k : ℕ). if b then 0 else k) (flags p) (zeros p));
+  leaves = λ p lt. nodes (4096 + p) ∙ sym (zeros p);
 }
 
-pub none_yet : (n : ℕ) → n ≤ 4000 → IsKept (replicate n 0, replicate n false) (replicate 8192 0)
-none_yet n few = none_of (replicate n 0) (replicate n false) (replicate 8192 0) n (length-replicate {A = ℕ} n 0) (length-replicate n false) (length-replicate {A = ℕ} 8192 0) few
-    (λ i. same_all n i 0) (λ i. same_all n i false) (λ i. same_all 8192 i 0)
+pub none_yet : (n : ℕ) → n ≤ 4000 → IsKept (replicate n 0) (replicate 8192 0)
+none_yet n few = none_of (replicate n 0) (replicate 8192 0) n (length-replicate {A = ℕ} n 0) (length-replicate {A = ℕ} 8192 0) few
+    (λ i. same_all n i 0) (λ i. same_all 8192 i 0)
 
--- what a leaf shows is what its page takes
-pub shown_takes : (rooms : Room) (bytes p : ℕ) → 0 < bytes → bytes ≤ shown rooms p → Takes rooms bytes p
-shown_takes rooms bytes p some fits =
-    let open_ : is_held rooms p ≡ false = not_held (is_held rooms p) (fits_at rooms p) (omega arith) in
-    let all : shown rooms p ≡ fits_at rooms p = ap (λ (b : Bool). if b then 0 else fits_at rooms p) open_ in
-    (⊎_elim (λ (lt : p < length rooms.0). lt) (λ (le : length rooms.0 ≤ p). let past = get_or_past rooms.0 p 0 le in absurd (omega arith)) (cases_lt p (length rooms.0)), open_, omega arith)
-  where
-    not_held : (b : Bool) (n : ℕ) → 0 < (if b then 0 else n) → b ≡ false
-    not_held true n lt = absurd (omega arith)
-    not_held false n lt = refl
+-- ---- leaves and pages
 
-pub leaf_takes : (rooms : Room) (tree : List ℕ) (bytes leaf p : ℕ) → IsKept rooms tree → 0 < bytes → 4096 ≤ leaf → leaf < 8192 → p ≡ leaf - 4096 → bytes ≤ get_or tree leaf 0 → Takes rooms bytes p
-leaf_takes rooms tree bytes leaf p kept some low high is fits =
+pub leaf_takes : (fits tree : List ℕ) (bytes leaf p : ℕ) → IsKept fits tree → 0 < bytes → 4096 ≤ leaf → leaf < 8192 → p ≡ leaf - 4096 → bytes ≤ get_or tree leaf 0 → Takes fits bytes p
+leaf_takes fits tree bytes leaf p kept some low high is enough =
     let mine = kept.leaves p (omega arith) in
     let same : get_or tree leaf 0 ≡ get_or tree (4096 + p) 0 = ap (λ (k : ℕ). get_or tree k 0) (omega arith) in
-    shown_takes rooms bytes p some (omega arith)
+    (⊎_elim (λ (lt : p < length fits). lt) (λ (le : length fits ≤ p). let past = get_or_past fits p 0 le in absurd (omega arith)) (cases_lt p (length fits)), omega arith)
 
--- where no leaf has so much, no page takes it
-pub none_takes : (rooms : Room) (tree : List ℕ) (bytes : ℕ) → IsKept rooms tree → ((i : ℕ) → 1 ≤ i → i < 8192 → get_or tree i 0 < bytes) → (p : ℕ) → Takes rooms bytes p → ⊥
-none_takes rooms tree bytes kept less p takes =
+-- where a leaf has less, its page does not take so much
+pub leaf_less : (fits tree : List ℕ) (bytes p : ℕ) → IsKept fits tree → (p < 4096 → get_or tree (4096 + p) 0 < bytes) → Takes fits bytes p → ⊥
+leaf_less fits tree bytes p kept less takes =
     let within = takes.0 in
+    let enough = takes.1 in
     let few = kept.few in
     let mine = kept.leaves p (omega arith) in
-    let small = less (4096 + p) (omega arith) (omega arith) in
-    let all : shown rooms p ≡ fits_at rooms p = ap (λ (b : Bool). if b then 0 else fits_at rooms p) takes.1 in
-    let fits = takes.2 in
+    let small = less (omega arith) in
     omega arith
 
 -- ---- the index beside the pages
@@ -112,9 +200,9 @@ no_rooms n all none = record {
   others = λ p lt ne. same_all n p 0;
 }
 
-pub room_records : (rooms : Room) (pages : PageBytes) (bytes p : ℕ) → AreRooms rooms.0 pages → 0 < bytes → Takes rooms bytes p → (kind pages p ≡ 3) × (bytes ≤ fits_of (pages p))
-room_records rooms pages bytes p are some takes =
-    let fits = takes.2 in
+pub room_records : (fits : List ℕ) (pages : PageBytes) (bytes p : ℕ) → AreRooms fits pages → 0 < bytes → Takes fits bytes p → (kind pages p ≡ 3) × (bytes ≤ fits_of (pages p))
+room_records fits pages bytes p are some takes =
+    let enough = takes.1 in
     ⊎_elim
     (λ (is : kind pages p ≡ 3). let same = are.records p takes.0 is in (is, omega arith))
     (λ (ne : kind pages p ≢ 3). let zero = are.others p takes.0 ne in absurd (omega arith))

@@ -1,5 +1,5 @@
 -- What each page of records takes.
-use Rattle.std.specs.Prelude.{◌≡◌, ◌≢◌, ℕ, ◌+◌, ◌-◌, ◌*◌, ◌<◌, ◌≤◌, max, Bool, false, List, length, ◌==◌, if◌then◌else◌}
+use Rattle.std.specs.Prelude.{◌≡◌, ◌≢◌, ℕ, zero, suc, ◌+◌, ◌-◌, ◌*◌, ◌/◌, ◌<◌, ◌≤◌, max, List, length, ◌==◌, if◌then◌else◌}
 use Rattle.std.proofs.Math.ListN.{get_or}
 use Rattle.mt_space.specs.Changes.{PageBytes}
 use Rattle.mt_slots.specs.Page.{count, live_slots, room_of}
@@ -9,23 +9,9 @@ use Rattle.mt_space.specs.Kinds.{kind}
 unfoldable pub fits_of : List ℕ → ℕ
 fits_of page = if live_slots page (count page) == count page then room_of page - 4 else room_of page
 
--- of each page how long a record it takes, and whether it is held
-abbrev pub Room : Type 0
-Room = List ℕ × List Bool
-
-abbrev pub fits_at : Room → ℕ → ℕ
-fits_at rooms p = get_or rooms.0 p 0
-
-abbrev pub is_held : Room → ℕ → Bool
-is_held rooms p = get_or rooms.1 p false
-
--- a page that is held counts as full
-abbrev pub shown : Room → ℕ → ℕ
-shown rooms p = if is_held rooms p then 0 else fits_at rooms p
-
--- the page takes a record of so many bytes, and nobody holds it
-abbrev pub Takes : Room → ℕ → ℕ → Type 0
-Takes rooms bytes p = (p < length rooms.0) × (is_held rooms p ≡ false) × (bytes ≤ fits_at rooms p)
+-- the page takes a record of so many bytes
+abbrev pub Takes : List ℕ → ℕ → ℕ → Type 0
+Takes fits bytes p = (p < length fits) × (bytes ≤ get_or fits p 0)
 
 -- the index beside the pages: what each page of records takes, and 0 for each other page
 pub record AreRooms (fits : List ℕ) (pages : PageBytes) : Type 0 where
@@ -42,10 +28,39 @@ IsMax tree i = get_or tree i 0 ≡ max (get_or tree (2 * i) 0) (get_or tree (2 *
 abbrev pub IsTreeBut : List ℕ → ℕ → Type 0
 IsTreeBut tree but = (i : ℕ) → 1 ≤ i → i < 4096 → i ≢ but → IsMax tree i
 
--- A tree over the pages: the leaves, from 4096 on, are what each page shows.
-pub record IsKept (rooms : Room) (tree : List ℕ) : Type 0 where
-  pub few : length rooms.0 ≤ 4000
-  pub both : length rooms.1 ≡ length rooms.0
+-- A tree over the pages: the leaves, from 4096 on, are what each page takes.
+pub record IsKept (fits tree : List ℕ) : Type 0 where
+  pub few : length fits ≤ 4000
   pub size : length tree ≡ 8192
   pub nodes : (i : ℕ) → 1 ≤ i → i < 4096 → IsMax tree i
-  pub leaves : (p : ℕ) → p < 4096 → get_or tree (4096 + p) 0 ≡ shown rooms p
+  pub leaves : (p : ℕ) → p < 4096 → get_or tree (4096 + p) 0 ≡ get_or fits p 0
+
+-- ---- a walk through the tree
+
+-- the node so many steps above a leaf
+abbrev pub above : ℕ → ℕ → ℕ
+above zero leaf = leaf
+above (suc height) leaf = above height leaf / 2
+
+-- each leaf, from this one on, that stands before a node of this height has less
+abbrev pub IsPassed : List ℕ → ℕ → ℕ → ℕ → ℕ → Type 0
+IsPassed tree from least height node = (i : ℕ) → from ≤ i → i < 8192 → above height i < node → get_or tree i 0 < least
+
+-- So it is for a node of some height, which stands behind what is above the leaf before this one, and no further than
+-- what is above the last leaf.
+pub record IsPassedTo (tree : List ℕ) (from least node : ℕ) : Type 0 where
+  pub height : ℕ
+  pub low : above height (from - 1) < node
+  pub high : node ≤ above height 8191
+  pub before : IsPassed tree from least height node
+
+-- the first leaf, from this one on, that has so much
+pub record IsFirstLeaf (tree : List ℕ) (from least leaf : ℕ) : Type 0 where
+  pub behind : from ≤ leaf
+  pub there : leaf < 8192
+  pub enough : least ≤ get_or tree leaf 0
+  pub first : (i : ℕ) → from ≤ i → i < leaf → get_or tree i 0 < least
+
+-- no leaf from this one on has so much
+abbrev pub HasNone : List ℕ → ℕ → ℕ → Type 0
+HasNone tree from least = (i : ℕ) → from ≤ i → i < 8192 → get_or tree i 0 < least

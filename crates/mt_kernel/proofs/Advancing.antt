@@ -92,7 +92,7 @@ pub record HasStepped {D : Type 0} (seen : D → List ℕ) (may_leave : D → Li
   pub claims : GivesBack (own_needs s.op s.split) (claimed o) (claimed n) r
   pub stage : ComesTo t.stage r
   pub records : KeepsRecords t (appended o.store.log) (appended n.store.log) r
-  pub locks : KeepsLocks s.number (IsNext o.rooms.0 s) o.locks n.locks r
+  pub locks : KeepsLocks s.number (IsNext o.rooms o.locks s) o.locks n.locks r
 
 -- it is of its transaction, with its number, whatever it answers
 pub steps_same : (relations counters : ℕ) (w z : World) (s t : OpScope) (r : Result Stepped Refusal) → Steps relations counters w z s t r → SameOp s t
@@ -193,8 +193,8 @@ module _ {D : Type 0} (seen : D → List ℕ) (may_leave : D → List ℕ → Ty
       → HasStepped seen may_leave origin.pages origin.relations origin.counters k.operations n.operations r.scope q.scope res → Goes origin.relations origin.counters (world seen origin.pages k.operations) (world seen origin.pages n.operations) r.scope q.scope
       → IsGoing q.scope.stage → claimed n.operations ≡ claimed k.operations → AddsNoInverse (appended k.operations.store.log) (appended n.operations.store.log) → IsIn seen may_leave origin base (state_of k base) (moved k n)
   goes_in k n place r q res safe within there items copy h g going claims adds =
-      let c = carried k n place r q adds.more safe within there items copy g.same h.log h.area h.right adds.is (λ is. absurd (going_stays q.scope.stage going is)) (λ known. numbered_step k.last k.live.begun k.live.members k.operations.rooms.0 origin.relations origin.counters (world seen origin.pages k.operations) (world seen origin.pages n.operations) r.scope q.scope res known h.steps h.locks h.records safe.fit.numbered)
-      (held_step k.running.items r.scope.number (IsNext k.operations.rooms.0 r.scope) k.operations.locks n.operations.locks res (way_at k.running.items place r within there) h.locks safe.fit.locked) in
+      let c = carried k n place r q adds.more safe within there items copy g.same h.log h.area h.right adds.is (λ is. absurd (going_stays q.scope.stage going is)) (λ known. numbered_step k.last k.live.begun k.live.members k.operations.rooms origin.relations origin.counters (world seen origin.pages k.operations) (world seen origin.pages n.operations) r.scope q.scope res known h.steps h.locks h.records safe.fit.numbered)
+      (held_step k.running.items r.scope.number (IsNext k.operations.rooms k.operations.locks r.scope) k.operations.locks n.operations.locks res (way_at k.running.items place r within there) h.locks safe.fit.locked) in
       let own : IsRunning origin.relations origin.counters (world seen origin.pages n.operations) k.last q = record { under = g.own; budget = h.budget; number = c.known; moving = going_moves q.scope.stage going } in
       let pages = c.pages in let claims_was = safe.claims in
       record {
@@ -229,7 +229,7 @@ module _ {D : Type 0} (seen : D → List ℕ) (may_leave : D → List ℕ → Ty
       let a = h.steps.0 in
       let same = a.same in
       let ended : appended n.operations.store.log ≡ appended k.operations.store.log ++ end_of r.scope first = a.ended in
-      let c = carried k n place r q (end_of r.scope first) safe within there items copy same h.log h.area h.right ended (λ is. absurd (let ready = h.stage in cc)) (λ known. numbered_step k.last k.live.begun k.live.members k.operations.rooms.0 origin.relations origin.counters (world seen origin.pages k.operations) (world seen origin.pages n.operations) r.scope q.scope (Ok (stepped.Ready first second)) known h.steps h.locks h.records safe.fit.numbered)
+      let c = carried k n place r q (end_of r.scope first) safe within there items copy same h.log h.area h.right ended (λ is. absurd (let ready = h.stage in cc)) (λ known. numbered_step k.last k.live.begun k.live.members k.operations.rooms origin.relations origin.counters (world seen origin.pages k.operations) (world seen origin.pages n.operations) r.scope q.scope (Ok (stepped.Ready first second)) known h.steps h.locks h.records safe.fit.numbered)
       (subst (AreHeldBy k.running.items) (sym h.locks) safe.fit.locked) in
       let pages = c.pages in let claims_was = safe.claims in let back = h.claims in
       let needs : own_needs q.scope.op q.scope.split ≡ own_needs r.scope.op r.scope.split = λ i. own_needs (same.op i) (same.split i) in

@@ -117,9 +117,9 @@ module _ (last begun : ℕ) (ms : List Member) where
       subst (IsNumbered last begun ms new_locks) (sym is)
       (numbered_more old_locks new_locks old _ locks (λ t n above. page_ends_op t n s.txn s.number c.page image bytes _ c.edits.items) (λ t. page_ends_txn t s.txn s.number c.page image bytes _ c.edits.items) k)) more
 
-  pub numbered_step : (noted : List ℕ) (relations counters : ℕ) (w z : World) (s t : OpScope) (r : Result Stepped Refusal) → s.number ≤ last → Steps relations counters w z s t r → KeepsLocks s.number (IsNext noted s) w.locks z.locks r
+  pub numbered_step : (noted : List ℕ) (relations counters : ℕ) (w z : World) (s t : OpScope) (r : Result Stepped Refusal) → s.number ≤ last → Steps relations counters w z s t r → KeepsLocks s.number (IsNext noted w.locks s) w.locks z.locks r
       → KeepsRecords t w.records z.records r → IsNumbered last begun ms w.locks w.records → IsNumbered last begun ms z.locks z.records
-  numbered_step noted relations counters w z s t (Ok stepped.Went) known steps locks records k = pages_more t z.locks w.locks w.records z.records (locks_more s.number (IsNext noted s) w.locks z.locks known locks k.locks) records k
+  numbered_step noted relations counters w z s t (Ok stepped.Went) known steps locks records k = pages_more t z.locks w.locks w.records z.records (locks_more s.number (IsNext noted w.locks s) w.locks z.locks known locks k.locks) records k
   numbered_step noted relations counters w z s t (Ok (stepped.Wait holder)) known steps locks records k = numbered_locks w.locks z.locks w.records z.records (subst (All (λ (l : PageLock). l.op ≤ last)) (sym locks.0) k.locks) records k
   numbered_step noted relations counters w z s t (Ok (stepped.Again holder)) known steps locks records k =
       numbered_locks w.locks z.locks w.records z.records (subst (All (λ (l : PageLock). l.op ≤ last)) (sym locks.0) (All-filter (λ (l : PageLock). not (l.op == s.number)) (λ (l : PageLock). l.op ≤ last) w.locks k.locks)) records k

@@ -25,7 +25,7 @@ step_of going.Flush = stepped.Flush
 -- all its own back, and no other's, where it begins anew or ends. A refused step leaves all.
 abbrev pub KeepsPageLocks : {D : Type 0} → Parts D → Parts D → Running → Result Stepping Refusal → Type 0
 KeepsPageLocks k n r (Ok (Ended reply)) = n.operations.locks ≡ locks_without r.scope.number k.operations.locks
-KeepsPageLocks k n r (Ok (GoingOn g)) = KeepsLocks r.scope.number (IsNext k.operations.rooms.0 r.scope) k.operations.locks n.operations.locks (Ok (step_of g))
+KeepsPageLocks k n r (Ok (GoingOn g)) = KeepsLocks r.scope.number (IsNext k.operations.rooms k.operations.locks r.scope) k.operations.locks n.operations.locks (Ok (step_of g))
 KeepsPageLocks k n r (Err why) = n.operations.locks ≡ k.operations.locks
 
 -- They stay while a step of its taking back puts a page back. Once nothing else of it is left its own go, and no other's.

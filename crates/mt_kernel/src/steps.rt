@@ -61,7 +61,8 @@ impl<D: Device> Parts<D> {
         ensures works { (r q : Running) → r ≡ slice_index_or self.old.running.items place r
             → q ≡ slice_index_or self.new.running.items place q → Works r.scope q.scope result }
         ensures locks { AtPlace self.old.running.items place (λ r. KeepsLocks r.scope.number
-            (IsNext self.old.operations.rooms.0 r.scope) self.old.operations.locks self.new.operations.locks result) }
+            (IsNext self.old.operations.rooms self.old.operations.locks r.scope) self.old.operations.locks
+            self.new.operations.locks result) }
         ensures why { IfErr result IsCause }
         ensures faults { TellsFaults (D.faults self.old.operations.store.device)
             (D.faults self.new.operations.store.device) result }

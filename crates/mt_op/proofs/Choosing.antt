@@ -81,7 +81,7 @@ module _ {D : Type 0} (seen : D → List ℕ) (may_leave : D → List ℕ → Ty
     same = record { op = refl; stage = refl; changes = refl; written = refl; left = refl };
     full = full;
     work = idle_works s r idle;
-    locks = same_keeps s.number (IsNext o.rooms.0 s) o.locks m.locks r (idle_asks r idle) locks;
+    locks = same_keeps s.number (IsNext o.rooms o.locks s) o.locks m.locks r (idle_asks r idle) locks;
     scope = same_scope s r (idle_asks r idle);
     why = why;
     faults = told;
@@ -91,7 +91,7 @@ module _ {D : Type 0} (seen : D → List ℕ) (may_leave : D → List ℕ → Ty
   pub locks_behind : (n : Operations D) (t : OpScope) (r : Result Stepped Refusal)
       → ((opening : PageBytes) (relations counters : ℕ) → IsRight seen may_leave opening relations counters m → IsUnderWay relations counters (world seen opening m) s
       → IsRight seen may_leave opening relations counters n × GoesOn relations counters (world seen opening m) (world seen opening n) s t r)
-      → n.store ≡ m.store → n.map ≡ m.map → IsAsFar s t → (r ≡ Ok stepped.Flush → ⊥) → Works s t r → KeepsLocks s.number (IsNext m.rooms.0 s) m.locks n.locks r → KeepsScope s t r → IfErr r (λ why. why ≡ refusal.NoMemory) → failures m.store.device ≡ failures o.store.device
+      → n.store ≡ m.store → n.map ≡ m.map → IsAsFar s t → (r ≡ Ok stepped.Flush → ⊥) → Works s t r → KeepsLocks s.number (IsNext m.rooms m.locks s) m.locks n.locks r → KeepsScope s t r → IfErr r (λ why. why ≡ refusal.NoMemory) → failures m.store.device ≡ failures o.store.device
       → LocksPage seen may_leave moment left_since failures o n s t r
   locks_behind n t r goes store same_map same never work keeps scope memory unfailed = record {
     goes = λ opening relations counters ok k.
@@ -104,7 +104,7 @@ module _ {D : Type 0} (seen : D → List ℕ) (may_leave : D → List ℕ → Ty
     same = same;
     full = λ is. absurd (never is);
     work = work;
-    locks = subst (λ (x : Rooms). KeepsLocks s.number (IsNext x.0 s) o.locks n.locks r) rooms (subst (λ (ls : List PageLock). KeepsLocks s.number (IsNext m.rooms.0 s) ls n.locks r) locks keeps);
+    locks = subst (λ (x : Rooms). KeepsLocks s.number (IsNext x o.locks s) o.locks n.locks r) rooms (subst (λ (ls : List PageLock). KeepsLocks s.number (IsNext m.rooms ls s) ls n.locks r) locks keeps);
     scope = scope;
     why = cause_memory r memory;
     faults = told_behind (failures o.store.device) (failures m.store.device) (failures n.store.device) r unfailed (no_fault (failures m.store.device) (failures n.store.device) r memory (ap (λ (x : Store D). failures x.device) store));
@@ -221,7 +221,7 @@ pub record MakesStep {D : Type 0} (seen : D → List ℕ) (may_leave : D → Lis
   pub stage : ComesTo t.stage r
   pub work : Works s t r
   pub records : KeepsRecords t (appended o.store.log) (appended n.store.log) r
-  pub locks : KeepsLocks s.number (IsNext o.rooms.0 s) o.locks n.locks r
+  pub locks : KeepsLocks s.number (IsNext o.rooms o.locks s) o.locks n.locks r
   pub scope : KeepsScope s t r
   pub writing : s.stage ≡ Writing → n.locks ≡ o.locks
   pub went : s.stage ≡ Writing → r ≡ Ok stepped.Went → t.written ≡ s.written + 1
@@ -248,7 +248,7 @@ module _ {D : Type 0} (seen : D → List ℕ) (may_leave : D → List ℕ → Ty
     stage = a.stage;
     work = a.work;
     records = a.records;
-    locks = same_keeps s.number (IsNext o.rooms.0 s) o.locks n.locks r a.asks a.locks;
+    locks = same_keeps s.number (IsNext o.rooms o.locks s) o.locks n.locks r a.asks a.locks;
     scope = ahead_scope s t r a.room a.asks a.err a.flush;
     writing = λ writing. a.locks;
     went = λ writing. a.went;
@@ -322,7 +322,7 @@ module _ {D : Type 0} (seen : D → List ℕ) (may_leave : D → List ℕ → Ty
         stage = a.stage;
         work = works_behind s t u r p.work same.total a.work;
         records = subst (λ (l : Log). KeepsRecords u (appended l) (appended z.store.log) r) p.log a.records;
-        locks = same_keeps s.number (IsNext o.rooms.0 s) o.locks z.locks r a.asks (a.locks ∙ p.locks);
+        locks = same_keeps s.number (IsNext o.rooms o.locks s) o.locks z.locks r a.asks (a.locks ∙ p.locks);
         scope = made_scope s t u r p.scope a.room a.asks a.err a.flush;
         writing = λ writing. absurd (not_writing s planning writing);
         went = λ writing. absurd (not_writing s planning writing);

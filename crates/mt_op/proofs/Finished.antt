@@ -163,10 +163,10 @@ module _ {D : Type 0} (seen : D → List ℕ) (may_leave : D → List ℕ → Ty
   note_whole = subst (λ (x : Copies). (p : ℕ) (bytes : List ℕ) → copied x.list.items p ≡ Some bytes → length bytes ≡ 4096) (sym copies) k.whole
 
   -- and the index has them
-  pub note_inside : (rooms : ℕ) → rooms ≡ length o.rooms.0 → (p : ℕ) → IsSome (looked m p) → p < rooms
+  pub note_inside : (rooms : ℕ) → rooms ≡ length o.rooms → (p : ℕ) → IsSome (looked m p) → p < rooms
   note_inside rooms same p some = subst (λ (n : ℕ). p < n) (sym (same ∙ right.rooms)) (k.inside p (subst (λ (x : Copies). IsSome (copied x.list.items p)) copies some))
 
-  pub note_few : (rooms : ℕ) → rooms ≡ length o.rooms.0 → rooms ≤ 4096
+  pub note_few : (rooms : ℕ) → rooms ≡ length o.rooms → rooms ≤ 4096
   note_few rooms same = let total = right.rooms in let few = right.kept.few in omega arith
 
   abbrev Asks : List ℕ → Copies → Changes → Type 0
@@ -215,8 +215,8 @@ module _ {D : Type 0} (seen : D → List ℕ) (may_leave : D → List ℕ → Ty
   ready = ap (λ (x : OpScope). x.stage) moves
 
   -- what each page takes then: those that it looked at are noted, and the others are as they were
-  pub note_all : (m : OpScope) → m ≡ record s { left = left } → (map new : List ℕ) → map ≡ after (changes_in s) (held_in w) 0 → length new ≡ length o.rooms.0
-      → ((f : PageBytes) → Agrees (looked m) f → AreShort (changes_in m) f → HasRooms m map new f) → ((p : ℕ) → looked m p ≡ None → get_or new p 0 ≡ get_or o.rooms.0 p 0)
+  pub note_all : (m : OpScope) → m ≡ record s { left = left } → (map new : List ℕ) → map ≡ after (changes_in s) (held_in w) 0 → length new ≡ length o.rooms
+      → ((f : PageBytes) → Agrees (looked m) f → AreShort (changes_in m) f → HasRooms m map new f) → ((p : ℕ) → looked m p ≡ None → get_or new p 0 ≡ get_or o.rooms p 0)
       → AreRooms new (after (changes_in s) (held_in w))
   note_all m scope map new follows size noted others =
       let at = now relations counters w s reply right.sound k stage is in
@@ -238,19 +238,19 @@ module _ {D : Type 0} (seen : D → List ℕ) (may_leave : D → List ℕ → Ty
       }
 
   -- the index follows its changes, or stays where there are none
-  pub note_followed : (m : OpScope) → m ≡ record s { left = left } → (map old new : List ℕ) → map ≡ after (changes_in s) (held_in w) 0 → length new ≡ length old → old ≡ o.rooms.0 → HasFollowed m map old new
+  pub note_followed : (m : OpScope) → m ≡ record s { left = left } → (map old new : List ℕ) → map ≡ after (changes_in s) (held_in w) 0 → length new ≡ length old → old ≡ o.rooms → HasFollowed m map old new
       → AreRooms new (after (changes_in s) (held_in w))
   note_followed m scope map old new follows size before followed = ⊎_elim
       (λ (idle : (changes_in m ≡ []) × (new ≡ old)).
       let none : changes_in s ≡ [] = sym (ap (λ (x : OpScope). changes_in x) scope) ∙ idle.0 in
-      subst (λ (x : List ℕ). AreRooms x (after (changes_in s) (held_in w))) (sym (idle.1 ∙ before)) (subst (λ (cs : List PageChange). AreRooms o.rooms.0 (after cs (held_in w))) (sym none) right.noted))
+      subst (λ (x : List ℕ). AreRooms x (after (changes_in s) (held_in w))) (sym (idle.1 ∙ before)) (subst (λ (cs : List PageChange). AreRooms o.rooms (after cs (held_in w))) (sym none) right.noted))
       (λ (each : HasNotedEach m map old new). note_all m scope map new follows (size ∙ ap (λ (xs : List ℕ). length xs) before) each.here (λ p none. each.others p none ∙ ap (λ (xs : List ℕ). get_or xs p 0) before))
       followed
 
   -- its end was noted
   pub finished : (done : LoggedOp) (m n : Operations D) → logged_of s.op reply ≡ Some done → s.written ≡ length (changes_in s) → Notes w (world seen opening m) (OpEnd s.txn s.number s.undoes done) → IsKept seen may_leave opening m.store
       → n.store ≡ m.store → n.locks ≡ m.locks → n.map.kinds ≡ after (changes_in s) (held_in w) 0 → n.map.space.0 ≡ mapped n.map.kinds (pages o.store.pool) → reserved_of n.map.space ≤ free_of n.map.space
-      → length n.rooms.0 ≡ length o.rooms.0 → AreRooms n.rooms.0 (after (changes_in s) (held_in w))
+      → length n.rooms ≡ length o.rooms → AreRooms n.rooms (after (changes_in s) (held_in w))
       → IsRight seen may_leave opening relations counters n × Acts relations counters w (world seen opening n) s t reply
   finished done m n due all noted kept store locks map space claims rooms fits =
       let z = world seen opening m in
@@ -265,7 +265,7 @@ module _ {D : Type 0} (seen : D → List ℕ) (may_leave : D → List ℕ → Ty
           space = space ∙ (λ i. mapped (kinds i) (total i));
           claims = claims;
           rooms = rooms ∙ right.rooms ∙ total;
-          noted = subst (AreRooms n.rooms.0) (sym (ap held_in moved ∙ e.1)) fits;
+          noted = subst (AreRooms n.rooms) (sym (ap held_in moved ∙ e.1)) fits;
         },
         acts relations counters w (world seen opening n) s t reply planned takes (ap held_in moved ∙ e.1)
             (subst (λ (x : World). IsUnderWay relations counters x t) (sym moved) (own_ends relations counters w z s done noted right.sound k stage all t same guards copies ready))
@@ -275,7 +275,7 @@ module _ {D : Type 0} (seen : D → List ℕ) (may_leave : D → List ℕ → Ty
 
   -- nothing of it is logged
   pub finished_quietly : (n : Operations D) → logged_of s.op reply ≡ None → n.store ≡ o.store → n.locks ≡ o.locks → n.map.kinds ≡ after (changes_in s) (held_in w) 0
-      → n.map.space.0 ≡ mapped n.map.kinds (pages o.store.pool) → reserved_of n.map.space ≤ free_of n.map.space → length n.rooms.0 ≡ length o.rooms.0 → AreRooms n.rooms.0 (after (changes_in s) (held_in w))
+      → n.map.space.0 ≡ mapped n.map.kinds (pages o.store.pool) → reserved_of n.map.space ≤ free_of n.map.space → length n.rooms ≡ length o.rooms → AreRooms n.rooms (after (changes_in s) (held_in w))
       → IsRight seen may_leave opening relations counters n × Acts relations counters w (world seen opening n) s t reply
   finished_quietly n quiet store locks map space claims rooms fits =
       let moved : world seen opening n ≡ w = λ i. world seen opening (record o { store = store i; locks = locks i }) in
@@ -290,7 +290,7 @@ module _ {D : Type 0} (seen : D → List ℕ) (may_leave : D → List ℕ → Ty
           space = space ∙ (λ i. mapped (kinds i) (total i));
           claims = claims;
           rooms = rooms ∙ right.rooms ∙ total;
-          noted = subst (AreRooms n.rooms.0) (sym (ap held_in moved ∙ sym held)) fits;
+          noted = subst (AreRooms n.rooms) (sym (ap held_in moved ∙ sym held)) fits;
         },
         acts relations counters w (world seen opening n) s t reply planned takes (ap held_in moved ∙ sym held)
             (subst (λ (x : World). IsUnderWay relations counters x t) (sym moved) (own_ends_quietly relations counters w s right.sound k stage none t same guards copies ready))

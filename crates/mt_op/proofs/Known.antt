@@ -1,25 +1,36 @@
 -- What is known of an operation under way, whatever the pages were when the area began and whatever the schema.
-use Rattle.std.proofs.Common.{◌<◌, ◌≤◌, ◌≡◌, ◌⊎◌, inl, inr, ap, subst, sym, ℕ, List, length, Some}
+use Rattle.std.proofs.Common.{◌<◌, ◌≤◌, ◌≡◌, ◌≢◌, ◌⊎◌, ◌∙◌, inl, inr, refl, ap, subst, sym, arith, ℕ, List, length, Option, None, Some}
 use Rattle.std.specs.Prelude.{IsSome}
 use Rattle.std.proofs.Math.ListN.{get_or}
-use Rattle.std.proofs.lemmas.List.Elements.{All-get_or}
+use Rattle.std.proofs.lemmas.Bool.{cases_eq}
+use Rattle.std.proofs.lemmas.List.Elements.{All-get_or, All-contains}
 use Rattle.std.proofs.Props.{props}
 use mathlib.Core.Logic.{∥∥₁_elim, ∥∥₁_map}
 use Rattle.mt_frame.specs.Grammar.{IsTxn, IsOp}
+use Rattle.mt_file.specs.Rooms.{AreRooms, Takes}
 use Rattle.mt_log.specs.Words.{appended}
+use Rattle.mt_model.specs.Model.{IsWithin}
+use Rattle.mt_model.specs.declared.operations.Op.{Op}
+use Rattle.mt_model.specs.declared.operations.Op.TheVariants.{Get, Insert, Update, Delete, Add, Read}
+use Rattle.mt_plock.specs.declared.guards.PageLock.{PageLock}
 use Rattle.mt_plock.specs.Releasing.{locks_of}
 use Rattle.mt_pool.specs.Kept.{HasOpening}
 use Rattle.mt_pool.specs.Views.{pages}
 use Rattle.mt_pool.specs.Writes.{IsUnfinished}
 use Rattle.mt_pool.proofs.Steady.{IsSteady, Steady-prop, steady}
 use Rattle.mt_space.specs.Changes.{PageBytes}
+use Rattle.mt_space.specs.Kinds.{kind}
 use Rattle.mt_space.specs.declared.changes.PageChange.{PageChange}
-use Rattle.mt_op.specs.World.{looked, changes_in, IsAt, IsWriting}
+use Rattle.mt_steps.specs.Plans.{record_bytes}
+use Rattle.mt_steps.proofs.Drafting.{some_is}
+use Rattle.mt_op.specs.World.{World, looked, held_in, changes_in, IsAt, IsWriting, IsUnderWay}
+use Rattle.mt_op.specs.Holds.{IsUnlocked}
 use Rattle.mt_op.specs.Moves.{Rests}
 use Rattle.mt_op.specs.Operations.{world, IsRight, IsOneOf, IsOneWithin}
 use Rattle.mt_op.specs.declared.operations.Operations.{Operations}
 use Rattle.mt_op.specs.declared.scope.OpScope.{OpScope}
 use Rattle.mt_op.specs.declared.scope.Stage.TheVariants.{Writing, Taking}
+use Rattle.mt_op.proofs.Alone.{guard_of}
 use Rattle.mt_op.proofs.Staying.{rests_own}
 
 pub record IsKnown {D : Type 0} (seen : D → List ℕ) (may_leave : D → List ℕ → Type 0) (o : Operations D) (s : OpScope) : Type 0 where
@@ -31,7 +42,37 @@ pub record IsKnown {D : Type 0} (seen : D → List ℕ) (may_leave : D → List 
   pub whole : (p : ℕ) (bytes : List ℕ) → looked s p ≡ Some bytes → length bytes ≡ 4096
   pub total : s.seen.total ≡ pages o.store.pool
   pub inside : (p : ℕ) → IsSome (looked s p) → p < pages o.store.pool
-  pub rooms : length o.rooms.0 ≡ pages o.store.pool
+  pub rooms : length o.rooms ≡ pages o.store.pool
+  pub unseen : (p : ℕ) → IsUnlocked o.locks p → looked s p ≡ None
+  pub records : (bytes p : ℕ) → 0 < bytes → Takes o.rooms bytes p → get_or o.map.kinds p 0 ≡ 3
+  pub short : record_bytes s.op < 65536
+
+-- a page that nobody has locked was not looked at
+unlooked_at : (relations counters : ℕ) (w : World) (s : OpScope) (p : ℕ) → IsUnderWay relations counters w s → IsUnlocked w.locks p → looked s p ≡ None
+unlooked_at relations counters w s p k none = go (looked s p) refl
+  where
+    go : (x : Option (List ℕ)) → looked s p ≡ x → looked s p ≡ None
+    go None is = is
+    go (Some bytes) is =
+        let (l, held, own, here) = guard_of relations counters w s p k (some_is (looked s p) bytes is) in
+        absurd (All-contains (λ (x : PageLock). x.page ≢ p) w.locks l none held here)
+
+-- a page that is noted to take a record holds records
+noted_records : (fits kinds : List ℕ) (all : PageBytes) (bytes p : ℕ) → AreRooms fits all → kinds ≡ all 0 → 0 < bytes → Takes fits bytes p → get_or kinds p 0 ≡ 3
+noted_records fits kinds all bytes p are map some takes = ap (λ (m : List ℕ). get_or m p 0) map ∙ go (cases_eq (kind all p) 3)
+  where
+    go : (kind all p ≡ 3) ⊎ (kind all p ≢ 3) → kind all p ≡ 3
+    go (inl is) = is
+    go (inr ne) = let none = are.others p takes.0 ne in let enough = takes.1 in absurd (omega arith)
+
+-- no record is longer than a page
+short_record : (relations counters : ℕ) (op : Op) → IsWithin relations counters op → record_bytes op < 65536
+short_record relations counters (Get r k) within = omega arith
+short_record relations counters (Insert r k v) within = let key = within.1.1 in let value = within.2 in omega arith
+short_record relations counters (Update r k v) within = let key = within.1.1 in let value = within.2 in omega arith
+short_record relations counters (Delete r k) within = omega arith
+short_record relations counters (Add c d) within = omega arith
+short_record relations counters (Read c) within = omega arith
 
 module _ {D : Type 0} (seen : D → List ℕ) (may_leave : D → List ℕ → Type 0) where
   Known-prop : (o : Operations D) (s : OpScope) → IsProp (IsKnown seen may_leave o s)
@@ -50,6 +91,9 @@ module _ {D : Type 0} (seen : D → List ℕ) (may_leave : D → List ℕ → Ty
         total = k.total;
         inside = k.inside;
         rooms = right.rooms;
+        unseen = λ p none. unlooked_at relations counters (world seen opening o) s p k none;
+        records = λ bytes p some takes. noted_records o.rooms o.map.kinds (held_in (world seen opening o)) bytes p right.noted right.map some takes;
+        short = short_record relations counters s.op k.within;
       })
 
   pub one_of : (o : Operations D) (s : OpScope) → IsOneWithin seen may_leave o s → IsOneOf seen may_leave o s

@@ -24,8 +24,8 @@ right_held seen may_leave opening relations counters o n k kept sound held map r
   map = ap (λ (m : SpaceMap). m.kinds) map ∙ k.map ∙ ap (λ (h : PageBytes). h 0) (sym held);
   space = ap (λ (m : SpaceMap). m.space.0) map ∙ k.space ∙ (λ i. mapped (sym held i 0) (sym total i));
   claims = subst (λ (m : SpaceMap). reserved_of m.space ≤ free_of m.space) (sym map) k.claims;
-  rooms = ap (λ r. length r.0) rooms ∙ k.rooms ∙ sym total;
-  noted = subst (λ (X : Type 0). X) (λ i. AreRooms (sym rooms i).0 (sym held i)) k.noted;
+  rooms = ap length rooms ∙ k.rooms ∙ sym total;
+  noted = subst (λ (X : Type 0). X) (λ i. AreRooms (sym rooms i) (sym held i)) k.noted;
 }
 
 -- nothing but what is in frames has changed

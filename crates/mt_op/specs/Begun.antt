@@ -41,7 +41,7 @@ pub record HasRead {D : Type 0} (seen : D → List ℕ) (may_leave : D → List 
 
 -- no page is noted yet, the map is the one that shows, and none of its free pages is claimed
 pub record BeginsParts {D : Type 0} (seen : D → List ℕ) (s : Store D) (rooms : Rooms) (map : SpaceMap) : Type 0 where
-  pub blank : rooms.0 ≡ replicate (pages s.pool) 0
+  pub blank : rooms ≡ replicate (pages s.pool) 0
   pub kinds : map.kinds ≡ view s.pool (seen s.device) 0
   pub space : map.space.0 ≡ mapped map.kinds (pages s.pool)
   pub unclaimed : reserved_of map.space ≡ 0
@@ -57,5 +57,5 @@ pub record FitsPages (total : ℕ) (held : PageBytes) (i : Idle) : Type 0 where
   pub map : i.map.kinds ≡ held 0
   pub space : i.map.space.0 ≡ mapped (held 0) total
   pub claims : reserved_of i.map.space ≤ free_of i.map.space
-  pub rooms : length i.rooms.0 ≡ total
-  pub noted : AreRooms i.rooms.0 held
+  pub rooms : length i.rooms ≡ total
+  pub noted : AreRooms i.rooms held

@@ -1,16 +1,17 @@
 -- What asking for a page lock does to an operation.
-use Rattle.std.specs.Prelude.{◌≡◌, ◌⊎◌, ◌<◌, ◌≤◌, ◌++◌, ◌∷◌, [], ℕ, List, Option, None, Some, IsSome, Result, Ok, Err, Contains, true, get_or}
+use Rattle.std.specs.Prelude.{◌≡◌, ◌≢◌, ◌⊎◌, ◌<◌, ◌≤◌, ◌++◌, ◌∷◌, [], ℕ, List, Option, None, Some, IsSome, Result, Ok, Err, All, Contains, true}
 use Rattle.mt_base.specs.declared.modes.Mode.{Mode}
 use Rattle.mt_base.specs.declared.modes.Mode.TheVariants.{Read, Write}
 use Rattle.mt_base.specs.declared.refusal.Refusal.{Refusal}
 use Rattle.mt_model.specs.Model.{IsWithin}
+use Rattle.mt_model.specs.declared.operations.Op.{Op}
 use Rattle.mt_model.specs.declared.operations.Reply.{Reply}
 use Rattle.mt_plock.specs.Holding.{lock_of, IsLeastHolder}
 use Rattle.mt_plock.specs.declared.guards.PageLock.{PageLock}
 use Rattle.mt_plock.specs.Releasing.{locks_without}
 use Rattle.mt_space.specs.Changes.{IsUntouched}
 use Rattle.mt_space.specs.declared.changes.PageChange.{PageChange}
-use Rattle.mt_file.specs.Rooms.{fits_of}
+use Rattle.mt_file.specs.Rooms.{fits_of, Takes}
 use Rattle.mt_steps.specs.Asks.{AsksFor}
 use Rattle.mt_steps.specs.Plans.{InPages, IsPlanned, record_bytes}
 use Rattle.mt_op.specs.World.{World, looked, looked_bytes}
@@ -73,17 +74,42 @@ pub record IsMade (s t : OpScope) : Type 0 where
 abbrev pub IsAsked : OpScope → ℕ → Mode → Type 0
 IsAsked s p mode = AsksFor (looked s) s.room s.seen.total s.split s.op p mode
 
--- It puts a record, was led to no page, and its plan asks for the space map: a page of records that is noted to take the
--- record is tried first, to write it.
-abbrev pub IsTried : List ℕ → OpScope → ℕ → Mode → Type 0
-IsTried noted s p mode = ((first : Mode) × IsAsked s 0 first) × (s.room ≡ None) × (mode ≡ Write) × (0 < record_bytes s.op) × (record_bytes s.op ≤ get_or noted p 0)
+-- it puts a record, and was led to no page
+abbrev pub NeedsRoom : OpScope → Type 0
+NeedsRoom s = (s.room ≡ None) × (0 < record_bytes s.op)
 
--- a page that it has not looked at, and that its plan asks for, or one that is tried first; where it only reads, to read it
-pub record IsToLook (noted : List ℕ) (s : OpScope) (p : ℕ) (mode : Mode) : Type 0 where
+-- nobody has locked the page
+abbrev pub IsUnlocked : List PageLock → ℕ → Type 0
+IsUnlocked locks p = All (λ (l : PageLock). l.page ≢ p) locks
+
+-- the page is noted to take the record, and nobody has locked it
+abbrev pub IsOpenTo : List ℕ → List PageLock → Op → ℕ → Type 0
+IsOpenTo noted locks op p = Takes noted (record_bytes op) p × IsUnlocked locks p
+
+-- what an operation finds that looks for a page for its record: an open one, or none where none is
+abbrev pub FindsRoom : List ℕ → List PageLock → OpScope → Option ℕ → Type 0
+FindsRoom noted locks s (Some p) = NeedsRoom s × IsOpenTo noted locks s.op p
+FindsRoom noted locks s None = NeedsRoom s → (p : ℕ) → IsOpenTo noted locks s.op p → ⊥
+
+-- Its plan asks for the space map, to take a page for the record: a page that is open to the record is tried first, to
+-- write it.
+abbrev pub IsTried : List ℕ → List PageLock → OpScope → ℕ → Mode → Type 0
+IsTried noted locks s p mode = ((first : Mode) × IsAsked s 0 first) × (mode ≡ Write) × FindsRoom noted locks s (Some p)
+
+-- The space map itself is asked for, to take a page for the record, only if no page is open to the record.
+abbrev pub IsInTurn : List ℕ → List PageLock → OpScope → ℕ → Type 0
+IsInTurn noted locks s p = p ≡ 0 → FindsRoom noted locks s None
+
+-- a page that it has not looked at; where it only reads, to read it
+pub record IsUnseen (s : OpScope) (p : ℕ) (mode : Mode) : Type 0 where
   pub new : looked s p ≡ None
   pub inside : p < s.seen.total
   pub reads : only_reads s.op ≡ true → mode ≡ Read
-  pub asked : IsAsked s p mode ⊎ IsTried noted s p mode
+
+-- such a page that its plan asks for in its turn, or one that is tried first
+pub record IsToLook (noted : List ℕ) (locks : List PageLock) (s : OpScope) (p : ℕ) (mode : Mode) : Type 0 where
+  pub unseen : IsUnseen s p mode
+  pub asked : (IsAsked s p mode × IsInTurn noted locks s p) ⊎ IsTried noted locks s p mode
 
 -- a page that it has looked at and not locked to write, and that its plan changes: to write it
 pub record IsToWrite (s : OpScope) (p : ℕ) (mode : Mode) : Type 0 where
@@ -96,8 +122,8 @@ pub record IsToWrite (s : OpScope) (p : ℕ) (mode : Mode) : Type 0 where
   pub reads : only_reads s.op ≡ true → changes ≡ []
   pub touched : IsUntouched changes p → ⊥
 
-abbrev pub IsNext : List ℕ → OpScope → ℕ → Mode → Type 0
-IsNext noted s p mode = IsToLook noted s p mode ⊎ IsToWrite s p mode
+abbrev pub IsNext : List ℕ → List PageLock → OpScope → ℕ → Mode → Type 0
+IsNext noted locks s p mode = IsToLook noted locks s p mode ⊎ IsToWrite s p mode
 
 -- The smallest operation with a lock in its way is larger than it, and so is every other such.
 abbrev pub IsAwaited : List PageLock → PageLock → ℕ → Type 0

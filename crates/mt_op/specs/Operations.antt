@@ -47,8 +47,8 @@ pub record IsRight {D : Type 0} (seen : D → List ℕ) (may_leave : D → List 
   pub map : o.map.kinds ≡ held_in (world seen opening o) 0
   pub space : o.map.space.0 ≡ mapped (held_in (world seen opening o) 0) (pages o.store.pool)
   pub claims : reserved_of o.map.space ≤ free_of o.map.space
-  pub rooms : length o.rooms.0 ≡ pages o.store.pool
-  pub noted : AreRooms o.rooms.0 (held_in (world seen opening o))
+  pub rooms : length o.rooms ≡ pages o.store.pool
+  pub noted : AreRooms o.rooms (held_in (world seen opening o))
 
 -- The operation is one of those under way, for some pages as they were when the area began and some schema.
 abbrev pub IsOneOf : {D : Type 0} → (D → List ℕ) → (D → List ℕ → Type 0) → Operations D → OpScope → Type 0

@@ -73,7 +73,7 @@ pub record LocksPage {D : Type 0} (seen : D → List ℕ) (may_leave : D → Lis
   pub same : IsAsFar s t
   pub full : r ≡ Ok stepped.Flush → IsFull o.store.pool × (n ≡ o)
   pub work : Works s t r
-  pub locks : KeepsLocks s.number (IsNext o.rooms.0 s) o.locks n.locks r
+  pub locks : KeepsLocks s.number (IsNext o.rooms o.locks s) o.locks n.locks r
   pub scope : KeepsScope s t r
   pub why : IfErr r IsCause
   pub faults : TellsFaults (failures o.store.device) (failures n.store.device) r
@@ -91,7 +91,7 @@ pub record PlansOn {D : Type 0} (seen : D → List ℕ) (may_leave : D → List 
   pub full : r ≡ Ok (Some stepped.Flush) → IsFull o.store.pool × (n ≡ o)
   pub stage : (r ≡ Ok None → ⊥) → t.stage ≡ Planning
   pub work : WorksOn s t r
-  pub locks : KeepsLocksOn s.number (IsNext o.rooms.0 s) o.locks n.locks r
+  pub locks : KeepsLocksOn s.number (IsNext o.rooms o.locks s) o.locks n.locks r
   pub scope : KeepsScopeOn s t r
   pub why : IfErr r IsCause
   pub faults : TellsFaults (failures o.store.device) (failures n.store.device) r

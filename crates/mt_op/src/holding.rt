@@ -104,7 +104,7 @@ impl<D: Device> Operations<D> {
     ) -> Result<Stepped, Refusal>
         requires right { IsOneOf D.seen D.may_leave self.old scope.old }
         requires planning { scope.old.stage ≡ Planning }
-        requires next { IsToLook self.old.rooms.0 scope.old page mode }
+        requires next { IsToLook self.old.rooms self.old.locks scope.old page mode }
         requires led { (room ≡ scope.old.room)
             ⊎ ((room ≡ Some page) × (mode ≡ Write) × (get_or self.old.map.kinds page 0 ≡ 3)) }
         requires unled { (room ≡ scope.old.room) ⊎ (scope.old.room ≡ None) }
@@ -127,7 +127,7 @@ impl<D: Device> Operations<D> {
     ) -> Result<Stepped, Refusal>
         requires right { IsOneOf D.seen D.may_leave self.old scope.old }
         requires planning { scope.old.stage ≡ Planning }
-        requires next { IsToLook self.old.rooms.0 scope.old page mode }
+        requires next { IsToLook self.old.rooms self.old.locks scope.old page mode }
         requires led { (room ≡ scope.old.room)
             ⊎ ((room ≡ Some page) × (mode ≡ Write) × (get_or self.old.map.kinds page 0 ≡ 3)) }
         requires unled { (room ≡ scope.old.room) ⊎ (scope.old.room ≡ None) }
@@ -143,8 +143,8 @@ impl<D: Device> Operations<D> {
         ensures same { IsAsFar scope.old scope.new }
         ensures never { result ≡ Ok stepped.Flush → ⊥ }
         ensures work { Works scope.old scope.new result }
-        ensures locks { KeepsLocks scope.old.number (IsNext self.old.rooms.0 scope.old) self.old.locks self.new.locks
-            result }
+        ensures locks { KeepsLocks scope.old.number (IsNext self.old.rooms self.old.locks scope.old) self.old.locks
+            self.new.locks result }
         ensures scope { KeepsScope scope.old scope.new result }
         ensures only_memory { IfErr result (λ why. why ≡ Refusal.NoMemory) }
     {
@@ -175,8 +175,8 @@ impl<D: Device> Operations<D> {
         ensures same { IsAsFar scope.old scope.new }
         ensures never { result ≡ Ok stepped.Flush → ⊥ }
         ensures work { Works scope.old scope.new result }
-        ensures locks { KeepsLocks scope.old.number (IsNext self.old.rooms.0 scope.old) self.old.locks self.new.locks
-            result }
+        ensures locks { KeepsLocks scope.old.number (IsNext self.old.rooms self.old.locks scope.old) self.old.locks
+            self.new.locks result }
         ensures scope { KeepsScope scope.old scope.new result }
         ensures only_memory { IfErr result (λ why. why ≡ Refusal.NoMemory) }
     {

@@ -338,7 +338,7 @@ impl<D: Device> Operations<D> {
             × IsKept D.seen D.may_leave opening self.old.store × IsGood relations counters (pages self.old.store.pool)
             opening × ShowsOpening D.seen opening self.old.store × (self.old.map.kinds ≡ opening 0)) ∥₁ }
         requires spare { IsFull self.old.store.pool → ⊥ }
-        requires blank { self.old.rooms.0 ≡ replicate (pages self.old.store.pool) 0 }
+        requires blank { self.old.rooms ≡ replicate (pages self.old.store.pool) 0 }
         ensures noted { OnOk result (HasNoted D.seen D.may_leave D.moment D.left_since D.faults self.old self.new) }
         ensures read { HasRead D.seen D.may_leave D.moment D.left_since self.old.store self.new.store }
         ensures failed { IsErr result → D.faults self.old.store.device < D.faults self.new.store.device }

@@ -38,8 +38,8 @@ fn rooms_of(alloc: Global, pages: &[[u8; 4096]]) -> Result<Rooms, AllocError>
     requires good { ∥ ((relations : ℕ) × (counters : ℕ)
         × IsGood relations counters (length pages.now) (bytes_of pages.now)) ∥₁ }
     requires few { length pages.now ≤ 4000 }
-    ensures size { IfOk result (λ rooms. length rooms.0 ≡ length pages.now) }
-    ensures noted { IfOk result (λ rooms. AreRooms rooms.0 (bytes_of pages.now)) }
+    ensures size { IfOk result (λ rooms. length rooms ≡ length pages.now) }
+    ensures noted { IfOk result (λ rooms. AreRooms rooms (bytes_of pages.now)) }
 {
     let map = &pages[usize::from(MAP)];
     let mut rooms = Rooms::of(alloc, pages.len() as u16)?;

@@ -1,5 +1,5 @@
 // The steps of an operation, from its first page lock to its end.
-ghost use Rattle.std.specs.Prelude.{◌≡◌, ◌≢◌, ◌⊎◌, ◌<◌, ◌≤◌, ◌+◌, ℕ, List, length, get_or, All, Contains, [], None, Some, Ok, true, false, MatchOption, IfErr, IfSome, IsTrue, ◌↔◌};
+ghost use Rattle.std.specs.Prelude.{◌≡◌, ◌≢◌, ◌⊎◌, ◌<◌, ◌≤◌, ◌+◌, ◌^◌, ℕ, List, length, All, Contains, [], None, Some, Ok, true, false, MatchOption, IfErr, IsTrue, ◌↔◌};
 ghost use Rattle.mt_steps.specs.Drafts.{AreAtHand};
 ghost use Rattle.mt_steps.specs.Logged.{logged_of};
 ghost use Rattle.mt_base.specs.declared.modes.Mode.TheVariants.{Write};
@@ -13,7 +13,7 @@ ghost use Rattle.mt_pool.specs.Views.{IsFull};
 ghost use Rattle.mt_steps.specs.Plans.{own_needs, free_pages, record_bytes as bytes_put, InPages, IsPlanned, TakesPages};
 ghost use Rattle.mt_op.specs.World.{IsUnderWay, looked, held_in};
 ghost use Rattle.mt_op.specs.Operations.{world, IsRight, IsOneOf, IsOneWithin, Steps, GivesBack, IsPlannedOn, HasBudget, only_reads, IsCause, claimed};
-ghost use Rattle.mt_op.specs.Holds.{IsNext, IsAsked, IsToLook, KeepsLocks, KeepsLocksOn, KeepsScope, KeepsScopeOn};
+ghost use Rattle.mt_op.specs.Holds.{IsNext, IsAsked, IsUnseen, FindsRoom, KeepsLocks, KeepsLocksOn, KeepsScope, KeepsScopeOn};
 ghost use Rattle.mt_op.specs.Stepping.{GoesAhead, LocksPage, PlansOn};
 ghost use Rattle.mt_op.specs.Records.{KeepsRecords};
 ghost use Rattle.mt_op.specs.Work.{Works, WorksOn, ComesTo};
@@ -28,7 +28,7 @@ use mt_base::{Mode, OpNo, PageNo, Refusal};
 use mt_disk::Device;
 use mt_model::{Op, Reply};
 use mt_plock::{PageGuard, PageLock};
-use mt_space::pages::{MAP, RECORDS};
+use mt_space::pages::MAP;
 use mt_space::{Changes, Pages};
 use mt_steps::{Act, plan};
 use std::alloc::Global;
@@ -45,8 +45,10 @@ impl<D: Device> Operations<D> {
     ///
     /// A lock is asked for on a page that the plan asks for and that was not looked at, by an operation that only reads
     /// to read it. A row's operation looks for its key first: in the directory, to read it, and in the key's chain. Where
-    /// the plan asks for the space map, for a record, and no page was tried yet, a page that is noted to take the
-    /// record may be tried first, to write it. Or a lock is asked for, to write it, on a page that the plan changes.
+    /// the plan asks for the space map, for a record, and no page was tried yet, a page that takes the record and that
+    /// nobody has locked is tried first, to write it; a page that is locked is passed by. The map itself is asked for
+    /// then only if each page that takes the record is locked. Or a lock is asked for, to write it, on a page that the
+    /// plan changes.
     ///
     /// A record goes into the page of records that was tried first and takes it, or into a free page where none was. A
     /// free page is taken only for such a record, or for its entry where the key's bucket is full; and only a page of
@@ -81,8 +83,8 @@ impl<D: Device> Operations<D> {
         ensures stage { ComesTo scope.new.stage result }
         ensures work { Works scope.old scope.new result }
         ensures records { KeepsRecords scope.new (appended self.old.store.log) (appended self.new.store.log) result }
-        ensures locks { KeepsLocks scope.old.number (IsNext self.old.rooms.0 scope.old) self.old.locks self.new.locks
-            result }
+        ensures locks { KeepsLocks scope.old.number (IsNext self.old.rooms self.old.locks scope.old) self.old.locks
+            self.new.locks result }
         ensures scope { KeepsScope scope.old scope.new result }
         ensures writing { scope.old.stage ≡ Writing → self.new.locks ≡ self.old.locks }
         // Where the plan is made, a page more is written then.
@@ -142,7 +144,8 @@ impl<D: Device> Operations<D> {
         }
     }
 
-    // Locks the page that a plan needs. Where a new page is due for a record, a page with room comes first.
+    // Locks the page that a plan needs. Where a new page is due for a record, a page with room that nobody has locked
+    // comes first.
     fn lock_next(
         &mut self,
         scope: &mut OpScope,
@@ -151,44 +154,39 @@ impl<D: Device> Operations<D> {
     ) -> Result<Stepped, Refusal>
         requires right { IsOneOf D.seen D.may_leave self.old scope.old }
         requires planning { scope.old.stage ≡ Planning }
-        requires next { IsToLook self.old.rooms.0 scope.old page mode }
+        requires unseen { IsUnseen scope.old page mode }
         requires asked { IsAsked scope.old page mode }
         ensures { LocksPage D.seen D.may_leave D.moment D.left_since D.faults self.old self.new scope.old scope.new
             result }
     {
-        if page.get() == MAP {
-            if let Some(room) = self.room_for(scope) {
-                return self.lock(scope, room, Mode::Write, Some(room));
-            }
+        if page.get() != MAP {
+            return self.lock(scope, page, mode, scope.room);
         }
-        self.lock(scope, page, mode, scope.room)
+        match self.room_for(scope) {
+            Some(room) => self.lock(scope, room, Mode::Write, Some(room)),
+            None => self.lock(scope, page, mode, scope.room),
+        }
     }
 
-    // A page of records with room for the operation's record, which nobody has locked.
+    // The first page of records that takes the operation's record and that nobody has locked: one that is locked is
+    // passed by. `None` also where the operation puts no record, or was led to a page.
     fn room_for(&self, scope: &OpScope) -> Option<PageNo>
-        requires rooms { length self.now.rooms.0 ≡ scope.now.seen.total }
-        requires few { scope.now.seen.total ≤ 4000 }
-        requires whole { (p : ℕ) (bytes : List ℕ) → looked scope.now p ≡ Some bytes → length bytes ≡ 4096 }
-        ensures new { IfSome result (λ p. looked scope.now p ≡ None) }
-        ensures inside { IfSome result (λ p. p < scope.now.seen.total) }
-        ensures records { IfSome result (λ p. get_or self.now.map.kinds p 0 ≡ 3) }
-        ensures unlocked { IfSome result (λ p. All (λ l. l.page ≢ p) self.now.locks) }
-        ensures roomy { IfSome result (λ p. bytes_put scope.now.op ≤ get_or self.now.rooms.0 p 0) }
-        ensures puts { IfSome result (λ p. only_reads scope.now.op ≡ false) }
-        ensures some { IfSome result (λ p. 0 < bytes_put scope.now.op) }
-        ensures unled { IfSome result (λ p. scope.now.room ≡ None) }
+        requires few { length self.now.rooms ≤ 4000 }
+        requires short { bytes_put scope.now.op < 2 ^ 16 }
+        ensures { FindsRoom self.now.rooms self.now.locks scope.now result }
     {
-        let bytes = record_bytes(&scope.op)?;
-        let room = self.rooms.with_room(bytes)?;
-        if scope.room.is_none()
-            && self.map.kinds[usize::from(room.get())] == RECORDS
-            && self.locks.is_unlocked(room)
-            && scope.seen.page(room).is_none()
-        {
-            Some(room)
-        } else {
-            None
+        if scope.room.is_some() {
+            return None;
         }
+        let bytes = record_bytes(&scope.op)?;
+        let mut from = 0;
+        while let Some(page) = self.rooms.with_room_from(from, bytes) {
+            if self.locks.is_unlocked(page) {
+                return Some(page);
+            }
+            from = page.get() + 1;
+        }
+        None
     }
 
     // Keeps the plan, once each page that changes is locked to be written.
@@ -226,7 +224,7 @@ impl<D: Device> Operations<D> {
         ensures never { result ≡ Ok (Some stepped.Flush) → ⊥ }
         ensures stage { (result ≡ Ok None → ⊥) → scope.new.stage ≡ Planning }
         ensures work { WorksOn scope.old scope.new result }
-        ensures locks { KeepsLocksOn scope.old.number (IsNext self.old.rooms.0 scope.old) self.old.locks
+        ensures locks { KeepsLocksOn scope.old.number (IsNext self.old.rooms self.old.locks scope.old) self.old.locks
             self.new.locks result }
         ensures scope { KeepsScopeOn scope.old scope.new result }
         ensures only_memory { IfErr result (λ why. why ≡ Refusal.NoMemory) }
@@ -270,9 +268,8 @@ fn holds(guards: &[PageGuard], lock: &PageLock) -> bool
 
 // The bytes of the record that an operation puts, if it puts one.
 fn record_bytes(op: &Op) -> Option<u16>
-    ensures some { IfSome result (λ bytes. 0 < bytes) }
-    ensures exact { IfSome result (λ bytes. bytes ≡ bytes_put op.now) }
-    ensures puts { IfSome result (λ bytes. only_reads op.now ≡ false) }
+    ensures { MatchOption result (0 < bytes_put op.now → 2 ^ 16 ≤ bytes_put op.now)
+        (λ bytes. (0 < bytes) × (bytes ≡ bytes_put op.now)) }
 {
     match op {
         Op::Insert(_, key, value) | Op::Update(_, key, value) => {

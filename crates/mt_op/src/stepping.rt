@@ -158,13 +158,13 @@ impl<D: Device> Operations<D> {
             × AreShort (changes_in scope.now) pages
             × ((p : ℕ) → get_or self.old.map.kinds p 0 ≡ 3 → IsShaped (after (changes_in scope.now) pages p))) ∥₁ }
         requires whole { (p : ℕ) (bytes : List ℕ) → looked scope.now p ≡ Some bytes → length bytes ≡ 4096 }
-        requires inside { (p : ℕ) → IsSome (looked scope.now p) → p < length self.old.rooms.0 }
-        requires few { length self.old.rooms.0 ≤ 4096 }
+        requires inside { (p : ℕ) → IsSome (looked scope.now p) → p < length self.old.rooms }
+        requires few { length self.old.rooms ≤ 4096 }
         ensures store { self.new.store ≡ self.old.store }
         ensures locks { self.new.locks ≡ self.old.locks }
         ensures map { self.new.map ≡ self.old.map }
-        ensures rooms { length self.new.rooms.0 ≡ length self.old.rooms.0 }
-        ensures noted { HasFollowed scope.now self.old.map.kinds self.old.rooms.0 self.new.rooms.0 }
+        ensures rooms { length self.new.rooms ≡ length self.old.rooms }
+        ensures noted { HasFollowed scope.now self.old.map.kinds self.old.rooms self.new.rooms }
     {
         if !scope.changes.list.is_empty() {
             self.note_each(scope);
@@ -177,16 +177,16 @@ impl<D: Device> Operations<D> {
             × AreShort (changes_in scope.now) pages
             × ((p : ℕ) → get_or self.old.map.kinds p 0 ≡ 3 → IsShaped (after (changes_in scope.now) pages p))) ∥₁ }
         requires whole { (p : ℕ) (bytes : List ℕ) → looked scope.now p ≡ Some bytes → length bytes ≡ 4096 }
-        requires inside { (p : ℕ) → IsSome (looked scope.now p) → p < length self.old.rooms.0 }
-        requires few { length self.old.rooms.0 ≤ 4096 }
+        requires inside { (p : ℕ) → IsSome (looked scope.now p) → p < length self.old.rooms }
+        requires few { length self.old.rooms ≤ 4096 }
         ensures store { self.new.store ≡ self.old.store }
         ensures locks { self.new.locks ≡ self.old.locks }
         ensures map { self.new.map ≡ self.old.map }
-        ensures rooms { length self.new.rooms.0 ≡ length self.old.rooms.0 }
+        ensures rooms { length self.new.rooms ≡ length self.old.rooms }
         ensures noted { (pages : PageBytes) → Agrees (looked scope.now) pages → AreShort (changes_in scope.now) pages
-            → HasRooms scope.now self.old.map.kinds self.new.rooms.0 pages }
+            → HasRooms scope.now self.old.map.kinds self.new.rooms pages }
         ensures others { (p : ℕ) → looked scope.now p ≡ None
-            → get_or self.new.rooms.0 p 0 ≡ get_or self.old.rooms.0 p 0 }
+            → get_or self.new.rooms p 0 ≡ get_or self.old.rooms p 0 }
     {
         for guard in &scope.guards {
             let page = guard.lock().page;

@@ -174,7 +174,8 @@ impl<D: Device> Kernel<D> {
     /// Makes one step of an abort. The operation under way, if there is one, is taken back first, a page a step; then
     /// each operation that did anything is undone by its inverse, the last one first (Weikum 1991), a step of the
     /// inverse a step; then the end is logged, and the transaction lives no more. A step waits, or begins anew, only
-    /// for another transaction that lives.
+    /// for another transaction that lives. It locks no page but one that the plan of an inverse asks for next, and gives
+    /// no other operation's page locks back.
     ///
     /// How many steps: each that answers [`AbortStepped::More`] lowers what the abort has left, and the end comes where
     /// nothing is left. [`AbortStepped::Again`] adds two steps a page at most.

@@ -78,7 +78,7 @@ pub returns-clause-locks : goal.returns-clause-locks
 returns-clause-locks g c = λ x at.
     let k = c.args.self.now in let r = c.index_mut.result.now in
     let old : r ≡ x = c.index_mut.ensures.value ∙ sym (get_or_default k.running.items c.args.place x r c.requires.within) ∙ sym at in
-    subst (λ (y : Running). KeepsLocks y.scope.number (IsNext k.operations.rooms.0 y.scope) k.operations.locks c.step.new.self.locks c.step.result) old c.step.ensures.locks
+    subst (λ (y : Running). KeepsLocks y.scope.number (IsNext k.operations.rooms k.operations.locks y.scope) k.operations.locks c.step.new.self.locks c.step.result) old c.step.ensures.locks
 
 pub returns-clause-other : goal.returns-clause-other
 returns-clause-other g c = λ origin base safe x at.
@@ -86,7 +86,7 @@ returns-clause-other g c = λ origin base safe x at.
     let q : Running = record { scope = c.step.new.scope; op = r.op } in
     let old : r ≡ x = c.index_mut.ensures.value ∙ sym (get_or_default k.running.items c.args.place x r c.requires.within) ∙ sym at in
     subst (λ (y : Running). TellsOther (set k.running.items c.args.place q) y.scope.txn c.step.result) old
-    (tells_other k.running.items c.args.place r q (IsNext k.operations.rooms.0 r.scope) k.operations.locks c.step.new.self.locks c.step.result c.requires.within c.index_mut.ensures.value safe.fit.apart safe.fit.locked c.step.ensures.locks)
+    (tells_other k.running.items c.args.place r q (IsNext k.operations.rooms k.operations.locks r.scope) k.operations.locks c.step.new.self.locks c.step.result c.requires.within c.index_mut.ensures.value safe.fit.apart safe.fit.locked c.step.ensures.locks)
 
 pub returns-clause-appends : goal.returns-clause-appends
 returns-clause-appends g c = λ origin base safe y now.

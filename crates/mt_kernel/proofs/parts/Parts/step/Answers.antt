@@ -211,7 +211,7 @@ returns-in_err-reply-clause-restartable g c = λ origin base later safe_k safe_n
 pub returns-in-Ready-clause-locks : goal.returns-in-Ready-clause-locks
 returns-in-Ready-clause-locks g c = λ x at.
     let k = c.args.self.now in let place = c.args.place in
-    let kept : c.advance.new.self.operations.locks ≡ k.operations.locks = subst (KeepsLocks x.scope.number (IsNext k.operations.rooms.0 x.scope) k.operations.locks c.advance.new.self.operations.locks) (c.in_ok-reply.was ∙ ap Ok c.in-Ready.is) (c.advance.ensures.locks x at) in
+    let kept : c.advance.new.self.operations.locks ≡ k.operations.locks = subst (KeepsLocks x.scope.number (IsNext k.operations.rooms k.operations.locks x.scope) k.operations.locks c.advance.new.self.operations.locks) (c.in_ok-reply.was ∙ ap Ok c.in-Ready.is) (c.advance.ensures.locks x at) in
     ∥∥₁_elim c.requires.safe (hlevel props) (λ (origin, base, safe).
     let items = c.advance.new.self.running.items in
     let inside : place < length items = let same = c.advance.ensures.length in let within = c.requires.within in omega arith in
@@ -222,22 +222,22 @@ returns-in-Ready-clause-locks g c = λ x at.
 
 pub returns-in-Went-clause-locks : goal.returns-in-Went-clause-locks
 returns-in-Went-clause-locks g c = λ x at. let k = c.args.self.now in
-    subst (KeepsLocks x.scope.number (IsNext k.operations.rooms.0 x.scope) k.operations.locks c.advance.new.self.operations.locks) (c.in_ok-reply.was ∙ ap Ok c.in-Went.is) (c.advance.ensures.locks x at)
+    subst (KeepsLocks x.scope.number (IsNext k.operations.rooms k.operations.locks x.scope) k.operations.locks c.advance.new.self.operations.locks) (c.in_ok-reply.was ∙ ap Ok c.in-Went.is) (c.advance.ensures.locks x at)
 
 pub returns-in-Wait-clause-locks : goal.returns-in-Wait-clause-locks
 returns-in-Wait-clause-locks g c = λ x at. let k = c.args.self.now in
-    subst (KeepsLocks x.scope.number (IsNext k.operations.rooms.0 x.scope) k.operations.locks c.advance.new.self.operations.locks) (c.in_ok-reply.was ∙ ap Ok c.in-Wait.is) (c.advance.ensures.locks x at)
+    subst (KeepsLocks x.scope.number (IsNext k.operations.rooms k.operations.locks x.scope) k.operations.locks c.advance.new.self.operations.locks) (c.in_ok-reply.was ∙ ap Ok c.in-Wait.is) (c.advance.ensures.locks x at)
 
 pub returns-in-Again-clause-locks : goal.returns-in-Again-clause-locks
 returns-in-Again-clause-locks g c = λ x at. let k = c.args.self.now in
-    subst (KeepsLocks x.scope.number (IsNext k.operations.rooms.0 x.scope) k.operations.locks c.advance.new.self.operations.locks) (c.in_ok-reply.was ∙ ap Ok c.in-Again.is) (c.advance.ensures.locks x at)
+    subst (KeepsLocks x.scope.number (IsNext k.operations.rooms k.operations.locks x.scope) k.operations.locks c.advance.new.self.operations.locks) (c.in_ok-reply.was ∙ ap Ok c.in-Again.is) (c.advance.ensures.locks x at)
 
 pub returns-in-Flush-clause-locks : goal.returns-in-Flush-clause-locks
 returns-in-Flush-clause-locks g c = λ x at. let k = c.args.self.now in
-    subst (KeepsLocks x.scope.number (IsNext k.operations.rooms.0 x.scope) k.operations.locks c.advance.new.self.operations.locks) (c.in_ok-reply.was ∙ ap Ok c.in-Flush.is) (c.advance.ensures.locks x at)
+    subst (KeepsLocks x.scope.number (IsNext k.operations.rooms k.operations.locks x.scope) k.operations.locks c.advance.new.self.operations.locks) (c.in_ok-reply.was ∙ ap Ok c.in-Flush.is) (c.advance.ensures.locks x at)
 
 pub returns-in_err-reply-clause-locks : goal.returns-in_err-reply-clause-locks
 returns-in_err-reply-clause-locks g c = λ x at. let k = c.args.self.now in
     let p = err_from_is_err_and c.from_residual.result c.from_residual.ensures.1 in
     subst (λ (res : Result Stepping Refusal). KeepsPageLocks k c.advance.new.self x res) (sym p.1)
-    (subst (KeepsLocks x.scope.number (IsNext k.operations.rooms.0 x.scope) k.operations.locks c.advance.new.self.operations.locks) c.in_err-reply.was (c.advance.ensures.locks x at))
+    (subst (KeepsLocks x.scope.number (IsNext k.operations.rooms k.operations.locks x.scope) k.operations.locks c.advance.new.self.operations.locks) c.in_err-reply.was (c.advance.ensures.locks x at))

@@ -131,9 +131,9 @@ note_looked-requires-clause-inside g c = ∥∥₁_elim c.requires.right (hlevel
       | in-Some+in_ok-append_end w ↦ ap (λ (t : OpScope). t.seen) w.scope-is ∙ ap (λ (t : OpScope). t.seen) w.append_end.ensures.scope
       | in_default w ↦ ap (λ (t : OpScope). t.seen) w.scope-is
     ] in
-    let rooms : length c.match-done.self.rooms.0 ≡ length c.args.self.now.rooms.0 = elim c.match-done.branch [
-      | in-Some+in_ok-append_end w ↦ ap (λ (o : Operations g.row.D.Denot). length o.rooms.0) w.self-is ∙ ap (λ (x : Rooms). length x.0) w.append_end.ensures.rooms
-      | in_default w ↦ ap (λ (o : Operations g.row.D.Denot). length o.rooms.0) w.self-is
+    let rooms : length c.match-done.self.rooms ≡ length c.args.self.now.rooms = elim c.match-done.branch [
+      | in-Some+in_ok-append_end w ↦ ap (λ (o : Operations g.row.D.Denot). length o.rooms) w.self-is ∙ ap (λ (x : Rooms). length x) w.append_end.ensures.rooms
+      | in_default w ↦ ap (λ (o : Operations g.row.D.Denot). length o.rooms) w.self-is
     ] in
     note_inside seen g.D.Device.may_leave opening relations counters o s _ right k c.requires.writing c.in_ok-answer.ensures.reply c.match-done.scope copies _ rooms)
 
@@ -143,9 +143,9 @@ note_looked-requires-clause-few g c = ∥∥₁_elim c.requires.right (hlevel pr
       | in-Some+in_ok-append_end w ↦ ap (λ (t : OpScope). t.seen) w.scope-is ∙ ap (λ (t : OpScope). t.seen) w.append_end.ensures.scope
       | in_default w ↦ ap (λ (t : OpScope). t.seen) w.scope-is
     ] in
-    let rooms : length c.match-done.self.rooms.0 ≡ length c.args.self.now.rooms.0 = elim c.match-done.branch [
-      | in-Some+in_ok-append_end w ↦ ap (λ (o : Operations g.row.D.Denot). length o.rooms.0) w.self-is ∙ ap (λ (x : Rooms). length x.0) w.append_end.ensures.rooms
-      | in_default w ↦ ap (λ (o : Operations g.row.D.Denot). length o.rooms.0) w.self-is
+    let rooms : length c.match-done.self.rooms ≡ length c.args.self.now.rooms = elim c.match-done.branch [
+      | in-Some+in_ok-append_end w ↦ ap (λ (o : Operations g.row.D.Denot). length o.rooms) w.self-is ∙ ap (λ (x : Rooms). length x) w.append_end.ensures.rooms
+      | in_default w ↦ ap (λ (o : Operations g.row.D.Denot). length o.rooms) w.self-is
     ] in
     note_few seen g.D.Device.may_leave opening relations counters o s _ right k c.requires.writing c.in_ok-answer.ensures.reply c.match-done.scope copies _ rooms)
 
@@ -208,7 +208,7 @@ returns g c = let d = g.D.Device in let seen = d.seen in let o = c.args.self.now
               let scope : c.match-done.scope ≡ record s { left = w.append_end.new.scope.left } = w.scope-is ∙ e.scope in
               let map_same : c.match-done.self.map ≡ o.map = ap (λ (x : Operations g.row.D.Denot). x.map) w.self-is ∙ e.map in
               let changes : c.match-done.scope.changes ≡ s.changes = ap (λ (t : OpScope). t.changes) scope in
-              let rooms : c.match-done.self.rooms.0 ≡ o.rooms.0 = ap (λ (x : Operations g.row.D.Denot). x.rooms.0) w.self-is ∙ ap (λ (x : Rooms). x.0) e.rooms in
+              let rooms : c.match-done.self.rooms ≡ o.rooms = ap (λ (x : Operations g.row.D.Denot). x.rooms) w.self-is ∙ e.rooms in
               let given = settle_gives seen d.may_leave opening relations counters o s _ right k c.requires.writing is c.match-done.self.map c.match-done.scope map_same changes c.settle.new.self.kinds f.kinds in
               let free = settle_frees seen d.may_leave opening relations counters o s _ right k c.requires.writing is c.match-done.self.map c.match-done.scope map_same changes c.settle.new.self.space.0 c.settle.new.self.kinds f.free in
               let done = finished seen d.may_leave opening relations counters o s _ c.in_ok-answer.answer right k c.requires.writing is w.append_end.new.scope.left (ready ∙ ap (λ (t : OpScope). record t { reply = None; stage = Ready }) scope)
@@ -217,12 +217,12 @@ returns g c = let d = g.D.Device in let seen = d.seen in let o = c.args.self.now
               (subst (λ (x : SpaceMap). x.space.0 ≡ mapped x.kinds (pages o.store.pool)) (sym n.map) free) (subst (λ (x : SpaceMap). reserved_of x.space ≤ free_of x.space) (sym n.map) f.room)
               (n.rooms ∙ ap (λ (xs : List ℕ). length xs) rooms)
               (note_followed seen d.may_leave opening relations counters o s _ c.in_ok-answer.answer right k c.requires.writing is w.append_end.new.scope.left (ready ∙ ap (λ (t : OpScope). record t { reply = None; stage = Ready }) scope)
-              c.match-done.scope scope c.settle.new.self.kinds c.match-done.self.rooms.0 c.note_looked.new.self.rooms.0 given n.rooms rooms n.noted) in
+              c.match-done.scope scope c.settle.new.self.kinds c.match-done.self.rooms c.note_looked.new.self.rooms given n.rooms rooms n.noted) in
               (done.0, (subst (Acts relations counters (world seen opening o) (world seen opening c.note_looked.new.self) s t) same done.1, same))
           | in_default w ↦
               let map_same : c.match-done.self.map ≡ o.map = ap (λ (x : Operations g.row.D.Denot). x.map) w.self-is in
               let changes : c.match-done.scope.changes ≡ s.changes = ap (λ (t : OpScope). t.changes) w.scope-is in
-              let rooms : c.match-done.self.rooms.0 ≡ o.rooms.0 = ap (λ (x : Operations g.row.D.Denot). x.rooms.0) w.self-is in
+              let rooms : c.match-done.self.rooms ≡ o.rooms = ap (λ (x : Operations g.row.D.Denot). x.rooms) w.self-is in
               let given = settle_gives seen d.may_leave opening relations counters o s _ right k c.requires.writing is c.match-done.self.map c.match-done.scope map_same changes c.settle.new.self.kinds f.kinds in
               let free = settle_frees seen d.may_leave opening relations counters o s _ right k c.requires.writing is c.match-done.self.map c.match-done.scope map_same changes c.settle.new.self.space.0 c.settle.new.self.kinds f.free in
               let done = finished_quietly seen d.may_leave opening relations counters o s _ c.in_ok-answer.answer right k c.requires.writing is s.left (ready ∙ ap (λ (t : OpScope). record t { reply = None; stage = Ready }) w.scope-is)
@@ -231,7 +231,7 @@ returns g c = let d = g.D.Device in let seen = d.seen in let o = c.args.self.now
               (subst (λ (x : SpaceMap). x.space.0 ≡ mapped x.kinds (pages o.store.pool)) (sym n.map) free) (subst (λ (x : SpaceMap). reserved_of x.space ≤ free_of x.space) (sym n.map) f.room)
               (n.rooms ∙ ap (λ (xs : List ℕ). length xs) rooms)
               (note_followed seen d.may_leave opening relations counters o s _ c.in_ok-answer.answer right k c.requires.writing is s.left (ready ∙ ap (λ (t : OpScope). record t { reply = None; stage = Ready }) w.scope-is)
-              c.match-done.scope w.scope-is c.settle.new.self.kinds c.match-done.self.rooms.0 c.note_looked.new.self.rooms.0 given n.rooms rooms n.noted) in
+              c.match-done.scope w.scope-is c.settle.new.self.kinds c.match-done.self.rooms c.note_looked.new.self.rooms given n.rooms rooms n.noted) in
               (done.0, (subst (Acts relations counters (world seen opening o) (world seen opening c.note_looked.new.self) s t) same done.1, same))
         ];
         moments = λ opening kept. subst (λ (x : g.row.D.Denot). LeavesOnly d.moment d.left_since o.store.device x (Explains opening o.store)) (sym device) (no_call seen d.may_leave opening o.store kept d.moment d.left_since g.met.D.Device.only_now);

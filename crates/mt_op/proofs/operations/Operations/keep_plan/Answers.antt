@@ -57,10 +57,10 @@ pub returns-in_err-stepped-clause-locks : goal.returns-in_err-stepped-clause-loc
 returns-in_err-stepped-clause-locks g c =
     let o = c.args.self.now in let n = c.upgrade.new.self in let s = c.args.scope.now in
     let p = err_from_is_err_and c.from_residual.result c.from_residual.ensures.1 in
-    err_keeps_on s.number (IsNext o.rooms.0 s) o.locks n.locks c.from_residual.result p.0 p.1 (subst (KeepsLocks s.number (IsNext o.rooms.0 s) o.locks n.locks) c.in_err-stepped.was c.upgrade.ensures.locks)
+    err_keeps_on s.number (IsNext o.rooms o.locks s) o.locks n.locks c.from_residual.result p.0 p.1 (subst (KeepsLocks s.number (IsNext o.rooms o.locks s) o.locks n.locks) c.in_err-stepped.was c.upgrade.ensures.locks)
 
 pub returns-in-Some-clause-locks : goal.returns-in-Some-clause-locks
-returns-in-Some-clause-locks g c = subst (KeepsLocks c.args.scope.now.number (IsNext c.args.self.now.rooms.0 c.args.scope.now) c.args.self.now.locks c.upgrade.new.self.locks) c.in_ok-stepped.was c.upgrade.ensures.locks
+returns-in-Some-clause-locks g c = subst (KeepsLocks c.args.scope.now.number (IsNext c.args.self.now.rooms c.args.self.now.locks c.args.scope.now) c.args.self.now.locks c.upgrade.new.self.locks) c.in_ok-stepped.was c.upgrade.ensures.locks
 
 pub returns-in_err-stepped-clause-scope : goal.returns-in_err-stepped-clause-scope
 returns-in_err-stepped-clause-scope g c = let s = c.args.scope.now in let t = c.upgrade.new.scope in

@@ -1,6 +1,7 @@
 use Rattle.mt_base.specs.declared.refusal.Refusal.TheVariants as refusal
 use Rattle.std.specs.Prelude.{Ok, Err}
-use Rattle.std.proofs.Common.{inl, inr, ⊎_elim, refl, sym, ◌∙◌, ap, subst, arith}
+use Rattle.mt_plock.specs.declared.guards.PageLock.{PageLock}
+use Rattle.std.proofs.Common.{List, inl, inr, ⊎_elim, refl, sym, ◌∙◌, ap, subst, arith}
 use Rattle.std.proofs.lemmas.Result.{err_from_is_err_and}
 use Rattle.std.proofs.Math.ListN.{get_or}
 use Rattle.mt_file.specs.declared.rooms.Rooms.{Rooms}
@@ -32,11 +33,13 @@ pub bring-requires-clause-kept : goal.bring-requires-clause-kept
 bring-requires-clause-kept g c = (known g.D.Device.seen g.D.Device.may_leave c.args.self.now c.args.scope.now c.requires.right).kept
 
 pub bring-requires-clause-inside : goal.bring-requires-clause-inside
-bring-requires-clause-inside g c = let k = known g.D.Device.seen g.D.Device.may_leave c.args.self.now c.args.scope.now c.requires.right in let inside = c.requires.next.inside in
+bring-requires-clause-inside g c = let k = known g.D.Device.seen g.D.Device.may_leave c.args.self.now c.args.scope.now c.requires.right in let inside = c.requires.next.unseen.inside in
     omega (arith, k.total, inside)
 
 pub look-requires-clause-next : goal.look-requires-clause-next
-look-requires-clause-next g c = subst (λ (x : Rooms). IsToLook x.0 c.args.scope.now c.args.page c.args.mode) (sym c.bring.ensures.rooms) c.requires.next
+look-requires-clause-next g c = let f = c.bring.ensures in
+    subst (λ (x : Rooms). IsToLook x c.bring.new.self.locks c.args.scope.now c.args.page c.args.mode) (sym f.rooms)
+    (subst (λ (ls : List PageLock). IsToLook c.args.self.now.rooms ls c.args.scope.now c.args.page c.args.mode) (sym f.locks) c.requires.next)
 
 pub look-requires-clause-led : goal.look-requires-clause-led
 look-requires-clause-led g c = ⊎_elim inl (λ led. inr (led.0, led.1, ap (λ m. get_or m.kinds c.args.page 0) c.bring.ensures.map ∙ led.2)) c.requires.led

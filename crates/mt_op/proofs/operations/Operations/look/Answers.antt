@@ -49,14 +49,14 @@ returns-in-Went-clause-goes g c = λ opening relations counters right k.
     let h = subst (IsHeld w z m c.hold.new.scope c.args.page c.args.mode) went held in
     let u = record c.hold.new.scope { room = c.args.room; seen = c.put.new.self } in
     let bytes : c.view.result.now ≡ w.present c.args.page = c.view.ensures (seen c.hold.new.self.store.device) ∙ ap (λ (x : Store g.row.D.Denot). view x.pool (seen x.device) c.args.page) f.store in
-    let new : looked m c.args.page ≡ None = ap (λ (cs : List PageCopy). copied cs c.args.page) c.reserve.ensures.same ∙ c.requires.next.new in (
+    let new : looked m c.args.page ≡ None = ap (λ (cs : List PageCopy). copied cs c.args.page) c.reserve.ensures.same ∙ c.requires.next.unseen.new in (
       asked_right seen g.D.Device.may_leave opening relations counters c.args.self.now c.hold.new.self m c.hold.new.scope c.args.page c.args.mode c.hold.result right km c.requires.planning held f.store f.map f.rooms,
       goes_since relations counters w z s m u stays.plan.op (locks_goes relations counters w z m c.hold.new.scope u c.args.page c.args.mode h.0 c.requires.planning h.1
           (record { txn = refl; number = refl; op = refl; undoes = refl; split = refl; total = c.put.ensures.total }) refl refl
           (c.put.ensures.put ∙ ap (λ (b : List ℕ). c.hold.new.scope.seen.list.items ++ record { page = c.args.page; bytes = b } ∷ []) bytes) refl refl
           (⊎_elim inl (λ led. inr (led.0, led.1, ap (λ (m : List ℕ). get_or m c.args.page 0) (sym right.map) ∙ led.2)) c.requires.led)
           (there_whole c.args.self.now.store.pool (seen c.args.self.now.store.device) c.args.page right.kept.frames c.requires.there)
-          new (subst (λ (n : ℕ). c.args.page < n) k.total c.requires.next.inside) right.sound km),
+          new (subst (λ (n : ℕ). c.args.page < n) k.total c.requires.next.unseen.inside) right.sound km),
     )
 
 pub returns-in_default-clause-goes : goal.returns-in_default-clause-goes
@@ -96,7 +96,7 @@ returns-in-Went-clause-work g c = let opening : PageBytes = λ p. [] in
     let h = subst (IsHeld w z m c.hold.new.scope c.args.page c.args.mode) (c.in_ok-other.was ∙ ap Ok c.in-Went.is) (c.hold.ensures.held opening) in
     let copy : PageCopy = record { page = c.args.page; bytes = c.view.result.now } in
     locks_work s (record c.hold.new.scope { room = c.args.room; seen = c.put.new.self }) c.args.page c.args.mode c.view.result.now _ c.requires.planning h.1.stage (c.put.ensures.total ∙ h.1.op.total ∙ c.reserve.ensures.total) h.1.guards
-    (c.put.ensures.put ∙ ap (λ (cs : List PageCopy). cs ++ copy ∷ []) (h.1.seen ∙ c.reserve.ensures.same)) c.requires.led c.requires.next.new c.requires.next.inside
+    (c.put.ensures.put ∙ ap (λ (cs : List PageCopy). cs ++ copy ∷ []) (h.1.seen ∙ c.reserve.ensures.same)) c.requires.led c.requires.next.unseen.new c.requires.next.unseen.inside
 
 pub returns-in_default-clause-work : goal.returns-in_default-clause-work
 returns-in_default-clause-work g c = let opening : PageBytes = λ p. [] in
@@ -112,28 +112,28 @@ returns-in_err-other-clause-locks g c = let opening : PageBytes = λ p. [] in
     let seen = g.D.Device.seen in let s = c.args.scope.now in
     let p = err_from_is_err_and c.from_residual-in_err-other.result c.from_residual-in_err-other.ensures.1 in
     let h = subst (IsHeld (world seen opening c.args.self.now) (world seen opening c.hold.new.self) (record s { seen = c.reserve.new.self }) c.hold.new.scope c.args.page c.args.mode) c.in_err-other.was (c.hold.ensures.held opening) in
-    err_keeps s.number (IsNext c.args.self.now.rooms.0 s) c.args.self.now.locks c.hold.new.self.locks c.from_residual-in_err-other.result p.0 p.1 h.0.locks
+    err_keeps s.number (IsNext c.args.self.now.rooms c.args.self.now.locks s) c.args.self.now.locks c.hold.new.self.locks c.from_residual-in_err-other.result p.0 p.1 h.0.locks
 
 pub returns-in_err-reserve-clause-locks : goal.returns-in_err-reserve-clause-locks
 returns-in_err-reserve-clause-locks g c =
     let p = err_from_is_err_and c.from_residual.result c.from_residual.ensures.1 in
-    err_keeps c.args.scope.now.number (IsNext c.args.self.now.rooms.0 c.args.scope.now) c.args.self.now.locks c.args.self.now.locks c.from_residual.result p.0 p.1 refl
+    err_keeps c.args.scope.now.number (IsNext c.args.self.now.rooms c.args.self.now.locks c.args.scope.now) c.args.self.now.locks c.args.self.now.locks c.from_residual.result p.0 p.1 refl
 
 pub returns-in_default-clause-locks : goal.returns-in_default-clause-locks
 returns-in_default-clause-locks g c = let opening : PageBytes = λ p. [] in
     let seen = g.D.Device.seen in let s = c.args.scope.now in let m = record s { seen = c.reserve.new.self } in
     let w = world seen opening c.args.self.now in let z = world seen opening c.hold.new.self in
-    held_keeps (IsNext c.args.self.now.rooms.0 s) w z m c.hold.new.scope c.args.page c.args.mode (Ok c.in_ok-other.other) (inl c.requires.next) (subst (IsHeld w z m c.hold.new.scope c.args.page c.args.mode) c.in_ok-other.was (c.hold.ensures.held opening))
+    held_keeps (IsNext c.args.self.now.rooms c.args.self.now.locks s) w z m c.hold.new.scope c.args.page c.args.mode (Ok c.in_ok-other.other) (inl c.requires.next) (subst (IsHeld w z m c.hold.new.scope c.args.page c.args.mode) c.in_ok-other.was (c.hold.ensures.held opening))
 
 pub returns-in-Went-clause-locks : goal.returns-in-Went-clause-locks
 returns-in-Went-clause-locks g c = let opening : PageBytes = λ p. [] in
     let seen = g.D.Device.seen in let s = c.args.scope.now in let m = record s { seen = c.reserve.new.self } in
     let w = world seen opening c.args.self.now in let z = world seen opening c.hold.new.self in
     let went : c.hold.result ≡ Ok stepped.Went = c.in_ok-other.was ∙ ap Ok c.in-Went.is in
-    held_keeps (IsNext c.args.self.now.rooms.0 s) w z m c.hold.new.scope c.args.page c.args.mode (Ok stepped.Went) (inl c.requires.next) (subst (IsHeld w z m c.hold.new.scope c.args.page c.args.mode) went (c.hold.ensures.held opening))
+    held_keeps (IsNext c.args.self.now.rooms c.args.self.now.locks s) w z m c.hold.new.scope c.args.page c.args.mode (Ok stepped.Went) (inl c.requires.next) (subst (IsHeld w z m c.hold.new.scope c.args.page c.args.mode) went (c.hold.ensures.held opening))
 
 pub returns-in-Went-clause-scope : goal.returns-in-Went-clause-scope
-returns-in-Went-clause-scope g c = room_kept c.args.scope.now (record c.hold.new.scope { room = c.args.room; seen = c.put.new.self }) c.args.room c.args.page c.args.mode _ refl c.requires.led c.requires.unled c.requires.next.new
+returns-in-Went-clause-scope g c = room_kept c.args.scope.now (record c.hold.new.scope { room = c.args.room; seen = c.put.new.self }) c.args.room c.args.page c.args.mode _ refl c.requires.led c.requires.unled c.requires.next.unseen.new
 
 pub returns-in_err-reserve-clause-scope : goal.returns-in_err-reserve-clause-scope
 returns-in_err-reserve-clause-scope g c = let s = c.args.scope.now in let f = c.reserve.ensures in

@@ -26,19 +26,19 @@ loop-guard-preserved g c =
           let room = w.room_after-room.result in
           let there : looked s c.lock-page.result.page ≡ Some w.in-Some.before.now = w.in-Some.ensures.some in
           let some : IsSome (looked s c.lock-page.result.page) = some_is (looked s c.lock-page.result.page) w.in-Some.before.now there in
-          let inside : c.lock-page.result.page < length old.rooms.0 = subst (λ (n : ℕ). c.lock-page.result.page < n) (sym before.rooms) (c.requires.inside c.lock-page.result.page some) in
-          let rooms : c.match-page.self.rooms.0 ≡ set old.rooms.0 c.lock-page.result.page room = ap (λ (o : Operations g.row.D.Denot). o.rooms.0) w.self-is ∙ w.noted.ensures.fits in
+          let inside : c.lock-page.result.page < length old.rooms = subst (λ (n : ℕ). c.lock-page.result.page < n) (sym before.rooms) (c.requires.inside c.lock-page.result.page some) in
+          let rooms : c.match-page.self.rooms ≡ set old.rooms c.lock-page.result.page room = ap (λ (o : Operations g.row.D.Denot). o.rooms) w.self-is ∙ w.noted.ensures.fits in
           record {
             store = ap (λ (o : Operations g.row.D.Denot). o.store) w.self-is ∙ before.store;
             locks = ap (λ (o : Operations g.row.D.Denot). o.locks) w.self-is ∙ before.locks;
             map = ap (λ (o : Operations g.row.D.Denot). o.map) w.self-is ∙ before.map;
             rooms = ap (λ (xs : List ℕ). length xs) rooms ∙ length-set _ _ _ ∙ before.rooms;
             others = λ p none. ap (λ (xs : List ℕ). get_or xs p 0) rooms
-                ∙ get_or-set_other old.rooms.0 c.lock-page.result.page p room 0 (λ same. absurd (let never : None ≡ Some w.in-Some.before.now = sym none ∙ ap (looked s) same ∙ there in cc)) ∙ before.others p none;
+                ∙ get_or-set_other old.rooms c.lock-page.result.page p room 0 (λ same. absurd (let never : None ≡ Some w.in-Some.before.now = sym none ∙ ap (looked s) same ∙ there in cc)) ∙ before.others p none;
             noted = λ pages agrees short.
                 let bytes = agrees c.lock-page.result.page w.in-Some.before.now there in
-                subst (λ (xs : List ℕ). AreNoted s (i + 1) c.args.self.now.map.kinds xs pages) (sym (rooms ∙ ap (λ (p : ℕ). set old.rooms.0 p room) page))
-                (noted_here s c.args.self.now.map.kinds pages i d lt is old.rooms.0 (before.noted pages agrees short) room (subst (λ (p : ℕ). p < length old.rooms.0) page inside)
+                subst (λ (xs : List ℕ). AreNoted s (i + 1) c.args.self.now.map.kinds xs pages) (sym (rooms ∙ ap (λ (p : ℕ). set old.rooms p room) page))
+                (noted_here s c.args.self.now.map.kinds pages i d lt is old.rooms (before.noted pages agrees short) room (subst (λ (p : ℕ). p < length old.rooms) page inside)
                 (subst (λ (p : ℕ). IsRoom (get_or c.args.self.now.map.kinds p 0) (after (changes_in s) pages p) room) page (record {
                   records = λ kind. w.room_after-room.ensures.records pages bytes short (ap (λ (m : SpaceMap). get_or m.kinds c.lock-page.result.page 0) before.map ∙ kind);
                   others = λ kind. w.room_after-room.ensures.others (λ e. kind (ap (λ (m : SpaceMap). get_or m.kinds c.lock-page.result.page 0) (sym before.map) ∙ e));
@@ -49,10 +49,10 @@ loop-guard-preserved g c =
             store = ap (λ (o : Operations g.row.D.Denot). o.store) w.self-is ∙ before.store;
             locks = ap (λ (o : Operations g.row.D.Denot). o.locks) w.self-is ∙ before.locks;
             map = ap (λ (o : Operations g.row.D.Denot). o.map) w.self-is ∙ before.map;
-            rooms = ap (λ (o : Operations g.row.D.Denot). length o.rooms.0) w.self-is ∙ before.rooms;
-            others = λ p none. ap (λ (o : Operations g.row.D.Denot). get_or o.rooms.0 p 0) w.self-is ∙ before.others p none;
-            noted = λ pages agrees short. subst (λ (o : Operations g.row.D.Denot). AreNoted s (i + 1) c.args.self.now.map.kinds o.rooms.0 pages) (sym w.self-is)
-                (noted_none s c.args.self.now.map.kinds pages i d lt is old.rooms.0 (before.noted pages agrees short) (sym (ap (looked s) page) ∙ w.in_default.ensures.none));
+            rooms = ap (λ (o : Operations g.row.D.Denot). length o.rooms) w.self-is ∙ before.rooms;
+            others = λ p none. ap (λ (o : Operations g.row.D.Denot). get_or o.rooms p 0) w.self-is ∙ before.others p none;
+            noted = λ pages agrees short. subst (λ (o : Operations g.row.D.Denot). AreNoted s (i + 1) c.args.self.now.map.kinds o.rooms pages) (sym w.self-is)
+                (noted_none s c.args.self.now.map.kinds pages i d lt is old.rooms (before.noted pages agrees short) (sym (ap (looked s) page) ∙ w.in_default.ensures.none));
           }
     ]
 

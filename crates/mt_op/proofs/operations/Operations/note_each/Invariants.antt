@@ -9,7 +9,7 @@ invariant-loop-guard g l = record {
   store : l.self.store ≡ l.fn.self.store;
   locks : l.self.locks ≡ l.fn.self.locks;
   map : l.self.map ≡ l.fn.self.map;
-  rooms : length l.self.rooms.0 ≡ length l.fn.self.rooms.0;
-  others : (p : ℕ) → looked l.scope p ≡ None → get_or l.self.rooms.0 p 0 ≡ get_or l.fn.self.rooms.0 p 0;
-  noted : (pages : PageBytes) → Agrees (looked l.scope) pages → AreShort (changes_in l.scope) pages → AreNoted l.scope l.guard-index l.fn.self.map.kinds l.self.rooms.0 pages;
+  rooms : length l.self.rooms ≡ length l.fn.self.rooms;
+  others : (p : ℕ) → looked l.scope p ≡ None → get_or l.self.rooms p 0 ≡ get_or l.fn.self.rooms p 0;
+  noted : (pages : PageBytes) → Agrees (looked l.scope) pages → AreShort (changes_in l.scope) pages → AreNoted l.scope l.guard-index l.fn.self.map.kinds l.self.rooms pages;
 }

@@ -56,18 +56,18 @@ fits-room-requires g c = shaped_of c.view.result.now (∥∥₁_map c.requires.g
 
 pub noted-requires : goal.noted-requires
 noted-requires g c =
-    let blank : length c.args.self.now.rooms.0 ≡ pages c.args.self.now.store.pool = ap (λ (xs : List ℕ). length xs) c.requires.blank ∙ length-replicate _ _ in
-    let size = c.loop-number.invariant.size in let same : length c.bring.new.self.rooms.0 ≡ length c.loop-number.self.rooms.0 = ap (λ (x : Rooms). length x.0) c.bring.ensures.rooms in
+    let blank : length c.args.self.now.rooms ≡ pages c.args.self.now.store.pool = ap (λ (xs : List ℕ). length xs) c.requires.blank ∙ length-replicate _ _ in
+    let size = c.loop-number.invariant.size in let same : length c.bring.new.self.rooms ≡ length c.loop-number.self.rooms = ap (λ (x : Rooms). length x) c.bring.ensures.rooms in
     let all = c.count-count.ensures in let below = c.loop-number-test.true in let is = c.new-page.ensures in omega arith
 
 pub loop-number-init : goal.loop-number-init
 loop-number-init g c =
-    let o = c.args.self.now in let rooms : o.rooms.0 ≡ replicate (pages o.store.pool) 0 = c.requires.blank in
+    let o = c.args.self.now in let rooms : o.rooms ≡ replicate (pages o.store.pool) 0 = c.requires.blank in
     record {
       read = read_none g.D.Device.seen g.D.Device.may_leave g.D.Device.moment g.D.Device.left_since g.met.D.Device.only_now o.store;
       noted = λ opening shows p below. absurd (omega arith);
       blank = λ p above below.
-          let size : length o.rooms.0 ≡ pages o.store.pool = ap (λ (xs : List ℕ). length xs) rooms ∙ length-replicate _ _ in
+          let size : length o.rooms ≡ pages o.store.pool = ap (λ (xs : List ℕ). length xs) rooms ∙ length-replicate _ _ in
           ap (λ (xs : List ℕ). get_or xs p 0) rooms ∙ get_or-replicate (pages o.store.pool) p 0 0 (omega (arith, size, below));
       size = refl;
       locks = refl;
@@ -79,10 +79,10 @@ pub loop-number-preserved : goal.loop-number-preserved
 loop-number-preserved g c =
     let d = g.D.Device in let o = c.args.self.now in let l = c.loop-number.self in let n = c.loop-number.number in
     let before = c.loop-number.invariant in
-    let blank : length o.rooms.0 ≡ pages o.store.pool = ap (λ (xs : List ℕ). length xs) c.requires.blank ∙ length-replicate _ _ in
+    let blank : length o.rooms ≡ pages o.store.pool = ap (λ (xs : List ℕ). length xs) c.requires.blank ∙ length-replicate _ _ in
     let size = before.size in
     let below = c.loop-number-test.true in let all = c.count-count.ensures in
-    let inside : n < length l.rooms.0 = omega (arith, size, below, blank, all) in
+    let inside : n < length l.rooms = omega (arith, size, below, blank, all) in
     let within : n < pages o.store.pool = omega (arith, below, all) in
     let from : c.from.result ≡ n = c.from.ensures in
     let page : c.new-page.result ≡ n = c.new-page.ensures in
@@ -93,7 +93,7 @@ loop-number-preserved g c =
           subst Noted (sym w.self-is)
           (noted_page d.seen d.may_leave d.moment d.left_since d.faults o l n before inside m w.noted.new.self w.fits-room.result (read_brought d.seen d.may_leave d.moment d.left_since l m b.kept b.rests b.moments b.log b.place b.flush) b.locks b.map b.rooms (unfailed _ _ w.bring.result _ b.cause w.in_ok-bring.was)
           within (ap (λ (p : ℕ). get_or l.map.kinds p 0) (sym from) ∙ w.if-self-from-eq-RECORDS.true)
-          (w.noted.ensures.fits ∙ ap (λ (p : ℕ). set m.rooms.0 p w.fits-room.result) page)
+          (w.noted.ensures.fits ∙ ap (λ (p : ℕ). set m.rooms p w.fits-room.result) page)
           (w.fits-room.ensures ∙ ap (λ (bytes : List ℕ). fits_of bytes) (w.view.ensures (d.seen m.store.device)) ∙ ap (λ (p : ℕ). fits_of (view m.store.pool (d.seen m.store.device) p)) page))
       | else-self-from-eq-RECORDS w ↦
           elim w.else-self-from-eq-RECORDS.branch [
@@ -110,9 +110,9 @@ loop-number-preserved g c =
 pub returns-clause-noted : goal.returns-clause-noted
 returns-clause-noted g c =
     let d = g.D.Device in let o = c.args.self.now in let l = c.loop-number.self in
-    let blank : length o.rooms.0 ≡ pages o.store.pool = ap (λ (xs : List ℕ). length xs) c.requires.blank ∙ length-replicate _ _ in
+    let blank : length o.rooms ≡ pages o.store.pool = ap (λ (xs : List ℕ). length xs) c.requires.blank ∙ length-replicate _ _ in
     let past = c.loop-number-test.false in let within = c.loop-number.auto.number-end in let all = c.count-count.ensures in
-    let last : c.loop-number.number ≡ length o.rooms.0 = omega (arith, past, within, blank, all) in
+    let last : c.loop-number.number ≡ length o.rooms = omega (arith, past, within, blank, all) in
     let done = subst (IsNotedTo d.seen d.may_leave d.moment d.left_since d.faults o l) last c.loop-number.invariant in
     record {
       read = done.read;

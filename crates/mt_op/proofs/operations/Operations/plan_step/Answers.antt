@@ -38,14 +38,13 @@ pub returns-in_ok-stepped-in-Lock : goal.returns-in_ok-stepped-in-Lock
 returns-in_ok-stepped-in-Lock g c = let d = g.D.Device in let o = c.args.self.now in let s = c.args.scope.now in let n = c.lock_next.new.self in let t = c.lock_next.new.scope in
     locked_some d.seen d.may_leave d.moment d.left_since d.faults o n s t c.requires.planning _ c.requires.budget (subst (LocksPage d.seen d.may_leave d.moment d.left_since d.faults o n s t) c.in_ok-stepped-in-Lock.was c.lock_next.ensures)
 
-pub lock_next-requires-clause-next : goal.lock_next-requires-clause-next
-lock_next-requires-clause-next g c = let s = c.args.scope.now in
+pub lock_next-requires-clause-unseen : goal.lock_next-requires-clause-unseen
+lock_next-requires-clause-unseen g c = let s = c.args.scope.now in
     let l = subst (λ (a : Act). IfLock a (λ p mode. (looked s p ≡ None) × (p < s.seen.total))) c.in-Lock.is c.in_ok-page.ensures.lock in
     record {
       new = l.0;
       inside = l.1;
       reads = λ is. subst (λ (a : Act). IfLock a (λ p mode. mode ≡ Read)) c.in-Lock.is (c.in_ok-page.ensures.mode (reading_of s.op is));
-      asked = inl (subst (λ (a : Act). IfLock a (AsksFor (looked s) s.room s.seen.total s.split s.op)) c.in-Lock.is c.in_ok-page.ensures.asks);
     }
 
 pub lock_next-requires-clause-asked : goal.lock_next-requires-clause-asked

@@ -25,7 +25,7 @@ returns-clause-work g c =
 
 pub returns-clause-locks : goal.returns-clause-locks
 returns-clause-locks g c = let opening : PageBytes = λ p. [] in let seen = g.D.Device.seen in
-    held_keeps (IsNext c.args.self.now.rooms.0 c.args.scope.now) (world seen opening c.args.self.now) (world seen opening c.hold.new.self) c.args.scope.now c.hold.new.scope c.args.page Write c.hold.result (inr c.requires.next) (c.hold.ensures.held opening)
+    held_keeps (IsNext c.args.self.now.rooms c.args.self.now.locks c.args.scope.now) (world seen opening c.args.self.now) (world seen opening c.hold.new.self) c.args.scope.now c.hold.new.scope c.args.page Write c.hold.result (inr c.requires.next) (c.hold.ensures.held opening)
 
 pub returns-clause-scope : goal.returns-clause-scope
 returns-clause-scope g c = let opening : PageBytes = λ p. [] in let seen = g.D.Device.seen in let s = c.args.scope.now in

@@ -1,5 +1,6 @@
 -- The program's command line, in the words of the crate that reads it.
 use Rattle.std.specs.Prelude.{ℕ, ◌≡◌, ◌≢◌, ◌⊎◌, Any, Bool, true, false, codes, List, [], Option, Some, None, map, option_map, string_bytes, unwrap_or}
+use Rattle.mt_base.specs.declared.limits.TheConstants.{MAX_FRAMES, MIN_FRAMES}
 use Rattle.clap.specs.Words.{App, Row, app_of, Rule, Text, new_app, new_rule, with_rule, with_subcommand, all_of, first_of, one_of, rule_of, subcommand_of, takes, kind_of, HasKind, IsAmong, Kinds, fault_of}
 use Rattle.clap.specs.declared.builder.action.ArgAction.TheVariants.{Append, SetTrue}
 use Rattle.clap.specs.declared.builder.arg.Arg.{Arg}
@@ -143,11 +144,11 @@ IsMisspelledAt rows = IsNoCount (text_at (codes "pages") rows) ⊎ IsNoCount (te
 -- so many frames are asked for: 256 where none are
 abbrev pub AreFrames : Option Text → ℕ → Type 0
 AreFrames None n = n ≡ 256
-AreFrames (Some word) n = SpellsWithin 32 4096 word n
+AreFrames (Some word) n = SpellsWithin MIN_FRAMES MAX_FRAMES word n
 
 abbrev pub AreNoFrames : Option Text → Type 0
 AreNoFrames None = ⊥
-AreNoFrames (Some word) = IsNoneWithin 32 4096 word
+AreNoFrames (Some word) = IsNoneWithin MIN_FRAMES MAX_FRAMES word
 
 -- the names of the scripts
 abbrev pub scripts_at : List Row → List Text

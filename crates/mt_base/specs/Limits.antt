@@ -1,46 +1,47 @@
 -- What lies within the limits.
 use Rattle.std.specs.Prelude.{ℕ, ℤ, ◌+◌, ◌*◌, ◌≤◌, ◌⊎◌, ◌≤ℤ◌, neg_ℤ, pos, List, length}
+use Rattle.mt_base.specs.declared.limits.TheConstants.{MASTER_BYTES, MAX_AREA_MIB, MAX_BOUND, MAX_COUNTERS, MAX_FRAMES, MAX_KEY_BYTES, MAX_PAGES, MAX_RELATIONS, MAX_SESSIONS, MAX_STEP, MAX_VALUE_BYTES, MAX_WORKERS, MIB_BYTES, MIN_AREA_MIB, MIN_FRAMES, MIN_PAGES, PAGE_BYTES}
 
 -- a key of 1 to 64 bytes
 abbrev pub IsKey : List ℕ → Type 0
-IsKey key = (1 ≤ length key) × (length key ≤ 64)
+IsKey key = (1 ≤ length key) × (length key ≤ MAX_KEY_BYTES)
 
 -- a value of at most 1024 bytes
 abbrev pub IsValue : List ℕ → Type 0
-IsValue value = length value ≤ 1024
+IsValue value = length value ≤ MAX_VALUE_BYTES
 
 -- a step up or down, of a size from 1 to 10^12
 abbrev pub IsStep : ℤ → Type 0
 IsStep step =
-    ((pos 1 ≤ℤ step) × (step ≤ℤ pos 1000000000000))
-    ⊎ ((neg_ℤ (pos 1000000000000) ≤ℤ step) × (step ≤ℤ neg_ℤ (pos 1)))
+    ((pos 1 ≤ℤ step) × (step ≤ℤ pos MAX_STEP))
+    ⊎ ((neg_ℤ (pos MAX_STEP) ≤ℤ step) × (step ≤ℤ neg_ℤ (pos 1)))
 
 -- a counter's low and high bound and its start, all within 10^15 of zero and in order
 abbrev pub IsCounter : ℤ → ℤ → ℤ → Type 0
 IsCounter low high start =
-    (neg_ℤ (pos 1000000000000000) ≤ℤ low) × (low ≤ℤ start) × (start ≤ℤ high) × (high ≤ℤ pos 1000000000000000)
+    (neg_ℤ MAX_BOUND ≤ℤ low) × (low ≤ℤ start) × (start ≤ℤ high) × (high ≤ℤ MAX_BOUND)
 
 abbrev pub IsPageCount : ℕ → Type 0
-IsPageCount pages = (16 ≤ pages) × (pages ≤ 4000)
+IsPageCount pages = (MIN_PAGES ≤ pages) × (pages ≤ MAX_PAGES)
 
 abbrev pub IsAreaSize : ℕ → Type 0
-IsAreaSize mib = (4 ≤ mib) × (mib ≤ 64)
+IsAreaSize mib = (MIN_AREA_MIB ≤ mib) × (mib ≤ MAX_AREA_MIB)
 
 abbrev pub IsRelationCount : ℕ → Type 0
-IsRelationCount relations = (1 ≤ relations) × (relations ≤ 64)
+IsRelationCount relations = (1 ≤ relations) × (relations ≤ MAX_RELATIONS)
 
 abbrev pub IsCounterCount : ℕ → Type 0
-IsCounterCount counters = counters ≤ 128
+IsCounterCount counters = counters ≤ MAX_COUNTERS
 
 abbrev pub IsFrameCount : ℕ → Type 0
-IsFrameCount frames = (32 ≤ frames) × (frames ≤ 4096)
+IsFrameCount frames = (MIN_FRAMES ≤ frames) × (frames ≤ MAX_FRAMES)
 
 abbrev pub IsWorkerCount : ℕ → Type 0
-IsWorkerCount workers = (1 ≤ workers) × (workers ≤ 16)
+IsWorkerCount workers = (1 ≤ workers) × (workers ≤ MAX_WORKERS)
 
 abbrev pub IsSessionCount : ℕ → Type 0
-IsSessionCount sessions = (1 ≤ sessions) × (sessions ≤ 64)
+IsSessionCount sessions = (1 ≤ sessions) × (sessions ≤ MAX_SESSIONS)
 
 -- two master slots, the page slots and two log areas
 abbrev pub device_bytes_of : ℕ → ℕ → ℕ
-device_bytes_of pages mib = 8192 + 4096 * pages + 2 * (mib * 1048576)
+device_bytes_of pages mib = MASTER_BYTES + PAGE_BYTES * pages + 2 * (mib * MIB_BYTES)

@@ -1,6 +1,7 @@
 // A change of a page as ranges of bytes, as short as a log wants them.
 ghost use Rattle.std.specs.Prelude.{◌≡◌, ◌≢◌, ◌+◌, ◌*◌, ◌<◌, ◌≤◌, length, get_or, IfOk, All, IsTrue};
 ghost use Rattle.std.specs.Int.{w64, to_le_bytes};
+ghost use Rattle.mt_base.specs.declared.limits.TheConstants.{PAGE_BYTES};
 ghost use Rattle.mt_base.specs.Ranges.{part, Same};
 ghost use Rattle.mt_base.specs.Edits.{patched, log_size, IsShortest, AreEqual, FirstDiffers, EndsRun, Edited};
 
@@ -29,7 +30,7 @@ pub struct Edit {
 /// edit of the whole page would. No byte differs: no edit. The only error is want of memory.
 pub fn edits_of(alloc: Global, old: &[u8], new: &[u8]) -> Result<Vec<Edit>, AllocError>
     requires same { length old.now ≡ length new.now }
-    requires fits { length old.now ≤ 4096 }
+    requires fits { length old.now ≤ PAGE_BYTES }
     ensures made { IfOk result (λ edits. patched edits.items old.now ≡ new.now) }
     ensures short { IfOk result (λ edits. All (IsShortest old.now new.now) edits.items) }
     ensures size { IfOk result (λ edits. log_size edits.items ≤ 29 + 2 * length old.now) }
@@ -51,7 +52,7 @@ fn step(
     last: usize,
 ) -> Result<usize, AllocError>
     requires same { length old.now ≡ length new.now }
-    requires fits { length old.now ≤ 4096 }
+    requires fits { length old.now ≤ PAGE_BYTES }
     requires so_far { Edited old.now new.now edits.old.items last }
     requires there { last < length old.now }
     ensures edited { IfOk result (λ end. Edited old.now new.now edits.new.items end) }
@@ -73,7 +74,7 @@ fn step(
 // The first place from one on at which a byte differs, or the length.
 fn first_difference(old: &[u8], new: &[u8], from: usize) -> usize
     requires same { length old.now ≡ length new.now }
-    requires fits { length old.now ≤ 4096 }
+    requires fits { length old.now ≤ PAGE_BYTES }
     requires there { from ≤ length old.now }
     ensures { FirstDiffers old.now new.now from result }
 {
@@ -87,7 +88,7 @@ fn first_difference(old: &[u8], new: &[u8], from: usize) -> usize
 // Where the blocks from a place on that are equal end.
 fn equal_blocks(old: &[u8], new: &[u8], from: usize) -> usize
     requires same { length old.now ≡ length new.now }
-    requires fits { length old.now ≤ 4096 }
+    requires fits { length old.now ≤ PAGE_BYTES }
     requires there { from ≤ length old.now }
     ensures { AreEqual old.now new.now from result }
 {
@@ -147,7 +148,7 @@ fn run_end(old: &[u8], new: &[u8], i: usize) -> usize
     requires same { length old.now ≡ length new.now }
     requires there { i < length old.now }
     requires differs { get_or old.now i 0 ≢ get_or new.now i 0 }
-    requires fits { length old.now ≤ 4096 }
+    requires fits { length old.now ≤ PAGE_BYTES }
     ensures { EndsRun old.now new.now i result }
 {
     let mut end = i + 1;

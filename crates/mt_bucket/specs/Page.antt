@@ -1,6 +1,7 @@
 -- A bucket page is a list of entries.
 use Rattle.std.specs.Prelude.{ℕ, zero, suc, ◌≡◌, ◌≤◌, ◌<◌, ◌+◌, ◌*◌, Bool, true, false, List, [], ◌∷◌, length, take, drop, min}
 use Rattle.std.proofs.Math.ListN.{get_or}
+use Rattle.mt_base.specs.declared.limits.TheConstants.{PAGE_BYTES}
 use Rattle.mt_base.specs.Ranges.{u16_at, part}
 use Rattle.mt_bucket.specs.Entries.{Entry, is_at}
 use Rattle.mt_bucket.specs.Hash.{hash, high}
@@ -73,7 +74,7 @@ pub record IsCell (relations pages : ℕ) (page : List ℕ) (at : ℕ) : Type 0 
 
 -- a bucket page of a schema of so many relations and pages
 pub record IsBucket (relations pages : ℕ) (page : List ℕ) : Type 0 where
-  pub length : length page ≡ 4096
+  pub length : length page ≡ PAGE_BYTES
   pub shallow : depth_of page ≤ 9
   pub first_zero : get_or page 1 0 ≡ 0
   pub few : u16_at page 2 ≤ 58

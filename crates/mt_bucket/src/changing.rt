@@ -1,6 +1,7 @@
 // The operations of a bucket page.
 ghost use Rattle.std.specs.Prelude.{ℕ, ◌≡◌, ◌+◌, ◌-◌, ◌*◌, ◌≤◌, ◌<◌, ◌++◌, ◌∷◌, [], length, true, false, not, Some, None, filter};
 ghost use Rattle.std.specs.Bool.{OnTrue, OnFalse};
+ghost use Rattle.mt_base.specs.declared.limits.TheConstants.{PAGE_BYTES};
 ghost use Rattle.mt_base.specs.Ranges.{u16_at as number_at, Torn};
 ghost use Rattle.mt_bucket.specs.Entries.{look, renamed, without};
 ghost use Rattle.mt_bucket.specs.Page.{entry_of, entries, count_of, KeepsHead, goes_over, IsCell, IsBucket, KeepsBucket, TakesCell};
@@ -16,7 +17,7 @@ use mt_base::{RecordName, RelNo};
 /// Puts an entry behind the others and answers true. Where the page has 58 already, it answers false, and
 /// the page is as before. In a page a relation has one byte, and a key at most 64.
 pub fn push(page: &mut [u8], relation: RelNo, key: &[u8], name: RecordName) -> bool
-    requires whole { length page.old ≡ 4096 }
+    requires whole { length page.old ≡ PAGE_BYTES }
     requires relation_fits { relation < 256 }
     requires short { length key.now ≤ 64 }
     ensures head { KeepsHead page.old page.new }
@@ -37,7 +38,7 @@ pub fn push(page: &mut [u8], relation: RelNo, key: &[u8], name: RecordName) -> b
 /// Gives the entry of a relation and a key another record name and answers true. Where there is no such
 /// entry, it answers false, and the page is as before.
 pub fn set(page: &mut [u8], relation: RelNo, key: &[u8], name: RecordName) -> bool
-    requires whole { length page.old ≡ 4096 }
+    requires whole { length page.old ≡ PAGE_BYTES }
     requires short { length key.now ≤ 64 }
     ensures head { KeepsHead page.old page.new }
     ensures set { OnTrue result (entries page.new ≡ renamed relation key.now name (entries page.old)) }
@@ -57,7 +58,7 @@ pub fn set(page: &mut [u8], relation: RelNo, key: &[u8], name: RecordName) -> bo
 /// Takes the entry of a relation and a key out and answers true; the last entry takes its place. Where there
 /// is no such entry, it answers false, and the page is as before.
 pub fn remove(page: &mut [u8], relation: RelNo, key: &[u8]) -> bool
-    requires whole { length page.old ≡ 4096 }
+    requires whole { length page.old ≡ PAGE_BYTES }
     requires short { length key.now ≤ 64 }
     ensures head { KeepsHead page.old page.new }
     ensures removed { OnTrue result (entries page.new ≡ without relation key.now (entries page.old)) }
@@ -75,8 +76,8 @@ pub fn remove(page: &mut [u8], relation: RelNo, key: &[u8]) -> bool
 /// Moves the entries whose hash has a bit, in their order, behind those of another page, which has room
 /// for them; the others stay, in their order.
 pub fn partition(page: &mut [u8], bit: u8, to: &mut [u8])
-    requires whole { length page.old ≡ 4096 }
-    requires to_whole { length to.old ≡ 4096 }
+    requires whole { length page.old ≡ PAGE_BYTES }
+    requires to_whole { length to.old ≡ PAGE_BYTES }
     requires bit { bit < 64 }
     requires room { count_of to.old + count_of page.old ≤ 58 }
     ensures head { KeepsHead page.old page.new }
@@ -98,8 +99,8 @@ pub fn partition(page: &mut [u8], bit: u8, to: &mut [u8])
 
 // Puts a cell behind the others of the page that its hash's bit names.
 fn sort_cell(page: &mut [u8], bit: u8, to: &mut [u8], bytes: &[u8])
-    requires whole { length page.old ≡ 4096 }
-    requires to_whole { length to.old ≡ 4096 }
+    requires whole { length page.old ≡ PAGE_BYTES }
+    requires to_whole { length to.old ≡ PAGE_BYTES }
     requires cell { length bytes.now ≡ 70 }
     requires bit_fits { bit < 64 }
     requires room { count_of page.old < 58 }
@@ -118,7 +119,7 @@ fn sort_cell(page: &mut [u8], bit: u8, to: &mut [u8], bytes: &[u8])
 
 // Puts a cell behind the others.
 fn push_cell(page: &mut [u8], bytes: &[u8])
-    requires whole { length page.old ≡ 4096 }
+    requires whole { length page.old ≡ PAGE_BYTES }
     requires cell { length bytes.now ≡ 70 }
     requires room { count_of page.old < 58 }
     ensures pushed { Pushed (entry_of bytes.now) page.old page.new }
@@ -131,7 +132,7 @@ fn push_cell(page: &mut [u8], bytes: &[u8])
 
 // Moves the last cell into the place of one.
 fn close_gap(page: &mut [u8], i: usize)
-    requires whole { length page.old ≡ 4096 }
+    requires whole { length page.old ≡ PAGE_BYTES }
     requires there { i < count_of page.old }
     ensures closed { Closed i page.old page.new }
     ensures kept { KeepsBucket page.old page.new }

@@ -1,5 +1,6 @@
 // A reading of any bytes: whether they are a bucket page.
 ghost use Rattle.std.specs.Prelude.{◌≡◌, ◌+◌, ◌*◌, ◌<◌, ◌≤◌, ℕ, length, get_or, MatchBool};
+ghost use Rattle.mt_base.specs.declared.limits.TheConstants.{PAGE_BYTES};
 ghost use Rattle.mt_bucket.specs.Page.{IsBucket, IsCell};
 
 use crate::heads::{CELL_BYTES, HEAD_BYTES, MAX_ENTRIES};
@@ -10,7 +11,7 @@ use mt_base::ranges::u16_at;
 /// most 9, at most 58 entries, an overflow page of the device or none, zeros where the head has them, and
 /// each entry with a relation, a key and a page within their limits and zeros behind its key.
 pub fn check(page: &[u8], relations: u16, pages: u16) -> bool
-    requires whole { length page.now ≡ 4096 }
+    requires whole { length page.now ≡ PAGE_BYTES }
     ensures { MatchBool result (IsBucket relations pages page.now) (IsBucket relations pages page.now → ⊥) }
 {
     if page[0] > 9 || page[1] != 0 || u16_at(page, 6) != 0 || u16_at(page, 4) >= pages {
@@ -30,8 +31,8 @@ pub fn check(page: &[u8], relations: u16, pages: u16) -> bool
 
 // Whether the cell at a place is an entry of the schema.
 fn is_cell(page: &[u8], relations: u16, pages: u16, at: usize) -> bool
-    requires whole { length page.now ≡ 4096 }
-    requires within { at + 70 ≤ 4096 }
+    requires whole { length page.now ≡ PAGE_BYTES }
+    requires within { at + 70 ≤ PAGE_BYTES }
     ensures { MatchBool result (IsCell relations pages page.now at) (IsCell relations pages page.now at → ⊥) }
 {
     if u16::from(page[at]) >= relations || u16_at(page, at + 66) >= pages {
@@ -46,8 +47,8 @@ fn is_cell(page: &[u8], relations: u16, pages: u16, at: usize) -> bool
 
 // Whether the bytes behind a key, up to the 64th, are zero.
 fn is_filled(page: &[u8], at: usize, key: usize) -> bool
-    requires whole { length page.now ≡ 4096 }
-    requires within { at + 64 ≤ 4096 }
+    requires whole { length page.now ≡ PAGE_BYTES }
+    requires within { at + 64 ≤ PAGE_BYTES }
     requires short { key ≤ 64 }
     ensures { MatchBool result ((i : ℕ) → key ≤ i → i < 64 → get_or page.now (at + i) 0 ≡ 0) (((i : ℕ) → key ≤ i →
         i < 64 → get_or page.now (at + i) 0 ≡ 0) → ⊥) }

@@ -1,5 +1,6 @@
 // Looking for an entry.
 ghost use Rattle.std.specs.Prelude.{◌≡◌, ◌+◌, ◌*◌, ◌≤◌, ◌<◌, length, get_or, IfSome, IfNone};
+ghost use Rattle.mt_base.specs.declared.limits.TheConstants.{PAGE_BYTES};
 ghost use Rattle.mt_bucket.specs.Entries.{is_at, look};
 ghost use Rattle.mt_bucket.specs.Page.{cell, entry_of, count_of, entries, IsFirst, HasNone};
 
@@ -9,7 +10,7 @@ use mt_base::{PageNo, RecordName, RelNo};
 
 /// The name of the record under a relation and a key; `None` where the page has no entry of them.
 pub fn find(page: &[u8], relation: RelNo, key: &[u8]) -> Option<RecordName>
-    requires whole { length page.now ≡ 4096 }
+    requires whole { length page.now ≡ PAGE_BYTES }
     requires short { length key.now ≤ 64 }
     ensures { result ≡ look relation key.now (entries page.now) }
 {
@@ -32,7 +33,7 @@ pub struct EntryView<'a> {
 
 /// The entry at a place, from 0.
 pub fn entry(page: &[u8], i: usize) -> EntryView<'_>
-    requires whole { length page.now ≡ 4096 }
+    requires whole { length page.now ≡ PAGE_BYTES }
     requires there { i < count_of page.now }
     requires fits { get_or page.now (8 + 70 * i + 1) 0 ≤ 64 }
     ensures is { entry_of (cell page.now
@@ -49,7 +50,7 @@ pub fn entry(page: &[u8], i: usize) -> EntryView<'_>
 
 /// The place of the first entry of a relation and a key, from 0; `None` where the page has none of them.
 pub fn place_of(page: &[u8], relation: RelNo, key: &[u8]) -> Option<usize>
-    requires whole { length page.now ≡ 4096 }
+    requires whole { length page.now ≡ PAGE_BYTES }
     requires short { length key.now ≤ 64 }
     ensures found { IfSome result (λ i. IsFirst relation key.now page.now i) }
     ensures none { IfNone result (HasNone relation key.now page.now) }
@@ -64,8 +65,8 @@ pub fn place_of(page: &[u8], relation: RelNo, key: &[u8]) -> Option<usize>
 
 // Whether the cell at a place is of a relation and a key.
 fn holds(page: &[u8], at: usize, relation: RelNo, key: &[u8]) -> bool
-    requires whole { length page.now ≡ 4096 }
-    requires within { at + 70 ≤ 4096 }
+    requires whole { length page.now ≡ PAGE_BYTES }
+    requires within { at + 70 ≤ PAGE_BYTES }
     requires short { length key.now ≤ 64 }
     ensures { result ≡ is_at relation key.now (entry_of (cell page.now at)) }
 {
@@ -80,8 +81,8 @@ fn holds(page: &[u8], at: usize, relation: RelNo, key: &[u8]) -> bool
 
 // The name in the cell at a place.
 fn name_at(page: &[u8], at: usize) -> RecordName
-    requires whole { length page.now ≡ 4096 }
-    requires within { at + 70 ≤ 4096 }
+    requires whole { length page.now ≡ PAGE_BYTES }
+    requires within { at + 70 ≤ PAGE_BYTES }
     ensures { result ≡ (entry_of (cell page.now at)).name }
 {
     RecordName {

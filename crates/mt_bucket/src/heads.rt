@@ -1,5 +1,6 @@
 // The head of a bucket page.
 ghost use Rattle.std.specs.Prelude.{ℕ, ◌≡◌, ◌≤◌, ◌<◌, [], length};
+ghost use Rattle.mt_base.specs.declared.limits.TheConstants.{PAGE_BYTES};
 ghost use Rattle.mt_base.specs.Ranges.{u16_at as number_at, Torn};
 ghost use Rattle.mt_bucket.specs.Page.{depth_of, count_of, next_of, entries, IsBucket, KeepsBucket};
 
@@ -16,7 +17,7 @@ pub(crate) const CELL_BYTES: usize = 70;
 
 /// How many bits of the hash the bucket's keys share.
 pub fn depth(page: &[u8]) -> u8
-    requires whole { length page.now ≡ 4096 }
+    requires whole { length page.now ≡ PAGE_BYTES }
     ensures { result ≡ depth_of page.now }
 {
     page[0]
@@ -24,7 +25,7 @@ pub fn depth(page: &[u8]) -> u8
 
 /// How many entries the page has.
 pub fn count(page: &[u8]) -> usize
-    requires whole { length page.now ≡ 4096 }
+    requires whole { length page.now ≡ PAGE_BYTES }
     ensures { result ≡ count_of page.now }
 {
     usize::from(u16_at(page, 2)).min(MAX_ENTRIES)
@@ -32,7 +33,7 @@ pub fn count(page: &[u8]) -> usize
 
 /// The overflow page behind this one; page 0 where there is none.
 pub fn next(page: &[u8]) -> PageNo
-    requires whole { length page.now ≡ 4096 }
+    requires whole { length page.now ≡ PAGE_BYTES }
     ensures { result ≡ next_of page.now }
 {
     PageNo::new(u16_at(page, 4))
@@ -40,8 +41,8 @@ pub fn next(page: &[u8]) -> PageNo
 
 /// Makes the bytes a page of this depth without entries and without an overflow page, whatever they were.
 pub fn empty(page: &mut [u8], depth: u8)
-    requires whole { length page.old ≡ 4096 }
-    ensures size { length page.new ≡ 4096 }
+    requires whole { length page.old ≡ PAGE_BYTES }
+    ensures size { length page.new ≡ PAGE_BYTES }
     ensures depth { depth_of page.new ≡ depth }
     ensures next { next_of page.new ≡ 0 }
     ensures entries { entries page.new ≡ [] }
@@ -52,8 +53,8 @@ pub fn empty(page: &mut [u8], depth: u8)
 
 /// Gives the page another depth.
 pub fn set_depth(page: &mut [u8], depth: u8)
-    requires whole { length page.old ≡ 4096 }
-    ensures size { length page.new ≡ 4096 }
+    requires whole { length page.old ≡ PAGE_BYTES }
+    ensures size { length page.new ≡ PAGE_BYTES }
     ensures depth { depth_of page.new ≡ depth }
     ensures next { next_of page.new ≡ next_of page.old }
     ensures entries { entries page.new ≡ entries page.old }
@@ -64,8 +65,8 @@ pub fn set_depth(page: &mut [u8], depth: u8)
 
 /// Gives the page another overflow page.
 pub fn set_next(page: &mut [u8], next: PageNo)
-    requires whole { length page.old ≡ 4096 }
-    ensures size { length page.new ≡ 4096 }
+    requires whole { length page.old ≡ PAGE_BYTES }
+    ensures size { length page.new ≡ PAGE_BYTES }
     ensures depth { depth_of page.new ≡ depth_of page.old }
     ensures next { next_of page.new ≡ next }
     ensures entries { entries page.new ≡ entries page.old }
@@ -77,7 +78,7 @@ pub fn set_next(page: &mut [u8], next: PageNo)
 
 // Sets how many entries the page has.
 pub(crate) fn set_count(page: &mut [u8], count: usize)
-    requires whole { length page.old ≡ 4096 }
+    requires whole { length page.old ≡ PAGE_BYTES }
     requires few { count ≤ 58 }
     ensures number { number_at page.new 2 ≡ count }
     ensures rest { Torn 2 2 page.old page.new }

@@ -1,6 +1,7 @@
 -- Scripts that are served to the device in a file.
 use Rattle.std.specs.Prelude.{ℕ, ◌≡◌, ◌⊎◌, ◌<◌, ◌≤◌, ◌+◌, List, [], ◌∷◌, ◌++◌, length, Bool, true, false, Option, None}
 use Rattle.std.specs.Io.KnownBytes.{Appends, Keeps}
+use Rattle.mt_base.specs.declared.limits.TheConstants.{MAX_SESSIONS}
 use Rattle.mt_base.specs.declared.refusal.Refusal.{Refusal}
 use Rattle.mt_base.specs.declared.refusal.Refusal.TheVariants as refusal
 use Rattle.mt_explain.specs.Listings.{numbered}
@@ -106,7 +107,7 @@ ServesFrom c scripts was now d = IsOnBase c (λ relations counters b. HaveServed
 -- Why scripts were not served to a device of bytes c, which has bytes d now: there are too many, or it is not opened; and else one of them
 -- was cut short.
 pub data AreUnserved (c : List ℕ) (scripts : List (List Line)) (was now : Option (List ℕ)) (d : List ℕ) : Fault → Type 0 where
-  too_many : 64 < length scripts → d ≡ c → Keeps was now → AreUnserved c scripts was now d (Refused refusal.BadLength)
+  too_many : MAX_SESSIONS < length scripts → d ≡ c → Keeps was now → AreUnserved c scripts was now d (Refused refusal.BadLength)
   not_begun : (why : Refusal) → IsBarred c why → StandAs c d → (IsEarly why → d ≡ c) → Keeps was now → AreUnserved c scripts was now d (Refused why)
   cut_among : (why : RunFault) (fault : Fault) → IsOnBase c (λ relations counters b. AreShortOn relations counters b scripts was now why) → fault ≡ fault_of why
       → AreUnserved c scripts was now d fault
@@ -178,7 +179,7 @@ pub record IsServedAtOnce (old new : Files) (file : List ℕ) (scripts : List (L
 -- device did.
 pub data IsUnservedAtOnce (old new : Files) (file : List ℕ) (scripts : List (List Line)) (was now : Option (List ℕ)) : Fault → Type 0 where
   no_device_at_once : (why : Refusal) → IsFileRefusal (known_in old file) why → AreKept old new → Keeps was now → IsUnservedAtOnce old new file scripts was now (Refused why)
-  too_many_at_once : 64 < length scripts → AreKept old new → Keeps was now → IsUnservedAtOnce old new file scripts was now (Refused refusal.BadLength)
+  too_many_at_once : MAX_SESSIONS < length scripts → AreKept old new → Keeps was now → IsUnservedAtOnce old new file scripts was now (Refused refusal.BadLength)
   let_go : (before : List ℕ) (why : Refusal) → IsHeld old file before → IsUnserved before (length scripts) why → IsLent old new file → Keeps was now
       → IsUnservedAtOnce old new file scripts was now (Refused why)
   unheard_at_once : (texts : List (List ℕ)) → AreServedAtOnceIn false old new file scripts texts → AppendsFront was now (texts_in_order texts)

@@ -3,6 +3,7 @@ use Rattle.std.specs.Prelude.{◌≡◌, ℕ, ◌<◌, ◌≤◌, List, [], leng
 use Rattle.std.proofs.Common.{⊎_elim, get_or, sym, ap, ◌∙◌}
 use Rattle.std.proofs.lemmas.Bool.{cases_lt}
 use Rattle.std.proofs.lemmas.Option.{slice_get_past, get_or_from_slice_get}
+use Rattle.mt_base.specs.declared.limits.TheConstants.{PAGE_BYTES}
 use Rattle.mt_space.specs.Changes.{PageBytes, Agrees}
 
 -- the bytes of each page; none past the last one
@@ -10,12 +11,12 @@ abbrev pub copied : List (List ℕ) → PageBytes
 copied pages p = get_or pages p []
 
 abbrev pub AreWhole : List (List ℕ) → Type 0
-AreWhole pages = (p : ℕ) → p < length pages → length (copied pages p) ≡ 4096
+AreWhole pages = (p : ℕ) → p < length pages → length (copied pages p) ≡ PAGE_BYTES
 
 pub copied_at : (pages : List (List ℕ)) → Agrees (λ p. slice_get pages p) (copied pages)
 copied_at pages p bytes there = get_or_from_slice_get pages p bytes [] there
 
-pub copied_whole : (pages : List (List ℕ)) (p : ℕ) (bytes : List ℕ) → AreWhole pages → slice_get pages p ≡ Some bytes → length bytes ≡ 4096
+pub copied_whole : (pages : List (List ℕ)) (p : ℕ) (bytes : List ℕ) → AreWhole pages → slice_get pages p ≡ Some bytes → length bytes ≡ PAGE_BYTES
 copied_whole pages p bytes whole there = ⊎_elim
     (λ (lt : p < length pages). sym (ap length (copied_at pages p bytes there)) ∙ whole p lt)
     (λ (le : length pages ≤ p). let none : None ≡ Some bytes = sym (slice_get_past pages p le) ∙ there in cc)

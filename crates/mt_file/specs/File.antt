@@ -1,5 +1,6 @@
 -- The records of all pages, by their names.
 use Rattle.std.specs.Prelude.{◌≡◌, ◌≢◌, ◌⊎◌, ℕ, ◌==◌, if◌then◌else◌, length, Option, Some, None}
+use Rattle.mt_base.specs.declared.limits.TheConstants.{PAGE_BYTES}
 use Rattle.mt_slots.specs.Page.{Row, slot, IsShaped, Fits}
 use Rattle.mt_space.specs.Changes.{PageBytes}
 use Rattle.mt_space.specs.Kinds.{kind}
@@ -10,7 +11,7 @@ record_in pages p s = if kind pages p == 3 then slot (pages p) s else None
 
 -- the map is whole and no page of records, and each page of records is well formed
 pub record IsFile (pages : PageBytes) : Type 0 where
-  pub whole : length (pages 0) ≡ 4096
+  pub whole : length (pages 0) ≡ PAGE_BYTES
   pub fixed : kind pages 0 ≡ 1
   pub each : (p : ℕ) → kind pages p ≡ 3 → IsShaped (pages p)
 

@@ -1,5 +1,6 @@
 // A record more.
 ghost use Rattle.std.specs.Prelude.{◌≡◌, ◌≢◌, ◌<◌, ◌≤◌, ℕ, List, [], length, get_or, Option, Some, None, IfOk, IsSome, ◌+◌};
+ghost use Rattle.mt_base.specs.declared.limits.TheConstants.{MAX_VALUE_BYTES, PAGE_BYTES};
 ghost use Rattle.mt_base.specs.Limits.{IsKey, IsValue};
 ghost use Rattle.mt_space.specs.Changes.{PageBytes, Agrees, after};
 ghost use Rattle.mt_slots.specs.Page.{Row, IsShaped, slot as held};
@@ -57,7 +58,7 @@ pub(crate) fn put<V: Pages>(
     requires ready { ∥ ((pages : PageBytes) × IsReady (V.at_hand views.now) room pages) ∥₁ }
     requires relation_fits { relation < 256 }
     requires key_fits { length key.now < 256 }
-    requires value_fits { length value.now ≤ 1024 }
+    requires value_fits { length value.now ≤ MAX_VALUE_BYTES }
     ensures put { IfOk result (λ step. (pages : PageBytes) → IsReady (V.at_hand views.now) room
         (after changes.list.items pages) → IsPut (V.at_hand views.now) room
         (V.total views.now) changes.list.items pages
@@ -87,7 +88,7 @@ fn put_into<V: Pages>(
     requires ready { ∥ ((pages : PageBytes) × IsReady (V.at_hand views.now) (Some page) pages) ∥₁ }
     requires relation_fits { relation < 256 }
     requires key_fits { length key.now < 256 }
-    requires value_fits { length value.now ≤ 1024 }
+    requires value_fits { length value.now ≤ MAX_VALUE_BYTES }
     ensures put { IfOk result (λ step. (pages : PageBytes) → IsReady (V.at_hand views.now) (Some page)
         (after changes.list.items pages) → IsPut (V.at_hand views.now) (Some page)
         (V.total views.now) changes.list.items pages
@@ -123,7 +124,7 @@ fn put_new<V: Pages>(
     requires sound { V.is_sound views.now }
     requires relation_fits { relation < 256 }
     requires key_fits { length key.now < 256 }
-    requires value_fits { length value.now ≤ 1024 }
+    requires value_fits { length value.now ≤ MAX_VALUE_BYTES }
     ensures put { IfOk result (λ step. (pages : PageBytes) → IsReady (V.at_hand views.now) None
         (after changes.list.items pages) → IsPut (V.at_hand views.now) None
         (V.total views.now) changes.list.items pages
@@ -156,8 +157,8 @@ fn put_new<V: Pages>(
 
 // The map with another kind of one page.
 pub(crate) fn with_kind(map: &[u8; 4096], page: PageNo, kind: u8) -> [u8; 4096]
-    requires { page < 4096 }
-    ensures whole { length result ≡ 4096 }
+    requires { page < PAGE_BYTES }
+    ensures whole { length result ≡ PAGE_BYTES }
     ensures here { get_or result page 0 ≡ kind }
     ensures others { (p : ℕ) → p ≢ page → get_or result p 0 ≡ get_or map.now p 0 }
 {
@@ -170,7 +171,7 @@ pub(crate) fn with_kind(map: &[u8; 4096], page: PageNo, kind: u8) -> [u8; 4096]
 pub(crate) fn page_of_one(relation: RelNo, key: &[u8], value: &[u8]) -> ([u8; 4096], u16)
     requires relation_fits { relation < 256 }
     requires key_fits { length key.now < 256 }
-    requires value_fits { length value.now ≤ 1024 }
+    requires value_fits { length value.now ≤ MAX_VALUE_BYTES }
     ensures shaped { IsShaped result.0 }
     ensures one { held result.0 result.1 ≡ Some (record { relation = relation; key = key.now; value = value.now }) }
     ensures alone { (s : ℕ) → s ≢ result.1 → held result.0 s ≡ None }

@@ -1,6 +1,7 @@
 // A record with another value.
 ghost use Rattle.std.specs.Prelude.{◌≡◌, ◌≢◌, ◌+◌, ◌<◌, ◌≤◌, ℕ, [], length, Some, IfOk, IsSome, MatchBool};
 ghost use Rattle.std.specs.Bool.{OnTrue, OnFalse};
+ghost use Rattle.mt_base.specs.declared.limits.TheConstants.{MAX_VALUE_BYTES};
 ghost use Rattle.mt_base.specs.Limits.{IsValue};
 ghost use Rattle.mt_space.specs.Changes.{PageBytes, Agrees, after, AreShort, IsUntouched};
 ghost use Rattle.mt_slots.specs.Page.{Row, IsShaped, slot as held, room_of, row_length};
@@ -86,7 +87,7 @@ fn plan_move<V: Pages>(
     requires there { V.at_hand views.now name.page ≡ Some old.now }
     requires good { ∥ ((pages : PageBytes) × (r : Row) × Agrees (V.at_hand views.now) pages × IsFile pages
         × IsNamed room pages × (record_in pages name.page name.slot ≡ Some r)) ∥₁ }
-    requires value_fits { length value.now ≤ 1024 }
+    requires value_fits { length value.now ≤ MAX_VALUE_BYTES }
     requires outgrown { (r : Row) → held old.now name.slot ≡ Some r → room_of old.now + row_length r < row_length
         (record r { value = value.now }) }
     requires other { (r : Row) → held old.now name.slot ≡ Some r → r.value ≢ value.now }
@@ -132,7 +133,7 @@ fn write_whole(
     requires none { changes.list.items ≡ [] }
     requires relation_fits { relation < 256 }
     requires key_fits { length key.now < 256 }
-    requires value_fits { length value.now ≤ 1024 }
+    requires value_fits { length value.now ≤ MAX_VALUE_BYTES }
     ensures page { IfOk result (λ plan. plan.name.page ≡ page) }
     ensures whole { IfOk result (λ plan. (pages : PageBytes) → pages page ≡ old.now →
         IsWhole pages (after plan.changes.list.items pages) page plan.name.slot

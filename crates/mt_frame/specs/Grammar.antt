@@ -3,6 +3,7 @@ use Rattle.std.proofs.Math.ListN.{get_or}
 use Rattle.std.specs.Prelude.{◌≡◌, ◌≢◌, ℕ, ◌+◌, ◌-◌, ◌^◌, ◌<◌, ◌≤◌, List, [], ◌∷◌, ◌++◌, length, Option, Some, None, IsSome, is_some, Bool, if◌then◌else◌}
 use Rattle.std.specs.Int.{Width, w16, w32, w64, to_be_bytes, cast_unsigned}
 use Rattle.std.specs.List.{flat_map, AllByRecursion}
+use Rattle.mt_base.specs.declared.limits.TheConstants.{MAX_COUNTERS, MAX_PAGES, MAX_RELATIONS, PAGE_BYTES}
 use Rattle.mt_base.specs.Limits.{IsKey, IsValue, IsStep}
 use Rattle.mt_frame.specs.declared.records.LoggedOp.{LoggedOp}
 use Rattle.mt_frame.specs.declared.records.LoggedOp.TheVariants.{Insert, Update, Delete, Add}
@@ -65,18 +66,18 @@ abbrev pub IsOp : ℕ → Type 0
 IsOp op = (1 ≤ op) × (op < 2 ^ 64)
 
 abbrev pub IsRelation : ℕ → Type 0
-IsRelation relation = relation < 64
+IsRelation relation = relation < MAX_RELATIONS
 
 abbrev pub IsOperation : LoggedOp → Type 0
 IsOperation (Insert relation key value) = IsRelation relation × IsKey key × IsValue value
 IsOperation (Update relation key value old) = IsRelation relation × IsKey key × IsValue value × IsValue old
 IsOperation (Delete relation key old) = IsRelation relation × IsKey key × IsValue old
-IsOperation (Add counter step) = (counter < 128) × IsStep step
+IsOperation (Add counter step) = (counter < MAX_COUNTERS) × IsStep step
 
 -- a whole page, where there is one
 abbrev pub IsImage : Option (List ℕ) → Type 0
 IsImage None = Unit {0}
-IsImage (Some image) = length image ≡ 4096
+IsImage (Some image) = length image ≡ PAGE_BYTES
 
 abbrev pub last_of : List ℕ → ℕ
 last_of bytes = get_or bytes (length bytes - 1) 0
@@ -99,10 +100,10 @@ pub record IsChange (op : ℕ) (old new : List ℕ) : Type 0 where
 pub record IsPageRecord (txn op page : ℕ) (image : Option (List ℕ)) (start : ℕ) (old new : List ℕ) : Type 0 where
   pub txn_below : txn ≤ 2 ^ 40
   pub op_below : op < 2 ^ 64
-  pub page_below : page < 4000
+  pub page_below : page < MAX_PAGES
   pub whole : IsImage image
   pub same_length : length new ≡ length old
-  pub in_page : start + length old ≤ 4096
+  pub in_page : start + length old ≤ PAGE_BYTES
   pub alone : txn ≡ 0 → IsImageAlone op image start old
   pub change : 1 ≤ txn → IsChange op old new
 

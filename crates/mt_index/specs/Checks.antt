@@ -5,6 +5,7 @@ use Rattle.std.specs.Borrow.{Bor}
 use Rattle.std.specs.Cmp.Lexicographic.{slice_cmp}
 use Rattle.std.specs.Ordering.{nat_cmp, ordering_then}
 use Rattle.std.specs.BTreeMap.{BTreeMap, get_by}
+use Rattle.mt_base.specs.declared.limits.TheConstants.{PAGE_BYTES}
 use Rattle.mt_bucket.specs.Entries.{Entry, is_at, look}
 use Rattle.mt_bucket.specs.Hash.{hash}
 use Rattle.mt_bucket.specs.Page.{depth_of, next_of, count_of, cell, entry_of, entries, IsBucket, IsFirst}
@@ -18,8 +19,8 @@ use Rattle.mt_index.specs.Pages.{depth_in, pointer_at, node_of, AreMap, IsOn, Ar
 -- pages in a row, each whole, and no more than the space map has bytes
 pub record AreWhole (pages : List (List ℕ)) : Type 0 where
   pub some : 2 ≤ length pages
-  pub few : length pages ≤ 4096
-  pub each : (p : ℕ) → p < length pages → length (get_or pages p []) ≡ 4096
+  pub few : length pages ≤ PAGE_BYTES
+  pub each : (p : ℕ) → p < length pages → length (get_or pages p []) ≡ PAGE_BYTES
 
 abbrev pub bytes_of : List (List ℕ) → PageBytes
 bytes_of pages p = get_or pages p []
@@ -34,7 +35,7 @@ pub record IsSound (relations total : ℕ) (pages : PageBytes) : Type 0 where
 
 -- the space map has pages 0 and 1 as fixed ones, and none past the last
 pub record AreKinds (total : ℕ) (pages : PageBytes) : Type 0 where
-  pub few : total ≤ 4096
+  pub few : total ≤ PAGE_BYTES
   pub space_fixed : kind pages 0 ≡ 1
   pub directory_fixed : kind pages 1 ≡ 1
   pub within : (p : ℕ) → kind pages p ≢ 0 → p < total

@@ -1,6 +1,7 @@
 -- An index in the bytes of its pages. Page 0 has the kind of each page, page 1 is the directory.
 use Rattle.std.specs.Prelude.{ℕ, zero, suc, ◌==◌, ◌&&◌, ◌⊎◌, cond, ◌≡◌, ◌≢◌, ◌+◌, ◌*◌, ◌^◌, ◌≤◌, ◌<◌, List, [], ◌∷◌, length, min}
 use Rattle.std.proofs.Math.ListN.{get_or}
+use Rattle.mt_base.specs.declared.limits.TheConstants.{PAGE_BYTES}
 use Rattle.mt_base.specs.Ranges.{u16_at, Torn}
 use Rattle.mt_bucket.specs.Entries.{Entry}
 use Rattle.mt_bucket.specs.Hash.{hash, high}
@@ -40,7 +41,7 @@ pub record AreMap (total : ℕ) (pages : PageBytes) (m : Map) : Type 0 where
   pub space_fixed : kind pages 0 ≡ 1
   pub directory_fixed : kind pages 1 ≡ 1
   pub within : (p : ℕ) → kind pages p ≢ 0 → p < total
-  pub few : total ≤ 4096
+  pub few : total ≤ PAGE_BYTES
 
 -- the pages of the key's bucket before this one are so, and there are so many of them
 pub record Passed (P : ℕ → Type 0) (pages : PageBytes) (key : List ℕ) (at steps : ℕ) : Type 0 where
@@ -56,7 +57,7 @@ AreZero page from to = (i : ℕ) → from ≤ i → i < to → get_or page i 0 �
 
 -- a directory page
 pub record IsDirectory (page : List ℕ) : Type 0 where
-  pub size : length page ≡ 4096
+  pub size : length page ≡ PAGE_BYTES
   pub shallow : get_or page 0 0 ≤ 9
   pub zeros : AreZero page 1 8
   pub rest : (i : ℕ) → 8 + 2 * 2 ^ depth_in page ≤ i → get_or page i 0 ≡ 0
@@ -90,7 +91,7 @@ pub record TakesPage (p : ℕ) (old new : List ℕ) : Type 0 where
 
 -- a page with this entry alone
 pub record HasOne (level : ℕ) (e : Entry) (page : List ℕ) : Type 0 where
-  pub size : length page ≡ 4096
+  pub size : length page ≡ PAGE_BYTES
   pub depth : depth_of page ≡ level
   pub next : next_of page ≡ 0
   pub entries : entries page ≡ e ∷ []
@@ -134,7 +135,7 @@ pub record IsEmpty (total : ℕ) (pages : PageBytes) : Type 0 where
   pub directory_fixed : kind pages 1 ≡ 1
   pub bucket : kind pages 3 ≡ 2
   pub within : (p : ℕ) → kind pages p ≢ 0 → p < total
-  pub few : total ≤ 4096
+  pub few : total ≤ PAGE_BYTES
   pub no_bits : depth_in (pages 1) ≡ 0
   pub pointer : pointer_at (pages 1) 0 ≡ 3
   pub depth : depth_of (pages 3) ≡ 0

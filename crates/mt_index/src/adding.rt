@@ -1,5 +1,6 @@
 // An entry more.
 ghost use Rattle.std.specs.Prelude.{ℕ, ◌≡◌, ◌≤◌, ◌<◌, length, true, IfOk, Bool};
+ghost use Rattle.mt_base.specs.declared.limits.TheConstants.{PAGE_BYTES};
 ghost use Rattle.mt_bucket.specs.Page.{IsBucket};
 ghost use Rattle.mt_index.specs.Rule.{MaySplit};
 ghost use Rattle.mt_index.specs.Pages.{state_of, TakesPage, HasOne};
@@ -83,7 +84,7 @@ pub(crate) fn plan_chain<V: Pages>(
 
 // The map of the space once a page is taken for a bucket.
 pub(crate) fn taken_from(space: &[u8; PAGE_BYTES], page: PageNo) -> [u8; PAGE_BYTES]
-    requires { page < 4096 }
+    requires { page < PAGE_BYTES }
     ensures { TakesPage page space.now result }
 {
     let mut taken = *space;

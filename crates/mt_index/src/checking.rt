@@ -1,5 +1,6 @@
 // A reading of any bytes: whether they are a directory page.
 ghost use Rattle.std.specs.Prelude.{◌≡◌, ◌≤◌, ◌<◌, length, MatchBool};
+ghost use Rattle.mt_base.specs.declared.limits.TheConstants.{PAGE_BYTES};
 ghost use Rattle.mt_index.specs.Pages.{AreZero, IsDirectory};
 
 use crate::directory::{HEAD_BYTES, MAX_DEPTH, POINTER_BYTES};
@@ -9,7 +10,7 @@ use mt_base::limits::PAGE_BYTES;
 /// their number and the pointers are zero, and so are those behind the pointers. That each pointer names a
 /// bucket is no matter of this page alone.
 pub fn check_directory(page: &[u8]) -> bool
-    requires whole { length page.now ≡ 4096 }
+    requires whole { length page.now ≡ PAGE_BYTES }
     ensures { MatchBool result (IsDirectory page.now) (IsDirectory page.now → ⊥) }
 {
     if page[0] > MAX_DEPTH {
@@ -24,8 +25,8 @@ pub fn check_directory(page: &[u8]) -> bool
 
 // Whether the bytes from one place up to another are zero.
 pub(crate) fn are_zero(page: &[u8], from: usize, to: usize) -> bool
-    requires whole { length page.now ≡ 4096 }
-    requires within { to ≤ 4096 }
+    requires whole { length page.now ≡ PAGE_BYTES }
+    requires within { to ≤ PAGE_BYTES }
     ensures { MatchBool result (AreZero page.now from to) (AreZero page.now from to → ⊥) }
 {
     for i in from..to {

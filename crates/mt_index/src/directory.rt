@@ -1,5 +1,6 @@
 // The directory page: a byte for the number of bits that it goes by, and a pointer for each of their values.
 ghost use Rattle.std.specs.Prelude.{◌≡◌, ◌==◌, ◌&&◌, ◌<◌, ◌+◌, ◌*◌, ◌%◌, ◌^◌, cond, length};
+ghost use Rattle.mt_base.specs.declared.limits.TheConstants.{PAGE_BYTES};
 ghost use Rattle.mt_base.specs.Ranges.{Torn};
 ghost use Rattle.mt_bucket.specs.Hash.{high};
 ghost use Rattle.mt_index.specs.Pages.{depth_in, pointer_at, Doubled, Redirected, Rewired};
@@ -19,7 +20,7 @@ pub(crate) const POINTER_BYTES: usize = 2;
 
 /// How many low bits of a hash the directory goes by: at most 9, whatever the page's bytes are.
 pub fn depth(directory: &[u8]) -> u8
-    requires whole { length directory.now ≡ 4096 }
+    requires whole { length directory.now ≡ PAGE_BYTES }
     ensures { result ≡ depth_in directory.now }
 {
     directory[0].min(MAX_DEPTH)
@@ -27,7 +28,7 @@ pub fn depth(directory: &[u8]) -> u8
 
 // The first page of the bucket of a hash.
 pub(crate) fn pointer(directory: &[u8], hash: u64) -> PageNo
-    requires whole { length directory.now ≡ 4096 }
+    requires whole { length directory.now ≡ PAGE_BYTES }
     ensures { result ≡ pointer_at directory.now (hash % 2 ^ depth_in directory.now) }
 {
     let i = (hash % (1u64 << depth(directory))) as usize;
@@ -55,7 +56,7 @@ pub(crate) fn rewired(
 
 // Makes the directory go by a bit more: the pointers are there twice.
 fn double(directory: &mut [u8])
-    requires whole { length directory.old ≡ 4096 }
+    requires whole { length directory.old ≡ PAGE_BYTES }
     requires room { depth_in directory.old < 9 }
     ensures { Doubled directory.old directory.new }
 {
@@ -73,7 +74,7 @@ fn double(directory: &mut [u8])
 
 // Makes the pointers to a page whose numbers have a bit name another.
 fn redirect(directory: &mut [u8], from: PageNo, to: PageNo, bit: u8)
-    requires whole { length directory.old ≡ 4096 }
+    requires whole { length directory.old ≡ PAGE_BYTES }
     requires bit { bit < 64 }
     ensures { Redirected from to bit directory.old directory.new }
 {
@@ -84,7 +85,7 @@ fn redirect(directory: &mut [u8], from: PageNo, to: PageNo, bit: u8)
 
 // Makes one of them do so, if it is to.
 fn redirect_one(directory: &mut [u8], i: u16, from: PageNo, to: PageNo, bit: u8)
-    requires whole { length directory.old ≡ 4096 }
+    requires whole { length directory.old ≡ PAGE_BYTES }
     requires there { i < 512 }
     requires bit { bit < 64 }
     ensures pointer { pointer_at directory.new i ≡ cond (pointer_at directory.old i == from && high bit i) to
@@ -99,7 +100,7 @@ fn redirect_one(directory: &mut [u8], i: u16, from: PageNo, to: PageNo, bit: u8)
 
 // The pointer at a place, from 0.
 pub(crate) fn pointer_of(directory: &[u8], i: usize) -> PageNo
-    requires whole { length directory.now ≡ 4096 }
+    requires whole { length directory.now ≡ PAGE_BYTES }
     requires there { i < 2 ^ depth_in directory.now }
     ensures { result ≡ pointer_at directory.now i }
 {

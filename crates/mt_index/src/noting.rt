@@ -1,4 +1,5 @@
 ghost use Rattle.std.specs.Prelude.{◌≡◌, ◌≢◌, ◌≤◌, ℕ, length, IfOk};
+ghost use Rattle.mt_base.specs.declared.limits.TheConstants.{PAGE_BYTES};
 ghost use Rattle.mt_space.specs.Changes.{PageBytes, after, IsUntouched, AreShort};
 ghost use Rattle.mt_index.specs.Pages.{Turns};
 
@@ -13,8 +14,8 @@ pub(crate) fn change_of(
     old: &[u8],
     new: &[u8],
 ) -> Result<Changes, AllocError>
-    requires old_whole { length old.now ≡ 4096 }
-    requires new_whole { length new.now ≡ 4096 }
+    requires old_whole { length old.now ≡ PAGE_BYTES }
+    requires new_whole { length new.now ≡ PAGE_BYTES }
     ensures turned { IfOk result (λ changes. (pages : PageBytes) → pages page ≡ old.now →
         Turns page new.now pages (after changes.list.items pages)) }
     ensures short { IfOk result (λ changes. (pages : PageBytes) → pages page ≡ old.now →

@@ -1,5 +1,6 @@
 // Whether the directory's pointers name each bucket by its pattern.
 ghost use Rattle.std.specs.Prelude.{◌≡◌, ◌<◌, ◌≤◌, ◌^◌, ℕ, length, MatchBool};
+ghost use Rattle.mt_base.specs.declared.limits.TheConstants.{PAGE_BYTES};
 ghost use Rattle.mt_index.specs.Pages.{depth_in, pointer_at};
 ghost use Rattle.mt_index.specs.Checks.{AreWhole, bytes_of, AreKinds, IsPattern, IsPointer, ArePointers};
 
@@ -41,7 +42,7 @@ fn is_pointer(pages: &[[u8; 4096]], directory: &[u8], i: usize) -> bool
 
 // Whether just the pointers with these low bits name this bucket.
 fn is_pattern(directory: &[u8], i: usize, bucket: PageNo, bits: u8) -> bool
-    requires whole { length directory.now ≡ 4096 }
+    requires whole { length directory.now ≡ PAGE_BYTES }
     requires there { i < 2 ^ depth_in directory.now }
     requires few { bits ≤ 9 }
     ensures { MatchBool result (IsPattern directory.now i bucket bits) (IsPattern directory.now i bucket bits → ⊥) }

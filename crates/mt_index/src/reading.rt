@@ -1,5 +1,6 @@
 // A reading of any pages: whether they are an index.
 ghost use Rattle.std.specs.Prelude.{◌≡◌, ◌+◌, ◌<◌, ◌≤◌, ℕ, [], length, get_or, IfOk, IfSome, MatchBool, MatchOption};
+ghost use Rattle.mt_base.specs.declared.limits.TheConstants.{PAGE_BYTES};
 ghost use Rattle.mt_bucket.specs.Page.{IsBucket};
 ghost use Rattle.mt_space.specs.Kinds.{kind};
 ghost use Rattle.mt_index.specs.Pages.{IsDirectory};
@@ -78,7 +79,7 @@ pub(crate) fn page_at(pages: &[[u8; 4096]], page: PageNo) -> &[u8; 4096]
     requires whole { AreWhole pages.now }
     requires inside { page < length pages.now }
     ensures is { result.now ≡ bytes_of pages.now page }
-    ensures size { length result.now ≡ 4096 }
+    ensures size { length result.now ≡ PAGE_BYTES }
 {
     &pages[usize::from(page.get())]
 }

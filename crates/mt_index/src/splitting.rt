@@ -1,6 +1,7 @@
 // A bucket becomes two (Fagin 1979).
 ghost use Rattle.std.specs.Prelude.{ℕ, ◌≡◌, ◌≢◌, ◌≤◌, ◌<◌, ◌++◌, ◌∷◌, [], length, true, false, IfOk, Some};
 ghost use Rattle.std.specs.Bool.{OnTrue, OnFalse};
+ghost use Rattle.mt_base.specs.declared.limits.TheConstants.{PAGE_BYTES};
 ghost use Rattle.mt_bucket.specs.Hash.{hash as hash_of};
 ghost use Rattle.mt_bucket.specs.Page.{depth_of, count_of, entries, KeepsHead, IsBucket};
 ghost use Rattle.mt_space.specs.Changes.{PageBytes, IsUntouched};
@@ -63,7 +64,7 @@ impl Halves {
 
     // Chains a page behind the one half or the other.
     fn link(&mut self, upper: bool, overflow: PageNo)
-        requires { overflow < 4096 }
+        requires { overflow < PAGE_BYTES }
         ensures { Links upper overflow self.old self.new }
     {
         self.space = taken_from(&self.space, overflow);
@@ -108,7 +109,7 @@ fn halve(
     fresh: PageNo,
 ) -> Halves
     requires shallow { depth_of old.now < 9 }
-    requires inside { fresh < 4096 }
+    requires inside { fresh < PAGE_BYTES }
     ensures { AreHalves bucket fresh space.now directory.now old.now result }
 {
     let (low, up) = parted(old, spare);

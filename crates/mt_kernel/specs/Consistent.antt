@@ -3,6 +3,7 @@ use Rattle.std.specs.Prelude.{ℕ, ◌≡◌, ◌≢◌, ◌<◌, ◌≤◌, ◌
 use Rattle.std.specs.List.{sum_by, list_any}
 use Rattle.std.specs.Option.{option_map}
 use Rattle.std.specs.Vec.{vec_capacity}
+use Rattle.mt_base.specs.declared.limits.TheConstants.{MAX_AREA_MIB, MAX_COUNTERS, MAX_RELATIONS, MIB_BYTES, OPERATION_LOG_BYTES, TRANSACTION_LOG_BYTES}
 use Rattle.mt_base.specs.declared.refusal.Refusal.{Refusal}
 use Rattle.mt_escrow.specs.Seen.{Escrowed, CanStand, add_of}
 use Rattle.mt_frame.specs.declared.records.Record.{Record}
@@ -64,8 +65,8 @@ pub record Origin : Type 0 where
   pub counters : ℕ
 
 pub record IsSchema (origin : Origin) : Type 0 where
-  pub few_relations : origin.relations ≤ 64
-  pub few_counters : origin.counters ≤ 128
+  pub few_relations : origin.relations ≤ MAX_RELATIONS
+  pub few_counters : origin.counters ≤ MAX_COUNTERS
 
 -- the area began with the book
 pub record IsFirstArea (origin : Origin) : Type 0 where
@@ -140,7 +141,7 @@ pub record IsWithinSchema (origin : Origin) (e : Entry) : Type 0 where
 -- The numbers of operations suffice. A call is given one below 2^40; each inverse behind that has its bytes kept, so of such there
 -- are no more than the area and the ends that are kept for transactions have room for.
 abbrev pub AreLeft : ℕ → ℕ → ℕ → Type 0
-AreLeft last begun reserved = 106496 * last + reserved ≤ 106496 * 2 ^ 40 + 67108864 + 128 * begun
+AreLeft last begun reserved = OPERATION_LOG_BYTES * last + reserved ≤ OPERATION_LOG_BYTES * 2 ^ 40 + MAX_AREA_MIB * MIB_BYTES + TRANSACTION_LOG_BYTES * begun
 
 -- the counters of the escrow are those of the base that the book leaves
 pub record IsEscrowed (counters : ℕ) (m : Base) (e : Escrowed) : Type 0 where
@@ -168,7 +169,7 @@ pub record IsFit {D : Type 0} (seen : D → List ℕ) (may_leave : D → List �
   pub small : All (IsWithinSchema origin) k.live.standing
   pub log : used k.operations.store.log + sum_by left_of k.running.items + k.reserved < area_size k.operations.store.log
   pub reserves : k.reserved + sum_by taken_bytes k.running.items + 14 * length k.commits.items
-      ≡ sum_by kept_bytes k.running.items + sum_by entry_bytes k.live.standing + 128 * length k.live.members
+      ≡ sum_by kept_bytes k.running.items + sum_by entry_bytes k.live.standing + TRANSACTION_LOG_BYTES * length k.live.members
   pub queued : IsQueued k.live.members (appended k.operations.store.log) k.commits.items
   pub numbers : AreLeft k.last k.live.begun k.reserved
   pub booked : vec_len k.book + length k.commits.items ≤ vec_capacity k.book

@@ -1,5 +1,6 @@
 -- What the log's records tell of the transactions, and that a restart over each beginning of them finds its base.
 use Rattle.std.specs.Prelude.{ℕ, ◌≡◌, ◌≤◌, ◌+◌, ◌++◌, Bool, cond, List, [], ◌∷◌, Option, Some, None, filter, map, length, Result, Ok, Err}
+use Rattle.mt_base.specs.declared.limits.TheConstants.{MAX_LIVE, MIB_BYTES, MIN_AREA_MIB}
 use Rattle.mt_base.specs.declared.refusal.Refusal.{Refusal}
 use Rattle.mt_frame.specs.declared.records.Record.{Record}
 use Rattle.mt_live.specs.Entries.{Entry, runs}
@@ -80,11 +81,11 @@ TellsBook origin k = length k.book.items + durable_count k.commits.items (length
 -- live, and such an area has room for the images of the pages that inverses change. The area began on what the commits
 -- from before it lead to.
 pub record IsRestartable {D : Type 0} (origin : Origin) (k : Parts D) : Type 0 where
-  pub beginnings : 4194304 ≤ area_size k.operations.store.log → EachBeginning (Recovers origin k) (appended k.operations.store.log)
+  pub beginnings : MIN_AREA_MIB * MIB_BYTES ≤ area_size k.operations.store.log → EachBeginning (Recovers origin k) (appended k.operations.store.log)
   pub begun : origin.begun ≡ after origin.first origin.earlier
   pub tells : TellsOf origin k (appended k.operations.store.log)
   pub booked : TellsBook origin k
-  pub few : length k.live.members ≤ 64
+  pub few : length k.live.members ≤ MAX_LIVE
 
 -- ---- what a step appends
 

@@ -2,6 +2,7 @@
 use Rattle.std.specs.Prelude.{ℕ, ◌≡◌, ◌≢◌, ◌⊎◌, ◌≤◌, ◌+◌, ◌==◌, ◌&&◌, Bool, true, false, cond, if◌then◌else◌, List, [], ◌∷◌, Option, Some, None, is_some, All}
 use Rattle.std.specs.List.{list_any}
 use Rattle.std.specs.Option.{option_map}
+use Rattle.mt_base.specs.declared.limits.TheConstants.{OPERATION_LOG_BYTES}
 use Rattle.mt_live.specs.declared.transactions.TxnState.{TxnState}
 use Rattle.mt_live.specs.declared.transactions.TxnState.TheVariants.{Open, Committing, Aborting}
 use Rattle.mt_live.specs.Entries.{Entry}
@@ -85,7 +86,7 @@ pub record IsOwned (ms : List Member) (standing : List Entry) (r : Running) : Ty
 
 -- log bytes that the inverse may append
 abbrev pub undo_bytes : Op → ℕ
-undo_bytes op = if only_reads op then 0 else 106496
+undo_bytes op = if only_reads op then 0 else OPERATION_LOG_BYTES
 
 -- of an entry that did something
 abbrev pub weighed : (Op → ℕ) → Entry → ℕ
@@ -120,4 +121,4 @@ kept_bytes r = cond (r.scope.undoes == 0) (undo_bytes r.scope.op) 0
 
 -- those that an inverse which runs has taken of what was kept for it
 abbrev pub taken_bytes : Running → ℕ
-taken_bytes r = cond (r.scope.undoes == 0) 0 106496
+taken_bytes r = cond (r.scope.undoes == 0) 0 OPERATION_LOG_BYTES

@@ -1,6 +1,7 @@
 -- The two master slots of a device, and which of them rules.
 use Rattle.std.specs.Prelude.{◌≡◌, ◌≢◌, ◌⊎◌, ◌+◌, ◌*◌, ◌<◌, ◌≤◌, ℕ, List, length, Option, Some, None, Result, Ok, Err}
 use Rattle.std.proofs.Math.ListN.{get_or}
+use Rattle.mt_base.specs.declared.limits.TheConstants.{MASTER_BYTES, MIB_BYTES, PAGE_BYTES}
 use Rattle.mt_base.specs.declared.refusal.Refusal.{Refusal}
 use Rattle.mt_base.specs.declared.refusal.Refusal.TheVariants.{BadFormat}
 use Rattle.mt_base.specs.Limits.{device_bytes_of}
@@ -23,7 +24,7 @@ IsClosedAt c at = get_or c at 0 ≢ 165
 
 -- the places of the two slots
 abbrev pub AreSlots : ℕ → ℕ → Type 0
-AreSlots at other = ((at ≡ 0) × (other ≡ 4096)) ⊎ ((at ≡ 4096) × (other ≡ 0))
+AreSlots at other = ((at ≡ 0) × (other ≡ PAGE_BYTES)) ⊎ ((at ≡ PAGE_BYTES) × (other ≡ 0))
 
 -- what is read at a place
 abbrev pub IsFoundAt : ℕ → List ℕ → Option MasterSlot → Type 0
@@ -43,16 +44,16 @@ pub record Rules (c : List ℕ) (at other : ℕ) (slot : MasterSlot) : Type 0 wh
 
 -- one of the two slots of a device rules
 abbrev pub IsRuling : List ℕ → MasterSlot → Type 0
-IsRuling c slot = Rules c 0 4096 slot ⊎ Rules c 4096 0 slot
+IsRuling c slot = Rules c 0 PAGE_BYTES slot ⊎ Rules c PAGE_BYTES 0 slot
 
 -- ---- the log area that a slot names
 
 -- the bytes of an area, the place of its first, and the place behind its last
 abbrev pub area_size : MasterSlot → ℕ
-area_size slot = slot.mib * 1048576
+area_size slot = slot.mib * MIB_BYTES
 
 abbrev pub area_start : MasterSlot → ℕ
-area_start slot = 8192 + 4096 * slot.pages + slot.area * area_size slot
+area_start slot = MASTER_BYTES + PAGE_BYTES * slot.pages + slot.area * area_size slot
 
 abbrev pub area_end : MasterSlot → ℕ
 area_end slot = area_start slot + area_size slot
@@ -61,7 +62,7 @@ area_end slot = area_start slot + area_size slot
 
 -- the device is shorter than its two slots' pages, or both slots are closed
 abbrev pub IsUnformatted : List ℕ → Type 0
-IsUnformatted c = (length c < 8192) ⊎ (IsClosedAt c 0 × IsClosedAt c 4096)
+IsUnformatted c = (length c < MASTER_BYTES) ⊎ (IsClosedAt c 0 × IsClosedAt c PAGE_BYTES)
 
 -- the gate at this place is open, and no slot of this device stands there
 pub record IsBadAt (c : List ℕ) (at : ℕ) : Type 0 where
@@ -73,13 +74,13 @@ pub record AreAtOdds (c : List ℕ) : Type 0 where
   pub first : MasterSlot
   pub second : MasterSlot
   pub first_open : IsOpenAt c 0 first
-  pub second_open : IsOpenAt c 4096 second
+  pub second_open : IsOpenAt c PAGE_BYTES second
   pub no_older_first : IsBefore first second → ⊥
   pub no_older_second : IsBefore second first → ⊥
 
 -- what stands at this place breaks a rule of master slots
 abbrev pub BreaksMaster : List ℕ → ℕ → Type 0
-BreaksMaster c at = ((at ≡ 0) × IsBadAt c 0) ⊎ ((at ≡ 4096) × (IsBadAt c 4096 ⊎ AreAtOdds c))
+BreaksMaster c at = ((at ≡ 0) × IsBadAt c 0) ⊎ ((at ≡ PAGE_BYTES) × (IsBadAt c PAGE_BYTES ⊎ AreAtOdds c))
 
 -- ---- of two open slots
 
@@ -88,4 +89,4 @@ abbrev pub IsNewer : MasterSlot → MasterSlot → Result MasterSlot Refusal →
 IsNewer first second (Ok slot) =
     ((slot ≡ first) × IsBefore second first) ⊎ ((slot ≡ second) × IsBefore first second)
 IsNewer first second (Err why) =
-    (why ≡ BadFormat 4096) × (IsBefore first second → ⊥) × (IsBefore second first → ⊥)
+    (why ≡ BadFormat PAGE_BYTES) × (IsBefore first second → ⊥) × (IsBefore second first → ⊥)

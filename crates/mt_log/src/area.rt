@@ -1,4 +1,5 @@
 ghost use Rattle.std.specs.Prelude.{false, true, ◌≡◌, ◌+◌, ◌*◌, ◌<◌, ◌≤◌};
+ghost use Rattle.mt_base.specs.declared.limits.TheConstants.{MASTER_BYTES, MAX_AREA_MIB, MIB_BYTES, PAGE_BYTES};
 ghost use Rattle.mt_base.specs.Limits.{IsPageCount, IsAreaSize};
 ghost use Rattle.mt_frame.specs.SlotText.{IsSlot};
 ghost use Rattle.mt_log.specs.Masters.{area_end, area_start};
@@ -12,7 +13,7 @@ pub struct AreaPlace {
     pub start: u64,
     pub end: u64,
     ghost some_bytes: { start + 5 < end },
-    ghost not_too_many: { end ≤ start + 67108864 },
+    ghost not_too_many: { end ≤ start + MAX_AREA_MIB * MIB_BYTES },
 }
 
 impl AreaPlace {
@@ -21,9 +22,9 @@ impl AreaPlace {
     pub fn of(pages: u16, mib: u8, second: bool) -> AreaPlace
         requires page_count { IsPageCount pages }
         requires area_size { IsAreaSize mib }
-        ensures size { result.end ≡ result.start + mib * 1048576 }
-        ensures first { second ≡ false → result.start ≡ 8192 + 4096 * pages }
-        ensures second { second ≡ true → result.start ≡ 8192 + 4096 * pages + mib * 1048576 }
+        ensures size { result.end ≡ result.start + mib * MIB_BYTES }
+        ensures first { second ≡ false → result.start ≡ MASTER_BYTES + PAGE_BYTES * pages }
+        ensures second { second ≡ true → result.start ≡ MASTER_BYTES + PAGE_BYTES * pages + mib * MIB_BYTES }
     {
         let size = area_bytes(mib);
         let pages_end = MASTER_BYTES + 4096 * u64::from(pages);

@@ -1,5 +1,6 @@
 // The log: records wait for a force, which makes them durable a batch at a time.
 ghost use Rattle.std.specs.Prelude.{◌≡◌, ◌+◌, ◌-◌, ◌*◌, ◌<◌, ◌≤◌, ◌++◌, ◌∷◌, [], ℕ, true, false, length, map, drop, vec_len, vec_capacity, IfOk, IfErr, OnOk, OnErr, IsOk, IsErr};
+ghost use Rattle.mt_base.specs.declared.limits.TheConstants.{MAX_AREA_MIB, MIB_BYTES};
 ghost use Rattle.mt_base.specs.declared.refusal.Refusal.{Refusal};
 ghost use Rattle.mt_frame.specs.Grammar.{IsRecord, record_text, body_text};
 ghost use Rattle.mt_frame.specs.Lengths.{record_length};
@@ -146,7 +147,7 @@ impl Log {
     /// The bytes of the area.
     pub fn area_size(&self) -> u64
         ensures size { result ≡ area_size self.now }
-        ensures small { result ≤ 67108864 }
+        ensures small { result ≤ MAX_AREA_MIB * MIB_BYTES }
     {
         self.place.size()
     }
@@ -154,7 +155,7 @@ impl Log {
     /// Makes room for so many bytes of text, so that the records that they are of can be appended
     /// without memory. The only refusal is [`Refusal::NoMemory`], and the log is as before in any case.
     pub fn reserve(&mut self, text: usize) -> Result<(), Refusal>
-        requires { text ≤ 67108864 }
+        requires { text ≤ MAX_AREA_MIB * MIB_BYTES }
         ensures room { OnOk result (text ≤ room self.new) }
         ensures room_kept { room self.old ≤ room self.new }
         ensures durable { durable self.new ≡ durable self.old }

@@ -1,5 +1,6 @@
 // Another master slot comes to rule.
 ghost use Rattle.std.specs.Prelude.{◌≡◌, ◌+◌, ◌<◌, ◌≤◌, ◌^◌, ◌↔◌, ℕ, List, length, IfOk, IsTrue, OnOk};
+ghost use Rattle.mt_base.specs.declared.limits.TheConstants.{MASTER_BYTES};
 ghost use Rattle.mt_disk.specs.Disk.{Follows, Has, HasCause, LeavesOnly, Only, Torn, Wrote};
 ghost use Rattle.mt_frame.specs.SlotText.{IsSlot, slot_text};
 ghost use Rattle.mt_log.specs.Area.{TornFrom};
@@ -81,8 +82,8 @@ fn close_beside<D: Device>(device: &mut D, at: u64, other: u64) -> Result<(), De
     ensures durable { OnOk result (Only (D.seen device.new) (D.may_leave device.new)) }
     ensures moments { (ruling : MasterSlot) → Rules (D.seen device.old) other at ruling
         → LeavesOnly D.moment D.left_since device.old device.new (TurnsTo ruling (D.may_leave device.old)) }
-    ensures elsewhere { Follows (Torn 0 8192) (D.may_leave device.old) (D.may_leave device.new) }
-    ensures rest { Torn 0 8192 (D.seen device.old) (D.seen device.new) }
+    ensures elsewhere { Follows (Torn 0 MASTER_BYTES) (D.may_leave device.old) (D.may_leave device.new) }
+    ensures rest { Torn 0 MASTER_BYTES (D.seen device.old) (D.seen device.new) }
     ensures cause { HasCause (D.faults device.old) (D.faults device.new) result }
 {
     let closed = is_closed(device, at)?;
@@ -109,8 +110,8 @@ fn open_beside<D: Device>(
     ensures durable { OnOk result (Only (D.seen device.new) (D.may_leave device.new)) }
     ensures moments { LeavesOnly D.moment D.left_since device.old device.new
         (TurnsTo ruling.now (D.may_leave device.old)) }
-    ensures elsewhere { Follows (Torn 0 8192) (D.may_leave device.old) (D.may_leave device.new) }
-    ensures rest { Torn 0 8192 (D.seen device.old) (D.seen device.new) }
+    ensures elsewhere { Follows (Torn 0 MASTER_BYTES) (D.may_leave device.old) (D.may_leave device.new) }
+    ensures rest { Torn 0 MASTER_BYTES (D.seen device.old) (D.seen device.new) }
     ensures cause { HasCause (D.faults device.old) (D.faults device.new) result }
 {
     let text = encode_slot(&slot_after(ruling));
@@ -133,8 +134,8 @@ fn rule_beside<D: Device>(
     ensures durable { OnOk result (Only (D.seen device.new) (D.may_leave device.new)) }
     ensures moments { LeavesOnly D.moment D.left_since device.old device.new
         (TurnsTo ruling.now (D.may_leave device.old)) }
-    ensures elsewhere { Follows (Torn 0 8192) (D.may_leave device.old) (D.may_leave device.new) }
-    ensures rest { Torn 0 8192 (D.seen device.old) (D.seen device.new) }
+    ensures elsewhere { Follows (Torn 0 MASTER_BYTES) (D.may_leave device.old) (D.may_leave device.new) }
+    ensures rest { Torn 0 MASTER_BYTES (D.seen device.old) (D.seen device.new) }
     ensures cause { HasCause (D.faults device.old) (D.faults device.new) result }
 {
     close_beside(device, at, other)?;
@@ -156,8 +157,8 @@ pub fn turn_slot<D: Device>(device: &mut D, ruling: &MasterSlot) -> Result<(), D
     ensures durable { OnOk result (Only (D.seen device.new) (D.may_leave device.new)) }
     ensures moments { LeavesOnly D.moment D.left_since device.old device.new
         (TurnsTo ruling.now (D.may_leave device.old)) }
-    ensures elsewhere { Follows (Torn 0 8192) (D.may_leave device.old) (D.may_leave device.new) }
-    ensures rest { Torn 0 8192 (D.seen device.old) (D.seen device.new) }
+    ensures elsewhere { Follows (Torn 0 MASTER_BYTES) (D.may_leave device.old) (D.may_leave device.new) }
+    ensures rest { Torn 0 MASTER_BYTES (D.seen device.old) (D.seen device.new) }
     ensures cause { HasCause (D.faults device.old) (D.faults device.new) result }
 {
     slots_are_read_back();

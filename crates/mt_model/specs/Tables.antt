@@ -1,5 +1,6 @@
 -- The base that the rows and counters of a table stand for.
 use Rattle.std.specs.Prelude.{ℕ, ℤ, pos, neg_ℤ, ◌≤ℤ◌, List, All, slice_index_or}
+use Rattle.mt_base.specs.declared.limits.TheConstants.{MAX_BOUND}
 use Rattle.mt_base.specs.Limits.{IsCounter}
 use Rattle.mt_model.specs.declared.counters.Count.{Count}
 
@@ -9,7 +10,7 @@ IsLimited n = IsCounter n.low n.high n.number
 
 -- a number within 10^15 of zero
 abbrev pub IsNear : ℤ → Type 0
-IsNear z = (neg_ℤ (pos 1000000000000000) ≤ℤ z) × (z ≤ℤ pos 1000000000000000)
+IsNear z = (neg_ℤ MAX_BOUND ≤ℤ z) × (z ≤ℤ MAX_BOUND)
 
 abbrev pub AreLimited : List Count → Type 0
 AreLimited ns = All IsLimited ns

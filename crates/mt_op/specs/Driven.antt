@@ -1,5 +1,6 @@
 -- Operations made one after the other, over pages of two relations and two counters: what their caller keeps.
 use Rattle.std.specs.Prelude.{◌≡◌, ◌<◌, ◌≤◌, ◌+◌, ◌^◌, ℕ, List, [], get_or, None}
+use Rattle.mt_base.specs.declared.limits.TheConstants.{PAGE_BYTES}
 use Rattle.mt_bucket.specs.Page.{depth_of, next_of, count_of, IsBucket}
 use Rattle.mt_index.specs.Pages.{AreZero, IsDirectory, depth_in, pointer_at}
 use Rattle.mt_log.specs.Words.{used, area_size}
@@ -58,7 +59,7 @@ pub record IsFirstMap (map : List ℕ) : Type 0 where
   pub directory : get_or map 1 0 ≡ 1
   pub counters : get_or map 2 0 ≡ 1
   pub bucket : get_or map 3 0 ≡ 2
-  pub free : AreZero map 4 4096
+  pub free : AreZero map 4 PAGE_BYTES
 
 -- its one pointer is to page 3
 pub record IsFirstDirectory (page : List ℕ) : Type 0 where

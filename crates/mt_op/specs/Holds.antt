@@ -1,5 +1,6 @@
 -- What asking for a page lock does to an operation.
 use Rattle.std.specs.Prelude.{◌≡◌, ◌≢◌, ◌⊎◌, ◌<◌, ◌≤◌, ◌++◌, ◌∷◌, [], ℕ, List, Option, None, Some, IsSome, Result, Ok, Err, All, Contains, true}
+use Rattle.mt_base.specs.declared.limits.TheConstants.{MAX_RELATIONS}
 use Rattle.mt_base.specs.declared.modes.Mode.{Mode}
 use Rattle.mt_base.specs.declared.modes.Mode.TheVariants.{Read, Write}
 use Rattle.mt_base.specs.declared.refusal.Refusal.{Refusal}
@@ -118,7 +119,7 @@ pub record IsToWrite (s : OpScope) (p : ℕ) (mode : Mode) : Type 0 where
   pub writes : mode ≡ Write
   pub changes : List PageChange
   pub reply : Reply
-  pub planned : (relations counters : ℕ) → relations ≤ 64 → IsWithin relations counters s.op → InPages (looked s) s.room relations counters s.seen.total (λ pages. IsPlanned relations counters s.seen.total (looked s) pages changes s.op s.split reply)
+  pub planned : (relations counters : ℕ) → relations ≤ MAX_RELATIONS → IsWithin relations counters s.op → InPages (looked s) s.room relations counters s.seen.total (λ pages. IsPlanned relations counters s.seen.total (looked s) pages changes s.op s.split reply)
   pub reads : only_reads s.op ≡ true → changes ≡ []
   pub touched : IsUntouched changes p → ⊥
 

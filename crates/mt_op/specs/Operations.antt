@@ -1,5 +1,6 @@
 -- The operations of one kernel over their store, and what each step does.
 use Rattle.std.specs.Prelude.{◌≡◌, ◌⊎◌, ◌≤◌, ◌-◌, ◌+◌, ◌*◌, ◌++◌, ℕ, List, [], length, Bool, true, false, if◌then◌else◌, Option, Some, None, Result, Ok, Err}
+use Rattle.mt_base.specs.declared.limits.TheConstants.{BATCH_HEAD_BYTES, LARGEST_OP_END, LARGEST_PAGE_RECORD, MAX_COUNTERS, MAX_RELATIONS, OPERATION_LOG_BYTES}
 use Rattle.mt_base.specs.declared.refusal.Refusal.{Refusal}
 use Rattle.mt_base.specs.declared.refusal.Refusal.TheVariants as refusal
 use Rattle.mt_file.specs.Rooms.{AreRooms}
@@ -59,7 +60,7 @@ IsOneOf seen may_leave o s =
 abbrev pub IsOneWithin : {D : Type 0} → (D → List ℕ) → (D → List ℕ → Type 0) → Operations D → OpScope → Type 0
 IsOneWithin seen may_leave o s =
     ∥ ((opening : PageBytes) × (relations : ℕ) × (counters : ℕ) × IsRight seen may_leave opening relations counters o × IsUnderWay relations counters (world seen opening o) s
-    × (relations ≤ 64) × (counters ≤ 128)) ∥₁
+    × (relations ≤ MAX_RELATIONS) × (counters ≤ MAX_COUNTERS)) ∥₁
 
 -- ---- log bytes
 
@@ -74,11 +75,11 @@ only_reads (Read c) = true
 
 -- what an operation may still append: for each page not yet written 12,317 bytes at most, and its end
 abbrev pub end_bytes : OpScope → ℕ
-end_bytes s = if only_reads s.op then 0 else 2149
+end_bytes s = if only_reads s.op then 0 else (BATCH_HEAD_BYTES + LARGEST_OP_END)
 
 abbrev pub needs : OpScope → Stage → ℕ
-needs s Planning = if only_reads s.op then 0 else 106496
-needs s Writing = 12317 * (length (changes_in s) - s.written) + end_bytes s
+needs s Planning = if only_reads s.op then 0 else OPERATION_LOG_BYTES
+needs s Writing = (BATCH_HEAD_BYTES + LARGEST_PAGE_RECORD) * (length (changes_in s) - s.written) + end_bytes s
 needs s Ready = 0
 needs s Taking = 22
 needs s Cleared = 0

@@ -1,5 +1,6 @@
 -- What a call does that goes on with an operation or takes a page of it back: all its clauses in one relation, for those who pass them on.
 use Rattle.std.specs.Prelude.{◌≡◌, ◌≤◌, ◌+◌, ℕ, List, Option, None, Some, Result, Ok, IfErr, OnErr}
+use Rattle.mt_base.specs.declared.limits.TheConstants.{MAX_COUNTERS, MAX_RELATIONS}
 use Rattle.mt_base.specs.declared.refusal.Refusal.{Refusal}
 use Rattle.mt_base.specs.declared.refusal.Refusal.TheVariants as refusal
 use Rattle.mt_disk.specs.Disk.{LeavesOnly}
@@ -24,7 +25,7 @@ use Rattle.mt_op.specs.declared.scope.Stage.TheVariants.{Planning, Writing, Taki
 
 -- a step of an operation that writes, or ends
 pub record GoesAhead {D : Type 0} (seen : D → List ℕ) (may_leave : D → List ℕ → Type 0) (moment : D → ℕ) (left_since : D → ℕ → List ℕ → Type 0) (failures : D → ℕ) (o n : Operations D) (s t : OpScope) (r : Result Stepped Refusal) : Type 0 where
-  pub steps : (opening : PageBytes) (relations counters : ℕ) → IsRight seen may_leave opening relations counters o → IsUnderWay relations counters (world seen opening o) s → relations ≤ 64 → counters ≤ 128
+  pub steps : (opening : PageBytes) (relations counters : ℕ) → IsRight seen may_leave opening relations counters o → IsUnderWay relations counters (world seen opening o) s → relations ≤ MAX_RELATIONS → counters ≤ MAX_COUNTERS
       → IsRight seen may_leave opening relations counters n × Steps relations counters (world seen opening o) (world seen opening n) s t r
   pub moments : (opening : PageBytes) → IsKept seen may_leave opening o.store → LeavesOnly moment left_since o.store.device n.store.device (Explains opening o.store)
   pub log : used n.store.log + t.left ≡ used o.store.log + s.left
@@ -80,7 +81,7 @@ pub record LocksPage {D : Type 0} (seen : D → List ℕ) (may_leave : D → Lis
 
 -- a step of an operation that plans
 pub record PlansOn {D : Type 0} (seen : D → List ℕ) (may_leave : D → List ℕ → Type 0) (moment : D → ℕ) (left_since : D → ℕ → List ℕ → Type 0) (failures : D → ℕ) (o n : Operations D) (s t : OpScope) (r : Result (Option Stepped) Refusal) : Type 0 where
-  pub goes : (opening : PageBytes) (relations counters : ℕ) → IsRight seen may_leave opening relations counters o → IsUnderWay relations counters (world seen opening o) s → relations ≤ 64
+  pub goes : (opening : PageBytes) (relations counters : ℕ) → IsRight seen may_leave opening relations counters o → IsUnderWay relations counters (world seen opening o) s → relations ≤ MAX_RELATIONS
       → IsRight seen may_leave opening relations counters n × IsPlannedOn relations counters (world seen opening o) (world seen opening n) s t r
   pub moments : (opening : PageBytes) → IsKept seen may_leave opening o.store → LeavesOnly moment left_since o.store.device n.store.device (Explains opening o.store)
   pub made : r ≡ Ok None → (n ≡ o) × (t.stage ≡ Writing)

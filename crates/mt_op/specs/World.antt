@@ -1,5 +1,6 @@
 -- Operations half done over one log: what holds of all of them together, and of each one.
 use Rattle.std.specs.Prelude.{◌≡◌, ◌≢◌, ◌⊎◌, ◌<◌, ◌≤◌, ℕ, List, [], ◌∷◌, ◌++◌, length, take, All, Any, Contains, Option, Some, None, IsSome, true}
+use Rattle.mt_base.specs.declared.limits.TheConstants.{PAGE_BYTES}
 use Rattle.mt_base.specs.declared.modes.Mode.TheVariants.{Write}
 use Rattle.mt_frame.specs.declared.records.Record.{Record}
 use Rattle.mt_frame.specs.declared.records.Record.TheVariants.{OpEnd}
@@ -147,7 +148,7 @@ pub record IsUnderWay (relations counters : ℕ) (w : World) (s : OpScope) : Typ
   pub op : IsOp s.number
   pub within : IsWithin relations counters s.op
   pub locks : locks_of s.number w.locks ≡ s.guards.items
-  pub whole : (p : ℕ) (bytes : List ℕ) → looked s p ≡ Some bytes → length bytes ≡ 4096
+  pub whole : (p : ℕ) (bytes : List ℕ) → looked s p ≡ Some bytes → length bytes ≡ PAGE_BYTES
   pub total : s.seen.total ≡ w.total
   pub inside : (p : ℕ) → IsSome (looked s p) → p < w.total
   pub guarded : (p : ℕ) → IsSome (looked s p) → Any (λ l. l.page ≡ p) s.guards.items

@@ -1,5 +1,6 @@
 // The operations of one kernel over their pages.
 ghost use Rattle.std.specs.Prelude.{◌≡◌, ◌≢◌, ◌⊎◌, ◌<◌, ◌≤◌, ◌+◌, ◌*◌, ◌++◌, ◌∷◌, [], ℕ, length, get_or, replicate, false, true, Ok, if◌then◌else◌, IsOk, IsErr, IfOk, IfErr, OnOk, OnErr};
+ghost use Rattle.mt_base.specs.declared.limits.TheConstants.{OPERATION_LOG_BYTES};
 ghost use Rattle.mt_disk.specs.Disk.{LeavesOnly, HasCause};
 ghost use Rattle.mt_frame.specs.Grammar.{IsTxn, IsOp, IsRecord};
 ghost use Rattle.mt_frame.specs.History.{may_stand, txn_of};
@@ -163,7 +164,7 @@ impl<D: Device> Operations<D> {
         ensures planning { IfOk result (λ s. (s.stage ≡ Planning) × (s.seen.total ≡ pages self.now.store.pool)) }
         ensures budget { IfOk result HasBudget }
         ensures work { IfOk result (λ s. work_of s ≡ 2 * pages self.now.store.pool + 9) }
-        ensures left { IfOk result (λ s. s.left ≡ (if only_reads op then 0 else 106496)) }
+        ensures left { IfOk result (λ s. s.left ≡ (if only_reads op then 0 else OPERATION_LOG_BYTES)) }
         ensures only_memory { IfErr result (λ why. why ≡ Refusal.NoMemory) }
     {
         let left = if reads_only(&op) {

@@ -1,5 +1,6 @@
 // A store leaves its operations for a rotation of its log, and is joined to them again.
 ghost use Rattle.std.specs.Prelude.{◌≡◌, ◌≤◌, [], ℕ, length, IfOk, IfErr};
+ghost use Rattle.mt_base.specs.declared.limits.TheConstants.{MAX_PAGES};
 ghost use Rattle.mt_base.specs.declared.refusal.Refusal.{Refusal};
 ghost use Rattle.mt_index.specs.Checks.{bytes_of};
 ghost use Rattle.mt_file.specs.Rooms.{AreRooms};
@@ -37,7 +38,7 @@ pub struct Idle {
 fn rooms_of(alloc: Global, pages: &[[u8; 4096]]) -> Result<Rooms, AllocError>
     requires good { ∥ ((relations : ℕ) × (counters : ℕ)
         × IsGood relations counters (length pages.now) (bytes_of pages.now)) ∥₁ }
-    requires few { length pages.now ≤ 4000 }
+    requires few { length pages.now ≤ MAX_PAGES }
     ensures size { IfOk result (λ rooms. length rooms ≡ length pages.now) }
     ensures noted { IfOk result (λ rooms. AreRooms rooms (bytes_of pages.now)) }
 {
@@ -57,7 +58,7 @@ impl Idle {
     pub fn of(alloc: Global, pages: &[[u8; 4096]]) -> Result<Idle, Refusal>
         requires good { ∥ ((relations : ℕ) × (counters : ℕ)
             × IsGood relations counters (length pages.now) (bytes_of pages.now)) ∥₁ }
-        requires few { length pages.now ≤ 4000 }
+        requires few { length pages.now ≤ MAX_PAGES }
         ensures fits { IfOk result (FitsPages (length pages.now) (bytes_of pages.now)) }
         ensures claimed { IfOk result (λ idle. reserved_of idle.map.space ≡ 0) }
         ensures only_memory { IfErr result (λ why. why ≡ Refusal.NoMemory) }

@@ -1,5 +1,6 @@
 // The steps of an operation, from its first page lock to its end.
 ghost use Rattle.std.specs.Prelude.{◌≡◌, ◌≢◌, ◌⊎◌, ◌<◌, ◌≤◌, ◌+◌, ◌^◌, ℕ, List, length, All, Contains, [], None, Some, Ok, true, false, MatchOption, IfErr, IsTrue, ◌↔◌};
+ghost use Rattle.mt_base.specs.declared.limits.TheConstants.{MAX_COUNTERS, MAX_PAGES, MAX_RELATIONS};
 ghost use Rattle.mt_steps.specs.Drafts.{AreAtHand};
 ghost use Rattle.mt_steps.specs.Logged.{logged_of};
 ghost use Rattle.mt_base.specs.declared.modes.Mode.TheVariants.{Write};
@@ -65,7 +66,7 @@ impl<D: Device> Operations<D> {
         requires room { used self.old.store.log + scope.old.left < area_size self.old.store.log }
         ensures steps { (opening : PageBytes) (relations counters : ℕ)
             → IsRight D.seen D.may_leave opening relations counters self.old
-            → IsUnderWay relations counters (world D.seen opening self.old) scope.old → relations ≤ 64 → counters ≤ 128
+            → IsUnderWay relations counters (world D.seen opening self.old) scope.old → relations ≤ MAX_RELATIONS → counters ≤ MAX_COUNTERS
             →
             IsRight D.seen D.may_leave opening relations counters self.new
             × Steps relations counters (world D.seen opening self.old) (world D.seen opening self.new)
@@ -171,7 +172,7 @@ impl<D: Device> Operations<D> {
     // The first page of records that takes the operation's record and that nobody has locked: one that is locked is
     // passed by. `None` also where the operation puts no record, or was led to a page.
     fn room_for(&self, scope: &OpScope) -> Option<PageNo>
-        requires few { length self.now.rooms ≤ 4000 }
+        requires few { length self.now.rooms ≤ MAX_PAGES }
         requires short { bytes_put scope.now.op < 2 ^ 16 }
         ensures { FindsRoom self.now.rooms self.now.locks scope.now result }
     {
@@ -202,17 +203,17 @@ impl<D: Device> Operations<D> {
         requires few { length changes.list.items ≤ 8 }
         requires quiet { logged_of scope.old.op reply ≡ None → changes.list.items ≡ [] }
         requires reads { only_reads scope.old.op ≡ true → changes.list.items ≡ [] }
-        requires planned { (relations counters : ℕ) → relations ≤ 64 → IsWithin relations counters scope.old.op
+        requires planned { (relations counters : ℕ) → relations ≤ MAX_RELATIONS → IsWithin relations counters scope.old.op
             → InPages (looked scope.old) scope.old.room relations counters scope.old.seen.total
             (λ pages. IsPlanned relations counters scope.old.seen.total (looked scope.old) pages changes.list.items
             scope.old.op scope.old.split reply) }
-        requires takes { (relations counters : ℕ) → relations ≤ 64 → IsWithin relations counters scope.old.op
+        requires takes { (relations counters : ℕ) → relations ≤ MAX_RELATIONS → IsWithin relations counters scope.old.op
             → InPages (looked scope.old) scope.old.room relations counters scope.old.seen.total
             (λ pages. TakesPages scope.old.room scope.old.op pages (after changes.list.items pages)) }
         requires budget { HasBudget scope.old }
         ensures goes { (opening : PageBytes) (relations counters : ℕ)
             → IsRight D.seen D.may_leave opening relations counters self.old
-            → IsUnderWay relations counters (world D.seen opening self.old) scope.old → relations ≤ 64 →
+            → IsUnderWay relations counters (world D.seen opening self.old) scope.old → relations ≤ MAX_RELATIONS →
             IsRight D.seen D.may_leave opening relations counters self.new
             × IsPlannedOn relations counters (world D.seen opening self.old) (world D.seen opening self.new)
             scope.old scope.new result }

@@ -1,5 +1,6 @@
 // The map of the space as the pages held have it.
 ghost use Rattle.std.specs.Prelude.{◌≡◌, ◌≤◌, ◌+◌, ℕ, length, false, IfOk};
+ghost use Rattle.mt_base.specs.declared.limits.TheConstants.{MAX_PAGES, PAGE_BYTES};
 ghost use Rattle.mt_space.specs.Changes.{PageBytes, after, AreShort};
 ghost use Rattle.mt_space.specs.Rooms.{mapped, free_in, free_of, reserved_of};
 
@@ -17,8 +18,8 @@ pub(crate) struct SpaceMap {
 impl SpaceMap {
     // The map of so many pages, none of which is claimed.
     pub(crate) fn of(alloc: Global, kinds: &[u8; 4096], count: u16) -> Result<SpaceMap, AllocError>
-        requires whole { length kinds.now ≡ 4096 }
-        requires few { count ≤ 4000 }
+        requires whole { length kinds.now ≡ PAGE_BYTES }
+        requires few { count ≤ MAX_PAGES }
         ensures kinds { IfOk result (λ map. map.kinds ≡ kinds.now) }
         ensures free { IfOk result (λ map. map.space.0 ≡ mapped kinds.now count) }
         ensures none { IfOk result (λ map. reserved_of map.space ≡ 0) }
@@ -33,7 +34,7 @@ impl SpaceMap {
     // has taken no more than its own.
     pub(crate) fn settle(&mut self, changes: &Changes, claim: u16)
         requires short { ∥ ((pages : PageBytes) × (pages 0 ≡ self.old.kinds) × AreShort changes.now.list.items pages
-            × (length self.old.kinds ≡ 4096) × (reserved_of self.old.space
+            × (length self.old.kinds ≡ PAGE_BYTES) × (reserved_of self.old.space
             ≤ free_in (mapped (after changes.now.list.items pages 0) (length self.old.space.0)) + claim)) ∥₁ }
         requires claimed { claim ≤ reserved_of self.old.space }
         requires mapped { self.old.space.0 ≡ mapped self.old.kinds (length self.old.space.0) }
@@ -52,10 +53,10 @@ impl SpaceMap {
     // Makes the changes that are of the map; `false` where none is.
     fn follow(&mut self, changes: &Changes) -> bool
         requires short { ∥ ((pages : PageBytes) × (pages 0 ≡ self.old.kinds) × AreShort changes.now.list.items pages
-            × (length self.old.kinds ≡ 4096)) ∥₁ }
+            × (length self.old.kinds ≡ PAGE_BYTES)) ∥₁ }
         ensures kinds { (pages : PageBytes) → pages 0 ≡ self.old.kinds → AreShort changes.now.list.items pages
             → self.new.kinds ≡ after changes.now.list.items pages 0 }
-        ensures whole { length self.new.kinds ≡ 4096 }
+        ensures whole { length self.new.kinds ≡ PAGE_BYTES }
         ensures none { result ≡ false → self.new.kinds ≡ self.old.kinds }
         ensures space { self.new.space ≡ self.old.space }
     {

@@ -1,5 +1,6 @@
 // Page writes of an operation, and its end.
 ghost use Rattle.std.specs.Prelude.{◌≡◌, ◌≢◌, ◌<◌, ◌≤◌, ◌+◌, ℕ, List, length, get_or, false, true, None, Some, IsSome, IfErr, IfOk, IfSome, OnErr, OnOk, Ok};
+ghost use Rattle.mt_base.specs.declared.limits.TheConstants.{BATCH_HEAD_BYTES, LARGEST_OP_END, MAX_COUNTERS, MAX_RELATIONS, PAGE_BYTES};
 ghost use Rattle.mt_frame.specs.Grammar.{IsTxn, IsOp, IsOperation};
 ghost use Rattle.mt_frame.specs.History.{may_stand};
 ghost use Rattle.mt_pool.specs.Views.{IsThere};
@@ -119,7 +120,7 @@ impl<D: Device> Operations<D> {
         requires operation { IsOperation done }
         requires rules { may_stand false (appended self.old.store.log)
             (OpEnd scope.old.txn scope.old.number scope.old.undoes done) ≡ true }
-        requires left { 2149 ≤ scope.old.left }
+        requires left { (BATCH_HEAD_BYTES + LARGEST_OP_END) ≤ scope.old.left }
         requires room { used self.old.store.log + scope.old.left < area_size self.old.store.log }
         ensures kept { (opening : PageBytes) → IsKept D.seen D.may_leave opening self.old.store
             → IsKept D.seen D.may_leave opening self.new.store }
@@ -157,9 +158,9 @@ impl<D: Device> Operations<D> {
         requires pages { ∥ ((pages : PageBytes) × Agrees (looked scope.now) pages
             × AreShort (changes_in scope.now) pages
             × ((p : ℕ) → get_or self.old.map.kinds p 0 ≡ 3 → IsShaped (after (changes_in scope.now) pages p))) ∥₁ }
-        requires whole { (p : ℕ) (bytes : List ℕ) → looked scope.now p ≡ Some bytes → length bytes ≡ 4096 }
+        requires whole { (p : ℕ) (bytes : List ℕ) → looked scope.now p ≡ Some bytes → length bytes ≡ PAGE_BYTES }
         requires inside { (p : ℕ) → IsSome (looked scope.now p) → p < length self.old.rooms }
-        requires few { length self.old.rooms ≤ 4096 }
+        requires few { length self.old.rooms ≤ PAGE_BYTES }
         ensures store { self.new.store ≡ self.old.store }
         ensures locks { self.new.locks ≡ self.old.locks }
         ensures map { self.new.map ≡ self.old.map }
@@ -176,9 +177,9 @@ impl<D: Device> Operations<D> {
         requires pages { ∥ ((pages : PageBytes) × Agrees (looked scope.now) pages
             × AreShort (changes_in scope.now) pages
             × ((p : ℕ) → get_or self.old.map.kinds p 0 ≡ 3 → IsShaped (after (changes_in scope.now) pages p))) ∥₁ }
-        requires whole { (p : ℕ) (bytes : List ℕ) → looked scope.now p ≡ Some bytes → length bytes ≡ 4096 }
+        requires whole { (p : ℕ) (bytes : List ℕ) → looked scope.now p ≡ Some bytes → length bytes ≡ PAGE_BYTES }
         requires inside { (p : ℕ) → IsSome (looked scope.now p) → p < length self.old.rooms }
-        requires few { length self.old.rooms ≤ 4096 }
+        requires few { length self.old.rooms ≤ PAGE_BYTES }
         ensures store { self.new.store ≡ self.old.store }
         ensures locks { self.new.locks ≡ self.old.locks }
         ensures map { self.new.map ≡ self.old.map }
@@ -199,8 +200,8 @@ impl<D: Device> Operations<D> {
 
     // What a page takes once these changes are made: nothing where it does not hold records.
     fn room_after(&self, changes: &Changes, page: PageNo, before: &[u8; 4096]) -> u16
-        requires inside { page < 4096 }
-        requires whole { length before.now ≡ 4096 }
+        requires inside { page < PAGE_BYTES }
+        requires whole { length before.now ≡ PAGE_BYTES }
         requires pages { ∥ ((pages : PageBytes) × (pages page ≡ before.now) × AreShort changes.now.list.items pages
             × (get_or self.now.map.kinds page 0 ≡ 3 → IsShaped (after changes.now.list.items pages page))) ∥₁ }
         ensures records { (pages : PageBytes) → pages page ≡ before.now → AreShort changes.now.list.items pages
@@ -238,7 +239,7 @@ fn told(scope: &OpScope) -> Result<(Reply, Option<LoggedOp>), Refusal>
     requires { IsSome scope.now.reply }
     ensures reply { IfOk result (λ told. scope.now.reply ≡ Some told.0) }
     ensures logged { IfOk result (λ told. told.1 ≡ logged_of scope.now.op told.0) }
-    ensures operation { (relations counters : ℕ) → relations ≤ 64 → counters ≤ 128
+    ensures operation { (relations counters : ℕ) → relations ≤ MAX_RELATIONS → counters ≤ MAX_COUNTERS
         → IsWithin relations counters scope.now.op
         → IfOk result (λ told. HasSmallReply told.0 → IfSome told.1 IsOperation) }
     ensures only_memory { IfErr result (λ why. why ≡ Refusal.NoMemory) }

@@ -1,5 +1,6 @@
 // What the pages held come to, where no operation is under way.
 ghost use Rattle.std.specs.Prelude.{◌≡◌, ◌⊎◌, ◌<◌, ◌≤◌, ◌+◌, ℕ, length, IsOk, IfOk, IfErr, OnOk};
+ghost use Rattle.mt_base.specs.declared.limits.TheConstants.{MAX_RELATIONS, PAGE_BYTES};
 ghost use Rattle.mt_model.specs.Model.{Base as ModelBase};
 ghost use Rattle.mt_model.specs.Views.{base_of, counters_of, relations_of};
 ghost use Rattle.mt_pool.specs.Views.{pages};
@@ -39,7 +40,7 @@ impl<D: Device> Operations<D> {
         ensures held { (opening : PageBytes) (relations counters : ℕ)
             → IsRight D.seen D.may_leave opening relations counters self.old
             → IfOk result (λ bytes. bytes ≡ held_in (world D.seen opening self.old) page) }
-        ensures whole { IfOk result (λ bytes. length bytes ≡ 4096) }
+        ensures whole { IfOk result (λ bytes. length bytes ≡ PAGE_BYTES) }
         ensures read { OnlyReads D.seen D.may_leave D.moment D.left_since self.old self.new }
         ensures quiet { IsOk result → D.faults self.new.store.device ≡ D.faults self.old.store.device }
         ensures cause { IfErr result (λ why. (why ≡ Refusal.DeviceFailed)
@@ -105,7 +106,7 @@ impl<D: Device> Operations<D> {
     ///
     /// Refused with [`Refusal::NoMemory`], and with [`Refusal::DeviceFailed`] where the device failed in this call.
     pub fn survey(&mut self, alloc: Global) -> Result<Survey, Refusal>
-        requires idle { ∥ ((relations : ℕ) × (relations ≤ 64) × IsIdle D.seen D.may_leave relations self.old) ∥₁ }
+        requires idle { ∥ ((relations : ℕ) × (relations ≤ MAX_RELATIONS) × IsIdle D.seen D.may_leave relations self.old) ∥₁ }
         ensures surveyed { (opening : PageBytes) (relations counters : ℕ) (held : ModelBase)
             → IsRight D.seen D.may_leave opening relations counters self.old
             → Holds (held_in (world D.seen opening self.old)) held

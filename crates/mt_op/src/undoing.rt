@@ -1,5 +1,6 @@
 // Taking an operation back, and the end of its locks.
 ghost use Rattle.std.specs.Prelude.{◌≡◌, ◌≢◌, ◌⊎◌, ◌<◌, ◌≤◌, ◌+◌, ◌-◌, ℕ, List, [], length, get_or, false, true, IfErr, OnErr, OnOk, Ok, Some, IsSome};
+ghost use Rattle.mt_base.specs.declared.limits.TheConstants.{PAGE_BYTES};
 ghost use Rattle.mt_plock.specs.Releasing.{locks_of, locks_without};
 ghost use Rattle.mt_pool.specs.Views.{IsThere, IsFull, waits_for, pages};
 ghost use Rattle.mt_space.specs.declared.changes.PageChange.{PageChange};
@@ -104,7 +105,7 @@ impl<D: Device> Operations<D> {
     fn put_back(&mut self, scope: &OpScope, page: PageNo)
         requires kept { HasOpening D.seen D.may_leave self.old.store }
         requires looked { IsSome (looked scope.now page) }
-        requires whole { (p : ℕ) (bytes : List ℕ) → looked scope.now p ≡ Some bytes → length bytes ≡ 4096 }
+        requires whole { (p : ℕ) (bytes : List ℕ) → looked scope.now p ≡ Some bytes → length bytes ≡ PAGE_BYTES }
         requires inside { page < pages self.old.store.pool }
         requires there { IsThere self.old.store.pool page }
         requires logged { 0 < waits_for self.old.store.pool page }

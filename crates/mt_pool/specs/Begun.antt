@@ -1,5 +1,6 @@
 -- A store that begins over a device.
 use Rattle.std.specs.Prelude.{◌<◌, ◌≡◌, ℕ, List, [], Result, Ok, Err}
+use Rattle.mt_base.specs.declared.limits.TheConstants.{MASTER_BYTES}
 use Rattle.mt_log.specs.Words.{appended, used, area_size}
 use Rattle.mt_frame.specs.declared.slots.MasterSlot.{MasterSlot}
 use Rattle.mt_log.specs.Masters.{area_size as size_of}
@@ -16,8 +17,8 @@ device_after (Err gone) = gone.device
 
 -- its pages are those in the slots of the device, and its log has no record
 pub record Begins {D : Type 0} (seen : D → List ℕ) (may_leave : D → List ℕ → Type 0) (ruling : MasterSlot) (frames : ℕ) (device : D) (s : Store D) : Type 0 where
-  pub kept : IsKept seen may_leave (slot 8192 (seen device)) s
-  pub views : (q : ℕ) → q < ruling.pages → view s.pool (seen s.device) q ≡ slot 8192 (seen device) q
+  pub kept : IsKept seen may_leave (slot MASTER_BYTES (seen device)) s
+  pub views : (q : ℕ) → q < ruling.pages → view s.pool (seen s.device) q ≡ slot MASTER_BYTES (seen device) q
   pub none : appended s.log ≡ []
   pub used_head : used s.log ≡ 5
   pub size : area_size s.log ≡ size_of ruling

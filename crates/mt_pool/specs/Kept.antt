@@ -1,5 +1,6 @@
 -- What a log and a pool know together of their device.
 use Rattle.std.specs.Prelude.{◌<◌, ◌≡◌, ℕ, ◌+◌, ◌*◌, ◌≤◌, List, length, map, false, Option, None, Some}
+use Rattle.mt_base.specs.declared.limits.TheConstants.{MASTER_BYTES, MAX_PAGES, PAGE_BYTES}
 use Rattle.mt_frame.specs.declared.records.Record.{Record}
 use Rattle.mt_frame.specs.declared.records.Record.TheVariants.{Page, OpEnd, OpDropped, Commit, AbortEnd}
 use Rattle.mt_frame.specs.History.{some_record, is_of_page}
@@ -35,7 +36,7 @@ carried records = map carried_of records
 -- the slot names these pages, behind the two slots, and the area of this log
 pub record Names (ruling : MasterSlot) (pool : Pool) (log : Log) : Type 0 where
   pub count : ruling.pages ≡ pages pool
-  pub place : pool.place ≡ 8192
+  pub place : pool.place ≡ MASTER_BYTES
   pub start : start_of ruling ≡ area_start log
   pub end : end_of ruling ≡ area_end log
 
@@ -57,8 +58,8 @@ pub record Explains {D : Type 0} (opening : ℕ → List ℕ) (s : Store D) (c :
 pub record IsKept {D : Type 0} (seen : D → List ℕ) (may_leave : D → List ℕ → Type 0) (opening : ℕ → List ℕ) (s : Store D) : Type 0 where
   pub on : IsOn seen may_leave s.log s.device
   pub sound : IsSound (pages s.pool) s.log
-  pub apart : s.pool.place + 4096 * pages s.pool ≤ area_start s.log
-  pub few : pages s.pool ≤ 4000
+  pub apart : s.pool.place + PAGE_BYTES * pages s.pool ≤ area_start s.log
+  pub few : pages s.pool ≤ MAX_PAGES
   pub frames : IsPool s.pool
   pub shows : Shows s.pool (seen s.device)
   pub settled : s.settled ≡ length (durable s.log)

@@ -1,6 +1,7 @@
 -- The laws by which the pages are had from whatever a crash leaves. Each is said of a type of devices, by what a crash may leave
 -- of each.
 use Rattle.std.specs.Prelude.{◌<◌, ◌≡◌, ◌≢◌, ℕ, ◌+◌, ◌*◌, ◌≤◌, List, [], ◌∷◌, ◌++◌, length, take, set, true, false, None, Some}
+use Rattle.mt_base.specs.declared.limits.TheConstants.{PAGE_BYTES}
 use Rattle.mt_disk.specs.Disk.{Torn, Follows, Only, Apart}
 use Rattle.mt_pool.specs.Images.{Carried, has_image, page_in, slot, IsSafe, GivesPages}
 use Rattle.mt_pool.specs.Views.{IsPool, Shows, IsTied, IsImageFirst, view, pages, waits_for}
@@ -23,14 +24,14 @@ abbrev pub ElsewhereKeepsSafe : {D : Type 0} → (D → List ℕ → Type 0) →
 ElsewhereKeepsSafe {D} may_leave =
     (old new : D) (place pages : ℕ) (opening : ℕ → List ℕ) (appended : List Carried) (durable more at n : ℕ)
     → IsSafe place pages opening appended durable (may_leave old) → durable ≤ more → more ≤ length appended
-    → Apart at n place (4096 * pages) → Follows (Torn at n) (may_leave old) (may_leave new) → IsSafe place pages opening appended more (may_leave new)
+    → Apart at n place (PAGE_BYTES * pages) → Follows (Torn at n) (may_leave old) (may_leave new) → IsSafe place pages opening appended more (may_leave new)
 
 -- a write of the slot of a page with a durable image
 abbrev pub SlotKeepsSafe : {D : Type 0} → (D → List ℕ → Type 0) → Type 0
 SlotKeepsSafe {D} may_leave =
     (old new : D) (place pages : ℕ) (opening : ℕ → List ℕ) (appended : List Carried) (durable p : ℕ)
     → IsSafe place pages opening appended durable (may_leave old) → has_image (take durable appended) p ≡ true
-    → Follows (Torn (place + 4096 * p) 4096) (may_leave old) (may_leave new) → IsSafe place pages opening appended durable (may_leave new)
+    → Follows (Torn (place + PAGE_BYTES * p) PAGE_BYTES) (may_leave old) (may_leave new) → IsSafe place pages opening appended durable (may_leave new)
 
 -- a read or a sync
 abbrev pub LessKeepsSafe : {D : Type 0} → (D → List ℕ → Type 0) → Type 0
@@ -58,7 +59,7 @@ abbrev pub FlushKeepsSafe : {D : Type 0} → (D → List ℕ) → (D → List �
 FlushKeepsSafe {D} seen may_leave =
     (old new : D) (pool : Pool) (opening : ℕ → List ℕ) (appended : List Carried) (durable page : ℕ)
     → IsTied pool (seen old) opening appended → page < pages pool → 0 < waits_for pool page → waits_for pool page ≤ durable
-    → Follows (Torn (pool.place + 4096 * page) 4096) (may_leave old) (may_leave new)
+    → Follows (Torn (pool.place + PAGE_BYTES * page) PAGE_BYTES) (may_leave old) (may_leave new)
     → IsSafe pool.place (pages pool) opening appended durable (may_leave old) → IsSafe pool.place (pages pool) opening appended durable (may_leave new)
 
 -- a pool that waits for nothing is tied to an area without records, whose opening is what is there
@@ -85,7 +86,7 @@ SameViewsKeepTied =
 
 -- a write outside of the slots leaves the views, and the frames that are not to be flushed are as their slots
 abbrev pub ElsewhereKeepsViews : Type 0
-ElsewhereKeepsViews = (pool : Pool) (at n : ℕ) (seen seen2 : List ℕ) → Torn at n seen seen2 → Apart at n pool.place (4096 * pages pool) → (q : ℕ) → q < pages pool → view pool seen2 q ≡ view pool seen q
+ElsewhereKeepsViews = (pool : Pool) (at n : ℕ) (seen seen2 : List ℕ) → Torn at n seen seen2 → Apart at n pool.place (PAGE_BYTES * pages pool) → (q : ℕ) → q < pages pool → view pool seen2 q ≡ view pool seen q
 
 abbrev pub ElsewhereKeepsShows : Type 0
-ElsewhereKeepsShows = (pool : Pool) (at n : ℕ) (seen seen2 : List ℕ) → IsPool pool → Torn at n seen seen2 → Apart at n pool.place (4096 * pages pool) → Shows pool seen → Shows pool seen2
+ElsewhereKeepsShows = (pool : Pool) (at n : ℕ) (seen seen2 : List ℕ) → IsPool pool → Torn at n seen seen2 → Apart at n pool.place (PAGE_BYTES * pages pool) → Shows pool seen → Shows pool seen2

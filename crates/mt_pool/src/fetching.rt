@@ -1,5 +1,6 @@
 // Pages come into frames.
 ghost use Rattle.std.specs.Prelude.{◌≡◌, ◌<◌, ◌≤◌, ◌+◌, ℕ, List, [], length, get_or, Ok, Some, None, OnOk};
+ghost use Rattle.mt_base.specs.declared.limits.TheConstants.{PAGE_BYTES};
 ghost use Rattle.mt_disk.specs.Disk.{Elapses, HasCause};
 ghost use Rattle.mt_pool.specs.Images.{slot};
 
@@ -103,7 +104,7 @@ impl Pool {
         requires shows { Shows self.now (D.seen device.old) }
         requires inside { page < pages self.now }
         ensures copied { OnOk result (bytes.new ≡ view self.now (D.seen device.old) page) }
-        ensures whole { length bytes.new ≡ 4096 }
+        ensures whole { length bytes.new ≡ PAGE_BYTES }
         ensures seen { D.seen device.new ≡ D.seen device.old }
         ensures crash { (c : List ℕ) → D.may_leave device.new c → D.may_leave device.old c }
         ensures time { Elapses (D.moment device.old) (D.moment device.new) (D.left_since device.old)

@@ -1,5 +1,6 @@
 // Pages are written back under the write-ahead rule.
 ghost use Rattle.std.specs.Prelude.{◌≡◌, ◌⊎◌, ◌<◌, ◌≤◌, ◌+◌, ◌*◌, ℕ, length, get_or, set, IsErr, Ok, Some, None, true, false};
+ghost use Rattle.mt_base.specs.declared.limits.TheConstants.{PAGE_BYTES};
 ghost use Rattle.mt_disk.specs.Disk.{Torn, Follows, Elapses, HasCause};
 
 use crate::Pool;
@@ -71,8 +72,8 @@ impl Pool {
         // A page is written in place only after every record of its changes is durable.
         ensures crash { (device.new ≡ device.old) ⊎ ((p : ℕ) × (p < pages self.old) × (0 < waits_for self.old p)
             × (waits_for self.old p ≤ durable)
-            × Torn (self.old.place + 4096 * p) 4096 (D.seen device.old) (D.seen device.new)
-            × Follows (Torn (self.old.place + 4096 * p) 4096) (D.may_leave device.old) (D.may_leave device.new)) }
+            × Torn (self.old.place + PAGE_BYTES * p) PAGE_BYTES (D.seen device.old) (D.seen device.new)
+            × Follows (Torn (self.old.place + PAGE_BYTES * p) PAGE_BYTES) (D.may_leave device.old) (D.may_leave device.new)) }
         ensures time { Elapses (D.moment device.old) (D.moment device.new) (D.left_since device.old)
             (D.left_since device.new) (D.may_leave device.new) }
         ensures page { (p : ℕ) → result ≡ Ok (flushed.Page p) → Cleans self.old self.new durable p }

@@ -1,5 +1,6 @@
 // A device, the log of its area and the pool of its pages, each of which keeps to the others' rules.
 ghost use Rattle.std.specs.Prelude.{◌≡◌, ◌≢◌, ◌⊎◌, ◌<◌, ◌≤◌, ◌+◌, ◌-◌, ◌*◌, ◌++◌, ◌∷◌, [], ℕ, List, length, take, drop, set, get_or, None, false, true, IsOk, IsErr, OnOk, OnErr, IfOk, IfErr, Ok};
+ghost use Rattle.mt_base.specs.declared.limits.TheConstants.{MASTER_BYTES, PAGE_BYTES};
 ghost use Rattle.mt_base.specs.Edits.{patched, log_size};
 ghost use Rattle.mt_base.specs.declared.refusal.Refusal.{Refusal};
 ghost use Rattle.mt_disk.specs.Disk.{Torn, Only, LeavesOnly, Elapses, HasCause};
@@ -73,9 +74,9 @@ impl<D: Device> Store<D> {
         ruling: MasterSlot,
     ) -> Result<Store<D>, NotBegun<D>>
         requires rules { IsRuling (D.seen device) ruling }
-        ensures kept { IfOk result (λ store. IsKept D.seen D.may_leave (slot 8192 (D.seen device)) store) }
+        ensures kept { IfOk result (λ store. IsKept D.seen D.may_leave (slot MASTER_BYTES (D.seen device)) store) }
         ensures views { IfOk result (λ store. (q : ℕ) → q < ruling.pages
-            → view store.pool (D.seen store.device) q ≡ slot 8192 (D.seen device) q) }
+            → view store.pool (D.seen store.device) q ≡ slot MASTER_BYTES (D.seen device) q) }
         ensures appended { IfOk result (λ store. appended store.log ≡ []) }
         ensures used { IfOk result (λ store. used store.log ≡ 5) }
         ensures area { IfOk result (λ store. area_size store.log ≡ size_of ruling) }
@@ -255,7 +256,7 @@ impl<D: Device> Store<D> {
         ensures time { Elapses (D.moment self.old.device) (D.moment self.new.device) (D.left_since self.old.device)
             (D.left_since self.new.device) (D.may_leave self.new.device) }
         ensures copied { OnOk result (bytes.new ≡ view self.old.pool (D.seen self.old.device) page) }
-        ensures whole { length bytes.new ≡ 4096 }
+        ensures whole { length bytes.new ≡ PAGE_BYTES }
         ensures seen { D.seen self.new.device ≡ D.seen self.old.device }
         ensures pool { self.new.pool ≡ self.old.pool }
         ensures log { self.new.log ≡ self.old.log }
@@ -269,7 +270,7 @@ impl<D: Device> Store<D> {
         requires kept { HasOpening D.seen D.may_leave self.old }
         requires there { IsThere self.old.pool page }
         requires inside { page < pages self.old.pool }
-        requires range { start + length before.now ≤ 4096 }
+        requires range { start + length before.now ≤ PAGE_BYTES }
         requires logged { 0 < waits_for self.old.pool page }
         ensures kept { (opening : ℕ → List ℕ) → IsKept D.seen D.may_leave opening self.old
             → IsKept D.seen D.may_leave opening self.new }
@@ -333,7 +334,7 @@ impl<D: Device> Store<D> {
         requires short { IsShort (view self.old.pool (D.seen self.old.device) change.now.page) change.now }
         requires numbers { IsTxn txn × IsOp op }
         requires unfinished { IsUnfinished txn op (appended self.old.log) }
-        requires fits { used self.old.log + log_size change.now.edits.items + 4096 < area_size self.old.log }
+        requires fits { used self.old.log + log_size change.now.edits.items + PAGE_BYTES < area_size self.old.log }
         ensures kept { (opening : ℕ → List ℕ) → IsKept D.seen D.may_leave opening self.old
             → IsKept D.seen D.may_leave opening self.new }
         ensures moments { (opening : ℕ → List ℕ) → IsKept D.seen D.may_leave opening self.old
@@ -357,7 +358,7 @@ impl<D: Device> Store<D> {
         // These records end neither a transaction nor an operation.
         ensures ends_none { (t o : ℕ) → IsUnfinished t o (appended self.old.log)
             → IsUnfinished t o (appended self.new.log) }
-        ensures used { OnOk result (used self.new.log ≤ used self.old.log + log_size change.now.edits.items + 4096) }
+        ensures used { OnOk result (used self.new.log ≤ used self.old.log + log_size change.now.edits.items + PAGE_BYTES) }
         ensures durable { durable self.new.log ≡ durable self.old.log }
         ensures err_appended { OnErr result (appended self.new.log ≡ appended self.old.log) }
         ensures err_used { OnErr result (used self.new.log ≡ used self.old.log) }

@@ -1,6 +1,7 @@
 // The store goes on over an area that begins with images.
 ghost use Rattle.std.specs.Prelude.{◌≡◌, ◌⊎◌, ◌+◌, ◌*◌, ◌<◌, ◌≤◌, ◌^◌, [], ℕ, List, length};
 ghost use Rattle.std.specs.List.{AllByRecursion};
+ghost use Rattle.mt_base.specs.declared.limits.TheConstants.{MAX_PAGES, PAGE_BYTES};
 ghost use Rattle.mt_frame.specs.declared.records.Record.{Record};
 ghost use Rattle.mt_log.specs.Masters.{IsRuling};
 ghost use Rattle.mt_log.specs.Sound.{IsSound};
@@ -52,8 +53,8 @@ impl<D: Device> Store<D> {
         requires sound { IsSound (pages_of pool) log }
         requires durable { (durable log ≡ images.now) × (in_flight log ≡ []) × (waiting log ≡ []) }
         requires images { AllByRecursion (IsImageOnly (pages_of pool)) images.now }
-        requires apart { pool.place + 4096 * pages_of pool ≤ area_start log }
-        requires few { pages_of pool ≤ 4000 }
+        requires apart { pool.place + PAGE_BYTES * pages_of pool ≤ area_start log }
+        requires few { pages_of pool ≤ MAX_PAGES }
         requires names { Names ruling pool log }
         requires rules { (c : List ℕ) → D.may_leave device c → IsRuling c ruling }
         requires pool { IsPool pool × Shows pool (D.seen device) × ((q : ℕ) → waits_for pool q ≡ 0) }

@@ -1,6 +1,7 @@
 // A change of a page as records of the log.
 ghost use Rattle.std.specs.Prelude.{◌≡◌, ◌≤◌, ◌<◌, ◌+◌, ℕ, List, length, [], false, All, IfOk, IfErr, OnOk, OnErr};
 ghost use Rattle.std.specs.List.{AllByRecursion};
+ghost use Rattle.mt_base.specs.declared.limits.TheConstants.{BATCH_HEAD_BYTES, LARGEST_PAGE_RECORD, PAGE_BYTES};
 ghost use Rattle.mt_base.specs.Edits.{patched};
 ghost use Rattle.mt_base.specs.declared.refusal.Refusal.{Refusal};
 ghost use Rattle.mt_frame.specs.Grammar.{IsRecord};
@@ -38,7 +39,7 @@ fn range_record(
     new: &[u8; 4096],
     edit: &Edit,
 ) -> Result<Record, AllocError>
-    requires { edit.now.start + length edit.now.bytes ≤ 4096 }
+    requires { edit.now.start + length edit.now.bytes ≤ PAGE_BYTES }
     ensures { IfOk result (λ entry. entry ≡ range_record change.now.txn change.now.op change.now.page image old.now
         new.now edit.now) }
 {
@@ -64,7 +65,7 @@ pub(crate) fn records_of(
     new: &[u8; 4096],
     edits: &[Edit],
 ) -> Result<VecDeque<Record>, AllocError>
-    requires { All (λ e. e.start + length e.bytes ≤ 4096) edits.now }
+    requires { All (λ e. e.start + length e.bytes ≤ PAGE_BYTES) edits.now }
     ensures { IfOk result (λ records. records.items
         ≡ change_records change.now.txn change.now.op change.now.page image old.now new.now edits.now) }
 {
@@ -106,12 +107,12 @@ impl Pool {
         requires pool { IsPool self.now }
         requires there { IsThere self.now change.now.page }
         requires inside { change.now.page < pages self.now }
-        requires within { All (λ e. e.start + length e.bytes ≤ 4096) change.now.edits.items }
+        requires within { All (λ e. e.start + length e.bytes ≤ PAGE_BYTES) change.now.edits.items }
         ensures records { (seen : List ℕ) → IfOk result (λ records. let page = view self.now seen change.now.page in
             records.items ≡ change_records txn op change.now.page (due_image self.now change.now.page page) page
             (patched change.now.edits.items page) change.now.edits.items) }
         ensures size { (seen : List ℕ) → OnOk result
-            (length (patched change.now.edits.items (view self.now seen change.now.page)) ≡ 4096) }
+            (length (patched change.now.edits.items (view self.now seen change.now.page)) ≡ PAGE_BYTES) }
     {
         let page = change.page;
         let old = self.view(page);
@@ -127,7 +128,7 @@ impl Pool {
         requires pool { IsPool self.old }
         requires there { IsThere self.old page }
         requires inside { page < pages self.old }
-        requires within { All (λ e. e.start + length e.bytes ≤ 4096) edits.now }
+        requires within { All (λ e. e.start + length e.bytes ≤ PAGE_BYTES) edits.now }
         requires some { 0 < length edits.now }
         requires position { 0 < position }
         ensures { IsEdited self.old self.new page edits.now position }
@@ -145,7 +146,7 @@ pub(crate) fn append_all(log: &mut Log, records: VecDeque<Record>) -> Result<Log
     requires some { 0 < length records.items }
     requires grammar { AllByRecursion IsRecord records.items }
     requires fits { used log.old + records_size records.items < area_size log.old }
-    requires short { records_size records.items ≤ 12317 }
+    requires short { records_size records.items ≤ (BATCH_HEAD_BYTES + LARGEST_PAGE_RECORD) }
     ensures longer { OnOk result (IsLonger log.old log.new records.items) }
     ensures used { OnOk result (used log.new ≡ used log.old + records_size records.items) }
     ensures place { IfOk result (λ place. place ≡ length (appended log.new)) }

@@ -1,5 +1,6 @@
 -- Pages that break no rule, and the parts of that which are looked at one after the other.
 use Rattle.std.specs.Prelude.{◌≡◌, ℕ, ◌<◌, List, length, Some}
+use Rattle.mt_base.specs.declared.limits.TheConstants.{MAX_VALUE_BYTES}
 use Rattle.mt_base.specs.Limits.{IsRelationCount}
 use Rattle.mt_base.specs.declared.numbers.RecordName.{RecordName}
 use Rattle.mt_bucket.specs.Page.{count_of}
@@ -30,7 +31,7 @@ pub record HasSchema (items : List (List ℕ)) (relations counters : ℕ) : Type
 
 -- a page of records is one of so many relations, and each is
 abbrev pub IsRecordPage : List (List ℕ) → ℕ → ℕ → Type 0
-IsRecordPage items relations p = kind (bytes_of items) p ≡ 3 → IsPage relations 1024 (bytes_of items p)
+IsRecordPage items relations p = kind (bytes_of items) p ≡ 3 → IsPage relations MAX_VALUE_BYTES (bytes_of items p)
 
 abbrev pub AreRecordPages : List (List ℕ) → ℕ → Type 0
 AreRecordPages items relations = (p : ℕ) → p < length items → IsRecordPage items relations p

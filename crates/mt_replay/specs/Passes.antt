@@ -4,6 +4,7 @@ use Rattle.std.specs.BTreeMap.{get}
 use Rattle.std.specs.Global.{Global}
 use Rattle.std.specs.List.{AllByRecursion}
 use Rattle.std.specs.Ordering.{nat_cmp}
+use Rattle.mt_base.specs.declared.limits.TheConstants.{PAGE_BYTES}
 use Rattle.mt_frame.specs.History.{some_record}
 use Rattle.mt_frame.specs.declared.records.Record.{Record}
 use Rattle.mt_frame.specs.declared.records.Record.TheVariants.{Page, OpEnd, OpDropped, Commit, AbortEnd}
@@ -45,7 +46,7 @@ pub record IsShown (r : Repeating) (x : Repeated) : Type 0 where
 -- a change lies within a page that is there
 pub record Fits (total : ℕ) (u : Unfinished) : Type 0 where
   pub inside : u.page < total
-  pub range : u.start + length u.old ≤ 4096
+  pub range : u.start + length u.old ≤ PAGE_BYTES
 
 abbrev pub AllFit : ℕ → Option (Vec Unfinished Global) → Type 0
 AllFit total None = Unit {0}

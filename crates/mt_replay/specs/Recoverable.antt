@@ -2,6 +2,7 @@
 -- speaks of the opening pages and the records alone.
 use Rattle.std.specs.Prelude.{◌≡◌, ◌+◌, ◌*◌, ◌<◌, ◌≤◌, ℕ, List, [], ◌∷◌, ◌++◌, length}
 use Rattle.std.specs.List.{AllByRecursion}
+use Rattle.mt_base.specs.declared.limits.TheConstants.{PAGE_BYTES}
 use Rattle.mt_frame.specs.declared.records.Record.{Record}
 use Rattle.mt_frame.specs.declared.records.LoggedOp.{LoggedOp}
 use Rattle.mt_frame.specs.declared.records.LoggedOp.TheVariants.{Insert, Update, Delete, Add}
@@ -53,7 +54,7 @@ IsOf relations counters (Add c d) = c < counters
 
 -- log bytes of the images of all pages that an inverse may change: 8 of 4,096 bytes, each with a head of 24
 abbrev pub inverse_images : ℕ
-inverse_images = 8 * (24 + 4096)
+inverse_images = 8 * (24 + PAGE_BYTES)
 
 -- A restart over these records finds the base that they stand for, behind the first base of the opening pages. In an
 -- area of `bytes` bytes the images of all pages that the losers' inverses change fit into the first batch of another one.

@@ -1,6 +1,7 @@
 -- What a restart in memory finds in any bytes, and why it refuses bytes.
 use Rattle.std.specs.Prelude.{◌≡◌, ◌⊎◌, ℕ, ◌+◌, ◌*◌, List, length}
 use Rattle.std.specs.List.{AllByRecursion}
+use Rattle.mt_base.specs.declared.limits.TheConstants.{MASTER_BYTES, PAGE_BYTES}
 use Rattle.mt_base.specs.declared.refusal.Refusal.{Refusal}
 use Rattle.mt_base.specs.declared.refusal.Refusal.TheVariants.{NoMemory, DeviceFailed, NotFormatted, BadFormat}
 use Rattle.mt_frame.specs.declared.records.Record.{Record}
@@ -29,7 +30,7 @@ pub record AreRepeated (c : List ℕ) (slot : MasterSlot) (batches : List Batch)
   pub area : HasArea c slot (records_of batches)
   pub places : places_of batches ≡ places_from (area_start slot) (records_of batches)
   pub count : length held ≡ slot.pages
-  pub pages : (opening : PageBytes) → GivesPages 8192 slot.pages opening (carried (joined (records_of batches))) c
+  pub pages : (opening : PageBytes) → GivesPages MASTER_BYTES slot.pages opening (carried (joined (records_of batches))) c
       → AreFirst held (pages_held opening (joined (records_of batches)))
   pub losers : all_finished list ≡ losers (joined (records_of batches))
   pub ended : AllByRecursion (HasEnded batches) list
@@ -59,7 +60,7 @@ pub record IsLog (c : List ℕ) (slot : MasterSlot) (figures : Figures) : Type 0
 
 -- the place of the slot of a page that breaks a rule
 abbrev pub IsFaultAt : List (List ℕ) → ℕ → Type 0
-IsFaultAt held at = (p : ℕ) × (at ≡ 8192 + 4096 * p) × IsFaulty held p
+IsFaultAt held at = (p : ℕ) × (at ≡ MASTER_BYTES + PAGE_BYTES * p) × IsFaulty held p
 
 -- a page held breaks a rule, or none does and an inverse is not what its loser's record says
 abbrev pub StopsUndoing : List (List ℕ) → List Loser → ℕ → Type 0

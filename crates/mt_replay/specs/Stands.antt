@@ -1,5 +1,6 @@
 -- What the bytes of a device stand for, told without a restart's passes.
 use Rattle.std.specs.Prelude.{◌≡◌, ℕ, List, length}
+use Rattle.mt_base.specs.declared.limits.TheConstants.{MASTER_BYTES}
 use Rattle.mt_frame.specs.declared.records.Record.{Record}
 use Rattle.mt_frame.specs.declared.slots.MasterSlot.{MasterSlot}
 use Rattle.mt_log.specs.Batch.{joined}
@@ -23,7 +24,7 @@ use Rattle.mt_steps.specs.Plans.{IsGood}
 pub record IsReadAs (c : List ℕ) (slot : MasterSlot) (opening : PageBytes) (batches : List (List Record)) : Type 0 where
   pub rules : IsRuling c slot
   pub held : HoldsBatches c (area_start slot) (area_end slot) slot.pages batches
-  pub gives : GivesPages 8192 slot.pages opening (carried (joined batches)) c
+  pub gives : GivesPages MASTER_BYTES slot.pages opening (carried (joined batches)) c
 
 -- The bytes stand for this base: of what the opening pages hold, what the area's committed transactions lead to, each
 -- alone, in the order of their commits.

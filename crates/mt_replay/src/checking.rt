@@ -1,5 +1,6 @@
 // Whether all pages of a device break no rule of their formats, whatever their bytes are.
 ghost use Rattle.std.specs.Prelude.{◌≡◌, ◌⊎◌, ◌+◌, ◌*◌, ◌<◌, ◌≤◌, ℕ, length, IfOk, IfSome, MatchBool, MatchOption};
+ghost use Rattle.mt_base.specs.declared.limits.TheConstants.{MAX_PAGES, PAGE_BYTES};
 ghost use Rattle.mt_bucket.specs.Page.{count_of, IsBucket};
 ghost use Rattle.mt_index.specs.Checks.{bytes_of, IsSound};
 ghost use Rattle.mt_space.specs.Kinds.{kind};
@@ -21,7 +22,7 @@ const MAX_SLOTS: u16 = 1022;
 
 // The place of a slot among those of all pages.
 fn place_of(page: usize, slot: u16) -> usize
-    requires { page < 4096 }
+    requires { page < PAGE_BYTES }
     ensures { result ≡ 1022 * page + slot }
 {
     usize::from(MAX_SLOTS) * page + usize::from(slot)
@@ -33,7 +34,7 @@ pub(crate) struct AllPages {
     pub(crate) pages: Vec<[u8; 4096]>,
     ghost whole: { AreWhole pages.items },
     ghost some: { 16 ≤ length pages.items },
-    ghost few: { length pages.items ≤ 4000 },
+    ghost few: { length pages.items ≤ MAX_PAGES },
 }
 
 impl AllPages {

@@ -1,5 +1,6 @@
 // The pages that a log's area found: each is its first image in the area, or else what its slot has.
 ghost use Rattle.std.specs.Prelude.{◌≡◌, ◌⊎◌, ◌+◌, ◌*◌, ◌<◌, ◌≤◌, ◌^◌, ◌∷◌, [], ℕ, length, get_or, IfOk, IfErr, OnOk, IsOk};
+ghost use Rattle.mt_base.specs.declared.limits.TheConstants.{MASTER_BYTES, PAGE_BYTES};
 ghost use Rattle.mt_base.specs.declared.refusal.Refusal.{Refusal};
 ghost use Rattle.mt_frame.specs.Grammar.{IsRecord};
 ghost use Rattle.mt_log.specs.Batch.{joined};
@@ -67,9 +68,9 @@ fn read_slot<D: Device>(
     page: u16,
     bytes: &mut [u8; 4096],
 ) -> Result<(), DeviceFault>
-    requires { 8192 + 4096 * page + 4096 ≤ length (D.seen device.old) }
-    ensures size { length bytes.new ≡ 4096 }
-    ensures read { OnOk result (bytes.new ≡ slot 8192 (D.seen device.old) page) }
+    requires { MASTER_BYTES + PAGE_BYTES * page + PAGE_BYTES ≤ length (D.seen device.old) }
+    ensures size { length bytes.new ≡ PAGE_BYTES }
+    ensures read { OnOk result (bytes.new ≡ slot MASTER_BYTES (D.seen device.old) page) }
     ensures reads { OnlyReads D.seen D.may_leave D.moment D.left_since device.old device.new }
     ensures cause { HasCause (D.faults device.old) (D.faults device.new) result }
 {
@@ -82,11 +83,11 @@ pub(crate) fn read_slots<D: Device>(
     device: &mut D,
     count: u16,
 ) -> Result<Vec<[u8; 4096]>, Refusal>
-    requires { 8192 + 4096 * count ≤ length (D.seen device.old) }
+    requires { MASTER_BYTES + PAGE_BYTES * count ≤ length (D.seen device.old) }
     ensures whole { IfOk result (λ pages. AreWhole pages.items) }
     ensures count { IfOk result (λ pages. length pages.items ≡ count) }
     ensures read { IfOk result (λ pages. (p : ℕ) → p < count
-        → get_or pages.items p [] ≡ slot 8192 (D.seen device.old) p) }
+        → get_or pages.items p [] ≡ slot MASTER_BYTES (D.seen device.old) p) }
     ensures reads { OnlyReads D.seen D.may_leave D.moment D.left_since device.old device.new }
     ensures quiet { IsOk result → D.faults device.new ≡ D.faults device.old }
     ensures cause { IfErr result (λ why. (why ≡ Refusal.NoMemory) ⊎ (why ≡ Refusal.DeviceFailed)

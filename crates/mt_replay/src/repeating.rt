@@ -1,6 +1,7 @@
 // History repeated in memory: the records of a log's area over the pages that the area found.
 ghost use Rattle.std.specs.Prelude.{◌≡◌, ◌+◌, ◌<◌, ◌≤◌, ◌∷◌, [], length, get_or, map, OnOk, IfErr};
 ghost use Rattle.std.specs.List.{AllByRecursion};
+ghost use Rattle.mt_base.specs.declared.limits.TheConstants.{PAGE_BYTES};
 ghost use Rattle.mt_base.specs.Edits.{splice};
 ghost use Rattle.mt_base.specs.declared.refusal.Refusal.{Refusal};
 ghost use Rattle.mt_frame.specs.Grammar.{IsRecord};
@@ -49,7 +50,7 @@ pub(crate) struct TakingBack {
 fn put(pages: &mut Vec<[u8; 4096]>, page: PageNo, start: u16, bytes: &[u8])
     requires whole { AreWhole pages.old.items }
     requires inside { page < length pages.old.items }
-    requires range { start + length bytes.now ≤ 4096 }
+    requires range { start + length bytes.now ≤ PAGE_BYTES }
     ensures { Sets pages.old.items pages.new.items page (splice start bytes.now (get_or pages.old.items page [])) }
 {
     let from = usize::from(start);

@@ -1,5 +1,6 @@
 // From the bytes of a device to the pages held.
 ghost use Rattle.std.specs.Prelude.{◌≡◌, ◌⊎◌, ◌+◌, ◌*◌, ◌<◌, ◌≤◌, ℕ, List, length, IfOk, IfErr, IsOk};
+ghost use Rattle.mt_base.specs.declared.limits.TheConstants.{MASTER_BYTES, PAGE_BYTES};
 ghost use Rattle.mt_base.specs.declared.refusal.Refusal.{Refusal};
 ghost use Rattle.mt_disk.specs.Disk.{LeavesOnly};
 ghost use Rattle.mt_log.specs.Batch.{joined};
@@ -33,12 +34,12 @@ pub fn held_pages<D: Device>(
     count: u16,
     batches: &[Batch],
 ) -> Result<Vec<[u8; 4096]>, Refusal>
-    requires slots { 8192 + 4096 * count ≤ length (D.seen device.old) }
+    requires slots { MASTER_BYTES + PAGE_BYTES * count ≤ length (D.seen device.old) }
     requires each { AreBatches count (records_of batches.now) }
     ensures whole { IfOk result (λ pages. AreWhole pages.items) }
     ensures count { IfOk result (λ pages. length pages.items ≡ count) }
     ensures held { (opening : PageBytes)
-        → GivesPages 8192 count opening (carried (joined (records_of batches.now))) (D.seen device.old)
+        → GivesPages MASTER_BYTES count opening (carried (joined (records_of batches.now))) (D.seen device.old)
         → IfOk result (λ pages. AreFirst pages.items (pages_held opening (joined (records_of batches.now)))) }
     ensures seen { D.seen device.new ≡ D.seen device.old }
     ensures crash { (c : List ℕ) → D.may_leave device.new c → D.may_leave device.old c }

@@ -1,5 +1,6 @@
 // From the bytes of a device to the pages that they stand for.
 ghost use Rattle.std.specs.Prelude.{◌≡◌, ◌⊎◌, ◌<◌, ◌≤◌, ℕ, List, ◌^◌, length, IfOk, IfErr, IsOk};
+ghost use Rattle.mt_base.specs.declared.limits.TheConstants.{MAX_PAGES};
 ghost use Rattle.mt_base.specs.declared.refusal.Refusal.{Refusal};
 ghost use Rattle.mt_disk.specs.Disk.{LeavesOnly};
 ghost use Rattle.mt_frame.specs.declared.records.Record.{Record};
@@ -68,7 +69,7 @@ fn read_area<D: Device>(
 fn undone(alloc: Global, pages: Vec<[u8; 4096]>, losers: &[Loser]) -> Result<Restored, Refusal>
     requires whole { AreWhole pages.items }
     requires some { 16 ≤ length pages.items }
-    requires few { length pages.items ≤ 4000 }
+    requires few { length pages.items ≤ MAX_PAGES }
     requires grammar { AllByRecursion (λ loser. IsOperation loser.done) losers.now }
     ensures found { (relations counters : ℕ) (b : Base) → AreHeld relations counters pages.items losers.now b
         → IfOk result (λ restored. ShowsBase relations counters restored.pages.items b) }

@@ -1,6 +1,7 @@
 // The last pass of a restart: inverses on pages in memory, which are not logged.
 ghost use Rattle.std.specs.Prelude.{◌≡◌, ◌↔◌, ◌⊎◌, ◌<◌, ◌≤◌, ◌+◌, ◌*◌, [], ℕ, All, true, false, length, get_or, Ok, Err, IsTrue, IfOk, IfErr, OnErr};
 ghost use Rattle.std.specs.List.{AllByRecursion};
+ghost use Rattle.mt_base.specs.declared.limits.TheConstants.{MASTER_BYTES, MAX_PAGES, PAGE_BYTES};
 ghost use Rattle.mt_base.specs.Edits.{patched};
 ghost use Rattle.mt_base.specs.declared.refusal.Refusal.{Refusal};
 ghost use Rattle.mt_frame.specs.Grammar.{IsOperation};
@@ -35,7 +36,7 @@ pub struct Restored {
     /// The bytes of each page, by its number.
     pub pages: Vec<[u8; 4096]>,
     ghost whole: { AreWhole pages.items },
-    ghost few: { length pages.items ≤ 4000 },
+    ghost few: { length pages.items ≤ MAX_PAGES },
     ghost good: { AreGood pages.items },
 }
 
@@ -121,7 +122,7 @@ fn bytes_put_back(done: &LoggedOp) -> usize
 fn patch_one(pages: &mut Vec<[u8; 4096]>, page: PageNo, edits: &[Edit])
     requires whole { AreWhole pages.old.items }
     requires inside { page < length pages.old.items }
-    requires fits { All (λ e. e.start + length e.bytes ≤ 4096) edits.now }
+    requires fits { All (λ e. e.start + length e.bytes ≤ PAGE_BYTES) edits.now }
     ensures { Sets pages.old.items pages.new.items page (patched edits.now (get_or pages.old.items page [])) }
 {
     patch(&mut pages[usize::from(page.get())], edits);
@@ -152,12 +153,12 @@ impl Restored {
     pub fn checked(alloc: Global, pages: Vec<[u8; 4096]>) -> Result<Restored, Refusal>
         requires whole { AreWhole pages.items }
         requires some { 16 ≤ length pages.items }
-        requires few { length pages.items ≤ 4000 }
+        requires few { length pages.items ≤ MAX_PAGES }
         ensures pages { IfOk result (λ restored. restored.pages.items ≡ pages.items) }
         ensures good { IfOk result (λ restored. AreChecked restored.pages.items) }
         ensures bad { (at : ℕ) → result ≡ Err (Refusal.BadFormat at) → AreBroken pages.items }
         ensures cause { IfErr result (λ why. (why ≡ Refusal.NoMemory)
-            ⊎ ((p : ℕ) × (why ≡ Refusal.BadFormat (8192 + 4096 * p)) × IsFaulty pages.items p)) }
+            ⊎ ((p : ℕ) × (why ≡ Refusal.BadFormat (MASTER_BYTES + PAGE_BYTES * p)) × IsFaulty pages.items p)) }
     {
         let all = AllPages { pages };
         let broken = all.first_broken(alloc)?;

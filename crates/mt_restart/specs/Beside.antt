@@ -1,5 +1,6 @@
 -- What a kernel has beside its device and its log.
 use Rattle.std.specs.Prelude.{◌≡◌, ◌<◌, ◌≤◌, ◌+◌, ◌*◌, ℕ, List, [], length, get_or}
+use Rattle.mt_base.specs.declared.limits.TheConstants.{MASTER_BYTES, PAGE_BYTES}
 use Rattle.mt_index.specs.Checks.{bytes_of}
 use Rattle.mt_model.specs.Tables.{count_at}
 use Rattle.mt_op.specs.Begun.{FitsPages}
@@ -13,10 +14,10 @@ use Rattle.mt_restart.specs.declared.beside.Beside.{Beside}
 -- way; and the counters of the third page, to which no add is pending.
 pub record IsBeside (items : List (List ℕ)) (frame_count : ℕ) (b : Beside) : Type 0 where
   pub pool : IsPool b.pool
-  pub shows : (c : List ℕ) → 8192 + 4096 * length items ≤ length c → Shows b.pool c
-  pub views : (c : List ℕ) (p : ℕ) → view b.pool c p ≡ slot 8192 c p
+  pub shows : (c : List ℕ) → MASTER_BYTES + PAGE_BYTES * length items ≤ length c → Shows b.pool c
+  pub views : (c : List ℕ) (p : ℕ) → view b.pool c p ≡ slot MASTER_BYTES c p
   pub waits : (p : ℕ) → waits_for b.pool p ≡ 0
-  pub place : b.pool.place ≡ 8192
+  pub place : b.pool.place ≡ MASTER_BYTES
   pub page_count : pages b.pool ≡ length items
   pub many : frames b.pool ≡ frame_count
   pub fits : FitsPages (length items) (bytes_of items) b.idle

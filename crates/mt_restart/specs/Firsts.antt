@@ -1,5 +1,6 @@
 -- What is begun over a device that is formatted.
 use Rattle.std.specs.Prelude.{◌≡◌, ◌≤◌, ◌+◌, ◌*◌, ℕ, List, [], ◌∷◌, length}
+use Rattle.mt_base.specs.declared.limits.TheConstants.{MASTER_BYTES, MIB_BYTES}
 use Rattle.mt_escrow.specs.Seen.{Escrowed}
 use Rattle.mt_log.specs.Sound.{IsSound}
 use Rattle.mt_log.specs.Words.{appended, durable, in_flight, waiting, used, area_size, area_start, area_end, stands_at}
@@ -23,7 +24,7 @@ pub record IsFirstLog (s : Schema) (log : Log) : Type 0 where
   pub stands : stands_at log ≡ (pages_end s, schema_end s, pages_end s + 5, [] ∷ [], [], Idle)
   pub start : area_start log ≡ pages_end s
   pub end : area_end log ≡ schema_end s
-  pub size : area_size log ≡ mib_in s * 1048576
+  pub size : area_size log ≡ mib_in s * MIB_BYTES
   pub none : durable log ≡ []
   pub flying : in_flight log ≡ []
   pub waits : waiting log ≡ []
@@ -34,31 +35,31 @@ pub record IsFirstLog (s : Schema) (log : Log) : Type 0 where
 pub record IsFirstPool (s : Schema) (frame_count : ℕ) (pool : Pool) : Type 0 where
   pub sound : IsPool pool
   pub shows : (c : List ℕ) → pages_end s ≤ length c → Shows pool c
-  pub views : (c : List ℕ) (q : ℕ) → view pool c q ≡ slot 8192 c q
+  pub views : (c : List ℕ) (q : ℕ) → view pool c q ≡ slot MASTER_BYTES c q
   pub waits : (q : ℕ) → waits_for pool q ≡ 0
-  pub place : pool.place ≡ 8192
+  pub place : pool.place ≡ MASTER_BYTES
   pub page_count : pages pool ≡ pages_in s
   pub many : frames pool ≡ frame_count
 
 -- a store over the device, with both
 pub record IsFirstStore {D : Type 0} (seen : D → List ℕ) (may_leave : D → List ℕ → Type 0) (s : Schema) (frame_count : ℕ) (device : D) (store : Store D) : Type 0 where
   pub same : store.device ≡ device
-  pub kept : IsKept seen may_leave (slot 8192 (seen device)) store
-  pub shows : ShowsOpening seen (slot 8192 (seen device)) store
+  pub kept : IsKept seen may_leave (slot MASTER_BYTES (seen device)) store
+  pub shows : ShowsOpening seen (slot MASTER_BYTES (seen device)) store
   pub empty : appended store.log ≡ []
   pub head : used store.log ≡ 5
-  pub size : area_size store.log ≡ mib_in s * 1048576
+  pub size : area_size store.log ≡ mib_in s * MIB_BYTES
   pub page_count : pages store.pool ≡ pages_in s
   pub many : frames store.pool ≡ frame_count
 
 -- operations over it, of which none is under way
 pub record AreFirst {D : Type 0} (seen : D → List ℕ) (may_leave : D → List ℕ → Type 0) (s : Schema) (device : D) (o : Operations D) : Type 0 where
-  pub right : IsRight seen may_leave (slot 8192 (seen device)) (relations_in s) (length (counters_in s)) o
+  pub right : IsRight seen may_leave (slot MASTER_BYTES (seen device)) (relations_in s) (length (counters_in s)) o
   pub locks : o.locks ≡ []
   pub unclaimed : claimed o ≡ 0
   pub empty : appended o.store.log ≡ []
   pub head : used o.store.log ≡ 5
-  pub size : area_size o.store.log ≡ mib_in s * 1048576
+  pub size : area_size o.store.log ≡ mib_in s * MIB_BYTES
 
 -- Operations over a device that was formatted, and an escrow of the schema's counters: they begin on pages that hold its first base.
 pub record AreFresh {D : Type 0} (seen : D → List ℕ) (may_leave : D → List ℕ → Type 0) (s : Schema) (o : Operations D) (e : Escrowed) : Type 0 where

@@ -1,6 +1,7 @@
 -- A device as it is formatted.
 use Rattle.std.specs.Prelude.{◌≡◌, ◌≢◌, ◌⊎◌, ◌<◌, ◌≤◌, ℕ, List, [], ◌∷◌, length, drop}
 use Rattle.std.proofs.Math.ListN.{get_or}
+use Rattle.mt_base.specs.declared.limits.TheConstants.{MASTER_BYTES, PAGE_BYTES}
 use Rattle.mt_bucket.specs.Page.{depth_of, next_of, entries, IsBucket}
 use Rattle.mt_disk.specs.Disk.{Has, Torn, Follows}
 use Rattle.mt_frame.specs.declared.slots.MasterSlot.{MasterSlot}
@@ -19,12 +20,12 @@ use Rattle.mt_restart.specs.Schemas.{pages_in, mib_in, relations_in, counters_in
 
 -- pages 0 to 2 are fixed, page 3 is a bucket, and the others are free
 pub record IsFirstMap (map : List ℕ) : Type 0 where
-  pub size : length map ≡ 4096
+  pub size : length map ≡ PAGE_BYTES
   pub space : get_or map 0 0 ≡ 1
   pub directory : get_or map 1 0 ≡ 1
   pub counters : get_or map 2 0 ≡ 1
   pub bucket : get_or map 3 0 ≡ 2
-  pub free : AreZero map 4 4096
+  pub free : AreZero map 4 PAGE_BYTES
 
 -- its one pointer is to page 3
 pub record IsFirstDirectory (page : List ℕ) : Type 0 where
@@ -50,11 +51,11 @@ pub record IsFirstPage (s : Schema) (p : ℕ) (page : List ℕ) : Type 0 where
   pub directory : p ≡ 1 → IsFirstDirectory page
   pub counters : p ≡ 2 → IsFirstCounters s page
   pub bucket : p ≡ 3 → IsFirstBucket s page
-  pub zeros : 4 ≤ p → AreZero page 0 4096
+  pub zeros : 4 ≤ p → AreZero page 0 PAGE_BYTES
 
 -- the pages of the device are, as its slots have them
 abbrev pub HasFirstPages : Schema → List ℕ → Type 0
-HasFirstPages s c = (p : ℕ) → p < pages_in s → IsFirstPage s p (slot 8192 c p)
+HasFirstPages s c = (p : ℕ) → p < pages_in s → IsFirstPage s p (slot MASTER_BYTES c p)
 
 -- ---- the whole of it
 
@@ -71,11 +72,11 @@ empty_area = 165 ∷ 0 ∷ 0 ∷ 0 ∷ 0 ∷ 0 ∷ []
 pub record IsFormattedAs (s : Schema) (c : List ℕ) : Type 0 where
   pub long : device_bytes s ≤ length c
   pub master : Has c 0 (slot_text (first_slot s))
-  pub other : get_or c 4096 0 ≢ 165
+  pub other : get_or c PAGE_BYTES 0 ≢ 165
   pub area : HoldsBatches c (pages_end s) (area_end s) (pages_in s) ([] ∷ [])
-  pub pages : IsFormatted (relations_in s) (length (counters_in s)) (pages_in s) (slot 8192 c)
-  pub base : Holds (slot 8192 c) (schema_base s)
-  pub zeros : (p : ℕ) → 4 ≤ p → p < pages_in s → AreZero (slot 8192 c p) 0 4096
+  pub pages : IsFormatted (relations_in s) (length (counters_in s)) (pages_in s) (slot MASTER_BYTES c)
+  pub base : Holds (slot MASTER_BYTES c) (schema_base s)
+  pub zeros : (p : ℕ) → 4 ≤ p → p < pages_in s → AreZero (slot MASTER_BYTES c p) 0 PAGE_BYTES
 
 -- ---- how it comes to be
 
@@ -87,7 +88,7 @@ pub record Tears {D : Type 0} (seen : D → List ℕ) (may_leave : D → List �
 -- only the gates of the master slots may be others
 pub record GatesTorn (old new : List ℕ) : Type 0 where
   pub size : length new ≡ length old
-  pub rest : (i : ℕ) → i ≢ 0 → i ≢ 4096 → get_or new i 0 ≡ get_or old i 0
+  pub rest : (i : ℕ) → i ≢ 0 → i ≢ PAGE_BYTES → get_or new i 0 ≡ get_or old i 0
 
 -- one of these contents, but for the gates of the master slots
 abbrev pub ButForGates : (List ℕ → Type 0) → List ℕ → Type 0
@@ -96,7 +97,7 @@ ButForGates contents c = (d : List ℕ) × contents d × GatesTorn d c
 -- no master slot is open
 pub record IsShut (c : List ℕ) : Type 0 where
   pub first : get_or c 0 0 ≢ 165
-  pub second : get_or c 4096 0 ≢ 165
+  pub second : get_or c PAGE_BYTES 0 ≢ 165
 
 -- all is there but the open gate
 pub record IsReady (s : Schema) (c : List ℕ) : Type 0 where

@@ -1,5 +1,6 @@
 -- What a restart has at hand before its first write, and what the device is meanwhile.
 use Rattle.std.specs.Prelude.{◌≡◌, ◌⊎◌, ℕ, ◌+◌, ◌<◌, ◌^◌, false, List, [], ◌∷◌, length, get_or}
+use Rattle.mt_base.specs.declared.limits.TheConstants.{MASTER_BYTES}
 use Rattle.mt_disk.specs.Disk.{Only}
 use Rattle.mt_frame.specs.Grammar.{body_text}
 use Rattle.mt_frame.specs.declared.records.Record.{Record}
@@ -68,11 +69,11 @@ pub record HasBegun {D : Type 0} (seen : D → List ℕ) (may_leave : D → List
   pub only : Only (seen device) (may_leave device)
   pub rules : IsRuling (seen device) ruling
   pub held : HoldsBatches (seen device) (area_start (next_slot ruling)) (area_end (next_slot ruling)) ruling.pages (m.images.items ∷ [])
-  pub slots : (p : ℕ) → p < ruling.pages → get_or m.lost.items p false ≡ false → slot 8192 (seen device) p ≡ get_or items p []
+  pub slots : (p : ℕ) → p < ruling.pages → get_or m.lost.items p false ≡ false → slot MASTER_BYTES (seen device) p ≡ get_or items p []
 
 -- The next area rules, with these images and no other record, and each page is in its slot.
 pub record HasTurned {D : Type 0} (seen : D → List ℕ) (may_leave : D → List ℕ → Type 0) (ruling : MasterSlot) (items : List (List ℕ)) (images : List Record) (device : D) (log : Log) : Type 0 where
   pub next : IsNextLog seen may_leave ruling images device log
   pub only : Only (seen device) (may_leave device)
-  pub slots : (p : ℕ) → p < ruling.pages → slot 8192 (seen device) p ≡ get_or items p []
+  pub slots : (p : ℕ) → p < ruling.pages → slot MASTER_BYTES (seen device) p ≡ get_or items p []
   pub read : IsReadAs (seen device) (next_slot ruling) (bytes_of items) (images ∷ [])

@@ -1,5 +1,6 @@
 -- What a schema is seen as.
 use Rattle.std.specs.Prelude.{ℕ, ◌+◌, ◌*◌, List}
+use Rattle.mt_base.specs.declared.limits.TheConstants.{MASTER_BYTES, MIB_BYTES, PAGE_BYTES}
 use Rattle.mt_base.specs.Limits.{device_bytes_of}
 use Rattle.mt_model.specs.declared.counters.Count.{Count}
 use Rattle.mt_model.specs.Model.{Base}
@@ -30,7 +31,7 @@ device_bytes s = device_bytes_of s.pages s.area_mib
 
 -- where its pages end, and its first log area begins
 abbrev pub pages_end : Schema → ℕ
-pages_end s = 8192 + 4096 * s.pages
+pages_end s = MASTER_BYTES + PAGE_BYTES * s.pages
 
 abbrev pub area_end : Schema → ℕ
-area_end s = pages_end s + s.area_mib * 1048576
+area_end s = pages_end s + s.area_mib * MIB_BYTES

@@ -1,6 +1,7 @@
 -- What becomes of a device's bytes while a restart turns its log over to another area.
 use Rattle.std.specs.Prelude.{◌≡◌, ◌≢◌, ℕ, ◌*◌, ◌<◌, Bool, true, false, List, [], length, get_or}
 use Rattle.std.specs.List.{AllByRecursion}
+use Rattle.mt_base.specs.declared.limits.TheConstants.{MASTER_BYTES, PAGE_BYTES}
 use Rattle.mt_disk.specs.Disk.{Torn}
 use Rattle.mt_frame.specs.Grammar.{IsRecord}
 use Rattle.mt_frame.specs.History.{MayFollow}
@@ -13,8 +14,8 @@ use Rattle.mt_pool.specs.Turns.{IsImageOnly}
 
 -- Nothing has changed but the slots of marked pages.
 pub record OnlySlots (marked : List Bool) (old new : List ℕ) : Type 0 where
-  pub within : Torn 8192 (4096 * length marked) old new
-  pub others : (p : ℕ) → p < length marked → get_or marked p false ≡ false → slot 8192 new p ≡ slot 8192 old p
+  pub within : Torn MASTER_BYTES (PAGE_BYTES * length marked) old new
+  pub others : (p : ℕ) → p < length marked → get_or marked p false ≡ false → slot MASTER_BYTES new p ≡ slot MASTER_BYTES old p
 
 -- one of these contents, but for the slots of marked pages
 abbrev pub ButForSlots : List Bool → (List ℕ → Type 0) → List ℕ → Type 0
@@ -22,7 +23,7 @@ ButForSlots marked contents c = (d : List ℕ) × contents d × OnlySlots marked
 
 -- each marked page is in its slot
 abbrev pub AreInPlace : List Bool → List (List ℕ) → List ℕ → Type 0
-AreInPlace marked pages c = (p : ℕ) → p < length pages → get_or marked p false ≡ true → slot 8192 c p ≡ get_or pages p []
+AreInPlace marked pages c = (p : ℕ) → p < length pages → get_or marked p false ≡ true → slot MASTER_BYTES c p ≡ get_or pages p []
 
 -- ---- images
 
@@ -34,8 +35,8 @@ pub record MarksImaged (count : ℕ) (records : List Record) (marked : List Bool
 -- Marked are the pages that have no image and other bytes than their slots.
 pub record MarksLost (pages : List (List ℕ)) (imaged : List Bool) (c : List ℕ) (marked : List Bool) : Type 0 where
   pub size : length marked ≡ length pages
-  pub lost : (p : ℕ) → p < length pages → get_or marked p false ≡ true → (get_or imaged p false ≡ false) × (slot 8192 c p ≢ get_or pages p [])
-  pub kept : (p : ℕ) → p < length pages → get_or marked p false ≡ false → get_or imaged p false ≡ false → slot 8192 c p ≡ get_or pages p []
+  pub lost : (p : ℕ) → p < length pages → get_or marked p false ≡ true → (get_or imaged p false ≡ false) × (slot MASTER_BYTES c p ≢ get_or pages p [])
+  pub kept : (p : ℕ) → p < length pages → get_or marked p false ≡ false → get_or imaged p false ≡ false → slot MASTER_BYTES c p ≡ get_or pages p []
 
 -- Each of the marked pages has one image, and no other page has one.
 pub record AreImagesOf (pages : List (List ℕ)) (marked : List Bool) (images : List Record) : Type 0 where

@@ -1,5 +1,6 @@
 // What a kernel has beside its device and its log, made in memory for pages that a restart restored.
 ghost use Rattle.std.specs.Prelude.{◌≡◌, ◌≤◌, length, IfOk, IfErr};
+ghost use Rattle.mt_base.specs.declared.limits.TheConstants.{MAX_PAGES};
 ghost use Rattle.mt_base.specs.declared.refusal.Refusal.{Refusal};
 ghost use Rattle.mt_replay.specs.Checks.{AreChecked};
 ghost use Rattle.mt_restart.specs.Beside.{IsBeside};
@@ -30,7 +31,7 @@ pub(crate) fn beside_of(
     frames: usize,
 ) -> Result<Beside, Refusal>
     requires checked { AreChecked pages.now }
-    requires few { length pages.now ≤ 4000 }
+    requires few { length pages.now ≤ MAX_PAGES }
     ensures beside { IfOk result (IsBeside pages.now frames) }
     ensures only_memory { IfErr result (λ why. why ≡ Refusal.NoMemory) }
 {

@@ -1,5 +1,6 @@
 // The pages of a device as it is formatted.
 ghost use Rattle.std.specs.Prelude.{◌≡◌, ◌+◌, ◌≤◌, ◌<◌, ℕ, length};
+ghost use Rattle.mt_base.specs.declared.limits.TheConstants.{PAGE_BYTES};
 ghost use Rattle.mt_base.specs.Ranges.{Torn};
 ghost use Rattle.mt_index.specs.Pages.{AreZero};
 ghost use Rattle.mt_model.specs.Tables.{IsLimited};
@@ -53,7 +54,7 @@ fn put_number(page: &mut [u8], at: usize, number: i64)
 
 // Puts a counter into its place.
 fn put_counter(page: &mut [u8], counter: u16, count: &Count)
-    requires whole { length page.old ≡ 4096 }
+    requires whole { length page.old ≡ PAGE_BYTES }
     requires there { counter < 128 }
     ensures count { count_in page.new counter ≡ count.now }
     ensures rest { Torn (place_of counter) 24 page.old page.new }
@@ -92,7 +93,7 @@ fn bucket_page(schema: &Schema) -> [u8; PAGE_BYTES]
 
 // A page that is free.
 fn zero_page() -> [u8; PAGE_BYTES]
-    ensures { AreZero result 0 4096 }
+    ensures { AreZero result 0 PAGE_BYTES }
 {
     [0; PAGE_BYTES]
 }

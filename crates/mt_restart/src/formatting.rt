@@ -1,5 +1,6 @@
 // The formatting of a device, in the order of its calls.
 ghost use Rattle.std.specs.Prelude.{◌≡◌, ◌⊎◌, ◌+◌, ◌*◌, ◌<◌, ◌≤◌, ℕ, List, length, drop, Err, IfErr, OnOk};
+ghost use Rattle.mt_base.specs.declared.limits.TheConstants.{MASTER_BYTES, PAGE_BYTES};
 ghost use Rattle.mt_base.specs.declared.refusal.Refusal.{Refusal};
 ghost use Rattle.mt_disk.specs.Disk.{Has, Only, Torn, Follows, LeavesOnly, HasCause};
 ghost use Rattle.mt_frame.specs.SlotText.{slot_text};
@@ -26,10 +27,10 @@ const FIRST_EPOCH: u64 = 1;
 
 // Closes the gates of both master slots for good: two writes and a sync.
 fn close_slots<D: Device>(device: &mut D) -> Result<(), DeviceFault>
-    requires { 8192 ≤ length (D.seen device.old) }
+    requires { MASTER_BYTES ≤ length (D.seen device.old) }
     ensures shut { OnOk result ((c : List ℕ) → D.may_leave device.new c → IsShut c) }
     ensures moments { LeavesOnly D.moment D.left_since device.old device.new (ButForGates (D.may_leave device.old)) }
-    ensures tears { Tears D.seen D.may_leave 0 8192 device.old device.new }
+    ensures tears { Tears D.seen D.may_leave 0 MASTER_BYTES device.old device.new }
     ensures cause { HasCause (D.faults device.old) (D.faults device.new) result }
 {
     device.write_at(FIRST_SLOT, &[CLOSED_GATE])?;
@@ -43,7 +44,7 @@ fn write_pages<D: Device>(device: &mut D, schema: &Schema) -> Result<(), DeviceF
     requires shut { (c : List ℕ) → D.may_leave device.old c → IsShut c }
     ensures pages { OnOk result (HasFirstPages schema.now (D.seen device.new)) }
     ensures moments { LeavesOnly D.moment D.left_since device.old device.new IsShut }
-    ensures tears { Tears D.seen D.may_leave 8192 (4096 * pages_in schema.now) device.old device.new }
+    ensures tears { Tears D.seen D.may_leave MASTER_BYTES (PAGE_BYTES * pages_in schema.now) device.old device.new }
     ensures cause { HasCause (D.faults device.old) (D.faults device.new) result }
 {
     for number in 0..schema.pages {
@@ -61,7 +62,7 @@ fn write_content<D: Device>(device: &mut D, schema: &Schema) -> Result<(), Devic
     ensures area { OnOk result (Has (D.seen device.new) (pages_end schema.now) empty_area) }
     ensures durable { OnOk result (Only (D.seen device.new) (D.may_leave device.new)) }
     ensures moments { LeavesOnly D.moment D.left_since device.old device.new IsShut }
-    ensures tears { Tears D.seen D.may_leave 8192 (4096 * pages_in schema.now + 6) device.old device.new }
+    ensures tears { Tears D.seen D.may_leave MASTER_BYTES (PAGE_BYTES * pages_in schema.now + 6) device.old device.new }
     ensures cause { HasCause (D.faults device.old) (D.faults device.new) result }
 {
     write_pages(device, schema)?;
@@ -84,7 +85,7 @@ pub(crate) fn first_slot_of(schema: &Schema) -> MasterSlot
 
 // Makes what stands behind the first master slot's gate durable: a write and a sync.
 fn write_slot<D: Device>(device: &mut D, schema: &Schema) -> Result<(), DeviceFault>
-    requires long { 8192 ≤ length (D.seen device.old) }
+    requires long { MASTER_BYTES ≤ length (D.seen device.old) }
     requires shut { (c : List ℕ) → D.may_leave device.old c → IsShut c }
     ensures slot { OnOk result (Has (D.seen device.new) 1 (drop 1 (slot_text (first_slot schema.now)))) }
     ensures durable { OnOk result (Only (D.seen device.new) (D.may_leave device.new)) }
@@ -99,7 +100,7 @@ fn write_slot<D: Device>(device: &mut D, schema: &Schema) -> Result<(), DeviceFa
 
 // Opens the first master slot's gate: a write and a sync.
 fn open_gate<D: Device>(device: &mut D) -> Result<(), DeviceFault>
-    requires long { 8192 ≤ length (D.seen device.old) }
+    requires long { MASTER_BYTES ≤ length (D.seen device.old) }
     requires durable { Only (D.seen device.old) (D.may_leave device.old) }
     ensures formatted { (s : Schema) → IsReady s (D.seen device.old)
         → OnOk result (IsFormattedAs s (D.seen device.new)) }

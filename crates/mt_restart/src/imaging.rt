@@ -1,6 +1,7 @@
 // Marks of pages by the images of an area and by their slots, and the images with which an area begins.
 ghost use Rattle.std.specs.Prelude.{◌≡◌, ◌⊎◌, ◌+◌, ◌*◌, ◌<◌, ◌≤◌, ◌↔◌, ◌∷◌, [], ℕ, List, Some, length, IfOk, IfErr, OnOk, IsOk, IsTrue};
 ghost use Rattle.std.specs.List.{AllByRecursion};
+ghost use Rattle.mt_base.specs.declared.limits.TheConstants.{MASTER_BYTES, MAX_PAGES, PAGE_BYTES};
 ghost use Rattle.mt_base.specs.declared.refusal.Refusal.{Refusal};
 ghost use Rattle.mt_disk.specs.Disk.{HasCause, LeavesOnly};
 ghost use Rattle.mt_frame.specs.Grammar.{IsRecord, body_text};
@@ -64,10 +65,10 @@ fn read_slot<D: Device>(
     page: usize,
     bytes: &mut [u8; 4096],
 ) -> Result<(), DeviceFault>
-    requires inside { 8192 + 4096 * page + 4096 ≤ length (D.seen device.old) }
-    requires few { page < 4000 }
-    ensures size { length bytes.new ≡ 4096 }
-    ensures read { OnOk result (bytes.new ≡ slot 8192 (D.seen device.old) page) }
+    requires inside { MASTER_BYTES + PAGE_BYTES * page + PAGE_BYTES ≤ length (D.seen device.old) }
+    requires few { page < MAX_PAGES }
+    ensures size { length bytes.new ≡ PAGE_BYTES }
+    ensures read { OnOk result (bytes.new ≡ slot MASTER_BYTES (D.seen device.old) page) }
     ensures reads { OnlyReads D.seen D.may_leave D.moment D.left_since device.old device.new }
     ensures cause { HasCause (D.faults device.old) (D.faults device.new) result }
 {
@@ -81,8 +82,8 @@ fn is_lost<D: Device>(
     bytes: &[u8; 4096],
     imaged: bool,
 ) -> Result<bool, DeviceFault>
-    requires inside { 8192 + 4096 * page + 4096 ≤ length (D.seen device.old) }
-    requires few { page < 4000 }
+    requires inside { MASTER_BYTES + PAGE_BYTES * page + PAGE_BYTES ≤ length (D.seen device.old) }
+    requires few { page < MAX_PAGES }
     ensures told { IfOk result (λ told. TellsLost bytes.now imaged (D.seen device.old) page told) }
     ensures reads { OnlyReads D.seen D.may_leave D.moment D.left_since device.old device.new }
     ensures cause { HasCause (D.faults device.old) (D.faults device.new) result }
@@ -105,8 +106,8 @@ pub(crate) fn lost_pages<D: Device>(
     imaged: &[bool],
 ) -> Result<Vec<bool>, Refusal>
     requires count { length imaged.now ≡ length pages.now }
-    requires slots { 8192 + 4096 * length pages.now ≤ length (D.seen device.old) }
-    requires few { length pages.now ≤ 4000 }
+    requires slots { MASTER_BYTES + PAGE_BYTES * length pages.now ≤ length (D.seen device.old) }
+    requires few { length pages.now ≤ MAX_PAGES }
     ensures marks { IfOk result (λ marks. MarksLost pages.now imaged.now (D.seen device.old) marks.items) }
     ensures seen { D.seen device.new ≡ D.seen device.old }
     ensures crash { (c : List ℕ) → D.may_leave device.new c → D.may_leave device.old c }
@@ -146,7 +147,7 @@ pub(crate) fn images_of(
     marked: &[bool],
 ) -> Result<Vec<Record>, Refusal>
     requires count { length marked.now ≡ length pages.now }
-    requires few { length pages.now ≤ 4000 }
+    requires few { length pages.now ≤ MAX_PAGES }
     ensures images { IfOk result (λ images. AreImagesOf pages.now marked.now images.items) }
     ensures only_memory { IfErr result (λ why. why ≡ Refusal.NoMemory) }
 {

@@ -1,5 +1,6 @@
 // What a device's bytes stand for, told without a write.
 ghost use Rattle.std.specs.Prelude.{◌≡◌, ◌⊎◌, ◌<◌, ◌≤◌, ◌+◌, ℕ, List, length, IfErr, IfOk, IsOk, OnOk};
+ghost use Rattle.mt_base.specs.declared.limits.TheConstants.{MAX_PAGES};
 ghost use Rattle.mt_base.specs.declared.refusal.Refusal.{Refusal};
 ghost use Rattle.mt_disk.specs.Disk.{LeavesOnly};
 ghost use Rattle.mt_index.specs.Checks.{bytes_of};
@@ -25,7 +26,7 @@ use std::alloc::Global;
 // How many pages the space map has as free.
 fn free_count(pages: &[[u8; 4096]]) -> u16
     requires some { 1 ≤ length pages.now }
-    requires few { length pages.now ≤ 4000 }
+    requires few { length pages.now ≤ MAX_PAGES }
     ensures { result ≡ free_pages (length pages.now) (bytes_of pages.now) }
 {
     let map = &pages[usize::from(MAP)];
@@ -43,7 +44,7 @@ fn list_page(
     page: usize,
 ) -> Result<(), Refusal>
     requires good { (counters : ℕ) × IsGood (relations_of base.old) counters (length pages.now) (bytes_of pages.now) }
-    requires few { length pages.now ≤ 4000 }
+    requires few { length pages.now ≤ MAX_PAGES }
     requires inside { page < length pages.now }
     ensures listed { OnOk result (Lists pages.now page (page + 1) base.old base.new) }
     ensures only_memory { IfErr result (λ why. why ≡ Refusal.NoMemory) }
@@ -57,7 +58,7 @@ fn list_page(
 // Lists the records of all pages.
 fn list_pages(alloc: Global, base: &mut Base, pages: &[[u8; 4096]]) -> Result<(), Refusal>
     requires good { (counters : ℕ) × IsGood (relations_of base.old) counters (length pages.now) (bytes_of pages.now) }
-    requires few { length pages.now ≤ 4000 }
+    requires few { length pages.now ≤ MAX_PAGES }
     ensures listed { OnOk result (Lists pages.now 0 (length pages.now) base.old base.new) }
     ensures only_memory { IfErr result (λ why. why ≡ Refusal.NoMemory) }
 {

@@ -1,5 +1,6 @@
 // Pages that are written into their slots.
 ghost use Rattle.std.specs.Prelude.{◌≡◌, ◌+◌, ◌*◌, ◌≤◌, length, OnOk};
+ghost use Rattle.mt_base.specs.declared.limits.TheConstants.{MASTER_BYTES, MAX_PAGES, PAGE_BYTES};
 ghost use Rattle.mt_disk.specs.Disk.{Follows, HasCause, LeavesOnly, Only};
 ghost use Rattle.mt_restart.specs.Turned.{AreInPlace, ButForSlots, OnlySlots};
 
@@ -15,8 +16,8 @@ pub(crate) fn write_in_place<D: Device>(
     marked: &[bool],
 ) -> Result<(), DeviceFault>
     requires count { length marked.now ≡ length pages.now }
-    requires slots { 8192 + 4096 * length pages.now ≤ length (D.seen device.old) }
-    requires few { length pages.now ≤ 4000 }
+    requires slots { MASTER_BYTES + PAGE_BYTES * length pages.now ≤ length (D.seen device.old) }
+    requires few { length pages.now ≤ MAX_PAGES }
     ensures written { OnOk result (AreInPlace marked.now pages.now (D.seen device.new)) }
     ensures slots { OnlySlots marked.now (D.seen device.old) (D.seen device.new) }
     ensures elsewhere { Follows (OnlySlots marked.now) (D.may_leave device.old) (D.may_leave device.new) }
@@ -41,8 +42,8 @@ pub(crate) fn write_and_sync<D: Device>(
     marked: &[bool],
 ) -> Result<(), DeviceFault>
     requires count { length marked.now ≡ length pages.now }
-    requires slots { 8192 + 4096 * length pages.now ≤ length (D.seen device.old) }
-    requires few { length pages.now ≤ 4000 }
+    requires slots { MASTER_BYTES + PAGE_BYTES * length pages.now ≤ length (D.seen device.old) }
+    requires few { length pages.now ≤ MAX_PAGES }
     ensures written { OnOk result (AreInPlace marked.now pages.now (D.seen device.new)) }
     ensures durable { OnOk result (Only (D.seen device.new) (D.may_leave device.new)) }
     ensures slots { OnlySlots marked.now (D.seen device.old) (D.seen device.new) }

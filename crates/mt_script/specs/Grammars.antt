@@ -1,5 +1,6 @@
 -- Texts that are read line by line, whatever the grammar of their lines.
 use Rattle.std.specs.Prelude.{ℕ, ◌≡◌, ◌≢◌, ◌≤◌, ◌+◌, ◌⊎◌, List, [], ◌∷◌, ◌++◌, All, length, Option, MatchOption, ⊤}
+use Rattle.mt_base.specs.declared.limits.TheConstants.{MAX_LINES, MAX_LINE_BYTES}
 use Rattle.mt_base.specs.declared.refusal.Refusal.{Refusal}
 use Rattle.mt_base.specs.declared.refusal.Refusal.TheVariants.{NoMemory, BadLine}
 
@@ -20,7 +21,7 @@ module _ {L : Type 0} (text : L → List ℕ) (IsIn : L → Type 0) where
 
   -- a line of at most 4096 bytes, its end not counted
   abbrev pub IsShort : L → Type 0
-  IsShort line = length (text line) ≤ 4096
+  IsShort line = length (text line) ≤ MAX_LINE_BYTES
 
   -- the bytes are these lines and then a line under way
   pub record Gathered (bytes : List ℕ) (lines : List L) (line : List ℕ) : Type 0 where
@@ -34,7 +35,7 @@ module _ {L : Type 0} (text : L → List ℕ) (IsIn : L → Type 0) where
     pub spelled : bytes ≡ lines_text text lines
     pub grammar : All IsIn lines
     pub short : All IsShort lines
-    pub few : length lines ≤ 100000
+    pub few : length lines ≤ MAX_LINES
 
   -- the bytes begin with a line and its end
   abbrev pub BeginsWithLine : List ℕ → Type 0
@@ -43,8 +44,8 @@ module _ {L : Type 0} (text : L → List ℕ) (IsIn : L → Type 0) where
   -- The line of this number, counted from 1, is the first that is not in the grammar: those before it
   -- are, and what follows them begins with no line, or follows 100,000.
   pub record IsFirstBad (bytes : List ℕ) (number : ℕ) : Type 0 where
-    pub before : (lines : List L) × (rest : List ℕ) × (bytes ≡ lines_text text lines ++ rest) × All IsIn lines × All IsShort lines × (length lines ≤ 100000)
-        × (number ≡ length lines + 1) × (rest ≢ []) × ((BeginsWithLine rest → ⊥) ⊎ (length lines ≡ 100000))
+    pub before : (lines : List L) × (rest : List ℕ) × (bytes ≡ lines_text text lines ++ rest) × All IsIn lines × All IsShort lines × (length lines ≤ MAX_LINES)
+        × (number ≡ length lines + 1) × (rest ≢ []) × ((BeginsWithLine rest → ⊥) ⊎ (length lines ≡ MAX_LINES))
 
   -- why the lines of these bytes are refused: for want of memory, or for the first bad one
   abbrev pub AreRefusedFor : List ℕ → Refusal → Type 0

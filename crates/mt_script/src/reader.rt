@@ -1,5 +1,6 @@
 // A text, read line by line by a grammar of its lines; scripts are such texts.
 ghost use Rattle.std.specs.Prelude.{◌≡◌, ◌≤◌, ◌+◌, ℕ, List, [], ◌∷◌, ◌++◌, length, vec_len, IfOk, IfErr, IfSome, OnOk};
+ghost use Rattle.mt_base.specs.declared.limits.TheConstants.{MAX_LINES, MAX_LINE_BYTES};
 ghost use Rattle.mt_base.specs.declared.refusal.Refusal.{Refusal};
 ghost use Rattle.mt_script.specs.Grammars.{AreLines, AreRefusedFor, Gathered};
 ghost use Rattle.mt_script.specs.Scripts.{AreFaultyFor, IsScript, IsFaultOf};
@@ -38,8 +39,8 @@ struct Reading<G: Grammar> {
     alloc: Global,
     lines: Vec<G::Line>,
     line: Vec<u8>,
-    ghost lines_fit: { vec_len lines ≤ 100000 },
-    ghost line_fits: { vec_len line ≤ 4096 },
+    ghost lines_fit: { vec_len lines ≤ MAX_LINES },
+    ghost line_fits: { vec_len line ≤ MAX_LINE_BYTES },
 }
 
 impl Script {

@@ -1,5 +1,6 @@
 -- A kernel beside the model's play of a script that runs alone on it.
 use Rattle.std.specs.Prelude.{ℕ, ◌≡◌, ◌≢◌, ◌⊎◌, ◌<◌, ◌≤◌, ◌++◌, true, List, [], ◌∷◌, length, Option, Some, None, Result, Ok, Err, IfOk, IfErr, OnErr}
+use Rattle.mt_base.specs.declared.limits.TheConstants.{MAX_PAGES}
 use Rattle.mt_base.specs.declared.refusal.Refusal.{Refusal}
 use Rattle.mt_base.specs.declared.refusal.Refusal.TheVariants as refusal
 use Rattle.mt_disk.specs.declared.device.Device.{Ghosts}
@@ -156,7 +157,7 @@ module _ {D : Type 0} {g : Ghosts D} (seen : D → List ℕ) (may_leave : D → 
   IsReplied p t calls op (Err why) n = IsGivenUp p n why
 
   abbrev pub HasReplied : Kernel D g → ℕ → Result Reply Refusal → Kernel D g → Type 0
-  HasReplied k t result n = (p : Play) (calls : List Call) (op : Op) → IsCalling seen may_leave p t calls op k → steps_in k.parts.running.items t ≤ 8009 → IsReplied p t calls op result n
+  HasReplied k t result n = (p : Play) (calls : List Call) (op : Op) → IsCalling seen may_leave p t calls op k → steps_in k.parts.running.items t ≤ 2 * MAX_PAGES + 9 → IsReplied p t calls op result n
 
   -- the force steps of its commit, which is durable then
   abbrev pub IsDurable : {U : Type 0} → Play → List Call → Result U Refusal → Kernel D g → Type 0
@@ -184,7 +185,7 @@ module _ {D : Type 0} {g : Ghosts D} (seen : D → List ℕ) (may_leave : D → 
   IsTakenBack p (Err why) n = IsGivenUp p n why
 
   abbrev pub HasUndone : {U : Type 0} → Kernel D g → ℕ → Result U Refusal → Kernel D g → Type 0
-  HasUndone k t result n = (p : Play) → IsGoing seen may_leave p t k → undo_steps k.parts t ≤ 5054310 → IsTakenBack p result n
+  HasUndone k t result n = (p : Play) → IsGoing seen may_leave p t k → undo_steps k.parts t ≤ 631 * (2 * MAX_PAGES + 10) → IsTakenBack p result n
 
   -- the abort of one that is open
   abbrev pub HasAborted : {U : Type 0} → Kernel D g → ℕ → Result U Refusal → Kernel D g → Type 0

@@ -1,5 +1,6 @@
 -- A kernel behind sessions that shared it.
 use Rattle.std.specs.Prelude.{ℕ, ◌<◌, ◌≤◌, ◌⊎◌, List}
+use Rattle.mt_base.specs.declared.limits.TheConstants.{MAX_SESSIONS}
 use Rattle.mt_base.specs.declared.refusal.Refusal.{Refusal}
 use Rattle.mt_base.specs.declared.refusal.Refusal.TheVariants as refusal
 use Rattle.mt_disk.specs.declared.device.Device.{Ghosts}
@@ -34,5 +35,5 @@ IsUnopened c why = IsCauseToStop c (Unit {0}) why ⊎ IsLate why
 
 -- why so many scripts are not served to it: there are too many, and only then that is the cause
 pub data IsUnserved (c : List ℕ) (count : ℕ) : Refusal → Type 0 where
-  too_many : 64 < count → IsUnserved c count refusal.BadLength
-  cut_short : (why : Refusal) → count ≤ 64 → IsUnopened c why → IsUnserved c count why
+  too_many : MAX_SESSIONS < count → IsUnserved c count refusal.BadLength
+  cut_short : (why : Refusal) → count ≤ MAX_SESSIONS → IsUnopened c why → IsUnserved c count why

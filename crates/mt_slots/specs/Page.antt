@@ -2,6 +2,7 @@
 use Rattle.std.specs.Prelude.{◌≡◌, ◌≢◌, ◌⊎◌, ℕ, zero, suc, ◌+◌, ◌-◌, ◌*◌, ◌<◌, ◌≤◌, List, map, set, length, Option, Some, None, ◌==◌, nat_lt, if◌then◌else◌, ◌++◌, ◌∷◌, []}
 use Rattle.std.specs.List.{range_with_len}
 use Rattle.std.proofs.Math.ListN.{get_or}
+use Rattle.mt_base.specs.declared.limits.TheConstants.{PAGE_BYTES}
 use Rattle.mt_base.specs.Limits.{IsKey}
 use Rattle.mt_base.specs.Ranges.{u16_at, part}
 
@@ -51,13 +52,13 @@ live_slots page (suc n) = live_slots page n + (if size page n == 0 then 0 else 1
 
 -- the bytes that are neither the page's head nor a slot's nor a record's
 unfoldable pub room_of : List ℕ → ℕ
-room_of page = 4096 - 8 - 4 * count page - live_bytes page (count page)
+room_of page = PAGE_BYTES - 8 - 4 * count page - live_bytes page (count page)
 
 -- ---- a page of records
 
 -- a record of n bytes at a place
 pub record IsRow (page : List ℕ) (at n : ℕ) : Type 0 where
-  pub inside : at + n ≤ 4096
+  pub inside : at + n ≤ PAGE_BYTES
   pub whole : n ≡ row_size page at
 
 -- no slot's record has a byte of a range, but for slot i; an empty slot is 0, 0 and so bars nothing
@@ -72,12 +73,12 @@ pub record IsSlot (page : List ℕ) (low i : ℕ) : Type 0 where
 
 -- the records lie behind the table, within the page, and do not overlap
 pub record IsShaped (page : List ℕ) : Type 0 where
-  pub length : length page ≡ 4096
+  pub length : length page ≡ PAGE_BYTES
   pub zeros : (i : ℕ) → 2 ≤ i → i < 8 → get_or page i 0 ≡ 0
-  pub table : 8 + 4 * count page ≤ 4096
+  pub table : 8 + 4 * count page ≤ PAGE_BYTES
   pub each : (i : ℕ) → i < count page → IsSlot page (8 + 4 * count page) i
   pub apart : (i : ℕ) → i < count page → IsFree page i (offset page i) (size page i)
-  pub room : 8 + 4 * count page + live_bytes page (count page) ≤ 4096
+  pub room : 8 + 4 * count page + live_bytes page (count page) ≤ PAGE_BYTES
 
 -- a record of a schema of so many relations, whose values are no longer than this
 pub record Fits (relations longest : ℕ) (r : Row) : Type 0 where
@@ -122,4 +123,4 @@ put_at xs i x = if nat_lt i (length xs) then set xs i x else xs ++ x ∷ []
 
 -- no slot that may be taken leaves room for a record of so many bytes
 abbrev pub IsFull : List ℕ → ℕ → Type 0
-IsFull page bytes = (i n : ℕ) → Opens page i n → 4096 < 8 + 4 * n + live_bytes page (count page) + bytes
+IsFull page bytes = (i n : ℕ) → Opens page i n → PAGE_BYTES < 8 + 4 * n + live_bytes page (count page) + bytes

@@ -1,6 +1,7 @@
 -- What is known of a page while it is changed.
 use Rattle.std.specs.Prelude.{◌≡◌, ◌≢◌, ◌⊎◌, ℕ, ◌+◌, ◌*◌, ◌/◌, ◌%◌, ◌<◌, ◌≤◌, List, [], ◌∷◌, ◌++◌, length}
 use Rattle.std.proofs.Math.ListN.{get_or}
+use Rattle.mt_base.specs.declared.limits.TheConstants.{PAGE_BYTES}
 use Rattle.mt_base.specs.Ranges.{Has, Same}
 use Rattle.mt_slots.specs.Page.{Row, count, offset, size, row_at, slot, live_bytes, IsFree, IsSlot, Fits, Opens}
 
@@ -26,10 +27,10 @@ pub record Placed (old new : List ℕ) (i at : ℕ) (text : List ℕ) (n : ℕ) 
 pub record IsPlace (page : List ℕ) (i n at bytes : ℕ) : Type 0 where
   pub opens : Opens page i n
   pub low : 8 + 4 * n ≤ at
-  pub high : at + bytes ≤ 4096
+  pub high : at + bytes ≤ PAGE_BYTES
   pub free : IsFree page i at bytes
   pub behind : (j : ℕ) → j < count page → j ≢ i → size page j ≢ 0 → 8 + 4 * n ≤ offset page j
-  pub room : 8 + 4 * n + live_bytes page (count page) + bytes ≤ 4096
+  pub room : 8 + 4 * n + live_bytes page (count page) + bytes ≤ PAGE_BYTES
 
 -- there is one
 abbrev pub HasPlace : List ℕ → ℕ → ℕ → ℕ → Type 0
@@ -55,8 +56,8 @@ pub record Surveyed (page : List ℕ) (n live empty low : ℕ) : Type 0 where
   pub full : (j : ℕ) → j < empty → size page j ≢ 0
   pub first : empty < n → size page empty ≡ 0
   pub lowest : (j : ℕ) → j < n → size page j ≢ 0 → low ≤ offset page j
-  pub high : low ≤ 4096
-  pub begins : low < 4096 → Begins page n low
+  pub high : low ≤ PAGE_BYTES
+  pub begins : low < PAGE_BYTES → Begins page n low
 
 -- the bytes from q on in the new page are those from p on in the old one
 abbrev pub Shifted : ℕ → ℕ → ℕ → List ℕ → List ℕ → Type 0
@@ -65,13 +66,13 @@ Shifted p q n old new = (k : ℕ) → k < n → get_or new (q + k) 0 ≡ get_or 
 -- slot j's record has moved to the part behind `top`
 pub record Moved (old new : List ℕ) (top j : ℕ) : Type 0 where
   pub low : top ≤ offset new j
-  pub high : offset new j + size old j ≤ 4096
+  pub high : offset new j + size old j ≤ PAGE_BYTES
   pub bytes : Shifted (offset old j) (offset new j) (size old j) old new
 
 -- the records of the first n slots are packed at the page's end, from `top` on
 pub record Packed (old new : List ℕ) (n top : ℕ) : Type 0 where
   pub len : length new ≡ length old
-  pub top_is : top + live_bytes old n ≡ 4096
+  pub top_is : top + live_bytes old n ≡ PAGE_BYTES
   pub head : Same 0 8 old new
   pub sizes : (j : ℕ) → j < count old → size new j ≡ size old j
   pub later : (j : ℕ) → n ≤ j → j < count old → offset new j ≡ offset old j
@@ -85,4 +86,4 @@ pub record Compacted (old new : List ℕ) : Type 0 where
   pub sizes : (j : ℕ) → j < count old → size new j ≡ size old j
   pub slots : (j : ℕ) → slot new j ≡ slot old j
   pub live : live_bytes new (count new) ≡ live_bytes old (count old)
-  pub low : (j : ℕ) → j < count old → size old j ≢ 0 → 4096 ≤ offset new j + live_bytes old (count old)
+  pub low : (j : ℕ) → j < count old → size old j ≢ 0 → PAGE_BYTES ≤ offset new j + live_bytes old (count old)

@@ -1,6 +1,7 @@
 // The operations of a page of records.
 ghost use Rattle.std.specs.Prelude.{◌≡◌, ◌≢◌, ◌+◌, ◌*◌, ◌<◌, ◌≤◌, ℕ, length, set, Some, None, IsSome, IfSome, IfNone};
 ghost use Rattle.std.specs.Bool.{OnTrue, OnFalse};
+ghost use Rattle.mt_base.specs.declared.limits.TheConstants.{PAGE_BYTES};
 ghost use Rattle.mt_base.specs.Ranges.{part};
 ghost use Rattle.mt_slots.specs.Page.{Row, IsShaped, Sets, Inserted, IsFull, count, offset, size, slot as held, slots, row_at, row_length, live_bytes, room_of, put_at, Opens};
 ghost use Rattle.mt_slots.specs.Parts.{HasPlace, StaysPut};
@@ -15,7 +16,7 @@ use mt_base::ranges::{part_of, put};
 
 /// Makes the bytes a page without slots, whatever they were.
 pub fn empty(page: &mut [u8])
-    requires whole { length page.old ≡ 4096 }
+    requires whole { length page.old ≡ PAGE_BYTES }
     ensures shaped { IsShaped page.new }
     ensures count { count page.new ≡ 0 }
 {
@@ -30,7 +31,7 @@ pub fn insert(page: &mut [u8], relation: RelNo, key: &[u8], value: &[u8]) -> Opt
     requires shaped { IsShaped page.old }
     requires relation_fits { relation < 256 }
     requires key_fits { length key.now < 256 }
-    requires value_fits { length value.now ≤ 4096 }
+    requires value_fits { length value.now ≤ PAGE_BYTES }
     ensures shaped { IsShaped page.new }
     ensures done { IfSome result (λ i. Inserted page.old page.new i
         (record { relation = relation; key = key.now; value = value.now })) }
@@ -80,7 +81,7 @@ fn clear(page: &mut [u8], i: usize)
 pub fn replace(page: &mut [u8], slot: u16, value: &[u8]) -> bool
     requires shaped { IsShaped page.old }
     requires live { IsSome (held page.old slot) }
-    requires value_fits { length value.now ≤ 4096 }
+    requires value_fits { length value.now ≤ PAGE_BYTES }
     ensures shaped { IsShaped page.new }
     ensures done { OnTrue result ((r : Row) → held page.old slot ≡ Some r →
         Sets page.old page.new slot (Some (record r { value = value.now })) (count page.old)) }
@@ -98,12 +99,12 @@ fn replace_live(page: &mut [u8], i: usize, value: &[u8]) -> bool
     requires shaped { IsShaped page.old }
     requires there { i < count page.old }
     requires live { size page.old i ≢ 0 }
-    requires value_fits { length value.now ≤ 4096 }
+    requires value_fits { length value.now ≤ PAGE_BYTES }
     ensures shaped { IsShaped page.new }
     ensures done { OnTrue result (Sets page.old page.new i (Some (record (row_at page.old
         (offset page.old i)) { value = value.now })) (count page.old)) }
     ensures unchanged { OnFalse result (page.new ≡ page.old) }
-    ensures full { OnFalse result (4096 + size page.old i < 8 + 4 * count page.old + live_bytes page.old
+    ensures full { OnFalse result (PAGE_BYTES + size page.old i < 8 + 4 * count page.old + live_bytes page.old
         (count page.old) + (4 + length (row_at page.old (offset page.old i)).key + length value.now)) }
 {
     let mut buffer = [0u8; 256];

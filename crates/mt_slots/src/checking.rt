@@ -1,5 +1,6 @@
 // A reading of any bytes: whether they are a page of records.
 ghost use Rattle.std.specs.Prelude.{◌≡◌, ◌+◌, ◌*◌, ◌<◌, ◌≤◌, ℕ, length, get_or, MatchBool};
+ghost use Rattle.mt_base.specs.declared.limits.TheConstants.{PAGE_BYTES};
 ghost use Rattle.mt_slots.specs.Page.{IsPage, IsRow, IsSlot, IsFree, Fits, count, row_size, row_at};
 ghost use Rattle.mt_slots.specs.Parts.{IsGood};
 
@@ -14,7 +15,7 @@ use mt_base::ranges::u16_at;
 /// within the page, of the length that its own head says, with its relation, key and value within
 /// their limits, no two that overlap, and table and records together no longer than the page.
 pub fn check(page: &[u8], relations: u16, longest: usize) -> bool
-    requires whole { length page.now ≡ 4096 }
+    requires whole { length page.now ≡ PAGE_BYTES }
     ensures { MatchBool result (IsPage relations longest page.now) (IsPage relations longest page.now → ⊥) }
 {
     let slots = slot_count(page);
@@ -48,7 +49,7 @@ pub fn check(page: &[u8], relations: u16, longest: usize) -> bool
 
 // Whether the bytes 2 to 7 are zero.
 fn has_zeros(page: &[u8]) -> bool
-    requires whole { length page.now ≡ 4096 }
+    requires whole { length page.now ≡ PAGE_BYTES }
     ensures { MatchBool result ((i : ℕ) → 2 ≤ i → i < 8 → get_or page.now i 0 ≡ 0) (((i : ℕ) → 2 ≤ i → i < 8 →
         get_or page.now i 0 ≡ 0) → ⊥) }
 {
@@ -62,8 +63,8 @@ fn has_zeros(page: &[u8]) -> bool
 
 // Whether slot i is empty, or holds a record of the schema behind the table, which ends at `low`.
 fn is_good(page: &[u8], relations: u16, longest: usize, low: usize, i: usize) -> bool
-    requires whole { length page.now ≡ 4096 }
-    requires there { 12 + 4 * i ≤ 4096 }
+    requires whole { length page.now ≡ PAGE_BYTES }
+    requires there { 12 + 4 * i ≤ PAGE_BYTES }
     ensures { MatchBool result (IsGood relations longest page.now low i) (IsGood relations longest page.now low i → ⊥) }
 {
     if !is_slot(page, low, i) {
@@ -77,8 +78,8 @@ fn is_good(page: &[u8], relations: u16, longest: usize, low: usize, i: usize) ->
 
 // Whether slot i is empty, or a record stands where its head says, behind `low`.
 fn is_slot(page: &[u8], low: usize, i: usize) -> bool
-    requires whole { length page.now ≡ 4096 }
-    requires there { 12 + 4 * i ≤ 4096 }
+    requires whole { length page.now ≡ PAGE_BYTES }
+    requires there { 12 + 4 * i ≤ PAGE_BYTES }
     ensures { MatchBool result (IsSlot page.now low i) (IsSlot page.now low i → ⊥) }
 {
     let at = offset_of(page, i);
@@ -95,7 +96,7 @@ fn is_slot(page: &[u8], low: usize, i: usize) -> bool
 // Whether a record of so many bytes stands at a place.
 #[tactic(auto, unfolding(crate::specs::Page::row_size))]
 fn is_row(page: &[u8], at: usize, bytes: usize) -> bool
-    requires whole { length page.now ≡ 4096 }
+    requires whole { length page.now ≡ PAGE_BYTES }
     requires at_fits { at < 65536 }
     requires fits { bytes < 65536 }
     ensures { MatchBool result (IsRow page.now at bytes) (IsRow page.now at bytes → ⊥) }
@@ -118,8 +119,8 @@ fn fits(page: &[u8], at: usize, relations: u16, longest: usize) -> bool
 
 // Whether no record but that of slot i has a byte of a range.
 pub(crate) fn is_free(page: &[u8], i: usize, at: usize, bytes: usize) -> bool
-    requires whole { length page.now ≡ 4096 }
-    requires table { 8 + 4 * count page.now ≤ 4096 }
+    requires whole { length page.now ≡ PAGE_BYTES }
+    requires table { 8 + 4 * count page.now ≤ PAGE_BYTES }
     requires at_fits { at < 65536 }
     requires fits { bytes < 65536 }
     ensures { MatchBool result (IsFree page.now i at bytes) (IsFree page.now i at bytes → ⊥) }

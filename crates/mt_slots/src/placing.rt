@@ -1,5 +1,6 @@
 // Putting a record where there is room for it.
 ghost use Rattle.std.specs.Prelude.{◌≡◌, ◌≢◌, ◌+◌, ◌*◌, ◌<◌, ◌≤◌, ℕ, length, Some, IfSome, IfNone};
+ghost use Rattle.mt_base.specs.declared.limits.TheConstants.{PAGE_BYTES};
 ghost use Rattle.mt_base.specs.Ranges.{Wrote};
 ghost use Rattle.mt_slots.specs.Page.{IsShaped, IsFree, Sets, Opens, count, offset, size, live_bytes};
 ghost use Rattle.mt_slots.specs.Parts.{IsPlace, HasPlace, StaysPut, Begins, row_text};
@@ -20,7 +21,7 @@ pub(crate) const ROW_HEAD_BYTES: usize = 4;
 // The bytes that a record of this key and value takes in a page.
 pub(crate) fn row_bytes(key: &[u8], value: &[u8]) -> usize
     requires key_fits { length key.now < 256 }
-    requires value_fits { length value.now ≤ 4096 }
+    requires value_fits { length value.now ≤ PAGE_BYTES }
     ensures { result ≡ 4 + length key.now + length value.now }
 {
     ROW_HEAD_BYTES + key.len() + value.len()
@@ -31,7 +32,7 @@ fn write_row(page: &mut [u8], at: usize, relation: RelNo, key: &[u8], value: &[u
     requires range { at + 4 + length key.now + length value.now ≤ length page.old }
     requires relation_fits { relation < 256 }
     requires key_fits { length key.now < 256 }
-    requires value_fits { length value.now ≤ 4096 }
+    requires value_fits { length value.now ≤ PAGE_BYTES }
     ensures { Wrote at (row_text (record { relation = relation; key = key.now; value = value.now })) page.old page.new }
 {
     let length = value.len();
@@ -87,10 +88,10 @@ pub(crate) fn slots_after(page: &[u8], empty: usize) -> usize
 // The first free place behind `low` for so many bytes: there itself, or right behind some record.
 fn gap(page: &[u8], i: usize, low: usize, bytes: usize) -> Option<usize>
     requires shaped { IsShaped page.now }
-    requires table { low ≤ 4096 }
-    requires fits { bytes ≤ 4096 }
-    ensures found { IfSome result (λ at. (low ≤ at) × (at + bytes ≤ 4096) × IsFree page.now i at bytes) }
-    ensures none { IfNone result ((at : ℕ) → low ≤ at → at + bytes ≤ 4096 → IsFree page.now i at bytes → ⊥) }
+    requires table { low ≤ PAGE_BYTES }
+    requires fits { bytes ≤ PAGE_BYTES }
+    ensures found { IfSome result (λ at. (low ≤ at) × (at + bytes ≤ PAGE_BYTES) × IsFree page.now i at bytes) }
+    ensures none { IfNone result ((at : ℕ) → low ≤ at → at + bytes ≤ PAGE_BYTES → IsFree page.now i at bytes → ⊥) }
 {
     if low + bytes <= PAGE_BYTES && is_free(page, i, low, bytes) {
         return Some(low);
@@ -118,10 +119,10 @@ pub(crate) fn settle(
     requires shaped { IsShaped page.old }
     requires live { found.live ≡ live_bytes page.old (count page.old) }
     requires lowest { (j : ℕ) → j < count page.old → size page.old j ≢ 0 → found.low ≤ offset page.old j }
-    requires high { found.low ≤ 4096 }
-    requires begins { found.low < 4096 → Begins page.old (count page.old) found.low }
+    requires high { found.low ≤ PAGE_BYTES }
+    requires begins { found.low < PAGE_BYTES → Begins page.old (count page.old) found.low }
     requires opens { Opens page.old i slots }
-    requires room { 8 + 4 * slots + found.live + (4 + length key.now + length value.now) ≤ 4096 }
+    requires room { 8 + 4 * slots + found.live + (4 + length key.now + length value.now) ≤ PAGE_BYTES }
     requires relation_fits { relation < 256 }
     requires key_fits { length key.now < 256 }
     ensures shaped { IsShaped page.new }

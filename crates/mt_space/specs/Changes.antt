@@ -1,5 +1,6 @@
 -- The bytes of all pages, and changes of them.
 use Rattle.std.specs.Prelude.{◌≡◌, ◌≢◌, ◌==◌, if◌then◌else◌, All, ℕ, ◌+◌, ◌*◌, ◌≤◌, List, [], ◌∷◌, length, Option, Some}
+use Rattle.mt_base.specs.declared.limits.TheConstants.{PAGE_BYTES}
 use Rattle.mt_base.specs.Edits.{patched, log_size, IsShortest}
 use Rattle.mt_space.specs.declared.changes.PageChange.{PageChange}
 
@@ -30,7 +31,7 @@ IsUntouched (c ∷ cs) p = (c.page ≢ p) × IsUntouched cs p
 pub record IsShort (old : List ℕ) (c : PageChange) : Type 0 where
   pub some : 1 ≤ length c.edits.items
   pub ranges : All (IsShortest old (patched c.edits.items old)) c.edits.items
-  pub size : log_size c.edits.items ≤ 29 + 2 * 4096
+  pub size : log_size c.edits.items ≤ 29 + 2 * PAGE_BYTES
 
 -- each change is, and each is of another page
 abbrev pub AreShort : List PageChange → PageBytes → Type 0

@@ -1,6 +1,7 @@
 -- Which pages of a device are free, and how many of them are reserved.
 use Rattle.std.specs.Prelude.{ℕ, ◌≡◌, ◌≤◌, ◌<◌, ◌+◌, ◌*◌, ◌==◌, Bool, true, false, List, length, map, take, count_by}
 use Rattle.std.proofs.Math.ListN.{get_or}
+use Rattle.mt_base.specs.declared.limits.TheConstants.{MAX_PAGES}
 
 -- of each page whether it is free, and how many free pages are reserved
 abbrev pub Room : Type 0
@@ -44,7 +45,7 @@ pub record IsFirstIn (pages : List Bool) (group page : ℕ) : Type 0 where
 -- What a space keeps: the number of free pages, of which those reserved are a part, and a flag for each
 -- group of 64 pages, which is set where one of them is free.
 pub record IsKept (pages groups : List Bool) (free reserved : ℕ) : Type 0 where
-  pub few : length pages ≤ 4000
+  pub few : length pages ≤ MAX_PAGES
   pub grouped : length pages ≤ 64 * length groups
   pub few_groups : length groups ≤ 64
   pub counted : free ≡ free_in pages

@@ -1,5 +1,6 @@
 // Changes of pages as data: what a plan over pages answers.
 ghost use Rattle.std.specs.Prelude.{◌≡◌, ◌≢◌, ◌≤◌, ◌+◌, ℕ, List, [], length, IfOk, OnOk};
+ghost use Rattle.mt_base.specs.declared.limits.TheConstants.{PAGE_BYTES};
 
 use mt_base::{Edit, PageNo, edits_of};
 use std::alloc::{AllocError, Global};
@@ -35,8 +36,8 @@ impl Changes {
     /// Notes what changes in a page that no earlier change names, in ranges as short as a log wants them.
     /// Where no byte differs nothing is noted. The only error is want of memory.
     pub fn note(&mut self, page: PageNo, old: &[u8], new: &[u8]) -> Result<(), AllocError>
-        requires old_whole { length old.now ≡ 4096 }
-        requires new_whole { length new.now ≡ 4096 }
+        requires old_whole { length old.now ≡ PAGE_BYTES }
+        requires new_whole { length new.now ≡ PAGE_BYTES }
         ensures noted { OnOk result ((pages : PageBytes) → after self.old.list.items pages page ≡ old.now
             → after self.new.list.items pages ≡ replaced page new.now (after self.old.list.items pages)) }
         ensures short { OnOk result ((pages : PageBytes) → pages page ≡ old.now → IsUntouched self.old.list.items page

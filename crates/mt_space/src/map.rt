@@ -1,5 +1,6 @@
 // The space map by its bytes.
 ghost use Rattle.std.specs.Prelude.{◌≡◌, ℕ, length, get_or, false, IfSome, IfNone};
+ghost use Rattle.mt_base.specs.declared.limits.TheConstants.{PAGE_BYTES};
 ghost use Rattle.mt_space.specs.Rooms.{mapped, IsFirstFree};
 
 use crate::pages::FREE;
@@ -10,7 +11,7 @@ const MAP_BYTES: u16 = 4096;
 
 /// The free page with the smallest number, of so many pages of a map; `None` where none is free.
 pub fn first_free(map: &[u8], pages: u16) -> Option<PageNo>
-    requires map { length map.now ≡ 4096 }
+    requires map { length map.now ≡ PAGE_BYTES }
     ensures first { IfSome result (λ p. IsFirstFree (mapped map.now pages) p) }
     ensures none { IfNone result ((p : ℕ) → get_or (mapped map.now pages) p false ≡ false) }
 {

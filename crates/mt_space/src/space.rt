@@ -1,4 +1,5 @@
 ghost use Rattle.std.specs.Prelude.{◌≡◌, ◌==◌, map, ◌≤◌, ◌<◌, ◌+◌, ◌*◌, ◌-◌, ℕ, length, get_or, IfOk, IfErr, OnOk, OnErr, MatchOption, slice_set, true, false};
+ghost use Rattle.mt_base.specs.declared.limits.TheConstants.{MAX_PAGES, PAGE_BYTES};
 ghost use Rattle.mt_base.specs.declared.refusal.Refusal.{Refusal};
 ghost use Rattle.mt_space.specs.Rooms.{is_free, free_in, reserved_of, free_of, mapped, IsFirstFree, HasNone, IsFirstIn};
 
@@ -34,8 +35,8 @@ impl Space {
     /// The space of a map, a byte for each page: those of kind 0 are free. None is reserved. The only error
     /// is want of memory.
     pub fn of(alloc: Global, map: &[u8], pages: u16) -> Result<Space, AllocError>
-        requires map { length map.now ≡ 4096 }
-        requires few { pages ≤ 4000 }
+        requires map { length map.now ≡ PAGE_BYTES }
+        requires few { pages ≤ MAX_PAGES }
         ensures free { IfOk result (λ space. space.0 ≡ mapped map.now pages) }
         ensures none { IfOk result (λ space. reserved_of space ≡ 0) }
     {
@@ -110,7 +111,7 @@ impl Space {
     /// Makes the pages free that are free by a map, a byte for each page, and no other. What is reserved stays
     /// reserved: so many pages are free by the map. It takes no memory.
     pub fn follow(&mut self, map: &[u8])
-        requires map { length map.now ≡ 4096 }
+        requires map { length map.now ≡ PAGE_BYTES }
         requires room { reserved_of self.old ≤ free_in (mapped map.now (length self.old.0)) }
         ensures free { self.new.0 ≡ mapped map.now (length self.old.0) }
         ensures reserved { reserved_of self.new ≡ reserved_of self.old }
@@ -168,7 +169,7 @@ fn note_free(pages: &mut [bool], kinds: &[u8])
 
 // Notes of each group whether one of its pages is free.
 fn note_groups(groups: &mut [bool], pages: &[bool])
-    requires few { length pages.now ≤ 4000 }
+    requires few { length pages.now ≤ MAX_PAGES }
     requires few_groups { length groups.old ≤ 64 }
     requires grouped { length pages.now ≤ 64 * length groups.old }
     ensures size { length groups.new ≡ length groups.old }
@@ -182,7 +183,7 @@ fn note_groups(groups: &mut [bool], pages: &[bool])
 
 // How many pages are free.
 fn count_free(pages: &[bool]) -> u16
-    requires { length pages.now ≤ 4000 }
+    requires { length pages.now ≤ MAX_PAGES }
     ensures { result ≡ free_in pages.now }
 {
     let mut free = 0;
@@ -196,7 +197,7 @@ fn count_free(pages: &[bool]) -> u16
 
 // The free page with the smallest number.
 fn first_free(pages: &[bool], groups: &[bool]) -> usize
-    requires few { length pages.now ≤ 4000 }
+    requires few { length pages.now ≤ MAX_PAGES }
     requires few_groups { length groups.now ≤ 64 }
     requires grouped { length pages.now ≤ 64 * length groups.now }
     requires covered { (group : ℕ) → get_or groups.now group false ≡ false → HasNone pages.now group }
@@ -215,7 +216,7 @@ fn first_free(pages: &[bool], groups: &[bool]) -> usize
 
 // The free page with the smallest number in a group.
 fn first_in(pages: &[bool], group: usize) -> Option<usize>
-    requires few { length pages.now ≤ 4000 }
+    requires few { length pages.now ≤ MAX_PAGES }
     requires group { group < 64 }
     ensures { MatchOption result (HasNone pages.now group) (λ page. IsFirstIn pages.now group page) }
 {

@@ -1,5 +1,6 @@
 // What pages are read from: frames of a device, or copies of its pages.
 ghost use Rattle.std.specs.Prelude.{◌≡◌, ℕ, List, length, Option, IfSome, IfNone, Some, None};
+ghost use Rattle.mt_base.specs.declared.limits.TheConstants.{PAGE_BYTES};
 
 use mt_base::PageNo;
 
@@ -16,7 +17,7 @@ pub trait Pages {
 
     /// A page that is at hand is whole.
     ghost whole: { (pages : Self) → is_sound pages → (p : ℕ) (bytes : List ℕ) → at_hand pages p ≡ Some bytes
-        → length bytes ≡ 4096 };
+        → length bytes ≡ PAGE_BYTES };
 
     /// How many pages there are.
     fn count(&self) -> u16

@@ -2,6 +2,7 @@
 use Rattle.std.specs.Prelude.{◌≡◌, ℕ, ℤ, ◌+◌, ◌*◌, ◌<◌, ◌≤◌, List, length}
 use Rattle.std.specs.Int.{w64, cast_signed}
 use Rattle.std.proofs.Math.ListN.{get_or}
+use Rattle.mt_base.specs.declared.limits.TheConstants.{MAX_COUNTERS, PAGE_BYTES}
 use Rattle.byteorder.specs.Endian.{big_number}
 use Rattle.mt_base.specs.Ranges.{part}
 use Rattle.mt_model.specs.declared.counters.Count.{Count}
@@ -20,9 +21,9 @@ count_in page c = record { low = i64_at page (place_of c); high = i64_at page (p
 
 -- a counters page of a schema of so many relations and counters; what lies behind the last counter is open
 pub record AreCounters (relations counters : ℕ) (page : List ℕ) : Type 0 where
-  pub size : length page ≡ 4096
+  pub size : length page ≡ PAGE_BYTES
   pub relations_told : get_or page 0 0 ≡ relations
   pub counters_told : get_or page 1 0 ≡ counters
   pub zeros : (i : ℕ) → 2 ≤ i → i < 8 → get_or page i 0 ≡ 0
-  pub few : counters ≤ 128
+  pub few : counters ≤ MAX_COUNTERS
   pub each : (c : ℕ) → c < counters → IsLimited (count_in page c)

@@ -2,6 +2,7 @@
 use Rattle.std.specs.Prelude.{◌≡◌, ◌≢◌, ◌==◌, ◌<◌, if◌then◌else◌, All, ℕ, Bool, List, [], ◌∷◌, length, take, Option, Some, None, IsSome}
 use Rattle.std.specs.List.{list_any}
 use Rattle.std.proofs.Math.ListN.{get_or}
+use Rattle.mt_base.specs.declared.limits.TheConstants.{PAGE_BYTES}
 use Rattle.mt_space.specs.Changes.{PageBytes}
 use Rattle.mt_space.specs.declared.changes.PageChange.{PageChange}
 use Rattle.mt_steps.specs.declared.draft.PageCopy.{PageCopy}
@@ -41,7 +42,7 @@ AreApart (c ∷ cs) = IsUncopied cs c.page × AreApart cs
 
 -- whole copies of pages that are at hand below, one of each
 pub record AreCopies (below : ℕ → Option (List ℕ)) (copies : List PageCopy) : Type 0 where
-  pub whole : (p : ℕ) (bytes : List ℕ) → copied copies p ≡ Some bytes → length bytes ≡ 4096
+  pub whole : (p : ℕ) (bytes : List ℕ) → copied copies p ≡ Some bytes → length bytes ≡ PAGE_BYTES
   pub there : (p : ℕ) (bytes : List ℕ) → copied copies p ≡ Some bytes → IsSome (below p)
   pub apart : AreApart copies
 
@@ -64,9 +65,9 @@ unfoldable pub names_page : List PageChange → ℕ → Bool
 names_page changes p = list_any (λ (c : PageChange). c.page == p) changes
 
 -- a page that is at hand is whole, where those below are
-pub shown_whole : (copies : List PageCopy) (below : ℕ → Option (List ℕ)) → AreCopies below copies → ((p : ℕ) (bytes : List ℕ) → below p ≡ Some bytes → length bytes ≡ 4096) → (p : ℕ) (bytes : List ℕ) → shown copies below p ≡ Some bytes → length bytes ≡ 4096
+pub shown_whole : (copies : List PageCopy) (below : ℕ → Option (List ℕ)) → AreCopies below copies → ((p : ℕ) (bytes : List ℕ) → below p ≡ Some bytes → length bytes ≡ PAGE_BYTES) → (p : ℕ) (bytes : List ℕ) → shown copies below p ≡ Some bytes → length bytes ≡ PAGE_BYTES
 shown_whole copies below sound whole p bytes is = either (copied copies p) is (sound.whole p)
   where
-    either : (o : Option (List ℕ)) → or_below o (below p) ≡ Some bytes → ((b : List ℕ) → o ≡ Some b → length b ≡ 4096) → length bytes ≡ 4096
+    either : (o : Option (List ℕ)) → or_below o (below p) ≡ Some bytes → ((b : List ℕ) → o ≡ Some b → length b ≡ PAGE_BYTES) → length bytes ≡ PAGE_BYTES
     either None is copy = whole p bytes is
     either (Some b) is copy = copy bytes is

@@ -1,5 +1,6 @@
 -- Pages as a device is formatted with them.
 use Rattle.std.specs.Prelude.{◌≡◌, ◌≢◌, ℕ, length, None}
+use Rattle.mt_base.specs.declared.limits.TheConstants.{PAGE_BYTES}
 use Rattle.mt_bucket.specs.Page.{IsBucket}
 use Rattle.mt_space.specs.Changes.{PageBytes}
 use Rattle.mt_space.specs.Kinds.{kind}
@@ -9,7 +10,7 @@ use Rattle.mt_steps.specs.Counters.{count_in, AreCounters}
 
 -- an index without entries, no page of records, and the counters on page 2
 pub record IsFormatted (relations counters total : ℕ) (pages : PageBytes) : Type 0 where
-  pub map : length (pages 0) ≡ 4096
+  pub map : length (pages 0) ≡ PAGE_BYTES
   pub index : IsEmpty total pages
   pub directory : IsDirectory (pages 1)
   pub bucket : IsBucket relations total (pages 3)

@@ -2,6 +2,7 @@
 use Rattle.mt_steps.specs.Counters.{count_in}
 use Rattle.mt_space.specs.Kinds.{kind}
 use Rattle.std.specs.Prelude.{◌≡◌, ℕ, List, Some, ◌<◌, get_or}
+use Rattle.mt_base.specs.declared.limits.TheConstants.{MAX_VALUE_BYTES}
 use Rattle.mt_base.specs.declared.numbers.RecordName.{RecordName}
 use Rattle.mt_slots.specs.Page.{Row}
 use Rattle.mt_space.specs.Changes.{PageBytes}
@@ -36,7 +37,7 @@ pub record AreNamed (pages : PageBytes) (m : Map) : Type 0 where
 -- the records and their index, in pages of a schema of so many relations and pages; each bucket page stands in a chain
 pub record AreRows (relations total : ℕ) (pages : PageBytes) (m : Map) : Type 0 where
   pub file : IsFile pages
-  pub within : AreWithin relations 1024 pages
+  pub within : AreWithin relations MAX_VALUE_BYTES pages
   pub index : AreMap total pages m
   pub formed : AreFormed relations total pages
   pub named : AreNamed pages m

@@ -1,5 +1,6 @@
 -- What the plans of rows answer, each by one definition.
 use Rattle.std.specs.Prelude.{◌≡◌, ◌≢◌, ◌⊎◌, ◌+◌, ◌<◌, ◌≤◌, ℕ, Bool, List, [], length, Option, None, Some}
+use Rattle.mt_base.specs.declared.limits.TheConstants.{MAX_VALUE_BYTES}
 use Rattle.mt_base.specs.declared.modes.Mode.{Mode}
 use Rattle.mt_base.specs.declared.numbers.RecordName.{RecordName}
 use Rattle.mt_slots.specs.Page.{Row, Fits}
@@ -79,7 +80,7 @@ IsAny relations pages m = Unit {0}
 
 -- the row fits the schema, and the page that is named for it, if one is, holds records
 abbrev pub TakesRow : Option ℕ → Row → ℕ → PageBytes → Map → Type 0
-TakesRow room row relations pages m = Fits relations 1024 row × IsNamed room pages
+TakesRow room row relations pages m = Fits relations MAX_VALUE_BYTES row × IsNamed room pages
 
 -- the page that is named for it does
 abbrev pub HasRoom : Option ℕ → ℕ → PageBytes → Map → Type 0
@@ -87,11 +88,11 @@ HasRoom room relations pages m = IsNamed room pages
 
 -- the record of a key without one has been put
 abbrev pub HasPlaced : ℕ → List PageChange → RecordName → Row → ℕ → PageBytes → Map → Type 0
-HasPlaced total first name row relations pages m = Fits relations 1024 row × (m row.relation row.key ≡ None) × IsPlaced total pages first name row
+HasPlaced total first name row relations pages m = Fits relations MAX_VALUE_BYTES row × (m row.relation row.key ≡ None) × IsPlaced total pages first name row
 
 -- the record of a key has moved
 abbrev pub HasMoved : ℕ → List PageChange → RecordName → RecordName → Row → Row → ℕ → PageBytes → Map → Type 0
-HasMoved total first name to old row relations pages m = Fits relations 1024 row × (m row.relation row.key ≡ Some name) × IsMoved total pages first name to old row
+HasMoved total first name to old row relations pages m = Fits relations MAX_VALUE_BYTES row × (m row.relation row.key ≡ Some name) × IsMoved total pages first name to old row
 
 -- the record of a key has been taken away
 abbrev pub HasTaken : List PageChange → RecordName → Row → ℕ → PageBytes → Map → Type 0

@@ -1,6 +1,7 @@
 // Pages of which only copies are at hand.
 ghost use Rattle.std.specs.Prelude.{◌≡◌, ◌<◌, ◌++◌, ◌∷◌, [], OnOk};
 ghost use Rattle.std.specs.Vec.{vec_len, vec_capacity};
+ghost use Rattle.mt_base.specs.declared.limits.TheConstants.{PAGE_BYTES};
 ghost use Rattle.mt_steps.specs.declared.draft.PageCopy.{PageCopy};
 
 use crate::draft::{PageCopy, copy_of};
@@ -111,7 +112,7 @@ impl Pages for Copies {
     ghost use Rattle.mt_steps.specs.Drafts.{copied};
 
     ghost is_sound = { λ copies. (p : ℕ) (bytes : List ℕ) → copied copies.list.items p ≡ Some bytes
-        → length bytes ≡ 4096 };
+        → length bytes ≡ PAGE_BYTES };
 
     ghost total = { λ copies. copies.total };
 

@@ -2,6 +2,7 @@
 // counter its two bounds and its number.
 ghost use Rattle.std.specs.Prelude.{◌≡◌, ◌+◌, ◌+ℤ◌, ◌*◌, ◌<◌, ◌≤◌, ℕ, length, get_or, MatchBool};
 ghost use Rattle.std.specs.Bool.{OnTrue, OnFalse};
+ghost use Rattle.mt_base.specs.declared.limits.TheConstants.{MAX_COUNTERS, PAGE_BYTES};
 ghost use Rattle.mt_base.specs.Limits.{IsCounter, IsStep};
 ghost use Rattle.mt_base.specs.Ranges.{Torn};
 ghost use Rattle.mt_model.specs.Model.{moved, stays};
@@ -37,7 +38,7 @@ pub struct SchemaSizes {
 
 /// The sizes that the page tells.
 pub fn sizes(page: &[u8]) -> SchemaSizes
-    requires whole { length page.now ≡ 4096 }
+    requires whole { length page.now ≡ PAGE_BYTES }
     ensures relations { result.relations ≡ get_or page.now 0 0 }
     ensures counters { result.counters ≡ get_or page.now 1 0 }
     ensures schema { (relations counters : ℕ) → AreCounters relations counters page.now →
@@ -51,7 +52,7 @@ pub fn sizes(page: &[u8]) -> SchemaSizes
 
 /// A counter of the page.
 pub fn counter(page: &[u8], counter: CtrNo) -> Count
-    requires whole { length page.now ≡ 4096 }
+    requires whole { length page.now ≡ PAGE_BYTES }
     requires there { counter < 128 }
     ensures { result ≡ count_in page.now counter }
 {
@@ -86,7 +87,7 @@ fn sum_of(count: &Count, step: i64) -> i64
 /// Adds a step to a counter where the sum lies in the counter's bounds, and answers whether it does; else
 /// the page is as before. All other counters stay.
 pub fn add(page: &mut [u8], number: CtrNo, step: i64) -> bool
-    requires whole { length page.old ≡ 4096 }
+    requires whole { length page.old ≡ PAGE_BYTES }
     requires there { number < 128 }
     requires limited { IsLimited (count_in page.old number) }
     requires step { IsStep step }
@@ -110,7 +111,7 @@ pub fn add(page: &mut [u8], number: CtrNo, step: i64) -> bool
 /// both numbers, has zeros behind them, and each counter's number lies in its bounds, which lie within
 /// 10^15 of zero. The bytes behind the last counter are open.
 pub fn check(page: &[u8], relations: u16, counters: u16) -> bool
-    requires whole { length page.now ≡ 4096 }
+    requires whole { length page.now ≡ PAGE_BYTES }
     ensures { MatchBool result (AreCounters relations counters page.now) (AreCounters relations counters page.now → ⊥) }
 {
     let told = sizes(page);
@@ -122,7 +123,7 @@ pub fn check(page: &[u8], relations: u16, counters: u16) -> bool
 
 // Whether the bytes behind the two numbers are zero.
 fn has_zeros(page: &[u8]) -> bool
-    requires whole { length page.now ≡ 4096 }
+    requires whole { length page.now ≡ PAGE_BYTES }
     ensures { MatchBool result ((i : ℕ) → 2 ≤ i → i < 8 → get_or page.now i 0 ≡ 0) (((i : ℕ) → 2 ≤ i → i < 8 →
         get_or page.now i 0 ≡ 0) → ⊥) }
 {
@@ -136,8 +137,8 @@ fn has_zeros(page: &[u8]) -> bool
 
 // Whether the first counters lie within their bounds, and these within their limits.
 fn are_limited(page: &[u8], counters: u16) -> bool
-    requires whole { length page.now ≡ 4096 }
-    requires few { counters ≤ 128 }
+    requires whole { length page.now ≡ PAGE_BYTES }
+    requires few { counters ≤ MAX_COUNTERS }
     ensures { MatchBool result ((c : ℕ) → c < counters → IsLimited (count_in page.now c)) (((c : ℕ) → c < counters →
         IsLimited (count_in page.now c)) → ⊥) }
 {

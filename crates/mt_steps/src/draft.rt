@@ -1,5 +1,6 @@
 // Pages as they will be once some changes are made.
 ghost use Rattle.std.specs.Prelude.{◌≡◌, ◌+◌, ◌≤◌, ℕ, List, [], All, length, IfSome, IfNone, IfOk, OnOk, OnErr, IsSome, ◌↔◌, Some, None};
+ghost use Rattle.mt_base.specs.declared.limits.TheConstants.{PAGE_BYTES};
 ghost use Rattle.mt_base.specs.Edits.{patched};
 ghost use Rattle.mt_space.specs.Changes.{PageBytes, Agrees, IsUntouched, AreShort, after};
 ghost use Rattle.mt_steps.specs.Drafts.{copied, shown, drawn, AreApart, AreCopies, AreAtHand, IsCopyAt, Keeps};
@@ -69,7 +70,7 @@ impl<'a, V: Pages> Draft<'a, V> {
         requires sound { V.is_sound self.old.views.now }
         requires copies { AreCopies (V.at_hand self.old.views.now) self.old.copies.items }
         requires there { IsSome (V.at_hand self.old.views.now change.now.page) }
-        requires fit { All (λ e. e.start + length e.bytes ≤ 4096) change.now.edits.items }
+        requires fit { All (λ e. e.start + length e.bytes ≤ PAGE_BYTES) change.now.edits.items }
         ensures copies { AreCopies (V.at_hand self.old.views.now) self.new.copies.items }
         ensures views { self.new.views.now ≡ self.old.views.now }
         ensures few { OnOk result (length self.new.copies.items ≤ length self.old.copies.items + 1) }

@@ -1,5 +1,6 @@
 // A row more.
 ghost use Rattle.std.specs.Prelude.{◌≡◌, ◌⊎◌, ◌≤◌, ◌<◌, ℕ, [], List, Option, length, None, IfOk, IsSome, cond};
+ghost use Rattle.mt_base.specs.declared.limits.TheConstants.{MAX_VALUE_BYTES};
 ghost use Rattle.mt_base.specs.Limits.{IsKey, IsValue};
 ghost use Rattle.mt_slots.specs.Page.{Fits, row_length};
 ghost use Rattle.mt_space.specs.Changes.{PageBytes, Agrees, after, AreShort};
@@ -45,7 +46,7 @@ pub(crate) fn insert<V: Pages>(
         (p < V.total views.now))) }
     ensures asks { IfOk result (λ act. IfLock act
         (AsksFor (V.at_hand views.now) room (V.total views.now) split (Insert relation key.now value.now))) }
-    ensures made { (relations : ℕ) → Fits relations 1024
+    ensures made { (relations : ℕ) → Fits relations MAX_VALUE_BYTES
         (record { relation = relation; key = key.now; value = value.now }) → IfOk result (λ act.
         IfMade act (λ changes reply.
         InRoomy (V.at_hand views.now) room relations (V.total views.now) (λ pages m.
@@ -55,11 +56,11 @@ pub(crate) fn insert<V: Pages>(
     ensures few { IfOk result (λ act. IfMade act (λ changes reply. length changes ≤ 8)) }
     ensures idle { IfOk result (λ act. IfMade act (λ changes reply. logged_of
         (Insert relation key.now value.now) reply ≡ None → changes ≡ [])) }
-    ensures modest { (relations : ℕ) → Fits relations 1024
+    ensures modest { (relations : ℕ) → Fits relations MAX_VALUE_BYTES
         (record { relation = relation; key = key.now; value = value.now }) → IfOk result (λ act.
         IfMade act (λ changes reply. InRoomy (V.at_hand views.now) room relations (V.total views.now) (λ pages m.
         IsModest (V.at_hand views.now) (V.total views.now) (cond split 3 2) split pages (after changes pages)))) }
-    ensures takes { (relations : ℕ) → Fits relations 1024
+    ensures takes { (relations : ℕ) → Fits relations MAX_VALUE_BYTES
         (record { relation = relation; key = key.now; value = value.now }) → IfOk result (λ act.
         IfMade act (λ changes reply. InRoomy (V.at_hand views.now) room relations (V.total views.now) (λ pages m.
         TakesPages room (Insert relation key.now value.now) pages (after changes pages)))) }

@@ -1,5 +1,6 @@
 // The base that pages hold, listed in order.
 ghost use Rattle.std.specs.Prelude.{◌≡◌, ◌+◌, ◌<◌, ◌≤◌, ℕ, ℤ, List, length, get_or, None, IfOk, OnOk, IfErr};
+ghost use Rattle.mt_base.specs.declared.limits.TheConstants.{MAX_VALUE_BYTES};
 ghost use Rattle.mt_file.specs.File.{record_in};
 ghost use Rattle.mt_model.specs.Model.{Base as ModelBase, base_after};
 ghost use Rattle.mt_model.specs.Views.{base_of, counters_of, relations_of};
@@ -47,7 +48,7 @@ pub fn base_without_rows(alloc: Global, page: &[u8]) -> Result<Base, AllocError>
 
 // Lists a record as a row.
 fn list_row(alloc: Global, base: &mut Base, row: RecordView<'_>) -> Result<(), Refusal>
-    requires fits { Fits (relations_of base.old) 1024 (record {
+    requires fits { Fits (relations_of base.old) MAX_VALUE_BYTES (record {
       relation = row.relation;
       key = row.key.now;
       value = row.value.now;
@@ -68,7 +69,7 @@ fn list_row(alloc: Global, base: &mut Base, row: RecordView<'_>) -> Result<(), R
 /// the pages hold a base; so no row is replaced. The only refusal is [`Refusal::NoMemory`]; the base has then some of
 /// the rows.
 pub fn list_rows(alloc: Global, base: &mut Base, page: &[u8]) -> Result<(), Refusal>
-    requires page { IsPage (relations_of base.old) 1024 page.now }
+    requires page { IsPage (relations_of base.old) MAX_VALUE_BYTES page.now }
     ensures listed { (pages : PageBytes) (p : ℕ) (held : ModelBase) → pages p ≡ page.now → kind pages p ≡ 3
         → HoldsRows pages held → HasListed pages p (base_of base.old)
         → OnOk result (HasListed pages (p + 1) (base_of base.new)) }

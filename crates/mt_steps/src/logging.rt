@@ -1,5 +1,6 @@
 // What is logged of an operation.
 ghost use Rattle.std.specs.Prelude.{◌≡◌, ◌≤◌, ℕ, IfOk, IfErr, IfSome};
+ghost use Rattle.mt_base.specs.declared.limits.TheConstants.{MAX_COUNTERS, MAX_RELATIONS};
 ghost use Rattle.mt_base.specs.declared.refusal.Refusal.{Refusal};
 ghost use Rattle.mt_frame.specs.Grammar.{IsOperation};
 ghost use Rattle.mt_model.specs.Model.{IsWithin};
@@ -12,7 +13,7 @@ use mt_model::{Op, Reply};
 /// What is logged of an operation that replied this: nothing where it did nothing.
 pub fn logged(op: &Op, reply: &Reply) -> Result<Option<LoggedOp>, Refusal>
     ensures logged { IfOk result (λ done. done ≡ logged_of op.now reply.now) }
-    ensures operation { (relations counters : ℕ) → relations ≤ 64 → counters ≤ 128 →
+    ensures operation { (relations counters : ℕ) → relations ≤ MAX_RELATIONS → counters ≤ MAX_COUNTERS →
         IsWithin relations counters op.now → HasSmallReply reply.now → IfOk result (λ done. IfSome done IsOperation) }
     ensures only_memory { IfErr result (λ why. why ≡ Refusal.NoMemory) }
 {

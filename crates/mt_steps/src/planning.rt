@@ -1,5 +1,6 @@
 // Any operation.
 ghost use Rattle.std.specs.Prelude.{◌≡◌, ◌⊎◌, ◌<◌, ◌≤◌, ℕ, [], length, false, None, Some, IfOk};
+ghost use Rattle.mt_base.specs.declared.limits.TheConstants.{MAX_RELATIONS};
 ghost use Rattle.mt_base.specs.declared.modes.Mode.TheVariants.{Read as ToRead};
 ghost use Rattle.mt_model.specs.Model.{IsWithin, inverse_of};
 ghost use Rattle.mt_model.specs.declared.operations.Op.{Op};
@@ -50,17 +51,17 @@ pub fn plan<V: Pages>(
 ) -> Result<Act, AllocError>
     requires sound { V.is_sound views.now }
     requires good { ∥ ((relations : ℕ) × (counters : ℕ) × HasPages (V.at_hand views.now) room relations counters
-        (V.total views.now) × IsWithin relations counters op.now × (relations ≤ 64)) ∥₁ }
+        (V.total views.now) × IsWithin relations counters op.now × (relations ≤ MAX_RELATIONS)) ∥₁ }
     ensures lock { IfOk result (λ act. IfLock act (λ p mode. (V.at_hand views.now p ≡ None) ×
         (p < V.total views.now))) }
     ensures asks { IfOk result (λ act. IfLock act
         (AsksFor (V.at_hand views.now) room (V.total views.now) split op.now)) }
     ensures mode { IsReading op.now → IfOk result (λ act. IfLock act (λ p mode. mode ≡ ToRead)) }
-    ensures made { (relations counters : ℕ) → relations ≤ 64 → IsWithin relations counters op.now →
+    ensures made { (relations counters : ℕ) → relations ≤ MAX_RELATIONS → IsWithin relations counters op.now →
         IfOk result (λ act. IfMade act (λ changes reply.
         InPages (V.at_hand views.now) room relations counters (V.total views.now) (λ pages.
         IsPlanned relations counters (V.total views.now) (V.at_hand views.now) pages changes op.now split reply))) }
-    ensures takes { (relations counters : ℕ) → relations ≤ 64 → IsWithin relations counters op.now →
+    ensures takes { (relations counters : ℕ) → relations ≤ MAX_RELATIONS → IsWithin relations counters op.now →
         IfOk result (λ act. IfMade act (λ changes reply.
         InPages (V.at_hand views.now) room relations counters (V.total views.now) (λ pages.
         TakesPages room op.now pages (after changes pages)))) }
@@ -68,7 +69,7 @@ pub fn plan<V: Pages>(
     ensures few { IfOk result (λ act. IfMade act (λ changes reply. length changes ≤ 8)) }
     ensures quiet { IsReading op.now → IfOk result (λ act. IfMade act (λ changes reply. changes ≡ [])) }
     ensures idle { IfOk result (λ act. IfMade act (λ changes reply. logged_of op.now reply ≡ None → changes ≡ [])) }
-    ensures full { (relations counters : ℕ) → relations ≤ 64 → IsWithin relations counters op.now →
+    ensures full { (relations counters : ℕ) → relations ≤ MAX_RELATIONS → IsWithin relations counters op.now →
         IfOk result (λ act. IfFull act (
         InPages (V.at_hand views.now) room relations counters (V.total views.now) (λ pages.
         (free_pages (V.total views.now) pages < own_needs op.now split) ⊎ IsTight room pages (record_bytes op.now)))) }

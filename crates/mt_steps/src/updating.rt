@@ -1,5 +1,6 @@
 // Another value in a row.
 ghost use Rattle.std.specs.Prelude.{◌≡◌, ◌≢◌, ◌⊎◌, ◌≤◌, ◌<◌, ℕ, Bool, [], List, Option, length, None, Some, IfOk, IsSome, MatchBool, false};
+ghost use Rattle.mt_base.specs.declared.limits.TheConstants.{MAX_VALUE_BYTES};
 ghost use Rattle.mt_base.specs.Limits.{IsValue};
 ghost use Rattle.mt_base.specs.declared.numbers.RecordName.{RecordName};
 ghost use Rattle.mt_slots.specs.Page.{Fits, row_length};
@@ -44,7 +45,7 @@ pub(crate) fn update<V: Pages>(
         (p < V.total views.now))) }
     ensures asks { (split : Bool) → IfOk result (λ act. IfLock act
         (AsksFor (V.at_hand views.now) room (V.total views.now) split (Update relation key.now value.now))) }
-    ensures made { (relations : ℕ) → Fits relations 1024
+    ensures made { (relations : ℕ) → Fits relations MAX_VALUE_BYTES
         (record { relation = relation; key = key.now; value = value.now }) → IfOk result (λ act.
         IfMade act (λ changes reply.
         InRoomy (V.at_hand views.now) room relations (V.total views.now) (λ pages m.
@@ -54,11 +55,11 @@ pub(crate) fn update<V: Pages>(
     ensures few { IfOk result (λ act. IfMade act (λ changes reply. length changes ≤ 8)) }
     ensures idle { IfOk result (λ act. IfMade act (λ changes reply. logged_of
         (Update relation key.now value.now) reply ≡ None → changes ≡ [])) }
-    ensures modest { (relations : ℕ) → Fits relations 1024
+    ensures modest { (relations : ℕ) → Fits relations MAX_VALUE_BYTES
         (record { relation = relation; key = key.now; value = value.now }) → IfOk result (λ act.
         IfMade act (λ changes reply. InRoomy (V.at_hand views.now) room relations (V.total views.now) (λ pages m.
         IsModest (V.at_hand views.now) (V.total views.now) 1 false pages (after changes pages)))) }
-    ensures takes { (relations : ℕ) → Fits relations 1024
+    ensures takes { (relations : ℕ) → Fits relations MAX_VALUE_BYTES
         (record { relation = relation; key = key.now; value = value.now }) → IfOk result (λ act.
         IfMade act (λ changes reply. InRoomy (V.at_hand views.now) room relations (V.total views.now) (λ pages m.
         TakesPages room (Update relation key.now value.now) pages (after changes pages)))) }

@@ -1,6 +1,7 @@
 -- Which calls a kernel refuses before it asks locks, escrow, pages and log.
 use Rattle.std.specs.Prelude.{ℕ, ℤ, ◌≡◌, ◌⊎◌, ◌<◌, ◌+◌, ◌^◌, ◌||◌, ◌&&◌, ◌==◌, nat_lt, nat_le, nat_eq, if◌then◌else◌, Bool, true, false, List, length, Option, Some, None, int_le, pos, neg_ℤ}
 use Rattle.std.specs.List.{list_any}
+use Rattle.mt_base.specs.declared.limits.TheConstants.{MAX_BEGUN, MAX_COMMITS, MAX_KEY_BYTES, MAX_LIVE, MAX_OPERATIONS, MAX_STEP, MAX_VALUE_BYTES, TRANSACTION_LOG_BYTES}
 use Rattle.mt_base.specs.Limits.{IsKey, IsValue, IsStep}
 use Rattle.mt_base.specs.declared.refusal.Refusal.{Refusal}
 use Rattle.mt_base.specs.declared.refusal.Refusal.TheVariants as refusal
@@ -27,9 +28,9 @@ unless holds why = if holds then None else Some why
 abbrev pub begin_cause : {D : Type 0} → Bool → Parts D → Option Refusal
 begin_cause failed k =
     if failed then Some refusal.DeviceFailed else
-    if nat_le 64 (length k.live.members) then Some refusal.TooManyTransactions else
-    if nat_le 1000000 (length k.book.items + length k.live.members) || nat_le (2 ^ 40) k.live.begun then Some refusal.BookFull else
-    if nat_lt (log_kept k + 128) (area_size k.operations.store.log) then None else Some refusal.LogFull
+    if nat_le MAX_LIVE (length k.live.members) then Some refusal.TooManyTransactions else
+    if nat_le MAX_COMMITS (length k.book.items + length k.live.members) || nat_le MAX_BEGUN k.live.begun then Some refusal.BookFull else
+    if nat_lt (log_kept k + TRANSACTION_LOG_BYTES) (area_size k.operations.store.log) then None else Some refusal.LogFull
 
 -- the device failed in this call
 abbrev pub IsFault : {D : Type 0} → (D → ℕ) → Parts D → Parts D → Refusal → Type 0
@@ -76,18 +77,18 @@ survey_cause failed k = if failed then Some refusal.DeviceFailed else if nat_eq 
 
 -- it has called as many operations as it may, or 2^40 were called by all
 abbrev pub count_cause : {D : Type 0} → Parts D → ℕ → Option Refusal
-count_cause k t = if nat_le 256 (length (calls_of k.live.members t)) || nat_le (2 ^ 40) k.last then Some refusal.TooManyOperations else None
+count_cause k t = if nat_le MAX_OPERATIONS (length (calls_of k.live.members t)) || nat_le (2 ^ 40) k.last then Some refusal.TooManyOperations else None
 
 -- ---- the operation
 
 abbrev pub is_key : List ℕ → Bool
-is_key k = nat_le 1 (length k) && nat_le (length k) 64
+is_key k = nat_le 1 (length k) && nat_le (length k) MAX_KEY_BYTES
 
 abbrev pub is_value : List ℕ → Bool
-is_value v = nat_le (length v) 1024
+is_value v = nat_le (length v) MAX_VALUE_BYTES
 
 abbrev pub is_step : ℤ → Bool
-is_step d = (int_le (pos 1) d && int_le d (pos 1000000000000)) || (int_le (neg_ℤ (pos 1000000000000)) d && int_le d (neg_ℤ (pos 1)))
+is_step d = (int_le (pos 1) d && int_le d (pos MAX_STEP)) || (int_le (neg_ℤ (pos MAX_STEP)) d && int_le d (neg_ℤ (pos 1)))
 
 -- its relation or counter is there
 abbrev pub IsNamed : ℕ → ℕ → Op → Type 0

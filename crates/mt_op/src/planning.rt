@@ -66,8 +66,8 @@ impl<D: Device> Operations<D> {
         requires room { used self.old.store.log + scope.old.left < area_size self.old.store.log }
         ensures steps { (opening : PageBytes) (relations counters : ℕ)
             → IsRight D.seen D.may_leave opening relations counters self.old
-            → IsUnderWay relations counters (world D.seen opening self.old) scope.old → relations ≤ MAX_RELATIONS → counters ≤ MAX_COUNTERS
-            →
+            → IsUnderWay relations counters (world D.seen opening self.old) scope.old
+            → relations ≤ MAX_RELATIONS → counters ≤ MAX_COUNTERS →
             IsRight D.seen D.may_leave opening relations counters self.new
             × Steps relations counters (world D.seen opening self.old) (world D.seen opening self.new)
             scope.old scope.new result }
@@ -203,7 +203,8 @@ impl<D: Device> Operations<D> {
         requires few { length changes.list.items ≤ 8 }
         requires quiet { logged_of scope.old.op reply ≡ None → changes.list.items ≡ [] }
         requires reads { only_reads scope.old.op ≡ true → changes.list.items ≡ [] }
-        requires planned { (relations counters : ℕ) → relations ≤ MAX_RELATIONS → IsWithin relations counters scope.old.op
+        requires planned { (relations counters : ℕ) → relations ≤ MAX_RELATIONS
+            → IsWithin relations counters scope.old.op
             → InPages (looked scope.old) scope.old.room relations counters scope.old.seen.total
             (λ pages. IsPlanned relations counters scope.old.seen.total (looked scope.old) pages changes.list.items
             scope.old.op scope.old.split reply) }

@@ -106,7 +106,8 @@ impl<D: Device> Operations<D> {
     ///
     /// Refused with [`Refusal::NoMemory`], and with [`Refusal::DeviceFailed`] where the device failed in this call.
     pub fn survey(&mut self, alloc: Global) -> Result<Survey, Refusal>
-        requires idle { ∥ ((relations : ℕ) × (relations ≤ MAX_RELATIONS) × IsIdle D.seen D.may_leave relations self.old) ∥₁ }
+        requires idle { ∥ ((relations : ℕ) × (relations ≤ MAX_RELATIONS)
+            × IsIdle D.seen D.may_leave relations self.old) ∥₁ }
         ensures surveyed { (opening : PageBytes) (relations counters : ℕ) (held : ModelBase)
             → IsRight D.seen D.may_leave opening relations counters self.old
             → Holds (held_in (world D.seen opening self.old)) held

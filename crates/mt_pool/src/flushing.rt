@@ -73,7 +73,8 @@ impl Pool {
         ensures crash { (device.new ≡ device.old) ⊎ ((p : ℕ) × (p < pages self.old) × (0 < waits_for self.old p)
             × (waits_for self.old p ≤ durable)
             × Torn (self.old.place + PAGE_BYTES * p) PAGE_BYTES (D.seen device.old) (D.seen device.new)
-            × Follows (Torn (self.old.place + PAGE_BYTES * p) PAGE_BYTES) (D.may_leave device.old) (D.may_leave device.new)) }
+            × Follows (Torn (self.old.place + PAGE_BYTES * p) PAGE_BYTES)
+            (D.may_leave device.old) (D.may_leave device.new)) }
         ensures time { Elapses (D.moment device.old) (D.moment device.new) (D.left_since device.old)
             (D.left_since device.new) (D.may_leave device.new) }
         ensures page { (p : ℕ) → result ≡ Ok (flushed.Page p) → Cleans self.old self.new durable p }

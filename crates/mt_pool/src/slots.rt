@@ -34,7 +34,8 @@ pub(crate) fn write_page<D: Device>(
     ensures size { length bytes.now ≡ PAGE_BYTES }
     ensures written { OnOk result (Has (D.seen device.new) (place + PAGE_BYTES * page) bytes.now) }
     ensures rest { Torn (place + PAGE_BYTES * page) PAGE_BYTES (D.seen device.old) (D.seen device.new) }
-    ensures crash { Follows (Torn (place + PAGE_BYTES * page) PAGE_BYTES) (D.may_leave device.old) (D.may_leave device.new) }
+    ensures crash { Follows (Torn (place + PAGE_BYTES * page) PAGE_BYTES)
+        (D.may_leave device.old) (D.may_leave device.new) }
     ensures time { Elapses (D.moment device.old) (D.moment device.new) (D.left_since device.old)
         (D.left_since device.new) (D.may_leave device.new) }
     ensures cause { HasCause (D.faults device.old) (D.faults device.new) result }

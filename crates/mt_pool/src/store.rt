@@ -358,7 +358,8 @@ impl<D: Device> Store<D> {
         // These records end neither a transaction nor an operation.
         ensures ends_none { (t o : ℕ) → IsUnfinished t o (appended self.old.log)
             → IsUnfinished t o (appended self.new.log) }
-        ensures used { OnOk result (used self.new.log ≤ used self.old.log + log_size change.now.edits.items + PAGE_BYTES) }
+        ensures used { OnOk result (used self.new.log
+            ≤ used self.old.log + log_size change.now.edits.items + PAGE_BYTES) }
         ensures durable { durable self.new.log ≡ durable self.old.log }
         ensures err_appended { OnErr result (appended self.new.log ≡ appended self.old.log) }
         ensures err_used { OnErr result (used self.new.log ≡ used self.old.log) }

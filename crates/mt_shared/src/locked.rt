@@ -66,7 +66,9 @@ impl<D: Device, J: Naming> Model for Locked<D, J> {
 
     ghost view = { λ l. record { book = l.kernel.book; list = l.end.view.list; is_left = l.kernel.is_left } };
 
-    ghost invariant = { λ l. (l.end.mark ≡ J.mark) × (l.end.view.base ≡ J.base) × (l.kernel.base ≡ J.base) × IsConfirmed l.end.view × IsPrefix (dones l.end.view.list) l.kernel.book × (l.kernel.is_left ≡ true → l.kernel.book ≡ dones l.end.view.list) × (l.end.view.book ≡ J.book) };
+    ghost invariant = { λ l. (l.end.mark ≡ J.mark) × (l.end.view.base ≡ J.base) × (l.kernel.base ≡ J.base)
+        × IsConfirmed l.end.view × IsPrefix (dones l.end.view.list) l.kernel.book
+        × (l.kernel.is_left ≡ true → l.kernel.book ≡ dones l.end.view.list) × (l.end.view.book ≡ J.book) };
 }
 
 impl<D: Device, J: Naming> Locked<D, J> {

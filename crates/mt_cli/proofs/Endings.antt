@@ -29,13 +29,13 @@ keeps_kept (Some x) None c p q = absurd p
 keeps_kept (Some x) (Some y) None p q = absurd q
 keeps_kept (Some x) (Some y) (Some z) p q = q ∙ p
 
-tried_kept : (bytes was mid now : Option (List ℕ)) → IsTried bytes was mid → Keeps mid now → IsTried bytes was now
-tried_kept bytes was mid now done kept =
+tried_kept : {D : Type 0} (g : Ghosts D) (bytes was mid now : Option (List ℕ)) → IsTried g bytes was mid → Keeps mid now → IsTried g bytes was now
+tried_kept g bytes was mid now done kept =
     let t = done.tried.2 in record {
       tried = (
         done.tried.0,
         done.tried.1,
-        record { play = t.play; first = t.first; answers = t.answers; last = t.last; ran = t.ran; told = appends_kept was mid now _ t.told kept },
+        record { kernel = t.kernel; stands = t.stands; answers = t.answers; last = t.last; ran = t.ran; told = appends_kept was mid now _ t.told kept },
       );
     }
 
@@ -85,7 +85,7 @@ module _ {D : Type 0} (g : Ghosts D) where
       record { events = done.events; spelled = done.spelled; answers = done.answers; ran = done.ran; told = appends_kept was mid now _ done.told kept }
 
   pub done_kept : (command : Command) (a : Around) (was mid now : Option (List ℕ)) → IsDone g command a was mid → Keeps mid now → IsDone g command a was now
-  done_kept (Try script) a was mid now done kept = (tried_kept _ was mid now done.0 kept, done.1)
+  done_kept (Try script) a was mid now done kept = (tried_kept g _ was mid now done.0 kept, done.1)
   done_kept (Schedule file) a was mid now done kept = (scheduled_kept _ was mid now done.0 kept, done.1)
   done_kept (Check file pages) a was mid now done kept = (checked_kept pages _ was mid now done.0 kept, done.1)
   done_kept (Format file numbers) a was mid now done kept = (done.0, keeps_kept was mid now done.1 kept)

@@ -72,39 +72,40 @@ module _ {D : Type 0} {g : Ghosts D} (seen : D → List ℕ) (may_leave : D → 
       goes_on lines answers m.0 e.0 line answer (played relations counters s m lines answers rs cs before)
       (subst (λ (X : Type 0). X) (λ i. IsTurn ((kept.0 ∙ rs) i) ((kept.1 ∙ cs) i) (λ line why. Unit {0}) m.0 line answer e.0) own)
 
-  pub tried_of : (k n : Kernel D g) (lines : List Line) (was now : Option (List ℕ)) → StandsFirst seen may_leave k
-      → ((p : Play) → p.session ≡ 1 → IsBeside seen may_leave p None k → HasRun seen may_leave p k lines was now n) → HasTried lines was now
-  tried_of k n lines was now at ran =
-      let x = ran at.play at.first.session at.beside in
-      record {
-        play = at.play;
-        first = at.first;
-        answers = x.answers;
-        last = x.play;
-        ran = played 2 1 (at.play, k) (x.play, x.last) lines x.answers at.relations at.counters x.ran;
-        told = x.told;
-      }
-
   module _ (faults : D → ℕ) where
     pub ended_by : (n : Kernel D g) (why : RunFault) → IsEndedFor faults n why → IsEndedBy why
     ended_by n run.Output ended = tt
     ended_by n (run.Refused refusal.NoMemory) ended = inl refl
     ended_by n (run.Refused y) ended = inr (ended (λ e. cc)).0
 
-    pub short_of : (k n : Kernel D g) (lines : List Line) (was now : Option (List ℕ)) (why : RunFault) → StandsFirst seen may_leave k
-        → ((p : Play) → p.session ≡ 1 → IsBeside seen may_leave p None k → IsCutShort seen may_leave faults p k lines was now n why)
-        → ((p : Play) → p.session ≡ 1 → IsBeside seen may_leave p None k → IsEndedFor faults n why) → IsShort lines was now why
-    short_of k n lines was now why at cut ended =
-        let x = cut at.play at.first.session at.beside in
-        record {
-          play = at.play;
-          first = at.first;
-          before = x.before;
-          rest = x.rest;
-          split = x.split;
-          answers = x.answers;
-          last = x.play;
-          ran = played 2 1 (at.play, k) (x.play, x.last) x.before x.answers at.relations at.counters x.ran;
-          told = x.told;
-          ended = ended_by n why (ended at.play at.first.session at.beside);
-        }
+module _ {D : Type 0} (g : Ghosts D) where
+  pub tried_of : (k n : Kernel D g) (lines : List Line) (was now : Option (List ℕ)) → StandsFirst g.seen g.may_leave k
+      → ((p : Play) → p.session ≡ 1 → IsBeside g.seen g.may_leave p None k → HasRun g.seen g.may_leave p k lines was now n) → HasTried g lines was now
+  tried_of k n lines was now at ran =
+      let x = ran at.play at.first.session at.beside in
+      record {
+        kernel = k;
+        stands = at;
+        answers = x.answers;
+        last = (x.play, x.last);
+        ran = x.ran;
+        told = x.told;
+      }
+
+  pub short_of : (k n : Kernel D g) (lines : List Line) (was now : Option (List ℕ)) (why : RunFault) → StandsFirst g.seen g.may_leave k
+      → ((p : Play) → p.session ≡ 1 → IsBeside g.seen g.may_leave p None k → IsCutShort g.seen g.may_leave g.faults p k lines was now n why)
+      → ((p : Play) → p.session ≡ 1 → IsBeside g.seen g.may_leave p None k → IsEndedFor g.faults n why) → IsShort g lines was now why
+  short_of k n lines was now why at cut ended =
+      let x = cut at.play at.first.session at.beside in
+      record {
+        kernel = k;
+        stands = at;
+        before = x.before;
+        rest = x.rest;
+        split = x.split;
+        answers = x.answers;
+        last = (x.play, x.last);
+        ran = x.ran;
+        told = x.told;
+        ended = ended_by g.seen g.may_leave g.faults n why (ended at.play at.first.session at.beside);
+      }

@@ -18,7 +18,7 @@ use Rattle.mt_cli.specs.declared.faults.Fault.TheVariants.{Output, Refused, Unre
 use Rattle.mt_server.specs.declared.running.RunFault.{RunFault}
 use Rattle.mt_script.specs.Answers.{AppendsFront, transcript_text}
 use Rattle.mt_server.specs.Driven.{IsBeside}
-use Rattle.mt_server.specs.Plays.{Play, HasPlayed}
+use Rattle.mt_server.specs.Plays.{Play, Runs}
 use Rattle.mt_cli.specs.Advice.{about, told_text}
 use Rattle.mt_cli.specs.Checks.{HasChecked, IsUnchecked}
 use Rattle.mt_args.specs.CommandLines.{IsCommandOf}
@@ -32,7 +32,7 @@ use Rattle.mt_cli.specs.Serves.{HasNotRun, HasRunScripts, IsEndedBy, fault_of}
 use Rattle.mt_cli.specs.Tellings.{told_lines}
 use Rattle.mt_script.specs.Lines.{line_text, IsInGrammar}
 use Rattle.mt_script.specs.Scripts.{IsScript}
-use Rattle.mt_server.specs.Runs.{IsToldFor, last_line}
+use Rattle.mt_server.specs.Runs.{HasTurned, IsToldFor, last_line}
 use Rattle.mt_world.specs.Schedules.{HasRunTo}
 use Rattle.mt_world.specs.declared.events.Answer.{Answer as Told}
 use Rattle.mt_world.specs.declared.events.Event.{Event}
@@ -61,18 +61,19 @@ pub record StandsFirst {D : Type 0} {g : Ghosts D} (seen : D → List ℕ) (may_
   pub relations : k.relations ≡ 2
   pub counters : k.counters ≡ 1
 
--- `try` ran these lines on it, each was answered as the model does or refused, and the texts of the answers were written
-pub record HasTried (lines : List Line) (was now : Option (List ℕ)) : Type 0 where
-  pub play : Play
-  pub first : IsFirst play
+-- `try` ran these lines on such a kernel. Each was answered as the model does, or refused for a cause that the kernel had then; the texts of the
+-- answers were written.
+pub record HasTried {D : Type 0} (g : Ghosts D) (lines : List Line) (was now : Option (List ℕ)) : Type 0 where
+  pub kernel : Kernel D g
+  pub stands : StandsFirst g.seen g.may_leave kernel
   pub answers : List Answer
-  pub last : Play
-  pub ran : HasPlayed 2 1 play lines answers last
-  pub told : Appends was now (transcript_text (answers ++ last_line last.under_way))
+  pub last : Play × Kernel D g
+  pub ran : Runs (HasTurned g.seen g.may_leave) (stands.play, kernel) lines answers last
+  pub told : Appends was now (transcript_text (answers ++ last_line last.0.under_way))
 
 -- those that the bytes spell, where they are known
-pub record IsTried (bytes was now : Option (List ℕ)) : Type 0 where
-  pub tried : (lines : List Line) × IfSome bytes (λ bs. IsScript bs lines) × HasTried lines was now
+pub record IsTried {D : Type 0} (g : Ghosts D) (bytes was now : Option (List ℕ)) : Type 0 where
+  pub tried : (lines : List Line) × IfSome bytes (λ bs. IsScript bs lines) × HasTried g lines was now
 
 -- a kernel over such a device, formatted for that schema, answered these events so, and did what the answers say
 pub record HaveRun {D : Type 0} (g : Ghosts D) (events : List Event) (answers : List Told) : Type 0 where
@@ -97,7 +98,7 @@ pub record Around : Type 0 where
 
 -- what a command leaves on the output once it is done, and of the files
 abbrev pub IsDone : {D : Type 0} → Ghosts D → Command → Around → Option (List ℕ) → Option (List ℕ) → Type 0
-IsDone g (Try script) a was now = IsTried (source_of a.before (option_map string_bytes script) a.input) was now × AreKept a.before a.after
+IsDone g (Try script) a was now = IsTried g (source_of a.before (option_map string_bytes script) a.input) was now × AreKept a.before a.after
 IsDone g (Schedule file) a was now = IsScheduled g (source_of a.before (option_map string_bytes file) a.input) was now × AreKept a.before a.after
 IsDone g (Check file pages) a was now = HasChecked pages (known_in a.before (string_bytes file)) was now × AreKept a.before a.after
 IsDone g (Format file numbers) a was now = Formats numbers a.before a.after (string_bytes file) × Keeps was now
@@ -121,28 +122,28 @@ IsToldOf command fault was now = AppendsFront was now (told_text (about command 
 -- ---- a command that was not done
 
 -- the first of these lines were answered, and their answers are written, or a beginning of them
-pub record IsShort (lines : List Line) (was now : Option (List ℕ)) (why : RunFault) : Type 0 where
-  pub play : Play
-  pub first : IsFirst play
+pub record IsShort {D : Type 0} (g : Ghosts D) (lines : List Line) (was now : Option (List ℕ)) (why : RunFault) : Type 0 where
+  pub kernel : Kernel D g
+  pub stands : StandsFirst g.seen g.may_leave kernel
   pub before : List Line
   pub rest : List Line
   pub split : lines ≡ before ++ rest
   pub answers : List Answer
-  pub last : Play
-  pub ran : HasPlayed 2 1 play before answers last
+  pub last : Play × Kernel D g
+  pub ran : Runs (HasTurned g.seen g.may_leave) (stands.play, kernel) before answers last
   pub told : IsToldFor was now answers why
   pub ended : IsEndedBy why
 
 -- why these lines did not run to their end: nothing is written where no kernel is made, and else the
 -- run was cut short
-pub data IsCutTrial (lines : List Line) (was now : Option (List ℕ)) : Fault → Type 0 where
-  unmade : (why : Refusal) → IsUnmade why → Keeps was now → IsCutTrial lines was now (Refused why)
-  cut : (why : RunFault) (fault : Fault) → IsShort lines was now why → fault ≡ fault_of why → IsCutTrial lines was now fault
+pub data IsCutTrial {D : Type 0} (g : Ghosts D) (lines : List Line) (was now : Option (List ℕ)) : Fault → Type 0 where
+  unmade : (why : Refusal) → IsUnmade why → Keeps was now → IsCutTrial g lines was now (Refused why)
+  cut : (why : RunFault) (fault : Fault) → IsShort g lines was now why → fault ≡ fault_of why → IsCutTrial g lines was now fault
 
 -- why a script of these bytes was not run to its end: nothing is written where it is not read
-pub data IsUntried (bytes was now : Option (List ℕ)) : Fault → Type 0 where
-  unread : (why : Refusal) → IsUnread line_text IsInGrammar bytes why → Keeps was now → IsUntried bytes was now (Unread why 0)
-  untried : (lines : List Line) (fault : Fault) → IfSome bytes (λ bs. IsScript bs lines) → IsCutTrial lines was now fault → IsUntried bytes was now fault
+pub data IsUntried {D : Type 0} (g : Ghosts D) (bytes was now : Option (List ℕ)) : Fault → Type 0 where
+  unread : (why : Refusal) → IsUnread line_text IsInGrammar bytes why → Keeps was now → IsUntried g bytes was now (Unread why 0)
+  untried : (lines : List Line) (fault : Fault) → IfSome bytes (λ bs. IsScript bs lines) → IsCutTrial g lines was now fault → IsUntried g bytes was now fault
 
 -- why a schedule of these bytes did not run to its end: nothing is written where it is not read or no kernel is made,
 -- and else the output failed within the texts of the answers
@@ -160,7 +161,7 @@ IsFormatFault numbers (Unread why at) = ⊥
 
 -- what a command that ended with this fault left on the output, and of the files
 abbrev pub IsUndone : {D : Type 0} → Ghosts D → Command → Around → Option (List ℕ) → Option (List ℕ) → Fault → Type 0
-IsUndone g (Try script) a was now fault = IsUntried (source_of a.before (option_map string_bytes script) a.input) was now fault × AreKept a.before a.after
+IsUndone g (Try script) a was now fault = IsUntried g (source_of a.before (option_map string_bytes script) a.input) was now fault × AreKept a.before a.after
 IsUndone g (Schedule file) a was now fault = IsUnscheduled g (source_of a.before (option_map string_bytes file) a.input) was now fault × AreKept a.before a.after
 IsUndone g (Check file pages) a was now fault = IsUnchecked pages (known_in a.before (string_bytes file)) was now fault × AreKept a.before a.after
 IsUndone g (Format file numbers) a was now fault = IsFormatFault numbers fault × AreKept a.before a.after × Keeps was now

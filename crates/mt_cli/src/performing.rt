@@ -105,8 +105,10 @@ fn run_over<D: Device + Drop, O: Write>(
     out: &mut O,
 ) -> Result<(), Fault>
     requires { 8658944 ≤ length (D.seen device) }
-    ensures tried { OnOk result (HasTried script.now.lines.items (O.contents out.old) (O.contents out.new)) }
-    ensures cut { IfErr result (IsCutTrial script.now.lines.items (O.contents out.old) (O.contents out.new)) }
+    ensures tried { OnOk result (HasTried D.Device script.now.lines.items
+        (O.contents out.old) (O.contents out.new)) }
+    ensures cut { IfErr result (IsCutTrial D.Device script.now.lines.items
+        (O.contents out.old) (O.contents out.new)) }
 {
     let mut kernel = match kernel_over(alloc, device) {
         Ok(kernel) => kernel,
@@ -123,8 +125,10 @@ fn run_over<D: Device + Drop, O: Write>(
 
 /// Runs a script over a device in memory, and writes its transcript.
 fn try_script<O: Write>(alloc: Global, script: &Script, out: &mut O) -> Result<(), Fault>
-    ensures tried { OnOk result (HasTried script.now.lines.items (O.contents out.old) (O.contents out.new)) }
-    ensures cut { IfErr result (IsCutTrial script.now.lines.items (O.contents out.old) (O.contents out.new)) }
+    ensures tried { OnOk result (HasTried ⟦<MemDevice as Device>⟧ script.now.lines.items
+        (O.contents out.old) (O.contents out.new)) }
+    ensures cut { IfErr result (IsCutTrial ⟦<MemDevice as Device>⟧ script.now.lines.items
+        (O.contents out.old) (O.contents out.new)) }
 {
     match first_device(alloc) {
         Ok(device) => run_over(alloc, device, script, out),
@@ -140,10 +144,10 @@ fn perform_try<F: Folder, I: Read, O: Write>(
     input: &mut I,
     out: &mut O,
 ) -> Result<(), Fault>
-    ensures tried { OnOk result (IsTried
+    ensures tried { OnOk result (IsTried ⟦<MemDevice as Device>⟧
         (source_of (F.files folder.old) (option_map (λ n. n.now) name.entry) (I.remaining input.old))
         (O.contents out.old) (O.contents out.new)) }
-    ensures untried { IfErr result (IsUntried
+    ensures untried { IfErr result (IsUntried ⟦<MemDevice as Device>⟧
         (source_of (F.files folder.old) (option_map (λ n. n.now) name.entry) (I.remaining input.old))
         (O.contents out.old) (O.contents out.new)) }
     ensures kept { AreKept (F.files folder.old) (F.files folder.new) }

@@ -1,6 +1,3 @@
-use Rattle.std.proofs.Common.{[], ◌++◌, ◌≡◌, List, ℕ, Option, Result, Ok, Err, OnOk, OnErr, refl, append-nil, sym}
-use Rattle.std.specs.Io.KnownBytes.{Appends}
-use Rattle.mt_script.specs.Answers.{AppendsFront}
 use Rattle.mt_cli.proofs.AdviceLemmas.{all_or_front}
 use Rattle.mt_cli.proofs.faults.tell_about.Goals as goal
 

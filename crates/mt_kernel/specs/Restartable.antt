@@ -1,5 +1,5 @@
 -- What the log's records tell of the transactions, and that a restart over each beginning of them finds its base.
-use Rattle.std.specs.Prelude.{ℕ, ◌≡◌, ◌≤◌, ◌+◌, ◌++◌, Bool, cond, List, [], ◌∷◌, Option, Some, None, filter, map, length, Result, Ok, Err}
+use Rattle.std.specs.Prelude.{ℕ, ◌*◌, ◌≡◌, ◌≤◌, ◌+◌, ◌++◌, Bool, cond, List, [], ◌∷◌, Option, Some, None, filter, map, length, Result, Ok, Err}
 use Rattle.mt_base.specs.declared.limits.TheConstants.{MAX_LIVE, MIB_BYTES, MIN_AREA_MIB}
 use Rattle.mt_base.specs.declared.refusal.Refusal.{Refusal}
 use Rattle.mt_frame.specs.declared.records.Record.{Record}

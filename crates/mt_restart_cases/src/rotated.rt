@@ -161,9 +161,10 @@ fn each_call_failing(alloc: Global) -> Result<(u16, bool), Refusal> {
     Err(Refusal::Busy)
 }
 
+/// The log that turns over has the empty batch with which its area began, and the other master slot is open.
 #[test]
 fn a_turn_is_stopped_at_each_call_and_the_base_stands(rt: HostRuntime) -> Result<(), Fail> {
-    let (stops, stand) = each_call_failing(rt.alloc())?;
-    assert!(rt; stand && 10 <= stops);
+    let told = each_call_failing(rt.alloc())?;
+    assert!(rt; told == (59, true));
     Ok(())
 }

@@ -181,7 +181,7 @@ fn is_due(alloc: Global, base: &[u8], acknowledged: usize) -> Result<bool, Alloc
 }
 
 /// What was looked at: contents that a crash left, and stops of their openings.
-#[derive(Clone, Copy)]
+#[derive(Clone, Copy, PartialEq, Eq, Debug)]
 struct Counts {
     contents: u64,
     stops: u64,
@@ -231,8 +231,10 @@ fn counted(
     Ok(Some(counts))
 }
 
-// Stops the run at each call of the device in turn, and counts; None where a content stands for another base than is due.
-fn each_stop(alloc: Global) -> Result<Option<Counts>, Refusal> {
+// Stops the run at each call of the device in turn: at how many, and what was looked at. None where a content stands for
+// another base than is due.
+fn each_stop(alloc: Global) -> Result<Option<(u64, Counts)>, Refusal> {
+    let mut calls = 0u64;
     let mut counts = Counts {
         contents: 0,
         stops: 0,
@@ -247,16 +249,39 @@ fn each_stop(alloc: Global) -> Result<Option<Counts>, Refusal> {
             None => return Ok(None),
         }
         if stop.is_over {
-            return Ok(Some(counts));
+            return Ok(Some((calls, counts)));
         }
+        calls = calls.saturating_add(1);
     }
     Err(Refusal::Busy)
 }
 
-/// There are three forces of four calls each, and three pages are written.
+// Openings of a content whose ruling area has so many batches, beside a closed master slot: one for each of its device calls,
+// which fails, and one that goes well. docs/PROVED.md tells which calls these are.
+const ONE_BATCH: u64 = 58;
+
+const TWO_BATCHES: u64 = 64;
+
+const THREE_BATCHES: u64 = 70;
+
+const FOUR_BATCHES: u64 = 76;
+
+// A force leaves three contents before its gate is open, and one behind it; a page three, and four where another one was not
+// synced before. With those a force leaves four.
+const DUE: Counts = Counts {
+    contents: 29,
+    stops: (1 + 3) * ONE_BATCH
+        + (1 + 3 + 4 + 4) * TWO_BATCHES
+        + (1 + 3 + 4 + 4) * THREE_BATCHES
+        + FOUR_BATCHES,
+};
+
+/// There are three forces of four calls each, three pages are written, and four read: the directory, the bucket, a page for
+/// records, and one for the split. That one is read while a page that was written is not synced, so its four contents are
+/// looked at twice.
 #[test]
 fn whatever_stops_a_run_the_acknowledged_commits_stand(rt: HostRuntime) -> Result<(), Fail> {
-    let counts = each_stop(rt.alloc())?;
-    assert!(rt; counts.is_some_and(|c| 12 <= c.contents && 240 <= c.stops));
+    let told = each_stop(rt.alloc())?;
+    assert!(rt; told == Some((19, DUE)));
     Ok(())
 }

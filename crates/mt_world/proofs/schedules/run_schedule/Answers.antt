@@ -1,6 +1,16 @@
-use Rattle.mt_restart.specs.Schemas.{schema_base}
+use Rattle.std.proofs.Common.{ℕ, subst}
+use Rattle.mt_restart.specs.Schemas.{relations_in, schema_base}
+use Rattle.mt_world.specs.Schedules.{HasRunTo}
 use Rattle.mt_world.proofs.BeginLemmas.{from_format}
 use Rattle.mt_world.proofs.schedules.run_schedule.Goals as goal
+
+pub returns-clause-ran : goal.returns-clause-ran
+returns-clause-ran g c =
+    let D = g.D.Device in let s = c.args.schema.now in let e = c.in_ok-kernel.ensures in
+    let answers = c.make_all-standing.new.answers.items in let standing = c.make_all-standing.result in
+    subst (λ (n : ℕ). ∥ HasRunTo D.seen D.may_leave D.moment D.left_since D.faults (relations_in s) n (schema_base s) c.args.events.now answers standing ∥₁) e.schema.1
+    (subst (λ (n : ℕ). ∥ HasRunTo D.seen D.may_leave D.moment D.left_since D.faults n c.in_ok-kernel.kernel.counters (schema_base s) c.args.events.now answers standing ∥₁) e.schema.0
+    (c.make_all-standing.ensures.ran (schema_base s) e.shows e.restarts))
 
 pub returns-clause-moments : goal.returns-clause-moments
 returns-clause-moments g c =

@@ -1,3 +1,4 @@
 mod Fieldless
 mod Editing
 pub mod Places
+pub mod Removing

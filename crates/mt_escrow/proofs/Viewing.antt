@@ -18,7 +18,7 @@ use Rattle.mt_escrow.specs.Rooms.{Fits, fresh, held, let_go, room_at, count_of, 
 use Rattle.mt_escrow.specs.Seen.{add_of, IsLastAt}
 use Rattle.mt_escrow.proofs.Adding.{steps_at-append}
 use Rattle.mt_escrow.proofs.Changing.{lets_go, lose, more, fits_from_admissible, admissible_from_fits}
-use Rattle.mt_escrow.proofs.Removing.{parted}
+use Rattle.mt_base.proofs.Removing.{parted}
 
 pub count_at-rooms : (rooms : List Room) (c : ℕ) → count_at (map count_of rooms) c ≡ count_of (room_at rooms c)
 count_at-rooms rooms c = list.get_or-map count_of rooms c (fresh no_count)

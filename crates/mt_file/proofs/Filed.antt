@@ -3,7 +3,8 @@ use Rattle.std.proofs.Common.{◌≡◌, ◌≢◌, inl, inr, ⊎_elim, ℕ, ◌
 use Rattle.std.proofs.lemmas.Bool.{cases_eq, cases_lt}
 use Rattle.std.proofs.lemmas.Bool.Decides.{nat_tests}
 use Rattle.mt_slots.specs.Page.{Row, slot, size, offset, row_at, count, live_slots, IsShaped, Fits, Sets, Inserted}
-use Rattle.mt_file.proofs.Slots.{slot_live, slot_empty, slot_past, free_before, none_live}
+use Rattle.mt_file.proofs.Slots.{free_before, none_live}
+use Rattle.mt_slots.proofs.Pages.{slot_empty, slot_live, slot_past}
 use Rattle.mt_space.specs.Changes.{PageBytes, replaced}
 use Rattle.mt_space.proofs.Changing.{replaced_here, replaced_other}
 use Rattle.mt_space.specs.Kinds.{kind}

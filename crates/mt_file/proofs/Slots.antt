@@ -3,19 +3,8 @@ use Rattle.std.proofs.Common.{◌≡◌, ◌≢◌, ⊎_elim, ℕ, zero, suc, �
 use Rattle.std.proofs.lemmas.Bool.{cases_eq, cases_lt}
 use Rattle.std.proofs.lemmas.Bool.Decides.{nat_tests}
 use Rattle.mt_slots.specs.Page.{Row, slot, size, count, offset, row_at, live_slots, live_bytes, room_of, row_length, IsShaped, Opens, Inserted, IsFull}
+use Rattle.mt_slots.proofs.Pages.{slot_empty, slot_live, slot_past}
 use Rattle.mt_file.specs.Rooms.{fits_of}
-
-pub slot_live : (page : List ℕ) (i : ℕ) → i < count page → size page i ≢ 0 → slot page i ≡ Some (row_at page (offset page i))
-unfolding slot
-slot_live page i lt live = grind (arith, nat_tests)
-
-pub slot_empty : (page : List ℕ) (i : ℕ) → size page i ≡ 0 → slot page i ≡ None
-unfolding slot
-slot_empty page i is = grind (arith, nat_tests)
-
-pub slot_past : (page : List ℕ) (i : ℕ) → count page ≤ i → slot page i ≡ None
-unfolding slot
-slot_past page i le = grind (arith, nat_tests)
 
 -- a slot that may be taken holds nothing
 pub free_before : (page : List ℕ) (s n : ℕ) → Opens page s n → slot page s ≡ None

@@ -1,5 +1,6 @@
 use Rattle.std.proofs.Common.{◌∙◌, arith}
-use Rattle.mt_file.proofs.Slots.{slot_past, empty_takes}
+use Rattle.mt_file.proofs.Slots.{empty_takes}
+use Rattle.mt_slots.proofs.Pages.{slot_past}
 use Rattle.mt_file.proofs.putting.page_of_one.Goals as goal
 
 pub returns-in-Some-clause-alone : goal.returns-in-Some-clause-alone

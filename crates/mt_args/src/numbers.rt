@@ -1,10 +1,8 @@
 // Numbers, as the words of a command spell them.
 ghost use Rattle.std.specs.Prelude.{◌≡◌, ◌∷◌, ◌++◌, ℕ, ℤ, Any, IfNone, IfOk, IfSome, MatchOption, map};
-ghost use Rattle.std.specs.Fmt.{decimal};
-ghost use Rattle.mt_script.specs.Lines.{SpellsStep};
 ghost use Rattle.mt_args.specs.Spelling.{AreCounters, IsNoCounter, IsNoneWithin, IsUncut, SpellBounds, SpellsBounds, SpellsCount, SpellsCounter, SpellsWithin};
 
-use mt_script::number_of;
+use mt_script::{number_of, signed_of};
 use std::alloc::{AllocError, Global};
 
 /// The largest number that fits 64 bits with a sign.
@@ -47,35 +45,6 @@ pub(crate) fn count_within(
         Some(number) if low <= number && number <= high => Ok(Some(number)),
         Some(_) => Ok(None),
         None => Ok(None),
-    }
-}
-
-/// The number that a word spells that fits 64 bits with its sign, `-` before a negative one only.
-fn signed_of(alloc: Global, word: &[u8]) -> Result<Option<i64>, AllocError>
-    ensures { IfOk result (λ o. MatchOption o ((n : ℤ) → ¬ SpellsStep word.now n) (SpellsStep word.now)) }
-{
-    match word {
-        [b'-', size @ ..] => match number_of(alloc, size)? {
-            Some(number) => Ok(negated(number)),
-            None => Ok(None),
-        },
-        _ => match number_of(alloc, word)? {
-            Some(number) => Ok(i64::try_from(number).ok()),
-            None => Ok(None),
-        },
-    }
-}
-
-/// The negative number of this size, where there is one in 64 bits.
-fn negated(size: u64) -> Option<i64>
-    ensures { MatchOption result ((n : ℤ) → ¬ SpellsStep (45 ∷ decimal size) n) (SpellsStep (45 ∷ decimal size)) }
-{
-    if size == 0 {
-        return None;
-    }
-    match i64::try_from(size - 1) {
-        Ok(less_one) => Some(-1 - less_one),
-        Err(_) => None,
     }
 }
 

@@ -11,5 +11,7 @@ mod reader;
 
 pub use answers::{Answer, Unheard, put, put_all, write_answer, write_reply};
 pub use grammar::Grammar;
-pub use lines::{Line, ScriptGrammar, is_text_of, line_of, number_of, op_of, split_at_space};
+pub use lines::{
+    Line, ScriptGrammar, is_text_of, line_of, number_of, op_of, signed_of, split_at_space,
+};
 pub use reader::{Script, ScriptFault, read_lines, read_script};

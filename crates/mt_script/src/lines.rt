@@ -77,9 +77,9 @@ fn place_of(alloc: Global, word: &[u8]) -> Result<Option<u16>, AllocError>
     }
 }
 
-/// The step that a word spells: a number that fits 64 bits with its sign, `-` before a negative one
-/// only.
-fn step_of(alloc: Global, word: &[u8]) -> Result<Option<i64>, AllocError>
+/// The number that a word spells that fits 64 bits with its sign, `-` before a negative one only. The only error is
+/// want of memory.
+pub fn signed_of(alloc: Global, word: &[u8]) -> Result<Option<i64>, AllocError>
     ensures { IfOk result (λ o. MatchOption o ((n : ℤ) → ¬ SpellsStep word.now n) (SpellsStep word.now)) }
 {
     match word {
@@ -214,7 +214,7 @@ fn add_of(alloc: Global, words: &[u8]) -> Result<Option<Op>, AllocError>
     let Some(counter) = place_of(alloc, word)? else {
         return Ok(None);
     };
-    match step_of(alloc, rest)? {
+    match signed_of(alloc, rest)? {
         Some(step) => Ok(Some(Op::Add(CtrNo::new(counter), step))),
         None => Ok(None),
     }

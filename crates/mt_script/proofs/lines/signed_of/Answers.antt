@@ -3,8 +3,8 @@ use Rattle.std.specs.Fmt.{decimal}
 use Rattle.std.proofs.lemmas.Grind.{common_steps}
 use Rattle.mt_script.specs.Lines.{SpellsStep}
 use Rattle.mt_script.proofs.LineLemmas.{minus_first, no_size, wide_step}
-use Rattle.mt_script.proofs.lines.step_of.Goals as goal
-use Rattle.mt_script.proofs.lines.step_of.Goals.{in_default-via-then-word-lt1, in_default-via-else-word-lt1+in_default-1}
+use Rattle.mt_script.proofs.lines.signed_of.Goals as goal
+use Rattle.mt_script.proofs.lines.signed_of.Goals.{in_default-via-then-word-lt1, in_default-via-else-word-lt1+in_default-1}
 
 pub returns-in-None : goal.returns-in-None
 returns-in-None c = λ z s.

@@ -24,8 +24,9 @@ use Rattle.mt_op.specs.declared.scope.OpScope.{OpScope}
 use Rattle.mt_pool.proofs.Logged.{no_records}
 use Rattle.mt_space.specs.Changes.{PageBytes}
 use Rattle.mt_steps.specs.Held.{Holds}
-use Rattle.mt_kernel.specs.Runs.{AreHeldBy, is_open, left_of}
+use Rattle.mt_kernel.specs.Runs.{is_open, left_of}
 use Rattle.mt_kernel.specs.Consistent.{Origin, state_of, IsNumbered, AreTold, IsQueued, IsConsistent, IsIn}
+use Rattle.mt_kernel.proofs.Resting.{fit_over}
 use Rattle.mt_kernel.proofs.Told.{told_more}
 use Rattle.mt_kernel.proofs.Queued.{queued_records}
 use Rattle.mt_kernel.specs.declared.parts.Parts.{Parts}
@@ -67,22 +68,10 @@ module _ {D : Type 0} (seen : D → List ℕ) (may_leave : D → List ℕ → Ty
       } in
       record {
         consistent = record {
-          fit = record {
-            schema = fit.schema;
-            right = right;
-            kept = fit.kept;
-            owned = fit.owned;
-            apart = fit.apart;
-            numbered = subst (λ (X : Type 0). X) (λ i. IsNumbered k.last k.live.begun k.live.members (sym notes.locks i) (sym notes.records i)) numbered;
-            locked = subst (AreHeldBy k.running.items) (sym notes.locks) fit.locked;
-            small = fit.small;
-            log = log;
-            reserves = fit.reserves;
-            numbers = fit.numbers;
-            queued = subst (λ (X : Type 0). X) (λ i. IsQueued k.live.members (sym notes.records i) k.commits.items) (queued_records k.live.members (appended k.operations.store.log) (AbortEnd t ∷ []) k.commits.items fit.queued);
-            booked = fit.booked;
-            escrowed = fit.escrowed;
-          };
+          fit = fit_over seen may_leave origin base k n fit right notes.locks
+              (subst (λ (X : Type 0). X) (λ i. IsNumbered k.last k.live.begun k.live.members (sym notes.locks i) (sym notes.records i)) numbered)
+              (subst (λ (X : Type 0). X) (λ i. IsQueued k.live.members (sym notes.records i) k.commits.items) (queued_records k.live.members (appended k.operations.store.log) (AbortEnd t ∷ []) k.commits.items fit.queued))
+              log;
           holds = subst (λ (p : PageBytes). Holds p base) (sym (notes_held origin.relations origin.counters (world seen origin.pages k.operations) (world seen origin.pages n.operations) t (AbortEnd t) notes (inr refl))) safe.holds;
           runs = λ i d lt. let was = safe.runs i d lt in record { under = others (get_or k.running.items i d).scope was.under (idle i d lt); budget = was.budget; number = was.number; moving = was.moving };
           told = subst (AreTold k.last k.live.members) (sym notes.records) (told_more k.last k.last k.live.members (appended k.operations.store.log) (AbortEnd t ∷ []) (omega arith) (λ u v less. refl) safe.told);

@@ -6,7 +6,6 @@ use Rattle.std.specs.Option.{option_map}
 use Rattle.std.proofs.lemmas.Bool.{eq-eqb, cases_lt, cases_eq}
 use Rattle.std.proofs.lemmas.List.Elements.{All-push, All-weaker}
 use Rattle.std.proofs.lemmas.List.Quantifiers.{all_pairs_push}
-use Rattle.std.proofs.lemmas.List.Sums.{sum_by_push}
 use Rattle.mt_escrow.specs.Seen.{Escrowed}
 use Rattle.mt_frame.specs.Grammar.{IsTxn}
 use Rattle.mt_live.proofs.Keeping.{kept_called}
@@ -38,7 +37,7 @@ use Rattle.mt_kernel.specs.Consistent.{Origin, state_of, IsNumbered, AreTold, Is
 use Rattle.mt_kernel.specs.declared.parts.Parts.{Parts}
 use Rattle.mt_kernel.specs.declared.parts.Running.{Running}
 use Rattle.mt_kernel.proofs.Underway.{runs_none, running_push}
-use Rattle.mt_kernel.proofs.Holders.{held_push}
+use Rattle.mt_kernel.proofs.Holders.{held_push, sums_push}
 use Rattle.mt_kernel.proofs.Numbers.{fresh}
 use Rattle.mt_kernel.proofs.Told.{told_last}
 
@@ -134,7 +133,7 @@ module _ {D : Type 0} (seen : D → List ℕ) (may_leave : D → List ℕ → Ty
         pending = sym g.more i;
         base = base;
       } in
-      let w_same : world seen origin.pages k.operations ≡ world seen origin.pages n.operations = world_same seen may_leave k.operations n.operations origin.pages h.store h.locks in
+      let w_same : world seen origin.pages k.operations ≡ world seen origin.pages n.operations = world_same seen k.operations n.operations origin.pages h.store h.locks in
       let still : All (IsRunning origin.relations origin.counters (world seen origin.pages n.operations) (k.last + 1)) k.running.items =
       λ i d lt. let was = safe.runs i d lt in record { under = subst (λ (w : World). IsUnderWay origin.relations origin.counters w (get_or k.running.items i d).scope) w_same was.under; budget = was.budget; number = let low = was.number in omega arith; moving = was.moving } in
       let mine : IsRunning origin.relations origin.counters (world seen origin.pages n.operations) (k.last + 1) r = record { under = h.under; budget = h.budget; number = let is = h.is_number in omega arith; moving = inl h.planning } in
@@ -147,14 +146,8 @@ module _ {D : Type 0} (seen : D → List ℕ) (may_leave : D → List ℕ → Ty
         aborts = λ back. absurd (back h.is_undoes);
         newest = λ fore. above_all r.scope.number (member_of k.live.members r.scope.txn) (λ m is i d lt. let low = (safe.told r.scope.txn m is).numbers i d lt in let new = h.is_number in omega (arith, low, new));
       } in
-      let pages = sum_by_push pages_of k.running.items r in
-      let lefts = sum_by_push left_of k.running.items r in
-      let keeps = sum_by_push kept_bytes k.running.items r in
-      let takes = sum_by_push taken_bytes k.running.items r in
-      let sum_pages : sum_by pages_of n.running.items ≡ sum_by pages_of (k.running.items ++ r ∷ []) = ap (sum_by pages_of) items in
-      let sum_left : sum_by left_of n.running.items ≡ sum_by left_of (k.running.items ++ r ∷ []) = ap (sum_by left_of) items in
-      let sum_kept : sum_by kept_bytes n.running.items ≡ sum_by kept_bytes (k.running.items ++ r ∷ []) = ap (sum_by kept_bytes) items in
-      let sum_taken : sum_by taken_bytes n.running.items ≡ sum_by taken_bytes (k.running.items ++ r ∷ []) = ap (sum_by taken_bytes) items in
+      let sums = sums_push k.running.items n.running.items r items in
+      let pages = sums.pages in let lefts = sums.left in let keeps = sums.kept in let takes = sums.taken in
       let test : (r.scope.undoes == 0) ≡ true = eq-eqb r.scope.undoes 0 h.is_undoes in
       let pages_own : pages_of r ≡ own_needs r.scope.op r.scope.split + undo_pages r.scope.op = rw test refl in
       let pages_r : pages_of r ≡ own_needs op split + undo_pages op = pages_own ∙ (λ i. own_needs (h.is_op i) (h.is_split i) + undo_pages (h.is_op i)) in
@@ -197,7 +190,7 @@ module _ {D : Type 0} (seen : D → List ℕ) (may_leave : D → List ℕ → Ty
       → IsConsistent seen may_leave origin base (record k { operations = n.operations })
   claims_consistent k n safe right store locks same =
       let fit = safe.fit in
-      let w_same : world seen origin.pages k.operations ≡ world seen origin.pages n.operations = world_same seen may_leave k.operations n.operations origin.pages store locks in
+      let w_same : world seen origin.pages k.operations ≡ world seen origin.pages n.operations = world_same seen k.operations n.operations origin.pages store locks in
       let claims = safe.claims in
       record {
         fit = record {

@@ -66,7 +66,7 @@ pub record HasEnded {D : Type 0} (seen : D → List ℕ) (may_leave : D → List
 pub ended_given : {D : Type 0} (seen : D → List ℕ) (may_leave : D → List ℕ → Type 0) (opening : PageBytes) (relations counters : ℕ) (o m n : Operations D) (s : OpScope) → HasEnded seen may_leave opening relations counters o m s
     → IsRight seen may_leave opening relations counters n → n.store ≡ m.store → n.locks ≡ m.locks → HasEnded seen may_leave opening relations counters o n s
 ended_given seen may_leave opening relations counters o m n s h right store locks =
-    let same : world seen opening m ≡ world seen opening n = world_same seen may_leave m n opening store locks in
+    let same : world seen opening m ≡ world seen opening n = world_same seen m n opening store locks in
     record {
       right = right;
       held = ap held_in (sym same) ∙ h.held;

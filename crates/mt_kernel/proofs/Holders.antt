@@ -1,10 +1,11 @@
 -- Page locks of the operations under way.
-use Rattle.std.proofs.Common.{◌≡◌, ◌≢◌, ⊎_elim, ℕ, zero, suc, ◌<◌, ◌==◌, ◌||◌, Bool, true, false, not, List, [], ◌∷◌, ◌++◌, length, get_or, set, Some, refl, sym, ap, ◌∙◌, subst, arith}
+use Rattle.std.proofs.Common.{◌≡◌, ◌≢◌, ⊎_elim, ℕ, zero, suc, ◌+◌, ◌<◌, ◌==◌, ◌||◌, Bool, true, false, not, List, [], ◌∷◌, ◌++◌, length, get_or, set, Some, refl, sym, ap, ◌∙◌, subst, arith}
 use Rattle.std.specs.Prelude.{All, AllPairs, Result, Ok, Err}
-use Rattle.std.specs.List.{remove}
+use Rattle.std.specs.List.{remove, sum_by}
 use Rattle.std.proofs.lemmas.Bool.{eq-eqb, eqb-true, ne_eqb, or_left, cases_eq}
 use Rattle.std.proofs.lemmas.List.{get_or_default, get_or_read, get_or-set_other, length-set}
 use Rattle.std.proofs.lemmas.List.Elements.{All-push, All-filter, filter_passes}
+use Rattle.std.proofs.lemmas.List.Sums.{sum_by_push}
 use Rattle.std.proofs.lemmas.List.Folds.{list_any-append, list_any_at, Any-from_list_any}
 use Rattle.mt_base.specs.declared.modes.Mode.{Mode}
 use Rattle.mt_base.specs.declared.refusal.Refusal.{Refusal}
@@ -18,7 +19,7 @@ use Rattle.mt_plock.specs.Holding.{lock_of, IsLeastHolder}
 use Rattle.mt_plock.specs.Releasing.{locks_without}
 use Rattle.mt_plock.specs.declared.guards.PageLock.{PageLock}
 use Rattle.mt_kernel.specs.Consistent.{IsOwnerOf}
-use Rattle.mt_kernel.specs.Runs.{AreApart, AreHeldBy, IsOwned, is_open, is_under_way}
+use Rattle.mt_kernel.specs.Runs.{AreApart, AreHeldBy, IsOwned, is_open, is_under_way, kept_bytes, left_of, pages_of, taken_bytes}
 use Rattle.mt_kernel.specs.Steps.{IsOfOther, TellsOther}
 use Rattle.mt_kernel.specs.declared.parts.Running.{Running}
 use Rattle.mt_kernel.proofs.Lists.{pair_at}
@@ -53,6 +54,21 @@ way_remove (x ∷ xs) (suc i) r n within there apart is = go (x.scope.number == 
 
 pub held_as : (rs new : List Running) (locks : List PageLock) → ((n : ℕ) → is_under_way rs n ≡ true → is_under_way new n ≡ true) → AreHeldBy rs locks → AreHeldBy new locks
 held_as rs new locks more held i d lt = more (get_or locks i d).op (held i d lt)
+
+-- what one more that is under way adds to each sum
+pub record AddsUp (rs ns : List Running) (r : Running) : Type 0 where
+  pub pages : sum_by pages_of ns ≡ sum_by pages_of rs + pages_of r
+  pub left : sum_by left_of ns ≡ sum_by left_of rs + left_of r
+  pub kept : sum_by kept_bytes ns ≡ sum_by kept_bytes rs + kept_bytes r
+  pub taken : sum_by taken_bytes ns ≡ sum_by taken_bytes rs + taken_bytes r
+
+pub sums_push : (rs ns : List Running) (r : Running) → ns ≡ rs ++ r ∷ [] → AddsUp rs ns r
+sums_push rs ns r more = record {
+  pages = ap (sum_by pages_of) more ∙ sum_by_push pages_of rs r;
+  left = ap (sum_by left_of) more ∙ sum_by_push left_of rs r;
+  kept = ap (sum_by kept_bytes) more ∙ sum_by_push kept_bytes rs r;
+  taken = ap (sum_by taken_bytes) more ∙ sum_by_push taken_bytes rs r;
+}
 
 pub held_push : (rs : List Running) (r : Running) (locks : List PageLock) → AreHeldBy rs locks → AreHeldBy (rs ++ r ∷ []) locks
 held_push rs r locks held = held_as rs (rs ++ r ∷ []) locks (way_push rs r) held

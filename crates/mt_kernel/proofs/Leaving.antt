@@ -130,7 +130,7 @@ module _ {D : Type 0} (seen : D → List ℕ) (may_leave : D → List ℕ → Ty
         pending = sym pending i;
         base = base;
       } in
-      let w_same : world seen origin.pages k.operations ≡ world seen origin.pages n.operations = world_same seen may_leave k.operations n.operations origin.pages store page_locks in
+      let w_same : world seen origin.pages k.operations ≡ world seen origin.pages n.operations = world_same seen k.operations n.operations origin.pages store page_locks in
       let apart_pages = weighs_apart undo_pages t k.live.standing in
       let apart_bytes = weighs_apart undo_bytes t k.live.standing in
       let sum_pages : sum_by entry_pages n.live.standing ≡ sum_by entry_pages (kept (others t) k.live.standing) = ap (sum_by entry_pages) standing in

@@ -9,10 +9,10 @@ use Rattle.mt_frame.specs.declared.records.Record.{Record}
 use Rattle.mt_space.specs.Changes.{PageBytes, IsUntouched, AreShort}
 use Rattle.mt_frame.specs.PageRecords.{change_records, range_record}
 use Rattle.mt_space.specs.declared.changes.PageChange.{PageChange}
-use Rattle.mt_frame.proofs.Redone.{put_part, in_range, Covers, covers, covers_rest, AreWithin}
+use Rattle.mt_frame.proofs.Redone.{put_part, in_range, Covers, covers, AreWithin}
 use Rattle.mt_steps.specs.Repeated.{Change, made, redo, put_back, on, ranges_of, changes_of}
 use Rattle.mt_steps.proofs.Picking.{on_append}
-use Rattle.mt_steps.proofs.Ranged.{ranges_elsewhere, ranges_stay, changes_elsewhere}
+use Rattle.mt_steps.proofs.Ranged.{ranges_back, ranges_elsewhere, ranges_stay, changes_elsewhere}
 use Rattle.mt_steps.proofs.Repeating.{put_back_none}
 
 -- ---- made: places that no range has stay
@@ -38,24 +38,6 @@ ranges_outside op p old new (e ∷ es) f within size =
     }
 
 -- ---- put back: each place that a range has is as it was
-
-record IsBack (old bytes back : List ℕ) (es : List Edit) : Type 0 where
-  size : length back ≡ length old
-  each : (k : ℕ) → (get_or bytes k 0 ≡ get_or old k 0) ⊎ Covers es k → get_or back k 0 ≡ get_or old k 0
-
-ranges_back : (op p : ℕ) (old new : List ℕ) (es : List Edit) (f : PageBytes) → AreWithin (length old) es → length (f p) ≡ length old → IsBack old (f p) (put_back (ranges_of op p old new es) f p) es
-ranges_back op p old new [] f within size = record { size = size; each = λ k. ⊎_elim (λ same. same) (λ c. absurd c) }
-ranges_back op p old new (e ∷ es) f within size =
-    let back = put_back (ranges_of op p old new es) f p in
-    let rest = ranges_back op p old new es f within.1 size in
-    let s = put_part e.start (length e.bytes) old back within.0 rest.size in
-    subst (λ (b : Bool). IsBack old (f p) (cond b (splice e.start (part old e.start (length e.bytes)) back) back) (e ∷ es)) (sym (eq-eqb p p refl)) (record {
-      size = s.len ∙ rest.size;
-      each = λ k right. ⊎_elim
-          (λ here. s.here k here)
-          (λ out. s.elsewhere k out ∙ rest.each k (⊎_elim (λ same. inl same) (λ c. inr (covers_rest e es k out c)) right))
-          (in_range e.start (length e.bytes) k);
-    })
 
 -- whatever the bytes become
 pub ranges_undone : (op p : ℕ) (old new : List ℕ) (es : List Edit) (f : PageBytes) → AreWithin (length old) es → length new ≡ length old → f p ≡ old → put_back (ranges_of op p old new es) (redo (ranges_of op p old new es) f) ≡ f

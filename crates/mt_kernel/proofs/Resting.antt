@@ -1,5 +1,5 @@
 -- What is left where nothing but frames and what is forced has changed of the operations; and an inverse that begins.
-use Rattle.std.proofs.Common.{◌≡◌, ◌≢◌, inl, ℕ, ◌≤◌, ◌+◌, ◌==◌, cond, true, false, List, [], ◌∷◌, ◌++◌, get_or, Option, Some, None, refl, sym, ap, ◌∙◌, subst, arith}
+use Rattle.std.proofs.Common.{◌≡◌, ◌≢◌, inl, ℕ, ◌≤◌, ◌<◌, ◌+◌, ◌==◌, cond, true, false, List, [], ◌∷◌, ◌++◌, get_or, Option, Some, None, refl, sym, ap, ◌∙◌, subst, arith}
 use Rattle.std.specs.Prelude.{All, AllPairs}
 use Rattle.std.specs.List.{sum_by}
 use Rattle.std.specs.Option.{option_map}
@@ -8,7 +8,6 @@ use Rattle.std.proofs.lemmas.Option.{some_pair_parts}
 use Rattle.mt_model.specs.declared.operations.Reply.{Reply}
 use Rattle.std.proofs.lemmas.List.Elements.{All-push}
 use Rattle.std.proofs.lemmas.List.Quantifiers.{all_pairs_push}
-use Rattle.std.proofs.lemmas.List.Sums.{sum_by_push}
 use Rattle.mt_live.specs.Entries.{Entry}
 use Rattle.mt_live.specs.Lives.{member_of}
 use Rattle.mt_live.specs.Machine.{IsKept}
@@ -27,11 +26,11 @@ use Rattle.mt_slock.specs.Views.{held_of}
 use Rattle.mt_steps.specs.Held.{Holds}
 use Rattle.mt_live.specs.declared.transactions.TxnState.TheVariants.{Aborting}
 use Rattle.mt_kernel.specs.Runs.{running_in, is_for, state_in, AreApart, AreHeldBy, IsRunning, IsOwned, is_at_work, is_open, pages_of, left_of, kept_bytes, taken_bytes}
-use Rattle.mt_kernel.specs.Consistent.{Origin, state_of, IsNumbered, AreTold, IsQueued, IsConsistent, IsIn}
+use Rattle.mt_kernel.specs.Consistent.{Origin, state_of, IsNumbered, AreTold, IsQueued, IsConsistent, IsFit, IsIn}
 use Rattle.mt_kernel.specs.declared.parts.Parts.{Parts}
 use Rattle.mt_kernel.specs.declared.parts.Running.{Running}
 use Rattle.mt_kernel.proofs.Calling.{numbered_last}
-use Rattle.mt_kernel.proofs.Holders.{held_push}
+use Rattle.mt_kernel.proofs.Holders.{held_push, sums_push}
 use Rattle.mt_kernel.proofs.Told.{told_last}
 
 -- one that is to be undone is at work
@@ -40,6 +39,27 @@ aborting_open None is = absurd cc
 aborting_open (Some m) is = let state : m.state ≡ Aborting = cc in ap is_at_work state
 
 module _ {D : Type 0} (seen : D → List ℕ) (may_leave : D → List ℕ → Type 0) (origin : Origin) (base : Base) where
+  -- operations have changed, and nothing else of the parts
+  pub fit_over : (k n : Parts D) → IsFit seen may_leave origin base k → IsRight seen may_leave origin.pages origin.relations origin.counters n.operations → n.operations.locks ≡ k.operations.locks
+      → IsNumbered k.last k.live.begun k.live.members n.operations.locks (appended n.operations.store.log) → IsQueued k.live.members (appended n.operations.store.log) k.commits.items
+      → used n.operations.store.log + sum_by left_of k.running.items + k.reserved < area_size n.operations.store.log → IsFit seen may_leave origin base (record k { operations = n.operations })
+  fit_over k n fit right locks numbered queued log = record {
+    schema = fit.schema;
+    right = right;
+    kept = fit.kept;
+    owned = fit.owned;
+    apart = fit.apart;
+    numbered = numbered;
+    locked = subst (AreHeldBy k.running.items) (sym locks) fit.locked;
+    small = fit.small;
+    log = log;
+    reserves = fit.reserves;
+    numbers = fit.numbers;
+    queued = queued;
+    booked = fit.booked;
+    escrowed = fit.escrowed;
+  }
+
   pub rests_in : (k n : Parts D) → IsConsistent seen may_leave origin base k → IsRight seen may_leave origin.pages origin.relations origin.counters n.operations → Rests (world seen origin.pages k.operations) (world seen origin.pages n.operations)
       → claimed n.operations ≡ claimed k.operations → used n.operations.store.log ≤ used k.operations.store.log → area_size n.operations.store.log ≡ area_size k.operations.store.log → IsIn seen may_leave origin base (state_of k base) (record k { operations = n.operations })
   rests_in k n safe right rests same less area =
@@ -47,22 +67,10 @@ module _ {D : Type 0} (seen : D → List ℕ) (may_leave : D → List ℕ → Ty
       let claims = safe.claims in let log = fit.log in
       record {
         consistent = record {
-          fit = record {
-            schema = fit.schema;
-            right = right;
-            kept = fit.kept;
-            owned = fit.owned;
-            apart = fit.apart;
-            numbered = subst (λ (X : Type 0). X) (λ i. IsNumbered k.last k.live.begun k.live.members (sym rests.locks i) (sym rests.records i)) fit.numbered;
-            locked = subst (AreHeldBy k.running.items) (sym rests.locks) fit.locked;
-            small = fit.small;
-            log = omega arith;
-            reserves = fit.reserves;
-            numbers = fit.numbers;
-            queued = subst (λ (X : Type 0). X) (λ i. IsQueued k.live.members (sym rests.records i) k.commits.items) fit.queued;
-            booked = fit.booked;
-            escrowed = fit.escrowed;
-          };
+          fit = fit_over k n fit right rests.locks
+              (subst (λ (X : Type 0). X) (λ i. IsNumbered k.last k.live.begun k.live.members (sym rests.locks i) (sym rests.records i)) fit.numbered)
+              (subst (λ (X : Type 0). X) (λ i. IsQueued k.live.members (sym rests.records i) k.commits.items) fit.queued)
+              (omega arith);
           holds = subst (λ (p : PageBytes). Holds p base) (sym (rests_held (world seen origin.pages k.operations) (world seen origin.pages n.operations) rests)) safe.holds;
           runs = λ i d lt. let was = safe.runs i d lt in record { under = rests_own origin.relations origin.counters (world seen origin.pages k.operations) (world seen origin.pages n.operations) (get_or k.running.items i d).scope rests was.under; budget = was.budget; number = was.number; moving = was.moving };
           told = subst (λ (X : Type 0). X) (λ i. AreTold k.last k.live.members (sym rests.records i)) safe.told;
@@ -106,14 +114,8 @@ module _ {D : Type 0} (seen : D → List ℕ) (may_leave : D → List ℕ → Ty
         taken = λ is. absurd cc;
         aborts = λ b2. ap (state_in k.live.members) txn ∙ aborting;
       } in
-      let pages = sum_by_push pages_of k.running.items r in
-      let lefts = sum_by_push left_of k.running.items r in
-      let keeps = sum_by_push kept_bytes k.running.items r in
-      let takes = sum_by_push taken_bytes k.running.items r in
-      let sum_pages : sum_by pages_of n.running.items ≡ sum_by pages_of (k.running.items ++ r ∷ []) = ap (sum_by pages_of) items in
-      let sum_left : sum_by left_of n.running.items ≡ sum_by left_of (k.running.items ++ r ∷ []) = ap (sum_by left_of) items in
-      let sum_kept : sum_by kept_bytes n.running.items ≡ sum_by kept_bytes (k.running.items ++ r ∷ []) = ap (sum_by kept_bytes) items in
-      let sum_taken : sum_by taken_bytes n.running.items ≡ sum_by taken_bytes (k.running.items ++ r ∷ []) = ap (sum_by taken_bytes) items in
+      let sums = sums_push k.running.items n.running.items r items in
+      let pages = sums.pages in let lefts = sums.left in let keeps = sums.kept in let takes = sums.taken in
       let test : (r.scope.undoes == 0) ≡ false = ne_eqb r.scope.undoes 0 back in
       let pages_r : pages_of r ≡ 0 = rw test refl in
       let kept_r : kept_bytes r ≡ 0 = rw test refl in

@@ -6,7 +6,6 @@ pub mod Operations
 pub mod Holds
 pub mod Begun
 pub mod Room
-pub mod Driven
 pub mod Work
 pub mod Stepping
 pub mod Surveyed

@@ -68,11 +68,11 @@ pub ranges_stay : (op p q : ℕ) (old new : List ℕ) (es : List Edit) (f : Page
 ranges_stay op p q old new es f ne = redo_none (ranges_of op p old new es) f q (ranges_elsewhere op p q old new es ne)
 
 -- with the ranges put back, each place that one of them has is as it was, and others stay
-record IsBack (old bytes back : List ℕ) (es : List Edit) : Type 0 where
-  size : length back ≡ length old
-  each : (k : ℕ) → (get_or bytes k 0 ≡ get_or old k 0) ⊎ Covers es k → get_or back k 0 ≡ get_or old k 0
+pub record IsBack (old bytes back : List ℕ) (es : List Edit) : Type 0 where
+  pub size : length back ≡ length old
+  pub each : (k : ℕ) → (get_or bytes k 0 ≡ get_or old k 0) ⊎ Covers es k → get_or back k 0 ≡ get_or old k 0
 
-ranges_back : (op p : ℕ) (old new : List ℕ) (es : List Edit) (f : PageBytes) → AreWithin (length old) es → length (f p) ≡ length old → IsBack old (f p) (put_back (ranges_of op p old new es) f p) es
+pub ranges_back : (op p : ℕ) (old new : List ℕ) (es : List Edit) (f : PageBytes) → AreWithin (length old) es → length (f p) ≡ length old → IsBack old (f p) (put_back (ranges_of op p old new es) f p) es
 ranges_back op p old new [] f within size = record { size = size; each = λ k. ⊎_elim (λ same. same) (λ c. absurd c) }
 ranges_back op p old new (e ∷ es) f within size =
     let back = put_back (ranges_of op p old new es) f p in

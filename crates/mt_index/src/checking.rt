@@ -3,7 +3,7 @@ ghost use Rattle.std.specs.Prelude.{◌≡◌, ◌≤◌, ◌<◌, length, Match
 ghost use Rattle.mt_base.specs.declared.limits.TheConstants.{PAGE_BYTES};
 ghost use Rattle.mt_index.specs.Pages.{AreZero, IsDirectory};
 
-use crate::directory::{HEAD_BYTES, MAX_DEPTH, POINTER_BYTES};
+use crate::directory::{DIRECTORY_HEAD_BYTES, MAX_DEPTH, POINTER_BYTES};
 use mt_base::limits::PAGE_BYTES;
 
 /// Whether these 4,096 bytes are a directory page: it goes by at most 9 bits of a hash, and the bytes between
@@ -16,8 +16,8 @@ pub fn check_directory(page: &[u8]) -> bool
     if page[0] > MAX_DEPTH {
         return false;
     }
-    let end = HEAD_BYTES + POINTER_BYTES * (1 << page[0]);
-    if !are_zero(page, 1, HEAD_BYTES) {
+    let end = DIRECTORY_HEAD_BYTES + POINTER_BYTES * (1 << page[0]);
+    if !are_zero(page, 1, DIRECTORY_HEAD_BYTES) {
         return false;
     }
     are_zero(page, end, PAGE_BYTES)

@@ -13,9 +13,10 @@ use mt_bucket::has_bit;
 /// The most bits of a hash that a directory goes by, and a bucket's keys share.
 pub const MAX_DEPTH: u8 = 9;
 
-// Bytes before the pointers, and of a pointer.
-pub(crate) const HEAD_BYTES: usize = 8;
+/// Bytes of the page before its pointers.
+pub const DIRECTORY_HEAD_BYTES: usize = 8;
 
+// Bytes of a pointer.
 pub(crate) const POINTER_BYTES: usize = 2;
 
 /// How many low bits of a hash the directory goes by: at most 9, whatever the page's bytes are.
@@ -32,7 +33,7 @@ pub(crate) fn pointer(directory: &[u8], hash: u64) -> PageNo
     ensures { result ≡ pointer_at directory.now (hash % 2 ^ depth_in directory.now) }
 {
     let i = (hash % (1u64 << depth(directory))) as usize;
-    PageNo::new(u16_at(directory, HEAD_BYTES + POINTER_BYTES * i))
+    PageNo::new(u16_at(directory, DIRECTORY_HEAD_BYTES + POINTER_BYTES * i))
 }
 
 // The directory once a bucket that goes by so many bits is two: it is doubled before where it goes by no
@@ -66,8 +67,8 @@ fn double(directory: &mut [u8])
     copy.copy_from_slice(directory);
     put(
         directory,
-        HEAD_BYTES + bytes,
-        part_of(&copy, HEAD_BYTES, bytes),
+        DIRECTORY_HEAD_BYTES + bytes,
+        part_of(&copy, DIRECTORY_HEAD_BYTES, bytes),
     );
     put(directory, 0, &[bits + 1]);
 }
@@ -92,7 +93,7 @@ fn redirect_one(directory: &mut [u8], i: u16, from: PageNo, to: PageNo, bit: u8)
         (pointer_at directory.old i) }
     ensures rest { Torn (8 + 2 * i) 2 directory.old directory.new }
 {
-    let at = HEAD_BYTES + POINTER_BYTES * usize::from(i);
+    let at = DIRECTORY_HEAD_BYTES + POINTER_BYTES * usize::from(i);
     if u16_at(directory, at) == from.get() && has_bit(u64::from(i), bit) {
         put_u16(directory, at, to.get());
     }
@@ -104,5 +105,5 @@ pub(crate) fn pointer_of(directory: &[u8], i: usize) -> PageNo
     requires there { i < 2 ^ depth_in directory.now }
     ensures { result ≡ pointer_at directory.now i }
 {
-    PageNo::new(u16_at(directory, HEAD_BYTES + POINTER_BYTES * i))
+    PageNo::new(u16_at(directory, DIRECTORY_HEAD_BYTES + POINTER_BYTES * i))
 }

@@ -24,7 +24,7 @@ mod walking;
 pub use amending::{plan_drop, plan_set};
 pub use answers::{Add, Amend, Find};
 pub use checking::check_directory;
-pub use directory::{MAX_DEPTH, depth};
+pub use directory::{DIRECTORY_HEAD_BYTES, MAX_DEPTH, depth};
 pub use finding::plan_find;
 pub use laws::{
     a_bucket_is_named_by_its_pattern, a_formatted_index_is_the_empty_map,

@@ -16,6 +16,9 @@ use mt_base::{History, LogPos, Refusal};
 use mt_disk::{Device, DeviceFault};
 use mt_frame::{CLOSED_GATE, OPEN_GATE};
 
+/// The most force steps until all that was appended is durable: of a force that is under way, and of the next one.
+pub const FORCE_STEPS: usize = 8;
+
 // Puts the body's length before the body, and a closed gate behind it.
 pub(crate) fn close_text(text: &mut Vec<u8>)
     requires head { 4 ≤ vec_len text.old }

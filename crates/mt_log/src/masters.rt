@@ -11,10 +11,11 @@ use mt_base::limits::{MASTER_BYTES, MASTER_SLOT_BYTES, device_bytes};
 use mt_disk::Device;
 use mt_frame::{MasterSlot, SlotRead, decode_slot, slots_are_read_back};
 
-// Where the two master slots lie.
-const FIRST_SLOT: u64 = 0;
+/// Where the first master slot lies.
+pub const FIRST_SLOT: u64 = 0;
 
-const SECOND_SLOT: u64 = 4096;
+/// Where the second master slot lies.
+pub const SECOND_SLOT: u64 = 4096;
 
 // The slot at a place, where its gate is open.
 fn read_slot<D: Device>(device: &mut D, at: u64) -> Result<Option<MasterSlot>, Refusal>

@@ -8,14 +8,10 @@ ghost use Rattle.mt_log.specs.Masters.{AreSlots, IsClosedAt, IsRuling, Rules};
 ghost use Rattle.mt_log.specs.Quiet.{OnlyReads};
 ghost use Rattle.mt_log.specs.NextSlot.{TurnsTo, next_slot};
 
+use crate::masters::{FIRST_SLOT, SECOND_SLOT};
 use mt_base::limits::MASTER_SLOT_BYTES;
 use mt_disk::{Device, DeviceFault};
 use mt_frame::{CLOSED_GATE, MasterSlot, OPEN_GATE, encode_slot, slots_are_read_back};
-
-// Where the two master slots lie.
-const FIRST_SLOT: u64 = 0;
-
-const SECOND_SLOT: u64 = 4096;
 
 /// The slot that rules next: one opening later, over the other area.
 pub fn slot_after(ruling: &MasterSlot) -> MasterSlot

@@ -21,13 +21,11 @@ use mt_base::{Edit, PageNo, Refusal};
 use mt_file::fits;
 use mt_frame::LoggedOp;
 use mt_model::{Op, Reply};
+use mt_slots::ROW_HEAD_BYTES;
 use mt_space::pages::{COUNTERS, MAP, RECORDS};
 use mt_space::{Changes, Pages, patch};
 use mt_steps::{Act, SchemaSizes, plan, sizes};
 use std::alloc::{AllocError, Global};
-
-// Bytes of a record before its key and value.
-const RECORD_HEAD_BYTES: usize = 4;
 
 /// All pages of a device in memory, which break no rule of their formats. Each of them is at hand, so a plan over
 /// them asks for none.
@@ -112,8 +110,8 @@ fn bytes_put_back(done: &LoggedOp) -> usize
     ensures { result ≡ record_bytes (undo_of done.now) }
 {
     match done {
-        LoggedOp::Update { key, old, .. } => RECORD_HEAD_BYTES + key.len() + old.len(),
-        LoggedOp::Delete { key, old, .. } => RECORD_HEAD_BYTES + key.len() + old.len(),
+        LoggedOp::Update { key, old, .. } => ROW_HEAD_BYTES + key.len() + old.len(),
+        LoggedOp::Delete { key, old, .. } => ROW_HEAD_BYTES + key.len() + old.len(),
         _ => 0,
     }
 }

@@ -16,4 +16,5 @@ mod reading;
 
 pub use changing::{empty, insert, remove, replace};
 pub use checking::check;
+pub use placing::ROW_HEAD_BYTES;
 pub use reading::{RecordView, get, live, room};

@@ -15,8 +15,8 @@ use mt_base::RelNo;
 use mt_base::limits::PAGE_BYTES;
 use mt_base::ranges::put;
 
-// Bytes of a record's own head.
-pub(crate) const ROW_HEAD_BYTES: usize = 4;
+/// Bytes of a record before its key and value.
+pub const ROW_HEAD_BYTES: usize = 4;
 
 // The bytes that a record of this key and value takes in a page.
 pub(crate) fn row_bytes(key: &[u8], value: &[u8]) -> usize

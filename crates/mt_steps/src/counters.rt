@@ -15,10 +15,11 @@ use mt_base::limits::{MAX_COUNTERS, counter_fits};
 use mt_base::ranges::{part_of, put};
 use mt_model::Count;
 
-// Bytes of the page's head, and of a counter.
-const HEAD_BYTES: usize = 8;
+/// Bytes of the page before its counters.
+pub const COUNTERS_HEAD_BYTES: usize = 8;
 
-const COUNTER_BYTES: usize = 24;
+/// Bytes of a counter: its two bounds and its number.
+pub const COUNTER_BYTES: usize = 24;
 
 // The number in the eight bytes at a place.
 #[tactic(auto, unfolding(crate::specs::Counters::i64_at))]
@@ -56,7 +57,7 @@ pub fn counter(page: &[u8], counter: CtrNo) -> Count
     requires there { counter < 128 }
     ensures { result ≡ count_in page.now counter }
 {
-    let at = HEAD_BYTES + COUNTER_BYTES * usize::from(counter.get());
+    let at = COUNTERS_HEAD_BYTES + COUNTER_BYTES * usize::from(counter.get());
     Count {
         low: number_at(page, at),
         high: number_at(page, at + 8),
@@ -102,7 +103,7 @@ pub fn add(page: &mut [u8], number: CtrNo, step: i64) -> bool
     if !count.takes(step) {
         return false;
     }
-    let at = HEAD_BYTES + COUNTER_BYTES * usize::from(number.get());
+    let at = COUNTERS_HEAD_BYTES + COUNTER_BYTES * usize::from(number.get());
     put_number(page, at + 16, sum_of(&count, step));
     true
 }
@@ -127,7 +128,7 @@ fn has_zeros(page: &[u8]) -> bool
     ensures { MatchBool result ((i : ℕ) → 2 ≤ i → i < 8 → get_or page.now i 0 ≡ 0) (((i : ℕ) → 2 ≤ i → i < 8 →
         get_or page.now i 0 ≡ 0) → ⊥) }
 {
-    for i in 2..HEAD_BYTES {
+    for i in 2..COUNTERS_HEAD_BYTES {
         if page[i] != 0 {
             return false;
         }

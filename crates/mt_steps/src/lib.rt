@@ -20,7 +20,7 @@ mod updating;
 
 pub use act::Act;
 pub use copies::{Copies, SpareCopies};
-pub use counters::{SchemaSizes, add, check, counter, sizes};
+pub use counters::{COUNTER_BYTES, COUNTERS_HEAD_BYTES, SchemaSizes, add, check, counter, sizes};
 pub use laws::formatted_pages_are_good;
 pub use listing::{base_without_rows, list_rows};
 pub use logging::logged;

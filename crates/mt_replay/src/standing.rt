@@ -39,8 +39,12 @@ pub struct Replayed {
     pub restored: Restored,
 }
 
-// The batches of the area that the ruling slot names.
-fn read_area<D: Device>(
+/// The batches of the log area that the ruling slot names, in their order, each at its place. The device is only read,
+/// and its content is as before in any case.
+///
+/// Refusals are [`Refusal::NoMemory`]; [`Refusal::DeviceFailed`], where the device failed in this call; and
+/// [`Refusal::BadFormat`] with the place where a batch breaks a rule, as [`scan`] says.
+pub fn read_area<D: Device>(
     alloc: Global,
     device: &mut D,
     ruling: &MasterSlot,

@@ -11,13 +11,11 @@ ghost use Rattle.mt_restart.specs.Found.{AreMarked, CanTurn};
 
 use crate::imaging::{imaged_in, images_fit, images_of, lost_pages};
 use mt_base::Refusal;
+use mt_base::limits::MAX_EPOCH;
 use mt_disk::Device;
 use mt_frame::{MasterSlot, Record};
 use mt_log::{AreaPlace, scan};
 use std::alloc::Global;
-
-// The last epoch that a master slot may have.
-const LAST_EPOCH: u64 = 1 << 63;
 
 /// Which pages a restart writes where.
 #[derive(Drop)]
@@ -35,7 +33,7 @@ pub(crate) fn can_turn(ruling: &MasterSlot, images: &[Record]) -> bool
     requires grammar { AllByRecursion IsRecord images.now }
     ensures { IsTrue result ↔ CanTurn ruling.now images.now }
 {
-    ruling.epoch < LAST_EPOCH && images_fit(images, AreaPlace::named_by(ruling).size())
+    ruling.epoch < MAX_EPOCH && images_fit(images, AreaPlace::named_by(ruling).size())
 }
 
 // Marks the pages that a restart has to write.

@@ -11,17 +11,13 @@ use crate::Schema;
 use byteorder::{BigEndian, ByteOrder};
 use mt_base::limits::PAGE_BYTES;
 use mt_base::ranges::{put, put_u16};
+use mt_index::DIRECTORY_HEAD_BYTES;
 use mt_model::Count;
 use mt_space::pages::{BUCKET, COUNTERS, DIRECTORY, FIXED, MAP};
+use mt_steps::{COUNTER_BYTES, COUNTERS_HEAD_BYTES};
 
 // The page of the first bucket.
 const FIRST_BUCKET: u16 = 3;
-
-// Bytes before the pointers of the directory, and before the counters of their page.
-const HEAD_BYTES: usize = 8;
-
-// Bytes of a counter.
-const COUNTER_BYTES: usize = 24;
 
 // The map of a space whose pages are free but for the first four.
 fn map_page() -> [u8; PAGE_BYTES]
@@ -37,7 +33,7 @@ fn directory_page() -> [u8; PAGE_BYTES]
     ensures { IsFirstDirectory result }
 {
     let mut page = [0; PAGE_BYTES];
-    put_u16(&mut page, HEAD_BYTES, FIRST_BUCKET);
+    put_u16(&mut page, DIRECTORY_HEAD_BYTES, FIRST_BUCKET);
     page
 }
 
@@ -59,7 +55,7 @@ fn put_counter(page: &mut [u8], counter: u16, count: &Count)
     ensures count { count_in page.new counter ≡ count.now }
     ensures rest { Torn (place_of counter) 24 page.old page.new }
 {
-    let at = HEAD_BYTES + COUNTER_BYTES * usize::from(counter);
+    let at = COUNTERS_HEAD_BYTES + COUNTER_BYTES * usize::from(counter);
     put_number(page, at, count.low);
     put_number(page, at + 8, count.high);
     put_number(page, at + 16, count.number);

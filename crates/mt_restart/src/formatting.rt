@@ -15,12 +15,7 @@ use mt_base::Refusal;
 use mt_base::limits::MASTER_BYTES;
 use mt_disk::{Device, DeviceFault};
 use mt_frame::{CLOSED_GATE, MasterSlot, OPEN_GATE, encode_slot};
-use mt_log::AreaPlace;
-
-// Where the two master slots lie.
-const FIRST_SLOT: u64 = 0;
-
-const SECOND_SLOT: u64 = 4096;
+use mt_log::{AreaPlace, FIRST_SLOT, SECOND_SLOT};
 
 // The first opening of a device.
 const FIRST_EPOCH: u64 = 1;

@@ -14,12 +14,10 @@ use crate::recovering::recover;
 use crate::resuming::parts_over;
 use mt_base::Refusal;
 use mt_disk::Device;
+use mt_log::FORCE_STEPS;
 use mt_replay::only_own_pages_matter;
 use mt_txn::{Kernel, KernelForced};
 use std::alloc::Global;
-
-// The most force steps until all that was appended is durable: of a force that is under way, and of the next one.
-const FORCE_STEPS: usize = 8;
 
 /// What is left where a log was not turned over, and the refusal.
 pub enum NotRotated<D: Device> {

@@ -13,10 +13,11 @@ ghost use Rattle.mt_cli.specs.Serves.{AreServedAtOnce, IsEndOf, IsServedAtOnce, 
 use crate::faults::Fault;
 use itoa::Buffer;
 use mt_base::Refusal;
+use mt_base::limits::MAX_SESSIONS;
 use mt_disk::Device;
 use mt_folder::Folder;
 use mt_script::{Script, Unheard, put_all};
-use mt_server::{MAX_SESSIONS, Served, Transcript, serve};
+use mt_server::{Served, Transcript, serve};
 use mt_shared::Gate;
 use mt_txn::Kernel;
 use std::alloc::Global;

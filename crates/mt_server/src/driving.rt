@@ -4,16 +4,17 @@ ghost use Rattle.mt_txn.specs.Shown.{SameSchema, StaysRestarting};
 ghost use Rattle.mt_server.specs.Driven.{HasBacked, HasMoved, HasReplied, HasUndone};
 
 use crate::forcing::{ASKED_AGAIN, make_room, wants_memory};
+use mt_base::limits::MAX_PAGES;
 use mt_base::{Refusal, TxnNo};
 use mt_disk::Device;
 use mt_model::Reply;
 use mt_txn::{AbortStepped, Kernel, Stepped};
 
 /// The most steps of one operation that is alone: two a page, nine more, and its end.
-const OPERATION_STEPS: usize = 2 * 4000 + 10;
+const OPERATION_STEPS: usize = 2 * MAX_PAGES as usize + 10;
 
 /// The most steps of an abort that is alone: as many for each effect that the log keeps bytes for, and its end.
-const ABORT_STEPS: usize = 631 * (2 * 4000 + 10) + 1;
+const ABORT_STEPS: usize = 631 * OPERATION_STEPS + 1;
 
 /// Whether a step wants a frame flushed first.
 fn wants_frame(answer: &Result<Stepped, Refusal>) -> bool

@@ -6,14 +6,12 @@ ghost use Rattle.mt_server.specs.Driven.{Eases, Fails, HasCommitted, IsForcing, 
 
 use mt_base::{Refusal, TxnNo};
 use mt_disk::Device;
+use mt_log::FORCE_STEPS;
 use mt_pool::Flushed;
 use mt_txn::{Kernel, KernelForced};
 
 /// How often a step that found no memory, or no frame, is asked again.
 pub(crate) const ASKED_AGAIN: usize = 8;
-
-/// The most force steps until a commit is durable: of a force that is under way, and of its own.
-const FORCE_STEPS: usize = 8;
 
 /// Whether a step was refused for want of memory.
 pub(crate) fn wants_memory<T>(answer: &Result<T, Refusal>) -> bool

@@ -24,5 +24,5 @@ mod turns;
 pub use rotating::NotServed;
 pub use running::{RunFault, run_alone};
 pub use serving::{Served, serve};
-pub use sessions::{MAX_SESSIONS, run_sessions};
+pub use sessions::run_sessions;
 pub use transcript::Transcript;

@@ -14,9 +14,9 @@ ghost use Rattle.mt_txn.specs.Shown.{is_failed};
 
 use crate::crew::{crew, gather};
 use crate::placing::{Board, blank};
-use crate::sessions::MAX_SESSIONS;
 use crate::transcript::Transcript;
 use mt_base::Refusal;
+use mt_base::limits::MAX_SESSIONS;
 use mt_disk::Device;
 use mt_script::Script;
 use mt_shared::{Closed, Gate, Naming, Opened, Pass, Shared};
@@ -25,9 +25,6 @@ use std::alloc::Global;
 use std::marker::Brand;
 use std::sync::Wait;
 use std::thread::Threads;
-
-/// The most workers; and so many passes a kernel is shared by.
-const MAX_WORKERS: usize = 64;
 
 /// The kernel behind all sessions, and the transcript of each script, in the order of the scripts.
 pub struct Served<D: Device> {
@@ -177,7 +174,7 @@ pub fn serve<D: Device + Drop + Send, G: Gate + Drop + Send + Sync, R: Threads +
     let Ok(board) = blank(alloc, scripts.len()) else {
         return Err(Refusal::NoMemory);
     };
-    let opened = match Opened::open(alloc, device, frames, workers.clamp(1, MAX_WORKERS)) {
+    let opened = match Opened::open(alloc, device, frames, workers.clamp(1, MAX_SESSIONS)) {
         Ok(opened) => opened,
         Err((why, device)) => {
             drop(device);

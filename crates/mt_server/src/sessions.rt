@@ -15,9 +15,6 @@ use mt_txn::Kernel;
 use std::alloc::Global;
 use std::io::Write;
 
-/// The most scripts that are served to one opening.
-pub const MAX_SESSIONS: usize = 64;
-
 /// Writes the line before a session's transcript. Where the writer fails, it has written a beginning of the line.
 fn write_session<W: Write>(writer: &mut W, session: u32) -> Result<(), Unheard>
     ensures all { OnOk result (Appends (W.contents writer.old) (W.contents writer.new) (session_line session)) }
@@ -64,7 +61,7 @@ fn run_session<D: Device + Drop, W: Write>(
 /// it; scripts behind that one are not begun. `Output` too where a session's line cannot be written: nothing of its
 /// script ran then. Where a log that was to be turned over leaves no kernel, it stops with the device, by what
 /// [`rotate`](mt_restart::rotate) is refused with then: 1, 2, which is the transcript's last line, or 11. The scripts are
-/// [`MAX_SESSIONS`] at most.
+/// [`MAX_SESSIONS`](mt_base::limits::MAX_SESSIONS) at most.
 ///
 /// What is promised holds beside whatever play of the model the kernel stands at, from whose first base it can be
 /// restarted; the play's session is not looked at.

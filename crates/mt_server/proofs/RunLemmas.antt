@@ -55,19 +55,24 @@ stopped_told was now y (fault.Refused why) (is, all) = inl (subst (λ (x : Refus
 
 -- ---- turns
 
-after_session : (p : Play) (u : Option (List Call)) (l : Line) → (after_at p u l).session ≡ p.session
-after_session p None line.Begin = refl
-after_session p None (line.Call op) = refl
-after_session p None line.Commit = refl
-after_session p None line.Abort = refl
-after_session p (Some calls) line.Begin = refl
-after_session p (Some calls) (line.Call op) = refl
-after_session p (Some calls) line.Commit = refl
-after_session p (Some calls) line.Abort = refl
+-- what a play keeps whatever it does with a line
+pub record StaysPut (p q : Play) : Type 0 where
+  pub session : q.session ≡ p.session
+  pub first : q.first ≡ p.first
 
-turn_session : {IsDue : Line → Refusal → Type 0} → (relations counters : ℕ) (p q : Play) (l : Line) (a : Answer) → IsTurn relations counters IsDue p l a q → q.session ≡ p.session
-turn_session relations counters p _ l _ (acts none) = after_session p p.under_way l
-turn_session relations counters p _ l _ (refuses why cause) = refl
+after_stays : (p : Play) (u : Option (List Call)) (l : Line) → StaysPut p (after_at p u l)
+after_stays p None line.Begin = record { session = refl; first = refl }
+after_stays p None (line.Call op) = record { session = refl; first = refl }
+after_stays p None line.Commit = record { session = refl; first = refl }
+after_stays p None line.Abort = record { session = refl; first = refl }
+after_stays p (Some calls) line.Begin = record { session = refl; first = refl }
+after_stays p (Some calls) (line.Call op) = record { session = refl; first = refl }
+after_stays p (Some calls) line.Commit = record { session = refl; first = refl }
+after_stays p (Some calls) line.Abort = record { session = refl; first = refl }
+
+pub turn_stays : {IsDue : Line → Refusal → Type 0} → (relations counters : ℕ) (p q : Play) (l : Line) (a : Answer) → IsTurn relations counters IsDue p l a q → StaysPut p q
+turn_stays relations counters p _ l _ (acts none) = after_stays p p.under_way l
+turn_stays relations counters p _ l _ (refuses why cause) = record { session = refl; first = refl }
 
 -- ---- a line
 
@@ -78,7 +83,7 @@ module _ {D : Type 0} {g : Ghosts D} (seen : D → List ℕ) (may_leave : D → 
 
   pub runs_session : (s e : Play × Kernel D g) (ls : List Line) (as' : List Answer) → Turned s ls as' e → e.0.session ≡ s.0.session
   runs_session s _ _ _ starts = refl
-  runs_session s _ _ _ (goes_on lines answers m e line answer before t) = turn_session m.1.relations m.1.counters m.0 e.0 line answer t.turn ∙ runs_session s m lines answers before
+  runs_session s _ _ _ (goes_on lines answers m e line answer before t) = (turn_stays m.1.relations m.1.counters m.0 e.0 line answer t.turn).session ∙ runs_session s m lines answers before
 
   turned : (l : Line) (a : Answer) (live : Option ℕ) (q : Play) (n : Kernel D g) → IsBeside seen may_leave p live k → IsTurn k.relations k.counters (IsDueTo seen may_leave k live) p l a q → SameSchema k n
       → Turned (p, k) (l ∷ []) (a ∷ []) (q, n)

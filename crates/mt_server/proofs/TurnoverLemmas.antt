@@ -1,27 +1,24 @@
 -- Lines on a kernel whose log is turned over before a transaction.
-use Rattle.std.proofs.Common.{◌≡◌, ◌≢◌, ◌<◌, ◌++◌, ◌∷◌, [], suc, ℕ, List, Option, Some, None, length, take, drop, get_or, refl, ap, sym, subst, ◌∙◌, append_assoc, append-nil, take-append-drop}
+use Rattle.std.proofs.Common.{◌≡◌, ◌<◌, ◌++◌, ◌∷◌, [], suc, ℕ, List, Option, Some, None, length, take, drop, get_or, refl, ap, sym, subst, ◌∙◌, append_assoc, take-append-drop}
 use Rattle.std.proofs.Math.Seq.{take-suc, drop-cons}
 use Rattle.std.proofs.Props.{props}
-use Rattle.std.specs.Io.KnownBytes.{Appends}
 use mathlib.Core.Logic.{∥∥₁_elim, ∥∥₁_map}
 use Rattle.mt_base.specs.declared.refusal.Refusal.{Refusal}
 use Rattle.mt_base.specs.declared.refusal.Refusal.TheVariants as refusal
 use Rattle.mt_disk.specs.declared.device.Device.{Ghosts}
 use Rattle.mt_live.specs.Machine.{State}
-use Rattle.mt_model.specs.History.{Call, after}
+use Rattle.mt_model.specs.History.{after}
 use Rattle.mt_model.specs.Model.{Base}
 use Rattle.mt_model.specs.declared.history.Committed.{Committed}
 use Rattle.mt_replay.specs.Stands.{CanRestart}
-use Rattle.mt_restart.specs.Rotated.{GoesOver, IsEndCause, IsForcedOut, Keeps, StandsForBook}
+use Rattle.mt_restart.specs.Rotated.{GoesOver, IsEndCause, IsForcedOut, Keeps}
 use Rattle.mt_script.specs.declared.answers.Answer.{Answer}
 use Rattle.mt_script.specs.declared.lines.Line.{Line}
-use Rattle.mt_script.specs.declared.lines.Line.TheVariants as line
-use Rattle.mt_script.specs.Answers.{transcript_text}
-use Rattle.mt_server.proofs.RunLemmas.{appends_all, closed_run, end_cut, ended_run, runs_session, stopped_told, told_behind}
+use Rattle.mt_server.proofs.RunLemmas.{appends_all, closed_run, end_cut, ended_run, runs_session, stopped_told, told_behind, turn_stays}
 use Rattle.mt_server.proofs.TranscriptLemmas.{runs_then}
 use Rattle.mt_server.proofs.TurnLemmas.{left_of}
-use Rattle.mt_server.specs.Driven.{IsBeside, IsLeft}
-use Rattle.mt_server.specs.Plays.{Play, IsTurn, acts, refuses, Runs, starts, goes_on, after_at}
+use Rattle.mt_server.specs.Driven.{IsBeside}
+use Rattle.mt_server.specs.Plays.{Play, Runs, starts, goes_on}
 use Rattle.mt_server.specs.Runs.{BesideEach, HasRunLines, HasTurned, IsCut, IsCutAtEnd, IsEnded, IsStopped}
 use Rattle.mt_server.specs.Turnovers.{HasRunOn, HasRunOut, IsCutOff, IsLeftBy, IsTurnedOut, StandsForPlay, why_in}
 use Rattle.mt_server.specs.declared.rotating.NotServed.{NotServed}
@@ -29,29 +26,15 @@ use Rattle.mt_server.specs.declared.rotating.NotServed.TheVariants.{Kept, Ended}
 use Rattle.mt_server.specs.declared.running.RunFault.{RunFault}
 use Rattle.mt_server.specs.declared.running.RunFault.TheVariants as fault
 use Rattle.mt_shared.specs.Refusals.{IsTurnFault}
-use Rattle.mt_txn.specs.Shown.{Restarts, SameSchema, StaysRestarting, Shows}
+use Rattle.mt_txn.specs.Shown.{Restarts, SameSchema}
 use Rattle.mt_txn.specs.declared.kernel.Kernel.{Kernel}
 
 -- ---- the first base stays
 
-after_first : (p : Play) (u : Option (List Call)) (l : Line) → (after_at p u l).first ≡ p.first
-after_first p None line.Begin = refl
-after_first p None (line.Call op) = refl
-after_first p None line.Commit = refl
-after_first p None line.Abort = refl
-after_first p (Some calls) line.Begin = refl
-after_first p (Some calls) (line.Call op) = refl
-after_first p (Some calls) line.Commit = refl
-after_first p (Some calls) line.Abort = refl
-
-turn_first : {IsDue : Line → Refusal → Type 0} → (relations counters : ℕ) (p q : Play) (l : Line) (a : Answer) → IsTurn relations counters IsDue p l a q → q.first ≡ p.first
-turn_first relations counters p _ l _ (acts none) = after_first p p.under_way l
-turn_first relations counters p _ l _ (refuses why cause) = refl
-
 module _ {D : Type 0} {g : Ghosts D} (seen : D → List ℕ) (may_leave : D → List ℕ → Type 0) where
   pub runs_first : (s e : Play × Kernel D g) (ls : List Line) (as' : List Answer) → Runs (HasTurned seen may_leave) s ls as' e → e.0.first ≡ s.0.first
   runs_first s _ _ _ starts = refl
-  runs_first s _ _ _ (goes_on lines answers m e line answer before t) = turn_first m.1.relations m.1.counters m.0 e.0 line answer t.turn ∙ runs_first s m lines answers before
+  runs_first s _ _ _ (goes_on lines answers m e line answer before t) = (turn_stays m.1.relations m.1.counters m.0 e.0 line answer t.turn).first ∙ runs_first s m lines answers before
 
   -- ---- a kernel that goes on
 

@@ -3,24 +3,13 @@ use Rattle.std.proofs.Common.{◌≡◌, ◌⊎◌, inl, inr, false, ℕ, List, 
 use Rattle.mt_base.specs.declared.refusal.Refusal.{Refusal}
 use Rattle.mt_base.specs.declared.refusal.Refusal.TheVariants as refusal
 use Rattle.mt_frame.specs.declared.slots.MasterSlot.{MasterSlot}
-use Rattle.mt_log.specs.Found.{places_of, records_of}
-use Rattle.mt_log.specs.Holds.{HoldsBatches, places_from}
-use Rattle.mt_log.specs.Masters.{BreaksMaster, IsRuling, IsUnformatted, area_end, area_start}
+use Rattle.mt_log.specs.Masters.{BreaksMaster, IsUnformatted}
 use Rattle.mt_log.specs.declared.batch.Batch.{Batch}
 use Rattle.mt_replay.specs.Refused.{BreaksLog, IsCause, in_master}
 use Rattle.mt_folder.proofs.FolderLemmas.{held_known}
 use Rattle.mt_cli.specs.Checks.{IsUntold}
 use Rattle.mt_cli.specs.Explains.{AreBatchesIn, IsLogIn, IsLogOf}
 use Rattle.mt_folder.specs.Folders.{Files, IsHeld, known_in}
-
--- what a scan finds is what the area of its slot holds
-pub batches_in : {T E : Type 0} (items : T → List Batch) (seen : List ℕ) (slot : MasterSlot) (start end : ℕ) (r : Result T E) → IsRuling seen slot → start ≡ area_start slot → end ≡ area_end slot
-    → IfOk r (λ bs. HoldsBatches seen start end slot.pages (records_of (items bs))) → IfOk r (λ bs. places_of (items bs) ≡ places_from start (records_of (items bs))) → IfOk r (λ bs. AreBatchesIn seen slot (items bs))
-batches_in items seen slot start end (Ok bs) rules first last held places = record {
-  area = record { rules = rules; held = subst (λ (e : ℕ). HoldsBatches seen (area_start slot) e slot.pages (records_of (items bs))) last (subst (λ (s : ℕ). HoldsBatches seen s end slot.pages (records_of (items bs))) first held) };
-  places = subst (λ (s : ℕ). places_of (items bs) ≡ places_from s (records_of (items bs))) first places;
-}
-batches_in items seen slot start end (Err why) rules first last held places = tt
 
 pub same_area : (c d : List ℕ) (slot : MasterSlot) (bs : List Batch) → d ≡ c → AreBatchesIn d slot bs → AreBatchesIn c slot bs
 same_area c d slot bs same found = subst (λ (x : List ℕ). AreBatchesIn x slot bs) same found

@@ -1,11 +1,9 @@
 // `explain`: the log of the device in a file as a history, without a write.
-ghost use Rattle.std.specs.Prelude.{◌≡◌, ◌⊎◌, ◌<◌, ℕ, false, IfErr, IfOk, OnOk};
+ghost use Rattle.std.specs.Prelude.{◌≡◌, false, IfErr, IfOk, OnOk};
 ghost use Rattle.mt_base.specs.declared.refusal.Refusal.{Refusal};
-ghost use Rattle.mt_log.specs.Holds.{BreaksAt};
-ghost use Rattle.mt_log.specs.Masters.{IsRuling, area_end, area_start};
 ghost use Rattle.mt_replay.specs.Refused.{BreaksLog, IsCause};
 ghost use Rattle.mt_cli.specs.Checks.{IsUntold};
-ghost use Rattle.mt_cli.specs.Explains.{AreBatchesIn, HasExplained, IsLogIn, IsLogOf, IsUnexplained, RecountsLog};
+ghost use Rattle.mt_cli.specs.Explains.{HasExplained, IsLogIn, IsLogOf, IsUnexplained, RecountsLog};
 ghost use Rattle.mt_folder.specs.Folders.{AreKept, known_in};
 
 use crate::faults::Fault;
@@ -13,28 +11,10 @@ use mt_base::Refusal;
 use mt_disk::Device;
 use mt_explain::{History, history_of, write_history};
 use mt_folder::Folder;
-use mt_frame::MasterSlot;
-use mt_log::{AreaPlace, Batch, ruling_slot, scan};
+use mt_log::{Batch, ruling_slot};
+use mt_replay::read_area;
 use std::alloc::Global;
 use std::io::Write;
-
-/// The batches of the area that a slot names.
-fn read_area<D: Device>(
-    alloc: Global,
-    device: &mut D,
-    ruling: &MasterSlot,
-) -> Result<Vec<Batch>, Refusal>
-    requires { IsRuling (D.seen device.old) ruling.now }
-    ensures found { IfOk result (λ batches. AreBatchesIn (D.seen device.old) ruling.now batches.items) }
-    ensures cause { IfErr result (λ why. (why ≡ Refusal.NoMemory)
-        ⊎ (((why ≡ Refusal.DeviceFailed) × (D.faults device.old < D.faults device.new))
-        ⊎ ((at : ℕ) × (why ≡ Refusal.BadFormat at) × BreaksAt (D.seen device.old) (area_start ruling.now)
-        (area_end ruling.now) ruling.now.pages at))) }
-    ensures seen { D.seen device.new ≡ D.seen device.old }
-{
-    let area = AreaPlace::named_by(ruling);
-    scan(alloc, device, area, ruling.pages)
-}
 
 /// The log of a device.
 fn log_of<D: Device>(alloc: Global, device: &mut D) -> Result<Vec<Batch>, Refusal>

@@ -1,4 +1,4 @@
-use Rattle.std.proofs.Common.{◌≡◌, ◌⊎◌, ◌<◌, ℕ, List, subst}
+use Rattle.std.proofs.Common.{◌≡◌, ◌⊎◌, ◌∙◌, ◌<◌, ℕ, List, subst}
 use Rattle.std.proofs.lemmas.Result.{err_from_is_err_and}
 use Rattle.mt_base.specs.declared.refusal.Refusal.TheVariants.{BadFormat, DeviceFailed, NoMemory}
 use Rattle.mt_log.specs.Holds.{BreaksAt}
@@ -25,5 +25,11 @@ returns-in_err-batches-clause-cause g c =
     c.ruling_slot.ensures.seen c.in_err-batches.ensures.cause in
     rw (p.1, p.2) (cause_area BreaksLog seen (λ at breaks. breaks) (first < last) (Unit {0}) slot why c.in_ok-ruling.ensures.rules (λ lt. tt) cause)
 
+pub returns-in_err-batches-clause-seen : goal.returns-in_err-batches-clause-seen
+returns-in_err-batches-clause-seen g c = c.read_area.ensures.reads.same ∙ c.ruling_slot.ensures.seen
+
 pub returns-clause-log : goal.returns-clause-log
-returns-clause-log g c = (c.in_ok-ruling.ruling, same_area _ _ c.in_ok-ruling.ruling c.in_ok-batches.batches.items c.ruling_slot.ensures.seen c.in_ok-batches.ensures.found)
+returns-clause-log g c = (c.in_ok-ruling.ruling, same_area _ _ c.in_ok-ruling.ruling c.in_ok-batches.batches.items c.ruling_slot.ensures.seen (record { area = c.in_ok-batches.ensures.found; places = c.in_ok-batches.ensures.places }))
+
+pub returns-clause-seen : goal.returns-clause-seen
+returns-clause-seen g c = c.read_area.ensures.reads.same ∙ c.ruling_slot.ensures.seen

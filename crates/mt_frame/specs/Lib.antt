@@ -7,3 +7,4 @@ pub mod Known
 pub mod Codec
 pub mod Readers
 pub mod PageRecords
+pub mod Kinds

@@ -1,6 +1,7 @@
 // The records of the log.
 ghost use Rattle.std.specs.Prelude.{◌≡◌, ◌↔◌, IsTrue, IfOk};
 ghost use Rattle.mt_frame.specs.Grammar.{IsRecord, IsOfPage, IsOperation};
+ghost use Rattle.mt_frame.specs.Kinds.{IsOfInsert, IsOfUpdate};
 ghost use Rattle.mt_frame.specs.History.{txn_of};
 ghost use Rattle.mt_frame.specs.Lengths.{record_length, operation_length};
 
@@ -104,47 +105,71 @@ fn same_image(left: &Option<Bytes>, right: &Option<Bytes>) -> bool
     }
 }
 
+// Whether the two inserts are the same.
+fn same_insert(left: &LoggedOp, right: &LoggedOp) -> bool
+    requires left { IsOfInsert left.now }
+    requires right { IsOfInsert right.now }
+    ensures { IsTrue result ↔ (left.now ≡ right.now) }
+{
+    match (left, right) {
+        (
+            LoggedOp::Insert {
+                relation,
+                key,
+                value,
+            },
+            LoggedOp::Insert {
+                relation: other_relation,
+                key: other_key,
+                value: other_value,
+            },
+        ) => {
+            *relation == *other_relation
+                && same_bytes(key, other_key)
+                && same_bytes(value, other_value)
+        }
+        _ => false,
+    }
+}
+
+// Whether the two updates are the same.
+fn same_update(left: &LoggedOp, right: &LoggedOp) -> bool
+    requires left { IsOfUpdate left.now }
+    requires right { IsOfUpdate right.now }
+    ensures { IsTrue result ↔ (left.now ≡ right.now) }
+{
+    match (left, right) {
+        (
+            LoggedOp::Update {
+                relation,
+                key,
+                value,
+                old,
+            },
+            LoggedOp::Update {
+                relation: other_relation,
+                key: other_key,
+                value: other_value,
+                old: other_old,
+            },
+        ) => {
+            *relation == *other_relation
+                && same_bytes(key, other_key)
+                && same_bytes(value, other_value)
+                && same_bytes(old, other_old)
+        }
+        _ => false,
+    }
+}
+
 impl LoggedOp {
     /// Whether the two are the same operation.
     pub fn equals(&self, other: &LoggedOp) -> bool
         ensures { IsTrue result ↔ (self.now ≡ other.now) }
     {
         match (self, other) {
-            (
-                LoggedOp::Insert {
-                    relation,
-                    key,
-                    value,
-                },
-                LoggedOp::Insert {
-                    relation: other_relation,
-                    key: other_key,
-                    value: other_value,
-                },
-            ) => {
-                *relation == *other_relation
-                    && same_bytes(key, other_key)
-                    && same_bytes(value, other_value)
-            }
-            (
-                LoggedOp::Update {
-                    relation,
-                    key,
-                    value,
-                    old,
-                },
-                LoggedOp::Update {
-                    relation: other_relation,
-                    key: other_key,
-                    value: other_value,
-                    old: other_old,
-                },
-            ) => {
-                *relation == *other_relation
-                    && same_bytes(key, other_key)
-                    && same_bytes(value, other_value)
-                    && same_bytes(old, other_old)
-            }
+            (LoggedOp::Insert { .. }, LoggedOp::Insert { .. }) => same_insert(self, other),
+            (LoggedOp::Update { .. }, LoggedOp::Update { .. }) => same_update(self, other),
             (
                 LoggedOp::Delete { relation, key, old },
                 LoggedOp::Delete {

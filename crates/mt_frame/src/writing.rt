@@ -5,7 +5,7 @@ ghost use Rattle.std.specs.Int.{w16, w32, w64, to_be_bytes, cast_unsigned};
 ghost use Rattle.std.specs.Vec.{vec_len, vec_capacity};
 ghost use Rattle.mt_base.specs.Limits.{IsKey, IsValue};
 ghost use Rattle.mt_base.specs.declared.refusal.Refusal.{Refusal};
-ghost use Rattle.mt_frame.specs.Grammar.{counted, operation_text, flag_number, image_text, head_text, record_text, body_text, batch_text, IsOperation, IsRelation, IsRecord, IsBatchable};
+ghost use Rattle.mt_frame.specs.Grammar.{counted, operation_text, flag_number, image_text, head_text, record_text, body_text, batch_text, IsOfPage, IsOperation, IsRelation, IsRecord, IsBatchable};
 ghost use Rattle.mt_frame.specs.Lengths.{operation_length, image_length, record_length};
 
 use crate::OPEN_GATE;
@@ -196,7 +196,9 @@ fn put_range(out: &mut Vec<u8>, image: &Option<Bytes>, old: &Bytes, new: &Bytes)
     put_bytes(out, new.as_slice())
 }
 
-fn put_record(out: &mut Vec<u8>, entry: &Record)
+// A page's record.
+fn put_page(out: &mut Vec<u8>, entry: &Record)
+    requires page { IsOfPage entry.now }
     requires fits { IsRecord entry.now }
     requires room { vec_len out.old + record_length entry.now ≤ vec_capacity out.old }
     ensures items { out.new.items ≡ out.old.items ++ record_text entry.now }
@@ -224,6 +226,18 @@ fn put_record(out: &mut Vec<u8>, entry: &Record)
             put_head(out, &head);
             put_range(out, image, old, new)
         }
+        _ => unreachable!(),
+    }
+}
+
+fn put_record(out: &mut Vec<u8>, entry: &Record)
+    requires fits { IsRecord entry.now }
+    requires room { vec_len out.old + record_length entry.now ≤ vec_capacity out.old }
+    ensures items { out.new.items ≡ out.old.items ++ record_text entry.now }
+    ensures capacity { vec_capacity out.old ≤ vec_capacity out.new }
+{
+    match entry {
+        Record::Page { .. } => put_page(out, entry),
         Record::OpEnd {
             txn,
             op,

@@ -1,13 +1,9 @@
 use Rattle.std.proofs.Common.{append_assoc}
 use Rattle.mt_frame.proofs.writing.put_record.Goals as goal
 
-pub returns-in-Page-clause-items : goal.returns-in-Page-clause-items
-returns-in-Page-clause-items c =
-    rw (c.in-Page.is, c.put_range.ensures.items, c.put_head.ensures.items, c.put_byte.ensures.items, c.get.ensures, c.get-in-Page.ensures, c.get-in-Page-2.ensures, c.is_some.ensures, c.len.ensures) (simp append_assoc)
-
 pub returns-in-OpEnd-clause-items : goal.returns-in-OpEnd-clause-items
 returns-in-OpEnd-clause-items c =
-    rw (c.in-OpEnd.is, c.put_operation.ensures.items, c.put_u64.ensures.items, c.put_name.ensures.items, c.put_byte-in-OpEnd.ensures.items, c.get-in-OpEnd.ensures, c.get-in-OpEnd-2.ensures) (simp append_assoc)
+    rw (c.in-OpEnd.is, c.put_operation.ensures.items, c.put_u64.ensures.items, c.put_name.ensures.items, c.put_byte.ensures.items, c.get.ensures, c.get-in-OpEnd.ensures) (simp append_assoc)
 
 pub returns-in-OpDropped-clause-items : goal.returns-in-OpDropped-clause-items
 returns-in-OpDropped-clause-items c =

@@ -61,8 +61,8 @@ pub record StandsFirst {D : Type 0} {g : Ghosts D} (seen : D → List ℕ) (may_
   pub relations : k.relations ≡ 2
   pub counters : k.counters ≡ 1
 
--- `try` ran these lines on such a kernel. Each was answered as the model does, or refused for a cause that the kernel had then; the texts of the
--- answers were written.
+-- `try` ran these lines on such a kernel. Each was answered as the model does, or refused for a cause that a kernel beside the play had then; the
+-- texts of the answers were written.
 pub record HasTried {D : Type 0} (g : Ghosts D) (lines : List Line) (was now : Option (List ℕ)) : Type 0 where
   pub kernel : Kernel D g
   pub stands : StandsFirst g.seen g.may_leave kernel

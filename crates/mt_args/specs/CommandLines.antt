@@ -1,6 +1,6 @@
 -- The program's command line, in the words of the crate that reads it.
 use Rattle.std.specs.Prelude.{ℕ, ◌≡◌, ◌≢◌, ◌⊎◌, Any, Bool, true, false, codes, List, [], Option, Some, None, map, option_map, string_bytes, unwrap_or}
-use Rattle.mt_base.specs.declared.limits.TheConstants.{MAX_FRAMES, MIN_FRAMES}
+use Rattle.mt_base.specs.declared.limits.TheConstants.{MAX_FRAMES, MAX_WORKERS, MIN_FRAMES}
 use Rattle.clap.specs.Words.{App, Row, app_of, Rule, Text, new_app, new_rule, with_rule, with_subcommand, all_of, first_of, one_of, rule_of, subcommand_of, takes, kind_of, HasKind, IsAmong, Kinds, fault_of}
 use Rattle.clap.specs.declared.builder.action.ArgAction.TheVariants.{Append, SetTrue}
 use Rattle.clap.specs.declared.builder.arg.Arg.{Arg}
@@ -157,7 +157,7 @@ scripts_at rows = unwrap_or (all_of (codes "script") rows) []
 -- frames, workers and scripts
 pub record IsServingAt (rows : List Row) (n w : ℕ) (names : List Text) : Type 0 where
   pub frames : AreFrames (first_of (codes "frames") rows) n
-  pub workers : SpellsWithin 1 16 (text_at (codes "workers") rows) w
+  pub workers : SpellsWithin 1 MAX_WORKERS (text_at (codes "workers") rows) w
   pub scripts : names ≡ scripts_at rows
 
 abbrev pub IsServingIn : Option (Text × List Row) → ℕ → ℕ → List Text → Type 0
@@ -166,7 +166,7 @@ IsServingIn (Some found) n w names = IsServingAt found.1 n w names
 
 -- there are no such numbers of frames or of workers
 abbrev pub IsUnlimitedAt : List Row → Type 0
-IsUnlimitedAt rows = AreNoFrames (first_of (codes "frames") rows) ⊎ IsNoneWithin 1 16 (text_at (codes "workers") rows)
+IsUnlimitedAt rows = AreNoFrames (first_of (codes "frames") rows) ⊎ IsNoneWithin 1 MAX_WORKERS (text_at (codes "workers") rows)
 
 -- ----
 

@@ -7,6 +7,7 @@ ghost use Rattle.mt_args.specs.Spelling.{IsNoneWithin, SpellsWithin};
 use crate::command::{CliFault, Command, misspelled, required_file, text_in};
 use crate::numbers::count_within;
 use clap::ArgMatches;
+use mt_base::limits::{MAX_FRAMES, MAX_WORKERS, MIN_FRAMES};
 use std::alloc::{AllocError, Global};
 
 /// Frames where none are asked for.
@@ -48,7 +49,13 @@ fn frames_in(alloc: Global, found: &ArgMatches) -> Result<usize, CliFault>
         (rows_of (found_of found.now))))) }
 {
     match found.get_str("frames") {
-        Some(word) => number_within(alloc, word, 32, 4096, FRAMES_RULE),
+        Some(word) => number_within(
+            alloc,
+            word,
+            u64::from(MIN_FRAMES),
+            u64::from(MAX_FRAMES),
+            FRAMES_RULE,
+        ),
         None => Ok(FRAMES),
     }
 }
@@ -81,7 +88,13 @@ pub(crate) fn serving_of(alloc: Global, found: &ArgMatches) -> Result<Command, C
     ensures fault { IfErr result (IsMisread (IsMisspelled (Some (codes "run", rows_of (found_of found.now))))) }
 {
     let frames = frames_in(alloc, found)?;
-    let workers = number_within(alloc, text_in(found, "workers"), 1, 16, WORKERS_RULE)?;
+    let workers = number_within(
+        alloc,
+        text_in(found, "workers"),
+        1,
+        MAX_WORKERS as u64,
+        WORKERS_RULE,
+    )?;
     let file = required_file(alloc, found)?;
     let scripts = scripts_in(alloc, found)?;
     Ok(Command::Run {

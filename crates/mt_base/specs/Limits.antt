@@ -1,6 +1,6 @@
 -- What lies within the limits.
 use Rattle.std.specs.Prelude.{ℕ, ℤ, ◌+◌, ◌*◌, ◌≤◌, ◌⊎◌, ◌≤ℤ◌, neg_ℤ, pos, List, length}
-use Rattle.mt_base.specs.declared.limits.TheConstants.{MASTER_BYTES, MAX_AREA_MIB, MAX_BOUND, MAX_COUNTERS, MAX_FRAMES, MAX_KEY_BYTES, MAX_PAGES, MAX_RELATIONS, MAX_SESSIONS, MAX_STEP, MAX_VALUE_BYTES, MAX_WORKERS, MIB_BYTES, MIN_AREA_MIB, MIN_FRAMES, MIN_PAGES, PAGE_BYTES}
+use Rattle.mt_base.specs.declared.limits.TheConstants.{MASTER_BYTES, MAX_AREA_MIB, MAX_BOUND, MAX_COUNTERS, MAX_KEY_BYTES, MAX_PAGES, MAX_RELATIONS, MAX_STEP, MAX_VALUE_BYTES, MIB_BYTES, MIN_AREA_MIB, MIN_PAGES, PAGE_BYTES}
 
 -- a key of 1 to 64 bytes
 abbrev pub IsKey : List ℕ → Type 0
@@ -32,15 +32,6 @@ IsRelationCount relations = (1 ≤ relations) × (relations ≤ MAX_RELATIONS)
 
 abbrev pub IsCounterCount : ℕ → Type 0
 IsCounterCount counters = counters ≤ MAX_COUNTERS
-
-abbrev pub IsFrameCount : ℕ → Type 0
-IsFrameCount frames = (MIN_FRAMES ≤ frames) × (frames ≤ MAX_FRAMES)
-
-abbrev pub IsWorkerCount : ℕ → Type 0
-IsWorkerCount workers = (1 ≤ workers) × (workers ≤ MAX_WORKERS)
-
-abbrev pub IsSessionCount : ℕ → Type 0
-IsSessionCount sessions = (1 ≤ sessions) × (sessions ≤ MAX_SESSIONS)
 
 -- two master slots, the page slots and two log areas
 abbrev pub device_bytes_of : ℕ → ℕ → ℕ

@@ -1,7 +1,7 @@
 //! The limits of everything that has one, each as a constant or a test. What is past a limit is
 //! refused by the call that meets it; nothing is cut.
 ghost use Rattle.std.specs.Prelude.{◌≡◌, ◌+◌, ◌*◌, ◌↔◌, ℤ, length, IsTrue};
-ghost use Rattle.mt_base.specs.Limits.{IsKey, IsValue, IsStep, IsCounter, IsPageCount, IsAreaSize, IsRelationCount, IsCounterCount, IsFrameCount, IsWorkerCount, IsSessionCount, device_bytes_of};
+ghost use Rattle.mt_base.specs.Limits.{IsKey, IsValue, IsStep, IsCounter, IsPageCount, IsAreaSize, IsRelationCount, IsCounterCount, device_bytes_of};
 
 /// Bytes of a page.
 pub const PAGE_BYTES: usize = 4096;
@@ -175,27 +175,6 @@ pub fn counter_count_fits(counters: usize) -> bool
     ensures { IsTrue result ↔ IsCounterCount counters }
 {
     counters <= usize::from(MAX_COUNTERS)
-}
-
-/// Whether a pool may have this many frames: 32 to 4096.
-pub fn frame_count_fits(frames: u16) -> bool
-    ensures { IsTrue result ↔ IsFrameCount frames }
-{
-    MIN_FRAMES <= frames && frames <= MAX_FRAMES
-}
-
-/// Whether a server may have this many workers: 1 to 16.
-pub fn worker_count_fits(workers: usize) -> bool
-    ensures { IsTrue result ↔ IsWorkerCount workers }
-{
-    1 <= workers && workers <= MAX_WORKERS
-}
-
-/// Whether a server may have this many sessions: 1 to 64.
-pub fn session_count_fits(sessions: usize) -> bool
-    ensures { IsTrue result ↔ IsSessionCount sessions }
-{
-    1 <= sessions && sessions <= MAX_SESSIONS
 }
 
 /// The bytes of a log area of this many MiB.

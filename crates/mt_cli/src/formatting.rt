@@ -2,7 +2,9 @@
 ghost use Rattle.std.specs.Prelude.{IfErr, IfOk, MatchOption, OnErr, OnOk};
 ghost use Rattle.mt_folder.specs.Folders.{AreKept, IsUnmade};
 ghost use Rattle.mt_cli.specs.Formattings.{AreNarrow, AreWithin, Formats, IsSchemaOf, IsUnformed, IsUnmadeOf, PutsFormatted};
+ghost use Rattle.mt_cli.specs.Performs.{IsFormatFault};
 
+use crate::faults::Fault;
 use mt_args::Numbers;
 use mt_base::Refusal;
 use mt_folder::Folder;
@@ -59,10 +61,10 @@ fn put_formatted<F: Folder>(folder: &mut F, name: &str, schema: &Schema) -> Resu
     }
 }
 
-/// Does `format`: makes a device of the schema of these numbers in the file of this name, or in its place. Refused by
-/// `BadLength` if and only if a number is outside its limits, before any file is made; by `NoMemory`; and by
-/// `DeviceFailed` where the file cannot be made or written. The folder is then as before.
-pub(crate) fn perform_format<F: Folder>(
+/// Makes a device of the schema of these numbers in the file of this name, or in its place. Refused by `BadLength` if and
+/// only if a number is outside its limits, before any file is made; by `NoMemory`; and by `DeviceFailed` where the file
+/// cannot be made or written. The folder is then as before.
+fn put_device<F: Folder>(
     alloc: Global,
     folder: &mut F,
     name: &str,
@@ -74,4 +76,21 @@ pub(crate) fn perform_format<F: Folder>(
 {
     let schema = schema_of(alloc, numbers)?;
     put_formatted(folder, name, &schema)
+}
+
+/// Does `format`. Where it is refused, each file is as it was.
+pub(crate) fn perform_format<F: Folder>(
+    alloc: Global,
+    folder: &mut F,
+    name: &str,
+    numbers: &Numbers,
+) -> Result<(), Fault>
+    ensures formatted { OnOk result (Formats numbers.now (F.files folder.old) (F.files folder.new) name.now) }
+    ensures cause { IfErr result (IsFormatFault numbers.now) }
+    ensures err { OnErr result (AreKept (F.files folder.old) (F.files folder.new)) }
+{
+    match put_device(alloc, folder, name, numbers) {
+        Ok(()) => Ok(()),
+        Err(refusal) => Err(Fault::Refused(refusal)),
+    }
 }

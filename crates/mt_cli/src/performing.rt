@@ -282,10 +282,7 @@ fn do_command<F: Folder, I: Read, O: Write, G: Gate + Drop + Send + Sync, R: Thr
             perform_check(alloc, folder, file.as_str(), *pages, out)
         }
         Command::Format { file, numbers } => {
-            match perform_format(alloc, folder, file.as_str(), numbers) {
-                Ok(()) => Ok(()),
-                Err(refusal) => Err(Fault::Refused(refusal)),
-            }
+            perform_format(alloc, folder, file.as_str(), numbers)
         }
         Command::Dump { file } => perform_dump(alloc, folder, file.as_str(), out),
         Command::Explain { file } => perform_explain(alloc, folder, file.as_str(), out),

@@ -134,7 +134,7 @@ impl<D: Device> Parts<D> {
     /// Books the first of the commits under way, whose record is durable: its calls are the last of the book, its
     /// adds move the counters, its locks go, and what was kept for its inverses is free. Answers its transaction.
     /// It takes no memory.
-    pub fn leave_first(&mut self) -> TxnNo
+    fn leave_first(&mut self) -> TxnNo
         requires safe { IsSound D.seen D.may_leave self.old }
         requires some { (c : Commit) × (cs : List Commit) × (self.old.commits.items ≡ c ∷ cs) }
         ensures left { (origin : Origin) (base : Base) (c : Commit) (cs : List Commit)

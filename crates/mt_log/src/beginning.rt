@@ -191,7 +191,7 @@ pub fn begin_area<D: Device>(
 ///
 /// Refusals are [`Refusal::NoMemory`], before any device call, and [`Refusal::DeviceFailed`]. Nothing
 /// outside of the area is touched in any case.
-pub fn begin_area_with<D: Device>(
+fn begin_area_with<D: Device>(
     alloc: Global,
     device: &mut D,
     place: AreaPlace,

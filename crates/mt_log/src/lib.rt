@@ -17,7 +17,7 @@ mod turning;
 
 pub use area::AreaPlace;
 pub use batch::Batch;
-pub use beginning::{begin_area, begin_area_with, begin_prepared, prepare_area};
+pub use beginning::{begin_area, begin_prepared, prepare_area};
 pub use forcing::FORCE_STEPS;
 pub use laws::{a_crash_leaves_a_beginning, areas_are_read_one_way};
 pub use log::{Forced, Log};

@@ -18,7 +18,6 @@ mod undoing;
 
 pub use figures::Figures;
 pub use laws::{each_inverse_finds, only_own_pages_matter, restart_finds_the_base};
-pub use replaying::held_pages;
 pub use standing::{Replayed, read_area, read_log, replay};
 pub use telling::{Loser, losers_of};
 pub use undoing::Restored;

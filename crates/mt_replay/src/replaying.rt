@@ -28,7 +28,7 @@ use std::alloc::Global;
 ///
 /// The refusals are [`Refusal::NoMemory`], and [`Refusal::DeviceFailed`] where the device failed in this call. The
 /// device is only read, and its content is as before in any case.
-pub fn held_pages<D: Device>(
+pub(crate) fn held_pages<D: Device>(
     alloc: Global,
     device: &mut D,
     count: u16,

@@ -241,7 +241,7 @@ impl Restored {
     /// Where an inverse does not find what its record says, or too few free pages, it is refused with
     /// [`Refusal::BadFormat`] at the batch of that record. The only other refusal is [`Refusal::NoMemory`]. The pages
     /// are let go then.
-    pub fn undo_all(self, alloc: Global, losers: &[Loser]) -> Result<Restored, Refusal>
+    pub(crate) fn undo_all(self, alloc: Global, losers: &[Loser]) -> Result<Restored, Refusal>
         requires { AllByRecursion (λ loser. IsOperation loser.done) losers.now }
         ensures undone { IfOk result (λ restored. HasUndone self.pages.items losers.now restored.pages.items) }
         ensures bad { (at : ℕ) → result ≡ Err (Refusal.BadFormat at) → StopsAt self.pages.items losers.now at }

@@ -16,7 +16,7 @@ pub struct LogUse {
 
 impl LogUse {
     /// Whether more than half of the area is in use. Then it is time to turn the log over.
-    pub fn is_above_half(self) -> bool
+    pub(crate) fn is_above_half(self) -> bool
         ensures { IsTrue result ↔ (self.size / 2 < self.used) }
     {
         self.used > self.size / 2

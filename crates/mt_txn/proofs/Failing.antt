@@ -1,16 +1,15 @@
 -- Which calls are refused with 2: those of a kernel that has failed.
-use Rattle.std.proofs.Common.{◌≡◌, ℕ, Bool, true, false, List, Option, Some, None, Result, Err, refl, ap, sym, ◌∙◌}
-use Rattle.std.specs.Prelude.{nat_lt, nat_le, ◌||◌, if◌then◌else◌, length}
+use Rattle.std.proofs.Common.{◌≡◌, ℕ, Bool, true, false, List, Option, Some, None, Err, refl}
+use Rattle.std.specs.Prelude.{nat_lt, if◌then◌else◌}
 use Rattle.mt_base.specs.declared.refusal.Refusal.{Refusal}
 use Rattle.mt_base.specs.declared.refusal.Refusal.TheVariants as refusal
 use Rattle.mt_kernel.specs.Causes.{IsAnswered}
 use Rattle.mt_kernel.specs.Consistent.{Origin}
 use Rattle.mt_kernel.specs.Runs.{state_in}
 use Rattle.mt_kernel.specs.declared.parts.Parts.{Parts}
-use Rattle.mt_live.specs.Lives.{calls_of}
 use Rattle.mt_model.specs.declared.operations.Op.{Op}
 use Rattle.mt_model.specs.declared.operations.Op.TheVariants.{Get, Insert, Update, Delete, Add, Read}
-use Rattle.mt_txn.specs.Causes.{busy_cause, call_cause, count_cause, first_of, is_busy, is_key, is_open, is_step, is_value, name_cause, size_cause, unless}
+use Rattle.mt_txn.specs.Causes.{busy_cause, call_cause, count_cause, first_of, is_busy, is_key, is_open, is_step, name_cause, size_cause, unless}
 
 -- no cause that is 2
 abbrev IsFine : Option Refusal → Type 0

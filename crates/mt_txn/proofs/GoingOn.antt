@@ -1,5 +1,5 @@
 -- A kernel goes on over the other area of its log.
-use Rattle.std.proofs.Common.{◌≡◌, ◌++◌, ◌+◌, ◌∷◌, ◌==◌, ◌≤◌, ℕ, Bool, true, false, cond, Option, None, Some, List, [], length, take, map, refl, sym, ap, ◌∙◌, subst, arith, append-nil}
+use Rattle.std.proofs.Common.{◌≡◌, ◌++◌, ◌+◌, ◌∷◌, ◌==◌, ◌≤◌, ℕ, Bool, true, false, cond, None, Some, List, [], length, map, refl, sym, ap, ◌∙◌, subst, arith, append-nil}
 use Rattle.std.specs.Option.{option_map}
 use Rattle.std.proofs.lemmas.Bool.{eq-eqb}
 use Rattle.std.proofs.lemmas.List.{take_all, length-map, length-append}
@@ -21,13 +21,13 @@ use Rattle.mt_live.specs.Laws.{in_turn}
 use Rattle.mt_live.specs.Lives.{member_of}
 use Rattle.mt_live.specs.Machine.{State}
 use Rattle.mt_live.specs.Members.{Member}
-use Rattle.mt_log.specs.Words.{appended, durable}
+use Rattle.mt_log.specs.Words.{appended}
 use Rattle.mt_model.specs.History.{after}
 use Rattle.mt_model.specs.Model.{Base, IsBase}
 use Rattle.mt_model.specs.declared.history.Committed.{Committed}
 use Rattle.mt_op.specs.Operations.{IsRight}
 use Rattle.mt_op.specs.declared.operations.Operations.{Operations}
-use Rattle.mt_replay.specs.Told.{Finished, calls_of, stands_for, tells}
+use Rattle.mt_replay.specs.Told.{calls_of, stands_for, tells}
 use Rattle.mt_steps.specs.Held.{Holds}
 use Rattle.mt_txn.specs.Restarted.{all_commits}
 use Rattle.mt_txn.specs.Shown.{Restarts, Stays}

@@ -26,7 +26,6 @@ use Rattle.mt_pool.specs.Images.{GivesPages}
 use Rattle.mt_pool.specs.Kept.{Explains, IsKept, carried}
 use Rattle.mt_disk.specs.Disk.{LeavesOnly}
 use Rattle.mt_space.specs.Changes.{PageBytes}
-use Rattle.mt_pool.specs.Views.{pages}
 use Rattle.mt_log.specs.Masters.{IsRuling, Rules, area_size as size_of, area_start as start_of, area_end as end_of}
 use Rattle.mt_replay.specs.Recoverable.{IsRecoverable}
 use Rattle.mt_replay.specs.Stands.{CanRestart, StandsFor}

@@ -8,3 +8,4 @@ pub mod Restarted
 pub mod Turned
 pub mod Due
 pub mod PageLocks
+pub mod Aborted

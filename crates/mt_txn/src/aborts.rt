@@ -10,6 +10,7 @@ ghost use Rattle.mt_kernel.specs.Steps.{WantsFrame};
 ghost use Rattle.mt_kernel.specs.Work.{most_steps, undo_steps};
 ghost use Rattle.mt_pool.specs.Views.{pages};
 ghost use Rattle.mt_kernel.specs.declared.parts.Running.{Running};
+ghost use Rattle.mt_txn.specs.Aborted.{StepsAbort};
 ghost use Rattle.mt_txn.specs.Causes.{IsFault, abort_cause, is_busy, open_cause};
 ghost use Rattle.mt_txn.specs.Events.{HasAborted};
 ghost use Rattle.mt_txn.specs.Shown.{FailsForGood, SameSchema, Shows, Stays, StaysRestarting, is_failed};
@@ -58,26 +59,9 @@ impl<D: Device> Kernel<D> {
         requires own { AtPlace self.old.parts.running.items place
             (λ r. (r.scope.txn ≡ txn) × (r.scope.undoes ≡ 0)) }
         requires aborting { state_in self.old.parts.live.members txn ≡ Some Aborting }
-        ensures why { IfErr result (λ why. why ≢ Refusal.NoMemory
-            → IsFault D.faults self.old.parts self.new.parts why) }
-        ensures fails { result ≡ Err Refusal.DeviceFailed → is_failed self.new ≡ true }
-        ensures states { IfOk result (λ stepped. stepped ≢ AbortStepped.Ended
-            → SameStates self.old.parts self.new.parts) }
-        ensures work { LowersAbort (pages self.old.parts.operations.store.pool) result
-            (undo_steps self.old.parts txn) (undo_steps self.new.parts txn) }
-        ensures other { IfOk result (λ stepped. IsAbortForOther self.old.parts.live.members txn stepped) }
-        ensures full { result ≡ Ok AbortStepped.Flush → WantsFrame self.old.parts self.new.parts }
+        ensures steps { StepsAbort D.seen D.may_leave D.faults D.moment D.left_since self.old txn result self.new }
         ensures locks { AtPlace self.old.parts.running.items place
             (λ r. AbortsLocks self.old.parts self.new.parts r result) }
-        ensures commits { SameCommits self.old.parts self.new.parts }
-        ensures err_states { OnErr result (SameStates self.old.parts self.new.parts) }
-        ensures out { result ≡ Ok AbortStepped.Ended → (state_in self.new.parts.live.members txn ≡ None)
-            × SameStatesBut self.old.parts self.new.parts txn }
-        ensures schema { SameSchema self.old self.new }
-        ensures restarts { StaysRestarting D.seen D.may_leave self.old self.new }
-        ensures moments { LeavesFound D.seen D.may_leave D.moment D.left_since self.old self.new }
-        ensures aborted { (first : Base) (s : State) → Shows D.seen D.may_leave first s self.old
-            → HasAborted D.seen D.may_leave first s txn result self.new }
     {
         let told = self.parts.back_step(place);
         self.failed = is_failure(&told);
@@ -93,26 +77,9 @@ impl<D: Device> Kernel<D> {
         requires within { place < length self.old.parts.running.items }
         requires own { AtPlace self.old.parts.running.items place
             (λ r. (r.scope.txn ≡ txn) × (r.scope.undoes ≢ 0)) }
-        ensures why { IfErr result (λ why. why ≢ Refusal.NoMemory
-            → IsFault D.faults self.old.parts self.new.parts why) }
-        ensures fails { result ≡ Err Refusal.DeviceFailed → is_failed self.new ≡ true }
-        ensures states { IfOk result (λ stepped. stepped ≢ AbortStepped.Ended
-            → SameStates self.old.parts self.new.parts) }
-        ensures work { LowersAbort (pages self.old.parts.operations.store.pool) result
-            (undo_steps self.old.parts txn) (undo_steps self.new.parts txn) }
-        ensures other { IfOk result (λ stepped. IsAbortForOther self.old.parts.live.members txn stepped) }
-        ensures full { result ≡ Ok AbortStepped.Flush → WantsFrame self.old.parts self.new.parts }
+        ensures steps { StepsAbort D.seen D.may_leave D.faults D.moment D.left_since self.old txn result self.new }
         ensures locks { AtPlace self.old.parts.running.items place
             (λ r. AbortsLocks self.old.parts self.new.parts r result) }
-        ensures commits { SameCommits self.old.parts self.new.parts }
-        ensures err_states { OnErr result (SameStates self.old.parts self.new.parts) }
-        ensures out { result ≡ Ok AbortStepped.Ended → (state_in self.new.parts.live.members txn ≡ None)
-            × SameStatesBut self.old.parts self.new.parts txn }
-        ensures schema { SameSchema self.old self.new }
-        ensures restarts { StaysRestarting D.seen D.may_leave self.old self.new }
-        ensures moments { LeavesFound D.seen D.may_leave D.moment D.left_since self.old self.new }
-        ensures aborted { (first : Base) (s : State) → Shows D.seen D.may_leave first s self.old
-            → HasAborted D.seen D.may_leave first s txn result self.new }
     {
         let told = self.parts.undo_step(self.alloc, place);
         self.failed = is_failure(&told);
@@ -144,25 +111,8 @@ impl<D: Device> Kernel<D> {
     fn undo_next(&mut self, txn: TxnNo) -> Result<AbortStepped, Refusal>
         requires idle { All (λ (r : Running). r.scope.txn ≢ txn) self.old.parts.running.items }
         requires aborting { state_in self.old.parts.live.members txn ≡ Some Aborting }
-        ensures why { IfErr result (λ why. why ≢ Refusal.NoMemory
-            → IsFault D.faults self.old.parts self.new.parts why) }
-        ensures fails { result ≡ Err Refusal.DeviceFailed → is_failed self.new ≡ true }
-        ensures states { IfOk result (λ stepped. stepped ≢ AbortStepped.Ended
-            → SameStates self.old.parts self.new.parts) }
-        ensures work { LowersAbort (pages self.old.parts.operations.store.pool) result
-            (undo_steps self.old.parts txn) (undo_steps self.new.parts txn) }
-        ensures other { IfOk result (λ stepped. IsAbortForOther self.old.parts.live.members txn stepped) }
-        ensures full { result ≡ Ok AbortStepped.Flush → WantsFrame self.old.parts self.new.parts }
+        ensures steps { StepsAbort D.seen D.may_leave D.faults D.moment D.left_since self.old txn result self.new }
         ensures locks { self.new.parts.operations.locks ≡ self.old.parts.operations.locks }
-        ensures commits { SameCommits self.old.parts self.new.parts }
-        ensures err_states { OnErr result (SameStates self.old.parts self.new.parts) }
-        ensures out { result ≡ Ok AbortStepped.Ended → (state_in self.new.parts.live.members txn ≡ None)
-            × SameStatesBut self.old.parts self.new.parts txn }
-        ensures schema { SameSchema self.old self.new }
-        ensures restarts { StaysRestarting D.seen D.may_leave self.old self.new }
-        ensures moments { LeavesFound D.seen D.may_leave D.moment D.left_since self.old self.new }
-        ensures aborted { (first : Base) (s : State) → Shows D.seen D.may_leave first s self.old
-            → HasAborted D.seen D.may_leave first s txn result self.new }
     {
         if self.parts.undo_begin(self.alloc, txn)? {
             return Ok(AbortStepped::More);

@@ -1,7 +1,7 @@
 use Rattle.mt_pool.specs.declared.store.Store.{Store}
 use Rattle.mt_txn.proofs.Answering.{call_answers, call_shown}
 use mathlib.Core.Logic.{∥∥₁_elim, ∥∥₁_map}
-use Rattle.std.proofs.Common.{◌≡◌, ◌∙◌, Bool, true, Option, Some, None, Err, ap, refl, subst, sym}
+use Rattle.std.proofs.Common.{◌≡◌, ◌∙◌, Bool, true, Some, None, Err, ap, refl, subst, sym}
 use Rattle.std.proofs.Props.{props}
 use Rattle.mt_base.specs.declared.refusal.Refusal.{Refusal}
 use Rattle.mt_base.specs.declared.refusal.Refusal.TheVariants.{DeviceFailed}

@@ -2,7 +2,7 @@ use Rattle.std.proofs.lemmas.Result.{err_from_is_err_and}
 use mathlib.Core.Logic.{∥∥₁_map}
 use Rattle.mt_txn.proofs.Answering.{err_aborted}
 use Rattle.mt_txn.proofs.Showing.{sound_of, back_shown, back_well, back_stands, BackShown}
-use Rattle.std.proofs.Common.{◌∙◌, Ok, ap, subst}
+use Rattle.std.proofs.Common.{rules, ◌∙◌, Ok, ap, subst}
 use Rattle.mt_kernel.specs.Runs.{state_in}
 use Rattle.std.proofs.Common.{◌≤◌, sym}
 use Rattle.std.specs.Prelude.{Result}
@@ -25,76 +25,96 @@ back_step-told-requires-clause-aborting g c = λ r there. let own = c.requires.o
 pub invariant_of-self : goal.invariant_of-self
 invariant_of-self g c = record { well = back_well g.D.Device.seen g.D.Device.may_leave c.args.self.now.relations c.args.self.now.counters c.args.self.now.parts c.back_step-told.new.self c.args.place c.back_step-told.result c.requires.within c.back_step-told.ensures.back c.args.self.now.well; starts = ∥∥₁_map c.args.self.now.starts (λ (first, r). let D = g.D.Device in let k = c.args.self.now in (first, restarts_on D.seen D.may_leave k.relations k.counters first k.parts c.back_step-told.new.self (back_goes D.seen D.may_leave k.parts c.back_step-told.new.self c.args.place c.back_step-told.result c.requires.within c.back_step-told.ensures.back) (c.back_step-told.ensures.restartable) r)); schema = c.args.self.now.schema }
 
-pub returns-in_err-told-clause-aborted : goal.returns-in_err-told-clause-aborted
-returns-in_err-told-clause-aborted g c = λ first s shows. let p = err_from_is_err_and c.from_residual.result c.from_residual.ensures.1 in
-    err_aborted g.D.Device.seen g.D.Device.may_leave first s c.args.txn _ c.from_residual.result p.0 p.1 (subst (BackShown g.D.Device.seen g.D.Device.may_leave c.args.self.now.relations c.args.self.now.counters c.back_step-told.new.self first s c.args.txn) c.in_err-told.was (back_shown g.D.Device.seen g.D.Device.may_leave c.args.self.now.relations c.args.self.now.counters c.args.self.now.parts c.back_step-told.new.self first s c.args.txn c.args.place c.back_step-told.result c.requires.within (λ r there. (c.requires.own r there).0) c.back_step-told.ensures.back shows))
+pub returns-in_err-told-clause-steps : goal.returns-in_err-told-clause-steps
+returns-in_err-told-clause-steps g c = record {
+  why = search rules;
+  fails = search rules;
+  states = search rules;
+  work = let k = c.args.self.now.parts in let n = c.back_step-told.new.self in
+      let at = at_place k.running.items c.args.place c.requires.within in
+      let lowers = subst (λ t. LowersBack c.back_step-told.result (undo_steps k t) (undo_steps n t)) (c.requires.own at.0 at.1).0 (c.back_step-told.ensures.lowers at.0 at.1) in
+      let few : undo_steps n c.args.txn ≤ undo_steps k c.args.txn = subst (λ (r : Result TakenBack Refusal). LowersBack r (undo_steps k c.args.txn) (undo_steps n c.args.txn)) c.in_err-told.was lowers in
+      let p = err_from_is_err_and c.from_residual.result c.from_residual.ensures.1 in
+      subst (λ (r : Result AbortStepped Refusal). LowersAbort (pages k.operations.store.pool) r (undo_steps k c.args.txn) (undo_steps n c.args.txn)) (sym p.1) few;
+  other = search rules;
+  full = search rules;
+  commits = search rules;
+  err_states = search rules;
+  out = search rules;
+  schema = search rules;
+  restarts = λ first r. let D = g.D.Device in let k = c.args.self.now in
+      restarts_on D.seen D.may_leave k.relations k.counters first k.parts c.back_step-told.new.self (back_goes D.seen D.may_leave k.parts c.back_step-told.new.self c.args.place c.back_step-told.result c.requires.within c.back_step-told.ensures.back) (c.back_step-told.ensures.restartable) r;
+  moments = λ first r schema. let D = g.D.Device in let k = c.args.self.now in
+      meanwhile D.seen D.may_leave k.relations k.counters first D.moment D.left_since g.met.D.Device.only_now k.parts _ c.back_step-told.ensures.moments r schema;
+  aborted = λ first s shows. let p = err_from_is_err_and c.from_residual.result c.from_residual.ensures.1 in
+      err_aborted g.D.Device.seen g.D.Device.may_leave first s c.args.txn _ c.from_residual.result p.0 p.1 (subst (BackShown g.D.Device.seen g.D.Device.may_leave c.args.self.now.relations c.args.self.now.counters c.back_step-told.new.self first s c.args.txn) c.in_err-told.was (back_shown g.D.Device.seen g.D.Device.may_leave c.args.self.now.relations c.args.self.now.counters c.args.self.now.parts c.back_step-told.new.self first s c.args.txn c.args.place c.back_step-told.result c.requires.within (λ r there. (c.requires.own r there).0) c.back_step-told.ensures.back shows));
+}
 
-pub returns-in-More-clause-aborted : goal.returns-in-More-clause-aborted
-returns-in-More-clause-aborted g c = λ first s shows. back_stands g.D.Device.seen g.D.Device.may_leave c.args.self.now.relations c.args.self.now.counters c.back_step-told.new.self first s c.args.txn (subst (BackShown g.D.Device.seen g.D.Device.may_leave c.args.self.now.relations c.args.self.now.counters c.back_step-told.new.self first s c.args.txn) (c.in_ok-told.was ∙ ap Ok c.in-More.is)
-    (back_shown g.D.Device.seen g.D.Device.may_leave c.args.self.now.relations c.args.self.now.counters c.args.self.now.parts c.back_step-told.new.self first s c.args.txn c.args.place c.back_step-told.result c.requires.within (λ r there. (c.requires.own r there).0) c.back_step-told.ensures.back shows))
+pub returns-in-More-clause-steps : goal.returns-in-More-clause-steps
+returns-in-More-clause-steps g c = record {
+  why = search rules;
+  fails = search rules;
+  states = search rules;
+  work = let k = c.args.self.now.parts in let n = c.back_step-told.new.self in
+      let at = at_place k.running.items c.args.place c.requires.within in
+      let lowers = subst (λ t. LowersBack c.back_step-told.result (undo_steps k t) (undo_steps n t)) (c.requires.own at.0 at.1).0 (c.back_step-told.ensures.lowers at.0 at.1) in
+      subst (λ (r : Result TakenBack Refusal). LowersBack r (undo_steps k c.args.txn) (undo_steps n c.args.txn)) (c.in_ok-told.was ∙ ap Ok c.in-More.is) lowers;
+  other = search rules;
+  full = search rules;
+  commits = search rules;
+  err_states = search rules;
+  out = search rules;
+  schema = search rules;
+  restarts = λ first r. let D = g.D.Device in let k = c.args.self.now in
+      restarts_on D.seen D.may_leave k.relations k.counters first k.parts c.back_step-told.new.self (back_goes D.seen D.may_leave k.parts c.back_step-told.new.self c.args.place c.back_step-told.result c.requires.within c.back_step-told.ensures.back) (c.back_step-told.ensures.restartable) r;
+  moments = λ first r schema. let D = g.D.Device in let k = c.args.self.now in
+      meanwhile D.seen D.may_leave k.relations k.counters first D.moment D.left_since g.met.D.Device.only_now k.parts _ c.back_step-told.ensures.moments r schema;
+  aborted = λ first s shows. back_stands g.D.Device.seen g.D.Device.may_leave c.args.self.now.relations c.args.self.now.counters c.back_step-told.new.self first s c.args.txn (subst (BackShown g.D.Device.seen g.D.Device.may_leave c.args.self.now.relations c.args.self.now.counters c.back_step-told.new.self first s c.args.txn) (c.in_ok-told.was ∙ ap Ok c.in-More.is)
+      (back_shown g.D.Device.seen g.D.Device.may_leave c.args.self.now.relations c.args.self.now.counters c.args.self.now.parts c.back_step-told.new.self first s c.args.txn c.args.place c.back_step-told.result c.requires.within (λ r there. (c.requires.own r there).0) c.back_step-told.ensures.back shows));
+}
 
-pub returns-in-Flush-clause-aborted : goal.returns-in-Flush-clause-aborted
-returns-in-Flush-clause-aborted g c = λ first s shows. subst (BackShown g.D.Device.seen g.D.Device.may_leave c.args.self.now.relations c.args.self.now.counters c.back_step-told.new.self first s c.args.txn) (c.in_ok-told.was ∙ ap Ok c.in-Flush.is)
-    (back_shown g.D.Device.seen g.D.Device.may_leave c.args.self.now.relations c.args.self.now.counters c.args.self.now.parts c.back_step-told.new.self first s c.args.txn c.args.place c.back_step-told.result c.requires.within (λ r there. (c.requires.own r there).0) c.back_step-told.ensures.back shows)
+pub returns-in-Flush-clause-steps : goal.returns-in-Flush-clause-steps
+returns-in-Flush-clause-steps g c = record {
+  why = search rules;
+  fails = search rules;
+  states = search rules;
+  work = let k = c.args.self.now.parts in let n = c.back_step-told.new.self in
+      let at = at_place k.running.items c.args.place c.requires.within in
+      let lowers = subst (λ t. LowersBack c.back_step-told.result (undo_steps k t) (undo_steps n t)) (c.requires.own at.0 at.1).0 (c.back_step-told.ensures.lowers at.0 at.1) in
+      subst (λ (r : Result TakenBack Refusal). LowersBack r (undo_steps k c.args.txn) (undo_steps n c.args.txn)) (c.in_ok-told.was ∙ ap Ok c.in-Flush.is) lowers;
+  other = search rules;
+  full = search rules;
+  commits = search rules;
+  err_states = search rules;
+  out = search rules;
+  schema = search rules;
+  restarts = λ first r. let D = g.D.Device in let k = c.args.self.now in
+      restarts_on D.seen D.may_leave k.relations k.counters first k.parts c.back_step-told.new.self (back_goes D.seen D.may_leave k.parts c.back_step-told.new.self c.args.place c.back_step-told.result c.requires.within c.back_step-told.ensures.back) (c.back_step-told.ensures.restartable) r;
+  moments = λ first r schema. let D = g.D.Device in let k = c.args.self.now in
+      meanwhile D.seen D.may_leave k.relations k.counters first D.moment D.left_since g.met.D.Device.only_now k.parts _ c.back_step-told.ensures.moments r schema;
+  aborted = λ first s shows. subst (BackShown g.D.Device.seen g.D.Device.may_leave c.args.self.now.relations c.args.self.now.counters c.back_step-told.new.self first s c.args.txn) (c.in_ok-told.was ∙ ap Ok c.in-Flush.is)
+      (back_shown g.D.Device.seen g.D.Device.may_leave c.args.self.now.relations c.args.self.now.counters c.args.self.now.parts c.back_step-told.new.self first s c.args.txn c.args.place c.back_step-told.result c.requires.within (λ r there. (c.requires.own r there).0) c.back_step-told.ensures.back shows);
+}
 
-pub returns-in-Clear-clause-aborted : goal.returns-in-Clear-clause-aborted
-returns-in-Clear-clause-aborted g c = λ first s shows. subst (BackShown g.D.Device.seen g.D.Device.may_leave c.args.self.now.relations c.args.self.now.counters c.back_step-told.new.self first s c.args.txn) (c.in_ok-told.was ∙ ap Ok c.in-Clear.is)
-    (back_shown g.D.Device.seen g.D.Device.may_leave c.args.self.now.relations c.args.self.now.counters c.args.self.now.parts c.back_step-told.new.self first s c.args.txn c.args.place c.back_step-told.result c.requires.within (λ r there. (c.requires.own r there).0) c.back_step-told.ensures.back shows)
-
-pub returns-in-More-clause-work : goal.returns-in-More-clause-work
-returns-in-More-clause-work g c = let k = c.args.self.now.parts in let n = c.back_step-told.new.self in
-    let at = at_place k.running.items c.args.place c.requires.within in
-    let lowers = subst (λ t. LowersBack c.back_step-told.result (undo_steps k t) (undo_steps n t)) (c.requires.own at.0 at.1).0 (c.back_step-told.ensures.lowers at.0 at.1) in
-    subst (λ (r : Result TakenBack Refusal). LowersBack r (undo_steps k c.args.txn) (undo_steps n c.args.txn)) (c.in_ok-told.was ∙ ap Ok c.in-More.is) lowers
-
-pub returns-in-Flush-clause-work : goal.returns-in-Flush-clause-work
-returns-in-Flush-clause-work g c = let k = c.args.self.now.parts in let n = c.back_step-told.new.self in
-    let at = at_place k.running.items c.args.place c.requires.within in
-    let lowers = subst (λ t. LowersBack c.back_step-told.result (undo_steps k t) (undo_steps n t)) (c.requires.own at.0 at.1).0 (c.back_step-told.ensures.lowers at.0 at.1) in
-    subst (λ (r : Result TakenBack Refusal). LowersBack r (undo_steps k c.args.txn) (undo_steps n c.args.txn)) (c.in_ok-told.was ∙ ap Ok c.in-Flush.is) lowers
-
-pub returns-in-Clear-clause-work : goal.returns-in-Clear-clause-work
-returns-in-Clear-clause-work g c = let k = c.args.self.now.parts in let n = c.back_step-told.new.self in
-    let at = at_place k.running.items c.args.place c.requires.within in
-    let lowers = subst (λ t. LowersBack c.back_step-told.result (undo_steps k t) (undo_steps n t)) (c.requires.own at.0 at.1).0 (c.back_step-told.ensures.lowers at.0 at.1) in
-    subst (λ (r : Result TakenBack Refusal). LowersBack r (undo_steps k c.args.txn) (undo_steps n c.args.txn)) (c.in_ok-told.was ∙ ap Ok c.in-Clear.is) lowers
-
-pub returns-in_err-told-clause-work : goal.returns-in_err-told-clause-work
-returns-in_err-told-clause-work g c = let k = c.args.self.now.parts in let n = c.back_step-told.new.self in
-    let at = at_place k.running.items c.args.place c.requires.within in
-    let lowers = subst (λ t. LowersBack c.back_step-told.result (undo_steps k t) (undo_steps n t)) (c.requires.own at.0 at.1).0 (c.back_step-told.ensures.lowers at.0 at.1) in
-    let few : undo_steps n c.args.txn ≤ undo_steps k c.args.txn = subst (λ (r : Result TakenBack Refusal). LowersBack r (undo_steps k c.args.txn) (undo_steps n c.args.txn)) c.in_err-told.was lowers in
-    let p = err_from_is_err_and c.from_residual.result c.from_residual.ensures.1 in
-    subst (λ (r : Result AbortStepped Refusal). LowersAbort (pages k.operations.store.pool) r (undo_steps k c.args.txn) (undo_steps n c.args.txn)) (sym p.1) few
-
-pub returns-in_err-told-clause-restarts : goal.returns-in_err-told-clause-restarts
-returns-in_err-told-clause-restarts g c = λ first r. let D = g.D.Device in let k = c.args.self.now in
-    restarts_on D.seen D.may_leave k.relations k.counters first k.parts c.back_step-told.new.self (back_goes D.seen D.may_leave k.parts c.back_step-told.new.self c.args.place c.back_step-told.result c.requires.within c.back_step-told.ensures.back) (c.back_step-told.ensures.restartable) r
-
-pub returns-in-More-clause-restarts : goal.returns-in-More-clause-restarts
-returns-in-More-clause-restarts g c = λ first r. let D = g.D.Device in let k = c.args.self.now in
-    restarts_on D.seen D.may_leave k.relations k.counters first k.parts c.back_step-told.new.self (back_goes D.seen D.may_leave k.parts c.back_step-told.new.self c.args.place c.back_step-told.result c.requires.within c.back_step-told.ensures.back) (c.back_step-told.ensures.restartable) r
-
-pub returns-in-Flush-clause-restarts : goal.returns-in-Flush-clause-restarts
-returns-in-Flush-clause-restarts g c = λ first r. let D = g.D.Device in let k = c.args.self.now in
-    restarts_on D.seen D.may_leave k.relations k.counters first k.parts c.back_step-told.new.self (back_goes D.seen D.may_leave k.parts c.back_step-told.new.self c.args.place c.back_step-told.result c.requires.within c.back_step-told.ensures.back) (c.back_step-told.ensures.restartable) r
-
-pub returns-in-Clear-clause-restarts : goal.returns-in-Clear-clause-restarts
-returns-in-Clear-clause-restarts g c = λ first r. let D = g.D.Device in let k = c.args.self.now in
-    restarts_on D.seen D.may_leave k.relations k.counters first k.parts c.back_step-told.new.self (back_goes D.seen D.may_leave k.parts c.back_step-told.new.self c.args.place c.back_step-told.result c.requires.within c.back_step-told.ensures.back) (c.back_step-told.ensures.restartable) r
-
-pub returns-in_err-told-clause-moments : goal.returns-in_err-told-clause-moments
-returns-in_err-told-clause-moments g c = λ first r schema. let D = g.D.Device in let k = c.args.self.now in
-    meanwhile D.seen D.may_leave k.relations k.counters first D.moment D.left_since g.met.D.Device.only_now k.parts _ c.back_step-told.ensures.moments r schema
-
-pub returns-in-More-clause-moments : goal.returns-in-More-clause-moments
-returns-in-More-clause-moments g c = λ first r schema. let D = g.D.Device in let k = c.args.self.now in
-    meanwhile D.seen D.may_leave k.relations k.counters first D.moment D.left_since g.met.D.Device.only_now k.parts _ c.back_step-told.ensures.moments r schema
-
-pub returns-in-Flush-clause-moments : goal.returns-in-Flush-clause-moments
-returns-in-Flush-clause-moments g c = λ first r schema. let D = g.D.Device in let k = c.args.self.now in
-    meanwhile D.seen D.may_leave k.relations k.counters first D.moment D.left_since g.met.D.Device.only_now k.parts _ c.back_step-told.ensures.moments r schema
-
-pub returns-in-Clear-clause-moments : goal.returns-in-Clear-clause-moments
-returns-in-Clear-clause-moments g c = λ first r schema. let D = g.D.Device in let k = c.args.self.now in
-    meanwhile D.seen D.may_leave k.relations k.counters first D.moment D.left_since g.met.D.Device.only_now k.parts _ c.back_step-told.ensures.moments r schema
+pub returns-in-Clear-clause-steps : goal.returns-in-Clear-clause-steps
+returns-in-Clear-clause-steps g c = record {
+  why = search rules;
+  fails = search rules;
+  states = search rules;
+  work = let k = c.args.self.now.parts in let n = c.back_step-told.new.self in
+      let at = at_place k.running.items c.args.place c.requires.within in
+      let lowers = subst (λ t. LowersBack c.back_step-told.result (undo_steps k t) (undo_steps n t)) (c.requires.own at.0 at.1).0 (c.back_step-told.ensures.lowers at.0 at.1) in
+      subst (λ (r : Result TakenBack Refusal). LowersBack r (undo_steps k c.args.txn) (undo_steps n c.args.txn)) (c.in_ok-told.was ∙ ap Ok c.in-Clear.is) lowers;
+  other = search rules;
+  full = search rules;
+  commits = search rules;
+  err_states = search rules;
+  out = search rules;
+  schema = search rules;
+  restarts = λ first r. let D = g.D.Device in let k = c.args.self.now in
+      restarts_on D.seen D.may_leave k.relations k.counters first k.parts c.back_step-told.new.self (back_goes D.seen D.may_leave k.parts c.back_step-told.new.self c.args.place c.back_step-told.result c.requires.within c.back_step-told.ensures.back) (c.back_step-told.ensures.restartable) r;
+  moments = λ first r schema. let D = g.D.Device in let k = c.args.self.now in
+      meanwhile D.seen D.may_leave k.relations k.counters first D.moment D.left_since g.met.D.Device.only_now k.parts _ c.back_step-told.ensures.moments r schema;
+  aborted = λ first s shows. subst (BackShown g.D.Device.seen g.D.Device.may_leave c.args.self.now.relations c.args.self.now.counters c.back_step-told.new.self first s c.args.txn) (c.in_ok-told.was ∙ ap Ok c.in-Clear.is)
+      (back_shown g.D.Device.seen g.D.Device.may_leave c.args.self.now.relations c.args.self.now.counters c.args.self.now.parts c.back_step-told.new.self first s c.args.txn c.args.place c.back_step-told.result c.requires.within (λ r there. (c.requires.own r there).0) c.back_step-told.ensures.back shows);
+}

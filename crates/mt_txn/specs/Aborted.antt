@@ -1,0 +1,36 @@
+-- What a step of an abort does, where nothing forbids it.
+use Rattle.std.specs.Prelude.{ℕ, ◌≡◌, ◌≢◌, IfErr, IfOk, List, None, OnErr, Result, Ok, Err, true}
+use Rattle.mt_base.specs.declared.refusal.Refusal.{Refusal}
+use Rattle.mt_base.specs.declared.refusal.Refusal.TheVariants.{DeviceFailed, NoMemory}
+use Rattle.mt_disk.specs.declared.device.Device.{Ghosts}
+use Rattle.mt_kernel.specs.Consistent.{SameCommits, SameStates, SameStatesBut}
+use Rattle.mt_kernel.specs.Runs.{state_in}
+use Rattle.mt_kernel.specs.Steps.{WantsFrame}
+use Rattle.mt_kernel.specs.Work.{undo_steps}
+use Rattle.mt_live.specs.Machine.{State}
+use Rattle.mt_model.specs.Model.{Base}
+use Rattle.mt_pool.specs.Views.{pages}
+use Rattle.mt_txn.specs.Causes.{IsFault}
+use Rattle.mt_txn.specs.Events.{HasAborted}
+use Rattle.mt_txn.specs.Shown.{LeavesFound, SameSchema, Shows, StaysRestarting, is_failed}
+use Rattle.mt_txn.specs.Work.{IsAbortForOther, LowersAbort}
+use Rattle.mt_txn.specs.declared.answers.AbortStepped.{AbortStepped}
+use Rattle.mt_txn.specs.declared.answers.AbortStepped.TheVariants.{Ended, Flush}
+use Rattle.mt_txn.specs.declared.kernel.Kernel.{Kernel}
+
+module _ {D : Type 0} {g : Ghosts D} (seen : D → List ℕ) (may_leave : D → List ℕ → Type 0) (faults moment : D → ℕ) (left_since : D → ℕ → List ℕ → Type 0) where
+  -- From kernel k it answered this of the abort of t, and left kernel n.
+  pub record StepsAbort (k : Kernel D g) (t : ℕ) (result : Result AbortStepped Refusal) (n : Kernel D g) : Type 0 where
+    pub why : IfErr result (λ why. why ≢ NoMemory → IsFault faults k.parts n.parts why)
+    pub fails : result ≡ Err DeviceFailed → is_failed n ≡ true
+    pub states : IfOk result (λ stepped. stepped ≢ Ended → SameStates k.parts n.parts)
+    pub work : LowersAbort (pages k.parts.operations.store.pool) result (undo_steps k.parts t) (undo_steps n.parts t)
+    pub other : IfOk result (λ stepped. IsAbortForOther k.parts.live.members t stepped)
+    pub full : result ≡ Ok Flush → WantsFrame k.parts n.parts
+    pub commits : SameCommits k.parts n.parts
+    pub err_states : OnErr result (SameStates k.parts n.parts)
+    pub out : result ≡ Ok Ended → (state_in n.parts.live.members t ≡ None) × SameStatesBut k.parts n.parts t
+    pub schema : SameSchema k n
+    pub restarts : StaysRestarting seen may_leave k n
+    pub moments : LeavesFound seen may_leave moment left_since k n
+    pub aborted : (first : Base) (s : State) → Shows seen may_leave first s k → HasAborted seen may_leave first s t result n

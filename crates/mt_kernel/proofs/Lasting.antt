@@ -1,5 +1,5 @@
 -- What is durable tells of each commit of the book, and of those under way whose records are durable; and so it stays.
-use Rattle.std.proofs.Common.{◌≡◌, ◌≢◌, ◌⊎◌, inl, inr, ⊎_elim, ℕ, zero, suc, ◌<◌, ◌≤◌, ◌+◌, ◌-◌, nat_lt, Bool, true, false, not, cond, List, [], ◌∷◌, ◌++◌, length, get_or, refl, sym, ap, ◌∙◌, subst, arith, append-nil, append_assoc, length-append}
+use Rattle.std.proofs.Common.{◌≡◌, ◌≢◌, ◌⊎◌, inl, inr, ⊎_elim, ℕ, zero, suc, ◌<◌, ◌≤◌, ◌+◌, ◌-◌, nat_lt, Bool, true, false, not, cond, List, [], ◌∷◌, ◌++◌, length, get_or, refl, sym, ap, ◌∙◌, subst, arith, append-nil, append_assoc}
 use Rattle.std.specs.Prelude.{All, AllPairs}
 use Rattle.std.proofs.lemmas.Bool.{cases_eq, cases_lt, lt-ltb, ltb-true}
 use Rattle.std.proofs.lemmas.List.{get_or_push, get_or_append_left, length_push}
@@ -8,7 +8,7 @@ use Rattle.mt_frame.specs.declared.records.Record.TheVariants as record_of
 use Rattle.mt_log.specs.Words.{appended, durable, in_flight, waiting, Moves}
 use Rattle.mt_model.specs.declared.history.Committed.{Committed}
 use Rattle.mt_replay.proofs.Walking.{tell_more}
-use Rattle.mt_replay.specs.Told.{Told, Finished, its, told, tells}
+use Rattle.mt_replay.specs.Told.{Told, its, tells}
 use Rattle.mt_kernel.proofs.Lists.{pairs_head, pairs_tail}
 use Rattle.mt_kernel.proofs.Prefixed.{tells_more}
 use Rattle.mt_kernel.specs.Booked.{durable_count}

@@ -1,14 +1,13 @@
 -- Parts put together over another area of the log.
-use Rattle.std.proofs.Common.{◌≡◌, ℕ, ◌+◌, ◌*◌, ◌∷◌, ◌++◌, ◌==◌, cond, Bool, true, false, [], List, length, Option, None, Some, refl, sym, ap, ◌∙◌, subst, arith}
-use Rattle.std.specs.Prelude.{All, is_some, vec_len}
-use Rattle.std.specs.Vec.{vec_capacity}
+use Rattle.std.proofs.Common.{◌≡◌, ℕ, ◌+◌, ◌∷◌, ◌++◌, ◌==◌, cond, Bool, true, false, [], List, length, Option, None, Some, refl, sym, ap, ◌∙◌, subst, arith}
+use Rattle.std.specs.Prelude.{All, is_some}
 use Rattle.std.specs.List.{sum_by}
 use Rattle.std.specs.Option.{option_map}
 use Rattle.std.proofs.lemmas.Bool.{eq-eqb}
 use Rattle.mt_live.specs.Entries.{Entry, runs}
 use Rattle.mt_live.specs.Lives.{member_of}
 use Rattle.mt_live.specs.Adds.{adds, add_of}
-use Rattle.mt_live.specs.Machine.{State, IsKept}
+use Rattle.mt_live.specs.Machine.{IsKept}
 use Rattle.mt_live.specs.Members.{Member}
 use Rattle.mt_live.specs.declared.transactions.TxnState.TheVariants.{Committing}
 use Rattle.mt_live.specs.Sound.{Each}
@@ -17,13 +16,11 @@ use Rattle.mt_log.specs.Words.{appended}
 use Rattle.mt_model.specs.History.{after}
 use Rattle.mt_model.specs.Model.{Base}
 use Rattle.mt_model.specs.Pending.{pending_of}
-use Rattle.mt_model.specs.declared.operations.Op.{Op}
 use Rattle.mt_model.specs.declared.pending.Pending.{Pending}
 use Rattle.mt_plock.specs.declared.guards.PageLock.{PageLock}
 use Rattle.mt_slock.specs.Views.{held_of}
 use Rattle.mt_space.specs.Changes.{PageBytes}
 use Rattle.mt_steps.specs.Held.{Holds}
-use Rattle.mt_kernel.proofs.First.{none_of_none}
 use Rattle.mt_kernel.proofs.Imaged.{images_end_nothing, images_held}
 use Rattle.mt_kernel.proofs.Restarts.{starts}
 use Rattle.mt_kernel.specs.Runs.{running_in, IsOwned, is_open, pages_of, entry_pages, entry_bytes, left_of, kept_bytes, taken_bytes}

@@ -7,3 +7,4 @@ pub mod Booked
 pub mod Restartable
 pub mod Turned
 pub mod PageLocks
+pub mod Advancing

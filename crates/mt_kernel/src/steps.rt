@@ -2,6 +2,7 @@
 ghost use Rattle.std.specs.Prelude.{◌≡◌, ◌≢◌, ◌⊎◌, ◌<◌, ℕ, Ok, IfErr, length, slice_index_or};
 ghost use Rattle.mt_model.specs.Model.{Base};
 ghost use Rattle.mt_op.specs.declared.scope.Stage.TheVariants.{Planning, Writing};
+ghost use Rattle.mt_kernel.specs.Advancing.{IsAdvanced};
 ghost use Rattle.mt_kernel.specs.Consistent.{SameStates, IsSound, AtPlace, Origin, state_of, IsConsistent, Advances};
 ghost use Rattle.mt_op.specs.Moves.{SameOp};
 ghost use Rattle.mt_op.specs.Work.{Works};
@@ -51,29 +52,7 @@ impl<D: Device> Parts<D> {
         requires within { place < length self.old.running.items }
         requires stage { AtPlace self.old.running.items place (λ r. (r.scope.stage ≡ Planning) ⊎ (r.scope.stage
             ≡ Writing)) }
-        ensures length { length self.new.running.items ≡ length self.old.running.items }
-        ensures same { (origin : Origin) (base : Base) → IsConsistent D.seen D.may_leave origin base self.old
-            → (r q : Running) → r ≡ slice_index_or self.old.running.items place r
-            → q ≡ slice_index_or self.new.running.items place q → SameOp r.scope q.scope }
-        ensures live { self.new.live ≡ self.old.live }
-        ensures commits { self.new.commits ≡ self.old.commits }
-        ensures full { result ≡ Ok Stepped.Flush → WantsFrame self.old self.new }
-        ensures works { (r q : Running) → r ≡ slice_index_or self.old.running.items place r
-            → q ≡ slice_index_or self.new.running.items place q → Works r.scope q.scope result }
-        ensures locks { AtPlace self.old.running.items place (λ r. KeepsLocks r.scope.number
-            (IsNext self.old.operations.rooms self.old.operations.locks r.scope) self.old.operations.locks
-            self.new.operations.locks result) }
-        ensures why { IfErr result IsCause }
-        ensures faults { TellsFaults (D.faults self.old.operations.store.device)
-            (D.faults self.new.operations.store.device) result }
-        ensures advances { (origin : Origin) (base : Base) → IsConsistent D.seen D.may_leave origin base self.old
-            → Advances D.seen D.may_leave origin base (state_of self.old base) self.new place result }
-        ensures other { (origin : Origin) (base : Base) → IsConsistent D.seen D.may_leave origin base self.old
-            → AtPlace self.old.running.items place (λ r. TellsOther self.new.running.items r.scope.txn result) }
-        ensures book { self.new.book ≡ self.old.book }
-        ensures moments { LeavesExplained D.seen D.may_leave D.moment D.left_since self.old self.new }
-        ensures appends { (origin : Origin) (base : Base) → IsConsistent D.seen D.may_leave origin base self.old
-            → AtPlace self.new.running.items place (λ r. StepAppends origin self.old self.new r.scope result) }
+        ensures { IsAdvanced D.seen D.may_leave D.faults D.moment D.left_since self.old self.new place result }
     {
         self.operations.step(alloc, &mut self.running[place].scope)
     }

@@ -1,6 +1,6 @@
 use mathlib.Core.Logic.{∥∥₁_elim}
 use Rattle.std.proofs.Props.{props}
-use Rattle.std.proofs.Common.{◌≡◌, get_or, set, arith, refl, sym, ap, subst}
+use Rattle.std.proofs.Common.{rules, ◌≡◌, get_or, set, arith, refl, sym, ap, subst}
 use Rattle.std.specs.Vec.{with_item}
 use Rattle.std.proofs.Common.{◌∙◌}
 use Rattle.std.proofs.lemmas.List.{length-set, get_or_default, get_or-set_same}
@@ -43,62 +43,59 @@ step-requires-clause-room g c = ∥∥₁_elim c.requires.safe (hlevel props) (�
     let mine : left_of (get_or k.running.items c.args.place r) ≡ left_of r = ap left_of (sym c.index_mut.ensures.value) in
     let log = safe.fit.log in omega (arith, part, mine, log))
 
-pub returns-clause-length : goal.returns-clause-length
-returns-clause-length g c = length-set c.args.self.now.running.items c.args.place (record { scope = c.step.new.scope; op = c.index_mut.result.now.op })
-
-pub returns-clause-advances : goal.returns-clause-advances
-returns-clause-advances g c = λ origin base safe.
-    let seen = g.D.Device.seen in let k = c.args.self.now in let r = c.index_mut.result.now in let e = c.step.ensures in
-    let q : Running = record { scope = c.step.new.scope; op = r.op } in
-    let was : IsRunning origin.relations origin.counters (world seen origin.pages k.operations) k.last r = subst (IsRunning origin.relations origin.counters (world seen origin.pages k.operations) k.last) (sym c.index_mut.ensures.value) (safe.runs c.args.place r c.requires.within) in
-    let went = e.steps origin.pages origin.relations origin.counters safe.fit.right was.under safe.fit.schema.few_relations safe.fit.schema.few_counters in
-    advanced seen g.D.Device.may_leave origin base k (record k { operations = c.step.new.self; running = with_item k.running c.args.place q }) c.args.place r q c.step.result
-    c.requires.within c.index_mut.ensures.value refl refl safe
-    (record { right = went.0; steps = went.1; log = e.log; area = e.area; budget = e.budget; claims = e.claims; stage = e.stage; records = e.records; locks = e.locks })
-
-pub returns-clause-same : goal.returns-clause-same
-returns-clause-same g c = λ origin base safe x y at now.
-    let seen = g.D.Device.seen in let k = c.args.self.now in let r = c.index_mut.result.now in let e = c.step.ensures in
-    let q : Running = record { scope = c.step.new.scope; op = r.op } in
-    let was : IsRunning origin.relations origin.counters (world seen origin.pages k.operations) k.last r = subst (IsRunning origin.relations origin.counters (world seen origin.pages k.operations) k.last) (sym c.index_mut.ensures.value) (safe.runs c.args.place r c.requires.within) in
-    let went = e.steps origin.pages origin.relations origin.counters safe.fit.right was.under safe.fit.schema.few_relations safe.fit.schema.few_counters in
-    let old : r ≡ x = c.index_mut.ensures.value ∙ sym (get_or_default k.running.items c.args.place x r c.requires.within) ∙ sym at in
-    let new : q ≡ y = sym (now ∙ get_or-set_same k.running.items c.args.place q y c.requires.within) in
-    subst (λ (X : Type 0). X) (λ i. SameOp (old i).scope (new i).scope) (steps_same origin.relations origin.counters (world seen origin.pages k.operations) (world seen origin.pages c.step.new.self) r.scope q.scope c.step.result went.1)
-
-pub returns-clause-works : goal.returns-clause-works
-returns-clause-works g c = λ x y at now.
-    let k = c.args.self.now in let r = c.index_mut.result.now in
-    let q : Running = record { scope = c.step.new.scope; op = r.op } in
-    let old : r ≡ x = c.index_mut.ensures.value ∙ sym (get_or_default k.running.items c.args.place x r c.requires.within) ∙ sym at in
-    let new : q ≡ y = sym (now ∙ get_or-set_same k.running.items c.args.place q y c.requires.within) in
-    subst (λ (X : Type 0). X) (λ i. Works (old i).scope (new i).scope c.step.result) c.step.ensures.work
-
-pub returns-clause-locks : goal.returns-clause-locks
-returns-clause-locks g c = λ x at.
-    let k = c.args.self.now in let r = c.index_mut.result.now in
-    let old : r ≡ x = c.index_mut.ensures.value ∙ sym (get_or_default k.running.items c.args.place x r c.requires.within) ∙ sym at in
-    subst (λ (y : Running). KeepsLocks y.scope.number (IsNext k.operations.rooms k.operations.locks y.scope) k.operations.locks c.step.new.self.locks c.step.result) old c.step.ensures.locks
-
-pub returns-clause-other : goal.returns-clause-other
-returns-clause-other g c = λ origin base safe x at.
-    let k = c.args.self.now in let r = c.index_mut.result.now in
-    let q : Running = record { scope = c.step.new.scope; op = r.op } in
-    let old : r ≡ x = c.index_mut.ensures.value ∙ sym (get_or_default k.running.items c.args.place x r c.requires.within) ∙ sym at in
-    subst (λ (y : Running). TellsOther (set k.running.items c.args.place q) y.scope.txn c.step.result) old
-    (tells_other k.running.items c.args.place r q (IsNext k.operations.rooms k.operations.locks r.scope) k.operations.locks c.step.new.self.locks c.step.result c.requires.within c.index_mut.ensures.value safe.fit.apart safe.fit.locked c.step.ensures.locks)
-
-pub returns-clause-appends : goal.returns-clause-appends
-returns-clause-appends g c = λ origin base safe y now.
-    let seen = g.D.Device.seen in let k = c.args.self.now in let r = c.index_mut.result.now in let e = c.step.ensures in
-    let q : Running = record { scope = c.step.new.scope; op = r.op } in
-    let n : Parts g.row.D.Denot = record k { operations = c.step.new.self; running = with_item k.running c.args.place q } in
-    let w = world seen origin.pages k.operations in let z = world seen origin.pages c.step.new.self in
-    let was : IsRunning origin.relations origin.counters w k.last r = subst (IsRunning origin.relations origin.counters w k.last) (sym c.index_mut.ensures.value) (safe.runs c.args.place r c.requires.within) in
-    let went = e.steps origin.pages origin.relations origin.counters safe.fit.right was.under safe.fit.schema.few_relations safe.fit.schema.few_counters in
-    let total = step_total origin.relations origin.counters w z r.scope q.scope c.step.result was.under went.1 in
-    let new : q ≡ y = sym (now ∙ get_or-set_same k.running.items c.args.place q y c.requires.within) in
-    subst (λ (x : Running). StepAppends origin k n x.scope c.step.result) new (record {
-      area = record { total = total; bytes = e.area; lasts = lasts_same k n e.durable };
-      appends = step_appends origin w z r.scope q.scope c.step.result refl refl total went.0.sound went.1 e.records e.stage;
-    })
+pub returns : goal.returns
+returns g c = record {
+  length = length-set c.args.self.now.running.items c.args.place (record { scope = c.step.new.scope; op = c.index_mut.result.now.op });
+  same = λ origin base safe x y at now.
+      let seen = g.D.Device.seen in let k = c.args.self.now in let r = c.index_mut.result.now in let e = c.step.ensures in
+      let q : Running = record { scope = c.step.new.scope; op = r.op } in
+      let was : IsRunning origin.relations origin.counters (world seen origin.pages k.operations) k.last r = subst (IsRunning origin.relations origin.counters (world seen origin.pages k.operations) k.last) (sym c.index_mut.ensures.value) (safe.runs c.args.place r c.requires.within) in
+      let went = e.steps origin.pages origin.relations origin.counters safe.fit.right was.under safe.fit.schema.few_relations safe.fit.schema.few_counters in
+      let old : r ≡ x = c.index_mut.ensures.value ∙ sym (get_or_default k.running.items c.args.place x r c.requires.within) ∙ sym at in
+      let new : q ≡ y = sym (now ∙ get_or-set_same k.running.items c.args.place q y c.requires.within) in
+      subst (λ (X : Type 0). X) (λ i. SameOp (old i).scope (new i).scope) (steps_same origin.relations origin.counters (world seen origin.pages k.operations) (world seen origin.pages c.step.new.self) r.scope q.scope c.step.result went.1);
+  live = search rules;
+  commits = search rules;
+  full = search rules;
+  works = λ x y at now.
+      let k = c.args.self.now in let r = c.index_mut.result.now in
+      let q : Running = record { scope = c.step.new.scope; op = r.op } in
+      let old : r ≡ x = c.index_mut.ensures.value ∙ sym (get_or_default k.running.items c.args.place x r c.requires.within) ∙ sym at in
+      let new : q ≡ y = sym (now ∙ get_or-set_same k.running.items c.args.place q y c.requires.within) in
+      subst (λ (X : Type 0). X) (λ i. Works (old i).scope (new i).scope c.step.result) c.step.ensures.work;
+  locks = λ x at.
+      let k = c.args.self.now in let r = c.index_mut.result.now in
+      let old : r ≡ x = c.index_mut.ensures.value ∙ sym (get_or_default k.running.items c.args.place x r c.requires.within) ∙ sym at in
+      subst (λ (y : Running). KeepsLocks y.scope.number (IsNext k.operations.rooms k.operations.locks y.scope) k.operations.locks c.step.new.self.locks c.step.result) old c.step.ensures.locks;
+  why = search rules;
+  faults = search rules;
+  advances = λ origin base safe.
+      let seen = g.D.Device.seen in let k = c.args.self.now in let r = c.index_mut.result.now in let e = c.step.ensures in
+      let q : Running = record { scope = c.step.new.scope; op = r.op } in
+      let was : IsRunning origin.relations origin.counters (world seen origin.pages k.operations) k.last r = subst (IsRunning origin.relations origin.counters (world seen origin.pages k.operations) k.last) (sym c.index_mut.ensures.value) (safe.runs c.args.place r c.requires.within) in
+      let went = e.steps origin.pages origin.relations origin.counters safe.fit.right was.under safe.fit.schema.few_relations safe.fit.schema.few_counters in
+      advanced seen g.D.Device.may_leave origin base k (record k { operations = c.step.new.self; running = with_item k.running c.args.place q }) c.args.place r q c.step.result
+      c.requires.within c.index_mut.ensures.value refl refl safe
+      (record { right = went.0; steps = went.1; log = e.log; area = e.area; budget = e.budget; claims = e.claims; stage = e.stage; records = e.records; locks = e.locks });
+  other = λ origin base safe x at.
+      let k = c.args.self.now in let r = c.index_mut.result.now in
+      let q : Running = record { scope = c.step.new.scope; op = r.op } in
+      let old : r ≡ x = c.index_mut.ensures.value ∙ sym (get_or_default k.running.items c.args.place x r c.requires.within) ∙ sym at in
+      subst (λ (y : Running). TellsOther (set k.running.items c.args.place q) y.scope.txn c.step.result) old
+      (tells_other k.running.items c.args.place r q (IsNext k.operations.rooms k.operations.locks r.scope) k.operations.locks c.step.new.self.locks c.step.result c.requires.within c.index_mut.ensures.value safe.fit.apart safe.fit.locked c.step.ensures.locks);
+  book = search rules;
+  moments = search rules;
+  appends = λ origin base safe y now.
+      let seen = g.D.Device.seen in let k = c.args.self.now in let r = c.index_mut.result.now in let e = c.step.ensures in
+      let q : Running = record { scope = c.step.new.scope; op = r.op } in
+      let n : Parts g.row.D.Denot = record k { operations = c.step.new.self; running = with_item k.running c.args.place q } in
+      let w = world seen origin.pages k.operations in let z = world seen origin.pages c.step.new.self in
+      let was : IsRunning origin.relations origin.counters w k.last r = subst (IsRunning origin.relations origin.counters w k.last) (sym c.index_mut.ensures.value) (safe.runs c.args.place r c.requires.within) in
+      let went = e.steps origin.pages origin.relations origin.counters safe.fit.right was.under safe.fit.schema.few_relations safe.fit.schema.few_counters in
+      let total = step_total origin.relations origin.counters w z r.scope q.scope c.step.result was.under went.1 in
+      let new : q ≡ y = sym (now ∙ get_or-set_same k.running.items c.args.place q y c.requires.within) in
+      subst (λ (x : Running). StepAppends origin k n x.scope c.step.result) new (record {
+        area = record { total = total; bytes = e.area; lasts = lasts_same k n e.durable };
+        appends = step_appends origin w z r.scope q.scope c.step.result refl refl total went.0.sound went.1 e.records e.stage;
+      });
+}

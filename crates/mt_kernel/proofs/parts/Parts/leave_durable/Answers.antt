@@ -1,4 +1,4 @@
-use Rattle.std.proofs.Common.{◌≡◌, ◌<◌, ◌≤◌, ◌∙◌, ◌++◌, List, suc, length, drop, get_or, refl, sym, ap, subst, arith, append-nil}
+use Rattle.std.proofs.Common.{◌≡◌, ◌<◌, ◌∙◌, ◌++◌, List, suc, length, drop, get_or, refl, sym, ap, subst, arith, append-nil}
 use Rattle.std.specs.Prelude.{take}
 use Rattle.mt_kernel.specs.Booked.{booked_each, durable_count, txns_of}
 use Rattle.mt_kernel.specs.Consistent.{state_of, IsIn}

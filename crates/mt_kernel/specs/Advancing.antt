@@ -1,0 +1,34 @@
+-- What steps do that the public ones share.
+use Rattle.std.specs.Prelude.{ℕ, ◌≡◌, IfErr, List, Ok, Result, length, slice_index_or}
+use Rattle.mt_base.specs.declared.refusal.Refusal.{Refusal}
+use Rattle.mt_kernel.specs.Consistent.{Advances, AtPlace, IsConsistent, Origin, state_of}
+use Rattle.mt_kernel.specs.Restartable.{StepAppends}
+use Rattle.mt_kernel.specs.Steps.{LeavesExplained, TellsOther, WantsFrame}
+use Rattle.mt_kernel.specs.declared.parts.Parts.{Parts}
+use Rattle.mt_kernel.specs.declared.parts.Running.{Running}
+use Rattle.mt_model.specs.Model.{Base}
+use Rattle.mt_op.specs.Faults.{TellsFaults}
+use Rattle.mt_op.specs.Holds.{IsNext, KeepsLocks}
+use Rattle.mt_op.specs.Moves.{SameOp}
+use Rattle.mt_op.specs.Operations.{IsCause}
+use Rattle.mt_op.specs.Work.{Works}
+use Rattle.mt_op.specs.declared.answers.Stepped.{Stepped}
+use Rattle.mt_op.specs.declared.answers.Stepped.TheVariants as stepped
+
+module _ {D : Type 0} (seen : D → List ℕ) (may_leave : D → List ℕ → Type 0) (failures : D → ℕ) (moment : D → ℕ) (left_since : D → ℕ → List ℕ → Type 0) where
+  -- A step of the operation at a place answered this, from parts k to parts n.
+  pub record IsAdvanced (k n : Parts D) (place : ℕ) (result : Result Stepped Refusal) : Type 0 where
+    pub length : length n.running.items ≡ length k.running.items
+    pub same : (origin : Origin) (base : Base) → IsConsistent seen may_leave origin base k → (r q : Running) → r ≡ slice_index_or k.running.items place r → q ≡ slice_index_or n.running.items place q → SameOp r.scope q.scope
+    pub live : n.live ≡ k.live
+    pub commits : n.commits ≡ k.commits
+    pub full : result ≡ Ok stepped.Flush → WantsFrame k n
+    pub works : (r q : Running) → r ≡ slice_index_or k.running.items place r → q ≡ slice_index_or n.running.items place q → Works r.scope q.scope result
+    pub locks : AtPlace k.running.items place (λ r. KeepsLocks r.scope.number (IsNext k.operations.rooms k.operations.locks r.scope) k.operations.locks n.operations.locks result)
+    pub why : IfErr result IsCause
+    pub faults : TellsFaults (failures k.operations.store.device) (failures n.operations.store.device) result
+    pub advances : (origin : Origin) (base : Base) → IsConsistent seen may_leave origin base k → Advances seen may_leave origin base (state_of k base) n place result
+    pub other : (origin : Origin) (base : Base) → IsConsistent seen may_leave origin base k → AtPlace k.running.items place (λ r. TellsOther n.running.items r.scope.txn result)
+    pub book : n.book ≡ k.book
+    pub moments : LeavesExplained seen may_leave moment left_since k n
+    pub appends : (origin : Origin) (base : Base) → IsConsistent seen may_leave origin base k → AtPlace n.running.items place (λ r. StepAppends origin k n r.scope result)

@@ -4,6 +4,7 @@ use Rattle.std.proofs.Props.{props}
 use Rattle.std.proofs.Common.{◌≡◌, ◌⊎◌, inl, inr, ⊎_elim, ℕ, ℤ, zero, suc, ◌<◌, ◌≤◌, false, List, [], ◌∷◌, ◌++◌, Option, Some, None, neg_ℤ, length, take, drop, get_or, refl, sym, ap, ◌∙◌, subst, arith}
 use Rattle.std.specs.List.{AllByRecursion}
 use Rattle.std.proofs.lemmas.Int.{ints}
+use Rattle.std.proofs.lemmas.List.{length-append}
 use Rattle.std.proofs.lemmas.Option.{slice_get-get_or}
 use Rattle.mt_base.specs.Limits.{IsStep}
 use Rattle.mt_frame.specs.Grammar.{IsOperation}
@@ -23,7 +24,7 @@ use Rattle.mt_steps.specs.Counters.{AreCounters}
 use Rattle.mt_steps.specs.Drafts.{AreAtHand}
 use Rattle.mt_steps.specs.declared.counters.SchemaSizes.{SchemaSizes}
 use Rattle.mt_steps.specs.Plans.{IsGood, HasPages, InPages, IsPlanned, IsTight, TakesPages, free_pages, own_needs, record_bytes}
-use Rattle.mt_replay.proofs.Making.{first_agrees, inside_all}
+use Rattle.mt_replay.proofs.Making.{first_agrees, inside_all, same_but_both}
 use Rattle.std.specs.Prelude.{slice_get}
 use Rattle.mt_replay.specs.Losers.{HasUndone}
 use Rattle.mt_replay.specs.declared.telling.Loser.{Loser}
@@ -117,15 +118,16 @@ module _ (items : List (List ℕ)) (d : LoggedOp) (good : AreGood items) (fine :
       (promised relations counters (few_relations items relations counters f good first g) (subst (IsWithin relations counters) (sym is) (undo_within relations counters d fine (of relations counters f first g)))
       f (first_agrees items f first) g (room_named (length items) (record_bytes (undo_of d)) f room (roomy f first)))
 
-  pub undoing_made : IsOfAll → (op : Op) (changes : List PageChange) (reply : Reply) → op ≡ undo_of d → reply ≡ reply_back d → AreAtHand hand changes
+  pub undoing_made : IsOfAll → (op : Op) (changes : List PageChange) (reply : Reply) → op ≡ undo_of d → reply ≡ reply_back d → AreAtHand hand changes → length changes ≤ 8
       → ((relations counters : ℕ) → relations ≤ 64 → IsWithin relations counters op → InPages hand room relations counters (length items) (λ pages. IsPlanned relations counters (length items) hand pages changes op false reply))
       → ((relations counters : ℕ) → relations ≤ 64 → IsWithin relations counters op → InPages hand room relations counters (length items) (λ pages. TakesPages room op pages (after changes pages)))
       → IsUndoing items d changes
-  undoing_made of op changes reply is said there made takes =
+  undoing_made of op changes reply is said there few made takes =
       let planned = in_memory (λ relations counters pages o. IsPlanned relations counters (length items) hand pages changes o false reply) of op is made in
       let taken = in_memory (λ relations counters pages o. TakesPages room o pages (after changes pages)) of op is takes in
       record {
         inside = inside_all items changes there;
+        few = few;
         short = λ relations counters f first g. (planned relations counters f first g).short;
         undoes = λ relations counters f first g.
             let p = planned relations counters f first g in
@@ -137,6 +139,8 @@ module _ (items : List (List ℕ)) (d : LoggedOp) (good : AreGood items) (fine :
               room = room;
               is_room = roomy f first;
               takes = taken relations counters f first g;
+              directory = p.directory refl;
+              empties = p.empties;
             };
       }
 
@@ -185,11 +189,16 @@ each_loser P (y ∷ ys) zero x lt is all = subst P (sym is) all.0
 each_loser P (y ∷ ys) (suc i) x lt is all = each_loser P ys i x (omega arith) is all.1
 
 pub undone_none : (pages : List (List ℕ)) → HasUndone pages [] pages
-undone_none pages = record { count = refl; undone = λ relations counters f first good. (f, first, good, refl) }
+undone_none pages = record { count = refl; few = record { changed = []; few = omega arith; others = λ p all. refl }; undone = λ relations counters f first good. (f, first, good, refl) }
 
 pub undone_then : (old mid new : List (List ℕ)) (l : Loser) (behind : List Loser) → HasUndone old behind mid → Undoes mid l.done new → HasUndone old (l ∷ behind) new
 undone_then old mid new l behind h step = record {
   count = step.count ∙ h.count;
+  few = record {
+    changed = h.few.changed ++ step.few.changed;
+    few = let size = length-append h.few.changed step.few.changed in let before = h.few.few in let one = step.few.few in omega arith;
+    others = same_but_both h.few.changed step.few.changed old mid new h.few.others step.few.others;
+  };
   undone = λ relations counters f first good.
       let m = h.undone relations counters f first good in
       let u = step.undone relations counters m.0 m.1 (subst (λ (n : ℕ). IsGood relations counters n m.0) (sym h.count) m.2) in

@@ -1,10 +1,10 @@
 -- Changes made in pages in memory.
-use Rattle.std.proofs.Common.{◌≡◌, inl, inr, ℕ, zero, suc, ◌+◌, ◌<◌, ◌≤◌, List, [], ◌∷◌, ◌++◌, Option, Some, None, All, length, take, get_or, set, refl, sym, ap, ◌∙◌, subst, arith}
+use Rattle.std.proofs.Common.{◌≡◌, ◌≢◌, inl, inr, ℕ, zero, suc, ◌+◌, ◌<◌, ◌≤◌, List, [], ◌∷◌, ◌++◌, Option, Some, None, All, length, map, take, get_or, set, refl, sym, ap, ◌∙◌, subst, arith}
 use Rattle.std.specs.Prelude.{slice_get, IsSome}
 use Rattle.mt_steps.specs.Drafts.{AreAtHand}
 use Rattle.std.specs.List.{AllByRecursion}
 use Rattle.std.proofs.lemmas.Bool.{cases_eq, cases_lt}
-use Rattle.std.proofs.lemmas.List.{length-set, get_or-set_other, take_more}
+use Rattle.std.proofs.lemmas.List.{length-set, get_or-set_other, map-append, take_more}
 use Rattle.std.proofs.lemmas.List.Elements.{All-weaker, recursion_from_All}
 use Rattle.std.proofs.lemmas.Grind.{get_or-set_at}
 use Rattle.std.proofs.lemmas.Option.{slice_get_past, get_or_from_slice_get}
@@ -13,7 +13,7 @@ use Rattle.mt_base.specs.declared.edits.Edit.{Edit}
 use Rattle.mt_space.specs.Changes.{PageBytes, Agrees, replaced, after, IsShort, AreShort}
 use Rattle.mt_space.specs.declared.changes.PageChange.{PageChange}
 use Rattle.mt_space.proofs.Changing.{replaced_here, replaced_other}
-use Rattle.mt_replay.specs.Memory.{AreWhole, AreFirst, Sets, Makes}
+use Rattle.mt_replay.specs.Memory.{AreWhole, AreFirst, SameBut, Sets, Makes}
 
 pub first_agrees : (items : List (List ℕ)) (f : PageBytes) → AreFirst items f → Agrees (λ p. slice_get items p) f
 first_agrees items f first p bytes there = elim (cases_lt p (length items)) [
@@ -61,8 +61,26 @@ inside_all items cs there = recursion_from_All (λ (c : PageChange). c.page < le
 
 -- ---- one change behind others
 
+all_front : (P : ℕ → Type 0) (xs ys : List ℕ) → AllByRecursion P (xs ++ ys) → AllByRecursion P xs
+all_front P [] ys all = tt
+all_front P (x ∷ xs) ys all = (all.0, all_front P xs ys all.1)
+
+all_behind : (P : ℕ → Type 0) (xs ys : List ℕ) → AllByRecursion P (xs ++ ys) → AllByRecursion P ys
+all_behind P [] ys all = all
+all_behind P (x ∷ xs) ys all = all_behind P xs ys all.1
+
+pub same_but_both : (xs ys : List ℕ) (old mid new : List (List ℕ)) → SameBut xs old mid → SameBut ys mid new → SameBut (xs ++ ys) old new
+same_but_both xs ys old mid new first second p all = second p (all_behind (λ q. q ≢ p) xs ys all) ∙ first p (all_front (λ q. q ≢ p) xs ys all)
+
+-- the page of one change more
+page_more : (cs : List PageChange) (i : ℕ) (c : PageChange) → i < length cs → c ≡ get_or cs i c → map (λ (d : PageChange). d.page) (take (i + 1) cs) ≡ map (λ (d : PageChange). d.page) (take i cs) ++ c.page ∷ []
+page_more cs i c lt is = ap (map (λ (d : PageChange). d.page)) (take_more cs i c lt ∙ ap (λ (d : PageChange). take i cs ++ d ∷ []) (sym is)) ∙ map-append (λ (d : PageChange). d.page) (take i cs) (c ∷ [])
+
+same_but_one : (mid new : List (List ℕ)) (page : ℕ) (bytes : List ℕ) → Sets mid new page bytes → SameBut (page ∷ []) mid new
+same_but_one mid new page bytes s p all = ap (λ (items : List (List ℕ)). get_or items p []) s.is ∙ get_or-set_other mid page p bytes [] (λ is. all.0 (sym is))
+
 pub makes_none : (pages : List (List ℕ)) → AreWhole pages → Makes [] pages pages
-makes_none pages whole = record { whole = whole; count = refl; made = λ f first. first }
+makes_none pages whole = record { whole = whole; count = refl; made = λ f first. first; others = λ p all. refl }
 
 pub makes_then : (cs : List PageChange) (i : ℕ) (c : PageChange) (old mid new : List (List ℕ)) → i < length cs → c ≡ get_or cs i c → c.page < length old → Makes (take i cs) old mid → Sets mid new c.page (patched c.edits.items (get_or mid c.page [])) → Makes (take (i + 1) cs) old new
 makes_then cs i c old mid new lt is inside m s = record {
@@ -70,6 +88,8 @@ makes_then cs i c old mid new lt is inside m s = record {
   count = s.count ∙ m.count;
   made = λ f first. subst (λ (X : Type 0). X) (λ k. AreFirst (sym s.is k) (sym (after_at cs i c f lt is) k))
       (first_replaced mid c.page c.edits.items (after (take i cs) f) (subst (λ (n : ℕ). c.page < n) (sym m.count) inside) (m.made f first));
+  others = subst (λ (ps : List ℕ). SameBut ps old new) (sym (page_more cs i c lt is))
+      (same_but_both (map (λ (d : PageChange). d.page) (take i cs)) (c.page ∷ []) old mid new m.others (same_but_one mid new c.page _ s));
 }
 
 pub first_short : (items : List (List ℕ)) (cs : List PageChange) (i : ℕ) (c : PageChange) (f : PageBytes) → AreWhole items → i < length cs → c ≡ get_or cs i c → c.page < length items → AreFirst items f → AreShort cs f → All (λ (e : Edit). e.start + length e.bytes ≤ 4096) c.edits.items

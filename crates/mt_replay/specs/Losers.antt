@@ -1,5 +1,5 @@
 -- What is in memory of the losers.
-use Rattle.std.specs.Prelude.{◌≡◌, ◌++◌, ◌∷◌, ℕ, List, length, map, reverse, Contains}
+use Rattle.std.specs.Prelude.{◌≡◌, ◌*◌, ◌++◌, ◌∷◌, ℕ, List, length, map, reverse, Contains}
 use Rattle.std.specs.BTreeSet.{contains}
 use Rattle.std.specs.List.{AllByRecursion}
 use Rattle.std.specs.Ordering.{nat_cmp}
@@ -12,7 +12,7 @@ use Rattle.mt_log.specs.declared.batch.Batch.{Batch}
 use Rattle.mt_model.specs.Model.{Base}
 use Rattle.mt_space.specs.Changes.{PageBytes}
 use Rattle.mt_steps.specs.Plans.{IsGood}
-use Rattle.mt_replay.specs.Memory.{AreFirst}
+use Rattle.mt_replay.specs.Memory.{AreFirst, ChangesFew}
 use Rattle.mt_replay.specs.Undoing.{UndoesAll, Finds}
 use Rattle.mt_replay.specs.Told.{Finished, losers}
 use Rattle.mt_replay.specs.declared.telling.Loser.{Loser}
@@ -49,9 +49,10 @@ pub record Tells (batch : Batch) (records : List Record) (old new : Telling) : T
 
 -- ---- undone one by one
 
--- the pages as the inverses of these losers leave them, that of the latest end first
+-- the pages as the inverses of these losers leave them, that of the latest end first: each changes eight at most
 pub record HasUndone (old : List (List ℕ)) (losers : List Loser) (new : List (List ℕ)) : Type 0 where
   pub count : length new ≡ length old
+  pub few : ChangesFew (8 * length losers) old new
   pub undone : (relations counters : ℕ) (f : PageBytes) → AreFirst old f → IsGood relations counters (length old) f
       → (k : PageBytes) × AreFirst new k × IsGood relations counters (length old) k
       × UndoesAll relations counters (length old) f (all_finished losers) k

@@ -6,11 +6,11 @@ use Rattle.mt_model.specs.Model.{Base, reply_of, base_after}
 use Rattle.mt_space.specs.Changes.{PageBytes, after, AreShort}
 use Rattle.mt_space.specs.declared.changes.Changes.{Changes}
 use Rattle.mt_space.specs.declared.changes.PageChange.{PageChange}
-use Rattle.mt_replay.specs.Memory.{AreFirst}
+use Rattle.mt_replay.specs.Memory.{AreFirst, ChangesFew}
 use Rattle.mt_steps.specs.Held.{Holds}
 use Rattle.mt_file.specs.Rooms.{fits_of}
 use Rattle.mt_space.specs.Kinds.{kind}
-use Rattle.mt_steps.specs.Plans.{IsGood, TakesPages, free_pages, own_needs, record_bytes}
+use Rattle.mt_steps.specs.Plans.{HasNoRecord, IsGood, TakesPages, free_pages, own_needs, record_bytes}
 use Rattle.mt_replay.specs.Told.{undo_of, reply_back, Finished}
 use Rattle.mt_replay.specs.Recoverable.{IsOf}
 
@@ -26,7 +26,8 @@ IsRoom total bytes pages (Some p) = Takes total bytes pages p
 IsRoom total bytes pages None = 1 ≤ bytes → (p : ℕ) → Takes total bytes pages p → ⊥
 
 -- The inverse of what is logged is one act on these pages, which finds there what the record says. Its record goes into a
--- page of records with room, and into a new one only where no page has room.
+-- page of records with room, and into a new one only where no page has room. It splits no bucket, and gives the page back
+-- that it leaves without a record.
 pub record UndoesOne (relations counters total : ℕ) (before : PageBytes) (done : LoggedOp) (after : PageBytes) : Type 0 where
   pub replies : (b : Base) → Holds before b → reply_of b (undo_of done) ≡ reply_back done
   pub base : (b : Base) → Holds before b → Holds after (base_after b (undo_of done))
@@ -35,6 +36,8 @@ pub record UndoesOne (relations counters total : ℕ) (before : PageBytes) (done
   pub room : Option ℕ
   pub is_room : IsRoom total (record_bytes (undo_of done)) before room
   pub takes : TakesPages room (undo_of done) before after
+  pub directory : after 1 ≡ before 1
+  pub empties : (p : ℕ) → HasNoRecord after p → HasNoRecord before p
 
 -- the latest first, each on the pages that the later ones left
 abbrev pub UndoesAll : ℕ → ℕ → ℕ → PageBytes → List Finished → PageBytes → Type 0
@@ -54,6 +57,7 @@ pub record Finds (relations counters total : ℕ) (pages : PageBytes) (b : Base)
 -- these changes of good pages in memory are the inverse
 pub record IsUndoing (items : List (List ℕ)) (done : LoggedOp) (changes : List PageChange) : Type 0 where
   pub inside : AllByRecursion (λ (c : PageChange). c.page < length items) changes
+  pub few : length changes ≤ 8
   pub short : (relations counters : ℕ) (f : PageBytes) → AreFirst items f → IsGood relations counters (length items) f → AreShort changes f
   pub undoes : (relations counters : ℕ) (f : PageBytes) → AreFirst items f → IsGood relations counters (length items) f
       → UndoesOne relations counters (length items) f done (after changes f)
@@ -67,8 +71,9 @@ abbrev pub IsUndoPlan : List (List ℕ) → LoggedOp → Option Changes → Type
 IsUndoPlan items done (Some changes) = IsUndoing items done changes.list.items
 IsUndoPlan items done None = Misses items done
 
--- the inverse has been made
+-- the inverse has been made, in eight pages at most
 pub record Undoes (old : List (List ℕ)) (done : LoggedOp) (new : List (List ℕ)) : Type 0 where
   pub count : length new ≡ length old
+  pub few : ChangesFew 8 old new
   pub undone : (relations counters : ℕ) (f : PageBytes) → AreFirst old f → IsGood relations counters (length old) f
       → (k : PageBytes) × AreFirst new k × UndoesOne relations counters (length old) f done k

@@ -1,4 +1,4 @@
-use Rattle.std.proofs.Common.{◌≡◌, ◌⊎◌, ◌∙◌, ◌<◌, ℕ, List, Option, None, false, length, get_or, ap, subst, arith}
+use Rattle.std.proofs.Common.{◌≡◌, ◌⊎◌, ◌∙◌, ◌<◌, ◌≤◌, ℕ, List, Option, None, false, length, get_or, ap, subst, arith}
 use Rattle.std.specs.Prelude.{slice_get}
 use Rattle.mt_space.specs.Changes.{PageBytes, after}
 use Rattle.mt_steps.specs.Acts.{IfFull, IfLock, IfMade}
@@ -36,6 +36,7 @@ returns-in-Made-clause-planned c =
     let op = c.in_ok-inverse.inverse in
     undoing_made items d c.args.self.now.good c.requires room roomy of op c.in-Made.changes.list.items c.in-Made.reply c.in_ok-inverse.ensures (c.is_as_logged.ensures.0 c.if-not-is_as_logged.false)
     (subst (λ (act : Act). IfMade act (λ changes reply. AreAtHand hand changes)) c.in-Made.is c.in_ok-act.ensures.there)
+    (subst (λ (act : Act). IfMade act (λ changes reply. length changes ≤ 8)) c.in-Made.is c.in_ok-act.ensures.few)
     (λ relations counters few within. subst (λ (act : Act). IfMade act (λ changes reply. InPages hand room relations counters (length items) (λ pages. IsPlanned relations counters (length items) hand pages changes op false reply))) c.in-Made.is (c.in_ok-act.ensures.made relations counters few within))
     (λ relations counters few within. subst (λ (act : Act). IfMade act (λ changes reply. InPages hand room relations counters (length items) (λ pages. TakesPages room op pages (after changes pages)))) c.in-Made.is (c.in_ok-act.ensures.takes relations counters few within))
 

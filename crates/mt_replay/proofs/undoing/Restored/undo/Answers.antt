@@ -1,6 +1,8 @@
 use mathlib.Core.Logic.{∥∥₁_map}
-use Rattle.std.proofs.Common.{◌≤◌, ℕ, subst, sym}
+use Rattle.std.proofs.Common.{◌≤◌, ℕ, map, subst, sym}
+use Rattle.std.proofs.lemmas.List.{length-map}
 use Rattle.mt_space.specs.Changes.{after}
+use Rattle.mt_space.specs.declared.changes.PageChange.{PageChange}
 use Rattle.mt_steps.specs.Plans.{IsGood}
 use Rattle.mt_replay.specs.Undoing.{IsUndoPlan}
 use Rattle.mt_replay.proofs.undoing.Restored.undo.Goals as goal
@@ -30,5 +32,10 @@ returns-in-Some-clause-undone c = λ is.
     let p = subst (IsUndoPlan c.args.self.now.pages.items c.args.done.now) c.in-Some.is c.in_ok-plan.ensures.planned in
     record {
       count = c.make_all.ensures.count;
+      few = record {
+        changed = map (λ (d : PageChange). d.page) c.in-Some.changes.list.items;
+        few = subst (λ (n : ℕ). n ≤ 8) (sym (length-map c.in-Some.changes.list.items (λ (d : PageChange). d.page))) p.few;
+        others = c.make_all.ensures.others;
+      };
       undone = λ relations counters f first good. (after c.in-Some.changes.list.items f, c.make_all.ensures.made f first, p.undoes relations counters f first good);
     }

@@ -34,37 +34,30 @@ pub(crate) fn u64_at(bytes: &[u8]) -> Result<(u64, &[u8]), ReadError>
     ensures value { Gives (λ x. (x.0, x.1.now)) result (number_at w64 bytes.now) }
     ensures no_memory { IfErr result (λ e. e ≡ Wrong) }
 {
-    if bytes.len() < 8 {
-        return Err(ReadError::Wrong);
+    match bytes.split_first_chunk::<8>() {
+        Some((front, rest)) => Ok((u64::from_be_bytes(*front), rest)),
+        None => Err(ReadError::Wrong),
     }
-    let (front, rest) = bytes.split_at(8);
-    let number = u64::from_be_bytes([
-        front[0], front[1], front[2], front[3], front[4], front[5], front[6], front[7],
-    ]);
-    Ok((number, rest))
 }
 
 pub(crate) fn u32_at(bytes: &[u8]) -> Result<(u32, &[u8]), ReadError>
     ensures value { Gives (λ x. (x.0, x.1.now)) result (number_at w32 bytes.now) }
     ensures no_memory { IfErr result (λ e. e ≡ Wrong) }
 {
-    if bytes.len() < 4 {
-        return Err(ReadError::Wrong);
+    match bytes.split_first_chunk::<4>() {
+        Some((front, rest)) => Ok((u32::from_be_bytes(*front), rest)),
+        None => Err(ReadError::Wrong),
     }
-    let (front, rest) = bytes.split_at(4);
-    let number = u32::from_be_bytes([front[0], front[1], front[2], front[3]]);
-    Ok((number, rest))
 }
 
 pub(crate) fn u16_at(bytes: &[u8]) -> Result<(u16, &[u8]), ReadError>
     ensures value { Gives (λ x. (x.0, x.1.now)) result (number_at w16 bytes.now) }
     ensures no_memory { IfErr result (λ e. e ≡ Wrong) }
 {
-    if bytes.len() < 2 {
-        return Err(ReadError::Wrong);
+    match bytes.split_first_chunk::<2>() {
+        Some((front, rest)) => Ok((u16::from_be_bytes(*front), rest)),
+        None => Err(ReadError::Wrong),
     }
-    let (front, rest) = bytes.split_at(2);
-    Ok((u16::from_be_bytes([front[0], front[1]]), rest))
 }
 
 #[tactic(auto, unfolding(crate::specs::Codec::within_at))]

@@ -1,18 +1,34 @@
 -- Log bytes: what is kept for an operation is enough, and stays so.
-use Rattle.std.proofs.Common.{◌≡◌, ℕ, ◌+◌, ◌-◌, ◌*◌, ◌<◌, ◌≤◌, length, None, sym, ap, ◌∙◌, subst, if◌then◌else◌, arith}
+use Rattle.std.proofs.Common.{◌≡◌, ℕ, Bool, true, false, ◌+◌, ◌-◌, ◌*◌, ◌<◌, ◌≤◌, [], length, None, Some, refl, sym, ap, ◌∙◌, subst, if◌then◌else◌, arith}
 use Rattle.mt_log.specs.Words.{area_size}
 use Rattle.mt_log.specs.declared.log.Log.{Log}
 use Rattle.mt_model.specs.declared.operations.Op.{Op}
+use Rattle.mt_model.specs.declared.operations.Reply.{Reply}
+use Rattle.mt_space.specs.declared.changes.Changes.{Changes}
 use Rattle.mt_op.specs.World.{changes_in}
 use Rattle.mt_op.specs.Operations.{only_reads, end_bytes, needs, HasBudget}
 use Rattle.mt_op.specs.declared.scope.OpScope.{OpScope}
 use Rattle.mt_op.specs.declared.scope.Stage.{Stage}
-use Rattle.mt_op.specs.declared.scope.Stage.TheVariants.{Writing, Ready}
+use Rattle.mt_op.specs.declared.scope.Stage.TheVariants.{Planning, Writing, Ready}
 
 -- an area has at most 64 MiB
 pub area_small : (log : Log) → area_size log ≤ 67108864
 unfolding area_size
 area_small log = let most = log.place.not_too_many in omega arith
+
+-- ---- an operation whose plan is made
+
+-- its pages and its end fit into what was kept for it while it planned
+made_fits : (reads : Bool) (count written left : ℕ) → count ≤ 8 → (reads ≡ true → count ≡ 0) → (if reads then 0 else 106496) ≤ left → 12317 * (count - written) + (if reads then 0 else 2149) ≤ left
+made_fits true count written left few none kept = let zero = none refl in omega arith
+made_fits false count written left few none kept = omega arith
+
+pub made_budget : (s : OpScope) (changes : Changes) (reply : Reply) → s.stage ≡ Planning → length changes.list.items ≤ 8 → (only_reads s.op ≡ true → changes.list.items ≡ []) → HasBudget s
+    → HasBudget (record s { changes = changes; reply = Some reply; stage = Writing })
+made_budget s changes reply planning few reads k = record {
+  enough = made_fits (only_reads s.op) (length changes.list.items) s.written s.left few (λ is. ap length (reads is)) (subst (λ (g : Stage). needs s g ≤ s.left) planning k.enough);
+  reads = reads;
+}
 
 -- ---- an operation that writes
 

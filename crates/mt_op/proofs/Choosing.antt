@@ -22,7 +22,7 @@ use Rattle.mt_op.specs.Holds.{IsNext, KeepsLocks, KeepsScope}
 use Rattle.mt_op.specs.Records.{KeepsRecords}
 use Rattle.mt_op.specs.Work.{Works, ComesTo}
 use Rattle.mt_op.specs.Faults.{TellsFaults}
-use Rattle.mt_op.specs.Stepping.{GoesAhead, LocksPage, PlansOn}
+use Rattle.mt_op.specs.Stepping.{GoesAhead, KeepsPlan, LocksPage, PlansOn, TakesLock}
 use Rattle.mt_op.specs.declared.answers.Stepped.{Stepped}
 use Rattle.mt_op.specs.declared.answers.Stepped.TheVariants as stepped
 use Rattle.mt_op.specs.declared.operations.Operations.{Operations}
@@ -204,6 +204,41 @@ module _ {D : Type 0} (seen : D → List ℕ) (may_leave : D → List ℕ → Ty
     scope = l.scope;
     why = l.why;
     faults = told_err (failures o.store.device) (failures n.store.device) (Err why) (Err why) why refl refl l.faults;
+  }
+
+-- ---- a page of the plan is locked to be written
+
+module _ {D : Type 0} (seen : D → List ℕ) (may_leave : D → List ℕ → Type 0) (o n : Operations D) (s t : OpScope) (planning : s.stage ≡ Planning) (budget : HasBudget s) where
+  pub taken_some : (a : Stepped) → TakesLock seen may_leave o n s t (Ok a) → KeepsPlan seen may_leave o n s t (Ok (Some a))
+  taken_some a l = record {
+    goes = λ opening relations counters right k few. l.goes opening relations counters right k;
+    store = l.store;
+    map = l.map;
+    made = λ is. absurd cc;
+    left = l.same.left;
+    budget = far_budget s t l.same planning budget;
+    never = λ is. l.never (some_none (Ok a) (Ok (Some a)) a refl refl is);
+    stage = λ not. l.same.stage ∙ planning;
+    work = l.work;
+    locks = l.locks;
+    scope = l.scope;
+    only_memory = tt;
+  }
+
+  pub taken_err : (why : Refusal) → TakesLock seen may_leave o n s t (Err why) → KeepsPlan seen may_leave o n s t (Err why)
+  taken_err why l = record {
+    goes = λ opening relations counters right k few. l.goes opening relations counters right k;
+    store = l.store;
+    map = l.map;
+    made = λ is. absurd cc;
+    left = l.same.left;
+    budget = far_budget s t l.same planning budget;
+    never = λ is. absurd cc;
+    stage = λ not. l.same.stage ∙ planning;
+    work = l.work;
+    locks = l.locks;
+    scope = l.scope;
+    only_memory = l.only_memory;
   }
 
 -- ---- what is promised of a step

@@ -1,5 +1,5 @@
 -- Operations over a device that is opened.
-use Rattle.std.proofs.Common.{◌≡◌, ◌<◌, ℕ, zero, List, [], length, sym, ap, subst, arith}
+use Rattle.std.proofs.Common.{◌≡◌, ◌<◌, ℕ, List, [], length, sym, ap, subst, arith}
 use Rattle.std.proofs.lemmas.List.Elements.{All-nil}
 use Rattle.mt_log.specs.Words.{appended}
 use Rattle.mt_space.specs.Changes.{PageBytes}

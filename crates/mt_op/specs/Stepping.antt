@@ -79,6 +79,35 @@ pub record LocksPage {D : Type 0} (seen : D → List ℕ) (may_leave : D → Lis
   pub why : IfErr r IsCause
   pub faults : TellsFaults (failures o.store.device) (failures n.store.device) r
 
+-- a page that is in a frame is locked, and looked at where it is new; or it is not to be had
+pub record TakesLock {D : Type 0} (seen : D → List ℕ) (may_leave : D → List ℕ → Type 0) (o n : Operations D) (s t : OpScope) (r : Result Stepped Refusal) : Type 0 where
+  pub goes : (opening : PageBytes) (relations counters : ℕ) → IsRight seen may_leave opening relations counters o → IsUnderWay relations counters (world seen opening o) s
+      → IsRight seen may_leave opening relations counters n × GoesOn relations counters (world seen opening o) (world seen opening n) s t r
+  pub store : n.store ≡ o.store
+  pub map : n.map ≡ o.map
+  pub same : IsAsFar s t
+  pub never : r ≡ Ok stepped.Flush → ⊥
+  pub work : Works s t r
+  pub locks : KeepsLocks s.number (IsNext o.rooms o.locks s) o.locks n.locks r
+  pub scope : KeepsScope s t r
+  pub only_memory : IfErr r (λ why. why ≡ refusal.NoMemory)
+
+-- the plan is kept, or a page that it changes is locked to be written
+pub record KeepsPlan {D : Type 0} (seen : D → List ℕ) (may_leave : D → List ℕ → Type 0) (o n : Operations D) (s t : OpScope) (r : Result (Option Stepped) Refusal) : Type 0 where
+  pub goes : (opening : PageBytes) (relations counters : ℕ) → IsRight seen may_leave opening relations counters o → IsUnderWay relations counters (world seen opening o) s → relations ≤ MAX_RELATIONS
+      → IsRight seen may_leave opening relations counters n × IsPlannedOn relations counters (world seen opening o) (world seen opening n) s t r
+  pub store : n.store ≡ o.store
+  pub map : n.map ≡ o.map
+  pub made : r ≡ Ok None → (n ≡ o) × (t.stage ≡ Writing)
+  pub left : t.left ≡ s.left
+  pub budget : HasBudget t
+  pub never : r ≡ Ok (Some stepped.Flush) → ⊥
+  pub stage : (r ≡ Ok None → ⊥) → t.stage ≡ Planning
+  pub work : WorksOn s t r
+  pub locks : KeepsLocksOn s.number (IsNext o.rooms o.locks s) o.locks n.locks r
+  pub scope : KeepsScopeOn s t r
+  pub only_memory : IfErr r (λ why. why ≡ refusal.NoMemory)
+
 -- a step of an operation that plans
 pub record PlansOn {D : Type 0} (seen : D → List ℕ) (may_leave : D → List ℕ → Type 0) (moment : D → ℕ) (left_since : D → ℕ → List ℕ → Type 0) (failures : D → ℕ) (o n : Operations D) (s t : OpScope) (r : Result (Option Stepped) Refusal) : Type 0 where
   pub goes : (opening : PageBytes) (relations counters : ℕ) → IsRight seen may_leave opening relations counters o → IsUnderWay relations counters (world seen opening o) s → relations ≤ MAX_RELATIONS

@@ -14,7 +14,7 @@ ghost use Rattle.mt_space.specs.Changes.{PageBytes};
 ghost use Rattle.mt_op.specs.Operations.{world};
 ghost use Rattle.mt_op.specs.Holds.{IsHeld, IsAnew, IsNext, IsToLook, IsToWrite, KeepsLocks, KeepsScope};
 ghost use Rattle.mt_op.specs.Moves.{Leaves, Rests};
-ghost use Rattle.mt_op.specs.Stepping.{LocksPage};
+ghost use Rattle.mt_op.specs.Stepping.{LocksPage, TakesLock};
 ghost use Rattle.mt_op.specs.Work.{Works};
 ghost use Rattle.mt_plock.specs.Holding.{lock_of};
 
@@ -132,21 +132,7 @@ impl<D: Device> Operations<D> {
             ⊎ ((room ≡ Some page) × (mode ≡ Write) × (get_or self.old.map.kinds page 0 ≡ 3)) }
         requires unled { (room ≡ scope.old.room) ⊎ (scope.old.room ≡ None) }
         requires there { IsThere self.old.store.pool page }
-        ensures goes { (opening : PageBytes) (relations counters : ℕ)
-            → IsRight D.seen D.may_leave opening relations counters self.old
-            → IsUnderWay relations counters (world D.seen opening self.old) scope.old →
-            IsRight D.seen D.may_leave opening relations counters self.new
-            × GoesOn relations counters (world D.seen opening self.old) (world D.seen opening self.new)
-            scope.old scope.new result }
-        ensures store { self.new.store ≡ self.old.store }
-        ensures map { self.new.map ≡ self.old.map }
-        ensures same { IsAsFar scope.old scope.new }
-        ensures never { result ≡ Ok stepped.Flush → ⊥ }
-        ensures work { Works scope.old scope.new result }
-        ensures locks { KeepsLocks scope.old.number (IsNext self.old.rooms self.old.locks scope.old) self.old.locks
-            self.new.locks result }
-        ensures scope { KeepsScope scope.old scope.new result }
-        ensures only_memory { IfErr result (λ why. why ≡ Refusal.NoMemory) }
+        ensures { TakesLock D.seen D.may_leave self.old self.new scope.old scope.new result }
     {
         scope.seen.reserve(&mut self.spare)?;
         match self.hold(scope, page, mode)? {
@@ -164,21 +150,7 @@ impl<D: Device> Operations<D> {
         requires right { IsOneOf D.seen D.may_leave self.old scope.old }
         requires planning { scope.old.stage ≡ Planning }
         requires next { IsToWrite scope.old page Write }
-        ensures goes { (opening : PageBytes) (relations counters : ℕ)
-            → IsRight D.seen D.may_leave opening relations counters self.old
-            → IsUnderWay relations counters (world D.seen opening self.old) scope.old →
-            IsRight D.seen D.may_leave opening relations counters self.new
-            × GoesOn relations counters (world D.seen opening self.old) (world D.seen opening self.new)
-            scope.old scope.new result }
-        ensures store { self.new.store ≡ self.old.store }
-        ensures map { self.new.map ≡ self.old.map }
-        ensures same { IsAsFar scope.old scope.new }
-        ensures never { result ≡ Ok stepped.Flush → ⊥ }
-        ensures work { Works scope.old scope.new result }
-        ensures locks { KeepsLocks scope.old.number (IsNext self.old.rooms self.old.locks scope.old) self.old.locks
-            self.new.locks result }
-        ensures scope { KeepsScope scope.old scope.new result }
-        ensures only_memory { IfErr result (λ why. why ≡ Refusal.NoMemory) }
+        ensures { TakesLock D.seen D.may_leave self.old self.new scope.old scope.new result }
     {
         self.hold(scope, page, Mode::Write)
     }

@@ -167,6 +167,7 @@ impl<D: Device> Operations<D> {
         ensures left { IfOk result (λ s. s.left ≡ (if only_reads op then 0 else OPERATION_LOG_BYTES)) }
         ensures only_memory { IfErr result (λ why. why ≡ Refusal.NoMemory) }
     {
+        let guards = Vec::with_capacity(alloc, 4)?;
         let left = if reads_only(&op) {
             0
         } else {
@@ -180,7 +181,7 @@ impl<D: Device> Operations<D> {
             split,
             left,
             room: None,
-            guards: Vec::with_capacity(alloc, 4)?,
+            guards,
             seen: Copies::new(alloc, self.store.pool.count()),
             stage: Stage::Planning,
             changes: Changes::new(alloc),
@@ -361,22 +362,7 @@ impl<D: Device> Operations<D> {
     pub fn give_up(&mut self, scope: OpScope)
         ensures store { self.new.store ≡ self.old.store }
     {
-        let OpScope {
-            txn: _,
-            number: _,
-            op: _,
-            undoes: _,
-            split: _,
-            left: _,
-            room: _,
-            guards,
-            seen: _,
-            stage: _,
-            changes: _,
-            reply: _,
-            written: _,
-            standing: _,
-        } = scope;
+        let (guards, _seen) = scope.into_guards_and_copies();
         self.locks.release_all(guards);
     }
 }

@@ -15,7 +15,7 @@ ghost use Rattle.mt_steps.specs.Plans.{own_needs, free_pages, record_bytes as by
 ghost use Rattle.mt_op.specs.World.{IsUnderWay, looked, held_in};
 ghost use Rattle.mt_op.specs.Operations.{world, IsRight, IsOneOf, IsOneWithin, Steps, GivesBack, IsPlannedOn, HasBudget, only_reads, IsCause, claimed};
 ghost use Rattle.mt_op.specs.Holds.{IsNext, IsAsked, IsUnseen, FindsRoom, KeepsLocks, KeepsLocksOn, KeepsScope, KeepsScopeOn};
-ghost use Rattle.mt_op.specs.Stepping.{GoesAhead, LocksPage, PlansOn};
+ghost use Rattle.mt_op.specs.Stepping.{GoesAhead, KeepsPlan, LocksPage, PlansOn};
 ghost use Rattle.mt_op.specs.Records.{KeepsRecords};
 ghost use Rattle.mt_op.specs.Work.{Works, WorksOn, ComesTo};
 ghost use Rattle.mt_op.specs.Faults.{TellsFaults};
@@ -212,24 +212,7 @@ impl<D: Device> Operations<D> {
             → InPages (looked scope.old) scope.old.room relations counters scope.old.seen.total
             (λ pages. TakesPages scope.old.room scope.old.op pages (after changes.list.items pages)) }
         requires budget { HasBudget scope.old }
-        ensures goes { (opening : PageBytes) (relations counters : ℕ)
-            → IsRight D.seen D.may_leave opening relations counters self.old
-            → IsUnderWay relations counters (world D.seen opening self.old) scope.old → relations ≤ MAX_RELATIONS →
-            IsRight D.seen D.may_leave opening relations counters self.new
-            × IsPlannedOn relations counters (world D.seen opening self.old) (world D.seen opening self.new)
-            scope.old scope.new result }
-        ensures store { self.new.store ≡ self.old.store }
-        ensures map { self.new.map ≡ self.old.map }
-        ensures made { result ≡ Ok None → (self.new ≡ self.old) × (scope.new.stage ≡ Writing) }
-        ensures left { scope.new.left ≡ scope.old.left }
-        ensures budget { HasBudget scope.new }
-        ensures never { result ≡ Ok (Some stepped.Flush) → ⊥ }
-        ensures stage { (result ≡ Ok None → ⊥) → scope.new.stage ≡ Planning }
-        ensures work { WorksOn scope.old scope.new result }
-        ensures locks { KeepsLocksOn scope.old.number (IsNext self.old.rooms self.old.locks scope.old) self.old.locks
-            self.new.locks result }
-        ensures scope { KeepsScopeOn scope.old scope.new result }
-        ensures only_memory { IfErr result (λ why. why ≡ Refusal.NoMemory) }
+        ensures { KeepsPlan D.seen D.may_leave self.old self.new scope.old scope.new result }
     {
         if let Some(page) = first_unlocked(scope.number, &changes, scope.guards.as_slice()) {
             let stepped = self.upgrade(scope, page)?;

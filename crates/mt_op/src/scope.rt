@@ -99,4 +99,27 @@ impl OpScope {
     {
         self.left
     }
+
+    // Its guards, and its copies of the pages that it looked at. The rest of it is let go.
+    pub(crate) fn into_guards_and_copies(self) -> (Vec<PageGuard>, Copies)
+        ensures { result ≡ (self.guards, self.seen) }
+    {
+        let OpScope {
+            txn: _,
+            number: _,
+            op: _,
+            undoes: _,
+            split: _,
+            left: _,
+            room: _,
+            guards,
+            seen,
+            stage: _,
+            changes: _,
+            reply: _,
+            written: _,
+            standing: _,
+        } = self;
+        (guards, seen)
+    }
 }

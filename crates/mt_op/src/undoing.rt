@@ -230,22 +230,7 @@ impl<D: Device> Operations<D> {
         ensures map { self.new.map ≡ self.old.map }
         ensures rooms { self.new.rooms ≡ self.old.rooms }
     {
-        let OpScope {
-            txn: _,
-            number: _,
-            op: _,
-            undoes: _,
-            split: _,
-            left: _,
-            room: _,
-            guards,
-            seen,
-            stage: _,
-            changes: _,
-            reply: _,
-            written: _,
-            standing: _,
-        } = scope;
+        let (guards, seen) = scope.into_guards_and_copies();
         self.locks.release_all(guards);
         self.spare.keep(seen);
     }

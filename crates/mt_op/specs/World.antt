@@ -1,6 +1,6 @@
 -- Operations half done over one log: what holds of all of them together, and of each one.
 use Rattle.std.specs.Prelude.{◌≡◌, ◌≢◌, ◌⊎◌, ◌<◌, ◌≤◌, ℕ, List, [], ◌∷◌, ◌++◌, length, take, All, Any, Contains, Option, Some, None, IsSome, true}
-use Rattle.mt_base.specs.declared.limits.TheConstants.{PAGE_BYTES}
+use Rattle.mt_base.specs.declared.limits.TheConstants.{MAX_WRITTEN_PAGES, PAGE_BYTES}
 use Rattle.mt_base.specs.declared.modes.Mode.TheVariants.{Write}
 use Rattle.mt_frame.specs.declared.records.Record.{Record}
 use Rattle.mt_frame.specs.declared.records.Record.TheVariants.{OpEnd}
@@ -86,7 +86,7 @@ pub record HasPlan (relations counters : ℕ) (s : OpScope) : Type 0 where
   pub takes : (pages : PageBytes) → Agrees (looked s) pages → IsGood relations counters s.seen.total pages → IsNamed s.room pages → TakesPages s.room s.op pages (after (changes_in s) pages)
   pub there : AreAtHand (looked s) (changes_in s)
   pub quiet : logged_of s.op reply ≡ None → changes_in s ≡ []
-  pub few : length (changes_in s) ≤ 8
+  pub few : length (changes_in s) ≤ MAX_WRITTEN_PAGES
   pub locked : All (λ c. Contains s.guards.items (lock_of s.number c.page Write)) (changes_in s)
 
 -- neither it nor its transaction has ended; what it takes back, if anything, has ended and is not taken back yet

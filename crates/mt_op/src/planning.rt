@@ -1,6 +1,6 @@
 // The steps of an operation, from its first page lock to its end.
 ghost use Rattle.std.specs.Prelude.{◌≡◌, ◌≢◌, ◌⊎◌, ◌<◌, ◌≤◌, ◌+◌, ◌^◌, ℕ, List, length, All, Contains, [], None, Some, Ok, true, false, MatchOption, IfErr, IsTrue, ◌↔◌};
-ghost use Rattle.mt_base.specs.declared.limits.TheConstants.{MAX_COUNTERS, MAX_PAGES, MAX_RELATIONS};
+ghost use Rattle.mt_base.specs.declared.limits.TheConstants.{MAX_COUNTERS, MAX_PAGES, MAX_RELATIONS, MAX_WRITTEN_PAGES};
 ghost use Rattle.mt_steps.specs.Drafts.{AreAtHand};
 ghost use Rattle.mt_steps.specs.Logged.{logged_of};
 ghost use Rattle.mt_base.specs.declared.modes.Mode.TheVariants.{Write};
@@ -200,7 +200,7 @@ impl<D: Device> Operations<D> {
         requires right { IsOneOf D.seen D.may_leave self.old scope.old }
         requires planning { scope.old.stage ≡ Planning }
         requires there { AreAtHand (looked scope.old) changes.list.items }
-        requires few { length changes.list.items ≤ 8 }
+        requires few { length changes.list.items ≤ MAX_WRITTEN_PAGES }
         requires quiet { logged_of scope.old.op reply ≡ None → changes.list.items ≡ [] }
         requires reads { only_reads scope.old.op ≡ true → changes.list.items ≡ [] }
         requires planned { (relations counters : ℕ) → relations ≤ MAX_RELATIONS

@@ -1,6 +1,6 @@
 // Taking an operation back, and the end of its locks.
 ghost use Rattle.std.specs.Prelude.{◌≡◌, ◌≢◌, ◌⊎◌, ◌<◌, ◌≤◌, ◌+◌, ◌-◌, ℕ, List, [], length, get_or, false, true, IfErr, OnErr, OnOk, Ok, Some, IsSome};
-ghost use Rattle.mt_base.specs.declared.limits.TheConstants.{PAGE_BYTES};
+ghost use Rattle.mt_base.specs.declared.limits.TheConstants.{MAX_WRITTEN_PAGES, PAGE_BYTES};
 ghost use Rattle.mt_plock.specs.Releasing.{locks_of, locks_without};
 ghost use Rattle.mt_pool.specs.Views.{IsThere, IsFull, waits_for, pages};
 ghost use Rattle.mt_space.specs.declared.changes.PageChange.{PageChange};
@@ -55,7 +55,7 @@ impl<D: Device> Operations<D> {
         ensures more { result ≡ Ok taken.More → (scope.new.stage ≡ Taking)
             × (scope.new.standing + 1 ≡ scope.old.standing) }
         ensures clear { result ≡ Ok taken.Clear → (scope.new.stage ≡ Cleared) × (scope.old.standing ≤ 1) }
-        ensures few { scope.old.standing ≤ 8 }
+        ensures few { scope.old.standing ≤ MAX_WRITTEN_PAGES }
         ensures log { used self.new.store.log + scope.new.left ≡ used self.old.store.log + scope.old.left }
         ensures area { area_size self.new.store.log ≡ area_size self.old.store.log }
         ensures durable { durable self.new.store.log ≡ durable self.old.store.log }

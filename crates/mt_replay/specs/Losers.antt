@@ -1,5 +1,6 @@
 -- What is in memory of the losers.
 use Rattle.std.specs.Prelude.{◌≡◌, ◌*◌, ◌++◌, ◌∷◌, ℕ, List, length, map, reverse, Contains}
+use Rattle.mt_base.specs.declared.limits.TheConstants.{MAX_WRITTEN_PAGES}
 use Rattle.std.specs.BTreeSet.{contains}
 use Rattle.std.specs.List.{AllByRecursion}
 use Rattle.std.specs.Ordering.{nat_cmp}
@@ -52,7 +53,7 @@ pub record Tells (batch : Batch) (records : List Record) (old new : Telling) : T
 -- the pages as the inverses of these losers leave them, that of the latest end first: each changes eight at most
 pub record HasUndone (old : List (List ℕ)) (losers : List Loser) (new : List (List ℕ)) : Type 0 where
   pub count : length new ≡ length old
-  pub few : ChangesFew (8 * length losers) old new
+  pub few : ChangesFew (MAX_WRITTEN_PAGES * length losers) old new
   pub undone : (relations counters : ℕ) (f : PageBytes) → AreFirst old f → IsGood relations counters (length old) f
       → (k : PageBytes) × AreFirst new k × IsGood relations counters (length old) k
       × UndoesAll relations counters (length old) f (all_finished losers) k

@@ -1,5 +1,6 @@
 -- The last pass of a restart: the losers' operations are undone by inverses, the latest end first, and nothing is logged.
 use Rattle.std.specs.Prelude.{◌≡◌, ◌+◌, ◌<◌, ◌≤◌, ℕ, false, List, [], ◌∷◌, length, Option, Some, None}
+use Rattle.mt_base.specs.declared.limits.TheConstants.{MAX_WRITTEN_PAGES}
 use Rattle.std.specs.List.{AllByRecursion}
 use Rattle.mt_frame.specs.declared.records.LoggedOp.{LoggedOp}
 use Rattle.mt_model.specs.Model.{Base, reply_of, base_after}
@@ -57,7 +58,7 @@ pub record Finds (relations counters total : ℕ) (pages : PageBytes) (b : Base)
 -- these changes of good pages in memory are the inverse
 pub record IsUndoing (items : List (List ℕ)) (done : LoggedOp) (changes : List PageChange) : Type 0 where
   pub inside : AllByRecursion (λ (c : PageChange). c.page < length items) changes
-  pub few : length changes ≤ 8
+  pub few : length changes ≤ MAX_WRITTEN_PAGES
   pub short : (relations counters : ℕ) (f : PageBytes) → AreFirst items f → IsGood relations counters (length items) f → AreShort changes f
   pub undoes : (relations counters : ℕ) (f : PageBytes) → AreFirst items f → IsGood relations counters (length items) f
       → UndoesOne relations counters (length items) f done (after changes f)
@@ -74,6 +75,6 @@ IsUndoPlan items done None = Misses items done
 -- the inverse has been made, in eight pages at most
 pub record Undoes (old : List (List ℕ)) (done : LoggedOp) (new : List (List ℕ)) : Type 0 where
   pub count : length new ≡ length old
-  pub few : ChangesFew 8 old new
+  pub few : ChangesFew MAX_WRITTEN_PAGES old new
   pub undone : (relations counters : ℕ) (f : PageBytes) → AreFirst old f → IsGood relations counters (length old) f
       → (k : PageBytes) × AreFirst new k × UndoesOne relations counters (length old) f done k

@@ -1,6 +1,6 @@
 -- What the plans of rows answer, each by one definition.
 use Rattle.std.specs.Prelude.{◌≡◌, ◌≢◌, ◌⊎◌, ◌+◌, ◌<◌, ◌≤◌, ℕ, Bool, List, [], length, Option, None, Some}
-use Rattle.mt_base.specs.declared.limits.TheConstants.{MAX_VALUE_BYTES}
+use Rattle.mt_base.specs.declared.limits.TheConstants.{MAX_VALUE_BYTES, MAX_WRITTEN_PAGES}
 use Rattle.mt_base.specs.declared.modes.Mode.{Mode}
 use Rattle.mt_base.specs.declared.numbers.RecordName.{RecordName}
 use Rattle.mt_slots.specs.Page.{Row, Fits}
@@ -54,7 +54,7 @@ pub record Does (at_hand : ℕ → Option (List ℕ)) (relations total needs : �
 -- an operation's changes of pages at hand, which are an act of it on all good pages that are so
 pub record IsDone (at_hand : ℕ → Option (List ℕ)) (total needs : ℕ) (split : Bool) (op : Op) (Keeps : PageBytes → PageBytes → Type 0) (IsSo : ℕ → PageBytes → Map → Type 0) (changes : List PageChange) (reply : Reply) : Type 0 where
   pub there : AreAtHand at_hand changes
-  pub few : length changes ≤ 8
+  pub few : length changes ≤ MAX_WRITTEN_PAGES
   pub idle : logged_of op reply ≡ None → changes ≡ []
   pub does : (relations : ℕ) (pages : PageBytes) → Agrees at_hand pages → (m : Map) → AreRows relations total pages m → IsSo relations pages m → Does at_hand relations total needs split op Keeps pages changes reply
 

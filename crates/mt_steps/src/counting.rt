@@ -1,5 +1,6 @@
 // Operations on counters.
 ghost use Rattle.std.specs.Prelude.{◌≡◌, ◌<◌, ◌≤◌, ℕ, [], length, None, IfOk, false};
+ghost use Rattle.mt_base.specs.declared.limits.TheConstants.{MAX_WRITTEN_PAGES};
 ghost use Rattle.mt_steps.specs.Drafts.{AreAtHand};
 ghost use Rattle.mt_base.specs.Limits.{IsStep};
 ghost use Rattle.mt_base.specs.declared.modes.Mode.TheVariants.{Read as ToRead, Write as ToWrite};
@@ -40,7 +41,7 @@ pub(crate) fn add_to<V: Pages>(
         IsAct relations (V.total views.now) pages (after changes pages) (Add number step) reply ×
         AreShort changes pages))) }
     ensures there { IfOk result (λ act. IfMade act (λ changes reply. AreAtHand (V.at_hand views.now) changes)) }
-    ensures few { IfOk result (λ act. IfMade act (λ changes reply. length changes ≤ 8)) }
+    ensures few { IfOk result (λ act. IfMade act (λ changes reply. length changes ≤ MAX_WRITTEN_PAGES)) }
     ensures idle { IfOk result (λ act. IfMade act (λ changes reply. logged_of (Add number step) reply ≡ None →
         changes ≡ [])) }
     ensures modest { (relations : ℕ) → IfOk result (λ act. IfMade act (λ changes reply.

@@ -1,5 +1,6 @@
 // A row less.
 ghost use Rattle.std.specs.Prelude.{◌≡◌, ◌≤◌, ◌<◌, ℕ, Bool, [], List, Option, length, None, Some, IfOk, IsSome, false};
+ghost use Rattle.mt_base.specs.declared.limits.TheConstants.{MAX_WRITTEN_PAGES};
 ghost use Rattle.mt_space.specs.Changes.{after, AreShort};
 ghost use Rattle.mt_base.specs.declared.modes.Mode.TheVariants.{Write as ToWrite};
 ghost use Rattle.mt_index.specs.Answers.{InMaps, IsInBucket};
@@ -48,7 +49,7 @@ pub(crate) fn delete<V: Pages>(
         (λ pages m. TakesNone pages (after changes pages)))) }
     ensures full { IfOk result (λ act. IfFull act ⊥) }
     ensures there { IfOk result (λ act. IfMade act (λ changes reply. AreAtHand (V.at_hand views.now) changes)) }
-    ensures few { IfOk result (λ act. IfMade act (λ changes reply. length changes ≤ 8)) }
+    ensures few { IfOk result (λ act. IfMade act (λ changes reply. length changes ≤ MAX_WRITTEN_PAGES)) }
     ensures idle { IfOk result (λ act. IfMade act (λ changes reply. logged_of
         (Delete relation key.now) reply ≡ None → changes ≡ [])) }
     ensures broken { IfOk result (λ act. IfBroken act ⊥) }

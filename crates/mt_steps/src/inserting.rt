@@ -1,6 +1,6 @@
 // A row more.
 ghost use Rattle.std.specs.Prelude.{◌≡◌, ◌⊎◌, ◌≤◌, ◌<◌, ℕ, [], List, Option, length, None, IfOk, IsSome, cond};
-ghost use Rattle.mt_base.specs.declared.limits.TheConstants.{MAX_VALUE_BYTES};
+ghost use Rattle.mt_base.specs.declared.limits.TheConstants.{MAX_VALUE_BYTES, MAX_WRITTEN_PAGES};
 ghost use Rattle.mt_base.specs.Limits.{IsKey, IsValue};
 ghost use Rattle.mt_slots.specs.Page.{Fits, row_length};
 ghost use Rattle.mt_space.specs.Changes.{PageBytes, Agrees, after, AreShort};
@@ -53,7 +53,7 @@ pub(crate) fn insert<V: Pages>(
         IsAct relations (V.total views.now) pages (after changes pages) (Insert relation key.now value.now) reply ×
         AreShort changes pages))) }
     ensures there { IfOk result (λ act. IfMade act (λ changes reply. AreAtHand (V.at_hand views.now) changes)) }
-    ensures few { IfOk result (λ act. IfMade act (λ changes reply. length changes ≤ 8)) }
+    ensures few { IfOk result (λ act. IfMade act (λ changes reply. length changes ≤ MAX_WRITTEN_PAGES)) }
     ensures idle { IfOk result (λ act. IfMade act (λ changes reply. logged_of
         (Insert relation key.now value.now) reply ≡ None → changes ≡ [])) }
     ensures modest { (relations : ℕ) → Fits relations MAX_VALUE_BYTES

@@ -1,6 +1,6 @@
 // Any operation.
 ghost use Rattle.std.specs.Prelude.{◌≡◌, ◌⊎◌, ◌<◌, ◌≤◌, ℕ, [], length, false, None, Some, IfOk};
-ghost use Rattle.mt_base.specs.declared.limits.TheConstants.{MAX_RELATIONS};
+ghost use Rattle.mt_base.specs.declared.limits.TheConstants.{MAX_RELATIONS, MAX_WRITTEN_PAGES};
 ghost use Rattle.mt_base.specs.declared.modes.Mode.TheVariants.{Read as ToRead};
 ghost use Rattle.mt_model.specs.Model.{IsWithin, inverse_of};
 ghost use Rattle.mt_model.specs.declared.operations.Op.{Op};
@@ -66,7 +66,7 @@ pub fn plan<V: Pages>(
         InPages (V.at_hand views.now) room relations counters (V.total views.now) (λ pages.
         TakesPages room op.now pages (after changes pages)))) }
     ensures there { IfOk result (λ act. IfMade act (λ changes reply. AreAtHand (V.at_hand views.now) changes)) }
-    ensures few { IfOk result (λ act. IfMade act (λ changes reply. length changes ≤ 8)) }
+    ensures few { IfOk result (λ act. IfMade act (λ changes reply. length changes ≤ MAX_WRITTEN_PAGES)) }
     ensures quiet { IsReading op.now → IfOk result (λ act. IfMade act (λ changes reply. changes ≡ [])) }
     ensures idle { IfOk result (λ act. IfMade act (λ changes reply. logged_of op.now reply ≡ None → changes ≡ [])) }
     ensures full { (relations counters : ℕ) → relations ≤ MAX_RELATIONS → IsWithin relations counters op.now →

@@ -1,6 +1,6 @@
 // Another value in a row.
 ghost use Rattle.std.specs.Prelude.{◌≡◌, ◌≢◌, ◌⊎◌, ◌≤◌, ◌<◌, ℕ, Bool, [], List, Option, length, None, Some, IfOk, IsSome, MatchBool, false};
-ghost use Rattle.mt_base.specs.declared.limits.TheConstants.{MAX_VALUE_BYTES};
+ghost use Rattle.mt_base.specs.declared.limits.TheConstants.{MAX_VALUE_BYTES, MAX_WRITTEN_PAGES};
 ghost use Rattle.mt_base.specs.Limits.{IsValue};
 ghost use Rattle.mt_base.specs.declared.numbers.RecordName.{RecordName};
 ghost use Rattle.mt_slots.specs.Page.{Fits, row_length};
@@ -52,7 +52,7 @@ pub(crate) fn update<V: Pages>(
         IsAct relations (V.total views.now) pages (after changes pages) (Update relation key.now value.now) reply ×
         AreShort changes pages))) }
     ensures there { IfOk result (λ act. IfMade act (λ changes reply. AreAtHand (V.at_hand views.now) changes)) }
-    ensures few { IfOk result (λ act. IfMade act (λ changes reply. length changes ≤ 8)) }
+    ensures few { IfOk result (λ act. IfMade act (λ changes reply. length changes ≤ MAX_WRITTEN_PAGES)) }
     ensures idle { IfOk result (λ act. IfMade act (λ changes reply. logged_of
         (Update relation key.now value.now) reply ≡ None → changes ≡ [])) }
     ensures modest { (relations : ℕ) → Fits relations MAX_VALUE_BYTES

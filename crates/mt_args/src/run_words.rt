@@ -52,8 +52,8 @@ fn frames_in(alloc: Global, found: &ArgMatches) -> Result<usize, CliFault>
         Some(word) => number_within(
             alloc,
             word,
-            u64::from(MIN_FRAMES),
-            u64::from(MAX_FRAMES),
+            MIN_FRAMES as u64,
+            MAX_FRAMES as u64,
             FRAMES_RULE,
         ),
         None => Ok(FRAMES),

@@ -6,6 +6,7 @@ use Rattle.mt_kernel.specs.Restartable.{StepAppends}
 use Rattle.mt_kernel.specs.Steps.{LeavesExplained, TellsOther, WantsFrame}
 use Rattle.mt_kernel.specs.declared.parts.Parts.{Parts}
 use Rattle.mt_kernel.specs.declared.parts.Running.{Running}
+use Rattle.mt_log.specs.Words.{durable}
 use Rattle.mt_model.specs.Model.{Base}
 use Rattle.mt_op.specs.Faults.{TellsFaults}
 use Rattle.mt_op.specs.Holds.{IsNext, KeepsLocks}
@@ -30,5 +31,6 @@ module _ {D : Type 0} (seen : D → List ℕ) (may_leave : D → List ℕ → Ty
     pub advances : (origin : Origin) (base : Base) → IsConsistent seen may_leave origin base k → Advances seen may_leave origin base (state_of k base) n place result
     pub other : (origin : Origin) (base : Base) → IsConsistent seen may_leave origin base k → AtPlace k.running.items place (λ r. TellsOther n.running.items r.scope.txn result)
     pub book : n.book ≡ k.book
+    pub durable : durable n.operations.store.log ≡ durable k.operations.store.log
     pub moments : LeavesExplained seen may_leave moment left_since k n
     pub appends : (origin : Origin) (base : Base) → IsConsistent seen may_leave origin base k → AtPlace n.running.items place (λ r. StepAppends origin k n r.scope result)

@@ -2,6 +2,7 @@
 ghost use Rattle.std.specs.Prelude.{◌≡◌, ◌≢◌, ◌⊎◌, ◌<◌, ℕ, Ok, Some, IfErr, length, slice_index_or};
 ghost use Rattle.std.specs.List.{remove};
 ghost use Rattle.mt_live.specs.Machine.{dropped};
+ghost use Rattle.mt_log.specs.Words.{durable};
 ghost use Rattle.mt_model.specs.Model.{Base};
 ghost use Rattle.mt_op.specs.Moves.{SameOp};
 ghost use Rattle.mt_op.specs.Faults.{TellsFaults};
@@ -48,6 +49,7 @@ impl<D: Device> Parts<D> {
         ensures back { (origin : Origin) (base : Base) → IsConsistent D.seen D.may_leave origin base self.old
             → GoesBack D.seen D.may_leave origin base (state_of self.old base) self.new place result }
         ensures book { self.new.book ≡ self.old.book }
+        ensures durable { durable self.new.operations.store.log ≡ durable self.old.operations.store.log }
         ensures moments { LeavesExplained D.seen D.may_leave D.moment D.left_since self.old self.new }
         ensures appends { (origin : Origin) (base : Base) → IsConsistent D.seen D.may_leave origin base self.old
             → QuietlyAppends origin.pages self.old self.new }
@@ -104,6 +106,7 @@ impl<D: Device> Parts<D> {
         ensures why { IfErr result IsCause }
         ensures faults { TellsFaults (D.faults self.old.operations.store.device)
             (D.faults self.new.operations.store.device) result }
+        ensures durable { durable self.new.operations.store.log ≡ durable self.old.operations.store.log }
         ensures moments { LeavesExplained D.seen D.may_leave D.moment D.left_since self.old self.new }
         ensures restartable { StaysRestartable D.seen D.may_leave self.old self.new }
     {

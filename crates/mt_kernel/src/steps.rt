@@ -1,5 +1,6 @@
 // The steps of operations.
 ghost use Rattle.std.specs.Prelude.{◌≡◌, ◌≢◌, ◌⊎◌, ◌<◌, ℕ, Ok, IfErr, length, slice_index_or};
+ghost use Rattle.mt_log.specs.Words.{durable};
 ghost use Rattle.mt_model.specs.Model.{Base};
 ghost use Rattle.mt_op.specs.declared.scope.Stage.TheVariants.{Planning, Writing};
 ghost use Rattle.mt_kernel.specs.Advancing.{IsAdvanced};
@@ -81,6 +82,7 @@ impl<D: Device> Parts<D> {
         ensures other { (origin : Origin) (base : Base) → IsConsistent D.seen D.may_leave origin base self.old
             → AtPlace self.old.running.items place (λ r. NamesOther self.new.running.items r.scope.txn result) }
         ensures locks { AtPlace self.old.running.items place (λ r. KeepsPageLocks self.old self.new r result) }
+        ensures durable { durable self.new.operations.store.log ≡ durable self.old.operations.store.log }
         ensures moments { LeavesExplained D.seen D.may_leave D.moment D.left_since self.old self.new }
         ensures restartable { StaysRestartable D.seen D.may_leave self.old self.new }
     {
@@ -122,6 +124,7 @@ impl<D: Device> Parts<D> {
         ensures other { (origin : Origin) (base : Base) → IsConsistent D.seen D.may_leave origin base self.old
             → AtPlace self.old.running.items place (λ r. NamesOther self.new.running.items r.scope.txn result) }
         ensures locks { AtPlace self.old.running.items place (λ r. KeepsPageLocks self.old self.new r result) }
+        ensures durable { durable self.new.operations.store.log ≡ durable self.old.operations.store.log }
         ensures moments { LeavesExplained D.seen D.may_leave D.moment D.left_since self.old self.new }
         ensures restartable { StaysRestartable D.seen D.may_leave self.old self.new }
     {

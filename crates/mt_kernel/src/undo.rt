@@ -2,7 +2,7 @@
 ghost use Rattle.std.specs.Prelude.{◌≡◌, ◌≢◌, ◌<◌, ◌≤◌, ◌++◌, ◌∷◌, [], ℕ, true, false, All, None, Some, Ok, IfErr, OnOk, OnErr};
 ghost use Rattle.mt_frame.specs.declared.records.Record.TheVariants.{AbortEnd};
 ghost use Rattle.mt_live.specs.Lives.{member_of};
-ghost use Rattle.mt_log.specs.Words.{appended};
+ghost use Rattle.mt_log.specs.Words.{appended, durable};
 ghost use Rattle.mt_live.specs.Machine.{gone};
 ghost use Rattle.mt_live.specs.Undoing.{last_effect};
 ghost use Rattle.mt_model.specs.Model.{Base};
@@ -75,6 +75,7 @@ impl<D: Device> Parts<D> {
             → OnOk result (IsIn D.seen D.may_leave origin base (gone (state_of self.old base) txn) self.new) }
         ensures ended { OnOk result (appended self.new.operations.store.log
             ≡ appended self.old.operations.store.log ++ AbortEnd txn ∷ []) }
+        ensures durable { durable self.new.operations.store.log ≡ durable self.old.operations.store.log }
         ensures others { SameStatesBut self.old self.new txn }
         ensures out { OnOk result (state_in self.new.live.members txn ≡ None) }
         ensures err_states { OnErr result (SameStates self.old self.new) }

@@ -84,6 +84,7 @@ returns g c = record {
       subst (λ (y : Running). TellsOther (set k.running.items c.args.place q) y.scope.txn c.step.result) old
       (tells_other k.running.items c.args.place r q (IsNext k.operations.rooms k.operations.locks r.scope) k.operations.locks c.step.new.self.locks c.step.result c.requires.within c.index_mut.ensures.value safe.fit.apart safe.fit.locked c.step.ensures.locks);
   book = search rules;
+  durable = search rules;
   moments = search rules;
   appends = λ origin base safe y now.
       let seen = g.D.Device.seen in let k = c.args.self.now in let r = c.index_mut.result.now in let e = c.step.ensures in

@@ -8,6 +8,7 @@ use Rattle.mt_kernel.specs.Runs.{state_in}
 use Rattle.mt_kernel.specs.Steps.{WantsFrame}
 use Rattle.mt_kernel.specs.Work.{undo_steps}
 use Rattle.mt_live.specs.Machine.{State}
+use Rattle.mt_log.specs.Words.{durable}
 use Rattle.mt_model.specs.Model.{Base}
 use Rattle.mt_pool.specs.Views.{pages}
 use Rattle.mt_txn.specs.Causes.{IsFault}
@@ -27,6 +28,7 @@ module _ {D : Type 0} {g : Ghosts D} (seen : D → List ℕ) (may_leave : D → 
     pub work : LowersAbort (pages k.parts.operations.store.pool) result (undo_steps k.parts t) (undo_steps n.parts t)
     pub other : IfOk result (λ stepped. IsAbortForOther k.parts.live.members t stepped)
     pub full : result ≡ Ok Flush → WantsFrame k.parts n.parts
+    pub durable : durable n.parts.operations.store.log ≡ durable k.parts.operations.store.log
     pub commits : SameCommits k.parts n.parts
     pub err_states : OnErr result (SameStates k.parts n.parts)
     pub out : result ≡ Ok Ended → (state_in n.parts.live.members t ≡ None) × SameStatesBut k.parts n.parts t

@@ -27,9 +27,9 @@ SameSchema k n = (n.relations ≡ k.relations) × (n.counters ≡ k.counters)
 abbrev pub is_failed : {D : Type 0} → {g : Ghosts D} → Kernel D g → Bool
 is_failed k = k.failed || has_failed k.parts.operations.store.log
 
--- where a call of kernel k is refused with 2, each later call of n is
+-- Where a call of kernel k is refused with 2, each later call of n is; and no other call marks n as failed.
 abbrev pub FailsForGood : {D T : Type 0} → {g : Ghosts D} → Kernel D g → Result T Refusal → Kernel D g → Type 0
-FailsForGood k result n = (is_failed k ≡ true → (result ≡ Err DeviceFailed) × (n ≡ k)) × (result ≡ Err DeviceFailed → is_failed n ≡ true)
+FailsForGood k result n = (is_failed k ≡ true → (result ≡ Err DeviceFailed) × (n ≡ k)) × (result ≡ Err DeviceFailed → is_failed n ≡ true) × (n.failed ≡ true → result ≡ Err DeviceFailed)
 
 -- Begun on this base, the kernel can be restarted from each beginning of its log's records; and so it stays.
 abbrev pub Restarts : {D : Type 0} → {g : Ghosts D} → (D → List ℕ) → (D → List ℕ → Type 0) → Base → Kernel D g → Type 0

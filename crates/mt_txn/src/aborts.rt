@@ -2,6 +2,7 @@
 ghost use Rattle.std.specs.Prelude.{◌≡◌, ◌≢◌, ◌⊎◌, ◌<◌, ◌≤◌, length, All, Ok, IfOk, IfErr, OnOk, OnErr, None, Some, Err, true, false};
 ghost use Rattle.mt_base.specs.declared.refusal.Refusal.{Refusal};
 ghost use Rattle.mt_live.specs.Machine.{State};
+ghost use Rattle.mt_log.specs.Words.{durable};
 ghost use Rattle.mt_model.specs.Model.{Base};
 ghost use Rattle.mt_live.specs.declared.transactions.TxnState.TheVariants.{Aborting};
 ghost use Rattle.mt_kernel.specs.Consistent.{AtPlace, SameCommits, SameRunning, SameStates, SameStatesBut, SetsState};
@@ -39,6 +40,7 @@ impl<D: Device> Kernel<D> {
         ensures aborts { OnOk result (SetsState self.old.parts self.new.parts txn (Some Aborting)) }
         ensures running { SameRunning self.old.parts self.new.parts }
         ensures commits { SameCommits self.old.parts self.new.parts }
+        ensures device { self.new.parts.operations.store.device ≡ self.old.parts.operations.store.device }
         ensures work { OnOk result (undo_steps self.new.parts txn ≤ most_steps self.old.parts txn) }
         ensures fails { FailsForGood self.old result self.new }
         ensures err { OnErr result (self.new ≡ self.old) }
@@ -60,6 +62,7 @@ impl<D: Device> Kernel<D> {
             (λ r. (r.scope.txn ≡ txn) × (r.scope.undoes ≡ 0)) }
         requires aborting { state_in self.old.parts.live.members txn ≡ Some Aborting }
         ensures steps { StepsAbort D.seen D.may_leave D.faults D.moment D.left_since self.old txn result self.new }
+        ensures marks { self.new.failed ≡ true → result ≡ Err Refusal.DeviceFailed }
         ensures locks { AtPlace self.old.parts.running.items place
             (λ r. AbortsLocks self.old.parts self.new.parts r result) }
     {
@@ -78,6 +81,7 @@ impl<D: Device> Kernel<D> {
         requires own { AtPlace self.old.parts.running.items place
             (λ r. (r.scope.txn ≡ txn) × (r.scope.undoes ≢ 0)) }
         ensures steps { StepsAbort D.seen D.may_leave D.faults D.moment D.left_since self.old txn result self.new }
+        ensures marks { self.new.failed ≡ true → result ≡ Err Refusal.DeviceFailed }
         ensures locks { AtPlace self.old.parts.running.items place
             (λ r. AbortsLocks self.old.parts self.new.parts r result) }
     {
@@ -112,6 +116,7 @@ impl<D: Device> Kernel<D> {
         requires idle { All (λ (r : Running). r.scope.txn ≢ txn) self.old.parts.running.items }
         requires aborting { state_in self.old.parts.live.members txn ≡ Some Aborting }
         ensures steps { StepsAbort D.seen D.may_leave D.faults D.moment D.left_since self.old txn result self.new }
+        ensures marks { self.new.failed ≡ self.old.failed }
         ensures locks { self.new.parts.operations.locks ≡ self.old.parts.operations.locks }
     {
         if self.parts.undo_begin(self.alloc, txn)? {
@@ -148,6 +153,8 @@ impl<D: Device> Kernel<D> {
             (λ r. AbortsLocks self.old.parts self.new.parts r result) }
         ensures idle { is_busy self.old.parts txn ≡ false
             → self.new.parts.operations.locks ≡ self.old.parts.operations.locks }
+        ensures durable { durable self.new.parts.operations.store.log
+            ≡ durable self.old.parts.operations.store.log }
         ensures commits { SameCommits self.old.parts self.new.parts }
         ensures err_states { OnErr result (SameStates self.old.parts self.new.parts) }
         ensures out { result ≡ Ok AbortStepped.Ended → (state_in self.new.parts.live.members txn ≡ None)

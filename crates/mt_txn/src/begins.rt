@@ -31,6 +31,7 @@ impl<D: Device> Kernel<D> {
         ensures opened { IfOk result (λ txn. SetsState self.old.parts self.new.parts txn (Some Open)) }
         ensures running { SameRunning self.old.parts self.new.parts }
         ensures commits { SameCommits self.old.parts self.new.parts }
+        ensures device { self.new.parts.operations.store.device ≡ self.old.parts.operations.store.device }
         ensures err { OnErr result (self.new.parts ≡ self.old.parts) }
         ensures fails { FailsForGood self.old result self.new }
         ensures schema { SameSchema self.old self.new }

@@ -3,6 +3,7 @@ ghost use Rattle.std.specs.Prelude.{◌≡◌, ◌≢◌, ◌↔◌, ℕ, List, 
 ghost use Rattle.mt_base.specs.declared.refusal.Refusal.{Refusal};
 ghost use Rattle.mt_live.specs.Machine.{State, start, IsKept, is_live};
 ghost use Rattle.mt_live.specs.declared.transactions.TxnState.TheVariants.{Open, Committing};
+ghost use Rattle.mt_log.specs.Words.{has_failed};
 ghost use Rattle.mt_model.specs.History.{IsLegal};
 ghost use Rattle.mt_model.specs.Model.{Base};
 ghost use Rattle.mt_model.specs.declared.operations.Op.{Op};
@@ -71,6 +72,7 @@ impl<D: Device> Kernel<D> {
         ensures restarts { (first : Base) → Opens D.seen D.may_leave operations escrow relations counters first
             → Restarts D.seen D.may_leave first result }
         ensures schema { (result.relations ≡ relations) × (result.counters ≡ counters) }
+        ensures fails { is_failed result ≡ has_failed operations.store.log }
         ensures operations { result.parts.operations ≡ operations }
     {
         Kernel {

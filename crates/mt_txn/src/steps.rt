@@ -2,6 +2,7 @@
 ghost use Rattle.std.specs.Prelude.{◌≡◌, ◌≢◌, ◌⊎◌, Ok, IfOk, IfErr, OnOk, None, Some};
 ghost use Rattle.mt_base.specs.declared.refusal.Refusal.{Refusal};
 ghost use Rattle.mt_live.specs.Machine.{State};
+ghost use Rattle.mt_log.specs.Words.{durable};
 ghost use Rattle.mt_model.specs.Model.{Base};
 ghost use Rattle.mt_pool.specs.Views.{pages};
 ghost use Rattle.mt_kernel.specs.Steps.{WantsFrame};
@@ -45,6 +46,8 @@ impl<D: Device> Kernel<D> {
         ensures locks { step_cause (is_failed self.old) self.old.parts txn ≡ None
             → OfRunning self.old.parts.running.items txn
             (λ r. StepsLocks self.old.parts self.new.parts r result) }
+        ensures durable { durable self.new.parts.operations.store.log
+            ≡ durable self.old.parts.operations.store.log }
         ensures states { SameStates self.old.parts self.new.parts }
         ensures fails { FailsForGood self.old result self.new }
         ensures unmoved { (why : Refusal) → step_cause (is_failed self.old) self.old.parts txn ≡ Some why

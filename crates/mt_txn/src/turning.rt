@@ -1,11 +1,11 @@
 // A kernel that goes on over the other area of its log.
 ghost use Rattle.std.specs.Prelude.{◌≡◌, ◌↔◌, ℕ, List, IsTrue};
 ghost use Rattle.mt_kernel.specs.Consistent.{IsFresh};
-ghost use Rattle.mt_log.specs.Words.{area_size, used};
+ghost use Rattle.mt_log.specs.Words.{area_size, has_failed, used};
 ghost use Rattle.mt_model.specs.History.{after};
 ghost use Rattle.mt_model.specs.Model.{Base};
 ghost use Rattle.mt_replay.specs.Stands.{CanRestart};
-ghost use Rattle.mt_txn.specs.Shown.{Restarts};
+ghost use Rattle.mt_txn.specs.Shown.{Restarts, is_failed};
 ghost use Rattle.mt_txn.specs.Turned.{CanGoOn, HasNobody, IsForced, IsRestOf, Resumes};
 
 use crate::kernel::Kernel;
@@ -54,6 +54,7 @@ impl<D: Device> Kernel<D> {
         requires goes_on { CanGoOn D.seen D.may_leave rest operations escrow }
         ensures resumed { Resumes D.seen D.may_leave rest operations escrow result }
         ensures schema { (result.relations ≡ rest.relations) × (result.counters ≡ rest.counters) }
+        ensures fails { is_failed result ≡ has_failed operations.store.log }
         ensures operations { result.parts.operations ≡ operations }
         ensures book { result.parts.book ≡ rest.rest.book }
     {

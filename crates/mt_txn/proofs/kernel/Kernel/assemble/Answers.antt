@@ -1,7 +1,9 @@
-use Rattle.std.proofs.Common.{refl, sym, subst}
+use Rattle.std.proofs.Common.{refl, sym, ap, subst}
 use mathlib.Core.Logic.{∥∥₁_elim, ∥∥₁_map, ∥∥₁_prop}
 use Rattle.mt_live.specs.Machine.{start}
+use Rattle.mt_log.specs.Words.{has_failed}
 use Rattle.mt_model.specs.Model.{Base, IsBase}
+use Rattle.mt_op.specs.declared.operations.Operations.{Operations}
 use Rattle.mt_steps.specs.Held.{Holds}
 use Rattle.mt_kernel.specs.Consistent.{IsIn}
 use Rattle.mt_txn.proofs.kernel.Kernel.assemble.Goals as goal
@@ -43,5 +45,6 @@ returns g c = record {
     },
   ));
   schema = (refl, refl);
+  fails = ap (λ (o : Operations g.row.D.Denot). has_failed o.store.log) c.new.ensures.operations;
   operations = c.new.ensures.operations;
 }

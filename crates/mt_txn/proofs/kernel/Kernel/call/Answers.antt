@@ -5,6 +5,8 @@ use Rattle.std.proofs.Common.{◌≡◌, ◌∙◌, Bool, true, Some, None, Err,
 use Rattle.std.proofs.Props.{props}
 use Rattle.mt_base.specs.declared.refusal.Refusal.{Refusal}
 use Rattle.mt_base.specs.declared.refusal.Refusal.TheVariants.{DeviceFailed}
+use Rattle.std.specs.Prelude.{◌||◌}
+use Rattle.mt_log.specs.Words.{has_failed}
 use Rattle.mt_kernel.specs.Causes.{IsAnswered}
 use Rattle.mt_kernel.specs.Consistent.{log_kept}
 use Rattle.mt_txn.proofs.Failing.{answered_fine, call_fails}
@@ -34,6 +36,10 @@ returns-in-Some-clause-fails g c =
           let both : Some DeviceFailed ≡ Some c.in-Some.why = sym (ap (λ (b : Bool). call_cause r m b k.parts c.args.txn c.args.op) failed) ∙ cause in
           let same : c.in-Some.why ≡ DeviceFailed = cc in (ap (λ (w : Refusal). Err w) same, refl),
       λ is. let same : c.in-Some.why ≡ DeviceFailed = cc in call_fails r m (is_failed k) k.parts c.args.txn c.args.op (cause ∙ ap (λ (w : Refusal). Some w) same),
+      λ marked.
+          let failed : is_failed k ≡ true = ap (λ (b : Bool). b || has_failed k.parts.operations.store.log) marked in
+          let both : Some DeviceFailed ≡ Some c.in-Some.why = sym (ap (λ (b : Bool). call_cause r m b k.parts c.args.txn c.args.op) failed) ∙ cause in
+          let same : c.in-Some.why ≡ DeviceFailed = cc in ap (λ (w : Refusal). Err w) same,
     )
 
 pub returns-clause-fails : goal.returns-clause-fails
@@ -44,6 +50,9 @@ returns-clause-fails g c =
       λ is. absurd (∥∥₁_elim k.well (hlevel props) (λ (origin, base, own, safe). answered_fine g.D.Device.seen origin k.parts (log_kept k.parts) c.args.txn c.args.op
           (subst (IsAnswered g.D.Device.seen origin k.parts (log_kept k.parts) c.args.txn c.args.op true) is
           (c.call.ensures.answer origin base safe (may_call g.D.Device.seen g.D.Device.may_leave r m k.parts c.args.txn c.args.op origin own c.in_default.ensures.named c.in_default.ensures.sized c.in_default.ensures.opened c.in_default.ensures.idle))))),
+      λ marked.
+          let failed : is_failed k ≡ true = ap (λ (b : Bool). b || has_failed k.parts.operations.store.log) marked in
+          let wrong : Some DeviceFailed ≡ None = sym (ap (λ (b : Bool). call_cause r m b k.parts c.args.txn c.args.op) failed) ∙ none in absurd cc,
     )
 
 pub returns-clause-restarts : goal.returns-clause-restarts

@@ -38,6 +38,7 @@ returns-in_err-told-clause-steps g c = record {
       subst (λ (r : Result AbortStepped Refusal). LowersAbort (pages k.operations.store.pool) r (undo_steps k c.args.txn) (undo_steps n c.args.txn)) (sym p.1) few;
   other = search rules;
   full = search rules;
+  durable = search rules;
   commits = search rules;
   err_states = search rules;
   out = search rules;
@@ -61,6 +62,7 @@ returns-in-More-clause-steps g c = record {
       subst (λ (r : Result TakenBack Refusal). LowersBack r (undo_steps k c.args.txn) (undo_steps n c.args.txn)) (c.in_ok-told.was ∙ ap Ok c.in-More.is) lowers;
   other = search rules;
   full = search rules;
+  durable = search rules;
   commits = search rules;
   err_states = search rules;
   out = search rules;
@@ -84,6 +86,7 @@ returns-in-Flush-clause-steps g c = record {
       subst (λ (r : Result TakenBack Refusal). LowersBack r (undo_steps k c.args.txn) (undo_steps n c.args.txn)) (c.in_ok-told.was ∙ ap Ok c.in-Flush.is) lowers;
   other = search rules;
   full = search rules;
+  durable = search rules;
   commits = search rules;
   err_states = search rules;
   out = search rules;
@@ -107,6 +110,7 @@ returns-in-Clear-clause-steps g c = record {
       subst (λ (r : Result TakenBack Refusal). LowersBack r (undo_steps k c.args.txn) (undo_steps n c.args.txn)) (c.in_ok-told.was ∙ ap Ok c.in-Clear.is) lowers;
   other = search rules;
   full = search rules;
+  durable = search rules;
   commits = search rules;
   err_states = search rules;
   out = search rules;

@@ -1,6 +1,8 @@
-use Rattle.std.proofs.Common.{◌∙◌, refl}
+use Rattle.std.proofs.Common.{◌∙◌, ap, refl}
 use Rattle.mt_kernel.specs.Turned.{turned}
 use mathlib.Core.Logic.{∥∥₁_elim, ∥∥₁_map, ∥∥₁_prop}
+use Rattle.mt_log.specs.Words.{has_failed}
+use Rattle.mt_op.specs.declared.operations.Operations.{Operations}
 use Rattle.mt_txn.proofs.GoingOn.{turns_over}
 use Rattle.mt_txn.proofs.kernel.Kernel.join.Goals as goal
 
@@ -54,6 +56,7 @@ returns g c = record {
         ))),
   );
   schema = (refl, refl);
+  fails = ap (λ (o : Operations g.row.D.Denot). has_failed o.store.log) c.join.ensures.operations;
   operations = c.join.ensures.operations;
   book = c.join.ensures.book;
 }

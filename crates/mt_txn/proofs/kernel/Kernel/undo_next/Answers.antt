@@ -43,6 +43,7 @@ returns-in_err-undo_begin-clause-steps g c = record {
       subst (λ (r : Result AbortStepped Refusal). LowersAbort (pages k.operations.store.pool) r (undo_steps k c.args.txn) (undo_steps n c.args.txn)) (sym p.1) c.in_err-undo_begin.ensures.err_left;
   other = search rules;
   full = search rules;
+  durable = search rules;
   commits = search rules;
   err_states = search rules;
   out = search rules;
@@ -63,6 +64,7 @@ returns-then-branch-clause-steps g c = record {
   work = c.undo_begin.ensures.fewer (c.in_ok-undo_begin.was ∙ ap Ok c.if-branch.true);
   other = search rules;
   full = search rules;
+  durable = search rules;
   commits = search rules;
   err_states = search rules;
   out = search rules;
@@ -86,6 +88,7 @@ returns-in_err-abort_end-clause-steps g c = record {
       subst (λ (r : Result AbortStepped Refusal). LowersAbort (pages k.operations.store.pool) r (undo_steps k c.args.txn) (undo_steps n c.args.txn)) (sym p.1) few;
   other = search rules;
   full = search rules;
+  durable = search rules;
   commits = search rules;
   err_states = search rules;
   out = search rules;
@@ -108,6 +111,7 @@ returns-clause-steps g c = record {
       ap (λ (x : Parts g.row.D.Denot). undo_steps x c.args.txn) (sym same) ∙ c.in_ok-abort_end.ensures.none_left;
   other = search rules;
   full = search rules;
+  durable = search rules;
   commits = search rules;
   err_states = search rules;
   out = search rules;

@@ -53,6 +53,7 @@ returns-in_err-reply-clause-steps g c = record {
       subst (λ (r : Result AbortStepped Refusal). LowersAbort all r (undo_steps k c.args.txn) (undo_steps n c.args.txn)) (sym p.1) few;
   other = search rules;
   full = search rules;
+  durable = search rules;
   commits = search rules;
   err_states = search rules;
   out = search rules;
@@ -76,6 +77,7 @@ returns-in-Ended-clause-steps g c = record {
       subst (λ (r : Result Stepping Refusal). LowersUndo all r (undo_steps k c.args.txn) (undo_steps n c.args.txn)) (c.in_ok-reply.was ∙ ap Ok c.in-Ended.is) lowers;
   other = search rules;
   full = search rules;
+  durable = search rules;
   commits = search rules;
   err_states = search rules;
   out = search rules;
@@ -107,6 +109,7 @@ returns-in-Going-clause-steps g c = record {
         names = λ origin base safe. subst (λ (r : Result Stepping Refusal). AtPlace k.running.items place (λ q. NamesOther n.running.items q.scope.txn r)) was (c.undo_step-told.ensures.other origin base safe);
       }) c.args.self.now.well c.going.ensures;
   full = search rules;
+  durable = search rules;
   commits = search rules;
   err_states = search rules;
   out = search rules;

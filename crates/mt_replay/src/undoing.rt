@@ -196,9 +196,11 @@ impl Restored {
         if !is_of(sizes(&self.pages[usize::from(COUNTERS)]), done) {
             return Ok(None);
         }
-        let inverse = inverse_in(done)?;
         let room = self.room_for(bytes_put_back(done));
-        let act = plan(alloc, self, room, &inverse, false)?;
+        let act = {
+            let inverse = inverse_in(done)?;
+            plan(alloc, self, room, &inverse, false)?
+        };
         match act {
             Act::Made(changes, reply) => {
                 if !is_as_logged(done, &reply) {

@@ -24,8 +24,8 @@ plan-requires-clause-good c =
     let of = of_all items page c.sizes.result (c.index.ensures ∙ ap (λ (p : ℕ). get_or items p page) c.from.ensures) c.sizes.ensures.schema d (c.is_of.ensures.0 c.if-not-is_of.false) in
     plan_good items d c.args.self.now.good c.requires room roomy of c.in_ok-inverse.inverse c.in_ok-inverse.ensures
 
-pub returns-in-Made-clause-planned : goal.returns-in-Made-clause-planned
-returns-in-Made-clause-planned c =
+pub returns-else-not-is_as_logged-clause-planned : goal.returns-else-not-is_as_logged-clause-planned
+returns-else-not-is_as_logged-clause-planned c =
     let items = c.args.self.now.pages.items in
     let d = c.args.done.now in
     let room = c.room_for-room.result in

@@ -1,5 +1,6 @@
 pub mod Area
 pub mod Batch
+pub mod Ends
 pub mod First
 pub mod Forcing
 pub mod Found

@@ -9,6 +9,7 @@ ghost use Rattle.mt_log.specs.Area.{ScansWithOrWithout, TornFrom, AreaBegins};
 ghost use Rattle.mt_log.specs.Batch.{framed, Scans};
 ghost use Rattle.mt_frame.specs.declared.records.Record.{Record};
 ghost use Rattle.mt_log.specs.declared.area.AreaPlace.{AreaPlace};
+ghost use Rattle.mt_log.specs.Ends.{EndsForce};
 ghost use Rattle.mt_log.specs.First.{IsBegun, IsFirst};
 ghost use Rattle.mt_log.specs.Holds.{AreRecords};
 ghost use Rattle.mt_log.specs.Sound.{IsSound};
@@ -87,27 +88,7 @@ fn force_all<D: Device>(log: &mut Log, device: &mut D) -> Result<(), Refusal>
     requires on { IsOn D.seen D.may_leave log.old device.old }
     requires under_way { 0 < calls_left log.old }
     requires well { has_failed log.old ≡ false }
-    ensures on { IsOn D.seen D.may_leave log.new device.new }
-    ensures start { area_start log.new ≡ area_start log.old }
-    ensures end { area_end log.new ≡ area_end log.old }
-    ensures batches { OnOk result (durable_batches log.new ≡ durable_batches log.old ++ in_flight log.old ∷ []) }
-    ensures in_flight { OnOk result (in_flight log.new ≡ []) }
-    ensures waiting { OnOk result (waiting log.new ≡ waiting log.old) }
-    ensures durable { OnOk result (durable log.new ≡ durable log.old ++ in_flight log.old) }
-    ensures used { OnOk result (used log.new ≡ used log.old) }
-    ensures calls { OnOk result (calls_left log.new ≡ 0) }
-    ensures failed { OnOk result (has_failed log.new ≡ false) }
-    ensures alone { OnOk result (Only (D.seen device.new) (D.may_leave device.new)) }
-    ensures quiet { OnOk result (D.faults device.new ≡ D.faults device.old) }
-    ensures moments { LeavesOnly D.moment D.left_since device.old device.new
-        (TornFrom (D.may_leave device.old) (area_start log.old) (area_size log.old)) }
-    ensures scans { LeavesOnly D.moment D.left_since device.old device.new
-        (ScansWithOrWithout (area_start log.old) (area_end log.old) (durable_batches log.old) (in_flight log.old)) }
-    ensures elsewhere { Follows (Torn (area_start log.old) (area_size log.old)) (D.may_leave device.old)
-        (D.may_leave device.new) }
-    ensures rest { Torn (area_start log.old) (area_size log.old) (D.seen device.old) (D.seen device.new) }
-    ensures cause { IsErr result → D.faults device.old < D.faults device.new }
-    ensures only_device { IfErr result (λ why. why ≡ Refusal.DeviceFailed) }
+    ensures { EndsForce D.seen D.may_leave D.faults D.moment D.left_since log.old log.new device.old device.new result }
 {
     while let Forced::More = log.force_step(device)? {}
     Ok(())

@@ -1,4 +1,4 @@
-use Rattle.std.proofs.Common.{◌≡◌, ◌<◌, ◌++◌, ◌∷◌, [], List, ap, subst, ◌∙◌, refl, arith}
+use Rattle.std.proofs.Common.{rules, ◌≡◌, ◌<◌, ◌++◌, ◌∷◌, [], List, ap, subst, ◌∙◌, refl, arith}
 use Rattle.mt_frame.specs.declared.records.Record.{Record}
 use Rattle.mt_log.specs.Words.{durable_batches, durable, in_flight, waiting, area_start, area_end, area_size, used, calls_left, coming, IsLast, IsStep, batches_after}
 use Rattle.mt_log.specs.declared.log.Log.{Log}
@@ -24,11 +24,6 @@ last old new More not some step = absurd (not refl)
 last old new Idle not some step = absurd (let none = step.0 in omega arith)
 last old new (Durable pos) not some step = tt
 
-pub returns-in_err-force_step-clause-moments : goal.returns-in_err-force_step-clause-moments
-returns-in_err-force_step-clause-moments g c =
-    let inv = c.loop.invariant in
-    frame_more g.D.Device.moment g.D.Device.left_since g.D.Device.may_leave g.met.D.Device.only_now (area_start c.args.log.now) (area_size c.args.log.now) c.args.device.now c.loop.device c.force_step.new.device (area_start c.loop.log) (area_size c.loop.log) inv.start inv.size inv.moments inv.elsewhere c.force_step.ensures.time c.force_step.ensures.elsewhere
-
 pub loop-init : goal.loop-init
 loop-init g c =
     let log = c.args.log.now in
@@ -51,14 +46,6 @@ loop-init g c =
       elsewhere = λ k left. (k, left, torn_refl (area_start log) (area_size log) k);
       rest = torn_refl (area_start log) (area_size log) (g.D.Device.seen d);
     }
-
-pub returns-in_err-force_step-clause-scans : goal.returns-in_err-force_step-clause-scans
-returns-in_err-force_step-clause-scans g c =
-    let inv = c.loop.invariant in
-    let old = c.args.log.now in
-    let mid = c.loop.log in
-    scans_more g.D.Device.moment g.D.Device.left_since c.args.device.now c.loop.device c.force_step.new.device (area_start old) (area_start mid) (area_end old) (area_end mid) (durable_batches old) (durable_batches mid) (in_flight old) (coming mid)
-    inv.start inv.end inv.batches (coming-in_flight mid inv.calls ∙ inv.in_flight) inv.scans c.force_step.ensures.moments
 
 pub loop-preserved : goal.loop-preserved
 loop-preserved g c =
@@ -117,3 +104,30 @@ returns g c =
       cause = λ is. absurd (cc);
       only_device = tt;
     }
+
+pub returns-in_err-force_step : goal.returns-in_err-force_step
+returns-in_err-force_step g c = record {
+  on = search rules;
+  start = search rules;
+  end = search rules;
+  batches = search rules;
+  in_flight = search rules;
+  waiting = search rules;
+  durable = search rules;
+  used = search rules;
+  calls = search rules;
+  failed = search rules;
+  alone = search rules;
+  quiet = search rules;
+  moments = let inv = c.loop.invariant in
+      frame_more g.D.Device.moment g.D.Device.left_since g.D.Device.may_leave g.met.D.Device.only_now (area_start c.args.log.now) (area_size c.args.log.now) c.args.device.now c.loop.device c.force_step.new.device (area_start c.loop.log) (area_size c.loop.log) inv.start inv.size inv.moments inv.elsewhere c.force_step.ensures.time c.force_step.ensures.elsewhere;
+  scans = let inv = c.loop.invariant in
+      let old = c.args.log.now in
+      let mid = c.loop.log in
+      scans_more g.D.Device.moment g.D.Device.left_since c.args.device.now c.loop.device c.force_step.new.device (area_start old) (area_start mid) (area_end old) (area_end mid) (durable_batches old) (durable_batches mid) (in_flight old) (coming mid)
+      inv.start inv.end inv.batches (coming-in_flight mid inv.calls ∙ inv.in_flight) inv.scans c.force_step.ensures.moments;
+  elsewhere = search rules;
+  rest = search rules;
+  cause = search rules;
+  only_device = search rules;
+}

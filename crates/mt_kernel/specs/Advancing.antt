@@ -1,12 +1,13 @@
 -- What steps do that the public ones share.
 use Rattle.std.specs.Prelude.{ℕ, ◌≡◌, IfErr, List, Ok, Result, length, slice_index_or}
 use Rattle.mt_base.specs.declared.refusal.Refusal.{Refusal}
-use Rattle.mt_kernel.specs.Consistent.{Advances, AtPlace, IsConsistent, Origin, state_of}
-use Rattle.mt_kernel.specs.Restartable.{StepAppends}
+use Rattle.mt_kernel.specs.Consistent.{Advances, AtPlace, GoesBack, IsConsistent, Origin, state_of}
+use Rattle.mt_kernel.specs.Restartable.{QuietlyAppends, StepAppends}
 use Rattle.mt_kernel.specs.Steps.{LeavesExplained, TellsOther, WantsFrame}
 use Rattle.mt_kernel.specs.declared.parts.Parts.{Parts}
 use Rattle.mt_kernel.specs.declared.parts.Running.{Running}
 use Rattle.mt_log.specs.Words.{durable}
+use Rattle.mt_kernel.specs.Work.{LeavesStanding}
 use Rattle.mt_model.specs.Model.{Base}
 use Rattle.mt_op.specs.Faults.{TellsFaults}
 use Rattle.mt_op.specs.Holds.{IsNext, KeepsLocks}
@@ -15,6 +16,8 @@ use Rattle.mt_op.specs.Operations.{IsCause}
 use Rattle.mt_op.specs.Work.{Works}
 use Rattle.mt_op.specs.declared.answers.Stepped.{Stepped}
 use Rattle.mt_op.specs.declared.answers.Stepped.TheVariants as stepped
+use Rattle.mt_op.specs.declared.answers.TakenBack.{TakenBack}
+use Rattle.mt_op.specs.declared.answers.TakenBack.TheVariants as back
 
 module _ {D : Type 0} (seen : D → List ℕ) (may_leave : D → List ℕ → Type 0) (failures : D → ℕ) (moment : D → ℕ) (left_since : D → ℕ → List ℕ → Type 0) where
   -- A step of the operation at a place answered this, from parts k to parts n.
@@ -34,3 +37,21 @@ module _ {D : Type 0} (seen : D → List ℕ) (may_leave : D → List ℕ → Ty
     pub durable : durable n.operations.store.log ≡ durable k.operations.store.log
     pub moments : LeavesExplained seen may_leave moment left_since k n
     pub appends : (origin : Origin) (base : Base) → IsConsistent seen may_leave origin base k → AtPlace n.running.items place (λ r. StepAppends origin k n r.scope result)
+
+module _ {D : Type 0} (seen : D → List ℕ) (may_leave : D → List ℕ → Type 0) (failures : D → ℕ) (moment : D → ℕ) (left_since : D → ℕ → List ℕ → Type 0) where
+  -- The operation at a place was taken back a step, which answered this, from parts k to parts n.
+  pub record IsTakenBack (k n : Parts D) (place : ℕ) (result : Result TakenBack Refusal) : Type 0 where
+    pub live : n.live ≡ k.live
+    pub commits : n.commits ≡ k.commits
+    pub locks : n.operations.locks ≡ k.operations.locks
+    pub full : result ≡ Ok back.Flush → WantsFrame k n
+    pub length : length n.running.items ≡ length k.running.items
+    pub same : (origin : Origin) (base : Base) → IsConsistent seen may_leave origin base k → (r q : Running) → r ≡ slice_index_or k.running.items place r → q ≡ slice_index_or n.running.items place q → SameOp r.scope q.scope
+    pub puts : (r q : Running) → r ≡ slice_index_or k.running.items place r → q ≡ slice_index_or n.running.items place q → LeavesStanding r.scope q.scope result
+    pub why : IfErr result IsCause
+    pub faults : TellsFaults (failures k.operations.store.device) (failures n.operations.store.device) result
+    pub back : (origin : Origin) (base : Base) → IsConsistent seen may_leave origin base k → GoesBack seen may_leave origin base (state_of k base) n place result
+    pub book : n.book ≡ k.book
+    pub durable : durable n.operations.store.log ≡ durable k.operations.store.log
+    pub moments : LeavesExplained seen may_leave moment left_since k n
+    pub appends : (origin : Origin) (base : Base) → IsConsistent seen may_leave origin base k → QuietlyAppends origin.pages k n

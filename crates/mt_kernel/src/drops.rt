@@ -8,6 +8,7 @@ ghost use Rattle.mt_op.specs.Moves.{SameOp};
 ghost use Rattle.mt_op.specs.Faults.{TellsFaults};
 ghost use Rattle.mt_op.specs.Operations.{IsCause};
 ghost use Rattle.mt_live.specs.declared.transactions.TxnState.TheVariants.{Aborting};
+ghost use Rattle.mt_kernel.specs.Advancing.{IsTakenBack};
 ghost use Rattle.mt_kernel.specs.Consistent.{BacksIn, DropsIn, state_in, IsSound, IsClearedAt, AtPlace, Origin, state_of, IsConsistent, IsCleared, IsIn, GoesBack};
 ghost use Rattle.mt_kernel.specs.Restartable.{QuietlyAppends, StaysRestartable};
 ghost use Rattle.mt_kernel.specs.Steps.{LeavesExplained, WantsFrame};
@@ -33,26 +34,7 @@ impl<D: Device> Parts<D> {
         requires within { place < length self.old.running.items }
         requires aborting { AtPlace self.old.running.items place (λ r. (r.scope.undoes ≡ 0)
             × (state_in self.old.live.members r.scope.txn ≡ Some Aborting)) }
-        ensures live { self.new.live ≡ self.old.live }
-        ensures commits { self.new.commits ≡ self.old.commits }
-        ensures locks { self.new.operations.locks ≡ self.old.operations.locks }
-        ensures full { result ≡ Ok TakenBack.Flush → WantsFrame self.old self.new }
-        ensures length { length self.new.running.items ≡ length self.old.running.items }
-        ensures same { (origin : Origin) (base : Base) → IsConsistent D.seen D.may_leave origin base self.old
-            → (r q : Running) → r ≡ slice_index_or self.old.running.items place r
-            → q ≡ slice_index_or self.new.running.items place q → SameOp r.scope q.scope }
-        ensures puts { (r q : Running) → r ≡ slice_index_or self.old.running.items place r
-            → q ≡ slice_index_or self.new.running.items place q → LeavesStanding r.scope q.scope result }
-        ensures why { IfErr result IsCause }
-        ensures faults { TellsFaults (D.faults self.old.operations.store.device)
-            (D.faults self.new.operations.store.device) result }
-        ensures back { (origin : Origin) (base : Base) → IsConsistent D.seen D.may_leave origin base self.old
-            → GoesBack D.seen D.may_leave origin base (state_of self.old base) self.new place result }
-        ensures book { self.new.book ≡ self.old.book }
-        ensures durable { durable self.new.operations.store.log ≡ durable self.old.operations.store.log }
-        ensures moments { LeavesExplained D.seen D.may_leave D.moment D.left_since self.old self.new }
-        ensures appends { (origin : Origin) (base : Base) → IsConsistent D.seen D.may_leave origin base self.old
-            → QuietlyAppends origin.pages self.old self.new }
+        ensures { IsTakenBack D.seen D.may_leave D.faults D.moment D.left_since self.old self.new place result }
     {
         self.operations.take_back(&mut self.running[place].scope)
     }

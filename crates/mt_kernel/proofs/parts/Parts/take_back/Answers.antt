@@ -1,6 +1,6 @@
 use mathlib.Core.Logic.{∥∥₁_elim}
 use Rattle.std.proofs.Props.{props}
-use Rattle.std.proofs.Common.{refl, sym, subst}
+use Rattle.std.proofs.Common.{rules, refl, sym, subst}
 use Rattle.std.specs.Vec.{with_item}
 use Rattle.mt_op.specs.Operations.{world}
 use Rattle.mt_kernel.specs.declared.parts.Running.{Running}
@@ -20,17 +20,6 @@ use Rattle.mt_kernel.proofs.Between.{back_appends, goes_total}
 use Rattle.mt_kernel.proofs.Lasting.{lasts_same}
 use Rattle.mt_kernel.specs.declared.parts.Parts.{Parts}
 use Rattle.mt_kernel.proofs.parts.Parts.take_back.Goals as goal
-
-pub returns-clause-back : goal.returns-clause-back
-returns-clause-back g c = λ origin base safe.
-    let seen = g.D.Device.seen in let k = c.args.self.now in let r = c.index_mut.result.now in let e = c.take_back.ensures in
-    let q : Running = record { scope = c.take_back.new.scope; op = r.op } in
-    let was : IsRunning origin.relations origin.counters (world seen origin.pages k.operations) k.last r = subst (IsRunning origin.relations origin.counters (world seen origin.pages k.operations) k.last) (sym c.index_mut.ensures.value) (safe.runs c.args.place r c.requires.within) in
-    let gone = e.goes origin.pages origin.relations origin.counters safe.fit.right was.under in
-    gone_back seen g.D.Device.may_leave origin base k (record k { operations = c.take_back.new.self; running = with_item k.running c.args.place q }) c.args.place r q c.take_back.result
-    c.requires.within c.index_mut.ensures.value refl refl safe was.moving (c.requires.aborting r c.index_mut.ensures.value)
-    (record { right = gone.0; goes = gone.1; log = e.log; area = e.area; budget = e.budget; claims = e.claimed; records = e.records; locks = e.locks })
-    (λ is. (e.more is).0) (λ is. (e.clear is).0) e.flush e.err
 
 pub take_back-requires-clause-right : goal.take_back-requires-clause-right
 take_back-requires-clause-right g c = ∥∥₁_elim c.requires.safe (hlevel props) (λ (origin, base, safe). let k = c.args.self.now in let r = c.index_mut.result.now in
@@ -53,35 +42,49 @@ take_back-requires-clause-room g c = ∥∥₁_elim c.requires.safe (hlevel prop
     let mine : left_of (get_or k.running.items c.args.place r) ≡ left_of r = ap left_of (sym c.index_mut.ensures.value) in
     let log = safe.fit.log in omega (arith, part, mine, log))
 
-pub returns-clause-length : goal.returns-clause-length
-returns-clause-length g c = length-set c.args.self.now.running.items c.args.place (record { scope = c.take_back.new.scope; op = c.index_mut.result.now.op })
-
-pub returns-clause-same : goal.returns-clause-same
-returns-clause-same g c = λ origin base safe x y at now.
-    let seen = g.D.Device.seen in let k = c.args.self.now in let r = c.index_mut.result.now in let e = c.take_back.ensures in
-    let q : Running = record { scope = c.take_back.new.scope; op = r.op } in
-    let was : IsRunning origin.relations origin.counters (world seen origin.pages k.operations) k.last r = subst (IsRunning origin.relations origin.counters (world seen origin.pages k.operations) k.last) (sym c.index_mut.ensures.value) (safe.runs c.args.place r c.requires.within) in
-    let gone = e.goes origin.pages origin.relations origin.counters safe.fit.right was.under in
-    let old : r ≡ x = c.index_mut.ensures.value ∙ sym (get_or_default k.running.items c.args.place x r c.requires.within) ∙ sym at in
-    let new : q ≡ y = sym (now ∙ get_or-set_same k.running.items c.args.place q y c.requires.within) in
-    subst (λ (X : Type 0). X) (λ i. SameOp (old i).scope (new i).scope) gone.1.same
-
-pub returns-clause-puts : goal.returns-clause-puts
-returns-clause-puts g c = λ x y at now.
-    let k = c.args.self.now in let r = c.index_mut.result.now in let e = c.take_back.ensures in
-    let q : Running = record { scope = c.take_back.new.scope; op = r.op } in
-    let old : r ≡ x = c.index_mut.ensures.value ∙ sym (get_or_default k.running.items c.args.place x r c.requires.within) ∙ sym at in
-    let new : q ≡ y = sym (now ∙ get_or-set_same k.running.items c.args.place q y c.requires.within) in
-    subst (λ (X : Type 0). X) (λ i. LeavesStanding (old i).scope (new i).scope c.take_back.result) (puts_back r.scope q.scope c.take_back.result (λ is. (e.more is).1) e.flush e.err)
-
-pub returns-clause-appends : goal.returns-clause-appends
-returns-clause-appends g c = λ origin base safe.
-    let seen = g.D.Device.seen in let k = c.args.self.now in let r = c.index_mut.result.now in let e = c.take_back.ensures in
-    let w = world seen origin.pages k.operations in let z = world seen origin.pages c.take_back.new.self in
-    let was : IsRunning origin.relations origin.counters w k.last r = subst (IsRunning origin.relations origin.counters w k.last) (sym c.index_mut.ensures.value) (safe.runs c.args.place r c.requires.within) in
-    let gone = e.goes origin.pages origin.relations origin.counters safe.fit.right was.under in
-    let n : Parts g.row.D.Denot = record k { operations = c.take_back.new.self; running = with_item k.running c.args.place (record { scope = c.take_back.new.scope; op = r.op }) } in
-    record {
-      area = record { total = goes_total origin.relations origin.counters w z r.scope c.take_back.new.scope was.under gone.1; bytes = e.area; lasts = lasts_same k n e.durable };
-      appends = back_appends origin.relations origin.counters w z r.scope c.take_back.new.scope c.take_back.result refl gone.1 e.records;
-    }
+pub returns : goal.returns
+returns g c = record {
+  live = search rules;
+  commits = search rules;
+  locks = search rules;
+  full = search rules;
+  length = length-set c.args.self.now.running.items c.args.place (record { scope = c.take_back.new.scope; op = c.index_mut.result.now.op });
+  same = λ origin base safe x y at now.
+      let seen = g.D.Device.seen in let k = c.args.self.now in let r = c.index_mut.result.now in let e = c.take_back.ensures in
+      let q : Running = record { scope = c.take_back.new.scope; op = r.op } in
+      let was : IsRunning origin.relations origin.counters (world seen origin.pages k.operations) k.last r = subst (IsRunning origin.relations origin.counters (world seen origin.pages k.operations) k.last) (sym c.index_mut.ensures.value) (safe.runs c.args.place r c.requires.within) in
+      let gone = e.goes origin.pages origin.relations origin.counters safe.fit.right was.under in
+      let old : r ≡ x = c.index_mut.ensures.value ∙ sym (get_or_default k.running.items c.args.place x r c.requires.within) ∙ sym at in
+      let new : q ≡ y = sym (now ∙ get_or-set_same k.running.items c.args.place q y c.requires.within) in
+      subst (λ (X : Type 0). X) (λ i. SameOp (old i).scope (new i).scope) gone.1.same;
+  puts = λ x y at now.
+      let k = c.args.self.now in let r = c.index_mut.result.now in let e = c.take_back.ensures in
+      let q : Running = record { scope = c.take_back.new.scope; op = r.op } in
+      let old : r ≡ x = c.index_mut.ensures.value ∙ sym (get_or_default k.running.items c.args.place x r c.requires.within) ∙ sym at in
+      let new : q ≡ y = sym (now ∙ get_or-set_same k.running.items c.args.place q y c.requires.within) in
+      subst (λ (X : Type 0). X) (λ i. LeavesStanding (old i).scope (new i).scope c.take_back.result) (puts_back r.scope q.scope c.take_back.result (λ is. (e.more is).1) e.flush e.err);
+  why = search rules;
+  faults = search rules;
+  back = λ origin base safe.
+      let seen = g.D.Device.seen in let k = c.args.self.now in let r = c.index_mut.result.now in let e = c.take_back.ensures in
+      let q : Running = record { scope = c.take_back.new.scope; op = r.op } in
+      let was : IsRunning origin.relations origin.counters (world seen origin.pages k.operations) k.last r = subst (IsRunning origin.relations origin.counters (world seen origin.pages k.operations) k.last) (sym c.index_mut.ensures.value) (safe.runs c.args.place r c.requires.within) in
+      let gone = e.goes origin.pages origin.relations origin.counters safe.fit.right was.under in
+      gone_back seen g.D.Device.may_leave origin base k (record k { operations = c.take_back.new.self; running = with_item k.running c.args.place q }) c.args.place r q c.take_back.result
+      c.requires.within c.index_mut.ensures.value refl refl safe was.moving (c.requires.aborting r c.index_mut.ensures.value)
+      (record { right = gone.0; goes = gone.1; log = e.log; area = e.area; budget = e.budget; claims = e.claimed; records = e.records; locks = e.locks })
+      (λ is. (e.more is).0) (λ is. (e.clear is).0) e.flush e.err;
+  book = search rules;
+  durable = search rules;
+  moments = search rules;
+  appends = λ origin base safe.
+      let seen = g.D.Device.seen in let k = c.args.self.now in let r = c.index_mut.result.now in let e = c.take_back.ensures in
+      let w = world seen origin.pages k.operations in let z = world seen origin.pages c.take_back.new.self in
+      let was : IsRunning origin.relations origin.counters w k.last r = subst (IsRunning origin.relations origin.counters w k.last) (sym c.index_mut.ensures.value) (safe.runs c.args.place r c.requires.within) in
+      let gone = e.goes origin.pages origin.relations origin.counters safe.fit.right was.under in
+      let n : Parts g.row.D.Denot = record k { operations = c.take_back.new.self; running = with_item k.running c.args.place (record { scope = c.take_back.new.scope; op = r.op }) } in
+      record {
+        area = record { total = goes_total origin.relations origin.counters w z r.scope c.take_back.new.scope was.under gone.1; bytes = e.area; lasts = lasts_same k n e.durable };
+        appends = back_appends origin.relations origin.counters w z r.scope c.take_back.new.scope c.take_back.result refl gone.1 e.records;
+      };
+}

@@ -1,0 +1,5 @@
+use Rattle.std.proofs.Common.{rules}
+use Rattle.mt_bucket.proofs.heads.count.Goals as goal
+
+pub returns : goal.returns
+returns c = search rules

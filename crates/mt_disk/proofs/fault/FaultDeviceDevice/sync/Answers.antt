@@ -1,0 +1,5 @@
+use Rattle.std.proofs.Common.{rules}
+use Rattle.mt_disk.proofs.fault.FaultDeviceDevice.sync.Goals as goal
+
+pub returns-clause-durable : goal.returns-clause-durable
+returns-clause-durable g c = search rules

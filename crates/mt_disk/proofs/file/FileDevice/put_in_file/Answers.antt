@@ -1,0 +1,5 @@
+use Rattle.std.proofs.Common.{rules}
+use Rattle.mt_disk.proofs.file.FileDevice.put_in_file.Goals as goal
+
+pub returns : goal.returns
+returns g c = search rules

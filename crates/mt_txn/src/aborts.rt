@@ -29,7 +29,7 @@ use mt_op::TakenBack;
 impl<D: Device> Kernel<D> {
     /// Begins to undo an open transaction, whether an operation of it is unfinished or not; abort steps bring it to its
     /// end. Where nobody is in the way they are, over n pages, at most 2 n + 10 for each operation of it that stands or
-    /// is under way, and the end. It takes no memory.
+    /// is under way, and the end. It takes no memory, and makes no call of the device.
     ///
     /// Refused, in this order: 2 where the device has failed, 15 where the transaction is not open. Nothing has
     /// changed then.
@@ -130,7 +130,7 @@ impl<D: Device> Kernel<D> {
     /// each operation that did anything is undone by its inverse, the last one first (Weikum 1991), a step of the
     /// inverse a step; then the end is logged, and the transaction lives no more. A step waits, or begins anew, only
     /// for another transaction that lives. It locks no page but one that the plan of an inverse asks for next, and gives
-    /// no other operation's page locks back.
+    /// no other operation's page locks back. It makes no record of the log durable.
     ///
     /// How many steps: each that answers [`AbortStepped::More`] lowers what the abort has left, and the end comes where
     /// nothing is left. [`AbortStepped::Again`] adds two steps a page at most.

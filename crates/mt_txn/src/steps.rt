@@ -29,7 +29,8 @@ impl<D: Device> Kernel<D> {
     ///
     /// It locks no page but one that its operation's plan asks for next. It waits only for the transaction whose
     /// operation is the smallest with a lock in the way, and larger than its own; where that is smaller, it gives its
-    /// own page locks back to begin anew. They are given back at its end, too; other operations' locks stay.
+    /// own page locks back to begin anew. They are given back at its end, too; other operations' locks stay. It makes
+    /// no record of the log durable.
     ///
     /// Refused, in this order: 2 where the device has failed, 15 where the transaction is not open or has no operation
     /// under way, 1 for want of memory; and with 2 where the device fails in this step. The state is as before.

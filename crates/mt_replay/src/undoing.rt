@@ -215,7 +215,8 @@ impl Restored {
     }
 
     /// Undoes a finished operation by its inverse, which splits no bucket of the index. Its record goes into a page of
-    /// records with room, and into a new page only where no page has room.
+    /// records with room, and into a new page only where no page has room. It gives back each page that it leaves
+    /// without a record, and changes eight pages at most.
     ///
     /// `false` tells that the inverse does not find what the record says, or too few free pages, or that the relation
     /// or counter is not there: the pages, or the record, are none that a kernel left. The only refusal is

@@ -144,7 +144,7 @@ fn advice_for(refusal: &Refusal) -> &'static str
         }
         Refusal::BadFormat(place) => advice_at(*place),
         Refusal::BadLength => {
-            "a number is outside its limits, or there are more than 64 scripts; see `mtk --help`"
+            "a number is outside its limits, or there are more than 64 scripts; see `mtk format --help` and `mtk run --help`"
         }
         Refusal::LogFull => {
             "its log cannot be turned over; keep the file, which `mtk check` still reads"

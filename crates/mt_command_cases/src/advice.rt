@@ -25,7 +25,7 @@ const NO_END: &[u8] =
     b"refused 4 BadFormat 0\nc: the file is shorter than its first bytes tell, or these are damaged; take a copy that is whole\n";
 
 const NO_SCHEMA: &[u8] =
-    b"refused 5 BadLength\nd: a number is outside its limits, or there are more than 64 scripts; see `mtk --help`\n";
+    b"refused 5 BadLength\nd: a number is outside its limits, or there are more than 64 scripts; see `mtk format --help` and `mtk run --help`\n";
 
 // A folder with a device `b`, half of one, `c`, and scripts of which `s` has a bad line.
 fn folder_of(rt: &(impl AllocGlobal + Threads + Wait + Sync)) -> Result<MemFolder, Refusal> {

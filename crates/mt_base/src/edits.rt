@@ -25,9 +25,9 @@ pub struct Edit {
     pub bytes: Bytes,
 }
 
-/// The edits that make the one page to the other. Each begins and ends with a byte that changes, and a
-/// range ends where fifteen bytes in a row stay, so that together they take no more of a log than one
-/// edit of the whole page would. No byte differs: no edit. The only error is want of memory.
+/// The edits that make the one page to the other. Each begins and ends with a byte that changes, and a range ends
+/// where fifteen bytes in a row stay. So together they take no more of a log than one edit of the whole page would.
+/// No byte differs: no edit. The only error is want of memory.
 pub fn edits_of(alloc: Global, old: &[u8], new: &[u8]) -> Result<Vec<Edit>, AllocError>
     requires same { length old.now ≡ length new.now }
     requires fits { length old.now ≤ PAGE_BYTES }

@@ -1,6 +1,6 @@
-//! Numbers, limits, lock modes and refusals: the words that every crate of the transaction kernel
-//! speaks in, the bytes of keys and values, ranges of a page and what changed in it, and a history that
-//! only proofs see.
+//! Numbers, limits, lock modes and refusals: the words that every crate of the transaction kernel speaks in. Beside
+//! them are the bytes of keys and values, ranges of a page and what changed in it, and a history that only proofs
+//! see.
 #![tactic(auto)]
 
 mod bytes;

@@ -73,8 +73,8 @@ pub fn remove(page: &mut [u8], relation: RelNo, key: &[u8]) -> bool
     true
 }
 
-/// Moves the entries whose hash has a bit, in their order, behind those of another page, which has room
-/// for them; the others stay, in their order.
+/// Moves the entries whose hash has a bit, in their order, behind those of another page, which has room for them. The
+/// others stay, in their order.
 pub fn partition(page: &mut [u8], bit: u8, to: &mut [u8])
     requires whole { length page.old ≡ PAGE_BYTES }
     requires to_whole { length to.old ≡ PAGE_BYTES }

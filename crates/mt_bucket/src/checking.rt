@@ -7,9 +7,9 @@ use crate::heads::{CELL_BYTES, HEAD_BYTES, MAX_ENTRIES};
 use mt_base::limits::MAX_KEY_BYTES;
 use mt_base::ranges::u16_at;
 
-/// Whether these 4,096 bytes are a bucket page of a schema of so many relations and pages: a depth of at
-/// most 9, at most 58 entries, an overflow page of the device or none, zeros where the head has them, and
-/// each entry with a relation, a key and a page within their limits and zeros behind its key.
+/// Whether these 4,096 bytes are a bucket page of a schema of so many relations and pages. Its depth is at most 9, it
+/// has at most 58 entries, and its overflow page is of the device or none. Zeros stand where the head has them. Each
+/// entry has a relation, a key and a page within their limits, and zeros behind its key.
 pub fn check(page: &[u8], relations: u16, pages: u16) -> bool
     requires whole { length page.now ≡ PAGE_BYTES }
     ensures { MatchBool result (IsBucket relations pages page.now) (IsBucket relations pages page.now → ⊥) }

@@ -32,9 +32,9 @@ impl From<DeviceFault> for Refusal {
 
 /// A device: a row of bytes whose number is fixed, that is read, written and synced.
 ///
-/// A write may be seen at once by a read. But until a sync that answers `Ok`, a crash may leave any
-/// bytes at all in the range of each write since the last one, whatever their order; the bytes
-/// outside of those ranges are as the last sync left them. No call takes memory.
+/// A write may be seen at once by a read. But until a sync that answers `Ok`, a crash may leave any bytes at all in
+/// the range of each write since the last one, whatever their order. The bytes outside of those ranges are as the
+/// last sync left them. No call takes memory.
 pub trait Device {
     /// The present content: the bytes that a read returns.
     ghost seen: { Self → List ℕ };
@@ -42,8 +42,8 @@ pub trait Device {
     /// What a crash at this moment may leave.
     ghost may_leave: { Self → List ℕ → Type 0 };
 
-    /// The moment, as a number that never falls. In one call it rises by 1 at most, and this is all that code
-    /// over any device knows: so what may rise it by 1 at most makes one call at most.
+    /// The moment, as a number that never falls. In one call it rises by 1 at most, and this is all that code over
+    /// any device knows. So what may rise it by 1 at most makes one call at most.
     ghost moment: { Self → ℕ };
 
     /// What a crash at this moment or at one since that moment might have left, within a call too.

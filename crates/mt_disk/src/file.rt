@@ -17,18 +17,17 @@ const SPARE_WRITES: usize = 64;
 /// A device in a file. It reads its file once, when it is made, and answers each read from memory;
 /// each write and each sync is made on both.
 ///
-/// What the proofs say of it, they say of its copy in memory. That the file holds the same is for
-/// the operating system, the disk and whoever else can reach the file, and is trusted: a proof cannot
-/// know what a file does. What can be seen of a file gone wrong is a fault: an error that the system
-/// answers, and a length, looked at when the file is read and at each sync, that is not what it was.
-/// A write that meets an error counts as written all the same. After one error of the file each
-/// later write and sync fails as well, since a system may forget after a failed sync what it could
-/// not write, and answer the next one well.
+/// What the proofs say of it, they say of its copy in memory. That the file holds the same is for the operating
+/// system, the disk and whoever else can reach the file. It is trusted: a proof cannot know what a file does. What
+/// can be seen of a file gone wrong is a fault. That is an error that the system answers, or a length that is not
+/// what it was; it is looked at when the file is read and at each sync. A write that meets an error counts as written
+/// all the same. After one error of the file each later write and sync fails as well. After a failed sync a system
+/// may forget what it could not write, and answer the next one well.
 ///
-/// Nobody else opens the file meanwhile, as long as they open it so too: its lock is taken, as `flock` does, and let go
-/// with the device.
+/// Nobody else opens the file meanwhile, as long as they open it so too. Its lock is taken, as `flock` does, and let
+/// go with the device.
 ///
-/// It has room without a sync for a write to each page of 4096 bytes and 64 more, with as many bytes
+/// It has room without a sync for a write to each page of 4096 bytes and 64 more. These have room for as many bytes
 /// as the file has and 262,144 more: enough to format it whole.
 #[derive(Drop)]
 pub struct FileDevice<F> {
@@ -41,11 +40,10 @@ pub struct FileDevice<F> {
 impl FileDevice<File> {
     ghost use Rattle.mt_disk.specs.File.{copy_in, IsFresh};
 
-    /// The device in the file of this path, of the file's length. What the file holds is synced
-    /// first, so that none of it can be lost any more. A file that may be read alone is opened so,
-    /// and each write to it is a fault. Refused by `NoMemory` for want of memory, and by
-    /// `DeviceFailed` where the file cannot be opened, or is open as a device, here or in another
-    /// program, or cannot be read, or does not keep its length; it is then as it was.
+    /// The device in the file of this path, of the file's length. What the file holds is synced first, so that none
+    /// of it can be lost any more. A file that may be read alone is opened so, and each write to it is a fault.
+    /// Refused by `NoMemory` for want of memory. Refused by `DeviceFailed` where the file cannot be opened or read,
+    /// does not keep its length, or is open as a device, here or in another program. It is then as it was.
     pub fn open<R: Files<File = File> + AllocGlobal>(
         rt: &R,
         path: &str,
@@ -65,10 +63,9 @@ impl FileDevice<File> {
         })
     }
 
-    /// A device of so many bytes, all of them 0, in a file of this path; what the file held before
-    /// is gone. Refused by `NoMemory` for want of memory, before the file is touched, and by
-    /// `DeviceFailed` where the file is open as a device, and is then as it was, or cannot be made or
-    /// written, and may then be there in part.
+    /// A device of so many bytes, all of them 0, in a file of this path; what the file held before is gone. Refused
+    /// by `NoMemory` for want of memory, before the file is touched. Refused by `DeviceFailed` where the file is open
+    /// as a device, and is then as it was. Or it cannot be made or written, and may then be there in part.
     pub fn make<R: Files<File = File> + AllocGlobal>(
         rt: &R,
         path: &str,
@@ -187,8 +184,8 @@ fn resize<F: OpenFile>(file: &F, len: u64) -> Result<(), DeviceFault> {
     Ok(())
 }
 
-/// The file's length, by a seek: asking for all that is known of a file between two writes makes
-/// the next sync write down the time of the last change as well.
+/// The file's length, by a seek. Asking for all that is known of a file between two writes makes the next sync write
+/// down the time of the last change as well.
 fn length_of<F: Seek>(file: &mut F) -> Result<u64, DeviceFault> {
     Ok(file.seek(SeekFrom::End(0))?)
 }

@@ -39,8 +39,8 @@ pub(crate) struct State {
     synced: Vec<u8>,
     /// The writes since then, the oldest first.
     writes: Vec<Write>,
-    /// Their own bytes, one write's behind the other's: what a crash may leave of a write can be its
-    /// bytes, where a later one has overwritten them.
+    /// Their own bytes, one write's behind the other's. What a crash may leave of a write can be its bytes, where a
+    /// later one has overwritten them.
     written: Vec<u8>,
     /// How many of them there may be, and how many bytes they may have.
     writes_room: usize,
@@ -187,13 +187,12 @@ fn blot(bytes: &mut Vec<u8>, at: usize, len: usize, byte: u8)
     bytes[at..at + len].fill(byte);
 }
 
-/// A device in memory. It is the model of a device: until a sync, a crash may leave any bytes in each
-/// range that was written since the last one, and outside of them what that sync left.
+/// A device in memory. It is the model of a device. Until a sync, a crash may leave any bytes in each range that was
+/// written since the last one, and outside of them what that sync left.
 ///
-/// It fails only where a write is one too many: it has room for a number of writes without a sync
-/// and for a number of bytes in them, both fixed when it is made. Such a write changes nothing. Reads
-/// and syncs never fail. A write costs the copying of its own bytes, a sync that of the bytes written
-/// since the last one.
+/// It fails only where a write is one too many. It has room for a number of writes without a sync and for a number of
+/// bytes in them, both fixed when it is made. Such a write changes nothing. Reads and syncs never fail. A write costs
+/// the copying of its own bytes, a sync that of the bytes written since the last one.
 #[derive(Drop)]
 pub struct MemDevice {
     state: State,
@@ -206,9 +205,8 @@ impl MemDevice {
     ghost use Rattle.mt_disk.specs.Memory.{content, MayLeave, failures_of, writes_left, bytes_left};
     ghost use Rattle.mt_disk.specs.LeftBy.{LeftBy, synced_content};
 
-    /// A device with these bytes, all of them synced, that has not failed, with room for so many
-    /// writes without a sync and for so many bytes in them. The only error is want of memory, and then
-    /// the bytes are let go.
+    /// A device with these bytes, all of them synced, that has not failed. It has room for so many writes without a
+    /// sync and for so many bytes in them. The only error is want of memory, and then the bytes are let go.
     pub fn new(
         alloc: Global,
         bytes: Vec<u8>,

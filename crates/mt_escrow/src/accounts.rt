@@ -53,8 +53,8 @@ impl Escrow {
         })
     }
 
-    /// Asks leave for an add. It is granted where the counter stays in its bounds whichever of the
-    /// pending adds are made, this one among them; it is then the last of the pending adds.
+    /// Asks leave for an add. It is granted where the counter stays in its bounds whichever of the pending adds are
+    /// made, this one among them. It is then the last of the pending adds.
     ///
     /// [`Refusal::NoMemory`] where the list of pending adds could not grow; else
     /// [`Refusal::Escrow`] where some choice of them leaves the bounds. The escrow is then as before.
@@ -79,9 +79,8 @@ impl Escrow {
         Ok(())
     }
 
-    /// The end of a commit: the pending adds of the transaction move into the committed counters,
-    /// which stay in their bounds, and none of them is pending any more. Those of others stay. It
-    /// takes no memory.
+    /// The end of a commit. The pending adds of the transaction move into the committed counters, which stay in their
+    /// bounds, and none of them is pending any more. Those of others stay. It takes no memory.
     pub fn commit(&mut self, txn: TxnNo)
         ensures counters { length self.new.committed ≡ length self.old.committed }
         ensures moved { (c : ℕ) →
@@ -94,9 +93,9 @@ impl Escrow {
         self.pending.retain(|add| add.txn != txn);
     }
 
-    /// The end of an add's inverse, or of an add that was given up: the last pending add of this
-    /// transaction to this counter by this step goes, and nothing else changes. Where none is pending
-    /// nothing changes. It takes no memory.
+    /// The end of an add's inverse, or of an add that was given up. The last pending add of this transaction to this
+    /// counter by this step goes, and nothing else changes. Where none is pending nothing changes. It takes no
+    /// memory.
     pub fn taken_back(&mut self, txn: TxnNo, counter: CtrNo, step: i64)
         ensures committed { self.new.committed ≡ self.old.committed }
         ensures gone { LosesLast (add_of txn counter step) self.old.pending self.new.pending }

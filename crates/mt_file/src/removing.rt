@@ -13,9 +13,9 @@ use mt_space::pages::{FREE, MAP};
 use mt_space::{Changes, Pages};
 use std::alloc::{AllocError, Global};
 
-/// Plans to take away the record under a name. That name holds nothing then, and no other changes. Where it
-/// was the last record of its page, the page is given back: its kind is that of a free page, and its own
-/// bytes, which are open from then on, are left. Never `Full`. The only error is want of memory.
+/// Plans to take away the record under a name. That name holds nothing then, and no other changes. Where it was the
+/// last record of its page, the page is given back. Its kind is that of a free page, and its own bytes, which are
+/// open from then on, are left. Never `Full`. The only error is want of memory.
 pub fn plan_remove<V: Pages>(alloc: Global, views: &V, name: RecordName) -> Result<Step, AllocError>
     requires sound { V.is_sound views.now }
     requires good { ∥ ((pages : PageBytes) × (r : Row) × Agrees (V.at_hand views.now) pages × IsFile pages

@@ -16,11 +16,11 @@ use mt_slots::{get, live, remove, replace};
 use mt_space::{Changes, Pages};
 use std::alloc::{AllocError, Global};
 
-/// Plans to give the record under a name another value. It stays under its name where its page has room
-/// for it: where its new length is no more than the page's room and its old length. Else it moves: it is
-/// taken away there, and put into the page `room`, which holds records, or into a new one where no page is
-/// named. The same bytes change nothing. `Full` if and only if it would move, and the page that is named
-/// has no room, or none is named and none is free. The only error is want of memory.
+/// Plans to give the record under a name another value. It stays under its name where its page has room for it. That
+/// is so where its new length is no more than the page's room and its old length. Else it moves. It is taken away
+/// there, and put into the page `room`, which holds records, or into a new one where no page is named. The same bytes
+/// change nothing. `Full` if and only if it would move, and the page that is named has no room, or none is named and
+/// none is free. The only error is want of memory.
 ///
 /// A record that is alone in its page has room there but for a table of slots longer than its records can
 /// have made it. Then the page is given back and at once taken again: it is written whole.

@@ -12,9 +12,9 @@ use mt_base::Refusal;
 use std::alloc::{AllocError, Global};
 use std::collections::BTreeSet;
 
-/// What the records of a log area so far tell of those that may follow: which transactions and
-/// operations have ended, which operations are finished and which of them are undone, and which
-/// pages have their image. Each record costs a few look-ups in ordered sets.
+/// What the records of a log area so far tell of those that may follow. Which transactions and operations have ended,
+/// which operations are finished and which of them are undone, and which pages have their image. Each record costs a
+/// few look-ups in ordered sets.
 #[derive(Drop)]
 pub struct AreaRules {
     ended: BTreeSet<u64>,
@@ -196,10 +196,9 @@ impl AreaRules {
         note_undoing(&mut self.undone, entry)
     }
 
-    /// Whether each of the records may stand behind those known before and those before it in this
-    /// list; `first` says that they are the area's first batch. Where they may, they are known from
-    /// then on. After `false` and after the only refusal, [`Refusal::NoMemory`], some of them may be
-    /// known, so the rules are then to be let go.
+    /// Whether each of the records may stand behind those known before and those before it in this list. `first` says
+    /// that they are the area's first batch. Where they may, they are known from then on. After `false` and after the
+    /// only refusal, [`Refusal::NoMemory`], some of them may be known, so the rules are then to be let go.
     pub fn admit(&mut self, first: bool, records: &[Record]) -> Result<bool, Refusal>
         ensures yes { IfOk result (λ ok. (earlier : List Record) → Knows self.old earlier → ok ≡ true
             → MayFollow first earlier records.now) }

@@ -1,5 +1,5 @@
-// Bytes as records and batches. Each reader takes its value from the front and hands back the bytes
-// behind it; nothing is read twice, and only the bytes that a record keeps are copied.
+// Bytes as records and batches. Each reader takes its value from the front and hands back the bytes behind it.
+// Nothing is read twice, and only the bytes that a record keeps are copied.
 ghost use Rattle.std.specs.Prelude.{◌≡◌, ◌≤◌, ℕ, List, length, IfOk, IfErr, IfSome, IfNone, Err};
 ghost use Rattle.std.specs.Int.{w16, w32, w64};
 ghost use Rattle.mt_base.specs.declared.refusal.Refusal.{Refusal};

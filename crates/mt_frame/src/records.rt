@@ -388,9 +388,8 @@ impl Record {
         }
     }
 
-    /// How many bytes its text takes in a batch's body: 24 and its bytes for a page, 25 and the
-    /// operation's for an operation's end, 17 for an operation taken back, and 9 for the end of a
-    /// transaction.
+    /// How many bytes its text takes in a batch's body. A page takes 24 and its bytes, and an operation's end 25 and
+    /// the operation's. An operation taken back takes 17, and the end of a transaction 9.
     pub fn length(&self) -> usize
         requires { IsRecord self.now }
         ensures { result ≡ record_length self.now }

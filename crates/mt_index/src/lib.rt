@@ -1,8 +1,7 @@
-//! An index over pages: extendible hashing (Fagin 1979), a finite map from a relation and a key to the
-//! name of a record. Page 1 is a directory of pointers to bucket pages; buckets split, and chain overflow
-//! pages. A plan reads pages where they are lent and answers which page it still needs, or the changes of
-//! pages that change the map at its key alone; it writes nothing itself. For how a bucket page is read see
-//! `mt_bucket`.
+//! An index over pages: extendible hashing (Fagin 1979), a finite map from a relation and a key to the name of a
+//! record. Page 1 is a directory of pointers to bucket pages; buckets split, and chain overflow pages. A plan reads
+//! pages where they are lent. It answers which page it still needs, or the changes of pages that change the map at
+//! its key alone; it writes nothing itself. For how a bucket page is read see `mt_bucket`.
 #![tactic(auto)]
 
 mod adding;

@@ -15,17 +15,17 @@ use mt_bucket::depth;
 use mt_space::Pages;
 use std::alloc::{AllocError, Global};
 
-/// The changes that add the entry of a relation and a key that have none: the first page of the key's
-/// bucket with room takes it. Where none has room, and splits are allowed, and the bucket is of one page and its
-/// keys share fewer than 9 bits, it is split once over its page and the free page of the smallest
-/// number; the directory doubles before where it goes by no more bits than the bucket. The entry then goes
-/// into its half, or as where no split is due: into the free page of the smallest number, chained behind. So at
-/// most two pages are taken, and five change. Each bucket page stands in a chain then, where each did before.
+/// The changes that add the entry of a relation and a key that have none. The first page of the key's bucket with
+/// room takes it. Where none has room, splits are allowed, the bucket is of one page and its keys share fewer than 9
+/// bits, it is split once. It is then over its page and the free page of the smallest number. The directory doubles
+/// before where it goes by no more bits than the bucket. The entry then goes into its half, or as where no split is
+/// due: into the free page of the smallest number, chained behind. So at most two pages are taken, and five change.
+/// Each bucket page stands in a chain then, where each did before.
 ///
-/// The directory is needed for read, and for write where it is to change; pages of the bucket are needed for write,
-/// and the map of the space and pages to be taken only where the bucket has no room. `Full` is answered just where no page is free, or just one
-/// where a split takes it and its half has no room. A relation's number is below 256. The only error is want
-/// of memory.
+/// The directory is needed for read, and for write where it is to change. Pages of the bucket are needed for write,
+/// and the map of the space and pages to be taken only where the bucket has no room. `Full` is answered just where no
+/// page is free, or just one where a split takes it and its half has no room. A relation's number is below 256. The
+/// only error is want of memory.
 pub fn plan_add<V: Pages>(
     alloc: Global,
     views: &V,

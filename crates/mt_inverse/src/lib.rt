@@ -1,5 +1,5 @@
-//! The operation that takes back what another did (Weikum 1991): an abort does not put old pages back, it
-//! makes the inverses of its operations, the last one first.
+//! The operation that takes back what another did (Weikum 1991). An abort does not put old pages back; it makes the
+//! inverses of its operations, the last one first.
 //!
 //! An inverse is chosen by the operation and its reply alone, so nothing else is kept for it. What it leads
 //! to is a law of the model, `inverses_take_back` of `mt_model`.
@@ -26,10 +26,9 @@ pub fn has_effect(op: &Op, reply: &Reply) -> bool
     }
 }
 
-/// The operation that takes back what this one did, where it replied this: an insert by a delete, an
-/// update or a delete by putting the old value back, an add by the opposite step. `None` where it did
-/// nothing, as a read, an insert on a key that was there, or an update or a delete on one that was not
-/// (Weikum 1991).
+/// The operation that takes back what this one did, where it replied this. It takes an insert back by a delete, an
+/// update or a delete by putting the old value back, an add by the opposite step. `None` where it did nothing (Weikum
+/// 1991). So a read did, an insert on a key that was there, or an update or a delete on one that was not.
 ///
 /// The only refusal is [`Refusal::NoMemory`].
 pub fn inverse_of(op: &Op, reply: &Reply) -> Result<Option<Op>, Refusal>

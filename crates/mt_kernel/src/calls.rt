@@ -90,13 +90,13 @@ impl<D: Device> Parts<D> {
         place_in(self.running.as_slice(), txn)
     }
 
-    /// Calls an operation of a transaction at work that runs nothing: it takes the operation's lock, the escrow's
-    /// leave where it is an add, pages and log bytes for it and for its inverse, and starts it. `split` says
+    /// Calls an operation of a transaction at work that runs nothing, and starts it. It takes the operation's lock,
+    /// the escrow's leave where it is an add, and pages and log bytes for it and for its inverse. `split` says
     /// whether an insert may split a bucket of the index.
     ///
-    /// It answers [`Called::Wait`] or is refused with 14 as the lock table does, with 9 as the escrow does, with 10
-    /// where fewer pages are free and not claimed, with 11 where the log has no room beside what is kept, with 1
-    /// for want of memory. In each of these cases nothing of the call is kept.
+    /// It answers [`Called::Wait`] or is refused with 14 as the lock table does, and with 9 as the escrow does. It is
+    /// refused with 10 where fewer pages are free and not claimed, and with 11 where the log has no room beside what
+    /// is kept. For want of memory it is refused with 1. In each of these cases nothing of the call is kept.
     pub fn call(
         &mut self,
         alloc: Global,

@@ -54,8 +54,8 @@ fn durable_count(commits: &[Commit], place: LogPos) -> usize
 impl<D: Device> Parts<D> {
     /// Begins a transaction of this session, open and without operations. Its number is the next one, from 1.
     ///
-    /// Refused with 11 where the log has no room for its end beside what is kept, else with 1 for want of memory;
-    /// nothing has changed then.
+    /// Refused with 11 where the log has no room for its end beside what is kept, else with 1 for want of memory.
+    /// Nothing has changed then.
     pub fn begin(&mut self, session: u32) -> Result<TxnNo, Refusal>
         requires safe { IsSound D.seen D.may_leave self.old }
         requires few { self.old.live.begun < 2 ^ 40 }
@@ -131,9 +131,9 @@ impl<D: Device> Parts<D> {
         Ok(self.book.len() + self.commits.len())
     }
 
-    /// Books the first of the commits under way, whose record is durable: its calls are the last of the book, its
-    /// adds move the counters, its locks go, and what was kept for its inverses is free. Answers its transaction.
-    /// It takes no memory.
+    /// Books the first of the commits under way, whose record is durable. Its calls are the last of the book, its
+    /// adds move the counters, its locks go, and what was kept for its inverses is free. Answers its transaction. It
+    /// takes no memory.
     fn leave_first(&mut self) -> TxnNo
         requires safe { IsSound D.seen D.may_leave self.old }
         requires some { (c : Commit) × (cs : List Commit) × (self.old.commits.items ≡ c ∷ cs) }
@@ -163,7 +163,7 @@ impl<D: Device> Parts<D> {
         txn
     }
 
-    /// Books each of the commits under way whose record is in the log up to this place, in their order, as
+    /// Books each of the commits under way whose record is in the log up to this place. It does so in their order, as
     /// [`Parts::leave_first`] does, and puts their transactions behind the names. It takes no memory.
     pub fn leave_durable(&mut self, place: LogPos, names: &mut Vec<TxnNo>)
         requires safe { IsSound D.seen D.may_leave self.old }

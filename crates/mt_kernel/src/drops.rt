@@ -26,8 +26,8 @@ use mt_op::TakenBack;
 use mt_steps::{pages_for, pages_to_undo};
 
 impl<D: Device> Parts<D> {
-    // Makes a step of the taking back of the operation at a place, which is no inverse and of a transaction that is
-    // to be undone: a page that it wrote is put back. At `Clear` nothing of it is left but its page locks and its
+    // Makes a step of the taking back of the operation at a place. It is no inverse, and of a transaction that is to
+    // be undone. A page that it wrote is put back. At `Clear` nothing of it is left but its page locks and its
     // claims. The base that the pages hold stays.
     fn take_back(&mut self, place: usize) -> Result<TakenBack, Refusal>
         requires safe { IsSound D.seen D.may_leave self.old }
@@ -39,7 +39,7 @@ impl<D: Device> Parts<D> {
         self.operations.take_back(&mut self.running[place].scope)
     }
 
-    // Drops an operation out that was taken back and is no inverse: its page locks go, and so does what was kept for
+    // Drops an operation out that was taken back and is no inverse. Its page locks go, and so does what was kept for
     // it and for its inverse. Its add, where it is one, is pending no more. It takes no memory.
     fn drop_out(&mut self, place: usize)
         requires cleared { ∥ ((origin : Origin) × (base : Base)
@@ -66,10 +66,10 @@ impl<D: Device> Parts<D> {
         let_go(&mut self.escrow, txn, &op);
     }
 
-    /// Makes a step of the taking back of an operation at a place, which is no inverse and of a transaction that is to
-    /// be undone: a page that it wrote is put back. At `Clear` it is dropped out: its page locks go, and so does what
-    /// was kept for it and for its inverse; its add, where it is one, is pending no more. The base that the pages hold
-    /// stays.
+    /// Makes a step of the taking back of an operation at a place. It is no inverse, and of a transaction that is to
+    /// be undone. A page that it wrote is put back. At `Clear` it is dropped out. Its page locks go, and so does what
+    /// was kept for it and for its inverse. Its add, where it is one, is pending no more. The base that the pages
+    /// hold stays.
     ///
     /// Refused with 1 for want of memory, and with 2 where the device has failed; nothing has changed then.
     pub fn back_step(&mut self, place: usize) -> Result<TakenBack, Refusal>

@@ -30,8 +30,8 @@ pub struct Commit {
     pub(crate) place: LogPos,
 }
 
-/// The parts of a kernel over pages: the operations over their pages, the transactions that live, their semantic
-/// locks and pending adds, and the durable commits.
+/// The parts of a kernel over pages. They are the operations over their pages, the transactions that live, their
+/// semantic locks and pending adds, and the durable commits.
 pub struct Parts<D: Device> {
     pub(crate) operations: Operations<D>,
     pub(crate) live: Live,

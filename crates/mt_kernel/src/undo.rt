@@ -23,8 +23,8 @@ use std::alloc::Global;
 
 impl<D: Device> Parts<D> {
     /// Begins the inverse of the last operation that did something, of a transaction that is to be undone and runs
-    /// nothing (Weikum 1991); answers `false` where there is none. It runs on the pages and the log bytes that were kept for it, under the locks that its
-    /// transaction holds, and splits no bucket.
+    /// nothing (Weikum 1991). Answers `false` where there is none. It runs on the pages and the log bytes that were
+    /// kept for it, under the locks that its transaction holds, and splits no bucket.
     ///
     /// Refused with 1 for want of memory; nothing has begun then.
     pub fn undo_begin(&mut self, alloc: Global, txn: TxnNo) -> Result<bool, Refusal>

@@ -9,8 +9,8 @@ pub fn begin_keeps()
     ensures { BeginKeeps }
 {}
 
-/// A call that is granted keeps what is kept: its lock is barred by no other transaction's, and each
-/// counter has room for whichever of the pending adds and this one (Weikum 1991, O'Neil 1986).
+/// A call that is granted keeps what is kept. Its lock is barred by no other transaction's, and each counter has room
+/// for whichever of the pending adds and this one (Weikum 1991, O'Neil 1986).
 pub fn call_keeps()
     ensures { CallKeeps }
 {}
@@ -21,43 +21,43 @@ pub fn end_keeps()
     ensures { EndKeeps }
 {}
 
-/// An operation that is taken back unfinished, its add with it, keeps what is kept; and so does a call that
-/// is refused once its add was granted, and gives that back.
+/// An operation that is taken back unfinished, its add with it, keeps what is kept. So does a call that is refused
+/// once its add was granted, and gives that back.
 pub fn drop_keeps()
     ensures dropped { DropKeeps }
     ensures given_back { GivingBackKeeps }
 {}
 
-/// A commit moves its transaction's entries behind the book, whatever others did in between: the book
-/// stays legal, and what stands is explained on the base that it leaves. That base's counters move by
-/// what the transaction had pending.
+/// A commit moves its transaction's entries behind the book, whatever others did in between. The book stays legal,
+/// and what stands is explained on the base that it leaves. That base's counters move by what the transaction had
+/// pending.
 pub fn commit_keeps()
     ensures kept { CommitKeeps }
     ensures counters { CommitMovesCounters }
 {}
 
-/// The inverse of a transaction's last effect, as one act on the held base, keeps what is kept: the
-/// state is as if the undone operation, and what its transaction read after it, had never been.
+/// The inverse of a transaction's last effect, as one act on the held base, keeps what is kept. The state is as if
+/// the undone operation, and what its transaction read after it, had never been.
 pub fn inverse_keeps()
     ensures { InverseKeeps }
 {}
 
-/// Where nothing is left to undo, a transaction leaves no trace: what stands is the list without it, on
-/// the same book, and the held base is that of a run without it.
+/// Where nothing is left to undo, a transaction leaves no trace. What stands is the list without it, on the same
+/// book, and the held base is that of a run without it.
 pub fn abort_keeps()
     ensures kept { AbortKeeps }
     ensures trace { AbortLeavesNoTrace }
 {}
 
-/// What is kept explains the state: whichever set of live transactions is struck out, the rest has the
-/// model's replies, and with nobody struck out it leads to the held base.
+/// What is kept explains the state. Whichever set of live transactions is struck out, the rest has the model's
+/// replies. With nobody struck out it leads to the held base.
 pub fn kept_is_explained()
     ensures kept { KeptIsExplained }
     ensures sound { SoundIsExplained }
 {}
 
-/// The entries of a set of transactions may be moved in front of the others', and whole transactions
-/// one after the other, in any order, with every reply as it was.
+/// The entries of a set of transactions may be moved in front of the others'. So may whole transactions, one after
+/// the other, in any order, with every reply as it was.
 pub fn entries_move_in_front()
     ensures set { SetMovesInFront }
     ensures transactions { TransactionsMoveInFront }
@@ -71,16 +71,16 @@ pub fn every_schedule_is_right()
     ensures schedule { EveryScheduleIsRight }
 {}
 
-/// Where nothing stands, the held base is what the book leaves; and where nobody is live, nothing
-/// stands, no add is pending, and no lock is held.
+/// Where nothing stands, the held base is what the book leaves. Where nobody is live, nothing stands, no add is
+/// pending, and no lock is held.
 pub fn an_empty_kernel_holds_its_book()
     ensures base { EmptyHoldsBook }
     ensures nobody { NobodyLeavesNothing }
 {}
 
-/// A transaction that lives alone acts as the model: nobody is in its way; each of its operations replies as on the base
-/// that the book and its calls before leave; its commit puts just these calls behind the book; and when it is gone
-/// nobody lives.
+/// A transaction that lives alone acts as the model: nobody is in its way. Each of its operations replies as on the
+/// base that the book and its calls before leave. Its commit puts just these calls behind the book, and when it is
+/// gone nobody lives.
 pub fn one_alone_acts_as_the_model()
     ensures begins { BeginsAlone }
     ensures holds { AloneHolds }

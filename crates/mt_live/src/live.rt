@@ -30,9 +30,9 @@ pub struct Effect<'a> {
 /// The live transactions: each with its session, its state and what stands of its operations, and the
 /// order in which these ended.
 ///
-/// Contracts see the standing list: the operations of live transactions in the order of their ends, of
-/// one that is being undone only those before the earliest that is undone. What [`laws`](crate::laws)
-/// says of it is why any set of live transactions may be undone at any time.
+/// Contracts see the standing list: the operations of live transactions in the order of their ends. Of one that is
+/// being undone it has only those before the earliest that is undone. What [`laws`](crate::laws) says of it is why
+/// any set of live transactions may be undone at any time.
 #[derive(Debug, Drop)]
 pub struct Live {
     begun: u64,
@@ -239,9 +239,9 @@ impl Live {
         Some(Effect { number, op, reply })
     }
 
-    /// The inverse of [`Live::last_to_undo`] has ended: neither that operation stands any more, nor the
-    /// transaction's later ones, which did nothing but may have seen what is undone. Where there is
-    /// nothing to undo, nothing changes. It takes no memory.
+    /// The inverse of [`Live::last_to_undo`] has ended. Neither that operation stands any more, nor the transaction's
+    /// later ones, which did nothing but may have seen what is undone. Where there is nothing to undo, nothing
+    /// changes. It takes no memory.
     pub fn undone(&mut self, txn: TxnNo)
         requires { is_member self.old.members txn ≡ true }
         ensures standing { self.new.standing ≡ cut_back txn self.old.standing }

@@ -94,10 +94,10 @@ fn force_all<D: Device>(log: &mut Log, device: &mut D) -> Result<(), Refusal>
     Ok(())
 }
 
-/// Begins an area anew with the batch that [`prepare_area`] made ready, and answers its log. The area may hold anything
-/// before: its first gate is closed and synced, then the batch is written with a closed gate behind it and synced, then
-/// the gate is opened and synced. Until the first sync a crash may leave any byte as the first gate, and the rest as it
-/// was; until the last one a gate that is closed, or the batch; from then on the batch.
+/// Begins an area anew with the batch that [`prepare_area`] made ready, and answers its log. The area may hold
+/// anything before. Its first gate is closed and synced, then the batch is written with a closed gate behind it and
+/// synced, then the gate is opened and synced. Until the first sync a crash may leave any byte as the first gate, and
+/// the rest as it was. Until the last one it leaves a gate that is closed, or the batch; from then on the batch.
 ///
 /// The only refusal is [`Refusal::DeviceFailed`]. Nothing outside of the area is touched in any case. It takes no memory.
 pub fn begin_prepared<D: Device>(device: &mut D, prepared: Log) -> Result<Log, Refusal>
@@ -167,8 +167,8 @@ pub fn begin_area<D: Device>(
     begin_area_with(alloc, device, place, &[])
 }
 
-/// Begins an area anew with a first batch of these records, which are images of pages and nothing
-/// else, and answers its log: [`prepare_area`], and then [`begin_prepared`].
+/// Begins an area anew with a first batch of these records, which are images of pages and nothing else, and answers
+/// its log. It does so by [`prepare_area`], and then [`begin_prepared`].
 ///
 /// Refusals are [`Refusal::NoMemory`], before any device call, and [`Refusal::DeviceFailed`]. Nothing
 /// outside of the area is touched in any case.

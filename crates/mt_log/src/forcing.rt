@@ -139,12 +139,12 @@ impl Log {
         self.settle(step, done)
     }
 
-    /// One device call of a force, or none where every record is durable: the first call takes all
-    /// records that wait into a batch, and those that are appended later wait for the next one. The
-    /// fourth makes the batch durable. It takes no memory.
+    /// One device call of a force, or none where every record is durable. The first call takes all records that wait
+    /// into a batch, and those that are appended later wait for the next one. The fourth makes the batch durable. It
+    /// takes no memory.
     ///
-    /// The only refusal is [`Refusal::DeviceFailed`], where the device failed in this call or in an
-    /// earlier one; what is durable stays, and each later call is refused.
+    /// The only refusal is [`Refusal::DeviceFailed`], where the device failed in this call or in an earlier one. What
+    /// is durable stays, and each later call is refused.
     #[tactic(auto, unfolding(crate::specs::Words::durable_batches, crate::specs::Words::durable, crate::specs::Words::in_flight, crate::specs::Words::waiting, crate::specs::Words::area_start, crate::specs::Words::area_end, crate::specs::Words::used, crate::specs::Words::area_size, crate::specs::Words::calls_left, crate::specs::Words::has_failed, crate::specs::Words::coming, crate::specs::Words::IsOn))]
     pub fn force_step<D: Device>(&mut self, device: &mut D) -> Result<Forced, Refusal>
         requires on { IsOn D.seen D.may_leave self.old device.old }
@@ -165,7 +165,7 @@ impl Log {
         ensures used_shared { calls_left self.old ≡ 0 → has_failed self.old ≡ false → 0 < length (waiting self.old)
             → used self.new + 5 * length (waiting self.old) ≡ used self.old + 5 }
         ensures moves { Moves self.old self.new }
-        // While the appended records break no rule: whenever a crash comes in this call, the area holds
+        // That is while the appended records break no rule. Whenever a crash comes in this call, the area holds
         // batches whose records are a beginning of them with all durable ones. `scan` finds just those.
         ensures holds { (pages : ℕ) → IsSound pages self.old
             → LeavesOnly D.moment D.left_since device.old device.new (HoldsBeginning pages self.old) }

@@ -5,8 +5,8 @@ ghost use Rattle.mt_log.specs.Words.{IsOn};
 use crate::log::Log;
 use mt_disk::Device;
 
-/// A law: of the device that a log is on, while the appended records break no rule, a crash leaves
-/// an area whose records are a beginning of them with all durable ones.
+/// A law of the device that a log is on, while the appended records break no rule. A crash leaves an area whose
+/// records are a beginning of them with all durable ones.
 pub fn a_crash_leaves_a_beginning<D: Device>(log: &Log, device: &D)
     requires on { IsOn D.seen D.may_leave log.now device.now }
     ensures { LeavesBeginning log.now (D.may_leave device.now) }

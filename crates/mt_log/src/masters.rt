@@ -58,10 +58,10 @@ fn newer(first: MasterSlot, second: MasterSlot) -> Result<MasterSlot, Refusal>
 /// The master slot that rules a device: an open one, of which the other is closed, or older.
 ///
 /// Refusals, in the order of the tests: [`Refusal::NotFormatted`] where the device is shorter than 8192 bytes;
-/// [`Refusal::DeviceFailed`] where a read failed in this call; [`Refusal::BadFormat`] with the place of the first slot
-/// whose gate is open over bytes that are no slot of a device of this length; [`Refusal::NotFormatted`] where both
-/// gates are closed; and [`Refusal::BadFormat`] with 4096 where two open slots have the same epoch, or other sizes. It
-/// takes no memory. The device is only read, and its content is as before in any case.
+/// [`Refusal::DeviceFailed`] where a read failed in this call. [`Refusal::BadFormat`] has the place of the first slot
+/// whose gate is open over bytes that are no slot of a device of this length. [`Refusal::NotFormatted`] comes where
+/// both gates are closed, and [`Refusal::BadFormat`] with 4096 where two open slots have the same epoch, or other
+/// sizes. It takes no memory. The device is only read, and its content is as before in any case.
 pub fn ruling_slot<D: Device>(device: &mut D) -> Result<MasterSlot, Refusal>
     ensures rules { IfOk result (IsRuling (D.seen device.old)) }
     ensures cause { IfErr result (λ why. (why ≡ Refusal.DeviceFailed) × (D.faults device.old < D.faults device.new)

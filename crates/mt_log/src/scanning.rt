@@ -19,11 +19,10 @@ use std::alloc::Global;
 /// Reads an area of a device with so many pages: its batches in order, each with its place. It ends
 /// at the first gate that is not open, and goes over the area once, with one buffer for the bodies.
 ///
-/// Refusals are [`Refusal::NoMemory`]; [`Refusal::DeviceFailed`], where a read failed; and
-/// [`Refusal::BadFormat`] with the place of the first batch that breaks the grammar: the first of
-/// the area where its gate is not open, and an open one that does not fit, whose body is no row of
-/// whole records, or that has a record which may not stand there. The device is as before in any
-/// case.
+/// Refusals are [`Refusal::NoMemory`]; [`Refusal::DeviceFailed`], where a read failed; and [`Refusal::BadFormat`]
+/// with the place of the first batch that breaks the grammar. That is the first of the area where its gate is not
+/// open. Or it is an open one that does not fit, whose body is no row of whole records, or that has a record which
+/// may not stand there. The device is as before in any case.
 pub fn scan<D: Device>(
     alloc: Global,
     device: &mut D,

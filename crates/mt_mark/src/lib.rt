@@ -1,10 +1,10 @@
-//! The mark of the history: one word that counts the transactions that are entered, shared by all threads,
-//! and what each pass has seen of them. Nobody waits, and no step but the first takes memory.
+//! The mark of the history: one word that counts the transactions that are entered. All threads share it, and what
+//! each pass has seen of them. Nobody waits, and no step but the first takes memory.
 //!
-//! The end of the mark names the next entry, the pass whose entry it is counts the word up by one, and the
-//! end confirms it. The rule that every step keeps: the history is the first entries of the end's list, as
-//! many as the word says; it is legal from the base at the opening; what a pass has seen begins it, and holds
-//! every entry of its own. Contracts alone see the lists; the code keeps only the word.
+//! The end of the mark names the next entry. The pass whose entry it is counts the word up by one, and the end
+//! confirms it. The rule that every step keeps: the history is the first entries of the end's list, as many as the
+//! word says. It is legal from the base at the opening. What a pass has seen begins it, and holds every entry of its
+//! own. Contracts alone see the lists; the code keeps only the word.
 #![tactic(auto)]
 
 mod rule;

@@ -2,8 +2,8 @@ use mt_model::{Base, Committed};
 use std::collections::LinkedList;
 use std::snapshot::Snapshot;
 
-/// One transaction of the history: the number of the pass that entered it, or 0 where it was in the book
-/// already when the mark was made, and what it did.
+/// One transaction of the history: what it did, and the number of the pass that entered it. That is 0 where it was in
+/// the book already when the mark was made.
 #[derive(Drop)]
 pub struct Entry {
     pub pass: u64,

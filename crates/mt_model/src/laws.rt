@@ -21,8 +21,8 @@ pub fn bounds_are_kept()
     ensures { BoundsAreKept }
 {}
 
-/// Whichever of some steps are made, a counter stays in its bounds if and only if it does so
-/// with all the steps down, and with all the steps up (escrow, O'Neil 1986).
+/// A counter stays in its bounds whichever of some steps are made, if and only if it does so with all the steps down,
+/// and with all the steps up (escrow, O'Neil 1986).
 pub fn two_numbers_decide()
     ensures { TwoNumbersDecide }
 {}

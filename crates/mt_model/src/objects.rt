@@ -5,8 +5,8 @@ use crate::Op;
 use mt_base::{Bytes, CtrNo, LockMode, RelNo};
 use std::alloc::AllocError;
 
-/// What an operation is on, and what a transaction locks for it: the row of a relation under a key,
-/// there or not, or a counter.
+/// What an operation is on, and what a transaction locks for it. It is the row of a relation under a key, there or
+/// not, or a counter.
 #[derive(PartialEq, Eq, Hash, Debug, Drop)]
 pub enum Object {
     /// The row of a relation under a key.

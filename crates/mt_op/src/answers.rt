@@ -9,8 +9,8 @@ pub enum Stepped {
     Went,
     /// Nothing: this operation, which is the smallest that holds a lock in the way, is to be waited for. It is larger.
     Wait(OpNo),
-    /// It gave all its locks back and begins anew, without a trace, since this operation, which is the smallest that
-    /// holds a lock in the way, is smaller. It does well to wait for the end of that one.
+    /// It gave all its locks back and begins anew, without a trace. This operation, which is the smallest that holds
+    /// a lock in the way, is smaller. It does well to wait for the end of that one.
     Again(OpNo),
     /// Nothing: every frame holds a page that is yet to be flushed.
     Flush,

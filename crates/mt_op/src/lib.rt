@@ -1,5 +1,5 @@
-//! Operations as subtransactions (Weikum 1991): one operation from its start to its end over the pages of
-//! a store, page lock by page lock and page write by page write, or taken back.
+//! Operations as subtransactions (Weikum 1991): one operation from its start to its end over the pages of a store. It
+//! goes page lock by page lock and page write by page write, or is taken back.
 //!
 //! Whatever is half done, the pages held are good: the present ones with the old bytes of each unfinished
 //! operation's writes put back. The end of an operation is one act on the base that these pages hold, and

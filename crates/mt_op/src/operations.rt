@@ -37,8 +37,8 @@ use mt_space::{Changes, Pages};
 use mt_steps::{Copies, SpareCopies};
 use std::alloc::Global;
 
-/// The store of one kernel, with the page locks of its operations, what each page of records takes, and the
-/// map of the space as it is held, with the claims on its free pages.
+/// The store of one kernel, with the page locks of its operations and what each page of records takes. With them is
+/// the map of the space as it is held, with the claims on its free pages.
 #[derive(Drop)]
 pub struct Operations<D: Device> {
     pub(crate) store: Store<D>,
@@ -140,10 +140,10 @@ impl<D: Device + Drop> Operations<D> {
 }
 
 impl<D: Device> Operations<D> {
-    /// Begins an operation, with a number that no other has, of a transaction that has no other under way.
-    /// `undoes` is the number of the operation that it takes back, or 0; an insert splits a bucket of the
-    /// index only where `split` is set. It holds no page lock, and no page has been looked at. The only
-    /// refusal is [`Refusal::NoMemory`].
+    /// Begins an operation, with a number that no other has, of a transaction that has no other under way. `undoes`
+    /// is the number of the operation that it takes back, or 0. An insert splits a bucket of the index only where
+    /// `split` is set. It holds no page lock, and no page has been looked at. The only refusal is
+    /// [`Refusal::NoMemory`].
     pub fn begin_op(
         &self,
         alloc: Global,
@@ -229,7 +229,7 @@ impl<D: Device> Operations<D> {
         self.map.space.claim(count)
     }
 
-    /// Gives so many claims back. An operation that ends gives its own back itself; those of one that is dropped out,
+    /// Gives so many claims back. An operation that ends gives its own back itself. Those of one that is dropped out,
     /// and those for inverses that are not needed any more, are given back here.
     pub fn give_back(&mut self, count: u16)
         requires { count ≤ claimed self.old }
@@ -357,8 +357,8 @@ impl<D: Device> Operations<D> {
         Ok(())
     }
 
-    /// Gives an operation up, for who lets all operations go, as [`Operations::into_device`] does: nothing of it is taken
-    /// back, and no other operation can be stepped then. Pages and log stay as they are. It takes no memory.
+    /// Gives an operation up, for who lets all operations go, as [`Operations::into_device`] does. Nothing of it is
+    /// taken back, and no other operation can be stepped then. Pages and log stay as they are. It takes no memory.
     pub fn give_up(&mut self, scope: OpScope)
         ensures store { self.new.store ≡ self.old.store }
     {

@@ -53,8 +53,8 @@ fn rooms_of(alloc: Global, pages: &[[u8; 4096]]) -> Result<Rooms, AllocError>
 }
 
 impl Idle {
-    /// What operations keep beside a store over these pages, where none is under way: what each page of records takes,
-    /// and the map of the space without a claim. The only refusal is [`Refusal::NoMemory`].
+    /// What operations keep beside a store over these pages, where none is under way. That is what each page of
+    /// records takes, and the map of the space without a claim. The only refusal is [`Refusal::NoMemory`].
     pub fn of(alloc: Global, pages: &[[u8; 4096]]) -> Result<Idle, Refusal>
         requires good { ∥ ((relations : ℕ) × (counters : ℕ)
             × IsGood relations counters (length pages.now) (bytes_of pages.now)) ∥₁ }
@@ -109,8 +109,8 @@ impl<D: Device> Operations<D> {
         )
     }
 
-    /// Operations over a store whose log has no record but the images that its area began with, with what others kept
-    /// beside theirs: none is under way. No page is looked at, and it takes no memory.
+    /// Operations over a store whose log has no record but the images that its area began with. They have what others
+    /// kept beside theirs, and none is under way. No page is looked at, and it takes no memory.
     pub fn join(store: Store<D>, idle: Idle) -> Operations<D>
         ensures right { (opening : PageBytes) (relations counters : ℕ) → IsKept D.seen D.may_leave opening store
             → AreImages (appended store.log) → IsGood relations counters (pages store.pool) opening

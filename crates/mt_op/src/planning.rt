@@ -38,21 +38,21 @@ impl<D: Device> Operations<D> {
     /// Makes a step of an operation: it locks a page and looks at it, or writes a page with its log records, or
     /// ends. All pages are locked and looked at before the first is written.
     ///
-    /// [`Stepped::Wait`], [`Stepped::Flush`] and the refusals change nothing of pages, locks and log, and of the operation
-    /// nothing but that its plan may be made, where it is not to wait; [`Stepped::Again`] gives the operation's locks
-    /// back, so that it begins anew with its number. As many free pages as the operation may take are to be claimed for
-    /// it; with its end it has given them back. The refusals are [`Refusal::NoMemory`] and, if and only if the device
-    /// failed in this call, [`Refusal::DeviceFailed`].
+    /// [`Stepped::Wait`], [`Stepped::Flush`] and the refusals change nothing of pages, locks and log. Of the
+    /// operation they change nothing but that its plan may be made, where it is not to wait. [`Stepped::Again`] gives
+    /// the operation's locks back, so that it begins anew with its number. As many free pages as the operation may
+    /// take are to be claimed for it; with its end it has given them back. The refusals are [`Refusal::NoMemory`]
+    /// and, if and only if the device failed in this call, [`Refusal::DeviceFailed`].
     ///
-    /// A lock is asked for on a page that the plan asks for and that was not looked at, by an operation that only reads
-    /// to read it. A row's operation looks for its key first: in the directory, to read it, and in the key's chain. Where
-    /// the plan asks for the space map, for a record, and no page was tried yet, a page that takes the record and that
-    /// nobody has locked is tried first, to write it; a page that is locked is passed by. The map itself is asked for
-    /// then only if each page that takes the record is locked. Or a lock is asked for, to write it, on a page that the
-    /// plan changes.
+    /// A lock is asked for on a page that the plan asks for and that was not looked at. An operation that only reads
+    /// asks for it to read it. A row's operation looks for its key first: in the directory, to read it, and in the
+    /// key's chain. The plan may ask for the space map, for a record, where no page was tried yet. Then a page that
+    /// takes the record and that nobody has locked is tried first, to write it; a page that is locked is passed by.
+    /// The map itself is asked for then only if each page that takes the record is locked. Or a lock is asked for, to
+    /// write it, on a page that the plan changes.
     ///
-    /// A record goes into the page of records that was tried first and takes it, or into a free page where none was. A
-    /// free page is taken only for such a record, or for its entry where the key's bucket is full; and only a page of
+    /// A record goes into the page of records that was tried first and takes it, or into a free page where none was.
+    /// A free page is taken only for such a record, or for its entry where the key's bucket is full. Only a page of
     /// records is given back.
     ///
     /// How many steps: over `n` pages an operation that nobody is in the way of is ready after at most `2 n + 9`

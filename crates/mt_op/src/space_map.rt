@@ -30,7 +30,7 @@ impl SpaceMap {
         })
     }
 
-    // Gives the claim of an operation back that has ended, and follows its changes: of the pages that were claimed it
+    // Gives the claim of an operation back that has ended, and follows its changes. Of the pages that were claimed it
     // has taken no more than its own.
     pub(crate) fn settle(&mut self, changes: &Changes, claim: u16)
         requires short { ∥ ((pages : PageBytes) × (pages 0 ≡ self.old.kinds) × AreShort changes.now.list.items pages

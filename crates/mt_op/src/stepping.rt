@@ -86,8 +86,8 @@ impl<D: Device> Operations<D> {
         Ok(Stepped::Went)
     }
 
-    // Ends the operation: its end is appended where one is due, and with that it has acted on the base
-    // that the pages hold; its claim on free pages is given back. Where memory is refused nothing has changed.
+    // Ends the operation. Its end is appended where one is due, and with that it has acted on the base that the pages
+    // hold. Its claim on free pages is given back. Where memory is refused nothing has changed.
     pub(crate) fn finish(&mut self, scope: &mut OpScope) -> Result<Stepped, Refusal>
         requires right { IsOneWithin D.seen D.may_leave self.old scope.old }
         requires claims { own_needs scope.old.op scope.old.split ≤ claimed self.old }

@@ -1,10 +1,9 @@
-//! Page locks of operations (Lomet 1992). An operation locks each page before it reads or writes it,
-//! and keeps its locks until it ends; so what others see of its pages is from before it or from after
-//! it.
+//! Page locks of operations (Lomet 1992). An operation locks each page before it reads or writes it, and keeps its
+//! locks until it ends. So what others see of its pages is from before it or from after it.
 //!
-//! Two reads of a page agree, any other two locks of different operations conflict. Nobody waits in
-//! here: an answer says for whom to wait, or to give back all locks and begin anew, and since an
-//! operation waits only for younger ones, no ring of operations waits for itself (wait-die).
+//! Two reads of a page agree, any other two locks of different operations conflict. Nobody waits in here. An answer
+//! says for whom to wait, or to give back all locks and begin anew. An operation waits only for younger ones, so no
+//! ring of operations waits for itself (wait-die).
 #![tactic(auto)]
 
 mod guards;

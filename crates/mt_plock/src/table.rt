@@ -90,11 +90,10 @@ impl PageLocks {
         least
     }
 
-    /// Asks for a lock. Where no other operation holds the page in a mode that does not agree, it is
-    /// granted, and is the last of the locks; so a read becomes a write where the operation is the
-    /// only holder. Else the answer names the smallest such holder: to wait for it if it is larger
-    /// than the asker, as all of them are then, and otherwise to begin again; both leave the table as
-    /// it was.
+    /// Asks for a lock. Where no other operation holds the page in a mode that does not agree, it is granted, and is
+    /// the last of the locks. So a read becomes a write where the operation is the only holder. Else the answer names
+    /// the smallest such holder. It is to wait for it if it is larger than the asker, as all of them are then, and
+    /// otherwise to begin again. Both leave the table as it was.
     ///
     /// The only error is [`Refusal::NoMemory`]; the table is then as before.
     pub fn ask(&mut self, op: OpNo, page: PageNo, mode: Mode) -> Result<Asked, Refusal>

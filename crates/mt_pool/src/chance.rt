@@ -49,8 +49,8 @@ impl Pool {
         }
     }
 
-    /// A frame without a page yet to be flushed: from the hand on the first that was not used since
-    /// the hand passed it, else the last of them. `None` where there is none.
+    /// A frame without a page yet to be flushed. It is the first from the hand on that was not used since the hand
+    /// passed it, else the last of them. `None` where there is none.
     pub(crate) fn victim(&mut self) -> Option<usize>
         requires pool { IsPool self.old }
         ensures some { IfSome result (λ f. (f < frames self.old) × (get_or self.old.dirty.items f false ≡ false)) }

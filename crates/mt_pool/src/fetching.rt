@@ -46,10 +46,10 @@ impl Pool {
         self.used[frame] = true;
     }
 
-    /// Brings the page into a frame, if it is in none, out of which goes a page that is not to be flushed, by
-    /// second chance. It answers [`Fetched::Flush`] if and only if every frame holds a page yet to be
-    /// flushed and the page is in none, and changes nothing then. It reads one page at most, writes none,
-    /// takes no memory, and all views stand, after an error too, which only the device makes.
+    /// Brings the page into a frame, if it is in none. Out of that frame goes a page that is not to be flushed, by
+    /// second chance. It answers [`Fetched::Flush`] if and only if every frame holds a page yet to be flushed and the
+    /// page is in none. It changes nothing then. It reads one page at most, writes none, takes no memory, and all
+    /// views stand, after an error too, which only the device makes.
     pub fn fetch<D: Device>(&mut self, device: &mut D, page: PageNo) -> Result<Fetched, DeviceFault>
         requires pool { IsPool self.old }
         requires shows { Shows self.old (D.seen device.old) }

@@ -24,9 +24,8 @@ impl Pool {
         self.waits.fill(0);
     }
 
-    /// The `position`th record of the area carries an image of the page, as the records do with which an
-    /// area begins: the page waits for that record. Views stand, and the page is to be flushed only if
-    /// it was. It takes no memory.
+    /// The `position`th record of the area carries an image of the page, as the records do with which an area begins.
+    /// The page waits for that record. Views stand, and the page is to be flushed only if it was. It takes no memory.
     pub(crate) fn note_image(&mut self, page: PageNo, position: LogPos)
         requires pool { IsPool self.old }
         requires inside { page < pages self.old }

@@ -3,16 +3,16 @@ ghost use Rattle.mt_pool.specs.Laws.{CrashGivesPages, BeginsSafe, ElsewhereKeeps
 
 use mt_disk::Device;
 
-/// A law: while the images of the log are right, and a slot without a durable image is as at the
-/// opening, each content that a crash may leave gives every page as at the opening, together with the
-/// durable records and any part of those behind them. A slot whose page has a durable image may be torn.
+/// A law, while the images of the log are right, and a slot without a durable image is as at the opening. Each
+/// content that a crash may leave gives every page as at the opening. It does so together with the durable records
+/// and any part of those behind them. A slot whose page has a durable image may be torn.
 pub fn a_crash_gives_the_pages<D: Device>()
     ensures { CrashGivesPages D.may_leave }
 {}
 
-/// Laws: what keeps it so that a crash gives the pages. It is so when an area begins, and stays so with a
-/// write outside of the slots, a write of a slot whose page has a durable image, a read or a sync, and
-/// a record whose image, if it is its page's first, has the page as at the opening.
+/// Laws: what keeps it so that a crash gives the pages. It is so when an area begins. It stays so with a write
+/// outside of the slots, a write of a slot whose page has a durable image, and a read or a sync. It stays so with a
+/// record whose image, if it is its page's first, has the page as at the opening.
 pub fn steps_keep_the_pages<D: Device>()
     ensures begin { BeginsSafe D.may_leave }
     ensures elsewhere { ElsewhereKeepsSafe D.may_leave }
@@ -21,16 +21,16 @@ pub fn steps_keep_the_pages<D: Device>()
     ensures append { AppendKeepsSafe D.may_leave }
 {}
 
-/// Laws: a change whose record carries the image that the pool asks for, and a flush step, keep it so
-/// that a crash gives the pages, by what the pool knows of the log.
+/// Laws of a change whose record carries the image that the pool asks for, and of a flush step. They keep it so that
+/// a crash gives the pages, by what the pool knows of the log.
 pub fn the_pool_keeps_the_pages<D: Device>()
     ensures change { ChangeKeepsSafe D.seen D.may_leave }
     ensures flush { FlushKeepsSafe D.seen D.may_leave }
 {}
 
-/// Laws: what the pool knows of the log is right when an area without records begins, and stays right with
-/// a change and its record, a record without an image, and whatever leaves the views and what is
-/// waited for, as a fetch, a flush step, an eviction or a write outside of the slots.
+/// Laws: what the pool knows of the log is right when an area without records begins. It stays right with a change
+/// and its record, with a record without an image, and with whatever leaves the views and what is waited for. That is
+/// a fetch, a flush step, an eviction or a write outside of the slots.
 pub fn the_pool_knows_the_log()
     ensures begin { BeginsTied }
     ensures change { ChangeKeepsTied }

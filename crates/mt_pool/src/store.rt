@@ -27,10 +27,9 @@ use std::alloc::Global;
 
 /// A device with the log of its ruling area and the pool of its pages.
 ///
-/// Each call keeps what contracts call `IsKept`, for the pages as they were when the area began; and at
-/// every moment of the call whatever a crash leaves explains these pages: the area holds a beginning of the
-/// appended records with all durable ones, and a page is its first image in them, or else what its slot
-/// has.
+/// Each call keeps what contracts call `IsKept`, for the pages as they were when the area began. At every moment of
+/// the call whatever a crash leaves explains these pages. The area holds a beginning of the appended records with all
+/// durable ones, and a page is its first image in them, or else what its slot has.
 #[derive(Drop)]
 pub struct Store<D: Device> {
     pub device: D,
@@ -63,10 +62,10 @@ impl<D: Device> Store<D> {
     ghost use Rattle.mt_pool.specs.Kept.{IsKept};
     ghost use Rattle.mt_pool.specs.Views.{view, pages as pages_of, frames as frames_of};
 
-    /// A store over a device that this master slot rules, with so many pages in frames. What is on the device is synced, and
-    /// then the log's area begins anew without images, so the pages as they are now are those to be had after a crash.
-    /// Refusals are [`Refusal::NoMemory`] and, where the device failed in this call, [`Refusal::DeviceFailed`]; each hands
-    /// the device back. No byte outside of the area is touched in any case.
+    /// A store over a device that this master slot rules, with so many pages in frames. What is on the device is
+    /// synced, and then the log's area begins anew without images. So the pages as they are now are those to be had
+    /// after a crash. Refusals are [`Refusal::NoMemory`] and, where the device failed in this call,
+    /// [`Refusal::DeviceFailed`]; each hands the device back. No byte outside of the area is touched in any case.
     pub fn begin(
         alloc: Global,
         device: D,
@@ -316,9 +315,9 @@ impl<D: Device> Store<D> {
         self.log.append(entry)
     }
 
-    /// Writes a change of a page that is in a frame: first a log record for each of its ranges, with the
-    /// page's old bytes and its new ones, and in the first of them the page's image where the area has none
-    /// yet; then the bytes in the frame. The page waits for the last of these records.
+    /// Writes a change of a page that is in a frame. First comes a log record for each of its ranges, with the page's
+    /// old bytes and its new ones. The first of them has the page's image where the area has none yet. Then come the
+    /// bytes in the frame. The page waits for the last of these records.
     ///
     /// The only refusal is [`Refusal::NoMemory`], and nothing is appended or written then.
     pub fn write(
@@ -391,10 +390,10 @@ impl<D: Device> Store<D> {
         self.device.sync()
     }
 
-    /// One device call more on the way to where every page is in its slot: a page is written in place, or
-    /// where each has to wait for its records the log is forced a step. `false` tells that nothing was left to
-    /// do. Then a [`Store::sync`] makes the slots last. The only refusal is [`Refusal::DeviceFailed`], where the device
-    /// failed in this call or in an earlier force.
+    /// One device call more on the way to where every page is in its slot. A page is written in place, or the log is
+    /// forced a step where each has to wait for its records. `false` tells that nothing was left to do. Then a
+    /// [`Store::sync`] makes the slots last. The only refusal is [`Refusal::DeviceFailed`], where the device failed
+    /// in this call or in an earlier force.
     pub fn write_back_step(&mut self) -> Result<bool, Refusal>
         requires kept { HasOpening D.seen D.may_leave self.old }
         ensures kept { (opening : ℕ → List ℕ) → IsKept D.seen D.may_leave opening self.old

@@ -39,8 +39,8 @@ fn note_images(pool: &mut Pool, images: &[Record])
 }
 
 impl<D: Device> Store<D> {
-    /// A store over an area that has just begun with these images of pages, where each page's slot, or its frame, has
-    /// its bytes as they are at that moment. The master slot that names the area rules the device. No page waits for a
+    /// A store over an area that has just begun with these images of pages. Each page's slot, or its frame, has its
+    /// bytes as they are at that moment. The master slot that names the area rules the device. No page waits for a
     /// record then but for its image. It takes no memory.
     pub fn over_images(
         device: D,

@@ -1,7 +1,7 @@
 // Laws of restarts, each the contract of a function with nothing to do.
 ghost use Rattle.mt_replay.specs.Laws.{RestartFindsBase, EachInverseFinds, OnlyOwnPagesMatter};
 
-/// Over records that are recoverable the losers' operations, undone by inverses, the latest end first, lead to
+/// Of records that are recoverable the losers' operations are undone by inverses, the latest end first. That leads to
 /// good pages that hold the base that the records stand for.
 pub fn restart_finds_the_base()
     ensures { RestartFindsBase }

@@ -1,9 +1,9 @@
-//! What the bytes of a device stand for: which master slot rules, the pages that its log's area found, what
-//! the records there make of them, and the base that is left once the losers are undone.
+//! What the bytes of a device stand for: which master slot rules, and the pages that its log's area found. What the
+//! records there make of them comes next, and the base that is left once the losers are undone.
 //!
-//! History is repeated for all operations alike, with what is unfinished put back by page (Mohan 1992, Lomet
-//! 1992); the finished operations of transactions that have not ended are then undone by their inverses
-//! (Weikum 1991). All of it is done in memory: nothing here writes to a device.
+//! History is repeated for all operations alike, with what is unfinished put back by page (Mohan 1992, Lomet 1992).
+//! The finished operations of transactions that have not ended are then undone by their inverses (Weikum 1991). All
+//! of it is done in memory: nothing here writes to a device.
 #![tactic(auto)]
 
 mod checking;

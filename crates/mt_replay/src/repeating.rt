@@ -38,8 +38,8 @@ pub(crate) struct Repeating {
     pub(crate) unfinished: BTreeMap<u64, Vec<Unfinished>>,
 }
 
-/// All pages with what records from a place on leave unfinished put back, and by its number the changes of each operation
-/// that is unfinished and does not end there.
+/// All pages with what records from a place on leave unfinished put back. With them are, by its number, the changes
+/// of each operation that is unfinished and does not end there.
 #[derive(Drop)]
 pub(crate) struct TakingBack {
     pub(crate) pages: Vec<[u8; 4096]>,

@@ -19,8 +19,8 @@ use mt_disk::Device;
 use mt_log::Batch;
 use std::alloc::Global;
 
-/// The pages held, of so many pages of a device, with the batches that a scan of its ruling area found: history is
-/// repeated over the pages as the area found them, and what is unfinished is put back, the last change first.
+/// The pages held, of so many pages of a device, with the batches that a scan of its ruling area found. History is
+/// repeated over the pages as the area found them. What is unfinished is put back, the last change first.
 ///
 /// A page as the area found it is its first image there, or its slot's bytes where there is none. All records are
 /// repeated, those of transactions that will be undone among them (Mohan 1992). Each costs a look-up or two in ordered

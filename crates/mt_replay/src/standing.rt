@@ -90,21 +90,22 @@ fn undone(alloc: Global, pages: Vec<[u8; 4096]>, losers: &[Loser]) -> Result<Res
     checked.undo_all(alloc, losers)
 }
 
-/// What the bytes of a device stand for: the passes of a restart in memory. The ruling slot names the log's area; the
-/// area's records are repeated over the pages as the area found them, and what is unfinished is put back (Mohan 1992);
-/// all pages are looked at; the losers are undone by inverses, the latest end first (Weikum 1991).
+/// What the bytes of a device stand for: the passes of a restart in memory. The ruling slot names the log's area. The
+/// area's records are repeated over the pages as the area found them, and what is unfinished is put back (Mohan
+/// 1992). All pages are looked at, and the losers are undone by inverses, the latest end first (Weikum 1991).
 ///
-/// Of bytes that a kernel left, the pages hold the base that the area's committed transactions lead to, and it is
-/// refused only for want of memory or a fault of the device.
+/// Of bytes that a kernel left, the pages hold the base that the area's committed transactions lead to. It is refused
+/// only for want of memory or a fault of the device then.
 ///
 /// Any bytes are read. Where they are answered, the pages break no rule of their formats and of the index, those held
 /// and those that the losers' inverses leave.
 ///
-/// Refusals are [`Refusal::NoMemory`]; [`Refusal::DeviceFailed`], where the device failed in this call;
+/// Refusals are [`Refusal::NoMemory`]; [`Refusal::DeviceFailed`], where the device failed in this call; and
 /// [`Refusal::NotFormatted`], if and only if it is shorter than 8192 bytes or no master slot is open, and no read
-/// failed; and [`Refusal::BadFormat`] with a place where a rule is broken: of a slot or a batch as [`ruling_slot`] and
-/// [`scan`] say, of the slot of a page, or of the batch of a loser whose inverse does not find what its record says, or
-/// too few free pages. The device is only read, and its content is as before in any case.
+/// failed. [`Refusal::BadFormat`] has a place where a rule is broken. It is that of a slot or a batch as
+/// [`ruling_slot`] and [`scan`] say, or of the slot of a page. Or it is that of the batch of a loser whose inverse
+/// does not find what its record says, or too few free pages. The device is only read, and its content is as before
+/// in any case.
 pub fn replay<D: Device>(alloc: Global, device: &mut D) -> Result<Replayed, Refusal>
     ensures rules { IfOk result (λ replayed. IsRuling (D.seen device.old) replayed.ruling) }
     ensures replayed { IfOk result (λ replayed. IsReplayed (D.seen device.old) replayed.ruling replayed.figures

@@ -32,9 +32,9 @@ pub struct Loser {
     pub done: LoggedOp,
 }
 
-/// What the records from a place on tell: the losers among them, the latest end first, the transactions that end there,
-/// and the operations, each behind its transaction, that a finished inverse names. Each record costs a look-up or two in
-/// ordered sets.
+/// What the records from a place on tell: the losers among them, the latest end first, and the transactions that end
+/// there. It tells the operations, each behind its transaction, that a finished inverse names. Each record costs a
+/// look-up or two in ordered sets.
 #[derive(Drop)]
 pub(crate) struct Telling {
     pub(crate) losers: Vec<Loser>,
@@ -168,9 +168,9 @@ impl Telling {
     }
 }
 
-/// The losers of an area, by the batches that a scan found there, in the order of their ends: the finished operations
-/// of transactions that have neither committed nor ended their abort, but those that a finished inverse of the same
-/// transaction names (Weikum 1991). So an operation whose inverse is in the log is not undone twice.
+/// The losers of an area, by the batches that a scan found there, in the order of their ends. They are the finished
+/// operations of transactions that have neither committed nor ended their abort. Those that a finished inverse of the
+/// same transaction names are none (Weikum 1991). So an operation whose inverse is in the log is not undone twice.
 ///
 /// The records are gone over once, from the last one on, so that what ends an operation is known before its own end.
 /// The only refusal is [`Refusal::NoMemory`].

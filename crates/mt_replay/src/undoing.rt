@@ -141,13 +141,15 @@ fn make_all(pages: &mut Vec<[u8; 4096]>, changes: &Changes)
 impl Restored {
     ghost use Rattle.mt_replay.specs.Losers.{HasUndone, StopsAt};
 
-    /// Takes all pages of a device, where they break no rule of their formats and of the index: each entry names a
-    /// record of its relation and key, each record has one entry, and each bucket page stands in the chain of its keys.
+    /// Takes all pages of a device, where they break no rule of their formats and of the index. Each entry names a
+    /// record of its relation and key, and each record has one entry. Each bucket page stands in the chain of its
+    /// keys.
     ///
     /// Else they are refused with [`Refusal::BadFormat`] and the place of the slot of a page that breaks one, and let
-    /// go. The page is named whose own rule is broken first, in the order of the tests: page 2 as the schema's; the
-    /// pages of the index; pages of records by their bytes; bucket pages by an entry that names no such record; and
-    /// pages of records by one that the index does not name. The only other refusal is [`Refusal::NoMemory`].
+    /// go. The page is named whose own rule is broken first, in the order of the tests. They are page 2 as the
+    /// schema's, the pages of the index, and pages of records by their bytes. Then come bucket pages by an entry that
+    /// names no such record, and pages of records by one that the index does not name. The only other refusal is
+    /// [`Refusal::NoMemory`].
     pub fn checked(alloc: Global, pages: Vec<[u8; 4096]>) -> Result<Restored, Refusal>
         requires whole { AreWhole pages.items }
         requires some { 16 ≤ length pages.items }
@@ -219,7 +221,7 @@ impl Restored {
     /// without a record, and changes eight pages at most.
     ///
     /// `false` tells that the inverse does not find what the record says, or too few free pages, or that the relation
-    /// or counter is not there: the pages, or the record, are none that a kernel left. The only refusal is
+    /// or counter is not there. The pages, or the record, are none that a kernel left. The only refusal is
     /// [`Refusal::NoMemory`]. The pages are as before in both cases.
     pub fn undo(&mut self, alloc: Global, done: &LoggedOp) -> Result<bool, Refusal>
         requires { IsOperation done.now }
@@ -241,9 +243,8 @@ impl Restored {
 
     /// Undoes the losers, the latest end first, each on the pages that the later ones left (Weikum 1991).
     ///
-    /// Where an inverse does not find what its record says, or too few free pages, it is refused with
-    /// [`Refusal::BadFormat`] at the batch of that record. The only other refusal is [`Refusal::NoMemory`]. The pages
-    /// are let go then.
+    /// It is refused with [`Refusal::BadFormat`] at the batch of a record whose inverse does not find what it says,
+    /// or too few free pages. The only other refusal is [`Refusal::NoMemory`]. The pages are let go then.
     pub(crate) fn undo_all(self, alloc: Global, losers: &[Loser]) -> Result<Restored, Refusal>
         requires { AllByRecursion (λ loser. IsOperation loser.done) losers.now }
         ensures undone { IfOk result (λ restored. HasUndone self.pages.items losers.now restored.pages.items) }

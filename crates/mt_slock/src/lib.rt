@@ -1,10 +1,9 @@
-//! The semantic locks that transactions hold on keys and counters (Weikum 1991), with the rule by which a
+//! The semantic locks that transactions hold on keys and counters (Weikum 1991). With them is the rule by which a
 //! transaction waits or dies where another is in its way.
 //!
-//! A table keeps each locked object with its holders in order of grant, and of each transaction the locks it
-//! holds, so that asking looks at the holders of one object, and a release at the locks of one transaction.
-//! Contracts see which locks are held, as a test of a transaction, an object and a mode. The laws of the table
-//! stand in [`laws`].
+//! A table keeps each locked object with its holders in order of grant, and of each transaction the locks it holds.
+//! So asking looks at the holders of one object, and a release at the locks of one transaction. Contracts see which
+//! locks are held, as a test of a transaction, an object and a mode. The laws of the table stand in [`laws`].
 #![tactic(auto)]
 
 mod holders;

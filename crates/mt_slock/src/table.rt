@@ -76,15 +76,15 @@ impl LockTable {
         }
     }
 
-    /// Asks for a lock on an object for a transaction. It is granted if and only if no other transaction holds
-    /// the object in a mode that conflicts; what the transaction holds itself is never in its way. Then the
-    /// transaction holds it until [`LockTable::release`]; asking for what it holds changes nothing and takes
-    /// no memory. The answer tells the two apart, for a call that a later test refuses.
+    /// Asks for a lock on an object for a transaction. It is granted if and only if no other transaction holds the
+    /// object in a mode that conflicts. What the transaction holds itself is never in its way. Then the transaction
+    /// holds it until [`LockTable::release`]; asking for what it holds changes nothing and takes no memory. The
+    /// answer tells the two apart, for a call that a later test refuses.
     ///
-    /// Else the transactions' ages decide (wait-die): where the oldest holder in the way is younger than the
-    /// asker, the answer is to wait for it; where it is older, the call is refused with 14, and the asker is to
-    /// abort. Refused with 1 where the lock would be granted and a growth of memory was refused. Nothing is
-    /// kept of a lock that is not granted.
+    /// Else the transactions' ages decide (wait-die). Where the oldest holder in the way is younger than the asker,
+    /// the answer is to wait for it. Where it is older, the call is refused with 14, and the asker is to abort.
+    /// Refused with 1 where the lock would be granted and a growth of memory was refused. Nothing is kept of a lock
+    /// that is not granted.
     ///
     /// It takes time in proportion to the holders of the object.
     pub fn ask(&mut self, txn: TxnNo, object: Object, mode: LockMode) -> Result<Asked, Refusal>

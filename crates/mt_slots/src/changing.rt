@@ -23,10 +23,10 @@ pub fn empty(page: &mut [u8])
     put(page, 0, &[0u8; PAGE_HEAD_BYTES]);
 }
 
-/// Puts a record into the lowest empty slot, or into a new one where there is none, and answers which.
-/// The other records stay where they are, unless no place of the page takes it; then all are packed at the page's end.
-/// `None` where it does not fit, however the records lie, and the page is as before then. In a page a relation has
-/// one byte, as has a key's length, and no value is longer than the page; a schema's limits are narrower.
+/// Puts a record into the lowest empty slot, or into a new one where there is none, and answers which. The other
+/// records stay where they are, unless no place of the page takes it; then all are packed at the page's end. `None`
+/// where it does not fit, however the records lie, and the page is as before then. In a page a relation has one byte,
+/// as has a key's length, and no value is longer than the page. A schema's limits are narrower.
 pub fn insert(page: &mut [u8], relation: RelNo, key: &[u8], value: &[u8]) -> Option<u16>
     requires shaped { IsShaped page.old }
     requires relation_fits { relation < 256 }

@@ -10,10 +10,10 @@ use crate::reading::view_at;
 use mt_base::limits::{PAGE_BYTES, key_fits};
 use mt_base::ranges::u16_at;
 
-/// Whether these 4,096 bytes are a page of records of a schema of so many relations, with no value
-/// longer than this: the page's six zero bytes, empty slots as zeros, each record behind the table and
-/// within the page, of the length that its own head says, with its relation, key and value within
-/// their limits, no two that overlap, and table and records together no longer than the page.
+/// Whether these 4,096 bytes are a page of records of a schema of so many relations, with no value longer than this.
+/// The page's six zero bytes are there, and empty slots are zeros. Each record lies behind the table and within the
+/// page, and is of the length that its own head says. Its relation, key and value are within their limits. No two
+/// overlap, and table and records together are no longer than the page.
 pub fn check(page: &[u8], relations: u16, longest: usize) -> bool
     requires whole { length page.now ≡ PAGE_BYTES }
     ensures { MatchBool result (IsPage relations longest page.now) (IsPage relations longest page.now → ⊥) }

@@ -1,10 +1,10 @@
-//! A page of records, in place on its 4,096 bytes: a table of slots at its front, and the records
-//! behind it. Contracts see a page as the list of its slots, each empty or a record, and each call as
-//! that list's operation, which keeps the number and the record of every other slot.
+//! A page of records, in place on its 4,096 bytes: a table of slots at its front, and the records behind it.
+//! Contracts see a page as the list of its slots, each empty or a record. Each call is an operation of that list,
+//! which keeps the number and the record of every other slot.
 //!
-//! A record lies right below the lowest one where there is room, else in the first gap that takes it,
-//! and only where no gap does are the records packed at the page's end first. So an insert changes three
-//! short ranges: the slots' count, one slot's head, and the record's own bytes.
+//! A record lies right below the lowest one where there is room, else in the first gap that takes it. Only where no
+//! gap does are the records packed at the page's end first. So an insert changes three short ranges: the slots'
+//! count, one slot's head, and the record's own bytes.
 #![tactic(auto)]
 
 mod changing;

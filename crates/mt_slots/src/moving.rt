@@ -7,8 +7,8 @@ use crate::heads::{PAGE_HEAD_BYTES, SLOT_BYTES, offset_of, size_of, slot_count};
 use mt_base::limits::PAGE_BYTES;
 use mt_base::ranges::{part_of, put, put_u16};
 
-// Moves all records to the page's end. It is for a page that has no place for a record of so many bytes
-// in slot i, since it changes more of the page than a record's own bytes.
+// Moves all records to the page's end. It is for a page that has no place for a record of so many bytes in slot i. It
+// changes more of the page than a record's own bytes.
 pub(crate) fn compact(page: &mut [u8], i: usize, slots: usize, bytes: usize)
     requires shaped { IsShaped page.old }
     requires no_place { (at : ℕ) → IsPlace page.old i slots at bytes → ⊥ }

@@ -39,8 +39,8 @@ impl SpareCopies {
         }
     }
 
-    /// Keeps the memory of these copies, which are done with, where there is more of it than is kept so far, and not more
-    /// than most operations want.
+    /// Keeps the memory of these copies, which are done with. It does so where there is more of it than is kept so
+    /// far, and not more than most operations want.
     pub fn keep(&mut self, copies: Copies) {
         let Copies { total: _, mut list } = copies;
         let room = list.capacity();
@@ -70,8 +70,8 @@ impl Copies {
         }
     }
 
-    /// Makes room for one copy more, and with the first for as many as most operations want: the first takes the memory
-    /// that is kept, if there is any. The only error is want of memory.
+    /// Makes room for one copy more, and with the first for as many as most operations want. The first takes the
+    /// memory that is kept, if there is any. The only error is want of memory.
     pub fn reserve(&mut self, spare: &mut SpareCopies) -> Result<(), AllocError>
         ensures total { self.new.total ≡ self.old.total }
         ensures same { self.new.list.items ≡ self.old.list.items }

@@ -1,4 +1,4 @@
-// The counters page, in place on its bytes: how many relations and counters the schema has, and of each
+// The counters page, in place on its bytes. It has how many relations and counters the schema has, and of each
 // counter its two bounds and its number.
 ghost use Rattle.std.specs.Prelude.{◌≡◌, ◌+◌, ◌+ℤ◌, ◌*◌, ◌<◌, ◌≤◌, ℕ, length, get_or, MatchBool};
 ghost use Rattle.std.specs.Bool.{OnTrue, OnFalse};
@@ -108,9 +108,9 @@ pub fn add(page: &mut [u8], number: CtrNo, step: i64) -> bool
     true
 }
 
-/// Whether these 4,096 bytes are the counters page of a schema of so many relations and counters: it tells
-/// both numbers, has zeros behind them, and each counter's number lies in its bounds, which lie within
-/// 10^15 of zero. The bytes behind the last counter are open.
+/// Whether these 4,096 bytes are the counters page of a schema of so many relations and counters. It tells both
+/// numbers and has zeros behind them. Each counter's number lies in its bounds, which lie within 10^15 of zero. The
+/// bytes behind the last counter are open.
 pub fn check(page: &[u8], relations: u16, counters: u16) -> bool
     requires whole { length page.now ≡ PAGE_BYTES }
     ensures { MatchBool result (AreCounters relations counters page.now) (AreCounters relations counters page.now → ⊥) }

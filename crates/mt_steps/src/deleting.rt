@@ -21,9 +21,9 @@ use mt_model::Reply;
 use mt_space::{Changes, Pages};
 use std::alloc::{AllocError, Global};
 
-/// Plans to take away the value under a key: its record, whose page is given back where it was the last there, and
-/// its entry in the index. Where the key has no value nothing changes. Pages that may change are needed for
-/// write, the directory for read.
+/// Plans to take away the value under a key. That is its record, whose page is given back where it was the last
+/// there, and its entry in the index. Where the key has no value nothing changes. Pages that may change are needed
+/// for write, the directory for read.
 pub(crate) fn delete<V: Pages>(
     alloc: Global,
     views: &V,

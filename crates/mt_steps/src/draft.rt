@@ -9,8 +9,8 @@ use mt_base::PageNo;
 use mt_space::{Changes, PageChange, Pages, patch};
 use std::alloc::{AllocError, Global};
 
-// A page's bytes as they will be. They stand before its number, so that they are copied once where a copy is put into a
-// list: a store of the number first would have them copied aside.
+// A page's bytes as they will be. They stand before its number, so that they are copied once where a copy is put into
+// a list. A store of the number first would have them copied aside.
 #[derive(Drop)]
 pub(crate) struct PageCopy {
     pub(crate) bytes: [u8; 4096],
@@ -87,8 +87,8 @@ impl<'a, V: Pages> Draft<'a, V> {
         keep(&mut self.copies, change.page, bytes)
     }
 
-    /// What all changes so far come to, against the pages as they are: one list that names each page once,
-    /// and none that is as before. The only error is want of memory.
+    /// What all changes so far come to, against the pages as they are. It is one list that names each page once, and
+    /// none that is as before. The only error is want of memory.
     pub(crate) fn changes(&self) -> Result<Changes, AllocError>
         requires sound { V.is_sound self.now.views.now }
         requires copies { AreCopies (V.at_hand self.now.views.now) self.now.copies.items }

@@ -24,10 +24,10 @@ use mt_model::Reply;
 use mt_space::{Changes, Pages};
 use std::alloc::{AllocError, Global};
 
-/// Plans to put a value under a key that has none: the record goes into the page `room`, which holds
-/// records, or into a new page where none is named, and its entry into the index, which splits a bucket at
-/// most where `split` is set. Where the key has a value nothing changes. Pages that may change are needed
-/// for write, the directory for read as long as no split is due.
+/// Plans to put a value under a key that has none. The record goes into the page `room`, which holds records, or into
+/// a new page where none is named. Its entry goes into the index, which splits a bucket at most where `split` is set.
+/// Where the key has a value nothing changes. Pages that may change are needed for write, the directory for read as
+/// long as no split is due.
 pub(crate) fn insert<V: Pages>(
     alloc: Global,
     views: &V,

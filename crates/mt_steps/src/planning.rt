@@ -26,18 +26,18 @@ use mt_model::Op;
 use mt_space::Pages;
 use std::alloc::{AllocError, Global};
 
-/// Plans an operation over the pages at hand: [`Act::Lock`] names a page that is not at hand and has to be locked
-/// and shown first; then the plan is made anew. [`Act::Made`] says what changes, in pages that are all at hand, and
-/// the operation's reply; an operation that only reads changes nothing, and asks for no page but for read; one that
-/// is not logged changes nothing. [`Act::Full`] says that the operation cannot be done without more free pages, or
+/// Plans an operation over the pages at hand. [`Act::Lock`] names a page that is not at hand and has to be locked and
+/// shown first; then the plan is made anew. [`Act::Made`] says what changes, in pages that are all at hand, and the
+/// operation's reply. An operation that only reads changes nothing, and asks for no page but for read. One that is
+/// not logged changes nothing. [`Act::Full`] says that the operation cannot be done without more free pages, or
 /// without another page for its record than `room`. Of pages that break no rule it is never told that they do
 /// ([`Act::Broken`]).
 ///
-/// A row's operation asks for the directory and for the pages of its key's bucket, until it is known what the key has.
-/// Then a get asks to read the record's page. A delete asks to write it, and for the map only where the page is given
-/// back. An update asks to write it, and for another page, the map and the bucket only where it has no room for the
-/// new value. An insert asks to write the page for its record, with the map where none is named; and for the map, the
-/// directory to write and further pages only where the bucket has no room for the entry.
+/// A row's operation asks for the directory and for the pages of its key's bucket, until it is known what the key
+/// has. Then a get asks to read the record's page. A delete asks to write it, and for the map only where the page is
+/// given back. An update asks to write it, and for another page, the map and the bucket only where it has no room for
+/// the new value. An insert asks to write the page for its record, with the map where none is named. It asks for the
+/// map, the directory to write and further pages only where the bucket has no room for the entry.
 ///
 /// A record goes into the page `room`, which holds records, or into a new page where none is named. An insert splits
 /// a bucket of the index at most where `split` is set. No operation takes more free pages than [`pages_for`] says of it.

@@ -45,8 +45,8 @@ fn run(
     Ok(Ran { status, out, err })
 }
 
-/// That a run left this; of what is told of a refusal these are the first bytes. It borrows what it looks at, and so do
-/// the others of its kind: a test that ends at an assertion would have to drop all that it owns there.
+/// That a run left this; of what is told of a refusal these are the first bytes. It borrows what it looks at, and so
+/// do the others of its kind. A test that ends at an assertion would have to drop all that it owns there.
 fn expect_ran(rt: &(impl Abort + AllocGlobal), ran: &Ran, status: u8, out: &[u8], err: &[u8]) {
     let told = ran.err.as_slice();
     let is_told = if status == 1 {
@@ -416,7 +416,7 @@ fn expect_committed(rt: &(impl Abort + AllocGlobal), failing: &Failing) {
     );
 }
 
-/// The first call of the device that is made no more: those of the format, which are 73 for 64 pages, and those of
+/// The first call of the device that is made no more. Those of the format, which are 73 for 64 pages, and those of
 /// the run are before it.
 fn first_unmade(rt: &(impl Abort + AllocGlobal), script: &Script) -> Result<u64, Fail> {
     for call in 74..120u64 {

@@ -12,8 +12,8 @@ pub fn device_of(alloc: Global) -> Result<MemDevice, Refusal> {
     Ok(MemDevice::new(alloc, bytes, 80, 8_400_000)?)
 }
 
-/// A kernel over such a device, which is formatted for it: of two relations, and of a counter from 0 to 10 that starts
-/// at 5.
+/// A kernel over such a device, which is formatted for it. It has two relations, and a counter from 0 to 10 that
+/// starts at 5.
 pub fn kernel_over<D: Device + Drop>(alloc: Global, device: D) -> Result<Kernel<D>, Refusal> {
     let schema = Schema::new(alloc, 64, 4, 2, &[(0, 10, 5)])?;
     match fresh(alloc, device, &schema, 64) {

@@ -1,6 +1,6 @@
-//! The tests of operations, of the kernel and of the program, through their public calls: worked rows,
-//! transcripts, printed texts, failing devices, readers and writers, and each public call with ample memory. A
-//! test that stands beside its code has the whole crate proved twice; here it is proved once, over contracts.
+//! The tests of operations, of the kernel and of the program, through their public calls. They are worked rows,
+//! transcripts, printed texts, failing devices, readers and writers, and each public call with ample memory. A test
+//! that stands beside its code has the whole crate proved twice; here it is proved once, over contracts.
 #![tactic(auto)]
 
 #[cfg(test)]

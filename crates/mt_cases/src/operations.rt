@@ -1,5 +1,5 @@
-// Operations of one transaction at a time: each kind, one that is taken back behind each of its steps, one over refused
-// memory, and random ones beside the model.
+// Operations of one transaction at a time. There are each kind, one that is taken back behind each of its steps, one
+// over refused memory, and random ones beside the model.
 ghost use Rattle.std.specs.Prelude.{◌≤◌};
 
 use crate::common::put_away;
@@ -177,8 +177,8 @@ fn is_as_at(kernel: &mut Kernel<MemDevice>, before: &Survey) -> Result<bool, Ref
     Ok(same && now.depth == before.depth && now.free == before.free)
 }
 
-// Gives the insert of key 58 up behind no step, behind one, and so on, until it has replied: behind how many it has,
-// and whether all was as before each time until then.
+// Gives the insert of key 58 up behind no step, behind one, and so on, until it has replied. It tells behind how many
+// it has, and whether all was as before each time until then.
 fn give_up_in_turn(alloc: Global, kernel: &mut Kernel<MemDevice>) -> Result<(u8, bool), Refusal> {
     let before = kernel.survey()?;
     let mut are = true;
@@ -192,8 +192,8 @@ fn give_up_in_turn(alloc: Global, kernel: &mut Kernel<MemDevice>) -> Result<(u8,
     Ok((40, are))
 }
 
-/// It locks the directory to read and then to write, the bucket, the page of the record, the map and the new bucket,
-/// writes each of the five, and ends.
+/// It locks the directory to read and then to write, the bucket, the page of the record, the map and the new bucket.
+/// It writes each of the five, and ends.
 #[test]
 fn a_split_is_taken_back_behind_each_step(rt: HostRuntime) -> Result<(), Fail> {
     let mut kernel = kernel_of(rt.alloc(), 64, 4, 64, &COUNTERS)?;
@@ -228,8 +228,8 @@ fn insert_over_refusals(alloc: Global, kernel: &mut Kernel<MemDevice>) -> Result
     Ok(told)
 }
 
-// With an allocation refused in it (`rt try --test --fail-alloc N`) it shows that a step that was refused is made when it
-// is asked for again.
+// With an allocation refused in it (`rt try --test --fail-alloc N`) it shows that a refused step is made when it is
+// asked for again.
 #[test]
 fn a_split_goes_where_memory_was_refused(rt: HostRuntime) -> Result<(), Fail> {
     let mut kernel = kernel_of(rt.alloc(), 64, 4, 64, &COUNTERS)?;

@@ -161,7 +161,7 @@ fn name_causes(
     ])
 }
 
-/// The counter goes from 0 to 10 and starts at 5. An add that is pending may yet be taken back, so that behind the one of
+/// The counter goes from 0 to 10 and starts at 5. An add that is pending may yet be taken back. So behind the one of
 /// 5 there is still no room to go down by 6.
 fn meets_wrong_steps(rt: &impl Abort, kernel: &mut Kernel<MemDevice>, txn: TxnNo) {
     for (step, refused) in [
@@ -257,8 +257,8 @@ fn strangers_and_the_busy_are_refused(rt: HostRuntime) -> Result<(), Fail> {
     ran
 }
 
-/// What each call is refused with once the device has failed: two force steps, a begin, and a call, a step, a commit and
-/// the two steps of an abort of another transaction.
+/// What each call is refused with once the device has failed. They are two force steps, a begin, and a call, a step,
+/// a commit and the two steps of an abort of another transaction.
 fn causes_for_good(
     kernel: &mut Kernel<FaultDevice<MemDevice>>,
     other: TxnNo,
@@ -294,7 +294,7 @@ fn fails_for_good(
     Ok(())
 }
 
-/// The first call of the device that a kernel over it makes of its own: those of the format, which are 73 for 64
+/// The first call of the device that a kernel over it makes of its own. Those of the format, which are 73 for 64
 /// pages, and those of the opening are before it.
 fn first_own(alloc: Global) -> Result<u64, Refusal> {
     for call in 74..120u64 {

@@ -119,8 +119,8 @@ fn write_sessions<W: Write>(writer: &mut W, transcripts: &[Transcript]) -> Resul
     Ok(())
 }
 
-/// Writes the transcripts of scripts that were served, and tells how the command ends: by the device's failure, if it
-/// failed meanwhile, and else by that of the output, if that failed.
+/// Writes the transcripts of scripts that were served, and tells how the command ends. It ends by the device's
+/// failure, if it failed meanwhile, and else by that of the output, if that failed.
 fn tell_sessions<O: Write>(
     out: &mut O,
     transcripts: &[Transcript],

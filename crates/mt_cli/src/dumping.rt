@@ -92,9 +92,9 @@ fn write_dump<W: Write>(writer: &mut W, survey: &Survey) -> Result<(), Unheard>
     write_counters(writer, survey.base.counters())
 }
 
-/// Does `dump`: opens the device in a file, as a restart does, and prints its base. The file then stands for what it stood
-/// for; where that is refused, but for want of memory or a failed device, each file is as it was. Nothing is written to
-/// the output before the device is surveyed.
+/// Does `dump`: opens the device in a file, as a restart does, and prints its base. The file then stands for what it
+/// stood for. Where that is refused, but for want of memory or a failed device, each file is as it was. Nothing is
+/// written to the output before the device is surveyed.
 pub(crate) fn perform_dump<F: Folder, O: Write>(
     alloc: Global,
     folder: &mut F,

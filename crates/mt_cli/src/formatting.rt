@@ -61,9 +61,9 @@ fn put_formatted<F: Folder>(folder: &mut F, name: &str, schema: &Schema) -> Resu
     }
 }
 
-/// Makes a device of the schema of these numbers in the file of this name, or in its place. Refused by `BadLength` if and
-/// only if a number is outside its limits, before any file is made; by `NoMemory`; and by `DeviceFailed` where the file
-/// cannot be made or written. The folder is then as before.
+/// Makes a device of the schema of these numbers in the file of this name, or in its place. Refused by `BadLength` if
+/// and only if a number is outside its limits, before any file is made. Refused by `NoMemory`, and by `DeviceFailed`
+/// where the file cannot be made or written. The folder is then as before.
 fn put_device<F: Folder>(
     alloc: Global,
     folder: &mut F,

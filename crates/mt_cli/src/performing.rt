@@ -315,8 +315,8 @@ fn do_command<F: Folder, I: Read, O: Write, G: Gate + Drop + Send + Sync, R: Thr
 /// Does a command, and answers the status of the program:
 ///
 /// - 0: it was done. Refusals within a transcript count as done.
-/// - 1: it was refused, and the refusal's text is on `err`, with the file that it is about and what to do in a line
-///   behind it; or `out` could not be written. An input that cannot be read, and a file that is not there or cannot be
+/// - 1: it was refused, or `out` could not be written. The refusal's text is on `err`, with the file that it is about
+///   and what to do in a line behind it. An input that cannot be read, and a file that is not there or cannot be
 ///   read, is refusal 2.
 ///
 /// A script or a schedule is read whole before any of it runs, and all scripts of `run` before the first of them runs.
@@ -363,8 +363,8 @@ fn tell_unread<E: Write>(err: &mut E)
     tell_about(err, PROGRAM, &Fault::Refused(Refusal::NoMemory));
 }
 
-/// Does the command that these words name, those behind the program's name, and answers the status:
-/// that of [`perform`], or 2 with what is wrong on `err` where they name none.
+/// Does the command that these words name, those behind the program's name, and answers the status. That is the
+/// status of [`perform`], or 2 with what is wrong on `err` where they name none.
 pub fn perform_words<
     F: Folder,
     I: Read,

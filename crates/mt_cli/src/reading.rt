@@ -69,8 +69,9 @@ fn script_of<F: Folder, I: Read>(
 }
 
 /// The scripts of these names, read one after the other; `-` is standard input, of which the first of that name has
-/// all. The folder is as before. Refused for the first that is not read: by `NoMemory`; by `DeviceFailed` where there
-/// is no such file or it cannot be read; and by `BadLine` of its first line that is not in the grammar.
+/// all. The folder is as before. Refused for the first that is not read: by `NoMemory`, or by `DeviceFailed` where
+/// there is no such file or it cannot be read. By `BadLine` it is refused of its first line that is not in the
+/// grammar.
 pub(crate) fn scripts_of<F: Folder, I: Read>(
     alloc: Global,
     folder: &mut F,

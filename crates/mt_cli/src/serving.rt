@@ -114,14 +114,15 @@ fn serve_file<F: Folder, O: Write>(
 }
 
 /// Does `run`: reads all scripts, then opens the device in the file of this name with so many frames, and serves the
-/// scripts to it: one after the other where there is one worker, and else at once. The device is then back in its file,
-/// and each other file is as it was. By one worker nothing is written to the output before the device is opened, and by
-/// several not before all scripts are served.
+/// scripts to it. It serves them one after the other where there is one worker, and else at once. The device is then
+/// back in its file, and each other file is as it was. By one worker nothing is written to the output before the
+/// device is opened, and by several not before all scripts are served.
 ///
-/// Refused for the first script that is not read; for a file that cannot be opened; by `BadLength` where there are more
-/// than 64 scripts; and for what keeps the device from being opened. Further by one worker where a script does not run
-/// to its end, by `NoMemory`, `DeviceFailed` or `LogFull`, and by several where the device failed meanwhile, by `DeviceFailed`,
-/// behind the transcripts. Where `serve` of mt_server is refused, it lets the device go: what its file has is not told.
+/// Refused for the first script that is not read, and for a file that cannot be opened. Refused by `BadLength` where
+/// there are more than 64 scripts, and for what keeps the device from being opened. Further by one worker where a
+/// script does not run to its end, by `NoMemory`, `DeviceFailed` or `LogFull`. By several it is refused where the
+/// device failed meanwhile, by `DeviceFailed`, behind the transcripts. Where `serve` of mt_server is refused, it lets
+/// the device go: what its file has is not told.
 pub(crate) fn perform_run<
     F: Folder,
     I: Read,

@@ -38,8 +38,8 @@ fn folder_of(rt: &(impl AllocGlobal + Threads + Wait + Sync)) -> Result<MemFolde
     Ok(folder)
 }
 
-// Whether each refusal names its file: of several scripts the one that was not read, and else the device, also where
-// several workers were to serve it.
+// Whether each refusal names its file. Of several scripts that is the one that was not read, and else the device,
+// also where several workers were to serve it.
 fn advised(rt: &(impl AllocGlobal + Threads + Wait + Sync)) -> Result<[bool; 9], Refusal> {
     let mut folder = folder_of(rt)?;
     let folder = &mut folder;

@@ -1,5 +1,5 @@
-//! The tests of the commands on devices in files, through the public call of the command line: what they print, with
-//! which status, and what they leave in a folder in memory.
+//! The tests of the commands on devices in files, through the public call of the command line. They show what the
+//! commands print, with which status, and what they leave in a folder in memory.
 #![tactic(auto)]
 
 #[cfg(test)]

@@ -8,7 +8,7 @@ use std::thread::Threads;
 /// The words of a format for the schema of the worked rows.
 pub const FORMAT: [&str; 6] = ["format", "b", "64", "4", "2", "c0:10:5"];
 
-/// Whether `mtk` with these words over this folder ends with this status, and writes just this; of what is told of a
+/// Whether `mtk` with these words over this folder ends with this status, and writes just this. Of what is told of a
 /// refusal these are the first bytes.
 pub fn leaves(
     rt: &(impl AllocGlobal + Threads + Wait + Sync),

@@ -86,8 +86,8 @@ fn scripts_are_served_in_turn(rt: HostRuntime) -> Result<(), Fail> {
     Ok(())
 }
 
-// A script that inserts a row and then updates it so often, each time in a transaction of its own, with 1,000 bytes that
-// all change. Its commits write more than 4 MiB of log.
+// A script that inserts a row and then updates it so often, each time in a transaction of its own. The update has
+// 1,000 bytes that all change. Its commits write more than 4 MiB of log.
 fn updates(alloc: Global, count: usize) -> Result<Vec<u8>, AllocError> {
     let odd = vec![in alloc; b'x'; 1000]?;
     let even = vec![in alloc; b'y'; 1000]?;
@@ -105,8 +105,8 @@ fn updates(alloc: Global, count: usize) -> Result<Vec<u8>, AllocError> {
     Ok(script)
 }
 
-// By one worker, in areas of 4 MiB: each transaction commits, and the epoch behind the format and the opening tells that
-// the log was turned over.
+// By one worker, in areas of 4 MiB. Each transaction commits, and the epoch behind the format and the opening tells
+// that the log was turned over.
 fn turned_over(rt: &(impl AllocGlobal + Threads + Wait + Sync)) -> Result<[bool; 3], Refusal> {
     let mut folder = MemFolder::new(rt.alloc());
     folder.put("s", updates(rt.alloc(), 1500)?.as_slice())?;

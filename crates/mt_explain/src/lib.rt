@@ -1,5 +1,5 @@
-//! The text of a base and of a log, a line each: rows and counters; the records of a log, and what a restart would do
-//! with what has not ended. Begin at [`history_of`].
+//! The text of a base and of a log, a line each. It has rows and counters, the records of a log, and what a restart
+//! would do with what has not ended. Begin at [`history_of`].
 #![tactic(auto)]
 
 mod entries;

@@ -5,8 +5,8 @@ use mt_disk::Device;
 /// Where the program finds files by name: scripts that it reads whole, and devices.
 ///
 /// The device in a file is lent by [`Folder::device`] and given [`Folder::back`]. A device that is to have a name is
-/// made beside the file of that name by [`Folder::make`], and then put in its place by [`Folder::install`] or let go by
-/// [`Folder::discard`].
+/// made beside the file of that name by [`Folder::make`]. It is then put in its place by [`Folder::install`] or let
+/// go by [`Folder::discard`].
 pub trait Folder {
     ghost use Rattle.std.specs.Prelude.{◌≡◌, ℕ, List, Option, length, IfOk, IfErr, IfSome, OnOk, OnErr};
     ghost use Rattle.mt_disk.specs.Disk.{Only};
@@ -27,8 +27,8 @@ pub trait Folder {
         ensures kept { AreKept (files self.old) (files self.new) };
 
     /// The device in the file of this name, with just its bytes, until it is given back; it is synced. Refused by
-    /// `NoMemory`, and by `DeviceFailed` where there is no such file or it cannot be opened to be read and written; the
-    /// folder is then as before.
+    /// `NoMemory`, and by `DeviceFailed` where there is no such file or it cannot be opened to be read and written.
+    /// The folder is then as before.
     fn device(&mut self, name: &str) -> Result<Self::Device, Refusal>
         ensures held { IfOk result (λ device. IsHeld (files self.old) name.now (Self.Device.seen device)) }
         ensures settled { IfOk result (λ device. Only (Self.Device.seen device) (Self.Device.may_leave device)) }
@@ -48,9 +48,9 @@ pub trait Folder {
         ensures why { IfErr result IsUnmade }
         ensures kept { AreKept (files self.old) (files self.new) };
 
-    /// Puts a device that was made for this name in its place: the file has the device's bytes, and what it had before
-    /// is gone. Refused by `NoMemory`, and by `DeviceFailed` where the name cannot be given, or what has it is in use; the
-    /// device is then let go, and the folder as before.
+    /// Puts a device that was made for this name in its place: the file has the device's bytes, and what it had
+    /// before is gone. Refused by `NoMemory`, and by `DeviceFailed` where the name cannot be given, or what has it is
+    /// in use. The device is then let go, and the folder as before.
     fn install(&mut self, name: &str, device: Self::Device) -> Result<(), Refusal>
         ensures put { OnOk result (Puts (files self.old) (files self.new) name.now (Self.Device.seen device)) }
         ensures why { IfErr result IsUnmade }

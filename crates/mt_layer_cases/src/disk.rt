@@ -92,8 +92,8 @@ fn a_file_is_written_and_read_again(rt: HostRuntime) -> Result<(), Fail> {
     Ok(())
 }
 
-/// A write, then a sync and a read of three bytes once the file is cut to its first two: what each answered, and
-/// the bytes.
+/// A write, then a sync and a read of three bytes once the file is cut to its first two. It tells what each answered,
+/// and the bytes.
 fn calls_of_cut<D: Device>(
     rt: &HostRuntime,
     device: &mut D,
@@ -137,7 +137,8 @@ fn a_file_cut_short_is_a_fault(rt: HostRuntime) -> Result<(), Fail> {
     Ok(())
 }
 
-/// Whether another opening of a file that is a device's is refused, and so a making anew; and how long it is once it is let go.
+/// Whether another opening of a file that is a device's is refused, and so a making anew. Then how long it is once it
+/// is let go.
 fn tries_beside(rt: &HostRuntime) -> Result<([bool; 2], u64), Refusal> {
     let device = FileDevice::make(rt, HELD_PATH, 8)?;
     let refused = [

@@ -57,8 +57,8 @@ fn each_add_counts_singly(rt: HostRuntime) -> Result<(), Fail> {
     Ok(())
 }
 
-/// Two adds, of which the second is committed and the first taken back: what was granted, the counter's number and how
-/// many adds are pending then.
+/// Two adds, of which the second is committed and the first taken back. It tells what was granted, the counter's
+/// number and how many adds are pending then.
 fn take_first_back(alloc: Global) -> Result<([Option<bool>; 2], i64, usize), Refusal> {
     let mut escrow = half_full(alloc)?;
     let granted = [is_granted(&mut escrow, 1, 2), is_granted(&mut escrow, 2, 3)];
@@ -73,8 +73,8 @@ fn an_add_that_is_taken_back_is_no_old_number(rt: HostRuntime) -> Result<(), Fai
     Ok(())
 }
 
-/// An add that leaves room for no other, which is taken back: what was granted beside it and behind it, and the
-/// counter's number once that is committed.
+/// An add that leaves room for no other, which is taken back. It tells what was granted beside it and behind it, and
+/// the counter's number once that is committed.
 fn make_room(alloc: Global) -> Result<([Option<bool>; 4], i64), Refusal> {
     let mut escrow = half_full(alloc)?;
     let first = is_granted(&mut escrow, 1, -5);

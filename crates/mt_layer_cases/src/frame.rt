@@ -151,8 +151,8 @@ fn refuses_broken_page_records(rt: HostRuntime) -> Result<(), Fail> {
     let good = [
         1, 0, 0, 0, 0, 0, 0, 0, 1, 0, 0, 0, 0, 0, 0, 0, 2, 0, 2, 0, 0, 0x1f, 0, 1, 6, 7,
     ];
-    // An unknown kind, transaction 0, operation 0, page 4098, flag 2, a range past the page, a
-    // length past the record, and a range that is not the shortest.
+    // An unknown kind, transaction 0, operation 0, page 4098 and flag 2. A range past the page, a length past the
+    // record, and a range that is not the shortest.
     for (at, byte) in [
         (0, 6),
         (8, 0),
@@ -264,8 +264,8 @@ fn is_batch(alloc: Global, bytes: &[u8]) -> Result<bool, Refusal> {
 #[test]
 fn refuses_what_is_no_batch(rt: HostRuntime) -> Result<(), Fail> {
     let alloc = rt.alloc();
-    // A closed gate, a gate of another value, a length of the other order, a byte left in the body,
-    // and a body that is cut off.
+    // A closed gate, a gate of another value, and a length of the other order. A byte left in the body, and a body
+    // that is cut off.
     let commit = [0xa5, 0, 0, 0, 9, 4, 0, 0, 0, 0, 0, 0, 0, 1, 0];
     for (at, byte) in [(0, 0), (0, 0x25), (1, 9), (4, 10), (4, 8)] {
         let mut bad = commit;

@@ -132,8 +132,8 @@ fn free_pages(copies: &Copies) -> usize {
     copies.space[..64].iter().filter(|kind| **kind == 0).count()
 }
 
-/// How many pages are free, the directory's bits and its first two pointers, and of page 3 how deep it is, how many
-/// entries it has and which page is behind it.
+/// How many pages are free, and the directory's bits and its first two pointers. Of page 3 it has how deep it is, how
+/// many entries it has and which page is behind it.
 fn summary(copies: &Copies) -> [usize; 7] {
     [
         free_pages(copies),
@@ -146,8 +146,8 @@ fn summary(copies: &Copies) -> [usize; 7] {
     ]
 }
 
-/// What came of keys of so many relations, of one more and of another one more: whether there was room, the summary
-/// behind each, and how many entries pages 4 and 5 have behind the second.
+/// What came of keys of so many relations, of one more and of another one more. It tells whether there was room, the
+/// summary behind each, and how many entries pages 4 and 5 have behind the second.
 #[derive(Clone, Copy)]
 struct Grown {
     had_room: [bool; 3],

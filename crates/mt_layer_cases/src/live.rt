@@ -118,7 +118,7 @@ fn begin_to_abort(live: &mut Live, txn: TxnNo, alloc: Global) -> Result<(), Refu
     Ok(())
 }
 
-/// What is taken back next at first and behind each of two inverses, and how many operations and which state there
+/// What is taken back next at first and behind each of two inverses. Then how many operations and which state there
 /// are behind the first of them.
 fn go_back_twice(
     live: &mut Live,

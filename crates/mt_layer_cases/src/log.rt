@@ -74,8 +74,8 @@ pub(crate) fn device_of(alloc: Global, byte: u8) -> Result<MemDevice, AllocError
     Ok(MemDevice::new(alloc, bytes, 4, 64)?)
 }
 
-/// What came of one commit: the bytes used without it and with it, its place, whether the log had failed before it was
-/// forced, what five steps of the force answered, and whether the log has failed then.
+/// What came of one commit: the bytes used without it and with it, its place, and whether the log had failed before
+/// it was forced. Then what five steps of the force answered, and whether the log has failed then.
 #[derive(Clone, Copy)]
 pub(crate) struct One {
     used: [u64; 2],
@@ -107,8 +107,8 @@ pub(crate) fn has_bytes(device: &MemDevice, at: usize, bytes: &[u8]) -> bool {
     at <= all.len() && bytes.len() <= all.len() - at && &all[at..at + bytes.len()] == bytes
 }
 
-/// A commit that is forced over bytes of 0xA5, and whether the device has its batch, with a closed gate behind it,
-/// and the byte before the area.
+/// A commit that is forced over bytes of 0xA5. It tells whether the device has its batch, with a closed gate behind
+/// it, and the byte before the area.
 fn one_over_ones(alloc: Global) -> Result<(One, [bool; 2]), Refusal> {
     let mut device = device_of(alloc, 0xA5)?;
     let one = force_one(alloc, &mut device)?;
@@ -183,8 +183,8 @@ fn append_beside_a_force<D: Device>(
     Ok(([first, others[0], others[1]], steps))
 }
 
-/// What came of three commits: their places, four steps of the first one's force, five of that of the others, the
-/// bytes used then, and whether the device has the batch of both.
+/// What came of three commits: their places, four steps of the first one's force, and five of that of the others.
+/// Then the bytes used, and whether the device has the batch of both.
 #[derive(Clone, Copy)]
 struct Three {
     places: [LogPos; 3],

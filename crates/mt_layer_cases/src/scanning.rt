@@ -118,8 +118,8 @@ fn a_failed_read_is_told(rt: HostRuntime) -> Result<(), Fail> {
     Ok(())
 }
 
-/// How many batches are found once the device has failed at its nth call, of which the first six
-/// begin the area and the next four force a batch.
+/// How many batches are found once the device has failed at its nth call. The first six of these begin the area and
+/// the next four force a batch.
 fn left_at(alloc: Global, n: u64) -> Result<usize, Refusal> {
     batches_in(alloc, &mut memory_left_at(alloc, n)?)
 }

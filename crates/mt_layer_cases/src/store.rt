@@ -15,8 +15,8 @@ use mt_space::PageChange;
 use std::alloc::Global;
 use std::test::Fail;
 
-/// A store of 33 pages in 32 frames over an area of 4 MiB. Page 0 says what kind the first pages are of, page 1 has a pointer to page 3, an
-/// empty bucket, and page 2 has one relation; the others are free.
+/// A store of 33 pages in 32 frames over an area of 4 MiB. Page 0 says what kind the first pages are of, and page 1
+/// has a pointer to page 3, an empty bucket. Page 2 has one relation, and the others are free.
 fn formatted(alloc: Global) -> Result<Store<MemDevice>, Refusal>
     ensures kept { IfOk result (λ store. (opening : ℕ → List ℕ) × IsKept content MayLeave opening store) }
     ensures pages { IfOk result (λ store. pages store.pool ≡ 33) }

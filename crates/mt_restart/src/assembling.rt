@@ -12,8 +12,8 @@ use mt_disk::Device;
 use mt_txn::Kernel;
 use std::alloc::Global;
 
-/// Formats a device by the schema, and gives a kernel over it that keeps so many pages in frames: no transaction lives,
-/// the book is empty, and the pages hold no row and each counter at its start.
+/// Formats a device by the schema, and gives a kernel over it that keeps so many pages in frames. No transaction
+/// lives, the book is empty, and the pages hold no row and each counter at its start.
 ///
 /// Refused, in this order, with the device: 1 for want of memory, 5 where the device is shorter than
 /// [`Schema::device_len`], 2 where it failed. After 5 nothing is written; after 1 or 2 it may be formatted or not.

@@ -125,12 +125,13 @@ fn write_all<D: Device>(device: &mut D, schema: &Schema) -> Result<(), DeviceFau
     open_gate(device)
 }
 
-/// Formats a device with a schema, whatever it held: closes the gates of both master slots, and syncs; writes every
-/// page and an empty first log area, and syncs; writes the first master slot behind its gate, and syncs; opens
-/// the gate, and syncs. It takes no memory.
+/// Formats a device with a schema, whatever it held. It closes the gates of both master slots, and syncs. It writes
+/// every page and an empty first log area, and syncs. It writes the first master slot behind its gate, and syncs;
+/// then it opens the gate, and syncs. It takes no memory.
 ///
-/// Then the device holds the schema's first base, whatever a crash leaves, and [`open`](crate::open) finds it. A crash in this call leaves what it might
-/// have left before, but for the gates of the master slots; or no open master slot; or the schema's format.
+/// Then the device holds the schema's first base, whatever a crash leaves, and [`open`](crate::open) finds it. A
+/// crash in this call leaves what it might have left before, but for the gates of the master slots. Or it leaves no
+/// open master slot, or the schema's format.
 ///
 /// A device that is shorter than the schema needs is refused with [`Refusal::BadLength`], before any call of it. The
 /// only other refusal is [`Refusal::DeviceFailed`], where the device failed in this call. Of a longer device the

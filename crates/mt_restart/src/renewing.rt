@@ -58,8 +58,9 @@ fn begin_next<D: Device>(
     Ok(log)
 }
 
-/// Turns the log over: the pages with an image in the ruling area are written in place; the next area begins with images
-/// of those that are lost; its slot comes to rule; and those pages are written in place too. It takes no memory.
+/// Turns the log over. The pages with an image in the ruling area are written in place, and the next area begins with
+/// images of those that are lost. Its slot comes to rule, and those pages are written in place too. It takes no
+/// memory.
 pub(crate) fn turn<D: Device>(
     device: &mut D,
     ruling: &MasterSlot,

@@ -67,13 +67,14 @@ fn kernel_over<D: Device + Drop>(alloc: Global, device: D, recovered: Recovered)
     Kernel::assemble(alloc, operations, escrow, relations, counters)
 }
 
-/// Gives a kernel over a device that was used before, whatever a crash left of it, with so many pages in frames: no
+/// Gives a kernel over a device that was used before, whatever a crash left of it, with so many pages in frames. No
 /// transaction lives, the book is empty, and the pages hold the base that the bytes stood for. That is what the log's
 /// committed transactions lead to, in the order of their commits.
 ///
-/// The device is synced. Then a restart's passes are made in memory: the ruling area's records are repeated, unfinished
-/// operations are put back, and losers are undone by their inverses (Mohan 1992; Weikum 1991). At last the log turns over
-/// to the other area. Its first batch has images of the pages that are neither in the ruling area nor in their slots.
+/// The device is synced. Then a restart's passes are made in memory. The ruling area's records are repeated,
+/// unfinished operations are put back, and losers are undone by their inverses (Mohan 1992; Weikum 1991). At last the
+/// log turns over to the other area. Its first batch has images of the pages that are neither in the ruling area nor
+/// in their slots.
 ///
 /// Whenever a crash comes in this call, what it leaves is what it might have left before, or stands for the same base. So
 /// a device may be opened again, however often that is cut off.

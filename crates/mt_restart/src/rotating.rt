@@ -75,9 +75,9 @@ fn turn_over<D: Device + Drop>(
 /// Turns the log of a kernel over while no transaction lives, and gives the kernel with so many pages in frames. The
 /// state that it shows goes on: its book, and the numbers of its transactions.
 ///
-/// The log is forced, and the device recovered as [`open`](crate::open) does: it is synced, its pages are read back
-/// and written in place where they are not, and the other area begins and comes to rule. Whenever a crash comes in this
-/// call, a restart finds what some of the first commits lead to, with the whole book of the kernel.
+/// The log is forced, and the device recovered as [`open`](crate::open) does. It is synced, and its pages are read
+/// back and written in place where they are not. The other area begins and comes to rule. Whenever a crash comes in
+/// this call, a restart finds what some of the first commits lead to, with the whole book of the kernel.
 ///
 /// Refused with the kernel, whose state is as before:
 /// - [`Refusal::DeviceFailed`], where its device has failed, or fails in the force;

@@ -14,8 +14,8 @@ use mt_base::limits::{
 use mt_model::{Base, Count};
 use std::alloc::Global;
 
-/// What a device is formatted with: how many pages it has, how large each of its two log areas is, how many
-/// relations there are, and which counters. All of it lies within the limits.
+/// What a device is formatted with: how many pages it has, and how large each of its two log areas is. It has how
+/// many relations there are, and which counters. All of it lies within the limits.
 #[derive(Drop)]
 pub struct Schema {
     pub(crate) pages: u16,
@@ -57,9 +57,9 @@ fn is_schema(pages: u16, area_mib: u8, relations: u16, counters: &[(i64, i64, i6
 impl Schema {
     ghost use Rattle.mt_restart.specs.Schemas.{pages_in, mib_in, relations_in, counters_in, device_bytes};
 
-    /// A schema of 16 to 4000 pages, log areas of 4 to 64 MiB, 1 to 64 relations, and at most 128 counters, each with
-    /// its low bound, high bound and start: within 10^15 of zero, and in this order. What is outside its limits is
-    /// refused with [`Refusal::BadLength`], and nothing else but by [`Refusal::NoMemory`].
+    /// A schema of 16 to 4000 pages, log areas of 4 to 64 MiB, 1 to 64 relations, and at most 128 counters. Each
+    /// counter has its low bound, high bound and start, within 10^15 of zero, and in this order. What is outside its
+    /// limits is refused with [`Refusal::BadLength`], and nothing else but by [`Refusal::NoMemory`].
     pub fn new(
         alloc: Global,
         pages: u16,

@@ -114,8 +114,9 @@ fn without_row(alloc: Global) -> Result<(u8, u8), Refusal> {
     Err(Refusal::Busy)
 }
 
-/// An insert is stepped, to each page write and to its end, and forced there: its transaction has not committed, and
-/// so there is no row. It locks the directory, the bucket, the map and a free page, writes all but the first, and ends.
+/// An insert is stepped, to each page write and to its end, and forced there. Its transaction has not committed, and
+/// so there is no row. It locks the directory, the bucket, the map and a free page, writes all but the first, and
+/// ends.
 #[test]
 fn an_insert_under_way_leaves_nothing(rt: HostRuntime) -> Result<(), Fail> {
     let told = without_row(rt.alloc())?;

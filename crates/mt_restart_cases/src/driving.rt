@@ -1,4 +1,4 @@
-// A kernel in as many frames as there are pages, over a device in memory: what is in the way of a call is told as
+// A kernel in as many frames as there are pages, over a device in memory. What is in the way of a call is told as
 // `Refusal::Busy`.
 use crate::devices::{empty_device, row_schema};
 use mt_base::{Bytes, CtrNo, Refusal, RelNo, TxnNo};

@@ -41,8 +41,8 @@ fn committed_over(alloc: Global, n: u64) -> Result<(Option<u8>, MemDevice), Refu
     Ok((steps, kernel.into_device().into_inner()))
 }
 
-// Whether the device is opened again with the base that is due behind so many steps: the row once the batch's gate was
-// written, though the sync behind it failed.
+// Whether the device is opened again with the base that is due behind so many steps. The row is there once the
+// batch's gate was written, though the sync behind it failed.
 fn is_opened(alloc: Global, steps: Option<u8>, device: MemDevice) -> Result<bool, Refusal> {
     let (refused, mut device) = recovered(alloc, device);
     let text = inspected(alloc, &mut device)?;
@@ -53,8 +53,8 @@ fn is_opened(alloc: Global, steps: Option<u8>, device: MemDevice) -> Result<bool
     Ok(refused.is_none() && text.as_slice() == due)
 }
 
-// Of the calls behind the format, each failing in turn: how often the force came to so many steps, and whether each
-// device was opened as is due.
+// Of the calls behind the format, each failing in turn. It tells how often the force came to so many steps, and
+// whether each device was opened as is due.
 fn each_call_failing(alloc: Global) -> Result<([u16; 5], bool), Refusal> {
     let mut counts = [0u16; 5];
     let mut are_due = true;
@@ -73,9 +73,9 @@ fn each_call_failing(alloc: Global) -> Result<([u16; 5], bool), Refusal> {
     Err(Refusal::Busy)
 }
 
-/// The insert reads the slots of the directory, the bucket and a free page; the force makes four calls, of which the first
-/// fails as early as those. The last one is the sync behind the gate: the commit is not acknowledged then, and is there
-/// once the device is opened.
+/// The insert reads the slots of the directory, the bucket and a free page. The force makes four calls, of which the
+/// first fails as early as those. The last one is the sync behind the gate: the commit is not acknowledged then, and
+/// is there once the device is opened.
 #[test]
 fn a_commit_meets_a_device_that_fails(rt: HostRuntime) -> Result<(), Fail> {
     let (counts, are_due) = each_call_failing(rt.alloc())?;

@@ -1,6 +1,6 @@
-//! The tests of what a crash leaves of a device and of what is made of it, through public calls: reports, inspections
-//! and recoveries of devices that are damaged, cut short, stopped at a call of the device or crashed in the course of
-//! a commit, an abort or a recovery. What a base holds is compared as text.
+//! The tests of what a crash leaves of a device and of what is made of it, through public calls. They are reports,
+//! inspections and recoveries. Devices are damaged, cut short, stopped at a call of the device or crashed in the
+//! course of a commit, an abort or a recovery. What a base holds is compared as text.
 #![tactic(auto)]
 
 #[cfg(test)]

@@ -60,7 +60,7 @@ fn work(alloc: Global, kernel: &mut Kernel<MemDevice>) -> Result<(), Refusal> {
     Ok(())
 }
 
-/// A device of 16 pages as a crash leaves it behind two commits, while a transaction of four effects is open and an
+/// A device of 16 pages as a crash leaves it behind two commits. A transaction of four effects is open then and an
 /// insert is unfinished. Of two pages there are other bytes in the slots than when the log area began.
 pub fn left_behind(alloc: Global) -> Result<MemDevice, Refusal> {
     let mut kernel = kernel_of(alloc, 16)?;
@@ -140,8 +140,8 @@ fn standing(alloc: Global, device: &MemDevice) -> Result<u8, Refusal> {
     Ok(count)
 }
 
-// Stops a recovery at each call of the device in turn: at how many of them, and behind how many of these each crash
-// left the same base.
+// Stops a recovery at each call of the device in turn. It tells at how many of them, and behind how many of these
+// each crash left the same base.
 fn stop_in_turn(alloc: Global, bytes: &[u8]) -> Result<(u64, u64), Refusal> {
     let mut stood = 0u64;
     for n in 1..1000u64 {

@@ -1,5 +1,5 @@
-// Lists of events that are stopped at each call of the device behind the first event: what each crash leaves then is opened,
-// and each opening is stopped at each of its own calls.
+// Lists of events that are stopped at each call of the device behind the first event. What each crash leaves then is
+// opened, and each opening is stopped at each of its own calls.
 use crate::devices::{FILLS, device_of, empty_device, inspected, recovered, row_schema};
 use crate::driving::{add, insert};
 use crate::stopped::stops_of;
@@ -15,8 +15,8 @@ use std::test::Fail;
 /// Pages of the device.
 const PAGES: u16 = 16;
 
-// Openings of a content, where the ruling area has so many batches and the other master slot is open: one for each of its
-// device calls, which fails, and one that goes well. docs/PROVED.md tells which calls these are.
+// Openings of a content, where the ruling area has so many batches and the other master slot is open. One for each of
+// its device calls, which fails, and one that goes well. docs/PROVED.md tells which calls these are.
 const ONE_BATCH: u64 = 60;
 
 const TWO_BATCHES: u64 = 66;
@@ -359,8 +359,9 @@ fn an_abort_under_way_leaves_the_number_wherever_it_stops(rt: HostRuntime) -> Re
     Ok(())
 }
 
-// Behind a force the page, the rotation's pages and the other area's first batch leave 29 contents. From the closing of the
-// other slot's gate to its opening it is closed in ten, and open in two; the new area rules in two. Another force follows.
+// Behind a force the page, the rotation's pages and the other area's first batch leave 29 contents. From the closing
+// of the other slot's gate to its opening it is closed in ten, and open in two. The new area rules in two. Another
+// force follows.
 const ROTATION_OPENINGS: u64 = ROW_OPENINGS
     + (29 + 2) * TWO_BATCHES
     + (3 + 5 + 2) * TWO_BATCHES_ALONE
@@ -373,9 +374,9 @@ fn stops_of_a_rotation(alloc: Global) -> Result<Tally, Refusal> {
     each_stop(alloc, events.as_slice(), 28)
 }
 
-/// The forces take eight calls, a page one, and the rotation eighteen: a sync, three pages and a sync, the other area's gate
-/// closed and synced, its first force, the other slot's gate closed, its text written and its gate opened, each with a sync,
-/// and a last sync.
+/// The forces take eight calls, a page one, and the rotation eighteen. These are a sync, three pages and a sync, the
+/// other area's gate closed and synced, and its first force. Then the other slot's gate is closed, its text written
+/// and its gate opened, each with a sync, and a last sync is made.
 #[test]
 fn rows_stand_wherever_a_rotation_stops(rt: HostRuntime) -> Result<(), Fail> {
     let told = stops_of_a_rotation(rt.alloc())?;
@@ -437,8 +438,8 @@ fn a_stopped_commit_stands_once_its_gate_is_open(rt: HostRuntime) -> Result<(), 
 
 // ---- a device that fails
 
-/// What the answers of a run tell: whether each behind the first refusal 2 is that, whether there is one, and how many
-/// commits were acknowledged.
+/// What the answers of a run tell: whether each behind the first refusal 2 is that, and whether there is one. Then
+/// how many commits were acknowledged.
 #[derive(Clone, Copy)]
 struct Heard {
     stays_failed: bool,
@@ -472,8 +473,8 @@ fn has_rows(text: &[u8], rows: usize) -> bool {
     }
 }
 
-// Makes the events over a device that fails at its n-th call, reads counted too, and opens that again: whether all was
-// well, and whether it ever failed; None where it failed before the first event.
+// Makes the events over a device that fails at its n-th call, reads counted too, and opens that again. It tells
+// whether all was well, and whether it ever failed; None where it failed before the first event.
 fn failing_at(alloc: Global, events: &[Event], n: u64) -> Result<Option<(bool, bool)>, Refusal> {
     let schema = row_schema(alloc, PAGES)?;
     let device = FaultDevice::new(empty_device(alloc, PAGES)?, n);
@@ -505,9 +506,9 @@ fn each_failing(alloc: Global) -> Result<Option<u64>, Refusal> {
     Err(Refusal::Busy)
 }
 
-/// There are two forces of four calls each, a page is written, and the log turns over, in 65 calls. The first insert reads the
-/// slots of the directory, the bucket, the map and a free page; the second one those of the directory, the bucket and the
-/// page of records.
+/// There are two forces of four calls each, a page is written, and the log turns over, in 65 calls. The first insert
+/// reads the slots of the directory, the bucket, the map and a free page. The second one reads those of the
+/// directory, the bucket and the page of records.
 #[test]
 fn whatever_call_fails_each_later_event_is_refused(rt: HostRuntime) -> Result<(), Fail> {
     let count = each_failing(rt.alloc())?;

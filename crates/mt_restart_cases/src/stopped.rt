@@ -1,5 +1,5 @@
-// A transaction that is taken back while another commits between its inserts, over a device that is stopped at each of its
-// calls; what each crash leaves then is opened, and each opening is stopped at each of its own.
+// A transaction that is taken back while another commits between its inserts, over a device that is stopped at each
+// of its calls. What each crash leaves then is opened, and each opening is stopped at each of its own.
 use crate::devices::{crashed, device_of, empty_device, inspected, recovered, row_schema};
 use crate::driving::{abort_step, commit, flush, force, insert, run};
 use mt_base::{Refusal, TxnNo};
@@ -256,8 +256,8 @@ fn each_stop(alloc: Global) -> Result<Option<(u64, Counts)>, Refusal> {
     Err(Refusal::Busy)
 }
 
-// Openings of a content whose ruling area has so many batches, beside a closed master slot: one for each of its device calls,
-// which fails, and one that goes well. docs/PROVED.md tells which calls these are.
+// Openings of a content whose ruling area has so many batches, beside a closed master slot. One for each of its
+// device calls, which fails, and one that goes well. docs/PROVED.md tells which calls these are.
 const ONE_BATCH: u64 = 58;
 
 const TWO_BATCHES: u64 = 64;
@@ -266,8 +266,8 @@ const THREE_BATCHES: u64 = 70;
 
 const FOUR_BATCHES: u64 = 76;
 
-// A force leaves three contents before its gate is open, and one behind it; a page three, and four where another one was not
-// synced before. With those a force leaves four.
+// A force leaves three contents before its gate is open, and one behind it. A page leaves three, and four where
+// another one was not synced before. With those a force leaves four.
 const DUE: Counts = Counts {
     contents: 29,
     stops: (1 + 3) * ONE_BATCH
@@ -276,9 +276,9 @@ const DUE: Counts = Counts {
         + FOUR_BATCHES,
 };
 
-/// There are three forces of four calls each, three pages are written, and four read: the directory, the bucket, a page for
-/// records, and one for the split. That one is read while a page that was written is not synced, so its four contents are
-/// looked at twice.
+/// There are three forces of four calls each, and three pages are written. Four are read: the directory, the bucket,
+/// a page for records, and one for the split. That one is read while a page that was written is not synced, so its
+/// four contents are looked at twice.
 #[test]
 fn whatever_stops_a_run_the_acknowledged_commits_stand(rt: HostRuntime) -> Result<(), Fail> {
     let told = each_stop(rt.alloc())?;

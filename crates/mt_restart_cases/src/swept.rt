@@ -1,5 +1,5 @@
-// Devices that are cut short or changed at a byte: whatever their bytes, an inspection answers with a base, that there
-// is no format, or with a place where a rule is broken.
+// Devices that are cut short or changed at a byte. Whatever their bytes, an inspection answers with a base, that
+// there is no format, or with a place where a rule is broken.
 use crate::devices::{byte_at, log_end, put};
 use crate::driving::{commit, insert, kernel_of, run};
 use crate::recovered::left_behind;
@@ -94,8 +94,9 @@ fn cuts(alloc: Global) -> Result<Tally, Refusal> {
     cut_each(alloc, &mut device)
 }
 
-// The whole content has a base. So has each cut from the second-last byte of the second batch's length back to the byte behind
-// the empty first batch's gate: a batch of no bytes, or none. The batches have 12,511 bytes, and each slot 17.
+// The whole content has a base. So has each cut from the second-last byte of the second batch's length back to the
+// byte behind the empty first batch's gate. That is a batch of no bytes, or none. The batches have 12,511 bytes, and
+// each slot 17.
 const CUTS: Tally = Tally {
     bases: 9,
     unformatted: 1,

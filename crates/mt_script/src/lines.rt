@@ -18,9 +18,9 @@ use std::alloc::{AllocError, Global};
 /// | `add C N`, `read C` | a step of counter C, or its number |
 /// | `commit`, `abort` | the end of the transaction |
 ///
-/// One space stands between two words. R and C are 0 to 65535 and N fits 64 bits with its sign, all
-/// in decimal without leading zeros and with `-` before a negative N only. K is one or more bytes
-/// 0x21 to 0x7E. V is the rest of the line, bytes 0x20 to 0x7E, and may be empty.
+/// One space stands between two words. R and C are 0 to 65535 and N fits 64 bits with its sign. All are decimal
+/// without leading zeros and with `-` before a negative N only. K is one or more bytes 0x21 to 0x7E. V is the rest of
+/// the line, bytes 0x20 to 0x7E, and may be empty.
 #[derive(Debug, Drop)]
 pub enum Line {
     /// Begins a transaction.

@@ -119,8 +119,8 @@ fn run_each<D: Device + Drop, W: Write>(
     Ok(between)
 }
 
-/// Runs a script as [`run_alone`](crate::run_alone), and turns the log over before a line outside of a transaction where
-/// more than half of its area is in use.
+/// Runs a script as [`run_alone`](crate::run_alone). It turns the log over before a line outside of a transaction
+/// where more than half of its area is in use.
 pub(crate) fn run_script<D: Device + Drop, W: Write>(
     alloc: Global,
     kernel: Kernel<D>,

@@ -91,8 +91,8 @@ fn turn_log<D: Device + Drop, G: Gate + Drop, J: Naming, R: Wait>(
     !shared.is_half_used(rt) || shared.turn_over(rt, alloc, frames) != Err(Refusal::LogFull)
 }
 
-/// Tends a shared kernel until that is ended: forces its log, flushes its pages, and turns the log over where half of it
-/// is in use. It sleeps where nothing is due.
+/// Tends a shared kernel until that is ended. It forces its log, flushes its pages, and turns the log over where half
+/// of it is in use. It sleeps where nothing is due.
 fn tend<D: Device + Drop, G: Gate + Drop, J: Naming, R: Wait>(
     rt: &R,
     alloc: Global,

@@ -55,8 +55,8 @@ pub fn force_commit<D: Device>(kernel: &mut Kernel<D>, txn: TxnNo) -> Result<(),
     Err(Refusal::Busy)
 }
 
-/// Makes sure that some frame has no page that is yet to be flushed: a page is flushed, and the log is forced
-/// before that where each of them waits for it.
+/// Makes sure that some frame has no page that is yet to be flushed. A page is flushed, and the log is forced before
+/// that where each of them waits for it.
 pub fn make_room<D: Device>(kernel: &mut Kernel<D>) -> Result<(), Refusal>
     ensures eases { NobodyCommits kernel.old → Eases D.seen D.may_leave kernel.old kernel.new }
     ensures cause { IfErr result (Fails D.faults kernel.new) }

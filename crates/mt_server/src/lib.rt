@@ -1,6 +1,6 @@
-//! Scripts served to a kernel: a script is read whole, line by line, before any of it runs; it then runs
-//! alone, and each of its lines is answered by a line of the transcript. A refusal is an answer, and the
-//! script goes on. Several scripts are served one after the other, as sessions of their own.
+//! Scripts served to a kernel. A script is read whole, line by line, before any of it runs. It then runs alone, and
+//! each of its lines is answered by a line of the transcript. A refusal is an answer, and the script goes on. Several
+//! scripts are served one after the other, as sessions of their own.
 //!
 //! Readers and writers are passed in, and their bytes are what contracts speak of. Begin at [`run_alone`], or at
 //! [`run_sessions`] for several scripts.

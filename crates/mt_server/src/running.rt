@@ -21,8 +21,8 @@ pub enum RunFault {
     /// that lived is aborted, unless the device had failed.
     #[error("the output cannot be written")]
     Output,
-    /// `NoMemory`, where a step found no memory, or no frame, when it was asked nine times, and the
-    /// transaction stands as it was; or `DeviceFailed`, which is the transcript's last line.
+    /// `NoMemory`, where a step found no memory, or no frame, when it was asked nine times. The transaction stands as
+    /// it was then. Or `DeviceFailed`, which is the transcript's last line.
     #[error("{0}")]
     Refused(Refusal),
 }
@@ -139,13 +139,13 @@ pub(crate) fn end_live<D: Device, W: Write>(
 /// line as one line. A transaction that is open at the script's end is aborted, with the line
 /// `aborted`.
 ///
-/// A step that finds no memory is asked again, up to eight times; for one that finds no frame a page is
-/// flushed before that. After `Output` a beginning of the transcript is written and the transaction that
-/// lived is aborted, unless the device had failed; after refusal 1 it stands as it was; refusal 2 is the
-/// last line, and the device has failed. There is no other refusal.
+/// A step that finds no memory is asked again, up to eight times; for one that finds no frame a page is flushed
+/// before that. After `Output` a beginning of the transcript is written and the transaction that lived is aborted,
+/// unless the device had failed. After refusal 1 it stands as it was. Refusal 2 is the last line, and the device has
+/// failed. There is no other refusal.
 ///
-/// What is promised holds beside whatever play of the model the kernel stands at: where nobody lives, and
-/// its book and the base that this leaves are the model's.
+/// What is promised holds beside whatever play of the model the kernel stands at. Nobody lives there, and its book
+/// and the base that this leaves are the model's.
 pub fn run_alone<D: Device, W: Write>(
     kernel: &mut Kernel<D>,
     session: u32,

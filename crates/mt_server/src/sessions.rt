@@ -53,18 +53,18 @@ fn run_session<D: Device + Drop, W: Write>(
 /// Serves scripts to a kernel in which no transaction lives, one after the other, as sessions from 1 on. It writes the
 /// line `session I` before the transcript of each; that is what [`run_alone`](crate::run_alone) writes.
 ///
-/// Before a line outside of a transaction the kernel's log is turned over, where more than half of its area is in use,
-/// and the kernel then has so many pages in frames. So the log of many short transactions does not fill. The play sees
-/// nothing of it. Where there is no memory to force the log, it is turned over before a later line.
+/// Before a line outside of a transaction the kernel's log is turned over, where more than half of its area is in
+/// use. The kernel then has so many pages in frames. So the log of many short transactions does not fill. The play
+/// sees nothing of it. Where there is no memory to force the log, it is turned over before a later line.
 ///
-/// It stops at the first script that does not run to its end, for what `run_alone` answers, with the kernel as that leaves
-/// it; scripts behind that one are not begun. `Output` too where a session's line cannot be written: nothing of its
-/// script ran then. Where a log that was to be turned over leaves no kernel, it stops with the device, by what
-/// [`rotate`](mt_restart::rotate) is refused with then: 1, 2, which is the transcript's last line, or 11. The scripts are
-/// [`MAX_SESSIONS`](mt_base::limits::MAX_SESSIONS) at most.
+/// It stops at the first script that does not run to its end, for what `run_alone` answers, with the kernel as that
+/// leaves it. Scripts behind that one are not begun. `Output` too where a session's line cannot be written: nothing
+/// of its script ran then. Where a log that was to be turned over leaves no kernel, it stops with the device, by what
+/// [`rotate`](mt_restart::rotate) is refused with then. That is 1, 2, which is the transcript's last line, or 11. The
+/// scripts are [`MAX_SESSIONS`](mt_base::limits::MAX_SESSIONS) at most.
 ///
 /// What is promised holds beside whatever play of the model the kernel stands at, from whose first base it can be
-/// restarted; the play's session is not looked at.
+/// restarted. The play's session is not looked at.
 pub fn run_sessions<D: Device + Drop, W: Write>(
     alloc: Global,
     kernel: Kernel<D>,

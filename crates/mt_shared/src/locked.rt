@@ -76,7 +76,7 @@ impl<D: Device, J: Naming> Locked<D, J> {
     /// book's first entries up to it.
     ///
     /// The token comes back, and nothing has changed, only where the mark does not stand one below the place, or the
-    /// book has no entry there with the token's session, calls and replies.
+    /// book has no such entry there. That is one with the token's session, calls and replies.
     pub fn enter(&mut self, place: u64, pass: &mut Pass<J>, txn: Txn<J>) -> Result<(), Txn<J>>
         requires own { txn.pass ≡ pass.old.number }
         ensures entered { OnOk result (Entered J.base self.old place pass.old txn pass.new) }
@@ -215,8 +215,8 @@ impl<D: Device, J: Naming> Locked<D, J> {
         }
     }
 
-    // The kernel of what is whole, which each pass meets; or all as it was, where a transaction lives in a kernel that has
-    // not failed.
+    // The kernel of what is whole, which each pass meets. Or all as it was, where a transaction lives in a kernel
+    // that has not failed.
     fn into_met(self, passes: Vec<Pass<J>>) -> Result<Kernel<D>, Unclosed<D, J>>
         requires whole { IsWhole self }
         requires all { IsOfAll J.book passes.items self.list }

@@ -100,8 +100,9 @@ impl<D: Device> Opened<D> {
 }
 
 impl<D: Device + Drop> Opened<D> {
-    /// Opens a device with so many pages in frames, 32 to 4096, and makes the mark of its kernel, with a seat for each of
-    /// so many passes. The history is empty, and begins on the base that the bytes stood for, which a survey tells.
+    /// Opens a device with so many pages in frames, 32 to 4096. It makes the mark of its kernel, with a seat for each
+    /// of so many passes. The history is empty, and begins on the base that the bytes stood for, which a survey
+    /// tells.
     ///
     /// Refused as [`open`](mt_restart::open) and [`Kernel::survey`], and with 1 where the mark finds no memory. The device
     /// is handed back.

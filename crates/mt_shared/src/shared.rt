@@ -112,8 +112,8 @@ impl<D: Device, G: Gate + Drop, J: Naming> Shared<D, G, J> {
         }
     }
 
-    // A commit is in the history. Once the lock is free this wakes who commits at the next place, and who waits until all
-    // are in the history; behind the last that is durable also who tends, where that had nothing to do.
+    // A commit is in the history. Once the lock is free this wakes who commits at the next place, and who waits until
+    // all are in the history. Behind the last that is durable it also wakes who tends, where that had nothing to do.
     fn has_entered(&self, mut locked: MutexGuard<'_, Locked<D, J>>, place: u64) {
         let is_due = locked.is_last(place) && locked.stir();
         let is_awaited = locked.holds_back();
@@ -332,8 +332,8 @@ impl<D: Device, G: Gate + Drop, J: Naming> Shared<D, G, J> {
         unreachable!()
     }
 
-    /// One step of a force; where there is nothing to force, or a commit waits to be durable, which who commits forces,
-    /// one page is flushed. It is for a thread that does so in the background, and waits for the lock alone.
+    /// One step of a force. One page is flushed where there is nothing to force, or a commit waits to be durable,
+    /// which who commits forces. It is for a thread that does so in the background, and waits for the lock alone.
     ///
     /// Refused: 2 where the device has failed or fails in this call; 1 for want of memory.
     pub fn tend<R: Wait>(&self, rt: &R) -> Result<Tended, Refusal> {
@@ -403,9 +403,10 @@ impl<D: Device, G: Gate + Drop, J: Naming> Shared<D, G, J> {
 
     /// Commits, and answers the place in the history, from 1. The transaction is durable then, and in the history.
     ///
-    /// It waits until the commits before it are entered. If its own is not durable then, it makes force steps until it
-    /// is; what others have appended meanwhile is forced with it. Refused: 15 where the token is of another pass, then as [`Kernel::commit_begin`], and the
-    /// token comes back; 2 where the device failed before the commit was durable, and then the token is gone.
+    /// It waits until the commits before it are entered. If its own is not durable then, it makes force steps until
+    /// it is; what others have appended meanwhile is forced with it. Refused: 15 where the token is of another pass,
+    /// then as [`Kernel::commit_begin`], and the token comes back. It is refused with 2 where the device failed
+    /// before the commit was durable, and then the token is gone.
     pub fn commit<R: Wait>(
         &self,
         rt: &R,
@@ -531,9 +532,9 @@ impl<D: Device, G: Gate + Drop, J: Naming> Shared<D, G, J> {
     /// has seen, and has no further transaction of that pass. It has as many as stood when the mark was made and the
     /// passes have committed together, so no other. Unless it has failed, nobody lives in it, and it holds no lock.
     ///
-    /// Refused, in this order, with all that was handed in: 15 where a pass is missing; 16 where one of them has a
-    /// transaction; 2 where a rotation left no kernel; 16 where a durable transaction is not in the history, or one lives in
-    /// a kernel that has not failed.
+    /// Refused, in this order, with all that was handed in: 15 where a pass is missing, 16 where one of them has a
+    /// transaction, 2 where a rotation left no kernel. Then 16 where a durable transaction is not in the history, or
+    /// one lives in a kernel that has not failed.
     pub fn close(self, passes: Vec<Pass<J>>) -> Result<Kernel<D>, Closed<D, G, J>>
         ensures seen { IfOk result (λ k.
             All (λ (p : PassSeen). IsPrefix (dones p.seen) k.parts.book.items) passes.items) }

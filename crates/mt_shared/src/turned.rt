@@ -11,8 +11,8 @@ use mt_disk::Device;
 use mt_restart::{NotRotated, rotate};
 use std::alloc::Global;
 
-// What a rotation gives: the kernel, or the device that was left of it; its past, where none is left; and whether the
-// log was turned over, which it is not while something is under way.
+// What a rotation gives: the kernel, or the device that was left of it, and its past, where none is left. With it is
+// whether the log was turned over, which it is not while something is under way.
 pub(crate) struct Turned<D: Device> {
     pub(crate) held: Result<Based<D>, Option<D>>,
     pub(crate) past: Past,

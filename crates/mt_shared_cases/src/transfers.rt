@@ -202,7 +202,7 @@ fn transfer<R: Threads + Wait + Sync>(rt: &R, alloc: Global) -> Result<(u64, Tol
     named_work::<Brand, R>(rt, alloc, opened)
 }
 
-/// Each of sixteen threads makes 200 transfers and inserts 50 rows, and commits each of them; in their midst one
+/// Each of sixteen threads makes 200 transfers and inserts 50 rows, and commits each of them. In their midst one
 /// turns the log over, and another forces and flushes. All of it stands, and each counter gave as often as it took.
 #[test]
 fn sixteen_threads_commit_all(rt: HostRuntime) -> Result<(), Fail> {

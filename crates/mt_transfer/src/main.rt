@@ -30,8 +30,8 @@ impl Gate for NoGate {
 /// The kernel that both threads share.
 type Both<J> = Shared<MemDevice, NoGate, J>;
 
-/// Takes a transaction back, and asks again as long as that is refused; of its own pass it is refused with 2 alone, as far
-/// as is known, and is gone then.
+/// Takes a transaction back, and asks again as long as that is refused. Of its own pass it is refused with 2 alone,
+/// as far as is known, and is gone then.
 fn take_back<J: Naming, R: Wait>(rt: &R, shared: &Both<J>, pass: &mut Pass<J>, txn: Txn<J>) {
     let mut kept = txn;
     for _ in rt.forever() {

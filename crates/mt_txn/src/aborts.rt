@@ -27,9 +27,9 @@ use mt_kernel::{Going, Stepping};
 use mt_op::TakenBack;
 
 impl<D: Device> Kernel<D> {
-    /// Begins to undo an open transaction, whether an operation of it is unfinished or not; abort steps bring it to its
-    /// end. Where nobody is in the way they are, over n pages, at most 2 n + 10 for each operation of it that stands or
-    /// is under way, and the end. It takes no memory, and makes no call of the device.
+    /// Begins to undo an open transaction, whether an operation of it is unfinished or not; abort steps bring it to
+    /// its end. Where nobody is in the way, over n pages, they are at most 2 n + 10 for each operation of it that
+    /// stands or is under way, and the end. It takes no memory, and makes no call of the device.
     ///
     /// Refused, in this order: 2 where the device has failed, 15 where the transaction is not open. Nothing has
     /// changed then.
@@ -126,17 +126,18 @@ impl<D: Device> Kernel<D> {
         Ok(AbortStepped::Ended)
     }
 
-    /// Makes one step of an abort. The operation under way, if there is one, is taken back first, a page a step; then
+    /// Makes one step of an abort. The operation under way, if there is one, is taken back first, a page a step. Then
     /// each operation that did anything is undone by its inverse, the last one first (Weikum 1991), a step of the
-    /// inverse a step; then the end is logged, and the transaction lives no more. A step waits, or begins anew, only
-    /// for another transaction that lives. It locks no page but one that the plan of an inverse asks for next, and gives
-    /// no other operation's page locks back. It makes no record of the log durable.
+    /// inverse a step. Then the end is logged, and the transaction lives no more. A step waits, or begins anew, only
+    /// for another transaction that lives. It locks no page but one that the plan of an inverse asks for next, and
+    /// gives no other operation's page locks back. It makes no record of the log durable.
     ///
     /// How many steps: each that answers [`AbortStepped::More`] lowers what the abort has left, and the end comes where
     /// nothing is left. [`AbortStepped::Again`] adds two steps a page at most.
     ///
-    /// Refused, in this order: 2 where the device has failed, 15 where the transaction is not being undone, 1 for want
-    /// of memory; and with 2 where the device fails in this step. The step may be asked again after 1.
+    /// Refused, in this order: 2 where the device has failed, 15 where the transaction is not being undone, 1 for
+    /// want of memory. It is refused with 2, too, where the device fails in this step. The step may be asked again
+    /// after 1.
     pub fn abort_step(&mut self, txn: TxnNo) -> Result<AbortStepped, Refusal>
         ensures may { OnOk result (abort_cause (is_failed self.old) self.old.parts txn ≡ None) }
         ensures cause { IfErr result (λ why. why ≢ Refusal.NoMemory

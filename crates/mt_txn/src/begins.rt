@@ -18,7 +18,7 @@ impl<D: Device> Kernel<D> {
     /// Begins a transaction of this session, and answers its number. It keeps the log bytes of its end and logs
     /// nothing. It makes no call of the device.
     ///
-    /// Refused, in this order: 2 where the device has failed, 13 where 64 transactions live, 12 where the book's
+    /// Refused, in this order: 2 where the device has failed, 13 where 64 transactions live. Then 12 where the book's
     /// commits and those that live make 1,000,000 or 2^40 were begun, 11 where the log has too few bytes left, 1 for
     /// want of memory. Nothing has changed then.
     pub fn begin(&mut self, session: u32) -> Result<TxnNo, Refusal>

@@ -29,7 +29,7 @@ impl<D: Device> Kernel<D> {
     /// in this opening's order of commits, from 1.
     ///
     /// Refused, in this order: 2 where the device has failed, 15 where the transaction is not open, 16 where an
-    /// operation of it is unfinished, 1 for want of memory. The state is as before.
+    /// operation of it is unfinished. Then 1 for want of memory. The state is as before.
     pub fn commit_begin(&mut self, txn: TxnNo) -> Result<u64, Refusal>
         ensures may { OnOk result (commit_cause (is_failed self.old) self.old.parts txn ≡ None) }
         ensures cause { IfErr result (λ why. why ≢ Refusal.NoMemory
@@ -68,7 +68,7 @@ impl<D: Device> Kernel<D> {
         Ok(place as u64)
     }
 
-    /// Makes a step of a force, with one call of the device: what was appended before its first step becomes durable
+    /// Makes a step of a force, with one call of the device. What was appended before its first step becomes durable
     /// with its last, which answers the transactions whose commits are durable now. They are in the book then, in the
     /// order of their commits, and live no more.
     ///
@@ -111,8 +111,9 @@ impl<D: Device> Kernel<D> {
         }
     }
 
-    /// Writes a page into its slot, where one waits for no record that is not durable; else answers
-    /// [`Flushed::Force`] where a force step has to come first, and [`Flushed::Clean`] where no page is to be written.
+    /// Writes a page into its slot, where one waits for no record that is not durable. Else it answers
+    /// [`Flushed::Force`] where a force step has to come first, and [`Flushed::Clean`] where no page is to be
+    /// written.
     ///
     /// Refused with 2 where the device has failed or fails in this call. The state is as before.
     pub fn flush_step(&mut self) -> Result<Flushed, Refusal>

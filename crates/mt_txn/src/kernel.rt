@@ -32,9 +32,9 @@ pub(crate) fn is_failure<T>(told: &Result<T, Refusal>) -> bool
 
 /// A kernel over its pages.
 ///
-/// Whatever the schedule of its calls, each state that it shows is one that the laws of mt_live keep: the book is legal
-/// from the first base on, what stands of the live transactions is explained, and the pages hold the base that it
-/// leads to.
+/// Whatever the schedule of its calls, each state that it shows is one that the laws of mt_live keep. The book is
+/// legal from the first base on. What stands of the live transactions is explained, and the pages hold the base that
+/// it leads to.
 pub struct Kernel<D: Device> {
     pub(crate) parts: Parts<D>,
     pub(crate) alloc: Global,
@@ -93,7 +93,7 @@ impl<D: Device> Kernel<D> {
     }
 
     /// The durable commits of this opening, in their order. They are those of the state that the kernel shows, and
-    /// legal from its first base on: each transaction replied as it does alone behind those before it.
+    /// legal from its first base on. Each transaction replied as it does alone behind those before it.
     pub fn book(&self) -> &[Committed]
         ensures book { result.now ≡ self.now.parts.book.items }
         ensures legal { (first : Base) (s : State) → Shows D.seen D.may_leave first s self.now
@@ -102,7 +102,7 @@ impl<D: Device> Kernel<D> {
         self.parts.book()
     }
 
-    /// Whatever state a kernel shows, the laws of mt_live keep it: its book is legal, what stands of its live
+    /// Whatever state a kernel shows, the laws of mt_live keep it. Its book is legal. What stands of its live
     /// transactions is explained on what the book leaves, whoever is struck out, and leads to the base that the pages
     /// hold.
     pub fn shows_what_is_kept(&self)
@@ -110,9 +110,10 @@ impl<D: Device> Kernel<D> {
             → ∥ IsKept first s ∥₁ }
     {}
 
-    /// Whatever a crash leaves now, a restart finds what some of the first commits lead to, each alone, in their order:
-    /// those of the book, and behind them those under way. Each commit of the book is one of them, and each whose record
-    /// is durable. Each call says so of a crash within it, of the commits that were there before.
+    /// Whatever a crash leaves now, a restart finds what some of the first commits lead to, each alone, in their
+    /// order. They are those of the book, and behind them those under way. Each commit of the book is one of them,
+    /// and each whose record is durable. Each call says so of a crash within it, of the commits that were there
+    /// before.
     pub fn can_restart(&self)
         ensures { (first : Base) (c : List ℕ) → Restarts D.seen D.may_leave first self.now
             → D.may_leave self.now.parts.operations.store.device c → IsRelationCount self.now.relations

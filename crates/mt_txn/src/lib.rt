@@ -1,9 +1,9 @@
-//! The transaction kernel over pages: sessions begin transactions, call operations in them, step these to their end,
-//! and commit or abort; commits become durable by the steps of a force. Open nested transactions (Weikum 1991) with
+//! The transaction kernel over pages. Sessions begin transactions, call operations in them, step these to their end,
+//! and commit or abort. Commits become durable by the steps of a force. Open nested transactions (Weikum 1991) with
 //! escrow (O'Neil 1986).
 //!
-//! Each public call of [`Kernel`] is at most one event of the laws of mt_live, makes at most one write or sync of the
-//! device, and waits for nobody. `Shows`, in specs, ties a kernel to a state of these laws.
+//! Each public call of [`Kernel`] is at most one event of the laws of mt_live. It makes at most one write or sync of
+//! the device, and waits for nobody. `Shows`, in specs, ties a kernel to a state of these laws.
 #![tactic(auto)]
 
 mod aborts;

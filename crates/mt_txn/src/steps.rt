@@ -23,17 +23,18 @@ use mt_kernel::{Going, Stepping};
 
 impl<D: Device> Kernel<D> {
     /// Makes a step of the operation of an open transaction: it locks a page and looks at it, or writes one, or ends.
-    /// Where it ends it has acted once on the base that the pages hold, whatever others have half done, and stands
+    /// Where it ends it has acted once on the base that the pages hold, whatever others have half done. It stands
     /// behind all that ended before. It waits, or begins anew, only for another transaction that lives: one that is
     /// alone does neither.
     ///
     /// It locks no page but one that its operation's plan asks for next. It waits only for the transaction whose
-    /// operation is the smallest with a lock in the way, and larger than its own; where that is smaller, it gives its
+    /// operation is the smallest with a lock in the way, and larger than its own. Where that is smaller, it gives its
     /// own page locks back to begin anew. They are given back at its end, too; other operations' locks stay. It makes
     /// no record of the log durable.
     ///
-    /// Refused, in this order: 2 where the device has failed, 15 where the transaction is not open or has no operation
-    /// under way, 1 for want of memory; and with 2 where the device fails in this step. The state is as before.
+    /// Refused, in this order: 2 where the device has failed, 15 where the transaction is not open or has no
+    /// operation under way, 1 for want of memory. It is refused with 2, too, where the device fails in this step. The
+    /// state is as before.
     pub fn step(&mut self, txn: TxnNo) -> Result<Stepped, Refusal>
         ensures may { OnOk result (step_cause (is_failed self.old) self.old.parts txn ≡ None) }
         ensures cause { IfErr result (λ why. why ≢ Refusal.NoMemory

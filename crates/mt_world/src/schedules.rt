@@ -70,22 +70,23 @@ pub(crate) fn begin_on<D: Device + Drop>(
     }
 }
 
-/// Formats a device by the schema, opens it in 64 frames, and makes the events in their order, each by the kernel's call
-/// of its name and by nothing else. Gives what stands behind them, and an answer of each event.
+/// Formats a device by the schema, opens it in 64 frames, and makes the events in their order. Each is made by the
+/// kernel's call of its name and by nothing else. Gives what stands behind them, and an answer of each event.
 ///
-/// Whatever the events: what ended acted once on the model, in the order of the ends; the committed transactions
-/// replied as they do alone, in the order of the commits; and what stands of the others is explained, whoever of them
-/// is struck out (Weikum 1991, O'Neil 1986). An event of a transaction that is not there is answered with 15; once an
+/// Whatever the events, what ended acted once on the model, in the order of the ends. The committed transactions
+/// replied as they do alone, in the order of the commits. What stands of the others is explained, whoever of them is
+/// struck out (Weikum 1991, O'Neil 1986). An event of a transaction that is not there is answered with 15; once an
 /// event was refused with 2, each later one is. A rotation while a transaction lives is refused with 16. One that is
-/// refused with the device ends the kernel: each event behind it is refused with 2, and the device is to be opened again.
+/// refused with the device ends the kernel. Each event behind it is refused with 2, and the device is to be opened
+/// again.
 ///
 /// A crash while the device is formatted leaves what [`format`] says. Whatever a crash leaves from then on can be
-/// restarted from: a restart finds what some of the first commits lead to, with all that were acknowledged by then, and
-/// before the first commit the schema's first base.
+/// restarted from. A restart finds what some of the first commits lead to, with all that were acknowledged by then.
+/// Before the first commit that is the schema's first base.
 ///
-/// Refused, in this order, with the device, before any event: 1 for want of memory, 5 where the device is shorter than
-/// [`Schema::device_len`], 2 where it failed. After 5 nothing is written. After 1 and 2 a crash leaves what one leaves
-/// while a device is formatted, or the schema's first base.
+/// Refused, in this order, with the device, before any event: 1 for want of memory, 5 where it is shorter than
+/// [`Schema::device_len`], 2 where it failed. After 5 nothing is written. After 1 and 2 a crash leaves what one
+/// leaves while a device is formatted, or the schema's first base.
 pub fn run_schedule<D: Device + Drop>(
     alloc: Global,
     device: D,

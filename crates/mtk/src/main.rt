@@ -20,9 +20,9 @@ const REFUSED: u8 = 1;
 /// The status of a command line with a word that is no text.
 const MISUSED: u8 = 2;
 
-/// Does what the command line asks for, with this output and error output and the input and the files of the system, and
-/// gives the status. How far a run has come is told as `progress` says. It fails where a word is not UTF-8, and where there
-/// is no memory for the words.
+/// Does what the command line asks for, with this output and error output and the input and files of the system. It
+/// gives the status. How far a run has come is told as `progress` says. It fails where a word is not UTF-8, and where
+/// there is no memory for the words.
 fn done<
     R: Runtime + Files<File = File> + AllocGlobal + Threads + Wait + Sync,
     O: Write + Drop,

@@ -484,8 +484,8 @@ fn look(alloc: Global, kernel: &mut Kernel<MemDevice>) -> Result<bool, Refusal> 
     Ok(matches!(committed(kernel, txn), Told::Committed(_)))
 }
 
-// How many calls of the last transaction are in the book, to how many transactions the model replies otherwise, and
-// whether the pages hold the base of the model.
+// How many calls of the last transaction are in the book, and to how many transactions the model replies otherwise.
+// Then whether the pages hold the base of the model.
 fn looked_at(alloc: Global, kernel: &mut Kernel<MemDevice>) -> Result<(usize, u64, bool), Refusal> {
     let _is_committed = look(alloc, kernel)?;
     let looks = match kernel.book().last() {

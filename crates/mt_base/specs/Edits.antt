@@ -1,6 +1,7 @@
 -- A change of a page as ranges of new bytes.
 use Rattle.std.specs.Prelude.{◌≡◌, ◌≢◌, ◌⊎◌, All, ℕ, ◌+◌, ◌-◌, ◌*◌, ◌<◌, ◌≤◌, List, [], ◌∷◌, ◌++◌, length, take, drop}
 use Rattle.std.proofs.Math.ListN.{get_or}
+use Rattle.mt_base.specs.declared.edits.TheConstants.{QUIET_BYTES}
 use Rattle.mt_base.specs.declared.edits.Edit.{Edit}
 
 -- the page with these bytes at a place
@@ -35,7 +36,7 @@ pub record EndsRun (old new : List ℕ) (i end : ℕ) : Type 0 where
   pub after : i < end
   pub within : end ≤ length old
   pub last : get_or old (end - 1) 0 ≢ get_or new (end - 1) 0
-  pub quiet : (k : ℕ) → end ≤ k → k < end + 15 → k < length old → get_or old k 0 ≡ get_or new k 0
+  pub quiet : (k : ℕ) → end ≤ k → k < end + QUIET_BYTES → k < length old → get_or old k 0 ≡ get_or new k 0
 
 -- no byte from a place up to another one differs
 pub record AreEqual (old new : List ℕ) (from at : ℕ) : Type 0 where
@@ -52,7 +53,7 @@ pub record FirstDiffers (old new : List ℕ) (from at : ℕ) : Type 0 where
 pub record Edited (old new : List ℕ) (edits : List Edit) (last : ℕ) : Type 0 where
   pub ends : last ≤ length old
   pub made : Halfway old new (patched edits old) last
-  pub quiet : (last ≡ 0) ⊎ ((k : ℕ) → last ≤ k → k < last + 15 → k < length old → get_or old k 0 ≡ get_or new k 0)
+  pub quiet : (last ≡ 0) ⊎ ((k : ℕ) → last ≤ k → k < last + QUIET_BYTES → k < length old → get_or old k 0 ≡ get_or new k 0)
   pub short : All (IsShortest old new) edits
   pub size : log_size edits ≤ 29 + 2 * last
   pub none : last ≡ 0 → log_size edits ≡ 0

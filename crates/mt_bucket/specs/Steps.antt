@@ -1,5 +1,6 @@
 -- What single steps do to a page.
 use Rattle.std.specs.Prelude.{ℕ, ◌≡◌, ◌≢◌, ◌+◌, ◌*◌, ◌<◌, ◌≤◌, ◌++◌, ◌∷◌, [], Bool, cond, not, List, filter}
+use Rattle.mt_bucket.specs.declared.heads.TheConstants.{CELL_BYTES, HEAD_BYTES, MAX_ENTRIES}
 use Rattle.mt_base.specs.Ranges.{u16_at}
 use Rattle.mt_bucket.specs.Entries.{Entry}
 use Rattle.mt_bucket.specs.Page.{cell, count_of, entries, KeepsHead}
@@ -8,8 +9,8 @@ use Rattle.mt_bucket.specs.Page.{cell, count_of, entries, KeepsHead}
 pub record OneMore (bytes old new : List ℕ) : Type 0 where
   pub head : KeepsHead old new
   pub number : u16_at new 2 ≡ count_of old + 1
-  pub front : (j : ℕ) → j < count_of old → cell new (8 + 70 * j) ≡ cell old (8 + 70 * j)
-  pub last : cell new (8 + 70 * count_of old) ≡ bytes
+  pub front : (j : ℕ) → j < count_of old → cell new (HEAD_BYTES + CELL_BYTES * j) ≡ cell old (HEAD_BYTES + CELL_BYTES * j)
+  pub last : cell new (HEAD_BYTES + CELL_BYTES * count_of old) ≡ bytes
 
 -- an entry more, behind the others
 pub record Pushed (e : Entry) (old new : List ℕ) : Type 0 where
@@ -21,9 +22,9 @@ pub record Pushed (e : Entry) (old new : List ℕ) : Type 0 where
 pub record Closed (i : ℕ) (old new : List ℕ) : Type 0 where
   pub head : KeepsHead old new
   pub counted : count_of old ≡ count_of new + 1
-  pub few : u16_at new 2 ≤ 58
-  pub others : (j : ℕ) → j ≢ i → j < count_of new → cell new (8 + 70 * j) ≡ cell old (8 + 70 * j)
-  pub filled : i < count_of new → cell new (8 + 70 * i) ≡ cell old (8 + 70 * count_of new)
+  pub few : u16_at new 2 ≤ MAX_ENTRIES
+  pub others : (j : ℕ) → j ≢ i → j < count_of new → cell new (HEAD_BYTES + CELL_BYTES * j) ≡ cell old (HEAD_BYTES + CELL_BYTES * j)
+  pub filled : i < count_of new → cell new (HEAD_BYTES + CELL_BYTES * i) ≡ cell old (HEAD_BYTES + CELL_BYTES * count_of new)
 
 -- an entry goes to the one page or to the other
 abbrev pub Sorted : Bool → Entry → List ℕ → List ℕ → List ℕ → List ℕ → Type 0

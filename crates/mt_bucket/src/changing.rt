@@ -1,7 +1,8 @@
 // The operations of a bucket page.
 ghost use Rattle.std.specs.Prelude.{ℕ, ◌≡◌, ◌+◌, ◌-◌, ◌*◌, ◌≤◌, ◌<◌, ◌++◌, ◌∷◌, [], length, true, false, not, Some, None, filter};
 ghost use Rattle.std.specs.Bool.{OnTrue, OnFalse};
-ghost use Rattle.mt_base.specs.declared.limits.TheConstants.{PAGE_BYTES};
+ghost use Rattle.mt_bucket.specs.declared.heads.TheConstants.{CELL_BYTES, HEAD_BYTES, MAX_ENTRIES};
+ghost use Rattle.mt_base.specs.declared.limits.TheConstants.{MAX_KEY_BYTES, PAGE_BYTES};
 ghost use Rattle.mt_base.specs.Ranges.{u16_at as number_at, Torn};
 ghost use Rattle.mt_bucket.specs.Entries.{look, renamed, without};
 ghost use Rattle.mt_bucket.specs.Page.{entry_of, entries, count_of, KeepsHead, goes_over, IsCell, IsBucket, KeepsBucket, TakesCell};
@@ -19,11 +20,11 @@ use mt_base::{RecordName, RelNo};
 pub fn push(page: &mut [u8], relation: RelNo, key: &[u8], name: RecordName) -> bool
     requires whole { length page.old ≡ PAGE_BYTES }
     requires relation_fits { relation < 256 }
-    requires short { length key.now ≤ 64 }
+    requires short { length key.now ≤ MAX_KEY_BYTES }
     ensures head { KeepsHead page.old page.new }
     ensures pushed { OnTrue result
         (entries page.new ≡ entries page.old ++ record { relation = relation; key = key.now; name = name } ∷ []) }
-    ensures full { OnFalse result (count_of page.old ≡ 58) }
+    ensures full { OnFalse result (count_of page.old ≡ MAX_ENTRIES) }
     ensures kept { (relations pages : ℕ) → relation < relations → 1 ≤ length key.now → name.page < pages →
         IsBucket relations pages page.old → IsBucket relations pages page.new }
     ensures unchanged { OnFalse result (page.new ≡ page.old) }
@@ -39,7 +40,7 @@ pub fn push(page: &mut [u8], relation: RelNo, key: &[u8], name: RecordName) -> b
 /// entry, it answers false, and the page is as before.
 pub fn set(page: &mut [u8], relation: RelNo, key: &[u8], name: RecordName) -> bool
     requires whole { length page.old ≡ PAGE_BYTES }
-    requires short { length key.now ≤ 64 }
+    requires short { length key.now ≤ MAX_KEY_BYTES }
     ensures head { KeepsHead page.old page.new }
     ensures set { OnTrue result (entries page.new ≡ renamed relation key.now name (entries page.old)) }
     ensures found { OnTrue result (look relation key.now (entries page.new) ≡ Some name) }
@@ -59,7 +60,7 @@ pub fn set(page: &mut [u8], relation: RelNo, key: &[u8], name: RecordName) -> bo
 /// is no such entry, it answers false, and the page is as before.
 pub fn remove(page: &mut [u8], relation: RelNo, key: &[u8]) -> bool
     requires whole { length page.old ≡ PAGE_BYTES }
-    requires short { length key.now ≤ 64 }
+    requires short { length key.now ≤ MAX_KEY_BYTES }
     ensures head { KeepsHead page.old page.new }
     ensures removed { OnTrue result (entries page.new ≡ without relation key.now (entries page.old)) }
     ensures kept { KeepsBucket page.old page.new }
@@ -79,7 +80,7 @@ pub fn partition(page: &mut [u8], bit: u8, to: &mut [u8])
     requires whole { length page.old ≡ PAGE_BYTES }
     requires to_whole { length to.old ≡ PAGE_BYTES }
     requires bit { bit < 64 }
-    requires room { count_of to.old + count_of page.old ≤ 58 }
+    requires room { count_of to.old + count_of page.old ≤ MAX_ENTRIES }
     ensures head { KeepsHead page.old page.new }
     ensures to_head { KeepsHead to.old to.new }
     ensures stay { entries page.new ≡ filter (λ e. not (goes_over bit e)) (entries page.old) }
@@ -101,10 +102,10 @@ pub fn partition(page: &mut [u8], bit: u8, to: &mut [u8])
 fn sort_cell(page: &mut [u8], bit: u8, to: &mut [u8], bytes: &[u8])
     requires whole { length page.old ≡ PAGE_BYTES }
     requires to_whole { length to.old ≡ PAGE_BYTES }
-    requires cell { length bytes.now ≡ 70 }
+    requires cell { length bytes.now ≡ CELL_BYTES }
     requires bit_fits { bit < 64 }
-    requires room { count_of page.old < 58 }
-    requires to_room { count_of to.old < 58 }
+    requires room { count_of page.old < MAX_ENTRIES }
+    requires to_room { count_of to.old < MAX_ENTRIES }
     ensures sorted { Sorted (goes_over bit (entry_of bytes.now)) (entry_of bytes.now) page.old page.new to.old to.new }
     ensures kept { TakesCell bytes.now page.old page.new }
     ensures to_kept { TakesCell bytes.now to.old to.new }
@@ -120,8 +121,8 @@ fn sort_cell(page: &mut [u8], bit: u8, to: &mut [u8], bytes: &[u8])
 // Puts a cell behind the others.
 fn push_cell(page: &mut [u8], bytes: &[u8])
     requires whole { length page.old ≡ PAGE_BYTES }
-    requires cell { length bytes.now ≡ 70 }
-    requires room { count_of page.old < 58 }
+    requires cell { length bytes.now ≡ CELL_BYTES }
+    requires room { count_of page.old < MAX_ENTRIES }
     ensures pushed { Pushed (entry_of bytes.now) page.old page.new }
     ensures kept { TakesCell bytes.now page.old page.new }
 {
@@ -147,7 +148,7 @@ fn close_gap(page: &mut [u8], i: usize)
 // The bytes of an entry.
 fn cell_of(relation: RelNo, key: &[u8], name: RecordName) -> [u8; CELL_BYTES]
     requires relation_fits { relation < 256 }
-    requires short { length key.now ≤ 64 }
+    requires short { length key.now ≤ MAX_KEY_BYTES }
     ensures entry { entry_of result ≡ record { relation = relation; key = key.now; name = name } }
     ensures cell { (relations pages : ℕ) → relation < relations → 1 ≤ length key.now → name.page < pages →
         IsCell relations pages result 0 }

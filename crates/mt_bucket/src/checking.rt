@@ -1,6 +1,7 @@
 // A reading of any bytes: whether they are a bucket page.
 ghost use Rattle.std.specs.Prelude.{◌≡◌, ◌+◌, ◌*◌, ◌<◌, ◌≤◌, ℕ, length, get_or, MatchBool};
-ghost use Rattle.mt_base.specs.declared.limits.TheConstants.{PAGE_BYTES};
+ghost use Rattle.mt_bucket.specs.declared.heads.TheConstants.{CELL_BYTES, HEAD_BYTES, MAX_ENTRIES};
+ghost use Rattle.mt_base.specs.declared.limits.TheConstants.{MAX_KEY_BYTES, PAGE_BYTES};
 ghost use Rattle.mt_bucket.specs.Page.{IsBucket, IsCell};
 
 use crate::heads::{CELL_BYTES, HEAD_BYTES, MAX_ENTRIES};
@@ -32,7 +33,7 @@ pub fn check(page: &[u8], relations: u16, pages: u16) -> bool
 // Whether the cell at a place is an entry of the schema.
 fn is_cell(page: &[u8], relations: u16, pages: u16, at: usize) -> bool
     requires whole { length page.now ≡ PAGE_BYTES }
-    requires within { at + 70 ≤ PAGE_BYTES }
+    requires within { at + CELL_BYTES ≤ PAGE_BYTES }
     ensures { MatchBool result (IsCell relations pages page.now at) (IsCell relations pages page.now at → ⊥) }
 {
     if u16::from(page[at]) >= relations || u16_at(page, at + 66) >= pages {
@@ -48,9 +49,9 @@ fn is_cell(page: &[u8], relations: u16, pages: u16, at: usize) -> bool
 // Whether the bytes behind a key, up to the 64th, are zero.
 fn is_filled(page: &[u8], at: usize, key: usize) -> bool
     requires whole { length page.now ≡ PAGE_BYTES }
-    requires within { at + 64 ≤ PAGE_BYTES }
-    requires short { key ≤ 64 }
-    ensures { MatchBool result ((i : ℕ) → key ≤ i → i < 64 → get_or page.now (at + i) 0 ≡ 0) (((i : ℕ) → key ≤ i →
+    requires within { at + MAX_KEY_BYTES ≤ PAGE_BYTES }
+    requires short { key ≤ MAX_KEY_BYTES }
+    ensures { MatchBool result ((i : ℕ) → key ≤ i → i < MAX_KEY_BYTES → get_or page.now (at + i) 0 ≡ 0) (((i : ℕ) → key ≤ i →
         i < 64 → get_or page.now (at + i) 0 ≡ 0) → ⊥) }
 {
     for i in key..MAX_KEY_BYTES {

@@ -1,6 +1,7 @@
 // Looking for an entry.
 ghost use Rattle.std.specs.Prelude.{◌≡◌, ◌+◌, ◌*◌, ◌≤◌, ◌<◌, length, get_or, IfSome, IfNone};
-ghost use Rattle.mt_base.specs.declared.limits.TheConstants.{PAGE_BYTES};
+ghost use Rattle.mt_bucket.specs.declared.heads.TheConstants.{CELL_BYTES, HEAD_BYTES};
+ghost use Rattle.mt_base.specs.declared.limits.TheConstants.{MAX_KEY_BYTES, PAGE_BYTES};
 ghost use Rattle.mt_bucket.specs.Entries.{is_at, look};
 ghost use Rattle.mt_bucket.specs.Page.{cell, entry_of, count_of, entries, IsFirst, HasNone};
 
@@ -11,7 +12,7 @@ use mt_base::{PageNo, RecordName, RelNo};
 /// The name of the record under a relation and a key; `None` where the page has no entry of them.
 pub fn find(page: &[u8], relation: RelNo, key: &[u8]) -> Option<RecordName>
     requires whole { length page.now ≡ PAGE_BYTES }
-    requires short { length key.now ≤ 64 }
+    requires short { length key.now ≤ MAX_KEY_BYTES }
     ensures { result ≡ look relation key.now (entries page.now) }
 {
     match place_of(page, relation, key) {
@@ -35,10 +36,10 @@ pub struct EntryView<'a> {
 pub fn entry(page: &[u8], i: usize) -> EntryView<'_>
     requires whole { length page.now ≡ PAGE_BYTES }
     requires there { i < count_of page.now }
-    requires fits { get_or page.now (8 + 70 * i + 1) 0 ≤ 64 }
+    requires fits { get_or page.now (HEAD_BYTES + CELL_BYTES * i + 1) 0 ≤ MAX_KEY_BYTES }
     ensures is { entry_of (cell page.now
         (8 + 70 * i)) ≡ record { relation = result.relation; key = result.key.now; name = result.name } }
-    ensures short { length result.key.now ≤ 64 }
+    ensures short { length result.key.now ≤ MAX_KEY_BYTES }
 {
     let at = HEAD_BYTES + CELL_BYTES * i;
     EntryView {
@@ -51,7 +52,7 @@ pub fn entry(page: &[u8], i: usize) -> EntryView<'_>
 /// The place of the first entry of a relation and a key, from 0; `None` where the page has none of them.
 pub fn place_of(page: &[u8], relation: RelNo, key: &[u8]) -> Option<usize>
     requires whole { length page.now ≡ PAGE_BYTES }
-    requires short { length key.now ≤ 64 }
+    requires short { length key.now ≤ MAX_KEY_BYTES }
     ensures found { IfSome result (λ i. IsFirst relation key.now page.now i) }
     ensures none { IfNone result (HasNone relation key.now page.now) }
 {
@@ -66,8 +67,8 @@ pub fn place_of(page: &[u8], relation: RelNo, key: &[u8]) -> Option<usize>
 // Whether the cell at a place is of a relation and a key.
 fn holds(page: &[u8], at: usize, relation: RelNo, key: &[u8]) -> bool
     requires whole { length page.now ≡ PAGE_BYTES }
-    requires within { at + 70 ≤ PAGE_BYTES }
-    requires short { length key.now ≤ 64 }
+    requires within { at + CELL_BYTES ≤ PAGE_BYTES }
+    requires short { length key.now ≤ MAX_KEY_BYTES }
     ensures { result ≡ is_at relation key.now (entry_of (cell page.now at)) }
 {
     if u16::from(page[at]) != relation.get() {
@@ -82,7 +83,7 @@ fn holds(page: &[u8], at: usize, relation: RelNo, key: &[u8]) -> bool
 // The name in the cell at a place.
 fn name_at(page: &[u8], at: usize) -> RecordName
     requires whole { length page.now ≡ PAGE_BYTES }
-    requires within { at + 70 ≤ PAGE_BYTES }
+    requires within { at + CELL_BYTES ≤ PAGE_BYTES }
     ensures { result ≡ (entry_of (cell page.now at)).name }
 {
     RecordName {

@@ -1,5 +1,6 @@
 // The head of a bucket page.
 ghost use Rattle.std.specs.Prelude.{ℕ, ◌≡◌, ◌≤◌, ◌<◌, [], length};
+ghost use Rattle.mt_bucket.specs.declared.heads.TheConstants.{CELL_BYTES, HEAD_BYTES, MAX_ENTRIES};
 ghost use Rattle.mt_base.specs.declared.limits.TheConstants.{PAGE_BYTES};
 ghost use Rattle.mt_base.specs.Ranges.{u16_at as number_at, Torn};
 ghost use Rattle.mt_bucket.specs.Page.{depth_of, count_of, next_of, entries, IsBucket, KeepsBucket};
@@ -79,7 +80,7 @@ pub fn set_next(page: &mut [u8], next: PageNo)
 // Sets how many entries the page has.
 pub(crate) fn set_count(page: &mut [u8], count: usize)
     requires whole { length page.old ≡ PAGE_BYTES }
-    requires few { count ≤ 58 }
+    requires few { count ≤ MAX_ENTRIES }
     ensures number { number_at page.new 2 ≡ count }
     ensures rest { Torn 2 2 page.old page.new }
 {

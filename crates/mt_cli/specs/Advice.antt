@@ -1,5 +1,6 @@
 -- What is told of a command that did not end well.
 use Rattle.std.specs.Prelude.{ℕ, List, [], ◌∷◌, ◌++◌, Some, None, cond, codes, get_or, length, map, nat_lt, string_bytes, ◌==◌}
+use Rattle.mt_base.specs.declared.limits.TheConstants.{MASTER_BYTES}
 use Rattle.mt_base.specs.declared.refusal.Refusal.{Refusal}
 use Rattle.mt_base.specs.declared.refusal.Refusal.TheVariants as refusal
 use Rattle.mt_script.specs.Answers.{answer_text}
@@ -18,7 +19,7 @@ fault_line (Unread why at) = answer_text (RefusedLine why) ++ 10 ∷ []
 
 -- what to do about bytes that break the format at a place: below 8192 it is a master slot, which tells the length
 abbrev pub advice_at : ℕ → List ℕ
-advice_at place = cond (nat_lt place 8192) (codes "the file is shorter than its first bytes tell, or these are damaged; take a copy that is whole")
+advice_at place = cond (nat_lt place MASTER_BYTES) (codes "the file is shorter than its first bytes tell, or these are damaged; take a copy that is whole")
     (codes "the bytes at that place are none that a device can have; keep a copy of the file")
 
 -- what to do about a refusal of a command

@@ -1,6 +1,8 @@
 -- What the program's commands do.
 use Rattle.std.specs.Prelude.{ℕ, pos, ◌≡◌, ◌⊎◌, List, [], ◌∷◌, ◌++◌, length, Option, None, IfSome, map, option_map, string_bytes, codes}
 use Rattle.std.specs.Io.KnownBytes.{Appends, Keeps}
+use Rattle.mt_cli.specs.declared.performing.TheConstants.{AREA_MIB, PAGES}
+use Rattle.mt_base.specs.Limits.{device_bytes_of}
 use Rattle.mt_base.specs.declared.refusal.Refusal.{Refusal}
 use Rattle.mt_base.specs.declared.refusal.Refusal.TheVariants as refusal
 use Rattle.mt_disk.specs.declared.device.Device.{Ghosts}
@@ -43,7 +45,7 @@ pub record IsFirstSchema (schema : Schema) : Type 0 where
   pub relations : relations_in schema ≡ 2
   pub rows : length (rows_of schema.base) ≡ 0
   pub counters : counters_in schema ≡ record { low = pos 0; high = pos 10; number = pos 5 } ∷ []
-  pub long : device_bytes schema ≡ 8658944
+  pub long : device_bytes schema ≡ device_bytes_of PAGES AREA_MIB
 
 -- the model as `try` begins on it, for its one session: no rows, that counter, and nothing committed
 pub record IsFirst (p : Play) : Type 0 where

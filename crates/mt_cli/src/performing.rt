@@ -10,6 +10,8 @@ ghost use Rattle.mt_cli.specs.declared.faults.Fault.{Fault};
 ghost use Rattle.mt_cli.specs.Performs.{IsFirstSchema, StandsFirst, HasTried, HaveRun, IsTried, IsScheduled, IsCutTrial, IsUntried, IsUnscheduled, IsDone, IsUndone, IsWordsDone, IsGivenUp, IsWordsGivenUp, IsTold, IsToldOf, Around};
 ghost use Rattle.mt_cli.specs.Reads.{source_of};
 ghost use Rattle.std.specs.Io.KnownBytes.{Appends, Keeps};
+ghost use Rattle.mt_cli.specs.declared.performing.TheConstants.{AREA_MIB, PAGES};
+ghost use Rattle.mt_base.specs.Limits.{device_bytes_of};
 
 use crate::at_once::Service;
 use crate::checking::perform_check;
@@ -76,7 +78,7 @@ fn first_schema(alloc: Global) -> Result<Schema, Refusal>
 
 /// A device in memory of the size that `try` runs on, all of its bytes 0.
 fn first_device(alloc: Global) -> Result<MemDevice, Refusal>
-    ensures size { IfOk result (λ device. length (content device) ≡ 8658944) }
+    ensures size { IfOk result (λ device. length (content device) ≡ device_bytes_of PAGES AREA_MIB) }
     ensures unmade { IfErr result IsUnmade }
 {
     let len = device_bytes(PAGES, AREA_MIB) as usize;
@@ -86,7 +88,7 @@ fn first_device(alloc: Global) -> Result<MemDevice, Refusal>
 
 /// A kernel with the schema that `try` has, over a device that is formatted for it, with nothing committed.
 fn kernel_over<D: Device + Drop>(alloc: Global, device: D) -> Result<Kernel<D>, Refusal>
-    requires { 8658944 ≤ length (D.seen device) }
+    requires { device_bytes_of PAGES AREA_MIB ≤ length (D.seen device) }
     ensures first { IfOk result (StandsFirst D.seen D.may_leave) }
     ensures unmade { IfErr result IsUnmade }
 {
@@ -104,7 +106,7 @@ fn run_over<D: Device + Drop, O: Write>(
     script: &Script,
     out: &mut O,
 ) -> Result<(), Fault>
-    requires { 8658944 ≤ length (D.seen device) }
+    requires { device_bytes_of PAGES AREA_MIB ≤ length (D.seen device) }
     ensures tried { OnOk result (HasTried D.Device script.now.lines.items
         (O.contents out.old) (O.contents out.new)) }
     ensures cut { IfErr result (IsCutTrial D.Device script.now.lines.items
@@ -164,7 +166,7 @@ fn answers_over<D: Device + Drop>(
     device: D,
     events: &[Event],
 ) -> Result<Vec<mt_world::Answer>, Refusal>
-    requires { 8658944 ≤ length (D.seen device) }
+    requires { device_bytes_of PAGES AREA_MIB ≤ length (D.seen device) }
     ensures ran { IfOk result (λ answers. HaveRun D.Device events.now answers.items) }
     ensures unmade { IfErr result IsUnmade }
 {

@@ -1,5 +1,6 @@
 // `run`: scripts, served to the device in a file.
 ghost use Rattle.std.specs.Prelude.{◌≡◌, ◌≤◌, ℕ, IfErr, IsErrAnd, IsOk, OnOk, length, map, string_bytes};
+ghost use Rattle.mt_base.specs.declared.limits.TheConstants.{MAX_SESSIONS};
 ghost use Rattle.mt_disk.specs.Disk.{Only};
 ghost use Rattle.mt_model.specs.Model.{Base};
 ghost use Rattle.mt_restart.specs.Resumed.{IsOpened};
@@ -31,7 +32,7 @@ fn serve_opened<D: Device + Drop, O: Write>(
     scripts: &[Script],
     out: &mut O,
 ) -> (Result<(), RunFault>, D)
-    requires few { length scripts.now ≤ 64 }
+    requires few { length scripts.now ≤ MAX_SESSIONS }
     ensures served { OnOk result.0 ((relations counters : ℕ) (b : Base)
         → IsOpened D.seen D.may_leave relations counters b kernel → HaveServedOn relations counters b
         (map lines_in scripts.now) (O.contents out.old) (O.contents out.new) (D.seen result.1)) }

@@ -1,6 +1,8 @@
 -- What each page of records takes.
 use Rattle.std.specs.Prelude.{◌≡◌, ◌≢◌, ℕ, zero, suc, ◌+◌, ◌-◌, ◌*◌, ◌/◌, ◌<◌, ◌≤◌, max, List, length, ◌==◌, if◌then◌else◌}
 use Rattle.std.proofs.Math.ListN.{get_or}
+use Rattle.mt_base.specs.declared.limits.TheConstants.{MAX_PAGES}
+use Rattle.mt_file.specs.declared.rooms.TheConstants.{LEAVES}
 use Rattle.mt_space.specs.Changes.{PageBytes}
 use Rattle.mt_slots.specs.Page.{count, live_slots, room_of}
 use Rattle.mt_space.specs.Kinds.{kind}
@@ -26,14 +28,14 @@ IsMax tree i = get_or tree i 0 ≡ max (get_or tree (2 * i) 0) (get_or tree (2 *
 
 -- each node but one
 abbrev pub IsTreeBut : List ℕ → ℕ → Type 0
-IsTreeBut tree but = (i : ℕ) → 1 ≤ i → i < 4096 → i ≢ but → IsMax tree i
+IsTreeBut tree but = (i : ℕ) → 1 ≤ i → i < LEAVES → i ≢ but → IsMax tree i
 
 -- A tree over the pages: the leaves, from 4096 on, are what each page takes.
 pub record IsKept (fits tree : List ℕ) : Type 0 where
-  pub few : length fits ≤ 4000
-  pub size : length tree ≡ 8192
-  pub nodes : (i : ℕ) → 1 ≤ i → i < 4096 → IsMax tree i
-  pub leaves : (p : ℕ) → p < 4096 → get_or tree (4096 + p) 0 ≡ get_or fits p 0
+  pub few : length fits ≤ MAX_PAGES
+  pub size : length tree ≡ 2 * LEAVES
+  pub nodes : (i : ℕ) → 1 ≤ i → i < LEAVES → IsMax tree i
+  pub leaves : (p : ℕ) → p < LEAVES → get_or tree (LEAVES + p) 0 ≡ get_or fits p 0
 
 -- ---- a walk through the tree
 
@@ -44,23 +46,23 @@ above (suc height) leaf = above height leaf / 2
 
 -- each leaf, from this one on, that stands before a node of this height has less
 abbrev pub IsPassed : List ℕ → ℕ → ℕ → ℕ → ℕ → Type 0
-IsPassed tree from least height node = (i : ℕ) → from ≤ i → i < 8192 → above height i < node → get_or tree i 0 < least
+IsPassed tree from least height node = (i : ℕ) → from ≤ i → i < 2 * LEAVES → above height i < node → get_or tree i 0 < least
 
 -- So it is for a node of some height, which stands behind what is above the leaf before this one, and no further than
 -- what is above the last leaf.
 pub record IsPassedTo (tree : List ℕ) (from least node : ℕ) : Type 0 where
   pub height : ℕ
   pub low : above height (from - 1) < node
-  pub high : node ≤ above height 8191
+  pub high : node ≤ above height (2 * LEAVES - 1)
   pub before : IsPassed tree from least height node
 
 -- the first leaf, from this one on, that has so much
 pub record IsFirstLeaf (tree : List ℕ) (from least leaf : ℕ) : Type 0 where
   pub behind : from ≤ leaf
-  pub there : leaf < 8192
+  pub there : leaf < 2 * LEAVES
   pub enough : least ≤ get_or tree leaf 0
   pub first : (i : ℕ) → from ≤ i → i < leaf → get_or tree i 0 < least
 
 -- no leaf from this one on has so much
 abbrev pub HasNone : List ℕ → ℕ → ℕ → Type 0
-HasNone tree from least = (i : ℕ) → from ≤ i → i < 8192 → get_or tree i 0 < least
+HasNone tree from least = (i : ℕ) → from ≤ i → i < 2 * LEAVES → get_or tree i 0 < least

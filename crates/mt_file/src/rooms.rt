@@ -1,5 +1,7 @@
 // Which page of records takes a record of so many bytes.
 ghost use Rattle.std.specs.Prelude.{◌≡◌, ◌≢◌, ◌+◌, ◌*◌, ◌<◌, ◌≤◌, ℕ, length, get_or, replicate, IfOk, IfSome, IfNone, slice_set};
+ghost use Rattle.mt_base.specs.declared.limits.TheConstants.{MAX_PAGES};
+ghost use Rattle.mt_file.specs.declared.rooms.TheConstants.{LEAVES};
 ghost use Rattle.mt_slots.specs.Page.{IsShaped};
 ghost use Rattle.mt_space.specs.Changes.{PageBytes};
 ghost use Rattle.mt_space.specs.Kinds.{kind};
@@ -53,7 +55,7 @@ impl Rooms {
     /// The rooms of so many pages, none of which takes a record. The only error is want of memory, and no
     /// later call takes any.
     pub fn of(alloc: Global, pages: u16) -> Result<Rooms, AllocError>
-        requires { pages ≤ 4000 }
+        requires { pages ≤ MAX_PAGES }
         ensures fits { IfOk result (λ rooms. rooms ≡ replicate pages 0) }
         ensures rooms { IfOk result (λ rooms. (all : PageBytes) → ((p : ℕ) → kind all p ≢ 3) → AreRooms rooms all) }
     {
@@ -97,9 +99,9 @@ impl Rooms {
 
 // The first leaf, from this one on, that is no less than this.
 fn leaf_from(tree: &[u16], from: usize, least: u16) -> Option<usize>
-    requires size { length tree.now ≡ 8192 }
-    requires nodes { (i : ℕ) → 1 ≤ i → i < 4096 → IsMax tree.now i }
-    requires leaf { (4096 ≤ from) × (from < 8192) }
+    requires size { length tree.now ≡ 2 * LEAVES }
+    requires nodes { (i : ℕ) → 1 ≤ i → i < LEAVES → IsMax tree.now i }
+    requires leaf { (LEAVES ≤ from) × (from < 2 * LEAVES) }
     ensures found { IfSome result (IsFirstLeaf tree.now from least) }
     ensures none { IfNone result (HasNone tree.now from least) }
 {
@@ -120,9 +122,9 @@ fn leaf_from(tree: &[u16], from: usize, least: u16) -> Option<usize>
 
 // The first leaf below a node that is no less than this, where none before the node is.
 fn leaf_below(tree: &[u16], from: usize, least: u16, node: usize) -> usize
-    requires size { length tree.now ≡ 8192 }
-    requires nodes { (i : ℕ) → 1 ≤ i → i < 4096 → IsMax tree.now i }
-    requires leaf { (4096 ≤ from) × (from < 8192) }
+    requires size { length tree.now ≡ 2 * LEAVES }
+    requires nodes { (i : ℕ) → 1 ≤ i → i < LEAVES → IsMax tree.now i }
+    requires leaf { (LEAVES ≤ from) × (from < 2 * LEAVES) }
     requires passed { IsPassedTo tree.now from least node }
     requires enough { least ≤ get_or tree.now node 0 }
     ensures { IsFirstLeaf tree.now from least result }
@@ -139,12 +141,12 @@ fn leaf_below(tree: &[u16], from: usize, least: u16, node: usize) -> usize
 
 // Gives a leaf another value, and each node above it the larger of its children.
 fn set_leaf(tree: &mut [u16], leaf: usize, value: u16)
-    requires size { length tree.old ≡ 8192 }
-    requires there { (4096 ≤ leaf) × (leaf < 8192) }
-    requires nodes { (i : ℕ) → 1 ≤ i → i < 4096 → IsMax tree.old i }
-    ensures nodes { (i : ℕ) → 1 ≤ i → i < 4096 → IsMax tree.new i }
+    requires size { length tree.old ≡ 2 * LEAVES }
+    requires there { (LEAVES ≤ leaf) × (leaf < 2 * LEAVES) }
+    requires nodes { (i : ℕ) → 1 ≤ i → i < LEAVES → IsMax tree.old i }
+    ensures nodes { (i : ℕ) → 1 ≤ i → i < LEAVES → IsMax tree.new i }
     ensures here { get_or tree.new leaf 0 ≡ value }
-    ensures others { (i : ℕ) → 4096 ≤ i → i ≢ leaf → get_or tree.new i 0 ≡ get_or tree.old i 0 }
+    ensures others { (i : ℕ) → LEAVES ≤ i → i ≢ leaf → get_or tree.new i 0 ≡ get_or tree.old i 0 }
 {
     tree[leaf] = value;
     let mut node = leaf;

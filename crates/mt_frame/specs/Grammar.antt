@@ -3,7 +3,8 @@ use Rattle.std.proofs.Math.ListN.{get_or}
 use Rattle.std.specs.Prelude.{◌≡◌, ◌≢◌, ℕ, ◌+◌, ◌-◌, ◌^◌, ◌<◌, ◌≤◌, List, [], ◌∷◌, ◌++◌, length, Option, Some, None, IsSome, is_some, Bool, if◌then◌else◌}
 use Rattle.std.specs.Int.{Width, w16, w32, w64, to_be_bytes, cast_unsigned}
 use Rattle.std.specs.List.{flat_map, AllByRecursion}
-use Rattle.mt_base.specs.declared.limits.TheConstants.{MAX_COUNTERS, MAX_PAGES, MAX_RELATIONS, PAGE_BYTES}
+use Rattle.mt_frame.specs.declared.TheConstants.{OPEN_GATE}
+use Rattle.mt_base.specs.declared.limits.TheConstants.{MAX_BEGUN, MAX_COUNTERS, MAX_PAGES, MAX_RELATIONS, PAGE_BYTES}
 use Rattle.mt_base.specs.Limits.{IsKey, IsValue, IsStep}
 use Rattle.mt_frame.specs.declared.records.LoggedOp.{LoggedOp}
 use Rattle.mt_frame.specs.declared.records.LoggedOp.TheVariants.{Insert, Update, Delete, Add}
@@ -55,12 +56,12 @@ body_text records = flat_map record_text records
 
 -- an open gate, the body's length, the body
 abbrev pub batch_text : List Record → List ℕ
-batch_text records = (165 ∷ []) ++ counted w32 (body_text records)
+batch_text records = (OPEN_GATE ∷ []) ++ counted w32 (body_text records)
 
 -- ---- which values have a text
 
 abbrev pub IsTxn : ℕ → Type 0
-IsTxn txn = (1 ≤ txn) × (txn ≤ 2 ^ 40)
+IsTxn txn = (1 ≤ txn) × (txn ≤ MAX_BEGUN)
 
 abbrev pub IsOp : ℕ → Type 0
 IsOp op = (1 ≤ op) × (op < 2 ^ 64)
@@ -98,7 +99,7 @@ pub record IsChange (op : ℕ) (old new : List ℕ) : Type 0 where
 
 -- of transaction 0 a page record is an image alone, of any other a change
 pub record IsPageRecord (txn op page : ℕ) (image : Option (List ℕ)) (start : ℕ) (old new : List ℕ) : Type 0 where
-  pub txn_below : txn ≤ 2 ^ 40
+  pub txn_below : txn ≤ MAX_BEGUN
   pub op_below : op < 2 ^ 64
   pub page_below : page < MAX_PAGES
   pub whole : IsImage image

@@ -2,6 +2,9 @@
 use Rattle.std.proofs.Math.ListN.{get_or}
 use Rattle.std.specs.Prelude.{ℕ, ℤ, ◌+◌, List, [], ◌∷◌, Option, Some, None, Bool, true, false, not, nat_lt, ◌==◌, ◌&&◌, ◌||◌, if◌then◌else◌}
 use Rattle.std.specs.Int.{w16, w32, w64, cast_signed}
+use Rattle.mt_frame.specs.declared.slots.TheConstants.{LETTERS}
+use Rattle.mt_base.specs.declared.limits.TheConstants.{MAX_BEGUN, MAX_EPOCH, MAX_KEY_BYTES, MAX_VALUE_BYTES, PAGE_BYTES}
+use Rattle.mt_frame.specs.declared.TheConstants.{OPEN_GATE}
 use Rattle.mt_frame.specs.declared.records.LoggedOp.{LoggedOp}
 use Rattle.mt_frame.specs.declared.records.LoggedOp.TheVariants.{Insert, Update, Delete, Add}
 use Rattle.mt_frame.specs.declared.records.Record.{Record}
@@ -17,7 +20,7 @@ MAX_NUMBER = 18446744073709551615
 
 -- a transaction's number
 unfoldable pub txn_at : Reader ℕ
-txn_at = within_at w64 1 1099511627776
+txn_at = within_at w64 1 MAX_BEGUN
 
 -- an operation's number
 unfoldable pub op_at : Reader ℕ
@@ -55,14 +58,14 @@ abbrev pub add_of : ℕ × ℤ → LoggedOp
 add_of p = Add p.0 p.1
 
 unfoldable pub value_at : Reader (List ℕ)
-value_at = counted_at w16 0 1024
+value_at = counted_at w16 0 MAX_VALUE_BYTES
 
 -- relation, key and a value
 unfoldable pub keyed_at : Reader InsertParts
-keyed_at = then_at (byte_at 0 63) (λ _. then_at (short_at 1 64) (λ _. value_at))
+keyed_at = then_at (byte_at 0 63) (λ _. then_at (short_at 1 MAX_KEY_BYTES) (λ _. value_at))
 
 unfoldable pub update_at : Reader UpdateParts
-update_at = then_at (byte_at 0 63) (λ _. then_at (short_at 1 64) (λ _. then_at value_at (λ _. value_at)))
+update_at = then_at (byte_at 0 63) (λ _. then_at (short_at 1 MAX_KEY_BYTES) (λ _. then_at value_at (λ _. value_at)))
 
 unfoldable pub add_at : Reader (ℕ × ℤ)
 add_at = then_at (byte_at 0 127) (λ _. step_at)
@@ -92,11 +95,11 @@ is_head h =
     else nat_lt 0 h.1.0 && (nat_lt 0 h.1.1.1.1.1 && nat_lt (h.1.1.1.1.0 + h.1.1.1.1.1) 4097)
 
 unfoldable pub head_at : Reader Head
-head_at = where_at is_head (then_at (within_at w64 0 1099511627776) (λ _. then_at (within_at w64 0 MAX_NUMBER) (λ _. then_at (within_at w16 0 3999) (λ _. then_at flag_at (λ _. then_at (within_at w16 0 4096) (λ _. within_at w16 0 4096))))))
+head_at = where_at is_head (then_at (within_at w64 0 MAX_BEGUN) (λ _. then_at (within_at w64 0 MAX_NUMBER) (λ _. then_at (within_at w16 0 3999) (λ _. then_at flag_at (λ _. then_at (within_at w16 0 4096) (λ _. within_at w16 0 4096))))))
 
 unfoldable pub image_at : Bool → Reader (Option (List ℕ))
 image_at false bytes = Some (None, bytes)
-image_at true bytes = map_at Some (part_at 4096) bytes
+image_at true bytes = map_at Some (part_at PAGE_BYTES) bytes
 
 -- the first and the last byte differ
 abbrev pub is_shortest : List ℕ → List ℕ → Bool
@@ -143,7 +146,7 @@ record_at (kind ∷ bytes) =
 
 -- an open gate, and a body behind its length
 unfoldable pub framed_at : Reader (List ℕ)
-framed_at = map_at (λ p. p.1) (then_at (byte_at 165 165) (λ _. counted_at w32 0 4294967295))
+framed_at = map_at (λ p. p.1) (then_at (byte_at OPEN_GATE OPEN_GATE) (λ _. counted_at w32 0 4294967295))
 
 -- ---- master slots
 
@@ -155,4 +158,4 @@ abbrev pub slot_of : SlotParts → MasterSlot
 slot_of p = record { epoch = p.1.1.0; area = p.1.1.1.0; pages = p.1.1.1.1.0; mib = p.1.1.1.1.1 }
 
 unfoldable pub slot_at : Reader MasterSlot
-slot_at = map_at slot_of (then_at (byte_at 165 165) (λ _. then_at (within_at w32 1297369905 1297369905) (λ _. then_at (within_at w64 1 9223372036854775808) (λ _. then_at (byte_at 0 1) (λ _. then_at (within_at w16 16 4000) (λ _. byte_at 4 64))))))
+slot_at = map_at slot_of (then_at (byte_at OPEN_GATE OPEN_GATE) (λ _. then_at (within_at w32 LETTERS LETTERS) (λ _. then_at (within_at w64 1 MAX_EPOCH) (λ _. then_at (byte_at 0 1) (λ _. then_at (within_at w16 16 4000) (λ _. byte_at 4 64))))))

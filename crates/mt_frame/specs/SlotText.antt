@@ -2,6 +2,7 @@
 use Rattle.std.proofs.Math.ListN.{get_or}
 use Rattle.std.specs.Prelude.{◌≡◌, ◌≢◌, ℕ, ◌^◌, ◌≤◌, List, [], ◌∷◌, ◌++◌}
 use Rattle.std.specs.Int.{w16, w64, to_be_bytes}
+use Rattle.mt_frame.specs.declared.TheConstants.{OPEN_GATE}
 use Rattle.mt_base.specs.Limits.{IsPageCount, IsAreaSize}
 use Rattle.mt_frame.specs.declared.slots.MasterSlot.{MasterSlot}
 use Rattle.mt_frame.specs.declared.slots.SlotRead.{SlotRead}
@@ -16,7 +17,7 @@ pub record IsSlot (slot : MasterSlot) : Type 0 where
 -- an open gate, the letters MTK1, the epoch, the area, the pages, the MiB of an area
 abbrev pub slot_text : MasterSlot → List ℕ
 slot_text slot =
-    (165 ∷ 77 ∷ 84 ∷ 75 ∷ 49 ∷ []) ++ (to_be_bytes w64 slot.epoch ++ ((slot.area ∷ []) ++ (to_be_bytes w16 slot.pages ++ (slot.mib ∷ []))))
+    (OPEN_GATE ∷ 77 ∷ 84 ∷ 75 ∷ 49 ∷ []) ++ (to_be_bytes w64 slot.epoch ++ ((slot.area ∷ []) ++ (to_be_bytes w16 slot.pages ++ (slot.mib ∷ []))))
 
 pub record IsSlotText (bytes : List ℕ) (slot : MasterSlot) : Type 0 where
   pub fits : IsSlot slot
@@ -24,6 +25,6 @@ pub record IsSlotText (bytes : List ℕ) (slot : MasterSlot) : Type 0 where
 
 -- what is in a slot's bytes: a closed gate, or an open one with a slot's text, or an open one without
 abbrev pub IsSlotRead : List ℕ → SlotRead → Type 0
-IsSlotRead bytes Closed = get_or bytes 0 0 ≢ 165
-IsSlotRead bytes Bad = (get_or bytes 0 0 ≡ 165) × ((slot : MasterSlot) → IsSlotText bytes slot → ⊥)
+IsSlotRead bytes Closed = get_or bytes 0 0 ≢ OPEN_GATE
+IsSlotRead bytes Bad = (get_or bytes 0 0 ≡ OPEN_GATE) × ((slot : MasterSlot) → IsSlotText bytes slot → ⊥)
 IsSlotRead bytes (Open slot) = IsSlotText bytes slot

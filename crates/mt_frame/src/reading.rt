@@ -2,6 +2,8 @@
 // Nothing is read twice, and only the bytes that a record keeps are copied.
 ghost use Rattle.std.specs.Prelude.{◌≡◌, ◌≤◌, ℕ, List, length, IfOk, IfErr, IfSome, IfNone, Err};
 ghost use Rattle.std.specs.Int.{w16, w32, w64};
+ghost use Rattle.mt_base.specs.declared.limits.TheConstants.{MAX_BEGUN, MAX_KEY_BYTES, PAGE_BYTES};
+ghost use Rattle.mt_frame.specs.declared.TheConstants.{OPEN_GATE};
 ghost use Rattle.mt_base.specs.declared.refusal.Refusal.{Refusal};
 ghost use Rattle.mt_frame.specs.declared.fields.ReadError.TheVariants.{Wrong};
 ghost use Rattle.mt_frame.specs.declared.records.Record.{Record};
@@ -20,7 +22,7 @@ use std::alloc::Global;
 
 #[tactic(auto, unfolding(crate::specs::Codec::short_at))]
 fn key_of(alloc: Global, bytes: &[u8]) -> Result<(Bytes, &[u8]), ReadError>
-    ensures { Gives (λ x. (x.0, x.1.now)) result (short_at 1 64 bytes.now) }
+    ensures { Gives (λ x. (x.0, x.1.now)) result (short_at 1 MAX_KEY_BYTES bytes.now) }
 {
     let (n, rest) = byte_within(bytes, 1, 64)?;
     let (key, rest) = part_of(rest, n as usize)?;
@@ -317,7 +319,7 @@ fn record_of(alloc: Global, bytes: &[u8]) -> Result<(Record, &[u8]), ReadError>
 
 // An open gate.
 fn gate_of(bytes: &[u8]) -> Result<(u8, &[u8]), ReadError>
-    ensures { Gives (λ x. (x.0, x.1.now)) result (byte_at 165 165 bytes.now) }
+    ensures { Gives (λ x. (x.0, x.1.now)) result (byte_at OPEN_GATE OPEN_GATE bytes.now) }
 {
     byte_within(bytes, OPEN_GATE, OPEN_GATE)
 }

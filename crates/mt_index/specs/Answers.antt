@@ -1,5 +1,6 @@
 -- What plans answer, over all pages that agree with those at hand.
 use Rattle.std.specs.Prelude.{ℕ, ◌≡◌, ◌≢◌, ◌<◌, ◌≤◌, ◌⊎◌, Bool, true, false, cond, List, length, Option, Some, None, IsSome}
+use Rattle.mt_bucket.specs.declared.heads.TheConstants.{MAX_ENTRIES}
 use Rattle.mt_base.specs.declared.numbers.RecordName.{RecordName}
 use Rattle.mt_base.specs.declared.modes.Mode.{Mode}
 use Rattle.mt_base.specs.declared.modes.Mode.TheVariants.{Read, Write}
@@ -116,7 +117,7 @@ pub record Amends (total : ℕ) (pages : PageBytes) (changes : List PageChange) 
 pub record HasRoom (key : List ℕ) (pages : PageBytes) (p : ℕ) : Type 0 where
   pub steps : ℕ
   pub passed : Passed (IsFull (state_of pages)) pages key p steps
-  pub room : length (entries (pages p)) < 58
+  pub room : length (entries (pages p)) < MAX_ENTRIES
 
 -- every page of the key's bucket is full; this is the last of them
 pub record IsEnd (key : List ℕ) (pages : PageBytes) (p : ℕ) (alone : Bool) : Type 0 where

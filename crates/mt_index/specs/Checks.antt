@@ -5,6 +5,7 @@ use Rattle.std.specs.Borrow.{Bor}
 use Rattle.std.specs.Cmp.Lexicographic.{slice_cmp}
 use Rattle.std.specs.Ordering.{nat_cmp, ordering_then}
 use Rattle.std.specs.BTreeMap.{BTreeMap, get_by}
+use Rattle.mt_bucket.specs.declared.heads.TheConstants.{CELL_BYTES, HEAD_BYTES}
 use Rattle.mt_base.specs.declared.limits.TheConstants.{PAGE_BYTES}
 use Rattle.mt_bucket.specs.Entries.{Entry, is_at, look}
 use Rattle.mt_bucket.specs.Hash.{hash}
@@ -102,7 +103,7 @@ pub record IsFinite (total : ℕ) (pages : PageBytes) (p : ℕ) : Type 0 where
   pub few : length chain ≤ total
 
 abbrev pub entry_at : List ℕ → ℕ → Entry
-entry_at page i = entry_of (cell page (8 + 70 * i))
+entry_at page i = entry_of (cell page (HEAD_BYTES + CELL_BYTES * i))
 
 -- the entry is in the bucket of its hash, and its key in no other entry from there on
 pub record IsAlone (pages : PageBytes) (home p i : ℕ) : Type 0 where

@@ -1,6 +1,7 @@
 -- The pages that a split changes, once it is made.
 use Rattle.std.specs.Prelude.{ℕ, ◌≡◌, ◌≢◌, ◌≤◌, ◌<◌, Bool, List, [], ◌∷◌, ◌++◌, length}
 use Rattle.std.specs.Bool.{OnTrue, OnFalse}
+use Rattle.mt_bucket.specs.declared.heads.TheConstants.{MAX_ENTRIES}
 use Rattle.mt_bucket.specs.Entries.{Entry}
 use Rattle.mt_bucket.specs.Page.{depth_of, next_of, count_of, entries, KeepsHead, IsBucket}
 use Rattle.mt_space.specs.declared.changes.PageChange.{PageChange}
@@ -33,7 +34,7 @@ pub record Apart (b q : ℕ) : Type 0 where
 pub record Puts (there : Bool) (e : Entry) (old new : List ℕ) : Type 0 where
   pub head : KeepsHead old new
   pub pushed : OnTrue there (entries new ≡ entries old ++ e ∷ [])
-  pub full : OnFalse there (count_of old ≡ 58)
+  pub full : OnFalse there (count_of old ≡ MAX_ENTRIES)
   pub unchanged : OnFalse there (new ≡ old)
   pub kept : (relations pages : ℕ) → e.relation < relations → 1 ≤ length e.key → e.name.page < pages → IsBucket relations pages old → IsBucket relations pages new
 

@@ -2,6 +2,7 @@
 use Rattle.std.specs.Prelude.{ℕ, suc, ◌≡◌, ◌≢◌, ◌≤◌, ◌<◌, ◌^◌, ◌%◌, true, false, List, [], ◌∷◌, length, cond, ◌==◌, ◌&&◌, filter, not}
 use Rattle.std.specs.List.{flat_map}
 use Rattle.std.proofs.Math.ListN.{get_or}
+use Rattle.mt_bucket.specs.declared.heads.TheConstants.{MAX_ENTRIES}
 use Rattle.mt_bucket.specs.Entries.{Entry}
 use Rattle.mt_bucket.specs.Hash.{high, hash}
 use Rattle.mt_index.specs.Maps.{Map, Each}
@@ -46,7 +47,7 @@ pub record IsTree (names : ℕ → ℕ) (g : ℕ) (node : ℕ → Node) (kind : 
   pub linked : (h : ℕ) → Linked node (names h) (chain (names h))
   pub at_home : (h : ℕ) → Each (λ n. home n ≡ names h) (chain (names h))
   pub level : (h : ℕ) → Each (λ n. (node n).depth ≡ (node (names h)).depth) (chain (names h))
-  pub small : (h : ℕ) → Each (λ n. length (node n).entries ≤ 58) (chain (names h))
+  pub small : (h : ℕ) → Each (λ n. length (node n).entries ≤ MAX_ENTRIES) (chain (names h))
   pub kinds : (h : ℕ) → Each (λ n. kind n ≡ 2) (chain (names h))
   pub buckets : IsBuckets names (λ b. (node b).depth) (λ b. entries_of node (chain b))
   pub map : (r : ℕ) (k : List ℕ) → lookup names (λ b. entries_of node (chain b)) r k ≡ m r k

@@ -1,5 +1,6 @@
 -- Which way an add goes: the rule in full, over the relations that the theorem takes.
 use Rattle.std.specs.Prelude.{ℕ, ◌≡◌, ◌≢◌, ◌<◌, ◌⊎◌, Bool, true, List, length}
+use Rattle.mt_bucket.specs.declared.heads.TheConstants.{MAX_ENTRIES}
 use Rattle.mt_bucket.specs.Entries.{Entry}
 use Rattle.mt_bucket.specs.Hash.{hash}
 use Rattle.mt_index.specs.Maps.{Each}
@@ -7,7 +8,7 @@ use Rattle.mt_index.specs.Index.{State, named}
 use Rattle.mt_index.specs.Steps.{InRoom, Behind, Halves, double}
 
 abbrev pub IsFull : State → ℕ → Type 0
-IsFull s n = length (s.node n).entries ≡ 58
+IsFull s n = length (s.node n).entries ≡ MAX_ENTRIES
 
 -- the first page of the chain with room
 pub record First (e : Entry) (p : ℕ) (s t : State) : Type 0 where

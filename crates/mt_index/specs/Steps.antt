@@ -1,5 +1,6 @@
 -- What the plans do to the pages of an index.
 use Rattle.std.specs.Prelude.{ℕ, suc, ◌≡◌, ◌≢◌, ◌<◌, ◌⊎◌, Bool, true, false, List, [], ◌∷◌, ◌++◌, length}
+use Rattle.mt_bucket.specs.declared.heads.TheConstants.{MAX_ENTRIES}
 use Rattle.mt_base.specs.declared.numbers.RecordName.{RecordName}
 use Rattle.mt_bucket.specs.Entries.{Entry, last_first}
 use Rattle.mt_bucket.specs.Hash.{hash}
@@ -25,7 +26,7 @@ pub record OnePage (p : ℕ) (es : List Entry) (s t : State) : Type 0 where
 
 pub record InRoom (e : Entry) (p : ℕ) (s t : State) : Type 0 where
   pub on : OnChain s e.key p
-  pub room : length (s.node p).entries < 58
+  pub room : length (s.node p).entries < MAX_ENTRIES
   pub change : OnePage p ((s.node p).entries ++ e ∷ []) s t
 
 pub record Behind (e : Entry) (z q : ℕ) (s t : State) : Type 0 where

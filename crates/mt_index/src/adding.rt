@@ -1,6 +1,6 @@
 // An entry more.
 ghost use Rattle.std.specs.Prelude.{ℕ, ◌≡◌, ◌≤◌, ◌<◌, length, true, IfOk, Bool};
-ghost use Rattle.mt_base.specs.declared.limits.TheConstants.{PAGE_BYTES};
+ghost use Rattle.mt_base.specs.declared.limits.TheConstants.{MAX_KEY_BYTES, PAGE_BYTES};
 ghost use Rattle.mt_bucket.specs.Page.{IsBucket};
 ghost use Rattle.mt_index.specs.Rule.{MaySplit};
 ghost use Rattle.mt_index.specs.Pages.{state_of, TakesPage, HasOne};
@@ -27,7 +27,7 @@ pub(crate) fn plan_put<V: Pages>(
 ) -> Result<Add, AllocError>
     requires sound { V.is_sound views.now }
     requires relation_fits { relation < 256 }
-    requires short { length key.now ≤ 64 }
+    requires short { length key.now ≤ MAX_KEY_BYTES }
     requires room { InMaps (V.at_hand views.now) (V.total views.now) (λ pages m. HasRoom key.now pages page) }
     ensures { (split : Bool) → IfOk result (IsPlanned (V.at_hand views.now) (V.total views.now) split
         (record { relation = relation; key = key.now; name = name })) }
@@ -51,7 +51,7 @@ pub(crate) fn plan_chain<V: Pages>(
 ) -> Result<Add, AllocError>
     requires sound { V.is_sound views.now }
     requires relation_fits { relation < 256 }
-    requires short { length key.now ≤ 64 }
+    requires short { length key.now ≤ MAX_KEY_BYTES }
     requires end { InMaps (V.at_hand views.now) (V.total views.now) (λ pages m. (alone : Bool) ×
         IsEnd key.now pages last alone) }
     ensures { (split : Bool) → InMaps (V.at_hand views.now) (V.total views.now) (λ pages m. split ≡ true →
@@ -101,7 +101,7 @@ pub(crate) fn overflow_page(
     name: RecordName,
 ) -> [u8; PAGE_BYTES]
     requires relation_fits { relation < 256 }
-    requires short { length key.now ≤ 64 }
+    requires short { length key.now ≤ MAX_KEY_BYTES }
     ensures one { HasOne depth (record { relation = relation; key = key.now; name = name }) result }
     ensures bucket { (relations pages : ℕ) → depth ≤ 9 → relation < relations → 1 ≤ length key.now →
         name.page < pages → IsBucket relations pages result }

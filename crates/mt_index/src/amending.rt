@@ -1,5 +1,6 @@
 // Changes of an entry that is there.
 ghost use Rattle.std.specs.Prelude.{◌≡◌, ◌≤◌, ◌<◌, ℕ, length, Some, None, IfOk};
+ghost use Rattle.mt_base.specs.declared.limits.TheConstants.{MAX_KEY_BYTES};
 ghost use Rattle.mt_base.specs.declared.modes.Mode.TheVariants.{Write};
 ghost use Rattle.mt_space.specs.Changes.{after};
 ghost use Rattle.mt_index.specs.Pages.{AreFormed};
@@ -24,7 +25,7 @@ pub fn plan_set<V: Pages>(
     name: RecordName,
 ) -> Result<Amend, AllocError>
     requires sound { V.is_sound views.now }
-    requires short { length key.now ≤ 64 }
+    requires short { length key.now ≤ MAX_KEY_BYTES }
     ensures need { IfOk result (λ amend. AmendNeeds amend (Asks (V.at_hand views.now) (V.total views.now)
         (IsInBucket key.now Write))) }
     ensures set { IfOk result (λ amend. IfAmended amend (λ changes. InMaps (V.at_hand views.now) (V.total views.now)
@@ -63,7 +64,7 @@ pub fn plan_drop<V: Pages>(
     key: &[u8],
 ) -> Result<Amend, AllocError>
     requires sound { V.is_sound views.now }
-    requires short { length key.now ≤ 64 }
+    requires short { length key.now ≤ MAX_KEY_BYTES }
     ensures need { IfOk result (λ amend. AmendNeeds amend (Asks (V.at_hand views.now) (V.total views.now)
         (IsInBucket key.now Write))) }
     ensures dropped { IfOk result (λ amend. IfAmended amend (λ changes.

@@ -1,4 +1,5 @@
 ghost use Rattle.std.specs.Prelude.{◌≡◌, ◌≤◌, length, Some, None};
+ghost use Rattle.mt_base.specs.declared.limits.TheConstants.{MAX_KEY_BYTES};
 ghost use Rattle.mt_base.specs.declared.modes.Mode.TheVariants.{Read};
 ghost use Rattle.mt_index.specs.Answers.{InMaps, IsInBucket, Asks, FindNeeds, IfFound, IfMissing, IfEndless};
 
@@ -12,7 +13,7 @@ use mt_space::Pages;
 /// answers that they are none.
 pub fn plan_find<V: Pages>(views: &V, relation: RelNo, key: &[u8]) -> Find
     requires sound { V.is_sound views.now }
-    requires short { length key.now ≤ 64 }
+    requires short { length key.now ≤ MAX_KEY_BYTES }
     ensures need { FindNeeds result (Asks (V.at_hand views.now) (V.total views.now) (IsInBucket key.now Read)) }
     ensures found { IfFound result (λ name. InMaps (V.at_hand views.now) (V.total views.now) (λ pages m.
         m relation key.now ≡ Some name)) }

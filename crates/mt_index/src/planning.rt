@@ -1,5 +1,6 @@
 // The way that an add goes.
 ghost use Rattle.std.specs.Prelude.{◌≡◌, ◌≤◌, ◌<◌, length, Some, None, IfOk};
+ghost use Rattle.mt_base.specs.declared.limits.TheConstants.{MAX_KEY_BYTES};
 ghost use Rattle.mt_space.specs.Changes.{after};
 ghost use Rattle.mt_index.specs.Maps.{alter};
 ghost use Rattle.mt_index.specs.Pages.{AreMap};
@@ -36,7 +37,7 @@ pub fn plan_add<V: Pages>(
 ) -> Result<Add, AllocError>
     requires sound { V.is_sound views.now }
     requires relation_fits { relation < 256 }
-    requires short { length key.now ≤ 64 }
+    requires short { length key.now ≤ MAX_KEY_BYTES }
     ensures need { IfOk result (λ add. AddNeeds add (Asks (V.at_hand views.now) (V.total views.now)
         (IsInAdd split key.now (V.total views.now)))) }
     ensures due { IfOk result (λ add. AddNeeds add (Asks (V.at_hand views.now) (V.total views.now)
@@ -70,7 +71,7 @@ fn plan_by_rule<V: Pages>(
 ) -> Result<Add, AllocError>
     requires sound { V.is_sound views.now }
     requires relation_fits { relation < 256 }
-    requires short { length key.now ≤ 64 }
+    requires short { length key.now ≤ MAX_KEY_BYTES }
     ensures { IfOk result (IsPlanned (V.at_hand views.now) (V.total views.now) split
         (record { relation = relation; key = key.now; name = name })) }
 {

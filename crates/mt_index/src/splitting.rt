@@ -1,7 +1,7 @@
 // A bucket becomes two (Fagin 1979).
 ghost use Rattle.std.specs.Prelude.{ℕ, ◌≡◌, ◌≢◌, ◌≤◌, ◌<◌, ◌++◌, ◌∷◌, [], length, true, false, IfOk, Some};
 ghost use Rattle.std.specs.Bool.{OnTrue, OnFalse};
-ghost use Rattle.mt_base.specs.declared.limits.TheConstants.{PAGE_BYTES};
+ghost use Rattle.mt_base.specs.declared.limits.TheConstants.{MAX_KEY_BYTES, PAGE_BYTES};
 ghost use Rattle.mt_bucket.specs.Hash.{hash as hash_of};
 ghost use Rattle.mt_bucket.specs.Page.{depth_of, count_of, entries, KeepsHead, IsBucket};
 ghost use Rattle.mt_space.specs.Changes.{PageBytes, IsUntouched};
@@ -51,7 +51,7 @@ impl Halves {
     // false, and they are as before.
     fn put(&mut self, upper: bool, relation: RelNo, key: &[u8], name: RecordName) -> bool
         requires relation_fits { relation < 256 }
-        requires short { length key.now ≤ 64 }
+        requires short { length key.now ≤ MAX_KEY_BYTES }
         ensures { PutsInHalf upper result
             (record { relation = relation; key = key.now; name = name }) self.old self.new }
     {
@@ -135,7 +135,7 @@ pub(crate) fn plan_split<V: Pages>(
 ) -> Result<Add, AllocError>
     requires sound { V.is_sound views.now }
     requires relation_fits { relation < 256 }
-    requires short { length key.now ≤ 64 }
+    requires short { length key.now ≤ MAX_KEY_BYTES }
     requires there { V.at_hand views.now bucket ≡ Some old.now }
     requires shallow { depth_of old.now < 9 }
     requires due { InMaps (V.at_hand views.now) (V.total views.now) (λ pages m. MaySplit key.now (state_of pages) ×

@@ -1,5 +1,6 @@
 // The walk along the chain of a key's bucket.
 ghost use Rattle.std.specs.Prelude.{◌≡◌, ◌≤◌, length, Some, None};
+ghost use Rattle.mt_base.specs.declared.limits.TheConstants.{MAX_KEY_BYTES};
 ghost use Rattle.mt_base.specs.declared.modes.Mode.TheVariants.{Write};
 ghost use Rattle.mt_index.specs.Answers.{InMaps, IsInBucket, Asks, Holds, HeldNeeds, IfIn, IfNowhere, HeldEndless, HasRoom, IsEnd, SpotNeeds, IfRoom, IfBehind, SpotEndless};
 
@@ -13,7 +14,7 @@ use mt_space::pages::DIRECTORY;
 // The page of the key's bucket with an entry of the key. The bucket's pages are needed in this mode.
 pub(crate) fn holder_of<V: Pages>(views: &V, relation: RelNo, key: &[u8], mode: Mode) -> Held
     requires sound { V.is_sound views.now }
-    requires short { length key.now ≤ 64 }
+    requires short { length key.now ≤ MAX_KEY_BYTES }
     ensures need { HeldNeeds result (Asks (V.at_hand views.now) (V.total views.now) (IsInBucket key.now mode)) }
     ensures at_hand { IfIn result (λ page name. (V.at_hand views.now page ≡ None → ⊥)) }
     ensures found { IfIn result (λ page name. InMaps (V.at_hand views.now) (V.total views.now) (λ pages m.

@@ -3,7 +3,8 @@ use Rattle.std.specs.Prelude.{ℕ, ◌≡◌, ◌≢◌, ◌<◌, ◌≤◌, ◌
 use Rattle.std.specs.List.{sum_by, list_any}
 use Rattle.std.specs.Option.{option_map}
 use Rattle.std.specs.Vec.{vec_capacity}
-use Rattle.mt_base.specs.declared.limits.TheConstants.{MAX_AREA_MIB, MAX_COUNTERS, MAX_RELATIONS, MIB_BYTES, OPERATION_LOG_BYTES, TRANSACTION_LOG_BYTES}
+use Rattle.mt_kernel.specs.declared.commits.TheConstants.{END_LOG_BYTES}
+use Rattle.mt_base.specs.declared.limits.TheConstants.{MAX_AREA_MIB, MAX_BEGUN, MAX_COUNTERS, MAX_RELATIONS, MIB_BYTES, OPERATION_LOG_BYTES, TRANSACTION_LOG_BYTES}
 use Rattle.mt_base.specs.declared.refusal.Refusal.{Refusal}
 use Rattle.mt_escrow.specs.Seen.{Escrowed, CanStand, add_of}
 use Rattle.mt_frame.specs.declared.records.Record.{Record}
@@ -92,8 +93,8 @@ pub record IsNumbered (last begun : ℕ) (ms : List Member) (page_locks : List P
   pub ops : (t n : ℕ) → last < n → some_record (ends_op t n) records ≡ false
   pub txns : (t : ℕ) → is_open (member_of ms t) ≡ true → some_record (ends_txn t) records ≡ false
   pub coming : (t : ℕ) → begun < t → some_record (ends_txn t) records ≡ false
-  pub few_operations : last ≤ 2 ^ 41
-  pub few_transactions : begun ≤ 2 ^ 40
+  pub few_operations : last ≤ 2 * MAX_BEGUN
+  pub few_transactions : begun ≤ MAX_BEGUN
   pub nobody : is_some (member_of ms 0) ≡ false
 
 -- the operation's end is in the log, and no inverse of it
@@ -141,7 +142,7 @@ pub record IsWithinSchema (origin : Origin) (e : Entry) : Type 0 where
 -- The numbers of operations suffice. A call is given one below 2^40; each inverse behind that has its bytes kept, so of such there
 -- are no more than the area and the ends that are kept for transactions have room for.
 abbrev pub AreLeft : ℕ → ℕ → ℕ → Type 0
-AreLeft last begun reserved = OPERATION_LOG_BYTES * last + reserved ≤ OPERATION_LOG_BYTES * 2 ^ 40 + MAX_AREA_MIB * MIB_BYTES + TRANSACTION_LOG_BYTES * begun
+AreLeft last begun reserved = OPERATION_LOG_BYTES * last + reserved ≤ OPERATION_LOG_BYTES * MAX_BEGUN + MAX_AREA_MIB * MIB_BYTES + TRANSACTION_LOG_BYTES * begun
 
 -- the counters of the escrow are those of the base that the book leaves
 pub record IsEscrowed (counters : ℕ) (m : Base) (e : Escrowed) : Type 0 where
@@ -168,7 +169,7 @@ pub record IsFit {D : Type 0} (seen : D → List ℕ) (may_leave : D → List �
   pub locked : AreHeldBy k.running.items k.operations.locks
   pub small : All (IsWithinSchema origin) k.live.standing
   pub log : used k.operations.store.log + sum_by left_of k.running.items + k.reserved < area_size k.operations.store.log
-  pub reserves : k.reserved + sum_by taken_bytes k.running.items + 14 * length k.commits.items
+  pub reserves : k.reserved + sum_by taken_bytes k.running.items + END_LOG_BYTES * length k.commits.items
       ≡ sum_by kept_bytes k.running.items + sum_by entry_bytes k.live.standing + TRANSACTION_LOG_BYTES * length k.live.members
   pub queued : IsQueued k.live.members (appended k.operations.store.log) k.commits.items
   pub numbers : AreLeft k.last k.live.begun k.reserved

@@ -3,6 +3,7 @@ ghost use Rattle.std.specs.Prelude.{◌≡◌, ◌==◌, is_some, ◌≢◌, ◌
 ghost use Rattle.std.specs.Bool.{OnTrue, OnFalse};
 ghost use Rattle.std.specs.List.{sum_by, list_any};
 ghost use Rattle.std.specs.Vec.{vec_len, vec_capacity};
+ghost use Rattle.mt_base.specs.declared.limits.TheConstants.{MAX_BEGUN};
 ghost use Rattle.mt_escrow.specs.Seen.{Escrowed};
 ghost use Rattle.mt_live.specs.Adds.{add_before};
 ghost use Rattle.mt_live.specs.Machine.{called};
@@ -106,7 +107,7 @@ impl<D: Device> Parts<D> {
     ) -> Result<Called, Refusal>
         requires safe { ∥ ((origin : Origin) × (base : Base) × IsConsistent D.seen D.may_leave origin base self.old
             × MayBeCalled origin self.old txn op) ∥₁ }
-        requires few { self.old.last < 2 ^ 40 }
+        requires few { self.old.last < MAX_BEGUN }
         ensures called { (origin : Origin) (base : Base) → IsConsistent D.seen D.may_leave origin base self.old
             → MayBeCalled origin self.old txn op
             → IsCalled D.seen D.may_leave origin base (state_of self.old base) self.new txn op result }
@@ -152,7 +153,7 @@ impl<D: Device> Parts<D> {
             × (escrow : Escrowed) × IsGranted D.seen D.may_leave origin base locks escrow self.old txn end) ∥₁ }
         requires same { own ≡ end }
         requires room { vec_len self.old.running < vec_capacity self.old.running }
-        requires few { self.old.last < 2 ^ 40 }
+        requires few { self.old.last < MAX_BEGUN }
         ensures ok { (origin : Origin) (base : Base) (locks : List (Object × List Holder)) (escrow : Escrowed)
             → IsGranted D.seen D.may_leave origin base locks escrow self.old txn end
             → OnOk result
@@ -215,7 +216,7 @@ impl<D: Device> Parts<D> {
             × IsLocked D.seen D.may_leave origin base locks self.old txn op) ∥₁ }
         requires same { own ≡ op }
         requires room { vec_len self.old.running < vec_capacity self.old.running }
-        requires few { self.old.last < 2 ^ 40 }
+        requires few { self.old.last < MAX_BEGUN }
         ensures ok { (origin : Origin) (base : Base) (locks : List (Object × List Holder))
             → IsLocked D.seen D.may_leave origin base locks self.old txn op
             → OnOk result
@@ -262,7 +263,7 @@ impl<D: Device> Parts<D> {
             × MayRun origin self.old txn op) ∥₁ }
         requires same { (own ≡ op) × (object ≡ object_of op) }
         requires room { vec_len self.old.running < vec_capacity self.old.running }
-        requires few { self.old.last < 2 ^ 40 }
+        requires few { self.old.last < MAX_BEGUN }
         ensures called { (origin : Origin) (base : Base) → IsConsistent D.seen D.may_leave origin base self.old
             → MayRun origin self.old txn op
             → IsCalled D.seen D.may_leave origin base (state_of self.old base) self.new txn op result }

@@ -20,6 +20,8 @@ ghost use Rattle.mt_kernel.specs.Booked.{booked_each, durable_count, durable_txn
 ghost use Rattle.mt_kernel.specs.Runs.{is_open};
 ghost use Rattle.mt_kernel.specs.Work.{LeavesUndo, most_steps, undo_steps};
 ghost use Rattle.std.specs.Vec.{vec_len, vec_capacity};
+ghost use Rattle.mt_kernel.specs.declared.commits.TheConstants.{END_LOG_BYTES};
+ghost use Rattle.mt_base.specs.declared.limits.TheConstants.{MAX_BEGUN, MAX_LIVE, TRANSACTION_LOG_BYTES};
 ghost use Rattle.mt_kernel.specs.declared.parts.Commit.{Commit};
 ghost use Rattle.mt_kernel.specs.declared.parts.Running.{Running};
 
@@ -58,18 +60,18 @@ impl<D: Device> Parts<D> {
     /// Nothing has changed then.
     pub fn begin(&mut self, session: u32) -> Result<TxnNo, Refusal>
         requires safe { IsSound D.seen D.may_leave self.old }
-        requires few { self.old.live.begun < 2 ^ 40 }
+        requires few { self.old.live.begun < MAX_BEGUN }
         ensures begun { (origin : Origin) (base : Base) → IsConsistent D.seen D.may_leave origin base self.old
             → OnOk result (IsIn D.seen D.may_leave origin base (begun (state_of self.old base) session) self.new) }
         ensures number { IfOk result (λ txn. txn ≡ self.old.live.begun + 1) }
-        ensures may { OnOk result (log_kept self.old + 128 < area_size self.old.operations.store.log) }
+        ensures may { OnOk result (log_kept self.old + TRANSACTION_LOG_BYTES < area_size self.old.operations.store.log) }
         ensures cause { IfErr result (λ why. (why ≡ Refusal.NoMemory) ⊎ ((why ≡ Refusal.LogFull)
-            × (area_size self.old.operations.store.log ≤ log_kept self.old + 128))) }
+            × (area_size self.old.operations.store.log ≤ log_kept self.old + TRANSACTION_LOG_BYTES))) }
         ensures opened { IfOk result (λ txn. SetsState self.old self.new txn (Some Open)) }
         ensures same_running { SameRunning self.old self.new }
         ensures same_commits { SameCommits self.old self.new }
         ensures device { self.new.operations.store.device ≡ self.old.operations.store.device }
-        ensures restartable { length self.old.live.members < 64
+        ensures restartable { length self.old.live.members < MAX_LIVE
             → StaysRestartable D.seen D.may_leave self.old self.new }
         ensures err { OnErr result (self.new ≡ self.old) }
     {

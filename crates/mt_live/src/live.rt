@@ -1,6 +1,7 @@
 ghost use Rattle.std.specs.Prelude.{ℕ, [], ◌∷◌, ◌++◌, ◌≡◌, ◌≢◌, ◌==◌, ◌<◌, ◌≤◌, ◌+◌, ◌^◌, true, false, None, Some, IfOk, IfErr, OnOk, OnErr, MatchOption, length, slice_index_or};
 ghost use Rattle.std.specs.List.{position};
 ghost use Rattle.std.specs.Option.{option_map};
+ghost use Rattle.mt_base.specs.declared.limits.TheConstants.{MAX_BEGUN};
 ghost use Rattle.mt_base.specs.declared.refusal.Refusal.{Refusal};
 ghost use Rattle.mt_model.specs.History.{Call};
 ghost use Rattle.mt_live.specs.Entries.{Entry, calls, kept};
@@ -130,7 +131,7 @@ impl Live {
     ///
     /// Refused 1 for want of memory; nothing has changed then.
     pub fn begin(&mut self, session: u32) -> Result<TxnNo, Refusal>
-        requires { self.old.begun < 2 ^ 40 }
+        requires { self.old.begun < MAX_BEGUN }
         ensures number { IfOk result (λ txn. txn ≡ self.old.begun + 1) }
         ensures begun { OnOk result (self.new.begun ≡ self.old.begun + 1) }
         ensures numbered { OnOk result (AreNumbered self.new.begun self.new.members) }

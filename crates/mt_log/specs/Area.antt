@@ -1,6 +1,7 @@
 -- What a log knows of its area, at each stage of a force.
 use Rattle.std.specs.Prelude.{◌<◌, ◌≡◌, ◌≢◌, ◌⊎◌, ℕ, ◌+◌, ◌≤◌, List, [], ◌∷◌, ◌++◌, length}
 use Rattle.std.proofs.Math.ListN.{get_or}
+use Rattle.mt_frame.specs.declared.TheConstants.{OPEN_GATE}
 use Rattle.mt_disk.specs.Disk.{Has, Torn}
 use Rattle.mt_frame.specs.declared.records.Record.{Record}
 use Rattle.mt_frame.specs.Grammar.{body_text}
@@ -16,12 +17,12 @@ Body c next batch = Has c (next + 1) (framed batch ++ 0 ∷ [])
 
 -- what each outcome of a crash has at the next batch's place
 abbrev pub Outcome : Stage → ℕ → List Record → List ℕ → Type 0
-Outcome Idle next batch c = get_or c next 0 ≢ 165
-Outcome (Forcing WriteBody) next batch c = get_or c next 0 ≢ 165
-Outcome (Forcing SyncBody) next batch c = get_or c next 0 ≢ 165
-Outcome (Forcing WriteGate) next batch c = (get_or c next 0 ≢ 165) × Body c next batch
+Outcome Idle next batch c = get_or c next 0 ≢ OPEN_GATE
+Outcome (Forcing WriteBody) next batch c = get_or c next 0 ≢ OPEN_GATE
+Outcome (Forcing SyncBody) next batch c = get_or c next 0 ≢ OPEN_GATE
+Outcome (Forcing WriteGate) next batch c = (get_or c next 0 ≢ OPEN_GATE) × Body c next batch
 Outcome (Forcing SyncGate) next batch c = Body c next batch
-Outcome Failed next batch c = get_or c next 0 ≡ 165 → Body c next batch
+Outcome Failed next batch c = get_or c next 0 ≡ OPEN_GATE → Body c next batch
 
 -- what the present content has besides
 abbrev pub Present : Stage → ℕ → List Record → List ℕ → Type 0
@@ -29,7 +30,7 @@ Present Idle next batch c = Unit {0}
 Present (Forcing WriteBody) next batch c = Unit {0}
 Present (Forcing SyncBody) next batch c = Body c next batch
 Present (Forcing WriteGate) next batch c = Unit {0}
-Present (Forcing SyncGate) next batch c = get_or c next 0 ≡ 165
+Present (Forcing SyncGate) next batch c = get_or c next 0 ≡ OPEN_GATE
 Present Failed next batch c = Unit {0}
 
 -- where the gate behind the batch that is being forced stands, or the next gate where none is

@@ -2,6 +2,7 @@
 use Rattle.std.specs.Prelude.{◌<◌, ◌≡◌, ◌⊎◌, ℕ, ◌+◌, List, [], ◌∷◌, length, true, false}
 use Rattle.std.specs.List.{AllByRecursion}
 use Rattle.std.proofs.Math.ListN.{get_or}
+use Rattle.mt_frame.specs.declared.TheConstants.{OPEN_GATE}
 use Rattle.mt_disk.specs.Disk.{Has}
 use Rattle.mt_frame.specs.declared.records.Record.{Record}
 use Rattle.mt_frame.specs.declared.records.Record.TheVariants.{Page, OpEnd, OpDropped, Commit, AbortEnd}
@@ -66,5 +67,5 @@ pub record BreaksAt (c : List ℕ) (start end pages place : ℕ) : Type 0 where
   pub inside : place < end
   pub each : AreBatches pages before
   pub rules : BreakNoRule before
-  pub due : (get_or c place 0 ≡ 165) ⊎ (before ≡ [])
+  pub due : (get_or c place 0 ≡ OPEN_GATE) ⊎ (before ≡ [])
   pub none : (batch : List Record) → IsNextBatch c place end pages before batch → ⊥

@@ -1,6 +1,7 @@
 -- The two master slots of a device, and which of them rules.
 use Rattle.std.specs.Prelude.{◌≡◌, ◌≢◌, ◌⊎◌, ◌+◌, ◌*◌, ◌<◌, ◌≤◌, ℕ, List, length, Option, Some, None, Result, Ok, Err}
 use Rattle.std.proofs.Math.ListN.{get_or}
+use Rattle.mt_frame.specs.declared.TheConstants.{OPEN_GATE}
 use Rattle.mt_base.specs.declared.limits.TheConstants.{MASTER_BYTES, MIB_BYTES, PAGE_BYTES}
 use Rattle.mt_base.specs.declared.refusal.Refusal.{Refusal}
 use Rattle.mt_base.specs.declared.refusal.Refusal.TheVariants.{BadFormat}
@@ -20,7 +21,7 @@ pub record IsOpenAt (c : List ℕ) (at : ℕ) (slot : MasterSlot) : Type 0 where
   pub long : IsOfDevice c slot
 
 abbrev pub IsClosedAt : List ℕ → ℕ → Type 0
-IsClosedAt c at = get_or c at 0 ≢ 165
+IsClosedAt c at = get_or c at 0 ≢ OPEN_GATE
 
 -- the places of the two slots
 abbrev pub AreSlots : ℕ → ℕ → Type 0
@@ -66,7 +67,7 @@ IsUnformatted c = (length c < MASTER_BYTES) ⊎ (IsClosedAt c 0 × IsClosedAt c 
 
 -- the gate at this place is open, and no slot of this device stands there
 pub record IsBadAt (c : List ℕ) (at : ℕ) : Type 0 where
-  pub gate : get_or c at 0 ≡ 165
+  pub gate : get_or c at 0 ≡ OPEN_GATE
   pub none : (slot : MasterSlot) → IsOpenAt c at slot → ⊥
 
 -- neither of two open slots may stand beside the other

@@ -1,6 +1,7 @@
 // What a scan reads of the device: a gate, a length, a body.
 ghost use Rattle.std.specs.Prelude.{◌≡◌, ◌≢◌, ◌⊎◌, ◌+◌, ◌<◌, ◌≤◌, ◌^◌, ℕ, true, false, length, slice_index, vec_len, IfOk, IfErr, IfSome, IfNone, OnOk, IsOk};
 ghost use Rattle.std.specs.Int.{w32, to_be_bytes};
+ghost use Rattle.mt_frame.specs.declared.TheConstants.{OPEN_GATE};
 ghost use Rattle.mt_base.specs.declared.refusal.Refusal.{Refusal};
 ghost use Rattle.mt_disk.specs.Disk.{Has, HasCause};
 ghost use Rattle.mt_log.specs.Quiet.{OnlyReads};
@@ -13,8 +14,8 @@ use mt_frame::{CLOSED_GATE, OPEN_GATE};
 // Whether an open gate stands at the place.
 pub(crate) fn gate_is_open<D: Device>(device: &mut D, at: u64) -> Result<bool, DeviceFault>
     requires { at < length (D.seen device.old) }
-    ensures open { IfOk result (λ is_open. is_open ≡ true → slice_index (D.seen device.old) at ≡ 165) }
-    ensures shut { IfOk result (λ is_open. is_open ≡ false → slice_index (D.seen device.old) at ≢ 165) }
+    ensures open { IfOk result (λ is_open. is_open ≡ true → slice_index (D.seen device.old) at ≡ OPEN_GATE) }
+    ensures shut { IfOk result (λ is_open. is_open ≡ false → slice_index (D.seen device.old) at ≢ OPEN_GATE) }
     ensures reads { OnlyReads D.seen D.may_leave D.moment D.left_since device.old device.new }
     ensures cause { HasCause (D.faults device.old) (D.faults device.new) result }
 {

@@ -1,6 +1,7 @@
 // What a scan keeps while it reads an area.
 ghost use Rattle.std.specs.Prelude.{◌≡◌, ◌≢◌, ◌⊎◌, ◌+◌, ◌<◌, ◌≤◌, ◌++◌, ℕ, List, true, false, length, slice_index, Ok, IfOk, IfErr, IfSome, IfNone, OnOk, IsOk};
 ghost use Rattle.std.specs.List.{AllByRecursion};
+ghost use Rattle.mt_frame.specs.declared.TheConstants.{OPEN_GATE};
 ghost use Rattle.mt_base.specs.declared.refusal.Refusal.{Refusal};
 ghost use Rattle.mt_frame.specs.declared.records.Record.{Record};
 ghost use Rattle.mt_frame.specs.Grammar.{IsBody};
@@ -119,7 +120,7 @@ impl Reading {
         ensures place { self.new.place ≡ self.old.place }
         ensures pages { self.new.pages ≡ self.old.pages }
         ensures more { result ≡ Ok true → self.old.next < self.new.next }
-        ensures ended { result ≡ Ok false → slice_index (D.seen device.old) self.new.next ≢ 165 }
+        ensures ended { result ≡ Ok false → slice_index (D.seen device.old) self.new.next ≢ OPEN_GATE }
         ensures bad { IfErr result (λ why. (at : ℕ) → why ≡ Refusal.BadFormat at
             → BreaksAt (D.seen device.old) self.old.place.start self.old.place.end self.old.pages at) }
         ensures cause { IfErr result (λ why. (why ≡ Refusal.NoMemory)

@@ -1,5 +1,5 @@
 ghost use Rattle.std.specs.Prelude.{◌≡◌, ◌≤◌, ◌<◌, IfOk, OnOk, IfErr, OnErr, All, map, length};
-ghost use Rattle.mt_base.specs.declared.limits.TheConstants.{MAX_RELATIONS};
+ghost use Rattle.mt_base.specs.declared.limits.TheConstants.{MAX_COUNTERS, MAX_RELATIONS};
 ghost use Rattle.mt_base.specs.Limits.{IsCounter, IsStep};
 ghost use Rattle.mt_model.specs.Model.{IsWithin, IsBase, IsInBounds, reply_of, base_after};
 ghost use Rattle.mt_model.specs.Rows.{IsOrdered};
@@ -32,7 +32,7 @@ impl Base {
         counters: &[(i64, i64, i64)],
     ) -> Result<Base, AllocError>
         requires relations { relations ≤ MAX_RELATIONS }
-        requires count { length counters.now ≤ 128 }
+        requires count { length counters.now ≤ MAX_COUNTERS }
         requires bounds { All (λ t. IsCounter t.0 t.1 t.2) counters.now }
         ensures relations { IfOk result (λ base. relations_of base ≡ relations) }
         ensures rows { IfOk result (λ base. length (rows_of base) ≡ 0) }

@@ -1,5 +1,6 @@
 -- Which slots of pages of records the entries of bucket pages name.
 use Rattle.std.specs.Prelude.{◌≡◌, ◌⊎◌, ℕ, ◌+◌, ◌*◌, ◌<◌, Bool, true, false, List, length, get_or}
+use Rattle.mt_replay.specs.declared.checking.TheConstants.{MAX_SLOTS}
 use Rattle.mt_base.specs.declared.numbers.RecordName.{RecordName}
 use Rattle.mt_bucket.specs.Page.{count_of}
 use Rattle.mt_index.specs.Checks.{bytes_of, entry_at}
@@ -7,7 +8,7 @@ use Rattle.mt_space.specs.Kinds.{kind}
 
 -- the place of a name among all slots of all pages
 abbrev pub place : RecordName → ℕ
-place name = 1022 * name.page + name.slot
+place name = MAX_SLOTS * name.page + name.slot
 
 -- one of the first n entries of a page names the place
 abbrev pub NamesPlace : List (List ℕ) → ℕ → ℕ → ℕ → Type 0
@@ -26,6 +27,6 @@ pub record MarksNamed (items : List (List ℕ)) (q n : ℕ) (old new : List Bool
 
 -- Marked are the places that entries of the first n pages name.
 pub record AreNamed (items : List (List ℕ)) (n : ℕ) (marks : List Bool) : Type 0 where
-  pub size : length marks ≡ 1022 * length items
+  pub size : length marks ≡ MAX_SLOTS * length items
   pub only : (at : ℕ) → get_or marks at false ≡ true → (q : ℕ) × (q < n) × IsNamedIn items q at
   pub named : (q : ℕ) → q < n → (at : ℕ) → IsNamedIn items q at → get_or marks at false ≡ true

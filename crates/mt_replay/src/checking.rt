@@ -1,5 +1,6 @@
 // Whether all pages of a device break no rule of their formats, whatever their bytes are.
 ghost use Rattle.std.specs.Prelude.{◌≡◌, ◌⊎◌, ◌+◌, ◌*◌, ◌<◌, ◌≤◌, ℕ, length, IfOk, IfSome, MatchBool, MatchOption};
+ghost use Rattle.mt_replay.specs.declared.checking.TheConstants.{MAX_SLOTS};
 ghost use Rattle.mt_base.specs.declared.limits.TheConstants.{MAX_PAGES, PAGE_BYTES};
 ghost use Rattle.mt_bucket.specs.Page.{count_of, IsBucket};
 ghost use Rattle.mt_index.specs.Checks.{bytes_of, IsSound};
@@ -23,7 +24,7 @@ const MAX_SLOTS: u16 = 1022;
 // The place of a slot among those of all pages.
 fn place_of(page: usize, slot: u16) -> usize
     requires { page < PAGE_BYTES }
-    ensures { result ≡ 1022 * page + slot }
+    ensures { result ≡ MAX_SLOTS * page + slot }
 {
     usize::from(MAX_SLOTS) * page + usize::from(slot)
 }
@@ -147,7 +148,7 @@ impl AllPages {
         requires names { AllNameRecords self.now.pages.items }
         requires bucket { kind (bytes_of self.now.pages.items) page ≡ 2 }
         requires inside { page < length self.now.pages.items }
-        requires size { length marks.old.items ≡ 1022 * length self.now.pages.items }
+        requires size { length marks.old.items ≡ MAX_SLOTS * length self.now.pages.items }
         ensures { MarksNamed self.now.pages.items page
             (count_of (bytes_of self.now.pages.items page)) marks.old.items marks.new.items }
     {
@@ -180,7 +181,7 @@ impl AllPages {
         requires marked { AreNamed self.now.pages.items (length self.now.pages.items) marks.now }
         requires inside { page < length self.now.pages.items }
         requires records { kind (bytes_of self.now.pages.items) page ≡ 3 }
-        requires slot { slot < 1022 }
+        requires slot { slot < MAX_SLOTS }
         ensures { MatchBool result (AreListedAt self.now.pages.items page slot)
             (AreListedAt self.now.pages.items page slot → ⊥) }
     {

@@ -1,6 +1,7 @@
 -- A device as it is formatted.
 use Rattle.std.specs.Prelude.{◌≡◌, ◌≢◌, ◌⊎◌, ◌<◌, ◌≤◌, ℕ, List, [], ◌∷◌, length, drop}
 use Rattle.std.proofs.Math.ListN.{get_or}
+use Rattle.mt_frame.specs.declared.TheConstants.{OPEN_GATE}
 use Rattle.mt_base.specs.declared.limits.TheConstants.{MASTER_BYTES, PAGE_BYTES}
 use Rattle.mt_bucket.specs.Page.{depth_of, next_of, entries, IsBucket}
 use Rattle.mt_disk.specs.Disk.{Has, Torn, Follows}
@@ -65,14 +66,14 @@ first_slot s = record { epoch = 1; area = 0; pages = pages_in s; mib = mib_in s 
 
 -- an empty open batch and a closed gate
 abbrev pub empty_area : List ℕ
-empty_area = 165 ∷ 0 ∷ 0 ∷ 0 ∷ 0 ∷ 0 ∷ []
+empty_area = OPEN_GATE ∷ 0 ∷ 0 ∷ 0 ∷ 0 ∷ 0 ∷ []
 
 -- The content of a device of this schema: master slot 0 rules, as the other one's gate is closed; log area 0 has nothing but its
 -- empty first batch; and the pages, of which those behind the first four are zero, hold the schema's first base.
 pub record IsFormattedAs (s : Schema) (c : List ℕ) : Type 0 where
   pub long : device_bytes s ≤ length c
   pub master : Has c 0 (slot_text (first_slot s))
-  pub other : get_or c PAGE_BYTES 0 ≢ 165
+  pub other : get_or c PAGE_BYTES 0 ≢ OPEN_GATE
   pub area : HoldsBatches c (pages_end s) (area_end s) (pages_in s) ([] ∷ [])
   pub pages : IsFormatted (relations_in s) (length (counters_in s)) (pages_in s) (slot MASTER_BYTES c)
   pub base : Holds (slot MASTER_BYTES c) (schema_base s)
@@ -96,8 +97,8 @@ ButForGates contents c = (d : List ℕ) × contents d × GatesTorn d c
 
 -- no master slot is open
 pub record IsShut (c : List ℕ) : Type 0 where
-  pub first : get_or c 0 0 ≢ 165
-  pub second : get_or c PAGE_BYTES 0 ≢ 165
+  pub first : get_or c 0 0 ≢ OPEN_GATE
+  pub second : get_or c PAGE_BYTES 0 ≢ OPEN_GATE
 
 -- all is there but the open gate
 pub record IsReady (s : Schema) (c : List ℕ) : Type 0 where

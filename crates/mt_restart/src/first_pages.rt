@@ -1,6 +1,6 @@
 // The pages of a device as it is formatted.
 ghost use Rattle.std.specs.Prelude.{◌≡◌, ◌+◌, ◌≤◌, ◌<◌, ℕ, length};
-ghost use Rattle.mt_base.specs.declared.limits.TheConstants.{PAGE_BYTES};
+ghost use Rattle.mt_base.specs.declared.limits.TheConstants.{MAX_COUNTERS, PAGE_BYTES};
 ghost use Rattle.mt_base.specs.Ranges.{Torn};
 ghost use Rattle.mt_index.specs.Pages.{AreZero};
 ghost use Rattle.mt_model.specs.Tables.{IsLimited};
@@ -51,7 +51,7 @@ fn put_number(page: &mut [u8], at: usize, number: i64)
 // Puts a counter into its place.
 fn put_counter(page: &mut [u8], counter: u16, count: &Count)
     requires whole { length page.old ≡ PAGE_BYTES }
-    requires there { counter < 128 }
+    requires there { counter < MAX_COUNTERS }
     ensures count { count_in page.new counter ≡ count.now }
     ensures rest { Torn (place_of counter) 24 page.old page.new }
 {

@@ -1,5 +1,6 @@
 // Workers that serve scripts over a shared kernel, beside one that tends it.
 ghost use Rattle.std.specs.Prelude.{◌+◌, ◌≤◌, ℕ, List, All, IfOk, length, map};
+ghost use Rattle.mt_base.specs.declared.limits.TheConstants.{MAX_SESSIONS};
 ghost use mathlib.Core.List.{IsPrefix};
 ghost use Rattle.mt_mark.specs.Rule.{dones};
 ghost use Rattle.mt_model.specs.declared.history.Committed.{Committed};
@@ -34,7 +35,7 @@ fn serve_next<D: Device, G: Gate + Drop, J: Naming, R: Wait>(
     pass: &mut Pass<J>,
     told: &mut Vec<Told>,
 ) -> Result<bool, AllocError>
-    requires few { length scripts.now ≤ 64 }
+    requires few { length scripts.now ≤ MAX_SESSIONS }
     ensures { IfOk result (λ _. AreHeard (map lines_in scripts.now) pass.old told.old.items
         → AreHeard (map lines_in scripts.now) pass.new told.new.items) }
 {
@@ -64,7 +65,7 @@ fn work<D: Device, G: Gate + Drop, J: Naming, R: Wait>(
     scripts: &[Script],
     pass: Pass<J>,
 ) -> Done<J>
-    requires few { length scripts.now ≤ 64 }
+    requires few { length scripts.now ≤ MAX_SESSIONS }
     requires fresh { IsNew J.book pass }
     ensures { HasDone (map lines_in scripts.now) result.0 result.1 }
 {
@@ -127,7 +128,7 @@ fn work_all<
     scripts: &[Script],
     passes: Vec<Pass<J>>,
 ) -> Result<Vec<Done<J>>, AllocError>
-    requires few { length scripts.now ≤ 64 }
+    requires few { length scripts.now ≤ MAX_SESSIONS }
     requires fresh { All (IsNew J.book) passes.items }
     ensures { IfOk result (λ done. All (λ d. HasDone (map lines_in scripts.now) d.0 d.1) done.items) }
 {
@@ -135,7 +136,7 @@ fn work_all<
         rt,
         passes,
         &|pass: Pass<J>| -> Done<J>
-            requires few { length scripts.now ≤ 64 }
+            requires few { length scripts.now ≤ MAX_SESSIONS }
             requires fresh { IsNew J.book pass }
             ensures { HasDone (map lines_in scripts.entry.now) result.0 result.1 }
         { work(rt, alloc, shared, queue, scripts, pass) },
@@ -173,7 +174,7 @@ pub(crate) fn crew<
     scripts: &[Script],
     passes: Vec<Pass<J>>,
 ) -> Result<Vec<Done<J>>, AllocError>
-    requires few { length scripts.now ≤ 64 }
+    requires few { length scripts.now ≤ MAX_SESSIONS }
     requires fresh { All (IsNew J.book) passes.items }
     ensures { IfOk result (λ done. All (λ d. HasDone (map lines_in scripts.now) d.0 d.1) done.items) }
 {
@@ -183,7 +184,7 @@ pub(crate) fn crew<
         rt,
         || tend(rt, alloc, shared, frames),
         move || -> Result<Vec<Done<J>>, AllocError>
-            requires few { length scripts.now ≤ 64 }
+            requires few { length scripts.now ≤ MAX_SESSIONS }
             requires fresh { All (IsNew J.book) passes.items }
             ensures { IfOk result (λ done. All (λ d. HasDone (map lines_in scripts.entry.now) d.0 d.1) done.items) }
         {

@@ -1,5 +1,6 @@
 // Scripts, served to a device by threads that share a kernel.
 ghost use Rattle.std.specs.Prelude.{◌≡◌, ◌<◌, ◌≤◌, ◌^◌, [], ℕ, List, All, IfErr, IfOk, length, map};
+ghost use Rattle.mt_base.specs.declared.limits.TheConstants.{MAX_SESSIONS};
 ghost use mathlib.Core.List.{IsPrefix};
 ghost use Rattle.mt_mark.specs.Rule.{dones};
 ghost use Rattle.mt_model.specs.declared.history.Committed.{Committed};
@@ -105,7 +106,7 @@ fn serve_named<
 ) -> Result<Served<D>, Refusal>
     requires name { (opened.mark ≡ J.mark) × (opened.base ≡ J.base) × (opened.book ≡ J.book) }
     requires first { opened.book ≡ [] }
-    requires few { length scripts.now ≤ 64 }
+    requires few { length scripts.now ≤ MAX_SESSIONS }
     requires blank { IsBlank (length scripts.now) board }
     ensures told { IfOk result (λ s.
         AreTold (is_failed s.kernel) (map lines_in scripts.now) s.transcripts.items s.kernel.parts.book.items) }
@@ -165,7 +166,7 @@ pub fn serve<D: Device + Drop + Send, G: Gate + Drop + Send + Sync, R: Threads +
     ensures told { IfOk result (λ s.
         AreTold (is_failed s.kernel) (map lines_in scripts.items) s.transcripts.items s.kernel.parts.book.items) }
     ensures began { IfOk result (λ s. IsServedOn D.seen D.may_leave (D.seen device) s.kernel) }
-    ensures few { IfOk result (λ _. length scripts.items ≤ 64) }
+    ensures few { IfOk result (λ _. length scripts.items ≤ MAX_SESSIONS) }
     ensures refused { IfErr result (IsUnserved (D.seen device) (length scripts.items)) }
 {
     if scripts.len() > MAX_SESSIONS {

@@ -1,6 +1,7 @@
 // Scripts, served to a kernel one after the other.
 ghost use Rattle.std.specs.Prelude.{◌≤◌, IfErr, IfOk, OnErr, OnOk, length, map};
 ghost use Rattle.std.specs.Io.KnownBytes.{Appends};
+ghost use Rattle.mt_base.specs.declared.limits.TheConstants.{MAX_SESSIONS};
 ghost use Rattle.mt_txn.specs.Shown.{SameSchema, StaysRestarting};
 ghost use Rattle.mt_script.specs.Answers.{AppendsFront};
 ghost use Rattle.mt_server.specs.Sessions.{AreCutShort, HaveServed, IsCutWithin, IsServed, StandsEach, lines_in, session_line};
@@ -72,7 +73,7 @@ pub fn run_sessions<D: Device + Drop, W: Write>(
     scripts: &[Script],
     writer: &mut W,
 ) -> Result<Kernel<D>, NotServed<D>>
-    requires few { length scripts.now ≤ 64 }
+    requires few { length scripts.now ≤ MAX_SESSIONS }
     ensures ran { IfOk result (λ n. StandsEach D.seen D.may_leave kernel
         (λ p. HaveServed D.seen D.may_leave p kernel (map lines_in scripts.now)
         (W.contents writer.old) (W.contents writer.new) n)) }

@@ -1,4 +1,5 @@
 ghost use Rattle.std.specs.Prelude.{◌≡◌, ◌==◌, map, ◌≤◌, ◌<◌, ◌+◌, ◌*◌, ◌-◌, ℕ, length, get_or, IfOk, IfErr, OnOk, OnErr, MatchOption, slice_set, true, false};
+ghost use Rattle.mt_space.specs.declared.space.TheConstants.{GROUP_PAGES};
 ghost use Rattle.mt_base.specs.declared.limits.TheConstants.{MAX_PAGES, PAGE_BYTES};
 ghost use Rattle.mt_base.specs.declared.refusal.Refusal.{Refusal};
 ghost use Rattle.mt_space.specs.Rooms.{is_free, free_in, reserved_of, free_of, mapped, IsFirstFree, HasNone, IsFirstIn};
@@ -170,8 +171,8 @@ fn note_free(pages: &mut [bool], kinds: &[u8])
 // Notes of each group whether one of its pages is free.
 fn note_groups(groups: &mut [bool], pages: &[bool])
     requires few { length pages.now ≤ MAX_PAGES }
-    requires few_groups { length groups.old ≤ 64 }
-    requires grouped { length pages.now ≤ 64 * length groups.old }
+    requires few_groups { length groups.old ≤ GROUP_PAGES }
+    requires grouped { length pages.now ≤ GROUP_PAGES * length groups.old }
     ensures size { length groups.new ≡ length groups.old }
     ensures covered { (group : ℕ) → get_or groups.new group false ≡ false → HasNone pages.now group }
 {
@@ -198,8 +199,8 @@ fn count_free(pages: &[bool]) -> u16
 // The free page with the smallest number.
 fn first_free(pages: &[bool], groups: &[bool]) -> usize
     requires few { length pages.now ≤ MAX_PAGES }
-    requires few_groups { length groups.now ≤ 64 }
-    requires grouped { length pages.now ≤ 64 * length groups.now }
+    requires few_groups { length groups.now ≤ GROUP_PAGES }
+    requires grouped { length pages.now ≤ GROUP_PAGES * length groups.now }
     requires covered { (group : ℕ) → get_or groups.now group false ≡ false → HasNone pages.now group }
     requires some { 0 < free_in pages.now }
     ensures { IsFirstFree pages.now result }

@@ -54,7 +54,7 @@ pub fn sizes(page: &[u8]) -> SchemaSizes
 /// A counter of the page.
 pub fn counter(page: &[u8], counter: CtrNo) -> Count
     requires whole { length page.now ≡ PAGE_BYTES }
-    requires there { counter < 128 }
+    requires there { counter < MAX_COUNTERS }
     ensures { result ≡ count_in page.now counter }
 {
     let at = COUNTERS_HEAD_BYTES + COUNTER_BYTES * usize::from(counter.get());
@@ -89,7 +89,7 @@ fn sum_of(count: &Count, step: i64) -> i64
 /// the page is as before. All other counters stay.
 pub fn add(page: &mut [u8], number: CtrNo, step: i64) -> bool
     requires whole { length page.old ≡ PAGE_BYTES }
-    requires there { number < 128 }
+    requires there { number < MAX_COUNTERS }
     requires limited { IsLimited (count_in page.old number) }
     requires step { IsStep step }
     ensures told { result ≡ stays (count_in page.old number) step }

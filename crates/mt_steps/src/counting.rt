@@ -1,6 +1,6 @@
 // Operations on counters.
 ghost use Rattle.std.specs.Prelude.{◌≡◌, ◌<◌, ◌≤◌, ℕ, [], length, None, IfOk, false};
-ghost use Rattle.mt_base.specs.declared.limits.TheConstants.{MAX_WRITTEN_PAGES};
+ghost use Rattle.mt_base.specs.declared.limits.TheConstants.{MAX_COUNTERS, MAX_WRITTEN_PAGES};
 ghost use Rattle.mt_steps.specs.Drafts.{AreAtHand};
 ghost use Rattle.mt_base.specs.Limits.{IsStep};
 ghost use Rattle.mt_base.specs.declared.modes.Mode.TheVariants.{Read as ToRead, Write as ToWrite};
@@ -69,7 +69,7 @@ pub(crate) fn add_to<V: Pages>(
 /// Plans to read a counter: the counters page is needed for read, and nothing changes.
 pub(crate) fn read_from<V: Pages>(alloc: Global, views: &V, number: CtrNo) -> Act
     requires sound { V.is_sound views.now }
-    requires there { number < 128 }
+    requires there { number < MAX_COUNTERS }
     requires inside { 2 < V.total views.now }
     ensures lock { IfLock result (λ p mode. (V.at_hand views.now p ≡ None) × (p ≡ 2)) }
     ensures mode { IfLock result (λ p mode. mode ≡ ToRead) }

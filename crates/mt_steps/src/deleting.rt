@@ -1,6 +1,6 @@
 // A row less.
 ghost use Rattle.std.specs.Prelude.{◌≡◌, ◌≤◌, ◌<◌, ℕ, Bool, [], List, Option, length, None, Some, IfOk, IsSome, false};
-ghost use Rattle.mt_base.specs.declared.limits.TheConstants.{MAX_WRITTEN_PAGES};
+ghost use Rattle.mt_base.specs.declared.limits.TheConstants.{MAX_KEY_BYTES, MAX_WRITTEN_PAGES};
 ghost use Rattle.mt_space.specs.Changes.{after, AreShort};
 ghost use Rattle.mt_base.specs.declared.modes.Mode.TheVariants.{Write as ToWrite};
 ghost use Rattle.mt_index.specs.Answers.{InMaps, IsInBucket};
@@ -32,7 +32,7 @@ pub(crate) fn delete<V: Pages>(
 ) -> Result<Act, AllocError>
     requires sound { V.is_sound views.now }
     requires good { ∥ ((relations : ℕ) × HasGood (V.at_hand views.now) relations (V.total views.now)) ∥₁ }
-    requires short { length key.now ≤ 64 }
+    requires short { length key.now ≤ MAX_KEY_BYTES }
     ensures lock { IfOk result (λ act. IfLock act (λ p mode. (V.at_hand views.now p ≡ None) ×
         (p < V.total views.now))) }
     ensures asks { (room : Option ℕ) (split : Bool) → IfOk result (λ act. IfLock act
@@ -72,7 +72,7 @@ fn delete_row<V: Pages>(
 ) -> Result<Act, AllocError>
     requires sound { V.is_sound views.now }
     requires good { ∥ ((relations : ℕ) × HasGood (V.at_hand views.now) relations (V.total views.now)) ∥₁ }
-    requires short { length key.now ≤ 64 }
+    requires short { length key.now ≤ MAX_KEY_BYTES }
     requires named { InMaps (V.at_hand views.now) (V.total views.now) (λ pages m. m relation key.now ≡ Some name.now) }
     ensures { IfOk result (Tells (V.at_hand views.now) (V.total views.now)
         (IsWanted (V.at_hand views.now) (V.total views.now) IsAny (IsForDelete relation key.now))
@@ -105,7 +105,7 @@ fn drop_entry<V: Pages>(
     requires there { AreAtHand (V.at_hand views.now) first.list.items }
     requires few { length first.list.items ≤ 1 }
     requires seen { IsSome (V.at_hand views.now name.now.page) }
-    requires short { length key.now ≤ 64 }
+    requires short { length key.now ≤ MAX_KEY_BYTES }
     requires good { ∥ ((relations : ℕ) × HasGood (V.at_hand views.now) relations (V.total views.now)
         × InGood (V.at_hand views.now) relations (V.total views.now) (λ pages m. (m relation key.now ≡ Some name.now)
         × IsTaken pages first.list.items name.now (record { relation = relation; key = key.now; value = old }))) ∥₁ }

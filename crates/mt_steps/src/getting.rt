@@ -1,5 +1,6 @@
 // A read of a row.
 ghost use Rattle.std.specs.Prelude.{◌≡◌, ◌≤◌, ◌<◌, [], ℕ, Bool, Option, length, None, IfOk};
+ghost use Rattle.mt_base.specs.declared.limits.TheConstants.{MAX_KEY_BYTES};
 ghost use Rattle.mt_base.specs.declared.modes.Mode.TheVariants.{Read};
 ghost use Rattle.mt_space.specs.Changes.{after, AreShort};
 ghost use Rattle.mt_model.specs.declared.operations.Op.TheVariants.{Get};
@@ -25,7 +26,7 @@ pub(crate) fn get<V: Pages>(
 ) -> Result<Act, AllocError>
     requires sound { V.is_sound views.now }
     requires good { ∥ ((relations : ℕ) × HasGood (V.at_hand views.now) relations (V.total views.now)) ∥₁ }
-    requires short { length key.now ≤ 64 }
+    requires short { length key.now ≤ MAX_KEY_BYTES }
     ensures lock { IfOk result (λ act. IfLock act (λ p mode. (V.at_hand views.now p ≡ None) ×
         (p < V.total views.now))) }
     ensures asks { (room : Option ℕ) (split : Bool) → IfOk result (λ act. IfLock act

@@ -1,6 +1,6 @@
 // A row more.
 ghost use Rattle.std.specs.Prelude.{◌≡◌, ◌⊎◌, ◌≤◌, ◌<◌, ℕ, [], List, Option, length, None, IfOk, IsSome, cond};
-ghost use Rattle.mt_base.specs.declared.limits.TheConstants.{MAX_VALUE_BYTES, MAX_WRITTEN_PAGES};
+ghost use Rattle.mt_base.specs.declared.limits.TheConstants.{MAX_KEY_BYTES, MAX_VALUE_BYTES, MAX_WRITTEN_PAGES};
 ghost use Rattle.mt_base.specs.Limits.{IsKey, IsValue};
 ghost use Rattle.mt_slots.specs.Page.{Fits, row_length};
 ghost use Rattle.mt_space.specs.Changes.{PageBytes, Agrees, after, AreShort};
@@ -125,7 +125,7 @@ fn add_entry<V: Pages>(
     requires few { length plan.changes.list.items ≤ 2 }
     requires seen { IsSome (V.at_hand views.now plan.name.page) }
     requires relation_fits { relation < 256 }
-    requires short { length key.now ≤ 64 }
+    requires short { length key.now ≤ MAX_KEY_BYTES }
     requires good { ∥ ((relations : ℕ) × (room : Option ℕ) × (value : List ℕ)
         × HasRoomy (V.at_hand views.now) room relations (V.total views.now)
         × InRoomy (V.at_hand views.now) room relations (V.total views.now) (λ pages m.

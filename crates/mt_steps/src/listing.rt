@@ -1,6 +1,6 @@
 // The base that pages hold, listed in order.
 ghost use Rattle.std.specs.Prelude.{◌≡◌, ◌+◌, ◌<◌, ◌≤◌, ℕ, ℤ, List, length, get_or, None, IfOk, OnOk, IfErr};
-ghost use Rattle.mt_base.specs.declared.limits.TheConstants.{MAX_VALUE_BYTES};
+ghost use Rattle.mt_base.specs.declared.limits.TheConstants.{MAX_RELATIONS, MAX_VALUE_BYTES};
 ghost use Rattle.mt_file.specs.File.{record_in};
 ghost use Rattle.mt_model.specs.Model.{Base as ModelBase, base_after};
 ghost use Rattle.mt_model.specs.Views.{base_of, counters_of, relations_of};
@@ -33,7 +33,7 @@ fn bounds_in(alloc: Global, page: &[u8], counters: u16) -> Result<Vec<(i64, i64,
 
 /// A base without rows, of the relations and counters that a counters page tells. The only error is want of memory.
 pub fn base_without_rows(alloc: Global, page: &[u8]) -> Result<Base, AllocError>
-    requires few { get_or page.now 0 0 ≤ 64 }
+    requires few { get_or page.now 0 0 ≤ MAX_RELATIONS }
     requires counted { AreCounters (get_or page.now 0 0) (get_or page.now 1 0) page.now }
     ensures relations { IfOk result (λ base. relations_of base ≡ get_or page.now 0 0) }
     ensures counters { IfOk result (λ base. length (counters_of base) ≡ get_or page.now 1 0) }

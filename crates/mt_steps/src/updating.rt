@@ -1,6 +1,6 @@
 // Another value in a row.
 ghost use Rattle.std.specs.Prelude.{◌≡◌, ◌≢◌, ◌⊎◌, ◌≤◌, ◌<◌, ℕ, Bool, [], List, Option, length, None, Some, IfOk, IsSome, MatchBool, false};
-ghost use Rattle.mt_base.specs.declared.limits.TheConstants.{MAX_VALUE_BYTES, MAX_WRITTEN_PAGES};
+ghost use Rattle.mt_base.specs.declared.limits.TheConstants.{MAX_KEY_BYTES, MAX_VALUE_BYTES, MAX_WRITTEN_PAGES};
 ghost use Rattle.mt_base.specs.Limits.{IsValue};
 ghost use Rattle.mt_base.specs.declared.numbers.RecordName.{RecordName};
 ghost use Rattle.mt_slots.specs.Page.{Fits, row_length};
@@ -38,7 +38,7 @@ pub(crate) fn update<V: Pages>(
 ) -> Result<Act, AllocError>
     requires sound { V.is_sound views.now }
     requires good { ∥ ((relations : ℕ) × HasRoomy (V.at_hand views.now) room relations (V.total views.now)) ∥₁ }
-    requires short { length key.now ≤ 64 }
+    requires short { length key.now ≤ MAX_KEY_BYTES }
     requires value_fits { IsValue value.now }
     ensures lock { IfOk result (λ act. IfLock act (λ p mode. (V.at_hand views.now p ≡ None) ×
         (p < V.total views.now))) }
@@ -87,7 +87,7 @@ fn update_row<V: Pages>(
 ) -> Result<Act, AllocError>
     requires sound { V.is_sound views.now }
     requires good { ∥ ((relations : ℕ) × HasRoomy (V.at_hand views.now) room relations (V.total views.now)) ∥₁ }
-    requires short { length key.now ≤ 64 }
+    requires short { length key.now ≤ MAX_KEY_BYTES }
     requires value_fits { IsValue value.now }
     requires named { InMaps (V.at_hand views.now) (V.total views.now) (λ pages m. m relation key.now ≡ Some name.now) }
     ensures { IfOk result (Tells (V.at_hand views.now) (V.total views.now)
@@ -137,7 +137,7 @@ fn set_entry<V: Pages>(
     requires there { AreAtHand (V.at_hand views.now) plan.changes.list.items }
     requires few { length plan.changes.list.items ≤ 3 }
     requires seen { IsSome (V.at_hand views.now plan.name.page) }
-    requires short { length key.now ≤ 64 }
+    requires short { length key.now ≤ MAX_KEY_BYTES }
     requires good { ∥ ((relations : ℕ) × (room : Option ℕ) × (name : RecordName) × (value : List ℕ)
         × HasRoomy (V.at_hand views.now) room relations (V.total views.now)
         × InRoomy (V.at_hand views.now) room relations (V.total views.now) (λ pages m.

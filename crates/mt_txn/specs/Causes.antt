@@ -77,7 +77,7 @@ survey_cause failed k = if failed then Some refusal.DeviceFailed else if nat_eq 
 
 -- it has called as many operations as it may, or 2^40 were called by all
 abbrev pub count_cause : {D : Type 0} → Parts D → ℕ → Option Refusal
-count_cause k t = if nat_le MAX_OPERATIONS (length (calls_of k.live.members t)) || nat_le (2 ^ 40) k.last then Some refusal.TooManyOperations else None
+count_cause k t = if nat_le MAX_OPERATIONS (length (calls_of k.live.members t)) || nat_le MAX_BEGUN k.last then Some refusal.TooManyOperations else None
 
 -- ---- the operation
 

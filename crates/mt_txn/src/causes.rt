@@ -1,5 +1,6 @@
 // Why calls are refused, before they ask locks, escrow, pages and log.
 ghost use Rattle.std.specs.Prelude.{◌≡◌, ◌≢◌, ◌<◌, ◌^◌, All, IfNone, None, Some, false, true};
+ghost use Rattle.mt_base.specs.declared.limits.TheConstants.{MAX_BEGUN};
 ghost use Rattle.mt_kernel.specs.Runs.{state_in};
 ghost use Rattle.mt_kernel.specs.declared.parts.Running.{Running};
 ghost use Rattle.mt_live.specs.declared.transactions.TxnState.TheVariants.{Open, Aborting};
@@ -90,7 +91,7 @@ impl<D: Device> Kernel<D> {
     fn count_cause(&self, txn: TxnNo) -> Option<Refusal>
         requires opened { state_in self.now.parts.live.members txn ≡ Some Open }
         ensures cause { result ≡ count_cause self.now.parts txn }
-        ensures few { IfNone result (self.now.parts.last < 2 ^ 40) }
+        ensures few { IfNone result (self.now.parts.last < MAX_BEGUN) }
     {
         if MAX_OPERATIONS <= self.parts.live().count_ended(txn) || MAX_BEGUN <= self.parts.last() {
             Some(Refusal::TooManyOperations)
@@ -105,7 +106,7 @@ impl<D: Device> Kernel<D> {
             (is_failed self.now) self.now.parts txn op.now }
         ensures opened { IfNone result (state_in self.now.parts.live.members txn ≡ Some Open) }
         ensures idle { IfNone result (All (λ (r : Running). r.scope.txn ≢ txn) self.now.parts.running.items) }
-        ensures few { IfNone result (self.now.parts.last < 2 ^ 40) }
+        ensures few { IfNone result (self.now.parts.last < MAX_BEGUN) }
         ensures named { IfNone result (IsNamed self.now.relations self.now.counters op.now) }
         ensures sized { IfNone result (IsSized op.now) }
     {

@@ -1,17 +1,21 @@
 -- What a call does that goes on with an operation or takes a page of it back: all its clauses in one relation, for those who pass them on.
-use Rattle.std.specs.Prelude.{◌≡◌, ◌≤◌, ◌+◌, ℕ, List, Option, None, Some, Result, Ok, IfErr, OnErr}
+use Rattle.std.specs.Prelude.{◌≡◌, ◌≤◌, ◌+◌, ℕ, List, [], Bool, true, false, Option, None, Some, Result, Ok, IfErr, OnErr, length, get_or}
 use Rattle.mt_base.specs.declared.limits.TheConstants.{MAX_COUNTERS, MAX_RELATIONS}
 use Rattle.mt_base.specs.declared.refusal.Refusal.{Refusal}
 use Rattle.mt_base.specs.declared.refusal.Refusal.TheVariants as refusal
-use Rattle.mt_disk.specs.Disk.{LeavesOnly}
+use Rattle.mt_disk.specs.Disk.{LeavesOnly, HasCause}
 use Rattle.mt_log.specs.Words.{appended, durable, used, area_size}
-use Rattle.mt_space.specs.Changes.{PageBytes}
+use Rattle.mt_space.specs.Changes.{PageBytes, Agrees, AreShort}
+use Rattle.mt_space.specs.declared.changes.PageChange.{PageChange}
 use Rattle.mt_pool.specs.Kept.{IsKept, Explains}
-use Rattle.mt_pool.specs.Views.{IsFull}
+use Rattle.mt_plock.specs.Releasing.{locks_without}
+use Rattle.mt_pool.specs.Views.{IsFull, IsThere}
 use Rattle.mt_steps.specs.Plans.{own_needs}
-use Rattle.mt_op.specs.World.{IsUnderWay}
+use Rattle.mt_op.specs.World.{IsUnderWay, looked, changes_in}
 use Rattle.mt_op.specs.Operations.{world, IsRight, Goes, GoesOn, Steps, GivesBack, IsPlannedOn, HasBudget, IsAsFar, IsCause, claimed}
-use Rattle.mt_op.specs.Holds.{IsNext, AsksNothing, KeepsLocks, KeepsLocksOn, KeepsScope, KeepsScopeOn}
+use Rattle.mt_op.specs.Holds.{IsAnew, IsNext, AsksNothing, KeepsLocks, KeepsLocksOn, KeepsScope, KeepsScopeOn}
+use Rattle.mt_op.specs.Moves.{Leaves, PutsBack, Rests}
+use Rattle.mt_op.specs.Room.{HasFollowed, HasRooms}
 use Rattle.mt_op.specs.Records.{KeepsRecords, TellsDropped}
 use Rattle.mt_op.specs.Work.{Works, WorksOn, ComesTo}
 use Rattle.mt_op.specs.Faults.{TellsFaults}
@@ -125,3 +129,64 @@ pub record PlansOn {D : Type 0} (seen : D → List ℕ) (may_leave : D → List 
   pub scope : KeepsScopeOn s t r
   pub why : IfErr r IsCause
   pub faults : TellsFaults (failures o.store.device) (failures n.store.device) r
+
+-- a page comes into a frame, or every frame holds a page that is yet to be flushed
+pub record BringsPage {D : Type 0} (seen : D → List ℕ) (may_leave : D → List ℕ → Type 0) (moment : D → ℕ) (left_since : D → ℕ → List ℕ → Type 0) (failures : D → ℕ) (o n : Operations D) (page : ℕ) (r : Result Bool Refusal) : Type 0 where
+  pub right : (opening : PageBytes) (relations counters : ℕ) → IsRight seen may_leave opening relations counters o → IsRight seen may_leave opening relations counters n
+  pub kept : (opening : PageBytes) → IsKept seen may_leave opening o.store → IsKept seen may_leave opening n.store
+  pub rests : (opening : PageBytes) → Rests (world seen opening o) (world seen opening n)
+  pub moments : (opening : PageBytes) → IsKept seen may_leave opening o.store → LeavesOnly moment left_since o.store.device n.store.device (Explains opening o.store)
+  pub there : r ≡ Ok true → IsThere n.store.pool page
+  pub full : r ≡ Ok false → IsFull o.store.pool × (n ≡ o)
+  pub place : n.store.pool.place ≡ o.store.pool.place
+  pub log : n.store.log ≡ o.store.log
+  pub locks : n.locks ≡ o.locks
+  pub map : n.map ≡ o.map
+  pub rooms : n.rooms ≡ o.rooms
+  pub waits : n.store.pool.waits ≡ o.store.pool.waits
+  pub flush : n.store.pool.dirty ≡ o.store.pool.dirty
+  pub only_device : IfErr r (λ why. why ≡ refusal.DeviceFailed)
+  pub cause : HasCause (failures o.store.device) (failures n.store.device) r
+
+-- a page in a frame is as the operation looked at it
+pub record ReturnsPage {D : Type 0} (seen : D → List ℕ) (may_leave : D → List ℕ → Type 0) (o n : Operations D) (s : OpScope) (page : ℕ) : Type 0 where
+  pub kept : (opening : PageBytes) → IsKept seen may_leave opening o.store → IsKept seen may_leave opening n.store
+  pub back : (opening : PageBytes) (c : PageChange) → c.page ≡ page → PutsBack (world seen opening o) (world seen opening n) s c []
+  pub device : n.store.device ≡ o.store.device
+  pub log : n.store.log ≡ o.store.log
+  pub locks : n.locks ≡ o.locks
+  pub map : n.map ≡ o.map
+  pub rooms : n.rooms ≡ o.rooms
+
+-- an operation's locks are given back, and it begins anew
+pub record BeginsAnew {D : Type 0} (seen : D → List ℕ) (o n : Operations D) (s t : OpScope) : Type 0 where
+  pub leaves : (opening : PageBytes) → Leaves (world seen opening o) (world seen opening n) s
+  pub anew : IsAnew s t
+  pub store : n.store ≡ o.store
+  pub map : n.map ≡ o.map
+  pub rooms : n.rooms ≡ o.rooms
+
+-- an operation's locks are given back, and it is spent
+pub record Releases {D : Type 0} (seen : D → List ℕ) (o n : Operations D) (s : OpScope) : Type 0 where
+  pub leaves : (opening : PageBytes) → Leaves (world seen opening o) (world seen opening n) s
+  pub locks : n.locks ≡ locks_without s.number o.locks
+  pub store : n.store ≡ o.store
+  pub map : n.map ≡ o.map
+  pub rooms : n.rooms ≡ o.rooms
+
+-- what each page takes is noted that the operation looked at and may have changed
+pub record NotesLooked {D : Type 0} (o n : Operations D) (s : OpScope) : Type 0 where
+  pub store : n.store ≡ o.store
+  pub locks : n.locks ≡ o.locks
+  pub map : n.map ≡ o.map
+  pub rooms : length n.rooms ≡ length o.rooms
+  pub noted : HasFollowed s o.map.kinds o.rooms n.rooms
+
+-- what each page takes is noted that the operation looked at, and of no other page
+pub record NotesEach {D : Type 0} (o n : Operations D) (s : OpScope) : Type 0 where
+  pub store : n.store ≡ o.store
+  pub locks : n.locks ≡ o.locks
+  pub map : n.map ≡ o.map
+  pub rooms : length n.rooms ≡ length o.rooms
+  pub noted : (pages : PageBytes) → Agrees (looked s) pages → AreShort (changes_in s) pages → HasRooms s o.map.kinds n.rooms pages
+  pub others : (p : ℕ) → looked s p ≡ None → get_or n.rooms p 0 ≡ get_or o.rooms p 0

@@ -32,26 +32,7 @@ impl<D: Device> Operations<D> {
     pub(crate) fn bring(&mut self, page: PageNo) -> Result<bool, Refusal>
         requires kept { HasOpening D.seen D.may_leave self.old.store }
         requires inside { page < pages self.old.store.pool }
-        ensures right { (opening : PageBytes) (relations counters : ℕ)
-            → IsRight D.seen D.may_leave opening relations counters self.old
-            → IsRight D.seen D.may_leave opening relations counters self.new }
-        ensures kept { (opening : PageBytes) → IsKept D.seen D.may_leave opening self.old.store
-            → IsKept D.seen D.may_leave opening self.new.store }
-        ensures rests { (opening : PageBytes) → Rests (world D.seen opening self.old) (world D.seen opening self.new) }
-        ensures moments { (opening : PageBytes) → IsKept D.seen D.may_leave opening self.old.store
-            → LeavesOnly D.moment D.left_since self.old.store.device self.new.store.device
-            (Explains opening self.old.store) }
-        ensures there { result ≡ Ok true → IsThere self.new.store.pool page }
-        ensures full { result ≡ Ok false → IsFull self.old.store.pool × (self.new ≡ self.old) }
-        ensures place { self.new.store.pool.place ≡ self.old.store.pool.place }
-        ensures log { self.new.store.log ≡ self.old.store.log }
-        ensures locks { self.new.locks ≡ self.old.locks }
-        ensures map { self.new.map ≡ self.old.map }
-        ensures rooms { self.new.rooms ≡ self.old.rooms }
-        ensures waits { self.new.store.pool.waits ≡ self.old.store.pool.waits }
-        ensures flush { self.new.store.pool.dirty ≡ self.old.store.pool.dirty }
-        ensures only_device { IfErr result (λ why. why ≡ Refusal.DeviceFailed) }
-        ensures cause { HasCause (D.faults self.old.store.device) (D.faults self.new.store.device) result }
+        ensures { BringsPage D.seen D.may_leave D.moment D.left_since D.faults self.old self.new page result }
     {
         match self.store.fetch(page) {
             Ok(Fetched::There) => Ok(true),
@@ -158,12 +139,7 @@ impl<D: Device> Operations<D> {
     // Gives all locks of an operation back, and forgets what it looked at.
     fn begin_again(&mut self, scope: &mut OpScope)
         requires locks { locks_of scope.old.number self.old.locks ≡ scope.old.guards.items }
-        ensures leaves { (opening : PageBytes) → Leaves (world D.seen opening self.old) (world D.seen opening self.new)
-            scope.old }
-        ensures anew { IsAnew scope.old scope.new }
-        ensures store { self.new.store ≡ self.old.store }
-        ensures map { self.new.map ≡ self.old.map }
-        ensures rooms { self.new.rooms ≡ self.old.rooms }
+        ensures { BeginsAnew D.seen self.old self.new scope.old scope.new }
     {
         let none = Vec::new(*scope.guards.allocator());
         let guards = replace(&mut scope.guards, none);

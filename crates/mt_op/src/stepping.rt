@@ -161,11 +161,7 @@ impl<D: Device> Operations<D> {
         requires whole { (p : ℕ) (bytes : List ℕ) → looked scope.now p ≡ Some bytes → length bytes ≡ PAGE_BYTES }
         requires inside { (p : ℕ) → IsSome (looked scope.now p) → p < length self.old.rooms }
         requires few { length self.old.rooms ≤ PAGE_BYTES }
-        ensures store { self.new.store ≡ self.old.store }
-        ensures locks { self.new.locks ≡ self.old.locks }
-        ensures map { self.new.map ≡ self.old.map }
-        ensures rooms { length self.new.rooms ≡ length self.old.rooms }
-        ensures noted { HasFollowed scope.now self.old.map.kinds self.old.rooms self.new.rooms }
+        ensures { NotesLooked self.old self.new scope.now }
     {
         if !scope.changes.list.is_empty() {
             self.note_each(scope);
@@ -180,14 +176,7 @@ impl<D: Device> Operations<D> {
         requires whole { (p : ℕ) (bytes : List ℕ) → looked scope.now p ≡ Some bytes → length bytes ≡ PAGE_BYTES }
         requires inside { (p : ℕ) → IsSome (looked scope.now p) → p < length self.old.rooms }
         requires few { length self.old.rooms ≤ PAGE_BYTES }
-        ensures store { self.new.store ≡ self.old.store }
-        ensures locks { self.new.locks ≡ self.old.locks }
-        ensures map { self.new.map ≡ self.old.map }
-        ensures rooms { length self.new.rooms ≡ length self.old.rooms }
-        ensures noted { (pages : PageBytes) → Agrees (looked scope.now) pages → AreShort (changes_in scope.now) pages
-            → HasRooms scope.now self.old.map.kinds self.new.rooms pages }
-        ensures others { (p : ℕ) → looked scope.now p ≡ None
-            → get_or self.new.rooms p 0 ≡ get_or self.old.rooms p 0 }
+        ensures { NotesEach self.old self.new scope.now }
     {
         for guard in &scope.guards {
             let page = guard.lock().page;

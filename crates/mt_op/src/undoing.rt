@@ -109,15 +109,7 @@ impl<D: Device> Operations<D> {
         requires inside { page < pages self.old.store.pool }
         requires there { IsThere self.old.store.pool page }
         requires logged { 0 < waits_for self.old.store.pool page }
-        ensures kept { (opening : PageBytes) → IsKept D.seen D.may_leave opening self.old.store
-            → IsKept D.seen D.may_leave opening self.new.store }
-        ensures back { (opening : PageBytes) (c : PageChange) → c.page ≡ page → PutsBack (world D.seen opening self.old)
-            (world D.seen opening self.new) scope.now c [] }
-        ensures device { self.new.store.device ≡ self.old.store.device }
-        ensures log { self.new.store.log ≡ self.old.store.log }
-        ensures locks { self.new.locks ≡ self.old.locks }
-        ensures map { self.new.map ≡ self.old.map }
-        ensures rooms { self.new.rooms ≡ self.old.rooms }
+        ensures { ReturnsPage D.seen D.may_leave self.old self.new scope.now page }
     {
         match scope.seen.page(page) {
             Some(before) => self.store.restore(page, 0, before),
@@ -223,12 +215,7 @@ impl<D: Device> Operations<D> {
     // Gives the operation's locks back, and spends it. The memory of its copies is kept for those of others.
     fn release(&mut self, scope: OpScope)
         requires locks { locks_of scope.number self.old.locks ≡ scope.guards.items }
-        ensures leaves { (opening : PageBytes) → Leaves (world D.seen opening self.old) (world D.seen opening self.new)
-            scope }
-        ensures locks { self.new.locks ≡ locks_without scope.number self.old.locks }
-        ensures store { self.new.store ≡ self.old.store }
-        ensures map { self.new.map ≡ self.old.map }
-        ensures rooms { self.new.rooms ≡ self.old.rooms }
+        ensures { Releases D.seen self.old self.new scope }
     {
         let (guards, seen) = scope.into_guards_and_copies();
         self.locks.release_all(guards);

@@ -1,10 +1,11 @@
 -- What a device in memory holds, and what a crash may leave of it.
-use Rattle.std.specs.Prelude.{◌<◌, ◌≡◌, ◌⊎◌, ℕ, ◌+◌, ◌-◌, ◌≤◌, List, [], ◌∷◌, length, drop, vec_len}
+use Rattle.std.specs.Prelude.{◌<◌, ◌≡◌, ◌⊎◌, ℕ, ◌+◌, ◌-◌, ◌≤◌, List, [], ◌∷◌, length, drop, vec_len, ◌++◌}
 use Rattle.std.proofs.Common.{sym, ◌∙◌}
 use mathlib.Core.Logic.{inl, inr}
 use Rattle.mt_disk.specs.Unsynced.{Unsynced}
 use Rattle.mt_disk.specs.declared.memory.State.{State}
 use Rattle.mt_disk.specs.declared.memory.MemDevice.{MemDevice}
+use Rattle.mt_disk.specs.Disk.{Wrote}
 
 -- one write more of n bytes fits
 abbrev pub HasRoom : State → ℕ → Type 0
@@ -67,3 +68,21 @@ only_present s past c (inr had) = absurd (none_left past c had)
 
 pub same_size : (s : State) (c : List ℕ) → Leaves s c → length c ≡ length s.bytes.items
 same_size s c left = left.size ∙ sym s.present.size
+
+-- bytes are written, and the write is noted
+pub record PutsBytes (s t : State) (at : ℕ) (bytes : List ℕ) : Type 0 where
+  pub wrote : Wrote at bytes s.bytes.items t.bytes.items
+  pub noted : t.writes.items ≡ s.writes.items ++ record { at = at; len = length bytes; from = vec_len s.written } ∷ []
+  pub kept : t.written.items ≡ s.written.items ++ bytes
+  pub synced : t.synced.items ≡ s.synced.items
+  pub writes_room : t.writes_room ≡ s.writes_room
+  pub bytes_room : t.bytes_room ≡ s.bytes_room
+
+-- what was written is the content of the last sync
+pub record Settles (s t : State) : Type 0 where
+  pub bytes : t.bytes.items ≡ s.bytes.items
+  pub synced : t.synced.items ≡ s.bytes.items
+  pub writes : t.writes.items ≡ []
+  pub written : t.written.items ≡ []
+  pub writes_room : t.writes_room ≡ s.writes_room
+  pub bytes_room : t.bytes_room ≡ s.bytes_room

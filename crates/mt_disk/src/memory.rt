@@ -1,4 +1,4 @@
-ghost use Rattle.std.specs.Prelude.{◌≡◌, ℕ, ◌+◌, ◌≤◌, [], ◌∷◌, ◌++◌, length, vec_len, vec_capacity, IfOk, IsTrue, ◌↔◌, All, replicate};
+ghost use Rattle.std.specs.Prelude.{◌≡◌, ℕ, ◌+◌, ◌≤◌, ◌++◌, length, vec_len, vec_capacity, IfOk, IsTrue, ◌↔◌, All, replicate};
 ghost use Rattle.mt_disk.specs.Unsynced.{Unsynced, IsInside};
 ghost use Rattle.mt_disk.specs.Disk.{Wrote};
 ghost use Rattle.mt_disk.specs.Crash.{InTurn, front_half, all_bytes};
@@ -55,7 +55,7 @@ pub(crate) struct State {
 }
 
 impl State {
-    ghost use Rattle.mt_disk.specs.Memory.{HasRoom};
+    ghost use Rattle.mt_disk.specs.Memory.{HasRoom, PutsBytes, Settles};
     ghost use Rattle.mt_disk.specs.LeftBy.{LeftInTurn};
 
     /// Whether one write more of this many bytes fits.
@@ -69,13 +69,7 @@ impl State {
     fn put(&mut self, at: usize, new: &[u8])
         requires range { at + length new.now ≤ length self.old.bytes.items }
         requires room { HasRoom self.old (length new.now) }
-        ensures wrote { Wrote at new.now self.old.bytes.items self.new.bytes.items }
-        ensures noted { self.new.writes.items ≡ self.old.writes.items
-            ++ record { at = at; len = length new.now; from = vec_len self.old.written } ∷ [] }
-        ensures kept { self.new.written.items ≡ self.old.written.items ++ new.now }
-        ensures synced { self.new.synced.items ≡ self.old.synced.items }
-        ensures writes_room { self.new.writes_room ≡ self.old.writes_room }
-        ensures bytes_room { self.new.bytes_room ≡ self.old.bytes_room }
+        ensures { PutsBytes self.old self.new at new.now }
     {
         let from = self.written.len();
         append(&mut self.written, new);
@@ -90,12 +84,7 @@ impl State {
     /// Makes what was written the content of the last sync. It copies the ranges of the writes since
     /// the one before, and no other byte.
     fn settle(&mut self)
-        ensures bytes { self.new.bytes.items ≡ self.old.bytes.items }
-        ensures synced { self.new.synced.items ≡ self.old.bytes.items }
-        ensures writes { self.new.writes.items ≡ [] }
-        ensures written { self.new.written.items ≡ [] }
-        ensures writes_room { self.new.writes_room ≡ self.old.writes_room }
-        ensures bytes_room { self.new.bytes_room ≡ self.old.bytes_room }
+        ensures { Settles self.old self.new }
     {
         copy_ranges(
             &mut self.synced,

@@ -1,13 +1,13 @@
 -- What steps do that the public ones share.
-use Rattle.std.specs.Prelude.{ℕ, ◌≡◌, IfErr, List, Ok, Result, length, slice_index_or}
+use Rattle.std.specs.Prelude.{ℕ, ◌≡◌, IfErr, List, Ok, Result, length, slice_index_or, ◌≤◌, ◌∷◌}
 use Rattle.mt_base.specs.declared.refusal.Refusal.{Refusal}
-use Rattle.mt_kernel.specs.Consistent.{Advances, AtPlace, GoesBack, IsConsistent, Origin, state_of}
-use Rattle.mt_kernel.specs.Restartable.{QuietlyAppends, StepAppends}
+use Rattle.mt_kernel.specs.Consistent.{Advances, AtPlace, GoesBack, IsConsistent, Origin, state_of, EndsIn, IsReadyAt, SameStates, UndoesIn, DropsIn, IsClearedAt, BooksIn, SameUncommitted}
+use Rattle.mt_kernel.specs.Restartable.{QuietlyAppends, StepAppends, NotesEnd, NotesUndone, StaysRestartable}
 use Rattle.mt_kernel.specs.Steps.{LeavesExplained, TellsOther, WantsFrame}
 use Rattle.mt_kernel.specs.declared.parts.Parts.{Parts}
 use Rattle.mt_kernel.specs.declared.parts.Running.{Running}
 use Rattle.mt_log.specs.Words.{durable}
-use Rattle.mt_kernel.specs.Work.{LeavesStanding}
+use Rattle.mt_kernel.specs.Work.{LeavesStanding, LeavesUndo}
 use Rattle.mt_model.specs.Model.{Base}
 use Rattle.mt_op.specs.Faults.{TellsFaults}
 use Rattle.mt_op.specs.Holds.{IsNext, KeepsLocks}
@@ -18,6 +18,10 @@ use Rattle.mt_op.specs.declared.answers.Stepped.{Stepped}
 use Rattle.mt_op.specs.declared.answers.Stepped.TheVariants as stepped
 use Rattle.mt_op.specs.declared.answers.TakenBack.{TakenBack}
 use Rattle.mt_op.specs.declared.answers.TakenBack.TheVariants as back
+use Rattle.mt_model.specs.declared.operations.Reply.{Reply}
+use Rattle.mt_plock.specs.Releasing.{locks_without}
+use Rattle.std.specs.List.{remove}
+use Rattle.mt_kernel.specs.declared.parts.Commit.{Commit}
 
 module _ {D : Type 0} (seen : D → List ℕ) (may_leave : D → List ℕ → Type 0) (failures : D → ℕ) (moment : D → ℕ) (left_since : D → ℕ → List ℕ → Type 0) where
   -- A step of the operation at a place answered this, from parts k to parts n.
@@ -55,3 +59,43 @@ module _ {D : Type 0} (seen : D → List ℕ) (may_leave : D → List ℕ → Ty
     pub durable : durable n.operations.store.log ≡ durable k.operations.store.log
     pub moments : LeavesExplained seen may_leave moment left_since k n
     pub appends : (origin : Origin) (base : Base) → IsConsistent seen may_leave origin base k → QuietlyAppends origin.pages k n
+
+-- The operation at a place, which was ready and no inverse, ended with this reply.
+pub record EndsReady {D : Type 0} (seen : D → List ℕ) (may_leave : D → List ℕ → Type 0) (k n : Parts D) (place : ℕ) (reply : Reply) : Type 0 where
+  pub items : n.running.items ≡ remove k.running.items place
+  pub locks : AtPlace k.running.items place (λ r. n.operations.locks ≡ locks_without r.scope.number k.operations.locks)
+  pub store : n.operations.store ≡ k.operations.store
+  pub states : SameStates k n
+  pub commits : n.commits ≡ k.commits
+  pub ends : (origin : Origin) (base : Base) → IsReadyAt seen may_leave origin base k place reply → AtPlace k.running.items place (λ r. EndsIn seen may_leave origin base k n r)
+  pub notes : AtPlace k.running.items place (λ r. NotesEnd k n r reply)
+
+-- The inverse at a place, which was ready, ended.
+pub record EndsInverse {D : Type 0} (seen : D → List ℕ) (may_leave : D → List ℕ → Type 0) (k n : Parts D) (place : ℕ) : Type 0 where
+  pub items : n.running.items ≡ remove k.running.items place
+  pub locks : AtPlace k.running.items place (λ r. n.operations.locks ≡ locks_without r.scope.number k.operations.locks)
+  pub store : n.operations.store ≡ k.operations.store
+  pub states : SameStates k n
+  pub commits : n.commits ≡ k.commits
+  pub ends : (origin : Origin) (base : Base) (reply : Reply) → IsReadyAt seen may_leave origin base k place reply → AtPlace k.running.items place (λ r. UndoesIn seen may_leave origin base (state_of k base) n r.scope.txn r.scope.op)
+  pub notes : AtPlace k.running.items place (NotesUndone k n)
+
+-- The operation at a place, which was taken back and no inverse, is gone.
+pub record DropsOut {D : Type 0} (seen : D → List ℕ) (may_leave : D → List ℕ → Type 0) (k n : Parts D) (place : ℕ) : Type 0 where
+  pub items : n.running.items ≡ remove k.running.items place
+  pub store : n.operations.store ≡ k.operations.store
+  pub locks : AtPlace k.running.items place (λ r. n.operations.locks ≡ locks_without r.scope.number k.operations.locks)
+  pub live : n.live ≡ k.live
+  pub commits : n.commits ≡ k.commits
+  pub drops : (origin : Origin) (base : Base) → IsClearedAt seen may_leave origin base k place → AtPlace k.running.items place (λ r. DropsIn seen may_leave origin base (state_of k base) n r.scope.txn)
+  pub book : n.book ≡ k.book
+
+-- The first of the commits under way, which is of this transaction, is booked.
+pub record LeavesFirst {D : Type 0} (seen : D → List ℕ) (may_leave : D → List ℕ → Type 0) (k n : Parts D) (txn : ℕ) : Type 0 where
+  pub left : (origin : Origin) (base : Base) (c : Commit) (cs : List Commit) → IsConsistent seen may_leave origin base k → k.commits.items ≡ c ∷ cs → BooksIn seen may_leave origin base k n c
+  pub store : n.operations.store ≡ k.operations.store
+  pub rest : (c : Commit) (cs : List Commit) → k.commits.items ≡ c ∷ cs → (txn ≡ c.txn) × (n.commits.items ≡ cs)
+  pub running : n.running ≡ k.running
+  pub states : SameUncommitted k n
+  pub undo : LeavesUndo k n
+  pub restartable : (c : Commit) (cs : List Commit) → k.commits.items ≡ c ∷ cs → c.place ≤ length (durable k.operations.store.log) → StaysRestartable seen may_leave k n

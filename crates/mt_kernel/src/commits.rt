@@ -1,7 +1,7 @@
 // Transactions that begin, commit and leave, and the writes that make commits durable.
-ghost use Rattle.std.specs.Prelude.{◌≡◌, ◌≢◌, ◌⊎◌, ◌<◌, ◌≤◌, ◌+◌, ◌^◌, ℕ, List, ◌∷◌, ◌++◌, [], length, drop, get_or, false, true, All, Some, Ok, IsErr, IfOk, IfErr, OnOk, OnErr};
+ghost use Rattle.std.specs.Prelude.{◌≡◌, ◌≢◌, ◌⊎◌, ◌<◌, ◌≤◌, ◌+◌, ℕ, List, ◌∷◌, ◌++◌, [], length, drop, get_or, false, true, All, Some, Ok, IsErr, IfOk, IfErr, OnOk, OnErr};
 ghost use Rattle.mt_live.specs.Lives.{member_of};
-ghost use Rattle.mt_live.specs.Machine.{begun, booked};
+ghost use Rattle.mt_live.specs.Machine.{begun};
 ghost use Rattle.mt_live.specs.declared.transactions.TxnState.TheVariants.{Open, Committing, Aborting};
 ghost use Rattle.mt_disk.specs.Disk.{HasCause};
 ghost use Rattle.mt_log.specs.Words.{appended, durable, in_flight, waiting, calls_left, has_failed, area_size, IsStep};
@@ -13,7 +13,7 @@ ghost use Rattle.mt_op.specs.World.{held_in};
 ghost use Rattle.mt_pool.specs.Views.{IsWaiting, Cleans, pages, to_flush};
 ghost use Rattle.mt_pool.specs.declared.flushing.Flushed.TheVariants as flushed;
 ghost use Rattle.mt_base.specs.declared.refusal.Refusal.{Refusal};
-ghost use Rattle.mt_kernel.specs.Consistent.{log_kept, SameCommits, SameRunning, SameStates, SameUncommitted, SetsState, BooksIn, IsSound, StaysIn, OnlyOperations, Origin, state_of, state_in, session_in, IsConsistent, IsIn};
+ghost use Rattle.mt_kernel.specs.Consistent.{log_kept, SameCommits, SameRunning, SameStates, SameUncommitted, SetsState, IsSound, StaysIn, OnlyOperations, Origin, state_of, state_in, IsConsistent, IsIn};
 ghost use Rattle.mt_kernel.specs.Restartable.{StaysRestartable};
 ghost use Rattle.mt_kernel.specs.Steps.{LeavesExplained};
 ghost use Rattle.mt_kernel.specs.Booked.{booked_each, durable_count, durable_txns};
@@ -24,6 +24,7 @@ ghost use Rattle.mt_kernel.specs.declared.commits.TheConstants.{END_LOG_BYTES};
 ghost use Rattle.mt_base.specs.declared.limits.TheConstants.{MAX_BEGUN, MAX_LIVE, TRANSACTION_LOG_BYTES};
 ghost use Rattle.mt_kernel.specs.declared.parts.Commit.{Commit};
 ghost use Rattle.mt_kernel.specs.declared.parts.Running.{Running};
+ghost use Rattle.mt_kernel.specs.Advancing.{LeavesFirst};
 
 use crate::parts::{Commit, Parts};
 use crate::reserving::{all_bytes_kept, all_pages_kept};
@@ -139,19 +140,7 @@ impl<D: Device> Parts<D> {
     fn leave_first(&mut self) -> TxnNo
         requires safe { IsSound D.seen D.may_leave self.old }
         requires some { (c : Commit) × (cs : List Commit) × (self.old.commits.items ≡ c ∷ cs) }
-        ensures left { (origin : Origin) (base : Base) (c : Commit) (cs : List Commit)
-            → IsConsistent D.seen D.may_leave origin base self.old → self.old.commits.items ≡ c ∷ cs
-            → BooksIn D.seen D.may_leave origin base self.old self.new c }
-        ensures store { self.new.operations.store ≡ self.old.operations.store }
-        ensures rest { (c : Commit) (cs : List Commit) → self.old.commits.items ≡ c ∷ cs
-            → (result ≡ c.txn) × (self.new.commits.items ≡ cs) }
-        ensures running { self.new.running ≡ self.old.running }
-        ensures states { SameUncommitted self.old self.new }
-        ensures undo { LeavesUndo self.old self.new }
-        // Where its record is durable.
-        ensures restartable { (c : Commit) (cs : List Commit) → self.old.commits.items ≡ c ∷ cs
-            → c.place ≤ length (durable self.old.operations.store.log)
-            → StaysRestartable D.seen D.may_leave self.old self.new }
+        ensures { LeavesFirst D.seen D.may_leave self.old self.new result }
     {
         let reserved = self.reserved;
         let Commit { txn, place: _ } = self.commits.remove(0);

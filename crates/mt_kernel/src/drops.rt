@@ -1,20 +1,16 @@
 // Operations that are taken back unfinished.
-ghost use Rattle.std.specs.Prelude.{◌≡◌, ◌≢◌, ◌⊎◌, ◌<◌, ℕ, Ok, Some, IfErr, length, slice_index_or};
-ghost use Rattle.std.specs.List.{remove};
-ghost use Rattle.mt_live.specs.Machine.{dropped};
+ghost use Rattle.std.specs.Prelude.{◌≡◌, ◌<◌, Ok, Some, IfErr, length};
 ghost use Rattle.mt_log.specs.Words.{durable};
 ghost use Rattle.mt_model.specs.Model.{Base};
-ghost use Rattle.mt_op.specs.Moves.{SameOp};
 ghost use Rattle.mt_op.specs.Faults.{TellsFaults};
 ghost use Rattle.mt_op.specs.Operations.{IsCause};
 ghost use Rattle.mt_live.specs.declared.transactions.TxnState.TheVariants.{Aborting};
-ghost use Rattle.mt_kernel.specs.Advancing.{IsTakenBack};
-ghost use Rattle.mt_kernel.specs.Consistent.{BacksIn, DropsIn, state_in, IsSound, IsClearedAt, AtPlace, Origin, state_of, IsConsistent, IsCleared, IsIn, GoesBack};
-ghost use Rattle.mt_kernel.specs.Restartable.{QuietlyAppends, StaysRestartable};
+ghost use Rattle.mt_kernel.specs.Advancing.{DropsOut, IsTakenBack};
+ghost use Rattle.mt_kernel.specs.Consistent.{BacksIn, state_in, IsSound, IsClearedAt, AtPlace, Origin, IsConsistent};
+ghost use Rattle.mt_kernel.specs.Restartable.{StaysRestartable};
 ghost use Rattle.mt_kernel.specs.Steps.{LeavesExplained, WantsFrame};
-ghost use Rattle.mt_kernel.specs.Work.{LeavesStanding, LowersBack, undo_steps};
+ghost use Rattle.mt_kernel.specs.Work.{LowersBack, undo_steps};
 ghost use Rattle.mt_kernel.specs.declared.parts.Running.{Running};
-ghost use Rattle.mt_plock.specs.Releasing.{locks_without};
 ghost use Rattle.mt_kernel.specs.PageLocks.{GivesLocksBack};
 
 use crate::ends::let_go;
@@ -46,16 +42,7 @@ impl<D: Device> Parts<D> {
             × IsClearedAt D.seen D.may_leave origin base self.old place) ∥₁ }
         requires within { place < length self.old.running.items }
         requires forward { AtPlace self.old.running.items place (λ r. r.scope.undoes ≡ 0) }
-        ensures items { self.new.running.items ≡ remove self.old.running.items place }
-        ensures store { self.new.operations.store ≡ self.old.operations.store }
-        ensures locks { AtPlace self.old.running.items place (λ r. self.new.operations.locks
-            ≡ locks_without r.scope.number self.old.operations.locks) }
-        ensures live { self.new.live ≡ self.old.live }
-        ensures commits { self.new.commits ≡ self.old.commits }
-        ensures drops { (origin : Origin) (base : Base) → IsClearedAt D.seen D.may_leave origin base self.old place
-            → AtPlace self.old.running.items place (λ r. DropsIn D.seen D.may_leave origin base
-            (state_of self.old base) self.new r.scope.txn) }
-        ensures book { self.new.book ≡ self.old.book }
+        ensures { DropsOut D.seen D.may_leave self.old self.new place }
     {
         let Running { scope, op } = self.running.remove(place);
         let txn = scope.txn();

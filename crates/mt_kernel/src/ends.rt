@@ -1,15 +1,12 @@
 // The ends of operations that are ready.
-ghost use Rattle.std.specs.Prelude.{◌≡◌, ◌≢◌, ◌<◌, ◌++◌, [], ℕ, List, length, slice_index_or};
-ghost use Rattle.std.specs.List.{remove};
+ghost use Rattle.std.specs.Prelude.{◌≡◌, ◌≢◌, ◌<◌, ◌++◌, [], List, length};
 ghost use Rattle.mt_live.specs.Adds.{GivesBack, add_before};
 ghost use Rattle.mt_model.specs.declared.pending.Pending.{Pending};
-ghost use Rattle.mt_live.specs.Machine.{ended, undone};
-ghost use Rattle.mt_model.specs.Model.{Base, base_after};
+ghost use Rattle.mt_model.specs.Model.{Base};
 ghost use Rattle.mt_model.specs.declared.operations.Reply.{Reply};
-ghost use Rattle.mt_kernel.specs.Consistent.{SameStates, EndsIn, UndoesIn, IsReadyAt, AtPlace, Origin, state_of, IsIn, IsReady};
-ghost use Rattle.mt_kernel.specs.Restartable.{NotesEnd, NotesUndone};
-ghost use Rattle.mt_plock.specs.Releasing.{locks_without};
+ghost use Rattle.mt_kernel.specs.Consistent.{IsReadyAt, AtPlace, Origin};
 ghost use Rattle.mt_kernel.specs.declared.parts.Running.{Running};
+ghost use Rattle.mt_kernel.specs.Advancing.{EndsInverse, EndsReady};
 
 use crate::parts::{Parts, Running};
 use crate::reserving::{bytes_kept, bytes_to_undo, pages_kept};
@@ -39,15 +36,7 @@ impl<D: Device> Parts<D> {
             × IsReadyAt D.seen D.may_leave origin base self.old place reply) ∥₁ }
         requires within { place < length self.old.running.items }
         requires forward { AtPlace self.old.running.items place (λ r. r.scope.undoes ≡ 0) }
-        ensures items { self.new.running.items ≡ remove self.old.running.items place }
-        ensures locks { AtPlace self.old.running.items place (λ r. self.new.operations.locks
-            ≡ locks_without r.scope.number self.old.operations.locks) }
-        ensures store { self.new.operations.store ≡ self.old.operations.store }
-        ensures states { SameStates self.old self.new }
-        ensures commits { self.new.commits ≡ self.old.commits }
-        ensures ends { (origin : Origin) (base : Base) → IsReadyAt D.seen D.may_leave origin base self.old place reply
-            → AtPlace self.old.running.items place (λ r. EndsIn D.seen D.may_leave origin base self.old self.new r) }
-        ensures notes { AtPlace self.old.running.items place (λ r. NotesEnd self.old self.new r reply) }
+        ensures { EndsReady D.seen D.may_leave self.old self.new place reply }
     {
         let Running { scope, op } = self.running.remove(place);
         let txn = scope.txn();
@@ -65,17 +54,7 @@ impl<D: Device> Parts<D> {
             × IsReadyAt D.seen D.may_leave origin base self.old place reply) ∥₁ }
         requires within { place < length self.old.running.items }
         requires back { AtPlace self.old.running.items place (λ r. r.scope.undoes ≢ 0) }
-        ensures items { self.new.running.items ≡ remove self.old.running.items place }
-        ensures locks { AtPlace self.old.running.items place (λ r. self.new.operations.locks
-            ≡ locks_without r.scope.number self.old.operations.locks) }
-        ensures store { self.new.operations.store ≡ self.old.operations.store }
-        ensures states { SameStates self.old self.new }
-        ensures commits { self.new.commits ≡ self.old.commits }
-        ensures ends { (origin : Origin) (base : Base) (reply : Reply)
-            → IsReadyAt D.seen D.may_leave origin base self.old place reply
-            → AtPlace self.old.running.items place (λ r. UndoesIn D.seen D.may_leave origin base
-            (state_of self.old base) self.new r.scope.txn r.scope.op) }
-        ensures notes { AtPlace self.old.running.items place (NotesUndone self.old self.new) }
+        ensures { EndsInverse D.seen D.may_leave self.old self.new place }
     {
         let Running { scope, op } = self.running.remove(place);
         let txn = scope.txn();

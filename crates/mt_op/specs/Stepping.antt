@@ -1,5 +1,5 @@
 -- What a call does that goes on with an operation or takes a page of it back: all its clauses in one relation, for those who pass them on.
-use Rattle.std.specs.Prelude.{◌≡◌, ◌≤◌, ◌+◌, ℕ, List, [], Bool, true, false, Option, None, Some, Result, Ok, IfErr, OnErr, length, get_or}
+use Rattle.std.specs.Prelude.{◌≡◌, ◌≤◌, ◌+◌, ℕ, List, [], Bool, true, false, Option, None, Some, Result, Ok, IfErr, OnErr, length, get_or, OnOk}
 use Rattle.mt_base.specs.declared.limits.TheConstants.{MAX_COUNTERS, MAX_RELATIONS}
 use Rattle.mt_base.specs.declared.refusal.Refusal.{Refusal}
 use Rattle.mt_base.specs.declared.refusal.Refusal.TheVariants as refusal
@@ -25,7 +25,7 @@ use Rattle.mt_op.specs.declared.answers.TakenBack.{TakenBack}
 use Rattle.mt_op.specs.declared.answers.TakenBack.TheVariants as taken
 use Rattle.mt_op.specs.declared.operations.Operations.{Operations}
 use Rattle.mt_op.specs.declared.scope.OpScope.{OpScope}
-use Rattle.mt_op.specs.declared.scope.Stage.TheVariants.{Planning, Writing, Taking, Cleared}
+use Rattle.mt_op.specs.declared.scope.Stage.TheVariants.{Planning, Writing, Taking, Cleared, Ready}
 
 -- a step of an operation that writes, or ends
 pub record GoesAhead {D : Type 0} (seen : D → List ℕ) (may_leave : D → List ℕ → Type 0) (moment : D → ℕ) (left_since : D → ℕ → List ℕ → Type 0) (failures : D → ℕ) (o n : Operations D) (s t : OpScope) (r : Result Stepped Refusal) : Type 0 where
@@ -190,3 +190,21 @@ pub record NotesEach {D : Type 0} (o n : Operations D) (s : OpScope) : Type 0 wh
   pub rooms : length n.rooms ≡ length o.rooms
   pub noted : (pages : PageBytes) → Agrees (looked s) pages → AreShort (changes_in s) pages → HasRooms s o.map.kinds n.rooms pages
   pub others : (p : ℕ) → looked s p ≡ None → get_or n.rooms p 0 ≡ get_or o.rooms p 0
+
+-- a page that is in a frame is written, with its records, or memory was refused
+pub record WritesPage {D : Type 0} (seen : D → List ℕ) (may_leave : D → List ℕ → Type 0) (moment : D → ℕ) (left_since : D → ℕ → List ℕ → Type 0) (failures : D → ℕ) (o n : Operations D) (s t : OpScope) (r : Result Stepped Refusal) : Type 0 where
+  pub ahead : GoesAhead seen may_leave moment left_since failures o n s t r
+  pub device : n.store.device ≡ o.store.device
+  pub map : n.map ≡ o.map
+  pub stage : t.stage ≡ Writing
+  pub changes : t.changes ≡ s.changes
+  pub never : r ≡ Ok stepped.Flush → ⊥
+  pub only_memory : IfErr r (λ why. why ≡ refusal.NoMemory)
+
+-- an operation that has written all ends, or memory was refused
+pub record EndsOperation {D : Type 0} (seen : D → List ℕ) (may_leave : D → List ℕ → Type 0) (moment : D → ℕ) (left_since : D → ℕ → List ℕ → Type 0) (failures : D → ℕ) (o n : Operations D) (s t : OpScope) (r : Result Stepped Refusal) : Type 0 where
+  pub ahead : GoesAhead seen may_leave moment left_since failures o n s t r
+  pub device : n.store.device ≡ o.store.device
+  pub ready : OnOk r (t.stage ≡ Ready)
+  pub ended : (r ≡ Ok stepped.Went → ⊥) × (r ≡ Ok stepped.Flush → ⊥)
+  pub only_memory : IfErr r (λ why. why ≡ refusal.NoMemory)

@@ -1,22 +1,17 @@
 // Page locks of an operation.
-ghost use Rattle.std.specs.Prelude.{◌≡◌, ◌⊎◌, ◌<◌, ℕ, get_or, Ok, true, false, Some, None, IsSome, IfErr, Contains};
+ghost use Rattle.std.specs.Prelude.{◌≡◌, ◌⊎◌, ◌<◌, get_or, Ok, true, false, Some, None, IfErr};
 ghost use Rattle.mt_base.specs.declared.refusal.Refusal.{Refusal};
-ghost use Rattle.mt_pool.specs.Views.{IsThere, IsFull, pages};
+ghost use Rattle.mt_pool.specs.Views.{IsThere, pages};
 ghost use Rattle.mt_base.specs.declared.modes.Mode.TheVariants.{Write};
-ghost use Rattle.mt_disk.specs.Disk.{LeavesOnly, HasCause};
-ghost use Rattle.mt_pool.specs.Kept.{IsKept, HasOpening, Explains};
-ghost use Rattle.mt_op.specs.World.{IsUnderWay, looked};
-ghost use Rattle.mt_op.specs.Operations.{IsRight, IsOneOf, GoesOn, IsAsFar};
+ghost use Rattle.mt_pool.specs.Kept.{HasOpening};
+ghost use Rattle.mt_op.specs.Operations.{IsOneOf, IsAsFar};
 ghost use Rattle.mt_op.specs.declared.scope.Stage.TheVariants.{Planning};
 ghost use Rattle.mt_op.specs.declared.answers.Stepped.TheVariants as stepped;
 ghost use Rattle.mt_plock.specs.Releasing.{locks_of};
 ghost use Rattle.mt_space.specs.Changes.{PageBytes};
 ghost use Rattle.mt_op.specs.Operations.{world};
-ghost use Rattle.mt_op.specs.Holds.{IsHeld, IsAnew, IsNext, IsToLook, IsToWrite, KeepsLocks, KeepsScope};
-ghost use Rattle.mt_op.specs.Moves.{Leaves, Rests};
+ghost use Rattle.mt_op.specs.Holds.{IsHeld, IsToLook, IsToWrite};
 ghost use Rattle.mt_op.specs.Stepping.{LocksPage, TakesLock};
-ghost use Rattle.mt_op.specs.Work.{Works};
-ghost use Rattle.mt_plock.specs.Holding.{lock_of};
 
 use crate::answers::Stepped;
 use crate::operations::Operations;

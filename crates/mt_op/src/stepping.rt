@@ -16,11 +16,9 @@ ghost use Rattle.mt_steps.specs.Plans.{own_needs};
 ghost use Rattle.mt_pool.specs.Kept.{IsKept, HasOpening};
 ghost use Rattle.mt_op.specs.World.{looked, changes_in};
 ghost use Rattle.mt_op.specs.Operations.{world, IsOneOf, IsOneWithin, HasBudget, claimed};
-ghost use Rattle.mt_op.specs.Stepping.{GoesAhead};
+ghost use Rattle.mt_op.specs.Stepping.{EndsOperation, GoesAhead, WritesPage};
 ghost use Rattle.mt_op.specs.declared.scope.Stage.TheVariants.{Writing, Ready};
-ghost use Rattle.mt_op.specs.Room.{HasRooms, HasFollowed};
 ghost use Rattle.mt_op.specs.Moves.{Rests, Notes};
-ghost use Rattle.mt_op.specs.declared.answers.Stepped.TheVariants as stepped;
 
 use crate::answers::Stepped;
 use crate::operations::Operations;
@@ -68,14 +66,7 @@ impl<D: Device> Operations<D> {
             → IsThere self.old.store.pool c.page }
         requires budget { HasBudget scope.old }
         requires room { used self.old.store.log + scope.old.left < area_size self.old.store.log }
-        ensures ahead { GoesAhead D.seen D.may_leave D.moment D.left_since D.faults self.old self.new scope.old
-            scope.new result }
-        ensures device { self.new.store.device ≡ self.old.store.device }
-        ensures map { self.new.map ≡ self.old.map }
-        ensures stage { scope.new.stage ≡ Writing }
-        ensures changes { scope.new.changes ≡ scope.old.changes }
-        ensures never { result ≡ Ok stepped.Flush → ⊥ }
-        ensures only_memory { IfErr result (λ why. why ≡ Refusal.NoMemory) }
+        ensures { WritesPage D.seen D.may_leave D.moment D.left_since D.faults self.old self.new scope.old scope.new result }
     {
         let before = self.store.log.used();
         let change = &scope.changes.list[scope.written];
@@ -95,12 +86,7 @@ impl<D: Device> Operations<D> {
         requires all { scope.old.written ≡ length (changes_in scope.old) }
         requires budget { HasBudget scope.old }
         requires room { used self.old.store.log + scope.old.left < area_size self.old.store.log }
-        ensures ahead { GoesAhead D.seen D.may_leave D.moment D.left_since D.faults self.old self.new scope.old
-            scope.new result }
-        ensures device { self.new.store.device ≡ self.old.store.device }
-        ensures ready { OnOk result (scope.new.stage ≡ Ready) }
-        ensures ended { (result ≡ Ok stepped.Went → ⊥) × (result ≡ Ok stepped.Flush → ⊥) }
-        ensures only_memory { IfErr result (λ why. why ≡ Refusal.NoMemory) }
+        ensures { EndsOperation D.seen D.may_leave D.moment D.left_since D.faults self.old self.new scope.old scope.new result }
     {
         let (answer, done) = told(scope)?;
         if let Some(done) = done {

@@ -1,5 +1,5 @@
 // Taking an operation back, and the end of its locks.
-ghost use Rattle.std.specs.Prelude.{◌≡◌, ◌≢◌, ◌⊎◌, ◌<◌, ◌≤◌, ◌+◌, ◌-◌, ℕ, List, [], length, get_or, false, true, IfErr, OnErr, OnOk, Ok, Some, IsSome};
+ghost use Rattle.std.specs.Prelude.{◌≡◌, ◌≢◌, ◌⊎◌, ◌<◌, ◌≤◌, ◌+◌, ◌-◌, ℕ, List, length, get_or, false, true, IfErr, OnErr, OnOk, Ok, Some, IsSome};
 ghost use Rattle.mt_base.specs.declared.limits.TheConstants.{MAX_WRITTEN_PAGES, PAGE_BYTES};
 ghost use Rattle.mt_plock.specs.Releasing.{locks_of, locks_without};
 ghost use Rattle.mt_pool.specs.Views.{IsThere, IsFull, waits_for, pages};
@@ -12,7 +12,7 @@ ghost use Rattle.mt_log.specs.Words.{appended, durable, used, area_size};
 ghost use Rattle.mt_space.specs.Changes.{PageBytes};
 ghost use Rattle.mt_pool.specs.Kept.{IsKept, HasOpening, Explains};
 ghost use Rattle.mt_op.specs.World.{IsUnderWay, changes_in, held_in, looked};
-ghost use Rattle.mt_op.specs.Moves.{Rests, Notes, Leaves, PutsBack};
+ghost use Rattle.mt_op.specs.Moves.{Rests, Notes};
 ghost use Rattle.mt_op.specs.Operations.{world, IsRight, IsOneOf, Goes, HasBudget, IsCause, claimed};
 ghost use Rattle.mt_op.specs.declared.scope.Stage.TheVariants.{Planning, Writing, Ready, Taking, Cleared};
 ghost use Rattle.mt_op.specs.Faults.{TellsFaults};

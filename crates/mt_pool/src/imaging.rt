@@ -1,5 +1,6 @@
 // What the pool is told of the images in an area.
-ghost use Rattle.std.specs.Prelude.{◌≡◌, ◌<◌, ℕ, List, get_or, set, false};
+ghost use Rattle.std.specs.Prelude.{◌≡◌, ◌<◌, ℕ, List, get_or, false};
+ghost use Rattle.mt_pool.specs.Moves.{NotesImage};
 
 use crate::Pool;
 use crate::slots::index_of;
@@ -30,13 +31,7 @@ impl Pool {
         requires pool { IsPool self.old }
         requires inside { page < pages self.old }
         requires position { 0 < position }
-        ensures pool { IsPool self.new }
-        ensures shows { (seen : List ℕ) → Shows self.old seen → Shows self.new seen }
-        ensures views { (seen : List ℕ) (q : ℕ) → view self.new seen q ≡ view self.old seen q }
-        ensures waits { self.new.waits.items ≡ set self.old.waits.items page position }
-        ensures flush { self.new.dirty ≡ self.old.dirty }
-        ensures there { self.new.of_page ≡ self.old.of_page }
-        ensures place { self.new.place ≡ self.old.place }
+        ensures { NotesImage self.old self.new page position }
     {
         self.waits[index_of(page)] = position.get();
     }

@@ -1,6 +1,6 @@
 use mathlib.Core.Logic.{∥∥₁_elim}
 use Rattle.std.proofs.Props.{props}
-use Rattle.std.proofs.Common.{◌≡◌, ◌∙◌, ◌-◌, ap, sym, subst, arith}
+use Rattle.std.proofs.Common.{rules, ◌≡◌, ◌∙◌, ◌-◌, ap, sym, subst, arith}
 use Rattle.mt_live.specs.Adds.{GivesBack}
 use Rattle.mt_steps.specs.Plans.{own_needs, undo_pages}
 use Rattle.mt_kernel.specs.Runs.{IsOwned, undo_bytes}
@@ -43,23 +43,31 @@ overflow_sub-self g c = ∥∥₁_elim c.requires.cleared (hlevel props) (λ (or
     let enough = kept_enough g.D.Device.seen g.D.Device.may_leave origin base k c.args.place r y.fit y.alone.within y.alone.there fore in
     let bytes = c.bytes_to_undo.ensures in omega arith)
 
-pub returns-clause-drops : goal.returns-clause-drops
-returns-clause-drops g c = λ origin base cleared x is.
-    let r = c.remove-scope.result in let y = cleared r c.remove-scope.ensures.value in let e = c.drop_out.ensures in let f = c.give_back.ensures in let k = c.args.self.now in let seen = g.D.Device.seen in
-    let fore = c.requires.forward r c.remove-scope.ensures.value in
-    let owned : IsOwned k.live.members k.live.standing r = subst (IsOwned k.live.members k.live.standing) (sym y.alone.there) (y.fit.owned c.args.place r y.alone.within) in
-    let whole = given_back seen g.D.Device.may_leave origin base k c.args.place r y fore in
-    let own : c.pages_for.result ≡ own_needs r.scope.op r.scope.split = c.pages_for.ensures ∙ (λ i. own_needs (c.op.ensures i) (c.split.ensures i)) in
-    let undo = c.pages_to_undo.ensures in let same = e.claimed in let back = f.claimed in
-    let right = e.right origin.pages origin.relations origin.counters y.fit.right y.alone.own in
-    let ended = ended_given seen g.D.Device.may_leave origin.pages origin.relations origin.counters k.operations c.drop_out.new.self c.give_back.new.self r.scope
-    (record { right = right; held = e.held origin.pages; others = λ u ku other. e.others origin.pages origin.relations origin.counters u ku other; locks = e.locks; store = e.store })
-    (f.right origin.pages origin.relations origin.counters right) f.store f.locks in
-    let n : Parts g.row.D.Denot = record k { operations = c.give_back.new.self; running = c.remove-scope.new.self; escrow = c.let_go.new.escrow; reserved = k.reserved - c.bytes_to_undo.result } in
-    let enough = kept_enough seen g.D.Device.may_leave origin base k c.args.place r y.fit y.alone.within y.alone.there fore in
-    let copy : undo_bytes r.op ≡ undo_bytes r.scope.op = ap undo_bytes (owned.copy fore) in
-    let bytes = c.bytes_to_undo.ensures in
-    let here : r ≡ x = c.remove-scope.ensures.value ∙ sym (get_or_default k.running.items c.args.place x r y.alone.within) ∙ sym is in
-    subst (λ (z : Running). DropsIn seen g.D.Device.may_leave origin base (state_of k base) n z.scope.txn) here
-    (dropped_in seen g.D.Device.may_leave origin base k n c.args.place r y fore c.remove-scope.ensures.items ended (omega arith) (omega arith)
-    (subst (λ (X : Type 0). X) (λ i. GivesBack (c.txn-txn.ensures i) (owned.copy fore i) k.escrow.pending c.let_go.new.escrow.pending) c.let_go.ensures.given) c.let_go.ensures.committed)
+pub returns : goal.returns
+returns g c = record {
+  items = search rules;
+  store = search rules;
+  locks = search rules;
+  live = search rules;
+  commits = search rules;
+  drops = λ origin base cleared x is.
+      let r = c.remove-scope.result in let y = cleared r c.remove-scope.ensures.value in let e = c.drop_out.ensures in let f = c.give_back.ensures in let k = c.args.self.now in let seen = g.D.Device.seen in
+      let fore = c.requires.forward r c.remove-scope.ensures.value in
+      let owned : IsOwned k.live.members k.live.standing r = subst (IsOwned k.live.members k.live.standing) (sym y.alone.there) (y.fit.owned c.args.place r y.alone.within) in
+      let whole = given_back seen g.D.Device.may_leave origin base k c.args.place r y fore in
+      let own : c.pages_for.result ≡ own_needs r.scope.op r.scope.split = c.pages_for.ensures ∙ (λ i. own_needs (c.op.ensures i) (c.split.ensures i)) in
+      let undo = c.pages_to_undo.ensures in let same = e.claimed in let back = f.claimed in
+      let right = e.right origin.pages origin.relations origin.counters y.fit.right y.alone.own in
+      let ended = ended_given seen g.D.Device.may_leave origin.pages origin.relations origin.counters k.operations c.drop_out.new.self c.give_back.new.self r.scope
+      (record { right = right; held = e.held origin.pages; others = λ u ku other. e.others origin.pages origin.relations origin.counters u ku other; locks = e.locks; store = e.store })
+      (f.right origin.pages origin.relations origin.counters right) f.store f.locks in
+      let n : Parts g.row.D.Denot = record k { operations = c.give_back.new.self; running = c.remove-scope.new.self; escrow = c.let_go.new.escrow; reserved = k.reserved - c.bytes_to_undo.result } in
+      let enough = kept_enough seen g.D.Device.may_leave origin base k c.args.place r y.fit y.alone.within y.alone.there fore in
+      let copy : undo_bytes r.op ≡ undo_bytes r.scope.op = ap undo_bytes (owned.copy fore) in
+      let bytes = c.bytes_to_undo.ensures in
+      let here : r ≡ x = c.remove-scope.ensures.value ∙ sym (get_or_default k.running.items c.args.place x r y.alone.within) ∙ sym is in
+      subst (λ (z : Running). DropsIn seen g.D.Device.may_leave origin base (state_of k base) n z.scope.txn) here
+      (dropped_in seen g.D.Device.may_leave origin base k n c.args.place r y fore c.remove-scope.ensures.items ended (omega arith) (omega arith)
+      (subst (λ (X : Type 0). X) (λ i. GivesBack (c.txn-txn.ensures i) (owned.copy fore i) k.escrow.pending c.let_go.new.escrow.pending) c.let_go.ensures.given) c.let_go.ensures.committed);
+  book = search rules;
+}

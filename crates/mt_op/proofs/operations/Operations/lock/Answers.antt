@@ -1,5 +1,6 @@
+use Rattle.mt_base.specs.declared.refusal.Refusal.{Refusal}
 use Rattle.mt_base.specs.declared.refusal.Refusal.TheVariants as refusal
-use Rattle.std.specs.Prelude.{Ok, Err}
+use Rattle.std.specs.Prelude.{Bool, Err, IfErr, Ok, Result}
 use Rattle.mt_plock.specs.declared.guards.PageLock.{PageLock}
 use Rattle.std.proofs.Common.{List, inl, inr, ⊎_elim, refl, sym, ◌∙◌, ap, subst, arith}
 use Rattle.std.proofs.lemmas.Result.{err_from_is_err_and}
@@ -16,7 +17,7 @@ use Rattle.mt_op.proofs.operations.Operations.lock.Goals as goal
 pub returns-in_err-bring : goal.returns-in_err-bring
 returns-in_err-bring g c = let d = g.D.Device in let f = c.bring.ensures in let o = c.args.self.now in let s = c.args.scope.now in
     let p = err_from_is_err_and c.from_residual.result c.from_residual.ensures.1 in
-    subst (LocksPage d.seen d.may_leave d.moment d.left_since d.faults o c.bring.new.self s s) (sym (p.1 ∙ ap Err (p.2 ∙ c.in_err-bring.ensures.only_device)))
+    subst (LocksPage d.seen d.may_leave d.moment d.left_since d.faults o c.bring.new.self s s) (sym (p.1 ∙ ap Err (p.2 ∙ subst (λ (r : Result Bool Refusal). IfErr r (λ why. why ≡ refusal.DeviceFailed)) c.in_err-bring.was c.bring.ensures.only_device)))
     (idle_locks d.seen d.may_leave d.moment d.left_since d.faults o c.bring.new.self s f.right f.rests f.moments f.log f.map f.locks f.rooms (Err refusal.DeviceFailed) tt
     (λ is. absurd cc) (inr refl) (fault_told _ _ c.bring.result _ (Err refusal.DeviceFailed) f.cause c.in_err-bring.was refl))
 

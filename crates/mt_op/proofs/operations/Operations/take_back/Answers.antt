@@ -1,8 +1,9 @@
 use Rattle.std.proofs.Props.{props}
 use mathlib.Core.Logic.{∥∥₁_elim}
 use Rattle.std.proofs.Common.{rules, ◌≤◌, ◌<◌, ◌-◌, length, inr, refl, sym, subst, arith, ◌∙◌, ap}
-use Rattle.std.specs.Prelude.{Ok, Err}
+use Rattle.std.specs.Prelude.{Bool, Err, IfErr, Ok, Result}
 use Rattle.std.proofs.lemmas.Result.{err_from_is_err_and}
+use Rattle.mt_base.specs.declared.refusal.Refusal.{Refusal}
 use Rattle.mt_base.specs.declared.refusal.Refusal.TheVariants as refusal
 use Rattle.mt_op.specs.World.{changes_in}
 use Rattle.mt_op.specs.Operations.{world}
@@ -46,7 +47,7 @@ pub returns-in_err-bring : goal.returns-in_err-bring
 returns-in_err-bring g c = let d = g.D.Device in let f = c.bring.ensures in let o = c.args.self.now in let s = c.args.scope.now in
     let few : c.args.scope.now.standing ≤ 8 = ∥∥₁_elim c.requires.right (hlevel props) (λ (opening, relations, counters, right, k). few_stand relations counters (world d.seen opening c.args.self.now) c.args.scope.now k c.requires.stage) in
     let p = err_from_is_err_and c.from_residual.result c.from_residual.ensures.1 in
-    let b = subst (TakesBack d.seen d.may_leave d.moment d.left_since d.faults o c.bring.new.self s s) (sym (p.1 ∙ ap Err (p.2 ∙ c.in_err-bring.ensures.only_device)))
+    let b = subst (TakesBack d.seen d.may_leave d.moment d.left_since d.faults o c.bring.new.self s s) (sym (p.1 ∙ ap Err (p.2 ∙ subst (λ (r : Result Bool Refusal). IfErr r (λ why. why ≡ refusal.DeviceFailed)) c.in_err-bring.was c.bring.ensures.only_device)))
     (takes_none d.seen d.may_leave d.moment d.left_since d.faults o c.bring.new.self s f.right f.rests f.moments f.log f.map f.locks
     few (Err refusal.DeviceFailed) tt c.requires.budget
     (λ is. absurd cc) (inr refl) (fault_told _ _ c.bring.result _ (Err refusal.DeviceFailed) f.cause c.in_err-bring.was refl)) in

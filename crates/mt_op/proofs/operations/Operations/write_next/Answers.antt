@@ -1,7 +1,8 @@
 use Rattle.std.proofs.Common.{rules, ◌∙◌, inr, refl, sym, subst, ap}
-use Rattle.std.specs.Prelude.{Ok, Err}
+use Rattle.std.specs.Prelude.{Bool, Err, IfErr, Ok, Result}
 use Rattle.std.proofs.lemmas.List.{get_or_default}
 use Rattle.std.proofs.lemmas.Result.{err_from_is_err_and}
+use Rattle.mt_base.specs.declared.refusal.Refusal.{Refusal}
 use Rattle.mt_base.specs.declared.refusal.Refusal.TheVariants as refusal
 use Rattle.mt_log.specs.Words.{durable, used, area_size}
 use Rattle.mt_pool.specs.Views.{IsThere}
@@ -21,7 +22,7 @@ returns-in_err-bring g c = let d = g.D.Device in let f = c.bring.ensures in let 
     record {
       map = f.map;
       stage = c.requires.writing;
-      ahead = subst (GoesAhead d.seen d.may_leave d.moment d.left_since d.faults o c.bring.new.self s s) (sym (p.1 ∙ ap Err (p.2 ∙ c.in_err-bring.ensures.only_device)))
+      ahead = subst (GoesAhead d.seen d.may_leave d.moment d.left_since d.faults o c.bring.new.self s s) (sym (p.1 ∙ ap Err (p.2 ∙ subst (λ (r : Result Bool Refusal). IfErr r (λ why. why ≡ refusal.DeviceFailed)) c.in_err-bring.was c.bring.ensures.only_device)))
           (idle_ahead d.seen d.may_leave d.moment d.left_since d.faults o c.bring.new.self s f.right f.rests f.moments (ap used f.log) (ap area_size f.log) (ap durable f.log) f.map f.locks (Err refusal.DeviceFailed) tt c.requires.writing c.requires.budget
           (λ is. absurd cc) (inr refl) (fault_told _ _ c.bring.result _ (Err refusal.DeviceFailed) f.cause c.in_err-bring.was refl));
     }

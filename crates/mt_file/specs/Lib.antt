@@ -2,3 +2,4 @@ pub mod Copies
 pub mod File
 pub mod Plans
 pub mod Rooms
+pub mod Puts

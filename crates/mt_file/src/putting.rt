@@ -1,12 +1,13 @@
 // A record more.
-ghost use Rattle.std.specs.Prelude.{◌≡◌, ◌≢◌, ◌<◌, ◌≤◌, ℕ, List, [], length, get_or, Option, Some, None, IfOk, IsSome, ◌+◌};
+ghost use Rattle.std.specs.Prelude.{◌≡◌, ◌≢◌, ◌<◌, ◌≤◌, ℕ, [], length, get_or, Option, Some, None, IfOk, IsSome};
 ghost use Rattle.mt_base.specs.declared.limits.TheConstants.{MAX_VALUE_BYTES, PAGE_BYTES};
 ghost use Rattle.mt_base.specs.Limits.{IsKey, IsValue};
-ghost use Rattle.mt_space.specs.Changes.{PageBytes, Agrees, after};
-ghost use Rattle.mt_slots.specs.Page.{Row, IsShaped, slot as held};
+ghost use Rattle.mt_space.specs.Changes.{PageBytes, Agrees};
+ghost use Rattle.mt_slots.specs.Page.{IsShaped, slot as held};
 ghost use Rattle.mt_space.specs.Kinds.{kind};
 ghost use Rattle.mt_file.specs.File.{IsFile};
-ghost use Rattle.mt_file.specs.Plans.{IsNamed, IsReady, IsApart, IsPut, IsShortPlan, IfDone, IsFew, IsSeen};
+ghost use Rattle.mt_file.specs.Plans.{IsNamed, IsReady, IsPut, IsShortPlan, IfDone, IsFew, IsSeen};
+ghost use Rattle.mt_file.specs.Puts.{PutsRecord};
 
 use crate::step::{Plan, Step};
 use mt_base::{Mode, PageNo, RecordName, RelNo};
@@ -59,15 +60,7 @@ pub(crate) fn put<V: Pages>(
     requires relation_fits { relation < 256 }
     requires key_fits { length key.now < 256 }
     requires value_fits { length value.now ≤ MAX_VALUE_BYTES }
-    ensures put { IfOk result (λ step. (pages : PageBytes) → IsReady (V.at_hand views.now) room
-        (after changes.list.items pages) → IsPut (V.at_hand views.now) room
-        (V.total views.now) changes.list.items pages
-        (record { relation = relation; key = key.now; value = value.now }) step) }
-    ensures short { IfOk result (λ step. (pages : PageBytes) → IsReady (V.at_hand views.now) room
-        (after changes.list.items pages) → IsApart room changes.list.items pages → IsShortPlan pages step) }
-    ensures few { IfOk result (IsFew (length changes.list.items + 2)) }
-    ensures seen { IfOk result (λ step. IfDone step (λ plan. IsSome (V.at_hand views.now plan.name.page))) }
-    ensures there { IfOk result (IsSeen (V.at_hand views.now) changes.list.items) }
+    ensures { PutsRecord (V.at_hand views.now) (V.total views.now) room changes.list.items (record { relation = relation; key = key.now; value = value.now }) result }
 {
     match room {
         Some(page) => put_into(views, changes, page, relation, key, value),
@@ -89,15 +82,7 @@ fn put_into<V: Pages>(
     requires relation_fits { relation < 256 }
     requires key_fits { length key.now < 256 }
     requires value_fits { length value.now ≤ MAX_VALUE_BYTES }
-    ensures put { IfOk result (λ step. (pages : PageBytes) → IsReady (V.at_hand views.now) (Some page)
-        (after changes.list.items pages) → IsPut (V.at_hand views.now) (Some page)
-        (V.total views.now) changes.list.items pages
-        (record { relation = relation; key = key.now; value = value.now }) step) }
-    ensures short { IfOk result (λ step. (pages : PageBytes) → IsReady (V.at_hand views.now) (Some page)
-        (after changes.list.items pages) → IsApart (Some page) changes.list.items pages → IsShortPlan pages step) }
-    ensures few { IfOk result (IsFew (length changes.list.items + 2)) }
-    ensures seen { IfOk result (λ step. IfDone step (λ plan. IsSome (V.at_hand views.now plan.name.page))) }
-    ensures there { IfOk result (IsSeen (V.at_hand views.now) changes.list.items) }
+    ensures { PutsRecord (V.at_hand views.now) (V.total views.now) (Some page) changes.list.items (record { relation = relation; key = key.now; value = value.now }) result }
 {
     let Some(old) = views.page(page) else {
         return Ok(Step::Need(page, Mode::Write));
@@ -125,15 +110,7 @@ fn put_new<V: Pages>(
     requires relation_fits { relation < 256 }
     requires key_fits { length key.now < 256 }
     requires value_fits { length value.now ≤ MAX_VALUE_BYTES }
-    ensures put { IfOk result (λ step. (pages : PageBytes) → IsReady (V.at_hand views.now) None
-        (after changes.list.items pages) → IsPut (V.at_hand views.now) None
-        (V.total views.now) changes.list.items pages
-        (record { relation = relation; key = key.now; value = value.now }) step) }
-    ensures short { IfOk result (λ step. (pages : PageBytes) → IsReady (V.at_hand views.now) None
-        (after changes.list.items pages) → IsApart None changes.list.items pages → IsShortPlan pages step) }
-    ensures few { IfOk result (IsFew (length changes.list.items + 2)) }
-    ensures seen { IfOk result (λ step. IfDone step (λ plan. IsSome (V.at_hand views.now plan.name.page))) }
-    ensures there { IfOk result (IsSeen (V.at_hand views.now) changes.list.items) }
+    ensures { PutsRecord (V.at_hand views.now) (V.total views.now) None changes.list.items (record { relation = relation; key = key.now; value = value.now }) result }
 {
     let map_page = PageNo::new(MAP);
     let Some(map) = views.page(map_page) else {

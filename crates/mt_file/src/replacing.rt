@@ -1,13 +1,13 @@
 // A record with another value.
-ghost use Rattle.std.specs.Prelude.{◌≡◌, ◌≢◌, ◌+◌, ◌<◌, ◌≤◌, ℕ, [], length, Some, IfOk, IsSome, MatchBool};
+ghost use Rattle.std.specs.Prelude.{◌≡◌, ◌≢◌, ◌+◌, ◌<◌, ◌≤◌, [], length, Some, IfOk, IsSome};
 ghost use Rattle.std.specs.Bool.{OnTrue, OnFalse};
 ghost use Rattle.mt_base.specs.declared.limits.TheConstants.{MAX_VALUE_BYTES};
 ghost use Rattle.mt_base.specs.Limits.{IsValue};
-ghost use Rattle.mt_space.specs.Changes.{PageBytes, Agrees, after, AreShort, IsUntouched};
+ghost use Rattle.mt_space.specs.Changes.{PageBytes, Agrees};
 ghost use Rattle.mt_slots.specs.Page.{Row, IsShaped, slot as held, room_of, row_length};
-ghost use Rattle.mt_space.specs.Kinds.{kind};
 ghost use Rattle.mt_file.specs.File.{IsFile, record_in};
-ghost use Rattle.mt_file.specs.Plans.{IsNamed, IsReplacement, IsShortPlan, IsWhole, IfDone, IsFew, IsSeen};
+ghost use Rattle.mt_file.specs.Plans.{IsNamed, IsReplacement, IsShortPlan, IfDone, IsFew, IsSeen};
+ghost use Rattle.mt_file.specs.Puts.{MovesRecord, WritesWhole};
 
 use crate::putting::{page_of_one, put};
 use crate::step::{Plan, Step};
@@ -91,16 +91,7 @@ fn plan_move<V: Pages>(
     requires outgrown { (r : Row) → held old.now name.slot ≡ Some r → room_of old.now + row_length r < row_length
         (record r { value = value.now }) }
     requires other { (r : Row) → held old.now name.slot ≡ Some r → r.value ≢ value.now }
-    ensures replacement { IfOk result (λ step. (pages : PageBytes) (r : Row) → Agrees (V.at_hand views.now) pages →
-        IsFile pages → IsNamed room pages → record_in pages name.page name.slot ≡ Some r →
-        IsReplacement (V.at_hand views.now) room (V.total views.now) pages name.page name.slot r
-        (record r { value = value.now }) step) }
-    ensures short { IfOk result (λ step. (pages : PageBytes) (r : Row) → Agrees (V.at_hand views.now) pages →
-        IsFile pages → IsNamed room pages → record_in pages name.page name.slot ≡ Some r → IsShortPlan pages step) }
-    ensures few { IfOk result (IsFew 3) }
-    ensures seen { IfOk result (λ step. IfDone step (λ plan. IsSome (V.at_hand views.now name.page) ×
-        IsSome (V.at_hand views.now plan.name.page))) }
-    ensures there { IfOk result (IsSeen (V.at_hand views.now) []) }
+    ensures { MovesRecord (V.at_hand views.now) (V.total views.now) room name.page name.slot value.now result }
 {
     let RecordName { page, slot } = name;
     let Some(row) = get(old, slot) else {
@@ -134,14 +125,7 @@ fn write_whole(
     requires relation_fits { relation < 256 }
     requires key_fits { length key.now < 256 }
     requires value_fits { length value.now ≤ MAX_VALUE_BYTES }
-    ensures page { IfOk result (λ plan. plan.name.page ≡ page) }
-    ensures whole { IfOk result (λ plan. (pages : PageBytes) → pages page ≡ old.now →
-        IsWhole pages (after plan.changes.list.items pages) page plan.name.slot
-        (record { relation = relation; key = key.now; value = value.now })) }
-    ensures short { IfOk result (λ plan. (pages : PageBytes) → pages page ≡ old.now →
-        AreShort plan.changes.list.items pages) }
-    ensures few { IfOk result (λ plan. length plan.changes.list.items ≤ 1) }
-    ensures others { IfOk result (λ plan. (p : ℕ) → p ≢ page → IsUntouched plan.changes.list.items p) }
+    ensures { IfOk result (WritesWhole page old.now (record { relation = relation; key = key.now; value = value.now })) }
 {
     let (new, slot) = page_of_one(relation, key, value);
     changes.note(page, old, &new)?;

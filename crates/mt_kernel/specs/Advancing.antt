@@ -1,13 +1,15 @@
 -- What steps do that the public ones share.
-use Rattle.std.specs.Prelude.{ℕ, ◌≡◌, IfErr, List, Ok, Result, length, slice_index_or, ◌≤◌, ◌∷◌}
+use Rattle.std.specs.Prelude.{ℕ, ◌≡◌, Bool, IfErr, List, Ok, Result, length, slice_index_or, ◌≤◌, ◌∷◌, ◌+◌, ◌*◌}
 use Rattle.mt_base.specs.declared.refusal.Refusal.{Refusal}
-use Rattle.mt_kernel.specs.Consistent.{Advances, AtPlace, GoesBack, IsConsistent, Origin, state_of, EndsIn, IsReadyAt, SameStates, UndoesIn, DropsIn, IsClearedAt, BooksIn, SameUncommitted}
+use Rattle.mt_kernel.specs.Consistent.{Advances, AtPlace, GoesBack, IsConsistent, Origin, state_of, EndsIn, IsReadyAt, SameStates, UndoesIn, DropsIn, IsClearedAt, BooksIn, SameUncommitted, IsCalled, MayRun, SameCommits, log_kept}
 use Rattle.mt_kernel.specs.Restartable.{QuietlyAppends, StepAppends, NotesEnd, NotesUndone, StaysRestartable}
 use Rattle.mt_kernel.specs.Steps.{LeavesExplained, TellsOther, WantsFrame}
+use Rattle.mt_kernel.specs.declared.calls.Called.{Called}
 use Rattle.mt_kernel.specs.declared.parts.Parts.{Parts}
+use Rattle.mt_model.specs.declared.operations.Op.{Op}
 use Rattle.mt_kernel.specs.declared.parts.Running.{Running}
 use Rattle.mt_log.specs.Words.{durable}
-use Rattle.mt_kernel.specs.Work.{LeavesStanding, LeavesUndo}
+use Rattle.mt_kernel.specs.Work.{LeavesStanding, LeavesUndo, CallRuns}
 use Rattle.mt_model.specs.Model.{Base}
 use Rattle.mt_op.specs.Faults.{TellsFaults}
 use Rattle.mt_op.specs.Holds.{IsNext, KeepsLocks}
@@ -22,6 +24,8 @@ use Rattle.mt_model.specs.declared.operations.Reply.{Reply}
 use Rattle.mt_plock.specs.Releasing.{locks_without}
 use Rattle.std.specs.List.{remove}
 use Rattle.mt_kernel.specs.declared.parts.Commit.{Commit}
+use Rattle.mt_kernel.specs.Causes.{IsAnswered}
+use Rattle.mt_pool.specs.Views.{pages}
 
 module _ {D : Type 0} (seen : D → List ℕ) (may_leave : D → List ℕ → Type 0) (failures : D → ℕ) (moment : D → ℕ) (left_since : D → ℕ → List ℕ → Type 0) where
   -- A step of the operation at a place answered this, from parts k to parts n.
@@ -99,3 +103,13 @@ pub record LeavesFirst {D : Type 0} (seen : D → List ℕ) (may_leave : D → L
   pub states : SameUncommitted k n
   pub undo : LeavesUndo k n
   pub restartable : (c : Commit) (cs : List Commit) → k.commits.items ≡ c ∷ cs → c.place ≤ length (durable k.operations.store.log) → StaysRestartable seen may_leave k n
+
+-- An operation of a transaction was called, its object locked first.
+pub record LocksObject {D : Type 0} (seen : D → List ℕ) (may_leave : D → List ℕ → Type 0) (k n : Parts D) (txn : ℕ) (op : Op) (split : Bool) (r : Result Called Refusal) : Type 0 where
+  pub called : (origin : Origin) (base : Base) → IsConsistent seen may_leave origin base k → MayRun origin k txn op → IsCalled seen may_leave origin base (state_of k base) n txn op r
+  pub answer : (origin : Origin) (base : Base) → IsConsistent seen may_leave origin base k → MayRun origin k txn op → IsAnswered seen origin k (log_kept k) txn op split r
+  pub live : n.live ≡ k.live
+  pub runs : CallRuns txn (2 * pages k.operations.store.pool + 9) k.running.items n.running.items r
+  pub same_commits : SameCommits k n
+  pub store : n.operations.store ≡ k.operations.store
+  pub book : n.book ≡ k.book

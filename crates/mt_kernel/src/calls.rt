@@ -1,24 +1,24 @@
 // Calls of operations.
-ghost use Rattle.std.specs.Prelude.{◌≡◌, ◌==◌, is_some, ◌≢◌, ◌⊎◌, ◌<◌, ◌≤◌, ◌+◌, ◌*◌, ◌^◌, IfErr, ◌++◌, [], ℕ, length, true, All, List, OnOk, OnErr};
+ghost use Rattle.std.specs.Prelude.{◌≡◌, ◌==◌, is_some, ◌⊎◌, ◌<◌, ◌≤◌, ◌+◌, ◌*◌, ◌^◌, IfErr, ◌++◌, [], ℕ, length, List, OnOk, OnErr};
 ghost use Rattle.std.specs.Bool.{OnTrue, OnFalse};
-ghost use Rattle.std.specs.List.{sum_by, list_any};
+ghost use Rattle.std.specs.List.{list_any};
 ghost use Rattle.std.specs.Vec.{vec_len, vec_capacity};
 ghost use Rattle.mt_base.specs.declared.limits.TheConstants.{MAX_BEGUN};
 ghost use Rattle.mt_escrow.specs.Seen.{Escrowed};
 ghost use Rattle.mt_live.specs.Adds.{add_before};
 ghost use Rattle.mt_live.specs.Machine.{called};
-ghost use Rattle.mt_log.specs.Words.{used, area_size};
+ghost use Rattle.mt_log.specs.Words.{area_size};
 ghost use Rattle.mt_model.specs.Model.{Base, IsWithin, object_of};
 ghost use Rattle.mt_model.specs.declared.objects.Object.{Object};
 ghost use Rattle.mt_pool.specs.Views.{pages};
 ghost use Rattle.mt_slock.specs.declared.holders.Holder.{Holder};
-ghost use Rattle.mt_kernel.specs.Consistent.{SameCommits, SameStates, CallsIn, log_kept, Origin, state_of, IsConsistent, IsIn, IsPlaceOf, MayRun, MayBeCalled, IsLocked, IsGranted, IsAskedFor, IsCalled, IsRestored, without_call};
+ghost use Rattle.mt_kernel.specs.Consistent.{SameCommits, SameStates, CallsIn, log_kept, Origin, state_of, IsConsistent, IsPlaceOf, MayRun, MayBeCalled, IsLocked, IsGranted, IsAskedFor, IsCalled, IsRestored, without_call};
 ghost use Rattle.mt_kernel.specs.Causes.{HasReserves, IsUnreserved, IsAdmittedBy, IsRefusedBehind, IsAnswered};
 ghost use Rattle.mt_base.specs.declared.refusal.Refusal.{Refusal};
 ghost use Rattle.mt_kernel.specs.Restartable.{StaysRestartable};
-ghost use Rattle.mt_kernel.specs.Runs.{left_of};
 ghost use Rattle.mt_kernel.specs.Work.{CallRuns, RunsBehind};
 ghost use Rattle.mt_kernel.specs.declared.parts.Running.{Running};
+ghost use Rattle.mt_kernel.specs.Advancing.{LocksObject};
 
 use crate::ends::let_go;
 use crate::parts::{Parts, Running};
@@ -264,18 +264,7 @@ impl<D: Device> Parts<D> {
         requires same { (own ≡ op) × (object ≡ object_of op) }
         requires room { vec_len self.old.running < vec_capacity self.old.running }
         requires few { self.old.last < MAX_BEGUN }
-        ensures called { (origin : Origin) (base : Base) → IsConsistent D.seen D.may_leave origin base self.old
-            → MayRun origin self.old txn op
-            → IsCalled D.seen D.may_leave origin base (state_of self.old base) self.new txn op result }
-        ensures answer { (origin : Origin) (base : Base) → IsConsistent D.seen D.may_leave origin base self.old
-            → MayRun origin self.old txn op
-            → IsAnswered D.seen origin self.old (log_kept self.old) txn op split result }
-        ensures live { self.new.live ≡ self.old.live }
-        ensures runs { CallRuns txn (2 * pages self.old.operations.store.pool + 9) self.old.running.items
-            self.new.running.items result }
-        ensures same_commits { SameCommits self.old self.new }
-        ensures store { self.new.operations.store ≡ self.old.operations.store }
-        ensures book { self.new.book ≡ self.old.book }
+        ensures { LocksObject D.seen D.may_leave self.old self.new txn op split result }
     {
         let mode = op.mode();
         match self.locks.ask(txn, object, mode)? {

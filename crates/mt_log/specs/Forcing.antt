@@ -1,13 +1,15 @@
 -- What one device call of a batch's force does to the log.
-use Rattle.std.specs.Prelude.{ℕ, ◌≡◌, [], ◌∷◌, ◌++◌, Result, Ok, Err}
+use Rattle.std.specs.Prelude.{ℕ, ◌≡◌, List, [], ◌∷◌, ◌++◌, Result, Ok, Err, vec_len, ◌+◌, OnErr, OnOk, map, ◌-◌, IfOk}
 use Rattle.mt_base.specs.declared.refusal.Refusal.{Refusal}
-use Rattle.mt_log.specs.Area.{step_behind}
+use Rattle.mt_log.specs.Area.{step_behind, Area, AreaAfter, ScansWithOrWithout}
 use Rattle.mt_log.specs.declared.stage.Step.{Step}
-use Rattle.mt_log.specs.declared.stage.Step.TheVariants.{SyncGate}
+use Rattle.mt_log.specs.declared.stage.Step.TheVariants.{SyncGate, WriteBody}
 use Rattle.mt_log.specs.declared.stage.Stage.TheVariants.{Idle, Forcing, Failed}
 use Rattle.mt_log.specs.declared.log.Log.{Log}
 use Rattle.mt_log.specs.declared.log.Forced.{Forced}
 use Rattle.mt_log.specs.declared.log.Forced.TheVariants.{More, Durable, Idle as Nothing}
+use Rattle.mt_log.specs.Words.{AreaOf, IsLast}
+use Rattle.mt_disk.specs.Disk.{Elapses, Follows, HasCause, Only, Torn, LeavesOnly}
 
 -- the call went well, and another comes behind it
 pub record IsOnTheWay (old new : Log) (step : Step) : Type 0 where
@@ -49,3 +51,36 @@ pub record IsCall (old : Log) (step : Step) (result : Result Forced Refusal) (ne
   pub pending : new.pending ≡ old.pending
   pub behind : new.behind ≡ old.behind
   pub came : HasCome old step result new
+
+-- the records that wait are the batch that is forced
+pub record Seals (old new : Log) : Type 0 where
+  pub stage : new.stage ≡ Forcing WriteBody
+  pub place : new.place ≡ old.place
+  pub next : new.next ≡ old.next
+  pub in_flight : new.in_flight.items ≡ old.waiting.items
+  pub waiting : new.waiting.items ≡ []
+  pub batches : new.batches ≡ old.batches
+  pub count : new.waiting_count ≡ 0
+  pub size : vec_len new.pending ≡ 4
+  pub behind : new.behind ≡ old.behind + 1 + vec_len old.pending
+
+-- a device call of a step, and nothing else
+pub record CallsFor {D : Type 0} (seen : D → List ℕ) (may_leave : D → List ℕ → Type 0) (moment : D → ℕ) (left_since : D → ℕ → List ℕ → Type 0) (failures : D → ℕ) {T F : Type 0} (log : Log) (step : Step) (d e : D) (r : Result T F) : Type 0 where
+  pub done : OnOk r (AreaAfter step (seen e) (may_leave e) log.place.start log.place.end log.next (map (λ batch. batch.items) log.batches.items) log.in_flight.items)
+  pub failed : OnErr r (Area (seen e) (may_leave e) log.place.start log.place.end log.next (map (λ batch. batch.items) log.batches.items) log.in_flight.items Failed)
+  pub time : Elapses (moment d) (moment e) (left_since d) (left_since e) (may_leave e)
+  pub elsewhere : Follows (Torn log.place.start (log.place.end - log.place.start)) (may_leave d) (may_leave e)
+  pub rest : Torn log.place.start (log.place.end - log.place.start) (seen d) (seen e)
+  pub alone : step ≡ SyncGate → OnOk r (Only (seen e) (may_leave e))
+  pub cause : HasCause (failures d) (failures e) r
+
+-- a device call of a step, with what it comes to
+pub record MakesCall {D : Type 0} (seen : D → List ℕ) (may_leave : D → List ℕ → Type 0) (moment : D → ℕ) (left_since : D → ℕ → List ℕ → Type 0) (failures : D → ℕ) (old new : Log) (step : Step) (d e : D) (r : Result Forced Refusal) : Type 0 where
+  pub on : AreaOf (seen e) (may_leave e) new
+  pub call : IsCall old step r new
+  pub moments : LeavesOnly moment left_since d e (ScansWithOrWithout old.place.start old.place.end (map (λ batch. batch.items) old.batches.items) old.in_flight.items)
+  pub time : Elapses (moment d) (moment e) (left_since d) (left_since e) (may_leave e)
+  pub elsewhere : Follows (Torn old.place.start (old.place.end - old.place.start)) (may_leave d) (may_leave e)
+  pub rest : Torn old.place.start (old.place.end - old.place.start) (seen d) (seen e)
+  pub alone : IfOk r (λ forced. IsLast forced → Only (seen e) (may_leave e))
+  pub cause : HasCause (failures d) (failures e) r

@@ -6,7 +6,7 @@ ghost use Rattle.mt_frame.specs.SlotText.{IsSlot, slot_text};
 ghost use Rattle.mt_log.specs.Area.{TornFrom};
 ghost use Rattle.mt_log.specs.Masters.{AreSlots, IsClosedAt, IsRuling, Rules};
 ghost use Rattle.mt_log.specs.Quiet.{OnlyReads};
-ghost use Rattle.mt_log.specs.NextSlot.{TurnsTo, next_slot};
+ghost use Rattle.mt_log.specs.NextSlot.{TurnsBeside, TurnsTo, next_slot};
 
 use crate::masters::{FIRST_SLOT, SECOND_SLOT};
 use mt_base::limits::MASTER_SLOT_BYTES;
@@ -102,13 +102,7 @@ fn open_beside<D: Device>(
     requires rules { Rules (D.seen device.old) other at ruling.now }
     requires durable { Only (D.seen device.old) (D.may_leave device.old) }
     requires epoch { ruling.now.epoch < 2 ^ 63 }
-    ensures rules { OnOk result (IsRuling (D.seen device.new) (next_slot ruling.now)) }
-    ensures durable { OnOk result (Only (D.seen device.new) (D.may_leave device.new)) }
-    ensures moments { LeavesOnly D.moment D.left_since device.old device.new
-        (TurnsTo ruling.now (D.may_leave device.old)) }
-    ensures elsewhere { Follows (Torn 0 MASTER_BYTES) (D.may_leave device.old) (D.may_leave device.new) }
-    ensures rest { Torn 0 MASTER_BYTES (D.seen device.old) (D.seen device.new) }
-    ensures cause { HasCause (D.faults device.old) (D.faults device.new) result }
+    ensures { TurnsBeside D.seen D.may_leave D.moment D.left_since D.faults ruling.now device.old device.new result }
 {
     let text = encode_slot(&slot_after(ruling));
     write_durably(device, at + 1, &text[1..17])?;
@@ -126,13 +120,7 @@ fn rule_beside<D: Device>(
     requires rules { Rules (D.seen device.old) other at ruling.now }
     requires durable { Only (D.seen device.old) (D.may_leave device.old) }
     requires epoch { ruling.now.epoch < 2 ^ 63 }
-    ensures rules { OnOk result (IsRuling (D.seen device.new) (next_slot ruling.now)) }
-    ensures durable { OnOk result (Only (D.seen device.new) (D.may_leave device.new)) }
-    ensures moments { LeavesOnly D.moment D.left_since device.old device.new
-        (TurnsTo ruling.now (D.may_leave device.old)) }
-    ensures elsewhere { Follows (Torn 0 MASTER_BYTES) (D.may_leave device.old) (D.may_leave device.new) }
-    ensures rest { Torn 0 MASTER_BYTES (D.seen device.old) (D.seen device.new) }
-    ensures cause { HasCause (D.faults device.old) (D.faults device.new) result }
+    ensures { TurnsBeside D.seen D.may_leave D.moment D.left_since D.faults ruling.now device.old device.new result }
 {
     close_beside(device, at, other)?;
     open_beside(device, at, other, ruling)

@@ -7,3 +7,4 @@ pub mod Laws
 pub mod Rows
 pub mod Tables
 pub mod Views
+pub mod Performing

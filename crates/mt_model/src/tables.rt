@@ -2,6 +2,7 @@ ghost use Rattle.std.specs.Prelude.{◌≡◌, ◌≤◌, ◌<◌, IfOk, OnOk, I
 ghost use Rattle.mt_base.specs.declared.limits.TheConstants.{MAX_COUNTERS, MAX_RELATIONS};
 ghost use Rattle.mt_base.specs.Limits.{IsCounter, IsStep};
 ghost use Rattle.mt_model.specs.Model.{IsWithin, IsBase, IsInBounds, reply_of, base_after};
+ghost use Rattle.mt_model.specs.Performing.{Performs};
 ghost use Rattle.mt_model.specs.Rows.{IsOrdered};
 ghost use Rattle.mt_model.specs.Tables.{AreLimited, IsLimited, started};
 ghost use Rattle.mt_model.specs.Views.{base_of, rows_of, counters_of, relations_of};
@@ -189,15 +190,7 @@ impl Base {
 
     /// An `Insert`.
     fn insert(&mut self, relation: RelNo, key: &Bytes, value: &Bytes) -> Result<Reply, Refusal>
-        ensures reply { IfOk result (λ reply.
-            reply ≡ reply_of (base_of self.old) (Op.Insert relation key.now value.now)) }
-        ensures base { OnOk result
-            (base_of self.new
-            ≡ base_after (base_of self.old) (Op.Insert relation key.now value.now)) }
-        ensures only_memory { IfErr result (λ why. why ≡ Refusal.NoMemory) }
-        ensures kept { OnErr result (self.new ≡ self.old) }
-        ensures relations { relations_of self.new ≡ relations_of self.old }
-        ensures counters { counters_of self.new ≡ counters_of self.old }
+        ensures { Performs self.old self.new (Op.Insert relation key.now value.now) result }
     {
         if self.rows.insert(relation, key, value)? {
             Ok(Reply::Done)
@@ -208,15 +201,7 @@ impl Base {
 
     /// An `Update`.
     fn update(&mut self, relation: RelNo, key: &Bytes, value: &Bytes) -> Result<Reply, Refusal>
-        ensures reply { IfOk result (λ reply.
-            reply ≡ reply_of (base_of self.old) (Op.Update relation key.now value.now)) }
-        ensures base { OnOk result
-            (base_of self.new
-            ≡ base_after (base_of self.old) (Op.Update relation key.now value.now)) }
-        ensures only_memory { IfErr result (λ why. why ≡ Refusal.NoMemory) }
-        ensures kept { OnErr result (self.new ≡ self.old) }
-        ensures relations { relations_of self.new ≡ relations_of self.old }
-        ensures counters { counters_of self.new ≡ counters_of self.old }
+        ensures { Performs self.old self.new (Op.Update relation key.now value.now) result }
     {
         match self.rows.update(relation, key, value)? {
             Some(old) => Ok(Reply::Was(old)),

@@ -1,6 +1,7 @@
 -- What a call does that goes on with an operation or takes a page of it back: all its clauses in one relation, for those who pass them on.
 use Rattle.std.specs.Prelude.{◌≡◌, ◌≤◌, ◌+◌, ℕ, List, [], Bool, true, false, Option, None, Some, Result, Ok, IfErr, OnErr, length, get_or, OnOk}
 use Rattle.mt_base.specs.declared.limits.TheConstants.{MAX_COUNTERS, MAX_RELATIONS}
+use Rattle.mt_base.specs.declared.modes.Mode.{Mode}
 use Rattle.mt_base.specs.declared.refusal.Refusal.{Refusal}
 use Rattle.mt_base.specs.declared.refusal.Refusal.TheVariants as refusal
 use Rattle.mt_disk.specs.Disk.{LeavesOnly, HasCause}
@@ -13,7 +14,7 @@ use Rattle.mt_pool.specs.Views.{IsFull, IsThere}
 use Rattle.mt_steps.specs.Plans.{own_needs}
 use Rattle.mt_op.specs.World.{IsUnderWay, looked, changes_in}
 use Rattle.mt_op.specs.Operations.{world, IsRight, Goes, GoesOn, Steps, GivesBack, IsPlannedOn, HasBudget, IsAsFar, IsCause, claimed}
-use Rattle.mt_op.specs.Holds.{IsAnew, IsNext, AsksNothing, KeepsLocks, KeepsLocksOn, KeepsScope, KeepsScopeOn}
+use Rattle.mt_op.specs.Holds.{IsAnew, IsNext, AsksNothing, KeepsLocks, KeepsLocksOn, KeepsScope, KeepsScopeOn, IsHeld}
 use Rattle.mt_op.specs.Moves.{Leaves, PutsBack, Rests}
 use Rattle.mt_op.specs.Room.{HasFollowed, HasRooms}
 use Rattle.mt_op.specs.Records.{KeepsRecords, TellsDropped}
@@ -207,4 +208,15 @@ pub record EndsOperation {D : Type 0} (seen : D → List ℕ) (may_leave : D →
   pub device : n.store.device ≡ o.store.device
   pub ready : OnOk r (t.stage ≡ Ready)
   pub ended : (r ≡ Ok stepped.Went → ⊥) × (r ≡ Ok stepped.Flush → ⊥)
+  pub only_memory : IfErr r (λ why. why ≡ refusal.NoMemory)
+
+-- a page lock is asked for
+pub record AsksLock {D : Type 0} (seen : D → List ℕ) (o n : Operations D) (s t : OpScope) (page : ℕ) (mode : Mode) (r : Result Stepped Refusal) : Type 0 where
+  pub held : (opening : PageBytes) → IsHeld (world seen opening o) (world seen opening n) s t page mode r
+  pub store : n.store ≡ o.store
+  pub map : n.map ≡ o.map
+  pub rooms : n.rooms ≡ o.rooms
+  pub same : IsAsFar s t
+  pub room : r ≡ Ok stepped.Went → t.seen ≡ s.seen
+  pub never : r ≡ Ok stepped.Flush → ⊥
   pub only_memory : IfErr r (λ why. why ≡ refusal.NoMemory)

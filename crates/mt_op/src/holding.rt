@@ -1,17 +1,14 @@
 // Page locks of an operation.
-ghost use Rattle.std.specs.Prelude.{◌≡◌, ◌⊎◌, ◌<◌, get_or, Ok, true, false, Some, None, IfErr};
+ghost use Rattle.std.specs.Prelude.{◌≡◌, ◌⊎◌, ◌<◌, get_or, Ok, true, false, Some, None};
 ghost use Rattle.mt_base.specs.declared.refusal.Refusal.{Refusal};
 ghost use Rattle.mt_pool.specs.Views.{IsThere, pages};
 ghost use Rattle.mt_base.specs.declared.modes.Mode.TheVariants.{Write};
 ghost use Rattle.mt_pool.specs.Kept.{HasOpening};
-ghost use Rattle.mt_op.specs.Operations.{IsOneOf, IsAsFar};
+ghost use Rattle.mt_op.specs.Operations.{IsOneOf};
 ghost use Rattle.mt_op.specs.declared.scope.Stage.TheVariants.{Planning};
-ghost use Rattle.mt_op.specs.declared.answers.Stepped.TheVariants as stepped;
 ghost use Rattle.mt_plock.specs.Releasing.{locks_of};
-ghost use Rattle.mt_space.specs.Changes.{PageBytes};
-ghost use Rattle.mt_op.specs.Operations.{world};
-ghost use Rattle.mt_op.specs.Holds.{IsHeld, IsToLook, IsToWrite};
-ghost use Rattle.mt_op.specs.Stepping.{LocksPage, TakesLock};
+ghost use Rattle.mt_op.specs.Holds.{IsToLook, IsToWrite};
+ghost use Rattle.mt_op.specs.Stepping.{AsksLock, BeginsAnew, BringsPage, LocksPage, TakesLock};
 
 use crate::answers::Stepped;
 use crate::operations::Operations;
@@ -45,15 +42,7 @@ impl<D: Device> Operations<D> {
         mode: Mode,
     ) -> Result<Stepped, Refusal>
         requires locks { locks_of scope.old.number self.old.locks ≡ scope.old.guards.items }
-        ensures held { (opening : PageBytes) → IsHeld (world D.seen opening self.old) (world D.seen opening self.new)
-            scope.old scope.new page mode result }
-        ensures store { self.new.store ≡ self.old.store }
-        ensures map { self.new.map ≡ self.old.map }
-        ensures rooms { self.new.rooms ≡ self.old.rooms }
-        ensures same { IsAsFar scope.old scope.new }
-        ensures room { result ≡ Ok stepped.Went → scope.new.seen ≡ scope.old.seen }
-        ensures never { result ≡ Ok stepped.Flush → ⊥ }
-        ensures only_memory { IfErr result (λ why. why ≡ Refusal.NoMemory) }
+        ensures { AsksLock D.seen self.old self.new scope.old scope.new page mode result }
     {
         scope.guards.reserve(1)?;
         match self.locks.ask(scope.number, page, mode)? {

@@ -16,7 +16,7 @@ ghost use Rattle.mt_steps.specs.Plans.{own_needs};
 ghost use Rattle.mt_pool.specs.Kept.{IsKept, HasOpening};
 ghost use Rattle.mt_op.specs.World.{looked, changes_in};
 ghost use Rattle.mt_op.specs.Operations.{world, IsOneOf, IsOneWithin, HasBudget, claimed};
-ghost use Rattle.mt_op.specs.Stepping.{EndsOperation, GoesAhead, WritesPage};
+ghost use Rattle.mt_op.specs.Stepping.{EndsOperation, GoesAhead, NotesEach, NotesLooked, WritesPage};
 ghost use Rattle.mt_op.specs.declared.scope.Stage.TheVariants.{Writing, Ready};
 ghost use Rattle.mt_op.specs.Moves.{Rests, Notes};
 

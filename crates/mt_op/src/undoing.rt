@@ -17,7 +17,7 @@ ghost use Rattle.mt_op.specs.Operations.{world, IsRight, IsOneOf, Goes, HasBudge
 ghost use Rattle.mt_op.specs.declared.scope.Stage.TheVariants.{Planning, Writing, Ready, Taking, Cleared};
 ghost use Rattle.mt_op.specs.Faults.{TellsFaults};
 ghost use Rattle.mt_op.specs.Records.{TellsDropped};
-ghost use Rattle.mt_op.specs.Stepping.{PutsOneBack};
+ghost use Rattle.mt_op.specs.Stepping.{PutsOneBack, Releases, ReturnsPage};
 ghost use Rattle.mt_op.specs.declared.answers.TakenBack.TheVariants as taken;
 
 use crate::answers::TakenBack;

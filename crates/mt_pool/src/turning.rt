@@ -1,5 +1,5 @@
 // The store goes on over an area that begins with images.
-ghost use Rattle.std.specs.Prelude.{◌≡◌, ◌⊎◌, ◌+◌, ◌*◌, ◌<◌, ◌≤◌, ◌^◌, [], ℕ, List, length};
+ghost use Rattle.std.specs.Prelude.{◌≡◌, ◌+◌, ◌*◌, ◌<◌, ◌≤◌, [], ℕ, List, length};
 ghost use Rattle.std.specs.List.{AllByRecursion};
 ghost use Rattle.mt_base.specs.declared.limits.TheConstants.{MAX_PAGES, PAGE_BYTES};
 ghost use Rattle.mt_frame.specs.declared.records.Record.{Record};
@@ -8,8 +8,9 @@ ghost use Rattle.mt_log.specs.Sound.{IsSound};
 ghost use Rattle.mt_log.specs.Words.{durable, in_flight, waiting, area_start, IsOn};
 ghost use Rattle.mt_pool.specs.Images.{IsSafe};
 ghost use Rattle.mt_pool.specs.Kept.{IsKept, Names, carried};
-ghost use Rattle.mt_pool.specs.Turns.{IsImageOnly, KnowsImages};
+ghost use Rattle.mt_pool.specs.Turns.{IsImageOnly};
 ghost use Rattle.mt_pool.specs.Views.{IsPool, Shows, view, waits_for, pages as pages_of};
+ghost use Rattle.mt_pool.specs.Moves.{NotesImages};
 
 use crate::{Pool, Store};
 use mt_base::LogPos;
@@ -22,12 +23,7 @@ fn note_images(pool: &mut Pool, images: &[Record])
     requires pool { IsPool pool.old }
     requires new { (q : ℕ) → waits_for pool.old q ≡ 0 }
     requires images { AllByRecursion (IsImageOnly (pages_of pool.old)) images.now }
-    ensures pool { IsPool pool.new }
-    ensures shows { (seen : List ℕ) → Shows pool.old seen → Shows pool.new seen }
-    ensures views { (seen : List ℕ) (q : ℕ) → view pool.new seen q ≡ view pool.old seen q }
-    ensures place { pool.new.place ≡ pool.old.place }
-    ensures pages { pages_of pool.new ≡ pages_of pool.old }
-    ensures knows { KnowsImages pool.new images.now }
+    ensures { NotesImages pool.old pool.new images.now }
 {
     let mut position = 0;
     for entry in images {

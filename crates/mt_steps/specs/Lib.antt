@@ -9,3 +9,4 @@ pub mod Repeated
 pub mod Logged
 pub mod Tells
 pub mod Formatted
+pub mod Planners

@@ -1,16 +1,14 @@
 // A row less.
-ghost use Rattle.std.specs.Prelude.{◌≡◌, ◌≤◌, ◌<◌, ℕ, Bool, [], List, Option, length, None, Some, IfOk, IsSome, false};
-ghost use Rattle.mt_base.specs.declared.limits.TheConstants.{MAX_KEY_BYTES, MAX_WRITTEN_PAGES};
-ghost use Rattle.mt_space.specs.Changes.{after, AreShort};
+ghost use Rattle.std.specs.Prelude.{◌≡◌, ◌≤◌, ◌<◌, ℕ, length, Some, IfOk, IsSome, false};
+ghost use Rattle.mt_base.specs.declared.limits.TheConstants.{MAX_KEY_BYTES};
 ghost use Rattle.mt_base.specs.declared.modes.Mode.TheVariants.{Write as ToWrite};
 ghost use Rattle.mt_index.specs.Answers.{InMaps, IsInBucket};
 ghost use Rattle.mt_model.specs.declared.operations.Op.TheVariants.{Delete};
 ghost use Rattle.mt_steps.specs.Drafts.{AreAtHand};
-ghost use Rattle.mt_steps.specs.Acts.{HasGood, InGood, IfLock, IfMade, IfFull, IfBroken, IsAct, IsTaken};
-ghost use Rattle.mt_steps.specs.Asks.{AsksFor, IsForDelete};
-ghost use Rattle.mt_steps.specs.Plans.{IsModest};
-ghost use Rattle.mt_steps.specs.Logged.{logged_of};
+ghost use Rattle.mt_steps.specs.Acts.{HasGood, InGood, IsTaken};
+ghost use Rattle.mt_steps.specs.Asks.{IsForDelete};
 ghost use Rattle.mt_steps.specs.Tells.{Tells, IsWanted, IsDone, IsAny, TakesNone, HasTaken};
+ghost use Rattle.mt_steps.specs.Planners.{PlansDelete};
 
 use crate::act::Act;
 use crate::joining::{drafted, join, to_write};
@@ -33,26 +31,7 @@ pub(crate) fn delete<V: Pages>(
     requires sound { V.is_sound views.now }
     requires good { ∥ ((relations : ℕ) × HasGood (V.at_hand views.now) relations (V.total views.now)) ∥₁ }
     requires short { length key.now ≤ MAX_KEY_BYTES }
-    ensures lock { IfOk result (λ act. IfLock act (λ p mode. (V.at_hand views.now p ≡ None) ×
-        (p < V.total views.now))) }
-    ensures asks { (room : Option ℕ) (split : Bool) → IfOk result (λ act. IfLock act
-        (AsksFor (V.at_hand views.now) room (V.total views.now) split (Delete relation key.now))) }
-    ensures made { (relations : ℕ) → IfOk result (λ act. IfMade act (λ changes reply.
-        InGood (V.at_hand views.now) relations (V.total views.now) (λ pages m.
-        IsAct relations (V.total views.now) pages (after changes pages) (Delete relation key.now) reply ×
-        AreShort changes pages))) }
-    ensures modest { (relations : ℕ) → IfOk result (λ act. IfMade act (λ changes reply.
-        InGood (V.at_hand views.now) relations (V.total views.now) (λ pages m.
-        IsModest (V.at_hand views.now) (V.total views.now) 0 false pages (after changes pages)))) }
-    ensures takes { (relations : ℕ) → IfOk result (λ act. IfMade act (λ changes reply.
-        InGood (V.at_hand views.now) relations (V.total views.now)
-        (λ pages m. TakesNone pages (after changes pages)))) }
-    ensures full { IfOk result (λ act. IfFull act ⊥) }
-    ensures there { IfOk result (λ act. IfMade act (λ changes reply. AreAtHand (V.at_hand views.now) changes)) }
-    ensures few { IfOk result (λ act. IfMade act (λ changes reply. length changes ≤ MAX_WRITTEN_PAGES)) }
-    ensures idle { IfOk result (λ act. IfMade act (λ changes reply. logged_of
-        (Delete relation key.now) reply ≡ None → changes ≡ [])) }
-    ensures broken { IfOk result (λ act. IfBroken act ⊥) }
+    ensures { PlansDelete (V.at_hand views.now) (V.total views.now) relation key.now result }
 {
     match plan_find(views, relation, key) {
         Find::Need(page, mode) => Ok(Act::Lock(page, to_write(page, mode))),

@@ -1,12 +1,8 @@
 // A read of a row.
-ghost use Rattle.std.specs.Prelude.{◌≡◌, ◌≤◌, ◌<◌, [], ℕ, Bool, Option, length, None, IfOk};
+ghost use Rattle.std.specs.Prelude.{◌≤◌, ◌<◌, ℕ, length};
 ghost use Rattle.mt_base.specs.declared.limits.TheConstants.{MAX_KEY_BYTES};
-ghost use Rattle.mt_base.specs.declared.modes.Mode.TheVariants.{Read};
-ghost use Rattle.mt_space.specs.Changes.{after, AreShort};
-ghost use Rattle.mt_model.specs.declared.operations.Op.TheVariants.{Get};
-ghost use Rattle.mt_steps.specs.Acts.{HasGood, InGood, IfLock, IfMade, IfFull, IfBroken, IsAct};
-ghost use Rattle.mt_steps.specs.Asks.{AsksFor};
-ghost use Rattle.mt_steps.specs.Logged.{logged_of};
+ghost use Rattle.mt_steps.specs.Acts.{HasGood};
+ghost use Rattle.mt_steps.specs.Planners.{PlansGet};
 
 use crate::act::Act;
 use mt_base::{Bytes, RelNo};
@@ -27,20 +23,7 @@ pub(crate) fn get<V: Pages>(
     requires sound { V.is_sound views.now }
     requires good { ∥ ((relations : ℕ) × HasGood (V.at_hand views.now) relations (V.total views.now)) ∥₁ }
     requires short { length key.now ≤ MAX_KEY_BYTES }
-    ensures lock { IfOk result (λ act. IfLock act (λ p mode. (V.at_hand views.now p ≡ None) ×
-        (p < V.total views.now))) }
-    ensures asks { (room : Option ℕ) (split : Bool) → IfOk result (λ act. IfLock act
-        (AsksFor (V.at_hand views.now) room (V.total views.now) split (Get relation key.now))) }
-    ensures mode { IfOk result (λ act. IfLock act (λ p mode. mode ≡ Read)) }
-    ensures made { (relations : ℕ) → IfOk result (λ act. IfMade act (λ changes reply.
-        InGood (V.at_hand views.now) relations (V.total views.now) (λ pages m.
-        IsAct relations (V.total views.now) pages (after changes pages) (Get relation key.now) reply ×
-        AreShort changes pages))) }
-    ensures quiet { IfOk result (λ act. IfMade act (λ changes reply. changes ≡ [])) }
-    ensures idle { IfOk result (λ act. IfMade act (λ changes reply. logged_of (Get relation key.now) reply ≡ None →
-        changes ≡ [])) }
-    ensures full { IfOk result (λ act. IfFull act ⊥) }
-    ensures broken { IfOk result (λ act. IfBroken act ⊥) }
+    ensures { PlansGet (V.at_hand views.now) (V.total views.now) relation key.now result }
 {
     let name = match plan_find(views, relation, key) {
         Find::Need(page, mode) => return Ok(Act::Lock(page, mode)),

@@ -1,19 +1,19 @@
 // A row more.
-ghost use Rattle.std.specs.Prelude.{◌≡◌, ◌⊎◌, ◌≤◌, ◌<◌, ℕ, [], List, Option, length, None, IfOk, IsSome, cond};
-ghost use Rattle.mt_base.specs.declared.limits.TheConstants.{MAX_KEY_BYTES, MAX_VALUE_BYTES, MAX_WRITTEN_PAGES};
+ghost use Rattle.std.specs.Prelude.{◌≡◌, ◌⊎◌, ◌≤◌, ◌<◌, ℕ, List, Option, length, None, IfOk, IsSome, cond};
+ghost use Rattle.mt_base.specs.declared.limits.TheConstants.{MAX_KEY_BYTES};
 ghost use Rattle.mt_base.specs.Limits.{IsKey, IsValue};
-ghost use Rattle.mt_slots.specs.Page.{Fits, row_length};
-ghost use Rattle.mt_space.specs.Changes.{PageBytes, Agrees, after, AreShort};
+ghost use Rattle.mt_slots.specs.Page.{row_length};
+ghost use Rattle.mt_space.specs.Changes.{PageBytes, Agrees, after};
 ghost use Rattle.mt_model.specs.declared.operations.Op.TheVariants.{Insert};
 ghost use Rattle.mt_index.specs.Answers.{InMaps, IsDueInAdd};
 ghost use Rattle.mt_steps.specs.Drafts.{AreAtHand};
-ghost use Rattle.mt_steps.specs.Acts.{HasRoomy, InRoomy, IfLock, IfMade, IfFull, IfBroken, IsAct, IsPlaced};
-ghost use Rattle.mt_steps.specs.Asks.{AsksFor, IsForInsert};
-ghost use Rattle.mt_steps.specs.Plans.{free_pages, IsTight, TakesPages, IsModest};
-ghost use Rattle.mt_steps.specs.Logged.{logged_of};
+ghost use Rattle.mt_steps.specs.Acts.{HasRoomy, InRoomy, IsPlaced};
+ghost use Rattle.mt_steps.specs.Asks.{IsForInsert};
+ghost use Rattle.mt_steps.specs.Plans.{free_pages, IsTight, TakesPages};
 ghost use Rattle.mt_steps.specs.Tells.{Tells, IsWanted, IsDone, HasRoom, TakesRow, TakesAlone, HasPlaced};
 ghost use Rattle.mt_index.specs.Maps.{Map};
 ghost use Rattle.mt_steps.specs.Held.{AreRows};
+ghost use Rattle.mt_steps.specs.Planners.{PlansInsert};
 
 use crate::act::Act;
 use crate::joining::{drafted, join, to_write};
@@ -42,32 +42,7 @@ pub(crate) fn insert<V: Pages>(
     requires relation_fits { relation < 256 }
     requires key_fits { IsKey key.now }
     requires value_fits { IsValue value.now }
-    ensures lock { IfOk result (λ act. IfLock act (λ p mode. (V.at_hand views.now p ≡ None) ×
-        (p < V.total views.now))) }
-    ensures asks { IfOk result (λ act. IfLock act
-        (AsksFor (V.at_hand views.now) room (V.total views.now) split (Insert relation key.now value.now))) }
-    ensures made { (relations : ℕ) → Fits relations MAX_VALUE_BYTES
-        (record { relation = relation; key = key.now; value = value.now }) → IfOk result (λ act.
-        IfMade act (λ changes reply.
-        InRoomy (V.at_hand views.now) room relations (V.total views.now) (λ pages m.
-        IsAct relations (V.total views.now) pages (after changes pages) (Insert relation key.now value.now) reply ×
-        AreShort changes pages))) }
-    ensures there { IfOk result (λ act. IfMade act (λ changes reply. AreAtHand (V.at_hand views.now) changes)) }
-    ensures few { IfOk result (λ act. IfMade act (λ changes reply. length changes ≤ MAX_WRITTEN_PAGES)) }
-    ensures idle { IfOk result (λ act. IfMade act (λ changes reply. logged_of
-        (Insert relation key.now value.now) reply ≡ None → changes ≡ [])) }
-    ensures modest { (relations : ℕ) → Fits relations MAX_VALUE_BYTES
-        (record { relation = relation; key = key.now; value = value.now }) → IfOk result (λ act.
-        IfMade act (λ changes reply. InRoomy (V.at_hand views.now) room relations (V.total views.now) (λ pages m.
-        IsModest (V.at_hand views.now) (V.total views.now) (cond split 3 2) split pages (after changes pages)))) }
-    ensures takes { (relations : ℕ) → Fits relations MAX_VALUE_BYTES
-        (record { relation = relation; key = key.now; value = value.now }) → IfOk result (λ act.
-        IfMade act (λ changes reply. InRoomy (V.at_hand views.now) room relations (V.total views.now) (λ pages m.
-        TakesPages room (Insert relation key.now value.now) pages (after changes pages)))) }
-    ensures full { (relations : ℕ) → IfOk result (λ act. IfFull act (InRoomy (V.at_hand views.now) room relations
-        (V.total views.now) (λ pages m. (free_pages (V.total views.now) pages < cond split 3 2) ⊎
-        IsTight room pages (row_length (record { relation = relation; key = key.now; value = value.now }))))) }
-    ensures broken { IfOk result (λ act. IfBroken act ⊥) }
+    ensures { PlansInsert (V.at_hand views.now) (V.total views.now) room split relation key.now value.now result }
 {
     match plan_find(views, relation, key) {
         Find::Need(page, mode) => Ok(Act::Lock(page, to_write(page, mode))),

@@ -1,19 +1,18 @@
 // Another value in a row.
-ghost use Rattle.std.specs.Prelude.{◌≡◌, ◌≢◌, ◌⊎◌, ◌≤◌, ◌<◌, ℕ, Bool, [], List, Option, length, None, Some, IfOk, IsSome, MatchBool, false};
-ghost use Rattle.mt_base.specs.declared.limits.TheConstants.{MAX_KEY_BYTES, MAX_VALUE_BYTES, MAX_WRITTEN_PAGES};
+ghost use Rattle.std.specs.Prelude.{◌≡◌, ◌≢◌, ◌⊎◌, ◌≤◌, ◌<◌, ℕ, List, Option, length, Some, IfOk, IsSome, MatchBool, false};
+ghost use Rattle.mt_base.specs.declared.limits.TheConstants.{MAX_KEY_BYTES};
 ghost use Rattle.mt_base.specs.Limits.{IsValue};
 ghost use Rattle.mt_base.specs.declared.numbers.RecordName.{RecordName};
-ghost use Rattle.mt_slots.specs.Page.{Fits, row_length};
-ghost use Rattle.mt_space.specs.Changes.{after, AreShort};
+ghost use Rattle.mt_slots.specs.Page.{row_length};
 ghost use Rattle.mt_base.specs.declared.modes.Mode.TheVariants.{Write as ToWrite};
 ghost use Rattle.mt_index.specs.Answers.{InMaps, IsInBucket};
 ghost use Rattle.mt_model.specs.declared.operations.Op.TheVariants.{Update};
 ghost use Rattle.mt_steps.specs.Drafts.{AreAtHand};
-ghost use Rattle.mt_steps.specs.Acts.{HasRoomy, InRoomy, IfLock, IfMade, IfFull, IfBroken, IsAct, IsMoved};
-ghost use Rattle.mt_steps.specs.Asks.{AsksFor, IsForUpdate};
-ghost use Rattle.mt_steps.specs.Plans.{free_pages, IsTight, TakesPages, IsModest};
-ghost use Rattle.mt_steps.specs.Logged.{logged_of};
+ghost use Rattle.mt_steps.specs.Acts.{HasRoomy, InRoomy, IsMoved};
+ghost use Rattle.mt_steps.specs.Asks.{IsForUpdate};
+ghost use Rattle.mt_steps.specs.Plans.{free_pages, IsTight, TakesPages};
 ghost use Rattle.mt_steps.specs.Tells.{Tells, IsWanted, IsDone, HasRoom, TakesRow, TakesAlone, HasMoved};
+ghost use Rattle.mt_steps.specs.Planners.{PlansUpdate};
 
 use crate::act::Act;
 use crate::joining::{drafted, join};
@@ -40,32 +39,7 @@ pub(crate) fn update<V: Pages>(
     requires good { ∥ ((relations : ℕ) × HasRoomy (V.at_hand views.now) room relations (V.total views.now)) ∥₁ }
     requires short { length key.now ≤ MAX_KEY_BYTES }
     requires value_fits { IsValue value.now }
-    ensures lock { IfOk result (λ act. IfLock act (λ p mode. (V.at_hand views.now p ≡ None) ×
-        (p < V.total views.now))) }
-    ensures asks { (split : Bool) → IfOk result (λ act. IfLock act
-        (AsksFor (V.at_hand views.now) room (V.total views.now) split (Update relation key.now value.now))) }
-    ensures made { (relations : ℕ) → Fits relations MAX_VALUE_BYTES
-        (record { relation = relation; key = key.now; value = value.now }) → IfOk result (λ act.
-        IfMade act (λ changes reply.
-        InRoomy (V.at_hand views.now) room relations (V.total views.now) (λ pages m.
-        IsAct relations (V.total views.now) pages (after changes pages) (Update relation key.now value.now) reply ×
-        AreShort changes pages))) }
-    ensures there { IfOk result (λ act. IfMade act (λ changes reply. AreAtHand (V.at_hand views.now) changes)) }
-    ensures few { IfOk result (λ act. IfMade act (λ changes reply. length changes ≤ MAX_WRITTEN_PAGES)) }
-    ensures idle { IfOk result (λ act. IfMade act (λ changes reply. logged_of
-        (Update relation key.now value.now) reply ≡ None → changes ≡ [])) }
-    ensures modest { (relations : ℕ) → Fits relations MAX_VALUE_BYTES
-        (record { relation = relation; key = key.now; value = value.now }) → IfOk result (λ act.
-        IfMade act (λ changes reply. InRoomy (V.at_hand views.now) room relations (V.total views.now) (λ pages m.
-        IsModest (V.at_hand views.now) (V.total views.now) 1 false pages (after changes pages)))) }
-    ensures takes { (relations : ℕ) → Fits relations MAX_VALUE_BYTES
-        (record { relation = relation; key = key.now; value = value.now }) → IfOk result (λ act.
-        IfMade act (λ changes reply. InRoomy (V.at_hand views.now) room relations (V.total views.now) (λ pages m.
-        TakesPages room (Update relation key.now value.now) pages (after changes pages)))) }
-    ensures full { (relations : ℕ) → IfOk result (λ act. IfFull act (InRoomy (V.at_hand views.now) room relations
-        (V.total views.now) (λ pages m. (free_pages (V.total views.now) pages < 1) ⊎
-        IsTight room pages (row_length (record { relation = relation; key = key.now; value = value.now }))))) }
-    ensures broken { IfOk result (λ act. IfBroken act ⊥) }
+    ensures { PlansUpdate (V.at_hand views.now) (V.total views.now) room relation key.now value.now result }
 {
     match plan_find(views, relation, key) {
         Find::Need(page, mode) => Ok(Act::Lock(page, mode)),

@@ -1,6 +1,6 @@
 use Rattle.mt_base.specs.declared.refusal.Refusal.{Refusal}
 use Rattle.mt_base.specs.declared.refusal.Refusal.TheVariants as refusal
-use Rattle.std.specs.Prelude.{Bool, Err, IfErr, Ok, Result}
+use Rattle.std.specs.Prelude.{Bool, Err, IfErr, Ok, Result, ◌≡◌}
 use Rattle.mt_plock.specs.declared.guards.PageLock.{PageLock}
 use Rattle.std.proofs.Common.{List, inl, inr, ⊎_elim, refl, sym, ◌∙◌, ap, subst, arith}
 use Rattle.std.proofs.lemmas.Result.{err_from_is_err_and}

@@ -1,6 +1,7 @@
 use Rattle.std.proofs.Common.{◌≡◌, ◌<◌, ℕ, List, [], ◌∷◌, ◌++◌, None, get_or, ⊎_elim, inl, inr, refl, sym, subst, ◌∙◌, ap, arith}
-use Rattle.std.specs.Prelude.{Result, Ok, Err}
+use Rattle.std.specs.Prelude.{Err, IfErr, Ok, Result}
 use Rattle.mt_base.specs.declared.refusal.Refusal.{Refusal}
+use Rattle.mt_base.specs.declared.refusal.Refusal.TheVariants as refusal
 use Rattle.std.proofs.lemmas.Result.{err_from_is_err_and}
 use Rattle.mt_pool.specs.Views.{IsPool, IsThere, view}
 use Rattle.mt_pool.specs.declared.store.Store.{Store}
@@ -48,7 +49,7 @@ returns-in_err-other g c = let d = g.D.Device in let seen = d.seen in let o = c.
     let opening : PageBytes = λ p. [] in
     let any = subst (IsHeld (world seen opening o) (world seen opening n) m t c.args.page c.args.mode) c.in_err-other.was (f.held opening) in
     let before = stays_work s m c.requires.planning stays in let behind = stays_work m t c.requires.planning any.1 in
-    subst (TakesLock seen d.may_leave o n s t) (sym (p.1 ∙ ap Err (p.2 ∙ c.in_err-other.ensures.only_memory))) (record {
+    subst (TakesLock seen d.may_leave o n s t) (sym (p.1 ∙ ap Err (p.2 ∙ subst (λ (r : Result Stepped Refusal). IfErr r (λ why. why ≡ refusal.NoMemory)) c.in_err-other.was f.only_memory))) (record {
       goes = λ opening relations counters right k. let w = world seen opening o in let z = world seen opening n in
           let km = planning_stays relations counters w s m c.requires.planning stays k in
           let h = subst (IsHeld w z m t c.args.page c.args.mode) c.in_err-other.was (f.held opening) in (

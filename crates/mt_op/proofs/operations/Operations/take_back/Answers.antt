@@ -1,7 +1,7 @@
 use Rattle.std.proofs.Props.{props}
 use mathlib.Core.Logic.{∥∥₁_elim}
 use Rattle.std.proofs.Common.{rules, ◌≤◌, ◌<◌, ◌-◌, length, inr, refl, sym, subst, arith, ◌∙◌, ap}
-use Rattle.std.specs.Prelude.{Bool, Err, IfErr, Ok, Result}
+use Rattle.std.specs.Prelude.{Bool, Err, IfErr, Ok, Result, ◌≡◌}
 use Rattle.std.proofs.lemmas.Result.{err_from_is_err_and}
 use Rattle.mt_base.specs.declared.refusal.Refusal.{Refusal}
 use Rattle.mt_base.specs.declared.refusal.Refusal.TheVariants as refusal

@@ -1,5 +1,5 @@
 -- What the plan of each kind of operation is, over the pages at hand.
-use Rattle.std.specs.Prelude.{ℕ, ℤ, List, Bool, Option, Result, IfOk, None, ◌≡◌, ◌<◌, cond, length, ◌≤◌, ◌⊎◌, false}
+use Rattle.std.specs.Prelude.{ℕ, ℤ, List, [], Bool, Option, Result, IfOk, None, ◌≡◌, ◌<◌, cond, length, ◌≤◌, ◌⊎◌, false}
 use Rattle.std.specs.declared.alloc.AllocError.{AllocError}
 use Rattle.mt_steps.specs.declared.act.Act.{Act}
 use Rattle.mt_space.specs.Changes.{AreShort, after}

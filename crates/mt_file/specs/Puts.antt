@@ -1,5 +1,5 @@
 -- What the plans of a record more and of a record that moves share.
-use Rattle.std.specs.Prelude.{ℕ, List, Option, Result, IfOk, IsSome, length, ◌+◌, ◌≡◌, ◌≢◌, ◌≤◌, Some}
+use Rattle.std.specs.Prelude.{ℕ, List, [], Option, Result, IfOk, IsSome, length, ◌+◌, ◌≡◌, ◌≢◌, ◌≤◌, Some}
 use Rattle.std.specs.declared.alloc.AllocError.{AllocError}
 use Rattle.mt_space.specs.declared.changes.PageChange.{PageChange}
 use Rattle.mt_file.specs.declared.step.Plan.{Plan}

@@ -1,8 +1,8 @@
 // Pages come into frames.
-ghost use Rattle.std.specs.Prelude.{◌≡◌, ◌<◌, ℕ, List, length, get_or, Ok, Some, None, OnOk};
+ghost use Rattle.std.specs.Prelude.{◌≡◌, ◌<◌, ◌≤◌, ◌+◌, ℕ, List, [], length, get_or, Ok, Some, None, OnOk};
 ghost use Rattle.mt_base.specs.declared.limits.TheConstants.{PAGE_BYTES};
 ghost use Rattle.mt_disk.specs.Disk.{Elapses, HasCause};
-ghost use Rattle.mt_pool.specs.Moves.{Installs};
+ghost use Rattle.mt_pool.specs.Images.{slot};
 
 use crate::Pool;
 use crate::slots::{index_of, read_page};
@@ -29,7 +29,17 @@ impl Pool {
         requires page { page < pages self.old }
         requires free { get_or self.old.holds.items frame None ≡ None }
         requires new { get_or self.old.of_page.items page None ≡ None }
-        ensures { Installs self.old self.new frame page }
+        ensures pool { IsPool self.new }
+        ensures shows { (seen : List ℕ) → Shows self.old seen
+            → get_or self.old.bytes.items frame [] ≡ slot self.old.place seen page → Shows self.new seen }
+        ensures views { (seen : List ℕ) → Shows self.old seen
+            → get_or self.old.bytes.items frame [] ≡ slot self.old.place seen page → (q : ℕ)
+            → view self.new seen q ≡ view self.old seen q }
+        ensures there { get_or self.new.of_page.items page None ≡ Some frame }
+        ensures waits { self.new.waits ≡ self.old.waits }
+        ensures pages { pages self.new ≡ pages self.old }
+        ensures flush { self.new.dirty ≡ self.old.dirty }
+        ensures place { self.new.place ≡ self.old.place }
     {
         self.of_page[index_of(page)] = Some(frame);
         self.holds[frame] = Some(page);

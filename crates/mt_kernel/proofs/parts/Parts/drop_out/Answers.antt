@@ -12,6 +12,7 @@ use Rattle.std.proofs.lemmas.List.{get_or_default}
 use Rattle.mt_kernel.specs.Consistent.{state_of, DropsIn}
 use Rattle.mt_kernel.specs.declared.parts.Parts.{Parts}
 use Rattle.mt_kernel.specs.declared.parts.Running.{Running}
+use Rattle.mt_plock.specs.Releasing.{locks_without}
 use Rattle.mt_kernel.proofs.parts.Parts.drop_out.Goals as goal
 
 pub drop_out-requires-clause-cleared : goal.drop_out-requires-clause-cleared
@@ -47,7 +48,9 @@ pub returns : goal.returns
 returns g c = record {
   items = search rules;
   store = search rules;
-  locks = search rules;
+  locks = λ x is. let r = c.remove-scope.result in let k = c.args.self.now in
+      let here : r ≡ x = c.remove-scope.ensures.value ∙ sym (get_or_default k.running.items c.args.place x r c.requires.within) ∙ sym is in
+      c.give_back.ensures.locks ∙ c.drop_out.ensures.locks ∙ ap (λ (z : Running). locks_without z.scope.number k.operations.locks) here;
   live = search rules;
   commits = search rules;
   drops = λ origin base cleared x is.

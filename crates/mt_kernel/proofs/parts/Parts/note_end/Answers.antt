@@ -20,6 +20,7 @@ use Rattle.mt_kernel.proofs.Refusing.{Above-prop}
 use Rattle.mt_kernel.proofs.Members.{states_kept}
 use Rattle.mt_live.specs.Members.{with_call}
 use Rattle.mt_kernel.specs.Restartable.{NotesEnd}
+use Rattle.mt_plock.specs.Releasing.{locks_without}
 use Rattle.mt_kernel.proofs.parts.Parts.note_end.Goals as goal
 
 pub end-requires-clause-ready : goal.end-requires-clause-ready
@@ -57,7 +58,9 @@ note-requires g c = record {
 pub returns : goal.returns
 returns g c = record {
   items = search rules;
-  locks = search rules;
+  locks = λ x is. let r = c.remove-scope.result in let k = c.args.self.now in
+      let here : r ≡ x = c.remove-scope.ensures.value ∙ sym (get_or_default k.running.items c.args.place x r c.requires.within) ∙ sym is in
+      c.give_back.ensures.locks ∙ c.end.ensures.locks ∙ ap (λ (z : Running). locks_without z.scope.number k.operations.locks) here;
   store = search rules;
   states = λ u. states_kept (λ m. with_call m c.number-number.result (c.remove-scope.result.op, c.args.reply)) c.args.self.now.live.members c.note.new.self.members c.txn-txn.result (λ m. refl) c.note.ensures.member u;
   commits = search rules;

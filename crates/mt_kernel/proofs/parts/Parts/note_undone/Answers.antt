@@ -16,6 +16,7 @@ use Rattle.mt_kernel.proofs.Members.{states_kept}
 use Rattle.mt_kernel.proofs.Ending.{taken_state}
 use Rattle.std.proofs.Common.{refl}
 use Rattle.mt_kernel.specs.Restartable.{NotesUndone}
+use Rattle.mt_plock.specs.Releasing.{locks_without}
 use Rattle.mt_kernel.proofs.parts.Parts.note_undone.Goals as goal
 
 pub end-requires-clause-ready : goal.end-requires-clause-ready
@@ -32,7 +33,9 @@ undone-requires g c = ∥∥₁_elim c.requires.ready (hlevel props) (λ (origin
 pub returns : goal.returns
 returns g c = record {
   items = search rules;
-  locks = search rules;
+  locks = λ x is. let r = c.remove-scope.result in let k = c.args.self.now in
+      let here : r ≡ x = c.remove-scope.ensures.value ∙ sym (get_or_default k.running.items c.args.place x r c.requires.within) ∙ sym is in
+      c.end.ensures.locks ∙ ap (λ (z : Running). locks_without z.scope.number k.operations.locks) here;
   store = search rules;
   states = λ u. states_kept taken_back c.args.self.now.live.members c.undone.new.self.members c.txn-txn.result taken_state c.undone.ensures.member u;
   commits = search rules;

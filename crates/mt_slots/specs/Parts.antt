@@ -2,7 +2,7 @@
 use Rattle.std.specs.Prelude.{◌≡◌, ◌≢◌, ◌⊎◌, ℕ, ◌+◌, ◌*◌, ◌/◌, ◌%◌, ◌<◌, ◌≤◌, List, [], ◌∷◌, ◌++◌, length}
 use Rattle.std.proofs.Math.ListN.{get_or}
 use Rattle.mt_base.specs.declared.limits.TheConstants.{PAGE_BYTES}
-use Rattle.mt_base.specs.Ranges.{Has, Same, part}
+use Rattle.mt_base.specs.Ranges.{Has, Same}
 use Rattle.mt_slots.specs.Page.{Row, count, offset, size, row_at, slot, live_bytes, IsFree, IsSlot, Fits, Opens}
 
 -- slot i of a page whose table ends at `low`, with a record of the schema if it holds one
@@ -87,11 +87,3 @@ pub record Compacted (old new : List ℕ) : Type 0 where
   pub slots : (j : ℕ) → slot new j ≡ slot old j
   pub live : live_bytes new (count new) ≡ live_bytes old (count old)
   pub low : (j : ℕ) → j < count old → size old j ≢ 0 → PAGE_BYTES ≤ offset new j + live_bytes old (count old)
-
--- The relation and the key of the record in slot i; the key stands in front of the buffer.
-pub record Keeps (page : List ℕ) (i : ℕ) (buffer : List ℕ) (r n : ℕ) : Type 0 where
-  pub relation : r ≡ (row_at page (offset page i)).relation
-  pub small : r < 256
-  pub length : n ≡ length (row_at page (offset page i)).key
-  pub fits : n < 256
-  pub key : part buffer 0 n ≡ (row_at page (offset page i)).key

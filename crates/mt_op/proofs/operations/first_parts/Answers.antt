@@ -39,3 +39,15 @@ of-requires-in-Ok-There-clause-whole g c = ∥∥₁_elim c.requires.good (hleve
     let read = read_fetched seen g.D.Device.may_leave g.D.Device.moment g.D.Device.left_since c.args.store.now n f.kept f.views f.moments f.log f.place f.pages f.flush in
     ap (λ (bytes : List ℕ). length bytes) (c.view.ensures (seen n.device) ∙ ap (λ (p : ℕ). view n.pool (seen n.device) p) c.new-in-Ok-There.ensures)
     ∙ unlogged_whole seen opening relations counters n (subst (λ (x : ℕ). IsGood relations counters x opening) (sym f.pages) good) (read.shows opening shows))
+
+pub returns-in_err-map-in-Ok-There-clause-read : goal.returns-in_err-map-in-Ok-There-clause-read
+returns-in_err-map-in-Ok-There-clause-read g c = let d = g.D.Device in let f = c.fetch.ensures in
+    read_fetched d.seen d.may_leave d.moment d.left_since c.args.store.now c.fetch.new.self f.kept f.views f.moments f.log f.place f.pages f.flush
+
+pub returns-in_ok-map-in-Ok-There-clause-read : goal.returns-in_ok-map-in-Ok-There-clause-read
+returns-in_ok-map-in-Ok-There-clause-read g c = let d = g.D.Device in let f = c.fetch.ensures in
+    read_fetched d.seen d.may_leave d.moment d.left_since c.args.store.now c.fetch.new.self f.kept f.views f.moments f.log f.place f.pages f.flush
+
+pub returns-in-Err-clause-read : goal.returns-in-Err-clause-read
+returns-in-Err-clause-read g c = let d = g.D.Device in let f = c.fetch.ensures in
+    read_fetched d.seen d.may_leave d.moment d.left_since c.args.store.now c.fetch.new.self f.kept f.views f.moments f.log f.place f.pages f.flush

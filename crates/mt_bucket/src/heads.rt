@@ -11,10 +11,11 @@ use mt_base::ranges::{put, put_u16, u16_at};
 /// The most entries of a page.
 pub const MAX_ENTRIES: usize = 58;
 
-// Bytes of the head, and of an entry.
-pub(crate) const HEAD_BYTES: usize = 8;
+/// Bytes of a page's head.
+pub const HEAD_BYTES: usize = 8;
 
-pub(crate) const CELL_BYTES: usize = 70;
+/// Bytes of an entry.
+pub const CELL_BYTES: usize = 70;
 
 /// How many bits of the hash the bucket's keys share.
 pub fn depth(page: &[u8]) -> u8

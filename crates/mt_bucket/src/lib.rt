@@ -16,4 +16,6 @@ pub use changing::{partition, push, remove, set};
 pub use checking::check;
 pub use finding::{EntryView, entry, find, place_of};
 pub use hashing::{has_bit, hash};
-pub use heads::{MAX_ENTRIES, count, depth, empty, next, set_depth, set_next};
+pub use heads::{
+    CELL_BYTES, HEAD_BYTES, MAX_ENTRIES, count, depth, empty, next, set_depth, set_next,
+};

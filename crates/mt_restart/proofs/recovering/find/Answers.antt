@@ -65,3 +65,11 @@ returns-clause-found g c =
       prepared = subst (λ (x : List Record). IsPrepared c.in_ok-replayed.replayed.ruling x c.in_ok-prepared.prepared) c.deref-3.ensures.value c.in_ok-prepared.ensures.prepared;
       beside = subst (λ (x : List (List ℕ)). IsBeside x c.args.frames c.in_ok-beside.beside) c.deref-4.ensures.value c.in_ok-beside.ensures.beside;
     }
+
+pub returns-in_err-replayed-clause-reads : goal.returns-in_err-replayed-clause-reads
+returns-in_err-replayed-clause-reads g c = let r = c.replay.ensures in record { same = r.seen; less = r.crash; moments = r.moments }
+
+pub returns-in_err-prepared-clause-reads : goal.returns-in_err-prepared-clause-reads
+returns-in_err-prepared-clause-reads g c =
+    let D = g.D.Device in let r = c.replay.ensures in let m = c.marks_of.ensures.reads in
+    record { same = m.same ∙ r.seen; less = λ x left. r.crash x (m.less x left); moments = runs_on D.moment D.left_since D.may_leave g.met.D.Device.only_now c.args.device.now c.replay.new.device c.marks_of.new.device r.moments m.moments r.crash }

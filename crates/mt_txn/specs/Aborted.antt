@@ -13,7 +13,7 @@ use Rattle.mt_model.specs.Model.{Base}
 use Rattle.mt_pool.specs.Views.{pages}
 use Rattle.mt_txn.specs.Causes.{IsFault}
 use Rattle.mt_txn.specs.Events.{HasAborted}
-use Rattle.mt_txn.specs.Shown.{LeavesFound, SameSchema, Shows, StaysRestarting, is_failed}
+use Rattle.mt_txn.specs.Shown.{LeavesFound, SameSchema, Shows, StaysRestarting, TellsEachFault, is_failed}
 use Rattle.mt_txn.specs.Work.{IsAbortForOther, LowersAbort}
 use Rattle.mt_txn.specs.declared.answers.AbortStepped.{AbortStepped}
 use Rattle.mt_txn.specs.declared.answers.AbortStepped.TheVariants.{Ended, Flush}
@@ -24,6 +24,7 @@ module _ {D : Type 0} {g : Ghosts D} (seen : D → List ℕ) (may_leave : D → 
   pub record StepsAbort (k : Kernel D g) (t : ℕ) (result : Result AbortStepped Refusal) (n : Kernel D g) : Type 0 where
     pub why : IfErr result (λ why. why ≢ NoMemory → IsFault faults k.parts n.parts why)
     pub fails : result ≡ Err DeviceFailed → is_failed n ≡ true
+  pub quiet : TellsEachFault faults k result n
     pub states : IfOk result (λ stepped. stepped ≢ Ended → SameStates k.parts n.parts)
     pub work : LowersAbort (pages k.parts.operations.store.pool) result (undo_steps k.parts t) (undo_steps n.parts t)
     pub other : IfOk result (λ stepped. IsAbortForOther k.parts.live.members t stepped)

@@ -31,6 +31,10 @@ is_failed k = k.failed || has_failed k.parts.operations.store.log
 abbrev pub FailsForGood : {D T : Type 0} → {g : Ghosts D} → Kernel D g → Result T Refusal → Kernel D g → Type 0
 FailsForGood k result n = (is_failed k ≡ true → (result ≡ Err DeviceFailed) × (n ≡ k)) × (result ≡ Err DeviceFailed → is_failed n ≡ true) × (n.failed ≡ true → result ≡ Err DeviceFailed)
 
+-- The device failed in a call of kernel k only where the call is refused with 2.
+abbrev pub TellsEachFault : {D T : Type 0} → {g : Ghosts D} → (D → ℕ) → Kernel D g → Result T Refusal → Kernel D g → Type 0
+TellsEachFault faults k result n = (result ≡ Err DeviceFailed → ⊥) → faults n.parts.operations.store.device ≡ faults k.parts.operations.store.device
+
 -- Begun on this base, the kernel can be restarted from each beginning of its log's records; and so it stays.
 abbrev pub Restarts : {D : Type 0} → {g : Ghosts D} → (D → List ℕ) → (D → List ℕ → Type 0) → Base → Kernel D g → Type 0
 Restarts seen may_leave first k = RestartsFrom seen may_leave k.relations k.counters first k.parts

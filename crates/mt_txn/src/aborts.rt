@@ -14,7 +14,7 @@ ghost use Rattle.mt_kernel.specs.declared.parts.Running.{Running};
 ghost use Rattle.mt_txn.specs.Aborted.{StepsAbort};
 ghost use Rattle.mt_txn.specs.Causes.{IsFault, abort_cause, is_busy, open_cause};
 ghost use Rattle.mt_txn.specs.Events.{HasAborted};
-ghost use Rattle.mt_txn.specs.Shown.{FailsForGood, SameSchema, Shows, Stays, StaysRestarting, is_failed};
+ghost use Rattle.mt_txn.specs.Shown.{FailsForGood, SameSchema, Shows, Stays, StaysRestarting, TellsEachFault, is_failed};
 ghost use Rattle.mt_txn.specs.Work.{IsAbortToldAs, IsAbortForOther, LowersAbort};
 ghost use Rattle.mt_txn.specs.Shown.{LeavesFound};
 ghost use Rattle.mt_txn.specs.PageLocks.{AbortsLocks, OfRunning};
@@ -136,8 +136,8 @@ impl<D: Device> Kernel<D> {
     /// nothing is left. [`AbortStepped::Again`] adds two steps a page at most.
     ///
     /// Refused, in this order: 2 where the device has failed, 15 where the transaction is not being undone, 1 for
-    /// want of memory. It is refused with 2, too, where the device fails in this step. The step may be asked again
-    /// after 1.
+    /// want of memory. It is refused with 2, too, where the device fails in this step, so no fault is passed over. The
+    /// step may be asked again after 1.
     pub fn abort_step(&mut self, txn: TxnNo) -> Result<AbortStepped, Refusal>
         ensures may { OnOk result (abort_cause (is_failed self.old) self.old.parts txn ≡ None) }
         ensures cause { IfErr result (λ why. why ≢ Refusal.NoMemory
@@ -161,6 +161,7 @@ impl<D: Device> Kernel<D> {
         ensures out { result ≡ Ok AbortStepped.Ended → (state_in self.new.parts.live.members txn ≡ None)
             × SameStatesBut self.old.parts self.new.parts txn }
         ensures fails { FailsForGood self.old result self.new }
+        ensures quiet { TellsEachFault D.faults self.old result self.new }
         ensures unmoved { (why : Refusal) → abort_cause (is_failed self.old) self.old.parts txn ≡ Some why
             → self.new ≡ self.old }
         ensures schema { SameSchema self.old self.new }

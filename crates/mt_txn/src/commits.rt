@@ -13,7 +13,7 @@ ghost use Rattle.mt_kernel.specs.Work.{LeavesUndo};
 ghost use Rattle.mt_kernel.specs.declared.parts.Commit.{Commit};
 ghost use Rattle.mt_txn.specs.Causes.{IsFailure, commit_cause};
 ghost use Rattle.mt_txn.specs.Events.{HasForced, IsForcedBy};
-ghost use Rattle.mt_txn.specs.Shown.{FailsForGood, SameSchema, Shows, Stays, StaysRestarting, is_failed};
+ghost use Rattle.mt_txn.specs.Shown.{FailsForGood, SameSchema, Shows, Stays, StaysRestarting, TellsEachFault, is_failed};
 ghost use Rattle.mt_txn.specs.Shown.{LeavesFound};
 
 use crate::answers::KernelForced;
@@ -26,7 +26,7 @@ use mt_pool::Flushed;
 impl<D: Device> Kernel<D> {
     /// Begins the commit of an open transaction: its Commit is appended, and the force steps that follow make it
     /// durable. Until then the transaction lives with its locks, and nothing else can be asked of it. Answers its place
-    /// in this opening's order of commits, from 1.
+    /// in this opening's order of commits, from 1. It makes no call of the device.
     ///
     /// Refused, in this order: 2 where the device has failed, 15 where the transaction is not open, 16 where an
     /// operation of it is unfinished. Then 1 for want of memory. The state is as before.
@@ -49,6 +49,7 @@ impl<D: Device> Kernel<D> {
             ≡ calls_left self.old.parts.operations.store.log }
         ensures commits { OnOk result (SetsState self.old.parts self.new.parts txn (Some Committing)) }
         ensures running { SameRunning self.old.parts self.new.parts }
+        ensures device { self.new.parts.operations.store.device ≡ self.old.parts.operations.store.device }
         ensures err { OnErr result (SameStates self.old.parts self.new.parts
             × SameCommits self.old.parts self.new.parts) }
         ensures fails { FailsForGood self.old result self.new }
@@ -115,7 +116,8 @@ impl<D: Device> Kernel<D> {
     /// [`Flushed::Force`] where a force step has to come first, and [`Flushed::Clean`] where no page is to be
     /// written.
     ///
-    /// Refused with 2 where the device has failed or fails in this call. The state is as before.
+    /// Refused with 2 where the device has failed or fails in this call, so no fault is passed over. The state is as
+    /// before.
     pub fn flush_step(&mut self) -> Result<Flushed, Refusal>
         ensures cause { IfErr result (IsFailure D.faults (is_failed self.old) self.old.parts self.new.parts) }
         ensures written { (p : ℕ) → result ≡ Ok (flushed.Page p)
@@ -135,6 +137,7 @@ impl<D: Device> Kernel<D> {
             ≡ self.old.parts.operations.store.pool.of_page }
         ensures undo { LeavesUndo self.old.parts self.new.parts }
         ensures fails { FailsForGood self.old result self.new }
+        ensures quiet { TellsEachFault D.faults self.old result self.new }
         ensures state { Stays D.seen D.may_leave self.old self.new }
         ensures schema { SameSchema self.old self.new }
         ensures restarts { StaysRestarting D.seen D.may_leave self.old self.new }

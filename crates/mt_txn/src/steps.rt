@@ -12,7 +12,7 @@ ghost use Rattle.mt_kernel.specs.Consistent.{SameCommits, SameStates};
 ghost use Rattle.mt_txn.specs.Causes.{IsFault, step_cause};
 ghost use Rattle.mt_txn.specs.Events.{HasStepped};
 ghost use Rattle.mt_txn.specs.PageLocks.{OfRunning, StepsLocks};
-ghost use Rattle.mt_txn.specs.Shown.{FailsForGood, SameSchema, Shows, StaysRestarting, is_failed};
+ghost use Rattle.mt_txn.specs.Shown.{FailsForGood, SameSchema, Shows, StaysRestarting, TellsEachFault, is_failed};
 ghost use Rattle.mt_txn.specs.Shown.{LeavesFound};
 
 use crate::answers::Stepped;
@@ -33,8 +33,8 @@ impl<D: Device> Kernel<D> {
     /// no record of the log durable.
     ///
     /// Refused, in this order: 2 where the device has failed, 15 where the transaction is not open or has no
-    /// operation under way, 1 for want of memory. It is refused with 2, too, where the device fails in this step. The
-    /// state is as before.
+    /// operation under way, 1 for want of memory. It is refused with 2, too, where the device fails in this step, so no
+    /// fault is passed over. The state is as before.
     pub fn step(&mut self, txn: TxnNo) -> Result<Stepped, Refusal>
         ensures may { OnOk result (step_cause (is_failed self.old) self.old.parts txn ≡ None) }
         ensures cause { IfErr result (λ why. why ≢ Refusal.NoMemory
@@ -52,6 +52,7 @@ impl<D: Device> Kernel<D> {
             ≡ durable self.old.parts.operations.store.log }
         ensures states { SameStates self.old.parts self.new.parts }
         ensures fails { FailsForGood self.old result self.new }
+        ensures quiet { TellsEachFault D.faults self.old result self.new }
         ensures unmoved { (why : Refusal) → step_cause (is_failed self.old) self.old.parts txn ≡ Some why
             → self.new ≡ self.old }
         ensures schema { SameSchema self.old self.new }

@@ -29,6 +29,7 @@ pub returns-in_err-told-clause-steps : goal.returns-in_err-told-clause-steps
 returns-in_err-told-clause-steps g c = record {
   why = search rules;
   fails = search rules;
+  quiet = search rules;
   states = search rules;
   work = let k = c.args.self.now.parts in let n = c.back_step-told.new.self in
       let at = at_place k.running.items c.args.place c.requires.within in
@@ -55,6 +56,7 @@ pub returns-in-More-clause-steps : goal.returns-in-More-clause-steps
 returns-in-More-clause-steps g c = record {
   why = search rules;
   fails = search rules;
+  quiet = search rules;
   states = search rules;
   work = let k = c.args.self.now.parts in let n = c.back_step-told.new.self in
       let at = at_place k.running.items c.args.place c.requires.within in
@@ -79,6 +81,7 @@ pub returns-in-Flush-clause-steps : goal.returns-in-Flush-clause-steps
 returns-in-Flush-clause-steps g c = record {
   why = search rules;
   fails = search rules;
+  quiet = search rules;
   states = search rules;
   work = let k = c.args.self.now.parts in let n = c.back_step-told.new.self in
       let at = at_place k.running.items c.args.place c.requires.within in
@@ -103,6 +106,7 @@ pub returns-in-Clear-clause-steps : goal.returns-in-Clear-clause-steps
 returns-in-Clear-clause-steps g c = record {
   why = search rules;
   fails = search rules;
+  quiet = search rules;
   states = search rules;
   work = let k = c.args.self.now.parts in let n = c.back_step-told.new.self in
       let at = at_place k.running.items c.args.place c.requires.within in

@@ -37,6 +37,7 @@ pub returns-in_err-undo_begin-clause-steps : goal.returns-in_err-undo_begin-clau
 returns-in_err-undo_begin-clause-steps g c = record {
   why = search rules;
   fails = search rules;
+  quiet = search rules;
   states = search rules;
   work = let k = c.args.self.now.parts in let n = c.undo_begin.new.self in
       let p = err_from_is_err_and c.from_residual.result c.from_residual.ensures.1 in
@@ -60,6 +61,7 @@ pub returns-then-branch-clause-steps : goal.returns-then-branch-clause-steps
 returns-then-branch-clause-steps g c = record {
   why = search rules;
   fails = search rules;
+  quiet = search rules;
   states = search rules;
   work = c.undo_begin.ensures.fewer (c.in_ok-undo_begin.was ∙ ap Ok c.if-branch.true);
   other = search rules;
@@ -80,6 +82,7 @@ pub returns-in_err-abort_end-clause-steps : goal.returns-in_err-abort_end-clause
 returns-in_err-abort_end-clause-steps g c = record {
   why = search rules;
   fails = search rules;
+  quiet = search rules;
   states = search rules;
   work = let k = c.args.self.now.parts in let n = c.abort_end.new.self in
       let p = err_from_is_err_and c.from_residual-in_err-abort_end.result c.from_residual-in_err-abort_end.ensures.1 in
@@ -106,6 +109,7 @@ pub returns-clause-steps : goal.returns-clause-steps
 returns-clause-steps g c = record {
   why = search rules;
   fails = search rules;
+  quiet = search rules;
   states = search rules;
   work = let same : c.undo_begin.new.self ≡ c.args.self.now.parts = c.undo_begin.ensures.same (c.in_ok-undo_begin.was ∙ ap Ok c.if-branch.false) in
       ap (λ (x : Parts g.row.D.Denot). undo_steps x c.args.txn) (sym same) ∙ c.in_ok-abort_end.ensures.none_left;

@@ -44,6 +44,7 @@ pub returns-in_err-reply-clause-steps : goal.returns-in_err-reply-clause-steps
 returns-in_err-reply-clause-steps g c = record {
   why = search rules;
   fails = search rules;
+  quiet = search rules;
   states = search rules;
   work = let k = c.args.self.now.parts in let n = c.undo_step-told.new.self in let all = pages k.operations.store.pool in
       let at = at_place k.running.items c.args.place c.requires.within in
@@ -70,6 +71,7 @@ pub returns-in-Ended-clause-steps : goal.returns-in-Ended-clause-steps
 returns-in-Ended-clause-steps g c = record {
   why = search rules;
   fails = search rules;
+  quiet = search rules;
   states = search rules;
   work = let k = c.args.self.now.parts in let n = c.undo_step-told.new.self in let all = pages k.operations.store.pool in
       let at = at_place k.running.items c.args.place c.requires.within in
@@ -93,6 +95,7 @@ pub returns-in-Going-clause-steps : goal.returns-in-Going-clause-steps
 returns-in-Going-clause-steps g c = record {
   why = search rules;
   fails = search rules;
+  quiet = search rules;
   states = search rules;
   work = let k = c.args.self.now.parts in let n = c.undo_step-told.new.self in let all = pages k.operations.store.pool in
       let at = at_place k.running.items c.args.place c.requires.within in

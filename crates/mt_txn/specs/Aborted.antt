@@ -24,7 +24,7 @@ module _ {D : Type 0} {g : Ghosts D} (seen : D → List ℕ) (may_leave : D → 
   pub record StepsAbort (k : Kernel D g) (t : ℕ) (result : Result AbortStepped Refusal) (n : Kernel D g) : Type 0 where
     pub why : IfErr result (λ why. why ≢ NoMemory → IsFault faults k.parts n.parts why)
     pub fails : result ≡ Err DeviceFailed → is_failed n ≡ true
-  pub quiet : TellsEachFault faults k result n
+    pub quiet : TellsEachFault faults k result n
     pub states : IfOk result (λ stepped. stepped ≢ Ended → SameStates k.parts n.parts)
     pub work : LowersAbort (pages k.parts.operations.store.pool) result (undo_steps k.parts t) (undo_steps n.parts t)
     pub other : IfOk result (λ stepped. IsAbortForOther k.parts.live.members t stepped)

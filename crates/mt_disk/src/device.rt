@@ -32,9 +32,9 @@ impl From<DeviceFault> for Refusal {
 
 /// A device: a row of bytes whose number is fixed, that is read, written and synced.
 ///
-/// A write may be seen at once by a read. But until a sync that answers `Ok`, a crash may leave any bytes at all in
-/// the range of each write since the last one, whatever their order. The bytes outside of those ranges are as the
-/// last sync left them. No call takes memory.
+/// A write may be seen at once by a read. But until a sync that answers `Ok`, a crash may leave any bytes in the
+/// range of each write since the last one. The order of the writes does not matter. The bytes outside of those ranges
+/// are as the last sync left them. No call takes memory.
 pub trait Device {
     /// The present content: the bytes that a read returns.
     ghost seen: { Self → List ℕ };

@@ -20,9 +20,9 @@ const SPARE_WRITES: usize = 64;
 /// What the proofs say of it, they say of its copy in memory. That the file holds the same is for the operating
 /// system, the disk and whoever else can reach the file. It is trusted: a proof cannot know what a file does. What
 /// can be seen of a file gone wrong is a fault. That is an error that the system answers, or a length that is not
-/// what it was; it is looked at when the file is read and at each sync. A write that meets an error counts as written
-/// all the same. After one error of the file each later write and sync fails as well. After a failed sync a system
-/// may forget what it could not write, and answer the next one well.
+/// what it was. The length is looked at when the file is read and at each sync. A write that meets an error counts as
+/// written all the same. After one error of the file each later write and sync fails as well. After a failed sync a
+/// system may forget what it could not write, and answer the next one well.
 ///
 /// Nobody else opens the file meanwhile, as long as they open it so too. Its lock is taken, as `flock` does, and let
 /// go with the device.
@@ -43,7 +43,8 @@ impl FileDevice<File> {
     /// The device in the file of this path, of the file's length. What the file holds is synced first, so that none
     /// of it can be lost any more. A file that may be read alone is opened so, and each write to it is a fault.
     /// Refused by `NoMemory` for want of memory. Refused by `DeviceFailed` where the file cannot be opened or read,
-    /// does not keep its length, or is open as a device, here or in another program. It is then as it was.
+    /// or does not keep its length. So it is where the file is open as a device, here or in another program. It is
+    /// then as it was.
     pub fn open<R: Files<File = File> + AllocGlobal>(
         rt: &R,
         path: &str,
@@ -184,8 +185,8 @@ fn resize<F: OpenFile>(file: &F, len: u64) -> Result<(), DeviceFault> {
     Ok(())
 }
 
-/// The file's length, by a seek. Asking for all that is known of a file between two writes makes the next sync write
-/// down the time of the last change as well.
+/// The file's length, by a seek. To ask for all that is known of a file between two writes has a price. The next sync
+/// then writes down the time of the last change too.
 fn length_of<F: Seek>(file: &mut F) -> Result<u64, DeviceFault> {
     Ok(file.seek(SeekFrom::End(0))?)
 }

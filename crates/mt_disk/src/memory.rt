@@ -177,7 +177,7 @@ fn blot(bytes: &mut Vec<u8>, at: usize, len: usize, byte: u8)
 }
 
 /// A device in memory. It is the model of a device. Until a sync, a crash may leave any bytes in each range that was
-/// written since the last one, and outside of them what that sync left.
+/// written since the last one. Outside of them it leaves what that sync left.
 ///
 /// It fails only where a write is one too many. It has room for a number of writes without a sync and for a number of
 /// bytes in them, both fixed when it is made. Such a write changes nothing. Reads and syncs never fail. A write costs

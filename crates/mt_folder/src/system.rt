@@ -13,9 +13,9 @@ use std::rt::Files;
 
 /// The files of the system, by their paths.
 ///
-/// A device is made in a file beside the one that it is to replace, whose name has `.mtk-new` behind it, and renamed
-/// once it is installed. So a format that fails or is cut off leaves an older file of that name as it was. A file
-/// that is open as a device, here or in another program, is not replaced.
+/// A device is made in a file beside the one that it is to replace. That file's name has `.mtk-new` behind it, and it
+/// is renamed once it is installed. So a format that fails or is cut off leaves an older file of that name as it was.
+/// A file that is open as a device, here or in another program, is not replaced.
 #[derive(Drop)]
 pub struct DiskFolder<'a, R> {
     rt: &'a R,

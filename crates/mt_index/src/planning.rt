@@ -23,10 +23,10 @@ use std::alloc::{AllocError, Global};
 /// due: into the free page of the smallest number, chained behind. So at most two pages are taken, and five change.
 /// Each bucket page stands in a chain then, where each did before.
 ///
-/// The directory is needed for read, and for write where it is to change. Pages of the bucket are needed for write,
-/// and the map of the space and pages to be taken only where the bucket has no room. `Full` is answered just where no
-/// page is free, or just one where a split takes it and its half has no room. A relation's number is below 256. The
-/// only error is want of memory.
+/// The directory is needed for read, and for write where it is to change. Pages of the bucket are needed for write.
+/// The map of the space and pages to be taken are needed only where the bucket has no room. `Full` is answered just
+/// where no page is free, or just one where a split takes it and its half has no room. A relation's number is below
+/// 256. The only error is want of memory.
 pub fn plan_add<V: Pages>(
     alloc: Global,
     views: &V,

@@ -96,8 +96,9 @@ impl<D: Device> Parts<D> {
     /// whether an insert may split a bucket of the index.
     ///
     /// It answers [`Called::Wait`] or is refused with 14 as the lock table does, and with 9 as the escrow does. It is
-    /// refused with 10 where fewer pages are free and not claimed, and with 11 where the log has no room beside what
-    /// is kept. For want of memory it is refused with 1. In each of these cases nothing of the call is kept.
+    /// refused with 10 where fewer pages are free and not claimed. It is refused with 11 where the log has no room
+    /// beside what is kept. For want of memory it is refused with 1. In each of these cases nothing of the call is
+    /// kept.
     pub fn call(
         &mut self,
         alloc: Global,

@@ -9,8 +9,8 @@ pub fn begin_keeps()
     ensures { BeginKeeps }
 {}
 
-/// A call that is granted keeps what is kept. Its lock is barred by no other transaction's, and each counter has room
-/// for whichever of the pending adds and this one (Weikum 1991, O'Neil 1986).
+/// A call that is granted keeps what is kept. It is granted where no other transaction's lock bars its own. Each
+/// counter has room then for whichever of the pending adds and this one (Weikum 1991, O'Neil 1986).
 pub fn call_keeps()
     ensures { CallKeeps }
 {}

@@ -95,8 +95,8 @@ fn force_all<D: Device>(log: &mut Log, device: &mut D) -> Result<(), Refusal>
 }
 
 /// Begins an area anew with the batch that [`prepare_area`] made ready, and answers its log. The area may hold
-/// anything before. Its first gate is closed and synced, then the batch is written with a closed gate behind it and
-/// synced, then the gate is opened and synced. Until the first sync a crash may leave any byte as the first gate, and
+/// anything before. Its first gate is closed and synced. Then the batch is written with a closed gate behind it and
+/// synced. Then the gate is opened and synced. Until the first sync a crash may leave any byte as the first gate, and
 /// the rest as it was. Until the last one it leaves a gate that is closed, or the batch; from then on the batch.
 ///
 /// The only refusal is [`Refusal::DeviceFailed`]. Nothing outside of the area is touched in any case. It takes no memory.

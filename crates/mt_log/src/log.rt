@@ -136,8 +136,8 @@ impl Log {
         }
     }
 
-    /// The bytes of the area in use. They are those before the place of the next batch, and 5 more and its own length
-    /// for each record that is in no batch yet.
+    /// The bytes of the area in use. They are those before the place of the next batch. Each record that is in no
+    /// batch yet takes 5 more and its own length.
     pub fn used(&self) -> u64
         ensures { result ≡ used self.now }
     {

@@ -21,7 +21,7 @@ use std::alloc::Global;
 ///
 /// Refusals are [`Refusal::NoMemory`]; [`Refusal::DeviceFailed`], where a read failed; and [`Refusal::BadFormat`]
 /// with the place of the first batch that breaks the grammar. That is the first of the area where its gate is not
-/// open. Or it is an open one that does not fit, whose body is no row of whole records, or that has a record which
+/// open. Or it is an open one that does not fit, or whose body is no row of whole records. Or it has a record which
 /// may not stand there. The device is as before in any case.
 pub fn scan<D: Device>(
     alloc: Global,

@@ -21,8 +21,8 @@ pub fn bounds_are_kept()
     ensures { BoundsAreKept }
 {}
 
-/// A counter stays in its bounds whichever of some steps are made, if and only if it does so with all the steps down,
-/// and with all the steps up (escrow, O'Neil 1986).
+/// Two numbers decide whether a counter stays in its bounds whichever of some steps are made (escrow,
+/// O'Neil 1986). They are the counter with all the steps down, and with all the steps up.
 pub fn two_numbers_decide()
     ensures { TwoNumbersDecide }
 {}

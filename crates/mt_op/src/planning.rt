@@ -46,10 +46,10 @@ impl<D: Device> Operations<D> {
     ///
     /// A lock is asked for on a page that the plan asks for and that was not looked at. An operation that only reads
     /// asks for it to read it. A row's operation looks for its key first: in the directory, to read it, and in the
-    /// key's chain. The plan may ask for the space map, for a record, where no page was tried yet. Then a page that
-    /// takes the record and that nobody has locked is tried first, to write it; a page that is locked is passed by.
-    /// The map itself is asked for then only if each page that takes the record is locked. Or a lock is asked for, to
-    /// write it, on a page that the plan changes.
+    /// key's chain. The plan may ask for the space map, for a record, where no page was tried yet. A page that takes
+    /// the record and that nobody has locked is tried first then, to write it. A page that is locked is passed by. The
+    /// map itself is asked for then only if each page that takes the record is locked. Or a lock is asked for, to write
+    /// it, on a page that the plan changes.
     ///
     /// A record goes into the page of records that was tried first and takes it, or into a free page where none was.
     /// A free page is taken only for such a record, or for its entry where the key's bucket is full. Only a page of

@@ -11,8 +11,8 @@ pub fn a_crash_gives_the_pages<D: Device>()
 {}
 
 /// Laws: what keeps it so that a crash gives the pages. It is so when an area begins. It stays so with a write
-/// outside of the slots, a write of a slot whose page has a durable image, and a read or a sync. It stays so with a
-/// record whose image, if it is its page's first, has the page as at the opening.
+/// outside of the slots, and with a write of a slot whose page has a durable image. A read or a sync changes nothing
+/// of it. It stays so with a record whose image, if it is its page's first, has the page as at the opening.
 pub fn steps_keep_the_pages<D: Device>()
     ensures begin { BeginsSafe D.may_leave }
     ensures elsewhere { ElsewhereKeepsSafe D.may_leave }
@@ -29,8 +29,8 @@ pub fn the_pool_keeps_the_pages<D: Device>()
 {}
 
 /// Laws: what the pool knows of the log is right when an area without records begins. It stays right with a change
-/// and its record, with a record without an image, and with whatever leaves the views and what is waited for. That is
-/// a fetch, a flush step, an eviction or a write outside of the slots.
+/// and its record, and with a record without an image. It stays right with whatever leaves the views and what is
+/// waited for. That is a fetch, a flush step, an eviction or a write outside of the slots.
 pub fn the_pool_knows_the_log()
     ensures begin { BeginsTied }
     ensures change { ChangeKeepsTied }

@@ -29,7 +29,7 @@ use std::alloc::Global;
 ///
 /// Each call keeps what contracts call `IsKept`, for the pages as they were when the area began. At every moment of
 /// the call whatever a crash leaves explains these pages. The area holds a beginning of the appended records with all
-/// durable ones, and a page is its first image in them, or else what its slot has.
+/// durable ones. A page is its first image in them, or else what its slot has.
 #[derive(Drop)]
 pub struct Store<D: Device> {
     pub device: D,

@@ -100,9 +100,9 @@ fn undone(alloc: Global, pages: Vec<[u8; 4096]>, losers: &[Loser]) -> Result<Res
 /// Any bytes are read. Where they are answered, the pages break no rule of their formats and of the index, those held
 /// and those that the losers' inverses leave.
 ///
-/// Refusals are [`Refusal::NoMemory`]; [`Refusal::DeviceFailed`], where the device failed in this call; and
-/// [`Refusal::NotFormatted`], if and only if it is shorter than 8192 bytes or no master slot is open, and no read
-/// failed. [`Refusal::BadFormat`] has a place where a rule is broken. It is that of a slot or a batch as
+/// Refusals are [`Refusal::NoMemory`], and [`Refusal::DeviceFailed`], where the device failed in this call.
+/// [`Refusal::NotFormatted`] is answered if and only if it is shorter than 8192 bytes or no master slot is open, and
+/// no read failed. [`Refusal::BadFormat`] has a place where a rule is broken. It is that of a slot or a batch as
 /// [`ruling_slot`] and [`scan`] say, or of the slot of a page. Or it is that of the batch of a loser whose inverse
 /// does not find what its record says, or too few free pages. The device is only read, and its content is as before
 /// in any case.

@@ -220,9 +220,9 @@ impl Restored {
     /// records with room, and into a new page only where no page has room. It gives back each page that it leaves
     /// without a record, and changes eight pages at most.
     ///
-    /// `false` tells that the inverse does not find what the record says, or too few free pages, or that the relation
-    /// or counter is not there. The pages, or the record, are none that a kernel left. The only refusal is
-    /// [`Refusal::NoMemory`]. The pages are as before in both cases.
+    /// `false` tells that the inverse does not find what the record says, or too few free pages. It tells too that
+    /// the relation or counter is not there. The pages, or the record, are none that a kernel left. The only refusal
+    /// is [`Refusal::NoMemory`]. The pages are as before in both cases.
     pub fn undo(&mut self, alloc: Global, done: &LoggedOp) -> Result<bool, Refusal>
         requires { IsOperation done.now }
         ensures undone { result ≡ Ok true → Undoes self.old.pages.items done.now self.new.pages.items }

@@ -17,10 +17,10 @@ use std::alloc::Global;
 /// Tells epoch and area of the master slot that rules, and how many batches, records and commits the area holds. No
 /// page is looked at.
 ///
-/// Refusals are [`Refusal::NoMemory`]; [`Refusal::DeviceFailed`] where the device failed in this call; and
-/// [`Refusal::NotFormatted`] where it is shorter than 8192 bytes or no master slot is open. [`Refusal::BadFormat`]
-/// has the place of a slot or a batch that breaks a rule. The device is only read: no write, no sync, and its content
-/// is as before in any case.
+/// Refusals are [`Refusal::NoMemory`], and [`Refusal::DeviceFailed`] where the device failed in this call.
+/// [`Refusal::NotFormatted`] is answered where it is shorter than 8192 bytes or no master slot is open.
+/// [`Refusal::BadFormat`] has the place of a slot or a batch that breaks a rule. The device is only read: no write,
+/// no sync, and its content is as before in any case.
 pub fn report<D: Device>(alloc: Global, device: &mut D) -> Result<Report, Refusal>
     ensures told { IfOk result (IsReport (D.seen device.old)) }
     ensures no_other_refusal { (relations counters : ℕ) (b : Base)

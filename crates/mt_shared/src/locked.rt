@@ -75,8 +75,8 @@ impl<D: Device, J: Naming> Locked<D, J> {
     /// Enters a durable transaction of this pass into the history, at this place, from 1. Then the pass has seen the
     /// book's first entries up to it.
     ///
-    /// The token comes back, and nothing has changed, only where the mark does not stand one below the place, or the
-    /// book has no such entry there. That is one with the token's session, calls and replies.
+    /// The token comes back, and nothing has changed, only in two cases. The mark does not stand one below the place,
+    /// or the book has no such entry there. That is one with the token's session, calls and replies.
     pub fn enter(&mut self, place: u64, pass: &mut Pass<J>, txn: Txn<J>) -> Result<(), Txn<J>>
         requires own { txn.pass ≡ pass.old.number }
         ensures entered { OnOk result (Entered J.base self.old place pass.old txn pass.new) }

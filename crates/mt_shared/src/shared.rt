@@ -532,9 +532,9 @@ impl<D: Device, G: Gate + Drop, J: Naming> Shared<D, G, J> {
     /// has seen, and has no further transaction of that pass. It has as many as stood when the mark was made and the
     /// passes have committed together, so no other. Unless it has failed, nobody lives in it, and it holds no lock.
     ///
-    /// Refused, in this order, with all that was handed in: 15 where a pass is missing, 16 where one of them has a
-    /// transaction, 2 where a rotation left no kernel. Then 16 where a durable transaction is not in the history, or
-    /// one lives in a kernel that has not failed.
+    /// Refused, in this order, with all that was handed in. It is 15 where a pass is missing, 16 where one of them
+    /// has a transaction, 2 where a rotation left no kernel. Then 16 where a durable transaction is not in the
+    /// history, or one lives in a kernel that has not failed.
     pub fn close(self, passes: Vec<Pass<J>>) -> Result<Kernel<D>, Closed<D, G, J>>
         ensures seen { IfOk result (λ k.
             All (λ (p : PassSeen). IsPrefix (dones p.seen) k.parts.book.items) passes.items) }

@@ -1,5 +1,5 @@
-//! The pages of a device: how they are read, what changes in them, which of them are fixed, and which are free by the
-//! space map. Of the free ones some are reserved for operations under way and their inverses.
+//! The pages of a device: how they are read and what changes in them. Some of them are fixed, and the space map tells
+//! which are free. Of the free ones some are reserved for operations under way and their inverses.
 //!
 //! A reservation names no page: it says that so many free pages are kept for who asked. Reserved pages are
 //! never more than the free ones, so a page can always be taken for a reservation. The free page with the

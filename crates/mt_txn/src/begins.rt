@@ -19,8 +19,8 @@ impl<D: Device> Kernel<D> {
     /// nothing. It makes no call of the device.
     ///
     /// Refused, in this order: 2 where the device has failed, 13 where 64 transactions live. Then 12 where the book's
-    /// commits and those that live make 1,000,000 or 2^40 were begun, 11 where the log has too few bytes left, 1 for
-    /// want of memory. Nothing has changed then.
+    /// commits and those that live make 1,000,000, or 2^40 were begun. Then 11 where the log has too few bytes left,
+    /// and 1 for want of memory. Nothing has changed then.
     pub fn begin(&mut self, session: u32) -> Result<TxnNo, Refusal>
         ensures number { IfOk result (λ txn. txn ≡ self.old.parts.live.begun + 1) }
         ensures may { OnOk result (begin_cause (is_failed self.old) self.old.parts ≡ None) }

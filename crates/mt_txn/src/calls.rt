@@ -23,7 +23,7 @@ impl<D: Device> Kernel<D> {
     ///
     /// Refused, in this order: 2 where the device has failed, 15 where the transaction is not open, 16 where an
     /// operation of it is unfinished. Then 17 where 256 operations of it have ended or 2^40 were called by all. Then
-    /// 6 or 7 where the relation or the counter is not there, 5 or 8 where a key, a value or a step is past its
+    /// 6 or 7 where the relation or the counter is not there. Then 5 or 8 where a key, a value or a step is past its
     /// limits. Then 14 where an older transaction holds a lock in the way, 9 where some choice of the pending adds
     /// would leave the counter's bounds. Then 10 where too few pages are free and not claimed, 11 where the log has
     /// too few bytes left. Where a younger transaction is in the way, it answers [`Called::Wait`]. Refusal 1 is for

@@ -103,7 +103,7 @@ impl<D: Device> Kernel<D> {
     }
 
     /// Whatever state a kernel shows, the laws of mt_live keep it. Its book is legal. What stands of its live
-    /// transactions is explained on what the book leaves, whoever is struck out, and leads to the base that the pages
+    /// transactions is explained on what the book leaves, whoever is struck out. It leads to the base that the pages
     /// hold.
     pub fn shows_what_is_kept(&self)
         ensures { (first : Base) (s : State) → Shows D.seen D.may_leave first s self.now

@@ -32,9 +32,9 @@ impl<D: Device> Kernel<D> {
     /// own page locks back to begin anew. They are given back at its end, too; other operations' locks stay. It makes
     /// no record of the log durable.
     ///
-    /// Refused, in this order: 2 where the device has failed, 15 where the transaction is not open or has no
-    /// operation under way, 1 for want of memory. It is refused with 2, too, where the device fails in this step, so no
-    /// fault is passed over. The state is as before.
+    /// Refused, in this order, with 2 where the device has failed. Then 15 where the transaction is not open or has
+    /// no operation under way, and 1 for want of memory. It is refused with 2, too, where the device fails in this
+    /// step, so no fault is passed over. The state is as before.
     pub fn step(&mut self, txn: TxnNo) -> Result<Stepped, Refusal>
         ensures may { OnOk result (step_cause (is_failed self.old) self.old.parts txn ≡ None) }
         ensures cause { IfErr result (λ why. why ≢ Refusal.NoMemory

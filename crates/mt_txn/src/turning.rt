@@ -23,8 +23,8 @@ impl<D: Device> Kernel<D> {
         self.parts.live().count() == 0
     }
 
-    /// How many bytes of the log's area are in use. They are those before the place of the next batch, and 5 more and
-    /// its own length for each record that is in no batch yet.
+    /// How many bytes of the log's area are in use. They are those before the place of the next batch. Each record
+    /// that is in no batch yet takes 5 more and its own length.
     pub fn used(&self) -> u64
         ensures { result ≡ used self.now.parts.operations.store.log }
     {

@@ -92,17 +92,18 @@ fn stopped_run(
     })
 }
 
-/// Makes a schedule's events, as [`run_schedule`] does, over a device in memory that is stopped after so many writes
-/// and syncs, counted from the first event. It gives one of the contents that a crash may leave then. Over the bytes
-/// of the last sync each write since then, the oldest first, leaves in its range what `fill` says. A call at which
-/// the device is stopped fails and changes nothing; the event that makes it, and each later one, is refused with 2.
+/// Makes a schedule's events, as [`run_schedule`] does, over a device in memory. The device is stopped after so many
+/// writes and syncs, counted from the first event. It gives one of the contents that a crash may leave then. Over the
+/// bytes of the last sync each write since then, the oldest first, leaves in its range what `fill` says. A call at
+/// which the device is stopped fails and changes nothing; the event that makes it, and each later one, is refused
+/// with 2.
 ///
 /// The calls before the first event are those that the format and the opening of such another device took.
 ///
 /// A restart finds in that content what some of the first commits of `order` lead to, with all that were acknowledged.
 ///
 /// Refused with 1 for want of memory, and with 2 where the device failed before the first event. It has room for 8192
-/// writes without a sync, and for as many bytes in them as the device has, which is enough to format it.
+/// writes without a sync. It has room for as many bytes in them as the device has, which is enough to format it.
 pub fn crash_run(
     alloc: Global,
     schema: &Schema,

@@ -84,7 +84,7 @@ pub(crate) fn begin_on<D: Device + Drop>(
 /// restarted from. A restart finds what some of the first commits lead to, with all that were acknowledged by then.
 /// Before the first commit that is the schema's first base.
 ///
-/// Refused, in this order, with the device, before any event: 1 for want of memory, 5 where it is shorter than
+/// Refused, in this order, with the device, before any event. It is 1 for want of memory, 5 where it is shorter than
 /// [`Schema::device_len`], 2 where it failed. After 5 nothing is written. After 1 and 2 a crash leaves what one
 /// leaves while a device is formatted, or the schema's first base.
 pub fn run_schedule<D: Device + Drop>(

@@ -1,7 +1,7 @@
 -- What steps do that the public ones share.
-use Rattle.std.specs.Prelude.{ℕ, ◌≡◌, Bool, IfErr, List, Ok, Result, length, slice_index_or, ◌≤◌, ◌∷◌, ◌+◌, ◌*◌}
+use Rattle.std.specs.Prelude.{ℕ, ◌≡◌, Bool, IfErr, List, Ok, Result, length, slice_index_or, ◌≤◌, ◌∷◌, ◌+◌, ◌*◌, OnErr, OnOk}
 use Rattle.mt_base.specs.declared.refusal.Refusal.{Refusal}
-use Rattle.mt_kernel.specs.Consistent.{Advances, AtPlace, GoesBack, IsConsistent, Origin, state_of, EndsIn, IsReadyAt, SameStates, UndoesIn, DropsIn, IsClearedAt, BooksIn, SameUncommitted, IsCalled, MayRun, SameCommits, log_kept}
+use Rattle.mt_kernel.specs.Consistent.{Advances, AtPlace, GoesBack, IsConsistent, Origin, state_of, EndsIn, IsReadyAt, SameStates, UndoesIn, DropsIn, IsClearedAt, BooksIn, SameUncommitted, IsCalled, MayRun, SameCommits, log_kept, CallsIn, IsGranted, IsRestored, without_call, IsLocked}
 use Rattle.mt_kernel.specs.Restartable.{QuietlyAppends, StepAppends, NotesEnd, NotesUndone, StaysRestartable}
 use Rattle.mt_kernel.specs.Steps.{LeavesExplained, TellsOther, WantsFrame}
 use Rattle.mt_kernel.specs.declared.calls.Called.{Called}
@@ -9,7 +9,7 @@ use Rattle.mt_kernel.specs.declared.parts.Parts.{Parts}
 use Rattle.mt_model.specs.declared.operations.Op.{Op}
 use Rattle.mt_kernel.specs.declared.parts.Running.{Running}
 use Rattle.mt_log.specs.Words.{durable}
-use Rattle.mt_kernel.specs.Work.{LeavesStanding, LeavesUndo, CallRuns}
+use Rattle.mt_kernel.specs.Work.{LeavesStanding, LeavesUndo, CallRuns, RunsBehind}
 use Rattle.mt_model.specs.Model.{Base}
 use Rattle.mt_op.specs.Faults.{TellsFaults}
 use Rattle.mt_op.specs.Holds.{IsNext, KeepsLocks}
@@ -24,8 +24,11 @@ use Rattle.mt_model.specs.declared.operations.Reply.{Reply}
 use Rattle.mt_plock.specs.Releasing.{locks_without}
 use Rattle.std.specs.List.{remove}
 use Rattle.mt_kernel.specs.declared.parts.Commit.{Commit}
-use Rattle.mt_kernel.specs.Causes.{IsAnswered}
+use Rattle.mt_kernel.specs.Causes.{IsAnswered, HasReserves, IsUnreserved, IsAdmittedBy, IsRefusedBehind}
 use Rattle.mt_pool.specs.Views.{pages}
+use Rattle.mt_escrow.specs.Seen.{Escrowed}
+use Rattle.mt_slock.specs.declared.holders.Holder.{Holder}
+use Rattle.mt_model.specs.declared.objects.Object.{Object}
 
 module _ {D : Type 0} (seen : D → List ℕ) (may_leave : D → List ℕ → Type 0) (failures : D → ℕ) (moment : D → ℕ) (left_since : D → ℕ → List ℕ → Type 0) where
   -- A step of the operation at a place answered this, from parts k to parts n.
@@ -110,6 +113,32 @@ pub record LocksObject {D : Type 0} (seen : D → List ℕ) (may_leave : D → L
   pub answer : (origin : Origin) (base : Base) → IsConsistent seen may_leave origin base k → MayRun origin k txn op → IsAnswered seen origin k (log_kept k) txn op split r
   pub live : n.live ≡ k.live
   pub runs : CallRuns txn (2 * pages k.operations.store.pool + 9) k.running.items n.running.items r
+  pub same_commits : SameCommits k n
+  pub store : n.operations.store ≡ k.operations.store
+  pub book : n.book ≡ k.book
+
+-- A call that has its lock and its room in escrow is begun, or refused with all as it was.
+pub record StartsCall {D : Type 0} (seen : D → List ℕ) (may_leave : D → List ℕ → Type 0) (k n : Parts D) (txn : ℕ) (end : Op) (split : Bool) (r : Result Unit (Refusal × Op)) : Type 0 where
+  pub ok : (origin : Origin) (base : Base) (locks : List (Object × List Holder)) (escrow : Escrowed) → IsGranted seen may_leave origin base locks escrow k txn end → OnOk r (CallsIn seen may_leave origin base (without_call locks escrow k) n txn end)
+  pub may : (origin : Origin) (base : Base) (locks : List (Object × List Holder)) (escrow : Escrowed) → IsGranted seen may_leave origin base locks escrow k txn end → OnOk r (HasReserves seen origin k (log_kept k) end split)
+  pub cause : (origin : Origin) (base : Base) (locks : List (Object × List Holder)) (escrow : Escrowed) → IsGranted seen may_leave origin base locks escrow k txn end → IfErr r (λ gone. IsUnreserved seen origin k (log_kept k) end split gone.0)
+  pub back : IfErr r (λ gone. gone.1 ≡ end)
+  pub err : OnErr r (IsRestored seen may_leave k n)
+  pub live : n.live ≡ k.live
+  pub runs : OnOk r (RunsBehind txn (2 * pages k.operations.store.pool + 9) k.running.items n.running.items)
+  pub same_commits : SameCommits k n
+  pub store : n.operations.store ≡ k.operations.store
+  pub book : n.book ≡ k.book
+
+-- A call that has its lock is admitted, or refused with all as it was.
+pub record AdmitsCall {D : Type 0} (seen : D → List ℕ) (may_leave : D → List ℕ → Type 0) (k n : Parts D) (txn : ℕ) (op : Op) (split : Bool) (r : Result Unit (Refusal × Op)) : Type 0 where
+  pub ok : (origin : Origin) (base : Base) (locks : List (Object × List Holder)) → IsLocked seen may_leave origin base locks k txn op → OnOk r (CallsIn seen may_leave origin base (without_call locks k.escrow k) n txn op)
+  pub may : (origin : Origin) (base : Base) (locks : List (Object × List Holder)) → IsLocked seen may_leave origin base locks k txn op → OnOk r (IsAdmittedBy seen origin k (log_kept k) txn op split)
+  pub cause : (origin : Origin) (base : Base) (locks : List (Object × List Holder)) → IsLocked seen may_leave origin base locks k txn op → IfErr r (λ gone. IsRefusedBehind seen origin k (log_kept k) txn op split gone.0)
+  pub back : IfErr r (λ gone. gone.1 ≡ op)
+  pub err : OnErr r (IsRestored seen may_leave k n)
+  pub live : n.live ≡ k.live
+  pub runs : OnOk r (RunsBehind txn (2 * pages k.operations.store.pool + 9) k.running.items n.running.items)
   pub same_commits : SameCommits k n
   pub store : n.operations.store ≡ k.operations.store
   pub book : n.book ≡ k.book

@@ -12,13 +12,13 @@ ghost use Rattle.mt_model.specs.Model.{Base, IsWithin, object_of};
 ghost use Rattle.mt_model.specs.declared.objects.Object.{Object};
 ghost use Rattle.mt_pool.specs.Views.{pages};
 ghost use Rattle.mt_slock.specs.declared.holders.Holder.{Holder};
-ghost use Rattle.mt_kernel.specs.Consistent.{SameCommits, SameStates, CallsIn, log_kept, Origin, state_of, IsConsistent, IsPlaceOf, MayRun, MayBeCalled, IsLocked, IsGranted, IsAskedFor, IsCalled, IsRestored, without_call};
-ghost use Rattle.mt_kernel.specs.Causes.{HasReserves, IsUnreserved, IsAdmittedBy, IsRefusedBehind, IsAnswered};
+ghost use Rattle.mt_kernel.specs.Consistent.{SameCommits, SameStates, log_kept, Origin, state_of, IsConsistent, IsPlaceOf, MayRun, MayBeCalled, IsLocked, IsGranted, IsAskedFor, IsCalled};
+ghost use Rattle.mt_kernel.specs.Causes.{IsAnswered};
 ghost use Rattle.mt_base.specs.declared.refusal.Refusal.{Refusal};
 ghost use Rattle.mt_kernel.specs.Restartable.{StaysRestartable};
-ghost use Rattle.mt_kernel.specs.Work.{CallRuns, RunsBehind};
+ghost use Rattle.mt_kernel.specs.Work.{CallRuns};
 ghost use Rattle.mt_kernel.specs.declared.parts.Running.{Running};
-ghost use Rattle.mt_kernel.specs.Advancing.{LocksObject};
+ghost use Rattle.mt_kernel.specs.Advancing.{AdmitsCall, LocksObject, StartsCall};
 
 use crate::ends::let_go;
 use crate::parts::{Parts, Running};
@@ -155,24 +155,7 @@ impl<D: Device> Parts<D> {
         requires same { own ≡ end }
         requires room { vec_len self.old.running < vec_capacity self.old.running }
         requires few { self.old.last < MAX_BEGUN }
-        ensures ok { (origin : Origin) (base : Base) (locks : List (Object × List Holder)) (escrow : Escrowed)
-            → IsGranted D.seen D.may_leave origin base locks escrow self.old txn end
-            → OnOk result
-            (CallsIn D.seen D.may_leave origin base (without_call locks escrow self.old) self.new txn end) }
-        ensures may { (origin : Origin) (base : Base) (locks : List (Object × List Holder)) (escrow : Escrowed)
-            → IsGranted D.seen D.may_leave origin base locks escrow self.old txn end
-            → OnOk result (HasReserves D.seen origin self.old (log_kept self.old) end split) }
-        ensures cause { (origin : Origin) (base : Base) (locks : List (Object × List Holder)) (escrow : Escrowed)
-            → IsGranted D.seen D.may_leave origin base locks escrow self.old txn end
-            → IfErr result (λ gone. IsUnreserved D.seen origin self.old (log_kept self.old) end split gone.0) }
-        ensures back { IfErr result (λ gone. gone.1 ≡ end) }
-        ensures err { OnErr result (IsRestored D.seen D.may_leave self.old self.new) }
-        ensures live { self.new.live ≡ self.old.live }
-        ensures runs { OnOk result (RunsBehind txn (2 * pages self.old.operations.store.pool + 9)
-            self.old.running.items self.new.running.items) }
-        ensures same_commits { SameCommits self.old self.new }
-        ensures store { self.new.operations.store ≡ self.old.operations.store }
-        ensures book { self.new.book ≡ self.old.book }
+        ensures { StartsCall D.seen D.may_leave self.old self.new txn end split result }
     {
         let pages = pages_for(&own, split) + pages_to_undo(&own);
         let bytes = bytes_to_undo(&own);
@@ -218,24 +201,7 @@ impl<D: Device> Parts<D> {
         requires same { own ≡ op }
         requires room { vec_len self.old.running < vec_capacity self.old.running }
         requires few { self.old.last < MAX_BEGUN }
-        ensures ok { (origin : Origin) (base : Base) (locks : List (Object × List Holder))
-            → IsLocked D.seen D.may_leave origin base locks self.old txn op
-            → OnOk result
-            (CallsIn D.seen D.may_leave origin base (without_call locks self.old.escrow self.old) self.new txn op) }
-        ensures may { (origin : Origin) (base : Base) (locks : List (Object × List Holder))
-            → IsLocked D.seen D.may_leave origin base locks self.old txn op
-            → OnOk result (IsAdmittedBy D.seen origin self.old (log_kept self.old) txn op split) }
-        ensures cause { (origin : Origin) (base : Base) (locks : List (Object × List Holder))
-            → IsLocked D.seen D.may_leave origin base locks self.old txn op
-            → IfErr result (λ gone. IsRefusedBehind D.seen origin self.old (log_kept self.old) txn op split gone.0) }
-        ensures back { IfErr result (λ gone. gone.1 ≡ op) }
-        ensures err { OnErr result (IsRestored D.seen D.may_leave self.old self.new) }
-        ensures live { self.new.live ≡ self.old.live }
-        ensures runs { OnOk result (RunsBehind txn (2 * pages self.old.operations.store.pool + 9)
-            self.old.running.items self.new.running.items) }
-        ensures same_commits { SameCommits self.old self.new }
-        ensures store { self.new.operations.store ≡ self.old.operations.store }
-        ensures book { self.new.book ≡ self.old.book }
+        ensures { AdmitsCall D.seen D.may_leave self.old self.new txn op split result }
     {
         match ask(&mut self.escrow, txn, &op) {
             Ok(()) => {}

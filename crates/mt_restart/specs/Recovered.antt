@@ -17,9 +17,16 @@ use Rattle.mt_restart.specs.declared.finding.Marks.{Marks}
 use Rattle.mt_restart.specs.declared.recovering.Found.{Found}
 use Rattle.mt_restart.specs.declared.recovering.Recovered.{Recovered}
 
+-- a restart in memory makes these pages of the bytes
+pub record AreRestored (c : List ℕ) (items : List (List ℕ)) : Type 0 where
+  pub slot : MasterSlot
+  pub figures : Figures
+  pub replayed : IsReplayed c slot figures items
+
 -- What is found in these bytes: pages that break no rule, the marks by which the log can turn over, and all that is in memory
 -- beside the device, with so many frames.
 pub record IsFound (c : List ℕ) (frames : ℕ) (f : Found) : Type 0 where
+  pub restored : AreRestored c f.restored.pages.items
   pub batches : List (List Record)
   pub marked : AreMarked c f.ruling f.restored.pages.items batches f.marks
   pub turns : CanTurn f.ruling f.marks.images.items

@@ -1,9 +1,12 @@
 -- A kernel that is opened over a device.
-use Rattle.std.specs.Prelude.{◌≡◌, ℕ, List, Result, Ok, Err}
+use Rattle.std.specs.Prelude.{◌≡◌, ℕ, List, Result, Ok, Err, get_or}
 use Rattle.mt_base.specs.declared.refusal.Refusal.{Refusal}
 use Rattle.mt_disk.specs.declared.device.Device.{Ghosts}
+use Rattle.mt_index.specs.Checks.{bytes_of}
 use Rattle.mt_live.specs.Machine.{start}
 use Rattle.mt_model.specs.Model.{Base, IsBase}
+use Rattle.mt_restart.specs.Recovered.{AreRestored}
+use Rattle.mt_steps.specs.Held.{Holds}
 use Rattle.mt_steps.specs.Listed.{IsSame}
 use Rattle.mt_txn.specs.Shown.{Restarts, Shows}
 use Rattle.mt_txn.specs.declared.kernel.Kernel.{Kernel}
@@ -19,6 +22,15 @@ pub record IsOpened {D : Type 0} {g : Ghosts D} (seen : D → List ℕ) (may_lea
 pub record BeginsOn {D : Type 0} {g : Ghosts D} (seen : D → List ℕ) (may_leave : D → List ℕ → Type 0) (b : Base) (k : Kernel D g) : Type 0 where
   pub opened : IsOpened seen may_leave k.relations k.counters b k
   pub same : (m : Base) → IsSame k.counters m b → IsBase m → IsOpened seen may_leave k.relations k.counters m k
+
+-- It begins on the pages that a restart in memory makes of these bytes: on each base that they hold, with as many relations and counters
+-- as page 2 tells.
+pub record BeginsOnRestored {D : Type 0} {g : Ghosts D} (seen : D → List ℕ) (may_leave : D → List ℕ → Type 0) (c : List ℕ) (k : Kernel D g) : Type 0 where
+  pub items : List (List ℕ)
+  pub restored : AreRestored c items
+  pub relations : k.relations ≡ get_or (bytes_of items 2) 0 0
+  pub counters : k.counters ≡ get_or (bytes_of items 2) 1 0
+  pub opened : (b : Base) → Holds (bytes_of items) b → IsBase b → IsOpened seen may_leave k.relations k.counters b k
 
 -- the device, in the kernel or handed back
 abbrev pub device_of : {D : Type 0} → {g : Ghosts D} → Result (Kernel D g) (Refusal × D) → D

@@ -1,5 +1,5 @@
 // A kernel over a device that is formatted for it.
-ghost use Rattle.std.specs.Prelude.{◌≡◌, ◌⊎◌, ◌<◌, length, IfOk, IfErr};
+ghost use Rattle.std.specs.Prelude.{◌≡◌, ◌⊎◌, ◌<◌, length, IfOk, IfErr, MatchResult};
 ghost use Rattle.mt_base.specs.declared.refusal.Refusal.{Refusal};
 ghost use Rattle.mt_live.specs.Machine.{start};
 ghost use Rattle.mt_txn.specs.Shown.{Restarts, Shows};
@@ -16,7 +16,8 @@ use std::alloc::Global;
 /// lives, the book is empty, and the pages hold no row and each counter at its start.
 ///
 /// Refused, in this order, with the device: 1 for want of memory, 5 where the device is shorter than
-/// [`Schema::device_len`], 2 where it failed. After 5 nothing is written; after 1 or 2 it may be formatted or not.
+/// [`Schema::device_len`], 2 where it failed. A device that is too short is not touched. After 1 or 2 another one may be
+/// formatted or not.
 pub fn fresh<D: Device + Drop>(
     alloc: Global,
     device: D,
@@ -28,6 +29,9 @@ pub fn fresh<D: Device + Drop>(
     ensures restarts { IfOk result (Restarts D.seen D.may_leave (schema_base schema.now)) }
     ensures schema { IfOk result (λ kernel. (kernel.relations ≡ relations_in schema.now)
         × (kernel.counters ≡ length (counters_in schema.now))) }
+    // A device that is too short is handed back as it was.
+    ensures short { length (D.seen device) < device_bytes schema.now
+        → MatchResult result (λ kernel. ⊥) (λ gone. gone.1 ≡ device) }
     ensures cause { IfErr result (λ gone. (gone.0 ≡ Refusal.NoMemory)
         ⊎ ((gone.0 ≡ Refusal.BadLength) × (length (D.seen device) < device_bytes schema.now)
         ⊎ (gone.0 ≡ Refusal.DeviceFailed) × (D.faults device < D.faults gone.1))) }

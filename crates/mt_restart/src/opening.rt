@@ -1,5 +1,5 @@
 // What is begun over a device that is formatted.
-ghost use Rattle.std.specs.Prelude.{◌≡◌, ◌⊎◌, ◌<◌, length, IfOk, IfErr};
+ghost use Rattle.std.specs.Prelude.{◌≡◌, ◌⊎◌, ◌<◌, length, IfOk, IfErr, MatchResult};
 ghost use Rattle.mt_base.specs.declared.refusal.Refusal.{Refusal};
 ghost use Rattle.mt_disk.specs.Disk.{Only};
 ghost use Rattle.mt_restart.specs.Firsts.{IsFirstLog, IsFirstPool, IsFirstStore, AreFirst, AreFresh};
@@ -88,6 +88,8 @@ pub(crate) fn fresh_parts<D: Device + Drop>(
     frames: usize,
 ) -> Result<(Operations<D>, Escrow), NotBegun<D>>
     requires frames { 0 < frames }
+    ensures short { length (D.seen device) < device_bytes schema.now
+        → MatchResult result (λ parts. ⊥) (λ gone. gone.device ≡ device) }
     ensures fresh { IfOk result (λ parts. AreFresh D.seen D.may_leave schema.now parts.0 parts.1) }
     ensures cause { IfErr result (λ gone. (gone.refusal ≡ Refusal.NoMemory)
         ⊎ ((gone.refusal ≡ Refusal.BadLength) × (length (D.seen device) < device_bytes schema.now)

@@ -5,7 +5,7 @@ ghost use Rattle.mt_disk.specs.Disk.{LeavesOnly};
 ghost use Rattle.mt_log.specs.Quiet.{OnlyReads};
 ghost use Rattle.mt_model.specs.Model.{Base};
 ghost use Rattle.mt_replay.specs.Stands.{CanRestart, ShowsBase};
-ghost use Rattle.mt_restart.specs.Recovered.{IsCauseToStop, IsFound, IsRecovered, StandsStill};
+ghost use Rattle.mt_restart.specs.Recovered.{AreRestored, IsCauseToStop, IsFound, IsRecovered, StandsStill};
 
 use crate::beside::{Beside, beside_of};
 use crate::finding::{Marks, can_turn, marks_of};
@@ -89,6 +89,7 @@ pub(crate) fn recover<D: Device>(
     frames: usize,
 ) -> Result<Recovered, Refusal>
     ensures recovered { IfOk result (IsRecovered D.seen D.may_leave frames device.new) }
+    ensures restored { IfOk result (λ recovered. AreRestored (D.seen device.old) recovered.restored.pages.items) }
     ensures shows { (relations counters : ℕ) (b : Base) → CanRestart relations counters (D.seen device.old) b
         → IfOk result (λ recovered. ShowsBase relations counters recovered.restored.pages.items b) }
     ensures no_other_refusal { (relations counters : ℕ) (b : Base)

@@ -10,7 +10,7 @@ ghost use Rattle.mt_steps.specs.Held.{Holds};
 ghost use Rattle.mt_txn.specs.Well.{Opens};
 ghost use Rattle.mt_restart.specs.Formats.{IsFormattedAs};
 ghost use Rattle.mt_restart.specs.Recovered.{IsCauseToStop, IsRecovered, StandsStill};
-ghost use Rattle.mt_restart.specs.Resumed.{BeginsOn, IsOpened, device_of};
+ghost use Rattle.mt_restart.specs.Resumed.{BeginsOn, BeginsOnRestored, IsOpened, device_of};
 ghost use Rattle.mt_restart.specs.declared.schema.Schema.{Schema};
 
 use crate::beside::Beside;
@@ -79,7 +79,8 @@ fn kernel_over<D: Device + Drop>(alloc: Global, device: D, recovered: Recovered)
 /// Whenever a crash comes in this call, what it leaves is what it might have left before, or stands for the same base. So
 /// a device may be opened again, however often that is cut off.
 ///
-/// Any bytes are read. Each refusal hands the device back:
+/// Any bytes are read. Where they are answered, the kernel begins on the pages that those passes make of them, which break
+/// no rule of their formats. Each refusal hands the device back:
 /// - [`Refusal::NoMemory`];
 /// - [`Refusal::DeviceFailed`], where the device failed in this call;
 /// - [`Refusal::NotFormatted`] and [`Refusal::BadFormat`], as `replay` of mt_replay says;
@@ -97,6 +98,8 @@ pub fn open<D: Device + Drop>(
     // On any bytes it is a kernel on some base.
     ensures begins { IfOk result (λ kernel. (b : Base)
         × IsOpened D.seen D.may_leave kernel.relations kernel.counters b kernel) }
+    // It is the base that the passes of a restart leave in memory.
+    ensures restored { IfOk result (BeginsOnRestored D.seen D.may_leave (D.seen device)) }
     // What lies behind its last counter is open.
     ensures counted { IfOk result (λ kernel. (b : Base) × BeginsOn D.seen D.may_leave b kernel) }
     ensures no_other_refusal { (relations counters : ℕ) (b : Base) → CanRestart relations counters (D.seen device) b

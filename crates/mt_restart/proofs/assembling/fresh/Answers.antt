@@ -23,5 +23,8 @@ returns-in-Ok-clause-shows g c = c.assemble.ensures.shows (schema_base c.args.sc
 pub returns-in-Ok-clause-restarts : goal.returns-in-Ok-clause-restarts
 returns-in-Ok-clause-restarts g c = c.assemble.ensures.restarts (schema_base c.args.schema.now) (opens_of g.D.Device.seen g.D.Device.may_leave c.args.schema.now c.in-Ok.operations c.in-Ok.escrow c.in-Ok.ensures.fresh c.relations.result (length c.counters.result.now) (sym c.relations.ensures) (ap (λ (cs : List Count). length cs) (sym c.counters.ensures.counters)))
 
+pub returns-in-Ok-clause-short : goal.returns-in-Ok-clause-short
+returns-in-Ok-clause-short g c = λ short. c.in-Ok.ensures.short short
+
 pub returns-in-Ok-clause-schema : goal.returns-in-Ok-clause-schema
 returns-in-Ok-clause-schema g c = (c.assemble.ensures.schema.0 ∙ c.relations.ensures, c.assemble.ensures.schema.1 ∙ ap (λ (cs : List Count). length cs) c.counters.ensures.counters)

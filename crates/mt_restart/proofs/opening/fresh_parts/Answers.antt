@@ -12,6 +12,12 @@ returns-in-Ok-first_operations-clause-fresh g c = record {
   pending = ap (λ (e : Escrowed). e.pending) c.in-Ok.ensures.escrow;
 }
 
+pub returns-in-Ok-first_operations-clause-short : goal.returns-in-Ok-first_operations-clause-short
+returns-in-Ok-first_operations-clause-short g c = λ short. let is = c.in-Ok-format.is in let no = (c.format.ensures.short short).0 in absurd cc
+
+pub returns-in-Err-first_operations-clause-short : goal.returns-in-Err-first_operations-clause-short
+returns-in-Err-first_operations-clause-short g c = λ short. let is = c.in-Ok-format.is in let no = (c.format.ensures.short short).0 in absurd cc
+
 pub returns-in-Err-first_operations-clause-cause : goal.returns-in-Err-first_operations-clause-cause
 returns-in-Err-first_operations-clause-cause g c = ⊎_elim
     (λ memory. inl memory)

@@ -57,6 +57,7 @@ pub returns-clause-found : goal.returns-clause-found
 returns-clause-found g c =
     let D = g.D.Device in let r = c.in_ok-replayed.ensures in let k = c.in_ok-marks.ensures.marked in
     record {
+      restored = record { slot = c.in_ok-replayed.replayed.ruling; figures = c.in_ok-replayed.replayed.figures; replayed = r.replayed };
       batches = k.0;
       marked = subst (λ (x : List ℕ). AreMarked x c.in_ok-replayed.replayed.ruling c.in_ok-replayed.replayed.restored.pages.items k.0 c.in_ok-marks.marks) c.replay.ensures.seen
           (subst (λ (x : List (List ℕ)). AreMarked (D.seen c.replay.new.device) c.in_ok-replayed.replayed.ruling x k.0 c.in_ok-marks.marks) c.deref.ensures.value k.1);

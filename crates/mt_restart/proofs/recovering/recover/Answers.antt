@@ -2,7 +2,7 @@ use Rattle.std.proofs.Common.{◌∙◌, ◌<◌, ℕ, List, refl, sym, subst}
 use Rattle.std.proofs.lemmas.Result.{err_from_is_err_and}
 use Rattle.mt_replay.specs.Stands.{CanRestart}
 use Rattle.mt_restart.specs.Found.{HasTurned}
-use Rattle.mt_restart.specs.Recovered.{IsCauseToStop}
+use Rattle.mt_restart.specs.Recovered.{AreRestored, IsCauseToStop}
 use Rattle.mt_restart.proofs.Again.{over_stands, read_stands, when_over}
 use Rattle.mt_restart.proofs.recovering.recover.Goals as goal
 
@@ -49,6 +49,11 @@ returns-clause-settled g c = λ relations counters b found other.
 
 pub returns-clause-shows : goal.returns-clause-shows
 returns-clause-shows g c = λ relations counters b found. c.in_ok-found.ensures.shows relations counters b (subst (λ (x : List ℕ). CanRestart relations counters x b) (sym c.sync.ensures.seen) found)
+
+pub returns-clause-restored : goal.returns-clause-restored
+returns-clause-restored g c =
+    let f = c.in_ok-found.found in
+    subst (λ (x : List ℕ). AreRestored x f.restored.pages.items) c.sync.ensures.seen c.in_ok-found.ensures.found.restored
 
 pub returns-clause-recovered : goal.returns-clause-recovered
 returns-clause-recovered g c =

@@ -1,4 +1,4 @@
-use Rattle.std.proofs.Common.{◌<◌, length, refl, sym, subst}
+use Rattle.std.proofs.Common.{◌<◌, ◌∙◌, length, refl, sym, subst}
 use Rattle.mt_base.specs.declared.refusal.Refusal.{Refusal}
 use Rattle.mt_disk.specs.Disk.{LeavesOnly}
 use Rattle.mt_index.specs.Checks.{bytes_of}
@@ -25,6 +25,20 @@ returns-in-Ok-clause-begins g c =
     let based = base_of_good checked.relations checked.counters (length items) (bytes_of items) checked.good in
     let o = c.kernel_over.ensures.opened based.0 based.1 based.2 in
     (based.0, record { relations_are = refl; counters_are = refl; shows = o.shows; restarts = o.restarts })
+
+pub returns-in-Ok-clause-restored : goal.returns-in-Ok-clause-restored
+returns-in-Ok-clause-restored g c =
+    let items = c.in-Ok.recovered.restored.pages.items in let x = c.in-Ok.ensures in
+    let checked = x.recovered.checked in
+    let based = base_of_good checked.relations checked.counters (length items) (bytes_of items) checked.good in
+    let begins = c.kernel_over.ensures.opened based.0 based.1 based.2 in
+    record {
+      items = items;
+      restored = x.restored;
+      relations = begins.relations_are ∙ x.recovered.beside.relations;
+      counters = begins.counters_are ∙ x.recovered.beside.counters;
+      opened = λ b holds bounds. let o = c.kernel_over.ensures.opened b holds bounds in record { relations_are = refl; counters_are = refl; shows = o.shows; restarts = o.restarts };
+    }
 
 pub returns-in-Ok-clause-counted : goal.returns-in-Ok-clause-counted
 returns-in-Ok-clause-counted g c =

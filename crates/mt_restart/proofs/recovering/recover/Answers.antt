@@ -1,4 +1,4 @@
-use Rattle.std.proofs.Common.{◌∙◌, ◌<◌, ℕ, List, refl, sym, subst}
+use Rattle.std.proofs.Common.{◌∙◌, ◌<◌, inl, inr, ℕ, List, refl, sym, subst}
 use Rattle.std.proofs.lemmas.Result.{err_from_is_err_and}
 use Rattle.mt_replay.specs.Stands.{CanRestart}
 use Rattle.mt_restart.specs.Found.{HasTurned}
@@ -80,3 +80,22 @@ pub returns-in_err-found-clause-unwritten : goal.returns-in_err-found-clause-unw
 returns-in_err-found-clause-unwritten g c =
     let p = err_from_is_err_and c.from_residual-in_err-found.result c.from_residual-in_err-found.ensures.1 in
     rw (p.1, p.2) (λ not. c.find.ensures.reads.same ∙ c.sync.ensures.seen)
+
+pub returns-in_err-log-clause-no_other_refusal : goal.returns-in_err-log-clause-no_other_refusal
+returns-in_err-log-clause-no_other_refusal g c = λ relations counters b found.
+    let p = err_from_is_err_and c.from_residual-in_err-log.result c.from_residual-in_err-log.ensures.1 in
+    rw (p.1, p.2) (inr (inl c.in_err-log.ensures.cause.0))
+
+pub returns-in_err-log-clause-unwritten : goal.returns-in_err-log-clause-unwritten
+returns-in_err-log-clause-unwritten g c =
+    let p = err_from_is_err_and c.from_residual-in_err-log.result c.from_residual-in_err-log.ensures.1 in
+    rw (p.1, p.2) (λ not. absurd (not c.in_err-log.ensures.cause.0))
+
+-- the device failed in the turn, and in no call before
+pub returns-in_err-log-clause-cause : goal.returns-in_err-log-clause-cause
+returns-in_err-log-clause-cause g c =
+    let D = g.D.Device in let old = D.faults c.args.device.now in let new = D.faults c.turn.new.device in
+    let p = err_from_is_err_and c.from_residual-in_err-log.result c.from_residual-in_err-log.ensures.1 in
+    let fault = c.in_err-log.ensures.cause in
+    let more : old < new = subst (λ (n : ℕ). n < new) (c.in_ok-found.ensures.quiet ∙ c.in_ok-sync.ensures.cause.quiet refl) fault.1 in
+    rw (p.1, p.2) (subst (IsCauseToStop (D.seen c.args.device.now) (old < new)) (sym fault.0) (inl more))

@@ -14,7 +14,9 @@ use Rattle.mt_kernel.specs.declared.parts.Commit.{Commit}
 use Rattle.mt_live.specs.Machine.{State, is_live}
 use Rattle.mt_live.specs.Members.{Member}
 use Rattle.mt_live.specs.declared.transactions.TxnState.{TxnState}
+use Rattle.mt_log.specs.Words.{appended}
 use Rattle.mt_model.specs.Model.{Base}
+use Rattle.mt_op.specs.Begun.{AreImages}
 use Rattle.mt_restart.specs.Rotated.{IsForceCause, IsLeft, device_in, early_cause}
 use Rattle.mt_restart.specs.declared.rotating.NotRotated.{NotRotated}
 use Rattle.mt_restart.specs.declared.rotating.NotRotated.TheVariants.{Kept, Ended as IsEnded}
@@ -113,11 +115,11 @@ module _ {D : Type 0} {g : Ghosts D} (seen : D → List ℕ) (may_leave : D → 
       schema = (refl, refl);
     }
 
-    pub turned : (k n : Kernel D g) → Starts k → Well k → Well n → is_failed k ≡ false → HasNobody k → early_cause k ≡ None → ((first : Base) (s : State) → Restarts seen may_leave first k → Shows seen may_leave first s k → Shows seen may_leave first s n)
-        → StaysRestarting seen may_leave k n → SameSchema k n → ((first : Base) → Restarts seen may_leave first k → FindsMeanwhile moment left_since k.relations k.counters first k.parts n.parts.operations.store.device) → Turns k Rotated n
-    turned k n begun tied tied_still well nobody may shows restarts schema found = record {
+    pub turned : (k n : Kernel D g) → Starts k → Well k → Well n → is_failed k ≡ false → HasNobody k → early_cause k ≡ None → AreImages (appended n.parts.operations.store.log)
+        → ((first : Base) (s : State) → Restarts seen may_leave first k → Shows seen may_leave first s k → Shows seen may_leave first s n) → StaysRestarting seen may_leave k n → SameSchema k n → ((first : Base) → Restarts seen may_leave first k → FindsMeanwhile moment left_since k.relations k.counters first k.parts n.parts.operations.store.device) → Turns k Rotated n
+    turned k n begun tied tied_still well nobody may fresh shows restarts schema found = record {
       leads = λ first s starts was. still seen may_leave moment left_since faults k n Rotate Rotated first s rotated (shows first s starts was);
-      due = may;
+      due = record { may = may; fresh = fresh };
       phases = nobody_phases k n tied tied_still nobody (nobody_after k n nobody begun shows);
       fails = ((λ failed. let wrong : true ≡ false = sym failed ∙ well in absurd cc), λ broken. absurd cc);
       restarts = restarts;

@@ -10,7 +10,8 @@ use Rattle.mt_kernel.specs.Work.{steps_in, undo_steps}
 use Rattle.mt_kernel.specs.declared.parts.Commit.{Commit as CommitUnderWay}
 use Rattle.mt_live.specs.Sound.{Each}
 use Rattle.mt_live.specs.declared.transactions.TxnState.TheVariants as state
-use Rattle.mt_log.specs.Words.{durable}
+use Rattle.mt_log.specs.Words.{appended, durable}
+use Rattle.mt_op.specs.Begun.{AreImages}
 use Rattle.mt_pool.specs.Views.{Cleans, IsWaiting, pages}
 use Rattle.mt_pool.specs.declared.flushing.Flushed.{Flushed as FlushTold}
 use Rattle.mt_pool.specs.declared.flushing.Flushed.TheVariants as flush
@@ -56,6 +57,11 @@ module _ {D : Type 0} {g : Ghosts D} where
   IsFlushed k flush.Force n = IsWaiting k.parts.operations.store.pool (length (durable k.parts.operations.store.log))
   IsFlushed k flush.Clean n = (f : ℕ) → get_or n.parts.operations.store.pool.dirty.items f false ≡ false
 
+  -- nothing was in the way, and the log has no record but the images that its area began with
+  pub record IsTurnedOver (k n : Kernel D g) : Type 0 where
+    pub may : early_cause k ≡ None
+    pub fresh : AreImages (appended n.parts.operations.store.log)
+
 module _ {D : Type 0} {g : Ghosts D} (seen : D → List ℕ) (may_leave : D → List ℕ → Type 0) (faults : D → ℕ) where
   -- The answer is due to the kernel: a refusal has its cause, or memory was wanting, or the device failed in the call; what is not
   -- refused had no cause to be, and tells what was done.
@@ -84,7 +90,7 @@ module _ {D : Type 0} {g : Ghosts D} (seen : D → List ℕ) (may_leave : D → 
   IsDue k Flush (Flushed told) n = IsFlushed k told n
   IsDue k Flush answer n = ⊥
   IsDue k Rotate (Refused why) n = (early_cause k ≡ Some why) ⊎ ((early_cause k ≡ None) × IsForceCause n why)
-  IsDue k Rotate Rotated n = early_cause k ≡ None
+  IsDue k Rotate Rotated n = IsTurnedOver k n
   IsDue k Rotate answer n = ⊥
 
 -- ---- which transactions are open, commit or are to be undone

@@ -16,7 +16,7 @@ returns-then-not-has_nobody g c =
 pub returns-in-Ok : goal.returns-in-Ok
 returns-in-Ok g c =
     let D = g.D.Device in let k = c.args.kernel in let e = c.in-Ok.ensures in
-    turned D.seen D.may_leave D.moment D.left_since g.met.D.Device.only_now D.faults k c.in-Ok.kernel k.starts k.well c.in-Ok.kernel.well (sym c.has_failed.ensures ∙ c.if-has_failed.false) (c.has_nobody.ensures.0 c.if-not-has_nobody.false) e.may e.shows e.restarted e.same e.moments
+    turned D.seen D.may_leave D.moment D.left_since g.met.D.Device.only_now D.faults k c.in-Ok.kernel k.starts k.well c.in-Ok.kernel.well (sym c.has_failed.ensures ∙ c.if-has_failed.false) (c.has_nobody.ensures.0 c.if-not-has_nobody.false) e.may e.begun e.shows e.restarted e.same e.moments
 
 pub returns-in-Err : goal.returns-in-Err
 returns-in-Err g c =

@@ -19,7 +19,7 @@ use Rattle.mt_script.specs.Answers.{AppendsFront, answer_text, transcript_text}
 use Rattle.mt_txn.specs.Shown.{SameSchema}
 use Rattle.mt_server.specs.Driven.{IsBeside, IsDueTo, IsGivenUp, IsResting}
 use Rattle.mt_server.specs.Plays.{Play, IsTurn, acts, refuses, Runs, starts, goes_on, after_at, put_off}
-use Rattle.mt_server.specs.Runs.{HasRun, HasRunLines, HasTurned, IsAnswered, IsCut, IsCutAtEnd, IsCutShort, IsEnded, IsEndedFor, nothing, aborted, failed, IsLeftFor, IsStopped, IsToldFor, failure_line, last_line}
+use Rattle.mt_server.specs.Runs.{HasRun, HasRunLines, HasTurned, IsAnswered, IsCut, IsCutAtEnd, IsCutShort, IsEnded, IsEndedFor, nothing, aborted, failed, IsLeftFor, IsStopped, IsToldFor, IsUnheard, failure_line, last_line}
 use Rattle.mt_script.proofs.TextLemmas.{front_then}
 use Rattle.mt_server.proofs.TranscriptLemmas.{runs_then, text_joined, text_one}
 
@@ -43,11 +43,22 @@ no_line y other = refl
 pub silent : (a : Option (List ℕ)) (y : Refusal) → (y ≡ refusal.DeviceFailed → ⊥) → Appends a a (transcript_text (failure_line y))
 silent a y other = subst (λ (t : List Answer). Appends a a (transcript_text t)) (sym (no_line y other)) (text_none a)
 
+-- the last of them was not heard, behind others that were
+unheard_behind : (a b c : Option (List ℕ)) (xs ys : List Answer) → Appends a b (transcript_text xs) → IsUnheard b c ys → IsUnheard a c (xs ++ ys)
+unheard_behind a b c xs ys before u = record {
+  heard = xs ++ u.heard;
+  last = u.last;
+  answers_are = ap (λ (t : List Answer). xs ++ t) u.answers_are ∙ sym (append_assoc xs u.heard (u.last ∷ []));
+  mid = u.mid;
+  told = appends_all a b u.mid xs u.heard before u.told;
+  front = u.front;
+}
+
 -- what ends a run behind answers, behind those before them
 pub told_behind : (a b c : Option (List ℕ)) (xs ys : List Answer) (why : RunFault) → Appends a b (transcript_text xs) → IsToldFor b c ys why → IsToldFor a c (xs ++ ys) why
 told_behind a b c xs ys fault.Output before (last, is, front) = (last, is, subst (λ (t : List Answer). AppendsFront a c (transcript_text t)) (sym (append_assoc xs ys last)) (appends_front a b c xs (ys ++ last) before front))
 told_behind a b c xs ys (fault.Refused why) before (inl all) = inl (subst (λ (t : List Answer). Appends a c (transcript_text t)) (sym (append_assoc xs ys (failure_line why))) (appends_all a b c xs (ys ++ failure_line why) before all))
-told_behind a b c xs ys (fault.Refused why) before (inr front) = inr (appends_front a b c xs ys before front)
+told_behind a b c xs ys (fault.Refused why) before (inr unheard) = inr (unheard_behind a b c xs ys before unheard)
 
 pub stopped_told : (was now : Option (List ℕ)) (y : Refusal) (why : RunFault) → IsStopped was now y why → IsToldFor was now [] why
 stopped_told was now y fault.Output (is, front) = (Refused refusal.DeviceFailed ∷ [], failed, subst (λ (x : Refusal). AppendsFront was now (transcript_text (failure_line x))) is front)
@@ -115,7 +126,7 @@ module _ {D : Type 0} {g : Ghosts D} (seen : D → List ℕ) (may_leave : D → 
     where
       ends : (x : RunFault) → AppendsFront was now (transcript_text (told.0 ∷ [])) → IsToldFor was now (told.0 ∷ []) x
       ends fault.Output f = ([], nothing, f)
-      ends (fault.Refused y) f = inr f
+      ends (fault.Refused y) f = inr (record { heard = []; last = told.0; answers_are = refl; mid = was; told = text_none was; front = f })
 
   -- it was given up
   stopped_left : (n : Kernel D g) (was now : Option (List ℕ)) (y : Refusal) (why : RunFault) → IsGivenUp seen may_leave faults p n y → IsStopped was now y why → IsLeftFor seen may_leave faults p n why

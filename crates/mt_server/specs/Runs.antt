@@ -39,10 +39,20 @@ pub data IsLast : List Answer → Type 0 where
   aborted : IsLast (Aborted ∷ [])
   failed : IsLast (Refused refusal.DeviceFailed ∷ [])
 
--- What was written where a run ended early: the answers, and that the device failed; or a beginning of that, if the writer failed.
+-- The writer failed within the last of these answers: those before it were written, and a beginning of it.
+pub record IsUnheard (was now : Option (List ℕ)) (answers : List Answer) : Type 0 where
+  pub heard : List Answer
+  pub last : Answer
+  pub answers_are : answers ≡ heard ++ last ∷ []
+  pub mid : Option (List ℕ)
+  pub told : Appends was mid (transcript_text heard)
+  pub front : AppendsFront mid now (transcript_text (last ∷ []))
+
+-- What was written where a run ended early. Where the writer failed, it is a beginning. Else it is the answers, and that the device failed; or
+-- the writer failed within the last answer, and then the run was given up.
 abbrev pub IsToldFor : Option (List ℕ) → Option (List ℕ) → List Answer → RunFault → Type 0
 IsToldFor was now answers fault.Output = (last : List Answer) × IsLast last × AppendsFront was now (transcript_text (answers ++ last))
-IsToldFor was now answers (fault.Refused why) = Appends was now (transcript_text (answers ++ failure_line why)) ⊎ AppendsFront was now (transcript_text answers)
+IsToldFor was now answers (fault.Refused why) = Appends was now (transcript_text (answers ++ failure_line why)) ⊎ IsUnheard was now answers
 
 -- how a run ends that was given up for this refusal: it is written that the device failed, or a beginning of that
 abbrev pub IsStopped : Option (List ℕ) → Option (List ℕ) → Refusal → RunFault → Type 0

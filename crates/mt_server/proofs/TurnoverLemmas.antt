@@ -1,5 +1,5 @@
 -- Lines on a kernel whose log is turned over before a transaction.
-use Rattle.std.proofs.Common.{◌≡◌, ◌<◌, ◌++◌, ◌∷◌, [], suc, ℕ, List, Option, Some, None, length, take, drop, get_or, refl, ap, sym, subst, ◌∙◌, append_assoc, take-append-drop}
+use Rattle.std.proofs.Common.{◌≡◌, ◌<◌, ◌++◌, ◌∷◌, [], suc, ℕ, List, Option, Some, None, length, take, drop, get_or, refl, ap, arith, sym, subst, ◌∙◌, append_assoc, take-append-drop}
 use Rattle.std.proofs.Math.Seq.{take-suc, drop-cons}
 use Rattle.std.proofs.Props.{props}
 use mathlib.Core.Logic.{∥∥₁_elim, ∥∥₁_map}
@@ -20,7 +20,7 @@ use Rattle.mt_server.proofs.TurnLemmas.{left_of}
 use Rattle.mt_server.specs.Driven.{IsBeside}
 use Rattle.mt_server.specs.Plays.{Play, Runs, starts, goes_on}
 use Rattle.mt_server.specs.Runs.{BesideEach, HasRunLines, HasTurned, IsCut, IsCutAtEnd, IsEnded, IsStopped}
-use Rattle.mt_server.specs.Turnovers.{HasRunOn, HasRunOut, IsCutOff, IsLeftBy, IsTurnedOut, StandsForPlay, why_in}
+use Rattle.mt_server.specs.Turnovers.{CannotTurnOver, From, HasRunOn, HasRunOut, IsCutOff, IsLeftBy, IsTurnedOut, StandsForPlay, why_in}
 use Rattle.mt_server.specs.declared.rotating.NotServed.{NotServed}
 use Rattle.mt_server.specs.declared.rotating.NotServed.TheVariants.{Kept, Ended}
 use Rattle.mt_server.specs.declared.running.RunFault.{RunFault}
@@ -164,15 +164,17 @@ module _ {D : Type 0} {g : Ghosts D} (seen : D → List ℕ) (may_leave : D → 
     stands_play device beside stands c left = ∥∥₁_elim (book_is None beside) (hlevel props) (λ is.
         subst (λ (book : List Committed). ∥ CanRestart k.relations k.counters c (after p.first book) ∥₁) is (stands c left))
 
-    turned_left : (y : Refusal) (device : D) (was now : Option (List ℕ)) (why : RunFault) → IsBeside seen may_leave p None k → Restarts seen may_leave p.first k → IsTurnedOut seen may_leave k y device → IsStopped was now y why
+    turned_left : (y : Refusal) (device : D) (was now : Option (List ℕ)) (why : RunFault) → IsBeside seen may_leave p None k → Restarts seen may_leave p.first k → IsTurnedOut seen may_leave faults k y device → IsStopped was now y why
         → IsLeftBy {g = g} seen may_leave faults k.relations k.counters (Ended why device) p
-    turned_left y device was now fault.Output beside restarts out stopped = tt
+    turned_left y device was now fault.Output beside restarts out (is, front) = out.failed is
     turned_left y device was now (fault.Refused why) beside restarts out (is, told) = (
       subst IsTurnFault (sym is) out.cause,
+      λ failed. out.failed (sym is ∙ failed),
+      λ full. ∥∥₁_map (out.full (sym is ∙ full)) (λ (n, over, cannot). (n, resting_over p k n beside restarts over, cannot)),
       λ other. stands_play device beside (out.stands p.first restarts (λ e. other (is ∙ e))),
     )
 
-    pub not_turned : (l : Line) (y : Refusal) (device : D) (was now : Option (List ℕ)) (why : RunFault) → IsBeside seen may_leave p None k → Restarts seen may_leave p.first k → IsTurnedOut seen may_leave k y device → IsStopped was now y why
+    pub not_turned : (l : Line) (y : Refusal) (device : D) (was now : Option (List ℕ)) (why : RunFault) → IsBeside seen may_leave p None k → Restarts seen may_leave p.first k → IsTurnedOut seen may_leave faults k y device → IsStopped was now y why
         → IsCutOff seen may_leave faults p k (l ∷ []) was now (Ended why device)
     not_turned l y device was now why beside restarts out stopped = (
       k,
@@ -197,3 +199,15 @@ end_cause seen may_leave moment left_since faults k device refusal.NoMemory x = 
 end_cause seen may_leave moment left_since faults k device refusal.DeviceFailed x = tt
 end_cause seen may_leave moment left_since faults k device refusal.LogFull x = tt
 end_cause seen may_leave moment left_since faults k device _ x = ∥∥₁_elim x (hlevel props) (λ (forced, keeps, out, e). e)
+
+-- and 2 only where a call of the device has failed
+pub end_failed : {D : Type 0} {g : Ghosts D} (seen : D → List ℕ) (may_leave : D → List ℕ → Type 0) (moment : D → ℕ) (left_since : D → ℕ → List ℕ → Type 0) (faults : D → ℕ) (k : Kernel D g) (device : D) (why : Refusal)
+    → ∥ ((forced : Kernel D g) × Keeps seen may_leave moment left_since k forced × IsForcedOut k forced × IsEndCause seen faults forced.parts.operations.store.device device why) ∥₁ → why ≡ refusal.DeviceFailed → 0 < faults device
+end_failed seen may_leave moment left_since faults k device why x is = ∥∥₁_elim x (hlevel props) (λ (forced, keeps, out, e).
+    let grew : faults forced.parts.operations.store.device < faults device = subst (λ (w : Refusal). IsEndCause seen faults forced.parts.operations.store.device device w) is e in omega (arith, grew))
+
+-- and 11 only where the next area has no room
+pub end_full : {D : Type 0} {g : Ghosts D} (seen : D → List ℕ) (may_leave : D → List ℕ → Type 0) (moment : D → ℕ) (left_since : D → ℕ → List ℕ → Type 0) (faults : D → ℕ) (k : Kernel D g) (device : D) (why : Refusal)
+    → ∥ ((forced : Kernel D g) × Keeps seen may_leave moment left_since k forced × IsForcedOut k forced × IsEndCause seen faults forced.parts.operations.store.device device why) ∥₁ → why ≡ refusal.LogFull → ∥ From seen may_leave k (CannotTurnOver seen) ∥₁
+end_full seen may_leave moment left_since faults k device why x is = ∥∥₁_map x (λ (forced, keeps, out, e).
+    (forced, over_kept seen may_leave moment left_since k forced keeps, subst (λ (w : Refusal). IsEndCause seen faults forced.parts.operations.store.device device w) is e))

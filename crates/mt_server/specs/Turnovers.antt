@@ -1,11 +1,12 @@
 -- Lines of sessions in turn, on a kernel whose log is turned over before a transaction.
-use Rattle.std.specs.Prelude.{ℕ, ◌≡◌, ◌≢◌, List, Option}
+use Rattle.std.specs.Prelude.{ℕ, ◌≡◌, ◌≢◌, ◌<◌, List, Option, None}
 use Rattle.mt_base.specs.declared.refusal.Refusal.{Refusal}
 use Rattle.mt_base.specs.declared.refusal.Refusal.TheVariants as refusal
 use Rattle.mt_disk.specs.declared.device.Device.{Ghosts}
 use Rattle.mt_model.specs.History.{after}
 use Rattle.mt_model.specs.Model.{Base}
 use Rattle.mt_replay.specs.Stands.{CanRestart}
+use Rattle.mt_restart.specs.Recovered.{CannotTurn}
 use Rattle.mt_restart.specs.Rotated.{GoesOver, StandsForBook}
 use Rattle.mt_script.specs.declared.lines.Line.{Line}
 use Rattle.mt_server.specs.Driven.{IsBeside}
@@ -30,16 +31,15 @@ abbrev pub device_in : {D : Type 0} {g : Ghosts D} → NotServed D g → D
 device_in (Kept why n) = n.parts.operations.store.device
 device_in (Ended why device) = device
 
+-- the log of a kernel cannot turn over to its next area
+abbrev pub CannotTurnOver : {D : Type 0} {g : Ghosts D} → (D → List ℕ) → Kernel D g → Type 0
+CannotTurnOver seen k = CannotTurn (seen k.parts.operations.store.device)
+
 -- whatever a crash leaves of the device, it stands for what the play's commits lead to
 abbrev pub StandsForPlay : {D : Type 0} → (D → List ℕ → Type 0) → ℕ → ℕ → Play → D → Type 0
 StandsForPlay may_leave relations counters q device = (c : List ℕ) → may_leave device c → ∥ CanRestart relations counters c (after q.first q.book) ∥₁
 
 module _ {D : Type 0} {g : Ghosts D} (seen : D → List ℕ) (may_leave : D → List ℕ → Type 0) where
-  -- the log of this kernel was to be turned over, and only the device is left
-  pub record IsTurnedOut (k : Kernel D g) (why : Refusal) (device : D) : Type 0 where
-    pub cause : IsTurnFault why
-    pub stands : (first : Base) → Restarts seen may_leave first k → StandsForBook may_leave first k why device
-
   -- it holds beside whatever play of this session the kernel stands at, from whose first base it can be restarted
   abbrev pub BesideFrom : ℕ → Option ℕ → Kernel D g → (Play → Type 0) → Type 0
   BesideFrom session live k Promises = (p : Play) → p.session ≡ session → IsBeside seen may_leave p live k → Restarts seen may_leave p.first k → Promises p
@@ -56,12 +56,22 @@ module _ {D : Type 0} {g : Ghosts D} (seen : D → List ℕ) (may_leave : D → 
   HasRunOut p k lines was now n = From k (λ begun. HasRun seen may_leave p begun lines was now n)
 
 module _ {D : Type 0} {g : Ghosts D} (seen : D → List ℕ) (may_leave : D → List ℕ → Type 0) (faults : D → ℕ) where
-  -- what is left behind a play where serving ended early: the kernel; or the device, since its log could not be turned over, and but for its failure it
-  -- stands for the commits
+  -- The log of this kernel was to be turned over, and only the device is left. By 2 only where a call of the device has failed; by 11 only where
+  -- the next area has no room for a kernel that goes on as this one.
+  pub record IsTurnedOut (k : Kernel D g) (why : Refusal) (device : D) : Type 0 where
+    pub cause : IsTurnFault why
+    pub failed : why ≡ refusal.DeviceFailed → 0 < faults device
+    pub full : why ≡ refusal.LogFull → ∥ From seen may_leave k (CannotTurnOver seen) ∥₁
+    pub stands : (first : Base) → Restarts seen may_leave first k → StandsForBook may_leave first k why device
+
+  -- What is left behind a play where serving ended early: the kernel; or the device, since its log could not be turned over. A call of the device
+  -- has failed, or it stands for the commits; and by 11 the next area had no room for a kernel that stands there.
   abbrev pub IsLeftBy : ℕ → ℕ → NotServed D g → Play → Type 0
   IsLeftBy relations counters (Kept why n) q = IsLeftFor seen may_leave faults q n why
-  IsLeftBy relations counters (Ended fault.Output device) q = Unit {0}
-  IsLeftBy relations counters (Ended (fault.Refused why) device) q = IsTurnFault why × (why ≢ refusal.DeviceFailed → StandsForPlay may_leave relations counters q device)
+  IsLeftBy relations counters (Ended fault.Output device) q = 0 < faults device
+  IsLeftBy relations counters (Ended (fault.Refused why) device) q =
+      IsTurnFault why × (why ≡ refusal.DeviceFailed → 0 < faults device) × (why ≡ refusal.LogFull → ∥ ((n : Kernel D g) × IsBeside seen may_leave q None n × CannotTurnOver seen n) ∥₁)
+      × (why ≢ refusal.DeviceFailed → StandsForPlay may_leave relations counters q device)
 
   -- lines were cut short so
   abbrev pub IsCutOff : Play → Kernel D g → List Line → Option (List ℕ) → Option (List ℕ) → NotServed D g → Type 0

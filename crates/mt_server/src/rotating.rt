@@ -39,7 +39,7 @@ pub(crate) fn turned<D: Device + Drop>(
     frames: usize,
 ) -> Result<Kernel<D>, (Refusal, D)>
     ensures over { IfOk result (GoesOver D.seen D.may_leave kernel) }
-    ensures out { IfErr result (λ gone. IsTurnedOut D.seen D.may_leave kernel gone.0 gone.1) }
+    ensures out { IfErr result (λ gone. IsTurnedOut D.seen D.may_leave D.faults kernel gone.0 gone.1) }
 {
     if kernel.used() <= kernel.area_size() / 2 {
         return Ok(kernel);

@@ -100,7 +100,7 @@ module _ {D : Type 0} {g : Ghosts D} (seen : D → List ℕ) (may_leave : D → 
     -- why a run ended of which this is left
     ended_among : (relations counters : ℕ) (left : NotServed D g) (q : Play) → IsLeftBy seen may_leave faults relations counters left q → AreEndedBy (why_in left)
     ended_among relations counters (Kept run.Output n) q x = tt
-    ended_among relations counters (Kept (run.Refused why) n) q x = inl (ended_by seen may_leave faults n (run.Refused why) x.1)
+    ended_among relations counters (Kept (run.Refused why) n) q x = inl (ended_by seen may_leave faults n (run.Refused why) x.0.1)
     ended_among relations counters (Ended run.Output device) q x = tt
     ended_among relations counters (Ended (run.Refused refusal.NoMemory) device) q x = inl (inl refl)
     ended_among relations counters (Ended (run.Refused refusal.DeviceFailed) device) q x = inl (inr refl)

@@ -19,8 +19,8 @@ use Rattle.mt_server.proofs.TranscriptLemmas.{runs_then}
 use Rattle.mt_server.proofs.TurnLemmas.{left_of}
 use Rattle.mt_server.specs.Driven.{IsBeside}
 use Rattle.mt_server.specs.Plays.{Play, Runs, starts, goes_on}
-use Rattle.mt_server.specs.Runs.{BesideEach, HasRunLines, HasTurned, IsCut, IsCutAtEnd, IsEnded, IsStopped}
-use Rattle.mt_server.specs.Turnovers.{CannotTurnOver, From, HasRunOn, HasRunOut, IsCutOff, IsLeftBy, IsTurnedOut, StandsForPlay, why_in}
+use Rattle.mt_server.specs.Runs.{BesideEach, HasRunLines, HasTurned, IsCut, IsCutAtEnd, IsCutShort, IsEnded, IsStopped}
+use Rattle.mt_server.specs.Turnovers.{BesideFrom, CannotTurnOver, From, HasRunOn, HasRunOut, IsCutOff, IsLeftBy, IsTurnedOut, StandsForPlay, why_in}
 use Rattle.mt_server.specs.declared.rotating.NotServed.{NotServed}
 use Rattle.mt_server.specs.declared.rotating.NotServed.TheVariants.{Kept, Ended}
 use Rattle.mt_server.specs.declared.running.RunFault.{RunFault}
@@ -84,9 +84,9 @@ module _ {D : Type 0} {g : Ghosts D} (seen : D → List ℕ) (may_leave : D → 
     begun_on session l was now live m n own over beside restarts ran = (m, over, ran p own (resting_over p k m beside restarts over))
 
     pub cut_begun : (session : ℕ) (l : Line) (was now : Option (List ℕ)) (m : Kernel D g) (left : NotServed D g) → p.session ≡ session → GoesOver seen may_leave k m → IsBeside seen may_leave p None k → Restarts seen may_leave p.first k
-        → BesideEach seen may_leave session None m (λ q. IsCut seen may_leave (IsLeftBy seen may_leave faults m.relations m.counters left) q m (l ∷ []) was now (why_in left)) → IsCutOff seen may_leave faults p k (l ∷ []) was now left
+        → BesideFrom seen may_leave session None m (λ q. IsCut seen may_leave (IsLeftBy seen may_leave faults m.relations m.counters left) q m (l ∷ []) was now (why_in left)) → IsCutOff seen may_leave faults p k (l ∷ []) was now left
     cut_begun session l was now m left own over beside restarts cut =
-        let x = cut p own (resting_over p k m beside restarts over) in (
+        let x = cut p own (resting_over p k m beside restarts over) (over.restarts p.first restarts) in (
           m,
           over,
           record { before = x.before; rest = x.rest; split = x.split; answers = x.answers; play = x.play; last = x.last; ran = x.ran; told = x.told; left = left_same m left x.play over.schema x.left },
@@ -149,9 +149,27 @@ module _ {D : Type 0} {g : Ghosts D} (seen : D → List ℕ) (may_leave : D → 
         → HasRunOut seen may_leave p k lines a c n
     ended_on lines t a b c m n (begun, over, ran) ended = (begun, over, ended_run seen may_leave faults p begun lines t a b c m n ran ended)
 
-    pub cut_at_end : (lines : List Line) (t : ℕ) (a b c : Option (List ℕ)) (m n : Kernel D g) (why : RunFault) → HasRunOn seen may_leave p k lines a b (Some t) m
+    -- a kernel that is kept
+    pub kept_cut : (lines : List Line) (was now : Option (List ℕ)) (begun n : Kernel D g) (why : RunFault) → SameSchema k n → Restarts seen may_leave p.first n → IsCutShort seen may_leave faults p begun lines was now n why
+        → IsCut seen may_leave (IsLeftBy seen may_leave faults k.relations k.counters (Kept why n)) p begun lines was now why
+    kept_cut lines was now begun n why same restarts x = record {
+      before = x.before;
+      rest = x.rest;
+      split = x.split;
+      answers = x.answers;
+      play = x.play;
+      last = x.last;
+      ran = x.ran;
+      told = x.told;
+      left = (
+        x.left,
+        record { restarts = subst (λ (b : Base). Restarts seen may_leave b n) (sym (runs_first (p, begun) (x.play, x.last) x.before x.answers x.ran)) restarts; relations_are = same.0; counters_are = same.1 },
+      );
+    }
+
+    pub cut_at_end : (lines : List Line) (t : ℕ) (a b c : Option (List ℕ)) (m n : Kernel D g) (why : RunFault) → SameSchema k n → Restarts seen may_leave p.first n → HasRunOn seen may_leave p k lines a b (Some t) m
         → ((q : Play) → IsBeside seen may_leave q (Some t) m → IsCutAtEnd seen may_leave faults q b c n why) → IsCutOff seen may_leave faults p k lines a c (Kept why n)
-    cut_at_end lines t a b c m n why (begun, over, ran) cut = (begun, over, end_cut seen may_leave faults p begun lines t a b c m n why ran cut)
+    cut_at_end lines t a b c m n why same restarts (begun, over, ran) cut = (begun, over, kept_cut lines a c begun n why same restarts (end_cut seen may_leave faults p begun lines t a b c m n why ran cut))
 
     -- ---- a log that could not be turned over
 

@@ -55,6 +55,12 @@ module _ {D : Type 0} {g : Ghosts D} (seen : D → List ℕ) (may_leave : D → 
   abbrev pub HasRunOut : Play → Kernel D g → List Line → Option (List ℕ) → Option (List ℕ) → Kernel D g → Type 0
   HasRunOut p k lines was now n = From k (λ begun. HasRun seen may_leave p begun lines was now n)
 
+  -- a kernel of so many relations and counters can be restarted from the play's first base
+  pub record RestartsFor (relations counters : ℕ) (q : Play) (n : Kernel D g) : Type 0 where
+    pub restarts : Restarts seen may_leave q.first n
+    pub relations_are : n.relations ≡ relations
+    pub counters_are : n.counters ≡ counters
+
 module _ {D : Type 0} {g : Ghosts D} (seen : D → List ℕ) (may_leave : D → List ℕ → Type 0) (faults : D → ℕ) where
   -- The log of this kernel was to be turned over, and only the device is left. By 2 only where a call of the device has failed; by 11 only where
   -- the next area has no room for a kernel that goes on as this one.
@@ -67,7 +73,7 @@ module _ {D : Type 0} {g : Ghosts D} (seen : D → List ℕ) (may_leave : D → 
   -- What is left behind a play where serving ended early: the kernel; or the device, since its log could not be turned over. A call of the device
   -- has failed, or it stands for the commits; and by 11 the next area had no room for a kernel that stands there.
   abbrev pub IsLeftBy : ℕ → ℕ → NotServed D g → Play → Type 0
-  IsLeftBy relations counters (Kept why n) q = IsLeftFor seen may_leave faults q n why
+  IsLeftBy relations counters (Kept why n) q = IsLeftFor seen may_leave faults q n why × RestartsFor seen may_leave relations counters q n
   IsLeftBy relations counters (Ended fault.Output device) q = 0 < faults device
   IsLeftBy relations counters (Ended (fault.Refused why) device) q =
       IsTurnFault why × (why ≡ refusal.DeviceFailed → 0 < faults device) × (why ≡ refusal.LogFull → ∥ ((n : Kernel D g) × IsBeside seen may_leave q None n × CannotTurnOver seen n) ∥₁)

@@ -27,7 +27,7 @@ fn run_in_place<D: Device, W: Write>(
     ensures told { IfOk result (λ t. BesideEach D.seen D.may_leave session live kernel
         (λ p. HasRunLines D.seen D.may_leave p kernel (line.now ∷ [])
         (W.contents writer.old) (W.contents writer.new) t.1 t.0)) }
-    ensures cut { IfErr result (λ left. BesideEach D.seen D.may_leave session live kernel
+    ensures cut { IfErr result (λ left. BesideFrom D.seen D.may_leave session live kernel
         (λ p. IsCut D.seen D.may_leave
         (IsLeftBy D.seen D.may_leave D.faults kernel.relations kernel.counters left) p kernel (line.now ∷ [])
         (W.contents writer.old) (W.contents writer.new) (why_in left))) }

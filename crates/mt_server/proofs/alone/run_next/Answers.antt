@@ -13,7 +13,7 @@ pub returns-in-Some-clause-cut : goal.returns-in-Some-clause-cut
 returns-in-Some-clause-cut g c =
     let D = g.D.Device in
     IfErr-weaker c.run_in_place.result _ _
-    (λ left cut p own beside restarts. (c.args.between.0, over_same D.seen D.may_leave c.args.between.0, cut p own (rw c.in-Some.is at beside)))
+    (λ left cut p own beside restarts. (c.args.between.0, over_same D.seen D.may_leave c.args.between.0, cut p own (rw c.in-Some.is at beside) restarts))
     c.run_in_place.ensures.cut
 
 pub returns-in-None-clause-told : goal.returns-in-None-clause-told

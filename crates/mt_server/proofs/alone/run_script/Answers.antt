@@ -1,3 +1,4 @@
+use Rattle.std.proofs.Common.{◌∙◌}
 use Rattle.mt_server.proofs.TurnoverLemmas.{closed_on, cut_at_end, ended_on}
 use Rattle.mt_server.proofs.alone.run_script.Goals as goal
 
@@ -17,4 +18,7 @@ returns-in-Ok-end_live-clause-ran g c = λ p own beside restarts.
 pub returns-in-Err-end_live-clause-cut : goal.returns-in-Err-end_live-clause-cut
 returns-in-Err-end_live-clause-cut g c = λ p own beside restarts.
     let D = g.D.Device in
-    cut_at_end D.seen D.may_leave D.faults p c.args.kernel c.args.script.now.lines.items c.in-Some.txn _ _ _ c.in-Ok.between.0 c.end_live.new.kernel c.in-Err-end_live.why (rw c.in-Some.is at (rw c.lines.ensures at c.in-Ok.ensures.ran p own beside restarts)) c.in-Err-end_live.ensures.cut
+    let before = c.in-Ok.ensures.schema in
+    let behind = c.in-Err-end_live.ensures.schema in
+    cut_at_end D.seen D.may_leave D.faults p c.args.kernel c.args.script.now.lines.items c.in-Some.txn _ _ _ c.in-Ok.between.0 c.end_live.new.kernel c.in-Err-end_live.why (behind.0 ∙ before.0, behind.1 ∙ before.1)
+    (c.in-Err-end_live.ensures.restarts p.first (c.in-Ok.ensures.restarts p.first restarts)) (rw c.in-Some.is at (rw c.lines.ensures at c.in-Ok.ensures.ran p own beside restarts)) c.in-Err-end_live.ensures.cut

@@ -1,5 +1,6 @@
 -- What is told of a kernel under the lock: of its log, and of a log that was turned over.
-use Rattle.std.specs.Prelude.{◌≡◌, None}
+use Rattle.std.specs.Prelude.{◌≡◌, ℕ, Bool, true, None, Result, Ok, IfErr}
+use Rattle.mt_base.specs.declared.refusal.Refusal.{Refusal}
 use Rattle.mt_disk.specs.declared.device.Device.{Ghosts}
 use Rattle.mt_live.specs.Machine.{State}
 use Rattle.mt_log.specs.Words.{appended, area_size, used}
@@ -8,6 +9,8 @@ use Rattle.mt_model.specs.declared.tables.Base.{Base}
 use Rattle.mt_op.specs.Begun.{AreImages}
 use Rattle.mt_restart.specs.Rotated.{early_cause}
 use Rattle.mt_shared.specs.Began.{BeganOn}
+use Rattle.mt_shared.specs.Refusals.{IsTurnFault}
+use Rattle.mt_shared.specs.Seen.{IsTurned, KeptSeen}
 use Rattle.mt_shared.specs.declared.log_use.LogUse.{LogUse}
 use Rattle.mt_txn.specs.Shown.{Shows}
 use Rattle.mt_txn.specs.declared.kernel.Kernel.{Kernel}
@@ -36,3 +39,9 @@ pub record IsTurn {D : Type 0} (g : Ghosts D) (base : Base) : Type 0 where
 
 abbrev pub HasTurned : {D : Type 0} → Ghosts D → Base → Type 0
 HasTurned g base = ∥ IsTurn g base ∥₁
+
+-- what a rotation makes of what is kept, and what it tells
+pub record IsRotation {D : Type 0} (g : Ghosts D) (commits : ℕ) (old new : KeptSeen) (told : Result Bool Refusal) : Type 0 where
+  pub turned : IsTurned commits old new
+  pub why : IfErr told IsTurnFault
+  pub did : told ≡ Ok true → HasTurned g old.base

@@ -6,12 +6,13 @@ ghost use Rattle.mt_shared.specs.Began.{BeganOn, IsIdle};
 ghost use Rattle.mt_txn.specs.Shown.{is_failed};
 ghost use Rattle.mt_shared.specs.Refusals.{IsTurnFault};
 ghost use Rattle.mt_shared.specs.Seen.{IsTurned};
-ghost use Rattle.mt_shared.specs.Turns.{HasTurned, IsUseOn};
+ghost use Rattle.mt_shared.specs.Turns.{HasTurned, IsRotation, IsUseOn};
 
 use crate::based::Based;
 use crate::log_use::LogUse;
 use crate::past::Past;
 use crate::turned::{Turned, turn};
+use core::mem::replace_with;
 use mt_base::{Refusal, TxnNo};
 use mt_disk::Device;
 use mt_model::{Committed, Op};
@@ -19,11 +20,10 @@ use mt_pool::Flushed;
 use mt_txn::{AbortStepped, Called, Kernel, KernelForced, Stepped};
 use std::alloc::Global;
 use std::marker::Model;
-use std::mem;
 
 // A kernel; or, where a rotation left none, its device with its past. Then each call is refused with 2.
 pub(crate) struct Kept<D: Device> {
-    held: Result<Based<D>, Option<D>>,
+    held: Result<Based<D>, D>,
     past: Past,
 }
 
@@ -48,7 +48,7 @@ impl<D: Device> Kept<D> {
     }
 
     // The kernel, or the device that was left of it.
-    pub(crate) fn into_kernel(self) -> Result<Kernel<D>, Option<D>>
+    pub(crate) fn into_kernel(self) -> Result<Kernel<D>, D>
         ensures began { IfOk result (BeganOn D.seen D.may_leave self.base) }
         ensures book { IfOk result (λ k. k.parts.book.items ≡ self.book) }
         ensures left { IfErr result (λ _. self.is_left ≡ true) }
@@ -224,19 +224,30 @@ impl<D: Device + Drop> Kept<D> {
         ensures why { IfErr result IsTurnFault }
         ensures did { result ≡ Ok true → HasTurned ⟦<D as Device>⟧ self.old.base }
     {
-        if self.is_left() {
-            return Err(Refusal::DeviceFailed);
+        replace_with(self, (commits, alloc, frames), turn_kept)
+    }
+}
+
+// What is kept behind that, and whether it did.
+fn turn_kept<D: Device + Drop>(
+    kept: Kept<D>,
+    at: (u64, Global, usize),
+) -> (Kept<D>, Result<bool, Refusal>)
+    ensures { IsRotation ⟦<D as Device>⟧ at.0 kept result.0 result.1 }
+{
+    let (commits, alloc, frames) = at;
+    let Kept { held, past } = kept;
+    match held {
+        Ok(kernel) => {
+            let Turned { held, past, told } = turn(kernel, commits, alloc, frames);
+            (Kept { held, past }, told)
         }
-        match mem::replace(&mut self.held, Err(None)) {
-            Ok(kernel) => {
-                let Turned { held, past, told } = turn(kernel, commits, alloc, frames);
-                self.past = past;
-                if let Ok(other) = mem::replace(&mut self.held, held) {
-                    let _device = other.into_kernel().into_device();
-                }
-                told
-            }
-            Err(_) => unreachable!(),
+        Err(device) => {
+            let left = Kept {
+                held: Err(device),
+                past,
+            };
+            (left, Err(Refusal::DeviceFailed))
         }
     }
 }

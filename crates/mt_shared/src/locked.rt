@@ -338,7 +338,7 @@ impl<D: Device, J: Naming> Locked<D, J> {
         self.due = Due::End;
     }
 
-    pub(crate) fn into_kernel(self) -> Result<Kernel<D>, Option<D>>
+    pub(crate) fn into_kernel(self) -> Result<Kernel<D>, D>
         ensures book { IfOk result (λ k. k.parts.book.items ≡ self.book) }
         ensures began { IfOk result (BeganOn D.seen D.may_leave J.base) }
         ensures left { IfErr result (λ _. self.is_left ≡ true) }

@@ -128,7 +128,7 @@ impl<D: Device, G: Gate + Drop, J: Naming> Shared<D, G, J> {
     }
 
     /// The kernel, or the device that a rotation left of it, for where a close is refused. What lives is gone with it.
-    pub fn abandon(self) -> Result<Kernel<D>, Option<D>>
+    pub fn abandon(self) -> Result<Kernel<D>, D>
         ensures { IfOk result (BeganOn D.seen D.may_leave J.base) }
     {
         let Shared {

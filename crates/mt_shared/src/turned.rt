@@ -14,7 +14,7 @@ use std::alloc::Global;
 // What a rotation gives: the kernel, or the device that was left of it, and its past, where none is left. With it is
 // whether the log was turned over, which it is not while something is under way.
 pub(crate) struct Turned<D: Device> {
-    pub(crate) held: Result<Based<D>, Option<D>>,
+    pub(crate) held: Result<Based<D>, D>,
     pub(crate) past: Past,
     pub(crate) told: Result<bool, Refusal>,
 }
@@ -82,7 +82,7 @@ fn rotated<D: Device + Drop>(kernel: Based<D>, alloc: Global, frames: usize) -> 
         Ok(kernel) => kept(Based { kernel, base }, Ok(true)),
         Err(NotRotated::Kept(why, kernel)) => kept(Based { kernel, base }, outcome(why)),
         Err(NotRotated::Ended(why, device)) => Turned {
-            held: Err(Some(device)),
+            held: Err(device),
             past: Past {
                 len,
                 base,

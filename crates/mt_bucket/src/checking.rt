@@ -51,8 +51,8 @@ fn is_filled(page: &[u8], at: usize, key: usize) -> bool
     requires whole { length page.now ≡ PAGE_BYTES }
     requires within { at + MAX_KEY_BYTES ≤ PAGE_BYTES }
     requires short { key ≤ MAX_KEY_BYTES }
-    ensures { MatchBool result ((i : ℕ) → key ≤ i → i < MAX_KEY_BYTES → get_or page.now (at + i) 0 ≡ 0) (((i : ℕ) → key ≤ i →
-        i < 64 → get_or page.now (at + i) 0 ≡ 0) → ⊥) }
+    ensures { MatchBool result ((i : ℕ) → key ≤ i → i < MAX_KEY_BYTES → get_or page.now (at + i) 0 ≡ 0)
+        (((i : ℕ) → key ≤ i → i < MAX_KEY_BYTES → get_or page.now (at + i) 0 ≡ 0) → ⊥) }
 {
     for i in key..MAX_KEY_BYTES {
         if page[at + i] != 0 {

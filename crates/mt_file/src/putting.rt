@@ -60,7 +60,8 @@ pub(crate) fn put<V: Pages>(
     requires relation_fits { relation < 256 }
     requires key_fits { length key.now < 256 }
     requires value_fits { length value.now ≤ MAX_VALUE_BYTES }
-    ensures { PutsRecord (V.at_hand views.now) (V.total views.now) room changes.list.items (record { relation = relation; key = key.now; value = value.now }) result }
+    ensures { PutsRecord (V.at_hand views.now) (V.total views.now) room changes.list.items
+        (record { relation = relation; key = key.now; value = value.now }) result }
 {
     match room {
         Some(page) => put_into(views, changes, page, relation, key, value),
@@ -82,7 +83,8 @@ fn put_into<V: Pages>(
     requires relation_fits { relation < 256 }
     requires key_fits { length key.now < 256 }
     requires value_fits { length value.now ≤ MAX_VALUE_BYTES }
-    ensures { PutsRecord (V.at_hand views.now) (V.total views.now) (Some page) changes.list.items (record { relation = relation; key = key.now; value = value.now }) result }
+    ensures { PutsRecord (V.at_hand views.now) (V.total views.now) (Some page) changes.list.items
+        (record { relation = relation; key = key.now; value = value.now }) result }
 {
     let Some(old) = views.page(page) else {
         return Ok(Step::Need(page, Mode::Write));
@@ -110,7 +112,8 @@ fn put_new<V: Pages>(
     requires relation_fits { relation < 256 }
     requires key_fits { length key.now < 256 }
     requires value_fits { length value.now ≤ MAX_VALUE_BYTES }
-    ensures { PutsRecord (V.at_hand views.now) (V.total views.now) None changes.list.items (record { relation = relation; key = key.now; value = value.now }) result }
+    ensures { PutsRecord (V.at_hand views.now) (V.total views.now) None changes.list.items
+        (record { relation = relation; key = key.now; value = value.now }) result }
 {
     let map_page = PageNo::new(MAP);
     let Some(map) = views.page(map_page) else {

@@ -125,7 +125,8 @@ fn write_whole(
     requires relation_fits { relation < 256 }
     requires key_fits { length key.now < 256 }
     requires value_fits { length value.now ≤ MAX_VALUE_BYTES }
-    ensures { IfOk result (WritesWhole page old.now (record { relation = relation; key = key.now; value = value.now })) }
+    ensures { IfOk result
+        (WritesWhole page old.now (record { relation = relation; key = key.now; value = value.now })) }
 {
     let (new, slot) = page_of_one(relation, key, value);
     changes.note(page, old, &new)?;

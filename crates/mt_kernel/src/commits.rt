@@ -65,7 +65,8 @@ impl<D: Device> Parts<D> {
         ensures begun { (origin : Origin) (base : Base) → IsConsistent D.seen D.may_leave origin base self.old
             → OnOk result (IsIn D.seen D.may_leave origin base (begun (state_of self.old base) session) self.new) }
         ensures number { IfOk result (λ txn. txn ≡ self.old.live.begun + 1) }
-        ensures may { OnOk result (log_kept self.old + TRANSACTION_LOG_BYTES < area_size self.old.operations.store.log) }
+        ensures may { OnOk result
+            (log_kept self.old + TRANSACTION_LOG_BYTES < area_size self.old.operations.store.log) }
         ensures cause { IfErr result (λ why. (why ≡ Refusal.NoMemory) ⊎ ((why ≡ Refusal.LogFull)
             × (area_size self.old.operations.store.log ≤ log_kept self.old + TRANSACTION_LOG_BYTES))) }
         ensures opened { IfOk result (λ txn. SetsState self.old self.new txn (Some Open)) }

@@ -113,7 +113,8 @@ impl Log {
     fn make_call<D: Device>(&mut self, device: &mut D, step: Step) -> Result<Forced, Refusal>
         requires on { AreaOf (D.seen device.old) (D.may_leave device.old) self.old }
         requires stage { self.old.stage ≡ Forcing step }
-        ensures { MakesCall D.seen D.may_leave D.moment D.left_since D.faults self.old self.new step device.old device.new result }
+        ensures { MakesCall D.seen D.may_leave D.moment D.left_since D.faults
+            self.old self.new step device.old device.new result }
     {
         let done = self.call(device, step);
         self.settle(step, done)

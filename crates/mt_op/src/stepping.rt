@@ -66,7 +66,8 @@ impl<D: Device> Operations<D> {
             → IsThere self.old.store.pool c.page }
         requires budget { HasBudget scope.old }
         requires room { used self.old.store.log + scope.old.left < area_size self.old.store.log }
-        ensures { WritesPage D.seen D.may_leave D.moment D.left_since D.faults self.old self.new scope.old scope.new result }
+        ensures { WritesPage D.seen D.may_leave D.moment D.left_since D.faults
+            self.old self.new scope.old scope.new result }
     {
         let before = self.store.log.used();
         let change = &scope.changes.list[scope.written];
@@ -86,7 +87,8 @@ impl<D: Device> Operations<D> {
         requires all { scope.old.written ≡ length (changes_in scope.old) }
         requires budget { HasBudget scope.old }
         requires room { used self.old.store.log + scope.old.left < area_size self.old.store.log }
-        ensures { EndsOperation D.seen D.may_leave D.moment D.left_since D.faults self.old self.new scope.old scope.new result }
+        ensures { EndsOperation D.seen D.may_leave D.moment D.left_since D.faults
+            self.old self.new scope.old scope.new result }
     {
         let (answer, done) = told(scope)?;
         if let Some(done) = done {

@@ -38,9 +38,16 @@ impl<D: Device> Model for Opened<D> {
 
     ghost Value = { OpenedSeen };
 
-    ghost view = { λ o. record { mark = o.end.mark; base = o.kernel.base; book = o.kernel.book; count = vec_len o.seats } };
+    ghost view = { λ o. record {
+      mark = o.end.mark;
+      base = o.kernel.base;
+      book = o.kernel.book;
+      count = vec_len o.seats;
+    } };
 
-    ghost invariant = { λ o. (o.end.view.base ≡ o.kernel.base) × IsConfirmed o.end.view × (o.end.view.list ≡ labelled o.kernel.book) × (o.end.view.book ≡ o.kernel.book) × All (Beside o.end) o.seats.items };
+    ghost invariant = { λ o. (o.end.view.base ≡ o.kernel.base) × IsConfirmed o.end.view
+        × (o.end.view.list ≡ labelled o.kernel.book) × (o.end.view.book ≡ o.kernel.book)
+        × All (Beside o.end) o.seats.items };
 }
 
 impl<D: Device> Opened<D> {

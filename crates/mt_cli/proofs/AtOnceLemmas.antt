@@ -1,15 +1,10 @@
 -- Scripts that were served at once, to a device and to a file.
-use Rattle.std.proofs.Common.{◌≡◌, ◌∙◌, ◌<◌, ◌≤◌, ◌+◌, ◌-◌, ◌++◌, ℕ, List, length, take, Bool, true, false, Option, Result, Ok, Err, refl, sym, ap, subst, arith}
-use Rattle.std.proofs.Math.Seq.{take-append-add}
+use Rattle.std.proofs.Common.{◌≡◌, ◌∙◌, ◌<◌, ◌≤◌, ℕ, List, length, Bool, true, false, Option, Result, Ok, Err, refl, sym, subst, arith}
 use Rattle.std.specs.Io.KnownBytes.{Appends}
 use Rattle.std.specs.Result.{IfErr, OnErr, OnOk}
-use mathlib.Core.Logic.{∥∥₁_map}
 use Rattle.mt_disk.specs.declared.device.Device.{Ghosts}
 use Rattle.mt_folder.proofs.FolderLemmas.{kept_then, put_then}
 use Rattle.mt_folder.specs.Folders.{AreKept, Files, IsFileRefusal, IsHeld, IsLent, Puts}
-use Rattle.mt_kernel.specs.Booked.{txns_of}
-use Rattle.mt_kernel.specs.Consistent.{session_in}
-use Rattle.mt_live.specs.Laws.{in_turn}
 use Rattle.mt_model.specs.History.{Call, after}
 use Rattle.mt_model.specs.Model.{Base}
 use Rattle.mt_model.specs.Views.{base_of}
@@ -20,11 +15,13 @@ use Rattle.mt_script.specs.declared.answers.Answer.{Answer}
 use Rattle.mt_script.specs.declared.lines.Line.{Line}
 use Rattle.mt_server.specs.Heard.{AreTold, IsEnd, ends, fails}
 use Rattle.mt_server.specs.Serves.{IsServedOn}
-use Rattle.mt_txn.specs.Restarted.{all_commits, FindsCommits}
+use Rattle.mt_txn.specs.Restarted.{FindsCommits}
 use Rattle.mt_txn.specs.Shown.{Restarts, is_failed}
 use Rattle.mt_txn.specs.Turned.{HasNobody}
 use Rattle.mt_txn.specs.declared.kernel.Kernel.{Kernel}
-use Rattle.mt_cli.proofs.ServeLemmas.{held_before, put_back, stands_book}
+use Rattle.mt_server.proofs.LeftLemmas.{stands_more}
+use Rattle.mt_shared.proofs.Living.{stands_book}
+use Rattle.mt_cli.proofs.ServeLemmas.{held_before, put_back}
 use Rattle.mt_cli.specs.Serves.{AreServedAtOnce, AreServedAtOnceIn, AreServedBy, AreUnservedBy, IsServedAtOnce, IsServedIn, IsUnservedAtOnce, IsUnservedIn, failed_at_once, let_go, no_device_at_once, too_many_at_once, unheard_at_once, IsEndOf, StandForBook, texts_in_order}
 use Rattle.mt_cli.specs.declared.faults.Fault.{Fault}
 
@@ -60,18 +57,6 @@ told_anyway failed scripts texts book x = record {
 }
 
 module _ {D : Type 0} {g : Ghosts D} (seen : D → List ℕ) (may_leave : D → List ℕ → Type 0) where
-  -- what a restart finds is what the book leads to, and perhaps some of the commits under way behind it
-  stands_more : (b : Base) (n : Kernel D g) (d : List ℕ) → ∥ FindsCommits n.relations n.counters b n.parts d ∥₁ → StandForBook true n.relations n.counters b n.parts.book.items d
-  stands_more b n d finds = ∥∥₁_map finds (λ f.
-      let book = n.parts.book.items in
-      let under_way = in_turn (session_in n.parts.live.members) (txns_of n.parts.commits.items) n.parts.live.standing in
-      let over = f.count - length book in
-      let booked = f.acknowledged in
-      let count : length book + over ≡ f.count = omega (arith, booked) in
-      let is : take f.count (all_commits n.parts) ≡ book ++ take over under_way =
-      subst (λ (i : ℕ). take i (all_commits n.parts) ≡ book ++ take over under_way) count (take-append-add book under_way over) in
-      (take over under_way, subst (CanRestart n.relations n.counters d) (f.is ∙ ap (after b) is) f.found))
-
   -- it is so of a kernel that is or is not cut off
   pub served_at_once : (c : List ℕ) (scripts : List (List Line)) (texts : List (List ℕ)) (n : Kernel D g) (d : List ℕ) → IsServedOn seen may_leave c n → AreTold (is_failed n) scripts texts n.parts.book.items
       → ((first : Base) → Restarts seen may_leave first n → ∥ FindsCommits n.relations n.counters first n.parts d ∥₁) → (cut : Bool) → (cut ≡ false → HasNobody n × (is_failed n ≡ false)) → AreServedAtOnce cut c scripts texts d
@@ -93,7 +78,7 @@ module _ {D : Type 0} {g : Ghosts D} (seen : D → List ℕ) (may_leave : D → 
     told = told_anyway (is_failed n) scripts texts n.parts.book.items told;
     relations = n.relations;
     counters = n.counters;
-    stands = stands_more (base_of x.first) n d (finds (base_of x.first) x.began.1);
+    stands = stands_more seen may_leave (base_of x.first) n d (finds (base_of x.first) x.began.1);
   }
 
 -- ---- the file

@@ -1,9 +1,7 @@
 -- What a dump tells, and what a device stands for behind it.
-use Rattle.std.proofs.Common.{◌≡◌, ◌∙◌, ◌==◌, ◌<◌, ◌≤◌, ◌≢◌, ◌⊎◌, inl, inr, arith, ℕ, List, [], ◌∷◌, length, Bool, true, false, cond, Some, None, Result, Ok, Err, IfErr, IfOk, OnOk, refl, sym, ap, subst}
+use Rattle.std.proofs.Common.{◌≡◌, ◌∙◌, ◌<◌, ◌≤◌, ◌≢◌, ◌⊎◌, inl, inr, arith, ℕ, List, [], ◌∷◌, length, Bool, true, false, Some, None, Result, Ok, Err, IfErr, IfOk, OnOk, refl, sym, ap, subst}
 use Rattle.std.proofs.Props.{props}
-use Rattle.std.proofs.lemmas.Bool.Decides.{Decides-eqb}
-use Rattle.std.specs.Option.{option_map}
-use mathlib.Core.Logic.{∥∥₁_elim, ∥∥₁_map}
+use mathlib.Core.Logic.{∥∥₁_map}
 use Rattle.mt_base.specs.declared.refusal.Refusal.{Refusal}
 use Rattle.mt_base.specs.declared.refusal.Refusal.TheVariants as refusal
 use Rattle.mt_disk.specs.Disk.{LeavesOnly, Only}
@@ -11,7 +9,6 @@ use Rattle.mt_disk.specs.declared.device.Device.{Ghosts}
 use Rattle.mt_index.specs.Pages.{depth_in}
 use Rattle.mt_kernel.proofs.Surveyed.{nobody_locks}
 use Rattle.mt_kernel.specs.declared.parts.Parts.{Parts}
-use Rattle.mt_live.specs.Lives.{member_of}
 use Rattle.mt_live.specs.Machine.{State, start}
 use Rattle.mt_live.specs.Members.{Member}
 use Rattle.mt_model.specs.Model.{Base}
@@ -24,6 +21,7 @@ use Rattle.mt_op.specs.declared.surveying.Survey.{Survey}
 use Rattle.mt_pool.specs.Views.{pages}
 use Rattle.mt_replay.specs.Refused.{BreaksFormat, IsCause}
 use Rattle.mt_replay.specs.Stands.{CanRestart}
+use Rattle.mt_shared.proofs.Living.{nobody}
 use Rattle.mt_restart.specs.Recovered.{IsCauseToStop, StandsStill}
 use Rattle.mt_restart.specs.Resumed.{IsOpened}
 use Rattle.mt_space.specs.Rooms.{free_in, mapped}
@@ -41,25 +39,7 @@ use Rattle.mt_folder.specs.Folders.{Files, IsHeld, IsLent, IsUnmade, Puts, known
 
 -- ---- a kernel that was opened
 
-pub no_member : (ms : List Member) → ((t : ℕ) → option_map (λ (m : Member). m.session) (member_of ms t) ≡ None) → length ms ≡ 0
-no_member [] none = refl
-no_member (m ∷ ms) none =
-    let own : (m.number == m.number) ≡ true = (Decides-eqb m.number m.number).1 refl in
-    let lives : Some m.session ≡ None = subst (λ (b : Bool). option_map (λ (x : Member). x.session) (cond b (Some m) (member_of ms m.number)) ≡ None) own (none m.number) in
-    absurd cc
-
-pub empty : (ms : List Member) → length ms ≡ 0 → ms ≡ []
-empty [] is = refl
-empty (m ∷ ms) is = absurd cc
-
 module _ {D : Type 0} {g : Ghosts D} (seen : D → List ℕ) (may_leave : D → List ℕ → Type 0) where
-  nobody_counts : (first : Base) (k : Kernel D g) → Shows seen may_leave first (start first) k → length k.parts.live.members ≡ 0
-  nobody_counts first k shows = ∥∥₁_elim shows (hlevel props) (λ (origin, base, is, x). no_member k.parts.live.members (λ t. sym (ap (λ (s : State). s.sessions t) x.state)))
-
-  -- no transaction lives in it
-  pub nobody : (first : Base) (k : Kernel D g) → Shows seen may_leave first (start first) k → k.parts.live.members ≡ []
-  nobody first k shows = empty k.parts.live.members (nobody_counts first k shows)
-
   -- the pages of which a survey of it tells hold its base
   pub tells_of : (relations counters : ℕ) (b : Base) (k : Kernel D g) (survey : Survey) → IsOpened seen may_leave relations counters b k → TellsBase k.relations k.counters b survey → TellsPages seen k survey → TellsOfBase relations counters b survey
   tells_of relations counters b k survey opened base told = ∥∥₁_map opened.shows (λ (origin, held, is, x).
@@ -67,7 +47,7 @@ module _ {D : Type 0} {g : Ghosts D} (seen : D → List ℕ) (may_leave : D → 
       let safe = x.consistent in
       let total = pages ops.store.pool in
       let page = held_in (world seen origin.pages ops) in
-      let none = nobody b k opened.shows in
+      let none = nobody seen may_leave b k opened.shows in
       let free = nobody_locks k.parts.live.members k.parts.live.standing k.parts.running.items ops.locks none safe.fit.owned safe.fit.locked in
       let idle : IsIdle seen may_leave origin.relations ops = ∣ (origin.pages, origin.counters, safe.fit.right, free) ∣₁ in
       let shows = λ (p : ℕ) (inside : p < total). idle_page seen may_leave origin.pages origin.relations origin.counters ops p safe.fit.right free inside in

@@ -1,6 +1,5 @@
 -- Scripts that were served to a device, and to a file.
 use Rattle.std.proofs.Common.{◌≡◌, ◌∙◌, ◌+◌, inl, inr, ℕ, true, false, List, length, take, Option, None, Result, Ok, Err, IfErr, IsErrAnd, IsOk, OnOk, refl, sym, ap, subst, arith}
-use Rattle.std.proofs.lemmas.List.{take_all}
 use mathlib.Core.Logic.{∥∥₁_elim, ∥∥₁_map, ∥∥₁_prop}
 use Rattle.mt_disk.specs.declared.device.Device.{Ghosts}
 use Rattle.mt_live.specs.Machine.{State, start}
@@ -9,7 +8,9 @@ use Rattle.mt_model.specs.Model.{Base}
 use Rattle.mt_model.specs.declared.history.Committed.{Committed}
 use Rattle.mt_replay.specs.Stands.{CanRestart}
 use Rattle.mt_restart.specs.Resumed.{IsOpened}
-use Rattle.mt_txn.proofs.GoingOn.{all_booked}
+use Rattle.mt_shared.proofs.Living.{no_member, stands_book}
+use Rattle.mt_server.proofs.RunLemmas.{left_resting}
+use Rattle.mt_server.proofs.TurnoverLemmas.{runs_first}
 use Rattle.mt_txn.specs.Restarted.{all_commits, FindsCommits}
 use Rattle.mt_txn.specs.Shown.{Restarts, SameSchema, StaysRestarting}
 use Rattle.mt_txn.specs.Turned.{HasNobody}
@@ -17,7 +18,7 @@ use Rattle.mt_txn.specs.declared.kernel.Kernel.{Kernel}
 use Rattle.mt_base.specs.declared.refusal.Refusal.TheVariants as refusal
 use Rattle.mt_server.specs.Driven.{IsBeside}
 use Rattle.mt_server.specs.Plays.{Play}
-use Rattle.mt_server.specs.Turnovers.{IsCutOff, IsLeftBy, why_in}
+use Rattle.mt_server.specs.Turnovers.{IsCutOff, IsLeftBy, StandsForMore, why_in}
 use Rattle.mt_server.specs.Sessions.{AreCutShort, HasServed, HaveServed, HavePlayed, IsCutWithin, unheard_line, cut_script, Serves, StandsEach, no_script, then_script, in_session}
 use Rattle.mt_script.specs.declared.answers.Answer.{Answer}
 use Rattle.mt_script.specs.declared.lines.Line.{Line}
@@ -25,11 +26,10 @@ use Rattle.mt_server.specs.declared.rotating.NotServed.{NotServed}
 use Rattle.mt_server.specs.declared.rotating.NotServed.TheVariants.{Kept, Ended}
 use Rattle.mt_server.specs.declared.running.RunFault.{RunFault}
 use Rattle.mt_server.specs.declared.running.RunFault.TheVariants as run
-use Rattle.mt_cli.proofs.DumpLemmas.{no_member}
 use Rattle.mt_folder.proofs.FolderLemmas.{kept_then, put_then}
 use Rattle.mt_cli.proofs.Trials.{ended_by, played}
 use Rattle.mt_folder.specs.Folders.{AreKept, Files, IsFileRefusal, IsHeld, IsLent, Puts}
-use Rattle.mt_cli.specs.Serves.{AreEndedBy, AreShortOn, HasNotRun, HaveServedOn, IsOnBase, IsServedIn, IsShortOf, IsShortWithin, unheard_session, short_session, IsUnservedIn, unserved, no_device, StandForAll, first_on, fault_of, unread_scripts}
+use Rattle.mt_cli.specs.Serves.{AreEndedBy, AreShortOn, HasNotRun, HaveServedOn, IsOnBase, IsServedIn, IsShortOf, IsShortWithin, unheard_session, short_session, IsUnservedIn, unserved, no_device, StandForAll, StandForMore, first_on, fault_of, unread_scripts}
 use Rattle.mt_cli.specs.Reads.{HasNoScript}
 use Rattle.mt_cli.specs.declared.faults.Fault.{Fault}
 use Rattle.mt_cli.specs.declared.faults.Fault.TheVariants.{Output, Refused, Unread}
@@ -44,6 +44,12 @@ module _ {D : Type 0} {g : Ghosts D} (seen : D → List ℕ) (may_leave : D → 
   schema_kept : (s e : Play × Kernel D g) (ls : List (List Line)) (ts : List (List Answer)) → Serves (HasServed seen may_leave) s ls ts e → (e.1.relations ≡ s.1.relations) × (e.1.counters ≡ s.1.counters)
   schema_kept s _ _ _ no_script = (refl, refl)
   schema_kept s e _ _ (then_script scripts transcripts mid end lines told before x) = let kept = schema_kept s mid scripts transcripts before in (x.schema.0 ∙ kept.0, x.schema.1 ∙ kept.1)
+
+  -- they begin on the same base
+  first_kept : (s e : Play × Kernel D g) (ls : List (List Line)) (ts : List (List Answer)) → Serves (HasServed seen may_leave) s ls ts e → e.0.first ≡ s.0.first
+  first_kept s _ _ _ no_script = refl
+  first_kept s e _ _ (then_script scripts transcripts mid end lines told before x) = ap (λ (p : Play). p.first) x.end_is
+      ∙ runs_first seen may_leave (in_session mid.0 (length scripts + 1), x.begun) (x.play, x.last) lines x.answers x.ran ∙ first_kept s mid scripts transcripts before
 
   pub all_played : (relations counters : ℕ) (s e : Play × Kernel D g) (ls : List (List Line)) (ts : List (List Answer)) → s.1.relations ≡ relations → s.1.counters ≡ counters → Serves (HasServed seen may_leave) s ls ts e → HavePlayed relations counters s.0 ls ts e.0
   all_played relations counters s _ _ _ rs cs no_script = no_script
@@ -67,19 +73,10 @@ module _ {D : Type 0} {g : Ghosts D} (seen : D → List ℕ) (may_leave : D → 
         sym (ap (λ (z : State). z.book) x.state) ∙ is.book,
       )))
 
-  -- where nobody lives, all commits of a kernel are those of its book
-  pub stands_book : (b : Base) (n : Kernel D g) (c : List ℕ) → HasNobody n → Restarts seen may_leave b n → ∥ FindsCommits n.relations n.counters b n.parts c ∥₁ → StandForAll n.relations n.counters b n.parts.book.items c
-  stands_book b n c nobody restarts finds = ∥∥₁_elim (all_booked seen may_leave n.parts n.relations n.counters b nobody restarts) ∥∥₁_prop (λ all.
-      ∥∥₁_map finds (λ f.
-      let size : length (all_commits n.parts) ≡ length n.parts.book.items = ap (λ (cs : List Committed). length cs) all in
-      let booked = f.acknowledged in
-      let whole : take f.count (all_commits n.parts) ≡ n.parts.book.items = take_all f.count (all_commits n.parts) (omega (arith, size, booked)) ∙ all in
-      subst (CanRestart n.relations n.counters c) (f.is ∙ ap (after b) whole) f.found))
-
   pub stands_all : (relations counters : ℕ) (b : Base) (p : Play) (n : Kernel D g) (c : List ℕ) → n.relations ≡ relations → n.counters ≡ counters → Restarts seen may_leave b n → IsBeside seen may_leave p None n
       → ((first : Base) → Restarts seen may_leave first n → ∥ FindsCommits n.relations n.counters first n.parts c ∥₁) → StandForAll relations counters b p.book c
   stands_all relations counters b p n c rs cs restarts beside finds = ∥∥₁_elim (resting p n beside) ∥∥₁_prop (λ (nobody, book).
-      subst (λ (X : Type 0). X) (λ i. StandForAll (rs i) (cs i) b (book i) c) (stands_book b n c nobody restarts (finds b restarts)))
+      subst (λ (X : Type 0). X) (λ i. StandForAll (rs i) (cs i) b (book i) c) (stands_book seen may_leave b n c nobody restarts (finds b restarts)))
 
   -- ---- serving
 
@@ -107,9 +104,17 @@ module _ {D : Type 0} {g : Ghosts D} (seen : D → List ℕ) (may_leave : D → 
     ended_among relations counters (Ended (run.Refused refusal.LogFull) device) q x = inr refl
     ended_among relations counters (Ended (run.Refused why) device) q x = absurd x.0
 
-    short_of : (relations counters : ℕ) (p : Play) (k : Kernel D g) (lines : List Line) (was now : Option (List ℕ)) (left : NotServed D g) → k.relations ≡ relations → k.counters ≡ counters → IsCutOff seen may_leave faults p k lines was now left
-        → IsShortOf relations counters p lines was now (why_in left)
-    short_of relations counters p k lines was now left rs cs (begun, over, x) = record {
+    -- what the device stands for behind whatever play it was left so
+    abbrev LeavesStanding : Base → NotServed D g → List ℕ → Type 0
+    LeavesStanding b left d = (relations counters : ℕ) (q : Play) → q.first ≡ b → IsLeftBy seen may_leave faults relations counters left q → StandForMore relations counters b q.book d
+
+    leaves_standing : (b : Base) (left : NotServed D g) (device : D) (d : List ℕ) → may_leave device d
+        → ((relations counters : ℕ) (q : Play) → IsLeftBy seen may_leave faults relations counters left q → StandsForMore may_leave relations counters q device) → LeavesStanding b left d
+    leaves_standing b left device d leaves stands relations counters q first x = subst (λ (on : Base). StandForMore relations counters on q.book d) first (stands relations counters q x d leaves)
+
+    short_of : (relations counters : ℕ) (b : Base) (p : Play) (k : Kernel D g) (lines : List Line) (was now : Option (List ℕ)) (left : NotServed D g) (d : List ℕ) → k.relations ≡ relations → k.counters ≡ counters → p.first ≡ b → LeavesStanding b left d
+        → IsCutOff seen may_leave faults p k lines was now left → IsShortOf relations counters (λ book. StandForMore relations counters b book d) p lines was now (why_in left)
+    short_of relations counters b p k lines was now left d rs cs first stands (begun, over, x) = record {
       before = x.before;
       rest = x.rest;
       split = x.split;
@@ -118,18 +123,30 @@ module _ {D : Type 0} {g : Ghosts D} (seen : D → List ℕ) (may_leave : D → 
       ran = played seen may_leave relations counters (p, begun) (x.play, x.last) x.before x.answers (over.schema.0 ∙ rs) (over.schema.1 ∙ cs) x.ran;
       told = x.told;
       ended = ended_among k.relations k.counters left x.play x.left;
+      stand = subst (λ (X : Type 0). X) (λ i. StandForMore (rs i) (cs i) b x.play.book d)
+          (stands k.relations k.counters x.play (runs_first seen may_leave (p, begun) (x.play, x.last) x.before x.answers x.ran ∙ first) x.left);
     }
 
-    within : (relations counters : ℕ) (p : Play) (k : Kernel D g) (i : ℕ) (lines : List Line) (was now : Option (List ℕ)) (left : NotServed D g) → k.relations ≡ relations → k.counters ≡ counters → IsCutWithin seen may_leave faults p k i lines was now left
-        → IsShortWithin relations counters p i lines was now (why_in left)
-    within relations counters p k i lines was now _ rs cs (unheard_line n front same) = unheard_session front
-    within relations counters p k i lines was now _ rs cs (cut_script mid left told cut) = short_session mid (why_in left) told (short_of relations counters (in_session p i) k lines mid now left rs cs cut)
+    -- a kernel whose session's line was not written whole
+    unbegun : (p : Play) (k n : Kernel D g) → IsBeside seen may_leave p None k → Restarts seen may_leave p.first k → n ≡ k → IsLeftBy seen may_leave faults k.relations k.counters (Kept run.Output n) p
+    unbegun p k n beside restarts same = subst (λ (m : Kernel D g). IsLeftBy seen may_leave faults k.relations k.counters (Kept run.Output m) p) (sym same)
+        (inl (left_resting seen may_leave faults p k k beside), record { restarts = restarts; relations_are = refl; counters_are = refl })
 
-    pub short_on : (relations counters : ℕ) (b : Base) (k : Kernel D g) (scripts : List (List Line)) (was now : Option (List ℕ)) (left : NotServed D g) → IsOpened seen may_leave relations counters b k
-        → StandsEach seen may_leave k (λ p. AreCutShort seen may_leave faults p k scripts was now left) → AreShortOn relations counters b scripts was now (why_in left)
-    short_on relations counters b k scripts was now left opened cut =
+    within : (relations counters : ℕ) (b : Base) (p : Play) (k : Kernel D g) (i : ℕ) (lines : List Line) (was now : Option (List ℕ)) (left : NotServed D g) (d : List ℕ) → k.relations ≡ relations → k.counters ≡ counters → p.first ≡ b → LeavesStanding b left d
+        → IsBeside seen may_leave p None k → Restarts seen may_leave p.first k → IsCutWithin seen may_leave faults p k i lines was now left
+        → IsShortWithin relations counters (λ book. StandForMore relations counters b book d) p i lines was now (why_in left)
+    within relations counters b p k i lines was now _ d rs cs first stands beside restarts (unheard_line n front same) =
+        unheard_session front (subst (λ (X : Type 0). X) (λ i. StandForMore (rs i) (cs i) b p.book d) (stands k.relations k.counters p first (unbegun p k n beside restarts same)))
+    within relations counters b p k i lines was now _ d rs cs first stands beside restarts (cut_script mid left told cut) =
+        short_session mid (why_in left) told (short_of relations counters b (in_session p i) k lines mid now left d rs cs first stands cut)
+
+    pub short_on : (relations counters : ℕ) (b : Base) (k : Kernel D g) (scripts : List (List Line)) (was now : Option (List ℕ)) (left : NotServed D g) (device : D) (d : List ℕ) → IsOpened seen may_leave relations counters b k → may_leave device d
+        → ((r m : ℕ) (q : Play) → IsLeftBy seen may_leave faults r m left q → StandsForMore may_leave r m q device)
+        → StandsEach seen may_leave k (λ p. AreCutShort seen may_leave faults p k scripts was now left) → AreShortOn relations counters b scripts was now d (why_in left)
+    short_on relations counters b k scripts was now left device d opened leaves stands cut =
         let x = cut (first_on b) (beside_first relations counters b k opened) opened.restarts in
         let kept = schema_kept (first_on b, k) (x.ran.play, x.last) x.before x.ran.transcripts x.ran.served in
+        let first = first_kept (first_on b, k) (x.ran.play, x.last) x.before x.ran.transcripts x.ran.served in
         record {
           before = x.before;
           lines = x.lines;
@@ -140,7 +157,8 @@ module _ {D : Type 0} {g : Ghosts D} (seen : D → List ℕ) (may_leave : D → 
           played = all_played relations counters (first_on b, k) (x.ran.play, x.last) x.before x.ran.transcripts opened.relations_are opened.counters_are x.ran.served;
           mid = x.mid;
           told = x.ran.told;
-          within = within relations counters x.ran.play x.last (length x.before + 1) x.lines x.mid now left (kept.0 ∙ opened.relations_are) (kept.1 ∙ opened.counters_are) x.within;
+          within = within relations counters b x.ran.play x.last (length x.before + 1) x.lines x.mid now left d (kept.0 ∙ opened.relations_are) (kept.1 ∙ opened.counters_are) first
+              (leaves_standing b left device d leaves stands) x.ran.beside x.ran.restarts x.within;
         }
 
 -- ---- on bytes

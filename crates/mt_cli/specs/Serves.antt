@@ -55,6 +55,10 @@ first_on b = record { session = 0; first = b; base = b; book = []; under_way = N
 abbrev pub StandForAll : ℕ → ℕ → Base → List Committed → List ℕ → Type 0
 StandForAll relations counters b book d = ∥ CanRestart relations counters d (after b book) ∥₁
 
+-- or for what they and some further ones lead to
+abbrev pub StandForMore : ℕ → ℕ → Base → List Committed → List ℕ → Type 0
+StandForMore relations counters b book d = ∥ ((further : List Committed) × CanRestart relations counters d (after b (book ++ further))) ∥₁
+
 -- The scripts were served one after the other, as the model plays them on this base, and their texts were written. The device's bytes stand
 -- for what all commits lead to.
 pub record HaveServedOn (relations counters : ℕ) (b : Base) (scripts : List (List Line)) (was now : Option (List ℕ)) (d : List ℕ) : Type 0 where
@@ -64,8 +68,9 @@ pub record HaveServedOn (relations counters : ℕ) (b : Base) (scripts : List (L
   pub told : Appends was now (sessions_text transcripts)
   pub stands : StandForAll relations counters b last.book d
 
--- A script was cut short: the first of its lines were answered, and their answers are written, or a beginning of them.
-pub record IsShortOf (relations counters : ℕ) (p : Play) (lines : List Line) (was now : Option (List ℕ)) (why : RunFault) : Type 0 where
+-- A script was cut short: the first of its lines were answered, and their answers are written, or a beginning of them. The device stands for
+-- the commits until then.
+pub record IsShortOf (relations counters : ℕ) (Stand : List Committed → Type 0) (p : Play) (lines : List Line) (was now : Option (List ℕ)) (why : RunFault) : Type 0 where
   pub before : List Line
   pub rest : List Line
   pub split : lines ≡ before ++ rest
@@ -74,15 +79,17 @@ pub record IsShortOf (relations counters : ℕ) (p : Play) (lines : List Line) (
   pub ran : HasPlayed relations counters p before answers last
   pub told : IsToldFor was now answers why
   pub ended : AreEndedBy why
+  pub stand : Stand last.book
 
 -- so a session, or its line was not written whole
-pub data IsShortWithin (relations counters : ℕ) (p : Play) (i : ℕ) (lines : List Line) (was now : Option (List ℕ)) : RunFault → Type 0 where
-  unheard_session : AppendsFront was now (session_line i) → IsShortWithin relations counters p i lines was now run.Output
-  short_session : (mid : Option (List ℕ)) (why : RunFault) → Appends was mid (session_line i) → IsShortOf relations counters (in_session p i) lines mid now why
-      → IsShortWithin relations counters p i lines was now why
+pub data IsShortWithin (relations counters : ℕ) (Stand : List Committed → Type 0) (p : Play) (i : ℕ) (lines : List Line) (was now : Option (List ℕ)) : RunFault → Type 0 where
+  unheard_session : AppendsFront was now (session_line i) → Stand p.book → IsShortWithin relations counters Stand p i lines was now run.Output
+  short_session : (mid : Option (List ℕ)) (why : RunFault) → Appends was mid (session_line i) → IsShortOf relations counters Stand (in_session p i) lines mid now why
+      → IsShortWithin relations counters Stand p i lines was now why
 
--- the first scripts were served, and the next was cut short
-pub record AreShortOn (relations counters : ℕ) (b : Base) (scripts : List (List Line)) (was now : Option (List ℕ)) (why : RunFault) : Type 0 where
+-- The first scripts were served, and the next was cut short. The device's bytes stand for what all commits lead to, or for what they and some
+-- further ones lead to, which were under way.
+pub record AreShortOn (relations counters : ℕ) (b : Base) (scripts : List (List Line)) (was now : Option (List ℕ)) (d : List ℕ) (why : RunFault) : Type 0 where
   pub before : List (List Line)
   pub lines : List Line
   pub rest : List (List Line)
@@ -92,7 +99,7 @@ pub record AreShortOn (relations counters : ℕ) (b : Base) (scripts : List (Lis
   pub played : HavePlayed relations counters (first_on b) before transcripts last
   pub mid : Option (List ℕ)
   pub told : Appends was mid (sessions_text transcripts)
-  pub within : IsShortWithin relations counters last (length before + 1) lines mid now why
+  pub within : IsShortWithin relations counters (λ book. StandForMore relations counters b book d) last (length before + 1) lines mid now why
 
 -- ---- on a device's bytes
 
@@ -109,7 +116,7 @@ ServesFrom c scripts was now d = IsOnBase c (λ relations counters b. HaveServed
 pub data AreUnserved (c : List ℕ) (scripts : List (List Line)) (was now : Option (List ℕ)) (d : List ℕ) : Fault → Type 0 where
   too_many : MAX_SESSIONS < length scripts → d ≡ c → Keeps was now → AreUnserved c scripts was now d (Refused refusal.BadLength)
   not_begun : (why : Refusal) → IsBarred c why → StandAs c d → (IsEarly why → d ≡ c) → Keeps was now → AreUnserved c scripts was now d (Refused why)
-  cut_among : (why : RunFault) (fault : Fault) → IsOnBase c (λ relations counters b. AreShortOn relations counters b scripts was now why) → fault ≡ fault_of why
+  cut_among : (why : RunFault) (fault : Fault) → IsOnBase c (λ relations counters b. AreShortOn relations counters b scripts was now d why) → fault ≡ fault_of why
       → AreUnserved c scripts was now d fault
 
 -- ---- on a file
@@ -141,7 +148,7 @@ texts_in_order texts = numbered session_text 1 texts
 -- the bytes stand for what all of these commits lead to; where the device has failed, for that, or for what they and some further ones lead to
 abbrev pub StandForBook : Bool → ℕ → ℕ → Base → List Committed → List ℕ → Type 0
 StandForBook false relations counters b book d = StandForAll relations counters b book d
-StandForBook true relations counters b book d = ∥ ((further : List Committed) × CanRestart relations counters d (after b (book ++ further))) ∥₁
+StandForBook true relations counters b book d = StandForMore relations counters b book d
 
 -- They were served at once to a device of bytes c, and each has its transcript. The commits that the transcripts tell are those of one book, which is legal on
 -- the base of c. The device has bytes d now, which stand for that book. Where the device has failed a transcript may end with 2.

@@ -38,7 +38,7 @@ fn serve_opened<D: Device + Drop, O: Write>(
         (map lines_in scripts.now) (O.contents out.old) (O.contents out.new) (D.seen result.1)) }
     ensures short { IfErr result.0 (λ why. (relations counters : ℕ) (b : Base)
         → IsOpened D.seen D.may_leave relations counters b kernel → AreShortOn relations counters b
-        (map lines_in scripts.now) (O.contents out.old) (O.contents out.new) why) }
+        (map lines_in scripts.now) (O.contents out.old) (O.contents out.new) (D.seen result.1) why) }
 {
     match run_sessions(alloc, kernel, frames, scripts, out) {
         Ok(kernel) => {
@@ -121,8 +121,9 @@ fn serve_file<F: Folder, O: Write>(
 ///
 /// Refused for the first script that is not read, and for a file that cannot be opened. Refused by `BadLength` where
 /// there are more than 64 scripts, and for what keeps the device from being opened. Further by one worker where a
-/// script does not run to its end, by `NoMemory`, `DeviceFailed` or `LogFull`. By several it is refused where the
-/// device failed meanwhile, by `DeviceFailed`, behind the transcripts. Where `serve` of mt_server is refused, it lets
+/// script does not run to its end, by `NoMemory`, `DeviceFailed` or `LogFull`. The file then stands for the commits until
+/// then, or for these and some that were under way. By several it is refused where the device failed meanwhile, by
+/// `DeviceFailed`, behind the transcripts. Where `serve` of mt_server is refused, it lets
 /// the device go: what its file has is not told.
 pub(crate) fn perform_run<
     F: Folder,

@@ -69,21 +69,12 @@ pub record Holds (r : ℕ) (k : List ℕ) (pages : PageBytes) (p : ℕ) (name : 
   pub passed : Passed (Lacks r k pages) pages k p steps
   pub here : look r k (entries (pages p)) ≡ Some name
 
-abbrev pub HeldNeeds : Held → (ℕ → Mode → Type 0) → Type 0
-HeldNeeds (held.Need p mode) P = P p mode
-HeldNeeds _ P = Unit {0}
-
-abbrev pub IfIn : Held → (ℕ → RecordName → Type 0) → Type 0
-IfIn (held.In p name) P = P p name
-IfIn _ P = Unit {0}
-
-abbrev pub IfNowhere : Held → Type 0 → Type 0
-IfNowhere held.Nowhere P = P
-IfNowhere _ P = Unit {0}
-
-abbrev pub HeldEndless : Held → Type 0 → Type 0
-HeldEndless held.Endless P = P
-HeldEndless _ P = Unit {0}
+-- what the walk along a key's bucket comes to: a page that is needed, the page that has the key's entry, or that none has it
+abbrev pub FindsHolder : (ℕ → Option (List ℕ)) → ℕ → ℕ → List ℕ → Mode → Held → Type 0
+FindsHolder at_hand total r k in_bucket (held.Need p mode) = Asks at_hand total (IsInBucket k in_bucket) p mode
+FindsHolder at_hand total r k in_bucket (held.In p name) = (at_hand p ≡ None → ⊥) × InMaps at_hand total (λ pages m. Holds r k pages p name)
+FindsHolder at_hand total r k in_bucket held.Nowhere = InMaps at_hand total (λ pages m. m r k ≡ None)
+FindsHolder at_hand total r k in_bucket held.Endless = InMaps at_hand total (λ pages m. ⊥)
 
 -- ---- a change of one entry
 
@@ -128,21 +119,12 @@ pub record IsEnd (key : List ℕ) (pages : PageBytes) (p : ℕ) (alone : Bool) :
   pub one : alone ≡ true → steps ≡ 0
   pub more : alone ≡ false → 0 < steps
 
-abbrev pub SpotNeeds : Spot → (ℕ → Mode → Type 0) → Type 0
-SpotNeeds (spot.Need p mode) P = P p mode
-SpotNeeds _ P = Unit {0}
-
-abbrev pub IfRoom : Spot → (ℕ → Type 0) → Type 0
-IfRoom (spot.In p) P = P p
-IfRoom _ P = Unit {0}
-
-abbrev pub IfBehind : Spot → (ℕ → Bool → Type 0) → Type 0
-IfBehind (spot.Behind last alone) P = P last alone
-IfBehind _ P = Unit {0}
-
-abbrev pub SpotEndless : Spot → Type 0 → Type 0
-SpotEndless spot.Endless P = P
-SpotEndless _ P = Unit {0}
+-- what the walk for a new entry comes to: a page that is needed, the first with room, or the last of those that are full
+abbrev pub FindsSpot : (ℕ → Option (List ℕ)) → ℕ → List ℕ → Spot → Type 0
+FindsSpot at_hand total k (spot.Need p mode) = Asks at_hand total (IsInBucket k Write) p mode
+FindsSpot at_hand total k (spot.In p) = InMaps at_hand total (λ pages m. HasRoom k pages p)
+FindsSpot at_hand total k (spot.Behind last alone) = InMaps at_hand total (λ pages m. IsEnd k pages last alone)
+FindsSpot at_hand total k spot.Endless = InMaps at_hand total (λ pages m. ⊥)
 
 -- ---- an add
 

@@ -1,8 +1,7 @@
 // The walk along the chain of a key's bucket.
-ghost use Rattle.std.specs.Prelude.{◌≡◌, ◌≤◌, length, Some, None};
+ghost use Rattle.std.specs.Prelude.{◌≤◌, length};
 ghost use Rattle.mt_base.specs.declared.limits.TheConstants.{MAX_KEY_BYTES};
-ghost use Rattle.mt_base.specs.declared.modes.Mode.TheVariants.{Write};
-ghost use Rattle.mt_index.specs.Answers.{InMaps, IsInBucket, Asks, Holds, HeldNeeds, IfIn, IfNowhere, HeldEndless, HasRoom, IsEnd, SpotNeeds, IfRoom, IfBehind, SpotEndless};
+ghost use Rattle.mt_index.specs.Answers.{FindsHolder, FindsSpot};
 
 use crate::answers::{Held, Spot};
 use crate::directory::pointer;
@@ -15,13 +14,7 @@ use mt_space::pages::DIRECTORY;
 pub(crate) fn holder_of<V: Pages>(views: &V, relation: RelNo, key: &[u8], mode: Mode) -> Held
     requires sound { V.is_sound views.now }
     requires short { length key.now ≤ MAX_KEY_BYTES }
-    ensures need { HeldNeeds result (Asks (V.at_hand views.now) (V.total views.now) (IsInBucket key.now mode)) }
-    ensures at_hand { IfIn result (λ page name. (V.at_hand views.now page ≡ None → ⊥)) }
-    ensures found { IfIn result (λ page name. InMaps (V.at_hand views.now) (V.total views.now) (λ pages m.
-        Holds relation key.now pages page name)) }
-    ensures nowhere { IfNowhere result (InMaps (V.at_hand views.now) (V.total views.now) (λ pages m.
-        m relation key.now ≡ None)) }
-    ensures endless { HeldEndless result (InMaps (V.at_hand views.now) (V.total views.now) (λ pages m. ⊥)) }
+    ensures { FindsHolder (V.at_hand views.now) (V.total views.now) relation key.now mode result }
 {
     let Some(directory) = views.page(PageNo::new(DIRECTORY)) else {
         return Held::Need(PageNo::new(DIRECTORY), Mode::Read);
@@ -46,12 +39,7 @@ pub(crate) fn holder_of<V: Pages>(views: &V, relation: RelNo, key: &[u8], mode: 
 // The first page of the key's bucket with room for an entry, or else its last page.
 pub(crate) fn room_in<V: Pages>(views: &V, key: &[u8]) -> Spot
     requires sound { V.is_sound views.now }
-    ensures need { SpotNeeds result (Asks (V.at_hand views.now) (V.total views.now) (IsInBucket key.now Write)) }
-    ensures room { IfRoom result (λ page. InMaps (V.at_hand views.now) (V.total views.now) (λ pages m.
-        HasRoom key.now pages page)) }
-    ensures behind { IfBehind result (λ last alone. InMaps (V.at_hand views.now) (V.total views.now) (λ pages m.
-        IsEnd key.now pages last alone)) }
-    ensures endless { SpotEndless result (InMaps (V.at_hand views.now) (V.total views.now) (λ pages m. ⊥)) }
+    ensures { FindsSpot (V.at_hand views.now) (V.total views.now) key.now result }
 {
     let Some(directory) = views.page(PageNo::new(DIRECTORY)) else {
         return Spot::Need(PageNo::new(DIRECTORY), Mode::Read);

@@ -1,7 +1,7 @@
 -- What steps do that the public ones share.
-use Rattle.std.specs.Prelude.{ℕ, ◌≡◌, Bool, IfErr, List, Ok, Result, length, slice_index_or, ◌≤◌, ◌∷◌, ◌+◌, ◌*◌, OnErr, OnOk}
+use Rattle.std.specs.Prelude.{ℕ, ◌≡◌, ◌⊎◌, ◌++◌, [], Bool, IfErr, List, Ok, Result, length, slice_index_or, ◌≤◌, ◌∷◌, ◌+◌, ◌*◌, OnErr, OnOk}
 use Rattle.mt_base.specs.declared.refusal.Refusal.{Refusal}
-use Rattle.mt_kernel.specs.Consistent.{Advances, AtPlace, GoesBack, IsConsistent, Origin, state_of, EndsIn, IsReadyAt, SameStates, UndoesIn, DropsIn, IsClearedAt, BooksIn, SameUncommitted, IsCalled, MayRun, SameCommits, log_kept, CallsIn, IsGranted, IsRestored, without_call, IsLocked}
+use Rattle.mt_kernel.specs.Consistent.{Advances, AtPlace, GoesBack, IsConsistent, Origin, state_of, EndsIn, IsReadyAt, SameStates, UndoesIn, DropsIn, IsClearedAt, BooksIn, SameUncommitted, IsCalled, MayRun, SameCommits, log_kept, CallsIn, IsAskedFor, IsGranted, IsRestored, without_call, IsLocked}
 use Rattle.mt_kernel.specs.Restartable.{QuietlyAppends, StepAppends, NotesEnd, NotesUndone, StaysRestartable}
 use Rattle.mt_kernel.specs.Steps.{LeavesExplained, TellsOther, WantsFrame}
 use Rattle.mt_kernel.specs.declared.calls.Called.{Called}
@@ -27,8 +27,17 @@ use Rattle.mt_kernel.specs.declared.parts.Commit.{Commit}
 use Rattle.mt_kernel.specs.Causes.{IsAnswered, HasReserves, IsUnreserved, IsAdmittedBy, IsRefusedBehind}
 use Rattle.mt_pool.specs.Views.{pages}
 use Rattle.mt_escrow.specs.Seen.{Escrowed}
+use Rattle.mt_live.specs.Adds.{add_before}
 use Rattle.mt_slock.specs.declared.holders.Holder.{Holder}
 use Rattle.mt_model.specs.declared.objects.Object.{Object}
+
+-- leave for an operation is asked, if it is an add; an add that may not be made is refused
+pub record AsksLeave {T : Type 0} (was now : Escrowed) (txn : ℕ) (op : Op) (r : Result T Refusal) : Type 0 where
+  pub granted : OnOk r (now.pending ≡ was.pending ++ add_before txn op [])
+  pub committed : now.committed ≡ was.committed
+  pub admitted : OnOk r (IsAskedFor was txn op)
+  pub cause : IfErr r (λ why. (why ≡ Refusal.NoMemory) ⊎ ((why ≡ Refusal.Escrow) × ¬ IsAskedFor was txn op))
+  pub kept : OnErr r (now ≡ was)
 
 module _ {D : Type 0} (seen : D → List ℕ) (may_leave : D → List ℕ → Type 0) (failures : D → ℕ) (moment : D → ℕ) (left_since : D → ℕ → List ℕ → Type 0) where
   -- A step of the operation at a place answered this, from parts k to parts n.

@@ -1,24 +1,22 @@
 // Calls of operations.
-ghost use Rattle.std.specs.Prelude.{◌≡◌, ◌==◌, is_some, ◌⊎◌, ◌<◌, ◌≤◌, ◌+◌, ◌*◌, ◌^◌, IfErr, ◌++◌, [], ℕ, length, List, OnOk, OnErr};
+ghost use Rattle.std.specs.Prelude.{◌≡◌, ◌==◌, is_some, ◌<◌, ◌≤◌, ◌+◌, ◌*◌, ◌^◌, ℕ, length, List};
 ghost use Rattle.std.specs.Bool.{OnTrue, OnFalse};
 ghost use Rattle.std.specs.List.{list_any};
 ghost use Rattle.std.specs.Vec.{vec_len, vec_capacity};
 ghost use Rattle.mt_base.specs.declared.limits.TheConstants.{MAX_BEGUN};
 ghost use Rattle.mt_escrow.specs.Seen.{Escrowed};
-ghost use Rattle.mt_live.specs.Adds.{add_before};
 ghost use Rattle.mt_live.specs.Machine.{called};
 ghost use Rattle.mt_log.specs.Words.{area_size};
 ghost use Rattle.mt_model.specs.Model.{Base, IsWithin, object_of};
 ghost use Rattle.mt_model.specs.declared.objects.Object.{Object};
 ghost use Rattle.mt_pool.specs.Views.{pages};
 ghost use Rattle.mt_slock.specs.declared.holders.Holder.{Holder};
-ghost use Rattle.mt_kernel.specs.Consistent.{SameCommits, SameStates, log_kept, Origin, state_of, IsConsistent, IsPlaceOf, MayRun, MayBeCalled, IsLocked, IsGranted, IsAskedFor, IsCalled};
+ghost use Rattle.mt_kernel.specs.Consistent.{SameCommits, SameStates, log_kept, Origin, state_of, IsConsistent, IsPlaceOf, MayRun, MayBeCalled, IsLocked, IsGranted, IsCalled};
 ghost use Rattle.mt_kernel.specs.Causes.{IsAnswered};
-ghost use Rattle.mt_base.specs.declared.refusal.Refusal.{Refusal};
 ghost use Rattle.mt_kernel.specs.Restartable.{StaysRestartable};
 ghost use Rattle.mt_kernel.specs.Work.{CallRuns};
 ghost use Rattle.mt_kernel.specs.declared.parts.Running.{Running};
-ghost use Rattle.mt_kernel.specs.Advancing.{AdmitsCall, LocksObject, StartsCall};
+ghost use Rattle.mt_kernel.specs.Advancing.{AdmitsCall, AsksLeave, LocksObject, StartsCall};
 
 use crate::ends::let_go;
 use crate::parts::{Parts, Running};
@@ -43,12 +41,7 @@ pub enum Called {
 // Asks leave for an operation that is an add.
 fn ask(escrow: &mut Escrow, txn: TxnNo, op: &Op) -> Result<(), Refusal>
     requires within { ∥ ((relations : ℕ) × IsWithin relations (length escrow.old.committed) op.now) ∥₁ }
-    ensures granted { OnOk result (escrow.new.pending ≡ escrow.old.pending ++ add_before txn op.now []) }
-    ensures committed { escrow.new.committed ≡ escrow.old.committed }
-    ensures admitted { OnOk result (IsAskedFor escrow.old txn op.now) }
-    ensures cause { IfErr result (λ why. (why ≡ Refusal.NoMemory)
-        ⊎ ((why ≡ Refusal.Escrow) × ¬ IsAskedFor escrow.old txn op.now)) }
-    ensures kept { OnErr result (escrow.new ≡ escrow.old) }
+    ensures { AsksLeave escrow.old escrow.new txn op.now result }
 {
     if let Op::Add(counter, step) = op {
         escrow.ask(txn, *counter, *step)?;

@@ -1,5 +1,5 @@
 // Transactions that begin, commit and leave, and the writes that make commits durable.
-ghost use Rattle.std.specs.Prelude.{◌≡◌, ◌≢◌, ◌⊎◌, ◌<◌, ◌≤◌, ◌+◌, ℕ, List, ◌∷◌, ◌++◌, [], length, drop, get_or, false, true, All, Some, Ok, IsErr, IfOk, IfErr, OnOk, OnErr};
+ghost use Rattle.std.specs.Prelude.{◌≡◌, ◌≢◌, ◌⊎◌, ◌<◌, ◌≤◌, ◌+◌, ℕ, List, ◌∷◌, ◌++◌, [], length, drop, get_or, false, true, All, Some, Ok, Err, IsOk, IsErr, IfOk, IfErr, OnOk, OnErr};
 ghost use Rattle.mt_live.specs.Lives.{member_of};
 ghost use Rattle.mt_live.specs.Machine.{begun};
 ghost use Rattle.mt_live.specs.declared.transactions.TxnState.TheVariants.{Open, Committing, Aborting};
@@ -184,18 +184,21 @@ impl<D: Device> Parts<D> {
     /// Makes a step of the log's force, of one device call. Answers up to which record the log is durable where a
     /// force has ended.
     ///
-    /// Refused with 2 where the device has failed.
+    /// Refused with 2 where the device has failed or fails in this call, so no fault is passed over.
     pub fn force_step(&mut self) -> Result<Forced, Refusal>
         requires safe { IsSound D.seen D.may_leave self.old }
         ensures state { StaysIn D.seen D.may_leave self.old self.new }
         ensures rest { OnlyOperations self.old self.new }
         ensures pool { self.new.operations.store.pool ≡ self.old.operations.store.pool }
+        ensures ruling { self.new.operations.store.ruling ≡ self.old.operations.store.ruling }
         ensures appended { appended self.new.operations.store.log ≡ appended self.old.operations.store.log }
         ensures step { IfOk result (λ forced.
             IsStep self.old.operations.store.log forced self.new.operations.store.log) }
         ensures only_device { IfErr result (λ why. why ≡ Refusal.DeviceFailed) }
         ensures cause { IsErr result → (D.faults self.old.operations.store.device
             < D.faults self.new.operations.store.device ⊎ (has_failed self.old.operations.store.log ≡ true)) }
+        ensures quiet { IsOk result
+            → D.faults self.new.operations.store.device ≡ D.faults self.old.operations.store.device }
         ensures moments { LeavesExplained D.seen D.may_leave D.moment D.left_since self.old self.new }
         ensures restartable { StaysRestartable D.seen D.may_leave self.old self.new }
     {
@@ -228,7 +231,7 @@ impl<D: Device> Parts<D> {
     }
 
     /// Tells what the pages come to, by their bytes, where nobody lives. Nothing has changed then. Refused for want of
-    /// memory, and where the device failed in this call.
+    /// memory, and with 2 if and only if the device failed in this call.
     pub fn survey(&mut self, alloc: Global) -> Result<Survey, Refusal>
         requires safe { IsSound D.seen D.may_leave self.old }
         requires nobody { self.old.live.members ≡ [] }
@@ -242,6 +245,8 @@ impl<D: Device> Parts<D> {
         ensures content { D.seen self.new.operations.store.device ≡ D.seen self.old.operations.store.device }
         ensures cause { IfErr result (λ why. (why ≡ Refusal.NoMemory) ⊎ (why ≡ Refusal.DeviceFailed)
             × (D.faults self.old.operations.store.device < D.faults self.new.operations.store.device)) }
+        ensures quiet { (result ≡ Err Refusal.DeviceFailed → ⊥)
+            → D.faults self.new.operations.store.device ≡ D.faults self.old.operations.store.device }
         ensures moments { LeavesExplained D.seen D.may_leave D.moment D.left_since self.old self.new }
         ensures restartable { StaysRestartable D.seen D.may_leave self.old self.new }
     {

@@ -2,7 +2,7 @@
 use Rattle.std.proofs.Common.{◌≡◌, ℕ, ◌+◌, ◌-◌, List, [], ◌∷◌, ◌++◌, length, refl, ◌∙◌, ap, subst, sym, arith, map, length-append, Bool, true, false, Result, Ok, Err, OnOk, OnErr}
 use Rattle.mt_base.specs.declared.history.History.{History}
 use Rattle.mt_disk.specs.Disk.{Torn, Wrote, Follows, Only}
-use Rattle.mt_disk.proofs.Frame.{follows_within}
+use Rattle.mt_disk.proofs.Frame.{follows_within, torn_within}
 use Rattle.mt_frame.specs.declared.records.Record.{Record}
 use Rattle.mt_frame.specs.Grammar.{body_text}
 use Rattle.mt_log.specs.Batch.{framed, joined}
@@ -53,6 +53,13 @@ body_elsewhere seen may may2 start end next bs batch text a is follows =
     let long : length text ≡ 5 + length (body_text batch) = ap length is ∙ length-closed batch in
     let room = a.room in let order = a.order in
     follows_within (next + 1) (length text) start end may may2 (omega arith) (omega arith) follows
+
+pub body_rest : (seen seen2 : List ℕ) (may : List ℕ → Type 0) (start end next : ℕ) (bs : List (List Record)) (batch : List Record) (text : List ℕ) → Area seen may start end next bs batch (Forcing WriteBody) → text ≡ framed batch ++ 0 ∷ []
+    → Torn (next + 1) (length text) seen seen2 → Torn start (end - start) seen seen2
+body_rest seen seen2 may start end next bs batch text a is torn =
+    let long : length text ≡ 5 + length (body_text batch) = ap length is ∙ length-closed batch in
+    let room = a.room in let order = a.order in
+    torn_within (next + 1) (length text) start (end - start) seen seen2 torn (omega arith) (omega arith)
 
 -- a batch more
 pub batches_push : (hs : List (History Record)) (h : History Record) → map (λ (b : History Record). b.items) (hs ++ h ∷ []) ≡ map (λ (b : History Record). b.items) hs ++ h.items ∷ []

@@ -1,7 +1,7 @@
 -- What one device call of a batch's force does to the log.
-use Rattle.std.specs.Prelude.{ℕ, ◌≡◌, List, [], ◌∷◌, ◌++◌, Result, Ok, Err, vec_len, ◌+◌, map, ◌-◌, IfOk}
+use Rattle.std.specs.Prelude.{ℕ, ◌≡◌, List, [], ◌∷◌, ◌++◌, Result, Ok, Err, vec_len, ◌+◌, map, ◌-◌, IfOk, OnErr, OnOk}
 use Rattle.mt_base.specs.declared.refusal.Refusal.{Refusal}
-use Rattle.mt_log.specs.Area.{step_behind, ScansWithOrWithout}
+use Rattle.mt_log.specs.Area.{Area, AreaAfter, step_behind, ScansWithOrWithout}
 use Rattle.mt_log.specs.declared.stage.Step.{Step}
 use Rattle.mt_log.specs.declared.stage.Step.TheVariants.{SyncGate, WriteBody}
 use Rattle.mt_log.specs.declared.stage.Stage.TheVariants.{Idle, Forcing, Failed}
@@ -63,6 +63,16 @@ pub record Seals (old new : Log) : Type 0 where
   pub count : new.waiting_count ≡ 0
   pub size : vec_len new.pending ≡ 4
   pub behind : new.behind ≡ old.behind + 1 + vec_len old.pending
+
+-- the device call of a step: the area is as behind that step, or as the device has left it
+pub record CallsDevice {D T F : Type 0} (seen : D → List ℕ) (may_leave : D → List ℕ → Type 0) (moment : D → ℕ) (left_since : D → ℕ → List ℕ → Type 0) (failures : D → ℕ) (log : Log) (step : Step) (d e : D) (r : Result T F) : Type 0 where
+  pub done : OnOk r (AreaAfter step (seen e) (may_leave e) log.place.start log.place.end log.next (map (λ batch. batch.items) log.batches.items) log.in_flight.items)
+  pub failed : OnErr r (Area (seen e) (may_leave e) log.place.start log.place.end log.next (map (λ batch. batch.items) log.batches.items) log.in_flight.items Failed)
+  pub time : Elapses (moment d) (moment e) (left_since d) (left_since e) (may_leave e)
+  pub elsewhere : Follows (Torn log.place.start (log.place.end - log.place.start)) (may_leave d) (may_leave e)
+  pub rest : Torn log.place.start (log.place.end - log.place.start) (seen d) (seen e)
+  pub alone : step ≡ SyncGate → OnOk r (Only (seen e) (may_leave e))
+  pub cause : HasCause (failures d) (failures e) r
 
 -- a device call of a step, with what it comes to
 pub record MakesCall {D : Type 0} (seen : D → List ℕ) (may_leave : D → List ℕ → Type 0) (moment : D → ℕ) (left_since : D → ℕ → List ℕ → Type 0) (failures : D → ℕ) (old new : Log) (step : Step) (d e : D) (r : Result Forced Refusal) : Type 0 where

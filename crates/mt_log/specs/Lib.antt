@@ -1,10 +1,13 @@
+pub mod Admitting
 pub mod Area
 pub mod Batch
 pub mod Ends
+pub mod Fetch
 pub mod First
 pub mod Forcing
 pub mod Found
 pub mod Holds
+pub mod Lasting
 pub mod Laws
 pub mod Masters
 pub mod NextSlot

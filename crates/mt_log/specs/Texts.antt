@@ -1,7 +1,9 @@
 -- What a log keeps in memory, of a batch that is being forced and of none.
-use Rattle.std.specs.Prelude.{◌≡◌, ℕ, ◌+◌, List, [], ◌∷◌, ◌++◌, length}
+use Rattle.std.specs.Global.{Global}
+use Rattle.std.specs.Prelude.{◌≡◌, ◌<◌, ◌≤◌, ℕ, ◌+◌, List, [], ◌∷◌, ◌++◌, length, Result, IsOk, OnErr, OnOk, Vec, vec_capacity, vec_len}
 use Rattle.mt_frame.specs.declared.records.Record.{Record}
-use Rattle.mt_frame.specs.Grammar.{body_text}
+use Rattle.mt_frame.specs.Grammar.{body_text, record_text}
+use Rattle.mt_frame.specs.Lengths.{record_length}
 use Rattle.mt_log.specs.Batch.{framed}
 
 -- no batch is being forced: the buffer for the next one has room for a length and a gate
@@ -14,3 +16,11 @@ pub record IsAtRest (next behind size : ℕ) (batch : List Record) : Type 0 wher
 pub record IsUnderWay (next behind : ℕ) (text : List ℕ) (batch : List Record) : Type 0 where
   pub place : behind ≡ next + 5 + length (body_text batch)
   pub whole : text ≡ framed batch ++ 0 ∷ []
+
+-- A record's text is behind the others, with room for a gate behind it; or memory was refused.
+pub record PushesText {T E : Type 0} (old new : Vec ℕ Global) (entry : Record) (r : Result T E) : Type 0 where
+  pub ok : OnOk r (new.items ≡ old.items ++ record_text entry)
+  pub gate_room : OnOk r (vec_len new < vec_capacity new)
+  pub err : OnErr r (new.items ≡ old.items)
+  pub room : vec_len old + record_length entry + 1 ≤ vec_capacity old → IsOk r
+  pub capacity : vec_capacity old ≤ vec_capacity new

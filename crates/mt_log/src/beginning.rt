@@ -1,26 +1,25 @@
 // The beginning of an area: an empty first batch, forced as any other behind a gate that is closed.
-ghost use Rattle.std.specs.Prelude.{◌≡◌, ◌⊎◌, ◌+◌, ◌-◌, ◌<◌, ◌≤◌, ◌^◌, ◌++◌, ◌∷◌, [], ℕ, List, true, false, length, vec_capacity, slice_index, IfOk, IfErr, IsErrOf, OnOk, IsErr, Err};
+ghost use Rattle.std.specs.Prelude.{◌≡◌, ◌⊎◌, ◌+◌, ◌-◌, ◌<◌, ◌≤◌, ◌^◌, ◌++◌, ◌∷◌, [], ℕ, List, false, length, vec_capacity, IfOk, IfErr, IsErrOf, OnOk};
 ghost use Rattle.std.specs.List.{AllByRecursion};
 ghost use Rattle.mt_base.specs.declared.refusal.Refusal.{Refusal};
-ghost use Rattle.mt_disk.specs.Disk.{Torn, Follows, Elapses, LeavesOnly, HasCause, Only};
+ghost use Rattle.mt_disk.specs.Disk.{Torn, Follows, LeavesOnly, Only};
 ghost use Rattle.mt_frame.specs.Grammar.{IsRecord, body_text};
-ghost use Rattle.mt_frame.specs.History.{MayFollow};
-ghost use Rattle.mt_log.specs.Area.{ScansWithOrWithout, TornFrom, AreaBegins};
+ghost use Rattle.mt_log.specs.Area.{TornFrom, AreaBegins};
 ghost use Rattle.mt_log.specs.Batch.{framed, Scans};
 ghost use Rattle.mt_frame.specs.declared.records.Record.{Record};
 ghost use Rattle.mt_log.specs.declared.area.AreaPlace.{AreaPlace};
 ghost use Rattle.mt_log.specs.Ends.{EndsForce};
 ghost use Rattle.mt_log.specs.First.{IsBegun, IsFirst};
-ghost use Rattle.mt_log.specs.Holds.{AreRecords};
 ghost use Rattle.mt_log.specs.Sound.{IsSound};
 ghost use Rattle.mt_log.specs.Words.{durable_batches, durable, in_flight, waiting, area_start, area_end, area_size, used, calls_left, has_failed, IsOn};
 
 use crate::area::AreaPlace;
 use crate::forcing::close_text;
+use crate::lasting::write_durably;
 use crate::log::{Forced, Log, head_alone, push_text};
 use crate::stage::{Stage, Step};
 use mt_base::{History, Refusal};
-use mt_disk::{Device, DeviceFault};
+use mt_disk::Device;
 use mt_frame::{CLOSED_GATE, Record};
 use std::alloc::Global;
 
@@ -70,19 +69,6 @@ pub fn prepare_area(alloc: Global, place: AreaPlace, images: &[Record]) -> Resul
     })
 }
 
-// Closes a gate, whatever it was, for good.
-fn close_gate<D: Device>(device: &mut D, at: u64) -> Result<(), DeviceFault>
-    requires { at < length (D.seen device.old) }
-    ensures closed { OnOk result ((c : List ℕ) → D.may_leave device.new c → slice_index c at ≡ 0) }
-    ensures moments { LeavesOnly D.moment D.left_since device.old device.new (TornFrom (D.may_leave device.old) at 1) }
-    ensures elsewhere { Follows (Torn at 1) (D.may_leave device.old) (D.may_leave device.new) }
-    ensures rest { Torn at 1 (D.seen device.old) (D.seen device.new) }
-    ensures cause { HasCause (D.faults device.old) (D.faults device.new) result }
-{
-    device.write_at(at, &[CLOSED_GATE])?;
-    device.sync()
-}
-
 // Forces the batch that is on its way, to the end.
 fn force_all<D: Device>(log: &mut Log, device: &mut D) -> Result<(), Refusal>
     requires on { IsOn D.seen D.may_leave log.old device.old }
@@ -124,13 +110,16 @@ pub fn begin_prepared<D: Device>(device: &mut D, prepared: Log) -> Result<Log, R
     ensures quiet { OnOk result (D.faults device.new ≡ D.faults device.old) }
 {
     let mut log = prepared;
-    close_gate(device, log.next)?;
+    write_durably(device, log.next, &[CLOSED_GATE])?;
     force_all(&mut log, device)?;
     Ok(log)
 }
 
-/// Begins an area anew with an empty first batch, and answers its log, as [`begin_area_with`] does
-/// without images.
+/// Begins an area anew with an empty first batch, and answers its log. It does so by [`prepare_area`], with no image,
+/// and then [`begin_prepared`].
+///
+/// Refusals are [`Refusal::NoMemory`], before any device call, and [`Refusal::DeviceFailed`]. Nothing outside of the
+/// area is touched in any case.
 #[tactic(auto, unfolding(crate::specs::Words::durable))]
 pub fn begin_area<D: Device>(
     alloc: Global,
@@ -164,41 +153,6 @@ pub fn begin_area<D: Device>(
     ensures alone { OnOk result (Only (D.seen device.new) (D.may_leave device.new)) }
     ensures quiet { OnOk result (D.faults device.new ≡ D.faults device.old) }
 {
-    begin_area_with(alloc, device, place, &[])
-}
-
-/// Begins an area anew with a first batch of these records, which are images of pages and nothing else, and answers
-/// its log. It does so by [`prepare_area`], and then [`begin_prepared`].
-///
-/// Refusals are [`Refusal::NoMemory`], before any device call, and [`Refusal::DeviceFailed`]. Nothing
-/// outside of the area is touched in any case.
-fn begin_area_with<D: Device>(
-    alloc: Global,
-    device: &mut D,
-    place: AreaPlace,
-    images: &[Record],
-) -> Result<Log, Refusal>
-    requires within { place.end ≤ length (D.seen device.old) }
-    requires grammar { AllByRecursion IsRecord images.now }
-    requires fits { 5 + length (body_text images.now) < place.end - place.start }
-    ensures on { IfOk result (λ log. IsOn D.seen D.may_leave log device.new) }
-    ensures log { IfOk result (IsBegun place images.now) }
-    // Whenever a crash comes in this call, and what it leaves once the call has gone well.
-    ensures begins { LeavesOnly D.moment D.left_since device.old device.new
-        (AreaBegins (D.may_leave device.old) place.start place.end images.now) }
-    ensures begun { OnOk result ((c : List ℕ) → D.may_leave device.new c
-        → Scans c place.start place.end (images.now ∷ [])) }
-    ensures moments { LeavesOnly D.moment D.left_since device.old device.new
-        (TornFrom (D.may_leave device.old) place.start (place.end - place.start)) }
-    ensures elsewhere { Follows (Torn place.start (place.end - place.start)) (D.may_leave device.old)
-        (D.may_leave device.new) }
-    ensures rest { Torn place.start (place.end - place.start) (D.seen device.old) (D.seen device.new) }
-    ensures cause { IfErr result (λ why. (why ≡ Refusal.NoMemory) ⊎ (why ≡ Refusal.DeviceFailed)
-        × (D.faults device.old < D.faults device.new)) }
-    ensures memory { IsErrOf result Refusal.NoMemory → device.new ≡ device.old }
-    ensures alone { OnOk result (Only (D.seen device.new) (D.may_leave device.new)) }
-    ensures quiet { OnOk result (D.faults device.new ≡ D.faults device.old) }
-{
-    let prepared = prepare_area(alloc, place, images)?;
+    let prepared = prepare_area(alloc, place, &[])?;
     begin_prepared(device, prepared)
 }

@@ -1,10 +1,7 @@
 // What a scan reads of the device: a gate, a length, a body.
-ghost use Rattle.std.specs.Prelude.{◌≡◌, ◌≢◌, ◌⊎◌, ◌+◌, ◌<◌, ◌≤◌, ◌^◌, ℕ, true, false, length, slice_index, vec_len, IfOk, IfErr, IfSome, IfNone, OnOk, IsOk};
+ghost use Rattle.std.specs.Prelude.{◌≡◌, ◌+◌, ◌<◌, ◌≤◌, length};
 ghost use Rattle.std.specs.Int.{w32, to_be_bytes};
-ghost use Rattle.mt_frame.specs.declared.TheConstants.{OPEN_GATE};
-ghost use Rattle.mt_base.specs.declared.refusal.Refusal.{Refusal};
-ghost use Rattle.mt_disk.specs.Disk.{Has, HasCause};
-ghost use Rattle.mt_log.specs.Quiet.{OnlyReads};
+ghost use Rattle.mt_log.specs.Fetch.{IsLength, Reads, ReadsInto, TellsGate};
 
 use mt_base::Refusal;
 use mt_base::limits::BATCH_HEAD_BYTES;
@@ -14,10 +11,8 @@ use mt_frame::{CLOSED_GATE, OPEN_GATE};
 // Whether an open gate stands at the place.
 pub(crate) fn gate_is_open<D: Device>(device: &mut D, at: u64) -> Result<bool, DeviceFault>
     requires { at < length (D.seen device.old) }
-    ensures open { IfOk result (λ is_open. is_open ≡ true → slice_index (D.seen device.old) at ≡ OPEN_GATE) }
-    ensures shut { IfOk result (λ is_open. is_open ≡ false → slice_index (D.seen device.old) at ≢ OPEN_GATE) }
-    ensures reads { OnlyReads D.seen D.may_leave D.moment D.left_since device.old device.new }
-    ensures cause { HasCause (D.faults device.old) (D.faults device.new) result }
+    ensures { Reads D.seen D.may_leave D.moment D.left_since D.faults (TellsGate (D.seen device.old) at)
+        device.old device.new result }
 {
     let mut gate = [CLOSED_GATE];
     device.read(at, &mut gate)?;
@@ -40,12 +35,8 @@ pub(crate) fn body_length<D: Device>(
 ) -> Result<Option<usize>, DeviceFault>
     requires inside { at < end }
     requires within { end ≤ length (D.seen device.old) }
-    ensures head { IfOk result (λ o. IfSome o (λ n. Has (D.seen device.old) (at + 1) (to_be_bytes w32 n))) }
-    ensures fits { IfOk result (λ o. IfSome o (λ n. at + 5 + n < end)) }
-    ensures none { IfOk result (λ o. IfNone o ((n : ℕ) → n < 2 ^ 32
-        → Has (D.seen device.old) (at + 1) (to_be_bytes w32 n) → end ≤ at + 5 + n)) }
-    ensures reads { OnlyReads D.seen D.may_leave D.moment D.left_since device.old device.new }
-    ensures cause { HasCause (D.faults device.old) (D.faults device.new) result }
+    ensures { Reads D.seen D.may_leave D.moment D.left_since D.faults (IsLength (D.seen device.old) at end)
+        device.old device.new result }
 {
     if end - at <= BATCH_HEAD_BYTES {
         return Ok(None);
@@ -67,12 +58,8 @@ pub(crate) fn read_into<D: Device>(
     buffer: &mut Vec<u8>,
 ) -> Result<(), Refusal>
     requires { at + size ≤ length (D.seen device.old) }
-    ensures bytes { OnOk result (Has (D.seen device.old) at buffer.new.items) }
-    ensures size { OnOk result (vec_len buffer.new ≡ size) }
-    ensures reads { OnlyReads D.seen D.may_leave D.moment D.left_since device.old device.new }
-    ensures quiet { IsOk result → D.faults device.new ≡ D.faults device.old }
-    ensures cause { IfErr result (λ why. (why ≡ Refusal.NoMemory) ⊎ (why ≡ Refusal.DeviceFailed)
-        × (D.faults device.old < D.faults device.new)) }
+    ensures { ReadsInto D.seen D.may_leave D.moment D.left_since D.faults at size buffer.new
+        device.old device.new result }
 {
     buffer.clear();
     buffer.reserve_exact(size)?;

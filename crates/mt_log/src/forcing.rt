@@ -1,14 +1,12 @@
 // A force makes four device calls: the batch's length, its body and a closed gate behind it; a sync;
 // the open gate; a sync. So no open gate ever stands before a body that a crash may take away.
-ghost use Rattle.std.specs.Prelude.{◌≡◌, ◌⊎◌, ◌+◌, ◌-◌, ◌*◌, ◌<◌, ◌≤◌, ◌^◌, ◌++◌, ◌∷◌, [], ◌↔◌, ℕ, true, false, length, drop, map, vec_len, vec_capacity, Ok, IfOk, IfErr, OnOk, OnErr, IsOk, IsErr};
+ghost use Rattle.std.specs.Prelude.{◌≡◌, ◌⊎◌, ◌+◌, ◌*◌, ◌<◌, ◌≤◌, ◌^◌, ◌++◌, ◌∷◌, [], ◌↔◌, ℕ, true, false, length, drop, vec_len, vec_capacity, IfOk, IfErr, OnErr, IsOk, IsErr};
 ghost use Rattle.std.specs.Int.{w32, to_be_bytes};
 ghost use Rattle.mt_base.specs.declared.refusal.Refusal.{Refusal};
-ghost use Rattle.mt_disk.specs.Disk.{Torn, Follows, Elapses, LeavesOnly, HasCause, Only};
-ghost use Rattle.mt_log.specs.Area.{Area, AreaAfter, ScansWithOrWithout};
-ghost use Rattle.mt_log.specs.Forcing.{IsCall, MakesCall, Seals};
-ghost use Rattle.mt_log.specs.declared.log.Forced.{Forced};
-ghost use Rattle.mt_log.specs.declared.stage.Step.TheVariants.{WriteBody, SyncBody, WriteGate, SyncGate};
-ghost use Rattle.mt_log.specs.declared.stage.Stage.TheVariants.{Idle, Forcing, Failed};
+ghost use Rattle.mt_disk.specs.Disk.{Torn, Follows, Elapses, LeavesOnly, Only};
+ghost use Rattle.mt_log.specs.Area.{ScansWithOrWithout};
+ghost use Rattle.mt_log.specs.Forcing.{CallsDevice, IsCall, MakesCall, Seals};
+ghost use Rattle.mt_log.specs.declared.stage.Stage.TheVariants.{Idle, Forcing};
 
 use crate::log::{Forced, Log};
 use crate::stage::{Stage, Step};
@@ -38,7 +36,7 @@ pub(crate) fn close_text(text: &mut Vec<u8>)
 }
 
 impl Log {
-    ghost use Rattle.mt_log.specs.Words.{durable_batches, durable, in_flight, waiting, appended, area_start, area_end, used, area_size, calls_left, has_failed, coming, AreaOf, IsLast, IsOn, IsStep, Moves, batches_after};
+    ghost use Rattle.mt_log.specs.Words.{durable_batches, durable, waiting, appended, area_start, area_end, used, area_size, calls_left, has_failed, coming, AreaOf, IsLast, IsOn, IsStep, Moves, batches_after};
     ghost use Rattle.mt_log.specs.Sound.{IsSound, HoldsBeginning};
 
     // The batch of the records that wait becomes the one that is forced.
@@ -60,20 +58,8 @@ impl Log {
     fn call<D: Device>(&self, device: &mut D, step: Step) -> Result<(), DeviceFault>
         requires on { AreaOf (D.seen device.old) (D.may_leave device.old) self.now }
         requires stage { self.now.stage ≡ Forcing step }
-        ensures done { OnOk result (AreaAfter step (D.seen device.new)
-            (D.may_leave device.new) self.now.place.start self.now.place.end self.now.next
-            (map (λ batch. batch.items) self.now.batches.items) self.now.in_flight.items) }
-        ensures failed { OnErr result (Area (D.seen device.new)
-            (D.may_leave device.new) self.now.place.start self.now.place.end self.now.next
-            (map (λ batch. batch.items) self.now.batches.items) self.now.in_flight.items Failed) }
-        ensures time { Elapses (D.moment device.old) (D.moment device.new) (D.left_since device.old)
-            (D.left_since device.new) (D.may_leave device.new) }
-        ensures elsewhere { Follows (Torn self.now.place.start (self.now.place.end - self.now.place.start))
-            (D.may_leave device.old) (D.may_leave device.new) }
-        ensures rest { Torn self.now.place.start (self.now.place.end - self.now.place.start) (D.seen device.old)
-            (D.seen device.new) }
-        ensures alone { step ≡ SyncGate → OnOk result (Only (D.seen device.new) (D.may_leave device.new)) }
-        ensures cause { HasCause (D.faults device.old) (D.faults device.new) result }
+        ensures { CallsDevice D.seen D.may_leave D.moment D.left_since D.faults
+            self.now step device.old device.new result }
     {
         match step {
             Step::WriteBody => device.write_at(self.next + 1, &self.flight),

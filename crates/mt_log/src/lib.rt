@@ -7,6 +7,7 @@ mod batch;
 mod beginning;
 mod fetch;
 mod forcing;
+mod lasting;
 mod laws;
 mod log;
 mod masters;

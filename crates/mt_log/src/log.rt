@@ -1,13 +1,13 @@
 // The log: records wait for a force, which makes them durable a batch at a time.
-ghost use Rattle.std.specs.Prelude.{◌≡◌, ◌+◌, ◌-◌, ◌*◌, ◌<◌, ◌≤◌, ◌++◌, ◌∷◌, [], ℕ, true, false, length, map, drop, vec_len, vec_capacity, IfOk, IfErr, OnOk, OnErr, IsOk, IsErr};
+ghost use Rattle.std.specs.Prelude.{◌≡◌, ◌+◌, ◌-◌, ◌*◌, ◌<◌, ◌≤◌, ◌++◌, ◌∷◌, [], ℕ, true, false, length, map, drop, vec_len, vec_capacity, IfOk, IfErr, OnOk, OnErr, IsOk};
 ghost use Rattle.mt_base.specs.declared.limits.TheConstants.{MAX_AREA_MIB, MIB_BYTES};
 ghost use Rattle.mt_base.specs.declared.refusal.Refusal.{Refusal};
-ghost use Rattle.mt_frame.specs.Grammar.{IsRecord, record_text, body_text};
+ghost use Rattle.mt_frame.specs.Grammar.{IsRecord, body_text};
 ghost use Rattle.mt_frame.specs.Lengths.{record_length};
 ghost use Rattle.mt_frame.specs.History.{may_stand};
 ghost use Rattle.mt_log.specs.Batch.{joined};
 ghost use Rattle.mt_log.specs.Holds.{HasItsPage};
-ghost use Rattle.mt_log.specs.Texts.{IsAtRest, IsUnderWay};
+ghost use Rattle.mt_log.specs.Texts.{IsAtRest, IsUnderWay, PushesText};
 ghost use Rattle.mt_log.specs.declared.stage.Stage.TheVariants.{Idle};
 
 use crate::area::AreaPlace;
@@ -75,11 +75,7 @@ pub(crate) fn head_alone(alloc: Global) -> Result<Vec<u8>, AllocError>
 // Puts a record's text behind the others, and keeps room for a gate behind it.
 pub(crate) fn push_text(text: &mut Vec<u8>, entry: &Record) -> Result<(), AllocError>
     requires { IsRecord entry.now }
-    ensures ok { OnOk result (text.new.items ≡ text.old.items ++ record_text entry.now) }
-    ensures gate_room { OnOk result (vec_len text.new < vec_capacity text.new) }
-    ensures err { OnErr result (text.new.items ≡ text.old.items) }
-    ensures room { vec_len text.old + record_length entry.now + 1 ≤ vec_capacity text.old → IsOk result }
-    ensures capacity { vec_capacity text.old ≤ vec_capacity text.new }
+    ensures { PushesText text.old text.new entry.now result }
 {
     text.reserve(entry.length() + 1)?;
     push_record(text, entry)
@@ -87,7 +83,7 @@ pub(crate) fn push_text(text: &mut Vec<u8>, entry: &Record) -> Result<(), AllocE
 
 #[tactic(auto, unfolding(crate::specs::Words::durable_batches, crate::specs::Words::durable, crate::specs::Words::in_flight, crate::specs::Words::waiting, crate::specs::Words::area_start, crate::specs::Words::area_end, crate::specs::Words::used, crate::specs::Words::area_size, crate::specs::Words::room, crate::specs::Words::calls_left, crate::specs::Words::has_failed, crate::specs::Words::stands_at))]
 impl Log {
-    ghost use Rattle.mt_log.specs.Words.{durable_batches, durable, in_flight, waiting, appended, area_start, area_end, used, area_size, room, calls_left, has_failed, stands_at};
+    ghost use Rattle.mt_log.specs.Words.{durable, in_flight, waiting, appended, area_start, area_end, used, area_size, room, calls_left, has_failed, stands_at};
     ghost use Rattle.mt_log.specs.Sound.{IsSound};
 
     /// The log of an area that has nothing but its first batch, with no record in it. The only refusal

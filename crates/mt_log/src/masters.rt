@@ -1,5 +1,5 @@
 // A device's two master slots: which of them rules.
-ghost use Rattle.std.specs.Prelude.{◌≡◌, ◌⊎◌, ◌+◌, ◌<◌, ◌≤◌, ℕ, List, length, IfOk, IfErr, IsOk};
+ghost use Rattle.std.specs.Prelude.{◌≡◌, ◌⊎◌, ◌+◌, ◌<◌, ◌≤◌, ℕ, List, length, IfOk, IfErr, Err};
 ghost use Rattle.mt_base.specs.declared.refusal.Refusal.{Refusal};
 ghost use Rattle.mt_disk.specs.Disk.{LeavesOnly};
 ghost use Rattle.mt_frame.specs.declared.slots.MasterSlot.{MasterSlot};
@@ -22,7 +22,7 @@ fn read_slot<D: Device>(device: &mut D, at: u64) -> Result<Option<MasterSlot>, R
     requires { at + 17 ≤ length (D.seen device.old) }
     ensures found { IfOk result (IsFoundAt at (D.seen device.old)) }
     ensures reads { OnlyReads D.seen D.may_leave D.moment D.left_since device.old device.new }
-    ensures quiet { IsOk result → D.faults device.new ≡ D.faults device.old }
+    ensures quiet { (result ≡ Err Refusal.DeviceFailed → ⊥) → D.faults device.new ≡ D.faults device.old }
     ensures cause { IfErr result (λ why. (why ≡ Refusal.DeviceFailed) × (D.faults device.old < D.faults device.new)
         ⊎ (why ≡ Refusal.BadFormat at) × IsBadAt (D.seen device.old) at) }
 {
@@ -58,10 +58,10 @@ fn newer(first: MasterSlot, second: MasterSlot) -> Result<MasterSlot, Refusal>
 /// The master slot that rules a device: an open one, of which the other is closed, or older.
 ///
 /// Refusals, in the order of the tests: [`Refusal::NotFormatted`] where the device is shorter than 8192 bytes;
-/// [`Refusal::DeviceFailed`] where a read failed in this call. [`Refusal::BadFormat`] has the place of the first slot
-/// whose gate is open over bytes that are no slot of a device of this length. [`Refusal::NotFormatted`] comes where
-/// both gates are closed, and [`Refusal::BadFormat`] with 4096 where two open slots have the same epoch, or other
-/// sizes. It takes no memory. The device is only read, and its content is as before in any case.
+/// [`Refusal::DeviceFailed`] if and only if a read failed in this call. [`Refusal::BadFormat`] has the place of the
+/// first slot whose gate is open over bytes that are no slot of a device of this length. [`Refusal::NotFormatted`]
+/// comes where both gates are closed, and [`Refusal::BadFormat`] with 4096 where two open slots have the same epoch, or
+/// other sizes. It takes no memory. The device is only read, and its content is as before in any case.
 pub fn ruling_slot<D: Device>(device: &mut D) -> Result<MasterSlot, Refusal>
     ensures rules { IfOk result (IsRuling (D.seen device.old)) }
     ensures cause { IfErr result (λ why. (why ≡ Refusal.DeviceFailed) × (D.faults device.old < D.faults device.new)
@@ -78,7 +78,7 @@ pub fn ruling_slot<D: Device>(device: &mut D) -> Result<MasterSlot, Refusal>
     ensures seen { D.seen device.new ≡ D.seen device.old }
     ensures crash { (c : List ℕ) → D.may_leave device.new c → D.may_leave device.old c }
     ensures moments { LeavesOnly D.moment D.left_since device.old device.new (D.may_leave device.old) }
-    ensures quiet { IsOk result → D.faults device.new ≡ D.faults device.old }
+    ensures quiet { (result ≡ Err Refusal.DeviceFailed → ⊥) → D.faults device.new ≡ D.faults device.old }
 {
     slots_are_read_back();
     if device.len() < MASTER_BYTES {

@@ -1,14 +1,8 @@
 // What a scan keeps while it reads an area.
-ghost use Rattle.std.specs.Prelude.{◌≡◌, ◌≢◌, ◌⊎◌, ◌+◌, ◌<◌, ◌≤◌, ◌++◌, ℕ, List, true, false, length, slice_index, Ok, IfOk, IfErr, IfSome, IfNone, OnOk, IsOk};
+ghost use Rattle.std.specs.Prelude.{◌≡◌, ◌<◌, ◌≤◌, ℕ, List, true, false, length};
 ghost use Rattle.std.specs.List.{AllByRecursion};
-ghost use Rattle.mt_frame.specs.declared.TheConstants.{OPEN_GATE};
-ghost use Rattle.mt_base.specs.declared.refusal.Refusal.{Refusal};
-ghost use Rattle.mt_frame.specs.declared.records.Record.{Record};
-ghost use Rattle.mt_frame.specs.Grammar.{IsBody};
-ghost use Rattle.mt_frame.specs.History.{MayFollow};
-ghost use Rattle.mt_frame.specs.Known.{Knows};
-ghost use Rattle.mt_log.specs.Holds.{HasItsPage, AreRecords, BreaksAt};
-ghost use Rattle.mt_log.specs.Quiet.{OnlyReads};
+ghost use Rattle.mt_log.specs.Admitting.{Admits};
+ghost use Rattle.mt_log.specs.Holds.{HasItsPage};
 
 use crate::area::AreaPlace;
 use crate::batch::Batch;
@@ -66,15 +60,7 @@ fn admitted(
     first: bool,
     rules: &mut AreaRules,
 ) -> Result<Option<Vec<Record>>, Refusal>
-    ensures row { IfOk result (λ o. IfSome o (λ records. IsBody body.now records.items)) }
-    ensures each { IfOk result (λ o. IfSome o (λ records. AreRecords pages records.items)) }
-    ensures may { IfOk result (λ o. IfSome o (λ records. (earlier : List Record) → Knows rules.old earlier
-        → MayFollow first earlier records.items)) }
-    ensures known { IfOk result (λ o. IfSome o (λ records. (earlier : List Record) → Knows rules.old earlier
-        → Knows rules.new (earlier ++ records.items))) }
-    ensures none { IfOk result (λ o. IfNone o ((records earlier : List Record) → Knows rules.old earlier
-        → IsBody body.now records → AreRecords pages records → MayFollow first earlier records → ⊥)) }
-    ensures only_memory { IfErr result (λ why. why ≡ Refusal.NoMemory) }
+    ensures { Admits body.now pages first rules.old rules.new result }
 {
     let Some(records) = decode_body(alloc, body)? else {
         return Ok(None);
@@ -89,7 +75,7 @@ fn admitted(
 }
 
 impl Reading {
-    ghost use Rattle.mt_log.specs.Reading.{HasRead};
+    ghost use Rattle.mt_log.specs.Reading.{HasRead, ReadsBatch};
 
     // Nothing was read of the area.
     pub(crate) fn new(alloc: Global, place: AreaPlace, pages: u16) -> Reading
@@ -116,18 +102,8 @@ impl Reading {
     ) -> Result<bool, Refusal>
         requires read { HasRead (D.seen device.old) self.old }
         requires within { self.old.place.end ≤ length (D.seen device.old) }
-        ensures read { OnOk result (HasRead (D.seen device.old) self.new) }
-        ensures place { self.new.place ≡ self.old.place }
-        ensures pages { self.new.pages ≡ self.old.pages }
-        ensures more { result ≡ Ok true → self.old.next < self.new.next }
-        ensures ended { result ≡ Ok false → slice_index (D.seen device.old) self.new.next ≢ OPEN_GATE }
-        ensures bad { IfErr result (λ why. (at : ℕ) → why ≡ Refusal.BadFormat at
-            → BreaksAt (D.seen device.old) self.old.place.start self.old.place.end self.old.pages at) }
-        ensures cause { IfErr result (λ why. (why ≡ Refusal.NoMemory)
-            ⊎ (((why ≡ Refusal.DeviceFailed) × (D.faults device.old < D.faults device.new))
-            ⊎ ((at : ℕ) × (why ≡ Refusal.BadFormat at)))) }
-        ensures reads { OnlyReads D.seen D.may_leave D.moment D.left_since device.old device.new }
-        ensures quiet { IsOk result → D.faults device.new ≡ D.faults device.old }
+        ensures { ReadsBatch D.seen D.may_leave D.moment D.left_since D.faults
+            self.old self.new device.old device.new result }
     {
         if !gate_is_open(device, self.next)? {
             return Ok(false);

@@ -1,5 +1,5 @@
 // Reading an area back: a row of batches, of which each is found by the length of those before it.
-ghost use Rattle.std.specs.Prelude.{◌≡◌, ◌⊎◌, ◌<◌, ◌≤◌, ℕ, List, length, IfOk, IfErr, IsOk};
+ghost use Rattle.std.specs.Prelude.{◌≡◌, ◌⊎◌, ◌<◌, ◌≤◌, ℕ, List, length, IfOk, IfErr, Err};
 ghost use Rattle.mt_base.specs.declared.refusal.Refusal.{Refusal};
 ghost use Rattle.mt_disk.specs.Disk.{LeavesOnly};
 ghost use Rattle.mt_frame.specs.declared.records.Record.{Record};
@@ -19,10 +19,10 @@ use std::alloc::Global;
 /// Reads an area of a device with so many pages: its batches in order, each with its place. It ends
 /// at the first gate that is not open, and goes over the area once, with one buffer for the bodies.
 ///
-/// Refusals are [`Refusal::NoMemory`]; [`Refusal::DeviceFailed`], where a read failed; and [`Refusal::BadFormat`]
-/// with the place of the first batch that breaks the grammar. That is the first of the area where its gate is not
-/// open. Or it is an open one that does not fit, or whose body is no row of whole records. Or it has a record which
-/// may not stand there. The device is as before in any case.
+/// Refusals are [`Refusal::NoMemory`]; [`Refusal::DeviceFailed`], if and only if a read failed; and
+/// [`Refusal::BadFormat`] with the place of the first batch that breaks the grammar. That is the first of the area
+/// where its gate is not open. Or it is an open one that does not fit, or whose body is no row of whole records. Or it
+/// has a record which may not stand there. The device is as before in any case.
 pub fn scan<D: Device>(
     alloc: Global,
     device: &mut D,
@@ -50,7 +50,7 @@ pub fn scan<D: Device>(
     ensures seen { D.seen device.new ≡ D.seen device.old }
     ensures crash { (c : List ℕ) → D.may_leave device.new c → D.may_leave device.old c }
     ensures moments { LeavesOnly D.moment D.left_since device.old device.new (D.may_leave device.old) }
-    ensures quiet { IsOk result → D.faults device.new ≡ D.faults device.old }
+    ensures quiet { (result ≡ Err Refusal.DeviceFailed → ⊥) → D.faults device.new ≡ D.faults device.old }
     ensures cause { IfErr result (λ why. (why ≡ Refusal.NoMemory)
         ⊎ (((why ≡ Refusal.DeviceFailed) × (D.faults device.old < D.faults device.new))
         ⊎ ((at : ℕ) × (why ≡ Refusal.BadFormat at)))) }

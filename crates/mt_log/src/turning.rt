@@ -1,13 +1,14 @@
 // Another master slot comes to rule.
-ghost use Rattle.std.specs.Prelude.{◌≡◌, ◌+◌, ◌<◌, ◌≤◌, ◌^◌, ◌↔◌, ℕ, List, length, IfOk, IsTrue, OnOk};
+ghost use Rattle.std.specs.Prelude.{◌≡◌, ◌+◌, ◌<◌, ◌≤◌, ◌^◌, ◌↔◌, ℕ, List, length, IsTrue, OnOk};
 ghost use Rattle.mt_base.specs.declared.limits.TheConstants.{MASTER_BYTES};
-ghost use Rattle.mt_disk.specs.Disk.{Follows, Has, HasCause, LeavesOnly, Only, Torn, Wrote};
+ghost use Rattle.mt_disk.specs.Disk.{Follows, Has, HasCause, LeavesOnly, Only, Torn};
 ghost use Rattle.mt_frame.specs.SlotText.{IsSlot, slot_text};
-ghost use Rattle.mt_log.specs.Area.{TornFrom};
+ghost use Rattle.mt_log.specs.Fetch.{Reads};
 ghost use Rattle.mt_log.specs.Masters.{AreSlots, IsClosedAt, IsRuling, Rules};
-ghost use Rattle.mt_log.specs.Quiet.{OnlyReads};
-ghost use Rattle.mt_log.specs.NextSlot.{TurnsBeside, TurnsTo, next_slot};
+ghost use Rattle.mt_log.specs.NextSlot.{ClosesBeside, TurnsBeside, TurnsTo, next_slot};
 
+use crate::fetch::gate_is_open;
+use crate::lasting::write_durably;
 use crate::masters::{FIRST_SLOT, SECOND_SLOT};
 use mt_base::limits::MASTER_SLOT_BYTES;
 use mt_disk::{Device, DeviceFault};
@@ -27,44 +28,16 @@ pub fn slot_after(ruling: &MasterSlot) -> MasterSlot
     }
 }
 
-// Whether the gate at a place is closed: a read.
-fn is_closed<D: Device>(device: &mut D, at: u64) -> Result<bool, DeviceFault>
-    requires { at < length (D.seen device.old) }
-    ensures closed { IfOk result (λ closed. IsTrue closed ↔ IsClosedAt (D.seen device.old) at) }
-    ensures reads { OnlyReads D.seen D.may_leave D.moment D.left_since device.old device.new }
-    ensures cause { HasCause (D.faults device.old) (D.faults device.new) result }
-{
-    let mut gate = [CLOSED_GATE];
-    device.read(at, &mut gate)?;
-    Ok(gate[0] != OPEN_GATE)
-}
-
 // Whether the text of a slot stands at a place: a read.
 fn holds_slot<D: Device>(device: &mut D, at: u64, slot: &MasterSlot) -> Result<bool, DeviceFault>
     requires within { at + 17 ≤ length (D.seen device.old) }
     requires fits { IsSlot slot.now }
-    ensures holds { IfOk result (λ holds. IsTrue holds ↔ Has (D.seen device.old) at (slot_text slot.now)) }
-    ensures reads { OnlyReads D.seen D.may_leave D.moment D.left_since device.old device.new }
-    ensures cause { HasCause (D.faults device.old) (D.faults device.new) result }
+    ensures { Reads D.seen D.may_leave D.moment D.left_since D.faults
+        (λ holds. IsTrue holds ↔ Has (D.seen device.old) at (slot_text slot.now)) device.old device.new result }
 {
     let mut bytes = [0; MASTER_SLOT_BYTES];
     device.read(at, &mut bytes)?;
     Ok(bytes == encode_slot(slot))
-}
-
-// Makes bytes last at a place: a write and a sync.
-fn write_durably<D: Device>(device: &mut D, at: u64, bytes: &[u8]) -> Result<(), DeviceFault>
-    requires { at + length bytes.now ≤ length (D.seen device.old) }
-    ensures written { OnOk result (Wrote at bytes.now (D.seen device.old) (D.seen device.new)) }
-    ensures durable { OnOk result (Only (D.seen device.new) (D.may_leave device.new)) }
-    ensures moments { LeavesOnly D.moment D.left_since device.old device.new
-        (TornFrom (D.may_leave device.old) at (length bytes.now)) }
-    ensures elsewhere { Follows (Torn at (length bytes.now)) (D.may_leave device.old) (D.may_leave device.new) }
-    ensures rest { Torn at (length bytes.now) (D.seen device.old) (D.seen device.new) }
-    ensures cause { HasCause (D.faults device.old) (D.faults device.new) result }
-{
-    device.write_at(at, bytes)?;
-    device.sync()
 }
 
 // Closes the gate at `at`, beside the slot that rules at `other`. A gate that is closed is not written.
@@ -72,18 +45,9 @@ fn close_beside<D: Device>(device: &mut D, at: u64, other: u64) -> Result<(), De
     requires slots { AreSlots at other }
     requires rules { (ruling : MasterSlot) × Rules (D.seen device.old) other at ruling }
     requires durable { Only (D.seen device.old) (D.may_leave device.old) }
-    ensures closed { OnOk result (IsClosedAt (D.seen device.new) at) }
-    ensures rules { OnOk result ((ruling : MasterSlot) → Rules (D.seen device.old) other at ruling
-        → Rules (D.seen device.new) other at ruling) }
-    ensures durable { OnOk result (Only (D.seen device.new) (D.may_leave device.new)) }
-    ensures moments { (ruling : MasterSlot) → Rules (D.seen device.old) other at ruling
-        → LeavesOnly D.moment D.left_since device.old device.new (TurnsTo ruling (D.may_leave device.old)) }
-    ensures elsewhere { Follows (Torn 0 MASTER_BYTES) (D.may_leave device.old) (D.may_leave device.new) }
-    ensures rest { Torn 0 MASTER_BYTES (D.seen device.old) (D.seen device.new) }
-    ensures cause { HasCause (D.faults device.old) (D.faults device.new) result }
+    ensures { ClosesBeside D.seen D.may_leave D.moment D.left_since D.faults at other device.old device.new result }
 {
-    let closed = is_closed(device, at)?;
-    if closed {
+    if !gate_is_open(device, at)? {
         return Ok(());
     }
     write_durably(device, at, &[CLOSED_GATE])

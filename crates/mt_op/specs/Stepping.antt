@@ -5,6 +5,11 @@ use Rattle.mt_base.specs.declared.modes.Mode.{Mode}
 use Rattle.mt_base.specs.declared.refusal.Refusal.{Refusal}
 use Rattle.mt_base.specs.declared.refusal.Refusal.TheVariants as refusal
 use Rattle.mt_disk.specs.Disk.{LeavesOnly, HasCause}
+use Rattle.mt_frame.specs.Lengths.{record_length}
+use Rattle.mt_frame.specs.declared.records.LoggedOp.{LoggedOp}
+use Rattle.mt_frame.specs.declared.records.Record.{Record}
+use Rattle.mt_frame.specs.declared.records.Record.TheVariants.{OpEnd}
+use Rattle.mt_log.specs.Words as words
 use Rattle.mt_log.specs.Words.{appended, durable, used, area_size}
 use Rattle.mt_space.specs.Changes.{PageBytes, Agrees, AreShort}
 use Rattle.mt_space.specs.declared.changes.PageChange.{PageChange}
@@ -15,7 +20,7 @@ use Rattle.mt_steps.specs.Plans.{own_needs}
 use Rattle.mt_op.specs.World.{IsUnderWay, looked, changes_in}
 use Rattle.mt_op.specs.Operations.{world, IsRight, Goes, GoesOn, Steps, GivesBack, IsPlannedOn, HasBudget, IsAsFar, IsCause, claimed}
 use Rattle.mt_op.specs.Holds.{IsAnew, IsNext, AsksNothing, KeepsLocks, KeepsLocksOn, KeepsScope, KeepsScopeOn, IsHeld}
-use Rattle.mt_op.specs.Moves.{Leaves, PutsBack, Rests}
+use Rattle.mt_op.specs.Moves.{Leaves, Notes, PutsBack, Rests}
 use Rattle.mt_op.specs.Room.{HasFollowed, HasRooms}
 use Rattle.mt_op.specs.Records.{KeepsRecords, TellsDropped}
 use Rattle.mt_op.specs.Work.{Works, WorksOn, ComesTo}
@@ -209,6 +214,29 @@ pub record EndsOperation {D : Type 0} (seen : D → List ℕ) (may_leave : D →
   pub ready : OnOk r (t.stage ≡ Ready)
   pub ended : (r ≡ Ok stepped.Went → ⊥) × (r ≡ Ok stepped.Flush → ⊥)
   pub only_memory : IfErr r (λ why. why ≡ refusal.NoMemory)
+
+-- a record that is of no page is appended, or memory was refused and none is
+pub record AppendsRecord {D T : Type 0} (seen : D → List ℕ) (may_leave : D → List ℕ → Type 0) (o n : Operations D) (entry : Record) (r : Result T Refusal) : Type 0 where
+  pub kept : (opening : PageBytes) → IsKept seen may_leave opening o.store → IsKept seen may_leave opening n.store
+  pub notes : (opening : PageBytes) → OnOk r (Notes (world seen opening o) (world seen opening n) entry)
+  pub rests : (opening : PageBytes) → OnErr r (Rests (world seen opening o) (world seen opening n))
+  pub device : n.store.device ≡ o.store.device
+  pub pool : n.store.pool ≡ o.store.pool
+  pub map : n.map ≡ o.map
+  pub rooms : n.rooms ≡ o.rooms
+  pub locks : n.locks ≡ o.locks
+  pub used : OnOk r (words.used n.store.log ≡ words.used o.store.log + 5 + record_length entry)
+  pub err_used : OnErr r (words.used n.store.log ≡ words.used o.store.log)
+  pub area : area_size n.store.log ≡ area_size o.store.log
+  pub durable : words.durable n.store.log ≡ words.durable o.store.log
+  pub only_memory : IfErr r (λ why. why ≡ refusal.NoMemory)
+
+-- the end of an operation is appended, and its bytes are no longer left to it; or memory was refused
+pub record AppendsEnd {D T : Type 0} (seen : D → List ℕ) (may_leave : D → List ℕ → Type 0) (o n : Operations D) (s t : OpScope) (done : LoggedOp) (r : Result T Refusal) : Type 0 where
+  pub appends : AppendsRecord seen may_leave o n (OpEnd s.txn s.number s.undoes done) r
+  pub log : used n.store.log + t.left ≡ used o.store.log + s.left
+  pub scope : t ≡ record s { left = t.left }
+  pub same : OnErr r (t ≡ s)
 
 -- a page lock is asked for
 pub record AsksLock {D : Type 0} (seen : D → List ℕ) (o n : Operations D) (s t : OpScope) (page : ℕ) (mode : Mode) (r : Result Stepped Refusal) : Type 0 where

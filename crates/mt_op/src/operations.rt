@@ -1,5 +1,5 @@
 // The operations of one kernel over their pages.
-ghost use Rattle.std.specs.Prelude.{◌≡◌, ◌≢◌, ◌⊎◌, ◌<◌, ◌≤◌, ◌+◌, ◌*◌, ◌++◌, ◌∷◌, [], ℕ, length, get_or, replicate, false, true, Ok, if◌then◌else◌, IsOk, IsErr, IfOk, IfErr, OnOk, OnErr};
+ghost use Rattle.std.specs.Prelude.{◌≡◌, ◌≢◌, ◌⊎◌, ◌<◌, ◌≤◌, ◌+◌, ◌*◌, ◌++◌, ◌∷◌, [], ℕ, length, get_or, replicate, false, true, Ok, Err, if◌then◌else◌, IsOk, IsErr, IfOk, IfErr, OnOk, OnErr};
 ghost use Rattle.mt_base.specs.declared.limits.TheConstants.{OPERATION_LOG_BYTES};
 ghost use Rattle.mt_disk.specs.Disk.{LeavesOnly, HasCause};
 ghost use Rattle.mt_frame.specs.Grammar.{IsTxn, IsOp, IsRecord};
@@ -67,11 +67,11 @@ impl<D: Device + Drop> From<NotOpened<D>> for Refusal {
 }
 
 impl<D: Device + Drop> Operations<D> {
-    /// Operations over a store whose log has no record but the images that its area began with: none is under way.
-    /// Each page of records is looked at once, and it is noted how long a record it takes. Refusals are
-    /// [`Refusal::NoMemory`] and, where the device failed in this call, [`Refusal::DeviceFailed`]; each hands the
-    /// store back. Pages are read, and nothing is written or appended in any case: whatever a crash leaves meanwhile
-    /// explains the pages as before.
+    /// Operations over a store whose log has no record but the images that its area began with: none is under way. Each
+    /// page of records is looked at once, and it is noted how long a record it takes. Refusals are
+    /// [`Refusal::NoMemory`] and, if and only if the device failed in this call, [`Refusal::DeviceFailed`]; each hands
+    /// the store back. Pages are read, and nothing is written or appended in any case: whatever a crash leaves
+    /// meanwhile explains the pages as before.
     pub fn new(alloc: Global, store: Store<D>) -> Result<Operations<D>, NotOpened<D>>
         requires good { HasGoodOpening D.seen D.may_leave store }
         requires images { AreImages (appended store.log) }
@@ -87,6 +87,8 @@ impl<D: Device + Drop> Operations<D> {
         ensures quiet { IfOk result (λ operations. D.faults operations.store.device ≡ D.faults store.device) }
         ensures cause { IfErr result (λ gone. (gone.refusal ≡ Refusal.NoMemory)
             ⊎ (gone.refusal ≡ Refusal.DeviceFailed) × (D.faults store.device < D.faults gone.store.device)) }
+        ensures no_fault { IfErr result (λ gone. (gone.refusal ≡ Refusal.DeviceFailed → ⊥)
+            → D.faults gone.store.device ≡ D.faults store.device) }
     {
         let mut store = store;
         let (rooms, map) = match first_parts(alloc, &mut store) {
@@ -291,6 +293,7 @@ impl<D: Device> Operations<D> {
             → LeavesOnly D.moment D.left_since self.old.store.device self.new.store.device
             (Explains opening self.old.store) }
         ensures pool { self.new.store.pool ≡ self.old.store.pool }
+        ensures ruling { self.new.store.ruling ≡ self.old.store.ruling }
         ensures claimed { claimed self.new ≡ claimed self.old }
         ensures appended { appended self.new.store.log ≡ appended self.old.store.log }
         ensures step { IfOk result (λ forced. IsStep self.old.store.log forced self.new.store.log) }
@@ -380,7 +383,8 @@ fn first_parts<D: Device>(alloc: Global, store: &mut Store<D>) -> Result<(Rooms,
     requires free { IsFull store.old.pool → ⊥ }
     ensures begins { IfOk result (λ parts. BeginsParts D.seen store.old parts.0 parts.1) }
     ensures read { HasRead D.seen D.may_leave D.moment D.left_since store.old store.new }
-    ensures quiet { IsOk result → D.faults store.new.device ≡ D.faults store.old.device }
+    ensures quiet { (result ≡ Err Refusal.DeviceFailed → ⊥)
+        → D.faults store.new.device ≡ D.faults store.old.device }
     ensures cause { IfErr result (λ why. (why ≡ Refusal.NoMemory) ⊎ (why ≡ Refusal.DeviceFailed)
         × (D.faults store.old.device < D.faults store.new.device)) }
 {

@@ -1,24 +1,24 @@
 // Page writes of an operation, and its end.
-ghost use Rattle.std.specs.Prelude.{◌≡◌, ◌≢◌, ◌<◌, ◌≤◌, ◌+◌, ℕ, List, length, get_or, false, true, None, Some, IsSome, IfErr, IfOk, IfSome, OnErr, OnOk, Ok};
+ghost use Rattle.std.specs.Prelude.{◌≡◌, ◌≢◌, ◌<◌, ◌≤◌, ◌+◌, ℕ, List, length, get_or, false, true, None, Some, IsSome, IfErr, IfOk, IfSome};
 ghost use Rattle.mt_base.specs.declared.limits.TheConstants.{BATCH_HEAD_BYTES, LARGEST_OP_END, MAX_COUNTERS, MAX_RELATIONS, PAGE_BYTES};
-ghost use Rattle.mt_frame.specs.Grammar.{IsTxn, IsOp, IsOperation};
+ghost use Rattle.mt_frame.specs.Grammar.{IsTxn, IsOp, IsOperation, IsOfPage, IsRecord};
+ghost use Rattle.mt_frame.specs.Lengths.{record_length};
 ghost use Rattle.mt_frame.specs.History.{may_stand};
 ghost use Rattle.mt_pool.specs.Views.{IsThere};
 ghost use Rattle.mt_space.specs.declared.changes.PageChange.{PageChange};
 ghost use Rattle.mt_frame.specs.declared.records.Record.TheVariants.{OpEnd};
-ghost use Rattle.mt_log.specs.Words.{appended, durable, used, area_size};
+ghost use Rattle.mt_log.specs.Words.{appended, used, area_size};
 ghost use Rattle.mt_file.specs.Rooms.{fits_of};
 ghost use Rattle.mt_space.specs.Changes.{PageBytes, Agrees, after, AreShort};
 ghost use Rattle.mt_slots.specs.Page.{IsShaped};
 ghost use Rattle.mt_model.specs.Model.{IsWithin};
 ghost use Rattle.mt_steps.specs.Logged.{logged_of, HasSmallReply};
 ghost use Rattle.mt_steps.specs.Plans.{own_needs};
-ghost use Rattle.mt_pool.specs.Kept.{IsKept, HasOpening};
+ghost use Rattle.mt_pool.specs.Kept.{HasOpening};
 ghost use Rattle.mt_op.specs.World.{looked, changes_in};
-ghost use Rattle.mt_op.specs.Operations.{world, IsOneOf, IsOneWithin, HasBudget, claimed};
-ghost use Rattle.mt_op.specs.Stepping.{EndsOperation, GoesAhead, NotesEach, NotesLooked, WritesPage};
+ghost use Rattle.mt_op.specs.Operations.{IsOneOf, IsOneWithin, HasBudget, claimed};
+ghost use Rattle.mt_op.specs.Stepping.{AppendsEnd, AppendsRecord, EndsOperation, GoesAhead, NotesEach, NotesLooked, WritesPage};
 ghost use Rattle.mt_op.specs.declared.scope.Stage.TheVariants.{Writing, Ready};
-ghost use Rattle.mt_op.specs.Moves.{Rests, Notes};
 
 use crate::answers::Stepped;
 use crate::operations::Operations;
@@ -110,33 +110,29 @@ impl<D: Device> Operations<D> {
             (OpEnd scope.old.txn scope.old.number scope.old.undoes done) ≡ true }
         requires left { (BATCH_HEAD_BYTES + LARGEST_OP_END) ≤ scope.old.left }
         requires room { used self.old.store.log + scope.old.left < area_size self.old.store.log }
-        ensures kept { (opening : PageBytes) → IsKept D.seen D.may_leave opening self.old.store
-            → IsKept D.seen D.may_leave opening self.new.store }
-        ensures notes { (opening : PageBytes)
-            → OnOk result (Notes (world D.seen opening self.old) (world D.seen opening self.new)
-            (OpEnd scope.old.txn scope.old.number scope.old.undoes done)) }
-        ensures rests { (opening : PageBytes)
-            → OnErr result (Rests (world D.seen opening self.old) (world D.seen opening self.new)) }
-        ensures device { self.new.store.device ≡ self.old.store.device }
-        ensures pool { self.new.store.pool ≡ self.old.store.pool }
-        ensures map { self.new.map ≡ self.old.map }
-        ensures rooms { self.new.rooms ≡ self.old.rooms }
-        ensures locks { self.new.locks ≡ self.old.locks }
-        ensures log { used self.new.store.log + scope.new.left ≡ used self.old.store.log + scope.old.left }
-        ensures area { area_size self.new.store.log ≡ area_size self.old.store.log }
-        ensures durable { durable self.new.store.log ≡ durable self.old.store.log }
-        ensures scope { scope.new ≡ record scope.old { left = scope.new.left } }
-        ensures same { OnErr result (scope.new ≡ scope.old) }
-        ensures only_memory { IfErr result (λ why. why ≡ Refusal.NoMemory) }
+        ensures { AppendsEnd D.seen D.may_leave self.old self.new scope.old scope.new done result }
     {
         let before_end = self.store.log.used();
-        self.store.append(Record::OpEnd {
+        self.append_record(Record::OpEnd {
             txn: scope.txn,
             op: scope.number,
             undoes: scope.undoes,
             done,
         })?;
         scope.left = scope.left + before_end - self.store.log.used();
+        Ok(())
+    }
+
+    // Appends a record that is of no page. Where memory is refused nothing has changed.
+    pub(crate) fn append_record(&mut self, entry: Record) -> Result<(), Refusal>
+        requires kept { HasOpening D.seen D.may_leave self.old.store }
+        requires grammar { IsRecord entry }
+        requires no_page { IsOfPage entry → ⊥ }
+        requires rules { may_stand false (appended self.old.store.log) entry ≡ true }
+        requires fits { used self.old.store.log + 5 + record_length entry < area_size self.old.store.log }
+        ensures { AppendsRecord D.seen D.may_leave self.old self.new entry result }
+    {
+        self.store.append(entry)?;
         Ok(())
     }
 

@@ -1,5 +1,5 @@
 // What the pages held come to, where no operation is under way.
-ghost use Rattle.std.specs.Prelude.{◌≡◌, ◌⊎◌, ◌<◌, ◌≤◌, ◌+◌, ℕ, length, IsOk, IfOk, IfErr, OnOk};
+ghost use Rattle.std.specs.Prelude.{◌≡◌, ◌⊎◌, ◌<◌, ◌≤◌, ◌+◌, ℕ, length, Err, IfOk, IfErr, OnOk};
 ghost use Rattle.mt_base.specs.declared.limits.TheConstants.{MAX_RELATIONS, PAGE_BYTES};
 ghost use Rattle.mt_model.specs.Model.{Base as ModelBase};
 ghost use Rattle.mt_model.specs.Views.{base_of, counters_of, relations_of};
@@ -42,7 +42,8 @@ impl<D: Device> Operations<D> {
             → IfOk result (λ bytes. bytes ≡ held_in (world D.seen opening self.old) page) }
         ensures whole { IfOk result (λ bytes. length bytes ≡ PAGE_BYTES) }
         ensures read { OnlyReads D.seen D.may_leave D.moment D.left_since self.old self.new }
-        ensures quiet { IsOk result → D.faults self.new.store.device ≡ D.faults self.old.store.device }
+        ensures quiet { (result ≡ Err Refusal.DeviceFailed → ⊥)
+            → D.faults self.new.store.device ≡ D.faults self.old.store.device }
         ensures cause { IfErr result (λ why. (why ≡ Refusal.DeviceFailed)
             × (D.faults self.old.store.device < D.faults self.new.store.device)) }
     {
@@ -66,7 +67,8 @@ impl<D: Device> Operations<D> {
         ensures relations { relations_of base.new ≡ relations_of base.old }
         ensures counters { length (counters_of base.new) ≡ length (counters_of base.old) }
         ensures read { OnlyReads D.seen D.may_leave D.moment D.left_since self.old self.new }
-        ensures quiet { IsOk result → D.faults self.new.store.device ≡ D.faults self.old.store.device }
+        ensures quiet { (result ≡ Err Refusal.DeviceFailed → ⊥)
+            → D.faults self.new.store.device ≡ D.faults self.old.store.device }
         ensures cause { IfErr result (λ why. (why ≡ Refusal.NoMemory) ⊎ (why ≡ Refusal.DeviceFailed)
             × (D.faults self.old.store.device < D.faults self.new.store.device)) }
     {
@@ -90,7 +92,8 @@ impl<D: Device> Operations<D> {
         ensures relations { relations_of base.new ≡ relations_of base.old }
         ensures counters { length (counters_of base.new) ≡ length (counters_of base.old) }
         ensures read { OnlyReads D.seen D.may_leave D.moment D.left_since self.old self.new }
-        ensures quiet { IsOk result → D.faults self.new.store.device ≡ D.faults self.old.store.device }
+        ensures quiet { (result ≡ Err Refusal.DeviceFailed → ⊥)
+            → D.faults self.new.store.device ≡ D.faults self.old.store.device }
         ensures cause { IfErr result (λ why. (why ≡ Refusal.NoMemory) ⊎ (why ≡ Refusal.DeviceFailed)
             × (D.faults self.old.store.device < D.faults self.new.store.device)) }
     {
@@ -104,7 +107,8 @@ impl<D: Device> Operations<D> {
     /// once, from its frame or else from the device, so it answers however many pages are to be flushed. Nothing but the
     /// device's reads is done.
     ///
-    /// Refused with [`Refusal::NoMemory`], and with [`Refusal::DeviceFailed`] where the device failed in this call.
+    /// Refused with [`Refusal::DeviceFailed`] if and only if the device failed in this call, and with
+    /// [`Refusal::NoMemory`].
     pub fn survey(&mut self, alloc: Global) -> Result<Survey, Refusal>
         requires idle { ∥ ((relations : ℕ) × (relations ≤ MAX_RELATIONS)
             × IsIdle D.seen D.may_leave relations self.old) ∥₁ }
@@ -114,7 +118,8 @@ impl<D: Device> Operations<D> {
             → IfOk result (IsSurvey relations counters (pages self.old.store.pool)
             (held_in (world D.seen opening self.old)) held) }
         ensures read { OnlyReads D.seen D.may_leave D.moment D.left_since self.old self.new }
-        ensures quiet { IsOk result → D.faults self.new.store.device ≡ D.faults self.old.store.device }
+        ensures quiet { (result ≡ Err Refusal.DeviceFailed → ⊥)
+            → D.faults self.new.store.device ≡ D.faults self.old.store.device }
         ensures cause { IfErr result (λ why. (why ≡ Refusal.NoMemory) ⊎ (why ≡ Refusal.DeviceFailed)
             × (D.faults self.old.store.device < D.faults self.new.store.device)) }
     {

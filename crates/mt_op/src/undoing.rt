@@ -1,18 +1,14 @@
 // Taking an operation back, and the end of its locks.
-ghost use Rattle.std.specs.Prelude.{◌≡◌, ◌≢◌, ◌⊎◌, ◌<◌, ◌≤◌, ◌+◌, ◌-◌, ℕ, List, length, get_or, false, true, IfErr, OnErr, OnOk, Ok, Some, IsSome};
+ghost use Rattle.std.specs.Prelude.{◌≡◌, ◌≢◌, ◌⊎◌, ◌<◌, ◌≤◌, ◌+◌, ◌-◌, ℕ, List, length, get_or, IfErr, OnErr, OnOk, Ok, Some, IsSome};
 ghost use Rattle.mt_base.specs.declared.limits.TheConstants.{MAX_WRITTEN_PAGES, PAGE_BYTES};
 ghost use Rattle.mt_plock.specs.Releasing.{locks_of, locks_without};
 ghost use Rattle.mt_pool.specs.Views.{IsThere, IsFull, waits_for, pages};
 ghost use Rattle.mt_space.specs.declared.changes.PageChange.{PageChange};
 ghost use Rattle.mt_disk.specs.Disk.{LeavesOnly};
-ghost use Rattle.mt_frame.specs.Grammar.{IsRecord};
-ghost use Rattle.mt_frame.specs.History.{may_stand};
-ghost use Rattle.mt_frame.specs.declared.records.Record.TheVariants.{OpDropped};
 ghost use Rattle.mt_log.specs.Words.{appended, durable, used, area_size};
 ghost use Rattle.mt_space.specs.Changes.{PageBytes};
 ghost use Rattle.mt_pool.specs.Kept.{IsKept, HasOpening, Explains};
 ghost use Rattle.mt_op.specs.World.{IsUnderWay, changes_in, held_in, looked};
-ghost use Rattle.mt_op.specs.Moves.{Rests, Notes};
 ghost use Rattle.mt_op.specs.Operations.{world, IsRight, IsOneOf, Goes, HasBudget, IsCause, claimed};
 ghost use Rattle.mt_op.specs.declared.scope.Stage.TheVariants.{Planning, Writing, Ready, Taking, Cleared};
 ghost use Rattle.mt_op.specs.Faults.{TellsFaults};
@@ -117,38 +113,6 @@ impl<D: Device> Operations<D> {
         }
     }
 
-    // Appends the record that the operation was taken back. Where memory is refused nothing has changed.
-    fn append_dropped(&mut self, scope: &OpScope) -> Result<(), Refusal>
-        requires kept { HasOpening D.seen D.may_leave self.old.store }
-        requires grammar { IsRecord (OpDropped scope.now.txn scope.now.number) }
-        requires rules { may_stand false (appended self.old.store.log)
-            (OpDropped scope.now.txn scope.now.number) ≡ true }
-        requires room { used self.old.store.log + 22 < area_size self.old.store.log }
-        ensures kept { (opening : PageBytes) → IsKept D.seen D.may_leave opening self.old.store
-            → IsKept D.seen D.may_leave opening self.new.store }
-        ensures notes { (opening : PageBytes)
-            → OnOk result (Notes (world D.seen opening self.old) (world D.seen opening self.new)
-            (OpDropped scope.now.txn scope.now.number)) }
-        ensures rests { (opening : PageBytes)
-            → OnErr result (Rests (world D.seen opening self.old) (world D.seen opening self.new)) }
-        ensures device { self.new.store.device ≡ self.old.store.device }
-        ensures pool { self.new.store.pool ≡ self.old.store.pool }
-        ensures locks { self.new.locks ≡ self.old.locks }
-        ensures map { self.new.map ≡ self.old.map }
-        ensures rooms { self.new.rooms ≡ self.old.rooms }
-        ensures used { OnOk result (used self.new.store.log ≡ used self.old.store.log + 22) }
-        ensures err_used { OnErr result (used self.new.store.log ≡ used self.old.store.log) }
-        ensures area { area_size self.new.store.log ≡ area_size self.old.store.log }
-        ensures durable { durable self.new.store.log ≡ durable self.old.store.log }
-        ensures only_memory { IfErr result (λ why. why ≡ Refusal.NoMemory) }
-    {
-        self.store.append(Record::OpDropped {
-            txn: scope.txn,
-            op: scope.number,
-        })?;
-        Ok(())
-    }
-
     // Appends the record that the operation was taken back, and puts its last page back, which is in a frame.
     fn clear(&mut self, scope: &mut OpScope, page: PageNo) -> Result<TakenBack, Refusal>
         requires right { IsOneOf D.seen D.may_leave self.old scope.old }
@@ -163,7 +127,10 @@ impl<D: Device> Operations<D> {
         ensures back { PutsOneBack D.seen D.may_leave self.old self.new scope.old scope.new result }
     {
         let before = self.store.log.used();
-        self.append_dropped(scope)?;
+        self.append_record(Record::OpDropped {
+            txn: scope.txn,
+            op: scope.number,
+        })?;
         self.put_back(scope, page);
         scope.left = scope.left + before - self.store.log.used();
         scope.standing = 0;

@@ -1,6 +1,7 @@
 -- What a log and a pool know together of their device.
 use Rattle.std.specs.Prelude.{◌<◌, ◌≡◌, ℕ, ◌+◌, ◌*◌, ◌≤◌, List, length, map, false, Option, None, Some}
 use Rattle.mt_base.specs.declared.limits.TheConstants.{MASTER_BYTES, MAX_PAGES, PAGE_BYTES}
+use Rattle.mt_disk.specs.Disk.{Elapses, LeavesOnly}
 use Rattle.mt_frame.specs.declared.records.Record.{Record}
 use Rattle.mt_frame.specs.declared.records.Record.TheVariants.{Page, OpEnd, OpDropped, Commit, AbortEnd}
 use Rattle.mt_frame.specs.History.{some_record, is_of_page}
@@ -72,3 +73,18 @@ pub record IsKept {D : Type 0} (seen : D → List ℕ) (may_leave : D → List �
 -- it is kept for some pages, as they were when its area began
 abbrev pub HasOpening : {D : Type 0} → (D → List ℕ) → (D → List ℕ → Type 0) → Store D → Type 0
 HasOpening seen may_leave s = ∥ ((opening : ℕ → List ℕ) × IsKept seen may_leave opening s) ∥₁
+
+-- ---- what a call does
+
+-- it stays kept, for whatever pages it was
+abbrev pub StaysKept : {D : Type 0} → (D → List ℕ) → (D → List ℕ → Type 0) → Store D → Store D → Type 0
+StaysKept seen may_leave old new = (opening : ℕ → List ℕ) → IsKept seen may_leave opening old → IsKept seen may_leave opening new
+
+-- whenever a crash comes in it, what that leaves explains these pages
+abbrev pub ExplainsMeanwhile : {D : Type 0} → (D → List ℕ) → (D → List ℕ → Type 0) → (D → ℕ) → (D → ℕ → List ℕ → Type 0) → Store D → Store D → Type 0
+ExplainsMeanwhile seen may_leave moment left_since old new =
+    (opening : ℕ → List ℕ) → IsKept seen may_leave opening old → LeavesOnly moment left_since old.device new.device (Explains opening old)
+
+-- it calls the device once at most
+abbrev pub MakesOneCall : {D : Type 0} → (D → List ℕ → Type 0) → (D → ℕ) → (D → ℕ → List ℕ → Type 0) → D → D → Type 0
+MakesOneCall may_leave moment left_since d e = Elapses (moment d) (moment e) (left_since d) (left_since e) (may_leave e)

@@ -1,9 +1,14 @@
 -- What a store's log has of a change of one page.
-use Rattle.std.specs.Prelude.{◌≡◌, ◌≢◌, set, ℕ, ◌+◌, List, [], ◌∷◌, ◌++◌, Option, Some, None, false, ◌==◌, if◌then◌else◌}
+use Rattle.std.specs.Prelude.{◌≡◌, ◌≢◌, set, ℕ, ◌+◌, List, [], ◌∷◌, ◌++◌, Option, Some, None, false, ◌==◌, if◌then◌else◌, length, IfErr, IfOk, OnErr, OnOk, Result}
+use Rattle.std.specs.List.{AllByRecursion}
+use Rattle.mt_base.specs.declared.refusal.Refusal.{Refusal}
 use Rattle.mt_frame.specs.declared.records.Record.{Record}
-use Rattle.mt_frame.specs.History.{some_record, ends_txn, ends_op}
+use Rattle.mt_frame.specs.History.{MayFollow, some_record, ends_txn, ends_op}
 use Rattle.mt_frame.specs.Lengths.{record_length}
-use Rattle.mt_log.specs.Words.{durable, in_flight, waiting, stands_at}
+use Rattle.mt_log.specs.Holds.{HasItsPage}
+use Rattle.mt_log.specs.Sound.{IsSound}
+use Rattle.mt_log.specs.Words as words
+use Rattle.mt_log.specs.Words.{appended, area_size, durable, in_flight, waiting, stands_at}
 use Rattle.mt_log.specs.declared.log.Log.{Log}
 use Rattle.mt_base.specs.Edits.{patched}
 use Rattle.mt_base.specs.declared.edits.Edit.{Edit}
@@ -30,6 +35,17 @@ pub record IsLonger (log new : Log) (records : List Record) : Type 0 where
   pub durable_same : durable new ≡ durable log
   pub flying_same : in_flight new ≡ in_flight log
   pub waiting_more : waiting new ≡ waiting log ++ records
+
+-- these records are appended, all of them or none, and what is answered is the place of the last one
+pub record AppendsAll (log new : Log) (records : List Record) (r : Result ℕ Refusal) : Type 0 where
+  pub longer : OnOk r (IsLonger log new records)
+  pub used : OnOk r (words.used new ≡ words.used log + records_size records)
+  pub place : IfOk r (λ place. place ≡ length (appended new))
+  pub sound : (pages : ℕ) → IsSound pages log → AllByRecursion (HasItsPage pages) records → MayFollow false (appended log) records → IsSound pages new
+  pub err_longer : OnErr r (IsLonger log new [])
+  pub err_used : OnErr r (words.used new ≡ words.used log)
+  pub area : area_size new ≡ area_size log
+  pub only_memory : IfErr r (λ why. why ≡ Refusal.NoMemory)
 
 -- all edits of a page in a frame are made, and the page waits for the record at this place
 pub record IsEdited (old new : Pool) (page : ℕ) (edits : List Edit) (position : ℕ) : Type 0 where

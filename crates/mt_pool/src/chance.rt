@@ -1,5 +1,5 @@
 // Which page leaves its frame for another: second chance.
-ghost use Rattle.std.specs.Prelude.{◌≡◌, ◌<◌, ◌≤◌, ◌+◌, ℕ, length, get_or, IfSome, None, true, false};
+ghost use Rattle.std.specs.Prelude.{◌≡◌, ◌≤◌, ℕ, length, IfSome, None};
 
 use crate::Pool;
 
@@ -15,22 +15,14 @@ enum Passed {
 }
 
 impl Pool {
+    ghost use Rattle.mt_pool.specs.Chance.{IsClean, Passes};
     ghost use Rattle.mt_pool.specs.Views.{IsPool, IsFull, frames};
-    ghost use Rattle.mt_pool.specs.declared.chance.Passed.TheVariants as passed;
 
     /// The hand passes the frames from one to before another, up to the first that it can take.
     fn pass(&mut self, from: usize, to: usize) -> Passed
         requires pool { IsPool self.old }
         requires inside { to ≤ frames self.old }
-        ensures unused { (f : ℕ) → result ≡ passed.Unused f → (f < frames self.old)
-            × (get_or self.old.dirty.items f false ≡ false) }
-        ensures used { (f : ℕ) → result ≡ passed.Used f → (f < frames self.old)
-            × (get_or self.old.dirty.items f false ≡ false) }
-        ensures none { result ≡ passed.Dirty → (f : ℕ) → from ≤ f → f < to
-            → get_or self.old.dirty.items f false ≡ true }
-        ensures still { result ≡ passed.Dirty → self.new ≡ self.old }
-        ensures rest { (u : _) × (h : ℕ) × (self.new ≡ record self.old { used = u; hand = h })
-            × (length u.items ≡ frames self.old) × (h ≤ frames self.old) }
+        ensures { Passes self.old self.new from to result }
     {
         let mut clean = None;
         for frame in from..to {
@@ -53,7 +45,7 @@ impl Pool {
     /// passed it, else the last of them. `None` where there is none.
     pub(crate) fn victim(&mut self) -> Option<usize>
         requires pool { IsPool self.old }
-        ensures some { IfSome result (λ f. (f < frames self.old) × (get_or self.old.dirty.items f false ≡ false)) }
+        ensures some { IfSome result (IsClean self.old) }
         ensures none { result ≡ None → (IsFull self.old) × (self.new ≡ self.old) }
         ensures rest { (u : _) × (h : ℕ) × (self.new ≡ record self.old { used = u; hand = h })
             × (length u.items ≡ frames self.old) × (h ≤ frames self.old) }

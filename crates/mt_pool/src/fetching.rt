@@ -1,8 +1,8 @@
 // Pages come into frames.
-ghost use Rattle.std.specs.Prelude.{◌≡◌, ◌<◌, ◌≤◌, ◌+◌, ℕ, List, [], length, get_or, Ok, Some, None, OnOk};
+ghost use Rattle.std.specs.Prelude.{◌≡◌, ◌<◌, ℕ, List, length, get_or, Ok, None, OnOk};
 ghost use Rattle.mt_base.specs.declared.limits.TheConstants.{PAGE_BYTES};
-ghost use Rattle.mt_disk.specs.Disk.{Elapses, HasCause};
-ghost use Rattle.mt_pool.specs.Images.{slot};
+ghost use Rattle.mt_disk.specs.Disk.{HasCause};
+ghost use Rattle.mt_pool.specs.Kept.{MakesOneCall};
 
 use crate::Pool;
 use crate::slots::{index_of, read_page};
@@ -19,6 +19,7 @@ pub enum Fetched {
 }
 
 impl Pool {
+    ghost use Rattle.mt_pool.specs.Moves.{Installs};
     ghost use Rattle.mt_pool.specs.Views.{IsPool, Shows, IsFull, IsThere, view, pages, frames};
     ghost use Rattle.mt_pool.specs.declared.fetching.Fetched.TheVariants as fetched;
 
@@ -29,17 +30,7 @@ impl Pool {
         requires page { page < pages self.old }
         requires free { get_or self.old.holds.items frame None ≡ None }
         requires new { get_or self.old.of_page.items page None ≡ None }
-        ensures pool { IsPool self.new }
-        ensures shows { (seen : List ℕ) → Shows self.old seen
-            → get_or self.old.bytes.items frame [] ≡ slot self.old.place seen page → Shows self.new seen }
-        ensures views { (seen : List ℕ) → Shows self.old seen
-            → get_or self.old.bytes.items frame [] ≡ slot self.old.place seen page → (q : ℕ)
-            → view self.new seen q ≡ view self.old seen q }
-        ensures there { get_or self.new.of_page.items page None ≡ Some frame }
-        ensures waits { self.new.waits ≡ self.old.waits }
-        ensures pages { pages self.new ≡ pages self.old }
-        ensures flush { self.new.dirty ≡ self.old.dirty }
-        ensures place { self.new.place ≡ self.old.place }
+        ensures { Installs self.old self.new frame page }
     {
         self.of_page[index_of(page)] = Some(frame);
         self.holds[frame] = Some(page);
@@ -68,8 +59,7 @@ impl Pool {
         ensures exact { IsFull self.old → get_or self.old.of_page.items page None ≡ None → result ≡ Ok fetched.Flush }
         ensures seen { D.seen device.new ≡ D.seen device.old }
         ensures crash { (c : List ℕ) → D.may_leave device.new c → D.may_leave device.old c }
-        ensures time { Elapses (D.moment device.old) (D.moment device.new) (D.left_since device.old)
-            (D.left_since device.new) (D.may_leave device.new) }
+        ensures time { MakesOneCall D.may_leave D.moment D.left_since device.old device.new }
         ensures cause { HasCause (D.faults device.old) (D.faults device.new) result }
     {
         if let Some(frame) = self.frame_of(page) {
@@ -107,8 +97,7 @@ impl Pool {
         ensures whole { length bytes.new ≡ PAGE_BYTES }
         ensures seen { D.seen device.new ≡ D.seen device.old }
         ensures crash { (c : List ℕ) → D.may_leave device.new c → D.may_leave device.old c }
-        ensures time { Elapses (D.moment device.old) (D.moment device.new) (D.left_since device.old)
-            (D.left_since device.new) (D.may_leave device.new) }
+        ensures time { MakesOneCall D.may_leave D.moment D.left_since device.old device.new }
         ensures cause { HasCause (D.faults device.old) (D.faults device.new) result }
     {
         match self.frame_of(page) {

@@ -1,8 +1,7 @@
 // The slots of the pages on the device, 4096 bytes each, one behind the other.
-ghost use Rattle.std.specs.Prelude.{◌≡◌, ◌+◌, ◌*◌, ◌<◌, ◌≤◌, ◌^◌, ℕ, List, length, OnOk};
+ghost use Rattle.std.specs.Prelude.{◌≡◌, ◌+◌, ◌*◌, ◌<◌, ◌≤◌, ◌^◌, length};
 ghost use Rattle.mt_base.specs.declared.limits.TheConstants.{PAGE_BYTES};
-ghost use Rattle.mt_disk.specs.Disk.{Has, Torn, Follows, Elapses, HasCause};
-ghost use Rattle.mt_pool.specs.Images.{slot};
+ghost use Rattle.mt_pool.specs.Slots.{ReadsSlot, WritesSlot};
 
 use mt_base::PageNo;
 use mt_disk::{Device, DeviceFault};
@@ -31,14 +30,8 @@ pub(crate) fn write_page<D: Device>(
 ) -> Result<(), DeviceFault>
     requires fits { place + PAGE_BYTES * page < 2 ^ 64 }
     requires inside { place + PAGE_BYTES * page + PAGE_BYTES ≤ length (D.seen device.old) }
-    ensures size { length bytes.now ≡ PAGE_BYTES }
-    ensures written { OnOk result (Has (D.seen device.new) (place + PAGE_BYTES * page) bytes.now) }
-    ensures rest { Torn (place + PAGE_BYTES * page) PAGE_BYTES (D.seen device.old) (D.seen device.new) }
-    ensures crash { Follows (Torn (place + PAGE_BYTES * page) PAGE_BYTES)
-        (D.may_leave device.old) (D.may_leave device.new) }
-    ensures time { Elapses (D.moment device.old) (D.moment device.new) (D.left_since device.old)
-        (D.left_since device.new) (D.may_leave device.new) }
-    ensures cause { HasCause (D.faults device.old) (D.faults device.new) result }
+    ensures { WritesSlot D.seen D.may_leave D.moment D.left_since D.faults
+        place page bytes.now device.old device.new result }
 {
     device.write_at(slot_at(place, page), bytes)
 }
@@ -52,13 +45,8 @@ pub(crate) fn read_page<D: Device>(
 ) -> Result<(), DeviceFault>
     requires fits { place + PAGE_BYTES * page < 2 ^ 64 }
     requires inside { place + PAGE_BYTES * page + PAGE_BYTES ≤ length (D.seen device.old) }
-    ensures size { length bytes.new ≡ PAGE_BYTES }
-    ensures read { OnOk result (bytes.new ≡ slot place (D.seen device.old) page) }
-    ensures seen { D.seen device.new ≡ D.seen device.old }
-    ensures crash { (c : List ℕ) → D.may_leave device.new c → D.may_leave device.old c }
-    ensures time { Elapses (D.moment device.old) (D.moment device.new) (D.left_since device.old)
-        (D.left_since device.new) (D.may_leave device.new) }
-    ensures cause { HasCause (D.faults device.old) (D.faults device.new) result }
+    ensures { ReadsSlot D.seen D.may_leave D.moment D.left_since D.faults
+        place page bytes.new device.old device.new result }
 {
     device.read(slot_at(place, page), bytes)
 }

@@ -3,10 +3,10 @@ ghost use Rattle.std.specs.Prelude.{◌≡◌, ◌≢◌, ◌⊎◌, ◌<◌, �
 ghost use Rattle.mt_base.specs.declared.limits.TheConstants.{MASTER_BYTES, PAGE_BYTES};
 ghost use Rattle.mt_base.specs.Edits.{patched, log_size};
 ghost use Rattle.mt_base.specs.declared.refusal.Refusal.{Refusal};
-ghost use Rattle.mt_disk.specs.Disk.{Torn, Only, LeavesOnly, Elapses, HasCause};
+ghost use Rattle.mt_disk.specs.Disk.{Torn, LeavesOnly, HasCause};
 ghost use Rattle.mt_log.specs.Area.{TornFrom};
 ghost use Rattle.mt_log.specs.Masters.{IsRuling, area_size as size_of, area_start as start_of};
-ghost use Rattle.mt_pool.specs.Begun.{Begins, device_after};
+ghost use Rattle.mt_pool.specs.Begun.{MakesParts, device_after};
 ghost use Rattle.mt_frame.specs.Grammar.{IsRecord, IsOfPage, IsTxn, IsOp};
 ghost use Rattle.mt_frame.specs.History.{may_stand};
 ghost use Rattle.mt_frame.specs.Lengths.{record_length};
@@ -112,14 +112,8 @@ fn parts<D: Device>(
     ruling: &MasterSlot,
 ) -> Result<(Log, Pool), Refusal>
     requires { IsRuling (D.seen device.old) ruling.now }
-    ensures begun { IfOk result (λ parts. Begins D.seen D.may_leave ruling.now frames device.old
-        (record { device = device.new; log = parts.0; pool = parts.1; ruling = ruling.now; settled = 0 })) }
-    ensures cause { IfErr result (λ why. (why ≡ Refusal.NoMemory) ⊎ (why ≡ Refusal.DeviceFailed)
-        × (D.faults device.old < D.faults device.new)) }
-    ensures memory { IfErr result (λ why. why ≡ Refusal.NoMemory → D.seen device.new ≡ D.seen device.old) }
-    ensures moments { LeavesOnly D.moment D.left_since device.old device.new
-        (TornFrom (D.may_leave device.old) (start_of ruling.now) (size_of ruling.now)) }
-    ensures rest { Torn (start_of ruling.now) (size_of ruling.now) (D.seen device.old) (D.seen device.new) }
+    ensures { MakesParts D.seen D.may_leave D.moment D.left_since D.faults
+        ruling.now frames device.old device.new result }
 {
     let area = AreaPlace::named_by(ruling);
     let pool = Pool::new(alloc, frames, ruling.pages, MASTER_BYTES)?;
@@ -130,7 +124,7 @@ fn parts<D: Device>(
 
 impl<D: Device> Store<D> {
     ghost use Rattle.mt_space.specs.Changes.{IsShort};
-    ghost use Rattle.mt_pool.specs.Kept.{IsKept, HasOpening, Explains};
+    ghost use Rattle.mt_pool.specs.Kept.{ExplainsMeanwhile, HasOpening, MakesOneCall, StaysKept};
     ghost use Rattle.mt_frame.specs.PageRecords.{change_records, redone};
     ghost use Rattle.mt_pool.specs.Writes.{due_image, IsUnfinished};
     ghost use Rattle.mt_pool.specs.Views.{IsThere, IsFull, IsWaiting, Cleans, to_flush, view, pages, waits_for};
@@ -142,16 +136,13 @@ impl<D: Device> Store<D> {
     /// is durable stays.
     pub fn force_step(&mut self) -> Result<Forced, Refusal>
         requires kept { HasOpening D.seen D.may_leave self.old }
-        ensures kept { (opening : ℕ → List ℕ) → IsKept D.seen D.may_leave opening self.old
-            → IsKept D.seen D.may_leave opening self.new }
-        ensures moments { (opening : ℕ → List ℕ) → IsKept D.seen D.may_leave opening self.old
-            → LeavesOnly D.moment D.left_since self.old.device self.new.device (Explains opening self.old) }
-        // At most one device call.
-        ensures time { Elapses (D.moment self.old.device) (D.moment self.new.device) (D.left_since self.old.device)
-            (D.left_since self.new.device) (D.may_leave self.new.device) }
+        ensures kept { StaysKept D.seen D.may_leave self.old self.new }
+        ensures moments { ExplainsMeanwhile D.seen D.may_leave D.moment D.left_since self.old self.new }
+        ensures time { MakesOneCall D.may_leave D.moment D.left_since self.old.device self.new.device }
         ensures views { (q : ℕ) → q < pages self.old.pool
             → view self.new.pool (D.seen self.new.device) q ≡ view self.old.pool (D.seen self.old.device) q }
         ensures pool { self.new.pool ≡ self.old.pool }
+        ensures ruling { self.new.ruling ≡ self.old.ruling }
         ensures appended { appended self.new.log ≡ appended self.old.log }
         ensures step { IfOk result (λ forced. IsStep self.old.log forced self.new.log) }
         ensures moves { Moves self.old.log self.new.log }
@@ -183,13 +174,9 @@ impl<D: Device> Store<D> {
     /// may hold anything.
     pub fn flush_step(&mut self) -> Result<Flushed, DeviceFault>
         requires kept { HasOpening D.seen D.may_leave self.old }
-        ensures kept { (opening : ℕ → List ℕ) → IsKept D.seen D.may_leave opening self.old
-            → IsKept D.seen D.may_leave opening self.new }
-        ensures moments { (opening : ℕ → List ℕ) → IsKept D.seen D.may_leave opening self.old
-            → LeavesOnly D.moment D.left_since self.old.device self.new.device (Explains opening self.old) }
-        // At most one device call.
-        ensures time { Elapses (D.moment self.old.device) (D.moment self.new.device) (D.left_since self.old.device)
-            (D.left_since self.new.device) (D.may_leave self.new.device) }
+        ensures kept { StaysKept D.seen D.may_leave self.old self.new }
+        ensures moments { ExplainsMeanwhile D.seen D.may_leave D.moment D.left_since self.old self.new }
+        ensures time { MakesOneCall D.may_leave D.moment D.left_since self.old.device self.new.device }
         ensures views { (q : ℕ) → view self.new.pool (D.seen self.new.device) q ≡ view self.old.pool
             (D.seen self.old.device) q }
         ensures log { self.new.log ≡ self.old.log }
@@ -217,13 +204,9 @@ impl<D: Device> Store<D> {
     pub fn fetch(&mut self, page: PageNo) -> Result<Fetched, DeviceFault>
         requires kept { HasOpening D.seen D.may_leave self.old }
         requires inside { page < pages self.old.pool }
-        ensures kept { (opening : ℕ → List ℕ) → IsKept D.seen D.may_leave opening self.old
-            → IsKept D.seen D.may_leave opening self.new }
-        ensures moments { (opening : ℕ → List ℕ) → IsKept D.seen D.may_leave opening self.old
-            → LeavesOnly D.moment D.left_since self.old.device self.new.device (Explains opening self.old) }
-        // At most one device call.
-        ensures time { Elapses (D.moment self.old.device) (D.moment self.new.device) (D.left_since self.old.device)
-            (D.left_since self.new.device) (D.may_leave self.new.device) }
+        ensures kept { StaysKept D.seen D.may_leave self.old self.new }
+        ensures moments { ExplainsMeanwhile D.seen D.may_leave D.moment D.left_since self.old self.new }
+        ensures time { MakesOneCall D.may_leave D.moment D.left_since self.old.device self.new.device }
         ensures views { (q : ℕ) → view self.new.pool (D.seen self.new.device) q ≡ view self.old.pool
             (D.seen self.old.device) q }
         ensures there { result ≡ Ok fetched.There → IsThere self.new.pool page }
@@ -247,13 +230,9 @@ impl<D: Device> Store<D> {
     pub fn copy(&mut self, page: PageNo, bytes: &mut [u8; 4096]) -> Result<(), DeviceFault>
         requires kept { HasOpening D.seen D.may_leave self.old }
         requires inside { page < pages self.old.pool }
-        ensures kept { (opening : ℕ → List ℕ) → IsKept D.seen D.may_leave opening self.old
-            → IsKept D.seen D.may_leave opening self.new }
-        ensures moments { (opening : ℕ → List ℕ) → IsKept D.seen D.may_leave opening self.old
-            → LeavesOnly D.moment D.left_since self.old.device self.new.device (Explains opening self.old) }
-        // At most one device call.
-        ensures time { Elapses (D.moment self.old.device) (D.moment self.new.device) (D.left_since self.old.device)
-            (D.left_since self.new.device) (D.may_leave self.new.device) }
+        ensures kept { StaysKept D.seen D.may_leave self.old self.new }
+        ensures moments { ExplainsMeanwhile D.seen D.may_leave D.moment D.left_since self.old self.new }
+        ensures time { MakesOneCall D.may_leave D.moment D.left_since self.old.device self.new.device }
         ensures copied { OnOk result (bytes.new ≡ view self.old.pool (D.seen self.old.device) page) }
         ensures whole { length bytes.new ≡ PAGE_BYTES }
         ensures seen { D.seen self.new.device ≡ D.seen self.old.device }
@@ -271,10 +250,8 @@ impl<D: Device> Store<D> {
         requires inside { page < pages self.old.pool }
         requires range { start + length before.now ≤ PAGE_BYTES }
         requires logged { 0 < waits_for self.old.pool page }
-        ensures kept { (opening : ℕ → List ℕ) → IsKept D.seen D.may_leave opening self.old
-            → IsKept D.seen D.may_leave opening self.new }
-        ensures moments { (opening : ℕ → List ℕ) → IsKept D.seen D.may_leave opening self.old
-            → LeavesOnly D.moment D.left_since self.old.device self.new.device (Explains opening self.old) }
+        ensures kept { StaysKept D.seen D.may_leave self.old self.new }
+        ensures moments { ExplainsMeanwhile D.seen D.may_leave D.moment D.left_since self.old self.new }
         ensures view { (seen : List ℕ) → view self.new.pool seen page ≡ take start (view self.old.pool seen page)
             ++ before.now ++ drop (start + length before.now) (view self.old.pool seen page) }
         ensures others { (seen : List ℕ) (q : ℕ) → q ≢ page → view self.new.pool seen q ≡ view self.old.pool seen q }
@@ -294,10 +271,8 @@ impl<D: Device> Store<D> {
         requires no_page { IsOfPage entry → ⊥ }
         requires rules { may_stand false (appended self.old.log) entry ≡ true }
         requires fits { used self.old.log + 5 + record_length entry < area_size self.old.log }
-        ensures kept { (opening : ℕ → List ℕ) → IsKept D.seen D.may_leave opening self.old
-            → IsKept D.seen D.may_leave opening self.new }
-        ensures moments { (opening : ℕ → List ℕ) → IsKept D.seen D.may_leave opening self.old
-            → LeavesOnly D.moment D.left_since self.old.device self.new.device (Explains opening self.old) }
+        ensures kept { StaysKept D.seen D.may_leave self.old self.new }
+        ensures moments { ExplainsMeanwhile D.seen D.may_leave D.moment D.left_since self.old self.new }
         ensures appended { OnOk result (appended self.new.log ≡ appended self.old.log ++ entry ∷ []) }
         ensures place { IfOk result (λ place. place ≡ length (appended self.new.log)) }
         ensures used { OnOk result (used self.new.log ≡ used self.old.log + 5 + record_length entry) }
@@ -334,10 +309,8 @@ impl<D: Device> Store<D> {
         requires numbers { IsTxn txn × IsOp op }
         requires unfinished { IsUnfinished txn op (appended self.old.log) }
         requires fits { used self.old.log + log_size change.now.edits.items + PAGE_BYTES < area_size self.old.log }
-        ensures kept { (opening : ℕ → List ℕ) → IsKept D.seen D.may_leave opening self.old
-            → IsKept D.seen D.may_leave opening self.new }
-        ensures moments { (opening : ℕ → List ℕ) → IsKept D.seen D.may_leave opening self.old
-            → LeavesOnly D.moment D.left_since self.old.device self.new.device (Explains opening self.old) }
+        ensures kept { StaysKept D.seen D.may_leave self.old self.new }
+        ensures moments { ExplainsMeanwhile D.seen D.may_leave D.moment D.left_since self.old self.new }
         ensures view { OnOk result ((seen : List ℕ)
             → view self.new.pool seen change.now.page ≡ patched change.now.edits.items
             (view self.old.pool seen change.now.page)) }
@@ -372,61 +345,5 @@ impl<D: Device> Store<D> {
         let place = append_all(&mut self.log, records)?;
         self.pool.change_all(change.page, &change.edits, place);
         Ok(())
-    }
-
-    /// Makes all writes so far last, as [`Device::sync`] does. After an error a crash may leave no more than before.
-    pub fn sync(&mut self) -> Result<(), DeviceFault>
-        requires kept { HasOpening D.seen D.may_leave self.old }
-        ensures kept { (opening : ℕ → List ℕ) → IsKept D.seen D.may_leave opening self.old
-            → IsKept D.seen D.may_leave opening self.new }
-        ensures moments { (opening : ℕ → List ℕ) → IsKept D.seen D.may_leave opening self.old
-            → LeavesOnly D.moment D.left_since self.old.device self.new.device (Explains opening self.old) }
-        ensures synced { OnOk result (Only (D.seen self.new.device) (D.may_leave self.new.device)) }
-        ensures seen { D.seen self.new.device ≡ D.seen self.old.device }
-        ensures log { self.new.log ≡ self.old.log }
-        ensures pool { self.new.pool ≡ self.old.pool }
-        ensures cause { HasCause (D.faults self.old.device) (D.faults self.new.device) result }
-    {
-        self.device.sync()
-    }
-
-    /// One device call more on the way to where every page is in its slot. A page is written in place, or the log is
-    /// forced a step where each has to wait for its records. `false` tells that nothing was left to do. Then a
-    /// [`Store::sync`] makes the slots last. The only refusal is [`Refusal::DeviceFailed`], where the device failed
-    /// in this call or in an earlier force.
-    pub fn write_back_step(&mut self) -> Result<bool, Refusal>
-        requires kept { HasOpening D.seen D.may_leave self.old }
-        ensures kept { (opening : ℕ → List ℕ) → IsKept D.seen D.may_leave opening self.old
-            → IsKept D.seen D.may_leave opening self.new }
-        ensures moments { (opening : ℕ → List ℕ) → IsKept D.seen D.may_leave opening self.old
-            → LeavesOnly D.moment D.left_since self.old.device self.new.device (Explains opening self.old) }
-        // At most one device call.
-        ensures time { Elapses (D.moment self.old.device) (D.moment self.new.device) (D.left_since self.old.device)
-            (D.left_since self.new.device) (D.may_leave self.new.device) }
-        ensures views { (q : ℕ) → q < pages self.old.pool
-            → view self.new.pool (D.seen self.new.device) q ≡ view self.old.pool (D.seen self.old.device) q }
-        ensures there { self.new.pool.of_page ≡ self.old.pool.of_page }
-        ensures waits { self.new.pool.waits ≡ self.old.pool.waits }
-        ensures used { used self.new.log ≤ used self.old.log }
-        ensures area { area_size self.new.log ≡ area_size self.old.log }
-        ensures done { result ≡ Ok false → (q : ℕ) → q < pages self.old.pool
-            → slot self.new.pool.place (D.seen self.new.device) q ≡ view self.new.pool (D.seen self.new.device) q }
-        ensures more { result ≡ Ok true → (to_flush self.new.pool + 1 ≡ to_flush self.old.pool)
-            ⊎ ((length (durable self.old.log) < length (appended self.old.log)) × (forced : Forced)
-            × IsStep self.old.log forced self.new.log) }
-        ensures appended { appended self.new.log ≡ appended self.old.log }
-        ensures cause { IsErr result → (D.faults self.old.device < D.faults self.new.device
-            ⊎ (has_failed self.old.log ≡ true)) }
-        ensures quiet { IsOk result → D.faults self.new.device ≡ D.faults self.old.device }
-        ensures only_device { IfErr result (λ why. why ≡ Refusal.DeviceFailed) }
-    {
-        match self.flush_step()? {
-            Flushed::Page(_) => Ok(true),
-            Flushed::Force => {
-                self.force_step()?;
-                Ok(true)
-            }
-            Flushed::Clean => Ok(false),
-        }
     }
 }

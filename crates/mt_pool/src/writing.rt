@@ -1,16 +1,12 @@
 // A change of a page as records of the log.
-ghost use Rattle.std.specs.Prelude.{◌≡◌, ◌≤◌, ◌<◌, ◌+◌, ℕ, List, length, [], false, All, IfOk, IfErr, OnOk, OnErr};
+ghost use Rattle.std.specs.Prelude.{◌≡◌, ◌≤◌, ◌<◌, ◌+◌, ℕ, List, length, All, IfOk, OnOk};
 ghost use Rattle.std.specs.List.{AllByRecursion};
 ghost use Rattle.mt_base.specs.declared.limits.TheConstants.{BATCH_HEAD_BYTES, LARGEST_PAGE_RECORD, PAGE_BYTES};
 ghost use Rattle.mt_base.specs.Edits.{patched};
-ghost use Rattle.mt_base.specs.declared.refusal.Refusal.{Refusal};
 ghost use Rattle.mt_frame.specs.Grammar.{IsRecord};
-ghost use Rattle.mt_frame.specs.History.{MayFollow};
-ghost use Rattle.mt_log.specs.Holds.{HasItsPage};
-ghost use Rattle.mt_log.specs.Sound.{IsSound};
-ghost use Rattle.mt_log.specs.Words.{waiting, appended, used, area_size};
+ghost use Rattle.mt_log.specs.Words.{used, area_size};
 ghost use Rattle.mt_frame.specs.PageRecords.{range_record, change_records};
-ghost use Rattle.mt_pool.specs.Writes.{records_size, IsLonger};
+ghost use Rattle.mt_pool.specs.Writes.{AppendsAll, records_size};
 
 use crate::Pool;
 use mt_base::limits::LARGEST_PAGE_RECORD;
@@ -147,15 +143,7 @@ pub(crate) fn append_all(log: &mut Log, records: VecDeque<Record>) -> Result<Log
     requires grammar { AllByRecursion IsRecord records.items }
     requires fits { used log.old + records_size records.items < area_size log.old }
     requires short { records_size records.items ≤ (BATCH_HEAD_BYTES + LARGEST_PAGE_RECORD) }
-    ensures longer { OnOk result (IsLonger log.old log.new records.items) }
-    ensures used { OnOk result (used log.new ≡ used log.old + records_size records.items) }
-    ensures place { IfOk result (λ place. place ≡ length (appended log.new)) }
-    ensures sound { (pages : ℕ) → IsSound pages log.old → AllByRecursion (HasItsPage pages) records.items
-        → MayFollow false (appended log.old) records.items → IsSound pages log.new }
-    ensures err_longer { OnErr result (IsLonger log.old log.new []) }
-    ensures err_used { OnErr result (used log.new ≡ used log.old) }
-    ensures area { area_size log.new ≡ area_size log.old }
-    ensures only_memory { IfErr result (λ why. why ≡ Refusal.NoMemory) }
+    ensures { AppendsAll log.old log.new records.items result }
 {
     let mut records = records;
     let mut place = LogPos::new(0);

@@ -11,3 +11,4 @@ pub mod Refused
 pub mod Checks
 pub mod Faults
 pub mod Naming
+pub mod Reads

@@ -1,7 +1,6 @@
 // The pages that a log's area found: each is its first image in the area, or else what its slot has.
-ghost use Rattle.std.specs.Prelude.{◌≡◌, ◌⊎◌, ◌+◌, ◌*◌, ◌<◌, ◌≤◌, ◌^◌, ◌∷◌, [], ℕ, length, get_or, IfOk, IfErr, OnOk, IsOk};
+ghost use Rattle.std.specs.Prelude.{◌≡◌, ◌+◌, ◌*◌, ◌≤◌, ◌∷◌, [], length, OnOk};
 ghost use Rattle.mt_base.specs.declared.limits.TheConstants.{MASTER_BYTES, PAGE_BYTES};
-ghost use Rattle.mt_base.specs.declared.refusal.Refusal.{Refusal};
 ghost use Rattle.mt_frame.specs.Grammar.{IsRecord};
 ghost use Rattle.mt_log.specs.Batch.{joined};
 ghost use Rattle.mt_log.specs.Found.{records_of};
@@ -9,6 +8,7 @@ ghost use Rattle.mt_log.specs.Holds.{AreRecords, AreBatches, HasItsPage};
 ghost use Rattle.mt_log.specs.Quiet.{OnlyReads};
 ghost use Rattle.mt_disk.specs.Disk.{HasCause};
 ghost use Rattle.mt_pool.specs.Images.{slot};
+ghost use Rattle.mt_replay.specs.Reads.{AreOfSlots, ReadsPages};
 ghost use Rattle.mt_replay.specs.Memory.{AreWhole};
 ghost use Rattle.mt_replay.specs.Passes.{Lays};
 
@@ -84,14 +84,8 @@ pub(crate) fn read_slots<D: Device>(
     count: u16,
 ) -> Result<Vec<[u8; 4096]>, Refusal>
     requires { MASTER_BYTES + PAGE_BYTES * count ≤ length (D.seen device.old) }
-    ensures whole { IfOk result (λ pages. AreWhole pages.items) }
-    ensures count { IfOk result (λ pages. length pages.items ≡ count) }
-    ensures read { IfOk result (λ pages. (p : ℕ) → p < count
-        → get_or pages.items p [] ≡ slot MASTER_BYTES (D.seen device.old) p) }
-    ensures reads { OnlyReads D.seen D.may_leave D.moment D.left_since device.old device.new }
-    ensures quiet { IsOk result → D.faults device.new ≡ D.faults device.old }
-    ensures cause { IfErr result (λ why. (why ≡ Refusal.NoMemory) ⊎ (why ≡ Refusal.DeviceFailed)
-        × (D.faults device.old < D.faults device.new)) }
+    ensures { ReadsPages D.seen D.may_leave D.moment D.left_since D.faults count (AreOfSlots count (D.seen device.old))
+        device.old device.new result }
 {
     let mut pages = Vec::with_capacity(alloc, usize::from(count))?;
     for page in 0..count {

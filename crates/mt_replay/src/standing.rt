@@ -1,5 +1,5 @@
 // From the bytes of a device to the pages that they stand for.
-ghost use Rattle.std.specs.Prelude.{◌≡◌, ◌⊎◌, ◌<◌, ◌≤◌, ℕ, List, ◌^◌, length, IfOk, IfErr, IsOk};
+ghost use Rattle.std.specs.Prelude.{◌≡◌, ◌⊎◌, ◌<◌, ◌≤◌, ℕ, List, ◌^◌, length, IfOk, IfErr, Err};
 ghost use Rattle.mt_base.specs.declared.limits.TheConstants.{MAX_PAGES};
 ghost use Rattle.mt_base.specs.declared.refusal.Refusal.{Refusal};
 ghost use Rattle.mt_disk.specs.Disk.{LeavesOnly};
@@ -42,7 +42,7 @@ pub struct Replayed {
 /// The batches of the log area that the ruling slot names, in their order, each at its place. The device is only read,
 /// and its content is as before in any case.
 ///
-/// Refusals are [`Refusal::NoMemory`]; [`Refusal::DeviceFailed`], where the device failed in this call; and
+/// Refusals are [`Refusal::NoMemory`]; [`Refusal::DeviceFailed`], if and only if the device failed in this call; and
 /// [`Refusal::BadFormat`] with the place where a batch breaks a rule, as [`scan`] says.
 pub fn read_area<D: Device>(
     alloc: Global,
@@ -59,7 +59,7 @@ pub fn read_area<D: Device>(
         → IfErr result (λ why. (why ≡ Refusal.NoMemory) ⊎ (why ≡ Refusal.DeviceFailed)) }
     ensures few { IfOk result (λ batches. length (joined (records_of batches.items)) < 2 ^ 32) }
     ensures reads { OnlyReads D.seen D.may_leave D.moment D.left_since device.old device.new }
-    ensures quiet { IsOk result → D.faults device.new ≡ D.faults device.old }
+    ensures quiet { (result ≡ Err Refusal.DeviceFailed → ⊥) → D.faults device.new ≡ D.faults device.old }
     ensures cause { IfErr result (λ why. (why ≡ Refusal.NoMemory)
         ⊎ (((why ≡ Refusal.DeviceFailed) × (D.faults device.old < D.faults device.new))
         ⊎ ((at : ℕ) × (why ≡ Refusal.BadFormat at) × BreaksAt (D.seen device.old) (area_start ruling.now)
@@ -100,7 +100,7 @@ fn undone(alloc: Global, pages: Vec<[u8; 4096]>, losers: &[Loser]) -> Result<Res
 /// Any bytes are read. Where they are answered, the pages break no rule of their formats and of the index, those held
 /// and those that the losers' inverses leave.
 ///
-/// Refusals are [`Refusal::NoMemory`], and [`Refusal::DeviceFailed`], where the device failed in this call.
+/// Refusals are [`Refusal::NoMemory`], and [`Refusal::DeviceFailed`], if and only if the device failed in this call.
 /// [`Refusal::NotFormatted`] is answered if and only if it is shorter than 8192 bytes or no master slot is open, and
 /// no read failed. [`Refusal::BadFormat`] has a place where a rule is broken. It is that of a slot or a batch as
 /// [`ruling_slot`] and [`scan`] say, or of the slot of a page. Or it is that of the batch of a loser whose inverse
@@ -122,7 +122,7 @@ pub fn replay<D: Device>(alloc: Global, device: &mut D) -> Result<Replayed, Refu
     ensures seen { D.seen device.new ≡ D.seen device.old }
     ensures crash { (c : List ℕ) → D.may_leave device.new c → D.may_leave device.old c }
     ensures moments { LeavesOnly D.moment D.left_since device.old device.new (D.may_leave device.old) }
-    ensures quiet { IsOk result → D.faults device.new ≡ D.faults device.old }
+    ensures quiet { (result ≡ Err Refusal.DeviceFailed → ⊥) → D.faults device.new ≡ D.faults device.old }
 {
     let ruling = ruling_slot(device)?;
     let batches = read_area(alloc, device, &ruling)?;
@@ -140,7 +140,7 @@ pub fn replay<D: Device>(alloc: Global, device: &mut D) -> Result<Replayed, Refu
 /// What the log of a device comes to: the ruling slot, and the figures of the batches of the area that it names. No
 /// page is looked at.
 ///
-/// Refusals are [`Refusal::NoMemory`]; [`Refusal::DeviceFailed`], where the device failed in this call;
+/// Refusals are [`Refusal::NoMemory`]; [`Refusal::DeviceFailed`], if and only if the device failed in this call;
 /// [`Refusal::NotFormatted`] and [`Refusal::BadFormat`] of a slot or a batch, as [`ruling_slot`] and [`scan`] say. The
 /// device is only read, and its content is as before in any case.
 pub fn read_log<D: Device>(alloc: Global, device: &mut D) -> Result<(MasterSlot, Figures), Refusal>
@@ -155,7 +155,7 @@ pub fn read_log<D: Device>(alloc: Global, device: &mut D) -> Result<(MasterSlot,
     ensures seen { D.seen device.new ≡ D.seen device.old }
     ensures crash { (c : List ℕ) → D.may_leave device.new c → D.may_leave device.old c }
     ensures moments { LeavesOnly D.moment D.left_since device.old device.new (D.may_leave device.old) }
-    ensures quiet { IsOk result → D.faults device.new ≡ D.faults device.old }
+    ensures quiet { (result ≡ Err Refusal.DeviceFailed → ⊥) → D.faults device.new ≡ D.faults device.old }
 {
     let ruling = ruling_slot(device)?;
     let batches = read_area(alloc, device, &ruling)?;

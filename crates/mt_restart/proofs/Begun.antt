@@ -80,6 +80,7 @@ begun seen may s frames store l p settled ruling f only =
       shows = λ q lt. p.views (seen d) q;
       empty = ap (λ (rs : List Record). rs ++ (in_flight store.log ++ waiting store.log)) l.none ∙ ap (λ (rs : List Record). rs ++ waiting store.log) l.flying ∙ l.waits;
       head = l.head;
+      well = l.well;
       size = l.size;
       page_count = n;
       many = p.many;

@@ -1,5 +1,5 @@
 -- What device calls leave.
-use Rattle.std.proofs.Common.{◌≡◌, ◌∙◌, sym, ℕ, ◌+◌, ◌≤◌, Bool, true, false, List, Result, Ok, Err, OnOk}
+use Rattle.std.proofs.Common.{◌≡◌, ◌∙◌, ap, sym, ℕ, ◌+◌, ◌≤◌, Bool, true, false, List, Result, Ok, Err, OnOk}
 use Rattle.mt_base.specs.declared.refusal.Refusal.{Refusal}
 use Rattle.mt_disk.proofs.Frame.{torn_refl, torn_within, torn_trans, follows_trans}
 use Rattle.mt_restart.specs.Formats.{Tears}
@@ -46,3 +46,10 @@ module _ {D : Type 0} (seen : D → List ℕ) (may : D → List ℕ → Type 0) 
     now = torn_within at n start size (seen old) (seen new) t.now low high;
     later = λ c left. let from = t.later c left in (from.0, from.1, torn_within at n start size from.0 c from.2 low high);
   }
+
+-- a call that is refused as another one was
+pub not_either : {T U : Type 0} (why other : Refusal) → (◌≡◌ {A = Result T Refusal} (Err why) (Err other) → ⊥) → ◌≡◌ {A = Result U Refusal} (Err why) (Err other) → ⊥
+not_either why other not e = not (ap Err (same why other e))
+  where
+    same : {V : Type 0} (w x : Refusal) → ◌≡◌ {A = Result V Refusal} (Err w) (Err x) → w ≡ x
+    same w x e = cc

@@ -10,7 +10,7 @@ use Rattle.mt_frame.specs.Grammar.{body_text}
 use Rattle.mt_log.specs.Batch.{Scans, joined}
 use Rattle.mt_log.specs.Masters.{IsRuling, area_end, area_size, area_start}
 use Rattle.mt_log.specs.Sound.{IsSound}
-use Rattle.mt_log.specs.Words.{area_size as log_size, area_start as log_start, durable, durable_batches, in_flight, used, waiting, IsOn}
+use Rattle.mt_log.specs.Words.{area_size as log_size, area_start as log_start, durable, durable_batches, has_failed, in_flight, used, waiting, IsOn}
 use Rattle.mt_log.specs.declared.log.Log.{Log}
 use Rattle.mt_log.proofs.Elsewhere.{on_elsewhere}
 use Rattle.mt_pool.specs.Images.{slot}
@@ -52,8 +52,8 @@ unfolding durable durable_batches
 durable_one log images is = ap joined is ∙ append-nil images
 
 pub next_log : {D : Type 0} (seen : D → List ℕ) (may : D → List ℕ → Type 0) (ruling : MasterSlot) (images : List Record) (device : D) (log : Log) → IsOn seen may log device → log_start log ≡ area_start (next_slot ruling) → log_size log ≡ area_size ruling
-    → durable_batches log ≡ images ∷ [] → in_flight log ≡ [] → waiting log ≡ [] → used log ≡ 5 + length (body_text images) → IsSound ruling.pages log → IsNextLog seen may ruling images device log
-next_log seen may ruling images device log on start size batches flying waits head sound = record {
+    → durable_batches log ≡ images ∷ [] → in_flight log ≡ [] → waiting log ≡ [] → used log ≡ 5 + length (body_text images) → has_failed log ≡ false → IsSound ruling.pages log → IsNextLog seen may ruling images device log
+next_log seen may ruling images device log on start size batches flying waits head well sound = record {
   on = on;
   start = start;
   size = size;
@@ -61,6 +61,7 @@ next_log seen may ruling images device log on start size batches flying waits he
   flying = flying;
   waits = waits;
   head = head;
+  well = well;
   sound = sound;
 }
 
@@ -149,7 +150,7 @@ module _ {D : Type 0} (seen : D → List ℕ) (may : D → List ℕ → Type 0) 
 
     pub turned : may s (seen s) → Only (seen u) (may u) → HasTurned seen may ruling items m.images.items u log
     turned here only = record {
-      next = record { on = on_placed; start = b.next.start; size = b.next.size; durable_is = b.next.durable_is; flying = b.next.flying; waits = b.next.waits; head = b.next.head; sound = b.next.sound };
+      next = record { on = on_placed; start = b.next.start; size = b.next.size; durable_is = b.next.durable_is; flying = b.next.flying; waits = b.next.waits; head = b.next.head; well = b.next.well; sound = b.next.sound };
       only = only;
       slots = slots_placed;
       read = read_placed here;

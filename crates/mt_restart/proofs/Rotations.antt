@@ -45,6 +45,8 @@ use Rattle.mt_txn.specs.declared.kernel.Kernel.{Kernel}
 use Rattle.mt_restart.specs.Beside.{IsBeside}
 use Rattle.mt_restart.specs.declared.beside.Beside.{Beside}
 use Rattle.mt_restart.specs.Recovered.{IsCauseToStop, StandsStill}
+use Rattle.mt_restart.specs.declared.rotating.NotRotated.{NotRotated}
+use Rattle.mt_restart.specs.declared.rotating.NotRotated.TheVariants.{Kept}
 use Rattle.mt_restart.specs.Rotated.{GoesOver, Grows, IsEndCause, IsForceCause, Keeps, StandsForBook, early_cause}
 
 -- ---- the log
@@ -234,3 +236,16 @@ pub stands_before : {D : Type 0} {g : Ghosts D} (seen : D → List ℕ) (may_lea
 stands_before seen may_leave k m first why device nobody still stays schema starts later stands other c left =
     ∥∥₁_elim (same_commits seen may_leave k m first nobody still starts stays) ∥∥₁_prop (λ same.
     ∥∥₁_map (stands other c left) (λ can. subst (λ (X : Type 0). X) (λ i. CanRestart (schema.0 i) (schema.1 i) c (after first (same.1 i))) can))
+
+-- there is one first cause, with which the kernel is handed back as it was
+pub handed_back : {D : Type 0} {g : Ghosts D} (k : Kernel D g) (why : Refusal) → early_cause k ≡ Some why → (other : Refusal) → early_cause k ≡ Some other → ◌≡◌ {A = Result (Kernel D g) (NotRotated D g)} (Err (Kept why k)) (Err (Kept other k))
+handed_back k why is other told = ap (λ (w : Refusal). Err (Kept w k)) (same why other (sym is ∙ told))
+  where
+    same : (w x : Refusal) → Some w ≡ Some x → w ≡ x
+    same w x e = cc
+
+pub not_early : {D : Type 0} {g : Ghosts D} (k : Kernel D g) (why : Refusal) → is_failed k ≡ false → HasNobody k → early_cause k ≡ Some why → ⊥
+not_early k why is nobody told = never why (sym (early_none k is nobody) ∙ told)
+  where
+    never : (w : Refusal) → None ≡ Some w → ⊥
+    never w e = cc

@@ -85,8 +85,3 @@ module _ {D : Type 0} (moment : D → ℕ) (left_since : D → ℕ → List ℕ 
   pub shut_on : (at n : ℕ) (old mid new : D) → LeavesOnly moment left_since old mid IsShut → ((c : List ℕ) → may mid c → IsShut c) → Elapses (moment mid) (moment new) (left_since mid) (left_since new) (may new) → 1 ≤ at → (at + n ≤ 4096) ⊎ (4097 ≤ at) → Follows (Torn at n) (may mid) (may new)
       → LeavesOnly moment left_since old new IsShut
   shut_on at n old mid new run shut time some apart follows = goes_on moment left_since old mid new IsShut (may new) run time (shut_follows at n (may mid) (may new) some apart follows shut)
-
-  -- the gate of one that is ready
-  pub opens_one : (s : Schema) (seen : List ℕ) (old new : D) → IsReady s seen → Only seen (may old) → Elapses (moment old) (moment new) (left_since old) (left_since new) (may new) → Follows (Torn 0 1) (may old) (may new) → LeavesOnly moment left_since old new (IsFormattedOrShut s)
-  opens_one s seen old new ready only time follows =
-      goes_on moment left_since old old new (IsFormattedOrShut s) (may new) (started moment left_since old (IsFormattedOrShut s) (λ c left. inl (subst IsShut (sym (only c (only_now old c left))) ready.shut))) time (opens_follow s seen (may old) (may new) ready only follows)

@@ -1,9 +1,9 @@
 -- What is begun over a device that is formatted.
-use Rattle.std.specs.Prelude.{◌≡◌, ◌≤◌, ◌+◌, ◌*◌, ℕ, List, [], ◌∷◌, length}
+use Rattle.std.specs.Prelude.{◌≡◌, ◌≤◌, ◌+◌, ◌*◌, ℕ, false, List, [], ◌∷◌, length}
 use Rattle.mt_base.specs.declared.limits.TheConstants.{MASTER_BYTES, MIB_BYTES}
 use Rattle.mt_escrow.specs.Seen.{Escrowed}
 use Rattle.mt_log.specs.Sound.{IsSound}
-use Rattle.mt_log.specs.Words.{appended, durable, in_flight, waiting, used, area_size, area_start, area_end, stands_at}
+use Rattle.mt_log.specs.Words.{appended, durable, in_flight, waiting, used, area_size, area_start, area_end, stands_at, has_failed}
 use Rattle.mt_log.specs.declared.log.Log.{Log}
 use Rattle.mt_log.specs.declared.stage.Stage.TheVariants.{Idle}
 use Rattle.mt_model.specs.Model.{IsBase}
@@ -29,6 +29,7 @@ pub record IsFirstLog (s : Schema) (log : Log) : Type 0 where
   pub flying : in_flight log ≡ []
   pub waits : waiting log ≡ []
   pub head : used log ≡ 5
+  pub well : has_failed log ≡ false
   pub sound : IsSound (pages_in s) log
 
 -- each page in its slot, and none in a frame
@@ -48,6 +49,7 @@ pub record IsFirstStore {D : Type 0} (seen : D → List ℕ) (may_leave : D → 
   pub shows : ShowsOpening seen (slot MASTER_BYTES (seen device)) store
   pub empty : appended store.log ≡ []
   pub head : used store.log ≡ 5
+  pub well : has_failed store.log ≡ false
   pub size : area_size store.log ≡ mib_in s * MIB_BYTES
   pub page_count : pages store.pool ≡ pages_in s
   pub many : frames store.pool ≡ frame_count
@@ -59,6 +61,7 @@ pub record AreFirst {D : Type 0} (seen : D → List ℕ) (may_leave : D → List
   pub unclaimed : claimed o ≡ 0
   pub empty : appended o.store.log ≡ []
   pub head : used o.store.log ≡ 5
+  pub well : has_failed o.store.log ≡ false
   pub size : area_size o.store.log ≡ mib_in s * MIB_BYTES
 
 -- Operations over a device that was formatted, and an escrow of the schema's counters: they begin on pages that hold its first base.

@@ -1,10 +1,10 @@
 -- A device as it is formatted.
-use Rattle.std.specs.Prelude.{◌≡◌, ◌≢◌, ◌⊎◌, ◌<◌, ◌≤◌, ℕ, List, [], ◌∷◌, length, drop}
+use Rattle.std.specs.Prelude.{◌≡◌, ◌≢◌, ◌⊎◌, ◌+◌, ◌*◌, ◌<◌, ◌≤◌, ℕ, List, [], ◌∷◌, Result, OnOk, length, drop}
 use Rattle.std.proofs.Math.ListN.{get_or}
 use Rattle.mt_frame.specs.declared.TheConstants.{OPEN_GATE}
 use Rattle.mt_base.specs.declared.limits.TheConstants.{MASTER_BYTES, PAGE_BYTES}
 use Rattle.mt_bucket.specs.Page.{depth_of, next_of, entries, IsBucket}
-use Rattle.mt_disk.specs.Disk.{Has, Torn, Follows}
+use Rattle.mt_disk.specs.Disk.{Has, HasCause, LeavesOnly, Only, Torn, Follows}
 use Rattle.mt_frame.specs.declared.slots.MasterSlot.{MasterSlot}
 use Rattle.mt_frame.specs.SlotText.{slot_text}
 use Rattle.mt_index.specs.Pages.{AreZero, IsDirectory, depth_in, pointer_at}
@@ -116,3 +116,21 @@ IsFormattedOrShut s c = IsShut c ⊎ IsFormattedAs s c
 -- open master slot; at last the schema's format.
 abbrev pub FormatBegins : Schema → (List ℕ → Type 0) → List ℕ → Type 0
 FormatBegins s contents c = ButForGates contents c ⊎ IsFormattedOrShut s c
+
+-- The schema's first pages and an empty log area are there, and a crash leaves them; or the device failed. No master slot opens
+-- meanwhile.
+pub record WritesContent {D : Type 0} (seen : D → List ℕ) (may_leave : D → List ℕ → Type 0) (moment : D → ℕ) (left_since : D → ℕ → List ℕ → Type 0) (failures : D → ℕ) {T F : Type 0} (s : Schema) (d e : D) (r : Result T F) : Type 0 where
+  pub pages : OnOk r (HasFirstPages s (seen e))
+  pub area : OnOk r (Has (seen e) (pages_end s) empty_area)
+  pub durable : OnOk r (Only (seen e) (may_leave e))
+  pub moments : LeavesOnly moment left_since d e IsShut
+  pub tears : Tears seen may_leave MASTER_BYTES (PAGE_BYTES * pages_in s + 6) d e
+  pub cause : HasCause (failures d) (failures e) r
+
+-- The device is formatted with this schema, and a crash leaves it so; or the device failed.
+pub record FormatsDurably {D : Type 0} (seen : D → List ℕ) (may_leave : D → List ℕ → Type 0) (moment : D → ℕ) (left_since : D → ℕ → List ℕ → Type 0) (failures : D → ℕ) {T F : Type 0} (s : Schema) (d e : D) (r : Result T F) : Type 0 where
+  pub formatted : OnOk r (IsFormattedAs s (seen e))
+  pub durable : OnOk r (Only (seen e) (may_leave e))
+  pub moments : LeavesOnly moment left_since d e (FormatBegins s (may_leave d))
+  pub tears : Tears seen may_leave 0 (device_bytes s) d e
+  pub cause : HasCause (failures d) (failures e) r

@@ -11,7 +11,7 @@ use Rattle.mt_log.specs.First.{IsFirst}
 use Rattle.mt_log.specs.Holds.{HoldsBatches}
 use Rattle.mt_log.specs.Masters.{IsRuling, area_size, area_start, area_end}
 use Rattle.mt_log.specs.Sound.{IsSound}
-use Rattle.mt_log.specs.Words.{durable, in_flight, waiting, used, area_size as log_size, area_start as log_start, IsOn}
+use Rattle.mt_log.specs.Words.{durable, in_flight, waiting, used, has_failed, area_size as log_size, area_start as log_start, IsOn}
 use Rattle.mt_log.specs.declared.area.AreaPlace.{AreaPlace}
 use Rattle.mt_log.specs.declared.log.Log.{Log}
 use Rattle.mt_pool.specs.Images.{slot}
@@ -61,6 +61,7 @@ pub record IsNextLog {D : Type 0} (seen : D → List ℕ) (may_leave : D → Lis
   pub flying : in_flight log ≡ []
   pub waits : waiting log ≡ []
   pub head : used log ≡ 5 + length (body_text images)
+  pub well : has_failed log ≡ false
   pub sound : IsSound ruling.pages log
 
 -- The next area has begun with these images, beside the one that rules; the pages without an image there are in their slots.

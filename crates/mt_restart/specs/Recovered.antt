@@ -1,14 +1,17 @@
 -- What a recovery makes of a device.
-use Rattle.std.specs.Prelude.{◌≡◌, ◌⊎◌, ℕ, Bool, List, length}
+use Rattle.std.specs.Prelude.{◌≡◌, ◌≢◌, ◌⊎◌, ◌<◌, ℕ, Bool, List, Result, Err, IfErr, IfOk, length}
 use Rattle.mt_base.specs.declared.refusal.Refusal.{Refusal}
 use Rattle.mt_base.specs.declared.refusal.Refusal.TheVariants.{LogFull}
 use Rattle.mt_frame.specs.declared.records.Record.{Record}
 use Rattle.mt_frame.specs.declared.slots.MasterSlot.{MasterSlot}
+use Rattle.mt_disk.specs.Disk.{LeavesOnly}
+use Rattle.mt_log.specs.Masters.{IsRuling}
 use Rattle.mt_log.specs.NextSlot.{next_slot}
+use Rattle.mt_log.specs.Quiet.{OnlyReads}
 use Rattle.mt_model.specs.Model.{Base}
 use Rattle.mt_replay.specs.Checks.{AreChecked}
 use Rattle.mt_replay.specs.Refused.{BreaksFormat, IsCause, IsReplayed}
-use Rattle.mt_replay.specs.Stands.{CanRestart}
+use Rattle.mt_replay.specs.Stands.{CanRestart, ShowsBase}
 use Rattle.mt_replay.specs.declared.figures.Figures.{Figures}
 use Rattle.mt_restart.specs.Beside.{IsBeside}
 use Rattle.mt_restart.specs.Found.{AreMarked, CanTurn, HasTurned, IsPrepared}
@@ -65,3 +68,29 @@ StandsStill may_leave relations counters b device c = may_leave device c ⊎ Can
 -- log cannot turn over, or no reason of theirs.
 abbrev pub IsCauseToStop : List ℕ → Type 0 → Refusal → Type 0
 IsCauseToStop c failed why = IsCause BreaksFormat c failed why ⊎ ((why ≡ LogFull) × CannotTurn c)
+
+-- What a recovery needs is found, with pages that show the base for which the bytes stand; or it is told why not. The device is
+-- only read.
+pub record FindsAll {D : Type 0} (seen : D → List ℕ) (may_leave : D → List ℕ → Type 0) (moment : D → ℕ) (left_since : D → ℕ → List ℕ → Type 0) (failures : D → ℕ) (frames : ℕ) (d e : D) (r : Result Found Refusal) : Type 0 where
+  pub found : IfOk r (IsFound (seen d) frames)
+  pub shows : (relations counters : ℕ) (b : Base) → CanRestart relations counters (seen d) b → IfOk r (λ found. ShowsBase relations counters found.restored.pages.items b)
+  pub no_other_refusal : (relations counters : ℕ) (b : Base) → CanRestart relations counters (seen d) b → IfErr r (λ why. (why ≡ Refusal.NoMemory) ⊎ ((why ≡ Refusal.DeviceFailed) ⊎ (why ≡ Refusal.LogFull)))
+  pub reads : OnlyReads seen may_leave moment left_since d e
+  pub cause : IfErr r (IsCauseToStop (seen d) (failures d < failures e))
+  pub quiet : (r ≡ Err Refusal.DeviceFailed → ⊥) → failures e ≡ failures d
+
+-- The log has turned over once, with pages that show the base for which the bytes stood; or it is told why not. All memory is
+-- taken before the first write. A crash leaves what stands for that base.
+pub record Recovers {D : Type 0} (seen : D → List ℕ) (may_leave : D → List ℕ → Type 0) (moment : D → ℕ) (left_since : D → ℕ → List ℕ → Type 0) (failures : D → ℕ) (frames : ℕ) (d e : D) (r : Result Recovered Refusal) : Type 0 where
+  pub recovered : IfOk r (IsRecovered seen may_leave frames e)
+  pub restored : IfOk r (λ recovered. AreRestored (seen d) recovered.restored.pages.items)
+  pub shows : (relations counters : ℕ) (b : Base) → CanRestart relations counters (seen d) b → IfOk r (λ recovered. ShowsBase relations counters recovered.restored.pages.items b)
+  pub no_other_refusal : (relations counters : ℕ) (b : Base) → CanRestart relations counters (seen d) b → IfErr r (λ why. (why ≡ Refusal.NoMemory) ⊎ ((why ≡ Refusal.DeviceFailed) ⊎ (why ≡ Refusal.LogFull)))
+  pub next : (slot : MasterSlot) → IsRuling (seen d) slot → IfOk r (λ recovered. recovered.ruling ≡ next_slot slot)
+  -- whenever a crash comes meanwhile
+  pub moments : (relations counters : ℕ) (b : Base) → CanRestart relations counters (seen d) b → LeavesOnly moment left_since d e (StandsStill may_leave relations counters b d)
+  -- at the end, unless the device failed
+  pub settled : (relations counters : ℕ) (b : Base) → CanRestart relations counters (seen d) b → r ≢ Err Refusal.DeviceFailed → (c : List ℕ) → may_leave e c → CanRestart relations counters c b
+  pub unwritten : IfErr r (λ why. (why ≡ Refusal.DeviceFailed → ⊥) → seen e ≡ seen d)
+  pub cause : IfErr r (IsCauseToStop (seen d) (failures d < failures e))
+  pub quiet : (r ≡ Err Refusal.DeviceFailed → ⊥) → failures e ≡ failures d

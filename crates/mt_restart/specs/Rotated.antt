@@ -1,20 +1,24 @@
 -- A kernel whose log is turned over.
-use Rattle.std.specs.Prelude.{◌≡◌, ◌≢◌, ◌⊎◌, ◌<◌, ◌++◌, ⊤, true, ℕ, List, Option, None, Some, Result, Ok, Err}
+use Rattle.std.specs.Prelude.{◌≡◌, ◌≢◌, ◌⊎◌, ◌<◌, ◌++◌, ⊤, true, false, ℕ, List, Option, None, Some, Result, Ok, Err, IfErr, IfOk, MatchResult}
 use Rattle.mt_base.specs.declared.refusal.Refusal.{Refusal}
 use Rattle.mt_base.specs.declared.refusal.Refusal.TheVariants as refusal
 use Rattle.mt_base.specs.declared.refusal.Refusal.TheVariants.{NoMemory, DeviceFailed, LogFull}
 use Rattle.mt_disk.specs.declared.device.Device.{Ghosts}
 use Rattle.mt_frame.specs.declared.records.Record.{Record}
-use Rattle.mt_log.specs.Words.{durable}
+use Rattle.mt_log.specs.NextSlot.{next_slot}
+use Rattle.mt_log.specs.Words.{appended, durable}
 use Rattle.mt_live.specs.Machine.{State}
 use Rattle.mt_model.specs.History.{after}
 use Rattle.mt_model.specs.Model.{Base}
+use Rattle.mt_op.specs.Begun.{AreImages}
 use Rattle.mt_replay.specs.Stands.{CanRestart}
 use Rattle.mt_txn.specs.Causes.{survey_cause}
+use Rattle.mt_txn.specs.Restarted.{FindsMeanwhile}
 use Rattle.mt_txn.specs.Shown.{LeavesFound, Restarts, SameSchema, Stays, StaysRestarting, Shows, is_failed}
 use Rattle.mt_txn.specs.Turned.{HasNobody, IsForced}
 use Rattle.mt_txn.specs.declared.kernel.Kernel.{Kernel}
 use Rattle.mt_restart.specs.Recovered.{CannotTurn}
+use Rattle.mt_restart.specs.Resumed.{device_of}
 use Rattle.mt_restart.specs.declared.rotating.NotRotated.{NotRotated}
 use Rattle.mt_restart.specs.declared.rotating.NotRotated.TheVariants.{Kept, Ended}
 
@@ -29,11 +33,12 @@ pub record Keeps {D : Type 0} {g : Ghosts D} (seen : D → List ℕ) (may_leave 
 abbrev pub Grows : {D : Type 0} {g : Ghosts D} → Kernel D g → Kernel D g → Type 0
 Grows k n = (more : List Record) × (durable n.parts.operations.store.log ≡ durable k.parts.operations.store.log ++ more)
 
--- nobody lives, and all that was appended is durable
+-- nobody lives, all that was appended is durable, and the same slot rules
 pub record IsForcedOut {D : Type 0} {g : Ghosts D} (k n : Kernel D g) : Type 0 where
   pub nobody : HasNobody n
   pub forced : IsForced n
   pub grows : Grows k n
+  pub ruling : n.parts.operations.store.ruling ≡ k.parts.operations.store.ruling
 
 -- But for want of memory, the device has failed, and each later call of the kernel is refused with 2.
 abbrev pub IsForceCause : {D : Type 0} {g : Ghosts D} → Kernel D g → Refusal → Type 0
@@ -71,3 +76,25 @@ abbrev pub IsLeft : {D : Type 0} {g : Ghosts D} → (D → List ℕ) → (D → 
 IsLeft seen may_leave moment left_since faults k (Kept why n) = Keeps seen may_leave moment left_since k n × ((early_cause k ≡ Some why) ⊎ ((early_cause k ≡ None) × IsForceCause n why))
 IsLeft seen may_leave moment left_since faults k (Ended why device) = (early_cause k ≡ None) × ((first : Base) → Restarts seen may_leave first k → StandsForBook may_leave first k why device)
     × ∥ ((forced : Kernel _ _) × Keeps seen may_leave moment left_since k forced × IsForcedOut k forced × IsEndCause seen faults forced.parts.operations.store.device device why) ∥₁
+
+-- The device failed in no call of a rotation, unless that is refused with 2.
+abbrev pub TellsFaultsOfTurn : {D : Type 0} {g : Ghosts D} → (D → ℕ) → Kernel D g → Result (Kernel D g) (NotRotated D g) → Type 0
+TellsFaultsOfTurn faults k (Ok n) = faults n.parts.operations.store.device ≡ faults k.parts.operations.store.device
+TellsFaultsOfTurn faults k (Err (Kept why n)) = (why ≡ refusal.DeviceFailed → ⊥) → faults n.parts.operations.store.device ≡ faults k.parts.operations.store.device
+TellsFaultsOfTurn faults k (Err (Ended why device)) = (why ≡ refusal.DeviceFailed → ⊥) → faults device ≡ faults k.parts.operations.store.device
+
+-- the slot that rules the device of n is the next one behind that of k
+abbrev pub HasTurnedOnce : {D : Type 0} {g : Ghosts D} → Kernel D g → Kernel D g → Type 0
+HasTurnedOnce k n = n.parts.operations.store.ruling ≡ next_slot k.parts.operations.store.ruling
+
+-- A kernel goes on over its device, which a recovery made one for the next area; or the device is handed back, and why. A crash
+-- leaves what stands for the book of the kernel.
+pub record TurnsOver {D : Type 0} {g : Ghosts D} (seen : D → List ℕ) (may_leave : D → List ℕ → Type 0) (moment : D → ℕ) (left_since : D → ℕ → List ℕ → Type 0) (failures : D → ℕ) (k : Kernel D g) (r : Result (Kernel D g) (Refusal × D)) : Type 0 where
+  pub goes_on : IfOk r (GoesOver seen may_leave k)
+  pub begun : IfOk r (λ n. AreImages (appended n.parts.operations.store.log))
+  pub well : IfOk r (λ n. is_failed n ≡ false)
+  pub once : IfOk r (HasTurnedOnce k)
+  pub moments : (first : Base) → Restarts seen may_leave first k → FindsMeanwhile moment left_since k.relations k.counters first k.parts (device_of r)
+  pub settled : IfErr r (λ gone. (first : Base) → Restarts seen may_leave first k → StandsForBook may_leave first k gone.0 gone.1)
+  pub cause : IfErr r (λ gone. ∥ IsEndCause seen failures k.parts.operations.store.device gone.1 gone.0 ∥₁)
+  pub quiet : MatchResult r (λ n. failures n.parts.operations.store.device ≡ failures k.parts.operations.store.device) (λ gone. (gone.0 ≡ refusal.DeviceFailed → ⊥) → failures gone.1 ≡ failures k.parts.operations.store.device)

@@ -1,8 +1,8 @@
 -- What becomes of a device's bytes while a restart turns its log over to another area.
-use Rattle.std.specs.Prelude.{◌≡◌, ◌≢◌, ℕ, ◌*◌, ◌<◌, Bool, true, false, List, [], length, get_or}
+use Rattle.std.specs.Prelude.{◌≡◌, ◌≢◌, ℕ, ◌*◌, ◌<◌, Bool, true, false, List, [], Result, OnOk, length, get_or}
 use Rattle.std.specs.List.{AllByRecursion}
 use Rattle.mt_base.specs.declared.limits.TheConstants.{MASTER_BYTES, PAGE_BYTES}
-use Rattle.mt_disk.specs.Disk.{Torn}
+use Rattle.mt_disk.specs.Disk.{Follows, HasCause, LeavesOnly, Only, Torn}
 use Rattle.mt_frame.specs.Grammar.{IsRecord}
 use Rattle.mt_frame.specs.History.{MayFollow}
 use Rattle.mt_frame.specs.declared.records.Record.{Record}
@@ -24,6 +24,19 @@ ButForSlots marked contents c = (d : List ℕ) × contents d × OnlySlots marked
 -- each marked page is in its slot
 abbrev pub AreInPlace : List Bool → List (List ℕ) → List ℕ → Type 0
 AreInPlace marked pages c = (p : ℕ) → p < length pages → get_or marked p false ≡ true → slot MASTER_BYTES c p ≡ get_or pages p []
+
+-- Each marked page is in its slot, or the device failed. Only slots of marked pages have changed.
+pub record PutsInPlace {D : Type 0} (seen : D → List ℕ) (may_leave : D → List ℕ → Type 0) (moment : D → ℕ) (left_since : D → ℕ → List ℕ → Type 0) (failures : D → ℕ) {T F : Type 0} (marked : List Bool) (pages : List (List ℕ)) (d e : D) (r : Result T F) : Type 0 where
+  pub written : OnOk r (AreInPlace marked pages (seen e))
+  pub slots : OnlySlots marked (seen d) (seen e)
+  pub elsewhere : Follows (OnlySlots marked) (may_leave d) (may_leave e)
+  pub moments : LeavesOnly moment left_since d e (ButForSlots marked (may_leave d))
+  pub cause : HasCause (failures d) (failures e) r
+
+-- Each marked page is put into its slot, and a crash leaves it there; or the device failed.
+pub record PutsDurably {D : Type 0} (seen : D → List ℕ) (may_leave : D → List ℕ → Type 0) (moment : D → ℕ) (left_since : D → ℕ → List ℕ → Type 0) (failures : D → ℕ) {T F : Type 0} (marked : List Bool) (pages : List (List ℕ)) (d e : D) (r : Result T F) : Type 0 where
+  pub put : PutsInPlace seen may_leave moment left_since failures marked pages d e r
+  pub durable : OnOk r (Only (seen e) (may_leave e))
 
 -- ---- images
 

@@ -1,5 +1,5 @@
 // Which pages a restart writes where.
-ghost use Rattle.std.specs.Prelude.{◌≡◌, ◌⊎◌, ◌↔◌, ◌<◌, ℕ, List, length, IsTrue, IfOk, IfErr, IsOk};
+ghost use Rattle.std.specs.Prelude.{◌≡◌, ◌⊎◌, ◌↔◌, ◌<◌, ℕ, List, length, IsTrue, IfOk, IfErr, Err};
 ghost use Rattle.std.specs.List.{AllByRecursion};
 ghost use Rattle.mt_base.specs.declared.refusal.Refusal.{Refusal};
 ghost use Rattle.mt_frame.specs.Grammar.{IsRecord};
@@ -48,7 +48,7 @@ pub(crate) fn marks_of<D: Device>(
     ensures marked { IfOk result (λ marks. (batches : List (List Record))
         × AreMarked (D.seen device.old) ruling.now pages.now batches marks) }
     ensures reads { OnlyReads D.seen D.may_leave D.moment D.left_since device.old device.new }
-    ensures quiet { IsOk result → D.faults device.new ≡ D.faults device.old }
+    ensures quiet { (result ≡ Err Refusal.DeviceFailed → ⊥) → D.faults device.new ≡ D.faults device.old }
     ensures cause { IfErr result (λ why. (why ≡ Refusal.NoMemory) ⊎ (why ≡ Refusal.DeviceFailed)
         × (D.faults device.old < D.faults device.new)) }
 {

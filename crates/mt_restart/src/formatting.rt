@@ -1,11 +1,13 @@
 // The formatting of a device, in the order of its calls.
-ghost use Rattle.std.specs.Prelude.{◌≡◌, ◌⊎◌, ◌+◌, ◌*◌, ◌<◌, ◌≤◌, ℕ, List, length, drop, Err, IfErr, OnOk};
+ghost use Rattle.std.specs.Prelude.{◌≡◌, ◌⊎◌, ◌+◌, ◌*◌, ◌<◌, ◌≤◌, ℕ, List, [], ◌∷◌, length, drop, Err, IfErr, OnOk};
 ghost use Rattle.mt_base.specs.declared.limits.TheConstants.{MASTER_BYTES, PAGE_BYTES};
 ghost use Rattle.mt_base.specs.declared.refusal.Refusal.{Refusal};
-ghost use Rattle.mt_disk.specs.Disk.{Has, Only, Torn, Follows, LeavesOnly, HasCause};
+ghost use Rattle.mt_disk.specs.Disk.{Only, Torn, Follows, LeavesOnly, HasCause};
 ghost use Rattle.mt_frame.specs.SlotText.{slot_text};
+ghost use Rattle.mt_frame.specs.declared.TheConstants.{OPEN_GATE};
+ghost use Rattle.mt_log.specs.Lasting.{WritesDurably};
 ghost use Rattle.mt_replay.specs.Stands.{CanRestart};
-ghost use Rattle.mt_restart.specs.Formats.{HasFirstPages, IsFormattedAs, IsFormattedOrShut, IsReady, IsShut, ButForGates, FormatBegins, Tears, empty_area, first_slot};
+ghost use Rattle.mt_restart.specs.Formats.{FormatsDurably, HasFirstPages, IsFormattedAs, IsShut, ButForGates, FormatBegins, Tears, WritesContent, first_slot};
 ghost use Rattle.mt_restart.specs.Schemas.{pages_in, pages_end, device_bytes, relations_in, counters_in, schema_base};
 ghost use Rattle.mt_restart.specs.declared.schema.Schema.{Schema};
 
@@ -53,12 +55,7 @@ fn write_pages<D: Device>(device: &mut D, schema: &Schema) -> Result<(), DeviceF
 fn write_content<D: Device>(device: &mut D, schema: &Schema) -> Result<(), DeviceFault>
     requires long { device_bytes schema.now ≤ length (D.seen device.old) }
     requires shut { (c : List ℕ) → D.may_leave device.old c → IsShut c }
-    ensures pages { OnOk result (HasFirstPages schema.now (D.seen device.new)) }
-    ensures area { OnOk result (Has (D.seen device.new) (pages_end schema.now) empty_area) }
-    ensures durable { OnOk result (Only (D.seen device.new) (D.may_leave device.new)) }
-    ensures moments { LeavesOnly D.moment D.left_since device.old device.new IsShut }
-    ensures tears { Tears D.seen D.may_leave MASTER_BYTES (PAGE_BYTES * pages_in schema.now + 6) device.old device.new }
-    ensures cause { HasCause (D.faults device.old) (D.faults device.new) result }
+    ensures { WritesContent D.seen D.may_leave D.moment D.left_since D.faults schema.now device.old device.new result }
 {
     write_pages(device, schema)?;
     let area = AreaPlace::of(schema.pages, schema.area_mib, false);
@@ -80,13 +77,9 @@ pub(crate) fn first_slot_of(schema: &Schema) -> MasterSlot
 
 // Makes what stands behind the first master slot's gate durable: a write and a sync.
 fn write_slot<D: Device>(device: &mut D, schema: &Schema) -> Result<(), DeviceFault>
-    requires long { MASTER_BYTES ≤ length (D.seen device.old) }
-    requires shut { (c : List ℕ) → D.may_leave device.old c → IsShut c }
-    ensures slot { OnOk result (Has (D.seen device.new) 1 (drop 1 (slot_text (first_slot schema.now)))) }
-    ensures durable { OnOk result (Only (D.seen device.new) (D.may_leave device.new)) }
-    ensures moments { LeavesOnly D.moment D.left_since device.old device.new IsShut }
-    ensures tears { Tears D.seen D.may_leave 1 16 device.old device.new }
-    ensures cause { HasCause (D.faults device.old) (D.faults device.new) result }
+    requires { MASTER_BYTES ≤ length (D.seen device.old) }
+    ensures { WritesDurably D.seen D.may_leave D.moment D.left_since D.faults
+        1 (drop 1 (slot_text (first_slot schema.now))) device.old device.new result }
 {
     let slot = encode_slot(&first_slot_of(schema));
     device.write_at(FIRST_SLOT + 1, &slot[1..])?;
@@ -95,15 +88,9 @@ fn write_slot<D: Device>(device: &mut D, schema: &Schema) -> Result<(), DeviceFa
 
 // Opens the first master slot's gate: a write and a sync.
 fn open_gate<D: Device>(device: &mut D) -> Result<(), DeviceFault>
-    requires long { MASTER_BYTES ≤ length (D.seen device.old) }
-    requires durable { Only (D.seen device.old) (D.may_leave device.old) }
-    ensures formatted { (s : Schema) → IsReady s (D.seen device.old)
-        → OnOk result (IsFormattedAs s (D.seen device.new)) }
-    ensures durable { OnOk result (Only (D.seen device.new) (D.may_leave device.new)) }
-    ensures moments { (s : Schema) → IsReady s (D.seen device.old)
-        → LeavesOnly D.moment D.left_since device.old device.new (IsFormattedOrShut s) }
-    ensures tears { Tears D.seen D.may_leave 0 1 device.old device.new }
-    ensures cause { HasCause (D.faults device.old) (D.faults device.new) result }
+    requires { MASTER_BYTES ≤ length (D.seen device.old) }
+    ensures { WritesDurably D.seen D.may_leave D.moment D.left_since D.faults
+        0 (OPEN_GATE ∷ []) device.old device.new result }
 {
     device.write_at(FIRST_SLOT, &[OPEN_GATE])?;
     device.sync()
@@ -112,12 +99,7 @@ fn open_gate<D: Device>(device: &mut D) -> Result<(), DeviceFault>
 // Formats a device that is long enough.
 fn write_all<D: Device>(device: &mut D, schema: &Schema) -> Result<(), DeviceFault>
     requires { device_bytes schema.now ≤ length (D.seen device.old) }
-    ensures formatted { OnOk result (IsFormattedAs schema.now (D.seen device.new)) }
-    ensures durable { OnOk result (Only (D.seen device.new) (D.may_leave device.new)) }
-    ensures moments { LeavesOnly D.moment D.left_since device.old device.new
-        (FormatBegins schema.now (D.may_leave device.old)) }
-    ensures tears { Tears D.seen D.may_leave 0 (device_bytes schema.now) device.old device.new }
-    ensures cause { HasCause (D.faults device.old) (D.faults device.new) result }
+    ensures { FormatsDurably D.seen D.may_leave D.moment D.left_since D.faults schema.now device.old device.new result }
 {
     close_slots(device)?;
     write_content(device, schema)?;

@@ -1,9 +1,9 @@
 // Marks of pages by the images of an area and by their slots, and the images with which an area begins.
-ghost use Rattle.std.specs.Prelude.{◌≡◌, ◌⊎◌, ◌+◌, ◌*◌, ◌<◌, ◌≤◌, ◌↔◌, ◌∷◌, [], ℕ, List, Some, length, IfOk, IfErr, OnOk, IsOk, IsTrue};
+ghost use Rattle.std.specs.Prelude.{◌≡◌, ◌+◌, ◌*◌, ◌<◌, ◌≤◌, ◌↔◌, ◌∷◌, [], Some, length, IfOk, IfErr, OnOk, IsTrue};
 ghost use Rattle.std.specs.List.{AllByRecursion};
 ghost use Rattle.mt_base.specs.declared.limits.TheConstants.{MASTER_BYTES, MAX_PAGES, PAGE_BYTES};
 ghost use Rattle.mt_base.specs.declared.refusal.Refusal.{Refusal};
-ghost use Rattle.mt_disk.specs.Disk.{HasCause, LeavesOnly};
+ghost use Rattle.mt_disk.specs.Disk.{HasCause};
 ghost use Rattle.mt_frame.specs.Grammar.{IsRecord, body_text};
 ghost use Rattle.mt_frame.specs.declared.records.Record.{Record};
 ghost use Rattle.mt_log.specs.Batch.{joined};
@@ -11,8 +11,8 @@ ghost use Rattle.mt_log.specs.Found.{records_of};
 ghost use Rattle.mt_log.specs.Holds.{AreBatches, HasItsPage};
 ghost use Rattle.mt_log.specs.Quiet.{OnlyReads};
 ghost use Rattle.mt_pool.specs.Images.{slot};
-ghost use Rattle.mt_restart.specs.Marking.{MarksMore, TellsLost};
-ghost use Rattle.mt_restart.specs.Turned.{AreImagesOf, MarksImaged, MarksLost};
+ghost use Rattle.mt_restart.specs.Marking.{FindsLost, MarksMore, TellsLost};
+ghost use Rattle.mt_restart.specs.Turned.{AreImagesOf, MarksImaged};
 
 use mt_base::limits::{BATCH_HEAD_BYTES, MASTER_BYTES};
 use mt_base::{Bytes, OpNo, PageNo, Refusal, TxnNo};
@@ -98,7 +98,7 @@ fn is_lost<D: Device>(
 
 /// Which pages have no image and other bytes than their slots. The device is only read.
 ///
-/// The refusals are [`Refusal::NoMemory`], and [`Refusal::DeviceFailed`] where the device failed in this call.
+/// The refusals are [`Refusal::NoMemory`], and [`Refusal::DeviceFailed`] if and only if the device failed in this call.
 pub(crate) fn lost_pages<D: Device>(
     alloc: Global,
     device: &mut D,
@@ -108,13 +108,8 @@ pub(crate) fn lost_pages<D: Device>(
     requires count { length imaged.now ≡ length pages.now }
     requires slots { MASTER_BYTES + PAGE_BYTES * length pages.now ≤ length (D.seen device.old) }
     requires few { length pages.now ≤ MAX_PAGES }
-    ensures marks { IfOk result (λ marks. MarksLost pages.now imaged.now (D.seen device.old) marks.items) }
-    ensures seen { D.seen device.new ≡ D.seen device.old }
-    ensures crash { (c : List ℕ) → D.may_leave device.new c → D.may_leave device.old c }
-    ensures moments { LeavesOnly D.moment D.left_since device.old device.new (D.may_leave device.old) }
-    ensures quiet { IsOk result → D.faults device.new ≡ D.faults device.old }
-    ensures cause { IfErr result (λ why. (why ≡ Refusal.NoMemory) ⊎ (why ≡ Refusal.DeviceFailed)
-        × (D.faults device.old < D.faults device.new)) }
+    ensures { FindsLost D.seen D.may_leave D.moment D.left_since D.faults pages.now imaged.now
+        device.old device.new result }
 {
     let mut lost = Vec::with_capacity(alloc, pages.len())?;
     for page in 0..pages.len() {

@@ -1,5 +1,5 @@
 // What a device's bytes stand for, told without a write.
-ghost use Rattle.std.specs.Prelude.{◌≡◌, ◌⊎◌, ◌<◌, ◌≤◌, ◌+◌, ℕ, List, length, IfErr, IfOk, IsOk, OnOk};
+ghost use Rattle.std.specs.Prelude.{◌≡◌, ◌⊎◌, ◌<◌, ◌≤◌, ◌+◌, ℕ, List, length, IfErr, IfOk, OnOk, Err};
 ghost use Rattle.mt_base.specs.declared.limits.TheConstants.{MAX_PAGES};
 ghost use Rattle.mt_base.specs.declared.refusal.Refusal.{Refusal};
 ghost use Rattle.mt_disk.specs.Disk.{LeavesOnly};
@@ -94,7 +94,7 @@ fn survey_of(alloc: Global, restored: &Restored) -> Result<Survey, Refusal>
 ///
 /// It is refused with:
 /// - [`Refusal::NoMemory`];
-/// - [`Refusal::DeviceFailed`], where the device failed in this call;
+/// - [`Refusal::DeviceFailed`], if and only if the device failed in this call;
 /// - [`Refusal::NotFormatted`], if and only if the device is shorter than 8192 bytes or no master slot is open, and no
 ///   read failed;
 /// - [`Refusal::BadFormat`] with the place where a rule is broken, as [`replay`] says.
@@ -114,7 +114,7 @@ pub fn inspect<D: Device>(alloc: Global, device: &mut D) -> Result<Survey, Refus
     ensures seen { D.seen device.new ≡ D.seen device.old }
     ensures crash { (c : List ℕ) → D.may_leave device.new c → D.may_leave device.old c }
     ensures moments { LeavesOnly D.moment D.left_since device.old device.new (D.may_leave device.old) }
-    ensures quiet { IsOk result → D.faults device.new ≡ D.faults device.old }
+    ensures quiet { (result ≡ Err Refusal.DeviceFailed → ⊥) → D.faults device.new ≡ D.faults device.old }
 {
     only_own_pages_matter();
     let replayed = replay(alloc, device)?;

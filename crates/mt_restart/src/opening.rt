@@ -68,6 +68,8 @@ pub(crate) fn first_operations<D: Device + Drop>(
     ensures operations { IfOk result (AreFirst D.seen D.may_leave schema.now device) }
     ensures cause { IfErr result (λ gone. (gone.refusal ≡ Refusal.NoMemory)
         ⊎ (gone.refusal ≡ Refusal.DeviceFailed) × (D.faults device < D.faults gone.device)) }
+    ensures quiet { MatchResult result (λ operations. D.faults operations.store.device ≡ D.faults device)
+        (λ gone. (gone.refusal ≡ Refusal.DeviceFailed → ⊥) → D.faults gone.device ≡ D.faults device) }
 {
     let store = first_store(alloc, device, schema, frames)?;
     match Operations::new(alloc, store) {
@@ -94,6 +96,8 @@ pub(crate) fn fresh_parts<D: Device + Drop>(
     ensures cause { IfErr result (λ gone. (gone.refusal ≡ Refusal.NoMemory)
         ⊎ ((gone.refusal ≡ Refusal.BadLength) × (length (D.seen device) < device_bytes schema.now)
         ⊎ (gone.refusal ≡ Refusal.DeviceFailed) × (D.faults device < D.faults gone.device))) }
+    ensures quiet { MatchResult result (λ parts. D.faults parts.0.store.device ≡ D.faults device)
+        (λ gone. (gone.refusal ≡ Refusal.DeviceFailed → ⊥) → D.faults gone.device ≡ D.faults device) }
 {
     let mut device = device;
     schema.base.keeps_bounds();

@@ -1,5 +1,5 @@
 // What is told of a device's log.
-ghost use Rattle.std.specs.Prelude.{◌≡◌, ◌⊎◌, ◌<◌, ℕ, List, IfOk, IfErr, IsOk};
+ghost use Rattle.std.specs.Prelude.{◌≡◌, ◌⊎◌, ◌<◌, ℕ, List, IfOk, IfErr, Err};
 ghost use Rattle.mt_base.specs.declared.refusal.Refusal.{Refusal};
 ghost use Rattle.mt_disk.specs.Disk.{LeavesOnly};
 ghost use Rattle.mt_model.specs.Model.{Base};
@@ -17,7 +17,7 @@ use std::alloc::Global;
 /// Tells epoch and area of the master slot that rules, and how many batches, records and commits the area holds. No
 /// page is looked at.
 ///
-/// Refusals are [`Refusal::NoMemory`], and [`Refusal::DeviceFailed`] where the device failed in this call.
+/// Refusals are [`Refusal::NoMemory`], and [`Refusal::DeviceFailed`] if and only if the device failed in this call.
 /// [`Refusal::NotFormatted`] is answered where it is shorter than 8192 bytes or no master slot is open.
 /// [`Refusal::BadFormat`] has the place of a slot or a batch that breaks a rule. The device is only read: no write,
 /// no sync, and its content is as before in any case.
@@ -33,7 +33,7 @@ pub fn report<D: Device>(alloc: Global, device: &mut D) -> Result<Report, Refusa
     ensures seen { D.seen device.new ≡ D.seen device.old }
     ensures crash { (c : List ℕ) → D.may_leave device.new c → D.may_leave device.old c }
     ensures moments { LeavesOnly D.moment D.left_since device.old device.new (D.may_leave device.old) }
-    ensures quiet { IsOk result → D.faults device.new ≡ D.faults device.old }
+    ensures quiet { (result ≡ Err Refusal.DeviceFailed → ⊥) → D.faults device.new ≡ D.faults device.old }
 {
     let (ruling, figures) = read_log(alloc, device)?;
     Ok(Report {

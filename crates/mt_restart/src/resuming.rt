@@ -1,12 +1,17 @@
 // A kernel over a device that was used before.
-ghost use Rattle.std.specs.Prelude.{◌≡◌, ◌⊎◌, ◌<◌, ℕ, List, IfOk, IfErr};
+ghost use Rattle.std.specs.Prelude.{◌≡◌, ◌⊎◌, ◌<◌, ℕ, List, false, IfOk, IfErr, MatchResult};
 ghost use Rattle.mt_base.specs.declared.refusal.Refusal.{Refusal};
 ghost use Rattle.mt_disk.specs.Disk.{LeavesOnly};
 ghost use Rattle.mt_index.specs.Checks.{bytes_of};
 ghost use Rattle.mt_kernel.specs.Consistent.{IsFresh};
+ghost use Rattle.mt_frame.specs.declared.slots.MasterSlot.{MasterSlot};
+ghost use Rattle.mt_log.specs.Masters.{IsRuling};
+ghost use Rattle.mt_log.specs.NextSlot.{next_slot};
+ghost use Rattle.mt_log.specs.Words.{has_failed};
 ghost use Rattle.mt_model.specs.Model.{Base, IsBase};
 ghost use Rattle.mt_replay.specs.Stands.{CanRestart};
 ghost use Rattle.mt_steps.specs.Held.{Holds};
+ghost use Rattle.mt_txn.specs.Shown.{is_failed};
 ghost use Rattle.mt_txn.specs.Well.{Opens};
 ghost use Rattle.mt_restart.specs.Formats.{IsFormattedAs};
 ghost use Rattle.mt_restart.specs.Recovered.{IsCauseToStop, IsRecovered, StandsStill};
@@ -35,6 +40,8 @@ pub(crate) fn parts_over<D: Device + Drop>(
     ensures opens { (b : Base) → Holds (bytes_of recovered.restored.pages.items) b → IsBase b
         → Opens D.seen D.may_leave result.0 result.1 recovered.beside.relations recovered.beside.counters b }
     ensures device { result.0.store.device ≡ device }
+    ensures ruling { result.0.store.ruling ≡ recovered.ruling }
+    ensures well { has_failed result.0.store.log ≡ false }
 {
     let Recovered {
         log,
@@ -60,6 +67,8 @@ fn kernel_over<D: Device + Drop>(alloc: Global, device: D, recovered: Recovered)
     ensures opened { (b : Base) → Holds (bytes_of recovered.restored.pages.items) b → IsBase b
         → IsOpened D.seen D.may_leave recovered.beside.relations recovered.beside.counters b result }
     ensures device { result.parts.operations.store.device ≡ device }
+    ensures ruling { result.parts.operations.store.ruling ≡ recovered.ruling }
+    ensures well { is_failed result ≡ false }
 {
     let relations = recovered.beside.relations;
     let counters = recovered.beside.counters;
@@ -71,18 +80,18 @@ fn kernel_over<D: Device + Drop>(alloc: Global, device: D, recovered: Recovered)
 /// transaction lives, the book is empty, and the pages hold the base that the bytes stood for. That is what the log's
 /// committed transactions lead to, in the order of their commits.
 ///
-/// The device is synced. Then a restart's passes are made in memory. The ruling area's records are repeated,
-/// unfinished operations are put back, and losers are undone by their inverses (Mohan 1992; Weikum 1991). At last the
-/// log turns over to the other area. Its first batch has images of the pages that are neither in the ruling area nor
-/// in their slots.
+/// The device is synced. Then a restart's passes are made in memory. The ruling area's records are repeated, unfinished
+/// operations are put back, and losers are undone by their inverses (Mohan 1992; Weikum 1991). At last the log turns
+/// over to the other area, once. Its first batch has images of the pages that are neither in the ruling area nor in
+/// their slots.
 ///
 /// Whenever a crash comes in this call, what it leaves is what it might have left before, or stands for the same base. So
 /// a device may be opened again, however often that is cut off.
 ///
-/// Any bytes are read. Where they are answered, the kernel begins on the pages that those passes make of them, which break
-/// no rule of their formats. Each refusal hands the device back:
+/// Any bytes are read. Where they are answered, the kernel has not failed. It begins on the pages that those passes make
+/// of them, which break no rule of their formats. Each refusal hands the device back:
 /// - [`Refusal::NoMemory`];
-/// - [`Refusal::DeviceFailed`], where the device failed in this call;
+/// - [`Refusal::DeviceFailed`], if and only if the device failed in this call;
 /// - [`Refusal::NotFormatted`] and [`Refusal::BadFormat`], as `replay` of mt_replay says;
 /// - [`Refusal::LogFull`], where the ruling slot has the last epoch, or the images have no room in the next area: never
 ///   as the device was formatted.
@@ -100,6 +109,7 @@ pub fn open<D: Device + Drop>(
         × IsOpened D.seen D.may_leave kernel.relations kernel.counters b kernel) }
     // It is the base that the passes of a restart leave in memory.
     ensures restored { IfOk result (BeginsOnRestored D.seen D.may_leave (D.seen device)) }
+    ensures well { IfOk result (λ kernel. is_failed kernel ≡ false) }
     // What lies behind its last counter is open.
     ensures counted { IfOk result (λ kernel. (b : Base) × BeginsOn D.seen D.may_leave b kernel) }
     ensures no_other_refusal { (relations counters : ℕ) (b : Base) → CanRestart relations counters (D.seen device) b
@@ -108,6 +118,9 @@ pub fn open<D: Device + Drop>(
     // As it is formatted its log can turn over.
     ensures never_full { (s : Schema) → IsFormattedAs s (D.seen device)
         → IfErr result (λ gone. gone.0 ≡ Refusal.LogFull → ⊥) }
+    // The log turns over once.
+    ensures once { (slot : MasterSlot) → IsRuling (D.seen device) slot
+        → IfOk result (λ kernel. kernel.parts.operations.store.ruling ≡ next_slot slot) }
     // Whenever a crash comes in this call.
     ensures moments { (relations counters : ℕ) (b : Base) → CanRestart relations counters (D.seen device) b
         → LeavesOnly D.moment D.left_since device (device_of result)
@@ -122,6 +135,9 @@ pub fn open<D: Device + Drop>(
     ensures unwritten { IfErr result (λ gone. (gone.0 ≡ Refusal.DeviceFailed → ⊥)
         → D.seen gone.1 ≡ D.seen device) }
     ensures cause { IfErr result (λ gone. IsCauseToStop (D.seen device) (D.faults device < D.faults gone.1) gone.0) }
+    // The device failed in no call of this one, unless it is refused with 2.
+    ensures quiet { MatchResult result (λ kernel. D.faults kernel.parts.operations.store.device ≡ D.faults device)
+        (λ gone. (gone.0 ≡ Refusal.DeviceFailed → ⊥) → D.faults gone.1 ≡ D.faults device) }
 {
     slots_are_read_back();
     only_own_pages_matter();

@@ -1,8 +1,7 @@
 // Pages that are written into their slots.
-ghost use Rattle.std.specs.Prelude.{◌≡◌, ◌+◌, ◌*◌, ◌≤◌, length, OnOk};
+ghost use Rattle.std.specs.Prelude.{◌≡◌, ◌+◌, ◌*◌, ◌≤◌, length};
 ghost use Rattle.mt_base.specs.declared.limits.TheConstants.{MASTER_BYTES, MAX_PAGES, PAGE_BYTES};
-ghost use Rattle.mt_disk.specs.Disk.{Follows, HasCause, LeavesOnly, Only};
-ghost use Rattle.mt_restart.specs.Turned.{AreInPlace, ButForSlots, OnlySlots};
+ghost use Rattle.mt_restart.specs.Turned.{PutsDurably, PutsInPlace};
 
 use mt_base::limits::MASTER_BYTES;
 use mt_disk::{Device, DeviceFault};
@@ -18,12 +17,8 @@ pub(crate) fn write_in_place<D: Device>(
     requires count { length marked.now ≡ length pages.now }
     requires slots { MASTER_BYTES + PAGE_BYTES * length pages.now ≤ length (D.seen device.old) }
     requires few { length pages.now ≤ MAX_PAGES }
-    ensures written { OnOk result (AreInPlace marked.now pages.now (D.seen device.new)) }
-    ensures slots { OnlySlots marked.now (D.seen device.old) (D.seen device.new) }
-    ensures elsewhere { Follows (OnlySlots marked.now) (D.may_leave device.old) (D.may_leave device.new) }
-    ensures moments { LeavesOnly D.moment D.left_since device.old device.new
-        (ButForSlots marked.now (D.may_leave device.old)) }
-    ensures cause { HasCause (D.faults device.old) (D.faults device.new) result }
+    ensures { PutsInPlace D.seen D.may_leave D.moment D.left_since D.faults marked.now pages.now
+        device.old device.new result }
 {
     for page in 0..pages.len() {
         if marked[page] {
@@ -44,13 +39,8 @@ pub(crate) fn write_and_sync<D: Device>(
     requires count { length marked.now ≡ length pages.now }
     requires slots { MASTER_BYTES + PAGE_BYTES * length pages.now ≤ length (D.seen device.old) }
     requires few { length pages.now ≤ MAX_PAGES }
-    ensures written { OnOk result (AreInPlace marked.now pages.now (D.seen device.new)) }
-    ensures durable { OnOk result (Only (D.seen device.new) (D.may_leave device.new)) }
-    ensures slots { OnlySlots marked.now (D.seen device.old) (D.seen device.new) }
-    ensures elsewhere { Follows (OnlySlots marked.now) (D.may_leave device.old) (D.may_leave device.new) }
-    ensures moments { LeavesOnly D.moment D.left_since device.old device.new
-        (ButForSlots marked.now (D.may_leave device.old)) }
-    ensures cause { HasCause (D.faults device.old) (D.faults device.new) result }
+    ensures { PutsDurably D.seen D.may_leave D.moment D.left_since D.faults marked.now pages.now
+        device.old device.new result }
 {
     write_in_place(device, pages, marked)?;
     device.sync()

@@ -5,6 +5,7 @@ pub mod UndoLemmas
 pub mod TurnLemmas
 pub mod CallLemmas
 pub mod RunLemmas
+pub mod LeftLemmas
 pub mod TurnoverLemmas
 pub mod SessionLemmas
 mod TranscriptLemmas

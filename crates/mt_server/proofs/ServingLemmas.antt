@@ -60,7 +60,6 @@ served_on seen may_leave c first k is began = record { first = first; is = is; b
 unmarked_late : (why : Refusal) → IsUnmarked why → IsLate why
 unmarked_late refusal.NoMemory _ = tt
 unmarked_late refusal.DeviceFailed _ = tt
-unmarked_late refusal.Busy _ = tt
 unmarked_late why unmarked = absurd unmarked
 
 -- what was not opened is not served

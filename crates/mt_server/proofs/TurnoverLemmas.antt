@@ -6,7 +6,6 @@ use mathlib.Core.Logic.{∥∥₁_elim, ∥∥₁_map}
 use Rattle.mt_base.specs.declared.refusal.Refusal.{Refusal}
 use Rattle.mt_base.specs.declared.refusal.Refusal.TheVariants as refusal
 use Rattle.mt_disk.specs.declared.device.Device.{Ghosts}
-use Rattle.mt_live.specs.Machine.{State}
 use Rattle.mt_model.specs.History.{after}
 use Rattle.mt_model.specs.Model.{Base}
 use Rattle.mt_model.specs.declared.history.Committed.{Committed}
@@ -14,6 +13,7 @@ use Rattle.mt_replay.specs.Stands.{CanRestart}
 use Rattle.mt_restart.specs.Rotated.{GoesOver, IsEndCause, IsForcedOut, Keeps}
 use Rattle.mt_script.specs.declared.answers.Answer.{Answer}
 use Rattle.mt_script.specs.declared.lines.Line.{Line}
+use Rattle.mt_server.proofs.LeftLemmas.{book_of}
 use Rattle.mt_server.proofs.RunLemmas.{appends_all, closed_run, end_cut, ended_run, runs_session, stopped_told, told_behind, turn_stays}
 use Rattle.mt_server.proofs.TranscriptLemmas.{runs_then}
 use Rattle.mt_server.proofs.TurnLemmas.{left_of}
@@ -175,8 +175,7 @@ module _ {D : Type 0} {g : Ghosts D} (seen : D → List ℕ) (may_leave : D → 
 
     -- the book is the play's
     book_is : (live : Option ℕ) → IsBeside seen may_leave p live k → ∥ (k.parts.book.items ≡ p.book) ∥₁
-    book_is live beside = ∥∥₁_elim (left_of seen may_leave faults p live k beside) (hlevel props) (λ (first, s, shows, played).
-        ∥∥₁_map shows (λ (origin, base, at, x). sym (ap (λ (z : State). z.book) x.state) ∙ played.book))
+    book_is live beside = book_of seen may_leave p k (left_of seen may_leave faults p live k beside)
 
     stands_play : (device : D) → IsBeside seen may_leave p None k → ((c : List ℕ) → may_leave device c → ∥ CanRestart k.relations k.counters c (after p.first k.parts.book.items) ∥₁) → StandsForPlay may_leave k.relations k.counters p device
     stands_play device beside stands c left = ∥∥₁_elim (book_is None beside) (hlevel props) (λ is.
@@ -184,12 +183,12 @@ module _ {D : Type 0} {g : Ghosts D} (seen : D → List ℕ) (may_leave : D → 
 
     turned_left : (y : Refusal) (device : D) (was now : Option (List ℕ)) (why : RunFault) → IsBeside seen may_leave p None k → Restarts seen may_leave p.first k → IsTurnedOut seen may_leave faults k y device → IsStopped was now y why
         → IsLeftBy {g = g} seen may_leave faults k.relations k.counters (Ended why device) p
-    turned_left y device was now fault.Output beside restarts out (is, front) = out.failed is
+    turned_left y device was now fault.Output beside restarts out (is, front) = (out.failed is, stands_play device beside (out.stands p.first restarts))
     turned_left y device was now (fault.Refused why) beside restarts out (is, told) = (
       subst IsTurnFault (sym is) out.cause,
       λ failed. out.failed (sym is ∙ failed),
       λ full. ∥∥₁_map (out.full (sym is ∙ full)) (λ (n, over, cannot). (n, resting_over p k n beside restarts over, cannot)),
-      λ other. stands_play device beside (out.stands p.first restarts (λ e. other (is ∙ e))),
+      stands_play device beside (out.stands p.first restarts),
     )
 
     pub not_turned : (l : Line) (y : Refusal) (device : D) (was now : Option (List ℕ)) (why : RunFault) → IsBeside seen may_leave p None k → Restarts seen may_leave p.first k → IsTurnedOut seen may_leave faults k y device → IsStopped was now y why
@@ -210,15 +209,7 @@ module _ {D : Type 0} {g : Ghosts D} (seen : D → List ℕ) (may_leave : D → 
       },
     )
 
--- but for these there is none
-pub end_cause : {D : Type 0} {g : Ghosts D} (seen : D → List ℕ) (may_leave : D → List ℕ → Type 0) (moment : D → ℕ) (left_since : D → ℕ → List ℕ → Type 0) (faults : D → ℕ) (k : Kernel D g) (device : D) (why : Refusal)
-    → ∥ ((forced : Kernel D g) × Keeps seen may_leave moment left_since k forced × IsForcedOut k forced × IsEndCause seen faults forced.parts.operations.store.device device why) ∥₁ → IsTurnFault why
-end_cause seen may_leave moment left_since faults k device refusal.NoMemory x = tt
-end_cause seen may_leave moment left_since faults k device refusal.DeviceFailed x = tt
-end_cause seen may_leave moment left_since faults k device refusal.LogFull x = tt
-end_cause seen may_leave moment left_since faults k device _ x = ∥∥₁_elim x (hlevel props) (λ (forced, keeps, out, e). e)
-
--- and 2 only where a call of the device has failed
+-- 2 only where a call of the device has failed
 pub end_failed : {D : Type 0} {g : Ghosts D} (seen : D → List ℕ) (may_leave : D → List ℕ → Type 0) (moment : D → ℕ) (left_since : D → ℕ → List ℕ → Type 0) (faults : D → ℕ) (k : Kernel D g) (device : D) (why : Refusal)
     → ∥ ((forced : Kernel D g) × Keeps seen may_leave moment left_since k forced × IsForcedOut k forced × IsEndCause seen faults forced.parts.operations.store.device device why) ∥₁ → why ≡ refusal.DeviceFailed → 0 < faults device
 end_failed seen may_leave moment left_since faults k device why x is = ∥∥₁_elim x (hlevel props) (λ (forced, keeps, out, e).

@@ -1,13 +1,14 @@
 -- Lines of sessions in turn, on a kernel whose log is turned over before a transaction.
-use Rattle.std.specs.Prelude.{ℕ, ◌≡◌, ◌≢◌, ◌<◌, List, Option, None}
+use Rattle.std.specs.Prelude.{ℕ, ◌≡◌, ◌<◌, ◌++◌, List, Option, None}
 use Rattle.mt_base.specs.declared.refusal.Refusal.{Refusal}
 use Rattle.mt_base.specs.declared.refusal.Refusal.TheVariants as refusal
 use Rattle.mt_disk.specs.declared.device.Device.{Ghosts}
 use Rattle.mt_model.specs.History.{after}
 use Rattle.mt_model.specs.Model.{Base}
+use Rattle.mt_model.specs.declared.history.Committed.{Committed}
 use Rattle.mt_replay.specs.Stands.{CanRestart}
 use Rattle.mt_restart.specs.Recovered.{CannotTurn}
-use Rattle.mt_restart.specs.Rotated.{GoesOver, StandsForBook}
+use Rattle.mt_restart.specs.Rotated.{GoesOver}
 use Rattle.mt_script.specs.declared.lines.Line.{Line}
 use Rattle.mt_server.specs.Driven.{IsBeside}
 use Rattle.mt_server.specs.Plays.{Play}
@@ -39,6 +40,11 @@ CannotTurnOver seen k = CannotTurn (seen k.parts.operations.store.device)
 abbrev pub StandsForPlay : {D : Type 0} → (D → List ℕ → Type 0) → ℕ → ℕ → Play → D → Type 0
 StandsForPlay may_leave relations counters q device = (c : List ℕ) → may_leave device c → ∥ CanRestart relations counters c (after q.first q.book) ∥₁
 
+-- so, or for what they and some further ones lead to, which were under way
+abbrev pub StandsForMore : {D : Type 0} → (D → List ℕ → Type 0) → ℕ → ℕ → Play → D → Type 0
+StandsForMore may_leave relations counters q device =
+    (c : List ℕ) → may_leave device c → ∥ ((further : List Committed) × CanRestart relations counters c (after q.first (q.book ++ further))) ∥₁
+
 module _ {D : Type 0} {g : Ghosts D} (seen : D → List ℕ) (may_leave : D → List ℕ → Type 0) where
   -- it holds beside whatever play of this session the kernel stands at, from whose first base it can be restarted
   abbrev pub BesideFrom : ℕ → Option ℕ → Kernel D g → (Play → Type 0) → Type 0
@@ -63,21 +69,21 @@ module _ {D : Type 0} {g : Ghosts D} (seen : D → List ℕ) (may_leave : D → 
 
 module _ {D : Type 0} {g : Ghosts D} (seen : D → List ℕ) (may_leave : D → List ℕ → Type 0) (faults : D → ℕ) where
   -- The log of this kernel was to be turned over, and only the device is left. By 2 only where a call of the device has failed; by 11 only where
-  -- the next area has no room for a kernel that goes on as this one.
+  -- the next area has no room for a kernel that goes on as this one. Whatever a crash leaves of the device stands for what the book leads to.
   pub record IsTurnedOut (k : Kernel D g) (why : Refusal) (device : D) : Type 0 where
     pub cause : IsTurnFault why
     pub failed : why ≡ refusal.DeviceFailed → 0 < faults device
     pub full : why ≡ refusal.LogFull → ∥ From seen may_leave k (CannotTurnOver seen) ∥₁
-    pub stands : (first : Base) → Restarts seen may_leave first k → StandsForBook may_leave first k why device
+    pub stands : (first : Base) → Restarts seen may_leave first k → (c : List ℕ) → may_leave device c → ∥ CanRestart k.relations k.counters c (after first k.parts.book.items) ∥₁
 
-  -- What is left behind a play where serving ended early: the kernel; or the device, since its log could not be turned over. A call of the device
-  -- has failed, or it stands for the commits; and by 11 the next area had no room for a kernel that stands there.
+  -- What is left behind a play where serving ended early: the kernel; or the device, since its log could not be turned over, which stands for the
+  -- commits. By 2 a call of it has failed; and by 11 the next area had no room for a kernel that stands there.
   abbrev pub IsLeftBy : ℕ → ℕ → NotServed D g → Play → Type 0
   IsLeftBy relations counters (Kept why n) q = IsLeftFor seen may_leave faults q n why × RestartsFor seen may_leave relations counters q n
-  IsLeftBy relations counters (Ended fault.Output device) q = 0 < faults device
+  IsLeftBy relations counters (Ended fault.Output device) q = (0 < faults device) × StandsForPlay may_leave relations counters q device
   IsLeftBy relations counters (Ended (fault.Refused why) device) q =
       IsTurnFault why × (why ≡ refusal.DeviceFailed → 0 < faults device) × (why ≡ refusal.LogFull → ∥ ((n : Kernel D g) × IsBeside seen may_leave q None n × CannotTurnOver seen n) ∥₁)
-      × (why ≢ refusal.DeviceFailed → StandsForPlay may_leave relations counters q device)
+      × StandsForPlay may_leave relations counters q device
 
   -- lines were cut short so
   abbrev pub IsCutOff : Play → Kernel D g → List Line → Option (List ℕ) → Option (List ℕ) → NotServed D g → Type 0

@@ -1,7 +1,8 @@
 // A kernel whose log is turned over between the transactions of one session.
-ghost use Rattle.std.specs.Prelude.{◌≡◌, IfErr, IfOk};
+ghost use Rattle.std.specs.Prelude.{◌≡◌, ℕ, IfErr, IfOk};
 ghost use Rattle.mt_restart.specs.Rotated.{GoesOver};
-ghost use Rattle.mt_server.specs.Turnovers.{IsTurnedOut, device_in, why_in};
+ghost use Rattle.mt_server.specs.Plays.{Play};
+ghost use Rattle.mt_server.specs.Turnovers.{IsLeftBy, IsTurnedOut, StandsForMore, device_in, why_in};
 
 use crate::running::RunFault;
 use mt_base::Refusal;
@@ -20,12 +21,21 @@ pub enum NotServed<D: Device> {
 
 impl<D: Device + Drop> NotServed<D> {
     /// Why they were not, and the device, with which everything else is let go. It takes no memory.
+    ///
+    /// Whatever a crash leaves of the device then stands for the play's commits, or for these and some that were under
+    /// way.
     pub fn into_device(self) -> (RunFault, D)
         ensures why { result.0 ≡ why_in self }
         ensures device { result.1 ≡ device_in self }
+        ensures stands { (relations counters : ℕ) (q : Play)
+            → IsLeftBy D.seen D.may_leave D.faults relations counters self q
+            → StandsForMore D.may_leave relations counters q result.1 }
     {
         match self {
-            NotServed::Kept(why, kernel) => (why, kernel.into_device()),
+            NotServed::Kept(why, kernel) => {
+                kernel.can_restart();
+                (why, kernel.into_device())
+            }
             NotServed::Ended(why, device) => (why, device),
         }
     }

@@ -1,5 +1,5 @@
 -- A kernel that is opened to be shared.
-use Rattle.std.proofs.Common.{◌≡◌, ◌≢◌, ◌⊎◌, inl, inr, ◌<◌, ℕ, Bool, List, [], Option, Some, None, nat_eq, if◌then◌else◌, true, false, length, refl, sym, subst}
+use Rattle.std.proofs.Common.{◌≡◌, ◌≢◌, ◌⊎◌, inl, inr, ◌<◌, ℕ, Bool, List, [], Some, None, Result, Ok, Err, nat_eq, if◌then◌else◌, true, false, length, refl, sym, subst, ◌∙◌}
 use Rattle.std.proofs.Props.{props}
 use mathlib.Core.Logic.{∥∥₁_elim}
 use Rattle.mt_base.specs.declared.refusal.Refusal.{Refusal}
@@ -36,7 +36,7 @@ module _ {D : Type 0} {g : Ghosts D} (seen : D → List ℕ) (may_leave : D → 
       began_so seen may_leave base n (base_of base) (start (base_of base)) refl (stays (base_of base) (start (base_of base)) opened.shows) (again (base_of base) opened.restarts)
 
   -- its book is empty
-  first_book : (first : model.Base) (k : Kernel D g) → Shows seen may_leave first (start first) k → k.parts.book.items ≡ []
+  pub first_book : (first : model.Base) (k : Kernel D g) → Shows seen may_leave first (start first) k → k.parts.book.items ≡ []
   first_book first k shows = ∥∥₁_elim (legal_of seen may_leave k.relations k.counters k.parts first (start first) shows) (hlevel (props, Books-set)) (λ (same, legal). sym same)
 
   pub book_at_first : (b : model.Base) (k n : Kernel D g) → BeginsOn seen may_leave b k → Stays seen may_leave k n → n.parts.book.items ≡ []
@@ -51,24 +51,44 @@ module _ {D : Type 0} {g : Ghosts D} (seen : D → List ℕ) (may_leave : D → 
 
 -- ---- refusals
 
--- a survey is refused so
-survey_refused : {D : Type 0} (failed : Bool) (k : Parts D) (why : Refusal) → survey_cause failed k ≡ Some why → IsUnmarked why
-survey_refused true k why is = let same : refusal.DeviceFailed ≡ why = cc in subst IsUnmarked same tt
-survey_refused false k why is = go (nat_eq (length k.live.members) 0) is
-  where
-    go : (none : Bool) → (if none then None else Some refusal.Busy) ≡ Some why → IsUnmarked why
-    go true e = absurd cc
-    go false e = let same : refusal.Busy ≡ why = cc in subst IsUnmarked same tt
+-- nothing keeps a survey from a kernel that has not failed, and in which nobody lives
+none_early : {D : Type 0} (failed : Bool) (k : Parts D) (why : Refusal) → failed ≡ false → length k.live.members ≡ 0 → survey_cause failed k ≡ Some why → ⊥
+none_early true k why well nobody is = cc
+none_early false k why well nobody is = let none : None ≡ Some why = rw nobody at is in cc
 
 is_memory : (why : Refusal) → (why ≡ refusal.NoMemory) ⊎ (why ≢ refusal.NoMemory)
 is_memory refusal.NoMemory = inl refl
 is_memory _ = inr (λ e. cc)
 
-pub unsurveyed : {D : Type 0} (failures : D → ℕ) (failed : Bool) (k n : Parts D) (why : Refusal) → (why ≢ refusal.NoMemory → (survey_cause failed k ≡ Some why) ⊎ IsFault failures k n why) → IsUnmarked why
-unsurveyed failures failed k n why cause = elim (is_memory why) [
+pub unsurveyed : {D : Type 0} (failures : D → ℕ) (failed : Bool) (k n : Parts D) (why : Refusal) → failed ≡ false → length k.live.members ≡ 0 → (why ≢ refusal.NoMemory → (survey_cause failed k ≡ Some why) ⊎ IsFault failures k n why) → IsUnmarked why
+unsurveyed failures failed k n why well nobody cause = elim (is_memory why) [
   | inl is ↦ subst IsUnmarked (sym is) tt
-  | inr other ↦ elim (cause other) [ inl is ↦ survey_refused failed k why is | inr fault ↦ subst IsUnmarked (sym fault.0) tt ]
+  | inr other ↦ elim (cause other) [ inl is ↦ absurd (none_early failed k why well nobody is) | inr fault ↦ subst IsUnmarked (sym fault.0) tt ]
 ]
+
+-- of a kernel that has not failed it is refused with 2 only where the device failed in the call
+pub survey_fault : {D : Type 0} (failures : D → ℕ) (failed : Bool) (k n : Parts D) (why : Refusal) → failed ≡ false → (why ≢ refusal.NoMemory → (survey_cause failed k ≡ Some why) ⊎ IsFault failures k n why) → why ≡ refusal.DeviceFailed
+    → failures k.operations.store.device < failures n.operations.store.device
+survey_fault failures true k n why well cause is = absurd cc
+survey_fault failures false k n why well cause is = elim (cause (λ e. let apart : refusal.DeviceFailed ≡ refusal.NoMemory = sym is ∙ e in cc)) [
+  | inl early ↦ absurd (go (nat_eq (length k.live.members) 0) early)
+  | inr fault ↦ fault.1
+]
+  where
+    go : (none : Bool) → (if none then None else Some refusal.Busy) ≡ Some why → ⊥
+    go true e = cc
+    go false e = let apart : refusal.Busy ≡ refusal.DeviceFailed = cc in cc
+
+-- an opening is refused with 2 only where the device failed in the call
+pub open_fault : (c : List ℕ) (failed : Type 0) (why : Refusal) → IsCauseToStop c failed why → why ≡ refusal.DeviceFailed → failed
+open_fault c failed refusal.DeviceFailed (inl cause) is = cause
+open_fault c failed refusal.DeviceFailed (inr full) is = let apart : refusal.DeviceFailed ≡ refusal.LogFull = full.0 in absurd cc
+open_fault c failed _ cause is = absurd cc
+
+-- a call that was refused so was not refused with 2
+pub refused_other : {T : Type 0} (r : Result T Refusal) (why : Refusal) → r ≡ Err why → (why ≡ refusal.DeviceFailed → ⊥) → r ≡ Err refusal.DeviceFailed → ⊥
+refused_other (Ok x) why is other failed = cc
+refused_other (Err e) why is other failed = let same : why ≡ refusal.DeviceFailed = cc in other same
 
 -- what keeps a device from being opened, in whatever call it failed
 pub unopened_by : (c : List ℕ) (failed : Type 0) (why : Refusal) → IsCauseToStop c failed why → IsUnshared c why

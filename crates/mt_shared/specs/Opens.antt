@@ -13,11 +13,10 @@ use Rattle.mt_steps.specs.Listed.{IsSame}
 abbrev pub IsBaseOf : List ℕ → Base → Type 0
 IsBaseOf c first = (relations counters : ℕ) (b : model.Base) → CanRestart relations counters c b → IsSame counters (base_of first) b
 
--- 1, 2, or as a survey is refused
+-- 1 or 2
 abbrev pub IsUnmarked : Refusal → Type 0
 IsUnmarked refusal.NoMemory = ⊤
 IsUnmarked refusal.DeviceFailed = ⊤
-IsUnmarked refusal.Busy = ⊤
 IsUnmarked _ = ⊥
 
 -- or what keeps a device of these bytes from being opened

@@ -71,12 +71,12 @@ pub record Beside (end seat : Held) : Type 0 where
   pub list : seat.view.list ≡ end.view.list
   pub above : 1 ≤ seat.view.number
 
--- an end and so many seats of one mark, about a kernel: its history is the book
-pub record IsMarked (kernel : BasedSeen) (count : ℕ) (end : Held) (seats : List Held) : Type 0 where
-  pub base : end.view.base ≡ kernel.base
+-- an end and so many seats of one mark, about a kernel that began on this base: its history is the book
+pub record IsMarked (base : Base) (book : List Committed) (count : ℕ) (end : Held) (seats : List Held) : Type 0 where
+  pub base_is : end.view.base ≡ base
   pub confirmed : IsConfirmed end.view
-  pub list : end.view.list ≡ labelled kernel.book
-  pub book : end.view.book ≡ kernel.book
+  pub list : end.view.list ≡ labelled book
+  pub book_is : end.view.book ≡ book
   pub seats_are : All (Beside end) seats
   pub many : length seats ≡ count
 

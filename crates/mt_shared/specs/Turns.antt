@@ -1,5 +1,5 @@
 -- What is told of a kernel under the lock: of its log, and of a log that was turned over.
-use Rattle.std.specs.Prelude.{◌≡◌, ℕ, Bool, true, None, Result, Ok, IfErr}
+use Rattle.std.specs.Prelude.{◌≡◌, ℕ, Bool, true, None, Result, Ok, IfErr, IsErr}
 use Rattle.mt_base.specs.declared.refusal.Refusal.{Refusal}
 use Rattle.mt_disk.specs.declared.device.Device.{Ghosts}
 use Rattle.mt_live.specs.Machine.{State}
@@ -45,3 +45,5 @@ pub record IsRotation {D : Type 0} (g : Ghosts D) (commits : ℕ) (old new : Kep
   pub turned : IsTurned commits old new
   pub why : IfErr told IsTurnFault
   pub did : told ≡ Ok true → HasTurned g old.base
+  -- where no more than the device is left, it is refused
+  pub gone : new.is_left ≡ true → IsErr told

@@ -1,5 +1,5 @@
 // A kernel under the lock, or what a rotation left of it.
-ghost use Rattle.std.specs.Prelude.{◌≡◌, Ok, true, false, length, IfOk, IfErr, IfSome, IfNone};
+ghost use Rattle.std.specs.Prelude.{◌≡◌, Ok, true, false, length, IfOk, IfErr, IsErr, IfSome, IfNone};
 ghost use mathlib.Core.List.{IsPrefix};
 ghost use Rattle.mt_mark.specs.Legal.{IsLegal};
 ghost use Rattle.mt_shared.specs.Began.{BeganOn, IsIdle};
@@ -223,6 +223,7 @@ impl<D: Device + Drop> Kept<D> {
         ensures turned { IsTurned commits self.old self.new }
         ensures why { IfErr result IsTurnFault }
         ensures did { result ≡ Ok true → HasTurned ⟦<D as Device>⟧ self.old.base }
+        ensures gone { self.new.is_left ≡ true → IsErr result }
     {
         replace_with(self, (commits, alloc, frames), turn_kept)
     }

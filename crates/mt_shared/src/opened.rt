@@ -1,5 +1,9 @@
-ghost use Rattle.std.specs.Prelude.{◌≡◌, ◌<◌, ◌^◌, [], All, IfOk, IfErr, vec_len};
+ghost use Rattle.std.specs.Prelude.{◌≡◌, ◌<◌, ◌^◌, [], ℕ, List, All, IfOk, IfErr, vec_len};
+ghost use Rattle.mt_base.specs.declared.refusal.Refusal.{Refusal};
+ghost use Rattle.mt_mark.specs.Legal.{IsLegal};
 ghost use Rattle.mt_mark.specs.Rule.{dones, labelled};
+ghost use Rattle.mt_model.specs.Model.{Base as ModelBase};
+ghost use Rattle.mt_replay.specs.Stands.{CanRestart};
 ghost use Rattle.mt_shared.specs.Began.{BeganOn};
 ghost use Rattle.mt_shared.specs.Opens.{IsBaseOf, IsUnshared};
 ghost use Rattle.mt_shared.specs.Seen.{PassSeen, OpenedSeen, Beside, IsMarked};
@@ -54,7 +58,7 @@ impl<D: Device> Opened<D> {
     /// A mark beside the kernel, with seats for this many passes. The history begins with the kernel's book. Of the
     /// base that the kernel began on nothing is kept but for contracts; of the book a copy is made, and let go.
     ///
-    /// Where memory is short, the kernel comes back.
+    /// Where memory is short, the kernel comes back as it was.
     pub fn new(
         alloc: Global,
         kernel: Kernel<D>,
@@ -67,11 +71,15 @@ impl<D: Device> Opened<D> {
         ensures many { IfOk result (λ o. o.count ≡ count) }
         ensures book { IfErr result (λ k. k.parts.book.items ≡ kernel.parts.book.items) }
         ensures began { IfErr result (λ k. BeganOn D.seen D.may_leave base.now k) }
+        ensures same { IfErr result (λ k. k ≡ kernel) }
     {
-        let kernel = Based::new(kernel, base);
-        match marked(alloc, &kernel, base, count) {
-            Ok((end, seats)) => Ok(Opened { kernel, end, seats }),
-            Err(_) => Err(kernel.into_kernel()),
+        match marked(alloc, base, kernel.book(), count) {
+            Ok((end, seats)) => Ok(Opened {
+                kernel: Based::new(kernel, base),
+                end,
+                seats,
+            }),
+            Err(_) => Err(kernel),
         }
     }
 
@@ -111,8 +119,9 @@ impl<D: Device + Drop> Opened<D> {
     /// of so many passes. The history is empty, and begins on the base that the bytes stood for, which a survey
     /// tells.
     ///
-    /// Refused as [`open`](mt_restart::open) and [`Kernel::survey`], and with 1 where the mark finds no memory. The device
-    /// is handed back.
+    /// Refused as [`open`](mt_restart::open), and with 1 where the survey or the mark finds no memory. A refusal is 2 if
+    /// and only if the device failed in this call. The device is handed back, and stands for what it stood for, unless it
+    /// failed.
     pub fn open(
         alloc: Global,
         device: D,
@@ -124,6 +133,13 @@ impl<D: Device + Drop> Opened<D> {
         ensures first { IfOk result (λ opened. opened.book ≡ []) }
         ensures many { IfOk result (λ opened. opened.count ≡ count) }
         ensures refused { IfErr result (λ gone. IsUnshared (D.seen device) gone.0) }
+        ensures failed { IfErr result (λ gone. gone.0 ≡ Refusal.DeviceFailed → D.faults device < D.faults gone.1) }
+        // Whatever a crash leaves of the device then, it stands for what it stood for.
+        ensures settled { (relations counters : ℕ) (b : ModelBase) → CanRestart relations counters (D.seen device) b
+            → IfErr result (λ gone. (gone.0 ≡ Refusal.DeviceFailed → ⊥) → (c : List ℕ) → D.may_leave gone.1 c
+            → ∥ CanRestart relations counters c b ∥₁) }
+        ensures quiet { IfErr result (λ gone. (gone.0 ≡ Refusal.DeviceFailed → ⊥)
+            → D.faults gone.1 ≡ D.faults device) }
     {
         let mut kernel = match open(alloc, device, frames) {
             Ok(kernel) => kernel,
@@ -141,22 +157,22 @@ impl<D: Device + Drop> Opened<D> {
     }
 }
 
-// A mark about this kernel, and the seats of so many passes.
-fn marked<D: Device>(
+// A mark about a kernel that began on this base and has this book, and the seats of so many passes.
+fn marked(
     alloc: Global,
-    kernel: &Based<D>,
     base: &Base,
+    book: &[Committed],
     count: usize,
 ) -> Result<(End, Vec<Seat>), AllocError>
     requires count { count < 2 ^ 32 }
-    requires base { kernel.now.base ≡ base.now }
-    ensures { IfOk result (λ r. IsMarked kernel.now count r.0 r.1.items) }
+    requires legal { IsLegal base.now book.now }
+    ensures { IfOk result (λ r. IsMarked base.now book.now count r.0 r.1.items) }
 {
-    let book = copy_of(alloc, kernel.book())?;
-    let from = book.len() as u64;
+    let copy = copy_of(alloc, book)?;
+    let from = copy.len() as u64;
     let about = About {
         base: Snapshot::of(base),
-        book: Snapshot::of(&book),
+        book: Snapshot::of(&copy),
     };
     mt_mark::new(alloc, &about, from, count)
 }

@@ -1,5 +1,5 @@
 // A rotation of a kernel with its base.
-ghost use Rattle.std.specs.Prelude.{◌≡◌, ◌↔◌, Ok, true, false, length, IfOk, IfErr, IsTrue};
+ghost use Rattle.std.specs.Prelude.{◌≡◌, ◌↔◌, Ok, true, false, length, IfOk, IfErr, IsErr, IsTrue};
 ghost use Rattle.mt_shared.specs.Seen.{IsTurned, KeepsAll, seen_of, whole};
 ghost use Rattle.mt_shared.specs.Refusals.{IsTurnFault};
 ghost use Rattle.mt_shared.specs.Turns.{HasTurned};
@@ -35,6 +35,7 @@ fn kept<D: Device>(kernel: Based<D>, told: Result<bool, Refusal>) -> Turned<D>
 fn outcome(why: Refusal) -> Result<bool, Refusal>
     ensures why { IfErr result IsTurnFault }
     ensures not { IfOk result (λ did. did ≡ false) }
+    ensures fault { IsTurnFault why → IsErr result }
 {
     match why {
         Refusal::NoMemory | Refusal::DeviceFailed | Refusal::LogFull => Err(why),
@@ -59,6 +60,7 @@ pub(crate) fn turn<D: Device + Drop>(
     ensures turned { IsTurned commits (whole kernel) (seen_of result.held result.past) }
     ensures why { IfErr result.told IsTurnFault }
     ensures did { result.told ≡ Ok true → HasTurned ⟦<D as Device>⟧ kernel.base }
+    ensures gone { (seen_of result.held result.past).is_left ≡ true → IsErr result.told }
 {
     if kernel.has_failed() {
         return kept(kernel, Err(Refusal::DeviceFailed));
@@ -73,6 +75,7 @@ fn rotated<D: Device + Drop>(kernel: Based<D>, alloc: Global, frames: usize) -> 
     ensures keeps { KeepsAll kernel (seen_of result.held result.past) }
     ensures why { IfErr result.told IsTurnFault }
     ensures did { result.told ≡ Ok true → HasTurned ⟦<D as Device>⟧ kernel.base }
+    ensures gone { (seen_of result.held result.past).is_left ≡ true → IsErr result.told }
 {
     let book = kernel.book();
     let len = book.len() as u64;

@@ -4,7 +4,7 @@ use Rattle.std.proofs.Math.Nat.{div-add-mod'}
 use Rattle.std.proofs.lemmas.Bool.{cases_lt, cases_eq}
 use Rattle.mt_base.specs.Ranges.{u16_at, part, Has, Torn, Wrote, Same}
 use Rattle.mt_slots.specs.Page.{Row, count, offset, size, row_size, row_at, live_bytes, IsRow, IsShaped, Sets, Opens}
-use Rattle.mt_slots.specs.Parts.{row_text, Placed, IsPlace, StaysPut}
+use Rattle.mt_slots.specs.Parts.{row_text, Placed, PutsRow, IsPlace, StaysPut}
 use Rattle.mt_base.proofs.Places.{same_within, same_torn, part_has, has_front, has_back, has_torn}
 use Rattle.mt_slots.proofs.Pages.{slot_live, offset_same, size_same, live_same, live_one, Keeps, Counts, others_kept, one_slot}
 
@@ -122,9 +122,7 @@ placed_by old a b new i n at bytes text opens low is wrote head points sized tor
 
 -- what the three writes come to
 pub record PutThere (old new : List ℕ) (i n : ℕ) (r : Row) : Type 0 where
-  pub shaped : IsShaped new
-  pub sets : Sets old new i (Some r) n
-  pub live : live_bytes new (count new) ≡ live_bytes old (count old) + (4 + length r.key + length r.value)
+  pub puts : PutsRow old new i n r
   pub stays : StaysPut old new i
 
 pub put_there : (old a b new : List ℕ) (i n at bytes : ℕ) (r : Row) → IsShaped old → IsPlace old i n at (4 + length r.key + length r.value) → bytes ≡ 4 + length r.key + length r.value
@@ -137,4 +135,4 @@ put_there old a b new i n at bytes r shaped free is wrote head points sized torn
     let place : IsPlace old i n at (length (row_text r)) = rw long free in
     let done = placed old new i n at r shaped place (placed_by old a b new i n at bytes (row_text r) place.opens place.low (is ∙ sym long) wrote head points sized torn counted) in
     let live = done.2 in
-    record { shaped = done.0; sets = done.1; live = omega arith; stays = done.3 }
+    record { puts = record { shaped = done.0; sets = done.1; live = omega arith }; stays = done.3 }

@@ -1,9 +1,9 @@
 -- What is known of a page while it is changed.
-use Rattle.std.specs.Prelude.{◌≡◌, ◌≢◌, ◌⊎◌, ℕ, ◌+◌, ◌*◌, ◌/◌, ◌%◌, ◌<◌, ◌≤◌, List, [], ◌∷◌, ◌++◌, length}
+use Rattle.std.specs.Prelude.{◌≡◌, ◌≢◌, ◌⊎◌, ℕ, ◌+◌, ◌*◌, ◌/◌, ◌%◌, ◌<◌, ◌≤◌, List, [], ◌∷◌, ◌++◌, length, Some}
 use Rattle.std.proofs.Math.ListN.{get_or}
 use Rattle.mt_base.specs.declared.limits.TheConstants.{PAGE_BYTES}
-use Rattle.mt_base.specs.Ranges.{Has, Same}
-use Rattle.mt_slots.specs.Page.{Row, count, offset, size, row_at, slot, live_bytes, IsFree, IsSlot, Fits, Opens}
+use Rattle.mt_base.specs.Ranges.{Has, Same, part}
+use Rattle.mt_slots.specs.Page.{Row, count, offset, size, row_at, slot, live_bytes, IsFree, IsShaped, IsSlot, Fits, Opens, Sets}
 
 -- slot i of a page whose table ends at `low`, with a record of the schema if it holds one
 pub record IsGood (relations longest : ℕ) (page : List ℕ) (low i : ℕ) : Type 0 where
@@ -13,6 +13,14 @@ pub record IsGood (relations longest : ℕ) (page : List ℕ) (low i : ℕ) : Ty
 -- a record as it stands in a page
 abbrev pub row_text : Row → List ℕ
 row_text r = (r.relation ∷ length r.key ∷ length r.value / 256 ∷ length r.value % 256 ∷ []) ++ (r.key ++ r.value)
+
+-- a record's relation and the length of its key are these, and its key is in the buffer
+pub record KeepsKey (row : Row) (buffer : List ℕ) (relation n : ℕ) : Type 0 where
+  pub same : relation ≡ row.relation
+  pub small : relation < 256
+  pub long : n ≡ length row.key
+  pub fits : n < 256
+  pub key : part buffer 0 n ≡ row.key
 
 -- a record's text lies at a place, slot i's head names it, and all other bytes behind the count stay
 pub record Placed (old new : List ℕ) (i at : ℕ) (text : List ℕ) (n : ℕ) : Type 0 where
@@ -46,6 +54,12 @@ pub record Begins (page : List ℕ) (n low : ℕ) : Type 0 where
   pub within : place < n
   pub live : size page place ≢ 0
   pub here : offset page place ≡ low
+
+-- a record is put into slot i, with which the table is n slots long
+pub record PutsRow (old new : List ℕ) (i n : ℕ) (r : Row) : Type 0 where
+  pub shaped : IsShaped new
+  pub sets : Sets old new i (Some r) n
+  pub live : live_bytes new (count new) ≡ live_bytes old (count old) + (4 + length r.key + length r.value)
 
 -- what a walk over the first n slots finds: their bytes, the lowest empty slot, and where the lowest
 -- record begins

@@ -2,9 +2,8 @@
 ghost use Rattle.std.specs.Prelude.{◌≡◌, ◌≢◌, ◌+◌, ◌*◌, ◌<◌, ◌≤◌, ℕ, length, set, Some, None, IsSome, IfSome, IfNone};
 ghost use Rattle.std.specs.Bool.{OnTrue, OnFalse};
 ghost use Rattle.mt_base.specs.declared.limits.TheConstants.{PAGE_BYTES};
-ghost use Rattle.mt_base.specs.Ranges.{part};
 ghost use Rattle.mt_slots.specs.Page.{Row, IsShaped, Sets, Inserted, IsFull, count, offset, size, slot as held, slots, row_at, row_length, live_bytes, room_of, put_at, Opens};
-ghost use Rattle.mt_slots.specs.Parts.{HasPlace, StaysPut};
+ghost use Rattle.mt_slots.specs.Parts.{HasPlace, KeepsKey, StaysPut};
 
 use crate::checking::is_free;
 use crate::heads::{PAGE_HEAD_BYTES, SLOT_BYTES, offset_of, set_head, size_of, slot_count};
@@ -133,11 +132,7 @@ fn keep(page: &[u8], i: usize, buffer: &mut [u8]) -> (RelNo, usize)
     requires there { i < count page.now }
     requires live { size page.now i ≢ 0 }
     requires whole { length buffer.old ≡ 256 }
-    ensures relation { result.0 ≡ (row_at page.now (offset page.now i)).relation }
-    ensures small { result.0 < 256 }
-    ensures length { result.1 ≡ length (row_at page.now (offset page.now i)).key }
-    ensures fits { result.1 < 256 }
-    ensures key { part buffer.new 0 result.1 ≡ (row_at page.now (offset page.now i)).key }
+    ensures { KeepsKey (row_at page.now (offset page.now i)) buffer.new result.0 result.1 }
 {
     let view = view_at(page, offset_of(page, i));
     put(buffer, 0, view.key);

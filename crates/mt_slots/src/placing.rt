@@ -1,9 +1,9 @@
 // Putting a record where there is room for it.
-ghost use Rattle.std.specs.Prelude.{◌≡◌, ◌≢◌, ◌+◌, ◌*◌, ◌<◌, ◌≤◌, ℕ, length, Some, IfSome, IfNone};
+ghost use Rattle.std.specs.Prelude.{◌≡◌, ◌≢◌, ◌+◌, ◌*◌, ◌<◌, ◌≤◌, ℕ, length, IfSome, IfNone};
 ghost use Rattle.mt_base.specs.declared.limits.TheConstants.{PAGE_BYTES};
 ghost use Rattle.mt_base.specs.Ranges.{Wrote};
-ghost use Rattle.mt_slots.specs.Page.{IsShaped, IsFree, Sets, Opens, count, offset, size, live_bytes};
-ghost use Rattle.mt_slots.specs.Parts.{IsPlace, HasPlace, StaysPut, Begins, row_text};
+ghost use Rattle.mt_slots.specs.Page.{IsShaped, IsFree, Opens, count, offset, size, live_bytes};
+ghost use Rattle.mt_slots.specs.Parts.{IsPlace, HasPlace, StaysPut, Begins, row_text, PutsRow};
 
 use crate::checking::is_free;
 use crate::heads::{
@@ -61,11 +61,8 @@ pub(crate) fn place_row(
     requires place { IsPlace page.old i slots at (4 + length key.now + length value.now) }
     requires relation_fits { relation < 256 }
     requires key_fits { length key.now < 256 }
-    ensures shaped { IsShaped page.new }
-    ensures sets { Sets page.old page.new i (Some
-        (record { relation = relation; key = key.now; value = value.now })) slots }
-    ensures live { live_bytes page.new (count page.new) ≡ live_bytes page.old (count page.old) +
-        (4 + length key.now + length value.now) }
+    ensures puts { PutsRow page.old page.new i slots
+        (record { relation = relation; key = key.now; value = value.now }) }
     ensures stays { StaysPut page.old page.new i }
 {
     write_row(page, at, relation, key, value);
@@ -125,11 +122,8 @@ pub(crate) fn settle(
     requires room { 8 + 4 * slots + found.live + (4 + length key.now + length value.now) ≤ PAGE_BYTES }
     requires relation_fits { relation < 256 }
     requires key_fits { length key.now < 256 }
-    ensures shaped { IsShaped page.new }
-    ensures sets { Sets page.old page.new i (Some
-        (record { relation = relation; key = key.now; value = value.now })) slots }
-    ensures grown { live_bytes page.new (count page.new) ≡ live_bytes page.old (count page.old) +
-        (4 + length key.now + length value.now) }
+    ensures puts { PutsRow page.old page.new i slots
+        (record { relation = relation; key = key.now; value = value.now }) }
     ensures stays { HasPlace page.old i slots (4 + length key.now + length value.now) → StaysPut page.old page.new i }
 {
     let bytes = row_bytes(key, value);

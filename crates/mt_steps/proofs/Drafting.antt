@@ -12,7 +12,7 @@ use Rattle.mt_space.specs.declared.changes.PageChange.{PageChange}
 use Rattle.mt_space.specs.Changes.{PageBytes, Agrees, IsUntouched, IsShort, AreShort, replaced, after}
 use Rattle.mt_space.proofs.Changing.{replaced_here, replaced_other, after_push, after_untouched}
 use Rattle.mt_steps.specs.declared.draft.PageCopy.{PageCopy}
-use Rattle.mt_steps.specs.Drafts.{copied, or_below, shown, or_bytes, drawn, IsUncopied, AreApart, AreCopies, IsCopyAt, Keeps}
+use Rattle.mt_steps.specs.Drafts.{ComeTo, copied, or_below, shown, or_bytes, drawn, IsUncopied, AreApart, AreCopies, IsCopyAt, Keeps}
 
 same_bytes : (a b : List ℕ) → Some a ≡ Some b → a ≡ b
 same_bytes a b e = cc
@@ -235,13 +235,6 @@ drawn_more below old new cs i c start pages lt is there made agrees was =
     ∙ sym (after_more cs i c start lt is)
 
 -- ---- what copies come to
-
--- these changes are what the copies come to
-pub record ComeTo (below : ℕ → Option (List ℕ)) (copies : List PageCopy) (changes : List PageChange) : Type 0 where
-  pub made : (pages : PageBytes) → Agrees below pages → after changes pages ≡ drawn copies pages
-  pub short : (pages : PageBytes) → Agrees below pages → AreShort changes pages
-  pub same : (p : ℕ) → shown copies below p ≡ below p → IsUntouched changes p
-  pub few : length changes ≤ length copies
 
 -- one page's bytes were noted
 pub record IsNoted (p : ℕ) (old new : List ℕ) (was now : List PageChange) : Type 0 where

@@ -1,9 +1,9 @@
 -- Pages as they will be: copies of some pages that lie over all pages.
-use Rattle.std.specs.Prelude.{◌≡◌, ◌≢◌, ◌==◌, ◌<◌, if◌then◌else◌, All, ℕ, Bool, List, [], ◌∷◌, length, take, Option, Some, None, IsSome}
+use Rattle.std.specs.Prelude.{◌≡◌, ◌≢◌, ◌==◌, ◌+◌, ◌<◌, ◌≤◌, ◌↔◌, if◌then◌else◌, All, ℕ, Bool, List, [], ◌∷◌, length, take, Option, Some, None, IsSome, OnOk, Result}
 use Rattle.std.specs.List.{list_any}
 use Rattle.std.proofs.Math.ListN.{get_or}
 use Rattle.mt_base.specs.declared.limits.TheConstants.{PAGE_BYTES}
-use Rattle.mt_space.specs.Changes.{PageBytes}
+use Rattle.mt_space.specs.Changes.{PageBytes, Agrees, AreShort, IsUntouched, after}
 use Rattle.mt_space.specs.declared.changes.PageChange.{PageChange}
 use Rattle.mt_steps.specs.declared.draft.PageCopy.{PageCopy}
 
@@ -59,6 +59,22 @@ Keeps p bytes old new = (q : ℕ) → copied new q ≡ (if p == q then Some byte
 -- each change is of a page that is at hand
 abbrev pub AreAtHand : (ℕ → Option (List ℕ)) → List PageChange → Type 0
 AreAtHand at_hand changes = All (λ c. IsSome (at_hand c.page)) changes
+
+-- these changes are made in a draft, or a first part of them where memory was refused
+pub record MakesChanges {V T E : Type 0} (at_hand : ℕ → Option (List ℕ)) (was now : V) (old new : List PageCopy) (changes : List PageChange) (r : Result T E) : Type 0 where
+  pub copies : AreCopies at_hand new
+  pub views : now ≡ was
+  pub same_pages : (p : ℕ) → IsSome (shown new at_hand p) ↔ IsSome (at_hand p)
+  pub agrees : OnOk r ((pages : PageBytes) → Agrees (shown old at_hand) pages → Agrees (shown new at_hand) (after changes pages))
+  pub few : OnOk r (length new ≤ length old + length changes)
+  pub draws : OnOk r ((pages : PageBytes) → Agrees at_hand pages → drawn new pages ≡ after changes (drawn old pages))
+
+-- these changes are what the copies come to
+pub record ComeTo (below : ℕ → Option (List ℕ)) (copies : List PageCopy) (changes : List PageChange) : Type 0 where
+  pub made : (pages : PageBytes) → Agrees below pages → after changes pages ≡ drawn copies pages
+  pub short : (pages : PageBytes) → Agrees below pages → AreShort changes pages
+  pub same : (p : ℕ) → shown copies below p ≡ below p → IsUntouched changes p
+  pub few : length changes ≤ length copies
 
 -- some change is of this page
 unfoldable pub names_page : List PageChange → ℕ → Bool

@@ -1,9 +1,9 @@
 // Pages as they will be once some changes are made.
-ghost use Rattle.std.specs.Prelude.{◌≡◌, ◌+◌, ◌≤◌, ℕ, List, [], All, length, IfSome, IfNone, IfOk, OnOk, OnErr, IsSome, ◌↔◌, Some, None};
+ghost use Rattle.std.specs.Prelude.{◌≡◌, ◌+◌, ◌≤◌, ℕ, List, [], All, length, IfSome, IfNone, IfOk, OnOk, OnErr, IsSome, Some, None};
 ghost use Rattle.mt_base.specs.declared.limits.TheConstants.{PAGE_BYTES};
 ghost use Rattle.mt_base.specs.Edits.{patched};
-ghost use Rattle.mt_space.specs.Changes.{PageBytes, Agrees, IsUntouched, AreShort, after};
-ghost use Rattle.mt_steps.specs.Drafts.{copied, shown, drawn, AreApart, AreCopies, AreAtHand, IsCopyAt, Keeps};
+ghost use Rattle.mt_space.specs.Changes.{PageBytes, Agrees, AreShort, after};
+ghost use Rattle.mt_steps.specs.Drafts.{copied, shown, AreApart, AreCopies, AreAtHand, ComeTo, IsCopyAt, Keeps, MakesChanges};
 
 use mt_base::PageNo;
 use mt_space::{Changes, PageChange, Pages, patch};
@@ -47,17 +47,8 @@ impl<'a, V: Pages> Draft<'a, V> {
         requires there { AreAtHand (shown self.old.copies.items (V.at_hand self.old.views.now)) changes.now.list.items }
         requires short { ∥ ((pages : PageBytes) × Agrees (shown self.old.copies.items
             (V.at_hand self.old.views.now)) pages × AreShort changes.now.list.items pages) ∥₁ }
-        ensures copies { AreCopies (V.at_hand self.old.views.now) self.new.copies.items }
-        ensures views { self.new.views.now ≡ self.old.views.now }
-        ensures same_pages { (p : ℕ) → IsSome (shown self.new.copies.items
-            (V.at_hand self.old.views.now) p) ↔ IsSome (V.at_hand self.old.views.now p) }
-        ensures agrees { OnOk result ((pages : PageBytes) → Agrees (shown self.old.copies.items
-            (V.at_hand self.old.views.now)) pages → Agrees (shown self.new.copies.items (V.at_hand self.old.views.now))
-            (after changes.now.list.items pages)) }
-        ensures few { OnOk result (length self.new.copies.items ≤ length self.old.copies.items + length
-            changes.now.list.items) }
-        ensures drawn { OnOk result ((pages : PageBytes) → Agrees (V.at_hand self.old.views.now) pages →
-            drawn self.new.copies.items pages ≡ after changes.now.list.items (drawn self.old.copies.items pages)) }
+        ensures { MakesChanges (V.at_hand self.old.views.now) self.old.views.now self.new.views.now
+            self.old.copies.items self.new.copies.items changes.now.list.items result }
     {
         for change in &changes.list {
             self.make(change)?;
@@ -92,14 +83,9 @@ impl<'a, V: Pages> Draft<'a, V> {
     pub(crate) fn changes(&self) -> Result<Changes, AllocError>
         requires sound { V.is_sound self.now.views.now }
         requires copies { AreCopies (V.at_hand self.now.views.now) self.now.copies.items }
-        ensures made { IfOk result (λ changes. (pages : PageBytes) → Agrees (V.at_hand self.now.views.now) pages →
-            after changes.list.items pages ≡ drawn self.now.copies.items pages) }
-        ensures short { IfOk result (λ changes. (pages : PageBytes) → Agrees (V.at_hand self.now.views.now) pages →
-            AreShort changes.list.items pages) }
+        ensures made { IfOk result (λ changes.
+            ComeTo (V.at_hand self.now.views.now) self.now.copies.items changes.list.items) }
         ensures there { IfOk result (λ changes. AreAtHand (V.at_hand self.now.views.now) changes.list.items) }
-        ensures few { IfOk result (λ changes. length changes.list.items ≤ length self.now.copies.items) }
-        ensures same { IfOk result (λ changes. (p : ℕ) → shown self.now.copies.items
-            (V.at_hand self.now.views.now) p ≡ V.at_hand self.now.views.now p → IsUntouched changes.list.items p) }
     {
         let mut changes = Changes::new(*self.copies.allocator());
         for copy in &self.copies {

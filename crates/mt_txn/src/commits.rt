@@ -73,12 +73,13 @@ impl<D: Device> Kernel<D> {
     /// with its last, which answers the transactions whose commits are durable now. They are in the book then, in the
     /// order of their commits, and live no more.
     ///
-    /// Refused, in this order: 2 where the device has failed or fails in this call, 1 for want of memory. The state is
-    /// as before.
+    /// Refused, in this order: 2 where the device has failed, 1 for want of memory, 2 where the device fails in this
+    /// call. So no fault is passed over. The state is as before.
     pub fn force_step(&mut self) -> Result<KernelForced, Refusal>
         ensures cause { IfErr result (λ why. why ≢ Refusal.NoMemory
             → IsFailure D.faults (is_failed self.old) self.old.parts self.new.parts why) }
         ensures pool { self.new.parts.operations.store.pool ≡ self.old.parts.operations.store.pool }
+        ensures ruling { self.new.parts.operations.store.ruling ≡ self.old.parts.operations.store.ruling }
         ensures appended { appended self.new.parts.operations.store.log
             ≡ appended self.old.parts.operations.store.log }
         ensures log { IfOk result (λ forced. IsForcedBy self.old.parts.operations.store.log
@@ -90,6 +91,7 @@ impl<D: Device> Kernel<D> {
         ensures err { OnErr result (SameStates self.old.parts self.new.parts
             × SameCommits self.old.parts self.new.parts) }
         ensures memory { result ≡ Err Refusal.NoMemory → self.new ≡ self.old }
+        ensures quiet { TellsEachFault D.faults self.old result self.new }
         ensures forced { (first : Base) (s : State) → Shows D.seen D.may_leave first s self.old
             → HasForced D.seen D.may_leave first s result self.new }
         ensures schema { SameSchema self.old self.new }

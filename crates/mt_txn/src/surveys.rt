@@ -5,7 +5,7 @@ ghost use Rattle.mt_kernel.specs.Consistent.{OnlyOperations};
 ghost use Rattle.mt_live.specs.Machine.{State};
 ghost use Rattle.mt_model.specs.Model.{Base};
 ghost use Rattle.mt_txn.specs.Causes.{IsFault, survey_cause};
-ghost use Rattle.mt_txn.specs.Shown.{FailsForGood, SameSchema, Shows, Stays, StaysRestarting, is_failed};
+ghost use Rattle.mt_txn.specs.Shown.{FailsForGood, SameSchema, Shows, Stays, StaysRestarting, TellsEachFault, is_failed};
 ghost use Rattle.mt_txn.specs.Surveyed.{TellsBase, TellsPages};
 ghost use Rattle.mt_txn.specs.Shown.{LeavesFound};
 
@@ -20,7 +20,7 @@ impl<D: Device> Kernel<D> {
     /// the one that the pages hold. It reads each page of records once, writes nothing, and needs no free frame.
     ///
     /// Refused, in this order: 2 where the device has failed, 16 where a transaction lives. Then 1 for want of memory
-    /// and 2 where the device fails in this call. The state is as before in any case.
+    /// and 2 where the device fails in this call, so no fault is passed over. The state is as before in any case.
     pub fn survey(&mut self) -> Result<Survey, Refusal>
         ensures may { OnOk result (survey_cause (is_failed self.old) self.old.parts ≡ None) }
         ensures cause { IfErr result (λ why. why ≢ Refusal.NoMemory
@@ -39,6 +39,7 @@ impl<D: Device> Kernel<D> {
         ensures restarts { StaysRestarting D.seen D.may_leave self.old self.new }
         ensures moments { LeavesFound D.seen D.may_leave D.moment D.left_since self.old self.new }
         ensures fails { FailsForGood self.old result self.new }
+        ensures quiet { TellsEachFault D.faults self.old result self.new }
     {
         if self.has_failed() {
             return Err(Refusal::DeviceFailed);

@@ -111,6 +111,14 @@ module _ {D : Type 0} {g : Ghosts D} (seen : D → List ℕ) (may_leave : D → 
       (λ is. absurd (full is)))
       few
 
+  -- a device that was formatted is long enough
+  pub long_of : (device : D) (r : Result (Kernel D g) (Refusal × D)) → IfErr r (λ gone. (gone.0 ≡ refusal.NoMemory) ⊎ ((gone.0 ≡ refusal.DeviceFailed) ⊎ (gone.0 ≡ refusal.LogFull))) → IfErr r (λ gone. gone.0 ≡ refusal.BadLength → gone.1 ≡ device)
+  long_of device (Ok k) few = tt
+  long_of device (Err gone) few = λ is. absurd (⊎_elim
+      (λ e. let bad : refusal.BadLength ≡ refusal.NoMemory = sym is ∙ e in cc)
+      (⊎_elim (λ e. let bad : refusal.BadLength ≡ refusal.DeviceFailed = sym is ∙ e in cc) (λ e. let bad : refusal.BadLength ≡ refusal.LogFull = sym is ∙ e in cc))
+      few)
+
   -- ---- and then
 
   pub from_format : (faults : D → ℕ) (s : Schema) (device : D) (k : Kernel D g) (events : List Event) (answers : List Answer) (standing : Standing D g) → HasBegun may_leave moment left_since s device k → (k.relations ≡ relations_in s) × (k.counters ≡ length (counters_in s))

@@ -35,7 +35,7 @@ use Rattle.mt_world.specs.Acts.{Act}
 use Rattle.mt_world.specs.Moves.{IsStill, Moves}
 use Rattle.mt_world.specs.Moves.IsStill.{is_refused, call_waits, step_went, step_waits, step_again, step_full, abort_went, abort_waits, abort_again, abort_full, force_went, force_idle}
 use Rattle.mt_world.specs.Moves.Moves.{stays, begins, calls, ends, drops, undoes, aborts, books}
-use Rattle.mt_world.specs.Due.{FailsIn, IsBacked, IsBroken, IsCaused, IsDue, IsFlushed, IsStepped, SamePhases, SetsPhases}
+use Rattle.mt_world.specs.Due.{FailsIn, IsBacked, IsBroken, IsCaused, IsDue, IsFlushed, IsStepped, KeepsDevice, SamePhases, SetsPhases}
 use Rattle.mt_world.specs.Schedules.{HasMade}
 use Rattle.mt_world.specs.declared.events.Answer.{Answer}
 use Rattle.mt_world.specs.declared.events.Answer.TheVariants.{Begun, Called as CalledAs, Stepped, Backed, Forced, Refused}
@@ -99,18 +99,19 @@ module _ {D : Type 0} {g : Ghosts D} (seen : D → List ℕ) (may_leave : D → 
   fails_err {T} why fails = ((λ before. let all = fails.0 before in let is : ◌≡◌ {A = Result T Refusal} (Err why) (Err refusal.DeviceFailed) = all.0 in (let same : why ≡ refusal.DeviceFailed = cc in ap (λ (w : Refusal). Refused w) same, all.1)), λ broken. let same : why ≡ refusal.DeviceFailed = cc in fails.1 (ap (λ (w : Refusal). Err w) same))
 
   -- nothing comes of it
-  pub still_made : (event : Event) (answer : Answer) → IsStill event answer → Stays seen may_leave k n → IsDue seen may_leave faults k event answer n → SetsPhases k event answer n → SameSchema k n → FailsIn k answer n → StaysRestarting seen may_leave k n → Found
+  pub still_made : (event : Event) (answer : Answer) → IsStill event answer → Stays seen may_leave k n → IsDue seen may_leave faults k event answer n → KeepsDevice k event n → SetsPhases k event answer n → SameSchema k n → FailsIn k answer n → StaysRestarting seen may_leave k n → Found
       → HasMade seen may_leave moment left_since faults k event answer n
-  still_made event answer is same due phases schema fails restarts found = record { leads = λ first s starts shows. still event answer first s is (same first s shows); due = due; phases = phases; fails = fails; restarts = restarts; found = found; schema = schema }
+  still_made event answer is same due device phases schema fails restarts found = record { leads = λ first s starts shows. still event answer first s is (same first s shows); due = due; device = device; phases = phases; fails = fails; restarts = restarts; found = found; schema = schema }
 
   -- ---- a begin
 
   pub begin_made : (session txn : ℕ) → txn ≡ k.parts.live.begun + 1 → begin_cause (is_failed k) k.parts ≡ None → ((first : Base) (s : State) → Shows seen may_leave first s k → Shows seen may_leave first (begun s session) n)
-      → SetsPhases k (Begin session) (Begun txn) n → SameSchema k n → FailsIn k (Begun txn) n → StaysRestarting seen may_leave k n → Found
+      → KeepsDevice k (Begin session) n → SetsPhases k (Begin session) (Begun txn) n → SameSchema k n → FailsIn k (Begun txn) n → StaysRestarting seen may_leave k n → Found
       → HasMade seen may_leave moment left_since faults k (Begin session) (Begun txn) n
-  begin_made session txn number may did phases schema fails restarts found = record {
+  begin_made session txn number may did device phases schema fails restarts found = record {
     leads = λ first s starts shows. ∣ ([], begun s session, subst (λ (t : ℕ). Moves s (Begin session) (Begun t) [] (begun s session)) (next_is first s shows) (begins session), did first s shows) ∣₁;
     due = may;
+    device = device;
     phases = phases;
     fails = fails;
     restarts = restarts;
@@ -134,20 +135,20 @@ module _ {D : Type 0} {g : Ghosts D} (seen : D → List ℕ) (may_leave : D → 
       go (Some why) e = absurd (let wrong : ◌≡◌ {A = Result Called Refusal} (Ok told) (Err why) = early why e in cc)
 
   pub call_made : (t : ℕ) (op : Op) (told : Called) → ((why : Refusal) → Cause t op ≡ Some why → ◌≡◌ {A = Result Called Refusal} (Ok told) (Err why)) → (Cause t op ≡ None → IsAnsweredBy seen may_leave k t op (Ok told))
-      → ((first : Base) (s : State) → Shows seen may_leave first s k → HasCalled seen may_leave first s t op (Ok told) n) → SamePhases k n → SameSchema k n → FailsIn k (CalledAs told) n → StaysRestarting seen may_leave k n → Found
+      → ((first : Base) (s : State) → Shows seen may_leave first s k → HasCalled seen may_leave first s t op (Ok told) n) → KeepsDevice k (Call t op) n → SamePhases k n → SameSchema k n → FailsIn k (CalledAs told) n → StaysRestarting seen may_leave k n → Found
       → HasMade seen may_leave moment left_since faults k (Call t op) (CalledAs told) n
-  call_made t op told early answer did phases schema fails restarts found =
+  call_made t op told early answer did device phases schema fails restarts found =
       let none = uncaused t op told early in
-      record { leads = λ first s starts shows. leads told first s (did first s shows); due = (none, answer none); phases = phases; fails = fails; restarts = restarts; found = found; schema = schema }
+      record { leads = λ first s starts shows. leads told first s (did first s shows); due = (none, answer none); device = device; phases = phases; fails = fails; restarts = restarts; found = found; schema = schema }
     where
       leads : (told : Called) (first : Base) (s : State) → HasCalled seen may_leave first s t op (Ok told) n → Leads first s (Call t op) (CalledAs told)
       leads call.Started first s shows = ∣ ([], called s t op, calls t op, shows) ∣₁
       leads (call.Wait holder) first s shows = still (Call t op) (CalledAs (call.Wait holder)) first s (call_waits t op holder) shows
 
   pub call_refused : (t : ℕ) (op : Op) (why : Refusal) → ((y : Refusal) → Cause t op ≡ Some y → ◌≡◌ {A = Result Called Refusal} (Err why) (Err y)) → (Cause t op ≡ None → IsAnsweredBy seen may_leave k t op (Err why))
-      → ((first : Base) (s : State) → Shows seen may_leave first s k → HasCalled seen may_leave first s t op (Err why) n) → SamePhases k n → SameSchema k n → FailsIn k (Refused why) n → StaysRestarting seen may_leave k n → Found
+      → ((first : Base) (s : State) → Shows seen may_leave first s k → HasCalled seen may_leave first s t op (Err why) n) → KeepsDevice k (Call t op) n → SamePhases k n → SameSchema k n → FailsIn k (Refused why) n → StaysRestarting seen may_leave k n → Found
       → HasMade seen may_leave moment left_since faults k (Call t op) (Refused why) n
-  call_refused t op why early answer did phases schema fails restarts found = still_made (Call t op) (Refused why) (is_refused (Call t op) why) did (go (Cause t op) refl) phases schema fails restarts found
+  call_refused t op why early answer did device phases schema fails restarts found = still_made (Call t op) (Refused why) (is_refused (Call t op) why) did (go (Cause t op) refl) device phases schema fails restarts found
     where
       go : (c : Option Refusal) → Cause t op ≡ c → IsDue seen may_leave faults k (Call t op) (Refused why) n
       go None e = inr (e, answer e)
@@ -157,7 +158,7 @@ module _ {D : Type 0} {g : Ghosts D} (seen : D → List ℕ) (may_leave : D → 
 
   pub step_made : (t : ℕ) (told : StepTold) → IsStepped k t told n → ((first : Base) (s : State) → Shows seen may_leave first s k → HasStepped seen may_leave first s t (Ok told) n) → SamePhases k n → SameSchema k n → FailsIn k (Stepped told) n → StaysRestarting seen may_leave k n → Found
       → HasMade seen may_leave moment left_since faults k (Step t) (Stepped told) n
-  step_made t told due did phases schema fails restarts found = record { leads = λ first s starts shows. leads told first s shows (did first s shows); due = due; phases = phases; fails = fails; restarts = restarts; found = found; schema = schema }
+  step_made t told due did phases schema fails restarts found = record { leads = λ first s starts shows. leads told first s shows (did first s shows); due = due; device = tt; phases = phases; fails = fails; restarts = restarts; found = found; schema = schema }
     where
       ends_with : (reply : Reply) (first : Base) (s : State) → Shows seen may_leave first s k → (o : Option Op) → s.running t ≡ o → HasStepped seen may_leave first s t (Ok (step.Replied reply)) n → Leads first s (Step t) (Stepped (step.Replied reply))
       ends_with reply first s shows None none did =
@@ -180,7 +181,7 @@ module _ {D : Type 0} {g : Ghosts D} (seen : D → List ℕ) (may_leave : D → 
 
   pub back_made : (t : ℕ) (told : AbortStepped) → IsBacked k t told n → ((first : Base) (s : State) → Shows seen may_leave first s k → HasAborted seen may_leave first s t (Ok told) n) → SetsPhases k (AbortStep t) (Backed told) n → SameSchema k n → FailsIn k (Backed told) n → StaysRestarting seen may_leave k n → Found
       → HasMade seen may_leave moment left_since faults k (AbortStep t) (Backed told) n
-  back_made t told due did phases schema fails restarts found = record { leads = λ first s starts shows. leads told first s (did first s shows); due = due; phases = phases; fails = fails; restarts = restarts; found = found; schema = schema }
+  back_made t told due did phases schema fails restarts found = record { leads = λ first s starts shows. leads told first s (did first s shows); due = due; device = tt; phases = phases; fails = fails; restarts = restarts; found = found; schema = schema }
     where
       leads : (told : AbortStepped) (first : Base) (s : State) → HasAborted seen may_leave first s t (Ok told) n → Leads first s (AbortStep t) (Backed told)
       leads abort.More first s did = ∥∥₁_map did (λ (z, back, shows). let moves = back_moves t s z back in (moves.0, z, moves.1, shows))
@@ -215,7 +216,7 @@ module _ {D : Type 0} {g : Ghosts D} (seen : D → List ℕ) (may_leave : D → 
 
   pub force_made : (told : KernelForced) → ((first : Base) (s : State) → Shows seen may_leave first s k → HasForced seen may_leave first s (Ok told) n) → IsDue seen may_leave faults k Force (Forced told) n → SetsPhases k Force (Forced told) n → SameSchema k n → FailsIn k (Forced told) n → StaysRestarting seen may_leave k n → Found
       → HasMade seen may_leave moment left_since faults k Force (Forced told) n
-  force_made told did due phases schema fails restarts found = record { leads = λ first s starts shows. leads told first s (did first s shows); due = due; phases = phases; fails = fails; restarts = restarts; found = found; schema = schema }
+  force_made told did due phases schema fails restarts found = record { leads = λ first s starts shows. leads told first s (did first s shows); due = due; device = tt; phases = phases; fails = fails; restarts = restarts; found = found; schema = schema }
     where
       leads : (told : KernelForced) (first : Base) (s : State) → HasForced seen may_leave first s (Ok told) n → Leads first s Force (Forced told)
       leads forced.More first s did = still Force (Forced forced.More) first s force_went did

@@ -348,7 +348,7 @@ module _ {D : Type 0} {g : Ghosts D} (seen : D → List ℕ) (may_leave : D → 
   pub ran_more : (moment : D → ℕ) (left_since : D → ℕ → List ℕ → Type 0) (events : List Event) (answers : List Answer) (k n : Kernel D g) (event : Event) (answer : Answer) → HasMade seen may_leave moment left_since faults k event answer n → Restarts seen may_leave first k → Ran events answers k → Ran (events ++ event ∷ []) (answers ++ answer ∷ []) n
   ran_more moment left_since events answers k n event answer made restarts ran = ∥∥₁_elim ran (hlevel props) (λ (acts, s, before, shows).
       ∥∥₁_map (made.leads first s restarts shows) (λ (more, z, moves, now).
-      (acts ++ more, z, goes_on events answers acts more s z k n event answer before (record { moves = moves; due = made.due; phases = made.phases; fails = made.fails; schema = made.schema; shows = now }), now)))
+      (acts ++ more, z, goes_on events answers acts more s z k n event answer before (record { moves = moves; due = made.due; device = made.device; phases = made.phases; fails = made.fails; schema = made.schema; shows = now }), now)))
 
   pub has_run : (events : List Event) (answers : List Answer) (n : Kernel D g) → Ran events answers n → Restarts seen may_leave first n → ∥ HasRun seen may_leave faults first events answers n ∥₁
   has_run events answers n ran restarts = ∥∥₁_elim ran (hlevel props) (λ (acts, s, made, shows).

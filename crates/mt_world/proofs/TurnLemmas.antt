@@ -1,5 +1,5 @@
 -- What a rotation does to a kernel in which nobody lives.
-use Rattle.std.proofs.Common.{◌≡◌, ⊎_elim, inl, ℕ, Bool, true, false, List, [], length, Option, Some, None, is_some, Err, subst, suc, zero, refl, ap, sym, ◌∙◌}
+use Rattle.std.proofs.Common.{◌≡◌, ⊎_elim, inl, inr, ℕ, Bool, true, false, List, [], length, Option, Some, None, is_some, Err, subst, suc, zero, refl, ap, sym, ◌∙◌}
 use Rattle.std.specs.Prelude.{if◌then◌else◌, nat_eq}
 use Rattle.std.proofs.Math.Dec.{eqb-suc-zero}
 use Rattle.std.proofs.Props.{props}
@@ -96,7 +96,8 @@ module _ {D : Type 0} {g : Ghosts D} (seen : D → List ℕ) (may_leave : D → 
     pub failed_turn : (k : Kernel D g) → is_failed k ≡ true → Turns k (Refused refusal.DeviceFailed) k
     failed_turn k failed = record {
       leads = λ first s starts shows. still seen may_leave moment left_since faults k k Rotate (Refused refusal.DeviceFailed) first s (is_refused _ _) shows;
-      due = inl (early_failed k failed);
+      due = inl (early_failed k failed, refl);
+      device = tt;
       phases = (λ u. refl, refl);
       fails = ((λ before. (refl, refl)), λ broken. failed);
       restarts = λ first r. r;
@@ -107,7 +108,8 @@ module _ {D : Type 0} {g : Ghosts D} (seen : D → List ℕ) (may_leave : D → 
     pub busy_turn : (k : Kernel D g) → is_failed k ≡ false → (HasNobody k → ⊥) → Turns k (Refused refusal.Busy) k
     busy_turn k well some = record {
       leads = λ first s starts shows. still seen may_leave moment left_since faults k k Rotate (Refused refusal.Busy) first s (is_refused _ _) shows;
-      due = inl (early_busy k well some);
+      due = inl (early_busy k well some, refl);
+      device = tt;
       phases = (λ u. refl, refl);
       fails = ((λ failed. let wrong : true ≡ false = sym failed ∙ well in absurd cc), λ broken. absurd cc);
       restarts = λ first r. r;
@@ -120,6 +122,7 @@ module _ {D : Type 0} {g : Ghosts D} (seen : D → List ℕ) (may_leave : D → 
     turned k n begun tied tied_still well nobody may fresh shows restarts schema found = record {
       leads = λ first s starts was. still seen may_leave moment left_since faults k n Rotate Rotated first s rotated (shows first s starts was);
       due = record { may = may; fresh = fresh };
+      device = tt;
       phases = nobody_phases k n tied tied_still nobody (nobody_after k n nobody begun shows);
       fails = ((λ failed. let wrong : true ≡ false = sym failed ∙ well in absurd cc), λ broken. absurd cc);
       restarts = restarts;
@@ -135,7 +138,8 @@ module _ {D : Type 0} {g : Ghosts D} (seen : D → List ℕ) (may_leave : D → 
         (λ (late : (early_cause k ≡ None) × IsForceCause n why). late.1) left.1 in
         record {
           leads = λ first s starts shows. still seen may_leave moment left_since faults k n Rotate (Refused why) first s (is_refused _ _) (keeps.state first s shows);
-          due = left.1;
+          due = inr (early_none k well nobody, cause);
+          device = tt;
           phases = nobody_phases k n tied still_tied nobody (nobody_after k n nobody begun (λ first s starts shows. keeps.state first s shows));
           fails = ((λ failed. let wrong : true ≡ false = sym failed ∙ well in absurd cc), λ broken. (cause (λ memory. let is : why ≡ refusal.DeviceFailed = cc in let wrong : refusal.DeviceFailed ≡ refusal.NoMemory = sym is ∙ memory in absurd cc)).1);
           restarts = keeps.restarts;

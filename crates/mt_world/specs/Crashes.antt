@@ -1,13 +1,16 @@
 -- What a restart finds where a crash comes while events are made.
-use Rattle.std.specs.Prelude.{ℕ, ◌≡◌, ◌⊎◌, ◌<◌, ◌≤◌, ◌+◌, List, get_or, length, take}
+use Rattle.std.specs.Prelude.{ℕ, ◌≡◌, ◌⊎◌, ◌<◌, ◌≤◌, ◌+◌, List, get_or, length, take, IfErr, IfOk, Result}
+use Rattle.mt_base.specs.declared.refusal.Refusal.{Refusal}
 use Rattle.mt_disk.specs.Disk.{LeavesOnly}
 use Rattle.mt_disk.specs.declared.device.Device.{Ghosts}
+use Rattle.mt_live.specs.Machine.{start}
 use Rattle.mt_model.specs.Model.{Base}
 use Rattle.mt_replay.specs.Stands.{CanRestart}
 use Rattle.mt_restart.specs.Formats.{FormatBegins}
-use Rattle.mt_restart.specs.Schemas.{counters_in, relations_in, schema_base}
+use Rattle.mt_restart.specs.Schemas.{counters_in, device_bytes, relations_in, schema_base}
 use Rattle.mt_restart.specs.declared.schema.Schema.{Schema}
 use Rattle.mt_txn.specs.Restarted.{FindsCommits}
+use Rattle.mt_txn.specs.Shown.{Restarts, Shows}
 use Rattle.mt_txn.specs.declared.kernel.Kernel.{Kernel}
 use Rattle.mt_world.specs.Schedules.{HasEnded, HasMade, HasRun}
 use Rattle.mt_world.specs.Told.{acknowledged}
@@ -88,6 +91,16 @@ pub record HasBegun {D : Type 0} {g : Ghosts D} (may_leave : D → List ℕ → 
   pub formatted : D
   pub format : HasFormatted may_leave moment left_since s device formatted
   pub since : FindsSince moment left_since formatted (schema_base s) k
+
+-- A device is formatted by the schema, and a kernel is opened on it at the first base; or the device is handed back.
+pub record BeginsOn {D : Type 0} {g : Ghosts D} (seen : D → List ℕ) (may_leave : D → List ℕ → Type 0) (moment : D → ℕ) (left_since : D → ℕ → List ℕ → Type 0) (faults : D → ℕ) (s : Schema) (device : D) (r : Result (Kernel D g) (Refusal × D)) : Type 0 where
+  pub shows : IfOk r (Shows seen may_leave (schema_base s) (start (schema_base s)))
+  pub restarts : IfOk r (Restarts seen may_leave (schema_base s))
+  pub schema : IfOk r (λ kernel. (kernel.relations ≡ relations_in s) × (kernel.counters ≡ length (counters_in s)))
+  pub begun : IfOk r (HasBegun may_leave moment left_since s device)
+  pub err : IfErr r (λ gone. LeavesOnly moment left_since device gone.1 (BeginsOrStands s (may_leave device)))
+  pub cause : IfErr r (λ gone. (gone.0 ≡ Refusal.NoMemory) ⊎ ((gone.0 ≡ Refusal.BadLength) × (length (seen device) < device_bytes s) ⊎ (gone.0 ≡ Refusal.DeviceFailed) × (faults device < faults gone.1)))
+  pub short : IfErr r (λ gone. gone.0 ≡ Refusal.BadLength → gone.1 ≡ device)
 
 -- A device was formatted, a kernel was opened on it, and then the events were made. Whenever a crash comes from the format on, a restart finds
 -- what some of the first commits lead to, beginning with the schema's first base.

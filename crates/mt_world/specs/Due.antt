@@ -89,9 +89,21 @@ module _ {D : Type 0} {g : Ghosts D} (seen : D → List ℕ) (may_leave : D → 
   IsDue k Flush (Refused why) n = IsFailure faults (is_failed k) k.parts n.parts why
   IsDue k Flush (Flushed told) n = IsFlushed k told n
   IsDue k Flush answer n = ⊥
-  IsDue k Rotate (Refused why) n = (early_cause k ≡ Some why) ⊎ ((early_cause k ≡ None) × IsForceCause n why)
+  IsDue k Rotate (Refused why) n = (early_cause k ≡ Some why) × (n ≡ k) ⊎ ((early_cause k ≡ None) × IsForceCause n why)
   IsDue k Rotate Rotated n = IsTurnedOver k n
   IsDue k Rotate answer n = ⊥
+
+-- ---- what is in memory
+
+module _ {D : Type 0} {g : Ghosts D} where
+  -- A step, a force, a flush and a rotation may call the device. No other event does.
+  abbrev pub KeepsDevice : Kernel D g → Event → Kernel D g → Type 0
+  KeepsDevice k (Step t) n = ⊤
+  KeepsDevice k (AbortStep t) n = ⊤
+  KeepsDevice k Force n = ⊤
+  KeepsDevice k Flush n = ⊤
+  KeepsDevice k Rotate n = ⊤
+  KeepsDevice k event n = n.parts.operations.store.device ≡ k.parts.operations.store.device
 
 -- ---- which transactions are open, commit or are to be undone
 

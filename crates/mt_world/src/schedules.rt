@@ -7,7 +7,7 @@ ghost use Rattle.mt_live.specs.Machine.{start};
 ghost use Rattle.mt_restart.specs.Schemas.{counters_in, device_bytes, relations_in, schema_base};
 ghost use Rattle.mt_txn.specs.Shown.{Restarts, Shows};
 ghost use Rattle.mt_model.specs.Model.{Base};
-ghost use Rattle.mt_world.specs.Crashes.{BeginsOrStands, FindsSince, FoundFromFormat, FoundTo, HasBegun};
+ghost use Rattle.mt_world.specs.Crashes.{BeginsOn, BeginsOrStands, FindsSince, FoundFromFormat, FoundTo};
 ghost use Rattle.mt_world.specs.Schedules.{HasRunTo, IsOfSchema};
 
 use crate::events::{Answer, Event};
@@ -52,16 +52,7 @@ pub(crate) fn begin_on<D: Device + Drop>(
     device: D,
     schema: &Schema,
 ) -> Result<Kernel<D>, (Refusal, D)>
-    ensures shows { IfOk result (Shows D.seen D.may_leave (schema_base schema.now) (start (schema_base schema.now))) }
-    ensures restarts { IfOk result (Restarts D.seen D.may_leave (schema_base schema.now)) }
-    ensures schema { IfOk result (λ kernel. (kernel.relations ≡ relations_in schema.now)
-        × (kernel.counters ≡ length (counters_in schema.now))) }
-    ensures begun { IfOk result (HasBegun D.may_leave D.moment D.left_since schema.now device) }
-    ensures err { IfErr result (λ gone. LeavesOnly D.moment D.left_since device gone.1
-        (BeginsOrStands schema.now (D.may_leave device))) }
-    ensures cause { IfErr result (λ gone. (gone.0 ≡ Refusal.NoMemory)
-        ⊎ ((gone.0 ≡ Refusal.BadLength) × (length (D.seen device) < device_bytes schema.now)
-        ⊎ (gone.0 ≡ Refusal.DeviceFailed) × (D.faults device < D.faults gone.1))) }
+    ensures { BeginsOn D.seen D.may_leave D.moment D.left_since D.faults schema.now device result }
 {
     let mut device = device;
     match format(&mut device, schema) {
@@ -105,6 +96,7 @@ pub fn run_schedule<D: Device + Drop>(
     ensures cause { IfErr result (λ gone. (gone.0 ≡ Refusal.NoMemory)
         ⊎ ((gone.0 ≡ Refusal.BadLength) × (length (D.seen device) < device_bytes schema.now)
         ⊎ (gone.0 ≡ Refusal.DeviceFailed) × (D.faults device < D.faults gone.1))) }
+    ensures short { IfErr result (λ gone. gone.0 ≡ Refusal.BadLength → gone.1 ≡ device) }
 {
     let Ok(mut answers) = Vec::with_capacity(alloc, events.len()) else {
         return Err((Refusal::NoMemory, device));

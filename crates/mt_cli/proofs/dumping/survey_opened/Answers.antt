@@ -1,5 +1,6 @@
 use Rattle.mt_live.specs.Machine.{start}
-use Rattle.mt_cli.proofs.DumpLemmas.{nobody, ok_both, tells_of, unmade_of}
+use Rattle.mt_shared.proofs.Living.{nobody}
+use Rattle.mt_cli.proofs.DumpLemmas.{ok_both, tells_of, unmade_of}
 use Rattle.mt_cli.proofs.dumping.survey_opened.Goals as goal
 
 pub returns-clause-told : goal.returns-clause-told

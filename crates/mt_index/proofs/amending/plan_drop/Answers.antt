@@ -11,7 +11,7 @@ use Rattle.mt_index.proofs.amending.plan_drop.Goals as goal
 pub returns-clause-dropped : goal.returns-clause-dropped
 returns-clause-dropped g c pages agree m a =
     let is : pages c.in-In.page ≡ c.in-Some.old.now = agree c.in-In.page c.in-Some.old.now c.in-Some.ensures.some in
-    let held = c.in-In.ensures.found pages agree m a in
+    let held = c.in-In.ensures.1 pages agree m a in
     let total = g.V.Pages.total c.args.views.now in
     let t = c.in_ok-change_of.ensures.turned pages is in
     record {
@@ -26,7 +26,7 @@ returns-clause-dropped g c pages agree m a =
 pub returns-clause-formed : goal.returns-clause-formed
 returns-clause-formed g c pages agree m a relations f =
     let is : pages c.in-In.page ≡ c.in-Some.old.now = agree c.in-In.page c.in-Some.old.now c.in-Some.ensures.some in
-    let held = c.in-In.ensures.found pages agree m a in
+    let held = c.in-In.ensures.1 pages agree m a in
     let total = g.V.Pages.total c.args.views.now in
     turns_formed relations total pages (after c.in_ok-change_of.field-0.list.items pages) c.in-In.page c.remove.new.page
     (no_bucket total pages m c.in-In.page a (passed_kind (Lacks c.args.relation c.args.key.now pages) total pages m c.args.key.now c.in-In.page held.steps a held.passed))

@@ -8,21 +8,21 @@ pub loop-step-init : goal.loop-step-init
 loop-step-init g c pages agree m a = passed_start (IsFull (state_of pages)) (g.V.Pages.total c.args.views.now) pages m c.args.key.now c.in-Some.directory.now c.hash.result c.pointer-at.result a
     (subst (λ (p : ℕ). pages p ≡ c.in-Some.directory.now) c.new.ensures (agree c.new.result c.in-Some.directory.now c.in-Some.ensures.some)) c.hash.ensures c.pointer-at.ensures
 
-pub returns-in_default-page-clause-need : goal.returns-in_default-page-clause-need
-returns-in_default-page-clause-need g c = record {
+pub returns-in_default-page : goal.returns-in_default-page
+returns-in_default-page g c = record {
   missing = c.in_default-page.ensures.none;
   role = λ pages agree m a. inr (passed_kind (IsFull (state_of pages)) (g.V.Pages.total c.args.views.now) pages m c.args.key.now c.loop-step.at c.loop-step.step a (c.loop-step.invariant pages agree m a), refl, passed_on (IsFull (state_of pages)) pages c.args.key.now c.loop-step.at c.loop-step.step (c.loop-step.invariant pages agree m a));
 }
 
-pub returns-then-count-lt-MAX_ENTRIES-clause-room : goal.returns-then-count-lt-MAX_ENTRIES-clause-room
-returns-then-count-lt-MAX_ENTRIES-clause-room g c pages agree m a = record {
+pub returns-then-count-lt-MAX_ENTRIES : goal.returns-then-count-lt-MAX_ENTRIES
+returns-then-count-lt-MAX_ENTRIES g c pages agree m a = record {
   steps = c.loop-step.step;
   passed = c.loop-step.invariant pages agree m a;
   room = rw (agree c.loop-step.at c.in-Some-page.page.now c.in-Some-page.ensures.some) (room_is c.in-Some-page.page.now c.count.result c.count.ensures c.if-count-lt-MAX_ENTRIES.true);
 }
 
-pub returns-then-get-eq0-clause-behind : goal.returns-then-get-eq0-clause-behind
-returns-then-get-eq0-clause-behind g c pages agree m a =
+pub returns-then-get-eq0 : goal.returns-then-get-eq0
+returns-then-get-eq0 g c pages agree m a =
     let here = agree c.loop-step.at c.in-Some-page.page.now c.in-Some-page.ensures.some in record {
       steps = c.loop-step.step;
       passed = c.loop-step.invariant pages agree m a;
@@ -38,7 +38,7 @@ loop-step-preserved g c pages agree m a =
     passed_more (IsFull (state_of pages)) pages c.args.key.now c.loop-step.at c.next-behind.result c.loop-step.step c.in-Some-page.page.now (c.loop-step.invariant pages agree m a)
     here (rw here (full_is c.in-Some-page.page.now c.count.result c.count.ensures c.if-count-lt-MAX_ENTRIES.false)) c.next-behind.ensures (λ e. c.if-get-eq0.false (c.get.ensures ∙ e))
 
-pub returns-clause-endless : goal.returns-clause-endless
-returns-clause-endless g c pages agree m a =
+pub returns : goal.returns
+returns g c pages agree m a =
     passed_ends (IsFull (state_of pages)) (g.V.Pages.total c.args.views.now) pages m c.args.key.now c.loop-step.at c.loop-step.step a (c.loop-step.invariant pages agree m a)
     (let last = c.loop-step-test.false in let end = c.count-step-end.ensures in omega arith)

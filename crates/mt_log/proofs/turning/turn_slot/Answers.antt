@@ -14,14 +14,14 @@ pub rule_beside-requires-clause-rules : goal.rule_beside-requires-clause-rules
 rule_beside-requires-clause-rules g c =
     let seen = g.D.Device.seen c.args.device.now in let ruling = c.args.ruling.now in
     subst (λ (x : List ℕ). Rules x 0 4096 ruling) (sym c.holds_slot.ensures.reads.same)
-    (rules_first c.slots_are_read_back.ensures seen ruling (c.requires.rules seen (g.met.D.Device.present c.args.device.now)) (c.in_ok-is_first.ensures.holds.0 c.if-is_first.true))
+    (rules_first c.slots_are_read_back.ensures seen ruling (c.requires.rules seen (g.met.D.Device.present c.args.device.now)) (c.in_ok-is_first.ensures.is.0 c.if-is_first.true))
 
 pub rule_beside-requires-else-is_first-clause-rules : goal.rule_beside-requires-else-is_first-clause-rules
 rule_beside-requires-else-is_first-clause-rules g c =
     let seen = g.D.Device.seen c.args.device.now in let ruling = c.args.ruling.now in
     subst (λ (x : List ℕ). Rules x 4096 0 ruling) (sym c.holds_slot.ensures.reads.same)
     (rules_second seen ruling (c.requires.rules seen (g.met.D.Device.present c.args.device.now))
-    (λ (text : Has seen 0 (slot_text ruling)). one_outcome c.in_ok-is_first.is_first (c.in_ok-is_first.ensures.holds.1 text) c.if-is_first.false))
+    (λ (text : Has seen 0 (slot_text ruling)). one_outcome c.in_ok-is_first.is_first (c.in_ok-is_first.ensures.is.1 text) c.if-is_first.false))
 
 pub returns-then-is_first-clause-moments : goal.returns-then-is_first-clause-moments
 returns-then-is_first-clause-moments g c =

@@ -1,4 +1,4 @@
-use Rattle.std.proofs.Common.{◌≡◌, ◌∙◌, ◌++◌, ◌∷◌, [], List, refl, sym, ap, subst, arith, append_assoc, append-nil, false}
+use Rattle.std.proofs.Common.{rules, ◌≡◌, ◌∙◌, ◌++◌, ◌∷◌, [], List, refl, sym, ap, subst, arith, append_assoc, append-nil, false}
 use Rattle.std.specs.List.{AllByRecursion}
 use Rattle.mt_frame.specs.Grammar.{IsRecord}
 use Rattle.mt_log.specs.Holds.{HasItsPage}
@@ -9,8 +9,17 @@ use Rattle.mt_pool.specs.Writes.{records_size, IsLonger}
 use Rattle.mt_pool.proofs.Logged.{longer_appended, longer_more, size_append, next_may, next_page}
 use Rattle.mt_pool.proofs.writing.append_all.Goals as goal
 
-pub returns-in_err-reserve-clause-sound : goal.returns-in_err-reserve-clause-sound
-returns-in_err-reserve-clause-sound c = λ pages sound each may. c.reserve.ensures.sound pages sound
+pub returns-in_err-reserve : goal.returns-in_err-reserve
+returns-in_err-reserve c = record {
+  longer = search rules;
+  used = search rules;
+  place = search rules;
+  sound = λ pages sound each may. c.reserve.ensures.sound pages sound;
+  err_longer = search rules;
+  err_used = search rules;
+  area = search rules;
+  only_memory = search rules;
+}
 
 pub loop-entry-init : goal.loop-entry-init
 loop-entry-init c = let e = c.reserve.ensures in record {

@@ -1,4 +1,4 @@
-use Rattle.std.proofs.Common.{◌≡◌, ◌⊎◌, ◌<◌, ℕ, List, inr, refl, subst}
+use Rattle.std.proofs.Common.{◌≡◌, ◌⊎◌, ◌<◌, ℕ, List, inr, subst}
 use Rattle.std.proofs.lemmas.Result.{err_from_is_err_and}
 use Rattle.mt_base.specs.declared.refusal.Refusal.TheVariants.{BadFormat, DeviceFailed, NoMemory}
 use Rattle.mt_log.specs.Holds.{BreaksAt}
@@ -30,4 +30,4 @@ returns-in_err-batches-clause-cause g c =
     let why = c.in_err-batches.field-0.0 in
     let cause = subst (λ (x : List ℕ). (why ≡ NoMemory) ⊎ (((why ≡ DeviceFailed) × (first < last)) ⊎ ((at : ℕ) × (why ≡ BadFormat at) × BreaksAt x (area_start slot) (area_end slot) slot.pages at)))
     c.ruling_slot.ensures.seen c.in_err-batches.ensures.cause in
-    rw (p.1, p.2) (cause_area BreaksLog seen (λ at breaks. breaks) (first < last) (g.D.Device.faults c.args.device.now < last) slot why c.in_ok-ruling.ensures.rules (λ lt. subst (λ (n : ℕ). n < last) (c.in_ok-ruling.ensures.quiet refl) lt) cause)
+    rw (p.1, p.2) (cause_area BreaksLog seen (λ at breaks. breaks) (first < last) (g.D.Device.faults c.args.device.now < last) slot why c.in_ok-ruling.ensures.rules (λ lt. subst (λ (n : ℕ). n < last) (c.in_ok-ruling.ensures.quiet (λ e. cc)) lt) cause)

@@ -1,4 +1,4 @@
-use Rattle.std.proofs.Common.{◌≡◌, ◌⊎◌, ◌∙◌, ◌<◌, ℕ, List, inl, inr, refl, ap, sym, subst}
+use Rattle.std.proofs.Common.{◌≡◌, ◌⊎◌, ◌∙◌, ◌<◌, ℕ, List, inl, inr, ap, sym, subst}
 use Rattle.std.specs.List.{AllByRecursion}
 use Rattle.std.proofs.lemmas.Result.{err_from_is_err_and}
 use Rattle.mt_base.specs.declared.refusal.Refusal.TheVariants.{BadFormat, DeviceFailed, NoMemory}
@@ -46,7 +46,7 @@ returns-in_err-restored-clause-no_other_refusal g c = λ relations counters b ca
     let taken = c.deref.ensures.value in
     let again = c.deref-2.ensures.value ∙ sym taken in
     let held = held_of relations counters seen second b can (c.read_area.ensures.reads.same ∙ c.ruling_slot.ensures.seen) ruling slot_is (records_of c.deref.result.now) c.in_ok-pages.pages.items c.deref-3.result.now
-    (ap records_of taken ∙ read) c.in_ok-pages.ensures.count c.in_ok-pages.ensures.held
+    (ap records_of taken ∙ read) c.in_ok-pages.ensures.count c.in_ok-pages.ensures.these
     (ap all_finished c.deref-3.ensures.value ∙ c.in_ok-losers.ensures.losers ∙ ap (λ (bs : List Batch). losers (joined (records_of bs))) again) in
     let p = err_from_is_err_and c.from_residual-in_err-restored.result c.from_residual-in_err-restored.ensures.1 in
     rw (p.1, p.2) (inl (c.in_err-restored.ensures.no_other_refusal relations counters b held))
@@ -62,7 +62,7 @@ returns-clause-found g c = λ relations counters b can.
     let taken = c.deref.ensures.value in
     let again = c.deref-2.ensures.value ∙ sym taken in
     let held = held_of relations counters seen second b can (c.read_area.ensures.reads.same ∙ c.ruling_slot.ensures.seen) ruling slot_is (records_of c.deref.result.now) c.in_ok-pages.pages.items c.deref-3.result.now
-    (ap records_of taken ∙ read) c.in_ok-pages.ensures.count c.in_ok-pages.ensures.held
+    (ap records_of taken ∙ read) c.in_ok-pages.ensures.count c.in_ok-pages.ensures.these
     (ap all_finished c.deref-3.ensures.value ∙ c.in_ok-losers.ensures.losers ∙ ap (λ (bs : List Batch). losers (joined (records_of bs))) again) in
     c.in_ok-restored.ensures.found relations counters b held
 
@@ -76,7 +76,7 @@ returns-in_err-batches-clause-cause g c =
     let why = c.in_err-batches.field-0.0 in
     let cause = subst (λ (x : List ℕ). (why ≡ NoMemory) ⊎ (((why ≡ DeviceFailed) × (first < last)) ⊎ ((at : ℕ) × (why ≡ BadFormat at) × BreaksAt x (area_start slot) (area_end slot) slot.pages at)))
     c.ruling_slot.ensures.seen c.in_err-batches.ensures.cause in
-    rw (p.1, p.2) (cause_area BreaksFormat seen (λ at breaks. in_log breaks) (first < last) (g.D.Device.faults c.args.device.now < last) slot why c.in_ok-ruling.ensures.rules (λ lt. subst (λ (n : ℕ). n < last) (c.in_ok-ruling.ensures.quiet refl) lt) cause)
+    rw (p.1, p.2) (cause_area BreaksFormat seen (λ at breaks. in_log breaks) (first < last) (g.D.Device.faults c.args.device.now < last) slot why c.in_ok-ruling.ensures.rules (λ lt. subst (λ (n : ℕ). n < last) (c.in_ok-ruling.ensures.quiet (λ e. cc)) lt) cause)
 
 pub returns-in_err-pages-clause-unformatted : goal.returns-in_err-pages-clause-unformatted
 returns-in_err-pages-clause-unformatted g c = λ none. absurd (ruled (g.D.Device.seen c.args.device.now) c.in_ok-ruling.ruling c.in_ok-ruling.ensures.rules none)
@@ -95,6 +95,6 @@ returns-in_err-restored-clause-cause g c =
     let batches = c.in_ok-batches.batches.items in
     let repeated = repeated_of seen (g.D.Device.seen c.ruling_slot.new.device) (g.D.Device.seen c.read_area.new.device) c.in_ok-ruling.ruling batches c.deref.result.now c.deref-2.result.now c.in_ok-pages.pages.items
     c.in_ok-losers.losers.items c.deref-3.result.now first (c.read_area.ensures.reads.same ∙ first) c.deref.ensures.value c.deref-2.ensures.value c.deref-3.ensures.value
-    c.in_ok-batches.ensures.found c.in_ok-batches.ensures.places c.in_ok-pages.ensures.count c.in_ok-pages.ensures.held c.in_ok-losers.ensures.losers c.in_ok-losers.ensures.ended in
+    c.in_ok-batches.ensures.found c.in_ok-batches.ensures.places c.in_ok-pages.ensures.count c.in_ok-pages.ensures.these c.in_ok-losers.ensures.losers c.in_ok-losers.ensures.ended in
     rw (p.1, p.2) (cause_behind seen (g.D.Device.faults c.args.device.now < g.D.Device.faults c.held_pages.new.device) c.in_ok-ruling.ruling batches c.in_ok-pages.pages.items c.deref-3.result.now
     c.in_err-restored.field-0.0 repeated c.in_err-restored.ensures.cause)

@@ -28,3 +28,6 @@ returns-in-Ok-clause-short g c = λ short. c.in-Ok.ensures.short short
 
 pub returns-in-Ok-clause-schema : goal.returns-in-Ok-clause-schema
 returns-in-Ok-clause-schema g c = (c.assemble.ensures.schema.0 ∙ c.relations.ensures, c.assemble.ensures.schema.1 ∙ ap (λ (cs : List Count). length cs) c.counters.ensures.counters)
+
+pub returns-in-Ok-clause-well : goal.returns-in-Ok-clause-well
+returns-in-Ok-clause-well g c = c.assemble.ensures.fails ∙ c.in-Ok.ensures.fresh.operations.well

@@ -1,4 +1,4 @@
-use Rattle.std.proofs.Common.{◌∙◌, ℕ, Bool, List, [], false, get_or, refl, subst}
+use Rattle.std.proofs.Common.{◌∙◌, ℕ, Bool, List, [], true, false, get_or, refl, subst}
 use Rattle.mt_log.proofs.ReadOn.{reads_then}
 use Rattle.mt_restart.specs.Marking.{TellsLost}
 use Rattle.mt_restart.proofs.Walking.{each_more, length_more}
@@ -18,6 +18,6 @@ loop-page-preserved g c =
       size = length_more lost c.push.new.self.items told page was.size c.in_ok-push.ensures.items;
       each = each_more (λ (p : ℕ) (b : Bool). TellsLost (get_or pages p []) (get_or imaged p false) seen p b) lost c.push.new.self.items told false page was.size c.in_ok-push.ensures.items was.each
           (subst (λ (s : List ℕ). TellsLost (get_or pages page []) (get_or imaged page false) s page told) was.reads.same c.in_ok-told.ensures.told);
-      quiet = c.in_ok-told.ensures.cause.quiet refl ∙ was.quiet;
+      quiet = c.in_ok-told.ensures.cause.quiet (refl {a = true}) ∙ was.quiet;
       reads = reads_then D.seen D.may_leave D.moment D.left_since g.met.D.Device.only_now c.args.device.now c.loop-page.device c.is_lost.new.device was.reads c.is_lost.ensures.reads;
     }

@@ -1,5 +1,5 @@
 use Rattle.std.proofs.Common.{◌<◌, ◌∙◌, inl, inr, ⊎_elim, ℕ, length, sym, ap, subst, arith}
-use Rattle.mt_log.specs.Words.{appended, used, area_size}
+use Rattle.mt_log.specs.Words.{appended, used, area_size, has_failed}
 use Rattle.mt_log.specs.declared.log.Log.{Log}
 use Rattle.mt_op.proofs.Opened.{not_full, no_images}
 use Rattle.mt_pool.specs.Images.{slot}
@@ -37,6 +37,7 @@ returns-in-Ok-clause-operations g c =
       unclaimed = e.claimed;
       empty = ap (λ (log : Log). appended log) e.read.log ∙ f.empty;
       head = ap (λ (log : Log). used log) e.read.log ∙ f.head;
+      well = ap has_failed e.read.log ∙ f.well;
       size = ap (λ (log : Log). area_size log) e.read.log ∙ f.size;
     }
 
@@ -47,3 +48,6 @@ returns-in-Err-clause-cause g c =
     (λ memory. inl memory)
     (λ fault. inr (fault.0, subst (λ (d : g.row.D.Denot). faults d < faults c.in-Err.field-0.store.device) c.in_ok-store.ensures.store.same fault.1))
     c.in-Err.ensures.cause
+
+pub returns-in-Err-clause-quiet : goal.returns-in-Err-clause-quiet
+returns-in-Err-clause-quiet g c = λ not. c.in-Err.ensures.no_fault not ∙ ap g.D.Device.faults c.in_ok-store.ensures.store.same

@@ -23,3 +23,9 @@ returns-in-Err-first_operations-clause-cause g c = ⊎_elim
     (λ memory. inl memory)
     (λ fault. inr (inr (fault.0, subst (λ n. n < g.D.Device.faults c.in-Err-first_operations.gone.device) c.in-Ok-format.ensures.quiet fault.1)))
     c.in-Err-first_operations.ensures.cause
+
+pub returns-in-Ok-first_operations-clause-quiet : goal.returns-in-Ok-first_operations-clause-quiet
+returns-in-Ok-first_operations-clause-quiet g c = c.in-Ok-first_operations.ensures.quiet ∙ c.in-Ok-format.ensures.quiet
+
+pub returns-in-Err-first_operations-clause-quiet : goal.returns-in-Err-first_operations-clause-quiet
+returns-in-Err-first_operations-clause-quiet g c = λ not. c.in-Err-first_operations.ensures.quiet not ∙ c.in-Ok-format.ensures.quiet

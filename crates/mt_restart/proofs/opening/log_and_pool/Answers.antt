@@ -20,5 +20,6 @@ returns-clause-log c =
       flying = e.in_flight;
       waits = e.waiting;
       head = e.used;
+      well = e.failed;
       sound = e.sound (pages_in s);
     }

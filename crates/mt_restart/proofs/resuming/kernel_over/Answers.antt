@@ -28,3 +28,9 @@ returns-clause-opened g c = λ b holds bounds.
 
 pub returns-clause-device : goal.returns-clause-device
 returns-clause-device g c = ap (λ (o : Operations g.row.D.Denot). o.store.device) c.assemble.ensures.operations ∙ c.parts_over-operations.ensures.device
+
+pub returns-clause-ruling : goal.returns-clause-ruling
+returns-clause-ruling g c = ap (λ (o : Operations g.row.D.Denot). o.store.ruling) c.assemble.ensures.operations ∙ c.parts_over-operations.ensures.ruling
+
+pub returns-clause-well : goal.returns-clause-well
+returns-clause-well g c = c.assemble.ensures.fails ∙ c.parts_over-operations.ensures.well

@@ -1,4 +1,4 @@
-use Rattle.std.proofs.Common.{◌<◌, ◌∙◌, length, refl, sym, subst}
+use Rattle.std.proofs.Common.{◌<◌, ◌∙◌, ap, length, refl, sym, subst}
 use Rattle.mt_base.specs.declared.refusal.Refusal.{Refusal}
 use Rattle.mt_disk.specs.Disk.{LeavesOnly}
 use Rattle.mt_index.specs.Checks.{bytes_of}
@@ -65,3 +65,12 @@ returns-in-Err-clause-moments g c = c.recover.ensures.moments
 
 pub returns-in-Err-clause-never_full : goal.returns-in-Err-clause-never_full
 returns-in-Err-clause-never_full g c = λ s formatted. never_full c.slots_are_read_back.ensures s (g.D.Device.seen c.args.device) (g.D.Device.faults c.args.device < g.D.Device.faults c.recover.new.device) c.in-Err.refusal formatted c.in-Err.ensures.cause
+
+pub returns-in-Ok-clause-quiet : goal.returns-in-Ok-clause-quiet
+returns-in-Ok-clause-quiet g c = ap g.D.Device.faults c.kernel_over.ensures.device ∙ c.recover.ensures.quiet (not_refused c.recover.result c.in-Ok.recovered Refusal.DeviceFailed c.in-Ok.is)
+
+pub returns-in-Err-clause-quiet : goal.returns-in-Err-clause-quiet
+returns-in-Err-clause-quiet g c = λ not. c.recover.ensures.quiet (refused_so c.recover.result c.in-Err.refusal Refusal.DeviceFailed c.in-Err.is not)
+
+pub returns-in-Ok-clause-once : goal.returns-in-Ok-clause-once
+returns-in-Ok-clause-once g c = λ slot rules. c.kernel_over.ensures.ruling ∙ c.in-Ok.ensures.next slot rules

@@ -1,5 +1,6 @@
 use Rattle.std.proofs.Common.{◌≡◌, ◌∙◌, length, ap, sym, arith}
 use Rattle.mt_index.specs.Checks.{bytes_of}
+use Rattle.mt_log.specs.Words.{has_failed}
 use Rattle.mt_op.specs.Begun.{ShowsOpening}
 use Rattle.mt_op.specs.declared.operations.Operations.{Operations}
 use Rattle.mt_pool.specs.Kept.{IsKept}
@@ -42,4 +43,6 @@ returns g c =
       fresh = fresh_again seen may r.0 d v r.1 s o.log many kept shows c.join.result j.store j.locks j.claimed j.right;
       opens = λ b holds bounds. opens_again seen may r.0 d v r.1 s o.log many kept shows c.join.result j.store j.locks j.claimed j.right b holds bounds;
       device = ap (λ (x : Store g.row.D.Denot). x.device) c.join.ensures.store ∙ c.over_images-store.ensures.device;
+      ruling = ap (λ (x : Store g.row.D.Denot). x.ruling) c.join.ensures.store ∙ c.over_images-store.ensures.ruling;
+      well = ap (λ (x : Store g.row.D.Denot). has_failed x.log) j.store ∙ ap has_failed o.log ∙ r.1.turned.next.well;
     }

@@ -1,7 +1,9 @@
-use Rattle.std.proofs.Common.{◌≡◌, ◌-◌, ◌+◌, ◌<◌, ℕ, [], suc, arith, subst, sym, append-nil}
+use Rattle.std.proofs.Common.{◌≡◌, ◌∙◌, ◌-◌, ◌+◌, ◌<◌, ℕ, [], suc, arith, refl, subst, sym, append-nil}
+use Rattle.mt_base.specs.declared.refusal.Refusal.{Refusal}
 use Rattle.mt_log.specs.Words.{durable}
 use Rattle.std.proofs.lemmas.Result.{err_from_is_err_and}
 use Rattle.mt_txn.proofs.GoingOn.{nobody_still}
+use Rattle.mt_restart.proofs.Calls.{not_either, not_refused}
 use Rattle.mt_restart.proofs.Rotations.{IsNear, force_cause, grows_forced, idle_durable, keeps_forced, keeps_itself, near_forced, near_start}
 use Rattle.mt_restart.proofs.rotating.force_out.Goals as goal
 
@@ -15,6 +17,8 @@ loop-step-init g c =
       keeps = keeps_itself D.seen D.may_leave D.moment D.left_since g.met.D.Device.only_now k;
       nobody = c.requires.nobody;
       grows = ([], sym (append-nil (durable k.parts.operations.store.log)));
+      quiet = refl;
+      ruling = refl;
       near = near_start k.parts.operations.store.log;
     }
 
@@ -40,6 +44,7 @@ returns-in-Idle-clause-forced g c =
       nobody = nobody_still m.parts n.parts c.loop-step.invariant.nobody c.force_step.ensures.states;
       forced = idle_durable m.parts.operations.store.log n.parts.operations.store.log (rw c.in-Idle.is at c.in_ok-force_step.ensures.log).0;
       grows = grows_forced D.seen D.may_leave c.args.kernel.now m n c.in_ok-force_step.field-0 c.loop-step.invariant.grows c.in_ok-force_step.ensures.log;
+      ruling = c.force_step.ensures.ruling ∙ c.loop-step.invariant.ruling;
     }
 
 pub loop-step-preserved : goal.loop-step-preserved
@@ -49,6 +54,16 @@ loop-step-preserved g c =
       keeps = keeps_forced D.seen D.may_leave D.moment D.left_since g.met.D.Device.only_now c.args.kernel.now m n c.force_step.result c.requires.nobody i.nobody m.well i.keeps i.grows e.forced e.log e.restarts e.schema e.moments;
       nobody = nobody_still m.parts n.parts i.nobody e.states;
       grows = grows_forced D.seen D.may_leave c.args.kernel.now m n c.in_ok-force_step.field-0 i.grows c.in_ok-force_step.ensures.log;
+      quiet = e.quiet (not_refused c.force_step.result c.in_ok-force_step.field-0 Refusal.DeviceFailed c.in_ok-force_step.was) ∙ i.quiet;
+      ruling = e.ruling ∙ i.ruling;
       near = near_forced D.seen D.may_leave (8 - (c.loop-step._step + 1)) m n c.in_ok-force_step.field-0 c.in_ok-force_step.ensures.log e.appended
           (subst (λ (s : _). IsNear s m.parts.operations.store.log) (one_less c.loop-step._step (omega (arith, c.loop-step-test.true))) i.near);
     }
+
+pub returns-in_err-force_step-clause-quiet : goal.returns-in_err-force_step-clause-quiet
+returns-in_err-force_step-clause-quiet g c =
+    let r = err_from_is_err_and c.from_residual.result c.from_residual.ensures.1 in
+    rw (r.1, r.2) (λ not. c.in_err-force_step.ensures.quiet (not_either c.in_err-force_step.field-0.0 Refusal.DeviceFailed not) ∙ c.loop-step.invariant.quiet)
+
+pub returns-in-Idle-clause-quiet : goal.returns-in-Idle-clause-quiet
+returns-in-Idle-clause-quiet g c = λ not. c.in_ok-force_step.ensures.quiet (λ e. cc) ∙ c.loop-step.invariant.quiet

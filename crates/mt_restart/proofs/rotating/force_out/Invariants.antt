@@ -1,4 +1,4 @@
-use Rattle.std.proofs.Common.{◌-◌}
+use Rattle.std.proofs.Common.{◌≡◌, ◌-◌}
 use Rattle.mt_txn.specs.Turned.{HasNobody}
 use Rattle.mt_restart.proofs.Rotations.{IsNear}
 use Rattle.mt_restart.specs.Rotated.{Grows, Keeps}
@@ -11,5 +11,7 @@ invariant-loop-step g l =
       keeps : Keeps D.seen D.may_leave D.moment D.left_since l.initial.kernel l.kernel;
       nobody : HasNobody l.kernel;
       grows : Grows l.initial.kernel l.kernel;
+      quiet : D.faults l.kernel.parts.operations.store.device ≡ D.faults l.initial.kernel.parts.operations.store.device;
+      ruling : l.kernel.parts.operations.store.ruling ≡ l.initial.kernel.parts.operations.store.ruling;
       near : IsNear (8 - l._step) l.kernel.parts.operations.store.log;
     }

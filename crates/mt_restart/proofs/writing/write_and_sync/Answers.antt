@@ -1,17 +1,21 @@
-use Rattle.std.proofs.Common.{sym, subst}
+use Rattle.std.proofs.Common.{rules, sym, subst}
 use Rattle.mt_disk.proofs.Frame.{goes_on}
 use Rattle.mt_restart.specs.Turned.{AreInPlace, ButForSlots}
 use Rattle.mt_restart.proofs.Calls.{if_ok}
 use Rattle.mt_restart.proofs.writing.write_and_sync.Goals as goal
 
-pub returns-clause-written : goal.returns-clause-written
-returns-clause-written g c =
-    let seen = g.D.Device.seen in
-    if_ok c.sync.result (subst (AreInPlace c.args.marked.now c.args.pages.now) (sym c.sync.ensures.seen) c.in_ok-write_in_place.ensures.written)
-
-pub returns-clause-moments : goal.returns-clause-moments
-returns-clause-moments g c =
-    let may = g.D.Device.may_leave in
-    let d = c.args.device.now in let mid = c.write_in_place.new.device in let new = c.sync.new.self in
-    goes_on g.D.Device.moment g.D.Device.left_since d mid new (ButForSlots c.args.marked.now (may d)) (may new) c.write_in_place.ensures.moments c.sync.ensures.time
-    (λ k left. c.write_in_place.ensures.elsewhere k (c.sync.ensures.crash k left))
+pub returns : goal.returns
+returns g c = record {
+  put = record {
+    written = let seen = g.D.Device.seen in
+        if_ok c.sync.result (subst (AreInPlace c.args.marked.now c.args.pages.now) (sym c.sync.ensures.seen) c.in_ok-write_in_place.ensures.written);
+    slots = search rules;
+    elsewhere = search rules;
+    moments = let may = g.D.Device.may_leave in
+        let d = c.args.device.now in let mid = c.write_in_place.new.device in let new = c.sync.new.self in
+        goes_on g.D.Device.moment g.D.Device.left_since d mid new (ButForSlots c.args.marked.now (may d)) (may new) c.write_in_place.ensures.moments c.sync.ensures.time
+        (λ k left. c.write_in_place.ensures.elsewhere k (c.sync.ensures.crash k left));
+    cause = search rules;
+  };
+  durable = search rules;
+}

@@ -1,4 +1,4 @@
-use Rattle.std.proofs.Common.{◌≡◌, ◌∙◌, ◌+◌, ◌<◌, ℕ, [], true, false, length, get_or, refl, ap, sym, subst, arith}
+use Rattle.std.proofs.Common.{rules, ◌≡◌, ◌∙◌, ◌+◌, ◌<◌, ℕ, [], true, false, length, get_or, refl, ap, sym, subst, arith}
 use Rattle.mt_disk.specs.Disk.{Follows, LeavesOnly}
 use Rattle.mt_disk.proofs.Frame.{goes_on, started}
 use Rattle.mt_pool.specs.Images.{slot}
@@ -18,27 +18,20 @@ loop-page-init g c =
       quiet = refl;
     }
 
-pub returns-in_err-write_at-clause-slots : goal.returns-in_err-write_at-clause-slots
-returns-in_err-write_at-clause-slots g c =
-    let seen = g.D.Device.seen in let p = c.loop-page.page in let marked = c.args.marked.now in
-    let mid = seen c.loop-page.device in let new = seen c.write_at.new.self in
+pub returns-in_err-write_at : goal.returns-in_err-write_at
+returns-in_err-write_at g c =
+    let may = g.D.Device.may_leave in let seen = g.D.Device.seen in let p = c.loop-page.page in let marked = c.args.marked.now in
+    let d = c.args.device.now in let mid = c.loop-page.device in let new = c.write_at.new.self in let v = c.loop-page.invariant in
+    let size = c.told-pages p c.loop-page-test.true in
     let inside : p < length marked = subst (λ (n : ℕ). p < n) (sym c.requires.count) c.loop-page-test.true in
-    slots_trans marked (seen c.args.device.now) mid new c.loop-page.invariant.slots
-    (slots_one marked p _ mid new inside c.if-marked-page.true (c.told-pages p c.loop-page-test.true) c.write_at.ensures.rest)
-
-pub returns-in_err-write_at-clause-elsewhere : goal.returns-in_err-write_at-clause-elsewhere
-returns-in_err-write_at-clause-elsewhere g c =
-    let may = g.D.Device.may_leave in let p = c.loop-page.page in let marked = c.args.marked.now in
-    let inside : p < length marked = subst (λ (n : ℕ). p < n) (sym c.requires.count) c.loop-page-test.true in
-    slots_follow marked p _ (may c.args.device.now) (may c.loop-page.device) (may c.write_at.new.self) inside c.if-marked-page.true (c.told-pages p c.loop-page-test.true) c.loop-page.invariant.elsewhere c.write_at.ensures.crash
-
-pub returns-in_err-write_at-clause-moments : goal.returns-in_err-write_at-clause-moments
-returns-in_err-write_at-clause-moments g c =
-    let may = g.D.Device.may_leave in let p = c.loop-page.page in let marked = c.args.marked.now in
-    let d = c.args.device.now in let mid = c.loop-page.device in let new = c.write_at.new.self in
-    let inside : p < length marked = subst (λ (n : ℕ). p < n) (sym c.requires.count) c.loop-page-test.true in
-    goes_on g.D.Device.moment g.D.Device.left_since d mid new (ButForSlots marked (may d)) (may new) c.loop-page.invariant.moments c.write_at.ensures.time
-    (slots_follow marked p _ (may d) (may mid) (may new) inside c.if-marked-page.true (c.told-pages p c.loop-page-test.true) c.loop-page.invariant.elsewhere c.write_at.ensures.crash)
+    let elsewhere : Follows (OnlySlots marked) (may d) (may new) = slots_follow marked p _ (may d) (may mid) (may new) inside c.if-marked-page.true size v.elsewhere c.write_at.ensures.crash in
+    record {
+      written = search rules;
+      slots = slots_trans marked (seen d) (seen mid) (seen new) v.slots (slots_one marked p _ (seen mid) (seen new) inside c.if-marked-page.true size c.write_at.ensures.rest);
+      elsewhere = elsewhere;
+      moments = goes_on g.D.Device.moment g.D.Device.left_since d mid new (ButForSlots marked (may d)) (may new) v.moments c.write_at.ensures.time elsewhere;
+      cause = search rules;
+    }
 
 pub loop-page-preserved : goal.loop-page-preserved
 loop-page-preserved g c =

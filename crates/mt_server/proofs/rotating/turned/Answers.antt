@@ -1,4 +1,6 @@
-use Rattle.mt_server.proofs.TurnoverLemmas.{end_cause, end_failed, end_full, over_kept, over_same}
+use Rattle.mt_server.proofs.LeftLemmas.{turned_stands}
+use Rattle.mt_shared.proofs.Ending.{end_cause}
+use Rattle.mt_server.proofs.TurnoverLemmas.{end_failed, end_full, over_kept, over_same}
 use Rattle.mt_server.proofs.rotating.turned.Goals as goal
 
 pub returns-then-used-area_size-clause-over : goal.returns-then-used-area_size-clause-over
@@ -19,9 +21,10 @@ pub returns-in-Err-Ended-clause-out : goal.returns-in-Err-Ended-clause-out
 returns-in-Err-Ended-clause-out g c =
     let D = g.D.Device in
     let left = rw c.in-Err-Ended.field-0-is at c.in-Err-Ended.ensures.left in
+    let found = rw c.in-Err-Ended.field-0-is at c.in-Err-Ended.ensures.moments in
     record {
       cause = end_cause D.seen D.may_leave D.moment D.left_since D.faults c.args.kernel c.in-Err-Ended.device c.in-Err-Ended.why left.2;
       failed = end_failed D.seen D.may_leave D.moment D.left_since D.faults c.args.kernel c.in-Err-Ended.device c.in-Err-Ended.why left.2;
       full = end_full D.seen D.may_leave D.moment D.left_since D.faults c.args.kernel c.in-Err-Ended.device c.in-Err-Ended.why left.2;
-      stands = left.1;
+      stands = turned_stands D.seen D.may_leave D.moment D.left_since c.args.kernel c.in-Err-Ended.device left.0 (g.met.D.Device.counts_now c.in-Err-Ended.device) found;
     }

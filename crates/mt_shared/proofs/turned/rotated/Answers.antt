@@ -5,6 +5,7 @@ use Rattle.mt_shared.specs.Began.{BasedSeen, first_base}
 use Rattle.mt_model.specs.Views.{base_of}
 use Rattle.mt_shared.specs.Seen.{seen_of}
 use Rattle.mt_shared.specs.Turns.{IsTurn}
+use Rattle.mt_shared.proofs.Ending.{end_cause, here}
 use Rattle.mt_shared.proofs.Keeping.{turned_began, turned_book}
 use Rattle.mt_shared.proofs.turned.rotated.Goals as goal
 
@@ -56,3 +57,14 @@ returns-in-Ok-clause-did g c = let D = g.D.Device in
       images = e.begun;
     } in
     λ _. ∣ subst (λ (x : BasedSeen). IsTurn D x.base) c.kernel.view_is turn ∣₁
+
+pub returns-in-Ok-clause-gone : goal.returns-in-Ok-clause-gone
+returns-in-Ok-clause-gone g c = here c.kept.result.held c.kept.result.past _ c.kept.ensures.held
+
+pub returns-in-Err-Kept-clause-gone : goal.returns-in-Err-Kept-clause-gone
+returns-in-Err-Kept-clause-gone g c = here c.kept-in-Err-Kept.result.held c.kept-in-Err-Kept.result.past _ c.kept-in-Err-Kept.ensures.held
+
+pub returns-in-Err-Ended-clause-gone : goal.returns-in-Err-Ended-clause-gone
+returns-in-Err-Ended-clause-gone g c = let D = g.D.Device in
+    let left = subst (λ (e : NotRotated _ _). IsLeft D.seen D.may_leave D.moment D.left_since D.faults c.kernel.inside.kernel e) c.in-Err-Ended.field-0-is c.in-Err-Ended.ensures.left in
+    λ _. c.outcome-in-Err-Ended.ensures.fault (end_cause D.seen D.may_leave D.moment D.left_since D.faults c.kernel.inside.kernel c.in-Err-Ended.device c.in-Err-Ended.why left.2)

@@ -28,5 +28,10 @@ place_row-requires-2-clause-place c =
     packed_place c.args.page.now c.compact.new.page c.args.i c.args.slots _ _
     c.compact.ensures.shaped c.compact.ensures.same c.requires.opens (omega arith) (omega arith)
 
-pub returns-clause-sets : goal.returns-clause-sets
-returns-clause-sets c = sets_packed c.args.page.now c.compact.new.page c.place_row-2.new.page c.args.i c.args.slots _ c.compact.ensures.same c.place_row-2.ensures.sets
+pub returns-clause-puts : goal.returns-clause-puts
+returns-clause-puts c = let p = c.place_row-2.ensures.puts in let same = c.compact.ensures.same in
+    record {
+      shaped = p.shaped;
+      sets = sets_packed c.args.page.now c.compact.new.page c.place_row-2.new.page c.args.i c.args.slots _ same p.sets;
+      live = let live = p.live in let before = same.live in omega arith;
+    }

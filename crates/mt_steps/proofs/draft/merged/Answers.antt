@@ -1,5 +1,5 @@
 use mathlib.Core.Logic.{∥∥₁_map}
-use Rattle.std.proofs.Common.{◌∙◌, List, ap, subst, sym}
+use Rattle.std.proofs.Common.{◌∙◌, List, length, arith, ap, subst, sym}
 use Rattle.std.proofs.lemmas.Result.{IfOk-weaker}
 use Rattle.mt_space.specs.Changes.{Agrees, after}
 use Rattle.mt_steps.specs.declared.draft.PageCopy.{PageCopy}
@@ -24,13 +24,23 @@ pub returns-clause-made : goal.returns-clause-made
 returns-clause-made g c =
     let first = c.args.first.now.list.items in
     let second = c.args.second.now.list.items in
-    IfOk-weaker c.changes.result _ _ (λ changes made pages agrees.
+    IfOk-weaker c.changes.result _ _ (λ changes is pages agrees.
     let v0 = c.new-draft.ensures.views in
     let v1 = c.in_ok-apply.ensures.views ∙ v0 in
     let v2 = c.in_ok-apply-2.ensures.views ∙ v1 in
-    let on_first = c.in_ok-apply.ensures.drawn pages (subst (λ v. Agrees (g.V.Pages.at_hand v) pages) (sym v0) agrees) in
-    let on_second = c.in_ok-apply-2.ensures.drawn pages (subst (λ v. Agrees (g.V.Pages.at_hand v) pages) (sym v1) agrees) in
-    made pages (subst (λ v. Agrees (g.V.Pages.at_hand v) pages) (sym v2) agrees)
+    let on_first = c.in_ok-apply.ensures.draws pages (subst (λ v. Agrees (g.V.Pages.at_hand v) pages) (sym v0) agrees) in
+    let on_second = c.in_ok-apply-2.ensures.draws pages (subst (λ v. Agrees (g.V.Pages.at_hand v) pages) (sym v1) agrees) in
+    is.made pages (subst (λ v. Agrees (g.V.Pages.at_hand v) pages) (sym v2) agrees)
     ∙ on_second
     ∙ ap (after second) (on_first ∙ ap (λ (l : List PageCopy). after first (drawn l pages)) c.new-draft.ensures.none))
     c.changes.ensures.made
+
+pub returns-clause-short : goal.returns-clause-short
+returns-clause-short g c =
+    let v2 = c.in_ok-apply-2.ensures.views ∙ c.in_ok-apply.ensures.views ∙ c.new-draft.ensures.views in
+    IfOk-weaker c.changes.result _ _ (λ changes is pages agrees. is.short pages (subst (λ v. Agrees (g.V.Pages.at_hand v) pages) (sym v2) agrees)) c.changes.ensures.made
+
+pub returns-clause-few : goal.returns-clause-few
+returns-clause-few g c =
+    let first = c.in_ok-apply.ensures.few in let second = c.in_ok-apply-2.ensures.few in let none = ap (λ (l : List PageCopy). length l) c.new-draft.ensures.none in
+    IfOk-weaker c.changes.result _ _ (λ changes is. let few = is.few in omega (arith, few, first, second, none)) c.changes.ensures.made

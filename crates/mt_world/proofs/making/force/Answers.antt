@@ -12,4 +12,4 @@ returns-in-Ok g c =
 pub returns-in-Err : goal.returns-in-Err
 returns-in-Err g c =
     let D = g.D.Device in let k = c.args.kernel.now in let n = c.force_step.new.self in let e = c.in-Err.ensures in
-    still_made D.seen D.may_leave D.moment D.left_since D.faults k n Force (Refused c.in-Err.refusal) (is_refused _ _) e.forced (wanting_or c.in-Err.refusal e.cause) e.err e.schema (fails_err D.seen D.may_leave D.moment D.left_since D.faults k n c.in-Err.refusal e.fails) e.restarts e.moments
+    still_made D.seen D.may_leave D.moment D.left_since D.faults k n Force (Refused c.in-Err.refusal) (is_refused _ _) e.forced (wanting_or c.in-Err.refusal e.cause) tt e.err e.schema (fails_err D.seen D.may_leave D.moment D.left_since D.faults k n c.in-Err.refusal e.fails) e.restarts e.moments

@@ -15,4 +15,4 @@ returns-in-Ok g c =
 pub returns-in-Err : goal.returns-in-Err
 returns-in-Err g c =
     let D = g.D.Device in let k = c.args.kernel.now in let n = c.step.new.self in let e = c.in-Err.ensures in
-    still_made D.seen D.may_leave D.moment D.left_since D.faults k n (Step c.args.txn) (Refused c.in-Err.refusal) (is_refused _ _) e.stepped (caused_or (step_cause (is_failed k) k.parts c.args.txn) c.in-Err.refusal e.cause) (e.states, e.commits) e.schema (fails_err D.seen D.may_leave D.moment D.left_since D.faults k n c.in-Err.refusal e.fails) e.restarts e.moments
+    still_made D.seen D.may_leave D.moment D.left_since D.faults k n (Step c.args.txn) (Refused c.in-Err.refusal) (is_refused _ _) e.stepped (caused_or (step_cause (is_failed k) k.parts c.args.txn) c.in-Err.refusal e.cause) tt (e.states, e.commits) e.schema (fails_err D.seen D.may_leave D.moment D.left_since D.faults k n c.in-Err.refusal e.fails) e.restarts e.moments

@@ -59,7 +59,7 @@ append_end-requires-clause-rules g c = ∥∥₁_elim c.requires.right (hlevel p
 pub settle-requires-clause-short : goal.settle-requires-clause-short
 settle-requires-clause-short g c = ∥∥₁_map c.requires.right (λ (opening, relations, counters, right, k, few, some). let seen = g.D.Device.seen in let s = c.args.scope.now in let o = c.args.self.now in
     let map_same : c.match-done.self.map ≡ o.map = elim c.match-done.branch [
-      | in-Some+in_ok-append_end w ↦ ap (λ (x : Operations g.row.D.Denot). x.map) w.self-is ∙ w.append_end.ensures.map
+      | in-Some+in_ok-append_end w ↦ ap (λ (x : Operations g.row.D.Denot). x.map) w.self-is ∙ w.append_end.ensures.appends.map
       | in_default w ↦ ap (λ (x : Operations g.row.D.Denot). x.map) w.self-is
     ] in
     let changes : c.match-done.scope.changes ≡ s.changes = elim c.match-done.branch [
@@ -75,7 +75,7 @@ settle-requires-clause-short g c = ∥∥₁_map c.requires.right (λ (opening, 
 pub settle-requires-clause-claimed : goal.settle-requires-clause-claimed
 settle-requires-clause-claimed g c = ∥∥₁_elim c.requires.right (hlevel props) (λ (opening, relations, counters, right, k, few, some). let seen = g.D.Device.seen in let s = c.args.scope.now in let o = c.args.self.now in
     let map_same : c.match-done.self.map ≡ o.map = elim c.match-done.branch [
-      | in-Some+in_ok-append_end w ↦ ap (λ (x : Operations g.row.D.Denot). x.map) w.self-is ∙ w.append_end.ensures.map
+      | in-Some+in_ok-append_end w ↦ ap (λ (x : Operations g.row.D.Denot). x.map) w.self-is ∙ w.append_end.ensures.appends.map
       | in_default w ↦ ap (λ (x : Operations g.row.D.Denot). x.map) w.self-is
     ] in
     let changes : c.match-done.scope.changes ≡ s.changes = elim c.match-done.branch [
@@ -91,7 +91,7 @@ settle-requires-clause-claimed g c = ∥∥₁_elim c.requires.right (hlevel pro
 pub settle-requires-clause-mapped : goal.settle-requires-clause-mapped
 settle-requires-clause-mapped g c = ∥∥₁_elim c.requires.right (hlevel props) (λ (opening, relations, counters, right, k, few, some). let seen = g.D.Device.seen in let s = c.args.scope.now in let o = c.args.self.now in
     let map_same : c.match-done.self.map ≡ o.map = elim c.match-done.branch [
-      | in-Some+in_ok-append_end w ↦ ap (λ (x : Operations g.row.D.Denot). x.map) w.self-is ∙ w.append_end.ensures.map
+      | in-Some+in_ok-append_end w ↦ ap (λ (x : Operations g.row.D.Denot). x.map) w.self-is ∙ w.append_end.ensures.appends.map
       | in_default w ↦ ap (λ (x : Operations g.row.D.Denot). x.map) w.self-is
     ] in
     let changes : c.match-done.scope.changes ≡ s.changes = elim c.match-done.branch [
@@ -107,7 +107,7 @@ note_looked-requires-clause-pages g c = ∥∥₁_map c.requires.right (λ (open
       | in_default w ↦ ap (λ (t : OpScope). t.seen) w.scope-is
     ] in
     let map_same : c.match-done.self.map ≡ o.map = elim c.match-done.branch [
-      | in-Some+in_ok-append_end w ↦ ap (λ (x : Operations g.row.D.Denot). x.map) w.self-is ∙ w.append_end.ensures.map
+      | in-Some+in_ok-append_end w ↦ ap (λ (x : Operations g.row.D.Denot). x.map) w.self-is ∙ w.append_end.ensures.appends.map
       | in_default w ↦ ap (λ (x : Operations g.row.D.Denot). x.map) w.self-is
     ] in
     let changes : c.match-done.scope.changes ≡ s.changes = elim c.match-done.branch [
@@ -132,7 +132,7 @@ note_looked-requires-clause-inside g c = ∥∥₁_elim c.requires.right (hlevel
       | in_default w ↦ ap (λ (t : OpScope). t.seen) w.scope-is
     ] in
     let rooms : length c.match-done.self.rooms ≡ length c.args.self.now.rooms = elim c.match-done.branch [
-      | in-Some+in_ok-append_end w ↦ ap (λ (o : Operations g.row.D.Denot). length o.rooms) w.self-is ∙ ap (λ (x : Rooms). length x) w.append_end.ensures.rooms
+      | in-Some+in_ok-append_end w ↦ ap (λ (o : Operations g.row.D.Denot). length o.rooms) w.self-is ∙ ap (λ (x : Rooms). length x) w.append_end.ensures.appends.rooms
       | in_default w ↦ ap (λ (o : Operations g.row.D.Denot). length o.rooms) w.self-is
     ] in
     note_inside seen g.D.Device.may_leave opening relations counters o s _ right k c.requires.writing c.in_ok-answer.ensures.reply c.match-done.scope copies _ rooms)
@@ -144,7 +144,7 @@ note_looked-requires-clause-few g c = ∥∥₁_elim c.requires.right (hlevel pr
       | in_default w ↦ ap (λ (t : OpScope). t.seen) w.scope-is
     ] in
     let rooms : length c.match-done.self.rooms ≡ length c.args.self.now.rooms = elim c.match-done.branch [
-      | in-Some+in_ok-append_end w ↦ ap (λ (o : Operations g.row.D.Denot). length o.rooms) w.self-is ∙ ap (λ (x : Rooms). length x) w.append_end.ensures.rooms
+      | in-Some+in_ok-append_end w ↦ ap (λ (o : Operations g.row.D.Denot). length o.rooms) w.self-is ∙ ap (λ (x : Rooms). length x) w.append_end.ensures.appends.rooms
       | in_default w ↦ ap (λ (o : Operations g.row.D.Denot). length o.rooms) w.self-is
     ] in
     note_few seen g.D.Device.may_leave opening relations counters o s _ right k c.requires.writing c.in_ok-answer.ensures.reply c.match-done.scope copies _ rooms)
@@ -165,15 +165,15 @@ returns-in_err-answer g c = let d = g.D.Device in let o = c.args.self.now in let
     }
 
 pub returns-in_err-append_end : goal.returns-in_err-append_end
-returns-in_err-append_end g c = let d = g.D.Device in let o = c.args.self.now in let s = c.args.scope.now in let f = c.append_end.ensures in let e = c.in_err-append_end.ensures in
+returns-in_err-append_end g c = let d = g.D.Device in let o = c.args.self.now in let s = c.args.scope.now in let a = c.append_end.ensures in let f = a.appends in let b = c.in_err-append_end.ensures in let e = b.appends in
     let n = c.append_end.new.self in let t = c.append_end.new.scope in
     let p = err_from_is_err_and c.from_residual-in_err-append_end.result c.from_residual-in_err-append_end.ensures.1 in
     let is = p.1 ∙ ap Err (p.2 ∙ e.only_memory) in
-    let left : t.left ≡ s.left = ap (λ (x : OpScope). x.left) e.same in
-    let log : used n.store.log + t.left ≡ used o.store.log + s.left = f.log in
+    let left : t.left ≡ s.left = ap (λ (x : OpScope). x.left) b.same in
+    let log : used n.store.log + t.left ≡ used o.store.log + s.left = a.log in
     let spent : used n.store.log ≡ used o.store.log = omega (arith, left, log) in
     record {
-      ahead = subst (λ (x : OpScope). GoesAhead d.seen d.may_leave d.moment d.left_since d.faults o n s x c.from_residual-in_err-append_end.result) (sym e.same)
+      ahead = subst (λ (x : OpScope). GoesAhead d.seen d.may_leave d.moment d.left_since d.faults o n s x c.from_residual-in_err-append_end.result) (sym b.same)
           (subst (GoesAhead d.seen d.may_leave d.moment d.left_since d.faults o n s s) (sym is)
           (idle_ahead d.seen d.may_leave d.moment d.left_since d.faults o n s
           (λ opening relations counters right. right_rests d.seen d.may_leave opening relations counters o n right (f.kept opening right.kept) (e.rests opening) f.map f.rooms) e.rests
@@ -197,22 +197,22 @@ returns g c = let d = g.D.Device in let seen = d.seen in let o = c.args.self.now
     ] in
     let same : c.in_ok-answer.answer ≡ c.made_ready-reply.result = one_reply _ _ (sym is ∙ sym own ∙ c.made_ready-reply.ensures.reply) in
     let device : c.note_looked.new.self.store.device ≡ o.store.device = ap (λ (x : Store g.row.D.Denot). x.device) n.store ∙ elim c.match-done.branch [
-      | in-Some+in_ok-append_end w ↦ ap (λ (x : Operations g.row.D.Denot). x.store.device) w.self-is ∙ w.append_end.ensures.device
+      | in-Some+in_ok-append_end w ↦ ap (λ (x : Operations g.row.D.Denot). x.store.device) w.self-is ∙ w.append_end.ensures.appends.device
       | in_default w ↦ ap (λ (x : Operations g.row.D.Denot). x.store.device) w.self-is
     ] in
     record {
       ahead = record {
         steps = λ opening relations counters right k few some. elim c.match-done.branch [
           | in-Some+in_ok-append_end w ↦
-              let e = w.append_end.ensures in let m = w.append_end.new.self in
-              let scope : c.match-done.scope ≡ record s { left = w.append_end.new.scope.left } = w.scope-is ∙ e.scope in
+              let a = w.append_end.ensures in let e = a.appends in let m = w.append_end.new.self in
+              let scope : c.match-done.scope ≡ record s { left = w.append_end.new.scope.left } = w.scope-is ∙ a.scope in
               let map_same : c.match-done.self.map ≡ o.map = ap (λ (x : Operations g.row.D.Denot). x.map) w.self-is ∙ e.map in
               let changes : c.match-done.scope.changes ≡ s.changes = ap (λ (t : OpScope). t.changes) scope in
               let rooms : c.match-done.self.rooms ≡ o.rooms = ap (λ (x : Operations g.row.D.Denot). x.rooms) w.self-is ∙ e.rooms in
               let given = settle_gives seen d.may_leave opening relations counters o s _ right k c.requires.writing is c.match-done.self.map c.match-done.scope map_same changes c.settle.new.self.kinds f.kinds in
               let free = settle_frees seen d.may_leave opening relations counters o s _ right k c.requires.writing is c.match-done.self.map c.match-done.scope map_same changes c.settle.new.self.space.0 c.settle.new.self.kinds f.free in
               let done = finished seen d.may_leave opening relations counters o s _ c.in_ok-answer.answer right k c.requires.writing is w.append_end.new.scope.left (ready ∙ ap (λ (t : OpScope). record t { reply = None; stage = Ready }) scope)
-              w.in-Some.done m c.note_looked.new.self (sym c.in_ok-answer.ensures.logged ∙ w.in-Some.is) c.requires.all (w.in_ok-append_end.ensures.notes opening) (e.kept opening right.kept)
+              w.in-Some.done m c.note_looked.new.self (sym c.in_ok-answer.ensures.logged ∙ w.in-Some.is) c.requires.all (w.in_ok-append_end.ensures.appends.notes opening) (e.kept opening right.kept)
               (n.store ∙ ap (λ (x : Operations g.row.D.Denot). x.store) w.self-is) (n.locks ∙ ap (λ (x : Operations g.row.D.Denot). x.locks) w.self-is) (ap (λ (x : SpaceMap). x.kinds) n.map ∙ given)
               (subst (λ (x : SpaceMap). x.space.0 ≡ mapped x.kinds (pages o.store.pool)) (sym n.map) free) (subst (λ (x : SpaceMap). reserved_of x.space ≤ free_of x.space) (sym n.map) f.room)
               (n.rooms ∙ ap (λ (xs : List ℕ). length xs) rooms)
@@ -240,11 +240,11 @@ returns g c = let d = g.D.Device in let seen = d.seen in let o = c.args.self.now
           | in_default w ↦ (λ i. used (w.self-is i).store.log + (w.scope-is i).left)
         ];
         area = ap (λ (x : Store g.row.D.Denot). area_size x.log) n.store ∙ elim c.match-done.branch [
-          | in-Some+in_ok-append_end w ↦ ap (λ (x : Operations g.row.D.Denot). area_size x.store.log) w.self-is ∙ w.append_end.ensures.area
+          | in-Some+in_ok-append_end w ↦ ap (λ (x : Operations g.row.D.Denot). area_size x.store.log) w.self-is ∙ w.append_end.ensures.appends.area
           | in_default w ↦ ap (λ (x : Operations g.row.D.Denot). area_size x.store.log) w.self-is
         ];
         durable = ap (λ (x : Store g.row.D.Denot). durable x.log) n.store ∙ elim c.match-done.branch [
-          | in-Some+in_ok-append_end w ↦ ap (λ (x : Operations g.row.D.Denot). durable x.store.log) w.self-is ∙ w.append_end.ensures.durable
+          | in-Some+in_ok-append_end w ↦ ap (λ (x : Operations g.row.D.Denot). durable x.store.log) w.self-is ∙ w.append_end.ensures.appends.durable
           | in_default w ↦ ap (λ (x : Operations g.row.D.Denot). durable x.store.log) w.self-is
         ];
         budget = elim c.match-done.branch [
@@ -254,7 +254,7 @@ returns g c = let d = g.D.Device in let seen = d.seen in let o = c.args.self.now
         claims = elim c.match-done.branch [
           | in-Some+in_ok-append_end w ↦
               let own : c.pages_for-claim.result ≡ own_needs s.op s.split = c.pages_for-claim.ensures ∙ ap (λ (t : OpScope). own_needs t.op t.split) (w.scope-is ∙ w.append_end.ensures.scope) in
-              (λ i. reserved_of (n.map i).space + sym own i) ∙ f.claims ∙ ap (λ (x : Operations g.row.D.Denot). reserved_of x.map.space) w.self-is ∙ ap (λ (x : SpaceMap). reserved_of x.space) w.append_end.ensures.map
+              (λ i. reserved_of (n.map i).space + sym own i) ∙ f.claims ∙ ap (λ (x : Operations g.row.D.Denot). reserved_of x.map.space) w.self-is ∙ ap (λ (x : SpaceMap). reserved_of x.space) w.append_end.ensures.appends.map
           | in_default w ↦
               let own : c.pages_for-claim.result ≡ own_needs s.op s.split = c.pages_for-claim.ensures ∙ ap (λ (t : OpScope). own_needs t.op t.split) w.scope-is in
               (λ i. reserved_of (n.map i).space + sym own i) ∙ f.claims ∙ ap (λ (x : Operations g.row.D.Denot). reserved_of x.map.space) w.self-is
@@ -265,7 +265,7 @@ returns g c = let d = g.D.Device in let seen = d.seen in let o = c.args.self.now
         work = ap work_of ready;
         records = tt;
         locks = n.locks ∙ elim c.match-done.branch [
-          | in-Some+in_ok-append_end w ↦ ap (λ (x : Operations g.row.D.Denot). x.locks) w.self-is ∙ w.append_end.ensures.locks
+          | in-Some+in_ok-append_end w ↦ ap (λ (x : Operations g.row.D.Denot). x.locks) w.self-is ∙ w.append_end.ensures.appends.locks
           | in_default w ↦ ap (λ (x : Operations g.row.D.Denot). x.locks) w.self-is
         ];
         room = ap (λ (x : OpScope). x.room) ready ∙ elim c.match-done.branch [

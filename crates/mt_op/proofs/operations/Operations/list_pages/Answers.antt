@@ -44,7 +44,7 @@ loop-number-preserved g c =
       relations = c.list_page.ensures.relations ∙ was.relations;
       counters = c.list_page.ensures.counters ∙ was.counters;
       read = reads_both D.seen D.may_leave D.moment D.left_since o l.self c.list_page.new.self was.read c.list_page.ensures.read;
-      quiet = e.quiet refl ∙ was.quiet;
+      quiet = e.quiet (λ is. cc) ∙ was.quiet;
     }
 
 pub returns-clause-listed : goal.returns-clause-listed

@@ -1,8 +1,9 @@
-use Rattle.std.proofs.Common.{subst}
-use Rattle.mt_model.specs.declared.tables.Base.{Base}
-use Rattle.mt_shared.specs.Began.{BeganOn}
+use Rattle.std.proofs.Common.{List, subst, sym}
+use Rattle.mt_mark.specs.Legal.{IsLegal}
+use Rattle.mt_model.specs.declared.history.Committed.{Committed}
+use Rattle.mt_shared.proofs.Keeping.{legal_book}
 use Rattle.mt_shared.proofs.opened.Opened.new.Goals as goal
 
-pub returns-in-Err-clause-began : goal.returns-in-Err-clause-began
-returns-in-Err-clause-began g c = let D = g.D.Device in
-    subst (λ (b : Base). BeganOn D.seen D.may_leave b c.into_kernel.result) c.new-kernel.ensures.base c.into_kernel.ensures.began
+pub marked-requires-clause-legal : goal.marked-requires-clause-legal
+marked-requires-clause-legal g c = let D = g.D.Device in
+    subst (λ (book : List Committed). IsLegal c.args.base.now book) (sym c.book.ensures.book) (legal_book D.seen D.may_leave c.args.base.now c.args.kernel c.requires.began)

@@ -1,11 +1,11 @@
 use mathlib.Core.Logic.{∥∥₁_elim}
 use Rattle.std.proofs.Props.{props}
-use Rattle.std.proofs.Common.{◌≡◌, ◌<◌, ◌+◌, arith, ◌∙◌, ℕ, length, List, Option, get_or, ap, subst, sym}
+use Rattle.std.proofs.Common.{rules, ◌≡◌, ◌<◌, ◌+◌, arith, ◌∙◌, ℕ, length, List, Option, get_or, take, ap, subst, sym}
 use Rattle.std.specs.Prelude.{IsSome}
-use Rattle.std.proofs.lemmas.List.{length-take}
+use Rattle.std.proofs.lemmas.List.{length-take, take_all}
 use Rattle.std.proofs.lemmas.List.Elements.{All-get_or}
 use Rattle.mt_space.specs.declared.changes.PageChange.{PageChange}
-use Rattle.mt_space.specs.Changes.{IsShort}
+use Rattle.mt_space.specs.Changes.{Agrees, IsShort, after}
 use Rattle.mt_steps.specs.Drafts.{shown, shown_whole, drawn, AreCopies}
 use Rattle.mt_steps.proofs.Drafting.{IsMade, short_at, edits_fit, agrees_more, drawn_more, below_some, shown_some}
 use Rattle.mt_steps.proofs.draft.Draft.apply.Goals as goal
@@ -52,9 +52,20 @@ loop-change-preserved g c =
       drawn = λ pages agrees. drawn_more below old new list i x (drawn copies pages) pages lt is there made agrees (so.drawn pages agrees);
     }
 
-pub returns-clause-few : goal.returns-clause-few
-returns-clause-few g c =
+pub returns : goal.returns
+returns g c =
+    let below = g.V.Pages.at_hand c.args.self.now.views.now in
+    let old = c.args.self.now.copies.items in let new = c.loop-change.self.copies.items in
     let list = c.args.changes.now.list.items in
+    let so = c.loop-change.invariant in
     let value : c.deref-change-items.result.now ≡ list = c.deref-change-items.ensures.value in
-    let few = c.loop-change.invariant.few in
-    omega (arith, few, length-take c.loop-change.change-index list)
+    let long = ap length value in
+    let all : take c.loop-change.change-index list ≡ list = take_all c.loop-change.change-index list (omega (arith, long)) in
+    record {
+      copies = so.sound;
+      views = so.views;
+      same_pages = search rules;
+      agrees = λ pages agrees. subst (λ (l : List PageChange). Agrees (shown new below) (after l pages)) all (so.agrees pages agrees);
+      few = let few = so.few in omega (arith, few, length-take c.loop-change.change-index list);
+      draws = λ pages agrees. subst (λ (l : List PageChange). drawn new pages ≡ after l (drawn old pages)) all (so.drawn pages agrees);
+    }

@@ -1,11 +1,17 @@
-use Rattle.std.proofs.Common.{◌≡◌, ◌<◌, ◌∙◌, length, get_or, arith, List, Some, None, ap, subst, sym, take, ◌+◌}
-use Rattle.std.proofs.lemmas.List.{take_all, length-take}
+use Rattle.std.proofs.Common.{◌≡◌, ◌<◌, ◌≤◌, ℕ, Option, ◌∙◌, length, get_or, arith, List, Some, None, ap, subst, sym, take, ◌+◌}
+use Rattle.std.proofs.lemmas.List.{take_all}
+use Rattle.mt_space.specs.declared.changes.PageChange.{PageChange}
 use Rattle.mt_space.specs.declared.changes.Changes.{Changes}
 use Rattle.mt_steps.specs.declared.draft.PageCopy.{PageCopy}
-use Rattle.mt_steps.proofs.Drafting.{ComeTo, IsNoted, come_more, below_there, some_value, none_shown}
+use Rattle.mt_steps.specs.Drafts.{ComeTo}
+use Rattle.mt_steps.proofs.Drafting.{IsNoted, come_more, below_there, some_value, none_shown}
 use Rattle.mt_steps.proofs.Asking.{all_at_hand}
 use Rattle.mt_steps.proofs.draft.Draft.changes.Goals as goal
 use Rattle.mt_steps.proofs.draft.Draft.changes.Goals.{in-Some+in_ok-note, in_default}
+
+-- what all copies come to, once each was looked at
+whole : (below : ℕ → Option (List ℕ)) (copies : List PageCopy) (changes : List PageChange) (n : ℕ) → length copies ≤ n → ComeTo below (take n copies) changes → ComeTo below copies changes
+whole below copies changes n all come = subst (λ (l : List PageCopy). ComeTo below l changes) (take_all n copies all) come
 
 pub loop-copy-preserved : goal.loop-copy-preserved
 loop-copy-preserved g c =
@@ -36,17 +42,13 @@ loop-copy-preserved g c =
           absurd (cc)
     ]
 
+pub returns-clause-made : goal.returns-clause-made
+returns-clause-made g c = let long = ap length c.deref-copy-items.ensures.value in
+    whole (g.V.Pages.at_hand c.args.self.now.views.now) c.args.self.now.copies.items c.loop-copy.changes.list.items c.loop-copy.copy-index (omega (arith, long)) c.loop-copy.invariant
+
 pub returns-clause-there : goal.returns-clause-there
 returns-clause-there g c =
-    let below = g.V.Pages.at_hand c.args.self.now.views.now in
-    let copies = c.args.self.now.copies.items in
-    let changes = c.loop-copy.changes.list.items in
-    let value : c.deref-copy-items.result.now ≡ copies = c.deref-copy-items.ensures.value in
-    let long = ap length value in
-    let whole : ComeTo below copies changes = subst (λ (l : List PageCopy). ComeTo below l changes) (take_all c.loop-copy.copy-index copies (omega (arith, long))) c.loop-copy.invariant in
-    all_at_hand below changes (λ p none. whole.same p (none_shown below copies p c.requires.copies none))
-
-pub returns-clause-few : goal.returns-clause-few
-returns-clause-few g c =
-    let few = c.loop-copy.invariant.few in
-    omega (arith, few, length-take c.loop-copy.copy-index c.args.self.now.copies.items)
+    let below = g.V.Pages.at_hand c.args.self.now.views.now in let copies = c.args.self.now.copies.items in
+    let long = ap length c.deref-copy-items.ensures.value in
+    all_at_hand below c.loop-copy.changes.list.items
+    (λ p none. (whole below copies c.loop-copy.changes.list.items c.loop-copy.copy-index (omega (arith, long)) c.loop-copy.invariant).same p (none_shown below copies p c.requires.copies none))

@@ -1,5 +1,5 @@
 use Rattle.std.proofs.Common.{take}
-use Rattle.mt_steps.proofs.Drafting.{ComeTo}
+use Rattle.mt_steps.specs.Drafts.{ComeTo}
 use Rattle.mt_steps.proofs.draft.Draft.changes.Given as goal
 
 abbrev pub invariant-loop-copy : goal.invariant-loop-copy

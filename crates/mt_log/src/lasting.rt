@@ -1,0 +1,19 @@
+// Bytes that are made to last.
+ghost use Rattle.std.specs.Prelude.{◌+◌, ◌≤◌, length};
+ghost use Rattle.mt_log.specs.Lasting.{WritesDurably};
+
+use mt_disk::{Device, DeviceFault};
+
+// Makes bytes last at a place: a write and a sync.
+pub(crate) fn write_durably<D: Device>(
+    device: &mut D,
+    at: u64,
+    bytes: &[u8],
+) -> Result<(), DeviceFault>
+    requires { at + length bytes.now ≤ length (D.seen device.old) }
+    ensures { WritesDurably D.seen D.may_leave D.moment D.left_since D.faults at bytes.now
+        device.old device.new result }
+{
+    device.write_at(at, bytes)?;
+    device.sync()
+}

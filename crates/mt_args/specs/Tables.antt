@@ -20,7 +20,7 @@ rule_for id (Several name) = record (new_rule id) { value_names = 1; required = 
 abbrev pub rule_at : Argument → Rule
 rule_at argument = rule_for argument.id.now argument.form
 
--- a command with these rules behind those that it has
+-- a command with these rules after those that it has
 abbrev pub with_rules : App → List Rule → App
 with_rules app rules = on_top (λ s. record s { rules = s.rules ++ rules }) app
 
@@ -31,7 +31,7 @@ app_at entry = with_rules (new_app entry.name.now) (map rule_at entry.arguments.
 abbrev pub top_at : Entry → Shape
 top_at entry = (app_at entry).top
 
--- a command with these subcommands behind those that it has
+-- a command with these subcommands after those that it has
 abbrev pub with_subcommands : App → List Shape → App
 with_subcommands app [] = app
 with_subcommands app (s ∷ more) = with_subcommands (with_subcommand app s) more

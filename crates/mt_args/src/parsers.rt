@@ -239,6 +239,13 @@ fn bare<'a>(alloc: Global) -> Parser<'a>
         .subcommand_required(true)
 }
 
+/// The parser whose usage lines begin with the program's name.
+fn named<'a>(parser: Parser<'a>) -> Result<Parser<'a>, AllocError>
+    ensures { IfOk result (λ named. app_of named ≡ app_of parser.entry) }
+{
+    parser.bin_name("mtk")
+}
+
 /// An argument of the table, for the parser.
 fn argument_of<'a>(alloc: Global, argument: &Argument) -> Arg<'a>
     ensures { IsRuledBy (rule_at argument.now) result }
@@ -310,5 +317,6 @@ fn with_commands<'a>(
 pub(crate) fn parser<'a>(alloc: Global) -> Result<Parser<'a>, AllocError>
     ensures { IfOk result (λ parser. app_of parser ≡ program) }
 {
-    with_commands(alloc, bare(alloc), &COMMANDS)
+    let program = named(bare(alloc))?;
+    with_commands(alloc, program, &COMMANDS)
 }

@@ -44,7 +44,7 @@ name_of Busy = codes "Busy"
 name_of TooManyOperations = codes "TooManyOperations"
 name_of (BadLine line) = codes "BadLine"
 
--- what follows the name: the place or the line, behind a space
+-- what follows the name: the place or the line, after a space
 abbrev pub place_of : Refusal → List ℕ
 place_of (BadFormat place) = 32 ∷ decimal place
 place_of (BadLine line) = 32 ∷ decimal line

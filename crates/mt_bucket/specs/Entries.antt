@@ -21,7 +21,7 @@ abbrev pub renamed : ℕ → List ℕ → RecordName → List Entry → List Ent
 renamed r k n [] = []
 renamed r k n (e ∷ es) = cond (is_at r k e) (record e { name = n } ∷ es) (e ∷ renamed r k n es)
 
--- the list with an entry more, behind the first one
+-- the list with an entry more, after the first one
 abbrev pub behind_first : Entry → List Entry → List Entry
 behind_first e [] = e ∷ []
 behind_first e (f ∷ es) = f ∷ e ∷ es

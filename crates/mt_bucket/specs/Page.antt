@@ -28,7 +28,7 @@ entry_of bytes = record {
   name = record { page = u16_at bytes 66; slot = u16_at bytes 68 };
 }
 
--- so many cells, one behind the other
+-- so many cells, one after the other
 abbrev pub entries_from : List ℕ → ℕ → ℕ → List Entry
 entries_from page at zero = []
 entries_from page at (suc n) = entry_of (cell page at) ∷ entries_from page (at + CELL_BYTES) n
@@ -65,7 +65,7 @@ goes_over bit e = high bit (hash e.key)
 
 -- ---- a bucket page, by its bytes
 
--- a cell: its relation, key and page are of the schema, and the bytes behind the key are zero
+-- a cell: its relation, key and page are of the schema, and the bytes after the key are zero
 pub record IsCell (relations pages : ℕ) (page : List ℕ) (at : ℕ) : Type 0 where
   pub relation : get_or page at 0 < relations
   pub some : 1 ≤ get_or page (at + 1) 0

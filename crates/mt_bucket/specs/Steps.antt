@@ -5,14 +5,14 @@ use Rattle.mt_base.specs.Ranges.{u16_at}
 use Rattle.mt_bucket.specs.Entries.{Entry}
 use Rattle.mt_bucket.specs.Page.{cell, count_of, entries, KeepsHead}
 
--- a cell more, behind the others
+-- a cell more, after the others
 pub record OneMore (bytes old new : List ℕ) : Type 0 where
   pub head : KeepsHead old new
   pub number : u16_at new 2 ≡ count_of old + 1
   pub front : (j : ℕ) → j < count_of old → cell new (HEAD_BYTES + CELL_BYTES * j) ≡ cell old (HEAD_BYTES + CELL_BYTES * j)
   pub last : cell new (HEAD_BYTES + CELL_BYTES * count_of old) ≡ bytes
 
--- an entry more, behind the others
+-- an entry more, after the others
 pub record Pushed (e : Entry) (old new : List ℕ) : Type 0 where
   pub head : KeepsHead old new
   pub counted : count_of new ≡ count_of old + 1
@@ -30,7 +30,7 @@ pub record Closed (i : ℕ) (old new : List ℕ) : Type 0 where
 abbrev pub Sorted : Bool → Entry → List ℕ → List ℕ → List ℕ → List ℕ → Type 0
 Sorted over e page page2 to to2 = cond over ((page2 ≡ page) × Pushed e to to2) (Pushed e page page2 × (to2 ≡ to))
 
--- the first entries of a page have been dealt out: these stay, and those go behind what was there
+-- the first entries of a page have been dealt out: these stay, and those go after what was there
 pub record Dealt (over : Entry → Bool) (all : List Entry) (i : ℕ) (old page start to : List ℕ) : Type 0 where
   pub head : KeepsHead old page
   pub to_head : KeepsHead start to

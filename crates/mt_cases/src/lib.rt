@@ -1,6 +1,5 @@
-//! The tests of operations, of the kernel and of the program, through their public calls. They are worked rows,
-//! transcripts, printed texts, failing devices, readers and writers, and each public call with ample memory. A test
-//! that stands beside its code has the whole crate proved twice; here it is proved once, over contracts.
+//! The tests of operations, of the kernel and of the program, through their public calls. They are a split that is taken
+//! back, and failing devices, readers and writers. Worked rows are files of `tests/rows`, which the program runs.
 #![tactic(auto)]
 
 #[cfg(test)]
@@ -8,12 +7,8 @@ mod cli;
 #[cfg(test)]
 mod common;
 #[cfg(test)]
-mod numbers;
+mod driving;
 #[cfg(test)]
 mod operations;
-#[cfg(test)]
-mod paged;
-#[cfg(test)]
-mod refusals;
 #[cfg(test)]
 mod restart;

@@ -19,8 +19,8 @@ use Rattle.mt_txn.specs.Restarted.{FindsCommits}
 use Rattle.mt_txn.specs.Shown.{Restarts, is_failed}
 use Rattle.mt_txn.specs.Turned.{HasNobody}
 use Rattle.mt_txn.specs.declared.kernel.Kernel.{Kernel}
-use Rattle.mt_server.proofs.LeftLemmas.{stands_more}
-use Rattle.mt_shared.proofs.Living.{stands_book}
+use Rattle.mt_alone.proofs.LeftLemmas.{stands_more}
+use Rattle.mt_restart.proofs.Living.{stands_book}
 use Rattle.mt_cli.proofs.ServeLemmas.{held_before, put_back}
 use Rattle.mt_cli.specs.Serves.{AreServedAtOnce, AreServedAtOnceIn, AreServedBy, AreUnservedBy, IsServedAtOnce, IsServedIn, IsUnservedAtOnce, IsUnservedIn, failed_at_once, let_go, no_device_at_once, too_many_at_once, unheard_at_once, IsEndOf, StandForBook, texts_in_order}
 use Rattle.mt_cli.specs.declared.faults.Fault.{Fault}

@@ -21,7 +21,7 @@ use Rattle.mt_op.specs.declared.surveying.Survey.{Survey}
 use Rattle.mt_pool.specs.Views.{pages}
 use Rattle.mt_replay.specs.Refused.{BreaksFormat, IsCause}
 use Rattle.mt_replay.specs.Stands.{CanRestart}
-use Rattle.mt_shared.proofs.Living.{nobody}
+use Rattle.mt_restart.proofs.Living.{nobody}
 use Rattle.mt_restart.specs.Recovered.{IsCauseToStop, StandsStill}
 use Rattle.mt_restart.specs.Resumed.{IsOpened}
 use Rattle.mt_space.specs.Rooms.{free_in, mapped}

@@ -15,6 +15,7 @@ use Rattle.mt_cli.specs.Dumps.{HasDumped}
 use Rattle.mt_cli.specs.Explains.{HasExplained}
 use Rattle.mt_cli.specs.Events.{IsSchedule}
 use Rattle.mt_folder.specs.Folders.{Files}
+use Rattle.mt_folder.specs.declared.reason.Reason.{Reason}
 use Rattle.mt_cli.specs.Serves.{HasRunScripts, HaveServedOn, IsServedAtOnce, IsServedIn}
 use Rattle.mt_model.specs.Model.{Base}
 use Rattle.mt_script.specs.declared.lines.Line.{Line}
@@ -100,7 +101,7 @@ module _ {D : Type 0} (g : Ghosts D) where
   unheard_at bytes was now events made answers told spelled same ran all front =
       unheard events answers spelled (subst (λ (es : List Event). HaveRun g es answers) same ran) (subst (λ (xs : List Told). AppendsFront was now (told_lines xs)) all front)
 
-  pub given_up_of : (command : Command) (a : Around) (was mid now old new : Option (List ℕ)) (r : Result (Unit {0}) Fault) → OnOk r (IsDone g command a was mid) → IfErr r (IsUndone g command a was mid)
-      → Keeps mid now → MatchResult r (λ u. IsToldOf command Output old new) (λ fault. IsToldOf command fault old new) → IsGivenUp g command a was now old new
-  given_up_of command a was mid now old new (Ok u) done undone kept told = record { given_up = (Output, mid, inr (done, refl), kept, told) }
-  given_up_of command a was mid now old new (Err fault) done undone kept told = record { given_up = (fault, mid, inl undone, kept, told) }
+  pub given_up_of : (command : Command) (reason : Option Reason) (a : Around) (was mid now old new : Option (List ℕ)) (r : Result (Unit {0}) Fault) → OnOk r (IsDone g command a was mid) → IfErr r (IsUndone g command a was mid)
+      → Keeps mid now → MatchResult r (λ u. IsToldOf command reason Output old new) (λ fault. IsToldOf command reason fault old new) → IsGivenUp g command reason a was now old new
+  given_up_of command reason a was mid now old new (Ok u) done undone kept told = record { given_up = (Output, mid, inr (done, refl), kept, told) }
+  given_up_of command reason a was mid now old new (Err fault) done undone kept told = record { given_up = (fault, mid, inl undone, kept, told) }

@@ -4,6 +4,7 @@ pub mod Endings
 pub mod EventLemmas
 pub mod CheckLemmas
 pub mod DumpLemmas
+pub mod ExcessLemmas
 pub mod ExplainLemmas
 pub mod ReadLemmas
 pub mod ServeLemmas

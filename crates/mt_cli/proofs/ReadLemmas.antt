@@ -6,22 +6,25 @@ use Rattle.mt_base.specs.declared.refusal.Refusal.{Refusal}
 use Rattle.mt_base.specs.declared.refusal.Refusal.TheVariants as refusal
 use Rattle.mt_script.specs.Lines.{line_text, IsInGrammar}
 use Rattle.mt_script.specs.Scripts.{IsScript}
-use Rattle.mt_server.specs.Sessions.{lines_in}
+use Rattle.mt_alone.specs.Sessions.{lines_in}
 use Rattle.mt_script.specs.declared.reader.Script.{Script}
 use Rattle.mt_script.specs.declared.lines.Line.{Line}
 use Rattle.mt_folder.specs.Folders.{AreKept, Files, known_in}
-use Rattle.mt_cli.specs.Reads.{AreRead, AreUnread, IsReadAt, IsUnread, bytes_at, input_behind, is_input, none_read, one_read, source_of}
+use Rattle.mt_cli.specs.Reads.{AreRead, AreUnread, IsReadAt, IsUnread, bytes_at, file_in, held_by, input_behind, is_fed, is_input, none_read, one_read, source_of}
 
--- the source of a name that is cut out of the choice
-pub named : (files : Files) (name : List ℕ) (input : Option (List ℕ)) → source_of files (cond (is_input name) None (Some name)) input ≡ bytes_at files name input
-named files name input = go (is_input name)
+-- the file that a name names has the bytes of its source
+pub held_by_file : (files : Files) (name input : Option (List ℕ)) → held_by files (file_in name) input ≡ source_of files name input
+held_by_file files None input = refl
+held_by_file files (Some name) input = go (is_input name)
   where
-    go : (t : Bool) → source_of files (cond t None (Some name)) input ≡ cond t input (known_in files name)
+    go : (t : Bool) → held_by files (cond t None (Some name)) input ≡ cond t input (known_in files name)
     go true = refl
     go false = refl
 
-pub no_input : (name : List ℕ) → is_input name ≡ false → is_some (cond (is_input name) None (Some name)) ≡ true
-no_input name is = ap (λ (t : Bool). is_some (cond t None (Some name))) is
+-- and there is one if the input is not read
+pub has_file : (name : Option (List ℕ)) → is_fed name ≡ false → is_some (file_in name) ≡ true
+has_file None is = cc
+has_file (Some name) is = ap (λ (t : Bool). is_some (cond t None (Some name))) is
 
 -- what is known of the input is still so
 abbrev pub IsKnown : Option (List ℕ) → Option (List ℕ) → Type 0

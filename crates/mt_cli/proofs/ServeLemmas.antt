@@ -8,24 +8,24 @@ use Rattle.mt_model.specs.Model.{Base}
 use Rattle.mt_model.specs.declared.history.Committed.{Committed}
 use Rattle.mt_replay.specs.Stands.{CanRestart}
 use Rattle.mt_restart.specs.Resumed.{IsOpened}
-use Rattle.mt_shared.proofs.Living.{no_member, stands_book}
-use Rattle.mt_server.proofs.RunLemmas.{left_resting}
-use Rattle.mt_server.proofs.TurnoverLemmas.{runs_first}
+use Rattle.mt_restart.proofs.Living.{no_member, stands_book}
+use Rattle.mt_alone.proofs.RunLemmas.{left_resting}
+use Rattle.mt_alone.proofs.TurnoverLemmas.{runs_first}
 use Rattle.mt_txn.specs.Restarted.{all_commits, FindsCommits}
 use Rattle.mt_txn.specs.Shown.{Restarts, SameSchema, StaysRestarting}
 use Rattle.mt_txn.specs.Turned.{HasNobody}
 use Rattle.mt_txn.specs.declared.kernel.Kernel.{Kernel}
 use Rattle.mt_base.specs.declared.refusal.Refusal.TheVariants as refusal
-use Rattle.mt_server.specs.Driven.{IsBeside}
-use Rattle.mt_server.specs.Plays.{Play}
-use Rattle.mt_server.specs.Turnovers.{IsCutOff, IsLeftBy, StandsForMore, why_in}
-use Rattle.mt_server.specs.Sessions.{AreCutShort, HasServed, HaveServed, HavePlayed, IsCutWithin, unheard_line, cut_script, Serves, StandsEach, no_script, then_script, in_session}
+use Rattle.mt_alone.specs.Driven.{IsBeside}
+use Rattle.mt_alone.specs.Plays.{Play}
+use Rattle.mt_alone.specs.Turnovers.{IsCutOff, IsLeftBy, StandsForMore, why_in}
+use Rattle.mt_alone.specs.Sessions.{AreCutShort, HasServed, HaveServed, HavePlayed, IsCutWithin, unheard_line, cut_script, Serves, StandsEach, no_script, then_script, in_session}
 use Rattle.mt_script.specs.declared.answers.Answer.{Answer}
 use Rattle.mt_script.specs.declared.lines.Line.{Line}
-use Rattle.mt_server.specs.declared.rotating.NotServed.{NotServed}
-use Rattle.mt_server.specs.declared.rotating.NotServed.TheVariants.{Kept, Ended}
-use Rattle.mt_server.specs.declared.running.RunFault.{RunFault}
-use Rattle.mt_server.specs.declared.running.RunFault.TheVariants as run
+use Rattle.mt_alone.specs.declared.rotating.NotServed.{NotServed}
+use Rattle.mt_alone.specs.declared.rotating.NotServed.TheVariants.{Kept, Ended}
+use Rattle.mt_alone.specs.declared.running.RunFault.{RunFault}
+use Rattle.mt_alone.specs.declared.running.RunFault.TheVariants as run
 use Rattle.mt_folder.proofs.FolderLemmas.{kept_then, put_then}
 use Rattle.mt_cli.proofs.Trials.{ended_by, played}
 use Rattle.mt_folder.specs.Folders.{AreKept, Files, IsFileRefusal, IsHeld, IsLent, Puts}

@@ -1,4 +1,4 @@
--- What `check` tells of a device.
+-- What `check` reports of a device.
 use Rattle.std.specs.Prelude.{ℕ, ◌≡◌, ◌⊎◌, Bool, true, false, List, [], ◌∷◌, ◌++◌, Option, IfSome, codes}
 use Rattle.std.specs.Borrow.{Bor}
 use Rattle.std.specs.Fmt.{decimal}
@@ -17,7 +17,7 @@ use Rattle.mt_cli.specs.declared.faults.Fault.TheVariants.{Output, Refused}
 
 -- ---- what is printed
 
--- a line of a word and the number behind it
+-- a line of a word and the number after it
 abbrev pub number_line : List ℕ → ℕ → List ℕ
 number_line word n = word ++ (decimal n ++ 10 ∷ [])
 
@@ -62,7 +62,7 @@ IsOf bytes c = IfSome bytes (λ held. c ≡ held)
 abbrev pub TellsOf : Bool → Option (List ℕ) → Report → Type 0
 TellsOf pages bytes report = (c : List ℕ) × IsOf bytes c × Tells pages c report
 
--- why nothing is told of a file: it is not opened, or its bytes are refused
+-- why nothing is reported of a file: it is not opened, or its bytes are refused
 abbrev pub IsUntold : Bool → Option (List ℕ) → Refusal → Type 0
 IsUntold pages bytes why = IsFileRefusal bytes why ⊎ ((c : List ℕ) × IsOf bytes c × IsRefusedFor pages c why)
 
@@ -72,7 +72,7 @@ pub record HasChecked (pages : Bool) (bytes was now : Option (List ℕ)) : Type 
   pub of : TellsOf pages bytes report
   pub told : Appends was now (check_text pages report)
 
--- why a check did not end well: nothing is written where nothing is told, and else the output failed within the lines
+-- why a check did not end well: nothing is written where nothing is reported, and else the output failed within the lines
 pub data IsUnchecked (pages : Bool) (bytes was now : Option (List ℕ)) : Fault → Type 0 where
   untold : (why : Refusal) → IsUntold pages bytes why → Keeps was now → IsUnchecked pages bytes was now (Refused why)
   unheard_check : (report : Report) → TellsOf pages bytes report → AppendsFront was now (check_text pages report) → IsUnchecked pages bytes was now Output

@@ -1,4 +1,4 @@
--- What `dump` tells of a device, and what becomes of its file.
+-- What `dump` reports of a device, and what becomes of its file.
 use Rattle.std.specs.Prelude.{ℕ, ◌≢◌, ◌⊎◌, List, ◌∷◌, [], ◌++◌, Option, codes, map}
 use Rattle.std.specs.Io.KnownBytes.{Appends, Keeps}
 use Rattle.std.specs.List.{concat}
@@ -37,12 +37,12 @@ abbrev pub TellsOfBase : ℕ → ℕ → Base → Survey → Type 0
 TellsOfBase relations counters b survey =
     ∥ ((total : ℕ) × (pages : PageBytes) × IsGood relations counters total pages × Holds pages b × IsSurvey relations counters total pages b survey) ∥₁
 
--- it is of some base, and of the one that the bytes stand for, if they stand for one
+-- it is of some base, and of the one that the bytes represent, if they represent one
 pub record Dumps (c : List ℕ) (survey : Survey) : Type 0 where
   pub some : (relations : ℕ) × (counters : ℕ) × (b : Base) × TellsOfBase relations counters b survey
   pub stood_for : (relations counters : ℕ) (b : Base) → CanRestart relations counters c b → TellsOfBase relations counters b survey
 
--- what these bytes stand for, those do
+-- what these bytes represent, those do
 abbrev pub StandAs : List ℕ → List ℕ → Type 0
 StandAs c d = (relations counters : ℕ) (b : Base) → CanRestart relations counters c b → CanRestart relations counters d b
 
@@ -59,11 +59,11 @@ IsEarly why = (why ≢ refusal.NoMemory) × (why ≢ refusal.DeviceFailed)
 abbrev pub DumpsOf : Option (List ℕ) → Survey → Type 0
 DumpsOf bytes survey = (c : List ℕ) × IsOf bytes c × Dumps c survey
 
--- why nothing is told of a file
+-- why nothing is reported of a file
 abbrev pub IsUnopened : Option (List ℕ) → Refusal → Type 0
 IsUnopened bytes why = IsFileRefusal bytes why ⊎ ((c : List ℕ) × IsOf bytes c × IsBarred c why)
 
--- The file of this name has other bytes, that stand for what its bytes stood for. Each other file is as before.
+-- The file of this name has other bytes, that represent what its bytes represented. Each other file is as before.
 pub record StandsOn (old new : Files) (name : List ℕ) : Type 0 where
   pub before : List ℕ
   pub after : List ℕ
@@ -71,7 +71,7 @@ pub record StandsOn (old new : Files) (name : List ℕ) : Type 0 where
   pub put : Puts old new name after
   pub same : StandAs before after
 
--- where the device was refused so, each file is as before, or the one of this name stands for the same
+-- where the device was refused so, each file is as before, or the one of this name represents the same
 pub record AreLeft (old new : Files) (name : List ℕ) (why : Refusal) : Type 0 where
   pub stands : AreKept old new ⊎ StandsOn old new name
   pub early : IsEarly why → AreKept old new
@@ -83,7 +83,7 @@ pub record HasDumped (bytes was now : Option (List ℕ)) : Type 0 where
   pub ordered : IsOrdered (rows_of survey.base)
   pub told : Appends was now (dump_text survey)
 
--- why a dump did not end well: nothing is written where nothing is told, and else the output failed within the lines
+-- why a dump did not end well: nothing is written where nothing is reported, and else the output failed within the lines
 pub data IsUndumped (bytes was now : Option (List ℕ)) : Fault → Type 0 where
   unopened : (why : Refusal) → IsUnopened bytes why → Keeps was now → IsUndumped bytes was now (Refused why)
   unheard_dump : (survey : Survey) → DumpsOf bytes survey → AppendsFront was now (dump_text survey) → IsUndumped bytes was now Output

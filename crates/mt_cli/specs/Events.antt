@@ -45,6 +45,6 @@ SpellsEvent bytes event = SpellsIn event_text IsEvent bytes event
 abbrev pub ReadsEvent : List ℕ → Option Event → Type 0
 ReadsEvent bytes o = ReadsIn event_text IsEvent bytes o
 
--- the bytes are just these events, each with LF behind it
+-- the bytes are just these events, each with LF after it
 abbrev pub IsSchedule : List ℕ → List Event → Type 0
 IsSchedule bytes events = AreLines event_text IsEvent bytes events

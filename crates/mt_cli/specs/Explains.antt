@@ -1,4 +1,4 @@
--- What `explain` tells of a device.
+-- What `explain` reports of a device.
 use Rattle.std.specs.Prelude.{◌≡◌, ℕ, List, Option, false}
 use Rattle.std.specs.Io.KnownBytes.{Appends, Keeps}
 use Rattle.mt_base.specs.declared.refusal.Refusal.{Refusal}
@@ -38,7 +38,7 @@ pub record HasExplained (bytes was now : Option (List ℕ)) : Type 0 where
   pub of : IsLogIn bytes batches
   pub told : Appends was now (explained batches)
 
--- why they were not: nothing is written where nothing is told, and else the output failed within the lines
+-- why they were not: nothing is written where nothing is reported, and else the output failed within the lines
 pub data IsUnexplained (bytes was now : Option (List ℕ)) : Fault → Type 0 where
   untold_log : (why : Refusal) → IsUntold false bytes why → Keeps was now → IsUnexplained bytes was now (Refused why)
   unheard_log : (batches : List Batch) → IsLogIn bytes batches → AppendsFront was now (explained batches) → IsUnexplained bytes was now Output

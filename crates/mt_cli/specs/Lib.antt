@@ -2,6 +2,7 @@ pub mod Advice
 pub mod Checks
 pub mod Dumps
 pub mod Events
+pub mod Excess
 pub mod Explains
 pub mod Formattings
 pub mod Performs

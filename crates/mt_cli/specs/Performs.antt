@@ -17,24 +17,25 @@ use Rattle.mt_args.specs.declared.command.Command.TheVariants.{Try, Schedule, Ch
 use Rattle.mt_args.specs.declared.numbers.Numbers.{Numbers}
 use Rattle.mt_cli.specs.declared.faults.Fault.{Fault}
 use Rattle.mt_cli.specs.declared.faults.Fault.TheVariants.{Output, Refused, Unread}
-use Rattle.mt_server.specs.declared.running.RunFault.{RunFault}
+use Rattle.mt_alone.specs.declared.running.RunFault.{RunFault}
 use Rattle.mt_script.specs.Answers.{AppendsFront, transcript_text}
-use Rattle.mt_server.specs.Driven.{IsBeside}
-use Rattle.mt_server.specs.Plays.{Play, Runs}
-use Rattle.mt_cli.specs.Advice.{about, told_text}
+use Rattle.mt_alone.specs.Driven.{IsBeside}
+use Rattle.mt_alone.specs.Plays.{Play, Runs}
+use Rattle.mt_cli.specs.Advice.{told_of, unread_text}
 use Rattle.mt_cli.specs.Checks.{HasChecked, IsUnchecked}
 use Rattle.mt_args.specs.CommandLines.{IsCommandOf}
 use Rattle.mt_cli.specs.Dumps.{AreLeftBy, HasDumped, IsUndumped, StandsOn}
 use Rattle.mt_cli.specs.Explains.{HasExplained, IsUnexplained}
 use Rattle.mt_cli.specs.Events.{IsEvent, IsSchedule, event_text}
 use Rattle.mt_folder.specs.Folders.{AreKept, Files, IsUnmade, known_in}
+use Rattle.mt_folder.specs.declared.reason.Reason.{Reason}
 use Rattle.mt_cli.specs.Formattings.{Formats, IsUnformed}
 use Rattle.mt_cli.specs.Reads.{IsUnread, source_of}
 use Rattle.mt_cli.specs.Serves.{HasNotRun, HasRunScripts, IsEndedBy, fault_of}
 use Rattle.mt_cli.specs.Tellings.{told_lines}
 use Rattle.mt_script.specs.Lines.{line_text, IsInGrammar}
 use Rattle.mt_script.specs.Scripts.{IsScript}
-use Rattle.mt_server.specs.Runs.{HasTurned, IsToldFor, last_line}
+use Rattle.mt_alone.specs.Runs.{HasTurned, IsToldFor, last_line}
 use Rattle.mt_world.specs.Schedules.{HasRunTo}
 use Rattle.mt_world.specs.declared.events.Answer.{Answer as Told}
 use Rattle.mt_world.specs.declared.events.Event.{Event}
@@ -92,7 +93,7 @@ pub record IsScheduled {D : Type 0} (g : Ghosts D) (bytes was now : Option (List
   pub ran : HaveRun g events answers
   pub told : Appends was now (told_lines answers)
 
--- the folder's files before a command and behind it, and what of the input is known
+-- the folder's files before a command and after it, and what of the input is known
 pub record Around : Type 0 where
   pub before : Files
   pub after : Files
@@ -113,13 +114,18 @@ IsDone g (Show text) a was now = Appends was now (string_bytes text) × AreKept 
 abbrev pub IsWordsDone : {D : Type 0} → Ghosts D → List (List ℕ) → Around → Option (List ℕ) → Option (List ℕ) → Type 0
 IsWordsDone g words a was now = (command : Command) × IsCommandOf words command × IsDone g command a was now
 
--- the line of a fault was written, and behind it what it is about and what to do, or a beginning of that
-abbrev pub IsTold : Option (List ℕ) → Option (List ℕ) → Type 0
-IsTold was now = (name : List ℕ) × (fault : Fault) × AppendsFront was now (told_text name fault)
+-- the line of a fault of a command was written, and after it what it is about and what to do, or a beginning of that. The folder's call
+-- failed for this reason, if one did.
+abbrev pub IsToldOf : Command → Option Reason → Fault → Option (List ℕ) → Option (List ℕ) → Type 0
+IsToldOf command reason fault was now = AppendsFront was now (told_of command reason fault)
 
--- so of a fault of a command
-abbrev pub IsToldOf : Command → Fault → Option (List ℕ) → Option (List ℕ) → Type 0
-IsToldOf command fault was now = AppendsFront was now (told_text (about command fault) fault)
+-- so of some fault
+abbrev pub IsTold : Option (List ℕ) → Option (List ℕ) → Type 0
+IsTold was now = (command : Command) × (reason : Option Reason) × (fault : Fault) × IsToldOf command reason fault was now
+
+-- or memory was wanting to read the words of a command line
+abbrev pub IsWordsTold : Option (List ℕ) → Option (List ℕ) → Type 0
+IsWordsTold was now = IsTold was now ⊎ AppendsFront was now unread_text
 
 -- ---- a command that was not done
 
@@ -172,14 +178,14 @@ IsUndone g (Explain file) a was now fault = IsUnexplained (known_in a.before (st
 IsUndone g (Run frames file workers scripts) a was now fault = HasNotRun workers a.before a.after (string_bytes file) (map string_bytes scripts.items) a.input was now fault
 IsUndone g (Show text) a was now fault = (fault ≡ Output) × AppendsFront was now (string_bytes text) × AreKept a.before a.after
 
--- A command ended with a fault, or it was done and the output could not be flushed. The error output tells of it, and what to do, or has a
+-- A command ended with a fault, or it was done and the output could not be flushed. The error output reports it, and what to do, or has a
 -- beginning of that.
-pub record IsGivenUp {D : Type 0} (g : Ghosts D) (command : Command) (a : Around) (was now old new : Option (List ℕ)) : Type 0 where
+pub record IsGivenUp {D : Type 0} (g : Ghosts D) (command : Command) (reason : Option Reason) (a : Around) (was now old new : Option (List ℕ)) : Type 0 where
   pub given_up : (fault : Fault) × (mid : Option (List ℕ)) × (IsUndone g command a was mid fault ⊎ (IsDone g command a was mid × (fault ≡ Output)))
-      × Keeps mid now × IsToldOf command fault old new
+      × Keeps mid now × IsToldOf command reason fault old new
 
 -- and so did the command that words name, or memory was wanting to read them
-abbrev pub IsWordsGivenUp : {D : Type 0} → Ghosts D → List (List ℕ) → Around → Option (List ℕ) → Option (List ℕ) → Option (List ℕ) → Option (List ℕ) → Type 0
-IsWordsGivenUp g words a was now old new =
-    ((command : Command) × IsCommandOf words command × IsGivenUp g command a was now old new)
-    ⊎ (Keeps was now × AppendsFront old new (told_text (codes "mtk") (Refused refusal.NoMemory)) × AreKept a.before a.after)
+abbrev pub IsWordsGivenUp : {D : Type 0} → Ghosts D → List (List ℕ) → Option Reason → Around → Option (List ℕ) → Option (List ℕ) → Option (List ℕ) → Option (List ℕ) → Type 0
+IsWordsGivenUp g words reason a was now old new =
+    ((command : Command) × IsCommandOf words command × IsGivenUp g command reason a was now old new)
+    ⊎ (Keeps was now × AppendsFront old new unread_text × AreKept a.before a.after)

@@ -1,5 +1,5 @@
 -- Scripts that are read by name: from files, and from the input where the name is a dash.
-use Rattle.std.specs.Prelude.{ℕ, ◌≡◌, ◌⊎◌, Bool, cond, false, List, [], ◌∷◌, ◌++◌, Option, Some, None, IfSome, bytes_eq, codes, length}
+use Rattle.std.specs.Prelude.{ℕ, ◌≡◌, ◌⊎◌, Bool, cond, false, true, List, [], ◌∷◌, ◌++◌, Option, Some, None, IfSome, bytes_eq, codes, length}
 use Rattle.mt_base.specs.declared.refusal.Refusal.{Refusal}
 use Rattle.mt_base.specs.declared.refusal.Refusal.TheVariants as refusal
 use Rattle.mt_script.specs.Grammars.{AreRefusedFor}
@@ -10,10 +10,33 @@ use Rattle.mt_folder.specs.Folders.{Files, known_in}
 use Rattle.mt_cli.specs.declared.faults.Fault.{Fault}
 use Rattle.mt_cli.specs.declared.faults.Fault.TheVariants.{Output, Refused, Unread}
 
--- the bytes of a script or a schedule, where they are known: of the file of its name, or else of the input
+-- the name represents the input
+abbrev pub is_input : List ℕ → Bool
+is_input name = bytes_eq name (codes "-")
+
+-- the bytes of a script of this name, where they are known
+abbrev pub bytes_at : Files → List ℕ → Option (List ℕ) → Option (List ℕ)
+bytes_at files name input = cond (is_input name) input (known_in files name)
+
+-- the bytes of a script or a schedule, where they are known: of the input if there is no name
 abbrev pub source_of : Files → Option (List ℕ) → Option (List ℕ) → Option (List ℕ)
 source_of files None input = input
-source_of files (Some name) input = known_in files name
+source_of files (Some name) input = bytes_at files name input
+
+-- the input is read
+abbrev pub is_fed : Option (List ℕ) → Bool
+is_fed None = true
+is_fed (Some name) = is_input name
+
+-- the file that a name names: none if there is no name, or if it represents the input
+abbrev pub file_in : Option (List ℕ) → Option (List ℕ)
+file_in None = None
+file_in (Some name) = cond (is_input name) None (Some name)
+
+-- the bytes of a file, or else of the input
+abbrev pub held_by : Files → Option (List ℕ) → Option (List ℕ) → Option (List ℕ)
+held_by files None input = input
+held_by files (Some name) input = known_in files name
 
 -- why lines are not read: the bytes are none of the grammar, or could not be had, or memory was wanting
 module _ {L : Type 0} (text : L → List ℕ) (IsIn : L → Type 0) where
@@ -22,19 +45,11 @@ module _ {L : Type 0} (text : L → List ℕ) (IsIn : L → Type 0) where
 
 -- ---- several
 
--- the name stands for the input
-abbrev pub is_input : List ℕ → Bool
-is_input name = bytes_eq name (codes "-")
-
--- the bytes of a script of this name, where they are known
-abbrev pub bytes_at : Files → List ℕ → Option (List ℕ) → Option (List ℕ)
-bytes_at files name input = cond (is_input name) input (known_in files name)
-
--- what is known of the input behind that: nothing, once it was read
+-- what is known of the input after that: nothing, once it was read
 abbrev pub input_behind : List ℕ → Option (List ℕ) → Option (List ℕ)
 input_behind name input = cond (is_input name) None input
 
--- One script is read, and the input only where the name stands for it.
+-- One script is read, and the input only where the name represents it.
 pub record IsReadAt (files : Files) (input : Option (List ℕ)) (name : List ℕ) (lines : List Line) (later : Option (List ℕ)) : Type 0 where
   pub spelled : IfSome (bytes_at files name input) (λ bs. IsScript bs lines)
   pub untouched : is_input name ≡ false → later ≡ input

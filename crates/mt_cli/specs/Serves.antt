@@ -13,14 +13,14 @@ use Rattle.mt_model.specs.declared.tables.Base.{Base as Tables}
 use Rattle.mt_replay.specs.Stands.{CanRestart}
 use Rattle.mt_script.specs.Answers.{AppendsFront}
 use Rattle.mt_server.specs.Heard.{AreTold}
-use Rattle.mt_server.specs.Plays.{Play, HasPlayed}
-use Rattle.mt_server.specs.Runs.{IsToldFor}
+use Rattle.mt_alone.specs.Plays.{Play, HasPlayed}
+use Rattle.mt_alone.specs.Runs.{IsToldFor}
 use Rattle.mt_server.specs.Serves.{IsUnserved}
-use Rattle.mt_server.specs.Sessions.{HavePlayed, in_session, session_line, sessions_text}
+use Rattle.mt_alone.specs.Sessions.{HavePlayed, in_session, session_line, sessions_text}
 use Rattle.mt_script.specs.declared.answers.Answer.{Answer}
 use Rattle.mt_script.specs.declared.lines.Line.{Line}
-use Rattle.mt_server.specs.declared.running.RunFault.{RunFault}
-use Rattle.mt_server.specs.declared.running.RunFault.TheVariants as run
+use Rattle.mt_alone.specs.declared.running.RunFault.{RunFault}
+use Rattle.mt_alone.specs.declared.running.RunFault.TheVariants as run
 use Rattle.mt_shared.specs.Opens.{IsBaseOf}
 use Rattle.mt_cli.specs.Dumps.{IsBarred, IsEarly, StandAs}
 use Rattle.mt_folder.specs.Folders.{AreKept, Files, IsFileRefusal, IsHeld, IsLent, IsUnmade, Puts, known_in}
@@ -51,7 +51,7 @@ AreEndedBy (run.Refused why) = IsUnmade why ⊎ (why ≡ refusal.LogFull)
 abbrev pub first_on : Base → Play
 first_on b = record { session = 0; first = b; base = b; book = []; under_way = None }
 
--- the bytes stand for what all of these commits lead to
+-- the bytes represent what all of these commits lead to
 abbrev pub StandForAll : ℕ → ℕ → Base → List Committed → List ℕ → Type 0
 StandForAll relations counters b book d = ∥ CanRestart relations counters d (after b book) ∥₁
 
@@ -68,7 +68,7 @@ pub record HaveServedOn (relations counters : ℕ) (b : Base) (scripts : List (L
   pub told : Appends was now (sessions_text transcripts)
   pub stands : StandForAll relations counters b last.book d
 
--- A script was cut short: the first of its lines were answered, and their answers are written, or a beginning of them. The device stands for
+-- A script was cut short: the first of its lines were answered, and their answers are written, or a beginning of them. The device represents
 -- the commits until then.
 pub record IsShortOf (relations counters : ℕ) (Stand : List Committed → Type 0) (p : Play) (lines : List Line) (was now : Option (List ℕ)) (why : RunFault) : Type 0 where
   pub before : List Line
@@ -87,7 +87,7 @@ pub data IsShortWithin (relations counters : ℕ) (Stand : List Committed → Ty
   short_session : (mid : Option (List ℕ)) (why : RunFault) → Appends was mid (session_line i) → IsShortOf relations counters Stand (in_session p i) lines mid now why
       → IsShortWithin relations counters Stand p i lines was now why
 
--- The first scripts were served, and the next was cut short. The device's bytes stand for what all commits lead to, or for what they and some
+-- The first scripts were served, and the next was cut short. The device's bytes represent what all commits lead to, or for what they and some
 -- further ones lead to, which were under way.
 pub record AreShortOn (relations counters : ℕ) (b : Base) (scripts : List (List Line)) (was now : Option (List ℕ)) (d : List ℕ) (why : RunFault) : Type 0 where
   pub before : List (List Line)
@@ -103,7 +103,7 @@ pub record AreShortOn (relations counters : ℕ) (b : Base) (scripts : List (Lis
 
 -- ---- on a device's bytes
 
--- it is so on some base, and on the one that the bytes stand for, if they stand for one
+-- it is so on some base, and on the one that the bytes represent, if they represent one
 pub record IsOnBase (c : List ℕ) (On : ℕ → ℕ → Base → Type 0) : Type 0 where
   pub some : (relations : ℕ) × (counters : ℕ) × (b : Base) × On relations counters b
   pub stood_for : (relations counters : ℕ) (b : Base) → CanRestart relations counters c b → On relations counters b
@@ -137,7 +137,7 @@ pub data IsUnservedIn (old new : Files) (file : List ℕ) (scripts : List (List 
 
 -- ---- at once, by several workers
 
--- a session's transcript, behind its line
+-- a session's transcript, after its line
 abbrev pub session_text : ℕ → List ℕ → List ℕ
 session_text i text = session_line i ++ text
 
@@ -145,13 +145,13 @@ session_text i text = session_line i ++ text
 abbrev pub texts_in_order : List (List ℕ) → List ℕ
 texts_in_order texts = numbered session_text 1 texts
 
--- the bytes stand for what all of these commits lead to; where the device has failed, for that, or for what they and some further ones lead to
+-- the bytes represent what all of these commits lead to; where the device has failed, for that, or for what they and some further ones lead to
 abbrev pub StandForBook : Bool → ℕ → ℕ → Base → List Committed → List ℕ → Type 0
 StandForBook false relations counters b book d = StandForAll relations counters b book d
 StandForBook true relations counters b book d = StandForMore relations counters b book d
 
 -- They were served at once to a device of bytes c, and each has its transcript. The commits that the transcripts tell are those of one book, which is legal on
--- the base of c. The device has bytes d now, which stand for that book. Where the device has failed a transcript may end with 2.
+-- the base of c. The device has bytes d now, which represent that book. Where the device has failed a transcript may end with 2.
 pub record AreServedAtOnce (failed : Bool) (c : List ℕ) (scripts : List (List Line)) (texts : List (List ℕ)) (d : List ℕ) : Type 0 where
   pub first : Tables
   pub is : IsBaseOf c first
@@ -162,7 +162,7 @@ pub record AreServedAtOnce (failed : Bool) (c : List ℕ) (scripts : List (List 
   pub counters : ℕ
   pub stands : StandForBook failed relations counters (base_of first) book d
 
--- how a command ends behind that, whose transcripts were not all written or whose device failed
+-- how a command ends after that, whose transcripts were not all written or whose device failed
 abbrev pub IsEndOf : Bool → Fault → Type 0
 IsEndOf false fault = fault ≡ Output
 IsEndOf true fault = fault ≡ Refused refusal.DeviceFailed
@@ -181,8 +181,8 @@ pub record IsServedAtOnce (old new : Files) (file : List ℕ) (scripts : List (L
   pub served : AreServedAtOnceIn false old new file scripts texts
   pub told : Appends was now (texts_in_order texts)
 
--- Why they were not. The file is not opened, or there are too many of them: each file is as before. Or serving is refused, and the device is let go: what
--- its file has is not told, and each other one is as before. Or they were served, and a beginning of the transcripts is written: the output failed, or the
+-- Why they were not. The file is not opened, or there are too many of them: each file is as before. Or serving is refused, and the device is dropped: what
+-- its file has is not known, and each other one is as before. Or they were served, and a beginning of the transcripts is written: the output failed, or the
 -- device did.
 pub data IsUnservedAtOnce (old new : Files) (file : List ℕ) (scripts : List (List Line)) (was now : Option (List ℕ)) : Fault → Type 0 where
   no_device_at_once : (why : Refusal) → IsFileRefusal (known_in old file) why → AreKept old new → Keeps was now → IsUnservedAtOnce old new file scripts was now (Refused why)

@@ -12,7 +12,7 @@ use Rattle.mt_txn.specs.declared.answers.Stepped.TheVariants as step
 use Rattle.mt_world.specs.declared.events.Answer.{Answer}
 use Rattle.mt_world.specs.declared.events.Answer.TheVariants.{Begun, Called, Stepped, Committing, Aborting, Backed, Forced, Flushed, Rotated, Refused}
 
--- the names of transactions, each behind a space
+-- the names of transactions, each after a space
 abbrev pub name_text : ℕ → List ℕ
 name_text t = 32 ∷ decimal t
 

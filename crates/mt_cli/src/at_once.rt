@@ -5,7 +5,7 @@ ghost use Rattle.mt_script.specs.Answers.{AppendsFront};
 ghost use Rattle.mt_script.specs.declared.lines.Line.{Line};
 ghost use Rattle.mt_server.specs.Heard.{AreTold};
 ghost use Rattle.mt_server.specs.Serves.{IsServedOn, IsUnserved};
-ghost use Rattle.mt_server.specs.Sessions.{lines_in};
+ghost use Rattle.mt_alone.specs.Sessions.{lines_in};
 ghost use Rattle.mt_txn.specs.Shown.{is_failed};
 ghost use Rattle.mt_txn.specs.Turned.{HasNobody};
 ghost use Rattle.mt_cli.specs.Serves.{AreServedAtOnce, IsEndOf, IsServedAtOnce, IsUnservedAtOnce, session_text, texts_in_order};

@@ -1,13 +1,15 @@
 // Why a command did not end well, and what is told of it.
-ghost use Rattle.std.specs.Prelude.{◌≡◌, [], OnOk, OnErr, get_or, map, string_bytes};
+ghost use Rattle.std.specs.Prelude.{◌≡◌, ◌++◌, [], OnOk, OnErr, codes, get_or, map, string_bytes};
 ghost use Rattle.std.specs.Io.KnownBytes.{Appends};
 ghost use Rattle.mt_script.specs.Answers.{AppendsFront};
 ghost use Rattle.mt_cli.specs.Performs.{IsToldOf};
-ghost use Rattle.mt_cli.specs.Advice.{about, advice_at, advice_line, advice_of, advice_on, advice_on_script, fault_line, named_in, script_in, shown_file, shown_name, told_text};
+ghost use Rattle.mt_cli.specs.Advice.{about, advice_at, advice_line, advice_of, advice_on, file_advice, fault_line, memory_advice, named_in, script_advice, script_in, shown_file, shown_name, told_of, unread_text};
 
+use crate::excess::{excess_in, write_excess};
 use mt_args::Command;
 use mt_base::Refusal;
 use mt_base::limits::MASTER_BYTES;
+use mt_folder::Reason;
 use mt_script::{Answer, Unheard, put, put_all, write_answer};
 use std::io::Write;
 
@@ -32,7 +34,7 @@ const INPUT: &str = "standard input";
 const OUTPUT: &str = "standard output";
 
 /// What the program is called, where no file is meant.
-pub(crate) const PROGRAM: &str = "mtk";
+const PROGRAM: &str = "mtk";
 
 /// A file's name, as people are told it: one without a letter is shown, too.
 fn shown(name: &str) -> &str
@@ -41,18 +43,19 @@ fn shown(name: &str) -> &str
     if name.is_empty() { "''" } else { name }
 }
 
+/// The name of a script or a schedule, as it is printed: a dash is the input.
+fn shown_script(name: &str) -> &str
+    ensures { result.now ≡ shown_name name.now }
+{
+    if name == "-" { INPUT } else { shown(name) }
+}
+
 /// What people are told of the name of the script at a place of those that are named.
 fn script_name(scripts: &[String], at: usize) -> &str
     ensures { result.now ≡ shown_name (get_or (map string_bytes scripts.now) at []) }
 {
     match scripts.get(at) {
-        Some(name) => {
-            if name.as_str() == "-" {
-                INPUT
-            } else {
-                shown(name.as_str())
-            }
-        }
+        Some(name) => shown_script(name.as_str()),
         None => shown(""),
     }
 }
@@ -62,9 +65,9 @@ fn named_in(command: &Command) -> &str
     ensures { result.now ≡ named_in command.now }
 {
     match command {
-        Command::Try { script: Some(name) } => shown(name.as_str()),
+        Command::Try { script: Some(name) } => shown_script(name.as_str()),
         Command::Try { script: None } => INPUT,
-        Command::Schedule { file: Some(name) } => shown(name.as_str()),
+        Command::Schedule { file: Some(name) } => shown_script(name.as_str()),
         Command::Schedule { file: None } => INPUT,
         Command::Check { file, pages: _ } => shown(file.as_str()),
         Command::Format { file, numbers: _ } => shown(file.as_str()),
@@ -130,86 +133,162 @@ fn advice_at(place: u64) -> &'static str
     }
 }
 
-/// What to do about a refusal of a command.
-fn advice_for(refusal: &Refusal) -> &'static str
-    ensures { result.now ≡ advice_on refusal.now }
+/// What to do where memory was wanting.
+fn memory_advice(command: &Command) -> &'static str
+    ensures { result.now ≡ memory_advice command.now }
 {
-    match refusal {
-        Refusal::NoMemory => "there is not enough memory; `run` takes less with fewer frames",
-        Refusal::DeviceFailed => {
+    match command {
+        Command::Run {
+            frames: _,
+            file: _,
+            workers: _,
+            scripts: _,
+        } => "there is not enough memory; `run` takes less with fewer frames",
+        _ => "there is not enough memory",
+    }
+}
+
+/// Why a file is not had, or what to do about it.
+fn file_advice(reason: &Option<Reason>) -> &'static str
+    ensures { result.now ≡ file_advice reason.now }
+{
+    match reason {
+        Some(reason) => reason.text(),
+        None => {
             "see that it is there, can be read and written, is open in no other program, and that its disk has room"
         }
-        Refusal::NotFormatted => {
-            "this is no device, or its format did not end; `mtk format` makes one"
-        }
-        Refusal::BadFormat(place) => advice_at(*place),
-        Refusal::BadLength => {
-            "a number is outside its limits, or there are more than 64 scripts; see `mtk format --help` and `mtk run --help`"
-        }
-        Refusal::LogFull => {
-            "its log cannot be turned over; keep the file, which `mtk check` still reads"
-        }
-        Refusal::BadLine(_) => {
-            "that line is not in the grammar, or no line feed ends it; see docs/SCRIPTS.md and docs/SCHEDULES.md"
-        }
-        _ => "see docs/COMMANDS.md",
     }
 }
 
-/// What to do about a script that was not read.
-fn advice_for_script(refusal: &Refusal) -> &'static str
-    ensures { result.now ≡ advice_on_script refusal.now }
+/// Why a script is not read, or what to do about it.
+fn script_advice(reason: &Option<Reason>) -> &'static str
+    ensures { result.now ≡ script_advice reason.now }
+{
+    match reason {
+        Some(reason) => reason.text(),
+        None => "see that it is there and can be read",
+    }
+}
+
+/// Writes what to do about a refusal of a command, where the folder's call failed for this reason.
+fn write_advice_on<W: Write>(
+    writer: &mut W,
+    command: &Command,
+    reason: &Option<Reason>,
+    refusal: &Refusal,
+) -> Result<(), Unheard>
+    ensures all { OnOk result (Appends (W.contents writer.old) (W.contents writer.new)
+        (advice_on command.now reason.now refusal.now)) }
+    ensures front { OnErr result (AppendsFront (W.contents writer.old) (W.contents writer.new)
+        (advice_on command.now reason.now refusal.now)) }
 {
     match refusal {
-        Refusal::DeviceFailed => "see that it is there and can be read",
-        _ => advice_for(refusal),
+        Refusal::NoMemory => put(writer, memory_advice(command).as_bytes()),
+        Refusal::DeviceFailed => put(writer, file_advice(reason).as_bytes()),
+        Refusal::NotFormatted => put(
+            writer,
+            b"this is no device, or its format did not end; `mtk format` makes one",
+        ),
+        Refusal::BadFormat(place) => put(writer, advice_at(*place).as_bytes()),
+        Refusal::BadLength => write_excess(writer, &excess_in(command)),
+        Refusal::LogFull => put(
+            writer,
+            b"its log cannot be turned over; keep the file, which `mtk check` still reads",
+        ),
+        Refusal::BadLine(_) => put(
+            writer,
+            b"that line is not in the grammar, or no line feed ends it; see docs/MANUAL.md",
+        ),
+        _ => put(writer, b"see docs/MANUAL.md"),
     }
 }
 
-/// What to do about a fault.
-fn advice_about(fault: &Fault) -> &'static str
-    ensures { result.now ≡ advice_of fault.now }
+/// Writes what to do about a fault of a command.
+fn write_advice<W: Write>(
+    writer: &mut W,
+    command: &Command,
+    reason: &Option<Reason>,
+    fault: &Fault,
+) -> Result<(), Unheard>
+    ensures all { OnOk result (Appends (W.contents writer.old) (W.contents writer.new)
+        (advice_of command.now reason.now fault.now)) }
+    ensures front { OnErr result (AppendsFront (W.contents writer.old) (W.contents writer.new)
+        (advice_of command.now reason.now fault.now)) }
 {
     match fault {
-        Fault::Output => {
-            "see that its disk has room and that its reader goes on; what was committed stands"
-        }
-        Fault::Refused(refusal) => advice_for(refusal),
-        Fault::Unread(refusal, _) => advice_for_script(refusal),
+        Fault::Output => put(
+            writer,
+            b"see that its disk has room and that its reader goes on; what was committed stands",
+        ),
+        Fault::Refused(refusal) => write_advice_on(writer, command, reason, refusal),
+        Fault::Unread(Refusal::DeviceFailed, _) => put(writer, script_advice(reason).as_bytes()),
+        Fault::Unread(refusal, _) => write_advice_on(writer, command, reason, refusal),
     }
 }
 
-/// Writes the line of what a fault is about and what to do.
-fn write_advice<W: Write>(writer: &mut W, name: &str, advice: &str) -> Result<(), Unheard>
+/// Writes what a fault of a command is about, as a line of it begins.
+fn write_about<W: Write>(writer: &mut W, command: &Command, fault: &Fault) -> Result<(), Unheard>
     ensures all { OnOk result (Appends (W.contents writer.old) (W.contents writer.new)
-        (advice_line name.now advice.now)) }
+        (about command.now fault.now ++ codes ": ")) }
     ensures front { OnErr result (AppendsFront (W.contents writer.old) (W.contents writer.new)
-        (advice_line name.now advice.now)) }
+        (about command.now fault.now ++ codes ": ")) }
 {
-    put_all(writer, &[name.as_bytes(), b": ", advice.as_bytes(), b"\n"])
+    put_all(writer, &[name_for(command, fault).as_bytes(), b": "])
 }
 
-/// Writes the line of a fault, and behind it what it is about and what to do.
-fn write_told<W: Write>(writer: &mut W, name: &str, fault: &Fault) -> Result<(), Unheard>
+/// Writes the line of what a fault of a command is about and what to do.
+fn write_advice_line<W: Write>(
+    writer: &mut W,
+    command: &Command,
+    reason: &Option<Reason>,
+    fault: &Fault,
+) -> Result<(), Unheard>
     ensures all { OnOk result (Appends (W.contents writer.old) (W.contents writer.new)
-        (told_text name.now fault.now)) }
+        (advice_line (about command.now fault.now) (advice_of command.now reason.now fault.now))) }
     ensures front { OnErr result (AppendsFront (W.contents writer.old) (W.contents writer.new)
-        (told_text name.now fault.now)) }
+        (advice_line (about command.now fault.now) (advice_of command.now reason.now fault.now))) }
+{
+    write_about(writer, command, fault)?;
+    write_advice(writer, command, reason, fault)?;
+    put(writer, b"\n")
+}
+
+/// Writes the line of a fault of a command, and after it what it is about and what to do.
+fn write_told<W: Write>(
+    writer: &mut W,
+    command: &Command,
+    reason: &Option<Reason>,
+    fault: &Fault,
+) -> Result<(), Unheard>
+    ensures all { OnOk result (Appends (W.contents writer.old) (W.contents writer.new)
+        (told_of command.now reason.now fault.now)) }
+    ensures front { OnErr result (AppendsFront (W.contents writer.old) (W.contents writer.new)
+        (told_of command.now reason.now fault.now)) }
 {
     write_fault(writer, fault)?;
-    write_advice(writer, name, advice_about(fault))
+    write_advice_line(writer, command, reason, fault)
 }
 
-/// Tells on the error output of a fault, of what it is about, and what to do.
-pub(crate) fn tell_about<E: Write>(err: &mut E, name: &str, fault: &Fault)
-    ensures { AppendsFront (E.contents err.old) (E.contents err.new) (told_text name.now fault.now) }
+/// Writes that there is no memory for the words of a command line.
+fn write_unread<W: Write>(writer: &mut W) -> Result<(), Unheard>
+    ensures all { OnOk result (Appends (W.contents writer.old) (W.contents writer.new) unread_text) }
+    ensures front { OnErr result (AppendsFront (W.contents writer.old) (W.contents writer.new) unread_text) }
 {
-    let _ = write_told(err, name, fault);
+    write_fault(writer, &Fault::Refused(Refusal::NoMemory))?;
+    put(writer, b"mtk: there is not enough memory\n")
 }
 
-/// Tells on the error output of a fault of a command, of the file that it is about, and what to do.
-pub(crate) fn tell<E: Write>(err: &mut E, command: &Command, fault: &Fault)
-    ensures { IsToldOf command.now fault.now (E.contents err.old) (E.contents err.new) }
+/// Reports on the error output that there is no memory for what the words of a command line name.
+pub(crate) fn tell_unread<E: Write>(err: &mut E)
+    ensures { AppendsFront (E.contents err.old) (E.contents err.new) unread_text }
 {
-    tell_about(err, name_for(command, fault), fault);
+    let _ = write_unread(err);
+}
+
+/// Reports on the error output a fault of a command, the file that it is about, and what to do. The reason is why the
+/// folder's call failed.
+pub(crate) fn tell<E: Write>(err: &mut E, command: &Command, reason: &Option<Reason>, fault: &Fault)
+    ensures { IsToldOf command.now reason.now fault.now (E.contents err.old) (E.contents err.new) }
+{
+    let _ = write_told(err, command, reason, fault);
 }

@@ -5,6 +5,7 @@
 mod at_once;
 mod checking;
 mod dumping;
+mod excess;
 mod explaining;
 mod faults;
 mod formatting;

@@ -4,10 +4,8 @@ ghost use Rattle.mt_disk.specs.Memory.{content};
 ghost use Rattle.mt_script.specs.Answers.{AppendsFront};
 ghost use Rattle.mt_args.specs.CommandLines.{IsMistaken};
 ghost use Rattle.mt_folder.specs.Folders.{AreKept, IsUnmade};
-ghost use Rattle.mt_cli.specs.Advice.{told_text};
-ghost use Rattle.mt_base.specs.declared.refusal.Refusal.{Refusal};
 ghost use Rattle.mt_cli.specs.declared.faults.Fault.{Fault};
-ghost use Rattle.mt_cli.specs.Performs.{IsFirstSchema, StandsFirst, HasTried, HaveRun, IsTried, IsScheduled, IsCutTrial, IsUntried, IsUnscheduled, IsDone, IsUndone, IsWordsDone, IsGivenUp, IsWordsGivenUp, IsTold, IsToldOf, Around};
+ghost use Rattle.mt_cli.specs.Performs.{IsFirstSchema, StandsFirst, HasTried, HaveRun, IsTried, IsScheduled, IsCutTrial, IsUntried, IsUnscheduled, IsDone, IsUndone, IsWordsDone, IsGivenUp, IsWordsGivenUp, IsTold, IsToldOf, IsWordsTold, Around};
 ghost use Rattle.mt_cli.specs.Reads.{source_of};
 ghost use Rattle.std.specs.Io.KnownBytes.{Appends, Keeps};
 ghost use Rattle.mt_cli.specs.declared.performing.TheConstants.{AREA_MIB, PAGES};
@@ -17,20 +15,20 @@ use crate::at_once::Service;
 use crate::checking::perform_check;
 use crate::dumping::perform_dump;
 use crate::explaining::perform_explain;
-use crate::faults::{Fault, PROGRAM, tell, tell_about};
+use crate::faults::{Fault, tell, tell_unread};
 use crate::formatting::perform_format;
 use crate::reading::lines_of;
 use crate::schedules::ScheduleGrammar;
 use crate::serving::perform_run;
 use crate::telling::write_all_told;
+use mt_alone::{RunFault, run_alone};
 use mt_args::{CliFault, Command, command_of};
 use mt_base::Refusal;
 use mt_base::limits::device_bytes;
 use mt_disk::{Device, MemDevice};
-use mt_folder::Folder;
+use mt_folder::{Folder, Reason};
 use mt_restart::{Schema, fresh};
 use mt_script::{Script, ScriptGrammar, put};
-use mt_server::{RunFault, run_alone};
 use mt_shared::Gate;
 use mt_txn::Kernel;
 use mt_world::{Event, run_schedule};
@@ -218,9 +216,10 @@ fn perform_schedule<F: Folder, I: Read, O: Write>(
     }
 }
 
-/// Flushes the output after a command, and answers the status.
+/// Flushes the output after a command, and answers the status. The reason is why the folder's call failed.
 fn finish<O: Write, E: Write>(
     command: &Command,
+    reason: &Option<Reason>,
     done: Result<(), Fault>,
     out: &mut O,
     err: &mut E,
@@ -229,8 +228,8 @@ fn finish<O: Write, E: Write>(
     ensures done { result ≡ 0 → IsOk done × (err.new ≡ err.old) }
     ensures status { result ≢ 0 → result ≡ 1 }
     ensures told { result ≢ 0 → MatchResult done
-        (λ _. IsToldOf command.now Fault.Output (E.contents err.old) (E.contents err.new))
-        (λ fault. IsToldOf command.now fault (E.contents err.old) (E.contents err.new)) }
+        (λ _. IsToldOf command.now reason.now Fault.Output (E.contents err.old) (E.contents err.new))
+        (λ fault. IsToldOf command.now reason.now fault (E.contents err.old) (E.contents err.new)) }
 {
     let flushed = out.flush();
     let fault = match done {
@@ -238,7 +237,7 @@ fn finish<O: Write, E: Write>(
         Ok(()) => Fault::Output,
         Err(fault) => fault,
     };
-    tell(err, command, &fault);
+    tell(err, command, reason, &fault);
     REFUSED
 }
 
@@ -318,7 +317,7 @@ fn do_command<F: Folder, I: Read, O: Write, G: Gate + Drop + Send + Sync, R: Thr
 ///
 /// - 0: it was done. Refusals within a transcript count as done.
 /// - 1: it was refused, or `out` could not be written. The refusal's text is on `err`, with the file that it is about
-///   and what to do in a line behind it. An input that cannot be read, and a file that is not there or cannot be
+///   in a line after it, and what to do or why the folder's call failed. An input that cannot be read, and a file that is not there or cannot be
 ///   read, is refusal 2.
 ///
 /// A script or a schedule is read whole before any of it runs, and all scripts of `run` before the first of them runs.
@@ -349,20 +348,12 @@ pub fn perform<
         (record { before = F.files folder.old; after = F.files folder.new; input = I.remaining input.old })
         (O.contents out.old) (O.contents out.new) × (err.new ≡ err.old) }
     ensures told { result ≢ 0 → (result ≡ 1) × IsTold (E.contents err.old) (E.contents err.new) }
-    ensures given_up { result ≢ 0 → IsGivenUp ⟦<MemDevice as Device>⟧ command.now
+    ensures given_up { result ≢ 0 → IsGivenUp ⟦<MemDevice as Device>⟧ command.now (F.why folder.new)
         (record { before = F.files folder.old; after = F.files folder.new; input = I.remaining input.old })
         (O.contents out.old) (O.contents out.new) (E.contents err.old) (E.contents err.new) }
 {
     let done = do_command(rt, alloc, command, folder, input, out, gate);
-    finish(command, done, out, err)
-}
-
-/// Tells on the error output that there is no memory for what the words of a command line name.
-fn tell_unread<E: Write>(err: &mut E)
-    ensures { AppendsFront (E.contents err.old) (E.contents err.new)
-        (told_text (codes "mtk") (Fault.Refused Refusal.NoMemory)) }
-{
-    tell_about(err, PROGRAM, &Fault::Refused(Refusal::NoMemory));
+    finish(command, &folder.reason(), done, out, err)
 }
 
 /// Does the command that these words name, those behind the program's name, and answers the status. That is the
@@ -388,9 +379,9 @@ pub fn perform_words<
     ensures done { result ≡ 0 → IsWordsDone ⟦<MemDevice as Device>⟧ (map (λ word. word.now) words.now)
         (record { before = F.files folder.old; after = F.files folder.new; input = I.remaining input.old })
         (O.contents out.old) (O.contents out.new) }
-    ensures told { result ≡ 1 → IsTold (E.contents err.old) (E.contents err.new) }
+    ensures told { result ≡ 1 → IsWordsTold (E.contents err.old) (E.contents err.new) }
     ensures given_up { result ≡ 1 → IsWordsGivenUp ⟦<MemDevice as Device>⟧ (map (λ word. word.now) words.now)
-        (record { before = F.files folder.old; after = F.files folder.new; input = I.remaining input.old })
+        (F.why folder.new) (record { before = F.files folder.old; after = F.files folder.new; input = I.remaining input.old })
         (O.contents out.old) (O.contents out.new) (E.contents err.old) (E.contents err.new) }
     ensures misused { result ≡ 2 → IsMistaken (map (λ word. word.now) words.now) × (out.new ≡ out.old)
         × (folder.new ≡ folder.old) }

@@ -1,10 +1,10 @@
 // Scripts and schedules, read by name.
-ghost use Rattle.std.specs.Prelude.{◌≡◌, Some, None, IfErr, IfOk, IfSome, cond, is_some, map, option_map, string_bytes, true};
+ghost use Rattle.std.specs.Prelude.{◌≡◌, false, IfErr, IfOk, IfSome, is_some, map, option_map, string_bytes, true};
 ghost use Rattle.mt_script.specs.Grammars.{AreLines};
 ghost use Rattle.mt_script.specs.Lines.{line_text, IsInGrammar};
-ghost use Rattle.mt_server.specs.Sessions.{lines_in};
+ghost use Rattle.mt_alone.specs.Sessions.{lines_in};
 ghost use Rattle.mt_folder.specs.Folders.{AreKept};
-ghost use Rattle.mt_cli.specs.Reads.{HasNoScript, HaveBeenRead, IsReadAt, IsUnread, bytes_at, is_input, source_of};
+ghost use Rattle.mt_cli.specs.Reads.{HasNoScript, HaveBeenRead, IsReadAt, IsUnread, bytes_at, file_in, held_by, is_fed, source_of};
 
 use crate::faults::Fault;
 use mt_base::Refusal;
@@ -13,23 +13,23 @@ use mt_script::{Grammar, Script, ScriptFault, ScriptGrammar, read_lines};
 use std::alloc::Global;
 use std::io::Read;
 
-/// The lines of the file of this name, or those on standard input where there is no name.
-pub(crate) fn lines_of<G: Grammar, F: Folder, I: Read>(
+/// The lines of this file, or those on standard input if there is none.
+fn lines_from<G: Grammar, F: Folder, I: Read>(
     alloc: Global,
     folder: &mut F,
-    name: Option<&str>,
+    file: Option<&str>,
     input: &mut I,
 ) -> Result<Vec<G::Line>, Refusal>
     ensures lines { IfOk result (λ lines. IfSome
-        (source_of (F.files folder.old) (option_map (λ n. n.now) name.entry) (I.remaining input.old))
+        (held_by (F.files folder.old) (option_map (λ n. n.now) file.entry) (I.remaining input.old))
         (λ bytes. AreLines G.text G.IsIn bytes lines.items)) }
     ensures unread { IfErr result (IsUnread G.text G.IsIn
-        (source_of (F.files folder.old) (option_map (λ n. n.now) name.entry) (I.remaining input.old))) }
+        (held_by (F.files folder.old) (option_map (λ n. n.now) file.entry) (I.remaining input.old))) }
     ensures kept { AreKept (F.files folder.old) (F.files folder.new) }
-    ensures untouched { is_some (option_map (λ n. n.now) name.entry) ≡ true
+    ensures untouched { is_some (option_map (λ n. n.now) file.entry) ≡ true
         → I.remaining input.new ≡ I.remaining input.old }
 {
-    let read = match name {
+    let read = match file {
         Some(name) => {
             let bytes = folder.script(name)?;
             let mut rest = bytes.as_slice();
@@ -44,11 +44,33 @@ pub(crate) fn lines_of<G: Grammar, F: Folder, I: Read>(
     }
 }
 
-/// The file that a script's name names, or `None` where it stands for standard input.
-fn file_named(name: &str) -> Option<&str>
-    ensures { option_map (λ n. n.now) result ≡ cond (is_input name.now) None (Some name.now) }
+/// The file that a name of a script or a schedule names, or `None` if there is no name or it is a dash.
+fn file_named<'a>(name: Option<&'a str>) -> Option<&'a str>
+    ensures { option_map (λ n. n.now) result ≡ file_in (option_map (λ n. n.now) name.entry) }
 {
-    if name == "-" { None } else { Some(name) }
+    match name {
+        Some(name) => { if name == "-" { None } else { Some(name) } }
+        None => None,
+    }
+}
+
+/// The lines of the file of this name, or those on standard input if there is no name or it is a dash.
+pub(crate) fn lines_of<G: Grammar, F: Folder, I: Read>(
+    alloc: Global,
+    folder: &mut F,
+    name: Option<&str>,
+    input: &mut I,
+) -> Result<Vec<G::Line>, Refusal>
+    ensures lines { IfOk result (λ lines. IfSome
+        (source_of (F.files folder.old) (option_map (λ n. n.now) name.entry) (I.remaining input.old))
+        (λ bytes. AreLines G.text G.IsIn bytes lines.items)) }
+    ensures unread { IfErr result (IsUnread G.text G.IsIn
+        (source_of (F.files folder.old) (option_map (λ n. n.now) name.entry) (I.remaining input.old))) }
+    ensures kept { AreKept (F.files folder.old) (F.files folder.new) }
+    ensures untouched { is_fed (option_map (λ n. n.now) name.entry) ≡ false
+        → I.remaining input.new ≡ I.remaining input.old }
+{
+    lines_from::<G, F, I>(alloc, folder, file_named(name), input)
 }
 
 /// The script of this name; `-` is standard input.
@@ -64,7 +86,7 @@ fn script_of<F: Folder, I: Read>(
         (bytes_at (F.files folder.old) name.now (I.remaining input.old))) }
     ensures kept { AreKept (F.files folder.old) (F.files folder.new) }
 {
-    let lines = lines_of::<ScriptGrammar, F, I>(alloc, folder, file_named(name), input)?;
+    let lines = lines_of::<ScriptGrammar, F, I>(alloc, folder, Some(name), input)?;
     Ok(Script::new(lines))
 }
 

@@ -30,7 +30,7 @@ pub record LeavesOnly {D : Type 0} (moment : D → ℕ) (left_since : D → ℕ 
   -- the same, for a run of calls that began before
   pub before : (t : ℕ) (c : List ℕ) → t ≤ moment old → left_since new t c → left_since old t c ⊎ P c
 
--- A call tells of a fault if and only if the device failed in it.
+-- A call reports a fault if and only if the device failed in it.
 pub record HasCause {T E : Type 0} (before now : ℕ) (result : Result T E) : Type 0 where
   pub later : before ≤ now
   pub failed : IsErr result → before < now

@@ -7,6 +7,7 @@ use crate::{Device, DeviceFault, MemDevice};
 use mt_base::limits::PAGE_BYTES;
 use mt_base::{History, Refusal};
 use std::alloc::{AllocError, Global};
+use std::fs;
 use std::fs::{File, OpenFile, OpenOptions};
 use std::io::{ErrorKind, Read, Seek, SeekFrom, Write};
 use std::rt::Files;
@@ -42,9 +43,9 @@ impl FileDevice<File> {
 
     /// The device in the file of this path, of the file's length. What the file holds is synced first, so that none
     /// of it can be lost any more. A file that may be read alone is opened so, and each write to it is a fault.
-    /// Refused by `NoMemory` for want of memory. Refused by `DeviceFailed` where the file cannot be opened or read,
-    /// or does not keep its length. So it is where the file is open as a device, here or in another program. It is
-    /// then as it was.
+    /// Refused by `NoMemory` for want of memory. Refused by `DeviceFailed` if the file cannot be opened or read,
+    /// is no regular file, or does not keep its length. It is refused so if the file is open as a device, too, here or
+    /// in another program. It is then as it was. What is no regular file is not opened, so a pipe holds up nobody.
     pub fn open<R: Files<File = File> + AllocGlobal>(
         rt: &R,
         path: &str,
@@ -65,7 +66,7 @@ impl FileDevice<File> {
     }
 
     /// A device of so many bytes, all of them 0, in a file of this path; what the file held before is gone. Refused
-    /// by `NoMemory` for want of memory, before the file is touched. Refused by `DeviceFailed` where the file is open
+    /// by `NoMemory` for want of memory, before the file is touched. Refused by `DeviceFailed` if the file is open
     /// as a device, and is then as it was. Or it cannot be made or written, and may then be there in part.
     pub fn make<R: Files<File = File> + AllocGlobal>(
         rt: &R,
@@ -77,9 +78,32 @@ impl FileDevice<File> {
         ensures refusals { IfErr result (λ refusal. (refusal ≡ Refusal.NoMemory) ⊎ (refusal ≡ Refusal.DeviceFailed)) }
     {
         let memory = zeros(rt.alloc(), len)?;
-        let mut file = created(rt, path)?;
+        let file = created(rt, path)?;
+        FileDevice::filled(memory, file)
+    }
+
+    /// A device of so many bytes, all of them 0, in this file, which is open to be read and written; what it held
+    /// before is gone. Refused by `NoMemory` for want of memory, before the file is touched. Refused by `DeviceFailed`
+    /// if the file is open as a device elsewhere, and is then as it was, or cannot be written.
+    pub fn over(alloc: Global, file: File, len: u64) -> Result<FileDevice<File>, Refusal>
+        ensures content { IfOk result (λ device. content (copy_in device) ≡ replicate len 0) }
+        ensures fresh { IfOk result (λ device. IsFresh device) }
+        ensures refusals { IfErr result (λ refusal. (refusal ≡ Refusal.NoMemory) ⊎ (refusal ≡ Refusal.DeviceFailed)) }
+    {
+        let memory = zeros(alloc, len)?;
+        FileDevice::filled(memory, file)
+    }
+
+    /// The device of this copy in this file, which gets its bytes.
+    fn filled(memory: MemDevice, file: File) -> Result<FileDevice<File>, Refusal>
+        requires { IsFreshCopy memory }
+        ensures copy { IfOk result (λ device. copy_in device ≡ memory) }
+        ensures fresh { IfOk result (λ device. IsFresh device) }
+        ensures only_device { IfErr result (λ refusal. refusal ≡ Refusal.DeviceFailed) }
+    {
+        let mut file = file;
         lock(&file)?;
-        resize(&file, len)?;
+        resize(&file, memory.len())?;
         put(&mut file, 0, memory.bytes())?;
         settle_file(&mut file)?;
         Ok(FileDevice {
@@ -147,8 +171,11 @@ fn zeros(alloc: Global, len: u64) -> Result<MemDevice, AllocError>
     copy_of(alloc, bytes)
 }
 
-/// The file of this path, to be read and written; or to be read, where that alone is allowed.
+/// The regular file of this path, to be read and written; or to be read, if that alone is allowed.
 fn opened<R: Files>(rt: &R, path: &str) -> Result<R::File, DeviceFault> {
+    if !fs::metadata(rt, path)?.is_file() {
+        return Err(DeviceFault);
+    }
     match OpenOptions::new().read(true).write(true).open(rt, path) {
         Ok(file) => Ok(file),
         Err(fault) => match fault.kind() {

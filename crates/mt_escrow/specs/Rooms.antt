@@ -37,7 +37,7 @@ settled d r = record { count = moved r.count d; lowest = r.lowest -ℤ below d; 
 abbrev pub Fits : Room → Type 0
 Fits r = (r.count.low ≤ℤ (r.count.number +ℤ r.lowest)) × ((r.count.number +ℤ r.highest) ≤ℤ r.count.high)
 
--- what stands for the room of a counter that is not there
+-- what represents the room of a counter that is not there
 abbrev pub room_at : List Room → ℕ → Room
 room_at rooms c = slice_index_or rooms c (fresh no_count)
 

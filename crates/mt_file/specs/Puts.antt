@@ -9,7 +9,7 @@ use Rattle.mt_space.specs.Changes.{PageBytes, after, AreShort, IsUntouched, Agre
 use Rattle.mt_slots.specs.Page.{Row}
 use Rattle.mt_file.specs.File.{IsFile, record_in}
 
--- A record more, behind these changes: in the page that is named, or in a new one.
+-- A record more, after these changes: in the page that is named, or in a new one.
 pub record PutsRecord (at_hand : ℕ → Option (List ℕ)) (total : ℕ) (room : Option ℕ) (before : List PageChange) (row : Row) (r : Result Step AllocError) : Type 0 where
   pub put : IfOk r (λ step. (pages : PageBytes) → IsReady at_hand room (after before pages) → IsPut at_hand room total before pages row step)
   pub short : IfOk r (λ step. (pages : PageBytes) → IsReady at_hand room (after before pages) → IsApart room before pages → IsShortPlan pages step)

@@ -48,7 +48,7 @@ above (suc height) leaf = above height leaf / 2
 abbrev pub IsPassed : List ℕ → ℕ → ℕ → ℕ → ℕ → Type 0
 IsPassed tree from least height node = (i : ℕ) → from ≤ i → i < 2 * LEAVES → above height i < node → get_or tree i 0 < least
 
--- So it is for a node of some height, which stands behind what is above the leaf before this one, and no further than
+-- So it is for a node of some height, which stands after what is above the leaf before this one, and no further than
 -- what is above the last leaf.
 pub record IsPassedTo (tree : List ℕ) (from least node : ℕ) : Type 0 where
   pub height : ℕ

@@ -44,7 +44,7 @@ pub record AreKept (old new : Files) : Type 0 where
   pub told : is_some new ≡ is_some old
   pub all : (name : List ℕ) → known_in new name ≡ known_in old name
 
--- the file of this name is lent: what it has is not told until it is back, and each other one is as before
+-- the file of this name is lent: what it has is not known until it is back, and each other one is as before
 pub record IsLent (old new : Files) (name : List ℕ) : Type 0 where
   pub told : is_some new ≡ is_some old
   pub there : IsThere new name

@@ -1,4 +1,5 @@
 // Files that a program reaches by name.
+use crate::reason::Reason;
 use mt_base::Refusal;
 use mt_disk::Device;
 
@@ -11,12 +12,16 @@ pub trait Folder {
     ghost use Rattle.std.specs.Prelude.{◌≡◌, ℕ, List, Option, length, IfOk, IfErr, IfSome, OnOk, OnErr};
     ghost use Rattle.mt_disk.specs.Disk.{Only};
     ghost use Rattle.mt_folder.specs.Folders.{AreKept, IsFileRefusal, IsHeld, IsLent, IsThere, IsUnmade, Puts, known_in};
+    ghost use Rattle.mt_folder.specs.declared.reason.Reason.{Reason};
 
     /// A device in a file; threads may use it.
     type Device: Device + Drop + Send;
 
     /// What is held under each name, where that is known.
     ghost files: { Self → Option (List ℕ → Option (List ℕ)) };
+
+    /// Why the last refused call failed, where that is known.
+    ghost why: { Self → Option Reason };
 
     /// The bytes of the script of this name. Refused by `NoMemory`, and by `DeviceFailed` where
     /// there is no such file or it cannot be read. The folder is as before.
@@ -59,4 +64,8 @@ pub trait Folder {
     /// Lets a device go that was made for this name. The folder is as before.
     fn discard(&mut self, name: &str, device: Self::Device)
         ensures { AreKept (files self.old) (files self.new) };
+
+    /// Why the folder's last refused call failed, if it knows. A refusal of a device is none of the folder's.
+    fn reason(&self) -> Option<Reason>
+        ensures { result ≡ why self.now };
 }

@@ -5,8 +5,10 @@
 
 mod folder;
 mod memory;
+mod reason;
 mod system;
 
 pub use folder::Folder;
 pub use memory::MemFolder;
+pub use reason::Reason;
 pub use system::DiskFolder;

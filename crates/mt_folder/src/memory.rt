@@ -5,6 +5,7 @@ ghost use Rattle.mt_disk.specs.Disk.{Only};
 ghost use Rattle.mt_disk.specs.Memory.{MayLeave, content};
 
 use crate::folder::Folder;
+use crate::reason::Reason;
 use mt_base::limits::PAGE_BYTES;
 use mt_base::{Bytes, Refusal};
 use mt_disk::MemDevice;
@@ -97,12 +98,14 @@ fn device_over(alloc: Global, bytes: Vec<u8>) -> Result<MemDevice, AllocError>
 }
 
 impl Folder for MemFolder {
-    ghost use Rattle.std.specs.Prelude.{Some};
+    ghost use Rattle.std.specs.Prelude.{None, Some};
     ghost use Rattle.mt_folder.specs.Folders.{file_of};
 
     type Device = MemDevice;
 
     ghost files = { λ folder. Some (λ name. file_of name folder.files.items) };
+
+    ghost why = { λ _. None };
 
     fn script(&mut self, name: &str) -> Result<Vec<u8>, Refusal> {
         self.copy_of(name)
@@ -137,4 +140,8 @@ impl Folder for MemFolder {
     }
 
     fn discard(&mut self, _name: &str, _device: MemDevice) {}
+
+    fn reason(&self) -> Option<Reason> {
+        None
+    }
 }

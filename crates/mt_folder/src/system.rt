@@ -1,35 +1,69 @@
 // The files of the system.
-ghost use Rattle.std.specs.Prelude.{◌≡◌, None, IfErr};
-ghost use Rattle.mt_folder.specs.Folders.{IsFileRefusal};
+ghost use Rattle.std.specs.Prelude.{◌≡◌, None, IfErr, IfOk, replicate};
+ghost use Rattle.mt_disk.specs.File.{copy_in};
+ghost use Rattle.mt_disk.specs.Memory.{content};
+ghost use Rattle.mt_folder.specs.Folders.{IsFileRefusal, IsUnmade};
 
 use crate::folder::Folder;
+use crate::reason::Reason;
 use mt_base::Refusal;
 use mt_disk::FileDevice;
 use std::alloc::{AllocError, Global};
-use std::fs;
-use std::fs::{File, OpenOptions};
-use std::io::ErrorKind;
+use std::fs::{self, File, Metadata, OpenFile, OpenOptions, TryLockError};
+use std::io::{self, ErrorKind};
+use std::os::unix::fs::MetadataExt;
 use std::rt::Files;
 
 /// The files of the system, by their paths.
 ///
-/// A device is made in a file beside the one that it is to replace. That file's name has `.mtk-new` behind it, and it
-/// is renamed once it is installed. So a format that fails or is cut off leaves an older file of that name as it was.
-/// A file that is open as a device, here or in another program, is not replaced.
+/// A device is made in a new file of a name of its own, in the folder of the file that it is to replace, and is renamed
+/// once it is installed. So a format that fails or is cut off leaves an older file of that name as it was. Nothing
+/// is removed that was not made here. An older file is locked from the making on, so of two programs that replace one
+/// file at once one is refused. A file that is open as a device, here or in another program, is not replaced.
 #[derive(Drop)]
 pub struct DiskFolder<'a, R> {
     rt: &'a R,
+    made: Option<Made>,
+    /// Why the last refused call failed.
+    reason: Option<Reason>,
 }
 
-/// What is added to a file's name for the one that is made beside it.
-const BESIDE: &str = ".mtk-new";
-
-/// The name of the file that is made beside the one of this name.
-fn beside(alloc: Global, name: &str) -> Result<String, AllocError> {
-    let mut beside = String::from_str(alloc, name)?;
-    beside.push_str(BESIDE)?;
-    Ok(beside)
+/// A file that is made for a device, until it has its name.
+#[derive(Drop)]
+struct Made {
+    /// Where it is meanwhile.
+    path: String,
+    /// The file that it is to replace, locked, if there is one.
+    older: Option<File>,
 }
+
+/// How a call is refused, and why it failed.
+#[derive(Clone, Copy)]
+struct Failure {
+    refusal: Refusal,
+    reason: Reason,
+}
+
+impl From<AllocError> for Failure {
+    ghost use Rattle.mt_folder.specs.declared.system.Failure.{Failure};
+    ghost use Rattle.mt_base.specs.declared.refusal.Refusal.{Refusal};
+    ghost use Rattle.std.specs.Prelude.{◌≡◌};
+
+    ghost from_gives = { λ _ failure. failure.refusal ≡ Refusal.NoMemory };
+
+    fn from(_error: AllocError) -> Failure {
+        Failure {
+            refusal: Refusal::NoMemory,
+            reason: Reason::Other,
+        }
+    }
+}
+
+/// How the name begins under which a file is made. A number follows.
+const NEW: &str = ".mtk-new-";
+
+/// How many such names are tried.
+const NEW_NAMES: u32 = 1000;
 
 /// Why a file is not read: for want of memory, or since it cannot be.
 fn refusal_of(why: ErrorKind) -> Refusal
@@ -41,31 +75,258 @@ fn refusal_of(why: ErrorKind) -> Refusal
     }
 }
 
-/// Removes a file that could not be given its name, as far as that goes, and tells that the device failed.
-fn given_up<R: Files>(rt: &R, path: &str) -> Refusal
-    ensures { result ≡ Refusal.DeviceFailed }
-{
-    let _ = fs::remove_file(rt, path);
-    Refusal::DeviceFailed
+/// The reason that an error of the system is.
+fn reason_of(why: ErrorKind) -> Reason {
+    match why {
+        ErrorKind::NotFound | ErrorKind::NotADirectory => Reason::NoFile,
+        ErrorKind::PermissionDenied => Reason::Denied,
+        ErrorKind::IsADirectory => Reason::Folder,
+        ErrorKind::ReadOnlyFilesystem => Reason::ReadOnly,
+        _ => Reason::Other,
+    }
 }
 
-/// The file of this path with its lock, or `None` where there is no file to be read. Refused where it is open as a device.
-fn kept_out<R: Files<File = File>>(rt: &R, path: &str) -> Result<Option<File>, Refusal>
-    ensures { IfErr result (λ why. why ≡ Refusal.DeviceFailed) }
+/// A failure of the device, for this reason.
+fn failed(reason: Reason) -> Failure
+    ensures { IsUnmade result.refusal }
 {
-    let Ok(file) = OpenOptions::new().read(true).open(rt, path) else {
-        return Ok(None);
-    };
-    match file.try_lock() {
-        Ok(()) => Ok(Some(file)),
-        Err(_) => Err(Refusal::DeviceFailed),
+    Failure {
+        refusal: Refusal::DeviceFailed,
+        reason,
     }
+}
+
+/// Why a file is not made: for want of memory, or since it cannot be.
+fn unmade(why: &io::Error) -> Failure
+    ensures { IsUnmade result.refusal }
+{
+    Failure {
+        refusal: refusal_of(why.kind()),
+        reason: reason_of(why.kind()),
+    }
+}
+
+/// Why a new file is not made in a folder.
+fn unplaced(why: &io::Error) -> Failure
+    ensures { IsUnmade result.refusal }
+{
+    let unmade = unmade(why);
+    match unmade.reason {
+        Reason::NoFile => failed(Reason::NoFolder),
+        _ => unmade,
+    }
+}
+
+/// The reason for which the lock of an open file is not taken, or `None` if it is.
+fn lock_reason(file: &File) -> Option<Reason> {
+    match file.try_lock() {
+        Ok(()) => None,
+        Err(TryLockError::WouldBlock) => Some(Reason::Open),
+        Err(TryLockError::Error(_)) => Some(Reason::Other),
+    }
+}
+
+/// Why the device in the file of this path is not had, as far as a look at the file shows it.
+fn device_reason<R: Files<File = File>>(rt: &R, path: &str) -> Reason {
+    match fs::metadata(rt, path) {
+        Ok(known) if known.is_dir() => return Reason::Folder,
+        Ok(known) if !known.is_file() => return Reason::Irregular,
+        Ok(_) => {}
+        Err(why) => return reason_of(why.kind()),
+    }
+    match OpenOptions::new().read(true).open(rt, path) {
+        Ok(file) => lock_reason(&file).unwrap_or(Reason::Other),
+        Err(why) => reason_of(why.kind()),
+    }
+}
+
+/// The part of a path up to the name in its folder.
+fn folder_of(path: &str) -> &str {
+    match path.rfind('/') {
+        Some(at) => &path[..at + 1],
+        None => "",
+    }
+}
+
+/// What is known of the file of a path, or `None` if there is none, not even a link that leads nowhere.
+fn known_of<R: Files>(rt: &R, path: &str) -> io::Result<Option<Metadata>> {
+    match fs::metadata(rt, path) {
+        Ok(known) => Ok(Some(known)),
+        Err(why) if why.kind() == ErrorKind::NotFound => match fs::symlink_metadata(rt, path) {
+            Ok(_) => Err(why),
+            Err(gone) if gone.kind() == ErrorKind::NotFound => Ok(None),
+            Err(why) => Err(why),
+        },
+        Err(why) => Err(why),
+    }
+}
+
+/// Whether a path still leads to this open file.
+fn leads_to<R: Files>(rt: &R, path: &str, file: &File) -> bool {
+    match (fs::metadata(rt, path), file.metadata()) {
+        (Ok(there), Ok(own)) => there.ino() == own.ino() && there.dev() == own.dev(),
+        _ => false,
+    }
+}
+
+/// The file of this path with its lock, or `None` if there is none. Refused if it is no regular file, if it cannot be
+/// looked at, and if it is open as a device.
+fn kept_out<R: Files<File = File>>(rt: &R, path: &str) -> Result<Option<File>, Failure>
+    ensures { IfErr result (λ failure. IsUnmade failure.refusal) }
+{
+    let known = match known_of(rt, path) {
+        Ok(None) => return Ok(None),
+        Ok(Some(known)) => known,
+        // a link that leads nowhere
+        Err(why) if why.kind() == ErrorKind::NotFound => return Err(failed(Reason::Irregular)),
+        Err(why) => return Err(unplaced(&why)),
+    };
+    if known.is_dir() {
+        return Err(failed(Reason::Folder));
+    }
+    if !known.is_file() {
+        return Err(failed(Reason::Irregular));
+    }
+    match OpenOptions::new().read(true).open(rt, path) {
+        Ok(file) => locked(rt, path, file),
+        Err(why) => Err(unmade(&why)),
+    }
+}
+
+/// This open file with its lock. Refused if that is taken, and if its path leads elsewhere by now.
+fn locked<R: Files<File = File>>(rt: &R, path: &str, file: File) -> Result<Option<File>, Failure>
+    ensures { IfErr result (λ failure. IsUnmade failure.refusal) }
+{
+    if let Some(reason) = lock_reason(&file) {
+        return Err(failed(reason));
+    }
+    if leads_to(rt, path, &file) {
+        Ok(Some(file))
+    } else {
+        Err(failed(Reason::Open))
+    }
+}
+
+/// A new file in the folder of this path, with the path that it has there. No link is followed, and no file taken.
+fn new_beside<R: Files<File = File>>(
+    rt: &R,
+    alloc: Global,
+    path: &str,
+) -> Result<(String, File), Failure>
+    ensures { IfErr result (λ failure. IsUnmade failure.refusal) }
+{
+    for number in 0..NEW_NAMES {
+        let folder = folder_of(path);
+        let beside = format!(in alloc; "{folder}{NEW}{number}")?;
+        match OpenOptions::new()
+            .read(true)
+            .write(true)
+            .create_new(true)
+            .open(rt, beside.as_str())
+        {
+            Ok(file) => return Ok((beside, file)),
+            Err(why) if why.kind() == ErrorKind::AlreadyExists => {}
+            Err(why) => return Err(unplaced(&why)),
+        }
+    }
+    Err(failed(Reason::Other))
+}
+
+/// Gives a new file the rights of the one that it is to replace.
+fn keep_rights(file: &File, older: &Option<File>) -> io::Result<()> {
+    match older {
+        Some(older) => file.set_permissions(older.metadata()?.permissions()),
+        None => Ok(()),
+    }
+}
+
+/// The device of so many bytes in a new file, which has the rights of the older one.
+fn device_in(
+    alloc: Global,
+    file: File,
+    older: &Option<File>,
+    len: u64,
+) -> Result<FileDevice<File>, Failure>
+    ensures content { IfOk result (λ device. content (copy_in device) ≡ replicate len 0) }
+    ensures why { IfErr result (λ failure. IsUnmade failure.refusal) }
+{
+    if let Err(why) = keep_rights(&file, older) {
+        return Err(failed(reason_of(why.kind())));
+    }
+    match FileDevice::over(alloc, file, len) {
+        Ok(device) => Ok(device),
+        Err(refusal) => Err(Failure {
+            refusal,
+            reason: Reason::Other,
+        }),
+    }
+}
+
+/// Gives a file a name that nothing has, by a link, since a rename would take the name from another. Where files have
+/// one name alone, it is renamed.
+fn named<R: Files>(rt: &R, path: &str, name: &str) -> io::Result<()> {
+    match fs::hard_link(rt, path, name) {
+        Ok(()) => {
+            // it has its name, whatever becomes of the other one
+            let _ = fs::remove_file(rt, path);
+            Ok(())
+        }
+        Err(why) if why.kind() == ErrorKind::AlreadyExists => Err(why),
+        Err(why) => match known_of(rt, name) {
+            Ok(None) => fs::rename(rt, path, name),
+            _ => Err(why),
+        },
+    }
+}
+
+/// Gives a made file its name, if the older one still has it, or nothing has it if there was none. Returns whether it
+/// has it.
+fn is_given<R: Files<File = File>>(rt: &R, made: &Made, name: &str) -> bool {
+    let path = made.path.as_str();
+    match &made.older {
+        Some(older) => leads_to(rt, name, older) && fs::rename(rt, path, name).is_ok(),
+        None => named(rt, path, name).is_ok(),
+    }
+}
+
+/// Removes a made file that does not get its name, as far as that goes. Returns how that is refused.
+fn given_up<R: Files>(rt: &R, made: &Made) -> Refusal
+    ensures { result ≡ Refusal.DeviceFailed }
+{
+    let _ = fs::remove_file(rt, made.path.as_str());
+    Refusal::DeviceFailed
 }
 
 impl<'a, R> DiskFolder<'a, R> {
     /// The files that this runtime reaches.
     pub fn new(rt: &'a R) -> DiskFolder<'a, R> {
-        DiskFolder { rt }
+        DiskFolder {
+            rt,
+            made: None,
+            reason: None,
+        }
+    }
+}
+
+impl<R: Files<File = File> + AllocGlobal> DiskFolder<'_, R> {
+    /// A device of so many bytes in a new file, which is to have this name.
+    fn new_device(&mut self, name: &str, len: u64) -> Result<FileDevice<File>, Failure>
+        ensures content { IfOk result (λ device. content (copy_in device) ≡ replicate len 0) }
+        ensures why { IfErr result (λ failure. IsUnmade failure.refusal) }
+    {
+        let alloc = self.rt.alloc();
+        let older = kept_out(self.rt, name)?;
+        let (path, file) = new_beside(self.rt, alloc, name)?;
+        match device_in(alloc, file, &older, len) {
+            Ok(device) => {
+                self.made = Some(Made { path, older });
+                Ok(device)
+            }
+            Err(failure) => {
+                let _ = fs::remove_file(self.rt, path.as_str());
+                Err(failure)
+            }
+        }
     }
 }
 
@@ -76,44 +337,58 @@ impl<R: Files<File = File> + AllocGlobal> Folder for DiskFolder<'_, R> {
 
     ghost files = { λ _. None };
 
+    ghost why = { λ folder. folder.reason };
+
     fn script(&mut self, name: &str) -> Result<Vec<u8>, Refusal> {
         match fs::read(self.rt, name) {
             Ok(bytes) => Ok(bytes),
-            Err(fault) => Err(refusal_of(fault.kind())),
+            Err(fault) => {
+                self.reason = Some(reason_of(fault.kind()));
+                Err(refusal_of(fault.kind()))
+            }
         }
     }
 
     fn device(&mut self, name: &str) -> Result<FileDevice<File>, Refusal> {
-        FileDevice::open(self.rt, name)
-    }
-
-    fn back(&mut self, _name: &str, _device: FileDevice<File>) {}
-
-    fn make(&mut self, name: &str, len: u64) -> Result<FileDevice<File>, Refusal> {
-        let beside = beside(self.rt.alloc(), name)?;
-        match FileDevice::make(self.rt, beside.as_str(), len) {
+        match FileDevice::open(self.rt, name) {
             Ok(device) => Ok(device),
             Err(refusal) => {
-                let _ = fs::remove_file(self.rt, beside.as_str());
+                self.reason = Some(device_reason(self.rt, name));
                 Err(refusal)
             }
         }
     }
 
-    fn install(&mut self, name: &str, _device: FileDevice<File>) -> Result<(), Refusal> {
-        let beside = beside(self.rt.alloc(), name)?;
-        let Ok(_replaced) = kept_out(self.rt, name) else {
-            return Err(given_up(self.rt, beside.as_str()));
-        };
-        match fs::rename(self.rt, beside.as_str(), name) {
-            Ok(()) => Ok(()),
-            Err(_) => Err(given_up(self.rt, beside.as_str())),
+    fn back(&mut self, _name: &str, _device: FileDevice<File>) {}
+
+    fn make(&mut self, name: &str, len: u64) -> Result<FileDevice<File>, Refusal> {
+        match self.new_device(name, len) {
+            Ok(device) => Ok(device),
+            Err(failure) => {
+                self.reason = Some(failure.reason);
+                Err(failure.refusal)
+            }
         }
     }
 
-    fn discard(&mut self, name: &str, _device: FileDevice<File>) {
-        if let Ok(beside) = beside(self.rt.alloc(), name) {
-            let _ = fs::remove_file(self.rt, beside.as_str());
+    fn install(&mut self, name: &str, _device: FileDevice<File>) -> Result<(), Refusal> {
+        let Some(made) = self.made.take() else {
+            return Err(Refusal::DeviceFailed);
+        };
+        if is_given(self.rt, &made, name) {
+            Ok(())
+        } else {
+            Err(given_up(self.rt, &made))
         }
+    }
+
+    fn discard(&mut self, _name: &str, _device: FileDevice<File>) {
+        if let Some(made) = self.made.take() {
+            let _why = given_up(self.rt, &made);
+        }
+    }
+
+    fn reason(&self) -> Option<Reason> {
+        self.reason
     }
 }

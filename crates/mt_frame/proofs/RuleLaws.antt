@@ -35,7 +35,7 @@ some_record-push is (q ∷ rs) r = ap (λ b. is q || b) (some_record-push is rs 
 pub record Notes (old new : AreaRules) (r : Record) : Type 0 where
   pub ended : (t : ℕ) → contains nat_cmp new.ended t ≡ (contains nat_cmp old.ended t || ends_txn t r)
   pub imaged : (p : ℕ) → contains nat_cmp new.imaged p ≡ (contains nat_cmp old.imaged p || is_of_page p r)
-  pub over : (t o : ℕ) → contains pair_cmp new.over (t, o) ≡ (contains pair_cmp old.over (t, o) || ends_op t o r)
+  pub over : (o : ℕ) → contains nat_cmp new.over o ≡ (contains nat_cmp old.over o || ends_op o r)
   pub finished : (t o : ℕ) → contains pair_cmp new.finished (t, o) ≡ (contains pair_cmp old.finished (t, o) || finishes t o r)
   pub undone : (t o : ℕ) → contains pair_cmp new.undone (t, o) ≡ (contains pair_cmp old.undone (t, o) || undoes_op t o r)
 
@@ -46,7 +46,7 @@ pub Knows-push : (old new : AreaRules) (rs : List Record) (r : Record) → Notes
 Knows-push old new rs r n k = record {
   ended = λ t. told (ends_txn t) _ _ rs r (n.ended t) (k.ended t);
   imaged = λ p. told (is_of_page p) _ _ rs r (n.imaged p) (k.imaged p);
-  over = λ t o. told (ends_op t o) _ _ rs r (n.over t o) (k.over t o);
+  over = λ o. told (ends_op o) _ _ rs r (n.over o) (k.over o);
   finished = λ t o. told (finishes t o) _ _ rs r (n.finished t o) (k.finished t o);
   undone = λ t o. told (undoes_op t o) _ _ rs r (n.undone t o) (k.undone t o);
 }

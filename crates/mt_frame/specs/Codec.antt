@@ -1,4 +1,4 @@
--- Reading from the front of bytes: what a reader gives is the value and the bytes behind it, or nothing.
+-- Reading from the front of bytes: what a reader gives is the value and the bytes after it, or nothing.
 use Rattle.std.specs.Prelude.{◌≡◌, ℕ, List, [], ◌∷◌, length, take, drop, Option, Some, None, Result, Ok, Err, Bool, nat_lt, if◌then◌else◌}
 use Rattle.std.specs.Int.{Width, byte_len, from_be_bytes}
 use Rattle.mt_frame.specs.declared.fields.ReadError.{ReadError}
@@ -34,7 +34,7 @@ within_at w low high bytes = number_at w bytes >>= λ n. if nat_lt n.0 low then 
 unfoldable pub part_at : ℕ → Reader (List ℕ)
 part_at n bytes = if nat_lt (length bytes) n then None else Some (take n bytes, drop n bytes)
 
--- bytes behind their number, which is from low to high
+-- bytes after their number, which is from low to high
 unfoldable pub counted_at : Width → ℕ → ℕ → Reader (List ℕ)
 counted_at w low high bytes = within_at w low high bytes >>= λ n. part_at n.0 n.1
 
@@ -43,7 +43,7 @@ unfoldable pub byte_at : ℕ → ℕ → Reader ℕ
 byte_at low high [] = None
 byte_at low high (b ∷ rest) = if nat_lt b low then None else if nat_lt high b then None else Some (b, rest)
 
--- bytes behind their number in one byte, which is from low to high
+-- bytes after their number in one byte, which is from low to high
 unfoldable pub short_at : ℕ → ℕ → Reader (List ℕ)
 short_at low high bytes = byte_at low high bytes >>= λ n. part_at n.0 n.1
 

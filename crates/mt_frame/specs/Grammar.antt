@@ -13,7 +13,7 @@ use Rattle.mt_frame.specs.declared.records.Record.TheVariants.{Page, OpEnd, OpDr
 
 -- ---- texts
 
--- bytes behind their number
+-- bytes after their number
 abbrev pub counted : Width → List ℕ → List ℕ
 counted w bytes = to_be_bytes w (length bytes) ++ bytes
 

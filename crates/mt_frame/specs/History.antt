@@ -20,13 +20,13 @@ ends_txn t (OpDropped txn op) = false
 ends_txn t (Commit txn) = txn == t
 ends_txn t (AbortEnd txn) = txn == t
 
--- the operation's OpEnd or OpDropped
-abbrev pub ends_op : ℕ → ℕ → Record → Bool
-ends_op t o (Page txn op page image start old new) = false
-ends_op t o (OpEnd txn op undoes done) = (txn == t) && (op == o)
-ends_op t o (OpDropped txn op) = (txn == t) && (op == o)
-ends_op t o (Commit txn) = false
-ends_op t o (AbortEnd txn) = false
+-- the OpEnd or OpDropped of the operation of this number, whichever transaction it names
+abbrev pub ends_op : ℕ → Record → Bool
+ends_op o (Page txn op page image start old new) = false
+ends_op o (OpEnd txn op undoes done) = op == o
+ends_op o (OpDropped txn op) = op == o
+ends_op o (Commit txn) = false
+ends_op o (AbortEnd txn) = false
 
 -- the end of this operation, which is no inverse
 abbrev pub finishes : ℕ → ℕ → Record → Bool
@@ -59,13 +59,13 @@ some_record is (r ∷ rs) = is r || some_record is rs
 
 -- ---- the rules, each of a record and those before it
 
--- no record of a transaction stands behind its end
+-- no record of a transaction stands after its end
 abbrev pub txn_is_open : List Record → Record → Bool
 txn_is_open earlier r = not (some_record (ends_txn (txn_of r)) earlier)
 
--- no page record of an operation stands behind its end
+-- no page record of an operation stands after its end
 abbrev pub op_is_open : List Record → Record → Bool
-op_is_open earlier (Page txn op page image start old new) = not (some_record (ends_op txn op) earlier)
+op_is_open earlier (Page txn op page image start old new) = not (some_record (ends_op op) earlier)
 op_is_open earlier (OpEnd txn op undoes done) = true
 op_is_open earlier (OpDropped txn op) = true
 op_is_open earlier (Commit txn) = true
@@ -99,12 +99,12 @@ may_stand first earlier r =
 
 -- ---- whole batches and areas
 
--- each record of a batch may stand behind those before it
+-- each record of a batch may stand after those before it
 abbrev pub MayFollow : Bool → List Record → List Record → Type 0
 MayFollow first earlier [] = Unit {0}
 MayFollow first earlier (r ∷ rs) = (may_stand first earlier r ≡ true) × MayFollow first (earlier ++ r ∷ []) rs
 
--- so of each batch behind the first
+-- so of each batch after the first
 abbrev pub BatchesMayFollow : List Record → List (List Record) → Type 0
 BatchesMayFollow earlier [] = Unit {0}
 BatchesMayFollow earlier (b ∷ bs) = MayFollow false earlier b × BatchesMayFollow (earlier ++ b) bs

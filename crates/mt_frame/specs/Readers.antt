@@ -144,7 +144,7 @@ record_at (kind ∷ bytes) =
 
 -- ---- batches
 
--- an open gate, and a body behind its length
+-- an open gate, and a body after its length
 unfoldable pub framed_at : Reader (List ℕ)
 framed_at = map_at (λ p. p.1) (then_at (byte_at OPEN_GATE OPEN_GATE) (λ _. counted_at w32 0 4294967295))
 

@@ -19,7 +19,7 @@ use std::collections::BTreeSet;
 pub struct AreaRules {
     ended: BTreeSet<u64>,
     imaged: BTreeSet<u16>,
-    over: BTreeSet<(u64, u64)>,
+    over: BTreeSet<u64>,
     finished: BTreeSet<(u64, u64)>,
     undone: BTreeSet<(u64, u64)>,
 }
@@ -65,13 +65,19 @@ fn note_page(set: &mut BTreeSet<u16>, entry: &Record) -> Result<(), AllocError>
     }
 }
 
-fn note_op_end(set: &mut BTreeSet<(u64, u64)>, entry: &Record) -> Result<(), AllocError>
-    ensures { OnOk result ((t o : ℕ) → contains pair_cmp set.new (t, o) ≡
-        (contains pair_cmp set.old (t, o) || ends_op t o entry.now)) }
+fn note_op_end(set: &mut BTreeSet<u64>, entry: &Record) -> Result<(), AllocError>
+    ensures { OnOk result ((o : ℕ) → contains nat_cmp set.new o ≡
+        (contains nat_cmp set.old o || ends_op o entry.now)) }
 {
     match entry {
-        Record::OpEnd { txn, op, .. } => remember(set, txn.get(), op.get()),
-        Record::OpDropped { txn, op } => remember(set, txn.get(), op.get()),
+        Record::OpEnd { op, .. } => match set.insert(op.get()) {
+            Ok(_) => Ok(()),
+            Err(_) => Err(AllocError),
+        },
+        Record::OpDropped { op, .. } => match set.insert(op.get()) {
+            Ok(_) => Ok(()),
+            Err(_) => Err(AllocError),
+        },
         _ => Ok(()),
     }
 }
@@ -141,7 +147,7 @@ impl AreaRules {
         ensures { (earlier : List Record) → Knows self.now earlier → result ≡ op_is_open earlier entry.now }
     {
         match entry {
-            Record::Page { txn, op, .. } => !self.over.contains(&(txn.get(), op.get())),
+            Record::Page { op, .. } => !self.over.contains(&op.get()),
             _ => true,
         }
     }

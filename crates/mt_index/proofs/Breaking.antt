@@ -34,15 +34,14 @@ stuck_astray total pages homes done i p marked few lt real unmarked stuck = reco
         let member = first_each (nodes pages) (IsMember pages homes (pointer_at (pages 1) j)) (pointer_at (pages 1) j) m.chain m.linked (real j lj) m.each in
         unmarked (ap (λ (q : ℕ). get_or homes q 0) (sym same) ∙ member.home ∙ same)
 
-    go : (kind pages p ≢ 2) ⊎ ((depth_of (pages p) ≢ depth_of (pages b)) ⊎ ((get_or homes p 0 ≢ 0) ⊎ ((Each (λ n. n ≢ p) stuck.front → ⊥) ⊎ (total ≤ length stuck.front))))
-        → (kind pages p ≢ 2) ⊎ ((depth_of (pages p) ≢ depth_of (pages b))
+    go : (depth_of (pages p) ≢ depth_of (pages b)) ⊎ ((get_or homes p 0 ≢ 0) ⊎ ((Each (λ n. n ≢ p) stuck.front → ⊥) ⊎ (total ≤ length stuck.front)))
+        → (depth_of (pages p) ≢ depth_of (pages b))
         ⊎ (((other : ℕ) × (other < 2 ^ depth_in (pages 1)) × (pointer_at (pages 1) other ≢ b) × IsOn pages (pointer_at (pages 1) other) p)
-        ⊎ ((Each (λ n. n ≢ p) stuck.front → ⊥) ⊎ (total ≤ length stuck.front))))
-    go (inl other) = inl other
-    go (inr (inl level)) = inr (inl level)
-    go (inr (inr (inl some))) = let r = marked.back p some in inr (inr (inl (r.0, (let lj = r.1 in omega (arith, lj, few)), apart r.0 r.1, r.3)))
-    go (inr (inr (inr (inl twice)))) = inr (inr (inr (inl twice)))
-    go (inr (inr (inr (inr all)))) = inr (inr (inr (inr all)))
+        ⊎ ((Each (λ n. n ≢ p) stuck.front → ⊥) ⊎ (total ≤ length stuck.front)))
+    go (inl level) = inl level
+    go (inr (inl some)) = let r = marked.back p some in inr (inl (r.0, (let lj = r.1 in omega (arith, lj, few)), apart r.0 r.1, r.3))
+    go (inr (inr (inl twice))) = inr (inr (inl twice))
+    go (inr (inr (inr all))) = inr (inr (inr all))
 
 -- where all buckets are marked, a page that is placed is settled
 pub placed_settles : (pages : PageBytes) (homes : List ℕ) (p : ℕ) → AreMarked pages homes (2 ^ depth_in (pages 1)) → ((j : ℕ) → j < 2 ^ depth_in (pages 1) → pointer_at (pages 1) j ≢ 0) → IsPlaced pages p → IsSettled pages homes p

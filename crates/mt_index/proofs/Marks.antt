@@ -9,7 +9,7 @@ use Rattle.mt_index.specs.Maps.{Each}
 use Rattle.mt_index.specs.Index.{Node, Linked}
 use Rattle.mt_index.specs.Steps.{Walk}
 use Rattle.mt_index.specs.Pages.{pointer_at, node_of, IsOn}
-use Rattle.mt_index.specs.Checks.{IsMember, IsMarked, AreMarked, Marks, IsStuck, CannotFollow, IsIn}
+use Rattle.mt_index.specs.Checks.{IsMember, IsMarked, AreMarked, Marks, IsStuck, CannotFollow, HasNext, IsIn}
 use Rattle.mt_index.proofs.Lists.{each_map}
 use Rattle.mt_index.proofs.Overflow.{each_push}
 use Rattle.mt_index.proofs.Looking.{walk_more}
@@ -47,14 +47,15 @@ pub record IsMarking (pages : PageBytes) (old new : List ℕ) (b at steps : ℕ)
   pub size : length new ≡ length old
   pub each : Each (IsMember pages new b) front
   pub marks : (n : ℕ) → (get_or new n 0 ≡ get_or old n 0) ⊎ ((get_or old n 0 ≡ 0) × (get_or new n 0 ≡ b) × IsIn n front)
+  pub bucket : at ≢ 0 → kind pages at ≡ 2
 
-pub marking_start : (pages : PageBytes) (old : List ℕ) (b : ℕ) → IsMarking pages old old b b 0
-marking_start pages old b = record { front = []; walk = refl; long = refl; size = refl; each = tt; marks = λ n. inl refl }
+pub marking_start : (pages : PageBytes) (old : List ℕ) (b : ℕ) → kind pages b ≡ 2 → IsMarking pages old old b b 0
+marking_start pages old b bucket = record { front = []; walk = refl; long = refl; size = refl; each = tt; marks = λ n. inl refl; bucket = λ real. bucket }
 
 -- one page more
 pub marking_more : (pages : PageBytes) (old new new2 : List ℕ) (b at next steps l : ℕ) → IsMarking pages old new b at steps → at ≢ 0 → at < length new → kind pages at ≡ 2 → depth_of (pages at) ≡ l → l ≡ depth_of (pages b)
-    → get_or new at 0 ≡ 0 → new2 ≡ set new at b → next ≡ next_of (pages at) → IsMarking pages old new2 b next (steps + 1)
-marking_more pages old new new2 b at next steps l m real inside bucket level same free is then = record {
+    → get_or new at 0 ≡ 0 → new2 ≡ set new at b → next ≡ next_of (pages at) → HasNext pages at → IsMarking pages old new2 b next (steps + 1)
+marking_more pages old new new2 b at next steps l m real inside bucket level same free is then goes_on = record {
   front = m.front ++ at ∷ [];
   walk = subst (Walk (λ n. node_of (pages n)) b (m.front ++ at ∷ [])) (sym then) (walk_more (λ n. node_of (pages n)) b m.front at m.walk real);
   long = length-append m.front (at ∷ []) ∙ ap (λ (n : ℕ). n + 1) m.long;
@@ -64,6 +65,7 @@ marking_more pages old new new2 b at next steps l m real inside bucket level sam
       (λ (e : n ≡ at). inr (old_free n e, ap (λ (k : ℕ). get_or new2 k 0) e ∙ here, subst (λ (k : ℕ). IsIn k (m.front ++ at ∷ [])) (sym e) (in_last m.front at)))
       (λ (ne : n ≢ at). more n ne (m.marks n))
       (cases_eq n at);
+  bucket = subst (λ (q : ℕ). q ≢ 0 → kind pages q ≡ 2) (sym then) goes_on;
 }
   where
     here : get_or new2 at 0 ≡ b
@@ -101,17 +103,16 @@ pub marking_stuck : (total : ℕ) (pages : PageBytes) (old new : List ℕ) (b at
 marking_stuck total pages old new b at steps l m real same cause = record { front = m.front; walk = m.walk; real = real; cause = go cause }
   where
     marked : get_or new at 0 ≢ 0 → (get_or new at 0 ≡ get_or old at 0) ⊎ ((get_or old at 0 ≡ 0) × (get_or new at 0 ≡ b) × IsIn at m.front)
-        → (kind pages at ≢ 2) ⊎ ((depth_of (pages at) ≢ depth_of (pages b)) ⊎ ((get_or old at 0 ≢ 0) ⊎ ((Each (λ n. n ≢ at) m.front → ⊥) ⊎ (total ≤ length m.front))))
-    marked some (inl is) = inr (inr (inl (λ e. some (is ∙ e))))
-    marked some (inr r) = inr (inr (inr (inl (in_each at m.front r.2))))
+        → (depth_of (pages at) ≢ depth_of (pages b)) ⊎ ((get_or old at 0 ≢ 0) ⊎ ((Each (λ n. n ≢ at) m.front → ⊥) ⊎ (total ≤ length m.front)))
+    marked some (inl is) = inr (inl (λ e. some (is ∙ e)))
+    marked some (inr r) = inr (inr (inl (in_each at m.front r.2)))
 
-    go : CannotFollow pages new at l → (kind pages at ≢ 2) ⊎ ((depth_of (pages at) ≢ depth_of (pages b)) ⊎ ((get_or old at 0 ≢ 0) ⊎ ((Each (λ n. n ≢ at) m.front → ⊥) ⊎ (total ≤ length m.front))))
-    go (inl k) = inl k
-    go (inr (inl d)) = inr (inl (λ e. d (e ∙ sym same)))
-    go (inr (inr h)) = marked h (m.marks at)
+    go : CannotFollow pages new at l → (depth_of (pages at) ≢ depth_of (pages b)) ⊎ ((get_or old at 0 ≢ 0) ⊎ ((Each (λ n. n ≢ at) m.front → ⊥) ⊎ (total ≤ length m.front)))
+    go (inl d) = inl (λ e. d (e ∙ sym same))
+    go (inr h) = marked h (m.marks at)
 
 pub marking_long : (total : ℕ) (pages : PageBytes) (old new : List ℕ) (b at steps : ℕ) → IsMarking pages old new b at steps → at ≢ 0 → total ≤ steps → IsStuck total pages old b at
-marking_long total pages old new b at steps m real all = record { front = m.front; walk = m.walk; real = real; cause = inr (inr (inr (inr (let long = m.long in omega (arith, all, long))))) }
+marking_long total pages old new b at steps m real all = record { front = m.front; walk = m.walk; real = real; cause = inr (inr (inr (let long = m.long in omega (arith, all, long)))) }
 
 -- one bucket more is marked
 pub marked_more : (pages : PageBytes) (old new : List ℕ) (done : ℕ) → AreMarked pages old done → IsMarked pages new (pointer_at (pages 1) done) → Marks pages (pointer_at (pages 1) done) old new

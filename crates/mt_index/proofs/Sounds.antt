@@ -10,11 +10,12 @@ use Rattle.mt_index.specs.Maps.{Each, Once}
 use Rattle.mt_index.specs.Index.{Node, State, named, Linked, IsTree, entries_of}
 use Rattle.mt_index.specs.Steps.{Walk}
 use Rattle.mt_index.specs.Pages.{depth_in, pointer_at, node_of, state_of, IsOn}
-use Rattle.mt_index.specs.Checks.{IsSound, AreKinds, IsPointer, IsMember, IsMarked, AreMarked, IsStuck, IsSettled, entry_at}
+use Rattle.mt_index.specs.Checks.{IsSound, AreKinds, IsPointer, IsMember, IsMarked, AreMarked, AreNexts, IsStuck, IsSettled, entry_at}
 use Rattle.mt_index.proofs.Lists.{each_map, each_remove, at_self}
 use Rattle.mt_index.proofs.Chains.{linked_same, linked_at, before, entries_parts}
 use Rattle.mt_index.proofs.Pigeons.{short, chain_distinct}
 use Rattle.mt_index.proofs.Keeping.{walk_splits}
+use Rattle.mt_index.proofs.Looking.{walk_more}
 use Rattle.mt_index.proofs.Pointers.{named_is, get_pointer}
 use Rattle.mt_index.proofs.Doubling.{just_its_pointers}
 use Rattle.mt_index.proofs.Listing.{listed, entries_listed, listed_each, listed_behind, listed_before, once_behind, each_behind, each_front, lacks_front, lacks_behind}
@@ -73,6 +74,13 @@ sound_pointer relations total pages x i lt = record {
 pub pointer_real : (total : ℕ) (pages : PageBytes) → AreKinds total pages → (i : ℕ) → IsPointer pages i → pointer_at (pages 1) i ≢ 0
 pointer_real total pages kinds i p none = absurd (let is : 1 ≡ 2 = sym kinds.space_fixed ∙ ap (λ (n : ℕ). kind pages n) (sym none) ∙ p.bucket in omega (arith, is))
 
+-- a bucket page of an index names a bucket page as the next one, or none
+pub sound_nexts : (relations total : ℕ) (pages : PageBytes) → IsSound relations total pages → AreNexts pages
+sound_nexts relations total pages x p bucket real =
+    let on = x.formed.chained p bucket in
+    let b = named (state_of pages) on.0 in
+    met (nodes pages) (λ n. kind pages n ≡ 2) b (on.1.front ++ p ∷ []) (next_of (pages p)) (x.map.index.tree.chain b) (walk_more (nodes pages) b on.1.front p on.1.walk on.1.real) real (x.map.index.tree.linked on.0) (x.map.index.tree.kinds on.0)
+
 -- where a walk is stuck, the pages are no index
 pub sound_walks : (relations total : ℕ) (pages : PageBytes) → IsSound relations total pages → (homes : List ℕ) (done i p : ℕ) → AreMarked pages homes done → done ≤ 2 ^ depth_in (pages 1) → i < 2 ^ depth_in (pages 1)
     → get_or homes (pointer_at (pages 1) i) 0 ≢ pointer_at (pages 1) i → IsStuck total pages homes (pointer_at (pages 1) i) p → ⊥
@@ -122,14 +130,13 @@ sound_walks relations total pages x homes done i p marked few lt unmarked stuck 
         let parts : length chain ≡ length (stuck.front ++ p ∷ c.0) = ap length c.1 in
         omega (arith, fits, parts, length-append stuck.front (p ∷ c.0), all)
 
-    go : (kind pages p ≢ 2) ⊎ ((depth_of (pages p) ≢ depth_of (pages b)) ⊎ ((get_or homes p 0 ≢ 0) ⊎ ((Each (λ n. n ≢ p) stuck.front → ⊥) ⊎ (total ≤ length stuck.front)))) → ⊥
-    go (inl other) = other (met (nodes pages) (λ n. kind pages n ≡ 2) b stuck.front p chain stuck.walk stuck.real linked (tree.kinds i))
-    go (inr (inl level)) = level (met (nodes pages) (λ n. depth_of (pages n) ≡ depth_of (pages (named s i))) b stuck.front p chain stuck.walk stuck.real linked (tree.level i) ∙ ap (λ (q : ℕ). depth_of (pages q)) is)
-    go (inr (inr (inl some))) = let r = marked.back p some in first_mark r.0 r.1 (other_home r.0 r.1 r.3)
-    go (inr (inr (inr (inl twice)))) =
+    go : (depth_of (pages p) ≢ depth_of (pages b)) ⊎ ((get_or homes p 0 ≢ 0) ⊎ ((Each (λ n. n ≢ p) stuck.front → ⊥) ⊎ (total ≤ length stuck.front))) → ⊥
+    go (inl level) = level (met (nodes pages) (λ n. depth_of (pages n) ≡ depth_of (pages (named s i))) b stuck.front p chain stuck.walk stuck.real linked (tree.level i) ∙ ap (λ (q : ℕ). depth_of (pages q)) is)
+    go (inr (inl some)) = let r = marked.back p some in first_mark r.0 r.1 (other_home r.0 r.1 r.3)
+    go (inr (inr (inl twice))) =
         let c = walk_splits (nodes pages) b stuck.front p chain stuck.walk stuck.real linked in
         twice (before (nodes pages) b stuck.front p c.0 (subst (Linked (nodes pages) b) c.1 linked))
-    go (inr (inr (inr (inr all)))) = long all
+    go (inr (inr (inr all))) = long all
 
 -- the entries of a bucket page
 pub page_entries : (page : List ℕ) → entries page ≡ listed (λ i. entry_at page i) (count_of page)

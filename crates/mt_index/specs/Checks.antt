@@ -53,6 +53,13 @@ pub record IsPointer (pages : PageBytes) (i : ℕ) : Type 0 where
   pub shallow : depth_of (pages (pointer_at (pages 1) i)) ≤ depth_in (pages 1)
   pub pattern : IsPattern (pages 1) i (pointer_at (pages 1) i) (depth_of (pages (pointer_at (pages 1) i)))
 
+-- a bucket page names a bucket page as the next one of its chain, or none; so does each
+abbrev pub HasNext : PageBytes → ℕ → Type 0
+HasNext pages p = next_of (pages p) ≢ 0 → kind pages (next_of (pages p)) ≡ 2
+
+abbrev pub AreNexts : PageBytes → Type 0
+AreNexts pages = (p : ℕ) → kind pages p ≡ 2 → HasNext pages p
+
 abbrev pub ArePointers : PageBytes → Type 0
 ArePointers pages = (i : ℕ) → i < 2 ^ depth_in (pages 1) → IsPointer pages i
 
@@ -77,19 +84,19 @@ pub record AreMarked (pages : PageBytes) (homes : List ℕ) (done : ℕ) : Type 
 abbrev pub Marks : PageBytes → ℕ → List ℕ → List ℕ → Type 0
 Marks pages b old new = (n : ℕ) → (get_or new n 0 ≡ get_or old n 0) ⊎ ((get_or old n 0 ≡ 0) × (get_or new n 0 ≡ b) × IsOn pages b n)
 
--- a bucket's page of this depth that has no mark, and one that is none
+-- a bucket's page of this depth that has no mark, and one of another depth or with a mark
 abbrev pub CanFollow : ℕ → PageBytes → List ℕ → ℕ → ℕ → Type 0
 CanFollow total pages homes p l = (kind pages p ≡ 2) × (p < total) × (depth_of (pages p) ≡ l) × (get_or homes p 0 ≡ 0)
 
 abbrev pub CannotFollow : PageBytes → List ℕ → ℕ → ℕ → Type 0
-CannotFollow pages homes p l = (kind pages p ≢ 2) ⊎ ((depth_of (pages p) ≢ l) ⊎ (get_or homes p 0 ≢ 0))
+CannotFollow pages homes p l = (depth_of (pages p) ≢ l) ⊎ (get_or homes p 0 ≢ 0)
 
 -- the walk along a bucket comes to a page that cannot be the bucket's next one
 pub record IsStuck (total : ℕ) (pages : PageBytes) (homes : List ℕ) (b p : ℕ) : Type 0 where
   pub front : List ℕ
   pub walk : Walk (λ n. node_of (pages n)) b front p
   pub real : p ≢ 0
-  pub cause : (kind pages p ≢ 2) ⊎ ((depth_of (pages p) ≢ depth_of (pages b)) ⊎ ((get_or homes p 0 ≢ 0) ⊎ ((Each (λ n. n ≢ p) front → ⊥) ⊎ (total ≤ length front))))
+  pub cause : (depth_of (pages p) ≢ depth_of (pages b)) ⊎ ((get_or homes p 0 ≢ 0) ⊎ ((Each (λ n. n ≢ p) front → ⊥) ⊎ (total ≤ length front)))
 
 -- no page from this one on has the key
 abbrev pub LacksFrom : PageBytes → ℕ → ℕ → List ℕ → Type 0

@@ -43,7 +43,7 @@ pub record PutsInHalf (upper there : Bool) (e : Entry) (old new : Halves) : Type
   pub up : OnTrue upper (Puts there e old.up new.up × (new ≡ record old { up = new.up }))
   pub low : OnFalse upper (Puts there e old.low new.low × (new ≡ record old { low = new.low }))
 
--- a page with a page behind it
+-- a page with a page after it
 pub record Linked (q : ℕ) (old new : List ℕ) : Type 0 where
   pub depth : depth_of new ≡ depth_of old
   pub next : next_of new ≡ q

@@ -30,7 +30,7 @@ pub record State : Type 0 where
 abbrev pub named : State → ℕ → ℕ
 named s h = get_or s.pointers (h % 2 ^ s.g) 0
 
--- these pages, from p on, each with the next behind it
+-- these pages, from p on, each with the next after it
 abbrev pub Linked : (ℕ → Node) → ℕ → List ℕ → Type 0
 Linked node p [] = p ≡ 0
 Linked node p (n ∷ ns) = (p ≡ n) × (n ≢ 0) × Linked node (node n).next ns
@@ -69,7 +69,7 @@ pub record Takes (q : ℕ) (kind kind2 : ℕ → ℕ) : Type 0 where
   pub taken : kind2 q ≡ 2
   pub others : (n : ℕ) → n ≢ q → kind2 n ≡ kind n
 
--- a page q is chained behind the last page z, and takes one entry
+-- a page q is chained after the last page z, and takes one entry
 pub record Chains (z q : ℕ) (e : Entry) (kind : ℕ → ℕ) (node node2 : ℕ → Node) : Type 0 where
   pub page : node2 q ≡ record { depth = (node z).depth; next = 0; entries = e ∷ [] }
   pub last : node2 z ≡ record (node z) { next = q }

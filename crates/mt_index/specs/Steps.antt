@@ -50,7 +50,7 @@ pub record Halves (key : List ℕ) (q l : ℕ) (s t : State) : Type 0 where
 abbrev pub double : State → State
 double s = record s { g = suc s.g; pointers = s.pointers ++ s.pointers }
 
--- the entry goes into a page with room, or into a new page behind the last
+-- the entry goes into a page with room, or into a new page after the last
 abbrev pub Puts : Entry → State → State → Type 0
 Puts e s t = ((p : ℕ) × InRoom e p s t) ⊎ ((z : ℕ) × (q : ℕ) × Behind e z q s t)
 

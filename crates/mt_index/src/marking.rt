@@ -1,19 +1,20 @@
 // Which bucket each bucket page is of.
 ghost use Rattle.std.specs.Prelude.{◌≡◌, ◌≢◌, ◌<◌, ◌≤◌, ◌^◌, ℕ, length, get_or, MatchOption, MatchBool};
 ghost use Rattle.mt_index.specs.Pages.{depth_in, pointer_at};
-ghost use Rattle.mt_index.specs.Checks.{AreWhole, bytes_of, AreKinds, ArePointers, IsMarked, AreMarked, Marks, IsStuck, IsSound, CanFollow, CannotFollow};
+ghost use Rattle.mt_index.specs.Checks.{AreWhole, bytes_of, AreKinds, ArePointers, IsMarked, AreMarked, Marks, IsStuck, IsSound, AreNexts, CanFollow, CannotFollow};
+ghost use Rattle.mt_space.specs.Kinds.{kind};
 ghost use Rattle.mt_index.specs.Broken.{IsAstray};
 
 use crate::directory::{depth, pointer_of};
-use crate::reading::{is_bucket, page_at};
+use crate::reading::page_at;
 use mt_base::PageNo;
 use mt_space::pages::DIRECTORY;
 
-// Marks each page of a bucket with the bucket's first page. Answers a page of two chains, or one that
-// is no bucket's.
+// Marks each page of a bucket with the bucket's first page. Answers a page that cannot stand where a chain has it.
 pub(crate) fn mark_buckets(pages: &[[u8; 4096]], homes: &mut [u16]) -> Option<PageNo>
     requires whole { AreWhole pages.now }
     requires kinds { AreKinds (length pages.now) (bytes_of pages.now) }
+    requires nexts { AreNexts (bytes_of pages.now) }
     requires pointers { ArePointers (bytes_of pages.now) }
     requires size { length homes.old ≡ length pages.now }
     requires none { (n : ℕ) → get_or homes.old n 0 ≡ 0 }
@@ -35,6 +36,8 @@ pub(crate) fn mark_buckets(pages: &[[u8; 4096]], homes: &mut [u16]) -> Option<Pa
 fn mark_bucket(pages: &[[u8; 4096]], homes: &mut [u16], bucket: PageNo) -> Option<PageNo>
     requires whole { AreWhole pages.now }
     requires kinds { AreKinds (length pages.now) (bytes_of pages.now) }
+    requires nexts { AreNexts (bytes_of pages.now) }
+    requires kind { kind (bytes_of pages.now) bucket ≡ 2 }
     requires inside { bucket < length pages.now }
     requires real { bucket ≢ 0 }
     requires size { length homes.old ≡ length pages.now }
@@ -54,6 +57,8 @@ fn mark_bucket(pages: &[[u8; 4096]], homes: &mut [u16], bucket: PageNo) -> Optio
 fn mark_chain(pages: &[[u8; 4096]], homes: &mut [u16], bucket: PageNo) -> Option<PageNo>
     requires whole { AreWhole pages.now }
     requires kinds { AreKinds (length pages.now) (bytes_of pages.now) }
+    requires nexts { AreNexts (bytes_of pages.now) }
+    requires kind { kind (bytes_of pages.now) bucket ≡ 2 }
     requires inside { bucket < length pages.now }
     requires size { length homes.old ≡ length pages.now }
     ensures size { length homes.new ≡ length homes.old }
@@ -76,16 +81,14 @@ fn mark_chain(pages: &[[u8; 4096]], homes: &mut [u16], bucket: PageNo) -> Option
     if at.get() == 0 { None } else { Some(at) }
 }
 
-// Whether a page can be the next one of a bucket of this depth.
+// Whether a bucket page can be the next one of a bucket of this depth.
 fn is_next(pages: &[[u8; 4096]], homes: &[u16], page: PageNo, bits: u8) -> bool
     requires whole { AreWhole pages.now }
     requires kinds { AreKinds (length pages.now) (bytes_of pages.now) }
+    requires kind { kind (bytes_of pages.now) page ≡ 2 }
     requires size { length homes.now ≡ length pages.now }
     ensures { MatchBool result (CanFollow (length pages.now) (bytes_of pages.now) homes.now page bits) (CannotFollow
         (bytes_of pages.now) homes.now page bits) }
 {
-    if !is_bucket(pages, page) {
-        return false;
-    }
     mt_bucket::depth(page_at(pages, page)) == bits && homes[usize::from(page.get())] == 0
 }

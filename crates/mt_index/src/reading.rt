@@ -4,7 +4,7 @@ ghost use Rattle.mt_base.specs.declared.limits.TheConstants.{PAGE_BYTES};
 ghost use Rattle.mt_bucket.specs.Page.{IsBucket};
 ghost use Rattle.mt_space.specs.Kinds.{kind};
 ghost use Rattle.mt_index.specs.Pages.{IsDirectory};
-ghost use Rattle.mt_index.specs.Checks.{AreWhole, bytes_of, IsSound, AreKinds, AreBuckets, ArePointers};
+ghost use Rattle.mt_index.specs.Checks.{AreWhole, bytes_of, IsSound, AreKinds, AreBuckets, AreNexts, ArePointers, HasNext};
 ghost use Rattle.mt_index.specs.Broken.{IsBroken};
 
 use crate::checking::{are_zero, check_directory};
@@ -41,6 +41,9 @@ pub fn check(
     if let Some(page) = first_malformed(pages, relations) {
         return Ok(Some(page));
     }
+    if let Some(page) = first_misled(pages) {
+        return Ok(Some(page));
+    }
     if !are_pointers(pages) {
         return Ok(Some(PageNo::new(DIRECTORY)));
     }
@@ -60,6 +63,7 @@ fn first_misplaced(
     requires kinds { AreKinds (length pages.now) (bytes_of pages.now) }
     requires directory { IsDirectory (bytes_of pages.now 1) }
     requires buckets { AreBuckets relations (length pages.now) (bytes_of pages.now) }
+    requires nexts { AreNexts (bytes_of pages.now) }
     requires pointers { ArePointers (bytes_of pages.now) }
     requires size { length homes.old ≡ length pages.now }
     requires none { (n : ℕ) → get_or homes.old n 0 ≡ 0 }
@@ -117,6 +121,34 @@ fn first_malformed(pages: &[[u8; 4096]], relations: u16) -> Option<PageNo>
         let page = PageNo::new(number);
         if is_bucket(pages, page) && !mt_bucket::check(page_at(pages, page), relations, total) {
             return Some(page);
+        }
+    }
+    None
+}
+
+// Whether a bucket page names a bucket page as the next one of its chain, or none.
+fn has_next(pages: &[[u8; 4096]], page: PageNo) -> bool
+    requires whole { AreWhole pages.now }
+    requires kinds { AreKinds (length pages.now) (bytes_of pages.now) }
+    requires inside { page < length pages.now }
+    ensures { MatchBool result (HasNext (bytes_of pages.now) page) (HasNext (bytes_of pages.now) page → ⊥) }
+{
+    let next = mt_bucket::next(page_at(pages, page));
+    next.get() == 0 || is_bucket(pages, next)
+}
+
+// The first bucket page that names a page of another kind as its next one.
+fn first_misled(pages: &[[u8; 4096]]) -> Option<PageNo>
+    requires whole { AreWhole pages.now }
+    requires kinds { AreKinds (length pages.now) (bytes_of pages.now) }
+    ensures { MatchOption result (AreNexts (bytes_of pages.now)) (λ p.
+        (kind (bytes_of pages.now) p ≡ 2) × (HasNext (bytes_of pages.now) p → ⊥)) }
+{
+    let total = pages.len() as u16;
+    for number in 0..total {
+        let bucket = PageNo::new(number);
+        if is_bucket(pages, bucket) && !has_next(pages, bucket) {
+            return Some(bucket);
         }
     }
     None

@@ -59,7 +59,7 @@ module _ {D : Type 0} (seen : D → List ℕ) (may_leave : D → List ℕ → Ty
       let apart : (u : ℕ) → is_open (member_of k.live.members u) ≡ true → t ≢ u = λ u h is. let here : is_open (member_of k.live.members u) ≡ false = ap (λ v. is_open (member_of k.live.members v)) (sym is) ∙ closed in absurd cc in
       let numbered : IsNumbered k.last k.live.begun k.live.members k.operations.locks (appended k.operations.store.log ++ AbortEnd t ∷ []) = record {
         locks = fit.numbered.locks;
-        ops = λ u m above. no_records (ends_op u m) (appended k.operations.store.log) (AbortEnd t ∷ []) (fit.numbered.ops u m above) refl;
+        ops = λ m above. no_records (ends_op m) (appended k.operations.store.log) (AbortEnd t ∷ []) (fit.numbered.ops m above) refl;
         txns = λ u h. no_records (ends_txn u) (appended k.operations.store.log) (AbortEnd t ∷ []) (fit.numbered.txns u h) (or_from (t == u) false (ne_eqb t u (apart u h)) refl);
         coming = λ u above. no_records (ends_txn u) (appended k.operations.store.log) (AbortEnd t ∷ []) (fit.numbered.coming u above) (or_from (t == u) false (ne_eqb t u (λ is. absurd (omega (arith, is, above, low)))) refl);
         few_operations = fit.numbered.few_operations;

@@ -68,7 +68,7 @@ pub record HasBegun {D : Type 0} (seen : D → List ℕ) (may_leave : D → List
 pub numbered_last : (last more begun : ℕ) (ms : List Member) (locks : List PageLock) (records : List Record) → last ≤ more → more ≤ 2 ^ 41 → IsNumbered last begun ms locks records → IsNumbered more begun ms locks records
 numbered_last last more begun ms locks records less few k = record {
   locks = All-weaker (λ (l : PageLock). l.op ≤ last) (λ (l : PageLock). l.op ≤ more) (λ l low. omega (arith, low, less)) locks k.locks;
-  ops = λ t n above. k.ops t n (omega (arith, above, less));
+  ops = λ n above. k.ops n (omega (arith, above, less));
   txns = k.txns;
   coming = k.coming;
   few_operations = few;

@@ -75,7 +75,7 @@ module _ {D : Type 0} (seen : D → List ℕ) (may_leave : D → List ℕ → Ty
       let low = txn_low seen may_leave origin base k t fit at_work in
       let numbered : IsNumbered k.last k.live.begun n.live.members k.operations.locks (appended k.operations.store.log ++ Commit t ∷ []) = record {
         locks = fit.numbered.locks;
-        ops = λ u m above. no_records (ends_op u m) (appended k.operations.store.log) (Commit t ∷ []) (fit.numbered.ops u m above) refl;
+        ops = λ m above. no_records (ends_op m) (appended k.operations.store.log) (Commit t ∷ []) (fit.numbered.ops m above) refl;
         txns = λ u h. no_records (ends_txn u) (appended k.operations.store.log) (Commit t ∷ []) (fit.numbered.txns u (old u h)) (or_from (t == u) false (ne_eqb t u (λ is. closed_other k.live.members n.live.members t changed u h (sym is))) refl);
         coming = λ u above. no_records (ends_txn u) (appended k.operations.store.log) (Commit t ∷ []) (fit.numbered.coming u above) (or_from (t == u) false (ne_eqb t u (λ is. absurd (omega (arith, is, above, low)))) refl);
         few_operations = fit.numbered.few_operations;

@@ -59,7 +59,7 @@ module _ {D : Type 0} (seen : D → List ℕ) (may_leave : D → List ℕ → Ty
       let nothing = images_end_nothing records right.kept.sound.each.0 fresh.images in
       let numbered : IsNumbered 0 0 [] [] records = record {
         locks = λ i d lt. absurd (omega (arith, lt));
-        ops = λ t n above. nothing.ops t n;
+        ops = λ n above. nothing.ops n;
         txns = λ t is. nothing.txns t;
         coming = λ t above. nothing.txns t;
         few_operations = omega arith;

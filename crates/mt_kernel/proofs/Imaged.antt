@@ -17,7 +17,7 @@ use Rattle.mt_kernel.specs.Restartable.{IsQuiet}
 -- no transaction and no operation ends in these records, and they tell nothing
 pub record EndNothing (records : List Record) : Type 0 where
   pub txns : (t : ℕ) → some_record (ends_txn t) records ≡ false
-  pub ops : (t n : ℕ) → some_record (ends_op t n) records ≡ false
+  pub ops : (n : ℕ) → some_record (ends_op n) records ≡ false
   pub calls : calls_in records ≡ []
   pub told : (x : Told) → tell x records ≡ x
 
@@ -27,7 +27,7 @@ some_txn t named none = let some = named.0 in omega arith
 
 -- by the grammar each record of no transaction is one of a page
 each_ends_nothing : (records : List Record) → AllByRecursion IsRecord records → AllByRecursion (λ (r : Record). txn_of r ≡ 0) records → EndNothing records
-each_ends_nothing [] each none = record { txns = λ t. refl; ops = λ t n. refl; calls = refl; told = λ x. refl }
+each_ends_nothing [] each none = record { txns = λ t. refl; ops = λ n. refl; calls = refl; told = λ x. refl }
 each_ends_nothing (Page txn op page image start old new ∷ rs) each none = let rest = each_ends_nothing rs each.1 none.1 in record { txns = rest.txns; ops = rest.ops; calls = rest.calls; told = rest.told }
 each_ends_nothing (OpEnd txn op undoes done ∷ rs) each none = absurd (some_txn txn each.0.0 none.0)
 each_ends_nothing (OpDropped txn op ∷ rs) each none = absurd (some_txn txn each.0.0 none.0)

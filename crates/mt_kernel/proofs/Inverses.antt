@@ -72,7 +72,7 @@ in_history t n (b ∷ bs) rules none =
 
 -- so none names one that has not ended
 pub none_named : {D : Type 0} (relations counters : ℕ) (seen : D → List ℕ) (may_leave : D → List ℕ → Type 0) (opening : PageBytes) (o : Operations D) (t n : ℕ) → IsRight seen may_leave opening relations counters o
-    → some_record (ends_op t n) (appended o.store.log) ≡ false → some_record (undoes_op t n) (appended o.store.log) ≡ false
+    → some_record (ends_op n) (appended o.store.log) ≡ false → some_record (undoes_op t n) (appended o.store.log) ≡ false
 none_named relations counters seen may_leave opening o t n right unended =
     let log = o.store.log in
     let whole : appended log ≡ joined (durable_batches log ++ (in_flight log ++ waiting log) ∷ []) = (λ i. durable-joined log i ++ (in_flight log ++ waiting log)) ∙ sym (joined_push (durable_batches log) (in_flight log ++ waiting log)) in

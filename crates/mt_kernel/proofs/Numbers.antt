@@ -1,7 +1,7 @@
 -- Numbers of operations and transactions in locks and records.
 use Rattle.std.proofs.Common.{◌≡◌, ◌≢◌, ⊎_elim, ◌⊎◌, ℕ, zero, suc, ◌<◌, ◌≤◌, ◌==◌, ◌&&◌, true, false, not, List, [], ◌∷◌, ◌++◌, Option, Some, None, append-nil, refl, sym, ◌∙◌, subst, arith}
 use Rattle.std.specs.Prelude.{All, Result, Ok, Err}
-use Rattle.std.proofs.lemmas.Bool.{ne_eqb, and_right, or_from}
+use Rattle.std.proofs.lemmas.Bool.{ne_eqb, or_from}
 use Rattle.std.proofs.lemmas.List.Elements.{All-push, All-filter, All-contains, All-head, All-tail}
 use Rattle.mt_base.specs.declared.edits.Edit.{Edit}
 use Rattle.mt_base.specs.declared.modes.Mode.TheVariants.{Write}
@@ -32,25 +32,25 @@ use Rattle.mt_kernel.specs.Consistent.{IsNumbered}
 
 -- ---- what records end
 
-page_ends_op : (t n txn op page : ℕ) (image : Option (List ℕ)) (old new : List ℕ) (es : List Edit) → some_record (ends_op t n) (change_records txn op page image old new es) ≡ false
-page_ends_op t n txn op page image old new [] = refl
-page_ends_op t n txn op page image old new (e ∷ es) = page_ends_op t n txn op page None old new es
+page_ends_op : (n txn op page : ℕ) (image : Option (List ℕ)) (old new : List ℕ) (es : List Edit) → some_record (ends_op n) (change_records txn op page image old new es) ≡ false
+page_ends_op n txn op page image old new [] = refl
+page_ends_op n txn op page image old new (e ∷ es) = page_ends_op n txn op page None old new es
 
 page_ends_txn : (t txn op page : ℕ) (image : Option (List ℕ)) (old new : List ℕ) (es : List Edit) → some_record (ends_txn t) (change_records txn op page image old new es) ≡ false
 page_ends_txn t txn op page image old new [] = refl
 page_ends_txn t txn op page image old new (e ∷ es) = page_ends_txn t txn op page None old new es
 
-end_ends_op : (t n txn number undoes : ℕ) (o : Option LoggedOp) → number ≢ n → some_record (ends_op t n) (end_with txn number undoes o) ≡ false
-end_ends_op t n txn number undoes None apart = refl
-end_ends_op t n txn number undoes (Some done) apart = or_from ((txn == t) && (number == n)) false (and_right (txn == t) (number == n) (ne_eqb number n apart)) refl
+end_ends_op : (n txn number undoes : ℕ) (o : Option LoggedOp) → number ≢ n → some_record (ends_op n) (end_with txn number undoes o) ≡ false
+end_ends_op n txn number undoes None apart = refl
+end_ends_op n txn number undoes (Some done) apart = or_from (number == n) false (ne_eqb number n apart) refl
 
 end_ends_txn : (t txn number undoes : ℕ) (o : Option LoggedOp) → some_record (ends_txn t) (end_with txn number undoes o) ≡ false
 end_ends_txn t txn number undoes None = refl
 end_ends_txn t txn number undoes (Some done) = refl
 
-dropped_ends_op : (t n txn number standing : ℕ) → number ≢ n → some_record (ends_op t n) (dropped_with txn number standing) ≡ false
-dropped_ends_op t n txn number zero apart = refl
-dropped_ends_op t n txn number (suc standing) apart = or_from ((txn == t) && (number == n)) false (and_right (txn == t) (number == n) (ne_eqb number n apart)) refl
+dropped_ends_op : (n txn number standing : ℕ) → number ≢ n → some_record (ends_op n) (dropped_with txn number standing) ≡ false
+dropped_ends_op n txn number zero apart = refl
+dropped_ends_op n txn number (suc standing) apart = or_from (number == n) false (ne_eqb number n apart) refl
 
 dropped_ends_txn : (t txn number standing : ℕ) → some_record (ends_txn t) (dropped_with txn number standing) ≡ false
 dropped_ends_txn t txn number zero = refl
@@ -88,11 +88,11 @@ adds_dropped s old new (Err why) told = adds_none old new told
 
 module _ (last begun : ℕ) (ms : List Member) where
   -- other locks, and records more that end nothing that is to come
-  pub numbered_more : (old new : List PageLock) (records rs : List Record) → All (λ (l : PageLock). l.op ≤ last) new → ((t n : ℕ) → last < n → some_record (ends_op t n) rs ≡ false) → ((t : ℕ) → some_record (ends_txn t) rs ≡ false)
+  pub numbered_more : (old new : List PageLock) (records rs : List Record) → All (λ (l : PageLock). l.op ≤ last) new → ((n : ℕ) → last < n → some_record (ends_op n) rs ≡ false) → ((t : ℕ) → some_record (ends_txn t) rs ≡ false)
       → IsNumbered last begun ms old records → IsNumbered last begun ms new (records ++ rs)
   numbered_more old new records rs locks ops txns k = record {
     locks = locks;
-    ops = λ t n above. no_records (ends_op t n) records rs (k.ops t n above) (ops t n above);
+    ops = λ n above. no_records (ends_op n) records rs (k.ops n above) (ops n above);
     txns = λ t is. no_records (ends_txn t) records rs (k.txns t is) (txns t);
     coming = λ t above. no_records (ends_txn t) records rs (k.coming t above) (txns t);
     few_operations = k.few_operations;
@@ -115,7 +115,7 @@ module _ (last begun : ℕ) (ms : List Member) where
       ⊎_elim (λ (same : new ≡ old). numbered_locks old_locks new_locks old new locks same k)
       (λ one. let (c, image, bytes, there, is) = one in
       subst (IsNumbered last begun ms new_locks) (sym is)
-      (numbered_more old_locks new_locks old _ locks (λ t n above. page_ends_op t n s.txn s.number c.page image bytes _ c.edits.items) (λ t. page_ends_txn t s.txn s.number c.page image bytes _ c.edits.items) k)) more
+      (numbered_more old_locks new_locks old _ locks (λ n above. page_ends_op n s.txn s.number c.page image bytes _ c.edits.items) (λ t. page_ends_txn t s.txn s.number c.page image bytes _ c.edits.items) k)) more
 
   pub numbered_step : (noted : List ℕ) (relations counters : ℕ) (w z : World) (s t : OpScope) (r : Result Stepped Refusal) → s.number ≤ last → Steps relations counters w z s t r → KeepsLocks s.number (IsNext noted w.locks s) w.locks z.locks r
       → KeepsRecords t w.records z.records r → IsNumbered last begun ms w.locks w.records → IsNumbered last begun ms z.locks z.records
@@ -127,7 +127,7 @@ module _ (last begun : ℕ) (ms : List Member) where
   numbered_step noted relations counters w z s t (Ok (stepped.Ready first second)) known steps locks records k =
       subst (IsNumbered last begun ms z.locks) (sym steps.0.ended)
       (numbered_more w.locks z.locks w.records _ (subst (All (λ (l : PageLock). l.op ≤ last)) (sym locks) k.locks)
-      (λ u n above. end_ends_op u n s.txn s.number s.undoes _ (λ is. absurd (omega (arith, is, above, known)))) (λ u. end_ends_txn u s.txn s.number s.undoes _) k)
+      (λ n above. end_ends_op n s.txn s.number s.undoes _ (λ is. absurd (omega (arith, is, above, known)))) (λ u. end_ends_txn u s.txn s.number s.undoes _) k)
   numbered_step noted relations counters w z s t (Err why) known steps locks records k = numbered_locks w.locks z.locks w.records z.records (subst (All (λ (l : PageLock). l.op ≤ last)) (sym locks) k.locks) records k
 
   -- a step of a taking back
@@ -135,7 +135,7 @@ module _ (last begun : ℕ) (ms : List Member) where
   numbered_dropped s old new records more (Ok taken.Clear) known locks told k =
       subst (IsNumbered last begun ms new) (sym told)
       (numbered_more old new records (dropped_with s.txn s.number s.standing) (subst (All (λ (l : PageLock). l.op ≤ last)) (sym locks) k.locks)
-      (λ u n above. dropped_ends_op u n s.txn s.number s.standing (λ is. absurd (omega (arith, is, above, known)))) (λ u. dropped_ends_txn u s.txn s.number s.standing) k)
+      (λ n above. dropped_ends_op n s.txn s.number s.standing (λ is. absurd (omega (arith, is, above, known)))) (λ u. dropped_ends_txn u s.txn s.number s.standing) k)
   numbered_dropped s old new records more (Ok taken.More) known locks told k = numbered_locks old new records more (subst (All (λ (l : PageLock). l.op ≤ last)) (sym locks) k.locks) told k
   numbered_dropped s old new records more (Ok taken.Flush) known locks told k = numbered_locks old new records more (subst (All (λ (l : PageLock). l.op ≤ last)) (sym locks) k.locks) told k
   numbered_dropped s old new records more (Err why) known locks told k = numbered_locks old new records more (subst (All (λ (l : PageLock). l.op ≤ last)) (sym locks) k.locks) told k
@@ -164,6 +164,6 @@ module _ (last begun : ℕ) (ms : List Member) where
   fresh relations counters w t n sound above at_work k = record {
     locks = none_of n w.locks above k.locks;
     nothing = none_by n (unfinished_in w) above (λ i d lt. All-contains (λ (l : PageLock). l.op ≤ last) w.locks (lock_of _ _ Write) k.locks (sound.covered i d lt));
-    unfinished = record { transaction = k.txns t at_work; operation = k.ops t n above };
+    unfinished = record { transaction = k.txns t at_work; operation = k.ops n above };
     due = λ done. refl;
   }

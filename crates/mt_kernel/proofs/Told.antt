@@ -52,20 +52,19 @@ due_more t n records rs none k = record {
 }
 
 -- an operation that has not ended has no inverse
-pub unfinished_finishes : (t n : ℕ) (rs : List Record) → some_record (ends_op t n) rs ≡ false → some_record (finishes t n) rs ≡ false
+pub unfinished_finishes : (t n : ℕ) (rs : List Record) → some_record (ends_op n) rs ≡ false → some_record (finishes t n) rs ≡ false
 unfinished_finishes t n [] none = refl
-unfinished_finishes t n (r ∷ rs) none = go r (ends_op t n r) refl none (λ k. unfinished_finishes t n rs k)
+unfinished_finishes t n (r ∷ rs) none = go r (ends_op n r) refl none (λ k. unfinished_finishes t n rs k)
   where
-    within : (x : Record) → ends_op t n x ≡ false → finishes t n x ≡ false
+    within : (x : Record) → ends_op n x ≡ false → finishes t n x ≡ false
     within (OpEnd txn op undoes done) is = go_end (txn == t) (op == n) is
       where
-        go_end : (a b : Bool) → (a && b) ≡ false → (a && (b && (undoes == 0))) ≡ false
-        go_end true true k = absurd cc
-        go_end true false k = refl
+        go_end : (a b : Bool) → b ≡ false → (a && (b && (undoes == 0))) ≡ false
+        go_end true b k = ap (λ (x : Bool). x && (undoes == 0)) k
         go_end false b k = refl
     within _ is = refl
 
-    go : (x : Record) (c : Bool) → ends_op t n x ≡ c → (c || some_record (ends_op t n) rs) ≡ false → (some_record (ends_op t n) rs ≡ false → some_record (finishes t n) rs ≡ false) → (finishes t n x || some_record (finishes t n) rs) ≡ false
+    go : (x : Record) (c : Bool) → ends_op n x ≡ c → (c || some_record (ends_op n) rs) ≡ false → (some_record (ends_op n) rs ≡ false → some_record (finishes t n) rs ≡ false) → (finishes t n x || some_record (finishes t n) rs) ≡ false
     go x true at k rec = absurd cc
     go x false at k rec = or_from (finishes t n x) (some_record (finishes t n) rs) (within x at) (rec k)
 

@@ -113,7 +113,7 @@ module _ {D : Type 0} (seen : D → List ℕ) (may_leave : D → List ℕ → Ty
         let nothing = images_end_nothing records turns.right.kept.sound.each.0 fresh.images in let was = safe.fit.numbered in
         record {
           locks = λ i d lt. absurd (omega (arith, lt));
-          ops = λ t m above. nothing.ops t m;
+          ops = λ m above. nothing.ops m;
           txns = λ t is. nothing.txns t;
           coming = λ t above. nothing.txns t;
           few_operations = was.few_operations;

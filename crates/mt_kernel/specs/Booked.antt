@@ -17,7 +17,7 @@ abbrev pub booked_each : State → List ℕ → State
 booked_each s [] = s
 booked_each s (t ∷ ts) = booked_each (booked s t (session_at s t)) ts
 
--- how many commits stand before the first whose record is behind this place
+-- how many commits stand before the first whose record is after this place
 abbrev pub durable_count : List Commit → ℕ → ℕ
 durable_count cs place = position_or_len (λ (c : Commit). nat_lt place c.place) cs
 

@@ -56,7 +56,7 @@ IsRefusedBehind seen origin k kept t op split refusal.Escrow = ¬ IsAskedFor k.e
 IsRefusedBehind seen origin k kept t op split refusal.NoMemory = ⊤
 IsRefusedBehind seen origin k kept t op split why = IsAskedFor k.escrow t op × IsUnreserved seen origin k kept op split why
 
--- an older transaction is in the way of its lock; or else nobody is, and it is refused behind it
+-- an older transaction is in the way of its lock; or else nobody is, and it is refused after it
 abbrev pub IsRefusedCall : {D : Type 0} → (D → List ℕ) → Origin → Parts D → ℕ → ℕ → Op → Bool → Refusal → Type 0
 IsRefusedCall seen origin k kept t op split (refusal.Die holder) = IsLeastBar (held_of k.locks) t (object_of op) (mode_of op) holder × (holder < t)
 IsRefusedCall seen origin k kept t op split refusal.NoMemory = ⊤

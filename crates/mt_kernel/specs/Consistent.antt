@@ -90,7 +90,7 @@ state_of k base = record {
 -- each lock and each record is of an operation that has begun; no transaction that is open or aborting, and none to come, has ended
 pub record IsNumbered (last begun : ℕ) (ms : List Member) (page_locks : List PageLock) (records : List Record) : Type 0 where
   pub locks : All (λ (l : PageLock). l.op ≤ last) page_locks
-  pub ops : (t n : ℕ) → last < n → some_record (ends_op t n) records ≡ false
+  pub ops : (n : ℕ) → last < n → some_record (ends_op n) records ≡ false
   pub txns : (t : ℕ) → is_open (member_of ms t) ≡ true → some_record (ends_txn t) records ≡ false
   pub coming : (t : ℕ) → begun < t → some_record (ends_txn t) records ≡ false
   pub few_operations : last ≤ 2 * MAX_BEGUN
@@ -139,7 +139,7 @@ pub record IsWithinSchema (origin : Origin) (e : Entry) : Type 0 where
   pub op : IsWithin origin.relations origin.counters e.op
   pub reply : HasSmallReply e.reply
 
--- The numbers of operations suffice. A call is given one below 2^40; each inverse behind that has its bytes kept, so of such there
+-- The numbers of operations suffice. A call is given one below 2^40; each inverse after that has its bytes kept, so of such there
 -- are no more than the area and the ends that are kept for transactions have room for.
 abbrev pub AreLeft : ℕ → ℕ → ℕ → Type 0
 AreLeft last begun reserved = OPERATION_LOG_BYTES * last + reserved ≤ OPERATION_LOG_BYTES * MAX_BEGUN + MAX_AREA_MIB * MIB_BYTES + TRANSACTION_LOG_BYTES * begun
@@ -231,7 +231,7 @@ pub record IsAlone {D : Type 0} (seen : D → List ℕ) (origin : Origin) (k : P
   pub known : r.scope.number ≤ k.last
   pub others : (i : ℕ) (d : Running) → i < length k.running.items → i ≢ place → IsRunning origin.relations origin.counters (world seen origin.pages k.operations) k.last (slice_index_or k.running.items i d)
 
--- before its end, the records told of each call; none takes it back
+-- before its end, the records reported each call; none takes it back
 pub record IsToldBefore (last : ℕ) (ms : List Member) (records : List Record) (s : OpScope) (reply : Reply) : Type 0 where
   pub was : List Record
   pub ended : records ≡ was ++ end_of s reply

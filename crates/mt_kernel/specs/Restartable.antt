@@ -51,7 +51,7 @@ numbers_of (Some m) = cond (is_at_work m.state) (numbers_did m.calls m.operation
 
 -- ---- what the records tell
 
--- Of a book with commits of these transactions behind it, in their order, and of the others, which are at work: what
+-- Of a book with commits of these transactions after it, in their order, and of the others, which are at work: what
 -- each has committed, and what each has done, under its numbers.
 pub record IsTelling (book : List Committed) (ts : List ℕ) (ms : List Member) (standing : List Entry) (x : Told) : Type 0 where
   pub books : map calls_of x.books ≡ map effects_of (book ++ in_turn (session_in ms) ts standing)
@@ -66,7 +66,7 @@ pub record TellsOf {D : Type 0} (origin : Origin) (k : Parts D) (records : List 
   pub telling : IsTelling since (txns_of k.commits.items) k.live.members k.live.standing (tells records)
   pub calls : run origin.begun (calls_in records) ≡ runs (after origin.first k.book.items) k.live.standing
 
--- a restart over these records finds the base that they stand for
+-- a restart over these records finds the base that they represent
 abbrev pub Recovers : {D : Type 0} → Origin → Parts D → List Record → Type 0
 Recovers origin k records = IsRecoverable origin.relations origin.counters (pages k.operations.store.pool)
     (area_size k.operations.store.log) origin.pages origin.begun records
@@ -99,7 +99,7 @@ pub record SameArea {D : Type 0} (k n : Parts D) : Type 0 where
   pub bytes : area_size n.operations.store.log ≡ area_size k.operations.store.log
   pub lasts : Lasts k n
 
--- behind these records others tell nothing, and the pages held stay
+-- after these records others tell nothing, and the pages held stay
 pub record IsQuiet (opening : PageBytes) (records more : List Record) : Type 0 where
   pub held : pages_held opening (records ++ more) ≡ pages_held opening records
   pub calls : calls_in more ≡ []
@@ -141,7 +141,7 @@ pub record SameBook {D : Type 0} (k n : Parts D) : Type 0 where
   pub book : n.book.items ≡ k.book.items
   pub commits : n.commits.items ≡ k.commits.items
 
--- an operation stands behind all others, with this reply
+-- an operation stands after all others, with this reply
 pub record NotesEnd {D : Type 0} (k n : Parts D) (r : Running) (reply : Reply) : Type 0 where
   pub same : SameBook k n
   pub standing : n.live.standing ≡ k.live.standing ++ record { txn = r.scope.txn; op = r.op; reply = reply } ∷ []

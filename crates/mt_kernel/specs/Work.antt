@@ -36,7 +36,7 @@ Lowers pages (Ok (Ended reply)) before now = (0 < before) × (now ≡ 0)
 Lowers pages (Ok (GoingOn g)) before now = LeavesSteps pages g before now
 Lowers pages (Err why) before now = now ≤ before
 
--- An operation of a transaction is under way behind the others, with so many steps before it.
+-- An operation of a transaction is under way after the others, with so many steps before it.
 abbrev pub RunsBehind : ℕ → ℕ → List Running → List Running → Type 0
 RunsBehind t steps old new = (r : Running) × (r.scope.txn ≡ t) × (work_of r.scope ≡ steps) × (new ≡ old ++ r ∷ [])
 
@@ -55,7 +55,7 @@ effect_steps pages t e = if is_effect t e then 2 * pages + 10 else 0
 abbrev pub effects_left : ℕ → List Entry → ℕ → ℕ
 effects_left pages es t = sum_by (effect_steps pages t) es
 
--- An operation that is no inverse is put back, a page a step, and dropped out. An inverse stands for one of the effects.
+-- An operation that is no inverse is put back, a page a step, and dropped out. An inverse represents one of the effects.
 abbrev pub steps_with : ℕ → Running → ℕ → ℕ
 steps_with pages r effects = cond (r.scope.undoes == 0) (r.scope.standing + 1 + effects) (work_of r.scope + (effects - (2 * pages + 10)))
 

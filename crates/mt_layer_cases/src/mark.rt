@@ -20,41 +20,6 @@ fn idle(alloc: Global, session: u32) -> Committed
     }
 }
 
-/// Both passes look, each in a thread of its own.
-fn look<R: Threads>(rt: &R, first: &mut Seat, second: &mut Seat) -> (u64, u64) {
-    thread::join(rt, || first.load(), || second.load())
-}
-
-#[test]
-fn two_passes_enter_one_history(rt: HostRuntime) -> Result<(), Fail> {
-    let alloc = rt.alloc();
-    let base = Base::new(alloc, 1, &[])?;
-    let book: Vec<Committed> = Vec::new(alloc);
-    let about = About {
-        base: Snapshot::of(&base),
-        book: Snapshot::of(&book),
-    };
-    let (mut end, mut seats) = new(alloc, &about, 0, 2)?;
-    let (Some(mut second), Some(mut first)) = (seats.pop(), seats.pop()) else {
-        return Err(Fail::new("two seats"));
-    };
-    assert_eq!(rt; end.passes(), 2);
-    let entry = Entry {
-        pass: second.number(),
-        done: idle(alloc, 7),
-    };
-    assert!(rt; end.enter(&mut second, &entry));
-    let next = Entry {
-        pass: first.number(),
-        done: idle(alloc, 8),
-    };
-    assert!(rt; end.enter(&mut first, &next));
-    let counts = look(&rt, &mut first, &mut second);
-    assert_eq!(rt; counts.0, 2);
-    assert_eq!(rt; counts.1, 2);
-    Ok(())
-}
-
 /// A pass looks from a thread of its own, beside one that does nothing.
 fn look_apart<R: Threads>(rt: &R, seat: &mut Seat) -> u64 {
     let (seen, ()) = thread::join(rt, || seat.load(), || {});

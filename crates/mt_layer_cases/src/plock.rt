@@ -24,19 +24,6 @@ fn barred(rt: &impl Abort, locks: &mut PageLocks, op: u64, page: u16) -> (bool, 
 }
 
 #[test]
-fn reads_agree(rt: HostRuntime) -> Result<(), Fail> {
-    let page = PageNo::new(7);
-    let mut locks = PageLocks::new(rt.alloc());
-    let one = grants(&rt, &mut locks, 1, 7, Mode::Read);
-    let two = grants(&rt, &mut locks, 2, 7, Mode::Read);
-    locks.release(one);
-    assert!(rt; !locks.is_unlocked(page));
-    locks.release(two);
-    assert!(rt; locks.is_unlocked(page));
-    Ok(())
-}
-
-#[test]
 fn a_read_becomes_a_write_of_its_only_holder(rt: HostRuntime) -> Result<(), Fail> {
     let mut locks = PageLocks::new(rt.alloc());
     let one = grants(&rt, &mut locks, 1, 7, Mode::Read);
@@ -47,18 +34,5 @@ fn a_read_becomes_a_write_of_its_only_holder(rt: HostRuntime) -> Result<(), Fail
     let more = grants(&rt, &mut locks, 1, 7, Mode::Write);
     locks.release(more);
     locks.release(one);
-    Ok(())
-}
-
-#[test]
-fn the_smallest_is_waited_for(rt: HostRuntime) -> Result<(), Fail> {
-    let mut locks = PageLocks::new(rt.alloc());
-    let five = grants(&rt, &mut locks, 5, 7, Mode::Read);
-    let three = grants(&rt, &mut locks, 3, 7, Mode::Read);
-    assert!(rt; barred(&rt, &mut locks, 1, 7) == (true, 3));
-    assert!(rt; barred(&rt, &mut locks, 4, 7) == (false, 3));
-    locks.release(three);
-    assert!(rt; barred(&rt, &mut locks, 4, 7) == (true, 5));
-    locks.release(five);
     Ok(())
 }

@@ -34,13 +34,13 @@ abbrev pub AloneIsFree : Type 0
 AloneIsFree =
     (b : Base) (s : State) (t session : ℕ) (cs : List Call) → IsKept b s → IsAlone s t session cs → (x : Object) (m : LockMode) → IsFree s.held t x m
 
--- an operation that it calls, and that ends, replies as the model does behind its other calls, and is the last of them
+-- an operation that it calls, and that ends, replies as the model does after its other calls, and is the last of them
 abbrev pub AloneActs : Type 0
 AloneActs =
     (b : Base) (s : State) (t session : ℕ) (cs : List Call) (op : Op) → IsKept b s → IsAlone s t session cs
     → IsAlone (ended (called s t op) t op) t session (cs ++ (op, reply_of (run (committed_base b s) cs) op) ∷ [])
 
--- its commit puts just its calls behind the book
+-- its commit puts just its calls after the book
 abbrev pub AloneCommits : Type 0
 AloneCommits =
     (s : State) (t session : ℕ) (cs : List Call) → IsAlone s t session cs

@@ -76,8 +76,8 @@ SoundIsExplained =
 
 -- ---- some transactions' entries moved in front
 
--- those of a set, each with its old reply, lead with the others behind them to the same base, and what
--- is behind them is sound there
+-- those of a set, each with its old reply, lead with the others after them to the same base, and what
+-- is after them is sound there
 pub record IsMoved (held : Held) (b : Base) (p : ℕ → Bool) (es : List Entry) : Type 0 where
   pub acted : AreActed b (kept p es)
   pub rest : IsSound held (runs b (kept p es)) (struck p es)

@@ -87,7 +87,7 @@ pub record MayCall (b : Base) (s : State) (t : ℕ) (op : Op) : Type 0 where
   pub free : IsFree s.held t (object_of op) (mode_of op)
   pub admitted : IsAdmitted (committed_base b s) s.pending t op
 
--- what a transaction runs ends: it stands behind all others, with the model's reply on the base
+-- what a transaction runs ends: it stands after all others, with the model's reply on the base
 abbrev pub ended : State → ℕ → Op → State
 ended s t op = record s {
   standing = s.standing ++ record { txn = t; op = op; reply = reply_of s.base op } ∷ [];
@@ -108,7 +108,7 @@ gone s t = record s {
   pending = pending_without t s.pending;
 }
 
--- a commit is durable: its transaction is gone, and its entries stand behind the book
+-- a commit is durable: its transaction is gone, and its entries stand after the book
 abbrev pub booked : State → ℕ → ℕ → State
 booked s t session = record (gone s t) {
   book = s.book ++ record { session = session; calls = calls (kept (only t) s.standing) } ∷ [];

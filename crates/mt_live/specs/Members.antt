@@ -61,7 +61,7 @@ abbrev pub last_place : List Call → Option ℕ
 last_place [] = None
 last_place (c ∷ cs) = later (last_place cs) (has_inverse c)
 
--- the transaction without its last call that did something, and without those behind it
+-- the transaction without its last call that did something, and without those after it
 abbrev pub taken_back : Member → Member
 taken_back m = cut_to m (last_place m.calls)
 

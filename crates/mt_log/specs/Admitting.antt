@@ -9,7 +9,7 @@ use Rattle.mt_frame.specs.declared.area_rules.AreaRules.{AreaRules}
 use Rattle.mt_frame.specs.declared.records.Record.{Record}
 use Rattle.mt_log.specs.Holds.{AreRecords}
 
--- these records are the row that the body is, may stand behind those that are known, and are known then
+-- these records are the row that the body is, may stand after those that are known, and are known then
 pub record AreAdmitted (body : List ℕ) (pages : ℕ) (first : Bool) (old new : AreaRules) (records : List Record) : Type 0 where
   pub row : IsBody body records
   pub each : AreRecords pages records

@@ -33,14 +33,14 @@ Present (Forcing WriteGate) next batch c = Unit {0}
 Present (Forcing SyncGate) next batch c = get_or c next 0 ≡ OPEN_GATE
 Present Failed next batch c = Unit {0}
 
--- where the gate behind the batch that is being forced stands, or the next gate where none is
+-- where the gate after the batch that is being forced stands, or the next gate where none is
 abbrev pub gate_behind : Stage → ℕ → List Record → ℕ
 gate_behind Idle next batch = next
 gate_behind (Forcing step) next batch = next + 5 + length (body_text batch)
 gate_behind Failed next batch = next + 5 + length (body_text batch)
 
 -- The area of a log lies from start to end: the durable batches stand up to `next`, whatever a crash
--- leaves, and what it leaves of the batch behind them is as the stage of its force says.
+-- leaves, and what it leaves of the batch after them is as the stage of its force says.
 pub record Area (seen : List ℕ) (may_leave : List ℕ → Type 0) (start end next : ℕ) (batches : List (List Record)) (batch : List Record) (stage : Stage) : Type 0 where
   pub within : end ≤ length seen
   pub order : start ≤ next
@@ -49,7 +49,7 @@ pub record Area (seen : List ℕ) (may_leave : List ℕ → Type 0) (start end n
   pub outcome : (c : List ℕ) → may_leave c → Outcome stage next batch c
   pub present : Present stage next batch seen
 
--- the step behind this one; the last one has none
+-- the step after this one; the last one has none
 abbrev pub step_behind : Step → Step
 step_behind WriteBody = SyncBody
 step_behind SyncBody = WriteGate
@@ -63,7 +63,7 @@ AreaAfter SyncBody seen may_leave start end next batches batch = Area seen may_l
 AreaAfter WriteGate seen may_leave start end next batches batch = Area seen may_leave start end next batches batch (Forcing SyncGate)
 AreaAfter SyncGate seen may_leave start end next batches batch = Area seen may_leave start end (next + 5 + length (body_text batch)) (batches ++ batch ∷ []) [] Idle
 
--- reading the area finds these batches, or these and one more behind them
+-- reading the area finds these batches, or these and one more after them
 abbrev pub ScansWithOrWithout : ℕ → ℕ → List (List Record) → List Record → List ℕ → Type 0
 ScansWithOrWithout start end batches batch c = Scans c start end batches ⊎ Scans c start end (batches ++ batch ∷ [])
 

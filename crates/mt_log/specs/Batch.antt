@@ -16,7 +16,7 @@ abbrev pub Stands : List ℕ → ℕ → List (List Record) → ℕ → Type 0
 Stands c p [] q = p ≡ q
 Stands c p (b ∷ bs) q = Has c p (batch_text b) × Stands c (p + 5 + length (body_text b)) bs q
 
--- Reading from p on finds these batches: a row of open ones, and behind it, before the area's end, a
+-- Reading from p on finds these batches: a row of open ones, and after it, before the area's end, a
 -- gate that is not open.
 abbrev pub Scans : List ℕ → ℕ → ℕ → List (List Record) → Type 0
 Scans c p end batches = (q : ℕ) × Stands c p batches q × (q < end) × (get_or c q 0 ≢ OPEN_GATE)

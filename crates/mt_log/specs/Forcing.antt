@@ -11,7 +11,7 @@ use Rattle.mt_log.specs.declared.log.Forced.TheVariants.{More, Durable, Idle as 
 use Rattle.mt_log.specs.Words.{AreaOf, IsLast}
 use Rattle.mt_disk.specs.Disk.{Elapses, Follows, HasCause, Only, Torn, LeavesOnly}
 
--- the call went well, and another comes behind it
+-- the call went well, and another comes after it
 pub record IsOnTheWay (old new : Log) (step : Step) : Type 0 where
   pub not_last : step ≡ SyncGate → ⊥
   pub stage : new.stage ≡ Forcing (step_behind step)
@@ -36,7 +36,7 @@ pub record HasStopped (old new : Log) (refusal : Refusal) : Type 0 where
   pub batches : new.batches ≡ old.batches
   pub in_flight : new.in_flight ≡ old.in_flight
 
--- what the answer tells of the batch
+-- what the answer says of the batch
 abbrev pub HasCome : Log → Step → Result Forced Refusal → Log → Type 0
 HasCome old step (Ok More) new = IsOnTheWay old new step
 HasCome old step (Ok (Durable at)) new = HasArrived old new step at
@@ -64,7 +64,7 @@ pub record Seals (old new : Log) : Type 0 where
   pub size : vec_len new.pending ≡ 4
   pub behind : new.behind ≡ old.behind + 1 + vec_len old.pending
 
--- the device call of a step: the area is as behind that step, or as the device has left it
+-- the device call of a step: the area is as after that step, or as the device has left it
 pub record CallsDevice {D T F : Type 0} (seen : D → List ℕ) (may_leave : D → List ℕ → Type 0) (moment : D → ℕ) (left_since : D → ℕ → List ℕ → Type 0) (failures : D → ℕ) (log : Log) (step : Step) (d e : D) (r : Result T F) : Type 0 where
   pub done : OnOk r (AreaAfter step (seen e) (may_leave e) log.place.start log.place.end log.next (map (λ batch. batch.items) log.batches.items) log.in_flight.items)
   pub failed : OnErr r (Area (seen e) (may_leave e) log.place.start log.place.end log.next (map (λ batch. batch.items) log.batches.items) log.in_flight.items Failed)

@@ -28,7 +28,7 @@ AreRecords pages records = AllByRecursion IsRecord records × AllByRecursion (Ha
 abbrev pub AreBatches : ℕ → List (List Record) → Type 0
 AreBatches pages batches = AllByRecursion (AreRecords pages) batches
 
--- the batch may stand behind these, the area's first ones; with none of them it is the area's first
+-- the batch may stand after these, the area's first ones; with none of them it is the area's first
 abbrev pub MayComeNext : List (List Record) → List Record → Type 0
 MayComeNext [] batch = MayFollow true [] batch
 MayComeNext (b ∷ bs) batch = MayFollow false (joined (b ∷ bs)) batch
@@ -45,14 +45,14 @@ places_from p (b ∷ bs) = p ∷ places_from (p + 5 + length (body_text b)) bs
 
 -- ---- areas
 
--- The area holds these batches and no more: they stand in a row from its first byte on, behind them and before its end is a
+-- The area holds these batches and no more: they stand in a row from its first byte on, after them and before its end is a
 -- gate that is not open, and they break no rule.
 pub record HoldsBatches (c : List ℕ) (start end pages : ℕ) (batches : List (List Record)) : Type 0 where
   pub row : Scans c start end batches
   pub each : AreBatches pages batches
   pub rules : IsHistory batches
 
--- the batch stands at this place, with the next gate before the area's end, and breaks no rule behind those before it
+-- the batch stands at this place, with the next gate before the area's end, and breaks no rule after those before it
 pub record IsNextBatch (c : List ℕ) (place end pages : ℕ) (before : List (List Record)) (batch : List Record) : Type 0 where
   pub text : Has c place (batch_text batch)
   pub fits : place + 5 + length (body_text batch) < end

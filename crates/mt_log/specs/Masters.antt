@@ -49,7 +49,7 @@ IsRuling c slot = Rules c 0 PAGE_BYTES slot ⊎ Rules c PAGE_BYTES 0 slot
 
 -- ---- the log area that a slot names
 
--- the bytes of an area, the place of its first, and the place behind its last
+-- the bytes of an area, the place of its first, and the place after its last
 abbrev pub area_size : MasterSlot → ℕ
 area_size slot = slot.mib * MIB_BYTES
 

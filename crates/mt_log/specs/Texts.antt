@@ -12,12 +12,12 @@ pub record IsAtRest (next behind size : ℕ) (batch : List Record) : Type 0 wher
   pub none : length batch ≡ 0
   pub head_alone : size ≡ 4
 
--- this batch is being forced, and this is the text of it behind its gate
+-- this batch is being forced, and this is the text of it after its gate
 pub record IsUnderWay (next behind : ℕ) (text : List ℕ) (batch : List Record) : Type 0 where
   pub place : behind ≡ next + 5 + length (body_text batch)
   pub whole : text ≡ framed batch ++ 0 ∷ []
 
--- A record's text is behind the others, with room for a gate behind it; or memory was refused.
+-- A record's text is after the others, with room for a gate after it; or memory was refused.
 pub record PushesText {T E : Type 0} (old new : Vec ℕ Global) (entry : Record) (r : Result T E) : Type 0 where
   pub ok : OnOk r (new.items ≡ old.items ++ record_text entry)
   pub gate_room : OnOk r (vec_len new < vec_capacity new)

@@ -86,7 +86,7 @@ IsStep old More new = (durable new ≡ durable old) × (calls_left old ≡ 0 →
     × (0 < calls_left old → (in_flight new ≡ in_flight old) × (waiting new ≡ waiting old) × (calls_left new + 1 ≡ calls_left old) × (0 < calls_left new) × (used new ≡ used old))
 IsStep old (Durable pos) new = (calls_left old ≡ 1) × (calls_left new ≡ 0) × (durable new ≡ durable old ++ in_flight old) × (in_flight new ≡ []) × (waiting new ≡ waiting old) × (used new ≡ used old) × (pos ≡ length (durable new))
 
--- this answer tells of the last call of a force
+-- this answer is of the last call of a force
 abbrev pub IsLast : Forced → Type 0
 IsLast Nothing = ⊥
 IsLast More = ⊥

@@ -64,7 +64,7 @@ pub record Fits (k : About) (seat : ℕ → ℕ) (made : ℕ) (log list : List E
   pub told : IsPrefix v.told list
   pub sure : v.sure ≤ length log
 
--- The history is as long as the word says, and legal. It is the book that stood at first, and behind it entries of
+-- The history is as long as the word says, and legal. It is the book that stood at first, and after it entries of
 -- passes. The end's list begins with it, and goes on by one entry at most.
 pub record Kept (k : About) (s : State Entry View) : Type 0 where
   pub made : ℕ
@@ -90,7 +90,7 @@ LooksTo v found w =
 abbrev pub Looks : Step Entry → Me Entry View → ℕ → Me Entry View → Type 0
 Looks s v found w = (w.1 ≡ v.1) × LooksTo v.0 found w.0
 
--- what was told goes on from what the pass has seen, by others' entries and one more
+-- what was reported goes on from what the pass has seen, by others' entries and one more
 abbrev pub OthersThen : View → Type 0
 OthersThen v = (pre : List Entry) × (e : Entry) × (v.told ≡ pre ++ e ∷ []) × Holds v.number v.list pre
 
@@ -98,7 +98,7 @@ OthersThen v = (pre : List Entry) × (e : Entry) × (v.told ≡ pre ++ e ∷ [])
 abbrev pub IsConfirmed : View → Type 0
 IsConfirmed v = length v.list ≤ v.sure
 
--- a pass was told of a list that goes on by an entry of its own, at this place
+-- a pass was answered with a list that goes on by an entry of its own, at this place
 abbrev pub CanEnter : View → ℕ → Type 0
 CanEnter v at = (pre : List Entry) × (e : Entry) × (v.told ≡ pre ++ e ∷ []) × (e.pass ≡ v.number) × (length pre ≡ at) × (length v.list ≤ at) × (at ≤ v.sure)
 

@@ -51,7 +51,7 @@ BoundsAreKept = (b : Base) (op : Op) → IsBase b → IsBase (base_after b op)
 abbrev pub TwoNumbersDecide : Type 0
 TwoNumbersDecide = (n : Count) (ds : List ℤ) → HasRoom n ds ↔ IsAdmissible n ds
 
--- alone over a list behind another: the replies of the first, then those from the base that it leaves
+-- alone over a list after another: the replies of the first, then those from the base that it leaves
 abbrev pub RepliesAppend : Type 0
 RepliesAppend =
     (b : Base) (xs ys : List Op)

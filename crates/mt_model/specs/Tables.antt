@@ -1,4 +1,4 @@
--- The base that the rows and counters of a table stand for.
+-- The base that the rows and counters of a table represent.
 use Rattle.std.specs.Prelude.{ℕ, ℤ, pos, neg_ℤ, ◌≤ℤ◌, List, All, slice_index_or}
 use Rattle.mt_base.specs.declared.limits.TheConstants.{MAX_BOUND}
 use Rattle.mt_base.specs.Limits.{IsCounter}
@@ -15,7 +15,7 @@ IsNear z = (neg_ℤ MAX_BOUND ≤ℤ z) × (z ≤ℤ MAX_BOUND)
 abbrev pub AreLimited : List Count → Type 0
 AreLimited ns = All IsLimited ns
 
--- what stands for a counter that is not there
+-- what represents a counter that is not there
 abbrev pub no_count : Count
 no_count = record { low = pos 0; high = pos 0; number = pos 0 }
 

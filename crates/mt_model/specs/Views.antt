@@ -7,7 +7,7 @@ use Rattle.mt_model.specs.Model.{Base}
 use Rattle.mt_model.specs.Rows.{value_at}
 use Rattle.mt_model.specs.Tables.{count_at}
 
--- the base that rows and counters stand for
+-- the base that rows and counters represent
 abbrev pub base_from : List Row → List Count → Base
 base_from rows counts = record { rows = λ r k. value_at rows r k; counts = λ c. count_at counts c }
 

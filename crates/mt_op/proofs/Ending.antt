@@ -109,12 +109,15 @@ module _ (relations counters : ℕ) (w z : World) (s : OpScope) (done : LoggedOp
         (seen_or_not (looked s p)));
     pages = λ p some. ap (λ (r : Repeated). r.pages p) more;
     present = λ p some. m.pages p (ku.inside p some);
-    unended = open_more w z u (OpEnd s.txn s.number s.undoes done ∷ []) m.records refl (rw apart refl) (rw apart refl) (rw apart refl);
+    unended = open_more w z u (OpEnd s.txn s.number s.undoes done ∷ []) m.records refl (rw apart_number refl) (rw apart refl) (rw apart refl);
     own = ap (λ (r : Repeated). by u.number r.unfinished) more ∙ by_other s.number u.number (unfinished_in w) (λ e. other.number (sym e));
   }) ku
     where
       apart : (s.txn == u.txn) ≡ false
       apart = ne_eqb s.txn u.txn (λ e. other.txn (sym e))
+
+      apart_number : (s.number == u.number) ≡ false
+      apart_number = ne_eqb s.number u.number (λ e. other.number (sym e))
 
   pub own_ends : (t : OpScope) → SameOp s t → t.guards.items ≡ s.guards.items → t.seen.list.items ≡ s.seen.list.items → t.stage ≡ Ready → IsUnderWay relations counters z t
   own_ends t op guards seen ready =

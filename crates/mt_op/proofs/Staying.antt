@@ -183,12 +183,12 @@ some_none is [] ys none = none
 some_none is (x ∷ xs) ys none = ap (λ (b : Bool). is x || b) (some_none is xs ys none)
 
 -- with records more that end neither it, nor its transaction, nor what it takes back
-pub open_more : (w z : World) (s : OpScope) (rs : List Record) → z.records ≡ w.records ++ rs → some_record (ends_txn s.txn) rs ≡ false → some_record (ends_op s.txn s.number) rs ≡ false → some_record (finishes s.txn s.undoes) rs ≡ false
+pub open_more : (w z : World) (s : OpScope) (rs : List Record) → z.records ≡ w.records ++ rs → some_record (ends_txn s.txn) rs ≡ false → some_record (ends_op s.number) rs ≡ false → some_record (finishes s.txn s.undoes) rs ≡ false
     → some_record (undoes_op s.txn s.undoes) rs ≡ false → IsOpen w s → IsOpen z s
 open_more w z s rs same txn op finish undoes k = record {
   unfinished = record {
     transaction = stays (ends_txn s.txn) txn ∙ k.unfinished.transaction;
-    operation = stays (ends_op s.txn s.number) op ∙ k.unfinished.operation;
+    operation = stays (ends_op s.number) op ∙ k.unfinished.operation;
   };
   due = λ done. rw (stays (finishes s.txn s.undoes) finish, stays (undoes_op s.txn s.undoes) undoes) (k.due done);
 }

@@ -101,7 +101,7 @@ module _ {D : Type 0} (seen : D → List ℕ) (may_leave : D → List ℕ → Ty
   pub fixed_inside : (relations : ℕ) (o : Operations D) (p : ℕ) → p ≤ 2 → IsIdle seen may_leave relations o → p < pages o.store.pool
   fixed_inside relations o p low idle = ∥∥₁_elim idle (hlevel props) (λ (opening, counters, right, free).
       let w = world seen opening o in
-      let last : 2 < pages o.store.pool = right.sound.good.rows.index.within 2 (λ none. let wrong : 1 ≡ 0 = sym right.sound.good.rows.counters_fixed ∙ none in cc) in omega arith)
+      let last : 2 < pages o.store.pool = right.sound.good.rows.index.within 2 (λ none. let wrong : 1 ≡ 0 = sym ((right.sound.good.rows.map 2).fixed (omega arith)) ∙ none in cc) in omega arith)
 
   -- the counters page tells of the schema
   pub counters_page : (relations : ℕ) (o : Operations D) (bytes : List ℕ) → ((opening : PageBytes) (counters : ℕ) → IsRight seen may_leave opening relations counters o → bytes ≡ held_in (world seen opening o) 2) → IsIdle seen may_leave relations o

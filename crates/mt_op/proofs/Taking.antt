@@ -209,12 +209,12 @@ module _ (relations counters : ℕ) (w z : World) (s : OpScope) (c : PageChange)
     pages = λ p some. ap (λ (r : Repeated). r.pages p) less
         ∙ dropped_elsewhere (repeated_in w) s.number p (other_alone u.number s.number p (unfinished_in w) other.number (looked_alone relations counters w u p h ku some));
     present = λ p some. m.others p (ku.inside p some) (apart relations counters w z s c (OpDropped s.txn s.number ∷ []) m h k stage stands is u p ku other some);
-    unended = open_more w z u (OpDropped s.txn s.number ∷ []) m.records refl (rw differs refl) refl refl;
+    unended = open_more w z u (OpDropped s.txn s.number ∷ []) m.records refl (rw apart_number refl) refl refl;
     own = ap (λ (r : Repeated). by u.number r.unfinished) less ∙ by_other s.number u.number (unfinished_in w) (λ e. other.number (sym e));
   }) ku
     where
-      differs : (s.txn == u.txn) ≡ false
-      differs = ne_eqb s.txn u.txn (λ e. other.txn (sym e))
+      apart_number : (s.number == u.number) ≡ false
+      apart_number = ne_eqb s.number u.number (λ e. other.number (sym e))
 
   pub own_clears : (t : OpScope) → SameOp s t → t.guards.items ≡ s.guards.items → t.seen.list.items ≡ s.seen.list.items → t.stage ≡ Cleared → IsUnderWay relations counters z t
   own_clears t op guards seen cleared =

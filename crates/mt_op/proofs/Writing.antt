@@ -173,7 +173,7 @@ module _ (relations counters : ℕ) (w z : World) (s : OpScope) (c : PageChange)
   open_written : (u : OpScope) → IsOpen w u → IsOpen z u
   open_written u = open_more w z u (change_records s.txn s.number c.page m.image old (patched c.edits.items old) c.edits.items) m.records
       (pages_none (ends_txn u.txn) (λ t o p i a x y. refl) s.txn s.number c.page m.image old (patched c.edits.items old) c.edits.items)
-      (pages_none (ends_op u.txn u.number) (λ t o p i a x y. refl) s.txn s.number c.page m.image old (patched c.edits.items old) c.edits.items)
+      (pages_none (ends_op u.number) (λ t o p i a x y. refl) s.txn s.number c.page m.image old (patched c.edits.items old) c.edits.items)
       (pages_none (finishes u.txn u.undoes) (λ t o p i a x y. refl) s.txn s.number c.page m.image old (patched c.edits.items old) c.edits.items)
       (pages_none (undoes_op u.txn u.undoes) (λ t o p i a x y. refl) s.txn s.number c.page m.image old (patched c.edits.items old) c.edits.items)
 

@@ -41,7 +41,7 @@ KeepsRecords s old new (Err why) = new ≡ old
 
 -- ---- a step of a taking back
 
--- the record that tells of the taking back, where any page still stands
+-- the record of the taking back, where any page still stands
 abbrev pub dropped_with : ℕ → ℕ → ℕ → List Record
 dropped_with txn number zero = []
 dropped_with txn number (suc standing) = OpDropped txn number ∷ []

@@ -27,7 +27,7 @@ pub record OnlyReads {D : Type 0} (seen : D → List ℕ) (may_leave : D → Lis
   pub rooms : n.rooms ≡ o.rooms
   pub map : n.map ≡ o.map
 
--- It tells of so many pages, of a schema of so many relations and counters, what they hold.
+-- It reports so many pages, of a schema of so many relations and counters, what they hold.
 pub record IsSurvey (relations counters total : ℕ) (pages : PageBytes) (held : Base) (survey : Survey) : Type 0 where
   pub depth : survey.depth ≡ depth_in (pages 1)
   pub free : survey.free ≡ free_pages total pages

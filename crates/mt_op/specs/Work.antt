@@ -56,7 +56,7 @@ WorksOn s t (Ok (Some answer)) = Works s t (Ok answer)
 WorksOn s t (Ok None) = work_of t ≤ work_of s
 WorksOn s t (Err why) = work_of t ≤ work_of s
 
--- ---- the stage behind a step
+-- ---- the stage after a step
 
 abbrev pub IsGoing : Stage → Type 0
 IsGoing stage = (stage ≡ Planning) ⊎ (stage ≡ Writing)

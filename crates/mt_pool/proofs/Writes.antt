@@ -103,7 +103,7 @@ module _ (txn op page : ℕ) (old new : List ℕ) where
   pub ends_nothing : (t o : ℕ) (earlier : List Record) (image : Option (List ℕ)) (es : List Edit) → IsUnfinished t o earlier → IsUnfinished t o (earlier ++ change_records txn op page image old new es)
   ends_nothing t o earlier image es u = record {
     transaction = no_records (ends_txn t) earlier (change_records txn op page image old new es) u.transaction (none_of (ends_txn t) (λ i e. refl) image es);
-    operation = no_records (ends_op t o) earlier (change_records txn op page image old new es) u.operation (none_of (ends_op t o) (λ i e. refl) image es);
+    operation = no_records (ends_op o) earlier (change_records txn op page image old new es) u.operation (none_of (ends_op o) (λ i e. refl) image es);
   }
 
   -- ---- the grammar
@@ -156,10 +156,10 @@ module _ (txn op page : ℕ) (old new : List ℕ) where
     not_zero : (txn == 0) ≡ false
     not_zero = ⊎_elim (λ is. absurd (let e = eqb-true txn 0 is in let low = is_txn.0 in omega arith)) (λ other. other) (bool_cases (txn == 0))
 
-    later : (earlier : List Record) (r : Record) → IsUnfinished txn op earlier → some_record (ends_txn txn) (r ∷ []) ≡ false → some_record (ends_op txn op) (r ∷ []) ≡ false → IsUnfinished txn op (earlier ++ r ∷ [])
+    later : (earlier : List Record) (r : Record) → IsUnfinished txn op earlier → some_record (ends_txn txn) (r ∷ []) ≡ false → some_record (ends_op op) (r ∷ []) ≡ false → IsUnfinished txn op (earlier ++ r ∷ [])
     later earlier r u t o = record {
       transaction = no_records (ends_txn txn) earlier (r ∷ []) u.transaction t;
-      operation = no_records (ends_op txn op) earlier (r ∷ []) u.operation o;
+      operation = no_records (ends_op op) earlier (r ∷ []) u.operation o;
     }
 
     some_behind : (is : Record → Bool) (xs ys : List Record) → some_record is ys ≡ true → some_record is (xs ++ ys) ≡ true
@@ -173,7 +173,7 @@ module _ (txn op page : ℕ) (old new : List ℕ) where
     follow_on : (earlier : List Record) (es : List Edit) → some_record (is_of_page page) earlier ≡ true → IsUnfinished txn op earlier → MayFollow false earlier (change_records txn op page None old new es)
     follow_on earlier [] named u = tt
     follow_on earlier (e ∷ es) named u = (
-      stands (txn == 0) (some_record (ends_txn txn) earlier) (some_record (ends_op txn op) earlier) (some_record (is_of_page page) earlier) not_zero u.transaction u.operation named,
+      stands (txn == 0) (some_record (ends_txn txn) earlier) (some_record (ends_op op) earlier) (some_record (is_of_page page) earlier) not_zero u.transaction u.operation named,
       follow_on (earlier ++ range_record txn op page None old new e ∷ []) es (some_behind (is_of_page page) earlier (range_record txn op page None old new e ∷ []) (this_page page false)) (later earlier (range_record txn op page None old new e) u refl refl),
     )
 
@@ -181,7 +181,7 @@ module _ (txn op page : ℕ) (old new : List ℕ) where
         → IsUnfinished txn op earlier → MayFollow false earlier (change_records txn op page image old new es)
     changes_may earlier image [] first u = tt
     changes_may earlier image (e ∷ es) first u = (
-      stands (txn == 0) (some_record (ends_txn txn) earlier) (some_record (ends_op txn op) earlier) (if is_some image then not (some_record (is_of_page page) earlier) else some_record (is_of_page page) earlier) not_zero u.transaction u.operation first,
+      stands (txn == 0) (some_record (ends_txn txn) earlier) (some_record (ends_op op) earlier) (if is_some image then not (some_record (is_of_page page) earlier) else some_record (is_of_page page) earlier) not_zero u.transaction u.operation first,
       follow_on (earlier ++ range_record txn op page image old new e ∷ []) es (some_behind (is_of_page page) earlier (range_record txn op page image old new e ∷ []) (this_page page false)) (later earlier (range_record txn op page image old new e) u refl refl),
     )
 

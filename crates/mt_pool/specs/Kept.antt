@@ -34,7 +34,7 @@ carried_of (AbortEnd txn) = None
 abbrev pub carried : List Record → List (Option (ℕ × List ℕ))
 carried records = map carried_of records
 
--- the slot names these pages, behind the two slots, and the area of this log
+-- the slot names these pages, after the two slots, and the area of this log
 pub record Names (ruling : MasterSlot) (pool : Pool) (log : Log) : Type 0 where
   pub count : ruling.pages ≡ pages pool
   pub place : pool.place ≡ MASTER_BYTES

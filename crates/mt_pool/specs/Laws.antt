@@ -7,7 +7,7 @@ use Rattle.mt_pool.specs.Images.{Carried, has_image, page_in, slot, IsSafe, Give
 use Rattle.mt_pool.specs.Views.{IsPool, Shows, IsTied, IsImageFirst, view, pages, waits_for}
 use Rattle.mt_pool.specs.declared.pool.Pool.{Pool}
 
--- the pages as at the opening come from what a crash leaves, with all durable records, and any part of those behind them
+-- the pages as at the opening come from what a crash leaves, with all durable records, and any part of those after them
 abbrev pub CrashGivesPages : {D : Type 0} → (D → List ℕ → Type 0) → Type 0
 CrashGivesPages {D} may_leave =
     (device : D) (place pages : ℕ) (opening : ℕ → List ℕ) (appended : List Carried) (durable k : ℕ) (c : List ℕ)

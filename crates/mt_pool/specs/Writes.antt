@@ -27,7 +27,7 @@ records_size (r ∷ rs) = 5 + record_length r + records_size rs
 -- neither the transaction nor its operation has ended
 pub record IsUnfinished (txn op : ℕ) (records : List Record) : Type 0 where
   pub transaction : some_record (ends_txn txn) records ≡ false
-  pub operation : some_record (ends_op txn op) records ≡ false
+  pub operation : some_record (ends_op op) records ≡ false
 
 -- the log has these records more, which wait
 pub record IsLonger (log new : Log) (records : List Record) : Type 0 where

@@ -5,6 +5,7 @@ use Rattle.mt_index.specs.Maps.{Map}
 use Rattle.mt_index.specs.Pages.{AreMap, AreFormed, LeavesIndex}
 use Rattle.mt_file.specs.File.{record_in}
 use Rattle.mt_slots.specs.Page.{IsShaped, slot}
+use Rattle.mt_space.proofs.MapLemmas.{map_same}
 use Rattle.mt_space.specs.Kinds.{kind}
 use Rattle.mt_model.specs.Model.{Base}
 use Rattle.mt_space.specs.Changes.{PageBytes}
@@ -41,7 +42,7 @@ module _ (map : (total : ℕ) (pages pages2 : PageBytes) (m : Map) → AreMap to
   ]
 
   counters_is : g 2 ≡ f 2
-  counters_is = used_is 2 1 good.rows.counters_fixed (omega arith)
+  counters_is = used_is 2 1 ((good.rows.map 2).fixed (omega arith)) (omega arith)
 
   pub alike_good : IsGood relations counters total g
   alike_good = record {
@@ -59,7 +60,7 @@ module _ (map : (total : ℕ) (pages pages2 : PageBytes) (m : Map) → AreMap to
         names = λ r k n is. let e = good.rows.named.names r k n is in (e.0, records n.page n.slot ∙ e.1);
         named = λ p s row is. good.rows.named.named p s row (sym (records p s) ∙ is);
       };
-      counters_fixed = kinds 2 ∙ good.rows.counters_fixed;
+      map = map_same total f g good.rows.map kinds;
     };
     counts = subst (AreCounters relations counters) (sym counters_is) good.counts;
   }

@@ -20,7 +20,7 @@ use Rattle.mt_base.specs.Limits.{IsRelationCount}
 use Rattle.mt_replay.specs.Memory.{AreWhole}
 use Rattle.mt_slots.specs.Page.{Row, count, slot}
 use Rattle.mt_space.specs.Changes.{PageBytes}
-use Rattle.mt_space.specs.Kinds.{kind}
+use Rattle.mt_space.specs.Kinds.{kind, IsMap}
 use Rattle.mt_steps.specs.Plans.{IsGood}
 use Rattle.mt_replay.specs.Checks.{AllAreListed, AllNameRecords, AreBroken, AreChecked, AreListedAt, AreRecordPages, HasListed, HasRecord, HasSchema, IsIndexed, IsNamedWell}
 use Rattle.mt_replay.specs.Faults.{IsFaulty, breaks, unlisted}
@@ -200,7 +200,7 @@ has_entry total pages m a r k name is =
 
 -- ---- all of it
 
-module _ (items : List (List ℕ)) (relations counters : ℕ) (schema : HasSchema items relations counters) (index : IsSound relations (length items) (bytes_of items)) (pages : AreRecordPages items relations) where
+module _ (items : List (List ℕ)) (relations counters : ℕ) (map : IsMap (length items) (bytes_of items)) (schema : HasSchema items relations counters) (index : IsSound relations (length items) (bytes_of items)) (pages : AreRecordPages items relations) where
   inside : (p : ℕ) → kind (bytes_of items) p ≢ 0 → p < length items
   inside p some = index.map.within p some
 
@@ -233,7 +233,7 @@ module _ (items : List (List ℕ)) (relations counters : ℕ) (schema : HasSchem
               subst (λ (x : ℕ). IsNamedWell items x k) e.relation (subst (λ (x : List ℕ). IsNamedWell items (entry_at (bytes_of items e.page) e.place).relation x) e.key well) index.meaning index.map name is;
           named = λ p s row is. let records = record_kind (bytes_of items) p s row is in listed p (used p 3 records (omega arith)) records s row is index.meaning index.map;
         };
-        counters_fixed = schema.fixed;
+        map = map;
       };
       counts = schema.counts;
     };
@@ -260,7 +260,7 @@ module _ (items : List (List ℕ)) (relations counters : ℕ) (good : IsGood rel
   good_sound = record { formed = good.rows.formed; meaning = good.meaning; map = good.rows.index }
 
   pub good_schema : IsRelationCount relations → HasSchema items relations counters
-  good_schema fits = record { fits = fits; counts = good.counts; fixed = good.rows.counters_fixed }
+  good_schema fits = record { fits = fits; counts = good.counts }
 
 -- the last look
 pub last_look : (items : List (List ℕ)) (o : Option ℕ) → (AllAreListed items → AreChecked items) → MatchOption o (AllAreListed items) (λ p. (p < length items) × (HasListed items p → ⊥)) → MatchOption o (AreChecked items) (λ p. AreBroken items)

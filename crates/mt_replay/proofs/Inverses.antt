@@ -45,7 +45,7 @@ pub read_is : (items : List (List ℕ)) (f : PageBytes) (p : ℕ) (page : List �
 read_is items f p page first lt is = is ∙ at_any items p page [] lt ∙ first p lt
 
 pub two_inside : (relations counters total : ℕ) (f : PageBytes) → IsGood relations counters total f → 2 < total
-two_inside relations counters total f good = good.rows.index.within 2 (λ free. let fixed = good.rows.counters_fixed in absurd (omega (arith, free, fixed)))
+two_inside relations counters total f good = good.rows.index.within 2 (λ free. let fixed = (good.rows.map 2).fixed (omega arith) in absurd (omega (arith, free, fixed)))
 
 pub three_pages : (items : List (List ℕ)) → AreGood items → 2 < length items
 three_pages items good = ∥∥₁_elim good (hlevel props) (λ (f, relations, counters, first, fine, few). two_inside relations counters (length items) f fine)

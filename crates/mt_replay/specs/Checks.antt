@@ -23,11 +23,10 @@ pub record AreChecked (items : List (List ℕ)) : Type 0 where
 abbrev pub AreBroken : List (List ℕ) → Type 0
 AreBroken items = (relations counters : ℕ) → IsRelationCount relations → IsGood relations counters (length items) (bytes_of items) → ⊥
 
--- page 2 tells so many relations and counters, within their limits, and is a fixed page
+-- page 2 has the counts of so many relations and counters, within their limits
 pub record HasSchema (items : List (List ℕ)) (relations counters : ℕ) : Type 0 where
   pub fits : IsRelationCount relations
   pub counts : AreCounters relations counters (bytes_of items 2)
-  pub fixed : kind (bytes_of items) 2 ≡ 1
 
 -- a page of records is one of so many relations, and each is
 abbrev pub IsRecordPage : List (List ℕ) → ℕ → ℕ → Type 0

@@ -43,7 +43,7 @@ pub record HasTold (x : Telling) (records : List Record) : Type 0 where
   pub ended : (t : ℕ) → contains nat_cmp x.ended t ≡ some_record (ends_txn t) records
   pub undone : (t o : ℕ) → contains pair_cmp x.undone (t, o) ≡ some_record (undoes_op t o) records
 
--- these records of a batch are told too, before those behind them
+-- these records of a batch are reported too, before those after them
 pub record Tells (batch : Batch) (records : List Record) (old new : Telling) : Type 0 where
   pub told : (behind : List Record) → HasTold old behind → HasTold new (records ++ behind)
   pub ended : (batches : List Batch) → Contains batches batch → AllByRecursion (HasEnded batches) old.losers.items → AllByRecursion (HasEnded batches) new.losers.items
@@ -58,7 +58,7 @@ pub record HasUndone (old : List (List ℕ)) (losers : List Loser) (new : List (
       → (k : PageBytes) × AreFirst new k × IsGood relations counters (length old) k
       × UndoesAll relations counters (length old) f (all_finished losers) k
 
--- The pass stops at the loser of this place: on the pages that the inverses of those behind it leave, whatever base they
+-- The pass stops at the loser of this place: on the pages that the inverses of those after it leave, whatever base they
 -- hold, its inverse does not find what its record says, or no free pages.
 pub record StopsAt (pages : List (List ℕ)) (losers : List Loser) (at : ℕ) : Type 0 where
   pub front : List Loser

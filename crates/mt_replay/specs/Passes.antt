@@ -65,7 +65,7 @@ pub record Takes (op : ℕ) (list : List Unfinished) (old new : Repeating) : Typ
   pub fits : AllByRecursion (Fits (length old.pages.items)) list
   pub left : (o : ℕ) → changes_at new o ≡ (if op == o then [] else changes_at old o)
 
--- a change is in memory too, behind those of its operation
+-- a change is in memory too, after those of its operation
 pub record Notes (change : Unfinished) (old new : Repeating) : Type 0 where
   pub whole : IsWhole new
   pub pages : new.pages ≡ old.pages
@@ -105,7 +105,7 @@ change_by (AbortEnd txn) = []
 abbrev pub stays : List Record → Change → Bool
 stays rs c = not (some_record (ends_it c.op) rs)
 
--- the changes whose operations do not end behind them
+-- the changes whose operations do not end after them
 abbrev pub left : List Record → List Change
 left [] = []
 left (r ∷ rs) = filter (stays rs) (change_by r) ++ left rs

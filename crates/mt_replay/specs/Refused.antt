@@ -71,7 +71,7 @@ pub data BreaksLog (c : List ℕ) (at : ℕ) : Type 0 where
   in_master : BreaksMaster c at → BreaksLog c at
   in_area : (slot : MasterSlot) → IsRuling c slot → BreaksAt c (area_start slot) (area_end slot) slot.pages at → BreaksLog c at
 
--- or behind these
+-- or after these
 pub data BreaksFormat (c : List ℕ) (at : ℕ) : Type 0 where
   in_log : BreaksLog c at → BreaksFormat c at
   behind : (slot : MasterSlot) (batches : List Batch) (held : List (List ℕ)) (list : List Loser) → AreRepeated c slot batches held list → StopsUndoing held list at → BreaksFormat c at

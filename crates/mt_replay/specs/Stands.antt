@@ -1,4 +1,4 @@
--- What the bytes of a device stand for, told without a restart's passes.
+-- What the bytes of a device represent, answered without a restart's passes.
 use Rattle.std.specs.Prelude.{◌≡◌, ℕ, List, length}
 use Rattle.mt_base.specs.declared.limits.TheConstants.{MASTER_BYTES}
 use Rattle.mt_frame.specs.declared.records.Record.{Record}
@@ -26,7 +26,7 @@ pub record IsReadAs (c : List ℕ) (slot : MasterSlot) (opening : PageBytes) (ba
   pub held : HoldsBatches c (area_start slot) (area_end slot) slot.pages batches
   pub gives : GivesPages MASTER_BYTES slot.pages opening (carried (joined batches)) c
 
--- The bytes stand for this base: of what the opening pages hold, what the area's committed transactions lead to, each
+-- The bytes represent this base: of what the opening pages hold, what the area's committed transactions lead to, each
 -- alone, in the order of their commits.
 pub record StandsFor (c : List ℕ) (b : Base) : Type 0 where
   pub slot : MasterSlot

@@ -109,6 +109,6 @@ abbrev pub run_all : Base → List (List Finished) → Base
 run_all b [] = b
 run_all b (fs ∷ rest) = run_all (run b (calls_of fs)) rest
 
--- the base that the records stand for: what has committed, one transaction after the other
+-- the base that the records represent: what has committed, one transaction after the other
 abbrev pub stands_for : Base → List Record → Base
 stands_for b rs = run_all b (tells rs).books

@@ -4,17 +4,17 @@ ghost use Rattle.mt_replay.specs.declared.checking.TheConstants.{MAX_SLOTS};
 ghost use Rattle.mt_base.specs.declared.limits.TheConstants.{MAX_PAGES, PAGE_BYTES};
 ghost use Rattle.mt_bucket.specs.Page.{count_of, IsBucket};
 ghost use Rattle.mt_index.specs.Checks.{bytes_of, IsSound};
-ghost use Rattle.mt_space.specs.Kinds.{kind};
+ghost use Rattle.mt_space.specs.Kinds.{kind, CanBe, IsMap};
 ghost use Rattle.mt_replay.specs.Memory.{AreWhole};
 ghost use Rattle.mt_replay.specs.Faults.{IsFaulty};
 ghost use Rattle.mt_replay.specs.Checks.{AreChecked, AreBroken, HasSchema, IsRecordPage, AreRecordPages, HasRecord, NamesRecords, AllNameRecords, AreListedAt, HasListed, AllAreListed, IsIndexed};
 ghost use Rattle.mt_replay.specs.Naming.{AreNamed, MarksNamed};
 
-use mt_base::limits::{MAX_VALUE_BYTES, relation_count_fits};
+use mt_base::limits::{MAX_VALUE_BYTES, PAGE_BYTES, relation_count_fits};
 use mt_base::{PageNo, RecordName, RelNo};
 use mt_bucket::{count, entry};
 use mt_slots::get;
-use mt_space::pages::{BUCKET, COUNTERS, FIXED, MAP, RECORDS};
+use mt_space::pages::{BUCKET, COUNTERS, FIXED, FREE, MAP, RECORDS};
 use mt_steps::{SchemaSizes, sizes};
 use std::alloc::{AllocError, Global};
 
@@ -27,6 +27,21 @@ fn place_of(page: usize, slot: u16) -> usize
     ensures { result ≡ MAX_SLOTS * page + slot }
 {
     usize::from(MAX_SLOTS) * page + usize::from(slot)
+}
+
+// Whether the page of this number, of so many, can be of this kind.
+fn can_be(total: usize, page: usize, of: u8) -> bool
+    ensures { MatchBool result (CanBe total page of) (CanBe total page of → ⊥) }
+{
+    if page <= usize::from(COUNTERS) {
+        return of == FIXED && page < total;
+    }
+    match of {
+        FREE => true,
+        BUCKET => page < total,
+        RECORDS => page < total,
+        _ => false,
+    }
 }
 
 /// All pages of a device in memory, of which nothing is known but that they are whole.
@@ -48,15 +63,27 @@ impl AllPages {
         page < self.pages.len() && self.pages[usize::from(MAP)][page] == of
     }
 
-    // Whether page 2 is the counters page of the schema that it tells.
+    // Whether page 0 is the map of so many pages.
+    fn has_map(&self) -> bool
+        ensures { MatchBool result (IsMap (length self.now.pages.items) (bytes_of self.now.pages.items))
+            (IsMap (length self.now.pages.items) (bytes_of self.now.pages.items) → ⊥) }
+    {
+        let map = &self.pages[usize::from(MAP)];
+        for number in 0..PAGE_BYTES {
+            if !can_be(self.pages.len(), number, map[number]) {
+                return false;
+            }
+        }
+        true
+    }
+
+    // Whether page 2 is the counters page of the schema that it has the counts of.
     fn has_schema(&self, told: SchemaSizes) -> bool
         ensures { MatchBool result (HasSchema self.now.pages.items told.relations told.counters)
             (HasSchema self.now.pages.items told.relations told.counters → ⊥) }
     {
         let page = &self.pages[usize::from(COUNTERS)];
-        relation_count_fits(told.relations)
-            && self.is_of_kind(usize::from(COUNTERS), FIXED)
-            && mt_steps::check(page, told.relations, told.counters)
+        relation_count_fits(told.relations) && mt_steps::check(page, told.relations, told.counters)
     }
 
     // Whether a page is one of the schema, if it is of records.
@@ -232,6 +259,9 @@ impl AllPages {
             (λ p. AreBroken self.now.pages.items)) }
         ensures named { IfOk result (λ broken. IfSome broken (IsFaulty self.now.pages.items)) }
     {
+        if !self.has_map() {
+            return Ok(Some(PageNo::new(MAP)));
+        }
         let told = sizes(&self.pages[usize::from(COUNTERS)]);
         if !self.has_schema(told) {
             return Ok(Some(PageNo::new(COUNTERS)));

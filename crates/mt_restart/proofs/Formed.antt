@@ -1,5 +1,5 @@
 -- A device that holds what it is formatted with.
-use Rattle.std.proofs.Common.{◌≡◌, ◌≢◌, ◌<◌, ◌≤◌, ◌+◌, ◌*◌, inl, inr, ⊎_elim, ℕ, zero, suc, List, [], ◌∷◌, length, get_or, None, refl, sym, ◌∙◌, subst, arith}
+use Rattle.std.proofs.Common.{◌≡◌, ◌≢◌, ◌<◌, ◌≤◌, ◌+◌, ◌*◌, ◌⊎◌, inl, inr, ⊎_elim, ℕ, zero, suc, List, [], ◌∷◌, length, get_or, None, refl, sym, ◌∙◌, subst, arith}
 use Rattle.std.proofs.lemmas.Bool.{cases_lt, cases_eq}
 use Rattle.std.proofs.lemmas.List.{get_or_past}
 use Rattle.mt_base.proofs.Places.{part_has, has_front, has_back, one_of}
@@ -11,6 +11,7 @@ use Rattle.mt_model.specs.declared.rows.Row.{Row}
 use Rattle.mt_model.specs.Views.{rows_of}
 use Rattle.mt_pool.specs.Images.{slot}
 use Rattle.mt_pool.proofs.Safe.{cut_torn, slot_apart, other_slot}
+use Rattle.mt_space.specs.Kinds.{CanBe}
 use Rattle.mt_steps.specs.Formatted.{IsFormatted}
 use Rattle.mt_steps.specs.Held.{Holds}
 use Rattle.mt_steps.proofs.Formatting.{formatted_holds}
@@ -62,6 +63,21 @@ taken total map m some p ne = elim (cases_lt p 4) [
   | inr behind ↦ absurd (ne (free_behind map m p behind))
 ]
 
+first_fixed : (map : List ℕ) → IsFirstMap map → (p : ℕ) → p < 3 → get_or map p 0 ≡ 1
+first_fixed map m zero low = m.space
+first_fixed map m (suc zero) low = m.directory
+first_fixed map m (suc (suc zero)) low = m.counters
+first_fixed map m (suc (suc (suc p))) low = absurd (omega (arith, low))
+
+first_taken : (map : List ℕ) → IsFirstMap map → (p : ℕ) → 3 ≤ p → (get_or map p 0 ≡ 0) ⊎ ((get_or map p 0 ≡ 2) ⊎ (get_or map p 0 ≡ 3))
+first_taken map m p high = elim (cases_lt p 4) [
+  | inl low ↦ let at : 3 ≡ p = omega (arith, high, low) in inr (inl (subst (λ (q : ℕ). get_or map q 0 ≡ 2) at m.bucket))
+  | inr past ↦ inl (free_behind map m p past)
+]
+
+first_kinds : (total : ℕ) (map : List ℕ) → IsFirstMap map → 4 ≤ total → (p : ℕ) → CanBe total p (get_or map p 0)
+first_kinds total map m some p = record { fixed = first_fixed map m p; taken = first_taken map m p; within = taken total map m some p }
+
 module _ (s : Schema) (c : List ℕ) (has : HasFirstPages s c) where
   at_least : (n : ℕ) → n ≤ 16 → n ≤ pages_in s
   at_least n small = let some = s.page_count.0 in omega (arith, small, some)
@@ -96,7 +112,7 @@ module _ (s : Schema) (c : List ℕ) (has : HasFirstPages s c) where
         bucket = b.formed;
         one_bucket = bucket_is (slot 8192 c 0) m;
         no_records = no_records (slot 8192 c 0) m;
-        counters_fixed = m.counters;
+        kinds = first_kinds (pages_in s) (slot 8192 c 0) m (at_least 4 (omega arith));
         counts = n.formed;
       }
 

@@ -75,9 +75,9 @@ all_hold : (a b c : Bool) → a ≡ false → b ≡ false → c ≡ false → (t
 all_hold a b c not_a not_b not_c = rw (not_a, not_b, not_c) refl
 
 stands : (n : ℕ) (bytes : List ℕ) (images : List Record) → AllByRecursion (IsImageOnly n) images → may_stand true images (Page 0 0 n (Some bytes) 0 [] []) ≡ true
-stands n bytes images only = all_hold (some_record (ends_txn 0) images) (some_record (ends_op 0 0) images) (some_record (is_of_page n) images)
+stands n bytes images only = all_hold (some_record (ends_txn 0) images) (some_record (ends_op 0) images) (some_record (is_of_page n) images)
     (none_is n (ends_txn 0) (λ txn op page start image old new lt. refl) images only)
-    (none_is n (ends_op 0 0) (λ txn op page start image old new lt. refl) images only)
+    (none_is n (ends_op 0) (λ txn op page start image old new lt. refl) images only)
     (none_is n (is_of_page n) (λ txn op page start image old new lt. ne_eqb page n (omega arith)) images only)
 
 -- ---- the images, page by page

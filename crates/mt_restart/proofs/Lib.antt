@@ -25,3 +25,5 @@ mod Opened
 mod Rotations
 mod Founded
 mod Counted
+pub mod Ending
+pub mod Living

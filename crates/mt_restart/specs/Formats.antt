@@ -39,14 +39,14 @@ pub record IsFirstCounters (s : Schema) (page : List ℕ) : Type 0 where
   pub formed : AreCounters (relations_in s) (length (counters_in s)) page
   pub starts : (c : ℕ) → c < length (counters_in s) → count_in page c ≡ count_at (counters_in s) c
 
--- no entry, and no page behind it
+-- no entry, and no page after it
 pub record IsFirstBucket (s : Schema) (page : List ℕ) : Type 0 where
   pub formed : IsBucket (relations_in s) (pages_in s) page
   pub depth : depth_of page ≡ 0
   pub next : next_of page ≡ 0
   pub none : entries page ≡ []
 
--- each of the first four pages, and a page behind them
+-- each of the first four pages, and a page after them
 pub record IsFirstPage (s : Schema) (p : ℕ) (page : List ℕ) : Type 0 where
   pub map : p ≡ 0 → IsFirstMap page
   pub directory : p ≡ 1 → IsFirstDirectory page
@@ -69,7 +69,7 @@ abbrev pub empty_area : List ℕ
 empty_area = OPEN_GATE ∷ 0 ∷ 0 ∷ 0 ∷ 0 ∷ 0 ∷ []
 
 -- The content of a device of this schema: master slot 0 rules, as the other one's gate is closed; log area 0 has nothing but its
--- empty first batch; and the pages, of which those behind the first four are zero, hold the schema's first base.
+-- empty first batch; and the pages, of which those after the first four are zero, hold the schema's first base.
 pub record IsFormattedAs (s : Schema) (c : List ℕ) : Type 0 where
   pub long : device_bytes s ≤ length c
   pub master : Has c 0 (slot_text (first_slot s))

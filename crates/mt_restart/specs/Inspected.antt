@@ -1,4 +1,4 @@
--- What an inspection tells of the bytes of a device.
+-- What an inspection reports of the bytes of a device.
 use Rattle.std.specs.Prelude.{◌≡◌, ℕ, List, length}
 use Rattle.mt_base.specs.Limits.{IsRelationCount}
 use Rattle.mt_frame.specs.declared.slots.MasterSlot.{MasterSlot}

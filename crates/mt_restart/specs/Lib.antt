@@ -9,5 +9,6 @@ pub mod Reported
 pub mod Resumed
 pub mod Schemas
 pub mod Turned
+pub mod TurnFaults
 pub mod Within
 pub mod Rotated

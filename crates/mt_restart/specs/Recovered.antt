@@ -60,7 +60,7 @@ pub record IsRecovered {D : Type 0} (seen : D → List ℕ) (may_leave : D → L
   pub turned : HasTurned seen may_leave ruling r.restored.pages.items r.images.items device r.log
   pub beside : IsBeside r.restored.pages.items frames r.beside
 
--- what a crash might have left before, or what stands for this base
+-- what a crash might have left before, or what represents this base
 abbrev pub StandsStill : {D : Type 0} → (D → List ℕ → Type 0) → ℕ → ℕ → Base → D → List ℕ → Type 0
 StandsStill may_leave relations counters b device c = may_leave device c ⊎ CanRestart relations counters c b
 
@@ -69,7 +69,7 @@ StandsStill may_leave relations counters b device c = may_leave device c ⊎ Can
 abbrev pub IsCauseToStop : List ℕ → Type 0 → Refusal → Type 0
 IsCauseToStop c failed why = IsCause BreaksFormat c failed why ⊎ ((why ≡ LogFull) × CannotTurn c)
 
--- What a recovery needs is found, with pages that show the base for which the bytes stand; or it is told why not. The device is
+-- What a recovery needs is found, with pages that show the base for which the bytes stand; or the cause is reported. The device is
 -- only read.
 pub record FindsAll {D : Type 0} (seen : D → List ℕ) (may_leave : D → List ℕ → Type 0) (moment : D → ℕ) (left_since : D → ℕ → List ℕ → Type 0) (failures : D → ℕ) (frames : ℕ) (d e : D) (r : Result Found Refusal) : Type 0 where
   pub found : IfOk r (IsFound (seen d) frames)
@@ -79,8 +79,8 @@ pub record FindsAll {D : Type 0} (seen : D → List ℕ) (may_leave : D → List
   pub cause : IfErr r (IsCauseToStop (seen d) (failures d < failures e))
   pub quiet : (r ≡ Err Refusal.DeviceFailed → ⊥) → failures e ≡ failures d
 
--- The log has turned over once, with pages that show the base for which the bytes stood; or it is told why not. All memory is
--- taken before the first write. A crash leaves what stands for that base.
+-- The log has turned over once, with pages that show the base for which the bytes stood; or the cause is reported. All memory is
+-- taken before the first write. A crash leaves what represents that base.
 pub record Recovers {D : Type 0} (seen : D → List ℕ) (may_leave : D → List ℕ → Type 0) (moment : D → ℕ) (left_since : D → ℕ → List ℕ → Type 0) (failures : D → ℕ) (frames : ℕ) (d e : D) (r : Result Recovered Refusal) : Type 0 where
   pub recovered : IfOk r (IsRecovered seen may_leave frames e)
   pub restored : IfOk r (λ recovered. AreRestored (seen d) recovered.restored.pages.items)

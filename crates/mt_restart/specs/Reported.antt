@@ -1,4 +1,4 @@
--- What is told of a device's log.
+-- What is reported of a device's log.
 use Rattle.std.specs.Prelude.{◌≡◌, ℕ, List}
 use Rattle.mt_frame.specs.declared.slots.MasterSlot.{MasterSlot}
 use Rattle.mt_replay.specs.Refused.{IsLog}

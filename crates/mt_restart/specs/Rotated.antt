@@ -61,7 +61,7 @@ device_in (Ok n) = n.parts.operations.store.device
 device_in (Err (Kept why n)) = n.parts.operations.store.device
 device_in (Err (Ended why device)) = device
 
--- whatever a crash leaves of a device that did not fail, it stands for what the book leads to
+-- whatever a crash leaves of a device that did not fail, it represents what the book leads to
 abbrev pub StandsForBook : {D : Type 0} {g : Ghosts D} → (D → List ℕ → Type 0) → Base → Kernel D g → Refusal → D → Type 0
 StandsForBook may_leave first k why device = (why ≡ refusal.DeviceFailed → ⊥) → (c : List ℕ) → may_leave device c → ∥ CanRestart k.relations k.counters c (after first k.parts.book.items) ∥₁
 
@@ -83,12 +83,12 @@ TellsFaultsOfTurn faults k (Ok n) = faults n.parts.operations.store.device ≡ f
 TellsFaultsOfTurn faults k (Err (Kept why n)) = (why ≡ refusal.DeviceFailed → ⊥) → faults n.parts.operations.store.device ≡ faults k.parts.operations.store.device
 TellsFaultsOfTurn faults k (Err (Ended why device)) = (why ≡ refusal.DeviceFailed → ⊥) → faults device ≡ faults k.parts.operations.store.device
 
--- the slot that rules the device of n is the next one behind that of k
+-- the slot that rules the device of n is the next one after that of k
 abbrev pub HasTurnedOnce : {D : Type 0} {g : Ghosts D} → Kernel D g → Kernel D g → Type 0
 HasTurnedOnce k n = n.parts.operations.store.ruling ≡ next_slot k.parts.operations.store.ruling
 
 -- A kernel goes on over its device, which a recovery made one for the next area; or the device is handed back, and why. A crash
--- leaves what stands for the book of the kernel.
+-- leaves what represents the book of the kernel.
 pub record TurnsOver {D : Type 0} {g : Ghosts D} (seen : D → List ℕ) (may_leave : D → List ℕ → Type 0) (moment : D → ℕ) (left_since : D → ℕ → List ℕ → Type 0) (failures : D → ℕ) (k : Kernel D g) (r : Result (Kernel D g) (Refusal × D)) : Type 0 where
   pub goes_on : IfOk r (GoesOver seen may_leave k)
   pub begun : IfOk r (λ n. AreImages (appended n.parts.operations.store.log))

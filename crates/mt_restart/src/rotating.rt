@@ -83,8 +83,8 @@ fn turn_over<D: Device + Drop>(
 ///
 /// Then refused with the device, which stands for what the book leads to unless it failed:
 /// - [`Refusal::NoMemory`], before the device is written;
-/// - [`Refusal::LogFull`], where the ruling slot has the last epoch;
-/// - [`Refusal::DeviceFailed`], where the device failed.
+/// - [`Refusal::LogFull`], if the ruling slot has the last epoch, or the images have no room in the other area;
+/// - [`Refusal::DeviceFailed`], if the device failed.
 pub fn rotate<D: Device + Drop>(
     alloc: Global,
     kernel: Kernel<D>,

@@ -2,7 +2,7 @@
 use mt_base::Refusal;
 use mt_disk::{Device, Fill, MemDevice};
 use mt_model::{Base, Count, Row};
-use mt_restart::{Schema, format, inspect, open};
+use mt_restart::{Schema, inspect, open};
 use mt_txn::Kernel;
 use std::alloc::{AllocError, Global};
 
@@ -34,13 +34,6 @@ pub fn empty_device(alloc: Global, pages: u16) -> Result<MemDevice, AllocError> 
     device_of(alloc, vec![in alloc; 0u8; size]?)
 }
 
-/// A device of so many pages that was just formatted.
-pub fn formatted_device(alloc: Global, pages: u16) -> Result<MemDevice, Refusal> {
-    let mut device = empty_device(alloc, pages)?;
-    format(&mut device, &row_schema(alloc, pages)?)?;
-    Ok(device)
-}
-
 /// A device of what a crash leaves of this one now, if each write since the last sync leaves this.
 pub fn crashed(alloc: Global, device: &MemDevice, fill: Fill) -> Result<MemDevice, AllocError> {
     let bytes = device.crash(alloc, fill)?;
@@ -58,13 +51,8 @@ pub fn put(device: &mut MemDevice, at: usize, bytes: &[u8]) -> Result<(), Refusa
     Ok(())
 }
 
-/// The byte at a place of the device, or 0 outside of it.
-pub fn byte_at(device: &MemDevice, at: usize) -> u8 {
-    device.bytes().get(at).copied().unwrap_or(0)
-}
-
-/// The place of the last open batch of the area that begins there, or `start` where there is none.
-pub fn last_batch(device: &MemDevice, start: usize) -> usize {
+// The place of the last open batch of the area that begins there, or `start` where there is none.
+fn last_batch(device: &MemDevice, start: usize) -> usize {
     let bytes = device.bytes();
     let (mut last, mut next) = (start, start);
     for _batch in 0..1000u16 {
@@ -126,12 +114,6 @@ pub fn text_of(alloc: Global, base: &Base) -> Result<Vec<u8>, AllocError> {
 pub fn inspected(alloc: Global, device: &mut MemDevice) -> Result<Vec<u8>, Refusal> {
     let survey = inspect(alloc, device)?;
     Ok(text_of(alloc, &survey.base)?)
-}
-
-/// The text of the base that is left by a crash, if each write since the last sync leaves this.
-pub fn left(alloc: Global, device: &MemDevice, fill: Fill) -> Result<Vec<u8>, Refusal> {
-    let mut device = crashed(alloc, device, fill)?;
-    inspected(alloc, &mut device)
 }
 
 // The device of a kernel, or of a refusal.

@@ -35,7 +35,7 @@ SpellsStep bytes n = (bytes ≡ signed_decimal n) × IsWide n
 abbrev pub SpellsKey : List ℕ → ℕ → List ℕ → Type 0
 SpellsKey bytes r k = (bytes ≡ decimal r ++ 32 ∷ k) × IsPlace r × IsWord k
 
--- and a value behind them
+-- and a value after them
 abbrev pub SpellsRow : List ℕ → ℕ → List ℕ → List ℕ → Type 0
 SpellsRow bytes r k v = (bytes ≡ decimal r ++ 32 ∷ k ++ 32 ∷ v) × IsPlace r × IsWord k × IsText v
 

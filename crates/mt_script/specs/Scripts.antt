@@ -1,4 +1,4 @@
--- A script as bytes: its lines, each with LF behind it.
+-- A script as bytes: its lines, each with LF after it.
 use Rattle.std.specs.Prelude.{ℕ, List, ⊤}
 use Rattle.mt_base.specs.declared.refusal.Refusal.{Refusal}
 use Rattle.mt_script.specs.declared.lines.Line.{Line}

@@ -55,7 +55,7 @@ step_whole : (n : ℤ) → IsWide n → IsWhole (signed_decimal n)
 step_whole (pos n) w = decimal_whole n (omega (arith, ints, w.1))
 step_whole (negsuc n) w = All-cons (λ b. b ≢ 10) 45 (decimal (suc n)) (omega arith) (decimal_whole (suc n) (omega (arith, ints, w.0)))
 
--- a number and a word behind the first word, and a value behind these
+-- a number and a word after the first word, and a value after these
 two_whole : (word : List ℕ) (n : ℕ) (xs : List ℕ) → lacks 10 word ≡ true → n < 2 ^ 16 → IsWhole xs → IsWhole (word ++ 32 ∷ decimal n ++ 32 ∷ xs)
 two_whole word n xs w h k = spaced (word ++ 32 ∷ decimal n) xs (spaced word (decimal n) (is_without 10 word w) (decimal_whole n (omega (arith, h)))) k
 

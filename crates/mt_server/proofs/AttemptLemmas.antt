@@ -13,15 +13,15 @@ use Rattle.mt_script.specs.declared.answers.Answer.{Answer}
 use Rattle.mt_script.specs.declared.answers.Answer.TheVariants.{Begun, Aborted, Refused}
 use Rattle.mt_script.specs.declared.lines.Line.{Line}
 use Rattle.mt_script.specs.declared.lines.Line.TheVariants as line
-use Rattle.mt_server.specs.Plays.{Runs, starts, goes_on}
+use Rattle.mt_alone.specs.Plays.{Runs, starts, goes_on}
 use Rattle.mt_server.specs.Heard.{Heard, Hears, IsRefusable, LetsGoOn, begins, refuses}
 use Rattle.mt_server.specs.Hearing.{AreFew, Place, Ending, HasFailed, HasRan, HasServed, IsAt, IsStopped, IsTurned, Reached, Running, Served, Turning, Turns, and_begin, between, entry_of, within}
 use Rattle.mt_server.specs.declared.attempts.Ran.{Ran}
 use Rattle.mt_server.specs.declared.attempts.Ran.TheVariants as ran
 use Rattle.mt_server.specs.declared.turning.Stop.{Stop}
 use Rattle.mt_server.specs.declared.turning.Stop.TheVariants as stop
-use Rattle.mt_server.proofs.TranscriptLemmas.{all_told, none_told, runs_then}
-use Rattle.mt_shared.specs.Seen.{PassSeen, fresh}
+use Rattle.mt_alone.proofs.TranscriptLemmas.{all_told, none_told, runs_then}
+use Rattle.mt_locked.specs.Seen.{PassSeen, fresh}
 
 module _ (b : Base) (session : ℕ) where
   pub none_served : (start : Place) (was : List ℕ) → HasServed b session start [] was was start

@@ -17,8 +17,8 @@ use Rattle.mt_server.specs.declared.placing.Board.{Board}
 use Rattle.mt_server.specs.declared.placing.Told.{Told}
 use Rattle.mt_server.proofs.HeardLemmas.{session_counts, session_grows, session_told, told_failing, told_on}
 use Rattle.mt_mark.proofs.Fronts.{prefix_self}
-use Rattle.mt_shared.specs.Seen.{PassSeen}
-use Rattle.mt_shared.specs.Whole.{all_own}
+use Rattle.mt_locked.specs.Seen.{PassSeen}
+use Rattle.mt_locked.specs.Whole.{all_own}
 
 -- ---- transcripts
 

@@ -12,10 +12,10 @@ use Rattle.mt_model.specs.declared.tables.Base.{Base}
 use Rattle.mt_script.specs.declared.answers.Answer.{Answer}
 use Rattle.mt_script.specs.declared.answers.Answer.TheVariants.{Committed as CommittedAt}
 use Rattle.mt_script.specs.declared.lines.Line.{Line}
-use Rattle.mt_server.specs.Plays.{Runs, starts, goes_on}
+use Rattle.mt_alone.specs.Plays.{Runs, starts, goes_on}
 use Rattle.mt_server.specs.Heard.{Heard, silence, Hears, begins, replies, commits, aborts, dies, refuses, StandsAt, Rise, nowhere, higher, IsEnd, ends, fails, IsTold}
 use Rattle.mt_server.specs.Hearing.{Place, entry_of, Grows, IsSession, Turns, Served}
-use Rattle.mt_shared.specs.Seen.{PassSeen, Extends}
+use Rattle.mt_locked.specs.Seen.{PassSeen, Extends}
 
 -- ---- the book grows
 

@@ -17,7 +17,7 @@ use Rattle.mt_server.specs.Heard.{Heard, Hears, replies, commits, aborts, dies, 
 use Rattle.mt_server.specs.Hearing.{Place, Ending, entry_of, IsAt, IsStopped, IsTurned, Telling, Turning, Waits, between, within}
 use Rattle.mt_server.specs.declared.turning.Stop.{Stop}
 use Rattle.mt_server.specs.declared.turning.Stop.TheVariants as stop
-use Rattle.mt_shared.specs.Seen.{PassSeen, Extends, with_call}
+use Rattle.mt_locked.specs.Seen.{PassSeen, Extends, with_call}
 
 -- what is neither 2 nor 14
 pub lets_live : (why : Refusal) → ((holder : ℕ) → why ≡ refusal.Die holder → ⊥) → (why ≡ refusal.DeviceFailed → ⊥) → LetsLive why

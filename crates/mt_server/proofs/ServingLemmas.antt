@@ -13,8 +13,8 @@ use Rattle.mt_server.specs.Heard.{AreTold, all_booked}
 use Rattle.mt_server.proofs.HeardLemmas.{told_failing}
 use Rattle.mt_server.specs.declared.placing.Board.{Board}
 use Rattle.mt_server.specs.Serves.{IsLate, IsServedOn, IsUnopened}
-use Rattle.mt_shared.proofs.Keeping.{legal_book}
-use Rattle.mt_shared.specs.Began.{BeganOn}
+use Rattle.mt_locked.proofs.Keeping.{legal_book}
+use Rattle.mt_locked.specs.Began.{BeganOn}
 use Rattle.mt_shared.specs.Opens.{IsBaseOf, IsUnmarked, IsUnshared}
 use Rattle.mt_txn.specs.declared.kernel.Kernel.{Kernel}
 

@@ -9,11 +9,11 @@ use Rattle.mt_script.specs.declared.answers.Answer.TheVariants.{Aborted, Refused
 use Rattle.mt_script.specs.declared.lines.Line.{Line}
 use Rattle.mt_server.specs.Heard.{IsEnd, ends, fails}
 use Rattle.mt_server.specs.Hearing.{HasFailed, HasRan, HasServed, IsSession, Place, Reached, between}
-use Rattle.mt_server.specs.Runs.{last_line}
+use Rattle.mt_alone.specs.Runs.{last_line}
 use Rattle.mt_server.specs.declared.attempts.Ran.TheVariants as ran
 use Rattle.mt_server.proofs.AttemptLemmas.{none_served, served_then}
-use Rattle.mt_server.proofs.TranscriptLemmas.{all_told}
-use Rattle.mt_shared.specs.Seen.{PassSeen}
+use Rattle.mt_alone.proofs.TranscriptLemmas.{all_told}
+use Rattle.mt_locked.specs.Seen.{PassSeen}
 
 module _ (b : Base) (session : ℕ) (old : PassSeen) (lines : List Line) where
   -- so many of its lines are answered, and no transaction is open

@@ -9,9 +9,9 @@ use Rattle.mt_script.specs.declared.lines.Line.{Line}
 use Rattle.mt_server.specs.Heard.{IsTold, all_booked}
 use Rattle.mt_server.specs.declared.placing.Board.{Board}
 use Rattle.mt_server.specs.declared.placing.Told.{Told}
-use Rattle.mt_shared.specs.Seen.{PassSeen}
+use Rattle.mt_locked.specs.Seen.{PassSeen}
 
--- the transcript of the script at its place, from 0, which tells of these commits
+-- the transcript of the script at its place, from 0, which reports these commits
 pub record IsToldOf (scripts : List (List Line)) (book : List Committed) (t : Told) (booked : List (ℕ × List Call)) : Type 0 where
   pub lines : List Line
   pub within : t.at < length scripts
@@ -28,7 +28,7 @@ pub data AreToldOf (scripts : List (List Line)) (book : List Committed) : List T
 abbrev pub AreHeard : List (List Line) → PassSeen → List Told → Type 0
 AreHeard scripts pass told = AreToldOf scripts (dones pass.seen) told (own pass.number pass.seen)
 
--- nothing is told where one of them found no memory
+-- nothing is reported where one of them found no memory
 abbrev pub HasDone : List (List Line) → PassSeen → Result (Vec Told Global) AllocError → Type 0
 HasDone scripts pass done = IfOk done (λ told. AreHeard scripts pass told.items)
 

@@ -11,8 +11,8 @@ use Rattle.mt_script.specs.declared.answers.Answer.{Answer}
 use Rattle.mt_script.specs.declared.answers.Answer.TheVariants.{Begun, Replied, Committed as CommittedAt, Aborted, Refused}
 use Rattle.mt_script.specs.declared.lines.Line.{Line}
 use Rattle.mt_script.specs.declared.lines.Line.TheVariants as line
-use Rattle.mt_server.specs.Plays.{Runs}
-use Rattle.mt_server.specs.Runs.{last_line}
+use Rattle.mt_alone.specs.Plays.{Runs}
+use Rattle.mt_alone.specs.Runs.{last_line}
 
 -- ---- answers
 
@@ -24,7 +24,7 @@ pub record Heard : Type 0 where
 abbrev pub silence : Heard
 silence = record { under_way = None; booked = [] }
 
--- a session goes on behind a refusal, unless the device failed
+-- a session goes on after a refusal, unless the device failed
 abbrev pub LetsGoOn : Refusal → Type 0
 LetsGoOn refusal.DeviceFailed = ⊥
 LetsGoOn why = Unit {0}
@@ -58,7 +58,7 @@ pub data Hears (h : Heard) : Line → Answer → Heard → Type 0 where
       → Hears h (line.Call op) (Refused (refusal.Die holder)) (record h { under_way = None })
   refuses : (line : Line) (why : Refusal) → IsRefusable h.under_way line why → Hears h line (Refused why) h
 
--- what stands behind the answers: that the open transaction is aborted, where the script is at its end; or that the device failed, if it has
+-- what stands after the answers: that the open transaction is aborted, where the script is at its end; or that the device failed, if it has
 pub data IsEnd (failed : Bool) (u : Option (List Call)) : List Line → List Answer → Type 0 where
   ends : IsEnd failed u [] (last_line u)
   fails : (rest : List Line) → failed ≡ true → IsEnd failed u rest (Refused refusal.DeviceFailed ∷ [])

@@ -10,12 +10,12 @@ use Rattle.mt_script.specs.declared.answers.Answer.{Answer}
 use Rattle.mt_script.specs.declared.answers.Answer.TheVariants.{Begun, Replied, Committed as CommittedAt, Aborted, Refused}
 use Rattle.mt_script.specs.declared.lines.Line.{Line}
 use Rattle.mt_server.specs.Heard.{Heard, Hears, IsEnd}
-use Rattle.mt_server.specs.Plays.{Runs}
+use Rattle.mt_alone.specs.Plays.{Runs}
 use Rattle.mt_server.specs.declared.attempts.Ran.{Ran}
 use Rattle.mt_server.specs.declared.attempts.Ran.TheVariants as ran
 use Rattle.mt_server.specs.declared.turning.Stop.{Stop}
 use Rattle.mt_server.specs.declared.turning.Stop.TheVariants as stop
-use Rattle.mt_shared.specs.Seen.{PassSeen, Extends}
+use Rattle.mt_locked.specs.Seen.{PassSeen, Extends}
 
 -- ---- a session beside its pass
 
@@ -78,7 +78,7 @@ pub record IsTurned (b : Base) (session : ℕ) (start : Place) (line : Line) (wa
   pub turns : Turns b session start line answer end
   pub text : now ≡ was ++ transcript_text (answer ∷ [])
 
--- or it was not: the transaction died, and is taken back; the device failed, and that is told; or the answer found no memory
+-- or it was not: the transaction died, and is taken back; the device failed, and that is reported; or the answer found no memory
 abbrev pub IsStopped : PassSeen → List ℕ → List ℕ → PassSeen → Stop → Type 0
 IsStopped pass was now new stop.Died = (new ≡ pass) × IsPrefix was now
 IsStopped pass was now new stop.Failed = (new ≡ pass) × (now ≡ was ++ transcript_text (Refused refusal.DeviceFailed ∷ []))
@@ -102,7 +102,7 @@ pub record Reached (b : Base) (session : ℕ) (start : Place) (lines : List Line
   pub at : IsAt session token end
   pub served : HasServed b session start lines was now end
 
--- the transaction has ended behind so many lines; or it was open at the script's end, and was aborted
+-- the transaction has ended after so many lines; or it was open at the script's end, and was aborted
 abbrev pub HasRan : Base → ℕ → Place → List Line → List ℕ → List ℕ → PassSeen → Ran → Type 0
 HasRan b session start lines was now new (ran.Ended count) = (end : Place) × (end.pass ≡ new) × (end.heard.under_way ≡ None) × (count ≤ length lines) × HasServed b session start (take count lines) was now end
 HasRan b session start lines was now new ran.AtEnd = (end : Place) × (mid : List ℕ) × (end.pass ≡ new) × IsSome end.heard.under_way × HasServed b session start lines was mid end
@@ -136,7 +136,7 @@ AreFew (Ok (ran.Ended count)) = count + 1 < 2 ^ 64
 AreFew (Ok ran.AtEnd) = Unit {0}
 AreFew (Err stop) = Unit {0}
 
--- what is open at the script's end is taken back, and that is told
+-- what is open at the script's end is taken back, and that is reported
 abbrev pub Ending : PassSeen → List ℕ → List ℕ → PassSeen → Result Ran Stop → Type 0
 Ending pass was now new (Ok (ran.Ended count)) = ⊥
 Ending pass was now new (Ok ran.AtEnd) = (new ≡ pass) × (now ≡ was ++ transcript_text (Aborted ∷ []))

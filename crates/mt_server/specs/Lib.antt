@@ -1,9 +1,4 @@
-pub mod Plays
-pub mod Driven
-pub mod Runs
-pub mod Turnovers
-pub mod Sessions
+pub mod Crews
 pub mod Heard
 pub mod Hearing
-pub mod Crews
 pub mod Serves

@@ -1,4 +1,4 @@
--- A kernel behind sessions that shared it.
+-- A kernel after sessions that shared it.
 use Rattle.std.specs.Prelude.{ℕ, ◌<◌, ◌≤◌, ◌⊎◌, List}
 use Rattle.mt_base.specs.declared.limits.TheConstants.{MAX_SESSIONS}
 use Rattle.mt_base.specs.declared.refusal.Refusal.{Refusal}
@@ -8,7 +8,7 @@ use Rattle.mt_model.specs.History.{IsLegal}
 use Rattle.mt_model.specs.Views.{base_of}
 use Rattle.mt_model.specs.declared.tables.Base.{Base}
 use Rattle.mt_restart.specs.Recovered.{IsCauseToStop}
-use Rattle.mt_shared.specs.Began.{BeganOn}
+use Rattle.mt_locked.specs.Began.{BeganOn}
 use Rattle.mt_shared.specs.Opens.{IsBaseOf}
 use Rattle.mt_txn.specs.declared.kernel.Kernel.{Kernel}
 

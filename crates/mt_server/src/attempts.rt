@@ -6,7 +6,7 @@ ghost use Rattle.mt_script.specs.declared.lines.Line.{Line};
 ghost use Rattle.mt_script.specs.declared.lines.Line.TheVariants as line;
 ghost use Rattle.mt_server.specs.Hearing.{AreFew, Ending, Running, and_begin, between, within};
 ghost use Rattle.mt_server.specs.declared.turning.Stop.TheVariants as stop;
-ghost use Rattle.mt_shared.specs.Seen.{PassSeen};
+ghost use Rattle.mt_locked.specs.Seen.{PassSeen};
 
 use crate::turning::{Stop, fail, refuse, take_back, tell_aborted, tell_begun, turn};
 use mt_base::Refusal;

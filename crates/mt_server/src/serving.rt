@@ -7,10 +7,10 @@ ghost use Rattle.mt_model.specs.declared.history.Committed.{Committed};
 ghost use Rattle.mt_server.specs.Crews.{IsBlank, IsBoard};
 ghost use Rattle.mt_server.specs.Heard.{AreTold};
 ghost use Rattle.mt_server.specs.Serves.{IsLate, IsServedOn, IsUnserved};
-ghost use Rattle.mt_server.specs.Sessions.{lines_in};
-ghost use Rattle.mt_shared.specs.Began.{BeganOn};
-ghost use Rattle.mt_shared.specs.Seen.{PassSeen};
-ghost use Rattle.mt_shared.specs.Whole.{all_own};
+ghost use Rattle.mt_alone.specs.Sessions.{lines_in};
+ghost use Rattle.mt_locked.specs.Began.{BeganOn};
+ghost use Rattle.mt_locked.specs.Seen.{PassSeen};
+ghost use Rattle.mt_locked.specs.Whole.{all_own};
 ghost use Rattle.mt_txn.specs.Shown.{is_failed};
 
 use crate::crew::{crew, gather};

@@ -1,9 +1,2 @@
-pub mod Books
-pub mod Counts
-pub mod Ending
-pub mod Idle
-pub mod Keeping
-pub mod Living
 pub mod Oks
 mod Openings
-pub mod Sets

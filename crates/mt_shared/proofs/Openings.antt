@@ -13,9 +13,9 @@ use Rattle.mt_model.specs.declared.tables.Base.{Base}
 use Rattle.mt_op.specs.declared.surveying.Survey.{Survey}
 use Rattle.mt_restart.specs.Recovered.{IsCauseToStop}
 use Rattle.mt_restart.specs.Resumed.{BeginsOn, IsOpened}
-use Rattle.mt_shared.proofs.Keeping.{began_so}
-use Rattle.mt_shared.proofs.Sets.{Books-set}
-use Rattle.mt_shared.specs.Began.{BeganOn}
+use Rattle.mt_locked.proofs.Keeping.{began_so}
+use Rattle.mt_locked.proofs.Sets.{Books-set}
+use Rattle.mt_locked.specs.Began.{BeganOn}
 use Rattle.mt_shared.specs.Opens.{IsUnmarked, IsUnshared}
 use Rattle.mt_steps.specs.Listed.{IsSame}
 use Rattle.mt_txn.proofs.Showing.{legal_of}

@@ -1,7 +1,2 @@
-pub mod Began
-pub mod Names
 pub mod Opens
 pub mod Refusals
-pub mod Seen
-pub mod Turns
-pub mod Whole

@@ -1,15 +1,20 @@
 -- A device that is opened to be shared.
-use Rattle.std.specs.Prelude.{ℕ, ◌⊎◌, List, ⊤}
+use Rattle.std.specs.Prelude.{ℕ, ◌≡◌, ◌⊎◌, List, All, length, ⊤}
+use Rattle.atomic_table.specs.Seated.{TableId}
 use Rattle.mt_base.specs.declared.refusal.Refusal.{Refusal}
 use Rattle.mt_base.specs.declared.refusal.Refusal.TheVariants as refusal
+use Rattle.mt_locked.specs.Seen.{Beside}
+use Rattle.mt_mark.specs.Held.{Held}
+use Rattle.mt_mark.specs.Rule.{labelled, IsConfirmed}
 use Rattle.mt_model.specs.Model as model
 use Rattle.mt_model.specs.Views.{base_of}
+use Rattle.mt_model.specs.declared.history.Committed.{Committed}
 use Rattle.mt_model.specs.declared.tables.Base.{Base}
 use Rattle.mt_replay.specs.Stands.{CanRestart}
 use Rattle.mt_restart.specs.Recovered.{IsCauseToStop}
 use Rattle.mt_steps.specs.Listed.{IsSame}
 
--- the base that these bytes stand for, if they stand for one: the same rows, and the same counters, as many as there are
+-- the base that these bytes represent, if they represent one: the same rows, and the same counters, as many as there are
 abbrev pub IsBaseOf : List ℕ → Base → Type 0
 IsBaseOf c first = (relations counters : ℕ) (b : model.Base) → CanRestart relations counters c b → IsSame counters (base_of first) b
 
@@ -22,3 +27,19 @@ IsUnmarked _ = ⊥
 -- or what keeps a device of these bytes from being opened
 abbrev pub IsUnshared : List ℕ → Refusal → Type 0
 IsUnshared c why = IsCauseToStop c ⊤ why ⊎ IsUnmarked why
+
+-- which mark it is, the kernel's first base and book, and how many passes there are to be
+pub record OpenedSeen : Type 0 where
+  pub mark : TableId
+  pub base : Base
+  pub book : List Committed
+  pub count : ℕ
+
+-- an end and so many seats of one mark, about a kernel that began on this base: its history is the book
+pub record IsMarked (base : Base) (book : List Committed) (count : ℕ) (end : Held) (seats : List Held) : Type 0 where
+  pub base_is : end.view.base ≡ base
+  pub confirmed : IsConfirmed end.view
+  pub list : end.view.list ≡ labelled book
+  pub book_is : end.view.book ≡ book
+  pub seats_are : All (Beside end) seats
+  pub many : length seats ≡ count

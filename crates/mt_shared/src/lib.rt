@@ -13,25 +13,11 @@
 //! here can panic.
 #![tactic(auto)]
 
-mod based;
-mod closing;
 mod gate;
-mod kept;
-mod locked;
-mod log_use;
-mod naming;
 mod opened;
-mod pass;
-mod past;
 mod shared;
-mod turned;
-mod txn;
 
 pub use gate::{Gate, Point};
-pub use locked::Locked;
-pub use log_use::LogUse;
-pub use naming::Naming;
+pub use mt_locked::{Locked, LogUse, Naming, Pass, Refused, Txn};
 pub use opened::Opened;
-pub use pass::Pass;
 pub use shared::{Closed, Shared, Tended};
-pub use txn::{Refused, Txn};

@@ -1,29 +1,25 @@
 ghost use Rattle.std.specs.Prelude.{◌≡◌, ◌<◌, ◌^◌, [], ℕ, List, All, IfOk, IfErr, vec_len};
 ghost use Rattle.mt_base.specs.declared.refusal.Refusal.{Refusal};
 ghost use Rattle.mt_mark.specs.Legal.{IsLegal};
-ghost use Rattle.mt_mark.specs.Rule.{dones, labelled};
+ghost use Rattle.mt_mark.specs.Rule.{dones};
 ghost use Rattle.mt_model.specs.Model.{Base as ModelBase};
 ghost use Rattle.mt_replay.specs.Stands.{CanRestart};
-ghost use Rattle.mt_shared.specs.Began.{BeganOn};
-ghost use Rattle.mt_shared.specs.Opens.{IsBaseOf, IsUnshared};
-ghost use Rattle.mt_shared.specs.Seen.{PassSeen, OpenedSeen, Beside, IsMarked};
-ghost use Rattle.mt_shared.specs.Whole.{AreNew, IsNew};
+ghost use Rattle.mt_locked.specs.Began.{BeganOn};
+ghost use Rattle.mt_shared.specs.Opens.{IsBaseOf, IsMarked, IsUnshared};
+ghost use Rattle.mt_locked.specs.Seen.{PassSeen};
+ghost use Rattle.mt_locked.specs.Whole.{IsNew};
 
-use crate::based::Based;
 use crate::gate::Gate;
-use crate::kept::Kept;
-use crate::locked::{Due, Locked};
-use crate::naming::Naming;
-use crate::pass::Pass;
 use crate::shared::Shared;
 use mt_base::Refusal;
 use mt_disk::Device;
+use mt_locked::{Based, Locked, Naming, Pass, passes_of};
 use mt_mark::{About, End, Seat};
 use mt_model::{Base, Committed};
 use mt_restart::open;
 use mt_txn::Kernel;
 use std::alloc::{AllocError, Global};
-use std::marker::{Model, PhantomData};
+use std::marker::Model;
 use std::snapshot::Snapshot;
 
 /// A kernel with its mark, which has no name yet. Contracts see which mark it is, the base that the kernel began on,
@@ -38,7 +34,8 @@ impl<D: Device> Model for Opened<D> {
     ghost use Rattle.std.specs.Prelude.{◌≡◌, All, vec_len};
     ghost use Rattle.mt_mark.specs.Rule.{labelled, IsConfirmed};
     ghost use Rattle.mt_mark.specs.Held.{Held};
-    ghost use Rattle.mt_shared.specs.Seen.{OpenedSeen, Beside};
+    ghost use Rattle.mt_locked.specs.Seen.{Beside};
+    ghost use Rattle.mt_shared.specs.Opens.{OpenedSeen};
 
     ghost Value = { OpenedSeen };
 
@@ -101,15 +98,7 @@ impl<D: Device> Opened<D> {
         let Ok(passes) = passes_of::<J>(alloc, &end, seats) else {
             return Err(kernel.into_kernel());
         };
-        let locked = Locked {
-            kernel: Kept::new(kernel),
-            end,
-            appended: 0,
-            holding: 0,
-            due: Due::Work,
-            of: PhantomData,
-        };
-        let shared = Shared::over(locked, gate);
+        let shared = Shared::over(Locked::over(kernel, end), gate);
         Ok((shared, passes))
     }
 }
@@ -190,36 +179,4 @@ fn copy_of(alloc: Global, book: &[Committed]) -> Result<Vec<Committed>, AllocErr
         })?;
     }
     Ok(copy)
-}
-
-// The passes of these seats.
-fn passes_of<J: Naming>(
-    alloc: Global,
-    end: &End,
-    mut seats: Vec<Seat>,
-) -> Result<Vec<Pass<J>>, AllocError>
-    requires name { (end.now.mark ≡ J.mark) × (end.now.view.base ≡ J.base) }
-    requires list { end.now.view.list ≡ labelled J.book }
-    requires seats { All (Beside end.now) seats.items }
-    ensures { IfOk result (λ v. AreNew J.book (vec_len seats) v.items) }
-{
-    let mut passes = Vec::with_capacity(alloc, seats.len())?;
-    'seats: while let Some(seat) = seats.pop() {
-        passes.push(pass_of(end, seat))?;
-    }
-    Ok(passes)
-}
-
-fn pass_of<J: Naming>(end: &End, seat: Seat) -> Pass<J>
-    requires name { (end.now.mark ≡ J.mark) × (end.now.view.base ≡ J.base) }
-    requires list { end.now.view.list ≡ labelled J.book }
-    requires seat { Beside end.now seat }
-    ensures { IsNew J.book result }
-{
-    Pass {
-        number: seat.number(),
-        is_busy: false,
-        seat,
-        of: PhantomData,
-    }
 }

@@ -3,21 +3,22 @@ ghost use mathlib.Core.List.{IsPrefix};
 ghost use Rattle.mt_base.specs.declared.refusal.Refusal.TheVariants.{DeviceFailed, Stranger};
 ghost use Rattle.mt_mark.specs.Rule.{dones};
 ghost use Rattle.mt_model.specs.declared.operations.Reply.{Reply};
-ghost use Rattle.mt_shared.specs.Began.{BeganOn, IsIdle};
-ghost use Rattle.mt_shared.specs.Refusals.{IsCloseRefusal, IsTurnFault, IsTurnRefusal};
-ghost use Rattle.mt_shared.specs.Seen.{PassSeen, Extends, Looked, fresh, with_call};
-ghost use Rattle.mt_shared.specs.Turns.{HasTurned, IsUseOn};
+ghost use Rattle.mt_locked.specs.Began.{BeganOn, IsIdle};
+ghost use Rattle.mt_locked.specs.Refusals.{IsCloseRefusal};
+ghost use Rattle.mt_restart.specs.TurnFaults.{IsTurnFault};
+ghost use Rattle.mt_shared.specs.Refusals.{IsTurnRefusal};
+ghost use Rattle.mt_locked.specs.Seen.{PassSeen, Extends, Looked, fresh, with_call};
+ghost use Rattle.mt_locked.specs.Turns.{HasTurned, IsUseOn};
 ghost use Rattle.mt_txn.specs.Shown.{is_failed};
-ghost use Rattle.mt_shared.specs.Whole.{HasAllOf, all_own};
+ghost use Rattle.mt_locked.specs.Whole.{HasAllOf, all_own};
 
 use crate::gate::{Gate, Point, Wanted};
-use crate::locked::{Due, Locked, Unclosed};
-use crate::log_use::LogUse;
-use crate::naming::Naming;
-use crate::pass::Pass;
-use crate::txn::{Refused, Txn};
 use mt_base::{Refusal, TxnNo};
 use mt_disk::Device;
+use mt_locked::{
+    Due, Locked, LogUse, Naming, Pass, Refused, Txn, Unclosed, give_token, put_calls, spend_token,
+    take_calls,
+};
 use mt_model::{Op, Reply};
 use mt_pool::Flushed;
 use mt_txn::{AbortStepped, Called, Kernel, KernelForced, Stepped};
@@ -147,7 +148,7 @@ impl<D: Device, G: Gate + Drop, J: Naming> Shared<D, G, J> {
     pub fn look(&self, pass: &mut Pass<J>) -> u64
         ensures { Looked J.base pass.old result pass.new }
     {
-        pass.seat.load()
+        pass.look()
     }
 
     /// Begins a transaction of this pass, for a session. Nothing enters the history.
@@ -164,16 +165,16 @@ impl<D: Device, G: Gate + Drop, J: Naming> Shared<D, G, J> {
         ensures pass { pass.new ≡ pass.old }
         ensures token { IfOk result (λ t. t ≡ fresh pass.old.number session) }
     {
-        if pass.is_busy {
+        if pass.is_busy() {
             return Err(Refusal::Busy);
         }
         let number = match self.begun(rt, session) {
             Ok(number) => number,
             Err(why) => return Err(self.refusing(why)),
         };
-        pass.is_busy = true;
+        let txn = give_token(alloc, pass, number, session);
         self.tell(session, Point::Began);
-        Ok(Txn::begun(alloc, number, pass.number, session))
+        Ok(txn)
     }
 
     // Begins a transaction once none is held back.
@@ -190,17 +191,31 @@ impl<D: Device, G: Gate + Drop, J: Naming> Shared<D, G, J> {
 
     /// Runs an operation to its end. The token keeps it with its reply, [`Txn::calls`].
     ///
-    /// It waits where another transaction is in the way, and flushes pages where frames are wanted. Refused as
-    /// [`Kernel::call`], 1 before anything was asked of the kernel, and with 2 where the device fails; the token is as
-    /// before.
+    /// It waits if another transaction is in the way, and flushes pages if frames are wanted. A step that finds no
+    /// memory is made again. Refused as [`Kernel::call`], with 1 only before the operation has started, and with 2 if
+    /// the device fails; the token is as before.
     pub fn run<R: Wait>(&self, rt: &R, txn: &mut Txn<J>, op: Op) -> Result<(), Refusal>
         ensures ok { OnOk result ((r : Reply) × (txn.new ≡ with_call txn.old op r)) }
         ensures err { OnErr result (txn.new ≡ txn.old) }
     {
-        txn.calls.reserve(1)?;
-        let reply = self.replied(rt, txn.number, txn.session, &op)?;
-        txn.calls.push_reserved((op, reply));
-        Ok(())
+        let (number, session) = (txn.number(), txn.session());
+        // out of the token meanwhile, where it is known that there is room for one more
+        let mut calls = take_calls(txn);
+        if calls.reserve(1).is_err() {
+            put_calls(txn, calls);
+            return Err(Refusal::NoMemory);
+        }
+        match self.replied(rt, number, session, &op) {
+            Ok(reply) => {
+                calls.push_reserved((op, reply));
+                put_calls(txn, calls);
+                Ok(())
+            }
+            Err(why) => {
+                put_calls(txn, calls);
+                Err(why)
+            }
+        }
     }
 
     // The reply of an operation.
@@ -276,17 +291,16 @@ impl<D: Device, G: Gate + Drop, J: Naming> Shared<D, G, J> {
         ensures back { IfErr result (λ r. IfSome r.txn (λ t. t ≡ txn)) }
         ensures gone { IfErr result (λ r. (r.txn ≡ None) ↔ (r.why ≡ DeviceFailed)) }
     {
-        if txn.pass != pass.number {
+        if txn.pass() != pass.number() {
             return Err(Refused {
                 why: Refusal::Stranger,
                 txn: Some(txn),
             });
         }
-        match self.undone(rt, txn.number) {
+        match self.undone(rt, txn.number()) {
             Ok(()) => {
-                let session = txn.session;
-                txn.spend();
-                pass.is_busy = false;
+                let session = txn.session();
+                spend_token(pass, txn);
                 self.tell(session, Point::Aborted);
                 Ok(())
             }
@@ -420,15 +434,15 @@ impl<D: Device, G: Gate + Drop, J: Naming> Shared<D, G, J> {
         ensures back { IfErr result (λ r. IfSome r.txn (λ t. t ≡ txn)) }
         ensures gone { IfErr result (λ r. (r.txn ≡ None) ↔ (r.why ≡ DeviceFailed)) }
     {
-        if txn.pass != pass.number {
+        if txn.pass() != pass.number() {
             return Err(Refused {
                 why: Refusal::Stranger,
                 txn: Some(txn),
             });
         }
-        let session = txn.session;
+        let session = txn.session();
         let mut locked = self.locked.lock(rt);
-        match locked.commit_begin(txn.number) {
+        match locked.commit_begin(txn.number()) {
             Ok(place) => {
                 let place = self.entered(rt, locked, pass, txn, place)?;
                 self.tell(session, Point::Committed);
@@ -634,8 +648,7 @@ fn lost<J: Naming>(pass: &mut Pass<J>, txn: Txn<J>) -> Refused<J>
     ensures pass { pass.new ≡ pass.old }
     ensures gone { (result.txn ≡ None) × (result.why ≡ DeviceFailed) }
 {
-    txn.spend();
-    pass.is_busy = false;
+    spend_token(pass, txn);
     Refused {
         why: Refusal::DeviceFailed,
         txn: None,

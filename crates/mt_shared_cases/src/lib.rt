@@ -1,6 +1,6 @@
 //! The tests of threads that share a kernel, through public calls of `mt_shared` and `mt_server`. Sixteen of them
 //! commit at once, one sees another's commit while its own transaction is open, and a pass finds what its last
-//! transaction left. Scripts are served by one thread, and by sixteen.
+//! transaction left. Of two scripts that are served one is held while the other commits.
 #![tactic(auto)]
 
 #[cfg(test)]

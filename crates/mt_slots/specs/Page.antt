@@ -71,7 +71,7 @@ pub record IsSlot (page : List ℕ) (low i : ℕ) : Type 0 where
   pub behind : size page i ≢ 0 → low ≤ offset page i
   pub row : size page i ≢ 0 → IsRow page (offset page i) (size page i)
 
--- the records lie behind the table, within the page, and do not overlap
+-- the records lie after the table, within the page, and do not overlap
 pub record IsShaped (page : List ℕ) : Type 0 where
   pub length : length page ≡ PAGE_BYTES
   pub zeros : (i : ℕ) → 2 ≤ i → i < 8 → get_or page i 0 ≡ 0

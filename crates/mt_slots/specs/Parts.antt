@@ -22,7 +22,7 @@ pub record KeepsKey (row : Row) (buffer : List ℕ) (relation n : ℕ) : Type 0 
   pub fits : n < 256
   pub key : part buffer 0 n ≡ row.key
 
--- a record's text lies at a place, slot i's head names it, and all other bytes behind the count stay
+-- a record's text lies at a place, slot i's head names it, and all other bytes after the count stay
 pub record Placed (old new : List ℕ) (i at : ℕ) (text : List ℕ) (n : ℕ) : Type 0 where
   pub len : length new ≡ length old
   pub counted : count new ≡ n

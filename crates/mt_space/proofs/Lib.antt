@@ -1,3 +1,4 @@
 pub mod Counting
 pub mod Maps
 pub mod Changing
+pub mod MapLemmas

@@ -2,8 +2,7 @@
 //! which are free. Of the free ones some are reserved for operations under way and their inverses.
 //!
 //! A reservation names no page: it says that so many free pages are kept for who asked. Reserved pages are
-//! never more than the free ones, so a page can always be taken for a reservation. The free page with the
-//! smallest number is found by groups of pages, without a walk over all of them.
+//! never more than the free ones, so a page can always be taken for a reservation.
 #![tactic(auto)]
 
 mod changes;

@@ -4,7 +4,7 @@ use Rattle.std.proofs.lemmas.Bool.{cases_eq}
 use Rattle.mt_base.specs.declared.numbers.RecordName.{RecordName}
 use Rattle.mt_slots.specs.Page.{Fits, Row}
 use Rattle.mt_space.specs.Changes.{PageBytes}
-use Rattle.mt_space.specs.Kinds.{kind}
+use Rattle.mt_space.specs.Kinds.{kind, IsMap}
 use Rattle.mt_file.specs.File.{record_in, Touches, Adds, Drops, Stays as StaysThere, Puts, Moves}
 use Rattle.mt_file.proofs.Filed.{record_kind}
 use Rattle.mt_index.specs.Maps.{Map, alter}
@@ -88,14 +88,14 @@ base_same pages b c same h = record {
 -- the pages that an insert leaves are as good as before
 pub inserts_good : (relations total : ℕ) (pages mid last : PageBytes) (m : Map) (p s r : ℕ) (k v : List ℕ) → AreRows relations total pages m → m r k ≡ None
     → Fits relations 1024 (record { relation = r; key = k; value = v }) → Adds pages mid p s (record { relation = r; key = k; value = v }) → StaysFile mid last
-    → AreMap total last (alter m r k (Some (record { page = p; slot = s }))) → AreFormed relations total last → kind last 2 ≡ 1 → AreRows relations total last (alter m r k (Some (record { page = p; slot = s })))
-inserts_good relations total pages mid last m p s r k v rows none fits adds kept map formed counters_fixed = record {
+    → AreMap total last (alter m r k (Some (record { page = p; slot = s }))) → AreFormed relations total last → IsMap total last → AreRows relations total last (alter m r k (Some (record { page = p; slot = s })))
+inserts_good relations total pages mid last m p s r k v rows none fits adds kept map formed is_map = record {
   file = file_stays mid last kept adds.file;
   within = within_stays relations 1024 mid last kept (adds.within relations 1024 rows.within fits);
   index = map;
   formed = formed;
   named = named_same mid last (alter m r k (Some (record { page = p; slot = s }))) (records_stay mid last kept) (names_put pages mid m p s r k None (Some v) rows.named adds.free (none_lone pages m p s r k rows.named none) adds.puts);
-  counters_fixed = counters_fixed;
+  map = is_map;
 }
 
 -- and hold the base with the row
@@ -110,14 +110,14 @@ inserts_base relations total pages mid last m b p s r k v rows held none adds ke
 -- the pages that a delete leaves are as good as before
 pub deletes_good : (relations total : ℕ) (pages mid last : PageBytes) (m : Map) (n : RecordName) (r : ℕ) (k v : List ℕ) → AreRows relations total pages m → m r k ≡ Some n
     → record_in pages n.page n.slot ≡ Some (record { relation = r; key = k; value = v }) → Drops pages mid n.page n.slot → StaysFile mid last
-    → AreMap total last (alter m r k None) → AreFormed relations total last → kind last 2 ≡ 1 → AreRows relations total last (alter m r k None)
-deletes_good relations total pages mid last m n r k v rows is stood drops kept map formed counters_fixed = record {
+    → AreMap total last (alter m r k None) → AreFormed relations total last → IsMap total last → AreRows relations total last (alter m r k None)
+deletes_good relations total pages mid last m n r k v rows is stood drops kept map formed is_map = record {
   file = file_stays mid last kept drops.file;
   within = within_stays relations 1024 mid last kept (drops.within relations 1024 rows.within);
   index = map;
   formed = formed;
   named = named_same mid last (alter m r k None) (records_stay mid last kept) (names_put pages mid m n.page n.slot r k (Some v) None rows.named stood (name_lone pages m r k n rows.named is) drops.puts);
-  counters_fixed = counters_fixed;
+  map = is_map;
 }
 
 -- and hold the base without the row
@@ -152,8 +152,8 @@ same_map pages x y e a = subst (AreNamed pages) (λ i q l. e q l i) a
 -- the record stays under its name: the pages are as good as before
 pub updates_good : (relations total : ℕ) (pages last : PageBytes) (m : Map) (n : RecordName) (r : ℕ) (k v w : List ℕ) → AreRows relations total pages m → m r k ≡ Some n
     → record_in pages n.page n.slot ≡ Some (record { relation = r; key = k; value = v }) → Fits relations 1024 (record { relation = r; key = k; value = w })
-    → StaysThere pages last n.page n.slot (record { relation = r; key = k; value = w }) → kind last 2 ≡ 1 → AreRows relations total last m
-updates_good relations total pages last m n r k v w rows is stood fits stays counters_fixed =
+    → StaysThere pages last n.page n.slot (record { relation = r; key = k; value = w }) → IsMap total last → AreRows relations total last m
+updates_good relations total pages last m n r k v w rows is stood fits stays is_map =
     let leaves = stays_index total pages last m n.page n.slot (record { relation = r; key = k; value = w }) rows.index (record_kind pages n.page n.slot (record { relation = r; key = k; value = v }) stood) stays in
     record {
       file = stays.file;
@@ -161,7 +161,7 @@ updates_good relations total pages last m n r k v w rows is stood fits stays cou
       index = index_stays total pages last m rows.index leaves;
       formed = form_stays relations total pages last m rows.index rows.formed leaves;
       named = same_map last (alter m r k (Some n)) m (alter_same m r k n is) (names_put pages last m n.page n.slot r k (Some v) (Some w) rows.named stood (name_lone pages m r k n rows.named is) stays.puts);
-      counters_fixed = counters_fixed;
+      map = is_map;
     }
 
 -- and hold the base with the other value
@@ -182,8 +182,8 @@ lone_between pages between m n q t r k v named is stood puts =
 pub moves_good : (relations total : ℕ) (pages mid last : PageBytes) (m : Map) (n to : RecordName) (r : ℕ) (k v w : List ℕ) → AreRows relations total pages m → m r k ≡ Some n
     → record_in pages n.page n.slot ≡ Some (record { relation = r; key = k; value = v }) → Fits relations 1024 (record { relation = r; key = k; value = w })
     → Moves pages mid n.page n.slot to.page to.slot (record { relation = r; key = k; value = w }) → StaysFile mid last
-    → AreMap total last (alter m r k (Some to)) → AreFormed relations total last → kind last 2 ≡ 1 → AreRows relations total last (alter m r k (Some to))
-moves_good relations total pages mid last m n to r k v w rows is stood fits moves kept map formed counters_fixed = record {
+    → AreMap total last (alter m r k (Some to)) → AreFormed relations total last → IsMap total last → AreRows relations total last (alter m r k (Some to))
+moves_good relations total pages mid last m n to r k v w rows is stood fits moves kept map formed is_map = record {
   file = file_stays mid last kept moves.adds.file;
   within = within_stays relations 1024 mid last kept (moves.adds.within relations 1024 (moves.drops.within relations 1024 rows.within) fits);
   index = map;
@@ -193,7 +193,7 @@ moves_good relations total pages mid last m n to r k v w rows is stood fits move
       (names_put moves.between mid (alter m r k None) to.page to.slot r k None (Some w)
       (names_put pages moves.between m n.page n.slot r k (Some v) None rows.named stood (name_lone pages m r k n rows.named is) moves.drops.puts)
       moves.adds.free (lone_between pages moves.between m n to.page to.slot r k v rows.named is stood moves.drops.puts) moves.adds.puts));
-  counters_fixed = counters_fixed;
+  map = is_map;
 }
 
 pub moves_base : (relations total : ℕ) (pages mid last : PageBytes) (m : Map) (b : Base) (n to : RecordName) (r : ℕ) (k v w : List ℕ) → AreRows relations total pages m → HoldsRows pages b → m r k ≡ Some n

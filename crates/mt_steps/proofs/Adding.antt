@@ -4,6 +4,8 @@ use Rattle.std.proofs.lemmas.Bool.{cases_eq, eq-eqb, ne_eqb}
 use Rattle.mt_base.specs.Ranges.{Torn}
 use Rattle.mt_space.specs.Changes.{PageBytes, replaced}
 use Rattle.mt_space.proofs.Changing.{replaced_here, replaced_other}
+use Rattle.mt_space.proofs.MapLemmas.{map_same}
+use Rattle.mt_steps.proofs.Counted.{two_fixed}
 use Rattle.mt_space.specs.Kinds.{kind}
 use Rattle.mt_index.specs.Maps.{Map}
 use Rattle.mt_index.specs.Pages.{LeavesIndex}
@@ -30,7 +32,7 @@ kinds_stay pages new p = ap (λ (c : List ℕ). get_or c p 0) (replaced_other 2 
 leaves : (relations total : ℕ) (pages : PageBytes) (m : Map) (new : List ℕ) → AreRows relations total pages m → LeavesIndex total pages (replaced 2 new pages)
 leaves relations total pages m new rows = record {
   directory = replaced_other 2 1 new pages (omega arith);
-  buckets = λ p two. (kinds_stay pages new p ∙ two, other_page pages new p rows.counters_fixed (λ z. let a : kind pages p ≡ 1 = z in let b : kind pages p ≡ 2 = two in omega (arith, a, b)));
+  buckets = λ p two. (kinds_stay pages new p ∙ two, other_page pages new p (two_fixed total pages rows.map) (λ z. let a : kind pages p ≡ 1 = z in let b : kind pages p ≡ 2 = two in omega (arith, a, b)));
   no_more = λ p two. sym (kinds_stay pages new p) ∙ two;
   fixed = λ p one. kinds_stay pages new p ∙ one;
   within = λ p some. rows.index.within p (λ z. some (kinds_stay pages new p ∙ z));
@@ -42,7 +44,7 @@ file_kept relations total pages m new rows = record {
   fixed = kinds_stay pages new 0 ∙ rows.index.space_fixed;
   kinds = λ p three. kinds_stay pages new p ∙ three;
   back = λ p three. sym (kinds_stay pages new p) ∙ three;
-  bytes = λ p three. other_page pages new p rows.counters_fixed (λ z. let a : kind pages p ≡ 1 = z in let b : kind pages p ≡ 3 = three in omega (arith, a, b));
+  bytes = λ p three. other_page pages new p (two_fixed total pages rows.map) (λ z. let a : kind pages p ≡ 1 = z in let b : kind pages p ≡ 3 = three in omega (arith, a, b));
 }
 
 adds_good : (relations total : ℕ) (pages : PageBytes) (m : Map) (new : List ℕ) → AreRows relations total pages m → AreRows relations total (replaced 2 new pages) m
@@ -54,7 +56,7 @@ adds_good relations total pages m new rows =
       index = index_stays total pages (replaced 2 new pages) m rows.index (leaves relations total pages m new rows);
       formed = form_stays relations total pages (replaced 2 new pages) m rows.index rows.formed (leaves relations total pages m new rows);
       named = named_same pages (replaced 2 new pages) m (records_stay pages (replaced 2 new pages) kept) rows.named;
-      counters_fixed = kinds_stay pages new 2 ∙ rows.counters_fixed;
+      map = map_same total pages (replaced 2 new pages) rows.map (kinds_stay pages new);
     }
 
 -- ---- the acts

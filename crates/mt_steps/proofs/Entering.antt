@@ -69,7 +69,7 @@ entered relations total split pages last m first name r k v reply rows none fits
     row_act relations total pages last (alter m r k (Some name)) (Insert r k v) reply counters (λ b. refl)
     (λ b held. ap done_unless (none_held pages m b r k rows.named held none) ∙ sym is)
     (λ b held. inserts_base relations total pages mid last m b name.page name.slot r k v rows held none placed.adds kept)
-    (inserts_good relations total pages mid last m name.page name.slot r k v rows none fits placed.adds kept map formed counters.fixed)
+    (inserts_good relations total pages mid last m name.page name.slot r k v rows none fits placed.adds kept map formed counters.map)
   where
     mid : PageBytes
     mid = after first pages
@@ -80,11 +80,11 @@ entered relations total split pages last m first name r k v reply rows none fits
     between : AreMap total mid m
     between = placed_map relations total pages m first name row rows placed
 
-    at_mid : StaysCounters pages mid
-    at_mid = touches_counters pages mid name.page rows.counters_fixed placed.was placed.adds.touches
+    at_mid : StaysCounters total pages mid
+    at_mid = touches_counters total pages mid name.page rows.map placed.was placed.inside (inl placed.adds.own) placed.adds.touches
 
-    counters : StaysCounters pages last
-    counters = counters_trans pages mid last at_mid (add_counters total mid last at_mid.fixed added.stays)
+    counters : StaysCounters total pages last
+    counters = counters_trans total pages mid last at_mid (add_counters total mid last at_mid.map added.stays)
 
     kept : StaysFile mid last
     kept = add_stays total mid last between.space_fixed between.directory_fixed added.stays
@@ -130,7 +130,7 @@ placed_is at_hand room relations total pages m row answer plan is rows named put
 -- a key that has a value keeps it
 pub found_already : (relations total : ℕ) (pages : PageBytes) (m : Map) (n : RecordName) (r : ℕ) (k v : List ℕ) → AreRows relations total pages m → m r k ≡ Some n → IsAct relations total pages pages (Insert r k v) Exists
 found_already relations total pages m n r k v rows is =
-    row_act relations total pages pages m (Insert r k v) Exists (counters_refl pages rows.counters_fixed) (λ b. refl)
+    row_act relations total pages pages m (Insert r k v) Exists (counters_refl total pages rows.map) (λ b. refl)
     (λ b held. ap done_unless (there b held))
     (λ b held. base_same pages b (alter_row b r k (inserted v)) (λ q l. sym (row_again b q l (there b held))) held)
     rows

@@ -33,7 +33,7 @@ formatted_good relations counters total pages f = record {
       chained = first_chained total pages f.index f.one_bucket;
     };
     named = record { names = λ r k n is. absurd cc; named = λ p s row is. absurd (no_row pages f.no_records p s row is) };
-    counters_fixed = f.counters_fixed;
+    map = f.kinds;
   };
   counts = f.counts;
 }

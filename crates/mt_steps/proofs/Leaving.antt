@@ -77,16 +77,18 @@ left relations total pages last m first n r k v reply rows is taken map others f
     row_act relations total pages last (alter m r k None) (Delete r k) reply counters (λ b. refl)
     (λ b held. ap was (value_held pages m b n r k v held taken.stood) ∙ sym told)
     (λ b held. deletes_base relations total pages (after first pages) last m b n r k v rows held is taken.stood taken.drops kept)
-    (deletes_good relations total pages (after first pages) last m n r k v rows is taken.stood taken.drops kept map formed counters.fixed)
+    (deletes_good relations total pages (after first pages) last m n r k v rows is taken.stood taken.drops kept map formed counters.map)
   where
     space : kind (after first pages) 0 ≡ 1
     space = (taken_map relations total pages m first n (record { relation = r; key = k; value = v }) rows taken).space_fixed
 
-    at_mid : StaysCounters pages (after first pages)
-    at_mid = touches_counters pages (after first pages) n.page rows.counters_fixed (inl (record_kind pages n.page n.slot (record { relation = r; key = k; value = v }) taken.stood)) taken.drops.touches
+    at_mid : StaysCounters total pages (after first pages)
+    at_mid =
+        let three : kind pages n.page ≡ 3 = record_kind pages n.page n.slot (record { relation = r; key = k; value = v }) taken.stood in
+        touches_counters total pages (after first pages) n.page rows.map (inl three) (rows.index.within n.page (λ z. let w : kind pages n.page ≡ 0 = z in omega (arith, three, w))) (zero_or_three pages (after first pages) n.page n.slot taken.drops) taken.drops.touches
 
-    counters : StaysCounters pages last
-    counters = counters_trans pages (after first pages) last at_mid (amends_counters (after first pages) last space at_mid.fixed others)
+    counters : StaysCounters total pages last
+    counters = counters_trans total pages (after first pages) last at_mid (amends_counters total (after first pages) last at_mid.map others)
 
     kept : StaysFile (after first pages) last
     kept = amends_file (after first pages) last space others
@@ -94,7 +96,7 @@ left relations total pages last m first n r k v reply rows is taken map others f
 -- a key without a value stays so
 pub missing_already : (relations total : ℕ) (pages : PageBytes) (m : Map) (r : ℕ) (k : List ℕ) → AreRows relations total pages m → m r k ≡ None → IsAct relations total pages pages (Delete r k) Missing
 missing_already relations total pages m r k rows none =
-    row_act relations total pages pages m (Delete r k) Missing (counters_refl pages rows.counters_fixed) (λ b. refl)
+    row_act relations total pages pages m (Delete r k) Missing (counters_refl total pages rows.map) (λ b. refl)
     (λ b held. ap was (none_held pages m b r k rows.named held none))
     (λ b held. base_same pages b (alter_row b r k deleted) (λ q l. sym (deleted_again b r k (none_held pages m b r k rows.named held none) q l)) held)
     rows

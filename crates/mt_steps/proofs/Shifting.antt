@@ -88,11 +88,11 @@ updates_told relations total pages m b n r k v reply held stood told = ap was (v
 pub kept_act : (relations total : ℕ) (pages : PageBytes) (m : Map) (changes : List PageChange) (n : RecordName) (r : ℕ) (k v w : List ℕ) (reply : Reply) → AreRows relations total pages m → m r k ≡ Some n → Fits relations 1024 (record { relation = r; key = k; value = w })
     → IsKept pages changes n (record { relation = r; key = k; value = v }) (record { relation = r; key = k; value = w }) → reply ≡ Was v → IsAct relations total pages (after changes pages) (Update r k w) reply
 kept_act relations total pages m changes n r k v w reply rows is fits kept told =
-    let counters = stays_counters pages (after changes pages) n.page n.slot (record { relation = r; key = k; value = w }) rows.counters_fixed (record_kind pages n.page n.slot (record { relation = r; key = k; value = v }) kept.stood) kept.stays in
+    let counters = stays_counters total pages (after changes pages) n.page n.slot (record { relation = r; key = k; value = w }) rows.map (record_kind pages n.page n.slot (record { relation = r; key = k; value = v }) kept.stood) kept.stays in
     row_act relations total pages (after changes pages) m (Update r k w) reply counters (λ b. refl)
     (λ b held. updates_told relations total pages m b n r k v reply held kept.stood told)
     (λ b held. updates_base relations total pages (after changes pages) m b n r k v w rows held is kept.stood kept.stays)
-    (updates_good relations total pages (after changes pages) m n r k v w rows is kept.stood fits kept.stays counters.fixed)
+    (updates_good relations total pages (after changes pages) m n r k v w rows is kept.stood fits kept.stays counters.map)
 
 pub moved_act : (relations total : ℕ) (pages last : PageBytes) (m : Map) (changes : List PageChange) (n to : RecordName) (r : ℕ) (k v w : List ℕ) (reply : Reply) → AreRows relations total pages m → m r k ≡ Some n → Fits relations 1024 (record { relation = r; key = k; value = w })
     → IsMoved total pages changes n to (record { relation = r; key = k; value = v }) (record { relation = r; key = k; value = w }) → AreMap total last (alter m r k (Some to)) → ((p : ℕ) → kind (after changes pages) p ≢ 2 → last p ≡ after changes pages p)
@@ -101,7 +101,7 @@ moved_act relations total pages last m changes n to r k v w reply rows is fits m
     row_act relations total pages last (alter m r k (Some to)) (Update r k w) reply counters (λ b. refl)
     (λ b held. updates_told relations total pages m b n r k v reply held moved.stood told)
     (λ b held. moves_base relations total pages mid last m b n to r k v w rows held is moved.stood moved.moves kept)
-    (moves_good relations total pages mid last m n to r k v w rows is moved.stood fits moved.moves kept map formed counters.fixed)
+    (moves_good relations total pages mid last m n to r k v w rows is moved.stood fits moved.moves kept map formed counters.map)
   where
     mid : PageBytes
     mid = after changes pages
@@ -112,15 +112,18 @@ moved_act relations total pages last m changes n to r k v w reply rows is fits m
     space : kind mid 0 ≡ 1
     space = (moved_map relations total pages m changes n to old (record { relation = r; key = k; value = w }) rows moved).0.space_fixed
 
-    at_between : StaysCounters pages moved.moves.between
-    at_between = touches_counters pages moved.moves.between n.page rows.counters_fixed (inl (record_kind pages n.page n.slot old moved.stood)) moved.moves.drops.touches
+    at_between : StaysCounters total pages moved.moves.between
+    at_between =
+        let three : kind pages n.page ≡ 3 = record_kind pages n.page n.slot old moved.stood in
+        touches_counters total pages moved.moves.between n.page rows.map (inl three) (rows.index.within n.page (λ z. let w : kind pages n.page ≡ 0 = z in omega (arith, three, w))) (zero_or_three pages moved.moves.between n.page n.slot moved.moves.drops) moved.moves.drops.touches
 
-    at_mid : StaysCounters pages mid
-    at_mid = counters_trans pages moved.moves.between mid at_between
-        (touches_counters moved.moves.between mid to.page at_between.fixed (to_kind relations total pages moved.moves.between m n to old rows moved.stood moved.moves.drops moved.was).0 moved.moves.adds.touches)
+    at_mid : StaysCounters total pages mid
+    at_mid =
+        let to_is = to_kind relations total pages moved.moves.between m n to old rows moved.stood moved.moves.drops moved.was in
+        counters_trans total pages moved.moves.between mid at_between (touches_counters total moved.moves.between mid to.page at_between.map to_is.0 to_is.1 (inl moved.moves.adds.own) moved.moves.adds.touches)
 
-    counters : StaysCounters pages last
-    counters = counters_trans pages mid last at_mid (amends_counters mid last space at_mid.fixed others)
+    counters : StaysCounters total pages last
+    counters = counters_trans total pages mid last at_mid (amends_counters total mid last at_mid.map others)
 
     kept : StaysFile mid last
     kept = amends_file mid last space others
@@ -136,7 +139,7 @@ moved_here relations total pages m changes n r k v w reply rows is fits moved to
 -- a key without a value stays so
 pub update_misses : (relations total : ℕ) (pages : PageBytes) (m : Map) (r : ℕ) (k w : List ℕ) → AreRows relations total pages m → m r k ≡ None → IsAct relations total pages pages (Update r k w) Missing
 update_misses relations total pages m r k w rows none =
-    row_act relations total pages pages m (Update r k w) Missing (counters_refl pages rows.counters_fixed) (λ b. refl)
+    row_act relations total pages pages m (Update r k w) Missing (counters_refl total pages rows.map) (λ b. refl)
     (λ b held. ap was (none_held pages m b r k rows.named held none))
     (λ b held. base_same pages b (alter_row b r k (updated w)) (λ q l. sym (updated_again b r k w (none_held pages m b r k rows.named held none) q l)) held)
     rows

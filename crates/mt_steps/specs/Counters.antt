@@ -20,7 +20,7 @@ place_of c = COUNTERS_HEAD_BYTES + COUNTER_BYTES * c
 abbrev pub count_in : List ℕ → ℕ → Count
 count_in page c = record { low = i64_at page (place_of c); high = i64_at page (place_of c + 8); number = i64_at page (place_of c + 16) }
 
--- a counters page of a schema of so many relations and counters; what lies behind the last counter is open
+-- a counters page of a schema of so many relations and counters; what lies after the last counter is open
 pub record AreCounters (relations counters : ℕ) (page : List ℕ) : Type 0 where
   pub size : length page ≡ PAGE_BYTES
   pub relations_told : get_or page 0 0 ≡ relations

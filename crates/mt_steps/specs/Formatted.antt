@@ -3,7 +3,7 @@ use Rattle.std.specs.Prelude.{◌≡◌, ◌≢◌, ℕ, length, None}
 use Rattle.mt_base.specs.declared.limits.TheConstants.{PAGE_BYTES}
 use Rattle.mt_bucket.specs.Page.{IsBucket}
 use Rattle.mt_space.specs.Changes.{PageBytes}
-use Rattle.mt_space.specs.Kinds.{kind}
+use Rattle.mt_space.specs.Kinds.{kind, IsMap}
 use Rattle.mt_index.specs.Pages.{IsDirectory, IsEmpty}
 use Rattle.mt_model.specs.Model.{Base}
 use Rattle.mt_steps.specs.Counters.{count_in, AreCounters}
@@ -16,7 +16,7 @@ pub record IsFormatted (relations counters total : ℕ) (pages : PageBytes) : Ty
   pub bucket : IsBucket relations total (pages 3)
   pub one_bucket : (p : ℕ) → kind pages p ≡ 2 → p ≡ 3
   pub no_records : (p : ℕ) → kind pages p ≢ 3
-  pub counters_fixed : kind pages 2 ≡ 1
+  pub kinds : IsMap total pages
   pub counts : AreCounters relations counters (pages 2)
 
 -- the base without rows, with the counters of page 2

@@ -1,6 +1,6 @@
--- What all pages together stand for.
+-- What all pages together represent.
 use Rattle.mt_steps.specs.Counters.{count_in}
-use Rattle.mt_space.specs.Kinds.{kind}
+use Rattle.mt_space.specs.Kinds.{IsMap}
 use Rattle.std.specs.Prelude.{◌≡◌, ℕ, List, Some, ◌<◌, get_or}
 use Rattle.mt_base.specs.declared.limits.TheConstants.{MAX_VALUE_BYTES}
 use Rattle.mt_base.specs.declared.numbers.RecordName.{RecordName}
@@ -20,7 +20,7 @@ pub record HoldsRows (pages : PageBytes) (b : Base) : Type 0 where
   pub found : (r : ℕ) (k v : List ℕ) → b.rows r k ≡ Some v → IsThere pages r k v
   pub there : (r : ℕ) (k v : List ℕ) → IsThere pages r k v → b.rows r k ≡ Some v
 
--- the counters are those of page 2, as many as it tells; what lies behind the last one is open
+-- the counters are those of page 2, as many as it tells; what lies after the last one is open
 abbrev pub HoldsCounts : PageBytes → Base → Type 0
 HoldsCounts pages b = (c : ℕ) → c < get_or (pages 2) 1 0 → b.counts c ≡ count_in (pages 2) c
 
@@ -41,4 +41,4 @@ pub record AreRows (relations total : ℕ) (pages : PageBytes) (m : Map) : Type 
   pub index : AreMap total pages m
   pub formed : AreFormed relations total pages
   pub named : AreNamed pages m
-  pub counters_fixed : kind pages 2 ≡ 1
+  pub map : IsMap total pages

@@ -25,7 +25,7 @@ WaitsFor k n r other = (holder : ℕ) × IsOwnerOf n.running.items holder (Some 
 abbrev pub BeginsAnew : {D : Type 0} → Parts D → Parts D → Running → Type 0
 BeginsAnew k n r = (holder : ℕ) × KeepsPageLocks k n r (Ok (GoingOn (going.Again holder)))
 
--- What a step does to them: what it answers is told as the step of the parts does.
+-- What a step does to them: what it answers is reported as the step of the parts does.
 abbrev pub StepsLocks : {D : Type 0} → Parts D → Parts D → Running → Result Stepped Refusal → Type 0
 StepsLocks k n r (Ok (step.Replied reply)) = KeepsPageLocks k n r (Ok (Ended reply))
 StepsLocks k n r (Ok step.Went) = KeepsPageLocks k n r (Ok (GoingOn going.Went))

@@ -11,7 +11,7 @@ use Rattle.mt_model.specs.declared.history.Committed.{Committed}
 use Rattle.mt_replay.specs.Stands.{CanRestart}
 use Rattle.mt_replay.specs.Told.{tells}
 
--- the book, and behind it the commits under way, in their order
+-- the book, and after it the commits under way, in their order
 abbrev pub all_commits : {D : Type 0} → Parts D → List Committed
 all_commits k = k.book.items ++ in_turn (session_in k.live.members) (txns_of k.commits.items) k.live.standing
 

@@ -1,4 +1,4 @@
--- What a survey tells of a kernel.
+-- What a survey reports of a kernel.
 use Rattle.std.specs.Prelude.{ℕ, ◌≡◌, List, length}
 use Rattle.mt_disk.specs.declared.device.Device.{Ghosts}
 use Rattle.mt_index.specs.Pages.{depth_in}

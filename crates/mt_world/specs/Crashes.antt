@@ -43,7 +43,7 @@ pub record FindsSince {D : Type 0} {g : Ghosts D} (moment : D → ℕ) (left_sin
 -- leaves since the device was another one, before the first kernel stood.
 pub record FoundUntil {D : Type 0} {g : Ghosts D} (seen : D → List ℕ) (may_leave : D → List ℕ → Type 0) (moment : D → ℕ) (left_since : D → ℕ → List ℕ → Type 0) (faults : D → ℕ)
     (since : D) (first : Base) (events : List Event) (answers : List Answer) (k : Kernel D g) (device : D) : Type 0 where
-  -- the kernel behind so many events
+  -- the kernel after so many events
   pub behind : ℕ → Kernel D g
   pub last : behind (length events) ≡ k
   pub goes : (i : ℕ) (event : Event) (answer : Answer) → i < length events
@@ -66,7 +66,7 @@ pub record FoundUntilEnd {D : Type 0} (g : Ghosts D) (seen : D → List ℕ) (ma
   pub ended : HasEnded g seen may_leave moment left_since faults relations counters first events answers device
   pub until : FoundUntil seen may_leave moment left_since faults since first ended.done ended.told ended.kernel device
 
--- until what stands behind all events
+-- until what stands after all events
 abbrev pub FoundTo : {D : Type 0} {g : Ghosts D} (seen : D → List ℕ) (may_leave : D → List ℕ → Type 0) (moment : D → ℕ) (left_since : D → ℕ → List ℕ → Type 0) (faults : D → ℕ) → ℕ → ℕ → D → Base → List Event → List Answer → Standing D g → Type 0
 FoundTo seen may_leave moment left_since faults relations counters since first events answers (Stands n) = FoundUntil seen may_leave moment left_since faults since first events answers n (device_under n)
 FoundTo {g = g} seen may_leave moment left_since faults relations counters since first events answers (Ended device) = FoundUntilEnd g seen may_leave moment left_since faults relations counters since first events answers device
@@ -81,7 +81,7 @@ StandsFirst s c = CanRestart (relations_in s) (length (counters_in s)) c (schema
 abbrev pub BeginsOrStands : Schema → (List ℕ → Type 0) → List ℕ → Type 0
 BeginsOrStands s contents c = FormatBegins s contents c ⊎ StandsFirst s c
 
--- A device was formatted by the schema, and then stood for its first base, whatever a crash left.
+-- A device was formatted by the schema, and then represented its first base, whatever a crash left.
 pub record HasFormatted {D : Type 0} (may_leave : D → List ℕ → Type 0) (moment : D → ℕ) (left_since : D → ℕ → List ℕ → Type 0) (s : Schema) (device formatted : D) : Type 0 where
   pub meanwhile : LeavesOnly moment left_since device formatted (FormatBegins s (may_leave device))
   pub stands : (c : List ℕ) → may_leave formatted c → StandsFirst s c
@@ -106,7 +106,7 @@ pub record BeginsOn {D : Type 0} {g : Ghosts D} (seen : D → List ℕ) (may_lea
 -- what some of the first commits lead to, beginning with the schema's first base.
 pub record FoundFromFormat {D : Type 0} {g : Ghosts D} (seen : D → List ℕ) (may_leave : D → List ℕ → Type 0) (moment : D → ℕ) (left_since : D → ℕ → List ℕ → Type 0) (faults : D → ℕ)
     (s : Schema) (device : D) (events : List Event) (answers : List Answer) (standing : Standing D g) : Type 0 where
-  -- the device behind its format
+  -- the device after its format
   pub formatted : D
   pub format : HasFormatted may_leave moment left_since s device formatted
   pub until : FoundTo seen may_leave moment left_since faults (relations_in s) (length (counters_in s)) formatted (schema_base s) events answers standing

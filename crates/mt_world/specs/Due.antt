@@ -37,7 +37,7 @@ abbrev pub IsCaused : Option Refusal → Refusal → Type 0
 IsCaused cause why = (why ≡ refusal.NoMemory) ⊎ (cause ≡ Some why)
 
 module _ {D : Type 0} {g : Ghosts D} where
-  -- a step of an operation has fewer left behind it where it went on; it waits for another's, or lacks a frame
+  -- a step of an operation has fewer left after it where it went on; it waits for another's, or lacks a frame
   pub record IsStepped (k : Kernel D g) (t : ℕ) (told : StepTold) (n : Kernel D g) : Type 0 where
     pub may : step_cause (is_failed k) k.parts t ≡ None
     pub work : LowersSteps (pages k.parts.operations.store.pool) (Ok told) (steps_in k.parts.running.items t) (steps_in n.parts.running.items t)
@@ -112,7 +112,7 @@ module _ {D : Type 0} {g : Ghosts D} where
   abbrev pub SamePhases : Kernel D g → Kernel D g → Type 0
   SamePhases k n = SameStates k.parts n.parts × SameCommits k.parts n.parts
 
-  -- a commit of the transaction is under way behind the others
+  -- a commit of the transaction is under way after the others
   abbrev pub IsQueued : Kernel D g → ℕ → Kernel D g → Type 0
   IsQueued k t n = (c : CommitUnderWay) × (c.txn ≡ t) × (n.parts.commits.items ≡ k.parts.commits.items ++ c ∷ [])
 
@@ -130,7 +130,7 @@ module _ {D : Type 0} {g : Ghosts D} where
 abbrev pub IsBroken : Answer → Type 0
 IsBroken answer = answer ≡ Refused refusal.DeviceFailed
 
--- behind the first refusal 2 each answer is that
+-- after the first refusal 2 each answer is that
 abbrev pub StayBroken : List Answer → Type 0
 StayBroken [] = ⊤
 StayBroken (answer ∷ answers) = (IsBroken answer → Each IsBroken answers) × StayBroken answers

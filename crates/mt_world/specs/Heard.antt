@@ -1,4 +1,4 @@
--- What a transaction was told, as it is kept in memory.
+-- What was answered to a transaction, as it is kept in memory.
 use Rattle.mt_world.specs.Told.{Told}
 use Rattle.mt_world.specs.declared.ordering.Heard.{Heard}
 

@@ -1,4 +1,4 @@
--- Any list of events, made on a kernel one after the other, and what stands behind them.
+-- Any list of events, made on a kernel one after the other, and what stands after them.
 use Rattle.std.specs.Prelude.{ℕ, ◌≡◌, List, [], ◌∷◌, ◌++◌, Option, None, Some, map, ⊤}
 use Rattle.mt_base.specs.declared.refusal.Refusal.{Refusal}
 use Rattle.mt_base.specs.declared.refusal.Refusal.TheVariants as refusal
@@ -56,9 +56,9 @@ module _ {D : Type 0} {g : Ghosts D} (seen : D → List ℕ) (may_leave : D → 
         → Makes first (events ++ event ∷ []) (answers ++ answer ∷ []) (acts ++ more) z n
 
   -- What ended replied as the model does, one operation after the other, and leads to the base that the pages hold. The book has the
-  -- acknowledged commits in their order, each with the replies that its session was told; and they are what its transactions do alone, one
-  -- after the other. What stands of the others is explained, whoever of them is struck out. Behind the first refusal 2 each answer is that.
-  -- The book, and behind it the commits under way, are all commits that have begun, in the order in which they did. And whatever a crash
+  -- acknowledged commits in their order, each with the replies that its session was given; and they are what its transactions do alone, one
+  -- after the other. What stands of the others is explained, whoever of them is struck out. After the first refusal 2 each answer is that.
+  -- The book, and after it the commits under way, are all commits that have begun, in the order in which they did. And whatever a crash
   -- leaves of the kernel can be restarted from.
   pub record HasRun (first : Base) (events : List Event) (answers : List Answer) (n : Kernel D g) : Type 0 where
     pub acts : List Act
@@ -77,7 +77,7 @@ module _ {D : Type 0} {g : Ghosts D} (seen : D → List ℕ) (may_leave : D → 
     pub restarts : Restarts seen may_leave first n
 
 -- The first of the events ran, and then a rotation was refused and left the device; each later event was refused with 2. The
--- device stands for what the book leads to, unless it failed.
+-- device represents what the book leads to, unless it failed.
 pub record HasEnded {D : Type 0} (g : Ghosts D) (seen : D → List ℕ) (may_leave : D → List ℕ → Type 0) (moment : D → ℕ) (left_since : D → ℕ → List ℕ → Type 0) (faults : D → ℕ)
     (relations counters : ℕ) (first : Base) (events : List Event) (answers : List Answer) (device : D) : Type 0 where
   pub done : List Event
@@ -117,7 +117,7 @@ module _ {D : Type 0} {g : Ghosts D} (seen : D → List ℕ) (may_leave : D → 
   GoesTo (Stands k) event answer next = HasBecome k event answer next
   GoesTo (Ended device) event answer next = (answer ≡ Refused refusal.DeviceFailed) × (next ≡ Ended device)
 
-  -- what stands behind all events
+  -- what stands after all events
   abbrev pub HasRunTo : ℕ → ℕ → Base → List Event → List Answer → Standing D g → Type 0
   HasRunTo relations counters first events answers (Stands n) = HasRun seen may_leave faults first events answers n
   HasRunTo relations counters first events answers (Ended device) = HasEnded g seen may_leave moment left_since faults relations counters first events answers device

@@ -1,4 +1,4 @@
--- What stands behind events.
+-- What stands after events.
 use Rattle.std.specs.Prelude.{◌≡◌}
 use Rattle.mt_disk.specs.declared.device.Device.{Ghosts}
 use Rattle.mt_restart.specs.declared.rotating.NotRotated.{NotRotated}

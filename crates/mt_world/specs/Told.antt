@@ -12,7 +12,7 @@ use Rattle.mt_world.specs.declared.events.Answer.TheVariants.{Begun, Called, Ste
 use Rattle.mt_world.specs.declared.events.Event.{Event}
 use Rattle.mt_world.specs.declared.events.Event.TheVariants.{Begin, Call, Step, Commit}
 
--- whose it is, what it was last told has started, and the operations that it had a reply to
+-- whose it is, what was last reported to it as started, and the operations that it had a reply to
 pub record Told : Type 0 where
   pub session : ℕ
   pub started : Option Op
@@ -25,7 +25,7 @@ abbrev pub replied : Option Op → Reply → List Replied
 replied None reply = []
 replied (Some op) reply = (op, reply) ∷ []
 
--- what one more event with its answer tells of transaction t
+-- what one more event with its answer says of transaction t
 abbrev pub tells : ℕ → Told → Event → Answer → Told
 tells t told (Begin session) (Begun u) = cond (t == u) (record { session = session; started = None; calls = [] }) told
 tells t told (Call u op) (Called call.Started) = cond (t == u) (record told { started = Some op }) told

@@ -7,8 +7,9 @@ use crate::progress::Progress;
 use mt_cli::perform_words;
 use mt_folder::DiskFolder;
 use std::env;
-use std::fs::File;
+use std::fs::{File, OpenOptions};
 use std::io::{self, ErrorKind, IsTerminal, LineWriter, Write};
+use std::os::fd::AsRawFd;
 use std::process::ExitCode;
 use std::rt::{Files, Runtime};
 use std::sync::Wait;
@@ -19,6 +20,30 @@ const REFUSED: u8 = 1;
 
 /// The status of a command line with a word that is no text.
 const MISUSED: u8 = 2;
+
+/// A file that is nothing, which stands in for a standard stream.
+const NOTHING: &str = "/dev/null";
+
+/// The number of the standard input, and of the last of the standard streams.
+const INPUT: i32 = 0;
+
+const LAST_STREAM: i32 = 2;
+
+/// Opens nothing under the lowest free number if that is one of a standard stream. It is opened the wrong way round, so
+/// that a stream which the program was started without is still one that cannot be read or written.
+fn stand_in<R: Files<File = File>>(rt: &R) -> Option<File> {
+    let to_write = OpenOptions::new().write(true).open(rt, NOTHING).ok()?;
+    if to_write.as_raw_fd() == INPUT {
+        return Some(to_write);
+    }
+    drop(to_write);
+    let to_read = OpenOptions::new().read(true).open(rt, NOTHING).ok()?;
+    if to_read.as_raw_fd() <= LAST_STREAM {
+        Some(to_read)
+    } else {
+        None
+    }
+}
 
 /// Does what the command line asks for, with this output and error output and the input and files of the system. It
 /// gives the status. How far a run has come is told as `progress` says. It fails where a word is not UTF-8, and where
@@ -54,9 +79,7 @@ fn done<
 /// Tells why the command line is not read, and gives the status.
 fn unread<W: Write>(err: &mut W, why: ErrorKind) -> u8 {
     let text: &[u8] = match why {
-        ErrorKind::OutOfMemory => {
-            b"refused 1 NoMemory\nmtk: there is not enough memory; `run` takes less with fewer frames\n"
-        }
+        ErrorKind::OutOfMemory => { b"refused 1 NoMemory\nmtk: there is not enough memory\n" }
         _ => b"error: a word of the command line is not UTF-8\n",
     };
     // where that cannot be told either, the status alone tells it
@@ -68,6 +91,8 @@ fn unread<W: Write>(err: &mut W, why: ErrorKind) -> u8 {
 }
 
 fn main(rt: HostRuntime) -> io::Result<ExitCode> {
+    // no file of ours gets the number of a standard stream, so nothing that is printed goes into a device
+    let _streams = (stand_in(&rt), stand_in(&rt), stand_in(&rt));
     let progress = Progress::new(rt.stderr(), rt.stderr().is_terminal());
     match done(&rt, rt.stdout(), &mut rt.stderr(), progress) {
         Ok(status) => Ok(ExitCode::from(status)),

@@ -1,5 +1,5 @@
 use Rattle.mt_live.specs.Machine.{start}
-use Rattle.mt_shared.proofs.Living.{nobody}
+use Rattle.mt_restart.proofs.Living.{nobody}
 use Rattle.mt_cli.proofs.DumpLemmas.{ok_both, tells_of, unmade_of}
 use Rattle.mt_cli.proofs.dumping.survey_opened.Goals as goal
 

@@ -7,4 +7,4 @@ use Rattle.mt_cli.proofs.performing.finish.Goals as goal
 pub returns-clause-told : goal.returns-clause-told
 returns-clause-told g c = λ other.
     let is : MatchResult c.args.done (λ u. c.match-done.fault ≡ Output) (λ f. c.match-done.fault ≡ f) = search rules in
-    told_as c.args.command.now _ _ c.args.done c.match-done.fault is c.tell.ensures
+    told_as c.args.command.now c.args.reason.now _ _ c.args.done c.match-done.fault is c.tell.ensures

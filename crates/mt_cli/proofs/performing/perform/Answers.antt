@@ -10,7 +10,8 @@ returns-clause-done g c = λ zero.
 
 pub returns-clause-given_up : goal.returns-clause-given_up
 returns-clause-given_up g c = λ other.
-    given_up_of _ c.args.command.now _ _ _ _ _ _ c.do_command-done.result c.do_command-done.ensures.done c.do_command-done.ensures.undone c.finish.ensures.kept (c.finish.ensures.told other)
+    let told = rw c.reason.ensures at (c.finish.ensures.told other) in
+    given_up_of _ c.args.command.now _ _ _ _ _ _ _ c.do_command-done.result c.do_command-done.ensures.done c.do_command-done.ensures.undone c.finish.ensures.kept told
 
 pub returns-clause-told : goal.returns-clause-told
-returns-clause-told g c = λ other. (c.finish.ensures.status other, is_told c.args.command.now _ _ c.do_command-done.result (c.finish.ensures.told other))
+returns-clause-told g c = λ other. (c.finish.ensures.status other, is_told c.args.command.now _ _ _ c.do_command-done.result (c.finish.ensures.told other))

@@ -1,6 +1,6 @@
 use Rattle.std.proofs.Common.{refl}
 use Rattle.std.proofs.KnownBytes.{Keeps-refl}
-use Rattle.mt_server.specs.declared.running.RunFault.TheVariants.{Output, Refused}
+use Rattle.mt_alone.specs.declared.running.RunFault.TheVariants.{Output, Refused}
 use Rattle.mt_cli.proofs.Trials.{short_of, tried_of}
 use Rattle.mt_cli.specs.Performs.{unmade, cut}
 use Rattle.mt_cli.proofs.performing.run_over.Goals as goal

@@ -3,7 +3,7 @@ use Rattle.std.proofs.KnownBytes.{Keeps-refl}
 use Rattle.std.proofs.lemmas.List.{length-map}
 use Rattle.std.proofs.lemmas.Result.{IfErr-weaker, on_ok_weaker}
 use Rattle.mt_restart.specs.Resumed.{IsOpened}
-use Rattle.mt_server.specs.Sessions.{lines_in}
+use Rattle.mt_alone.specs.Sessions.{lines_in}
 use Rattle.mt_cli.proofs.DumpLemmas.{barred_by, stands_same}
 use Rattle.mt_cli.proofs.ServeLemmas.{err_through, ok_through, on_base}
 use Rattle.mt_cli.specs.Serves.{cut_among, not_begun, too_many}

@@ -22,7 +22,7 @@ loop-step-preserved c =
     let size = c.loop-step.invariant.size in
     marking_more _ _ _ _ _ _ _ _ _ c.loop-step.invariant (λ e. c.if-get-eq0.false (c.get.ensures ∙ e)) (omega (arith, follows.1, size, c.requires.size)) follows.0 follows.2 (c.depth-bits.ensures ∙ ap depth_of c.page_at.ensures.is) follows.3
     (ap (λ (i : ℕ). set c.loop-step.homes i c.get-in-loop-step.result) (c.from.ensures ∙ c.get-in-loop-step-2.ensures) ∙ ap (λ (b : ℕ). set c.loop-step.homes c.loop-step.at b) c.get-in-loop-step.ensures)
-    (c.next-at.ensures ∙ ap next_of c.page_at-in-loop-step.ensures.is)
+    (c.next-at.ensures ∙ ap next_of c.page_at-in-loop-step.ensures.is) (c.requires.nexts _ follows.0)
 
 pub returns-then-get-eq0-2-clause-marks : goal.returns-then-get-eq0-2-clause-marks
 returns-then-get-eq0-2-clause-marks c = marking_marks _ _ _ _ _ _ c.loop-step.invariant

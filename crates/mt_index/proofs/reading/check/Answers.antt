@@ -1,8 +1,8 @@
 use Rattle.std.proofs.Common.{◌∙◌, ap, subst, sym}
 use Rattle.mt_index.specs.Pages.{IsDirectory}
 use Rattle.mt_index.specs.Checks.{bytes_of}
-use Rattle.mt_index.specs.Broken.{map_broken, directory_broken, pointers_broken, bytes_broken}
-use Rattle.mt_index.proofs.Sounds.{sound_pointer}
+use Rattle.mt_index.specs.Broken.{map_broken, directory_broken, next_broken, pointers_broken, bytes_broken}
+use Rattle.mt_index.proofs.Sounds.{sound_nexts, sound_pointer}
 use Rattle.mt_index.proofs.reading.check.Goals as goal
 
 pub returns-then-not-are_kinds-clause-named : goal.returns-then-not-are_kinds-clause-named
@@ -14,6 +14,12 @@ returns-then-not-check_directory-clause-named c = directory_broken c.new-then-no
 
 pub returns-in-Some-clause-named : goal.returns-in-Some-clause-named
 returns-in-Some-clause-named c = bytes_broken c.in-Some.ensures.0 c.in-Some.ensures.1
+
+pub returns-in-Some-first_misled-clause-found : goal.returns-in-Some-first_misled-clause-found
+returns-in-Some-first_misled-clause-found c = λ x. c.in-Some-first_misled.ensures.1 (sound_nexts _ _ _ x _ c.in-Some-first_misled.ensures.0)
+
+pub returns-in-Some-first_misled-clause-named : goal.returns-in-Some-first_misled-clause-named
+returns-in-Some-first_misled-clause-named c = next_broken c.in-Some-first_misled.ensures.0 c.in-Some-first_misled.ensures.1
 
 pub returns-then-not-are_pointers-clause-found : goal.returns-then-not-are_pointers-clause-found
 returns-then-not-are_pointers-clause-found c = λ x. c.if-not-are_pointers.ensures (λ i lt. sound_pointer _ _ _ x i lt)

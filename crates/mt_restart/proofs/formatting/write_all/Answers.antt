@@ -57,3 +57,6 @@ returns g c =
       tears = search rules;
       cause = search rules;
     }
+
+pub close_slots-requires : goal.close_slots-requires
+close_slots-requires g c = omega arith

@@ -3,7 +3,7 @@ use Rattle.mt_mark.specs.declared.view.Entry.{Entry}
 use Rattle.mt_server.specs.Hearing.{Running, between, within}
 use Rattle.mt_server.proofs.AttemptLemmas.{few_ran, run_fresh}
 use Rattle.mt_script.specs.declared.lines.Line.TheVariants.{Begin}
-use Rattle.mt_shared.specs.Seen.{PassSeen}
+use Rattle.mt_locked.specs.Seen.{PassSeen}
 use Rattle.mt_server.proofs.attempts.run_once.Goals as goal
 
 pub returns-in-Ok-tell_begun-clause-runs : goal.returns-in-Ok-tell_begun-clause-runs

@@ -1,7 +1,7 @@
 use Rattle.std.proofs.Common.{arith, ap, length, map, refl, sym, ◌∙◌}
 use Rattle.mt_server.proofs.ServingLemmas.{board_told}
-use Rattle.mt_server.specs.Sessions.{lines_in}
-use Rattle.mt_shared.specs.Whole.{all_own}
+use Rattle.mt_alone.specs.Sessions.{lines_in}
+use Rattle.mt_locked.specs.Whole.{all_own}
 use Rattle.mt_txn.specs.Shown.{is_failed}
 use Rattle.mt_server.proofs.serving.close.Goals as goal
 

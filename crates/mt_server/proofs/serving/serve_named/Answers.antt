@@ -3,8 +3,8 @@ use Rattle.std.proofs.lemmas.List.{length-map}
 use Rattle.mt_model.specs.declared.tables.Base.{Base}
 use Rattle.mt_server.proofs.ServingLemmas.{blank_board}
 use Rattle.mt_server.specs.Crews.{IsBlank, IsBoard}
-use Rattle.mt_server.specs.Sessions.{lines_in}
-use Rattle.mt_shared.specs.Began.{BeganOn}
+use Rattle.mt_alone.specs.Sessions.{lines_in}
+use Rattle.mt_locked.specs.Began.{BeganOn}
 use Rattle.mt_server.proofs.serving.serve_named.Goals as goal
 
 pub close-requires : goal.close-requires

@@ -5,7 +5,7 @@ use Rattle.mt_script.specs.declared.answers.Answer.TheVariants.{Replied}
 use Rattle.mt_script.specs.declared.lines.Line.TheVariants as line
 use Rattle.mt_server.specs.Hearing.{Telling, Turning}
 use Rattle.mt_server.proofs.HearingLemmas.{same_turning, told_refused, told_reply}
-use Rattle.mt_shared.specs.Seen.{with_call}
+use Rattle.mt_locked.specs.Seen.{with_call}
 use Rattle.mt_server.proofs.turning.call.Goals as goal
 
 pub returns-in_default-clause-turns : goal.returns-in_default-clause-turns

@@ -1,5 +1,5 @@
 use Rattle.std.proofs.Common.{refl}
-use Rattle.mt_server.proofs.TranscriptLemmas.{reply_told}
+use Rattle.mt_alone.proofs.TranscriptLemmas.{reply_told}
 use Rattle.mt_server.proofs.turning.replied.Goals as goal
 
 pub returns-in-Ok-clause-tells : goal.returns-in-Ok-clause-tells

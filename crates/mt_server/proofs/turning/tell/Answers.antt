@@ -1,5 +1,5 @@
 use Rattle.std.proofs.Common.{◌++◌, ap, sym, ◌∙◌}
-use Rattle.mt_server.proofs.TranscriptLemmas.{text_one}
+use Rattle.mt_alone.proofs.TranscriptLemmas.{text_one}
 use Rattle.mt_server.proofs.turning.tell.Goals as goal
 
 pub returns-in-Ok-clause-ok : goal.returns-in-Ok-clause-ok

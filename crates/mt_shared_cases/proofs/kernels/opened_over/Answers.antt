@@ -1,4 +1,4 @@
-use Rattle.mt_shared.proofs.Keeping.{began_so}
+use Rattle.mt_locked.proofs.Keeping.{began_so}
 use Rattle.mt_shared_cases.proofs.kernels.opened_over.Goals as goal
 
 pub new-requires-clause-began : goal.new-requires-clause-began

@@ -43,7 +43,7 @@ returns-in-Missing g c = record {
   mode = search rules;
   made = λ relations pages agrees m rows.
       nothing_changes relations (g.V.Pages.total c.args.views.now) pages c.new.result.list.items _ _ c.new.ensures
-      (row_act relations (g.V.Pages.total c.args.views.now) pages pages m (Get c.args.relation c.args.key.now) Missing (counters_refl pages rows.counters_fixed) (λ b. refl)
+      (row_act relations (g.V.Pages.total c.args.views.now) pages pages m (Get c.args.relation c.args.key.now) Missing (counters_refl (g.V.Pages.total c.args.views.now) pages rows.map) (λ b. refl)
       (λ b held. ap found (none_held pages m b c.args.relation c.args.key.now rows.named held (c.in-Missing.ensures.missing pages agrees m rows.index)))
       (λ b held. held) rows);
   quiet = search rules;
@@ -107,7 +107,7 @@ returns-in_ok-value-in-Record g c = record {
       let told = c.in-Record.ensures pages agrees rows.file (record_kind pages name.page name.slot _ named.1) in
       let same : named.0 ≡ c.in-Record.row.value.now = value_of _ _ _ (sym named.1 ∙ told) in
       nothing_changes relations (g.V.Pages.total c.args.views.now) pages c.new-in-Record.result.list.items _ _ c.new-in-Record.ensures
-      (row_act relations (g.V.Pages.total c.args.views.now) pages pages m (Get c.args.relation c.args.key.now) (Found c.in_ok-value-in-Record.value) (counters_refl pages rows.counters_fixed) (λ b. refl)
+      (row_act relations (g.V.Pages.total c.args.views.now) pages pages m (Get c.args.relation c.args.key.now) (Found c.in_ok-value-in-Record.value) (counters_refl (g.V.Pages.total c.args.views.now) pages rows.map) (λ b. refl)
       (λ b held. ap found (value_held pages m b name c.args.relation c.args.key.now named.0 held named.1) ∙ ap Found (same ∙ sym c.in_ok-value-in-Record.ensures))
       (λ b held. held) rows);
   quiet = search rules;

@@ -70,10 +70,10 @@ update-requires-clause-value_fits g c =
     ∥∥₁_elim c.requires.good (hlevel props) (λ (relations, counters, has, within, few). let inside = subst (λ (o : Op). IsWithin relations counters o) (sym is) within in inside.2)
 
 pub add_to-requires-clause-inside : goal.add_to-requires-clause-inside
-add_to-requires-clause-inside g c = ∥∥₁_elim c.requires.good (hlevel props) (λ (relations, counters, has, within, few). has.2.rows.index.within 2 (λ zero. let one = has.2.rows.counters_fixed in omega (arith, one, zero)))
+add_to-requires-clause-inside g c = ∥∥₁_elim c.requires.good (hlevel props) (λ (relations, counters, has, within, few). has.2.rows.index.within 2 (λ zero. let one = (has.2.rows.map 2).fixed (omega arith) in omega (arith, one, zero)))
 
 pub read_from-requires-clause-inside : goal.read_from-requires-clause-inside
-read_from-requires-clause-inside g c = ∥∥₁_elim c.requires.good (hlevel props) (λ (relations, counters, has, within, few). has.2.rows.index.within 2 (λ zero. let one = has.2.rows.counters_fixed in omega (arith, one, zero)))
+read_from-requires-clause-inside g c = ∥∥₁_elim c.requires.good (hlevel props) (λ (relations, counters, has, within, few). has.2.rows.index.within 2 (λ zero. let one = (has.2.rows.map 2).fixed (omega arith) in omega (arith, one, zero)))
 
 pub read_from-requires-clause-there : goal.read_from-requires-clause-there
 read_from-requires-clause-there g c = ∥∥₁_elim c.requires.good (hlevel props) (λ (relations, counters, has, within, few).
@@ -87,12 +87,12 @@ add_to-requires-clause-step g c =
 
 pub returns-in-Add-clause-lock : goal.returns-in-Add-clause-lock
 returns-in-Add-clause-lock g c =
-    let inside : 2 < g.V.Pages.total c.args.views.now = ∥∥₁_elim c.requires.good (hlevel props) (λ (relations, counters, has, within, few). has.2.rows.index.within 2 (λ zero. let one = has.2.rows.counters_fixed in omega (arith, one, zero))) in
+    let inside : 2 < g.V.Pages.total c.args.views.now = ∥∥₁_elim c.requires.good (hlevel props) (λ (relations, counters, has, within, few). has.2.rows.index.within 2 (λ zero. let one = (has.2.rows.map 2).fixed (omega arith) in omega (arith, one, zero))) in
     IfOk-weaker c.add_to.result _ _ (λ act. two_inside (g.V.Pages.at_hand c.args.views.now) (g.V.Pages.total c.args.views.now) act inside) c.add_to.ensures.lock
 
 pub returns-in-Read-clause-lock : goal.returns-in-Read-clause-lock
 returns-in-Read-clause-lock g c =
-    let inside : 2 < g.V.Pages.total c.args.views.now = ∥∥₁_elim c.requires.good (hlevel props) (λ (relations, counters, has, within, few). has.2.rows.index.within 2 (λ zero. let one = has.2.rows.counters_fixed in omega (arith, one, zero))) in
+    let inside : 2 < g.V.Pages.total c.args.views.now = ∥∥₁_elim c.requires.good (hlevel props) (λ (relations, counters, has, within, few). has.2.rows.index.within 2 (λ zero. let one = (has.2.rows.map 2).fixed (omega arith) in omega (arith, one, zero))) in
     two_inside (g.V.Pages.at_hand c.args.views.now) (g.V.Pages.total c.args.views.now) c.read_from.result inside c.read_from.ensures.lock
 
 pub returns-in-Get-clause-made : goal.returns-in-Get-clause-made

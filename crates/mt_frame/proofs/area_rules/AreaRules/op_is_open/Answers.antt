@@ -4,4 +4,4 @@ use Rattle.mt_frame.proofs.area_rules.AreaRules.op_is_open.Goals as goal
 
 pub returns-in-Page : goal.returns-in-Page
 returns-in-Page c = λ earlier k.
-    rw (c.in-Page.is, c.contains.ensures, c.get.ensures, c.get-in-Page.ensures) (ap not (k.over c.in-Page.txn c.in-Page.op))
+    rw (c.in-Page.is, c.contains.ensures, c.get.ensures) (ap not (k.over c.in-Page.op))

@@ -5,7 +5,7 @@ use Rattle.mt_index.specs.Checks.{bytes_of, IsSound}
 use Rattle.mt_steps.specs.Counters.{AreCounters}
 use Rattle.mt_steps.specs.Plans.{IsGood}
 use Rattle.mt_replay.specs.Checks.{AreRecordPages, HasSchema}
-use Rattle.mt_replay.specs.Faults.{in_index, malformed, misnaming, tells_none, breaks}
+use Rattle.mt_replay.specs.Faults.{in_index, malformed, misnaming, map_broken, tells_none, breaks}
 use Rattle.mt_replay.proofs.Checked.{all_checked, good_names, good_pages, good_sound, last_look, page_is, unlisted_named}
 use Rattle.mt_replay.proofs.checking.AllPages.first_broken.Goals as goal
 
@@ -41,7 +41,7 @@ returns-clause-found c =
     let found = subst (λ (x : List (List ℕ)). MatchOption c.in_ok-page.field-0 (IsSound told.relations (length x) (bytes_of x)) (λ p. IsSound told.relations (length x) (bytes_of x) → ⊥)) c.deref.ensures.value c.in_ok-page.ensures.found in
     let index : IsSound told.relations (length items) (bytes_of items) = subst (λ (o : Option ℕ). MatchOption o (IsSound told.relations (length items) (bytes_of items)) (λ p. IsSound told.relations (length items) (bytes_of items) → ⊥)) c.in_default.is found in
     last_look items c.first_unlisted.result
-    (all_checked items told.relations told.counters c.if-not-has_schema.ensures index c.in_default-first_malformed.ensures c.args.self.now.whole c.in_default-first_misnaming.ensures)
+    (all_checked items told.relations told.counters c.if-not-has_map.ensures c.if-not-has_schema.ensures index c.in_default-first_malformed.ensures c.args.self.now.whole c.in_default-first_misnaming.ensures)
     c.first_unlisted.ensures
 
 pub returns-in-Some-clause-named : goal.returns-in-Some-clause-named
@@ -69,6 +69,12 @@ returns-then-not-has_schema-clause-named c =
     let three : 2 < length items = let some = c.args.self.now.some in omega (arith, some) in
     let page = c.index.result.now in
     let is_page : page ≡ bytes_of items 2 = page_is items 2 page three (c.index.ensures ∙ ap (λ (p : ℕ). get_or items p page) c.from.ensures) in
-    tells_none c.new.ensures (λ r n s.
+    tells_none c.new-then-not-has_schema.ensures (λ r n s.
     let same = c.sizes-told.ensures.schema r n (subst (AreCounters r n) (sym is_page) s.counts) in
     c.if-not-has_schema.ensures (subst (λ (x : ℕ × ℕ). HasSchema items x.0 x.1) (λ i. (sym same.0 i, sym same.1 i)) s))
+
+pub returns-then-not-has_map-clause-found : goal.returns-then-not-has_map-clause-found
+returns-then-not-has_map-clause-found c = λ r n fits good. c.if-not-has_map.ensures good.rows.map
+
+pub returns-then-not-has_map-clause-named : goal.returns-then-not-has_map-clause-named
+returns-then-not-has_map-clause-named c = map_broken c.new.ensures c.if-not-has_map.ensures

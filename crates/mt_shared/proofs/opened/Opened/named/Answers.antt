@@ -1,22 +1,30 @@
-use Rattle.std.proofs.Common.{◌≡◌, ◌∙◌, Bool, true, false, [], ap, subst, sym}
+use Rattle.std.proofs.Common.{◌∙◌, [], ap, subst, sym}
 use Rattle.std.proofs.lemmas.List.{append-nil}
 use Rattle.mt_mark.specs.Rule.{dones, labelled}
 use Rattle.mt_mark.proofs.Fronts.{dones-labelled}
-use Rattle.mt_shared.specs.Began.{BeganOn}
-use Rattle.mt_shared.specs.Seen.{OpenedSeen}
+use Rattle.mt_locked.specs.Began.{BeganOn}
+use Rattle.mt_shared.specs.Opens.{OpenedSeen}
 use Rattle.mt_shared.proofs.opened.Opened.named.Goals as goal
 
 pub returns-in_default-clause-began : goal.returns-in_default-clause-began
 returns-in_default-clause-began g c = let D = g.D.Device in
     subst (λ (x : OpenedSeen). BeganOn D.seen D.may_leave x.base c.into_kernel.result) c.self.view_is c.into_kernel.ensures.began
 
-pub invariant_of-locked : goal.invariant_of-locked
-invariant_of-locked g c = let i = c.self.invariant in
+pub over-requires-clause-name : goal.over-requires-clause-name
+over-requires-clause-name g c = let i = c.self.invariant in
     let mark = ap (λ (x : OpenedSeen). x.mark) c.self.view_is ∙ c.requires.name.0 in
     let base = ap (λ (x : OpenedSeen). x.base) c.self.view_is ∙ c.requires.name.1 in
     let book = ap (λ (x : OpenedSeen). x.book) c.self.view_is ∙ c.requires.name.2 in
-    let n = c.new.ensures in
-    (mark, i.0 ∙ base, n.base ∙ base, i.1, ([], append-nil _ ∙ (ap dones i.2 ∙ (dones-labelled _ ∙ sym n.book))), λ left. absurd (let wrong : ◌≡◌ {A = Bool} true false = sym left ∙ n.is in cc), i.3 ∙ book)
+    (mark, i.0 ∙ base, i.3 ∙ book)
+
+pub over-requires-clause-base : goal.over-requires-clause-base
+over-requires-clause-base g c = ap (λ (x : OpenedSeen). x.base) c.self.view_is ∙ c.requires.name.1
+
+pub over-requires-clause-confirmed : goal.over-requires-clause-confirmed
+over-requires-clause-confirmed g c = c.self.invariant.1
+
+pub over-requires-clause-front : goal.over-requires-clause-front
+over-requires-clause-front g c = ([], append-nil _ ∙ (ap dones c.self.invariant.2 ∙ dones-labelled _))
 
 pub returns-clause-passes : goal.returns-clause-passes
 returns-clause-passes g c = λ k d h. ap dones (c.in-Ok.ensures.each k d h).seen ∙ (dones-labelled _ ∙ sym c.requires.name.2)

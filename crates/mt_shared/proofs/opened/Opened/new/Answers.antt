@@ -1,7 +1,7 @@
 use Rattle.std.proofs.Common.{List, subst, sym}
 use Rattle.mt_mark.specs.Legal.{IsLegal}
 use Rattle.mt_model.specs.declared.history.Committed.{Committed}
-use Rattle.mt_shared.proofs.Keeping.{legal_book}
+use Rattle.mt_locked.proofs.Keeping.{legal_book}
 use Rattle.mt_shared.proofs.opened.Opened.new.Goals as goal
 
 pub marked-requires-clause-legal : goal.marked-requires-clause-legal

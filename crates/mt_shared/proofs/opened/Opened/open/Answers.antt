@@ -1,7 +1,7 @@
 use Rattle.std.proofs.Common.{◌<◌, ◌∙◌, ℕ, ap, inr, refl, subst, sym}
 use Rattle.mt_model.specs.Views.{base_of}
 use Rattle.mt_model.specs.declared.tables.Base.{Base}
-use Rattle.mt_shared.proofs.Living.{found_on, nobody_counts}
+use Rattle.mt_restart.proofs.Living.{found_on, nobody_counts}
 use Rattle.mt_shared.proofs.Openings.{began_on_survey, book_at_first, first_book, open_fault, refused_other, same_as_told, survey_fault, unopened_by, unsurveyed}
 use Rattle.mt_steps.specs.Listed.{IsSame}
 use Rattle.mt_shared.proofs.opened.Opened.open.Goals as goal

@@ -1,4 +1,4 @@
-use Rattle.mt_shared.proofs.Books.{begins_book}
+use Rattle.mt_locked.proofs.Books.{begins_book}
 use Rattle.mt_shared.proofs.shared.Shared.close.Goals as goal
 
 pub returns-in-Ok-clause-seen : goal.returns-in-Ok-clause-seen

@@ -1,0 +1,11 @@
+pub mod ForceLemmas
+pub mod DueLemmas
+pub mod DriveLemmas
+pub mod UndoLemmas
+pub mod TurnLemmas
+pub mod CallLemmas
+pub mod RunLemmas
+pub mod LeftLemmas
+pub mod TurnoverLemmas
+pub mod SessionLemmas
+pub mod TranscriptLemmas

@@ -1,0 +1,248 @@
+-- Lines that ran, one behind the other, and how a run ends.
+use Rattle.std.proofs.Common.{◌≡◌, ◌<◌, inl, inr, suc, ℕ, List, [], ◌∷◌, ◌++◌, Option, Some, None, length, take, drop, get_or, refl, ap, sym, subst, ◌∙◌, append_assoc, append-nil, take-append-drop}
+use Rattle.std.specs.Io.KnownBytes.{Appends}
+use Rattle.std.proofs.KnownBytes.{Appends-nil, Appends-trans}
+use Rattle.std.proofs.Math.Seq.{take-suc, drop-cons}
+use mathlib.Core.Logic.{∥∥₁_map}
+use Rattle.mt_base.specs.declared.refusal.Refusal.{Refusal}
+use Rattle.mt_base.specs.declared.refusal.Refusal.TheVariants as refusal
+use Rattle.mt_disk.specs.declared.device.Device.{Ghosts}
+use Rattle.mt_model.specs.History.{Call}
+use Rattle.mt_txn.specs.declared.kernel.Kernel.{Kernel}
+use Rattle.mt_script.specs.declared.lines.Line.{Line}
+use Rattle.mt_script.specs.declared.lines.Line.TheVariants as line
+use Rattle.mt_script.specs.declared.answers.Answer.{Answer}
+use Rattle.mt_script.specs.declared.answers.Answer.TheVariants.{Aborted, Refused}
+use Rattle.mt_alone.specs.declared.running.RunFault.{RunFault}
+use Rattle.mt_alone.specs.declared.running.RunFault.TheVariants as fault
+use Rattle.mt_script.specs.Answers.{AppendsFront, answer_text, transcript_text}
+use Rattle.mt_txn.specs.Shown.{SameSchema}
+use Rattle.mt_alone.specs.Driven.{IsBeside, IsDueTo, IsGivenUp, IsResting}
+use Rattle.mt_alone.specs.Plays.{Play, IsTurn, acts, refuses, Runs, starts, goes_on, after_at, put_off}
+use Rattle.mt_alone.specs.Runs.{HasRun, HasRunLines, HasTurned, IsAnswered, IsCut, IsCutAtEnd, IsCutShort, IsEnded, IsEndedFor, nothing, aborted, failed, IsLeftFor, IsStopped, IsToldFor, IsUnheard, failure_line, last_line}
+use Rattle.mt_script.proofs.TextLemmas.{front_then}
+use Rattle.mt_alone.proofs.TranscriptLemmas.{runs_then, text_joined, text_one}
+
+-- ---- texts
+
+text_none : (a : Option (List ℕ)) → Appends a a (transcript_text [])
+unfolding transcript_text
+text_none a = Appends-nil a
+
+pub appends_all : (a b c : Option (List ℕ)) (xs ys : List Answer) → Appends a b (transcript_text xs) → Appends b c (transcript_text ys) → Appends a c (transcript_text (xs ++ ys))
+appends_all a b c xs ys p q = subst (Appends a c) (sym (text_joined xs ys)) (Appends-trans a b c (transcript_text xs) (transcript_text ys) p q)
+
+appends_front : (a b c : Option (List ℕ)) (xs ys : List Answer) → Appends a b (transcript_text xs) → AppendsFront b c (transcript_text ys) → AppendsFront a c (transcript_text (xs ++ ys))
+appends_front a b c xs ys p q = subst (AppendsFront a c) (ap (λ (t : List ℕ). transcript_text xs ++ t) (append-nil (transcript_text ys)) ∙ sym (text_joined xs ys)) (front_then a b c (transcript_text xs) (transcript_text ys) [] p q)
+
+-- of the device's failure alone there is a line
+no_line : (y : Refusal) → (y ≡ refusal.DeviceFailed → ⊥) → failure_line y ≡ []
+no_line refusal.DeviceFailed other = absurd (other refl)
+no_line y other = refl
+
+pub silent : (a : Option (List ℕ)) (y : Refusal) → (y ≡ refusal.DeviceFailed → ⊥) → Appends a a (transcript_text (failure_line y))
+silent a y other = subst (λ (t : List Answer). Appends a a (transcript_text t)) (sym (no_line y other)) (text_none a)
+
+-- the last of them was not heard, behind others that were
+unheard_behind : (a b c : Option (List ℕ)) (xs ys : List Answer) → Appends a b (transcript_text xs) → IsUnheard b c ys → IsUnheard a c (xs ++ ys)
+unheard_behind a b c xs ys before u = record {
+  heard = xs ++ u.heard;
+  last = u.last;
+  answers_are = ap (λ (t : List Answer). xs ++ t) u.answers_are ∙ sym (append_assoc xs u.heard (u.last ∷ []));
+  mid = u.mid;
+  told = appends_all a b u.mid xs u.heard before u.told;
+  front = u.front;
+}
+
+-- what ends a run behind answers, behind those before them
+pub told_behind : (a b c : Option (List ℕ)) (xs ys : List Answer) (why : RunFault) → Appends a b (transcript_text xs) → IsToldFor b c ys why → IsToldFor a c (xs ++ ys) why
+told_behind a b c xs ys fault.Output before (last, is, front) = (last, is, subst (λ (t : List Answer). AppendsFront a c (transcript_text t)) (sym (append_assoc xs ys last)) (appends_front a b c xs (ys ++ last) before front))
+told_behind a b c xs ys (fault.Refused why) before (inl all) = inl (subst (λ (t : List Answer). Appends a c (transcript_text t)) (sym (append_assoc xs ys (failure_line why))) (appends_all a b c xs (ys ++ failure_line why) before all))
+told_behind a b c xs ys (fault.Refused why) before (inr unheard) = inr (unheard_behind a b c xs ys before unheard)
+
+pub stopped_told : (was now : Option (List ℕ)) (y : Refusal) (why : RunFault) → IsStopped was now y why → IsToldFor was now [] why
+stopped_told was now y fault.Output (is, front) = (Refused refusal.DeviceFailed ∷ [], failed, subst (λ (x : Refusal). AppendsFront was now (transcript_text (failure_line x))) is front)
+stopped_told was now y (fault.Refused why) (is, all) = inl (subst (λ (x : Refusal). Appends was now (transcript_text (failure_line x))) (sym is) all)
+
+-- ---- turns
+
+-- what a play keeps whatever it does with a line
+pub record StaysPut (p q : Play) : Type 0 where
+  pub session : q.session ≡ p.session
+  pub first : q.first ≡ p.first
+
+after_stays : (p : Play) (u : Option (List Call)) (l : Line) → StaysPut p (after_at p u l)
+after_stays p None line.Begin = record { session = refl; first = refl }
+after_stays p None (line.Call op) = record { session = refl; first = refl }
+after_stays p None line.Commit = record { session = refl; first = refl }
+after_stays p None line.Abort = record { session = refl; first = refl }
+after_stays p (Some calls) line.Begin = record { session = refl; first = refl }
+after_stays p (Some calls) (line.Call op) = record { session = refl; first = refl }
+after_stays p (Some calls) line.Commit = record { session = refl; first = refl }
+after_stays p (Some calls) line.Abort = record { session = refl; first = refl }
+
+pub turn_stays : {IsDue : Line → Refusal → Type 0} → (relations counters : ℕ) (p q : Play) (l : Line) (a : Answer) → IsTurn relations counters IsDue p l a q → StaysPut p q
+turn_stays relations counters p _ l _ (acts none) = after_stays p p.under_way l
+turn_stays relations counters p _ l _ (refuses why cause) = record { session = refl; first = refl }
+
+-- ---- a line
+
+module _ {D : Type 0} {g : Ghosts D} (seen : D → List ℕ) (may_leave : D → List ℕ → Type 0) (faults : D → ℕ) (p : Play) (k : Kernel D g) where
+  -- the kernels of a run, each beside its play
+  abbrev Turned : Play × Kernel D g → List Line → List Answer → Play × Kernel D g → Type 0
+  Turned = Runs (HasTurned seen may_leave)
+
+  pub runs_session : (s e : Play × Kernel D g) (ls : List Line) (as' : List Answer) → Turned s ls as' e → e.0.session ≡ s.0.session
+  runs_session s _ _ _ starts = refl
+  runs_session s _ _ _ (goes_on lines answers m e line answer before t) = (turn_stays m.1.relations m.1.counters m.0 e.0 line answer t.turn).session ∙ runs_session s m lines answers before
+
+  turned : (l : Line) (a : Answer) (live : Option ℕ) (q : Play) (n : Kernel D g) → IsBeside seen may_leave p live k → IsTurn k.relations k.counters (IsDueTo seen may_leave k live) p l a q → SameSchema k n
+      → Turned (p, k) (l ∷ []) (a ∷ []) (q, n)
+  turned l a live q n at turn schema = goes_on [] [] (p, k) (q, n) l a starts (record { live = live; beside = at; turn = turn; schema = schema })
+
+  pub line_told : (l : Line) (told : Answer × Option ℕ) (live : Option ℕ) (was now : Option (List ℕ)) (n : Kernel D g) → IsBeside seen may_leave p live k → SameSchema k n → IsAnswered seen may_leave p k live l told n → Appends was now (answer_text told.0 ++ 10 ∷ [])
+      → HasRunLines seen may_leave p k (l ∷ []) was now told.1 n
+  line_told l told live was now n at schema (q, turn, beside) text = record {
+    answers = told.0 ∷ [];
+    play = q;
+    ran = turned l told.0 live q n at turn schema;
+    told = subst (Appends was now) (sym (text_one told.0)) text;
+    beside = beside;
+  }
+
+  pub line_unheard : (l : Line) (told : Answer × Option ℕ) (live : Option ℕ) (was now : Option (List ℕ)) (m n : Kernel D g) (why : RunFault) → IsBeside seen may_leave p live k → SameSchema k m → IsAnswered seen may_leave p k live l told m
+      → AppendsFront was now (answer_text told.0 ++ 10 ∷ []) → ((q : Play) → IsBeside seen may_leave q told.1 m → IsLeftFor seen may_leave faults q n why) → IsCutShort seen may_leave faults p k (l ∷ []) was now n why
+  line_unheard l told live was now m n why at schema (q, turn, beside) front left = record {
+    before = l ∷ [];
+    rest = [];
+    split = refl;
+    answers = told.0 ∷ [];
+    play = q;
+    last = m;
+    ran = turned l told.0 live q m at turn schema;
+    told = ends why (subst (AppendsFront was now) (sym (text_one told.0)) front);
+    left = left q beside;
+  }
+    where
+      ends : (x : RunFault) → AppendsFront was now (transcript_text (told.0 ∷ [])) → IsToldFor was now (told.0 ∷ []) x
+      ends fault.Output f = ([], nothing, f)
+      ends (fault.Refused y) f = inr (record { heard = []; last = told.0; answers_are = refl; mid = was; told = text_none was; front = f })
+
+  -- it was given up
+  stopped_left : (n : Kernel D g) (was now : Option (List ℕ)) (y : Refusal) (why : RunFault) → IsGivenUp seen may_leave faults p n y → IsStopped was now y why → IsLeftFor seen may_leave faults p n why
+  stopped_left n was now y fault.Output (left, fails) (is, front) = inr (left, (fails (λ e. let wrong : refusal.DeviceFailed ≡ refusal.NoMemory = sym is ∙ e in cc)).1)
+  stopped_left n was now y (fault.Refused why) given (is, all) = subst (IsGivenUp seen may_leave faults p n) (sym is) given
+
+  pub line_stopped : (l : Line) (y : Refusal) (was now : Option (List ℕ)) (n : Kernel D g) (why : RunFault) → IsGivenUp seen may_leave faults p n y → IsStopped was now y why → IsCutShort seen may_leave faults p k (l ∷ []) was now n why
+  line_stopped l y was now n why given stopped = record {
+    before = [];
+    rest = l ∷ [];
+    split = refl;
+    answers = [];
+    play = p;
+    last = k;
+    ran = starts;
+    told = stopped_told was now y why stopped;
+    left = stopped_left n was now y why given stopped;
+  }
+
+  -- ---- lines
+
+  pub no_lines : (a : Option (List ℕ)) → IsBeside seen may_leave p None k → HasRunLines seen may_leave p k [] a a None k
+  no_lines a beside = record { answers = []; play = p; ran = starts; told = text_none a; beside = beside }
+
+  pub line_more : (session : ℕ) (lines : List Line) (i : ℕ) (l : Line) (live now : Option ℕ) (a b c : Option (List ℕ)) (m n : Kernel D g) → p.session ≡ session → i < length lines → l ≡ get_or lines i l
+      → HasRunLines seen may_leave p k (take i lines) a b live m
+      → ((q : Play) → q.session ≡ session → IsBeside seen may_leave q live m → HasRunLines seen may_leave q m (l ∷ []) b c now n) → HasRunLines seen may_leave p k (take (suc i) lines) a c now n
+  line_more session lines i l live now a b c m n own lt is ran next =
+      let x = next ran.play (runs_session (p, k) (ran.play, m) (take i lines) ran.answers ran.ran ∙ own) ran.beside in
+      let all : take i lines ++ l ∷ [] ≡ take (suc i) lines = ap (λ (y : Line). take i lines ++ y ∷ []) is ∙ sym (take-suc lines i l lt) in
+      record {
+        answers = ran.answers ++ x.answers;
+        play = x.play;
+        ran = subst (λ (ls : List Line). Turned (p, k) ls (ran.answers ++ x.answers) (x.play, n)) all (runs_then (p, k) (ran.play, m) (x.play, n) (take i lines) (l ∷ []) ran.answers x.answers ran.ran x.ran);
+        told = appends_all a b c ran.answers x.answers ran.told x.told;
+        beside = x.beside;
+      }
+
+  cut_behind : (Left : Play → Type 0) (ls ms rest lines : List Line) (live : Option ℕ) (a b c : Option (List ℕ)) (m : Kernel D g) (why : RunFault) → lines ≡ ls ++ (ms ++ rest) → (ran : HasRunLines seen may_leave p k ls a b live m)
+      → IsCut seen may_leave Left ran.play m ms b c why → IsCut seen may_leave Left p k lines a c why
+  cut_behind Left ls ms rest lines live a b c m why whole ran x = record {
+    before = ls ++ x.before;
+    rest = x.rest ++ rest;
+    split = whole ∙ ap (λ (t : List Line). ls ++ (t ++ rest)) x.split ∙ ap (λ (t : List Line). ls ++ t) (append_assoc x.before x.rest rest) ∙ sym (append_assoc ls x.before (x.rest ++ rest));
+    answers = ran.answers ++ x.answers;
+    play = x.play;
+    last = x.last;
+    ran = runs_then (p, k) (ran.play, m) (x.play, x.last) ls x.before ran.answers x.answers ran.ran x.ran;
+    told = told_behind a b c ran.answers x.answers why ran.told x.told;
+    left = x.left;
+  }
+
+  pub line_cut : (session : ℕ) (lines : List Line) (i : ℕ) (l : Line) (live : Option ℕ) (a b c : Option (List ℕ)) (m n : Kernel D g) (why : RunFault) → p.session ≡ session → i < length lines → l ≡ get_or lines i l
+      → HasRunLines seen may_leave p k (take i lines) a b live m
+      → ((q : Play) → q.session ≡ session → IsBeside seen may_leave q live m → IsCutShort seen may_leave faults q m (l ∷ []) b c n why) → IsCutShort seen may_leave faults p k lines a c n why
+  line_cut session lines i l live a b c m n why own lt is ran cut =
+      let x = cut ran.play (runs_session (p, k) (ran.play, m) (take i lines) ran.answers ran.ran ∙ own) ran.beside in
+      let whole : lines ≡ take i lines ++ (l ∷ [] ++ drop (suc i) lines) =
+      sym (take-append-drop i lines) ∙ ap (λ (t : List Line). take i lines ++ t) (drop-cons lines i l lt) ∙ ap (λ (y : Line). take i lines ++ y ∷ drop (suc i) lines) (sym is) in
+      cut_behind (λ q. IsLeftFor seen may_leave faults q n why) (take i lines) (l ∷ []) (drop (suc i) lines) lines live a b c m why whole ran x
+
+  -- ---- the script's end
+
+  pub closed_run : (lines : List Line) (a b : Option (List ℕ)) (n : Kernel D g) → HasRunLines seen may_leave p k lines a b None n → HasRun seen may_leave p k lines a b n
+  closed_run lines a b n ran = record {
+    answers = ran.answers;
+    play = ran.play;
+    last = n;
+    ran = ran.ran;
+    told =
+        let none : ran.answers ++ last_line ran.play.under_way ≡ ran.answers = ap (λ (u : Option (List Call)). ran.answers ++ last_line u) ran.beside.nothing ∙ append-nil ran.answers in
+        subst (λ (t : List Answer). Appends a b (transcript_text t)) (sym none) ran.told;
+    beside = record { shown = ∥∥₁_map ran.beside.shown (λ (first, s, shows, (played, nobody)). (first, s, shows, (record { first_is = played.first_is; book = played.book; base = played.base }, nobody))); nothing = refl };
+  }
+
+  pub ended_run : (lines : List Line) (t : ℕ) (a b c : Option (List ℕ)) (m n : Kernel D g) → HasRunLines seen may_leave p k lines a b (Some t) m → ((q : Play) → IsBeside seen may_leave q (Some t) m → IsEnded seen may_leave q b c n)
+      → HasRun seen may_leave p k lines a c n
+  ended_run lines t a b c m n ran ended =
+      let e = ended ran.play ran.beside in
+      record {
+        answers = ran.answers;
+        play = ran.play;
+        last = m;
+        ran = ran.ran;
+        told = subst (λ (u : Option (List Call)). Appends a c (transcript_text (ran.answers ++ last_line u))) (sym ran.beside.1) (appends_all a b c ran.answers (Aborted ∷ []) ran.told e.told);
+        beside = e.beside;
+      }
+
+  pub end_cut : (lines : List Line) (t : ℕ) (a b c : Option (List ℕ)) (m n : Kernel D g) (why : RunFault) → HasRunLines seen may_leave p k lines a b (Some t) m
+      → ((q : Play) → IsBeside seen may_leave q (Some t) m → IsCutAtEnd seen may_leave faults q b c n why) → IsCutShort seen may_leave faults p k lines a c n why
+  end_cut lines t a b c m n why ran cut =
+      let e = cut ran.play ran.beside in
+      record {
+        before = lines;
+        rest = [];
+        split = sym (append-nil lines);
+        answers = ran.answers;
+        play = ran.play;
+        last = m;
+        ran = ran.ran;
+        told = subst (λ (t : List Answer). IsToldFor a c t why) (append-nil ran.answers) (told_behind a b c ran.answers [] why ran.told e.told);
+        left = e.left;
+      }
+
+  pub end_stopped : (y : Refusal) (was now : Option (List ℕ)) (n : Kernel D g) (why : RunFault) → IsGivenUp seen may_leave faults p n y → IsStopped was now y why → IsCutAtEnd seen may_leave faults p was now n why
+  end_stopped y was now n why given stopped = record { told = stopped_told was now y why stopped; left = stopped_left n was now y why given stopped }
+
+  pub end_unwritten : (was now : Option (List ℕ)) (n : Kernel D g) → IsResting seen may_leave (put_off p) n → AppendsFront was now (answer_text Aborted ++ 10 ∷ []) → IsCutAtEnd seen may_leave faults p was now n fault.Output
+  end_unwritten was now n rests front = record { told = (Aborted ∷ [], aborted, subst (AppendsFront was now) (sym (text_one Aborted)) front); left = inl rests }
+
+  pub end_written : (was now : Option (List ℕ)) (n : Kernel D g) → IsResting seen may_leave (put_off p) n → Appends was now (answer_text Aborted ++ 10 ∷ []) → IsEnded seen may_leave p was now n
+  end_written was now n rests text = record { told = subst (Appends was now) (sym (text_one Aborted)) text; beside = rests }
+
+  pub left_resting : (n : Kernel D g) → IsResting seen may_leave p n → IsResting seen may_leave (put_off p) n
+  left_resting n r = record { shown = ∥∥₁_map r.shown (λ (first, s, shows, (played, nobody)). (first, s, shows, (record { first_is = played.first_is; book = played.book; base = played.base }, nobody))); nothing = refl }
+
+  pub cut_ended : (lines : List Line) (a b : Option (List ℕ)) (n : Kernel D g) (why : RunFault) → IsCutShort seen may_leave faults p k lines a b n why → IsEndedFor faults n why
+  cut_ended lines a b n fault.Output cut = tt
+  cut_ended lines a b n (fault.Refused y) cut = cut.left.1

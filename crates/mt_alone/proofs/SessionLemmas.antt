@@ -1,0 +1,129 @@
+-- Sessions that were served, one behind the other, and how they end early.
+use Rattle.std.proofs.Common.{◌≡◌, ◌<◌, ◌+◌, suc, ℕ, List, [], ◌∷◌, ◌++◌, Option, None, Result, Ok, Err, IfOk, arith, length, take, drop, get_or, map, refl, ap, sym, subst, ◌∙◌, append_assoc, append-nil, length-append, take-append-drop}
+use Rattle.std.specs.Io.KnownBytes.{Appends}
+use Rattle.std.proofs.KnownBytes.{Appends-nil, Appends-trans}
+use Rattle.std.proofs.Math.Seq.{drop-cons}
+use Rattle.std.proofs.lemmas.List.{length-map, length-take-le, map-append, map_more}
+use mathlib.Core.Logic.{∥∥₁_map}
+use Rattle.mt_disk.specs.declared.device.Device.{Ghosts}
+use Rattle.mt_model.specs.Model.{Base}
+use Rattle.mt_txn.specs.Shown.{Restarts, SameSchema, StaysRestarting}
+use Rattle.mt_txn.specs.declared.kernel.Kernel.{Kernel}
+use Rattle.mt_script.specs.declared.answers.Answer.{Answer}
+use Rattle.mt_script.specs.declared.lines.Line.{Line}
+use Rattle.mt_script.specs.declared.reader.Script.{Script}
+use Rattle.mt_alone.specs.declared.rotating.NotServed.{NotServed}
+use Rattle.mt_script.specs.Answers.{transcript_text}
+use Rattle.mt_alone.specs.Driven.{IsBeside}
+use Rattle.mt_alone.specs.Plays.{Play, put_off}
+use Rattle.mt_alone.specs.Runs.{last_line}
+use Rattle.mt_alone.specs.Turnovers.{BesideFrom, HasRunOut}
+use Rattle.mt_alone.proofs.TurnoverLemmas.{runs_first}
+use Rattle.mt_alone.specs.Sessions.{AreCutShort, HaveServed, IsCutWithin, IsServed, Serves, StandsEach, no_script, then_script, in_session, lines_in, session_line, sessions_from, sessions_text}
+
+-- ---- texts
+
+none_told : (a : Option (List ℕ)) → Appends a a (sessions_text [])
+unfolding sessions_from
+none_told a = Appends-nil a
+
+-- one more behind the others
+sessions_more : (i : ℕ) (ts : List (List Answer)) (t : List Answer) → sessions_from i (ts ++ t ∷ []) ≡ sessions_from i ts ++ (session_line (i + length ts) ++ transcript_text t)
+unfolding sessions_from
+sessions_more i [] t =
+    let same : i ≡ i + 0 = omega arith in
+    ap (λ (x : List ℕ). session_line i ++ x) (append-nil (transcript_text t)) ∙ ap (λ (n : ℕ). session_line n ++ transcript_text t) same
+sessions_more i (u ∷ us) t =
+    let same : (i + 1) + length us ≡ i + suc (length us) = omega arith in
+    let rest : List ℕ = sessions_from (i + 1) us in
+    let last : List ℕ = session_line (i + suc (length us)) ++ transcript_text t in
+    ap (λ (x : List ℕ). session_line i ++ (transcript_text u ++ x)) (sessions_more (i + 1) us t ∙ ap (λ (n : ℕ). rest ++ (session_line n ++ transcript_text t)) same)
+    ∙ ap (λ (x : List ℕ). session_line i ++ x) (sym (append_assoc (transcript_text u) rest last))
+    ∙ sym (append_assoc (session_line i) (transcript_text u ++ rest) last)
+
+-- as many transcripts as scripts
+count_is : {S : Type 0} {Session : S → ℕ → List Line → List Answer → S → Type 0} → (s e : S) (ls : List (List Line)) (ts : List (List Answer)) → Serves Session s ls ts e → length ts ≡ length ls
+count_is s _ _ _ no_script = refl
+count_is s _ _ _ (then_script scripts transcripts mid end lines told before session) =
+    length-append transcripts (told ∷ []) ∙ ap (λ (n : ℕ). n + 1) (count_is s mid scripts transcripts before) ∙ sym (length-append scripts (lines ∷ []))
+
+module _ {D : Type 0} {g : Ghosts D} (seen : D → List ℕ) (may_leave : D → List ℕ → Type 0) (faults : D → ℕ) (p : Play) (k : Kernel D g) where
+  -- ---- a session
+
+  -- where nobody lives, it is beside a play of any session
+  pub beside_session : (i : ℕ) → IsBeside seen may_leave p None k → IsBeside seen may_leave (in_session p i) None k
+  beside_session i r = record { shown = ∥∥₁_map r.shown (λ (first, s, shows, (played, nobody)). (first, s, shows, (record { first_is = played.first_is; book = played.book; base = played.base }, nobody))); nothing = r.nothing }
+
+  pub session_served : (i : ℕ) (lines : List Line) (a b c : Option (List ℕ)) (n : Kernel D g) → Appends a b (session_line i) → SameSchema k n → Restarts seen may_leave p.first n → HasRunOut seen may_leave (in_session p i) k lines b c n
+      → IsServed seen may_leave p k i lines a c n
+  session_served i lines a b c n heading schema restarts (begun, over, ran) = record {
+    transcript = ran.answers ++ last_line ran.play.under_way;
+    end = put_off ran.play;
+    served = record {
+      answers = ran.answers;
+      play = ran.play;
+      last = ran.last;
+      begun = begun;
+      over = over;
+      ran = ran.ran;
+      told_is = refl;
+      end_is = refl;
+      beside = ran.beside;
+      restarts = subst (λ (x : Base). Restarts seen may_leave x n) (sym (runs_first seen may_leave (in_session p i, begun) (ran.play, ran.last) lines ran.answers ran.ran)) restarts;
+      schema = schema;
+    };
+    told = Appends-trans a b c (session_line i) (transcript_text (ran.answers ++ last_line ran.play.under_way)) heading ran.told;
+  }
+
+  -- ---- sessions
+
+  pub none_served : (a : Option (List ℕ)) → IsBeside seen may_leave p None k → Restarts seen may_leave p.first k → HaveServed seen may_leave p k [] a a k
+  none_served a beside restarts = record { transcripts = []; play = p; served = no_script; told = none_told a; beside = beside; restarts = restarts }
+
+  one_more : (scripts : List (List Line)) (lines : List Line) (a b c : Option (List ℕ)) (m n : Kernel D g) → (ran : HaveServed seen may_leave p k scripts a b m)
+      → IsServed seen may_leave ran.play m (length scripts + 1) lines b c n → HaveServed seen may_leave p k (scripts ++ lines ∷ []) a c n
+  one_more scripts lines a b c m n ran x =
+      let count : length scripts + 1 ≡ 1 + length ran.transcripts = let same = count_is (p, k) (ran.play, m) scripts ran.transcripts ran.served in omega (arith, same) in
+      let own : Appends b c (session_line (1 + length ran.transcripts) ++ transcript_text x.transcript) = subst (λ (j : ℕ). Appends b c (session_line j ++ transcript_text x.transcript)) count x.told in
+      record {
+        transcripts = ran.transcripts ++ x.transcript ∷ [];
+        play = x.end;
+        served = then_script scripts ran.transcripts (ran.play, m) (x.end, n) lines x.transcript ran.served x.served;
+        told = subst (Appends a c) (sym (sessions_more 1 ran.transcripts x.transcript)) (Appends-trans a b c (sessions_text ran.transcripts) _ ran.told own);
+        beside = x.served.beside;
+        restarts = x.served.restarts;
+      }
+
+  -- so many of the scripts
+  front_count : (scripts : List Script) (i : ℕ) → i < length scripts → length (map lines_in (take i scripts)) ≡ i
+  front_count scripts i lt = length-map (take i scripts) lines_in ∙ length-take-le i scripts (omega (arith, lt))
+
+  pub served_more : (scripts : List Script) (i : ℕ) (s : Script) (a b c : Option (List ℕ)) (m n : Kernel D g) → i < length scripts → s ≡ get_or scripts i s → HaveServed seen may_leave p k (map lines_in (take i scripts)) a b m
+      → StandsEach seen may_leave m (λ q. IsServed seen may_leave q m (i + 1) (lines_in s) b c n) → HaveServed seen may_leave p k (map lines_in (take (i + 1) scripts)) a c n
+  served_more scripts i s a b c m n lt is ran next =
+      let x = subst (λ (j : ℕ). IsServed seen may_leave ran.play m (j + 1) (lines_in s) b c n) (sym (front_count scripts i lt)) (next ran.play ran.beside ran.restarts) in
+      let all : map lines_in (take i scripts) ++ lines_in s ∷ [] ≡ map lines_in (take (i + 1) scripts) = ap (λ (y : Script). map lines_in (take i scripts) ++ lines_in y ∷ []) is ∙ sym (map_more lines_in scripts i s lt) in
+      subst (λ (ls : List (List Line)). HaveServed seen may_leave p k ls a c n) all (one_more (map lines_in (take i scripts)) (lines_in s) a b c m n ran x)
+
+  pub served_cut : (scripts : List Script) (i : ℕ) (s : Script) (a b c : Option (List ℕ)) (m : Kernel D g) (left : NotServed D g) → i < length scripts → s ≡ get_or scripts i s → HaveServed seen may_leave p k (map lines_in (take i scripts)) a b m
+      → StandsEach seen may_leave m (λ q. IsCutWithin seen may_leave faults q m (i + 1) (lines_in s) b c left) → AreCutShort seen may_leave faults p k (map lines_in scripts) a c left
+  served_cut scripts i s a b c m left lt is ran next = record {
+    before = map lines_in (take i scripts);
+    lines = lines_in s;
+    rest = map lines_in (drop (suc i) scripts);
+    split = ap (map lines_in) (sym (take-append-drop i scripts)) ∙ map-append lines_in (take i scripts) (drop i scripts)
+        ∙ ap (λ (t : List Script). map lines_in (take i scripts) ++ map lines_in t) (drop-cons scripts i s lt)
+        ∙ ap (λ (y : Script). map lines_in (take i scripts) ++ lines_in y ∷ map lines_in (drop (suc i) scripts)) (sym is);
+    mid = b;
+    last = m;
+    ran = ran;
+    within = subst (λ (j : ℕ). IsCutWithin seen may_leave faults ran.play m (j + 1) (lines_in s) b c left) (sym (front_count scripts i lt)) (next ran.play ran.beside ran.restarts);
+  }
+
+-- where its script ran to its end
+pub session_served_of : {D : Type 0} {g : Ghosts D} (seen : D → List ℕ) (may_leave : D → List ℕ → Type 0) (faults : D → ℕ) (k : Kernel D g) (i : ℕ) (lines : List Line) (a b c : Option (List ℕ)) (r : Result (Kernel D g) (NotServed D g)) → Appends a b (session_line i)
+    → IfOk r (SameSchema k) → IfOk r (StaysRestarting seen may_leave k) → IfOk r (λ n. BesideFrom seen may_leave i None k (λ q. HasRunOut seen may_leave q k lines b c n))
+    → IfOk r (λ n. StandsEach seen may_leave k (λ p. IsServed seen may_leave p k i lines a c n))
+session_served_of seen may_leave faults k i lines a b c (Err left) heading schema stays ran = tt
+session_served_of seen may_leave faults k i lines a b c (Ok n) heading schema stays ran = λ p beside restarts.
+    session_served seen may_leave faults p k i lines a b c n heading schema (stays p.first restarts) (ran (in_session p i) refl (beside_session seen may_leave faults p k i beside) restarts)

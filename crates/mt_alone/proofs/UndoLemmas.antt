@@ -1,0 +1,93 @@
+-- How many steps an abort takes at most whose transaction is alone.
+use Rattle.std.proofs.Common.{◌≡◌, ◌≢◌, ◌≤◌, ◌+◌, ◌*◌, ◌==◌, ◌&&◌, ◌||◌, ℕ, Bool, true, false, List, [], ◌∷◌, length, Option, Some, None, is_some, ⊎_elim, refl, ap, sym, ◌∙◌, arith}
+use Rattle.std.specs.Prelude.{All, if◌then◌else◌}
+use Rattle.std.specs.List.{list_any, sum_by}
+use Rattle.std.proofs.lemmas.Bool.{cases_eq}
+use Rattle.std.proofs.lemmas.Bool.Decides.{Decides-eqb}
+use Rattle.std.proofs.lemmas.List.Sums.{sum_by-cons}
+use mathlib.Core.Logic.{∥∥₁_elim}
+use Rattle.std.proofs.Props.{props}
+use Rattle.mt_disk.specs.declared.device.Device.{Ghosts}
+use Rattle.mt_live.specs.Entries.{Entry}
+use Rattle.mt_live.specs.Lives.{member_of}
+use Rattle.mt_live.specs.Machine.{State}
+use Rattle.mt_live.specs.Members.{Member}
+use Rattle.mt_model.specs.declared.operations.Op.{Op}
+use Rattle.mt_model.specs.Model.{Base, inverse_of}
+use Rattle.mt_op.proofs.Budget.{area_small}
+use Rattle.mt_pool.specs.Views.{pages}
+use Rattle.mt_kernel.proofs.Effects.{inverse_bytes}
+use Rattle.mt_kernel.specs.Runs.{entry_bytes, is_open, kept_bytes, taken_bytes}
+use Rattle.mt_kernel.specs.Work.{abort_steps, effect_steps, effects_left, undo_steps}
+use Rattle.mt_kernel.specs.declared.parts.Commit.{Commit}
+use Rattle.mt_kernel.specs.declared.parts.Running.{Running}
+use Rattle.mt_txn.proofs.Living.{no_commits}
+use Rattle.mt_txn.specs.Causes.{is_busy}
+use Rattle.mt_txn.specs.Shown.{Shows}
+use Rattle.mt_txn.specs.declared.kernel.Kernel.{Kernel}
+use Rattle.mt_alone.proofs.ForceLemmas.{well_of}
+use Rattle.mt_alone.specs.Driven.{NobodyCommits}
+
+-- ---- what the effects take, and the bytes that are kept for them
+
+bytes_of : (e : Entry) (i : Option Op) → inverse_of e.op e.reply ≡ i → is_some i ≡ true → entry_bytes e ≡ 106496
+bytes_of e None is some = absurd cc
+bytes_of e (Some i) is some =
+    let test : is_some (inverse_of e.op e.reply) ≡ true = ap (λ (o : Option Op). is_some o) is in
+    rw test (inverse_bytes e.op e.reply i is)
+
+steps_few : (pages t : ℕ) (e : Entry) → pages ≤ 4000 → 106496 * effect_steps pages t e ≤ 8010 * entry_bytes e
+steps_few pages t e few = go (e.txn == t) (is_some (inverse_of e.op e.reply)) refl refl
+  where
+    none : effect_steps pages t e ≡ 0 → 106496 * effect_steps pages t e ≤ 8010 * entry_bytes e
+    none is = omega (arith, is)
+
+    go : (a b : Bool) → (e.txn == t) ≡ a → is_some (inverse_of e.op e.reply) ≡ b → 106496 * effect_steps pages t e ≤ 8010 * entry_bytes e
+    go false b own some = none (ap (λ (c : Bool). if c && is_some (inverse_of e.op e.reply) then 2 * pages + 10 else 0) own)
+    go true false own some = none (ap (λ (c : Bool). if c && is_some (inverse_of e.op e.reply) then 2 * pages + 10 else 0) own ∙ ap (λ (c : Bool). if c then 2 * pages + 10 else 0) some)
+    go true true own some =
+        let steps : effect_steps pages t e ≡ 2 * pages + 10 = ap (λ (c : Bool). if c && is_some (inverse_of e.op e.reply) then 2 * pages + 10 else 0) own ∙ ap (λ (c : Bool). if c then 2 * pages + 10 else 0) some in
+        let bytes = bytes_of e (inverse_of e.op e.reply) refl some in
+        omega (arith, steps, bytes, few)
+
+effects_few : (pages t : ℕ) (es : List Entry) → pages ≤ 4000 → 106496 * effects_left pages es t ≤ 8010 * sum_by entry_bytes es
+effects_few pages t [] few = omega arith
+effects_few pages t (e ∷ es) few =
+    let steps = sum_by-cons (effect_steps pages t) e es in
+    let bytes = sum_by-cons entry_bytes e es in
+    let one = steps_few pages t e few in
+    let rest = effects_few pages t es few in
+    omega (arith, steps, bytes, one, rest)
+
+-- ---- nothing runs
+
+at_work : (o : Option Member) → is_open o ≡ true → is_some o ≡ true
+at_work None is = is
+at_work (Some m) is = refl
+
+nothing_runs : (ms : _) (t : ℕ) (rs : List Running) → All (λ (r : Running). is_open (member_of ms r.scope.txn) ≡ true) rs → ((u : ℕ) → u ≢ t → is_some (member_of ms u) ≡ true → ⊥) → list_any (λ (r : Running). r.scope.txn == t) rs ≡ false → rs ≡ []
+nothing_runs ms t [] owned alone none = refl
+nothing_runs ms t (r ∷ rs) owned alone none = absurd (⊎_elim
+    (λ (same : r.scope.txn ≡ t).
+    let some : list_any (λ (q : Running). q.scope.txn == t) (r ∷ rs) ≡ true = ap (λ (b : Bool). b || list_any (λ (q : Running). q.scope.txn == t) rs) ((Decides-eqb r.scope.txn t).1 same) in
+    let wrong : true ≡ false = sym some ∙ none in cc)
+    (λ (other : r.scope.txn ≢ t). alone r.scope.txn other (at_work (member_of ms r.scope.txn) (owned 0 r (omega arith)))) (cases_eq r.scope.txn t))
+
+module _ {D : Type 0} {g : Ghosts D} (seen : D → List ℕ) (may_leave : D → List ℕ → Type 0) where
+  pub undo_few : (k : Kernel D g) (first : Base) (s : State) (t : ℕ) → Shows seen may_leave first s k → NobodyCommits k → is_busy k.parts t ≡ false → ((u : ℕ) → u ≢ t → is_some (member_of k.parts.live.members u) ≡ true → ⊥)
+      → undo_steps k.parts t ≤ 5054310
+  undo_few k first s t shows nobody idle alone = ∥∥₁_elim shows (hlevel props) (λ (origin, base, is, x).
+      let fit = x.consistent.fit in
+      let none = nothing_runs k.parts.live.members t k.parts.running.items (λ i d lt. (fit.owned i d lt).at_work) alone idle in
+      let steps : undo_steps k.parts t ≡ effects_left (pages k.parts.operations.store.pool) k.parts.live.standing t = ap (λ (rs : List Running). abort_steps (pages k.parts.operations.store.pool) rs t (effects_left (pages k.parts.operations.store.pool) k.parts.live.standing t)) none in
+      let few = effects_few (pages k.parts.operations.store.pool) t k.parts.live.standing fit.right.kept.few in
+      let taken : sum_by taken_bytes k.parts.running.items ≡ 0 = ap (λ (rs : List Running). sum_by taken_bytes rs) none in
+      let kept : sum_by kept_bytes k.parts.running.items ≡ 0 = ap (λ (rs : List Running). sum_by kept_bytes rs) none in
+      let quiet : length k.parts.commits.items ≡ 0 = ap (λ (cs : List Commit). length cs) (no_commits seen may_leave k.relations k.counters k.parts (well_of seen may_leave k first s shows) nobody) in
+      let reserves = fit.reserves in
+      let log = fit.log in
+      let small = area_small k.parts.operations.store.log in
+      omega (arith, steps, few, taken, kept, quiet, reserves, log, small))
+
+  pub pages_few : (k : Kernel D g) (first : Base) (s : State) → Shows seen may_leave first s k → pages k.parts.operations.store.pool ≤ 4000
+  pages_few k first s shows = ∥∥₁_elim shows (hlevel props) (λ (origin, base, is, x). x.consistent.fit.right.kept.few)

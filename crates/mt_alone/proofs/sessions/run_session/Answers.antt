@@ -1,0 +1,20 @@
+use Rattle.std.proofs.Common.{refl}
+use Rattle.std.proofs.lemmas.Result.{IfErr-weaker, IfOk-weaker}
+use Rattle.mt_alone.specs.Sessions.{cut_script, unheard_line}
+use Rattle.mt_alone.proofs.SessionLemmas.{beside_session, session_served_of}
+use Rattle.mt_alone.proofs.sessions.run_session.Goals as goal
+
+pub returns-in-Ok-clause-served : goal.returns-in-Ok-clause-served
+returns-in-Ok-clause-served g c =
+    let D = g.D.Device in
+    session_served_of D.seen D.may_leave D.faults c.args.kernel c.args.session _ _ _ _ c.run_script.result c.in-Ok.ensures.all c.run_script.ensures.schema c.run_script.ensures.restarts c.run_script.ensures.ran
+
+pub returns-in-Ok-clause-cut : goal.returns-in-Ok-clause-cut
+returns-in-Ok-clause-cut g c =
+    let D = g.D.Device in
+    IfErr-weaker c.run_script.result _ _
+    (λ left cut p beside restarts. cut_script _ left c.in-Ok.ensures.all (cut _ refl (beside_session D.seen D.may_leave D.faults p c.args.kernel c.args.session beside) restarts))
+    c.run_script.ensures.cut
+
+pub returns-in-Err-clause-cut : goal.returns-in-Err-clause-cut
+returns-in-Err-clause-cut g c = λ p beside restarts. unheard_line c.args.kernel c.in-Err.ensures.front refl

@@ -1,0 +1,5 @@
+pub mod Driven
+pub mod Plays
+pub mod Runs
+pub mod Sessions
+pub mod Turnovers

@@ -1,0 +1,90 @@
+-- Lines of sessions in turn, on a kernel whose log is turned over before a transaction.
+use Rattle.std.specs.Prelude.{ℕ, ◌≡◌, ◌<◌, ◌++◌, List, Option, None}
+use Rattle.mt_base.specs.declared.refusal.Refusal.{Refusal}
+use Rattle.mt_base.specs.declared.refusal.Refusal.TheVariants as refusal
+use Rattle.mt_disk.specs.declared.device.Device.{Ghosts}
+use Rattle.mt_model.specs.History.{after}
+use Rattle.mt_model.specs.Model.{Base}
+use Rattle.mt_model.specs.declared.history.Committed.{Committed}
+use Rattle.mt_replay.specs.Stands.{CanRestart}
+use Rattle.mt_restart.specs.Recovered.{CannotTurn}
+use Rattle.mt_restart.specs.Rotated.{GoesOver}
+use Rattle.mt_script.specs.declared.lines.Line.{Line}
+use Rattle.mt_alone.specs.Driven.{IsBeside}
+use Rattle.mt_alone.specs.Plays.{Play}
+use Rattle.mt_alone.specs.Runs.{HasRun, HasRunLines, IsCut, IsLeftFor}
+use Rattle.mt_alone.specs.declared.rotating.NotServed.{NotServed}
+use Rattle.mt_alone.specs.declared.rotating.NotServed.TheVariants.{Kept, Ended}
+use Rattle.mt_alone.specs.declared.running.RunFault.{RunFault}
+use Rattle.mt_alone.specs.declared.running.RunFault.TheVariants as fault
+use Rattle.mt_restart.specs.TurnFaults.{IsTurnFault}
+use Rattle.mt_txn.specs.Shown.{Restarts}
+use Rattle.mt_txn.specs.declared.kernel.Kernel.{Kernel}
+
+-- ---- what is left
+
+abbrev pub why_in : {D : Type 0} {g : Ghosts D} → NotServed D g → RunFault
+why_in (Kept why n) = why
+why_in (Ended why device) = why
+
+-- the device, wherever it is now
+abbrev pub device_in : {D : Type 0} {g : Ghosts D} → NotServed D g → D
+device_in (Kept why n) = n.parts.operations.store.device
+device_in (Ended why device) = device
+
+-- the log of a kernel cannot turn over to its next area
+abbrev pub CannotTurnOver : {D : Type 0} {g : Ghosts D} → (D → List ℕ) → Kernel D g → Type 0
+CannotTurnOver seen k = CannotTurn (seen k.parts.operations.store.device)
+
+-- whatever a crash leaves of the device, it represents what the play's commits lead to
+abbrev pub StandsForPlay : {D : Type 0} → (D → List ℕ → Type 0) → ℕ → ℕ → Play → D → Type 0
+StandsForPlay may_leave relations counters q device = (c : List ℕ) → may_leave device c → ∥ CanRestart relations counters c (after q.first q.book) ∥₁
+
+-- so, or for what they and some further ones lead to, which were under way
+abbrev pub StandsForMore : {D : Type 0} → (D → List ℕ → Type 0) → ℕ → ℕ → Play → D → Type 0
+StandsForMore may_leave relations counters q device =
+    (c : List ℕ) → may_leave device c → ∥ ((further : List Committed) × CanRestart relations counters c (after q.first (q.book ++ further))) ∥₁
+
+module _ {D : Type 0} {g : Ghosts D} (seen : D → List ℕ) (may_leave : D → List ℕ → Type 0) where
+  -- it holds beside whatever play of this session the kernel stands at, from whose first base it can be restarted
+  abbrev pub BesideFrom : ℕ → Option ℕ → Kernel D g → (Play → Type 0) → Type 0
+  BesideFrom session live k Promises = (p : Play) → p.session ≡ session → IsBeside seen may_leave p live k → Restarts seen may_leave p.first k → Promises p
+
+  -- it holds from this kernel on, or from one that goes on as this one, with its log turned over
+  abbrev pub From : Kernel D g → (Kernel D g → Type 0) → Type 0
+  From k Holds = (begun : Kernel D g) × GoesOver seen may_leave k begun × Holds begun
+
+  -- lines ran, and a script ran to its end
+  abbrev pub HasRunOn : Play → Kernel D g → List Line → Option (List ℕ) → Option (List ℕ) → Option ℕ → Kernel D g → Type 0
+  HasRunOn p k lines was now live n = From k (λ begun. HasRunLines seen may_leave p begun lines was now live n)
+
+  abbrev pub HasRunOut : Play → Kernel D g → List Line → Option (List ℕ) → Option (List ℕ) → Kernel D g → Type 0
+  HasRunOut p k lines was now n = From k (λ begun. HasRun seen may_leave p begun lines was now n)
+
+  -- a kernel of so many relations and counters can be restarted from the play's first base
+  pub record RestartsFor (relations counters : ℕ) (q : Play) (n : Kernel D g) : Type 0 where
+    pub restarts : Restarts seen may_leave q.first n
+    pub relations_are : n.relations ≡ relations
+    pub counters_are : n.counters ≡ counters
+
+module _ {D : Type 0} {g : Ghosts D} (seen : D → List ℕ) (may_leave : D → List ℕ → Type 0) (faults : D → ℕ) where
+  -- The log of this kernel was to be turned over, and only the device is left. By 2 only where a call of the device has failed; by 11 only where
+  -- the next area has no room for a kernel that goes on as this one. Whatever a crash leaves of the device represents what the book leads to.
+  pub record IsTurnedOut (k : Kernel D g) (why : Refusal) (device : D) : Type 0 where
+    pub cause : IsTurnFault why
+    pub failed : why ≡ refusal.DeviceFailed → 0 < faults device
+    pub full : why ≡ refusal.LogFull → ∥ From seen may_leave k (CannotTurnOver seen) ∥₁
+    pub stands : (first : Base) → Restarts seen may_leave first k → (c : List ℕ) → may_leave device c → ∥ CanRestart k.relations k.counters c (after first k.parts.book.items) ∥₁
+
+  -- What is left after a play where serving ended early: the kernel; or the device, since its log could not be turned over, which represents the
+  -- commits. By 2 a call of it has failed; and by 11 the next area had no room for a kernel that stands there.
+  abbrev pub IsLeftBy : ℕ → ℕ → NotServed D g → Play → Type 0
+  IsLeftBy relations counters (Kept why n) q = IsLeftFor seen may_leave faults q n why × RestartsFor seen may_leave relations counters q n
+  IsLeftBy relations counters (Ended fault.Output device) q = (0 < faults device) × StandsForPlay may_leave relations counters q device
+  IsLeftBy relations counters (Ended (fault.Refused why) device) q =
+      IsTurnFault why × (why ≡ refusal.DeviceFailed → 0 < faults device) × (why ≡ refusal.LogFull → ∥ ((n : Kernel D g) × IsBeside seen may_leave q None n × CannotTurnOver seen n) ∥₁)
+      × StandsForPlay may_leave relations counters q device
+
+  -- lines were cut short so
+  abbrev pub IsCutOff : Play → Kernel D g → List Line → Option (List ℕ) → Option (List ℕ) → NotServed D g → Type 0
+  IsCutOff p k lines was now left = From seen may_leave k (λ begun. IsCut seen may_leave (IsLeftBy k.relations k.counters left) p begun lines was now (why_in left))

@@ -1,0 +1,171 @@
+// A script, run by itself on a kernel.
+ghost use Rattle.std.specs.Prelude.{◌≡◌, [], ◌∷◌, IfOk, IfErr, OnOk, None, Some};
+ghost use Rattle.mt_base.specs.declared.refusal.Refusal.{Refusal};
+ghost use Rattle.mt_txn.specs.Shown.{SameSchema, StaysRestarting};
+ghost use Rattle.mt_alone.specs.Driven.{IsBeside};
+ghost use Rattle.mt_alone.specs.Plays.{Play};
+ghost use Rattle.mt_alone.specs.Runs.{BesideEach, HasRun, HasRunLines, IsCutAtEnd, IsCutShort, IsEnded, IsEndedFor, IsLeftFor, IsStopped};
+
+use crate::turns::{answer, undo_open};
+use mt_base::{Refusal, TxnNo};
+use mt_disk::Device;
+use mt_script::{Answer, Line, Script, write_answer};
+use mt_txn::Kernel;
+use std::io::Write;
+use thiserror::Error;
+
+/// Why a script did not run to its end.
+#[derive(Debug, Drop, Error)]
+pub enum RunFault {
+    /// The writer failed. What was written is a beginning of the transcript, and the transaction
+    /// that lived is aborted, unless the device had failed.
+    #[error("the output cannot be written")]
+    Output,
+    /// `NoMemory`, where a step found no memory, or no frame, when it was asked nine times. The transaction stands as
+    /// it was then. Or `DeviceFailed`, which is the transcript's last line.
+    #[error("{0}")]
+    Refused(Refusal),
+}
+
+/// Aborts the transaction that is open after a failed write, and answers how the run ends.
+fn end_unheard<D: Device>(kernel: &mut Kernel<D>, live: Option<TxnNo>) -> RunFault
+    ensures left { (p : Play) → IsBeside D.seen D.may_leave p live kernel.old
+        → IsLeftFor D.seen D.may_leave D.faults p kernel.new result }
+    ensures schema { SameSchema kernel.old kernel.new }
+    ensures restarts { StaysRestarting D.seen D.may_leave kernel.old kernel.new }
+{
+    let Some(txn) = live else {
+        return RunFault::Output;
+    };
+    match undo_open(kernel, txn) {
+        Ok(()) => RunFault::Output,
+        Err(refusal) => RunFault::Refused(refusal),
+    }
+}
+
+/// Writes that the device failed, and answers how the run ends.
+fn end_failed<W: Write>(writer: &mut W) -> RunFault
+    ensures { IsStopped (W.contents writer.old) (W.contents writer.new) Refusal.DeviceFailed result }
+{
+    match write_answer(writer, &Answer::Refused(Refusal::DeviceFailed)) {
+        Ok(()) => RunFault::Refused(Refusal::DeviceFailed),
+        Err(_) => RunFault::Output,
+    }
+}
+
+/// Answers how the run ends after a step that was refused. That the device failed is written.
+pub(crate) fn end_refused<W: Write>(writer: &mut W, refusal: Refusal) -> RunFault
+    ensures { IsStopped (W.contents writer.old) (W.contents writer.new) refusal result }
+{
+    match refusal {
+        Refusal::DeviceFailed => end_failed(writer),
+        _ => RunFault::Refused(refusal),
+    }
+}
+
+/// Answers one line, and writes the answer. Answers the transaction that is open then.
+pub(crate) fn run_line<D: Device, W: Write>(
+    kernel: &mut Kernel<D>,
+    session: u32,
+    live: Option<TxnNo>,
+    line: &Line,
+    writer: &mut W,
+) -> Result<Option<TxnNo>, RunFault>
+    ensures told { IfOk result (λ now. BesideEach D.seen D.may_leave session live kernel.old
+        (λ p. HasRunLines D.seen D.may_leave p kernel.old (line.now ∷ [])
+        (W.contents writer.old) (W.contents writer.new) now kernel.new)) }
+    ensures cut { IfErr result (λ why. BesideEach D.seen D.may_leave session live kernel.old
+        (λ p. IsCutShort D.seen D.may_leave D.faults p kernel.old (line.now ∷ [])
+        (W.contents writer.old) (W.contents writer.new) kernel.new why)) }
+    ensures schema { SameSchema kernel.old kernel.new }
+    ensures restarts { StaysRestarting D.seen D.may_leave kernel.old kernel.new }
+{
+    let told = match answer(kernel, session, live, line) {
+        Ok(told) => told,
+        Err(refusal) => return Err(end_refused(writer, refusal)),
+    };
+    match write_answer(writer, &told.0) {
+        Ok(()) => Ok(told.1),
+        Err(_) => Err(end_unheard(kernel, told.1)),
+    }
+}
+
+/// Runs the lines of a script, and answers the transaction that is open behind the last.
+fn run_lines<D: Device, W: Write>(
+    kernel: &mut Kernel<D>,
+    session: u32,
+    lines: &[Line],
+    writer: &mut W,
+) -> Result<Option<TxnNo>, RunFault>
+    ensures ran { IfOk result (λ live. BesideEach D.seen D.may_leave session None kernel.old
+        (λ p. HasRunLines D.seen D.may_leave p kernel.old lines.now
+        (W.contents writer.old) (W.contents writer.new) live kernel.new)) }
+    ensures cut { IfErr result (λ why. BesideEach D.seen D.may_leave session None kernel.old
+        (λ p. IsCutShort D.seen D.may_leave D.faults p kernel.old lines.now
+        (W.contents writer.old) (W.contents writer.new) kernel.new why)) }
+    ensures schema { SameSchema kernel.old kernel.new }
+    ensures restarts { StaysRestarting D.seen D.may_leave kernel.old kernel.new }
+{
+    let mut live = None;
+    for line in lines {
+        live = run_line(kernel, session, live, line, writer)?;
+    }
+    Ok(live)
+}
+
+/// Aborts the transaction that is open where the script ends, and writes that.
+pub(crate) fn end_live<D: Device, W: Write>(
+    kernel: &mut Kernel<D>,
+    txn: TxnNo,
+    writer: &mut W,
+) -> Result<(), RunFault>
+    ensures ended { OnOk result ((p : Play) → IsBeside D.seen D.may_leave p (Some txn) kernel.old
+        → IsEnded D.seen D.may_leave p (W.contents writer.old) (W.contents writer.new) kernel.new) }
+    ensures cut { IfErr result (λ why. (p : Play) → IsBeside D.seen D.may_leave p (Some txn) kernel.old
+        → IsCutAtEnd D.seen D.may_leave D.faults p (W.contents writer.old) (W.contents writer.new) kernel.new why) }
+    ensures schema { SameSchema kernel.old kernel.new }
+    ensures restarts { StaysRestarting D.seen D.may_leave kernel.old kernel.new }
+{
+    if let Err(refusal) = undo_open(kernel, txn) {
+        return Err(end_refused(writer, refusal));
+    }
+    match write_answer(writer, &Answer::Aborted) {
+        Ok(()) => Ok(()),
+        Err(_) => Err(RunFault::Output),
+    }
+}
+
+/// Runs a script by itself on a kernel in which no transaction lives, and writes the answer of each
+/// line as one line. A transaction that is open at the script's end is aborted, with the line
+/// `aborted`.
+///
+/// A step that finds no memory is asked again, up to eight times; for one that finds no frame a page is flushed
+/// before that. After `Output` a beginning of the transcript is written and the transaction that lived is aborted,
+/// unless the device had failed. After refusal 1 it stands as it was. Refusal 2 is the last line, and the device has
+/// failed. There is no other refusal.
+///
+/// What is promised holds beside whatever play of the model the kernel stands at. Nobody lives there, and its book
+/// and the base that this leaves are the model's.
+pub fn run_alone<D: Device, W: Write>(
+    kernel: &mut Kernel<D>,
+    session: u32,
+    script: &Script,
+    writer: &mut W,
+) -> Result<(), RunFault>
+    ensures ran { OnOk result (BesideEach D.seen D.may_leave session None kernel.old
+        (λ p. HasRun D.seen D.may_leave p kernel.old script.now.lines.items
+        (W.contents writer.old) (W.contents writer.new) kernel.new)) }
+    ensures cut { IfErr result (λ why. BesideEach D.seen D.may_leave session None kernel.old
+        (λ p. IsCutShort D.seen D.may_leave D.faults p kernel.old script.now.lines.items
+        (W.contents writer.old) (W.contents writer.new) kernel.new why)) }
+    ensures why { IfErr result (λ why. BesideEach D.seen D.may_leave session None kernel.old
+        (λ p. IsEndedFor D.faults kernel.new why)) }
+    ensures schema { SameSchema kernel.old kernel.new }
+    // A kernel that can be restarted from a base still can.
+    ensures restarts { StaysRestarting D.seen D.may_leave kernel.old kernel.new }
+{
+    match run_lines(kernel, session, script.lines(), writer)? {
+        Some(txn) => end_live(kernel, txn, writer),
+        None => Ok(()),
+    }
+}

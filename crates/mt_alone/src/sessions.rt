@@ -1,0 +1,97 @@
+// Scripts, served to a kernel one after the other.
+ghost use Rattle.std.specs.Prelude.{◌≤◌, IfErr, IfOk, OnErr, OnOk, length, map};
+ghost use Rattle.std.specs.Io.KnownBytes.{Appends};
+ghost use Rattle.mt_base.specs.declared.limits.TheConstants.{MAX_SESSIONS};
+ghost use Rattle.mt_txn.specs.Shown.{SameSchema, StaysRestarting};
+ghost use Rattle.mt_script.specs.Answers.{AppendsFront};
+ghost use Rattle.mt_alone.specs.Sessions.{AreCutShort, HaveServed, IsCutWithin, IsServed, StandsEach, lines_in, session_line};
+
+use crate::alone::run_script;
+use crate::rotating::NotServed;
+use crate::running::RunFault;
+use itoa::Buffer;
+use mt_disk::Device;
+use mt_script::{Script, Unheard, put_all};
+use mt_txn::Kernel;
+use std::alloc::Global;
+use std::io::Write;
+
+/// Writes the line before a session's transcript. Where the writer fails, it has written a beginning of the line.
+fn write_session<W: Write>(writer: &mut W, session: u32) -> Result<(), Unheard>
+    ensures all { OnOk result (Appends (W.contents writer.old) (W.contents writer.new) (session_line session)) }
+    ensures front { OnErr result (AppendsFront (W.contents writer.old) (W.contents writer.new)
+        (session_line session)) }
+{
+    let mut digits = Buffer::new();
+    let digits = digits.format(session);
+    put_all(writer, &[b"session ", digits.as_bytes(), b"\n"])
+}
+
+/// Serves one script: writes the line of its session, and then runs it.
+fn run_session<D: Device + Drop, W: Write>(
+    alloc: Global,
+    kernel: Kernel<D>,
+    frames: usize,
+    session: u32,
+    script: &Script,
+    writer: &mut W,
+) -> Result<Kernel<D>, NotServed<D>>
+    ensures served { IfOk result (λ n. StandsEach D.seen D.may_leave kernel
+        (λ p. IsServed D.seen D.may_leave p kernel session (lines_in script.now)
+        (W.contents writer.old) (W.contents writer.new) n)) }
+    ensures cut { IfErr result (λ left. StandsEach D.seen D.may_leave kernel
+        (λ p. IsCutWithin D.seen D.may_leave D.faults p kernel session (lines_in script.now)
+        (W.contents writer.old) (W.contents writer.new) left)) }
+    ensures schema { IfOk result (SameSchema kernel) }
+    ensures restarts { IfOk result (StaysRestarting D.seen D.may_leave kernel) }
+{
+    match write_session(writer, session) {
+        Ok(()) => run_script(alloc, kernel, frames, session, script, writer),
+        Err(_) => Err(NotServed::Kept(RunFault::Output, kernel)),
+    }
+}
+
+/// Serves scripts to a kernel in which no transaction lives, one after the other, as sessions from 1 on. It writes the
+/// line `session I` before the transcript of each; that is what [`run_alone`](crate::run_alone) writes.
+///
+/// Before a line outside of a transaction the kernel's log is turned over, where more than half of its area is in
+/// use. The kernel then has so many pages in frames. So the log of many short transactions does not fill. The play
+/// sees nothing of it. Where there is no memory to force the log, it is turned over before a later line.
+///
+/// It stops at the first script that does not run to its end, for what `run_alone` answers, with the kernel as that
+/// leaves it. Scripts behind that one are not begun. `Output` too where a session's line cannot be written: nothing
+/// of its script ran then. Where a log that was to be turned over leaves no kernel, it stops with the device, by what
+/// [`rotate`](mt_restart::rotate) is refused with then. That is 1, 2, which is the transcript's last line, or 11. The
+/// scripts are [`MAX_SESSIONS`](mt_base::limits::MAX_SESSIONS) at most.
+///
+/// What is promised holds beside whatever play of the model the kernel stands at, from whose first base it can be
+/// restarted. The play's session is not looked at.
+pub fn run_sessions<D: Device + Drop, W: Write>(
+    alloc: Global,
+    kernel: Kernel<D>,
+    frames: usize,
+    scripts: &[Script],
+    writer: &mut W,
+) -> Result<Kernel<D>, NotServed<D>>
+    requires few { length scripts.now ≤ MAX_SESSIONS }
+    ensures ran { IfOk result (λ n. StandsEach D.seen D.may_leave kernel
+        (λ p. HaveServed D.seen D.may_leave p kernel (map lines_in scripts.now)
+        (W.contents writer.old) (W.contents writer.new) n)) }
+    ensures cut { IfErr result (λ left. StandsEach D.seen D.may_leave kernel
+        (λ p. AreCutShort D.seen D.may_leave D.faults p kernel (map lines_in scripts.now)
+        (W.contents writer.old) (W.contents writer.new) left)) }
+    ensures schema { IfOk result (SameSchema kernel) }
+    // A kernel that can be restarted from a base still can.
+    ensures restarts { IfOk result (StaysRestarting D.seen D.may_leave kernel) }
+{
+    let mut kernel = kernel;
+    let mut session = 0;
+    for script in scripts {
+        session += 1;
+        match run_session(alloc, kernel, frames, session, script, writer) {
+            Ok(next) => kernel = next,
+            Err(left) => return Err(left),
+        }
+    }
+    Ok(kernel)
+}

@@ -1,0 +1,136 @@
+// What the kernel answers to the lines of a script.
+ghost use Rattle.std.specs.Prelude.{◌≡◌, None, Some};
+ghost use Rattle.mt_txn.specs.Shown.{SameSchema, StaysRestarting};
+ghost use Rattle.mt_alone.specs.Driven.{HasAborted};
+ghost use Rattle.mt_alone.specs.Runs.{Answers, AnswersWithin, refused_as};
+ghost use Rattle.mt_script.specs.declared.lines.Line.TheVariants as line;
+
+use crate::driving::{step_to_reply, undo};
+use crate::forcing::force_commit;
+use mt_base::{Refusal, TxnNo};
+use mt_disk::Device;
+use mt_model::Op;
+use mt_script::{Answer, Line};
+use mt_txn::{Called, Kernel};
+
+/// An answer, and the transaction that is open then; or the refusal for which the line is given up.
+pub type Turn = Result<(Answer, Option<TxnNo>), Refusal>;
+
+/// What a refusal comes to: an answer, unless the device has failed.
+fn refused(refusal: Refusal, live: Option<TxnNo>) -> Turn
+    ensures { result ≡ refused_as refusal live }
+{
+    match refusal {
+        Refusal::DeviceFailed => Err(refusal),
+        _ => Ok((Answer::Refused(refusal), live)),
+    }
+}
+
+/// Begins a transaction.
+pub fn begin<D: Device>(kernel: &mut Kernel<D>, session: u32) -> Turn
+    ensures answers { Answers D.seen D.may_leave D.faults session kernel.old None line.Begin result kernel.new }
+    ensures schema { SameSchema kernel.old kernel.new }
+    ensures restarts { StaysRestarting D.seen D.may_leave kernel.old kernel.new }
+{
+    match kernel.begin(session) {
+        Ok(txn) => Ok((Answer::Begun, Some(txn))),
+        Err(refusal) => refused(refusal, None),
+    }
+}
+
+/// Makes one operation in a transaction.
+pub fn call<D: Device>(kernel: &mut Kernel<D>, txn: TxnNo, op: &Op) -> Turn
+    ensures answers { AnswersWithin D.seen D.may_leave D.faults kernel.old txn (line.Call op.now) result kernel.new }
+    ensures schema { SameSchema kernel.old kernel.new }
+    ensures restarts { StaysRestarting D.seen D.may_leave kernel.old kernel.new }
+{
+    let Ok(copy) = op.try_clone() else {
+        return refused(Refusal::NoMemory, Some(txn));
+    };
+    match kernel.call(txn, copy) {
+        Ok(Called::Started) => {
+            let reply = step_to_reply(kernel, txn)?;
+            Ok((Answer::Replied(reply), Some(txn)))
+        }
+        Ok(Called::Wait(_)) => Err(Refusal::Busy),
+        Err(refusal) => refused(refusal, Some(txn)),
+    }
+}
+
+/// Commits a transaction.
+pub fn commit<D: Device>(kernel: &mut Kernel<D>, txn: TxnNo) -> Turn
+    ensures answers { AnswersWithin D.seen D.may_leave D.faults kernel.old txn line.Commit result kernel.new }
+    ensures schema { SameSchema kernel.old kernel.new }
+    ensures restarts { StaysRestarting D.seen D.may_leave kernel.old kernel.new }
+{
+    match kernel.commit_begin(txn) {
+        Ok(place) => {
+            force_commit(kernel, txn)?;
+            Ok((Answer::Committed(place), None))
+        }
+        Err(refusal) => refused(refusal, Some(txn)),
+    }
+}
+
+/// Aborts a transaction, from its first step to its last.
+pub fn undo_open<D: Device>(kernel: &mut Kernel<D>, txn: TxnNo) -> Result<(), Refusal>
+    ensures aborted { HasAborted D.seen D.may_leave D.faults kernel.old txn result kernel.new }
+    ensures schema { SameSchema kernel.old kernel.new }
+    ensures restarts { StaysRestarting D.seen D.may_leave kernel.old kernel.new }
+{
+    kernel.abort_begin(txn)?;
+    undo(kernel, txn)
+}
+
+/// Aborts a transaction, where a line asks for it.
+pub fn abort<D: Device>(kernel: &mut Kernel<D>, txn: TxnNo) -> Turn
+    ensures answers { AnswersWithin D.seen D.may_leave D.faults kernel.old txn line.Abort result kernel.new }
+    ensures schema { SameSchema kernel.old kernel.new }
+    ensures restarts { StaysRestarting D.seen D.may_leave kernel.old kernel.new }
+{
+    undo_open(kernel, txn)?;
+    Ok((Answer::Aborted, None))
+}
+
+/// The answer to a line where no transaction is open.
+fn answer_outside<D: Device>(kernel: &mut Kernel<D>, session: u32, line: &Line) -> Turn
+    ensures answers { Answers D.seen D.may_leave D.faults session kernel.old None line.now result kernel.new }
+    ensures schema { SameSchema kernel.old kernel.new }
+    ensures restarts { StaysRestarting D.seen D.may_leave kernel.old kernel.new }
+{
+    match line {
+        Line::Begin => begin(kernel, session),
+        Line::Call(_) | Line::Commit | Line::Abort => refused(Refusal::Stranger, None),
+    }
+}
+
+/// The answer to a line within a transaction.
+fn answer_within<D: Device>(kernel: &mut Kernel<D>, txn: TxnNo, line: &Line) -> Turn
+    ensures answers { AnswersWithin D.seen D.may_leave D.faults kernel.old txn line.now result kernel.new }
+    ensures schema { SameSchema kernel.old kernel.new }
+    ensures restarts { StaysRestarting D.seen D.may_leave kernel.old kernel.new }
+{
+    match line {
+        Line::Begin => refused(Refusal::Busy, Some(txn)),
+        Line::Call(op) => call(kernel, txn, op),
+        Line::Commit => commit(kernel, txn),
+        Line::Abort => abort(kernel, txn),
+    }
+}
+
+/// The answer to a line, and the transaction that is open then.
+pub fn answer<D: Device>(
+    kernel: &mut Kernel<D>,
+    session: u32,
+    live: Option<TxnNo>,
+    line: &Line,
+) -> Turn
+    ensures answers { Answers D.seen D.may_leave D.faults session kernel.old live line.now result kernel.new }
+    ensures schema { SameSchema kernel.old kernel.new }
+    ensures restarts { StaysRestarting D.seen D.may_leave kernel.old kernel.new }
+{
+    match live {
+        None => answer_outside(kernel, session, line),
+        Some(txn) => answer_within(kernel, txn, line),
+    }
+}

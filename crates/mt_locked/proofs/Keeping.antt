@@ -1,0 +1,156 @@
+-- Each call of a kernel leaves it on the base that it began on, and only a force step makes its book grow.
+use Rattle.std.proofs.Common.{◌≡◌, ℕ, Bool, true, false, List, [], ◌∷◌, Option, Some, None, Result, Ok, Err, refl, sym, ◌∙◌, subst}
+use Rattle.std.proofs.Props.{props}
+use Rattle.std.specs.Prelude.{OnOk, OnErr, if◌then◌else◌}
+use mathlib.Core.List.{IsPrefix}
+use mathlib.Core.Logic.{∥∥₁_elim, ∥∥₁_map}
+use Rattle.mt_base.specs.declared.refusal.Refusal.{Refusal}
+use Rattle.mt_base.specs.declared.refusal.Refusal.TheVariants as refusal
+use Rattle.mt_disk.specs.declared.device.Device.{Ghosts}
+use Rattle.mt_kernel.specs.Booked.{booked_each, session_at}
+use Rattle.mt_kernel.specs.Runs.{state_in}
+use Rattle.mt_kernel.specs.declared.calls.Called.{Called}
+use Rattle.mt_kernel.specs.declared.calls.Called.TheVariants as call
+use Rattle.mt_live.specs.Machine.{State, begun, called, ended, gone, booked}
+use Rattle.mt_live.specs.declared.transactions.TxnState.{TxnState}
+use Rattle.mt_live.specs.declared.transactions.TxnState.TheVariants.{Open, Committing, Aborting}
+use Rattle.mt_mark.proofs.Fronts.{prefix_self, prefix_trans}
+use Rattle.mt_model.specs.History.{IsLegal}
+use Rattle.mt_model.specs.Model as model
+use Rattle.mt_model.specs.Views.{base_of}
+use Rattle.mt_model.specs.declared.history.Committed.{Committed}
+use Rattle.mt_model.specs.declared.operations.Op.{Op}
+use Rattle.mt_model.specs.declared.tables.Base.{Base}
+use Rattle.mt_txn.proofs.Living.{idle_of}
+use Rattle.mt_txn.proofs.Showing.{legal_of, parts_stay}
+use Rattle.mt_txn.specs.Causes.{first_of, is_busy, is_open, step_cause, unless}
+use Rattle.mt_txn.specs.Events.{HasAborted, HasCalled, HasForced, HasStepped, IsBack}
+use Rattle.mt_txn.specs.Events.IsBack.{stands, drops, undoes}
+use Rattle.mt_txn.specs.Shown.{Restarts, SameSchema, Shows, Stays, StaysRestarting, is_failed}
+use Rattle.mt_txn.specs.declared.answers.AbortStepped.{AbortStepped}
+use Rattle.mt_txn.specs.declared.answers.AbortStepped.TheVariants as abort
+use Rattle.mt_txn.specs.declared.answers.KernelForced.{KernelForced}
+use Rattle.mt_txn.specs.declared.answers.KernelForced.TheVariants as forced
+use Rattle.mt_txn.specs.declared.answers.Stepped.{Stepped}
+use Rattle.mt_txn.specs.declared.answers.Stepped.TheVariants as step
+use Rattle.mt_txn.specs.declared.kernel.Kernel.{Kernel}
+use Rattle.mt_locked.specs.Began.{BeganOn}
+use Rattle.mt_locked.proofs.Sets.{Books-set, IsLegal-prop, begins}
+
+-- ---- of states
+
+-- a step is not refused only of an open transaction that runs an operation
+both_hold : (failed opened busy : Bool) → first_of (if failed then Some refusal.DeviceFailed else unless opened refusal.Stranger) (unless busy refusal.Stranger) ≡ None → (opened ≡ true) × (busy ≡ true)
+both_hold true opened busy none = absurd cc
+both_hold false false busy none = absurd cc
+both_hold false true false none = absurd cc
+both_hold false true true none = (refl, refl)
+
+open_state : (o : Option TxnState) → is_open o ≡ true → o ≡ Some Open
+open_state None is = absurd cc
+open_state (Some Open) is = refl
+open_state (Some Committing) is = absurd cc
+open_state (Some Aborting) is = absurd cc
+
+back_book : (t : ℕ) (s z : State) → IsBack s t z → z.book ≡ s.book
+back_book t s _ stands = refl
+back_book t s _ (drops op ps runs given) = refl
+back_book t s _ (undoes last inverse ps idle effect inverts given) = refl
+
+books_grow : (s : State) (ts : List ℕ) → IsPrefix s.book (booked_each s ts).book
+books_grow s [] = prefix_self s.book
+books_grow s (t ∷ ts) = let z = booked s t (session_at s t) in prefix_trans s.book z.book (booked_each z ts).book (_, refl) (books_grow z ts)
+
+-- ---- of kernels
+
+module _ {D : Type 0} {g : Ghosts D} (seen : D → List ℕ) (may_leave : D → List ℕ → Type 0) where
+  -- from some state to one of the same book
+  abbrev pub Goes : Base → State → Kernel D g → Type 0
+  Goes b s n = ∥ ((z : State) × (z.book ≡ s.book) × Shows seen may_leave (base_of b) z n) ∥₁
+
+  -- shown from the base that this one is seen as
+  pub began_so : (b : Base) (k : Kernel D g) (first : model.Base) (s : State) → base_of b ≡ first → Shows seen may_leave first s k → Restarts seen may_leave first k → BeganOn seen may_leave b k
+  began_so b k first s same shows again =
+      (∣ (s, subst (λ (f : model.Base). Shows seen may_leave f s k) (sym same) shows) ∣₁, subst (λ (f : model.Base). Restarts seen may_leave f k) (sym same) again)
+
+  book_of : (b : Base) (k : Kernel D g) (s : State) → Shows seen may_leave (base_of b) s k → s.book ≡ k.parts.book.items
+  book_of b k s shows = ∥∥₁_elim (legal_of seen may_leave k.relations k.counters k.parts (base_of b) s shows) (hlevel (props, Books-set)) (λ (same, legal). same)
+
+  pub legal_book : (b : Base) (k : Kernel D g) → BeganOn seen may_leave b k → IsLegal (base_of b) k.parts.book.items
+  legal_book b k began = ∥∥₁_elim began.0 (IsLegal-prop (base_of b) k.parts.book.items) (λ (s, shows).
+      ∥∥₁_elim (legal_of seen may_leave k.relations k.counters k.parts (base_of b) s shows) (IsLegal-prop (base_of b) k.parts.book.items) (λ (same, legal). legal))
+
+  pub still_began : (b : Base) (k n : Kernel D g) → ((s : State) → Shows seen may_leave (base_of b) s k → Goes b s n) → StaysRestarting seen may_leave k n → BeganOn seen may_leave b k → BeganOn seen may_leave b n
+  still_began b k n go again began = (∥∥₁_elim began.0 (hlevel props) (λ (s, shows). ∥∥₁_map (go s shows) (λ (z, same, now). (z, now))), again (base_of b) began.1)
+
+  pub same_book : (b : Base) (k n : Kernel D g) → ((s : State) → Shows seen may_leave (base_of b) s k → Goes b s n) → BeganOn seen may_leave b k → n.parts.book.items ≡ k.parts.book.items
+  same_book b k n go began = ∥∥₁_elim began.0 (hlevel (props, Books-set)) (λ (s, shows). ∥∥₁_elim (go s shows) (hlevel (props, Books-set)) (λ (z, same, now).
+      sym (book_of b n z now) ∙ (same ∙ book_of b k s shows)))
+
+  -- ---- a log turned over
+
+  -- it is in whatever state it was, where it can be restarted
+  abbrev pub GoesOn : Kernel D g → Kernel D g → Type 0
+  GoesOn k n = (first : model.Base) (s : State) → Restarts seen may_leave first k → Shows seen may_leave first s k → Shows seen may_leave first s n
+
+  pub turned_began : (b : Base) (k n : Kernel D g) → GoesOn k n → StaysRestarting seen may_leave k n → BeganOn seen may_leave b k → BeganOn seen may_leave b n
+  turned_began b k n go again began = (∥∥₁_map began.0 (λ (s, shows). (s, go (base_of b) s began.1 shows)), again (base_of b) began.1)
+
+  pub turned_book : (b : Base) (k n : Kernel D g) → GoesOn k n → BeganOn seen may_leave b k → n.parts.book.items ≡ k.parts.book.items
+  turned_book b k n go began = same_book b k n (λ s shows. ∣ (s, refl, go (base_of b) s began.1 shows) ∣₁) began
+
+  -- ---- calls that leave the book
+
+  pub stays : (b : Base) (k n : Kernel D g) → Stays seen may_leave k n → (s : State) → Shows seen may_leave (base_of b) s k → Goes b s n
+  stays b k n same s shows = ∣ (s, refl, same (base_of b) s shows) ∣₁
+
+  pub begins_one : {T : Type 0} → (b : Base) (k n : Kernel D g) (session : ℕ) (r : Result T Refusal) → ((s : State) → Shows seen may_leave (base_of b) s k → OnOk r (Shows seen may_leave (base_of b) (begun s session) n))
+      → OnErr r (n.parts ≡ k.parts) → SameSchema k n → (s : State) → Shows seen may_leave (base_of b) s k → Goes b s n
+  begins_one b k n session (Ok x) did err schema s shows = ∣ (begun s session, refl, did s shows) ∣₁
+  begins_one b k n session (Err why) did err schema s shows = ∣ (s, refl, parts_stay seen may_leave k n err schema (base_of b) s shows) ∣₁
+
+  pub calls_one : (b : Base) (n : Kernel D g) (t : ℕ) (op : Op) (r : Result Called Refusal) (s : State) → HasCalled seen may_leave (base_of b) s t op r n → Goes b s n
+  calls_one b n t op (Ok call.Started) s has = ∣ (called s t op, refl, has) ∣₁
+  calls_one b n t op (Ok (call.Wait holder)) s has = ∣ (s, refl, has) ∣₁
+  calls_one b n t op (Err why) s has = ∣ (s, refl, has) ∣₁
+
+  pub steps_one : (b : Base) (k n : Kernel D g) (t : ℕ) (r : Result Stepped Refusal) → OnOk r (step_cause (is_failed k) k.parts t ≡ None) → (s : State) → Shows seen may_leave (base_of b) s k
+      → HasStepped seen may_leave (base_of b) s t r n → Goes b s n
+  steps_one b k n t (Ok (step.Replied reply)) may s shows has = go (s.running t) refl
+    where
+      go : (o : Option Op) → s.running t ≡ o → Goes b s n
+      go None none = absurd (let both = both_hold (is_failed k) (is_open (state_in k.parts.live.members t)) (is_busy k.parts t) may in
+          let idle = idle_of seen may_leave k.relations k.counters k.parts (base_of b) s shows t (open_state (state_in k.parts.live.members t) both.0) none in
+          let wrong : ◌≡◌ {A = Bool} true false = sym both.1 ∙ idle in cc)
+      go (Some op) runs = ∣ (ended s t op, refl, (has op runs).0) ∣₁
+  steps_one b k n t (Ok step.Went) may s shows has = ∣ (s, refl, has) ∣₁
+  steps_one b k n t (Ok (step.Wait other)) may s shows has = ∣ (s, refl, has) ∣₁
+  steps_one b k n t (Ok step.Again) may s shows has = ∣ (s, refl, has) ∣₁
+  steps_one b k n t (Ok step.Flush) may s shows has = ∣ (s, refl, has) ∣₁
+  steps_one b k n t (Err why) may s shows has = ∣ (s, refl, has) ∣₁
+
+  pub aborts_one : (b : Base) (n : Kernel D g) (t : ℕ) (r : Result AbortStepped Refusal) (s : State) → HasAborted seen may_leave (base_of b) s t r n → Goes b s n
+  aborts_one b n t (Ok abort.More) s has = ∥∥₁_map has (λ (z, back, now). (z, back_book t s z back, now))
+  aborts_one b n t (Ok (abort.Wait other)) s has = ∣ (s, refl, has) ∣₁
+  aborts_one b n t (Ok abort.Again) s has = ∣ (s, refl, has) ∣₁
+  aborts_one b n t (Ok abort.Flush) s has = ∣ (s, refl, has) ∣₁
+  aborts_one b n t (Ok abort.Ended) s has = ∣ (gone s t, refl, has.0) ∣₁
+  aborts_one b n t (Err why) s has = ∣ (s, refl, has) ∣₁
+
+  -- ---- force steps
+
+  abbrev Grows : Base → State → Kernel D g → Type 0
+  Grows b s n = ∥ ((z : State) × IsPrefix s.book z.book × Shows seen may_leave (base_of b) z n) ∥₁
+
+  forces_one : (b : Base) (n : Kernel D g) (r : Result KernelForced Refusal) (s : State) → HasForced seen may_leave (base_of b) s r n → Grows b s n
+  forces_one b n (Ok forced.More) s has = ∣ (s, prefix_self s.book, has) ∣₁
+  forces_one b n (Ok forced.Idle) s has = ∣ (s, prefix_self s.book, has) ∣₁
+  forces_one b n (Ok (forced.Durable names)) s has = ∣ (booked_each s names.items, books_grow s names.items, has) ∣₁
+  forces_one b n (Err why) s has = ∣ (s, prefix_self s.book, has) ∣₁
+
+  pub forced_began : (b : Base) (k n : Kernel D g) (r : Result KernelForced Refusal) → ((s : State) → Shows seen may_leave (base_of b) s k → HasForced seen may_leave (base_of b) s r n) → StaysRestarting seen may_leave k n → BeganOn seen may_leave b k → BeganOn seen may_leave b n
+  forced_began b k n r did again began = (∥∥₁_elim began.0 (hlevel props) (λ (s, shows). ∥∥₁_map (forces_one b n r s (did s shows)) (λ (z, more, now). (z, now))), again (base_of b) began.1)
+
+  pub forced_grows : (b : Base) (k n : Kernel D g) (r : Result KernelForced Refusal) → ((s : State) → Shows seen may_leave (base_of b) s k → HasForced seen may_leave (base_of b) s r n) → BeganOn seen may_leave b k → IsPrefix k.parts.book.items n.parts.book.items
+  forced_grows b k n r did began = begins k.parts.book.items n.parts.book.items (∥∥₁_elim began.0 (hlevel props) (λ (s, shows). ∥∥₁_map (forces_one b n r s (did s shows)) (λ (z, more, now).
+      subst (λ (x : List Committed × List Committed). IsPrefix x.0 x.1) (λ i. (book_of b k s shows i, book_of b n z now i)) more)))

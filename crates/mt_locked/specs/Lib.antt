@@ -1,0 +1,6 @@
+pub mod Began
+pub mod Names
+pub mod Refusals
+pub mod Seen
+pub mod Turns
+pub mod Whole

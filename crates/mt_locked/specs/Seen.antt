@@ -1,0 +1,92 @@
+-- What contracts see of a pass and of the locked kernel.
+use Rattle.std.specs.Prelude.{◌≡◌, ◌≢◌, ◌≤◌, ◌⊎◌, Bool, true, false, Result, Ok, Err, ℕ, ◌+◌, List, [], ◌∷◌, ◌++◌, length, take, slice_get, Some}
+use Rattle.mt_mark.specs.Held.{Held}
+use Rattle.mt_mark.specs.Legal.{IsLegal}
+use Rattle.mt_mark.specs.Rule.{dones, NoneBy}
+use Rattle.mt_mark.specs.declared.view.Entry.{Entry}
+use Rattle.mt_model.specs.declared.history.Committed.{Committed}
+use Rattle.mt_model.specs.declared.operations.Op.{Op}
+use Rattle.mt_model.specs.declared.operations.Reply.{Reply}
+use Rattle.mt_model.specs.declared.tables.Base.{Base}
+use Rattle.mt_locked.specs.Began.{BasedSeen}
+
+-- the pass's number, and its beginning of the history
+pub record PassSeen : Type 0 where
+  pub number : ℕ
+  pub seen : List Entry
+
+-- the durable book, the history at the mark, and whether a rotation left no more of the kernel
+pub record LockedSeen : Type 0 where
+  pub book : List Committed
+  pub list : List Entry
+  pub is_left : Bool
+
+-- The pass's new list is legal, begins with all that it had seen, has this length, and ends with the entry. No other entry past the old list is this pass's.
+pub record Extends (b : Base) (old : PassSeen) (entry : Entry) (place : ℕ) (new : PassSeen) : Type 0 where
+  pub number : new.number ≡ old.number
+  pub between : List Entry
+  pub list : new.seen ≡ (old.seen ++ between) ++ entry ∷ []
+  pub others : NoneBy old.number between
+  pub legal : IsLegal b (dones new.seen)
+  pub long : length new.seen ≡ place
+
+-- and it is the first entries of the book, passes aside
+pub record Entered (b : Base) (locked : LockedSeen) (place : ℕ) (old : PassSeen) (entry : Entry) (new : PassSeen) : Type 0 where
+  pub extends : Extends b old entry place new
+  pub durable : dones new.seen ≡ take place locked.book
+
+-- the mark is not one below the place, or the book has no such entry there
+abbrev pub CannotEnter : LockedSeen → ℕ → Entry → Type 0
+CannotEnter locked place entry = (length locked.list + 1 ≢ place) ⊎ (slice_get locked.book (length locked.list) ≢ Some entry.done)
+
+-- The pass's new list is legal, begins with all that it had seen, has this length, and no further entry of its own.
+pub record Looked (b : Base) (old : PassSeen) (found : ℕ) (new : PassSeen) : Type 0 where
+  pub number : new.number ≡ old.number
+  pub between : List Entry
+  pub list : new.seen ≡ old.seen ++ between
+  pub others : NoneBy old.number between
+  pub legal : IsLegal b (dones new.seen)
+  pub long : length new.seen ≡ found
+
+-- the token of a transaction that has just begun
+abbrev pub fresh : ℕ → ℕ → Entry
+fresh pass session = record { pass = pass; done = record { session = session; calls = [] } }
+
+-- the token with these calls in place of its own
+abbrev pub with_calls : Entry → List (Op × Reply) → Entry
+with_calls t calls = record { pass = t.pass; done = record { session = t.done.session; calls = calls } }
+
+-- the token after a call and its reply
+abbrev pub with_call : Entry → Op → Reply → Entry
+with_call t op reply = with_calls t (t.done.calls ++ (op, reply) ∷ [])
+
+-- a seat of the same mark, which has seen all that the end has
+pub record Beside (end seat : Held) : Type 0 where
+  pub mark : seat.mark ≡ end.mark
+  pub base : seat.view.base ≡ end.view.base
+  pub list : seat.view.list ≡ end.view.list
+  pub above : 1 ≤ seat.view.number
+
+-- the base that a kernel began on, its book of durable transactions, and whether a rotation left no more of it
+pub record KeptSeen : Type 0 where
+  pub base : Base
+  pub book : List Committed
+  pub is_left : Bool
+
+abbrev pub whole : BasedSeen → KeptSeen
+whole b = record { base = b.base; book = b.book; is_left = false }
+
+abbrev pub seen_of : {X : Type 0} → Result BasedSeen X → BasedSeen → KeptSeen
+seen_of (Ok b) past = whole b
+seen_of (Err x) past = record { base = past.base; book = past.book; is_left = true }
+
+-- base and book are as they were
+pub record KeepsAll (old : BasedSeen) (new : KeptSeen) : Type 0 where
+  pub base : new.base ≡ old.base
+  pub book : new.book ≡ old.book
+
+-- nothing is left of the kernel that was not before, unless the book has so many transactions
+pub record IsTurned (commits : ℕ) (old new : KeptSeen) : Type 0 where
+  pub base : new.base ≡ old.base
+  pub book : new.book ≡ old.book
+  pub left : (new.is_left ≡ old.is_left) ⊎ (length old.book ≡ commits)

@@ -1,0 +1,49 @@
+-- What is reported of a kernel under the lock: of its log, and of a log that was turned over.
+use Rattle.std.specs.Prelude.{◌≡◌, ℕ, Bool, true, None, Result, Ok, IfErr, IsErr}
+use Rattle.mt_base.specs.declared.refusal.Refusal.{Refusal}
+use Rattle.mt_disk.specs.declared.device.Device.{Ghosts}
+use Rattle.mt_live.specs.Machine.{State}
+use Rattle.mt_log.specs.Words.{appended, area_size, used}
+use Rattle.mt_model.specs.Views.{base_of}
+use Rattle.mt_model.specs.declared.tables.Base.{Base}
+use Rattle.mt_op.specs.Begun.{AreImages}
+use Rattle.mt_restart.specs.Rotated.{early_cause}
+use Rattle.mt_locked.specs.Began.{BeganOn}
+use Rattle.mt_restart.specs.TurnFaults.{IsTurnFault}
+use Rattle.mt_locked.specs.Seen.{IsTurned, KeptSeen}
+use Rattle.mt_locked.specs.declared.log_use.LogUse.{LogUse}
+use Rattle.mt_txn.specs.Shown.{Shows}
+use Rattle.mt_txn.specs.declared.kernel.Kernel.{Kernel}
+
+-- a kernel that began on this base has so many bytes of its log's area in use
+pub record IsUse {D : Type 0} (g : Ghosts D) (base : Base) (u : LogUse) : Type 0 where
+  pub kernel : Kernel D g
+  pub began : BeganOn g.seen g.may_leave base kernel
+  pub used : u.used ≡ used kernel.parts.operations.store.log
+  pub size : u.size ≡ area_size kernel.parts.operations.store.log
+
+abbrev pub IsUseOn : {D : Type 0} → Ghosts D → Base → LogUse → Type 0
+IsUseOn g base u = ∥ IsUse g base u ∥₁
+
+-- A kernel that began on this base had not failed, and nobody lived in it. It goes on as another one, in whatever state it
+-- was, with its book, and with a log that has no record but its area's images.
+pub record IsTurn {D : Type 0} (g : Ghosts D) (base : Base) : Type 0 where
+  pub was : Kernel D g
+  pub began : BeganOn g.seen g.may_leave base was
+  pub may : early_cause was ≡ None
+  pub now : Kernel D g
+  pub begins : BeganOn g.seen g.may_leave base now
+  pub shows : (s : State) → Shows g.seen g.may_leave (base_of base) s was → Shows g.seen g.may_leave (base_of base) s now
+  pub book : now.parts.book.items ≡ was.parts.book.items
+  pub images : AreImages (appended now.parts.operations.store.log)
+
+abbrev pub HasTurned : {D : Type 0} → Ghosts D → Base → Type 0
+HasTurned g base = ∥ IsTurn g base ∥₁
+
+-- what a rotation makes of what is kept, and what it tells
+pub record IsRotation {D : Type 0} (g : Ghosts D) (commits : ℕ) (old new : KeptSeen) (told : Result Bool Refusal) : Type 0 where
+  pub turned : IsTurned commits old new
+  pub why : IfErr told IsTurnFault
+  pub did : told ≡ Ok true → HasTurned g old.base
+  -- where no more than the device is left, it is refused
+  pub gone : new.is_left ≡ true → IsErr told

@@ -1,0 +1,28 @@
+//! What lies under the lock of a kernel that threads share: the kernel, with its end of the mark of one history. Nothing
+//! here waits.
+//!
+//! [`Locked`] is that value. Each that takes part holds a [`Pass`], and a token, [`Txn`], of its open transaction.
+//!
+//! The lock, and the calls that wait, are in `mt_shared`, which passes on the types alone. What gives and spends tokens
+//! stays here: no clause says how many transactions a pass has.
+#![tactic(auto)]
+
+mod based;
+mod closing;
+mod kept;
+mod locked;
+mod log_use;
+mod naming;
+mod pass;
+mod passes;
+mod past;
+mod turned;
+mod txn;
+
+pub use based::Based;
+pub use locked::{Due, Locked, Unclosed};
+pub use log_use::LogUse;
+pub use naming::Naming;
+pub use pass::Pass;
+pub use passes::passes_of;
+pub use txn::{Refused, Txn, give_token, put_calls, spend_token, take_calls};

@@ -1,0 +1,414 @@
+ghost use Rattle.std.specs.Prelude.{◌≡◌, ◌+◌, ◌++◌, ◌∷◌, [], ◌≤◌, false, length, OnOk, IfOk, IfErr, IfNone, IfSome, Ok, IsTrue, ◌↔◌, slice_get, Some, All, true};
+ghost use mathlib.Core.List.{IsPrefix};
+ghost use Rattle.mt_mark.specs.Legal.{IsLegal};
+ghost use Rattle.mt_mark.specs.Rule.{dones, Holds, IsConfirmed};
+ghost use Rattle.mt_locked.specs.Began.{BeganOn, IsIdle};
+ghost use Rattle.mt_locked.specs.Refusals.{IsCloseRefusal};
+ghost use Rattle.mt_restart.specs.TurnFaults.{IsTurnFault};
+ghost use Rattle.mt_locked.specs.Seen.{PassSeen, Entered, CannotEnter};
+ghost use Rattle.mt_locked.specs.Turns.{HasTurned, IsUseOn};
+ghost use Rattle.mt_txn.specs.Shown.{is_failed};
+ghost use Rattle.mt_locked.specs.Whole.{HasAllOf, IsOfAll, IsWhole, all_own};
+
+use crate::based::Based;
+use crate::closing::{are_all, meet_all};
+use crate::kept::Kept;
+use crate::log_use::LogUse;
+use crate::naming::Naming;
+use crate::pass::Pass;
+use crate::txn::Txn;
+use mt_base::{Refusal, TxnNo};
+use mt_disk::Device;
+use mt_mark::{End, Entry};
+use mt_model::{Committed, Op};
+use mt_pool::Flushed;
+use mt_txn::{AbortStepped, Called, Kernel, KernelForced, Stepped};
+use std::alloc::Global;
+use std::marker::{Model, PhantomData};
+
+/// What who tends is to do.
+#[derive(Clone, Copy, PartialEq, Eq, Debug)]
+pub enum Due {
+    /// To force and to flush, until nothing is left.
+    Work,
+    /// To sleep until a transaction ends.
+    Nothing,
+    /// To come to an end.
+    End,
+}
+
+/// What lies under the lock: the kernel, or what a rotation left of it, with its end of the mark. Its first commits are
+/// the history, as many as the mark counts. Contracts see the book and the history.
+pub struct Locked<D: Device, J: Naming> {
+    pub(crate) kernel: Kept<D>,
+    pub(crate) end: End,
+    // the place of the commit that was appended last
+    pub(crate) appended: u64,
+    // how many hold new transactions back
+    pub(crate) holding: u32,
+    // what who tends is to do
+    pub(crate) due: Due,
+    pub(crate) of: PhantomData<J>,
+}
+
+/// A close that was refused, with all that was handed in.
+pub struct Unclosed<D: Device, J: Naming> {
+    pub why: Refusal,
+    pub locked: Locked<D, J>,
+    pub passes: Vec<Pass<J>>,
+}
+
+impl<D: Device, J: Naming> Model for Locked<D, J> {
+    ghost use Rattle.std.specs.Prelude.{◌≡◌, true};
+    ghost use mathlib.Core.List.{IsPrefix};
+    ghost use Rattle.mt_mark.specs.Rule.{dones, IsConfirmed};
+    ghost use Rattle.mt_locked.specs.Seen.{LockedSeen};
+
+    ghost Value = { LockedSeen };
+
+    ghost view = { λ l. record { book = l.kernel.book; list = l.end.view.list; is_left = l.kernel.is_left } };
+
+    ghost invariant = { λ l. (l.end.mark ≡ J.mark) × (l.end.view.base ≡ J.base) × (l.kernel.base ≡ J.base)
+        × IsConfirmed l.end.view × IsPrefix (dones l.end.view.list) l.kernel.book
+        × (l.kernel.is_left ≡ true → l.kernel.book ≡ dones l.end.view.list) × (l.end.view.book ≡ J.book) };
+}
+
+impl<D: Device, J: Naming> Locked<D, J> {
+    /// A kernel with the end of the mark that was made about it. The history is its book, or the first of it.
+    pub fn over(kernel: Based<D>, end: End) -> Locked<D, J>
+        requires name { (end.mark ≡ J.mark) × (end.view.base ≡ J.base) × (end.view.book ≡ J.book) }
+        requires base { kernel.base ≡ J.base }
+        requires confirmed { IsConfirmed end.view }
+        requires front { IsPrefix (dones end.view.list) kernel.book }
+        ensures book { result.book ≡ kernel.book }
+        ensures list { result.list ≡ end.view.list }
+        ensures here { result.is_left ≡ false }
+    {
+        Locked {
+            kernel: Kept::new(kernel),
+            end,
+            appended: 0,
+            holding: 0,
+            due: Due::Work,
+            of: PhantomData,
+        }
+    }
+
+    /// Enters a durable transaction of this pass into the history, at this place, from 1. Then the pass has seen the
+    /// book's first entries up to it.
+    ///
+    /// The token comes back, and nothing has changed, only in two cases. The mark does not stand one below the place,
+    /// or the book has no such entry there. That is one with the token's session, calls and replies.
+    pub fn enter(&mut self, place: u64, pass: &mut Pass<J>, txn: Txn<J>) -> Result<(), Txn<J>>
+        requires own { txn.pass ≡ pass.old.number }
+        ensures entered { OnOk result (Entered J.base self.old place pass.old txn pass.new) }
+        ensures back { IfErr result (λ t. (t ≡ txn) × (pass.new ≡ pass.old) × CannotEnter self.old place txn) }
+        ensures book { self.new.book ≡ self.old.book }
+        ensures list { IfErr result (λ _. self.new.list ≡ self.old.list) }
+    {
+        let at = self.end.check();
+        if place == 0 || at != place - 1 {
+            return Err(txn);
+        }
+        let (number, entry) = txn.into_entry();
+        if !self.has(at, &entry) {
+            return Err(Txn::of_entry(number, entry));
+        }
+        self.end.enter(&mut pass.seat, &entry);
+        pass.is_busy = false;
+        Ok(())
+    }
+
+    // Whether the book has this transaction at the mark's place, from 0.
+    fn has(&self, at: u64, entry: &Entry) -> bool
+        requires at { at ≡ length self.now.list }
+        ensures is { IsTrue result ↔ (slice_get self.now.book at ≡ Some entry.now.done) }
+        ensures legal { IsLegal J.base self.now.book }
+    {
+        match self.kernel.book() {
+            Some(book) => has_at(book, at, entry),
+            None => false,
+        }
+    }
+
+    /// Whether the book has nothing after this place.
+    pub fn is_last(&self, place: u64) -> bool
+        ensures { IsTrue result ↔ (length self.now.book ≤ place) }
+    {
+        self.kernel.len() <= place
+    }
+
+    /// Whether a commit was appended that is not in the book yet.
+    pub fn is_committing(&self) -> bool {
+        self.kernel.len() < self.appended
+    }
+
+    /// Whether who commits at this place makes force steps: it is the next to be entered, and not in the book yet. Where the
+    /// device has failed, that is how it is reported.
+    pub fn is_to_force(&mut self, place: u64) -> bool
+        ensures { self.new ≡ self.old }
+    {
+        let is_next = place > 0 && self.end.check() == place - 1;
+        place > self.kernel.len() && (is_next || self.kernel.has_failed())
+    }
+
+    /// Begins a transaction, as [`Kernel::begin`]; the book and the history stay.
+    pub fn begin(&mut self, session: u32) -> Result<TxnNo, Refusal>
+        ensures { self.new ≡ self.old }
+    {
+        self.kernel.begin(session)
+    }
+
+    /// Begins an operation, as [`Kernel::call`]; the book and the history stay.
+    pub fn call(&mut self, txn: TxnNo, op: Op) -> Result<Called, Refusal>
+        ensures { self.new ≡ self.old }
+    {
+        self.kernel.call(txn, op)
+    }
+
+    /// Makes a step of an operation, as [`Kernel::step`]; the book and the history stay.
+    pub fn step(&mut self, txn: TxnNo) -> Result<Stepped, Refusal>
+        ensures { self.new ≡ self.old }
+    {
+        self.kernel.step(txn)
+    }
+
+    /// Appends a commit, and answers its place, as [`Kernel::commit_begin`]; the book and the history stay.
+    pub fn commit_begin(&mut self, txn: TxnNo) -> Result<u64, Refusal>
+        ensures { self.new ≡ self.old }
+    {
+        let place = self.kernel.commit_begin(txn)?;
+        self.appended = place;
+        Ok(place)
+    }
+
+    /// Begins an abort, as [`Kernel::abort_begin`]; the book and the history stay.
+    pub fn abort_begin(&mut self, txn: TxnNo) -> Result<(), Refusal>
+        ensures { self.new ≡ self.old }
+    {
+        self.kernel.abort_begin(txn)
+    }
+
+    /// Makes a step of an abort, as [`Kernel::abort_step`]; the book and the history stay.
+    pub fn abort_step(&mut self, txn: TxnNo) -> Result<AbortStepped, Refusal>
+        ensures { self.new ≡ self.old }
+    {
+        self.kernel.abort_step(txn)
+    }
+
+    /// Flushes a page, as [`Kernel::flush_step`]; the book and the history stay.
+    pub fn flush_step(&mut self) -> Result<Flushed, Refusal>
+        ensures { self.new ≡ self.old }
+    {
+        self.kernel.flush_step()
+    }
+
+    /// One force step. The book grows at its end.
+    pub fn force_step(&mut self) -> Result<KernelForced, Refusal>
+        ensures book { IsPrefix self.old.book self.new.book }
+        ensures list { self.new.list ≡ self.old.list }
+    {
+        self.kernel.force_step()
+    }
+
+    /// Flushes a page; where each waits for the log, one step of a force.
+    pub fn make_room(&mut self) -> Result<(), Refusal>
+        ensures book { IsPrefix self.old.book self.new.book }
+        ensures list { self.new.list ≡ self.old.list }
+    {
+        match self.flush_step()? {
+            Flushed::Page(_) | Flushed::Clean => {}
+            Flushed::Force => {
+                self.force_step()?;
+            }
+        }
+        Ok(())
+    }
+
+    // Why this cannot be closed, if it cannot. Each durable transaction is entered by its pass, and is waited for.
+    fn close_cause(&mut self, passes: &[Pass<J>]) -> Option<Refusal>
+        ensures same { self.new ≡ self.old }
+        ensures whole { IfNone result (IsWhole self.old) }
+        ensures all { IfNone result (IsOfAll J.book passes.now self.old.list) }
+        ensures why { IfSome result IsCloseRefusal }
+    {
+        let entered = self.end.check();
+        if !are_all(self.end.passes(), passes) {
+            Some(Refusal::Stranger)
+        } else if passes.iter().any(|p| p.is_busy) {
+            Some(Refusal::Busy)
+        } else if self.kernel.is_left() {
+            Some(Refusal::DeviceFailed)
+        } else if entered != self.kernel.len() {
+            Some(Refusal::Busy)
+        } else {
+            None
+        }
+    }
+
+    // The kernel of what is whole, which each pass meets. Or all as it was, where a transaction lives in a kernel
+    // that has not failed.
+    fn into_met(self, passes: Vec<Pass<J>>) -> Result<Kernel<D>, Unclosed<D, J>>
+        requires whole { IsWhole self }
+        requires all { IsOfAll J.book passes.items self.list }
+        ensures own { IfOk result (λ k. HasAllOf k.parts.book.items passes.items) }
+        ensures count { IfOk result (λ k. length k.parts.book.items ≡ length J.book + all_own passes.items) }
+        ensures began { IfOk result (BeganOn D.seen D.may_leave J.base) }
+        ensures idle { IfOk result (λ k. is_failed k ≡ false → IsIdle k) }
+        ensures why { IfErr result (λ u. IsCloseRefusal u.why) }
+        ensures back { IfErr result (λ u. u.passes.items ≡ passes.items) }
+    {
+        let Locked {
+            kernel,
+            end,
+            appended,
+            holding,
+            due,
+            of,
+        } = self;
+        match kernel.into_idle() {
+            Ok(kernel) => {
+                meet_all(end, passes);
+                Ok(kernel)
+            }
+            Err(kernel) => {
+                let locked = Locked {
+                    kernel,
+                    end,
+                    appended,
+                    holding,
+                    due,
+                    of,
+                };
+                Err(Unclosed {
+                    why: Refusal::Busy,
+                    locked,
+                    passes,
+                })
+            }
+        }
+    }
+
+    /// The kernel, once these are all passes and none has a transaction; or all as it was, and why.
+    pub fn close(self, passes: Vec<Pass<J>>) -> Result<Kernel<D>, Unclosed<D, J>>
+        ensures own { IfOk result (λ k. HasAllOf k.parts.book.items passes.items) }
+        ensures count { IfOk result (λ k. length k.parts.book.items ≡ length J.book + all_own passes.items) }
+        ensures began { IfOk result (BeganOn D.seen D.may_leave J.base) }
+        ensures idle { IfOk result (λ k. is_failed k ≡ false → IsIdle k) }
+        ensures why { IfErr result (λ u. IsCloseRefusal u.why) }
+        ensures back { IfErr result (λ u. u.passes.items ≡ passes.items) }
+    {
+        let mut locked = self;
+        match locked.close_cause(passes.as_slice()) {
+            None => locked.into_met(passes),
+            Some(why) => {
+                Err(Unclosed {
+                    why,
+                    locked,
+                    passes,
+                })
+            }
+        }
+    }
+
+    /// How much of the log's area is in use.
+    pub fn log_use(&self) -> Option<LogUse>
+        ensures { IfSome result (IsUseOn ⟦<D as Device>⟧ J.base) }
+    {
+        self.kernel.log_use()
+    }
+
+    /// Whether new transactions are held back.
+    pub fn holds_back(&self) -> bool {
+        self.holding != 0
+    }
+
+    /// New transactions are held back, until as many calls of [`Locked::let_on`] have come.
+    pub fn hold_back(&mut self)
+        ensures { self.new ≡ self.old }
+    {
+        self.holding = self.holding.saturating_add(1);
+    }
+
+    /// Takes one [`Locked::hold_back`] back.
+    pub fn let_on(&mut self)
+        ensures { self.new ≡ self.old }
+    {
+        self.holding = self.holding.saturating_sub(1);
+    }
+
+    /// What who tends is to do. Where the device has failed, that is to ask, and to be refused.
+    pub fn due(&self) -> Due {
+        match self.due {
+            Due::Nothing if self.kernel.has_failed() => Due::Work,
+            due => due,
+        }
+    }
+
+    /// A transaction has ended: pages may be flushed from now on. Whether there was nothing to do before.
+    pub fn stir(&mut self) -> bool
+        ensures { self.new ≡ self.old }
+    {
+        let is_first = self.due == Due::Nothing;
+        if is_first {
+            self.due = Due::Work;
+        }
+        is_first
+    }
+
+    /// Nothing is left to force, and no page can be flushed.
+    pub fn settle(&mut self)
+        ensures { self.new ≡ self.old }
+    {
+        if self.due == Due::Work {
+            self.due = Due::Nothing;
+        }
+    }
+
+    /// Who tends is to come to an end, from now on.
+    pub fn end_tending(&mut self)
+        ensures { self.new ≡ self.old }
+    {
+        self.due = Due::End;
+    }
+
+    /// The kernel, or the device that a rotation left of it.
+    pub fn into_kernel(self) -> Result<Kernel<D>, D>
+        ensures book { IfOk result (λ k. k.parts.book.items ≡ self.book) }
+        ensures began { IfOk result (BeganOn D.seen D.may_leave J.base) }
+        ensures left { IfErr result (λ _. self.is_left ≡ true) }
+    {
+        let Locked {
+            kernel,
+            end: _,
+            appended: _,
+            holding: _,
+            due: _,
+            of: _,
+        } = self;
+        kernel.into_kernel()
+    }
+}
+
+impl<D: Device + Drop, J: Naming> Locked<D, J> {
+    /// Turns the log over, where each transaction of the book is entered and none lives; whether it did.
+    pub fn rotate(&mut self, alloc: Global, frames: usize) -> Result<bool, Refusal>
+        ensures why { IfErr result IsTurnFault }
+        ensures did { result ≡ Ok true → HasTurned ⟦<D as Device>⟧ J.base }
+        ensures book { self.new.book ≡ self.old.book }
+        ensures list { self.new.list ≡ self.old.list }
+    {
+        let entered = self.end.check();
+        self.kernel.rotate(entered, alloc, frames)
+    }
+}
+
+// Whether a book has this transaction at this place, from 0.
+fn has_at(book: &[Committed], at: u64, entry: &Entry) -> bool
+    ensures { IsTrue result ↔ (slice_get book.now at ≡ Some entry.now.done) }
+{
+    if at >= book.len() as u64 {
+        return false;
+    }
+    book[at as usize].equals(&entry.done)
+}

@@ -1,0 +1,35 @@
+// How much of a log's area is in use.
+ghost use Rattle.std.specs.Prelude.{◌≡◌, ◌<◌, ◌/◌, ◌↔◌, IsTrue};
+ghost use Rattle.mt_log.specs.Words.{area_size, used};
+
+use mt_disk::Device;
+use mt_txn::Kernel;
+
+/// How much of the log's area is in use, in bytes.
+#[derive(Clone, Copy, PartialEq, Eq, Debug)]
+pub struct LogUse {
+    /// Those before the place of the next batch, and 5 more and its own length for each record that is in no batch yet.
+    pub used: u64,
+    /// All bytes of the area.
+    pub size: u64,
+}
+
+impl LogUse {
+    /// Whether more than half of the area is in use. Then it is time to turn the log over.
+    pub fn is_above_half(self) -> bool
+        ensures { IsTrue result ↔ (self.size / 2 < self.used) }
+    {
+        self.used > self.size / 2
+    }
+}
+
+// How much of a kernel's log is in use.
+pub(crate) fn log_use_of<D: Device>(kernel: &Kernel<D>) -> LogUse
+    ensures used { result.used ≡ used kernel.now.parts.operations.store.log }
+    ensures size { result.size ≡ area_size kernel.now.parts.operations.store.log }
+{
+    LogUse {
+        used: kernel.used(),
+        size: kernel.area_size(),
+    }
+}

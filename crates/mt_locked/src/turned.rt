@@ -1,0 +1,97 @@
+// A rotation of a kernel with its base.
+ghost use Rattle.std.specs.Prelude.{◌≡◌, ◌↔◌, Ok, true, false, length, IfOk, IfErr, IsErr, IsTrue};
+ghost use Rattle.mt_locked.specs.Seen.{IsTurned, KeepsAll, seen_of, whole};
+ghost use Rattle.mt_restart.specs.TurnFaults.{IsTurnFault};
+ghost use Rattle.mt_locked.specs.Turns.{HasTurned};
+
+use crate::based::Based;
+use crate::past::{Past, told_of};
+use mt_base::Refusal;
+use mt_disk::Device;
+use mt_restart::{NotRotated, rotate};
+use std::alloc::Global;
+
+// What a rotation gives: the kernel, or the device that was left of it, and its past, where none is left. With it is
+// whether the log was turned over, which it is not while something is under way.
+pub(crate) struct Turned<D: Device> {
+    pub(crate) held: Result<Based<D>, D>,
+    pub(crate) past: Past,
+    pub(crate) told: Result<bool, Refusal>,
+}
+
+// The kernel, and what is told.
+fn kept<D: Device>(kernel: Based<D>, told: Result<bool, Refusal>) -> Turned<D>
+    ensures held { result.held ≡ Ok kernel }
+    ensures told { result.told ≡ told }
+{
+    Turned {
+        held: Ok(kernel),
+        past: Past::none(),
+        told,
+    }
+}
+
+// What a refusal with the kernel comes to. But for these, a transaction lives.
+fn outcome(why: Refusal) -> Result<bool, Refusal>
+    ensures why { IfErr result IsTurnFault }
+    ensures not { IfOk result (λ did. did ≡ false) }
+    ensures fault { IsTurnFault why → IsErr result }
+{
+    match why {
+        Refusal::NoMemory | Refusal::DeviceFailed | Refusal::LogFull => Err(why),
+        _ => Ok(false),
+    }
+}
+
+// Whether its book has just so many commits.
+fn has_just<D: Device>(kernel: &Based<D>, commits: u64) -> bool
+    ensures { IsTrue result ↔ (length kernel.now.book ≡ commits) }
+{
+    kernel.book().len() as u64 == commits
+}
+
+// Turns a kernel's log over, where its book has so many commits, and no transaction lives.
+pub(crate) fn turn<D: Device + Drop>(
+    kernel: Based<D>,
+    commits: u64,
+    alloc: Global,
+    frames: usize,
+) -> Turned<D>
+    ensures turned { IsTurned commits (whole kernel) (seen_of result.held result.past) }
+    ensures why { IfErr result.told IsTurnFault }
+    ensures did { result.told ≡ Ok true → HasTurned ⟦<D as Device>⟧ kernel.base }
+    ensures gone { (seen_of result.held result.past).is_left ≡ true → IsErr result.told }
+{
+    if kernel.has_failed() {
+        return kept(kernel, Err(Refusal::DeviceFailed));
+    }
+    if !has_just(&kernel, commits) {
+        return kept(kernel, Ok(false));
+    }
+    rotated(kernel, alloc, frames)
+}
+
+fn rotated<D: Device + Drop>(kernel: Based<D>, alloc: Global, frames: usize) -> Turned<D>
+    ensures keeps { KeepsAll kernel (seen_of result.held result.past) }
+    ensures why { IfErr result.told IsTurnFault }
+    ensures did { result.told ≡ Ok true → HasTurned ⟦<D as Device>⟧ kernel.base }
+    ensures gone { (seen_of result.held result.past).is_left ≡ true → IsErr result.told }
+{
+    let book = kernel.book();
+    let len = book.len() as u64;
+    let told = told_of(book);
+    let Based { kernel, base } = kernel;
+    match rotate(alloc, kernel, frames) {
+        Ok(kernel) => kept(Based { kernel, base }, Ok(true)),
+        Err(NotRotated::Kept(why, kernel)) => kept(Based { kernel, base }, outcome(why)),
+        Err(NotRotated::Ended(why, device)) => Turned {
+            held: Err(device),
+            past: Past {
+                len,
+                base,
+                book: told,
+            },
+            told: outcome(why),
+        },
+    }
+}

@@ -1,0 +1,243 @@
+"""What this repository asks of the toolchain's command `rt` beyond the calls that its guide documents. No other file does.
+
+`rt` is a script. It is read as a module here, so that many turned bodies can be tried in one check, beside the proofs of a run of
+the gate, over the same libraries. This was made for the versions that `MADE_FOR` names. `is_known` says whether this is one of them;
+with another one, the gate tries each body alone, by documented calls."""
+import importlib.machinery
+import importlib.util
+import os
+import re
+import shutil
+import subprocess
+import sys
+import tempfile
+import threading
+import time
+
+# In the later one, a crate's named wrong designs begin with a task of their own, its seed, over which turned bodies are tried too.
+MADE_FOR = ["rattle-kit-13b logic dac8208d650f15bf", "rattle-kit-13f logic dac8208d650f15bf"]
+CLOSING = re.compile(r"(\d+) passed, (\d+) failed")
+
+
+def version():
+    """Returns the text by which the toolchain names itself."""
+    return subprocess.run(["rt", "version"], stdout=subprocess.PIPE, text=True, check=True).stdout.strip()
+
+
+def is_known():
+    """Returns whether the toolchain is a version that this file was made for."""
+    return version() in MADE_FOR
+
+
+def load(path, name):
+    """Returns a script as a module."""
+    sys.dont_write_bytecode = True
+    loader = importlib.machinery.SourceFileLoader(name, str(path))
+    made = importlib.util.module_from_spec(importlib.util.spec_from_loader(name, loader))
+    loader.exec_module(made)
+    return made
+
+
+def script():
+    """Returns `rt` as a module."""
+    return load(os.path.realpath(shutil.which("rt")), "rt")
+
+
+def crates(rt, top):
+    """Returns the repository's crates by their names."""
+    rt.rtlib.guarded()
+    return {it.name: it for it in rt.rtlib.crates_below(top)}
+
+
+def linked(folder, to):
+    """Makes a folder of links to the files of another one. A check replaces such a file, and does not write into it."""
+    shutil.copytree(folder, to, copy_function=os.link)
+
+
+def is_refusal(rt, kind):
+    """Returns whether an answer of `must_fail` is that the prover refused the edit: a flag, or with the later version one of three words."""
+    return kind is True or kind in [getattr(rt, it) for it in ("REFUSED", "AT_LIMIT") if hasattr(rt, it)]
+
+
+def describe(folder, name, uses):
+    """Writes the file by which `rt` reads a crate that crates.txt does not list."""
+    labels = "".join(f'    "//crates/{it}",\n' for it in uses)
+    with open(f"{folder}/BUILD.bazel", "w", encoding="utf-8") as file:
+        file.write(f'load("@rattle//bazel/rattle:crate.bzl", "rattle_crate")\nrattle_crate(name = "{name}", deps = [\n{labels}])\n')
+
+
+class Held:
+    """Standard output but for the closing line of `rt ci`, which is held back, since more is counted after it. Keeps the lines that say
+    seconds."""
+
+    def __init__(self, out):
+        self.out, self.rest, self.counts, self.seconds, self.lock = out, "", None, [], threading.Lock()
+
+    def write(self, text):
+        with self.lock:
+            *lines, self.rest = (self.rest + text).split("\n")
+            for line in lines:
+                found = CLOSING.fullmatch(line)
+                if found:
+                    self.counts = [int(it) for it in found.groups()]
+                else:
+                    self.out.write(line + "\n")
+                    self.seconds += [line] * line.startswith("seconds ")
+        return len(text)
+
+    def flush(self):
+        self.out.flush()
+
+    @property
+    def buffer(self):
+        """Returns the stream of bytes below, to which `rt` writes what tests print."""
+        self.out.flush()
+        return self.out.buffer
+
+
+def stolen():
+    """Returns the seconds that the machine's processors were taken away from it so far."""
+    with open("/proc/stat", encoding="ascii") as it:
+        return int(it.readline().split()[8]) / os.sysconf("SC_CLK_TCK")
+
+
+def timed(call, name_of):
+    """Returns the call, which then prints its seconds under the name that is made of its arguments."""
+
+    def run(*given, **named):
+        began = time.monotonic()
+        result = call(*given, **named)
+        print(f"seconds {time.monotonic() - began:.1f} {name_of(*given, **named)}", flush=True)
+        return result
+
+    return run
+
+
+class Run:
+    """A run of `rt ci` that tries the turned bodies of each crate too.
+
+    `edits_of` gives a crate's turned bodies. `try_all` tries them over a folder of kept work, and answers pairs of a body and whether it
+    was refused. They are tried beside the named wrong designs of their crate, and over the same kept work. With the later version they
+    are a task of their own, which begins with the seed of those designs, if there are some."""
+
+    def __init__(self, edits_of, try_all, is_timed):
+        self.edits_of, self.try_all, self.is_timed = edits_of, try_all, is_timed
+        self.rt, self.crates, self.results, self.seconds = script(), {}, {}, []
+        self.has_seeds = version() == MADE_FOR[1]
+        rt = self.rt
+        listed, lanes, must_fail = rt.crates_of, rt.in_lanes, rt.must_fail
+
+        def crates_of(*given):
+            found = listed(*given)
+            self.crates = {it.name: it for it in found}
+            return found
+
+        rt.crates_of = crates_of
+        rt.in_lanes = lambda tasks: lanes(self.told((self.with_bodies if self.has_seeds else self.with_lines)(tasks)))
+        if not self.has_seeds:
+            rt.must_fail_all = self.must_fail_all
+        rt.must_fail = self.clocked(must_fail, lambda crate, edit, *_: f"edit {crate.name}/{os.path.basename(edit)}")
+
+    def clocked(self, call, name_of):
+        """Returns the call, which prints its seconds if that is wanted."""
+        return timed(call, name_of) if self.is_timed else call
+
+    def with_lines(self, tasks):
+        """Returns the tasks, of which those that try edits count the lines of their crate if it has turned bodies, so that they start early."""
+        has = lambda key: key[1] == "edits" and self.edits_of(self.crates[key[0]])
+        return {key: (task[0], self.crates[key[0]].count(rb"\n"), *task[2:]) if has(key) else task for key, task in tasks.items()}
+
+    def must_fail_all(self, crate, named, flags):
+        """Tries a crate's turned bodies together, and then its named wrong designs in turn, over one folder of kept work. As `rt` does, it
+        tries a design again from nothing if the crate itself is not proved over that folder."""
+        with tempfile.TemporaryDirectory(prefix="rt-edits-") as kept:
+            bodies = self.edits_of(crate)
+            if bodies:
+                self.results[crate.name] = self.clocked(self.try_all, lambda *_: f"{crate.name} turned jobs=1")(self.rt, crate, bodies, kept, 1)
+            if not named:
+                return []
+            return self.clocked(self.named, lambda *_: f"{crate.name} named jobs=1")(crate, named, flags, kept)
+
+    def named(self, crate, edits, flags, kept):
+        """Tries named wrong designs, and returns of each what `must_fail` does."""
+        tried = [self.rt.must_fail(crate, it, flags, kept) for it in edits]
+        is_sound = not self.rt.checked(crate, {}, flags, kept).returncode
+        return [it if is_sound and it[0] else self.rt.must_fail(crate, edit, flags) for edit, it in zip(edits, tried)]
+
+    def with_bodies(self, tasks):
+        """Returns the tasks of a run with one more for each crate that has turned bodies. It begins with the seed of the crate's
+        named wrong designs, if it has some, and that seed stays until it ended."""
+        found = {}
+        for key, task in tasks.items():
+            name, kind = key[0], key[1]
+            has_seed = (name, "seed") in tasks
+            if kind == ("sound" if has_seed else "tests") and name in self.crates and self.edits_of(self.crates[name]):
+                crate, after = self.crates[name], (name, "seed" if has_seed else "proof")
+                turned = ([after], 0, task[2], lambda given, jobs, it=crate, after=after: self.turned(it, given[after], jobs))
+                if has_seed:
+                    found[name, "turned"] = turned
+                    found[key] = ([*task[0], (name, "turned")], *task[1:])
+                else:
+                    found[key] = task
+                    found[name, "turned"] = turned
+            else:
+                found[key] = task
+        return found
+
+    def told(self, tasks):
+        """Returns the tasks, each of which prints its seconds if that is wanted, but for those whose parts do."""
+        name = lambda key: (lambda given, jobs: f"{' '.join(map(str, key))} jobs={jobs}")
+        is_whole = lambda key: self.has_seeds or key[1] != "edits"
+        return {key: (*task[:3], self.clocked(task[3], name(key)) if is_whole(key) else task[3]) for key, task in tasks.items()}
+
+    def turned(self, crate, before, jobs):
+        """Tries a crate's turned bodies, over its seed if it has one."""
+        if before is False or before is None:
+            return
+        with tempfile.TemporaryDirectory(prefix="rt-turned-") as room:
+            if isinstance(before, str) and before:
+                linked(f"{before}/seed", f"{room}/kept")
+            else:
+                os.mkdir(f"{room}/kept")
+            self.results[crate.name] = self.try_all(self.rt, crate, self.edits_of(crate), f"{room}/kept", jobs)
+
+    def run(self):
+        """Makes the run, and returns how much passed and how much failed."""
+        out, before = sys.stdout, stolen()
+        sys.stdout = held = Held(out)
+        try:
+            status = self.clocked(self.rt.main, lambda _: f"all cores={self.rt.processors()} stolen={stolen() - before:.0f}")(["ci"])
+        finally:
+            sys.stdout, self.seconds = out, held.seconds
+        passed, failed = held.counts or (0, 1)
+        tried = {edit: it for found in self.results.values() for edit, it in found}
+        wanted = [(crate.name, edit) for crate in self.crates.values() for edit in self.edits_of(crate)]
+        lost = [f"{name}/{os.path.basename(edit)}: {'NOT REFUSED' if edit in tried else 'NOT TRIED'}" for name, edit in wanted if not tried.get(edit)]
+        print("".join(f"turned {it}\n" for it in lost), end="")
+        print(f"turned bodies: {len(wanted) - len(lost)} of {len(wanted)} refused, each at a goal of its own function")
+        return passed + len(wanted) - len(lost), failed + len(lost) + (status != 0 and failed == 0)
+
+
+def run_alone(top, edits_of):
+    """Runs `rt ci` over a copy of the repository, with each turned body as an edit that must fail, by documented calls alone."""
+    room = f"{top}/.gate"
+    shutil.rmtree(room, ignore_errors=True)
+    os.makedirs(f"{room}/.git")
+    try:
+        shutil.copytree(f"{top}/crates", f"{room}/crates", ignore=shutil.ignore_patterns("out"))
+        for name in ("crates.txt", "HANDLES"):
+            shutil.copy2(f"{top}/{name}", room)
+        for crate in os.listdir(f"{room}/crates"):
+            for edit in edits_of(f"{room}/crates/{crate}"):
+                os.makedirs(f"{room}/crates/{crate}/must-fail", exist_ok=True)
+                shutil.move(edit, f"{room}/crates/{crate}/must-fail/{os.path.basename(edit)}")
+        ran = subprocess.Popen(["rt", "ci"], cwd=room, stdout=subprocess.PIPE, text=True)
+        counts = None
+        for line in ran.stdout:
+            found = CLOSING.fullmatch(line.rstrip("\n"))
+            counts = [int(it) for it in found.groups()] if found else counts
+            print(line, end="", flush=True)
+        passed, failed = counts or (0, 1)
+        return passed, failed + (ran.wait() != 0 and failed == 0)
+    finally:
+        shutil.rmtree(room, ignore_errors=True)

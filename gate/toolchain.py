@@ -3,6 +3,7 @@
 `rt` is a script. It is read as a module here, so that many turned bodies can be tried in one check, beside the proofs of a run of
 the gate, over the same libraries. This was made for the versions that `MADE_FOR` names. `is_known` says whether this is one of them;
 with another one, the gate tries each body alone, by documented calls."""
+import functools
 import importlib.machinery
 import importlib.util
 import os
@@ -136,6 +137,8 @@ class Run:
         rt.in_lanes = lambda tasks: lanes(self.told((self.with_bodies if self.has_seeds else self.with_lines)(tasks)))
         if not self.has_seeds:
             rt.must_fail_all = self.must_fail_all
+        # A crate's sum is made of those below it, over each path to them: some minutes of a run, in which no source changes.
+        rt.rtlib.Crate.stamp = functools.cache(rt.rtlib.Crate.stamp)
         rt.must_fail = self.clocked(must_fail, lambda crate, edit, *_: f"edit {crate.name}/{os.path.basename(edit)}")
 
     def clocked(self, call, name_of):

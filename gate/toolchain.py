@@ -44,6 +44,11 @@ def script():
     return load(os.path.realpath(shutil.which("rt")), "rt")
 
 
+def remember_sums(rt):
+    """Has the sum of each crate made once. It is made of those below it, over each path to them, which takes minutes of a run."""
+    rt.rtlib.Crate.stamp = functools.cache(rt.rtlib.Crate.stamp)
+
+
 def crates(rt, top):
     """Returns the repository's crates by their names."""
     rt.rtlib.guarded()
@@ -137,8 +142,7 @@ class Run:
         rt.in_lanes = lambda tasks: lanes(self.told((self.with_bodies if self.has_seeds else self.with_lines)(tasks)))
         if not self.has_seeds:
             rt.must_fail_all = self.must_fail_all
-        # A crate's sum is made of those below it, over each path to them: some minutes of a run, in which no source changes.
-        rt.rtlib.Crate.stamp = functools.cache(rt.rtlib.Crate.stamp)
+        remember_sums(rt)
         rt.must_fail = self.clocked(must_fail, lambda crate, edit, *_: f"edit {crate.name}/{os.path.basename(edit)}")
 
     def clocked(self, call, name_of):

@@ -2,6 +2,7 @@
 use Rattle.std.specs.Prelude.{ℕ, ◌≡◌, ◌≢◌, ◌⊎◌, true, List, Option, Some, None, IsSome, bytes_eq, find, is_some, option_map, slice_set}
 use Rattle.std.specs.List.{slice_index_or}
 use Rattle.mt_base.specs.declared.refusal.Refusal.{Refusal}
+use Rattle.mt_folder.specs.declared.reason.Reason.{Reason}
 use Rattle.mt_base.specs.declared.refusal.Refusal.TheVariants as refusal
 
 -- what a folder holds under each name, where that is known
@@ -30,6 +31,10 @@ IsFileRefusal held why = ((why ≡ refusal.DeviceFailed) × (held ≡ None)) ⊎
 -- why a device is not made, or not put in its place: memory was wanting, or the device failed
 abbrev pub IsUnmade : Refusal → Type 0
 IsUnmade why = (why ≡ refusal.NoMemory) ⊎ (why ≡ refusal.DeviceFailed)
+
+-- why a call was refused is known of the files of the system, of which nothing else is
+abbrev pub KnowsWhy : Files → Option Reason → Type 0
+KnowsWhy files why = files ≡ None → IsSome why
 
 -- the file of this name has these bytes, where files are known
 abbrev pub IsHeld : Files → List ℕ → List ℕ → Type 0

@@ -9,9 +9,9 @@ use mt_disk::Device;
 /// made beside the file of that name by [`Folder::make`]. It is then put in its place by [`Folder::install`] or let
 /// go by [`Folder::discard`].
 pub trait Folder {
-    ghost use Rattle.std.specs.Prelude.{◌≡◌, ℕ, List, Option, length, IfOk, IfErr, IfSome, OnOk, OnErr};
+    ghost use Rattle.std.specs.Prelude.{◌≡◌, ℕ, List, None, Option, length, IfOk, IfErr, IfSome, OnOk, OnErr};
     ghost use Rattle.mt_disk.specs.Disk.{Only};
-    ghost use Rattle.mt_folder.specs.Folders.{AreKept, IsFileRefusal, IsHeld, IsLent, IsThere, IsUnmade, Puts, known_in};
+    ghost use Rattle.mt_folder.specs.Folders.{AreKept, IsFileRefusal, IsHeld, IsLent, IsThere, IsUnmade, KnowsWhy, Puts, known_in};
     ghost use Rattle.mt_folder.specs.declared.reason.Reason.{Reason};
 
     /// A device in a file; threads may use it.
@@ -20,7 +20,7 @@ pub trait Folder {
     /// What is held under each name, where that is known.
     ghost files: { Self → Option (List ℕ → Option (List ℕ)) };
 
-    /// Why the last refused call failed, where that is known.
+    /// Why the last call was refused, if it was and that is known.
     ghost why: { Self → Option Reason };
 
     /// The bytes of the script of this name. Refused by `NoMemory`, and by `DeviceFailed` where
@@ -29,7 +29,9 @@ pub trait Folder {
         ensures held { IfOk result (λ bytes. IfSome (known_in (files self.old) name.now)
             (λ held. bytes.items ≡ held)) }
         ensures cause { IfErr result (IsFileRefusal (known_in (files self.old) name.now)) }
-        ensures kept { AreKept (files self.old) (files self.new) };
+        ensures kept { AreKept (files self.old) (files self.new) }
+        ensures well { OnOk result (why self.new ≡ None) }
+        ensures reason { OnErr result (KnowsWhy (files self.old) (why self.new)) };
 
     /// The device in the file of this name, with just its bytes, until it is given back; it is synced. Refused by
     /// `NoMemory`, and by `DeviceFailed` where there is no such file or it cannot be opened to be read and written.
@@ -39,7 +41,9 @@ pub trait Folder {
         ensures settled { IfOk result (λ device. Only (Self.Device.seen device) (Self.Device.may_leave device)) }
         ensures cause { IfErr result (IsFileRefusal (known_in (files self.old) name.now)) }
         ensures lent { OnOk result (IsLent (files self.old) (files self.new) name.now) }
-        ensures err { OnErr result (AreKept (files self.old) (files self.new)) };
+        ensures err { OnErr result (AreKept (files self.old) (files self.new)) }
+        ensures well { OnOk result (why self.new ≡ None) }
+        ensures reason { OnErr result (KnowsWhy (files self.old) (why self.new)) };
 
     /// Takes a device back that was lent of this name: the file has the device's bytes.
     fn back(&mut self, name: &str, device: Self::Device)
@@ -51,7 +55,9 @@ pub trait Folder {
     fn make(&mut self, name: &str, len: u64) -> Result<Self::Device, Refusal>
         ensures long { IfOk result (λ device. length (Self.Device.seen device) ≡ len) }
         ensures why { IfErr result IsUnmade }
-        ensures kept { AreKept (files self.old) (files self.new) };
+        ensures kept { AreKept (files self.old) (files self.new) }
+        ensures well { OnOk result (why self.new ≡ None) }
+        ensures reason { OnErr result (KnowsWhy (files self.old) (why self.new)) };
 
     /// Puts a device that was made for this name in its place: the file has the device's bytes, and what it had
     /// before is gone. Refused by `NoMemory`, and by `DeviceFailed` where the name cannot be given, or what has it is
@@ -59,13 +65,16 @@ pub trait Folder {
     fn install(&mut self, name: &str, device: Self::Device) -> Result<(), Refusal>
         ensures put { OnOk result (Puts (files self.old) (files self.new) name.now (Self.Device.seen device)) }
         ensures why { IfErr result IsUnmade }
-        ensures err { OnErr result (AreKept (files self.old) (files self.new)) };
+        ensures err { OnErr result (AreKept (files self.old) (files self.new)) }
+        ensures well { OnOk result (why self.new ≡ None) }
+        ensures reason { OnErr result (KnowsWhy (files self.old) (why self.new)) };
 
     /// Lets a device go that was made for this name. The folder is as before.
     fn discard(&mut self, name: &str, device: Self::Device)
         ensures { AreKept (files self.old) (files self.new) };
 
-    /// Why the folder's last refused call failed, if it knows. A refusal of a device is none of the folder's.
+    /// Why the folder's last call was refused, if it was. The files of the system know that of each refusal. A refusal
+    /// of a device is none of the folder's.
     fn reason(&self) -> Option<Reason>
         ensures { result ≡ why self.now };
 }

@@ -1,6 +1,6 @@
 // The files of the system.
-ghost use Rattle.std.specs.Prelude.{◌≡◌, None, IfErr, IfOk, replicate};
-ghost use Rattle.mt_disk.specs.File.{copy_in};
+ghost use Rattle.std.specs.Prelude.{◌≡◌, None, IfErr, IfOk, IsSome, OnErr, OnOk, replicate};
+ghost use Rattle.mt_disk.specs.File.{IsFresh, copy_in};
 ghost use Rattle.mt_disk.specs.Memory.{content};
 ghost use Rattle.mt_folder.specs.Folders.{IsFileRefusal, IsUnmade};
 
@@ -24,7 +24,7 @@ use std::rt::Files;
 pub struct DiskFolder<'a, R> {
     rt: &'a R,
     made: Option<Made>,
-    /// Why the last refused call failed.
+    /// Why the last call was refused, if it was.
     reason: Option<Reason>,
 }
 
@@ -56,6 +56,27 @@ impl From<AllocError> for Failure {
             refusal: Refusal::NoMemory,
             reason: Reason::Other,
         }
+    }
+}
+
+impl From<Failure> for Refusal {
+    ghost use Rattle.std.specs.Prelude.{◌≡◌};
+
+    ghost from_gives = { λ failure refusal. refusal ≡ failure.refusal };
+
+    fn from(failure: Failure) -> Refusal {
+        failure.refusal
+    }
+}
+
+/// Why a call is refused, if it is.
+fn reason_in<T>(ended: &Result<T, Failure>) -> Option<Reason>
+    ensures well { OnOk ended.now (result ≡ None) }
+    ensures refused { OnErr ended.now (IsSome result) }
+{
+    match ended {
+        Ok(_) => None,
+        Err(failure) => Some(failure.reason),
     }
 }
 
@@ -279,22 +300,53 @@ fn named<R: Files>(rt: &R, path: &str, name: &str) -> io::Result<()> {
     }
 }
 
-/// Gives a made file its name, if the older one still has it, or nothing has it if there was none. Returns whether it
-/// has it.
-fn is_given<R: Files<File = File>>(rt: &R, made: &Made, name: &str) -> bool {
+/// Gives a made file its name, if the older one still has it, or nothing has it if there was none. Returns why it does
+/// not get it, or `None` if it has it.
+fn unnamed_for<R: Files<File = File>>(rt: &R, made: &Made, name: &str) -> Option<Reason> {
     let path = made.path.as_str();
-    match &made.older {
-        Some(older) => leads_to(rt, name, older) && fs::rename(rt, path, name).is_ok(),
-        None => named(rt, path, name).is_ok(),
+    let named = match &made.older {
+        Some(older) if !leads_to(rt, name, older) => return Some(Reason::Open),
+        Some(_) => fs::rename(rt, path, name),
+        None => named(rt, path, name),
+    };
+    match named {
+        Ok(()) => None,
+        // another program made a file of that name meanwhile
+        Err(why) if why.kind() == ErrorKind::AlreadyExists => Some(Reason::Open),
+        Err(why) => Some(reason_of(why.kind())),
     }
 }
 
-/// Removes a made file that does not get its name, as far as that goes. Returns how that is refused.
-fn given_up<R: Files>(rt: &R, made: &Made) -> Refusal
-    ensures { result ≡ Refusal.DeviceFailed }
+/// The bytes of the file of this path.
+fn bytes_of<R: Files<File = File> + AllocGlobal>(rt: &R, path: &str) -> Result<Vec<u8>, Failure>
+    ensures { IfErr result (λ failure. IsUnmade failure.refusal) }
 {
+    match fs::read(rt, path) {
+        Ok(bytes) => Ok(bytes),
+        Err(why) => Err(unmade(&why)),
+    }
+}
+
+/// The device in the file of this path.
+fn device_at<R: Files<File = File> + AllocGlobal>(
+    rt: &R,
+    path: &str,
+) -> Result<FileDevice<File>, Failure>
+    ensures fresh { IfOk result IsFresh }
+    ensures why { IfErr result (λ failure. IsUnmade failure.refusal) }
+{
+    match FileDevice::open(rt, path) {
+        Ok(device) => Ok(device),
+        Err(refusal) => Err(Failure {
+            refusal,
+            reason: device_reason(rt, path),
+        }),
+    }
+}
+
+/// Removes a made file that does not get its name, as far as that goes.
+fn give_up<R: Files>(rt: &R, made: &Made) {
     let _ = fs::remove_file(rt, made.path.as_str());
-    Refusal::DeviceFailed
 }
 
 impl<'a, R> DiskFolder<'a, R> {
@@ -330,6 +382,24 @@ impl<R: Files<File = File> + AllocGlobal> DiskFolder<'_, R> {
     }
 }
 
+impl<R: Files<File = File>> DiskFolder<'_, R> {
+    /// Gives the file that was made this name. A file that does not get it is removed.
+    fn named_made(&mut self, name: &str) -> Result<(), Failure>
+        ensures { IfErr result (λ failure. IsUnmade failure.refusal) }
+    {
+        let Some(made) = self.made.take() else {
+            return Err(failed(Reason::Other));
+        };
+        match unnamed_for(self.rt, &made, name) {
+            None => Ok(()),
+            Some(reason) => {
+                give_up(self.rt, &made);
+                Err(failed(reason))
+            }
+        }
+    }
+}
+
 impl<R: Files<File = File> + AllocGlobal> Folder for DiskFolder<'_, R> {
     ghost use Rattle.std.specs.Prelude.{None};
 
@@ -340,51 +410,34 @@ impl<R: Files<File = File> + AllocGlobal> Folder for DiskFolder<'_, R> {
     ghost why = { λ folder. folder.reason };
 
     fn script(&mut self, name: &str) -> Result<Vec<u8>, Refusal> {
-        match fs::read(self.rt, name) {
-            Ok(bytes) => Ok(bytes),
-            Err(fault) => {
-                self.reason = Some(reason_of(fault.kind()));
-                Err(refusal_of(fault.kind()))
-            }
-        }
+        let read = bytes_of(self.rt, name);
+        self.reason = reason_in(&read);
+        Ok(read?)
     }
 
     fn device(&mut self, name: &str) -> Result<FileDevice<File>, Refusal> {
-        match FileDevice::open(self.rt, name) {
-            Ok(device) => Ok(device),
-            Err(refusal) => {
-                self.reason = Some(device_reason(self.rt, name));
-                Err(refusal)
-            }
-        }
+        let opened = device_at(self.rt, name);
+        self.reason = reason_in(&opened);
+        Ok(opened?)
     }
 
     fn back(&mut self, _name: &str, _device: FileDevice<File>) {}
 
     fn make(&mut self, name: &str, len: u64) -> Result<FileDevice<File>, Refusal> {
-        match self.new_device(name, len) {
-            Ok(device) => Ok(device),
-            Err(failure) => {
-                self.reason = Some(failure.reason);
-                Err(failure.refusal)
-            }
-        }
+        let made = self.new_device(name, len);
+        self.reason = reason_in(&made);
+        Ok(made?)
     }
 
     fn install(&mut self, name: &str, _device: FileDevice<File>) -> Result<(), Refusal> {
-        let Some(made) = self.made.take() else {
-            return Err(Refusal::DeviceFailed);
-        };
-        if is_given(self.rt, &made, name) {
-            Ok(())
-        } else {
-            Err(given_up(self.rt, &made))
-        }
+        let installed = self.named_made(name);
+        self.reason = reason_in(&installed);
+        Ok(installed?)
     }
 
     fn discard(&mut self, _name: &str, _device: FileDevice<File>) {
         if let Some(made) = self.made.take() {
-            let _why = given_up(self.rt, &made);
+            give_up(self.rt, &made);
         }
     }
 

@@ -29,9 +29,9 @@ use std::marker::{Model, PhantomData};
 /// What who tends is to do.
 #[derive(Clone, Copy, PartialEq, Eq, Debug)]
 pub enum Due {
-    /// To force and to flush, until nothing is left.
-    Work,
-    /// To sleep until a transaction ends.
+    /// To turn the log over.
+    Turn,
+    /// To sleep, until more than half of the log's area is in use as a transaction ends.
     Nothing,
     /// To come to an end.
     End,
@@ -89,7 +89,7 @@ impl<D: Device, J: Naming> Locked<D, J> {
             end,
             appended: 0,
             holding: 0,
-            due: Due::Work,
+            due: Due::Nothing,
             of: PhantomData,
         }
     }
@@ -318,6 +318,14 @@ impl<D: Device, J: Naming> Locked<D, J> {
         self.kernel.log_use()
     }
 
+    /// Whether more than half of the log's area is in use; not where a rotation left no kernel.
+    pub fn is_half_used(&self) -> bool {
+        match self.kernel.log_use() {
+            Some(log) => log.is_above_half(),
+            None => false,
+        }
+    }
+
     /// Whether new transactions are held back.
     pub fn holds_back(&self) -> bool {
         self.holding != 0
@@ -337,30 +345,31 @@ impl<D: Device, J: Naming> Locked<D, J> {
         self.holding = self.holding.saturating_sub(1);
     }
 
-    /// What who tends is to do. Where the device has failed, that is to ask, and to be refused.
+    /// What who tends is to do. If the device has failed, that is to ask for a turn of the log, and to be refused.
     pub fn due(&self) -> Due {
         match self.due {
-            Due::Nothing if self.kernel.has_failed() => Due::Work,
+            Due::Nothing if self.kernel.has_failed() => Due::Turn,
             due => due,
         }
     }
 
-    /// A transaction has ended: pages may be flushed from now on. Whether there was nothing to do before.
+    /// A transaction has ended: the log is to be turned over if more than half of its area is in use. Whether that is
+    /// so now, and was not due before.
     pub fn stir(&mut self) -> bool
         ensures { self.new ≡ self.old }
     {
-        let is_first = self.due == Due::Nothing;
+        let is_first = self.due == Due::Nothing && self.is_half_used();
         if is_first {
-            self.due = Due::Work;
+            self.due = Due::Turn;
         }
         is_first
     }
 
-    /// Nothing is left to force, and no page can be flushed.
-    pub fn settle(&mut self)
+    // The log was turned over, or could not be: that is not due again before a further transaction has ended.
+    fn settle(&mut self)
         ensures { self.new ≡ self.old }
     {
-        if self.due == Due::Work {
+        if self.due == Due::Turn {
             self.due = Due::Nothing;
         }
     }
@@ -391,7 +400,8 @@ impl<D: Device, J: Naming> Locked<D, J> {
 }
 
 impl<D: Device + Drop, J: Naming> Locked<D, J> {
-    /// Turns the log over, where each transaction of the book is entered and none lives; whether it did.
+    /// Turns the log over, where each transaction of the book is entered and none lives; whether it did. Unless it was
+    /// too early for that, who tends is not to turn it over before a further transaction has ended.
     pub fn rotate(&mut self, alloc: Global, frames: usize) -> Result<bool, Refusal>
         ensures why { IfErr result IsTurnFault }
         ensures did { result ≡ Ok true → HasTurned ⟦<D as Device>⟧ J.base }
@@ -399,7 +409,11 @@ impl<D: Device + Drop, J: Naming> Locked<D, J> {
         ensures list { self.new.list ≡ self.old.list }
     {
         let entered = self.end.check();
-        self.kernel.rotate(entered, alloc, frames)
+        let turned = self.kernel.rotate(entered, alloc, frames);
+        if turned != Ok(false) {
+            self.settle();
+        }
+        turned
     }
 }
 

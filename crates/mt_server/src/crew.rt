@@ -15,7 +15,7 @@ use crossbeam_channel::{Receiver, bounded};
 use mt_base::Refusal;
 use mt_disk::Device;
 use mt_script::Script;
-use mt_shared::{Gate, Naming, Pass, Shared, Tended};
+use mt_shared::{Gate, Naming, Pass, Shared};
 use std::alloc::{AllocError, Global};
 use std::sync::Wait;
 use std::thread;
@@ -81,34 +81,21 @@ fn work<D: Device, G: Gate + Drop, J: Naming, R: Wait>(
     unreachable!()
 }
 
-/// Turns the log over where more than half of its area is in use. Whether it may be asked so again: not where the log
-/// has no room for what is to be carried over.
-fn turn_log<D: Device + Drop, G: Gate + Drop, J: Naming, R: Wait>(
-    rt: &R,
-    alloc: Global,
-    shared: &Shared<D, G, J>,
-    frames: usize,
-) -> bool {
-    !shared.is_half_used(rt) || shared.turn_over(rt, alloc, frames) != Err(Refusal::LogFull)
-}
-
-/// Tends a shared kernel until that is ended. It forces its log, flushes its pages, and turns the log over where half
-/// of it is in use. It sleeps where nothing is due.
+/// Tends a shared kernel until that is ended, or the device has failed. It sleeps until more than half of the log's area
+/// is in use, and then turns the log over. It forces no log otherwise and flushes no page.
 fn tend<D: Device + Drop, G: Gate + Drop, J: Naming, R: Wait>(
     rt: &R,
     alloc: Global,
     shared: &Shared<D, G, J>,
     frames: usize,
 ) {
-    let mut turns = true;
     for _ in rt.forever() {
         if !shared.await_due(rt) {
             return;
         }
-        turns = turns && turn_log(rt, alloc, shared, frames);
-        match shared.tend(rt) {
-            Ok(Tended::Worked | Tended::Idle) | Err(Refusal::NoMemory) => {}
-            Err(_) => return,
+        // What else is refused is due again once a further transaction has ended.
+        if shared.turn_over(rt, alloc, frames) == Err(Refusal::DeviceFailed) {
+            return;
         }
     }
     unreachable!()

@@ -139,15 +139,16 @@ fn serve_named<
 
 /// Opens a device with so many pages in frames, and serves scripts to it by workers that share its kernel. Each
 /// script is a session of its own, numbered from 1 in the order of the scripts. A worker takes the next script that
-/// no other has taken, and runs it from its first line to its last. One more thread forces the log and flushes pages
-/// meanwhile. The thread that calls is one of the workers. A thread that cannot be started is left out.
+/// no other has taken, and runs it from its first line to its last. One more thread tends the kernel meanwhile. The
+/// thread that calls is one of the workers. A thread that cannot be started is left out.
 ///
 /// A transaction that has to die is taken back, its answers are dropped, and it is run again from its begin. In its
 /// hundredth run the line that makes it die is answered so, and the transaction is aborted. One that is open at its
 /// script's end is aborted, with the line `aborted`. Where the device fails, that is the last line of each session.
 ///
-/// Where more than half of the log's area is in use, that thread turns the log over. New transactions wait until none
-/// lives, and then go on. So the log of many short transactions does not fill.
+/// Where more than half of the log's area is in use, who tends turns the log over. New transactions wait until none
+/// lives, and then go on. So the log of many short transactions does not fill. Nothing else is forced or flushed in the
+/// background: a commit makes its force, and an operation that finds no frame flushes a page.
 ///
 /// There are as many workers as are asked for, of 1 to 64. At each point that the gate wants to be told of, it is.
 ///

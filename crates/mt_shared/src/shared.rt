@@ -37,7 +37,7 @@ pub struct Shared<D: Device, G: Gate + Drop, J: Naming> {
     moved: Condvar,
     // on which who commits sleeps until its turn, by its place in the book
     turns: [Condvar; TURNS],
-    // on which who tends sleeps
+    // on which who tends sleeps until the log is to be turned over
     due: Condvar,
     gate: G,
     wanted: Wanted,
@@ -103,7 +103,7 @@ impl<D: Device, G: Gate + Drop, J: Naming> Shared<D, G, J> {
         }
     }
 
-    // A transaction was taken back. Wakes who waits for it, and who tends where that had nothing to do.
+    // A transaction was taken back. Wakes who waits for it, and who tends if the log is to be turned over from now on.
     fn taken_back(&self, mut locked: MutexGuard<'_, Locked<D, J>>) {
         let is_due = locked.stir();
         drop(locked);
@@ -114,7 +114,8 @@ impl<D: Device, G: Gate + Drop, J: Naming> Shared<D, G, J> {
     }
 
     // A commit is in the history. Once the lock is free this wakes who commits at the next place, and who waits until
-    // all are in the history. Behind the last that is durable it also wakes who tends, where that had nothing to do.
+    // all are in the history. After the last that is durable it also wakes who tends, if the log is to be turned over
+    // from now on.
     fn has_entered(&self, mut locked: MutexGuard<'_, Locked<D, J>>, place: u64) {
         let is_due = locked.is_last(place) && locked.stir();
         let is_awaited = locked.holds_back();
@@ -347,7 +348,11 @@ impl<D: Device, G: Gate + Drop, J: Naming> Shared<D, G, J> {
     }
 
     /// One step of a force. One page is flushed where there is nothing to force, or a commit waits to be durable,
-    /// which who commits forces. It is for a thread that does so in the background, and waits for the lock alone.
+    /// which who commits forces. It waits for the lock alone.
+    ///
+    /// No call of another thread needs it, and nothing calls it in the background: an operation flushes a page itself if it
+    /// finds no frame, and an opening or a turn of the log writes each page that has an image in the log. It is for who
+    /// wants all that was appended to be durable, and the frames free, before many pages are read.
     ///
     /// Refused: 2 where the device has failed or fails in this call; 1 for want of memory.
     pub fn tend<R: Wait>(&self, rt: &R) -> Result<Tended, Refusal> {
@@ -366,26 +371,26 @@ impl<D: Device, G: Gate + Drop, J: Naming> Shared<D, G, J> {
         }
     }
 
-    // Flushes a page. Where none can be flushed, nothing is due until a transaction ends.
+    // Flushes a page, if one can be flushed.
     fn flushed(&self, mut locked: MutexGuard<'_, Locked<D, J>>) -> Result<Tended, Refusal> {
         match locked.flush_step() {
             Ok(Flushed::Page(_)) => Ok(Tended::Worked),
-            Ok(_) => {
-                locked.settle();
-                Ok(Tended::Idle)
-            }
+            Ok(_) => Ok(Tended::Idle),
             Err(why) => Err(self.refusing(why)),
         }
     }
 
-    /// Sleeps until there may be something to tend, and answers true; false once [`Shared::end_tending`] was called.
-    /// It is for the thread that calls [`Shared::tend`], after an `Idle`. A transaction that is taken back wakes it, and so
-    /// does the last durable commit, once it is in the history. The device that fails wakes it too; then `tend` answers 2.
+    /// Sleeps until the log is to be turned over, and answers true; false once [`Shared::end_tending`] was called. It is
+    /// for the thread that then calls [`Shared::turn_over`].
+    ///
+    /// That is due if more than half of the log's area is in use as a transaction is taken back, or as the last durable
+    /// commit comes into the history. Once the log was turned over, or could not be, it is due after a further such
+    /// end alone. The device that fails wakes it too; then `turn_over` answers 2.
     pub fn await_due<R: Wait>(&self, rt: &R) -> bool {
         let mut locked = self.locked.lock(rt);
         for _ in rt.forever() {
             match locked.due() {
-                Due::Work => return true,
+                Due::Turn => return true,
                 Due::End => return false,
                 Due::Nothing => locked = self.due.wait(rt, locked),
             }
@@ -409,10 +414,7 @@ impl<D: Device, G: Gate + Drop, J: Naming> Shared<D, G, J> {
     /// Whether more than half of the log's area is in use, so that it is time to [`turn_over`](Shared::turn_over). It
     /// waits for the lock alone.
     pub fn is_half_used<R: Wait>(&self, rt: &R) -> bool {
-        match self.used(rt) {
-            Some(log) => log.is_above_half(),
-            None => false,
-        }
+        self.locked.lock(rt).is_half_used()
     }
 
     /// Commits, and answers the place in the history, from 1. The transaction is durable then, and in the history.

@@ -85,13 +85,11 @@ fn takes_back<J: Naming, R: Wait>(
     Ok(ran.is_ok() && shared.look(pass) == 3)
 }
 
-// Forces and flushes until nothing is left to be, and ends that; whether it was due before, and is not behind.
+// Forces and flushes until nothing is left to be; whether there was something.
 fn rests<J: Naming, R: Wait>(rt: &R, shared: &Memory<J>) -> Result<bool, Refusal> {
-    let was_due = shared.await_due(rt);
-    for _step in 0..STEPS {
+    for step in 0..STEPS {
         if shared.tend(rt)? == Tended::Idle {
-            shared.end_tending(rt);
-            return Ok(was_due && !shared.await_due(rt));
+            return Ok(step > 0);
         }
     }
     Ok(false)

@@ -10,7 +10,7 @@ use mt_shared::{Naming, Opened, Pass, Tended, Txn};
 use std::alloc::Global;
 use std::marker::Brand;
 use std::sync::Wait;
-use std::sync::atomic::{AtomicU64, Ordering};
+use std::sync::atomic::{AtomicBool, AtomicU64, Ordering};
 use std::test::Fail;
 use std::thread;
 use std::thread::{Threads, join};
@@ -128,13 +128,13 @@ fn work<J: Naming, R: Wait>(
     }
 }
 
-// Each worker in a thread of its own. Then nobody is to tend.
+// Each worker in a thread of its own. Then it is over, and nobody is to tend.
 fn work_all<J: Naming + Send + Sync, R: Threads + Wait + Sync>(
     rt: &R,
     alloc: Global,
     shared: &Memory<J>,
     passes: &mut [Pass<J>],
-    made: &AtomicU64,
+    (made, is_over): (&AtomicU64, &AtomicBool),
 ) {
     thread::for_each_mut(
         rt,
@@ -143,18 +143,16 @@ fn work_all<J: Naming + Send + Sync, R: Threads + Wait + Sync>(
         &|number, pass| { work(rt, alloc, shared, pass, (number % WORKERS) as u32, made) },
     );
     shared.end_tending(rt);
+    is_over.store(true, Ordering::SeqCst);
 }
 
-// Tends while the others work; whether nothing was left to be forced or flushed at the end.
-fn tends<J: Naming, R: Wait>(rt: &R, shared: &Memory<J>) -> bool {
+// Forces and flushes while the others work; whether nothing was left to be at the end, and nobody is to tend then.
+fn tends<J: Naming, R: Wait>(rt: &R, shared: &Memory<J>, is_over: &AtomicBool) -> bool {
     for _ in rt.forever() {
+        let ends = is_over.load(Ordering::SeqCst);
         match shared.tend(rt) {
-            Ok(Tended::Worked) => {}
-            Ok(Tended::Idle) => {
-                if !shared.await_due(rt) {
-                    return true;
-                }
-            }
+            Ok(Tended::Idle) if ends => return !shared.await_due(rt),
+            Ok(_) => thread::yield_now(),
             Err(_) => return false,
         }
     }
@@ -168,11 +166,11 @@ fn work_tended<J: Naming + Send + Sync, R: Threads + Wait + Sync>(
     shared: &Memory<J>,
     passes: &mut [Pass<J>],
 ) -> u64 {
-    let made = AtomicU64::new(0);
+    let (made, is_over) = (AtomicU64::new(0), AtomicBool::new(false));
     let (rested, ()) = join(
         rt,
-        || tends(rt, shared),
-        || work_all(rt, alloc, shared, passes, &made),
+        || tends(rt, shared, &is_over),
+        || work_all(rt, alloc, shared, passes, (&made, &is_over)),
     );
     if rested {
         made.load(Ordering::SeqCst)

@@ -1,15 +1,14 @@
 -- Scripts that were served at once, to a device and to a file.
-use Rattle.std.proofs.Common.{◌≡◌, ◌∙◌, ◌<◌, ◌≤◌, ℕ, List, length, Bool, true, false, Option, Result, Ok, Err, refl, sym, subst, arith}
+use Rattle.std.proofs.Common.{◌≡◌, ◌∙◌, ◌<◌, ◌≤◌, ℕ, List, Bool, true, false, Option, Result, Ok, Err, refl, sym, subst, arith}
 use Rattle.std.specs.Io.KnownBytes.{Appends}
 use Rattle.std.specs.Result.{IfErr, OnErr, OnOk}
 use Rattle.mt_disk.specs.declared.device.Device.{Ghosts}
 use Rattle.mt_folder.proofs.FolderLemmas.{kept_then, put_then}
 use Rattle.mt_folder.specs.Folders.{AreKept, Files, IsFileRefusal, IsHeld, IsLent, Puts}
-use Rattle.mt_model.specs.History.{Call, after}
+use Rattle.mt_model.specs.History.{Call}
 use Rattle.mt_model.specs.Model.{Base}
 use Rattle.mt_model.specs.Views.{base_of}
 use Rattle.mt_model.specs.declared.history.Committed.{Committed}
-use Rattle.mt_replay.specs.Stands.{CanRestart}
 use Rattle.mt_script.specs.Answers.{AppendsFront}
 use Rattle.mt_script.specs.declared.answers.Answer.{Answer}
 use Rattle.mt_script.specs.declared.lines.Line.{Line}
@@ -22,7 +21,7 @@ use Rattle.mt_txn.specs.declared.kernel.Kernel.{Kernel}
 use Rattle.mt_alone.proofs.LeftLemmas.{stands_more}
 use Rattle.mt_restart.proofs.Living.{stands_book}
 use Rattle.mt_cli.proofs.ServeLemmas.{held_before, put_back}
-use Rattle.mt_cli.specs.Serves.{AreServedAtOnce, AreServedAtOnceIn, AreServedBy, AreUnservedBy, IsServedAtOnce, IsServedIn, IsUnservedAtOnce, IsUnservedIn, failed_at_once, let_go, no_device_at_once, too_many_at_once, unheard_at_once, IsEndOf, StandForBook, texts_in_order}
+use Rattle.mt_cli.specs.Serves.{AreServedAtOnce, AreServedAtOnceIn, AreServedBy, AreUnservedBy, IsServedAtOnce, IsServedIn, IsUnservedAtOnce, IsUnservedIn, failed_at_once, let_go, no_device_at_once, too_many_at_once, unheard_at_once, IsEndOf, texts_in_order}
 use Rattle.mt_cli.specs.declared.faults.Fault.{Fault}
 
 -- ---- the kernel

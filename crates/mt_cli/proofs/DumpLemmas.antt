@@ -1,6 +1,5 @@
 -- What a dump tells, and what a device stands for behind it.
-use Rattle.std.proofs.Common.{◌≡◌, ◌∙◌, ◌<◌, ◌≤◌, ◌≢◌, ◌⊎◌, inl, inr, arith, ℕ, List, [], ◌∷◌, length, Bool, true, false, Some, None, Result, Ok, Err, IfErr, IfOk, OnOk, refl, sym, ap, subst}
-use Rattle.std.proofs.Props.{props}
+use Rattle.std.proofs.Common.{◌≡◌, ◌∙◌, ◌<◌, ◌≤◌, ◌≢◌, ◌⊎◌, inl, inr, arith, ℕ, List, [], length, Bool, true, false, Some, None, Result, Ok, Err, IfErr, IfOk, OnOk, refl, sym, ap, subst}
 use mathlib.Core.Logic.{∥∥₁_map}
 use Rattle.mt_base.specs.declared.refusal.Refusal.{Refusal}
 use Rattle.mt_base.specs.declared.refusal.Refusal.TheVariants as refusal
@@ -9,7 +8,7 @@ use Rattle.mt_disk.specs.declared.device.Device.{Ghosts}
 use Rattle.mt_index.specs.Pages.{depth_in}
 use Rattle.mt_kernel.proofs.Surveyed.{nobody_locks}
 use Rattle.mt_kernel.specs.declared.parts.Parts.{Parts}
-use Rattle.mt_live.specs.Machine.{State, start}
+use Rattle.mt_live.specs.Machine.{State}
 use Rattle.mt_live.specs.Members.{Member}
 use Rattle.mt_model.specs.Model.{Base}
 use Rattle.mt_model.specs.Views.{base_of}
@@ -29,7 +28,6 @@ use Rattle.mt_steps.specs.Held.{Holds}
 use Rattle.mt_steps.specs.Listed.{IsSame}
 use Rattle.mt_steps.specs.Plans.{IsGood}
 use Rattle.mt_txn.specs.Causes.{IsFault, survey_cause}
-use Rattle.mt_txn.specs.Shown.{Shows}
 use Rattle.mt_txn.specs.Surveyed.{TellsBase, TellsPages}
 use Rattle.mt_txn.specs.declared.kernel.Kernel.{Kernel}
 use Rattle.mt_cli.proofs.CheckLemmas.{cause_by}

@@ -1,16 +1,17 @@
 -- Scripts that were read, one behind the other.
-use Rattle.std.proofs.Common.{◌≡◌, ◌<◌, ◌+◌, ◌∙◌, inr, suc, ℕ, Bool, true, false, cond, List, [], ◌∷◌, ◌++◌, Option, Some, None, IfSome, length, take, drop, get_or, map, is_some, refl, ap, sym, subst, arith, take-append-drop, length-take-le}
+use Rattle.std.proofs.Common.{◌≡◌, ◌<◌, ◌+◌, ◌∙◌, inl, suc, ℕ, Bool, true, false, cond, List, [], ◌∷◌, ◌++◌, Option, Some, None, IfSome, length, take, drop, get_or, map, is_some, refl, ap, sym, subst, arith, take-append-drop, length-take-le}
 use Rattle.std.proofs.Math.Seq.{drop-cons}
 use Rattle.std.proofs.lemmas.List.{length-map, map-append, map_more}
-use Rattle.mt_base.specs.declared.refusal.Refusal.{Refusal}
 use Rattle.mt_base.specs.declared.refusal.Refusal.TheVariants as refusal
-use Rattle.mt_script.specs.Lines.{line_text, IsInGrammar}
 use Rattle.mt_script.specs.Scripts.{IsScript}
 use Rattle.mt_alone.specs.Sessions.{lines_in}
 use Rattle.mt_script.specs.declared.reader.Script.{Script}
 use Rattle.mt_script.specs.declared.lines.Line.{Line}
 use Rattle.mt_folder.specs.Folders.{AreKept, Files, known_in}
-use Rattle.mt_cli.specs.Reads.{AreRead, AreUnread, IsReadAt, IsUnread, bytes_at, file_in, held_by, input_behind, is_fed, is_input, none_read, one_read, source_of}
+use Rattle.mt_script.specs.declared.words.ScriptWord.{ScriptWord}
+use Rattle.mt_cli.specs.declared.read_faults.ReadFault.{ReadFault}
+use Rattle.mt_cli.specs.declared.read_faults.ReadFault.TheVariants.{Refused}
+use Rattle.mt_cli.specs.Reads.{AreRead, AreUnread, IsReadAt, IsUnreadScript, bytes_at, file_in, held_by, input_behind, is_fed, is_input, none_read, one_read, source_of}
 
 -- the file that a name names has the bytes of its source
 pub held_by_file : (files : Files) (name input : Option (List ℕ)) → held_by files (file_in name) input ≡ source_of files name input
@@ -74,8 +75,8 @@ one_more files now later input held after names scripts name lines at x kept = r
 }
 
 -- the next one was not
-pub not_more : (files now : Files) (input held : Option (List ℕ)) (names before rest : List (List ℕ)) (scripts : List (List Line)) (name : List ℕ) (place : ℕ) (why : Refusal) → names ≡ before ++ name ∷ rest → length before ≡ place → IsAt files input before scripts now held
-    → IsUnread line_text IsInGrammar (bytes_at now name held) why → AreUnread files input names place why
+pub not_more : (files now : Files) (input held : Option (List ℕ)) (names before rest : List (List ℕ)) (scripts : List (List Line)) (name : List ℕ) (place : ℕ) (why : ReadFault ScriptWord) → names ≡ before ++ name ∷ rest → length before ≡ place → IsAt files input before scripts now held
+    → IsUnreadScript (bytes_at now name held) why → AreUnread files input names place why
 not_more files now input held names before rest scripts name place why split many at unread = record {
   before = before;
   name = name;
@@ -89,9 +90,9 @@ not_more files now input held names before rest scripts name place why split man
 }
 
 -- for want of memory
-pub no_memory : (bytes : Option (List ℕ)) → IsUnread line_text IsInGrammar bytes refusal.NoMemory
+pub no_memory : (bytes : Option (List ℕ)) → IsUnreadScript bytes (Refused refusal.NoMemory)
 no_memory None = tt
-no_memory (Some bs) = inr tt
+no_memory (Some bs) = inl refl
 
 -- the names around a place
 pub names_about : {X : Type 0} (f : X → List ℕ) (xs : List X) (i : ℕ) (d : X) → i < length xs → d ≡ get_or xs i d → map f xs ≡ map f (take i xs) ++ f d ∷ map f (drop (suc i) xs)

@@ -1,19 +1,16 @@
 -- Scripts that were served to a device, and to a file.
-use Rattle.std.proofs.Common.{◌≡◌, ◌∙◌, ◌+◌, inl, inr, ℕ, true, false, List, length, take, Option, None, Result, Ok, Err, IfErr, IsErrAnd, IsOk, OnOk, refl, sym, ap, subst, arith}
+use Rattle.std.proofs.Common.{◌≡◌, ◌∙◌, ◌+◌, inl, inr, ℕ, true, false, List, length, Option, None, Result, Ok, Err, IfErr, IsErrAnd, IsOk, OnOk, refl, sym, ap, subst}
 use mathlib.Core.Logic.{∥∥₁_elim, ∥∥₁_map, ∥∥₁_prop}
 use Rattle.mt_disk.specs.declared.device.Device.{Ghosts}
 use Rattle.mt_live.specs.Machine.{State, start}
-use Rattle.mt_model.specs.History.{after}
 use Rattle.mt_model.specs.Model.{Base}
-use Rattle.mt_model.specs.declared.history.Committed.{Committed}
 use Rattle.mt_replay.specs.Stands.{CanRestart}
 use Rattle.mt_restart.specs.Resumed.{IsOpened}
 use Rattle.mt_restart.proofs.Living.{no_member, stands_book}
 use Rattle.mt_alone.proofs.RunLemmas.{left_resting}
 use Rattle.mt_alone.proofs.TurnoverLemmas.{runs_first}
-use Rattle.mt_txn.specs.Restarted.{all_commits, FindsCommits}
+use Rattle.mt_txn.specs.Restarted.{FindsCommits}
 use Rattle.mt_txn.specs.Shown.{Restarts, SameSchema, StaysRestarting}
-use Rattle.mt_txn.specs.Turned.{HasNobody}
 use Rattle.mt_txn.specs.declared.kernel.Kernel.{Kernel}
 use Rattle.mt_base.specs.declared.refusal.Refusal.TheVariants as refusal
 use Rattle.mt_alone.specs.Driven.{IsBeside}
@@ -32,7 +29,7 @@ use Rattle.mt_folder.specs.Folders.{AreKept, Files, IsFileRefusal, IsHeld, IsLen
 use Rattle.mt_cli.specs.Serves.{AreEndedBy, AreShortOn, HasNotRun, HaveServedOn, IsOnBase, IsServedIn, IsShortOf, IsShortWithin, unheard_session, short_session, IsUnservedIn, unserved, no_device, StandForAll, StandForMore, first_on, fault_of, unread_scripts}
 use Rattle.mt_cli.specs.Reads.{HasNoScript}
 use Rattle.mt_cli.specs.declared.faults.Fault.{Fault}
-use Rattle.mt_cli.specs.declared.faults.Fault.TheVariants.{Output, Refused, Unread}
+use Rattle.mt_cli.specs.declared.faults.Fault.TheVariants.{Output, Refused, Unread, Unscheduled}
 use Rattle.std.specs.Io.KnownBytes.{Keeps}
 
 module _ {D : Type 0} {g : Ghosts D} (seen : D → List ℕ) (may_leave : D → List ℕ → Type 0) where
@@ -205,4 +202,5 @@ unserved_then old mid new name scripts was now _ kept (unserved before behind fa
 pub unread_of : (workers : ℕ) (old new : Files) (file : List ℕ) (names : List (List ℕ)) (input was now : Option (List ℕ)) (fault : Fault) → HasNoScript old input names fault → AreKept old new → Keeps was now → HasNotRun workers old new file names input was now fault
 unread_of workers old new file names input was now Output bad kept keeps = absurd bad
 unread_of workers old new file names input was now (Refused why) bad kept keeps = absurd bad
+unread_of workers old new file names input was now (Unscheduled why) bad kept keeps = absurd bad
 unread_of workers old new file names input was now (Unread why at) x kept keeps = unread_scripts at why x kept keeps

@@ -4,21 +4,30 @@ use Rattle.mt_base.specs.declared.limits.TheConstants.{MASTER_BYTES}
 use Rattle.mt_base.specs.declared.refusal.Refusal.{Refusal}
 use Rattle.mt_base.specs.declared.refusal.Refusal.TheVariants as refusal
 use Rattle.mt_script.specs.Answers.{answer_text}
+use Rattle.mt_script.specs.LineFaults.{script_form, script_words}
+use Rattle.mt_script.specs.declared.faults.LineFault.{LineFault}
+use Rattle.mt_script.specs.declared.faults.LineFault.TheVariants.{TooManyLines, TooLong, Unended, Blank, CarriageReturn, Tab, Unprintable, UnknownWord, WrongOperands}
 use Rattle.mt_script.specs.declared.answers.Answer.TheVariants.{Refused as RefusedLine}
 use Rattle.mt_args.specs.declared.command.Command.{Command}
 use Rattle.mt_args.specs.declared.command.Command.TheVariants.{Try, Schedule, Check, Format, Dump, Explain, Run, Show}
 use Rattle.mt_cli.specs.declared.faults.Fault.{Fault}
-use Rattle.mt_cli.specs.declared.faults.Fault.TheVariants.{Output, Refused, Unread}
+use Rattle.mt_cli.specs.declared.faults.Fault.TheVariants.{Output, Refused, Unread, Unscheduled}
 use Rattle.mt_folder.specs.Reasons.{reason_text}
 use Rattle.mt_folder.specs.declared.reason.Reason.{Reason}
 use Rattle.mt_cli.specs.Excess.{excess_in, excess_text}
-use Rattle.mt_cli.specs.Reads.{is_input}
+use Rattle.mt_cli.specs.EventWords.{event_form, event_words}
+use Rattle.mt_cli.specs.Reads.{is_input, refusal_in}
+use Rattle.mt_cli.specs.declared.read_faults.ReadFault.{ReadFault}
+use Rattle.mt_cli.specs.declared.read_faults.ReadFault.TheVariants.{Refused as NotHad, BadLine}
+use Rattle.mt_cli.specs.declared.read_faults.TextFault.{TextFault}
+use Rattle.mt_cli.specs.declared.read_faults.TextFault.TheVariants.{Device, Line as BadAt}
 
 -- the line that reports a fault
 abbrev pub fault_line : Fault → List ℕ
 fault_line Output = codes "the output cannot be written\n"
 fault_line (Refused why) = answer_text (RefusedLine why) ++ 10 ∷ []
-fault_line (Unread why at) = answer_text (RefusedLine why) ++ 10 ∷ []
+fault_line (Unread why at) = answer_text (RefusedLine (refusal_in why)) ++ 10 ∷ []
+fault_line (Unscheduled why) = answer_text (RefusedLine (refusal_in why)) ++ 10 ∷ []
 
 -- what to do about bytes that break the format at a place: below 8192 it is a master slot, which tells the length
 abbrev pub advice_at : ℕ → List ℕ
@@ -48,18 +57,47 @@ advice_on command reason refusal.NotFormatted = codes "this is no device, or its
 advice_on command reason (refusal.BadFormat place) = advice_at place
 advice_on command reason refusal.BadLength = excess_text (excess_in command)
 advice_on command reason refusal.LogFull = codes "its log cannot be turned over; keep the file, which `mtk check` still reads"
-advice_on command reason (refusal.BadLine line) = codes "that line is not in the grammar, or no line feed ends it; see docs/MANUAL.md"
 advice_on command reason _ = codes "see docs/MANUAL.md"
 
--- and about a script that was not read
-abbrev pub advice_on_script : Command → Option Reason → Refusal → List ℕ
-advice_on_script command reason refusal.DeviceFailed = script_advice reason
-advice_on_script command reason why = advice_on command reason why
+-- ---- a script or a schedule that was not read
+
+-- what is said of one that is a device; `run` takes it before its scripts
+abbrev pub device_advice : Command → List ℕ
+device_advice (Run frames file workers scripts) = codes "that is a device, and no script; FILE comes first"
+device_advice (Schedule file) = codes "that is a device, and no schedule"
+device_advice _ = codes "that is a device, and no script"
+
+-- `form` says how a line is written that begins with a word; these are all words
+module _ {W : Type 0} (form : W → List ℕ) (all_words : List ℕ) where
+  -- what is wrong with the line
+  abbrev pub line_advice : LineFault W → List ℕ
+  line_advice TooManyLines = codes "there are more than 100,000 lines"
+  line_advice TooLong = codes "that line has more than 4,096 bytes"
+  line_advice Unended = codes "that line is the last, and no line feed ends it"
+  line_advice Blank = codes "that line is blank"
+  line_advice CarriageReturn = codes "that line ends with a carriage return and a line feed; a line feed alone ends a line"
+  line_advice Tab = codes "that line has a tab; one space stands between two words"
+  line_advice Unprintable = codes "that line has a byte that is not printable ASCII (0x20 to 0x7E)"
+  line_advice UnknownWord = codes "that line begins with none of these words: " ++ (all_words ++ codes "; see docs/MANUAL.md")
+  line_advice (WrongOperands word) = codes "that line has to be `" ++ (form word ++ codes "`; see docs/MANUAL.md")
+
+  abbrev pub text_advice : Command → TextFault W → List ℕ
+  text_advice command Device = device_advice command
+  text_advice command (BadAt why) = line_advice why
+
+  -- why it was not read, where the folder's call failed for this reason
+  abbrev pub unread_advice : Command → Option Reason → ReadFault W → List ℕ
+  unread_advice command reason (NotHad refusal.DeviceFailed) = script_advice reason
+  unread_advice command reason (NotHad why) = advice_on command reason why
+  unread_advice command reason (BadLine number fault) = text_advice command fault
+
+-- ---- a fault
 
 abbrev pub advice_of : Command → Option Reason → Fault → List ℕ
 advice_of command reason Output = codes "see that its disk has room and that its reader goes on; what was committed stands"
 advice_of command reason (Refused why) = advice_on command reason why
-advice_of command reason (Unread why at) = advice_on_script command reason why
+advice_of command reason (Unread why at) = unread_advice script_form script_words command reason why
+advice_of command reason (Unscheduled why) = unread_advice event_form event_words command reason why
 
 -- a file's name, as it is printed, and a script's
 abbrev pub shown_file : List ℕ → List ℕ
@@ -91,6 +129,7 @@ abbrev pub about : Command → Fault → List ℕ
 about command Output = codes "standard output"
 about command (Refused why) = named_in command
 about command (Unread why at) = script_in command at
+about command (Unscheduled why) = named_in command
 
 -- the line after it: what it is about, and what to do
 abbrev pub advice_line : List ℕ → List ℕ → List ℕ

@@ -19,7 +19,7 @@ use Rattle.mt_cli.specs.Checks.{IsOf, number_line}
 use Rattle.mt_folder.specs.Folders.{AreKept, Files, IsFileRefusal, IsHeld, Puts}
 use Rattle.mt_explain.specs.Listings.{counter_lines, row_line}
 use Rattle.mt_cli.specs.declared.faults.Fault.{Fault}
-use Rattle.mt_cli.specs.declared.faults.Fault.TheVariants.{Output, Refused, Unread}
+use Rattle.mt_cli.specs.declared.faults.Fault.TheVariants.{Output, Refused, Unread, Unscheduled}
 
 -- ---- what is printed
 
@@ -93,3 +93,4 @@ abbrev pub AreLeftBy : Files → Files → List ℕ → Fault → Type 0
 AreLeftBy old new name Output = StandsOn old new name
 AreLeftBy old new name (Refused why) = AreLeft old new name why
 AreLeftBy old new name (Unread why at) = ⊥
+AreLeftBy old new name (Unscheduled why) = ⊥

@@ -1,6 +1,7 @@
 pub mod Advice
 pub mod Checks
 pub mod Dumps
+pub mod EventWords
 pub mod Events
 pub mod Excess
 pub mod Explains

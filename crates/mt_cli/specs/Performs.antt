@@ -1,10 +1,9 @@
 -- What the program's commands do.
-use Rattle.std.specs.Prelude.{ℕ, pos, ◌≡◌, ◌⊎◌, List, [], ◌∷◌, ◌++◌, length, Option, None, IfSome, map, option_map, string_bytes, codes}
+use Rattle.std.specs.Prelude.{ℕ, pos, ◌≡◌, ◌⊎◌, List, [], ◌∷◌, ◌++◌, length, Option, None, IfSome, map, option_map, string_bytes}
 use Rattle.std.specs.Io.KnownBytes.{Appends, Keeps}
 use Rattle.mt_cli.specs.declared.performing.TheConstants.{AREA_MIB, PAGES}
 use Rattle.mt_base.specs.Limits.{device_bytes_of}
 use Rattle.mt_base.specs.declared.refusal.Refusal.{Refusal}
-use Rattle.mt_base.specs.declared.refusal.Refusal.TheVariants as refusal
 use Rattle.mt_disk.specs.declared.device.Device.{Ghosts}
 use Rattle.mt_model.specs.Views.{rows_of}
 use Rattle.mt_txn.specs.declared.kernel.Kernel.{Kernel}
@@ -12,11 +11,12 @@ use Rattle.mt_restart.specs.Schemas.{counters_in, device_bytes, relations_in, sc
 use Rattle.mt_restart.specs.declared.schema.Schema.{Schema}
 use Rattle.mt_script.specs.declared.answers.Answer.{Answer}
 use Rattle.mt_script.specs.declared.lines.Line.{Line}
+use Rattle.mt_script.specs.declared.words.ScriptWord.{ScriptWord}
 use Rattle.mt_args.specs.declared.command.Command.{Command}
 use Rattle.mt_args.specs.declared.command.Command.TheVariants.{Try, Schedule, Check, Format, Dump, Explain, Run, Show}
 use Rattle.mt_args.specs.declared.numbers.Numbers.{Numbers}
 use Rattle.mt_cli.specs.declared.faults.Fault.{Fault}
-use Rattle.mt_cli.specs.declared.faults.Fault.TheVariants.{Output, Refused, Unread}
+use Rattle.mt_cli.specs.declared.faults.Fault.TheVariants.{Output, Refused, Unread, Unscheduled}
 use Rattle.mt_alone.specs.declared.running.RunFault.{RunFault}
 use Rattle.mt_script.specs.Answers.{AppendsFront, transcript_text}
 use Rattle.mt_alone.specs.Driven.{IsBeside}
@@ -30,10 +30,12 @@ use Rattle.mt_cli.specs.Events.{IsEvent, IsSchedule, event_text}
 use Rattle.mt_folder.specs.Folders.{AreKept, Files, IsUnmade, known_in}
 use Rattle.mt_folder.specs.declared.reason.Reason.{Reason}
 use Rattle.mt_cli.specs.Formattings.{Formats, IsUnformed}
-use Rattle.mt_cli.specs.Reads.{IsUnread, source_of}
+use Rattle.mt_cli.specs.EventWords.{event_word}
+use Rattle.mt_cli.specs.Reads.{IsUnread, IsUnreadScript, source_of}
+use Rattle.mt_cli.specs.declared.event_words.EventWord.{EventWord}
+use Rattle.mt_cli.specs.declared.read_faults.ReadFault.{ReadFault}
 use Rattle.mt_cli.specs.Serves.{HasNotRun, HasRunScripts, IsEndedBy, fault_of}
 use Rattle.mt_cli.specs.Tellings.{told_lines}
-use Rattle.mt_script.specs.Lines.{line_text, IsInGrammar}
 use Rattle.mt_script.specs.Scripts.{IsScript}
 use Rattle.mt_alone.specs.Runs.{HasTurned, IsToldFor, last_line}
 use Rattle.mt_world.specs.Schedules.{HasRunTo}
@@ -150,13 +152,13 @@ pub data IsCutTrial {D : Type 0} (g : Ghosts D) (lines : List Line) (was now : O
 
 -- why a script of these bytes was not run to its end: nothing is written where it is not read
 pub data IsUntried {D : Type 0} (g : Ghosts D) (bytes was now : Option (List ℕ)) : Fault → Type 0 where
-  unread : (why : Refusal) → IsUnread line_text IsInGrammar bytes why → Keeps was now → IsUntried g bytes was now (Unread why 0)
+  unread : (why : ReadFault ScriptWord) → IsUnreadScript bytes why → Keeps was now → IsUntried g bytes was now (Unread why 0)
   untried : (lines : List Line) (fault : Fault) → IfSome bytes (λ bs. IsScript bs lines) → IsCutTrial g lines was now fault → IsUntried g bytes was now fault
 
 -- why a schedule of these bytes did not run to its end: nothing is written where it is not read or no kernel is made,
 -- and else the output failed within the texts of the answers
 pub data IsUnscheduled {D : Type 0} (g : Ghosts D) (bytes was now : Option (List ℕ)) : Fault → Type 0 where
-  unspelled : (why : Refusal) → IsUnread event_text IsEvent bytes why → Keeps was now → IsUnscheduled g bytes was now (Unread why 0)
+  unspelled : (why : ReadFault EventWord) → IsUnread event_text IsEvent event_word bytes why → Keeps was now → IsUnscheduled g bytes was now (Unscheduled why)
   unbegun : (why : Refusal) → IsUnmade why → Keeps was now → IsUnscheduled g bytes was now (Refused why)
   unheard : (events : List Event) (answers : List Told) → IfSome bytes (λ bs. IsSchedule bs events) → HaveRun g events answers
       → AppendsFront was now (told_lines answers) → IsUnscheduled g bytes was now Output
@@ -166,6 +168,7 @@ abbrev pub IsFormatFault : Numbers → Fault → Type 0
 IsFormatFault numbers Output = ⊥
 IsFormatFault numbers (Refused why) = IsUnformed numbers why
 IsFormatFault numbers (Unread why at) = ⊥
+IsFormatFault numbers (Unscheduled why) = ⊥
 
 -- what a command that ended with this fault left on the output, and of the files
 abbrev pub IsUndone : {D : Type 0} → Ghosts D → Command → Around → Option (List ℕ) → Option (List ℕ) → Fault → Type 0

@@ -1,14 +1,22 @@
 -- Scripts that are read by name: from files, and from the input where the name is a dash.
-use Rattle.std.specs.Prelude.{ℕ, ◌≡◌, ◌⊎◌, Bool, cond, false, true, List, [], ◌∷◌, ◌++◌, Option, Some, None, IfSome, bytes_eq, codes, length}
+use Rattle.std.specs.Prelude.{ℕ, ◌≡◌, Bool, cond, false, true, List, [], ◌∷◌, ◌++◌, Option, Some, None, IfSome, bytes_eq, codes, length, nat_eq}
+use Rattle.std.specs.List.{starts_with}
 use Rattle.mt_base.specs.declared.refusal.Refusal.{Refusal}
 use Rattle.mt_base.specs.declared.refusal.Refusal.TheVariants as refusal
-use Rattle.mt_script.specs.Grammars.{AreRefusedFor}
+use Rattle.mt_frame.specs.declared.TheConstants.{OPEN_GATE}
+use Rattle.mt_script.specs.Grammars.{IsFirstBad}
+use Rattle.mt_script.specs.LineFaults.{fault_at, script_word}
 use Rattle.mt_script.specs.Lines.{line_text, IsInGrammar}
 use Rattle.mt_script.specs.Scripts.{IsScript}
 use Rattle.mt_script.specs.declared.lines.Line.{Line}
-use Rattle.mt_folder.specs.Folders.{Files, known_in}
+use Rattle.mt_script.specs.declared.words.ScriptWord.{ScriptWord}
+use Rattle.mt_folder.specs.Folders.{Files, IsUnmade, known_in}
 use Rattle.mt_cli.specs.declared.faults.Fault.{Fault}
-use Rattle.mt_cli.specs.declared.faults.Fault.TheVariants.{Output, Refused, Unread}
+use Rattle.mt_cli.specs.declared.faults.Fault.TheVariants as fault
+use Rattle.mt_cli.specs.declared.read_faults.TextFault.{TextFault}
+use Rattle.mt_cli.specs.declared.read_faults.TextFault.TheVariants.{Device, Line as BadAt}
+use Rattle.mt_cli.specs.declared.read_faults.ReadFault.{ReadFault}
+use Rattle.mt_cli.specs.declared.read_faults.ReadFault.TheVariants.{Refused, BadLine}
 
 -- the name represents the input
 abbrev pub is_input : List ℕ → Bool
@@ -38,10 +46,32 @@ abbrev pub held_by : Files → Option (List ℕ) → Option (List ℕ) → Optio
 held_by files None input = input
 held_by files (Some name) input = known_in files name
 
--- why lines are not read: the bytes are none of the grammar, or could not be had, or memory was wanting
-module _ {L : Type 0} (text : L → List ℕ) (IsIn : L → Type 0) where
-  abbrev pub IsUnread : Option (List ℕ) → Refusal → Type 0
-  IsUnread bytes why = IfSome bytes (λ bs. (why ≡ refusal.DeviceFailed) ⊎ AreRefusedFor text IsIn bs why)
+-- the bytes begin as a device does: an open gate, and letters
+abbrev pub is_device : List ℕ → Bool
+is_device bytes = starts_with nat_eq bytes (OPEN_GATE ∷ codes "MTK1")
+
+-- the refusal of what was not read
+abbrev pub refusal_in : {W : Type 0} → ReadFault W → Refusal
+refusal_in (Refused why) = why
+refusal_in (BadLine number fault) = refusal.BadLine number
+
+-- what is wrong with bytes whose line of this number is the first that is not in the grammar, which begins with these words
+abbrev pub text_fault : {W : Type 0} → (List ℕ → Option W) → List ℕ → ℕ → TextFault W
+text_fault word_at bytes number = cond (is_device bytes) Device (BadAt (fault_at word_at bytes number))
+
+module _ {L W : Type 0} (text : L → List ℕ) (IsIn : L → Type 0) (word_at : List ℕ → Option W) where
+  -- why these bytes are not read as lines: memory was wanting or the reader failed, or a line is not in the grammar
+  abbrev pub AreUnreadFor : List ℕ → ReadFault W → Type 0
+  AreUnreadFor bytes (Refused why) = IsUnmade why
+  AreUnreadFor bytes (BadLine number fault) = IsFirstBad text IsIn bytes number × (fault ≡ text_fault word_at bytes number)
+
+  -- where they are known
+  abbrev pub IsUnread : Option (List ℕ) → ReadFault W → Type 0
+  IsUnread bytes why = IfSome bytes (λ bs. AreUnreadFor bs why)
+
+-- why a script of these bytes is not read
+abbrev pub IsUnreadScript : Option (List ℕ) → ReadFault ScriptWord → Type 0
+IsUnreadScript bytes why = IsUnread line_text IsInGrammar script_word bytes why
 
 -- ---- several
 
@@ -66,7 +96,7 @@ abbrev pub HaveBeenRead : Files → Option (List ℕ) → List (List ℕ) → Li
 HaveBeenRead files input names scripts = (left : Option (List ℕ)) × AreRead files input names scripts left
 
 -- The first so many of them were read, and the next one was not, for this.
-pub record AreUnread (files : Files) (input : Option (List ℕ)) (names : List (List ℕ)) (at : ℕ) (why : Refusal) : Type 0 where
+pub record AreUnread (files : Files) (input : Option (List ℕ)) (names : List (List ℕ)) (at : ℕ) (why : ReadFault ScriptWord) : Type 0 where
   pub before : List (List ℕ)
   pub name : List ℕ
   pub rest : List (List ℕ)
@@ -75,10 +105,11 @@ pub record AreUnread (files : Files) (input : Option (List ℕ)) (names : List (
   pub scripts : List (List Line)
   pub left : Option (List ℕ)
   pub read : AreRead files input before scripts left
-  pub unread : IsUnread line_text IsInGrammar (bytes_at files name left) why
+  pub unread : IsUnreadScript (bytes_at files name left) why
 
 -- that is the fault: one of them, by its place, was not read
 abbrev pub HasNoScript : Files → Option (List ℕ) → List (List ℕ) → Fault → Type 0
-HasNoScript files input names (Unread why at) = AreUnread files input names at why
-HasNoScript files input names (Refused why) = ⊥
-HasNoScript files input names Output = ⊥
+HasNoScript files input names (fault.Unread why at) = AreUnread files input names at why
+HasNoScript files input names (fault.Unscheduled why) = ⊥
+HasNoScript files input names (fault.Refused why) = ⊥
+HasNoScript files input names fault.Output = ⊥

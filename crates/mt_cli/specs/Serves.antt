@@ -19,6 +19,7 @@ use Rattle.mt_server.specs.Serves.{IsUnserved}
 use Rattle.mt_alone.specs.Sessions.{HavePlayed, in_session, session_line, sessions_text}
 use Rattle.mt_script.specs.declared.answers.Answer.{Answer}
 use Rattle.mt_script.specs.declared.lines.Line.{Line}
+use Rattle.mt_script.specs.declared.words.ScriptWord.{ScriptWord}
 use Rattle.mt_alone.specs.declared.running.RunFault.{RunFault}
 use Rattle.mt_alone.specs.declared.running.RunFault.TheVariants as run
 use Rattle.mt_shared.specs.Opens.{IsBaseOf}
@@ -26,6 +27,7 @@ use Rattle.mt_cli.specs.Dumps.{IsBarred, IsEarly, StandAs}
 use Rattle.mt_folder.specs.Folders.{AreKept, Files, IsFileRefusal, IsHeld, IsLent, IsUnmade, Puts, known_in}
 use Rattle.mt_cli.specs.Reads.{AreUnread, HaveBeenRead}
 use Rattle.mt_cli.specs.declared.faults.Fault.{Fault}
+use Rattle.mt_cli.specs.declared.read_faults.ReadFault.{ReadFault}
 use Rattle.mt_cli.specs.declared.faults.Fault.TheVariants.{Output, Refused, Unread}
 
 -- ---- how a run ends
@@ -212,7 +214,7 @@ pub record HasRunScripts (workers : ℕ) (old new : Files) (file : List ℕ) (na
 
 -- or they were not: nothing is written where they are not read
 pub data HasNotRun (workers : ℕ) (old new : Files) (file : List ℕ) (names : List (List ℕ)) (input was now : Option (List ℕ)) : Fault → Type 0 where
-  unread_scripts : (at : ℕ) (why : Refusal) → AreUnread old input names at why → AreKept old new → Keeps was now
+  unread_scripts : (at : ℕ) (why : ReadFault ScriptWord) → AreUnread old input names at why → AreKept old new → Keeps was now
       → HasNotRun workers old new file names input was now (Unread why at)
   unserved_scripts : (scripts : List (List Line)) (fault : Fault) → HaveBeenRead old input names scripts → AreUnservedBy workers old new file scripts was now fault
       → HasNotRun workers old new file names input was now fault

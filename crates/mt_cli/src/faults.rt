@@ -3,14 +3,19 @@ ghost use Rattle.std.specs.Prelude.{◌≡◌, ◌++◌, [], OnOk, OnErr, codes,
 ghost use Rattle.std.specs.Io.KnownBytes.{Appends};
 ghost use Rattle.mt_script.specs.Answers.{AppendsFront};
 ghost use Rattle.mt_cli.specs.Performs.{IsToldOf};
-ghost use Rattle.mt_cli.specs.Advice.{about, advice_at, advice_line, advice_of, advice_on, file_advice, fault_line, memory_advice, named_in, script_advice, script_in, shown_file, shown_name, told_of, unread_text};
+ghost use Rattle.mt_cli.specs.Advice.{about, advice_at, advice_line, advice_of, advice_on, device_advice, fault_line, file_advice, line_advice, memory_advice, named_in, script_advice, script_in, shown_file, shown_name, told_of, unread_advice, unread_text};
 
+use crate::event_words::EventWord;
 use crate::excess::{excess_in, write_excess};
+use crate::read_faults::{ReadFault, TextFault};
+use crate::schedules::ScheduleGrammar;
 use mt_args::Command;
 use mt_base::Refusal;
 use mt_base::limits::MASTER_BYTES;
 use mt_folder::Reason;
-use mt_script::{Answer, Unheard, put, put_all, write_answer};
+use mt_script::{
+    Answer, Grammar, LineFault, ScriptGrammar, ScriptWord, Unheard, put, put_all, write_answer,
+};
 use std::io::Write;
 
 /// Why a command did not end well.
@@ -21,7 +26,9 @@ pub(crate) enum Fault {
     /// What was asked for was refused.
     Refused(Refusal),
     /// The script at this place of those that are named, from 0, was not read.
-    Unread(Refusal, usize),
+    Unread(ReadFault<ScriptWord>, usize),
+    /// The schedule was not read.
+    Unscheduled(ReadFault<EventWord>),
 }
 
 /// What is told of an output that cannot be written.
@@ -106,6 +113,7 @@ fn name_for<'a>(command: &'a Command, fault: &Fault) -> &'a str
         Fault::Output => OUTPUT,
         Fault::Refused(_) => named_in(command),
         Fault::Unread(_, at) => script_in(command, *at),
+        Fault::Unscheduled(_) => named_in(command),
     }
 }
 
@@ -118,7 +126,8 @@ fn write_fault<W: Write>(writer: &mut W, fault: &Fault) -> Result<(), Unheard>
     match fault {
         Fault::Output => put(writer, NO_OUTPUT.as_bytes()),
         Fault::Refused(refusal) => write_answer(writer, &Answer::Refused(*refusal)),
-        Fault::Unread(refusal, _) => write_answer(writer, &Answer::Refused(*refusal)),
+        Fault::Unread(why, _) => write_answer(writer, &Answer::Refused(why.refusal())),
+        Fault::Unscheduled(why) => write_answer(writer, &Answer::Refused(why.refusal())),
     }
 }
 
@@ -195,11 +204,89 @@ fn write_advice_on<W: Write>(
             writer,
             b"its log cannot be turned over; keep the file, which `mtk check` still reads",
         ),
-        Refusal::BadLine(_) => put(
-            writer,
-            b"that line is not in the grammar, or no line feed ends it; see docs/MANUAL.md",
-        ),
         _ => put(writer, b"see docs/MANUAL.md"),
+    }
+}
+
+/// What a script or a schedule is that is a device; `run` takes that before its scripts.
+fn device_advice(command: &Command) -> &'static str
+    ensures { result.now ≡ device_advice command.now }
+{
+    match command {
+        Command::Run {
+            frames: _,
+            file: _,
+            workers: _,
+            scripts: _,
+        } => "that is a device, and no script; FILE comes first",
+        Command::Schedule { file: _ } => "that is a device, and no schedule",
+        _ => "that is a device, and no script",
+    }
+}
+
+/// Writes what is wrong with a line that is not in the grammar.
+fn write_line_advice<G: Grammar, W: Write>(
+    writer: &mut W,
+    fault: &LineFault<G::Word>,
+) -> Result<(), Unheard>
+    ensures all { OnOk result (Appends (W.contents writer.old) (W.contents writer.new)
+        (line_advice G.form G.all_words fault.now)) }
+    ensures front { OnErr result (AppendsFront (W.contents writer.old) (W.contents writer.new)
+        (line_advice G.form G.all_words fault.now)) }
+{
+    match fault {
+        LineFault::TooManyLines => put(writer, b"there are more than 100,000 lines"),
+        LineFault::TooLong => put(writer, b"that line has more than 4,096 bytes"),
+        LineFault::Unended => put(writer, b"that line is the last, and no line feed ends it"),
+        LineFault::Blank => put(writer, b"that line is blank"),
+        LineFault::CarriageReturn => put(
+            writer,
+            b"that line ends with a carriage return and a line feed; a line feed alone ends a line",
+        ),
+        LineFault::Tab => put(
+            writer,
+            b"that line has a tab; one space stands between two words",
+        ),
+        LineFault::Unprintable => put(
+            writer,
+            b"that line has a byte that is not printable ASCII (0x20 to 0x7E)",
+        ),
+        LineFault::UnknownWord => put_all(
+            writer,
+            &[
+                b"that line begins with none of these words: ",
+                G::words().as_bytes(),
+                b"; see docs/MANUAL.md",
+            ],
+        ),
+        LineFault::WrongOperands(word) => put_all(
+            writer,
+            &[
+                b"that line has to be `",
+                G::form_of(*word).as_bytes(),
+                b"`; see docs/MANUAL.md",
+            ],
+        ),
+    }
+}
+
+/// Writes why a script or a schedule was not read, or what to do about it.
+fn write_unread_advice<G: Grammar, W: Write>(
+    writer: &mut W,
+    command: &Command,
+    reason: &Option<Reason>,
+    why: &ReadFault<G::Word>,
+) -> Result<(), Unheard>
+    ensures all { OnOk result (Appends (W.contents writer.old) (W.contents writer.new)
+        (unread_advice G.form G.all_words command.now reason.now why.now)) }
+    ensures front { OnErr result (AppendsFront (W.contents writer.old) (W.contents writer.new)
+        (unread_advice G.form G.all_words command.now reason.now why.now)) }
+{
+    match why {
+        ReadFault::Refused(Refusal::DeviceFailed) => put(writer, script_advice(reason).as_bytes()),
+        ReadFault::Refused(refusal) => write_advice_on(writer, command, reason, refusal),
+        ReadFault::BadLine(_, TextFault::Device) => put(writer, device_advice(command).as_bytes()),
+        ReadFault::BadLine(_, TextFault::Line(fault)) => write_line_advice::<G, W>(writer, fault),
     }
 }
 
@@ -221,8 +308,12 @@ fn write_advice<W: Write>(
             b"see that its disk has room and that its reader goes on; what was committed stands",
         ),
         Fault::Refused(refusal) => write_advice_on(writer, command, reason, refusal),
-        Fault::Unread(Refusal::DeviceFailed, _) => put(writer, script_advice(reason).as_bytes()),
-        Fault::Unread(refusal, _) => write_advice_on(writer, command, reason, refusal),
+        Fault::Unread(why, _) => {
+            write_unread_advice::<ScriptGrammar, W>(writer, command, reason, why)
+        }
+        Fault::Unscheduled(why) => {
+            write_unread_advice::<ScheduleGrammar, W>(writer, command, reason, why)
+        }
     }
 }
 

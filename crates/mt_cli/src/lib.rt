@@ -5,11 +5,13 @@
 mod at_once;
 mod checking;
 mod dumping;
+mod event_words;
 mod excess;
 mod explaining;
 mod faults;
 mod formatting;
 mod performing;
+mod read_faults;
 mod reading;
 mod schedules;
 mod serving;

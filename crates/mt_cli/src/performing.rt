@@ -154,7 +154,7 @@ fn perform_try<F: Folder, I: Read, O: Write>(
 {
     match lines_of::<ScriptGrammar, F, I>(alloc, folder, name, input) {
         Ok(lines) => try_script(alloc, &Script::new(lines), out),
-        Err(refusal) => Err(Fault::Unread(refusal, 0)),
+        Err(why) => Err(Fault::Unread(why, 0)),
     }
 }
 
@@ -205,7 +205,7 @@ fn perform_schedule<F: Folder, I: Read, O: Write>(
 {
     let events = match lines_of::<ScheduleGrammar, F, I>(alloc, folder, name, input) {
         Ok(events) => events,
-        Err(refusal) => return Err(Fault::Unread(refusal, 0)),
+        Err(why) => return Err(Fault::Unscheduled(why)),
     };
     match answers_of(alloc, events.as_slice()) {
         Ok(answers) => match write_all_told(out, answers.as_slice()) {

@@ -1,17 +1,71 @@
 // Scripts and schedules, read by name.
 ghost use Rattle.std.specs.Prelude.{◌≡◌, false, IfErr, IfOk, IfSome, is_some, map, option_map, string_bytes, true};
 ghost use Rattle.mt_script.specs.Grammars.{AreLines};
-ghost use Rattle.mt_script.specs.Lines.{line_text, IsInGrammar};
 ghost use Rattle.mt_alone.specs.Sessions.{lines_in};
-ghost use Rattle.mt_folder.specs.Folders.{AreKept};
-ghost use Rattle.mt_cli.specs.Reads.{HasNoScript, HaveBeenRead, IsReadAt, IsUnread, bytes_at, file_in, held_by, is_fed, source_of};
+ghost use Rattle.mt_folder.specs.Folders.{AreKept, IsUnmade};
+ghost use Rattle.mt_cli.specs.Reads.{AreUnreadFor, HasNoScript, HaveBeenRead, IsReadAt, IsUnread, IsUnreadScript, bytes_at, file_in, held_by, is_fed, source_of};
 
 use crate::faults::Fault;
+use crate::read_faults::{ReadFault, text_fault};
 use mt_base::Refusal;
 use mt_folder::Folder;
-use mt_script::{Grammar, Script, ScriptFault, ScriptGrammar, read_lines};
+use mt_script::{Grammar, Script, ScriptFault, ScriptGrammar, ScriptWord, read_lines};
 use std::alloc::Global;
-use std::io::Read;
+use std::io::{ErrorKind, Read};
+
+/// What the input gives, to its end.
+fn input_bytes<I: Read>(alloc: Global, input: &mut I) -> Result<Vec<u8>, Refusal>
+    ensures held { IfOk result (λ bytes. IfSome (I.remaining input.old) (λ held. bytes.items ≡ held)) }
+    ensures unmade { IfErr result IsUnmade }
+{
+    let mut bytes = Vec::new(alloc);
+    match input.read_to_end(&mut bytes) {
+        Ok(_) => Ok(bytes),
+        Err(fault) => match fault.kind() {
+            ErrorKind::OutOfMemory => Err(Refusal::NoMemory),
+            _ => Err(Refusal::DeviceFailed),
+        },
+    }
+}
+
+/// The bytes of this file, or those on standard input if there is none.
+fn bytes_from<F: Folder, I: Read>(
+    alloc: Global,
+    folder: &mut F,
+    file: Option<&str>,
+    input: &mut I,
+) -> Result<Vec<u8>, Refusal>
+    ensures held { IfOk result (λ bytes. IfSome
+        (held_by (F.files folder.old) (option_map (λ n. n.now) file.entry) (I.remaining input.old))
+        (λ held. bytes.items ≡ held)) }
+    ensures unmade { IfErr result IsUnmade }
+    ensures kept { AreKept (F.files folder.old) (F.files folder.new) }
+    ensures untouched { is_some (option_map (λ n. n.now) file.entry) ≡ true
+        → I.remaining input.new ≡ I.remaining input.old }
+{
+    match file {
+        Some(name) => folder.script(name),
+        None => input_bytes(alloc, input),
+    }
+}
+
+/// The lines of a text, and else what is wrong with it.
+fn lines_within<G: Grammar>(alloc: Global, bytes: &[u8]) -> Result<Vec<G::Line>, ReadFault<G::Word>>
+    ensures lines { IfOk result (λ lines. AreLines G.text G.IsIn bytes.now lines.items) }
+    ensures unread { IfErr result (AreUnreadFor G.text G.IsIn G.word_at bytes.now) }
+{
+    let mut rest = bytes;
+    match read_lines::<G, &[u8]>(alloc, &mut rest) {
+        Ok(lines) => Ok(lines),
+        Err(ScriptFault::Input) => Err(ReadFault::Refused(Refusal::DeviceFailed)),
+        Err(ScriptFault::Refused(Refusal::BadLine(number))) => Err(ReadFault::BadLine(
+            number,
+            text_fault::<G>(bytes, number),
+        )),
+        // the other refusal that there is
+        Err(ScriptFault::Refused(_)) => Err(ReadFault::Refused(Refusal::NoMemory)),
+    }
+}
 
 /// The lines of this file, or those on standard input if there is none.
 fn lines_from<G: Grammar, F: Folder, I: Read>(
@@ -19,28 +73,19 @@ fn lines_from<G: Grammar, F: Folder, I: Read>(
     folder: &mut F,
     file: Option<&str>,
     input: &mut I,
-) -> Result<Vec<G::Line>, Refusal>
+) -> Result<Vec<G::Line>, ReadFault<G::Word>>
     ensures lines { IfOk result (λ lines. IfSome
         (held_by (F.files folder.old) (option_map (λ n. n.now) file.entry) (I.remaining input.old))
         (λ bytes. AreLines G.text G.IsIn bytes lines.items)) }
-    ensures unread { IfErr result (IsUnread G.text G.IsIn
+    ensures unread { IfErr result (IsUnread G.text G.IsIn G.word_at
         (held_by (F.files folder.old) (option_map (λ n. n.now) file.entry) (I.remaining input.old))) }
     ensures kept { AreKept (F.files folder.old) (F.files folder.new) }
     ensures untouched { is_some (option_map (λ n. n.now) file.entry) ≡ true
         → I.remaining input.new ≡ I.remaining input.old }
 {
-    let read = match file {
-        Some(name) => {
-            let bytes = folder.script(name)?;
-            let mut rest = bytes.as_slice();
-            read_lines::<G, &[u8]>(alloc, &mut rest)
-        }
-        None => read_lines::<G, I>(alloc, input),
-    };
-    match read {
-        Ok(lines) => Ok(lines),
-        Err(ScriptFault::Input) => Err(Refusal::DeviceFailed),
-        Err(ScriptFault::Refused(refusal)) => Err(refusal),
+    match bytes_from(alloc, folder, file, input) {
+        Ok(bytes) => lines_within::<G>(alloc, bytes.as_slice()),
+        Err(refusal) => Err(ReadFault::Refused(refusal)),
     }
 }
 
@@ -60,11 +105,11 @@ pub(crate) fn lines_of<G: Grammar, F: Folder, I: Read>(
     folder: &mut F,
     name: Option<&str>,
     input: &mut I,
-) -> Result<Vec<G::Line>, Refusal>
+) -> Result<Vec<G::Line>, ReadFault<G::Word>>
     ensures lines { IfOk result (λ lines. IfSome
         (source_of (F.files folder.old) (option_map (λ n. n.now) name.entry) (I.remaining input.old))
         (λ bytes. AreLines G.text G.IsIn bytes lines.items)) }
-    ensures unread { IfErr result (IsUnread G.text G.IsIn
+    ensures unread { IfErr result (IsUnread G.text G.IsIn G.word_at
         (source_of (F.files folder.old) (option_map (λ n. n.now) name.entry) (I.remaining input.old))) }
     ensures kept { AreKept (F.files folder.old) (F.files folder.new) }
     ensures untouched { is_fed (option_map (λ n. n.now) name.entry) ≡ false
@@ -79,10 +124,10 @@ fn script_of<F: Folder, I: Read>(
     folder: &mut F,
     name: &str,
     input: &mut I,
-) -> Result<Script, Refusal>
+) -> Result<Script, ReadFault<ScriptWord>>
     ensures read { IfOk result (λ script. IsReadAt (F.files folder.old) (I.remaining input.old) name.now
         (lines_in script) (I.remaining input.new)) }
-    ensures unread { IfErr result (IsUnread line_text IsInGrammar
+    ensures unread { IfErr result (IsUnreadScript
         (bytes_at (F.files folder.old) name.now (I.remaining input.old))) }
     ensures kept { AreKept (F.files folder.old) (F.files folder.new) }
 {
@@ -111,11 +156,11 @@ pub(crate) fn scripts_of<F: Folder, I: Read>(
         let at = scripts.len();
         let script = match script_of(alloc, folder, name.as_str(), input) {
             Ok(script) => script,
-            Err(refusal) => return Err(Fault::Unread(refusal, at)),
+            Err(why) => return Err(Fault::Unread(why, at)),
         };
         match scripts.push(script) {
             Ok(()) => {}
-            Err(_) => return Err(Fault::Unread(Refusal::NoMemory, at)),
+            Err(_) => return Err(Fault::Unread(ReadFault::Refused(Refusal::NoMemory), at)),
         }
     }
     Ok(scripts)

@@ -4,6 +4,7 @@ ghost use Rattle.std.specs.Fmt.{decimal};
 ghost use Rattle.mt_script.specs.Lines.{IsUnspaced};
 ghost use Rattle.mt_cli.specs.Events.{ReadsEvent};
 
+use crate::event_words::{EventWord, event_form, event_word};
 use mt_base::TxnNo;
 use mt_script::{Grammar, is_text_of, number_of, op_of, split_at_space};
 use mt_world::Event;
@@ -102,14 +103,23 @@ fn bare_event_of(word: &[u8]) -> Option<Event>
 pub(crate) struct ScheduleGrammar;
 
 impl Grammar for ScheduleGrammar {
+    ghost use Rattle.mt_cli.specs.EventWords.{event_form, event_word, event_words};
     ghost use Rattle.mt_cli.specs.Events.{IsEvent, event_text};
     ghost use Rattle.mt_cli.specs.WholeEvents.{event_whole};
 
     type Line = Event;
 
+    type Word = EventWord;
+
     ghost text = { event_text };
 
     ghost IsIn = { IsEvent };
+
+    ghost word_at = { event_word };
+
+    ghost form = { event_form };
+
+    ghost all_words = { event_words };
 
     ghost is_whole = { event_whole };
 
@@ -118,5 +128,17 @@ impl Grammar for ScheduleGrammar {
             Some((word, words)) => event_with(alloc, word, words),
             None => Ok(bare_event_of(bytes)),
         }
+    }
+
+    fn word_of(bytes: &[u8]) -> Option<EventWord> {
+        event_word(bytes)
+    }
+
+    fn form_of(word: EventWord) -> &'static str {
+        event_form(word)
+    }
+
+    fn words() -> &'static str {
+        "begin, call, step, commit, abort, undo, force, flush, rotate"
     }
 }

@@ -1,3 +1,4 @@
+mod FaultLemmas
 pub mod LineLemmas
 mod ScriptLemmas
 pub mod TextLemmas

@@ -4,6 +4,7 @@ ghost use Rattle.std.specs.Fmt.{decimal, signed_decimal};
 ghost use Rattle.mt_script.specs.Lines.{IsUnspaced, IsWord, IsText, IsPlace, IsWide, SpellsStep, SpellsKey, SpellsRow, ReadsOp, ReadsLine};
 
 use crate::grammar::Grammar;
+use crate::words::{ScriptWord, script_form, script_word};
 use mt_base::{Bytes, CtrNo, RelNo};
 use mt_model::Op;
 use std::alloc::{AllocError, Global};
@@ -295,18 +296,39 @@ pub fn line_of(alloc: Global, bytes: &[u8]) -> Result<Option<Line>, AllocError>
 pub struct ScriptGrammar;
 
 impl Grammar for ScriptGrammar {
+    ghost use Rattle.mt_script.specs.LineFaults.{script_form, script_word, script_words};
     ghost use Rattle.mt_script.specs.Lines.{line_text, IsInGrammar};
     ghost use Rattle.mt_script.specs.Whole.{line_whole};
 
     type Line = Line;
 
+    type Word = ScriptWord;
+
     ghost text = { line_text };
 
     ghost IsIn = { IsInGrammar };
+
+    ghost word_at = { script_word };
+
+    ghost form = { script_form };
+
+    ghost all_words = { script_words };
 
     ghost is_whole = { line_whole };
 
     fn line_of(alloc: Global, bytes: &[u8]) -> Result<Option<Line>, AllocError> {
         line_of(alloc, bytes)
+    }
+
+    fn word_of(bytes: &[u8]) -> Option<ScriptWord> {
+        script_word(bytes)
+    }
+
+    fn form_of(word: ScriptWord) -> &'static str {
+        script_form(word)
+    }
+
+    fn words() -> &'static str {
+        "begin, get, insert, update, delete, add, read, commit, abort"
     }
 }

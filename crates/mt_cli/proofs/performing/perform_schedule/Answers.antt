@@ -4,7 +4,7 @@ use Rattle.mt_cli.proofs.Endings.{unheard_at}
 use Rattle.mt_cli.proofs.performing.perform_schedule.Goals as goal
 
 pub returns-in-Err-clause-unscheduled : goal.returns-in-Err-clause-unscheduled
-returns-in-Err-clause-unscheduled g c = unspelled c.in-Err.refusal c.in-Err.ensures.unread (Keeps-refl (g.O.Write.contents c.args.out.now))
+returns-in-Err-clause-unscheduled g c = unspelled c.in-Err.why c.in-Err.ensures.unread (Keeps-refl (g.O.Write.contents c.args.out.now))
 
 pub returns-in-Ok-answers_of-clause-unscheduled : goal.returns-in-Ok-answers_of-clause-unscheduled
 returns-in-Ok-answers_of-clause-unscheduled g c =

@@ -78,7 +78,8 @@ module _ {W : Type 0} (form : W → List ℕ) (all_words : List ℕ) where
   line_advice CarriageReturn = codes "that line ends with a carriage return and a line feed; a line feed alone ends a line"
   line_advice Tab = codes "that line has a tab; one space stands between two words"
   line_advice Unprintable = codes "that line has a byte that is not printable ASCII (0x20 to 0x7E)"
-  line_advice UnknownWord = codes "that line begins with none of these words: " ++ (all_words ++ codes "; see docs/MANUAL.md")
+  line_advice UnknownWord =
+      codes "that line begins with none of these words: " ++ (all_words ++ codes "; see docs/MANUAL.md")
   line_advice (WrongOperands word) = codes "that line has to be `" ++ (form word ++ codes "`; see docs/MANUAL.md")
 
   abbrev pub text_advice : Command → TextFault W → List ℕ

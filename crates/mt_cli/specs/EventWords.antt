@@ -6,9 +6,11 @@ use Rattle.mt_cli.specs.declared.event_words.EventWord.TheVariants.{Begin, Call,
 -- the word that the bytes are
 abbrev pub event_word : List ℕ → Option EventWord
 event_word bytes =
-    cond (bytes_eq bytes (codes "begin")) (Some Begin) (cond (bytes_eq bytes (codes "call")) (Some Call) (cond (bytes_eq bytes (codes "step")) (Some Step)
-    (cond (bytes_eq bytes (codes "commit")) (Some Commit) (cond (bytes_eq bytes (codes "abort")) (Some Abort) (cond (bytes_eq bytes (codes "undo")) (Some Undo)
-    (cond (bytes_eq bytes (codes "force")) (Some Force) (cond (bytes_eq bytes (codes "flush")) (Some Flush) (cond (bytes_eq bytes (codes "rotate")) (Some Rotate) None))))))))
+    cond (bytes_eq bytes (codes "begin")) (Some Begin) (cond (bytes_eq bytes (codes "call")) (Some Call)
+    (cond (bytes_eq bytes (codes "step")) (Some Step) (cond (bytes_eq bytes (codes "commit")) (Some Commit)
+    (cond (bytes_eq bytes (codes "abort")) (Some Abort) (cond (bytes_eq bytes (codes "undo")) (Some Undo)
+    (cond (bytes_eq bytes (codes "force")) (Some Force) (cond (bytes_eq bytes (codes "flush")) (Some Flush)
+    (cond (bytes_eq bytes (codes "rotate")) (Some Rotate) None))))))))
 
 -- how a line is written that begins with it
 abbrev pub event_form : EventWord → List ℕ

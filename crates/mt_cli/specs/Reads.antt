@@ -5,7 +5,7 @@ use Rattle.mt_base.specs.declared.refusal.Refusal.{Refusal}
 use Rattle.mt_base.specs.declared.refusal.Refusal.TheVariants as refusal
 use Rattle.mt_frame.specs.declared.TheConstants.{OPEN_GATE}
 use Rattle.mt_script.specs.Grammars.{IsFirstBad}
-use Rattle.mt_script.specs.LineFaults.{fault_at, script_word}
+use Rattle.mt_script.specs.LineFaults.{fault_of_numbered, script_word}
 use Rattle.mt_script.specs.Lines.{line_text, IsInGrammar}
 use Rattle.mt_script.specs.Scripts.{IsScript}
 use Rattle.mt_script.specs.declared.lines.Line.{Line}
@@ -55,15 +55,16 @@ abbrev pub refusal_in : {W : Type 0} → ReadFault W → Refusal
 refusal_in (Refused why) = why
 refusal_in (BadLine number fault) = refusal.BadLine number
 
--- what is wrong with bytes whose line of this number is the first that is not in the grammar, which begins with these words
+-- what is wrong with bytes, of which the line of this number is the first that is not in the grammar of these words
 abbrev pub text_fault : {W : Type 0} → (List ℕ → Option W) → List ℕ → ℕ → TextFault W
-text_fault word_at bytes number = cond (is_device bytes) Device (BadAt (fault_at word_at bytes number))
+text_fault word_at bytes number = cond (is_device bytes) Device (BadAt (fault_of_numbered word_at bytes number))
 
 module _ {L W : Type 0} (text : L → List ℕ) (IsIn : L → Type 0) (word_at : List ℕ → Option W) where
   -- why these bytes are not read as lines: memory was wanting or the reader failed, or a line is not in the grammar
   abbrev pub AreUnreadFor : List ℕ → ReadFault W → Type 0
   AreUnreadFor bytes (Refused why) = IsUnmade why
-  AreUnreadFor bytes (BadLine number fault) = IsFirstBad text IsIn bytes number × (fault ≡ text_fault word_at bytes number)
+  AreUnreadFor bytes (BadLine number fault) =
+      IsFirstBad text IsIn bytes number × (fault ≡ text_fault word_at bytes number)
 
   -- where they are known
   abbrev pub IsUnread : Option (List ℕ) → ReadFault W → Type 0

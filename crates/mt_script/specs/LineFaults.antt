@@ -59,11 +59,12 @@ module _ {W : Type 0} (word_at : List ℕ → Option W) where
   -- a line that ends, and is not too long
   abbrev pub fault_of_line : List ℕ → LineFault W
   fault_of_line line =
-      cond (is_blank line) Blank (cond (ends_in_return line) CarriageReturn (cond (has_tab line) Tab (cond (has_unprintable line) Unprintable (fault_of_words line))))
+      cond (is_blank line) Blank (cond (ends_in_return line) CarriageReturn (cond (has_tab line) Tab
+      (cond (has_unprintable line) Unprintable (fault_of_words line))))
 
   -- the line of this number
-  abbrev pub fault_at : List ℕ → ℕ → LineFault W
-  fault_at bytes number =
+  abbrev pub fault_of_numbered : List ℕ → ℕ → LineFault W
+  fault_of_numbered bytes number =
       cond (nat_lt MAX_LINES number) TooManyLines (cond (nat_lt MAX_LINE_BYTES (length (line_at bytes number))) TooLong
       (cond (is_unended bytes number) Unended (fault_of_line (line_at bytes number))))
 
@@ -72,9 +73,11 @@ module _ {W : Type 0} (word_at : List ℕ → Option W) where
 -- the word that the bytes are
 abbrev pub script_word : List ℕ → Option ScriptWord
 script_word bytes =
-    cond (bytes_eq bytes (codes "begin")) (Some Begin) (cond (bytes_eq bytes (codes "get")) (Some Get) (cond (bytes_eq bytes (codes "insert")) (Some Insert)
-    (cond (bytes_eq bytes (codes "update")) (Some Update) (cond (bytes_eq bytes (codes "delete")) (Some Delete) (cond (bytes_eq bytes (codes "add")) (Some Add)
-    (cond (bytes_eq bytes (codes "read")) (Some Read) (cond (bytes_eq bytes (codes "commit")) (Some Commit) (cond (bytes_eq bytes (codes "abort")) (Some Abort) None))))))))
+    cond (bytes_eq bytes (codes "begin")) (Some Begin) (cond (bytes_eq bytes (codes "get")) (Some Get)
+    (cond (bytes_eq bytes (codes "insert")) (Some Insert) (cond (bytes_eq bytes (codes "update")) (Some Update)
+    (cond (bytes_eq bytes (codes "delete")) (Some Delete) (cond (bytes_eq bytes (codes "add")) (Some Add)
+    (cond (bytes_eq bytes (codes "read")) (Some Read) (cond (bytes_eq bytes (codes "commit")) (Some Commit)
+    (cond (bytes_eq bytes (codes "abort")) (Some Abort) None))))))))
 
 -- how a line is written that begins with it
 abbrev pub script_form : ScriptWord → List ℕ

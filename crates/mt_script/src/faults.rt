@@ -1,6 +1,6 @@
 // What is wrong with a line of a text.
 ghost use Rattle.std.specs.Prelude.{◌≡◌, option_map, slice_get};
-ghost use Rattle.mt_script.specs.LineFaults.{ends_in_return, fault_at, fault_of_line, fault_of_words, first_word, has_tab, has_unprintable, is_blank, is_unended, is_unprintable, line_at, lines_of};
+ghost use Rattle.mt_script.specs.LineFaults.{ends_in_return, fault_of_line, fault_of_numbered, fault_of_words, first_word, has_tab, has_unprintable, is_blank, is_unended, is_unprintable, line_at, lines_of};
 
 use crate::grammar::Grammar;
 use crate::lines::split_at_space;
@@ -128,7 +128,7 @@ fn fault_of_line<G: Grammar>(line: &[u8]) -> LineFault<G::Word>
 
 /// What is wrong with the line of this number, counted from 1, of a text. The line is one that is not in the grammar.
 pub fn line_fault<G: Grammar>(bytes: &[u8], number: u64) -> LineFault<G::Word>
-    ensures { result ≡ fault_at G.word_at bytes.now number }
+    ensures { result ≡ fault_of_numbered G.word_at bytes.now number }
 {
     let line = line_at(bytes, number);
     if number > MAX_LINES as u64 {

@@ -15,6 +15,6 @@ mod served;
 #[cfg(test)]
 mod sessions;
 #[cfg(test)]
-mod tending;
+mod tender;
 #[cfg(test)]
 mod transfers;

@@ -1,6 +1,7 @@
 -- Scripts that were read, one behind the other.
-use Rattle.std.proofs.Common.{◌≡◌, ◌<◌, ◌+◌, ◌∙◌, inl, suc, ℕ, Bool, true, false, cond, List, [], ◌∷◌, ◌++◌, Option, Some, None, IfSome, length, take, drop, get_or, map, is_some, refl, ap, sym, subst, arith, take-append-drop, length-take-le}
+use Rattle.std.proofs.Common.{◌≡◌, ◌<◌, ◌+◌, ◌∙◌, inl, suc, ℕ, Bool, true, false, cond, List, [], ◌∷◌, ◌++◌, Option, Some, None, IfSome, length, take, drop, get_or, map, is_some, refl, ap, sym, subst, arith, take-append-drop, length-take-le, append_assoc, rules}
 use Rattle.std.proofs.Math.Seq.{drop-cons}
+use Rattle.std.specs.Io.KnownBytes.{Consumes, IsAtEnd}
 use Rattle.std.proofs.lemmas.List.{length-map, map-append, map_more}
 use Rattle.mt_base.specs.declared.refusal.Refusal.TheVariants as refusal
 use Rattle.mt_script.specs.Scripts.{IsScript}
@@ -109,3 +110,23 @@ at_more {X} f xs i d ss s files now later input held after lt is at x kept =
 
 pub many_before : {X : Type 0} (f : X → List ℕ) (xs : List X) (i : ℕ) → i < length xs → length (map f (take i xs)) ≡ i
 many_before f xs i lt = length-map (take i xs) f ∙ length-take-le i xs (omega arith)
+
+-- ---- the bytes of the input
+
+-- what a reader gave is the next of its bytes
+pub read_more : (old new : Option (List ℕ)) (bs held front rest : List ℕ) → old ≡ Some rest → held ≡ front ++ rest → Consumes old new bs → (later : List ℕ) × (new ≡ Some later) × (held ≡ (front ++ bs) ++ later)
+read_more old None bs held front rest e b h = let k : Consumes (Some rest) None bs = subst (λ o. Consumes o None bs) e h in absurd k
+read_more old (Some ys) bs held front rest e b h =
+    let k : Consumes (Some rest) (Some ys) bs = subst (λ o. Consumes o (Some ys) bs) e h in (ys, refl, b ∙ ap (λ t. front ++ t) k ∙ sym (append_assoc front bs ys))
+
+-- and nothing is left where it gave none
+pub read_to_end : (old new : Option (List ℕ)) (buf held front rest : List ℕ) (n : ℕ) → n ≡ 0 → 0 < length buf → old ≡ Some rest → held ≡ front ++ rest → Consumes old new (take n buf) × (n ≡ 0 → 0 < length buf → IsAtEnd new) → held ≡ front
+read_to_end old new buf held front rest n z long e b h =
+    let m = read_more old new (take n buf) held front rest e b h.0 in
+    let a : IsAtEnd (Some m.0) = subst (λ o. IsAtEnd o) m.1 (h.1 z long) in
+    let t : take n buf ≡ [] = ap (λ k. take k buf) z in
+    let w = m.2 in search (rules, w, t, a)
+
+pub if_known : (o : Option (List ℕ)) (P : List ℕ → Type 0) → ((x : List ℕ) → o ≡ Some x → P x) → IfSome o P
+if_known None P h = tt
+if_known (Some x) P h = h x refl

@@ -1,5 +1,5 @@
 // Scripts and schedules, read by name.
-ghost use Rattle.std.specs.Prelude.{◌≡◌, false, IfErr, IfOk, IfSome, is_some, map, option_map, string_bytes, true};
+ghost use Rattle.std.specs.Prelude.{◌≡◌, ◌++◌, OnOk, false, IfErr, IfOk, IfSome, is_some, map, option_map, string_bytes, true};
 ghost use Rattle.mt_script.specs.Grammars.{AreLines};
 ghost use Rattle.mt_alone.specs.Sessions.{lines_in};
 ghost use Rattle.mt_folder.specs.Folders.{AreKept, IsUnmade};
@@ -8,24 +8,46 @@ ghost use Rattle.mt_cli.specs.Reads.{AreUnreadFor, HasNoScript, HaveBeenRead, Is
 use crate::faults::Fault;
 use crate::read_faults::{ReadFault, text_fault};
 use mt_base::Refusal;
+use mt_base::limits::{MAX_LINE_BYTES, MAX_LINES};
 use mt_folder::Folder;
 use mt_script::{Grammar, Script, ScriptFault, ScriptGrammar, ScriptWord, read_lines};
-use std::alloc::Global;
-use std::io::{ErrorKind, Read};
+use std::alloc::{AllocError, Global};
+use std::io::Read;
 
-/// What the input gives, to its end.
+/// Bytes that are asked of the input at a time.
+const PIECE_BYTES: usize = 4096;
+
+/// The most bytes of a text: no script and no schedule is longer.
+const MAX_TEXT_BYTES: usize = MAX_LINES * (MAX_LINE_BYTES + 1);
+
+/// Adds bytes after the others. The only error is want of memory.
+fn add_bytes(bytes: &mut Vec<u8>, more: &[u8]) -> Result<(), AllocError>
+    ensures { OnOk result (bytes.new.items ≡ bytes.old.items ++ more.now) }
+{
+    bytes.extend_from_slice(more)
+}
+
+/// What the input gives, to its end. It may have none: if it is longer than a text can be, it is refused by
+/// `NoMemory`.
 fn input_bytes<I: Read>(alloc: Global, input: &mut I) -> Result<Vec<u8>, Refusal>
     ensures held { IfOk result (λ bytes. IfSome (I.remaining input.old) (λ held. bytes.items ≡ held)) }
     ensures unmade { IfErr result IsUnmade }
 {
     let mut bytes = Vec::new(alloc);
-    match input.read_to_end(&mut bytes) {
-        Ok(_) => Ok(bytes),
-        Err(fault) => match fault.kind() {
-            ErrorKind::OutOfMemory => Err(Refusal::NoMemory),
-            _ => Err(Refusal::DeviceFailed),
-        },
+    let mut piece = [0u8; PIECE_BYTES];
+    for _ in 0..u64::MAX {
+        let Ok(count) = input.read(&mut piece) else {
+            return Err(Refusal::DeviceFailed);
+        };
+        if count == 0 {
+            return Ok(bytes);
+        }
+        if bytes.len() > MAX_TEXT_BYTES {
+            return Err(Refusal::NoMemory);
+        }
+        add_bytes(&mut bytes, &piece[..count])?;
     }
+    Err(Refusal::DeviceFailed)
 }
 
 /// The bytes of this file, or those on standard input if there is none.

@@ -12,7 +12,8 @@ use Rattle.mt_folder.specs.Folders.{AreKept, Files, known_in}
 use Rattle.mt_script.specs.declared.words.ScriptWord.{ScriptWord}
 use Rattle.mt_cli.specs.declared.read_faults.ReadFault.{ReadFault}
 use Rattle.mt_cli.specs.declared.read_faults.ReadFault.TheVariants.{Refused}
-use Rattle.mt_cli.specs.Reads.{AreRead, AreUnread, IsReadAt, IsUnreadScript, bytes_at, file_in, held_by, input_behind, is_fed, is_input, none_read, one_read, source_of}
+use Rattle.mt_cli.specs.declared.read_faults.TheConstants.{MAX_TEXT_BYTES}
+use Rattle.mt_cli.specs.Reads.{AreRead, AreUnread, IsReadAt, IsUnreadScript, bytes_at, file_in, held_by, input_behind, is_fed, is_input, is_overlong, none_read, one_read, source_of}
 
 -- the file that a name names has the bytes of its source
 pub held_by_file : (files : Files) (name input : Option (List ℕ)) → held_by files (file_in name) input ≡ source_of files name input
@@ -130,3 +131,7 @@ read_to_end old new buf held front rest n z long e b h =
 pub if_known : (o : Option (List ℕ)) (P : List ℕ → Type 0) → ((x : List ℕ) → o ≡ Some x → P x) → IfSome o P
 if_known None P h = tt
 if_known (Some x) P h = h x refl
+
+-- what is overlong may be followed by anything
+pub overlong_ends : (front rest : List ℕ) → MAX_TEXT_BYTES < length front → is_overlong front ≡ false → rest ≡ []
+overlong_ends front rest long short = search (rules, long, short)

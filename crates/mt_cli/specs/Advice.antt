@@ -20,7 +20,7 @@ use Rattle.mt_cli.specs.Reads.{is_input, refusal_in}
 use Rattle.mt_cli.specs.declared.read_faults.ReadFault.{ReadFault}
 use Rattle.mt_cli.specs.declared.read_faults.ReadFault.TheVariants.{Refused as NotHad, BadLine}
 use Rattle.mt_cli.specs.declared.read_faults.TextFault.{TextFault}
-use Rattle.mt_cli.specs.declared.read_faults.TextFault.TheVariants.{Device, Line as BadAt}
+use Rattle.mt_cli.specs.declared.read_faults.TextFault.TheVariants.{Overlong, Device, Line as BadAt}
 
 -- the line that reports a fault
 abbrev pub fault_line : Fault → List ℕ
@@ -83,6 +83,7 @@ module _ {W : Type 0} (form : W → List ℕ) (all_words : List ℕ) where
   line_advice (WrongOperands word) = codes "that line has to be `" ++ (form word ++ codes "`; see docs/MANUAL.md")
 
   abbrev pub text_advice : Command → TextFault W → List ℕ
+  text_advice command Overlong = codes "that text is longer than 100,000 lines of 4,096 bytes"
   text_advice command Device = device_advice command
   text_advice command (BadAt why) = line_advice why
 

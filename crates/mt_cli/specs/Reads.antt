@@ -1,5 +1,5 @@
 -- Scripts that are read by name: from files, and from the input where the name is a dash.
-use Rattle.std.specs.Prelude.{ℕ, ◌≡◌, Bool, cond, false, true, List, [], ◌∷◌, ◌++◌, Option, Some, None, IfSome, bytes_eq, codes, length, nat_eq}
+use Rattle.std.specs.Prelude.{ℕ, ◌≡◌, Bool, cond, false, true, List, [], ◌∷◌, ◌++◌, Option, Some, None, IfSome, bytes_eq, codes, length, nat_eq, nat_lt}
 use Rattle.std.specs.List.{starts_with}
 use Rattle.mt_base.specs.declared.refusal.Refusal.{Refusal}
 use Rattle.mt_base.specs.declared.refusal.Refusal.TheVariants as refusal
@@ -14,7 +14,8 @@ use Rattle.mt_folder.specs.Folders.{Files, IsUnmade, known_in}
 use Rattle.mt_cli.specs.declared.faults.Fault.{Fault}
 use Rattle.mt_cli.specs.declared.faults.Fault.TheVariants as fault
 use Rattle.mt_cli.specs.declared.read_faults.TextFault.{TextFault}
-use Rattle.mt_cli.specs.declared.read_faults.TextFault.TheVariants.{Device, Line as BadAt}
+use Rattle.mt_cli.specs.declared.read_faults.TextFault.TheVariants.{Overlong, Device, Line as BadAt}
+use Rattle.mt_cli.specs.declared.read_faults.TheConstants.{MAX_TEXT_BYTES}
 use Rattle.mt_cli.specs.declared.read_faults.ReadFault.{ReadFault}
 use Rattle.mt_cli.specs.declared.read_faults.ReadFault.TheVariants.{Refused, BadLine}
 
@@ -55,9 +56,21 @@ abbrev pub refusal_in : {W : Type 0} → ReadFault W → Refusal
 refusal_in (Refused why) = why
 refusal_in (BadLine number fault) = refusal.BadLine number
 
+-- the bytes are more than any script or schedule has
+abbrev pub is_overlong : List ℕ → Bool
+is_overlong bytes = nat_lt MAX_TEXT_BYTES (length bytes)
+
+-- These bytes were read of an input that held others, and so much is left of it: nothing, unless they are overlong.
+pub record IsFront (front : List ℕ) (later : Option (List ℕ)) (held : List ℕ) : Type 0 where
+  pub rest : List ℕ
+  pub left : later ≡ Some rest
+  pub whole : held ≡ front ++ rest
+  pub ends : is_overlong front ≡ false → rest ≡ []
+
 -- what is wrong with bytes, of which the line of this number is the first that is not in the grammar of these words
 abbrev pub text_fault : {W : Type 0} → (List ℕ → Option W) → List ℕ → ℕ → TextFault W
-text_fault word_at bytes number = cond (is_device bytes) Device (BadAt (fault_of_numbered word_at bytes number))
+text_fault word_at bytes number =
+    cond (is_overlong bytes) Overlong (cond (is_device bytes) Device (BadAt (fault_of_numbered word_at bytes number)))
 
 module _ {L W : Type 0} (text : L → List ℕ) (IsIn : L → Type 0) (word_at : List ℕ → Option W) where
   -- why these bytes are not read as lines: memory was wanting or the reader failed, or a line is not in the grammar

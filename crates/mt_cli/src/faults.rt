@@ -285,6 +285,10 @@ fn write_unread_advice<G: Grammar, W: Write>(
     match why {
         ReadFault::Refused(Refusal::DeviceFailed) => put(writer, script_advice(reason).as_bytes()),
         ReadFault::Refused(refusal) => write_advice_on(writer, command, reason, refusal),
+        ReadFault::BadLine(_, TextFault::Overlong) => put(
+            writer,
+            b"that text is longer than 100,000 lines of 4,096 bytes",
+        ),
         ReadFault::BadLine(_, TextFault::Device) => put(writer, device_advice(command).as_bytes()),
         ReadFault::BadLine(_, TextFault::Line(fault)) => write_line_advice::<G, W>(writer, fault),
     }

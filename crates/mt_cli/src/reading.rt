@@ -1,24 +1,20 @@
 // Scripts and schedules, read by name.
-ghost use Rattle.std.specs.Prelude.{◌≡◌, ◌++◌, OnOk, false, IfErr, IfOk, IfSome, is_some, map, option_map, string_bytes, true};
+ghost use Rattle.std.specs.Prelude.{◌≡◌, ◌++◌, ◌<◌, length, OnOk, false, IfErr, IfOk, IfSome, is_some, map, option_map, string_bytes, true};
 ghost use Rattle.mt_script.specs.Grammars.{AreLines};
 ghost use Rattle.mt_alone.specs.Sessions.{lines_in};
-ghost use Rattle.mt_folder.specs.Folders.{AreKept, IsUnmade};
-ghost use Rattle.mt_cli.specs.Reads.{AreUnreadFor, HasNoScript, HaveBeenRead, IsReadAt, IsUnread, IsUnreadScript, bytes_at, file_in, held_by, is_fed, source_of};
+ghost use Rattle.mt_folder.specs.Folders.{AreKept, IsUnmade, known_in};
+ghost use Rattle.mt_cli.specs.Reads.{AreUnreadFor, HasNoScript, HaveBeenRead, IsFront, IsReadAt, IsUnread, IsUnreadScript, bytes_at, file_in, held_by, is_fed, source_of};
 
 use crate::faults::Fault;
-use crate::read_faults::{ReadFault, text_fault};
+use crate::read_faults::{MAX_TEXT_BYTES, ReadFault, TextFault, text_fault};
 use mt_base::Refusal;
-use mt_base::limits::{MAX_LINE_BYTES, MAX_LINES};
 use mt_folder::Folder;
 use mt_script::{Grammar, Script, ScriptFault, ScriptGrammar, ScriptWord, read_lines};
 use std::alloc::{AllocError, Global};
-use std::io::Read;
+use std::io::{Chain, Read};
 
 /// Bytes that are asked of the input at a time.
 const PIECE_BYTES: usize = 4096;
-
-/// The most bytes of a text: no script and no schedule is longer.
-const MAX_TEXT_BYTES: usize = MAX_LINES * (MAX_LINE_BYTES + 1);
 
 /// Adds bytes after the others. The only error is want of memory.
 fn add_bytes(bytes: &mut Vec<u8>, more: &[u8]) -> Result<(), AllocError>
@@ -27,10 +23,10 @@ fn add_bytes(bytes: &mut Vec<u8>, more: &[u8]) -> Result<(), AllocError>
     bytes.extend_from_slice(more)
 }
 
-/// What the input gives, to its end. It may have none: if it is longer than a text can be, it is refused by
-/// `NoMemory`.
-fn input_bytes<I: Read>(alloc: Global, input: &mut I) -> Result<Vec<u8>, Refusal>
-    ensures held { IfOk result (λ bytes. IfSome (I.remaining input.old) (λ held. bytes.items ≡ held)) }
+/// What the input gives, to its end; or a beginning of it that is longer than any text, since it may have no end.
+fn input_front<I: Read>(alloc: Global, input: &mut I) -> Result<Vec<u8>, Refusal>
+    ensures front { IfOk result (λ bytes. IfSome (I.remaining input.old)
+        (IsFront bytes.items (I.remaining input.new))) }
     ensures unmade { IfErr result IsUnmade }
 {
     let mut bytes = Vec::new(alloc);
@@ -42,33 +38,12 @@ fn input_bytes<I: Read>(alloc: Global, input: &mut I) -> Result<Vec<u8>, Refusal
         if count == 0 {
             return Ok(bytes);
         }
-        if bytes.len() > MAX_TEXT_BYTES {
-            return Err(Refusal::NoMemory);
-        }
         add_bytes(&mut bytes, &piece[..count])?;
+        if bytes.len() > MAX_TEXT_BYTES {
+            return Ok(bytes);
+        }
     }
     Err(Refusal::DeviceFailed)
-}
-
-/// The bytes of this file, or those on standard input if there is none.
-fn bytes_from<F: Folder, I: Read>(
-    alloc: Global,
-    folder: &mut F,
-    file: Option<&str>,
-    input: &mut I,
-) -> Result<Vec<u8>, Refusal>
-    ensures held { IfOk result (λ bytes. IfSome
-        (held_by (F.files folder.old) (option_map (λ n. n.now) file.entry) (I.remaining input.old))
-        (λ held. bytes.items ≡ held)) }
-    ensures unmade { IfErr result IsUnmade }
-    ensures kept { AreKept (F.files folder.old) (F.files folder.new) }
-    ensures untouched { is_some (option_map (λ n. n.now) file.entry) ≡ true
-        → I.remaining input.new ≡ I.remaining input.old }
-{
-    match file {
-        Some(name) => folder.script(name),
-        None => input_bytes(alloc, input),
-    }
 }
 
 /// The lines of a text, and else what is wrong with it.
@@ -89,6 +64,67 @@ fn lines_within<G: Grammar>(alloc: Global, bytes: &[u8]) -> Result<Vec<G::Line>,
     }
 }
 
+/// The lines of a text that begins so, which is longer than any text, and goes on in the input. There are none.
+fn overlong_lines<G: Grammar, I: Read>(
+    alloc: Global,
+    front: &[u8],
+    input: &mut I,
+) -> Result<Vec<G::Line>, ReadFault<G::Word>>
+    requires { MAX_TEXT_BYTES < length front.now }
+    ensures lines { IfOk result (λ lines. IfSome (I.remaining input.old)
+        (λ rest. AreLines G.text G.IsIn (front.now ++ rest) lines.items)) }
+    ensures unread { IfErr result (λ why. IfSome (I.remaining input.old)
+        (λ rest. AreUnreadFor G.text G.IsIn G.word_at (front.now ++ rest) why)) }
+{
+    let mut whole = front.chain(input);
+    match read_lines::<G, Chain<&[u8], &mut I>>(alloc, &mut whole) {
+        Ok(lines) => Ok(lines),
+        Err(ScriptFault::Input) => Err(ReadFault::Refused(Refusal::DeviceFailed)),
+        Err(ScriptFault::Refused(Refusal::BadLine(number))) => {
+            Err(ReadFault::BadLine(number, TextFault::Overlong))
+        }
+        // the other refusal that there is
+        Err(ScriptFault::Refused(_)) => Err(ReadFault::Refused(Refusal::NoMemory)),
+    }
+}
+
+/// The lines on standard input.
+fn input_lines<G: Grammar, I: Read>(
+    alloc: Global,
+    input: &mut I,
+) -> Result<Vec<G::Line>, ReadFault<G::Word>>
+    ensures lines { IfOk result (λ lines. IfSome (I.remaining input.old)
+        (λ bytes. AreLines G.text G.IsIn bytes lines.items)) }
+    ensures unread { IfErr result (IsUnread G.text G.IsIn G.word_at (I.remaining input.old)) }
+{
+    let front = match input_front(alloc, input) {
+        Ok(front) => front,
+        Err(refusal) => return Err(ReadFault::Refused(refusal)),
+    };
+    if front.len() > MAX_TEXT_BYTES {
+        overlong_lines::<G, I>(alloc, front.as_slice(), input)
+    } else {
+        lines_within::<G>(alloc, front.as_slice())
+    }
+}
+
+/// The lines of this file.
+fn file_lines<G: Grammar, F: Folder>(
+    alloc: Global,
+    folder: &mut F,
+    name: &str,
+) -> Result<Vec<G::Line>, ReadFault<G::Word>>
+    ensures lines { IfOk result (λ lines. IfSome (known_in (F.files folder.old) name.now)
+        (λ bytes. AreLines G.text G.IsIn bytes lines.items)) }
+    ensures unread { IfErr result (IsUnread G.text G.IsIn G.word_at (known_in (F.files folder.old) name.now)) }
+    ensures kept { AreKept (F.files folder.old) (F.files folder.new) }
+{
+    match folder.script(name) {
+        Ok(bytes) => lines_within::<G>(alloc, bytes.as_slice()),
+        Err(refusal) => Err(ReadFault::Refused(refusal)),
+    }
+}
+
 /// The lines of this file, or those on standard input if there is none.
 fn lines_from<G: Grammar, F: Folder, I: Read>(
     alloc: Global,
@@ -105,9 +141,9 @@ fn lines_from<G: Grammar, F: Folder, I: Read>(
     ensures untouched { is_some (option_map (λ n. n.now) file.entry) ≡ true
         → I.remaining input.new ≡ I.remaining input.old }
 {
-    match bytes_from(alloc, folder, file, input) {
-        Ok(bytes) => lines_within::<G>(alloc, bytes.as_slice()),
-        Err(refusal) => Err(ReadFault::Refused(refusal)),
+    match file {
+        Some(name) => file_lines::<G, F>(alloc, folder, name),
+        None => input_lines::<G, I>(alloc, input),
     }
 }
 

@@ -1,5 +1,5 @@
 use Rattle.std.proofs.Common.{◌≡◌, ℕ, List, Some, ◌++◌}
-use Rattle.mt_cli.proofs.reading.input_bytes.Given as goal
+use Rattle.mt_cli.proofs.reading.input_front.Given as goal
 
 abbrev pub invariant-loop : goal.invariant-loop
 invariant-loop g l =

@@ -61,8 +61,8 @@ module _ {D : Type 0} {g : Ghosts D} (seen : D → List ℕ) (may_leave : D → 
   abbrev pub HasRunOut : Play → Kernel D g → List Line → Option (List ℕ) → Option (List ℕ) → Kernel D g → Type 0
   HasRunOut p k lines was now n = From k (λ begun. HasRun seen may_leave p begun lines was now n)
 
-  -- The lines of this session ran on the kernel, beside whatever play it stands at. The one that is left after them has its schema, and can be
-  -- restarted from each base that it can.
+  -- The lines of this session ran on the kernel, beside whatever play it stands at. The kernel after them has its schema,
+  -- and can be restarted from each base from which it can.
   pub record GoesThrough (session : ℕ) (k : Kernel D g) (lines : List Line) (was now : Option (List ℕ)) (live : Option ℕ) (n : Kernel D g) : Type 0 where
     pub ran : BesideFrom session None k (λ p. HasRunOn p k lines was now live n)
     pub schema : SameSchema k n

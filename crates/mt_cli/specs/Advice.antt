@@ -49,7 +49,7 @@ abbrev pub script_advice : Option Reason → List ℕ
 script_advice None = codes "see that it is there and can be read"
 script_advice (Some reason) = reason_text reason
 
--- what to do about a refusal of a command, where the folder's call failed for this reason
+-- what to do about a refusal of a command, if the folder's call failed for this reason
 abbrev pub advice_on : Command → Option Reason → Refusal → List ℕ
 advice_on command reason refusal.NoMemory = memory_advice command
 advice_on command reason refusal.DeviceFailed = file_advice reason
@@ -87,7 +87,7 @@ module _ {W : Type 0} (form : W → List ℕ) (all_words : List ℕ) where
   text_advice command Device = device_advice command
   text_advice command (BadAt why) = line_advice why
 
-  -- why it was not read, where the folder's call failed for this reason
+  -- why it was not read, if the folder's call failed for this reason
   abbrev pub unread_advice : Command → Option Reason → ReadFault W → List ℕ
   unread_advice command reason (NotHad refusal.DeviceFailed) = script_advice reason
   unread_advice command reason (NotHad why) = advice_on command reason why
@@ -140,7 +140,7 @@ advice_line name advice = (name ++ codes ": ") ++ (advice ++ 10 ∷ [])
 abbrev pub told_text : List ℕ → List ℕ → Fault → List ℕ
 told_text name advice fault = fault_line fault ++ advice_line name advice
 
--- so of a fault of a command, where the folder's call failed for this reason
+-- so of a fault of a command, if the folder's call failed for this reason
 abbrev pub told_of : Command → Option Reason → Fault → List ℕ
 told_of command reason fault = told_text (about command fault) (advice_of command reason fault) fault
 

@@ -23,7 +23,7 @@ use Rattle.mt_cli.specs.declared.read_faults.ReadFault.TheVariants.{Refused, Bad
 abbrev pub is_input : List ℕ → Bool
 is_input name = bytes_eq name (codes "-")
 
--- the bytes of a script of this name, where they are known
+-- the bytes of a script of this name, if they are known
 abbrev pub bytes_at : Files → List ℕ → Option (List ℕ) → Option (List ℕ)
 bytes_at files name input = cond (is_input name) input (known_in files name)
 
@@ -79,7 +79,7 @@ module _ {L W : Type 0} (text : L → List ℕ) (IsIn : L → Type 0) (word_at :
   AreUnreadFor bytes (BadLine number fault) =
       IsFirstBad text IsIn bytes number × (fault ≡ text_fault word_at bytes number)
 
-  -- where they are known
+  -- if they are known
   abbrev pub IsUnread : Option (List ℕ) → ReadFault W → Type 0
   IsUnread bytes why = IfSome bytes (λ bs. AreUnreadFor bs why)
 

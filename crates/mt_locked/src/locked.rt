@@ -318,7 +318,7 @@ impl<D: Device, J: Naming> Locked<D, J> {
         self.kernel.log_use()
     }
 
-    /// Whether more than half of the log's area is in use; not where a rotation left no kernel.
+    /// Whether more than half of the log's area is in use; false if a rotation left no kernel.
     pub fn is_half_used(&self) -> bool {
         match self.kernel.log_use() {
             Some(log) => log.is_above_half(),
@@ -400,8 +400,8 @@ impl<D: Device, J: Naming> Locked<D, J> {
 }
 
 impl<D: Device + Drop, J: Naming> Locked<D, J> {
-    /// Turns the log over, where each transaction of the book is entered and none lives; whether it did. Unless it was
-    /// too early for that, who tends is not to turn it over before a further transaction has ended.
+    /// Turns the log over if each transaction of the book is entered and none lives; whether it did. Unless it was too
+    /// early for that, who tends is not to turn it over before a further transaction has ended.
     pub fn rotate(&mut self, alloc: Global, frames: usize) -> Result<bool, Refusal>
         ensures why { IfErr result IsTurnFault }
         ensures did { result ≡ Ok true → HasTurned ⟦<D as Device>⟧ J.base }

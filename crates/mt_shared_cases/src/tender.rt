@@ -83,7 +83,7 @@ fn tends<J: Naming, R: Wait>(
     })
 }
 
-// The same under a name, and what the kernel tells behind it.
+// The same under a name, and what the kernel shows after it.
 fn named_tends<J: Naming, R: Wait>(
     rt: &R,
     alloc: Global,

@@ -20,13 +20,13 @@ use Rattle.mt_model.specs.declared.operations.Reply.{Reply}
 use Rattle.mt_op.specs.Work.{work_of}
 use Rattle.mt_pool.specs.Views.{pages}
 use Rattle.mt_slock.specs.Views.{held_of}
-use Rattle.mt_kernel.specs.Causes.{IsRefusedCall}
-use Rattle.mt_kernel.specs.Consistent.{Origin, IsAskedFor, SameStates, log_kept}
-use Rattle.mt_kernel.specs.Work.{RunsBehind, steps_in}
-use Rattle.mt_kernel.specs.declared.calls.Called.{Called}
-use Rattle.mt_kernel.specs.declared.calls.Called.TheVariants as call
-use Rattle.mt_kernel.specs.declared.parts.Parts.{Parts}
-use Rattle.mt_kernel.specs.declared.parts.Running.{Running}
+use Rattle.mt_core.specs.Causes.{IsRefusedCall}
+use Rattle.mt_core.specs.Consistent.{Origin, IsAskedFor, SameStates, log_kept}
+use Rattle.mt_core.specs.Work.{RunsBehind, steps_in}
+use Rattle.mt_core.specs.declared.calls.Called.{Called}
+use Rattle.mt_core.specs.declared.calls.Called.TheVariants as call
+use Rattle.mt_core.specs.declared.kernel_core.Core.{Core}
+use Rattle.mt_core.specs.declared.kernel_core.Running.{Running}
 use Rattle.mt_txn.proofs.Showing.{kept_of}
 use Rattle.mt_txn.specs.Causes.{call_cause, count_cause, first_of, is_key, is_step, is_value, name_cause, size_cause, unless}
 use Rattle.mt_txn.specs.Events.{HasCalled, IsAnsweredBy}
@@ -90,7 +90,7 @@ no_fault false false fault is = is
 
 -- ---- what is wanting, where nobody is in the way of its lock
 
-adds_only : {D : Type 0} (k : Parts D) (t : ℕ) (op : Op) → ¬ IsAskedFor k.escrow t op → is_add op ≡ true
+adds_only : {D : Type 0} (k : Core D) (t : ℕ) (op : Op) → ¬ IsAskedFor k.escrow t op → is_add op ≡ true
 adds_only k t (Add c d) never = refl
 adds_only k t (Get r x) never = absurd (never tt)
 adds_only k t (Insert r x v) never = absurd (never tt)
@@ -98,7 +98,7 @@ adds_only k t (Update r x v) never = absurd (never tt)
 adds_only k t (Delete r x) never = absurd (never tt)
 adds_only k t (Read c) never = absurd (never tt)
 
-module _ {D : Type 0} (seen : D → List ℕ) (k : Parts D) (t : ℕ) (op : Op) where
+module _ {D : Type 0} (seen : D → List ℕ) (k : Core D) (t : ℕ) (op : Op) where
   abbrev IsRefusedIn : Refusal → Type 0
   IsRefusedIn why = ∥ ((origin : Origin) × IsRefusedCall seen origin k (log_kept k) t op true why) ∥₁
 
@@ -127,49 +127,49 @@ steps_behind t r (q ∷ rs) none own = go (q.scope.txn == t) refl (λ rest. step
 
 module _ {D : Type 0} {g : Ghosts D} (seen : D → List ℕ) (may_leave : D → List ℕ → Type 0) (faults : D → ℕ) (p : Play) (k : Kernel D g) (t : ℕ) (calls : List Call) (op : Op) where
   abbrev pub many_of : Bool
-  many_of = nat_le 256 (length (calls_of k.parts.live.members t)) || nat_le (2 ^ 40) k.parts.last
+  many_of = nat_le 256 (length (calls_of k.core.live.members t)) || nat_le (2 ^ 40) k.core.last
 
   abbrev pub fault : Option Refusal
   fault = first_of (name_cause k.relations k.counters op) (size_cause op)
 
-  call_is : IsOpened seen may_leave p t calls k → call_cause k.relations k.counters (is_failed k) k.parts t op ≡ causes (is_failed k) many_of fault
+  call_is : IsOpened seen may_leave p t calls k → call_cause k.relations k.counters (is_failed k) k.core t op ≡ causes (is_failed k) many_of fault
   call_is o =
-      ap₂ (λ (a b : Option Refusal). first_of a (first_of b (first_of (count_cause k.parts t) fault))) (open_is seen may_leave faults k t o.state)
+      ap₂ (λ (a b : Option Refusal). first_of a (first_of b (first_of (count_cause k.core t) fault))) (open_is seen may_leave faults k t o.state)
       (ap (λ (b : Bool). if b then Some refusal.Busy else None) (opened_idle seen may_leave faults p t calls k o))
 
-  opened_free : IsOpened seen may_leave p t calls k → IsFree (held_of k.parts.locks) t (object_of op) (mode_of op)
-  opened_free o u bars = ∥∥₁_elim o.shown (hlevel props) (λ (first, s, shows, (played, alone)). ∥∥₁_elim (kept_of seen may_leave k.relations k.counters k.parts first s shows) (hlevel props) (λ kept.
+  opened_free : IsOpened seen may_leave p t calls k → IsFree (held_of k.core.locks) t (object_of op) (mode_of op)
+  opened_free o u bars = ∥∥₁_elim o.shown (hlevel props) (λ (first, s, shows, (played, alone)). ∥∥₁_elim (kept_of seen may_leave k.relations k.counters k.core first s shows) (hlevel props) (λ kept.
       ∥∥₁_elim shows (hlevel props) (λ (origin, base, is, x).
-      let same : held_of k.parts.locks ≡ s.held = ap (λ (z : State). z.held) (sym x.state) in
+      let same : held_of k.core.locks ≡ s.held = ap (λ (z : State). z.held) (sym x.state) in
       alone_is_free first s t p.session calls kept alone (object_of op) (mode_of op) u (subst (λ (h : Held). Bars h t (object_of op) (mode_of op) u) same bars))))
 
   -- where it was not refused at once, it has no fault
-  answered_late : (r : Result Called Refusal) (x : Called) → r ≡ Ok x → ((why : Refusal) → call_cause k.relations k.counters (is_failed k) k.parts t op ≡ Some why → r ≡ Err why) → call_cause k.relations k.counters (is_failed k) k.parts t op ≡ None
-  answered_late r x is early = go (call_cause k.relations k.counters (is_failed k) k.parts t op) refl
+  answered_late : (r : Result Called Refusal) (x : Called) → r ≡ Ok x → ((why : Refusal) → call_cause k.relations k.counters (is_failed k) k.core t op ≡ Some why → r ≡ Err why) → call_cause k.relations k.counters (is_failed k) k.core t op ≡ None
+  answered_late r x is early = go (call_cause k.relations k.counters (is_failed k) k.core t op) refl
     where
-      go : (c : Option Refusal) → call_cause k.relations k.counters (is_failed k) k.parts t op ≡ c → c ≡ None
+      go : (c : Option Refusal) → call_cause k.relations k.counters (is_failed k) k.core t op ≡ c → c ≡ None
       go None e = refl
       go (Some y) e = absurd (let wrong : ◌≡◌ {A = Result Called Refusal} (Ok x) (Err y) = sym is ∙ early y e in cc)
 
-  pub call_faultless : (r : Result Called Refusal) (x : Called) → r ≡ Ok x → IsOpened seen may_leave p t calls k → ((why : Refusal) → call_cause k.relations k.counters (is_failed k) k.parts t op ≡ Some why → r ≡ Err why) → fault ≡ None
+  pub call_faultless : (r : Result Called Refusal) (x : Called) → r ≡ Ok x → IsOpened seen may_leave p t calls k → ((why : Refusal) → call_cause k.relations k.counters (is_failed k) k.core t op ≡ Some why → r ≡ Err why) → fault ≡ None
   call_faultless r x is o early = no_fault (is_failed k) many_of fault (sym (call_is o) ∙ answered_late r x is early)
 
   -- nobody is waited for
-  pub call_waits : (r : Result Called Refusal) (holder : ℕ) → r ≡ Ok (call.Wait holder) → IsOpened seen may_leave p t calls k → ((why : Refusal) → call_cause k.relations k.counters (is_failed k) k.parts t op ≡ Some why → r ≡ Err why)
-      → (call_cause k.relations k.counters (is_failed k) k.parts t op ≡ None → IsAnsweredBy seen may_leave k t op r) → ⊥
+  pub call_waits : (r : Result Called Refusal) (holder : ℕ) → r ≡ Ok (call.Wait holder) → IsOpened seen may_leave p t calls k → ((why : Refusal) → call_cause k.relations k.counters (is_failed k) k.core t op ≡ Some why → r ≡ Err why)
+      → (call_cause k.relations k.counters (is_failed k) k.core t op ≡ None → IsAnsweredBy seen may_leave k t op r) → ⊥
   call_waits r holder is o early answer =
       ∥∥₁_elim (subst (IsAnsweredBy seen may_leave k t op) is (answer (answered_late r (call.Wait holder) is early))) (hlevel props) (λ (origin, base, at, safe, said). opened_free o holder said.0.bars)
 
-  pub call_started : (n : Kernel D g) → IsOpened seen may_leave p t calls k → ((first : Base) (s : State) → Shows seen may_leave first s k → Shows seen may_leave first (called s t op) n) → SameStates k.parts n.parts
-      → RunsBehind t (2 * pages k.parts.operations.store.pool + 9) k.parts.running.items n.parts.running.items → IsCalling seen may_leave p t calls op n × (steps_in n.parts.running.items t ≤ 8009)
+  pub call_started : (n : Kernel D g) → IsOpened seen may_leave p t calls k → ((first : Base) (s : State) → Shows seen may_leave first s k → Shows seen may_leave first (called s t op) n) → SameStates k.core n.core
+      → RunsBehind t (2 * pages k.core.operations.store.pool + 9) k.core.running.items n.core.running.items → IsCalling seen may_leave p t calls op n × (steps_in n.core.running.items t ≤ 8009)
   call_started n o did states (r, own, steps, behind) = (
     record {
-      shown = ∥∥₁_elim o.shown (hlevel props) (λ (first, s, shows, plays). ∥∥₁_map (kept_of seen may_leave k.relations k.counters k.parts first s shows) (λ kept. (first, s, kept, plays, did first s shows)));
+      shown = ∥∥₁_elim o.shown (hlevel props) (λ (first, s, shows, plays). ∥∥₁_map (kept_of seen may_leave k.relations k.counters k.core first s shows) (λ kept. (first, s, kept, plays, did first s shows)));
       state = states t ∙ o.state;
     },
     ∥∥₁_elim o.shown (hlevel props) (λ (first, s, shows, plays).
         let few = pages_few seen may_leave k first s shows in
-        let all : steps_in n.parts.running.items t ≡ work_of r.scope = ap (λ (rs : List Running). steps_in rs t) behind ∙ steps_behind t r k.parts.running.items (opened_idle seen may_leave faults p t calls k o) own in
+        let all : steps_in n.core.running.items t ≡ work_of r.scope = ap (λ (rs : List Running). steps_in rs t) behind ∙ steps_behind t r k.core.running.items (opened_idle seen may_leave faults p t calls k o) own in
         omega (arith, few, all, steps)),
   )
 
@@ -189,13 +189,13 @@ module _ {D : Type 0} {g : Ghosts D} (seen : D → List ℕ) (may_leave : D → 
   )
 
   pub call_refused : (n : Kernel D g) (r : Result Called Refusal) (why : Refusal) → r ≡ Err why → p.under_way ≡ Some calls → IsOpened seen may_leave p t calls k
-      → ((y : Refusal) → call_cause k.relations k.counters (is_failed k) k.parts t op ≡ Some y → r ≡ Err y) → (call_cause k.relations k.counters (is_failed k) k.parts t op ≡ None → IsAnsweredBy seen may_leave k t op r)
-      → ((y : Refusal) → call_cause k.relations k.counters (is_failed k) k.parts t op ≡ Some y → n ≡ k) → ((first : Base) (s : State) → Shows seen may_leave first s k → HasCalled seen may_leave first s t op r n) → SameStates k.parts n.parts
+      → ((y : Refusal) → call_cause k.relations k.counters (is_failed k) k.core t op ≡ Some y → r ≡ Err y) → (call_cause k.relations k.counters (is_failed k) k.core t op ≡ None → IsAnsweredBy seen may_leave k t op r)
+      → ((y : Refusal) → call_cause k.relations k.counters (is_failed k) k.core t op ≡ Some y → n ≡ k) → ((first : Base) (s : State) → Shows seen may_leave first s k → HasCalled seen may_leave first s t op r n) → SameStates k.core n.core
       → IsAnsweredOr seen may_leave faults p k (Some t) (line.Call op) (refused_as why (Some t)) n
   call_refused n r why is under o early answer unmoved did states =
       let stays = subst (λ (x : Result Called Refusal). (first : Base) (s : State) → Shows seen may_leave first s k → HasCalled seen may_leave first s t op x n) is did in
       let now = opened_stays seen may_leave faults p t calls k n o stays (states t) in
-      let told = go (call_cause k.relations k.counters (is_failed k) k.parts t op) refl in
+      let told = go (call_cause k.relations k.counters (is_failed k) k.core t op) refl in
       answered_refused seen may_leave faults p (Some calls) (line.Call op) (Some t) k n why under (calls, under, now) (left_of seen may_leave faults p (Some t) n (calls, under, now))
       (λ e. broken told e) (λ other. wants told other)
     where
@@ -205,8 +205,8 @@ module _ {D : Type 0} {g : Ghosts D} (seen : D → List ℕ) (may_leave : D → 
       late : IsCallWant op why → Told
       late want = inr (λ (e : why ≡ refusal.DeviceFailed). subst (IsCallWant op) e want, inr want)
 
-      go : (c : Option Refusal) → call_cause k.relations k.counters (is_failed k) k.parts t op ≡ c → Told
-      go None e = late (want_of seen k.parts t op why (opened_free o) (∥∥₁_map (subst (IsAnsweredBy seen may_leave k t op) is (answer e)) (λ (origin, base, at, safe, said). (origin, said))))
+      go : (c : Option Refusal) → call_cause k.relations k.counters (is_failed k) k.core t op ≡ c → Told
+      go None e = late (want_of seen k.core t op why (opened_free o) (∥∥₁_map (subst (IsAnsweredBy seen may_leave k t op) is (answer e)) (λ (origin, base, at, safe, said). (origin, said))))
       go (Some y) e =
           let same : y ≡ why = let both : ◌≡◌ {A = Result Called Refusal} (Err y) (Err why) = sym (early y e) ∙ is in cc in
           by (cause_is (is_failed k) many_of fault op why (fault_sound k.relations k.counters op) (sym (call_is o) ∙ e ∙ ap (λ (x : Refusal). Some x) same))
@@ -219,13 +219,13 @@ module _ {D : Type 0} {g : Ghosts D} (seen : D → List ℕ) (may_leave : D → 
       broken (inl x) e = x.1
       broken (inr x) e = absurd (x.0 e)
 
-      tested : (c : Option Refusal) → call_cause k.relations k.counters (is_failed k) k.parts t op ≡ c → IsTested seen may_leave k (Some t) (line.Call op) why
+      tested : (c : Option Refusal) → call_cause k.relations k.counters (is_failed k) k.core t op ≡ c → IsTested seen may_leave k (Some t) (line.Call op) why
       tested None e = inr (e, subst (IsAnsweredBy seen may_leave k t op) is (answer e))
       tested (Some y) e = inl (let same : y ≡ why = let both : ◌≡◌ {A = Result Called Refusal} (Err y) (Err why) = sym (early y e) ∙ is in cc in e ∙ ap (λ (x : Refusal). Some x) same)
 
       due : (fault ≡ Some why) ⊎ IsCallWant op why → (fault ≡ Some why) ⊎ (IsCallWant op why × IsDueTo seen may_leave k (Some t) (line.Call op) why)
       due (inl x) = inl x
-      due (inr want) = inr (want, inr (tested (call_cause k.relations k.counters (is_failed k) k.parts t op) refl))
+      due (inr want) = inr (want, inr (tested (call_cause k.relations k.counters (is_failed k) k.core t op) refl))
 
       wants : Told → why ≢ refusal.DeviceFailed → (fault ≡ Some why) ⊎ (IsCallWant op why × IsDueTo seen may_leave k (Some t) (line.Call op) why)
       wants (inl x) other = absurd (other x.0)

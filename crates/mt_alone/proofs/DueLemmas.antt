@@ -15,8 +15,8 @@ use Rattle.mt_model.proofs.Appends.{after-append}
 use Rattle.mt_model.specs.declared.history.Committed.{Committed}
 use Rattle.mt_model.specs.History.{Call, run}
 use Rattle.mt_model.specs.Model.{Base}
-use Rattle.mt_kernel.specs.Booked.{booked_each, durable_count, durable_txns, or_zero, session_at}
-use Rattle.mt_kernel.specs.declared.parts.Commit.{Commit}
+use Rattle.mt_core.specs.Booked.{booked_each, durable_count, durable_txns, or_zero, session_at}
+use Rattle.mt_core.specs.declared.kernel_core.Commit.{Commit}
 use Rattle.mt_txn.specs.Shown.{Shows}
 use Rattle.mt_txn.specs.declared.answers.KernelForced.TheVariants as forced
 use Rattle.mt_txn.specs.declared.kernel.Kernel.{Kernel}
@@ -45,10 +45,10 @@ has_one c t names is own = ap (λ (ns : List ℕ). list_any (λ (y : ℕ). y == 
 
 module _ {D : Type 0} {g : Ghosts D} (seen : D → List ℕ) (may_leave : D → List ℕ → Type 0) (faults : D → ℕ) (p : Play) (t : ℕ) (calls : List Call) where
   pub ending_none : (k : Kernel D g) → IsEnding seen may_leave p t calls 0 k → ⊥
-  ending_none k e = due_none e.commit.place k.parts.operations.store.log e.waits e.due
+  ending_none k e = due_none e.commit.place k.core.operations.store.log e.waits e.due
 
   pub ending_idle : (k n : Kernel D g) (rest : ℕ) → IsEnding seen may_leave p t calls rest k → IsForcing seen may_leave faults k (Ok forced.Idle) n → ⊥
-  ending_idle k n rest e f = due_idle e.commit.place rest k.parts.operations.store.log n.parts.operations.store.log e.waits e.due f.log.0 f.appended
+  ending_idle k n rest e f = due_idle e.commit.place rest k.core.operations.store.log n.core.operations.store.log e.waits e.due f.log.0 f.appended
 
   pub ending_more : (k n : Kernel D g) (rest : ℕ) → IsEnding seen may_leave p t calls (suc rest) k → IsForcing seen may_leave faults k (Ok forced.More) n → IsEnding seen may_leave p t calls rest n
   ending_more k n rest e f = record {
@@ -57,9 +57,9 @@ module _ {D : Type 0} {g : Ghosts D} (seen : D → List ℕ) (may_leave : D → 
     queue = f.log.1 ∙ e.queue;
     own = e.own;
     waits =
-        let there : length (durable n.parts.operations.store.log) ≡ length (durable k.parts.operations.store.log) = ap (λ (rs : List Record). length rs) f.log.0.0 in
+        let there : length (durable n.core.operations.store.log) ≡ length (durable k.core.operations.store.log) = ap (λ (rs : List Record). length rs) f.log.0.0 in
         let before = e.waits in omega (arith, there, before);
-    due = due_more e.commit.place rest k.parts.operations.store.log n.parts.operations.store.log e.due f.log.0 f.appended;
+    due = due_more e.commit.place rest k.core.operations.store.log n.core.operations.store.log e.due f.log.0 f.appended;
   }
 
   pub ending_durable : (k n : Kernel D g) (rest : ℕ) (names : _) → IsEnding seen may_leave p t calls (suc rest) k → IsForcing seen may_leave faults k (Ok (forced.Durable names)) n
@@ -85,7 +85,7 @@ module _ {D : Type 0} {g : Ghosts D} (seen : D → List ℕ) (may_leave : D → 
               queue = f.log.3 ∙ ap (λ (cs : List Commit). drop (durable_count cs pos) cs) e.queue ∙ none.1;
               own = e.own;
               waits = let place = f.log.1.6 in omega (arith, place, before);
-              due = due_settled c.place rest pos k.parts.operations.store.log n.parts.operations.store.log e.due f.log.1 f.appended before;
+              due = due_settled c.place rest pos k.core.operations.store.log n.core.operations.store.log e.due f.log.1 f.appended before;
             },
           )
       by (inr behind) =

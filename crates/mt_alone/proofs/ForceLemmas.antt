@@ -8,12 +8,12 @@ use Rattle.mt_base.specs.declared.refusal.Refusal.TheVariants as refusal
 use Rattle.mt_disk.specs.declared.device.Device.{Ghosts}
 use Rattle.mt_live.specs.Machine.{State}
 use Rattle.mt_model.specs.Model.{Base}
-use Rattle.mt_kernel.specs.Booked.{booked_each, durable_txns}
-use Rattle.mt_kernel.specs.Consistent.{OnlyOperations}
-use Rattle.mt_kernel.specs.Runs.{state_in}
-use Rattle.mt_kernel.specs.Work.{LeavesUndo}
-use Rattle.mt_kernel.specs.declared.parts.Commit.{Commit}
-use Rattle.mt_kernel.specs.declared.parts.Parts.{Parts}
+use Rattle.mt_core.specs.Booked.{booked_each, durable_txns}
+use Rattle.mt_core.specs.Consistent.{OnlyOperations}
+use Rattle.mt_core.specs.Runs.{state_in}
+use Rattle.mt_core.specs.Work.{LeavesUndo}
+use Rattle.mt_core.specs.declared.kernel_core.Commit.{Commit}
+use Rattle.mt_core.specs.declared.kernel_core.Core.{Core}
 use Rattle.mt_txn.proofs.Living.{no_commits}
 use Rattle.mt_txn.specs.Causes.{IsFailure, IsFault}
 use Rattle.mt_txn.specs.Events.{HasForced, IsForcedBy}
@@ -28,28 +28,28 @@ use Rattle.mt_alone.specs.Driven.{Eases, Fails, HasBroken, IsForcing, NobodyComm
 
 module _ {D : Type 0} {g : Ghosts D} (faults : D → ℕ) where
   -- the device failed, in this call or before it
-  pub fails_of : (k n : Kernel D g) (why : Refusal) → (is_failed k ≡ true → n ≡ k) → (why ≢ refusal.NoMemory → IsFailure faults (is_failed k) k.parts n.parts why) → Fails faults n why
+  pub fails_of : (k n : Kernel D g) (why : Refusal) → (is_failed k ≡ true → n ≡ k) → (why ≢ refusal.NoMemory → IsFailure faults (is_failed k) k.core n.core why) → Fails faults n why
   fails_of k n why stands cause other = go (cause other)
     where
-      go : IsFailure faults (is_failed k) k.parts n.parts why → (why ≡ refusal.DeviceFailed) × HasBroken faults n
+      go : IsFailure faults (is_failed k) k.core n.core why → (why ≡ refusal.DeviceFailed) × HasBroken faults n
       go (inl before) = (before.1, inl (ap (λ (x : Kernel D g). is_failed x) (stands before.0) ∙ before.0))
       go (inr now) = (now.0, inr (let more = now.1 in omega (arith, more)))
 
   -- a cause that is none but that
   pub fails_for : (k n : Kernel D g) (why : Refusal) (c : Option Refusal) → c ≡ (if is_failed k then Some refusal.DeviceFailed else None) → ((y : Refusal) → c ≡ Some y → n ≡ k)
-      → (why ≢ refusal.NoMemory → (c ≡ Some why) ⊎ IsFault faults k.parts n.parts why) → Fails faults n why
+      → (why ≢ refusal.NoMemory → (c ≡ Some why) ⊎ IsFault faults k.core n.core why) → Fails faults n why
   fails_for k n why c is stands cause = fails_of k n why (λ failed. stands refusal.DeviceFailed (is ∙ ap (λ (b : Bool). if b then Some refusal.DeviceFailed else None) failed)) (λ other. go (cause other))
     where
-      told : (b : Bool) → is_failed k ≡ b → (if b then Some refusal.DeviceFailed else None) ≡ Some why → IsFailure faults (is_failed k) k.parts n.parts why
+      told : (b : Bool) → is_failed k ≡ b → (if b then Some refusal.DeviceFailed else None) ≡ Some why → IsFailure faults (is_failed k) k.core n.core why
       told true failed e = inl (failed, cc)
       told false failed e = absurd cc
 
-      go : (c ≡ Some why) ⊎ IsFault faults k.parts n.parts why → IsFailure faults (is_failed k) k.parts n.parts why
+      go : (c ≡ Some why) ⊎ IsFault faults k.core n.core why → IsFailure faults (is_failed k) k.core n.core why
       go (inl e) = told (is_failed k) refl (sym is ∙ e)
       go (inr fault) = inr fault
 
-  pub failing : (k n : Kernel D g) {T : Type 0} (r : Result T Refusal) → (is_failed k ≡ true → n ≡ k) → IfErr r (λ why. why ≢ refusal.NoMemory → IsFailure faults (is_failed k) k.parts n.parts why) → IfErr r (Fails faults n)
-  failing k n r stands cause = IfErr-weaker r (λ why. why ≢ refusal.NoMemory → IsFailure faults (is_failed k) k.parts n.parts why) (Fails faults n) (λ why this. fails_of k n why stands this) cause
+  pub failing : (k n : Kernel D g) {T : Type 0} (r : Result T Refusal) → (is_failed k ≡ true → n ≡ k) → IfErr r (λ why. why ≢ refusal.NoMemory → IsFailure faults (is_failed k) k.core n.core why) → IfErr r (Fails faults n)
+  failing k n r stands cause = IfErr-weaker r (λ why. why ≢ refusal.NoMemory → IsFailure faults (is_failed k) k.core n.core why) (Fails faults n) (λ why this. fails_of k n why stands this) cause
 
 -- ---- what eases
 
@@ -57,7 +57,7 @@ none_named : (cs : List Commit) (pos : ℕ) → cs ≡ [] → durable_txns cs po
 none_named cs pos none = ap (λ (x : List Commit). durable_txns x pos) none
 
 module _ {D : Type 0} {g : Ghosts D} (seen : D → List ℕ) (may_leave : D → List ℕ → Type 0) where
-  pub well_of : (k : Kernel D g) (first : Base) (s : State) → Shows seen may_leave first s k → IsWell seen may_leave k.relations k.counters k.parts
+  pub well_of : (k : Kernel D g) (first : Base) (s : State) → Shows seen may_leave first s k → IsWell seen may_leave k.relations k.counters k.core
   well_of k first s shows = ∥∥₁_map shows (λ (origin, base, is, x). (origin, base, record { relations_are = is.relations_are; counters_are = is.counters_are; first_is = refl }, x.consistent))
 
   pub eases_none : (k : Kernel D g) → Eases seen may_leave k k
@@ -74,11 +74,11 @@ module _ {D : Type 0} {g : Ghosts D} (seen : D → List ℕ) (may_leave : D → 
   pub nobody_after : (k n : Kernel D g) → NobodyCommits k → Eases seen may_leave k n → NobodyCommits n
   nobody_after k n nobody e t is = nobody t (sym (e.states t) ∙ is)
 
-  pub eases_flush : (k n : Kernel D g) → Stays seen may_leave k n → OnlyOperations k.parts n.parts → LeavesUndo k.parts n.parts → Eases seen may_leave k n
+  pub eases_flush : (k n : Kernel D g) → Stays seen may_leave k n → OnlyOperations k.core n.core → LeavesUndo k.core n.core → Eases seen may_leave k n
   eases_flush k n stays only undo = record {
     state = stays;
-    states = λ u. ap (λ (x : Parts D). state_in x.live.members u) only;
-    running = ap (λ (x : Parts D). x.running.items) only;
+    states = λ u. ap (λ (x : Core D). state_in x.live.members u) only;
+    running = ap (λ (x : Core D). x.running.items) only;
     undo = undo;
   }
 
@@ -86,16 +86,16 @@ module _ {D : Type 0} {g : Ghosts D} (seen : D → List ℕ) (may_leave : D → 
     forced_stays : (k n : Kernel D g) (r : Result KernelForced Refusal) → NobodyCommits k → IsForcing seen may_leave faults k r n → Stays seen may_leave k n
     forced_stays k n r nobody f first s shows = go r (f.forced first s shows) f.log
       where
-        none : k.parts.commits.items ≡ []
-        none = no_commits seen may_leave k.relations k.counters k.parts (well_of k first s shows) nobody
+        none : k.core.commits.items ≡ []
+        none = no_commits seen may_leave k.relations k.counters k.core (well_of k first s shows) nobody
 
         go : (x : Result KernelForced Refusal) → HasForced seen may_leave first s x n
-            → IfOk x (λ y. IsForcedBy k.parts.operations.store.log k.parts.commits.items y n.parts.operations.store.log n.parts.commits.items) → Shows seen may_leave first s n
+            → IfOk x (λ y. IsForcedBy k.core.operations.store.log k.core.commits.items y n.core.operations.store.log n.core.commits.items) → Shows seen may_leave first s n
         go (Err why) did log = did
         go (Ok forced.More) did log = did
         go (Ok forced.Idle) did log = did
         go (Ok (forced.Durable names)) did log =
-            let nobody_named : names.items ≡ [] = log.2 ∙ none_named k.parts.commits.items log.0 none in
+            let nobody_named : names.items ≡ [] = log.2 ∙ none_named k.core.commits.items log.0 none in
             subst (λ (ts : List ℕ). Shows seen may_leave first (booked_each s ts) n) nobody_named did
 
     pub eases_force : (k n : Kernel D g) (r : Result KernelForced Refusal) → NobodyCommits k → IsForcing seen may_leave faults k r n → Eases seen may_leave k n
@@ -107,11 +107,11 @@ module _ {D : Type 0} {g : Ghosts D} (seen : D → List ℕ) (may_leave : D → 
     }
 
     -- a flush, and a force behind it
-    pub eased_more : (k m x n : Kernel D g) (r : Result KernelForced Refusal) → (NobodyCommits k → Eases seen may_leave k m) → Stays seen may_leave m x → OnlyOperations m.parts x.parts → LeavesUndo m.parts x.parts
+    pub eased_more : (k m x n : Kernel D g) (r : Result KernelForced Refusal) → (NobodyCommits k → Eases seen may_leave k m) → Stays seen may_leave m x → OnlyOperations m.core x.core → LeavesUndo m.core x.core
         → IsForcing seen may_leave faults x r n → NobodyCommits k → Eases seen may_leave k n
     eased_more k m x n r before stays only undo f nobody =
         let to_x = eases_then k m x (before nobody) (eases_flush m x stays only undo) in
         eases_then k x n to_x (eases_force x n r (nobody_after k x nobody to_x) f)
 
-    pub eased_flush : (k m x : Kernel D g) → (NobodyCommits k → Eases seen may_leave k m) → Stays seen may_leave m x → OnlyOperations m.parts x.parts → LeavesUndo m.parts x.parts → NobodyCommits k → Eases seen may_leave k x
+    pub eased_flush : (k m x : Kernel D g) → (NobodyCommits k → Eases seen may_leave k m) → Stays seen may_leave m x → OnlyOperations m.core x.core → LeavesUndo m.core x.core → NobodyCommits k → Eases seen may_leave k x
     eased_flush k m x before stays only undo nobody = eases_then k m x (before nobody) (eases_flush m x stays only undo)

@@ -9,8 +9,8 @@ use Rattle.mt_base.specs.Limits.{IsRelationCount}
 use Rattle.mt_base.specs.declared.refusal.Refusal.{Refusal}
 use Rattle.mt_base.specs.declared.refusal.Refusal.TheVariants as refusal
 use Rattle.mt_disk.specs.declared.device.Device.{Ghosts}
-use Rattle.mt_kernel.specs.Booked.{txns_of}
-use Rattle.mt_kernel.specs.Consistent.{session_in}
+use Rattle.mt_core.specs.Booked.{txns_of}
+use Rattle.mt_core.specs.Consistent.{session_in}
 use Rattle.mt_live.specs.Laws.{in_turn}
 use Rattle.mt_live.specs.Machine.{State}
 use Rattle.mt_model.specs.History.{after}
@@ -24,10 +24,10 @@ use Rattle.mt_alone.specs.Driven.{IsLeft}
 use Rattle.mt_alone.specs.Plays.{Play, put_off}
 use Rattle.mt_alone.specs.Runs.{IsLeftFor}
 use Rattle.mt_alone.specs.Turnovers.{IsLeftBy, StandsForMore}
-use Rattle.mt_alone.specs.declared.rotating.NotServed.{NotServed}
-use Rattle.mt_alone.specs.declared.rotating.NotServed.TheVariants.{Kept, Ended}
-use Rattle.mt_alone.specs.declared.running.RunFault.{RunFault}
-use Rattle.mt_alone.specs.declared.running.RunFault.TheVariants as fault
+use Rattle.mt_alone.specs.declared.rotation.NotServed.{NotServed}
+use Rattle.mt_alone.specs.declared.rotation.NotServed.TheVariants.{Kept, Ended}
+use Rattle.mt_alone.specs.declared.script_run.RunFault.{RunFault}
+use Rattle.mt_alone.specs.declared.script_run.RunFault.TheVariants as fault
 use Rattle.mt_txn.specs.Restarted.{all_commits, FindsCommits, FindsMeanwhile}
 use Rattle.mt_txn.specs.Shown.{Restarts, is_failed}
 use Rattle.mt_txn.specs.Turned.{HasNobody}
@@ -40,7 +40,7 @@ no_further relations counters b book c stands = ∥∥₁_map stands (λ found. 
 
 -- nobody lives where nothing keeps a log from turning over
 nobody_early : {D : Type 0} {g : Ghosts D} (k : Kernel D g) → early_cause k ≡ None → HasNobody k
-nobody_early k early = nobody (is_failed k) (length k.parts.live.members) early
+nobody_early k early = nobody (is_failed k) (length k.core.live.members) early
   where
     nobody : (failed : Bool) (n : ℕ) → (if failed then Some refusal.DeviceFailed else if nat_eq n 0 then None else Some refusal.Busy) ≡ None → n ≡ 0
     nobody true n is = absurd cc
@@ -49,43 +49,43 @@ nobody_early k early = nobody (is_failed k) (length k.parts.live.members) early
 
 module _ {D : Type 0} {g : Ghosts D} (seen : D → List ℕ) (may_leave : D → List ℕ → Type 0) where
   -- what a restart finds is what the book leads to, and perhaps some of the commits under way behind it
-  pub stands_more : (b : Base) (n : Kernel D g) (c : List ℕ) → ∥ FindsCommits n.relations n.counters b n.parts c ∥₁
-      → ∥ ((further : List Committed) × CanRestart n.relations n.counters c (after b (n.parts.book.items ++ further))) ∥₁
+  pub stands_more : (b : Base) (n : Kernel D g) (c : List ℕ) → ∥ FindsCommits n.relations n.counters b n.core c ∥₁
+      → ∥ ((further : List Committed) × CanRestart n.relations n.counters c (after b (n.core.book.items ++ further))) ∥₁
   stands_more b n c finds = ∥∥₁_map finds (λ f.
-      let book = n.parts.book.items in
-      let under_way = in_turn (session_in n.parts.live.members) (txns_of n.parts.commits.items) n.parts.live.standing in
+      let book = n.core.book.items in
+      let under_way = in_turn (session_in n.core.live.members) (txns_of n.core.commits.items) n.core.live.standing in
       let over = f.count - length book in
       let booked = f.acknowledged in
       let count : length book + over ≡ f.count = omega (arith, booked) in
-      let is : take f.count (all_commits n.parts) ≡ book ++ take over under_way =
-      subst (λ (i : ℕ). take i (all_commits n.parts) ≡ book ++ take over under_way) count (take-append-add book under_way over) in
+      let is : take f.count (all_commits n.core) ≡ book ++ take over under_way =
+      subst (λ (i : ℕ). take i (all_commits n.core) ≡ book ++ take over under_way) count (take-append-add book under_way over) in
       (take over under_way, subst (CanRestart n.relations n.counters c) (f.is ∙ ap (after b) is) f.found))
 
   -- whatever came of a log that was to be turned over
   pub turned_stands : (moment : D → ℕ) (left_since : D → ℕ → List ℕ → Type 0) (k : Kernel D g) (device : D) → early_cause k ≡ None
       → ((t : ℕ) (c : List ℕ) → t ≤ moment device → may_leave device c → left_since device t c)
-      → ((first : Base) → Restarts seen may_leave first k → FindsMeanwhile moment left_since k.relations k.counters first k.parts device)
-      → (first : Base) → Restarts seen may_leave first k → (c : List ℕ) → may_leave device c → ∥ CanRestart k.relations k.counters c (after first k.parts.book.items) ∥₁
+      → ((first : Base) → Restarts seen may_leave first k → FindsMeanwhile moment left_since k.relations k.counters first k.core device)
+      → (first : Base) → Restarts seen may_leave first k → (c : List ℕ) → may_leave device c → ∥ CanRestart k.relations k.counters c (after first k.core.book.items) ∥₁
   turned_stands moment left_since k device early counts found first restarts c leaves =
       let f = found first restarts in
-      stands_book seen may_leave first k c (nobody_early k early) restarts (f.each c (counts (moment k.parts.operations.store.device) c f.later leaves))
+      stands_book seen may_leave first k c (nobody_early k early) restarts (f.each c (counts (moment k.core.operations.store.device) c f.later leaves))
 
   -- ---- behind a play
 
   -- the book is the play's
-  pub book_of : (q : Play) (n : Kernel D g) → IsLeft seen may_leave q n → ∥ (n.parts.book.items ≡ q.book) ∥₁
+  pub book_of : (q : Play) (n : Kernel D g) → IsLeft seen may_leave q n → ∥ (n.core.book.items ≡ q.book) ∥₁
   book_of q n left = ∥∥₁_elim left (hlevel props) (λ (first, s, shows, played).
       ∥∥₁_map shows (λ (origin, base, at, x). sym (ap (λ (z : State). z.book) x.state) ∙ played.book))
 
   module _ (faults : D → ℕ) where
-    book_for : (q : Play) (n : Kernel D g) (why : RunFault) → IsLeftFor seen may_leave faults q n why → ∥ (n.parts.book.items ≡ q.book) ∥₁
+    book_for : (q : Play) (n : Kernel D g) (why : RunFault) → IsLeftFor seen may_leave faults q n why → ∥ (n.core.book.items ≡ q.book) ∥₁
     book_for q n fault.Output (inl beside) = book_of (put_off q) n (left_of seen may_leave faults (put_off q) None n beside)
     book_for q n fault.Output (inr left) = book_of q n left.0
     book_for q n (fault.Refused why) left = book_of q n left.0
 
     pub kept_stands : (relations counters : ℕ) (q : Play) (n : Kernel D g) (why : RunFault) → IsRelationCount n.relations
-        → ((first : Base) (c : List ℕ) → Restarts seen may_leave first n → may_leave n.parts.operations.store.device c → IsRelationCount n.relations → ∥ FindsCommits n.relations n.counters first n.parts c ∥₁)
-        → IsLeftBy seen may_leave faults relations counters (Kept why n) q → StandsForMore may_leave relations counters q n.parts.operations.store.device
+        → ((first : Base) (c : List ℕ) → Restarts seen may_leave first n → may_leave n.core.operations.store.device c → IsRelationCount n.relations → ∥ FindsCommits n.relations n.counters first n.core c ∥₁)
+        → IsLeftBy seen may_leave faults relations counters (Kept why n) q → StandsForMore may_leave relations counters q n.core.operations.store.device
     kept_stands relations counters q n why count finds (left, for) c leaves = ∥∥₁_elim (book_for q n why left) (hlevel props) (λ book.
         subst (λ (X : Type 0). X) (λ i. ∥ ((further : List Committed) × CanRestart (for.relations_are i) (for.counters_are i) c (after q.first (book i ++ further))) ∥₁)
         (stands_more q.first n c (finds q.first c for.restarts leaves count)))

@@ -22,11 +22,11 @@ use Rattle.mt_log.specs.declared.log.Log.{Log}
 use Rattle.mt_model.specs.History.{Call}
 use Rattle.mt_model.specs.Model.{Base}
 use Rattle.mt_model.specs.declared.operations.Op.{Op}
-use Rattle.mt_kernel.specs.Consistent.{SameRunning, SameStates, SetsState, log_kept}
-use Rattle.mt_kernel.specs.Runs.{state_in}
-use Rattle.mt_kernel.specs.Work.{undo_steps}
-use Rattle.mt_kernel.specs.declared.parts.Commit.{Commit}
-use Rattle.mt_kernel.specs.declared.parts.Running.{Running}
+use Rattle.mt_core.specs.Consistent.{SameRunning, SameStates, SetsState, log_kept}
+use Rattle.mt_core.specs.Runs.{state_in}
+use Rattle.mt_core.specs.Work.{undo_steps}
+use Rattle.mt_core.specs.declared.kernel_core.Commit.{Commit}
+use Rattle.mt_core.specs.declared.kernel_core.Running.{Running}
 use Rattle.mt_txn.proofs.Living.{idle_of, no_commits}
 use Rattle.mt_txn.proofs.Showing.{kept_of, parts_stay}
 use Rattle.mt_txn.specs.Causes.{begin_cause, commit_cause, first_of, is_busy, is_open, open_cause, unless}
@@ -99,7 +99,7 @@ module _ {D : Type 0} {g : Ghosts D} (seen : D → List ℕ) (may_leave : D → 
   left_of p None k b = ∥∥₁_map b.shown (λ (first, s, shows, (played, nobody)). (first, s, shows, played))
   left_of p (Some t) k (calls, under, o) = ∥∥₁_map o.shown (λ (first, s, shows, (played, alone)). (first, s, shows, played))
 
-  pub opened_stays : (p : Play) (t : ℕ) (calls : List Call) (k n : Kernel D g) → IsOpened seen may_leave p t calls k → Stays seen may_leave k n → state_in n.parts.live.members t ≡ state_in k.parts.live.members t → IsOpened seen may_leave p t calls n
+  pub opened_stays : (p : Play) (t : ℕ) (calls : List Call) (k n : Kernel D g) → IsOpened seen may_leave p t calls k → Stays seen may_leave k n → state_in n.core.live.members t ≡ state_in k.core.live.members t → IsOpened seen may_leave p t calls n
   opened_stays p t calls k n o stays same = record {
     shown = ∥∥₁_map o.shown (λ (first, s, shows, plays). (first, s, stays first s shows, plays));
     state = same ∙ o.state;
@@ -117,12 +117,12 @@ module _ {D : Type 0} {g : Ghosts D} (seen : D → List ℕ) (may_leave : D → 
   opened_nobody p t calls k o u is = ∥∥₁_elim o.shown (hlevel props) (λ (first, s, shows, (played, alone)).
       nobody_commits seen may_leave k first s t Open shows alone.others o.state (λ e. cc) u is)
 
-  pub opened_idle : (p : Play) (t : ℕ) (calls : List Call) (k : Kernel D g) → IsOpened seen may_leave p t calls k → is_busy k.parts t ≡ false
+  pub opened_idle : (p : Play) (t : ℕ) (calls : List Call) (k : Kernel D g) → IsOpened seen may_leave p t calls k → is_busy k.core t ≡ false
   opened_idle p t calls k o = ∥∥₁_elim o.shown (hlevel props) (λ (first, s, shows, (played, alone)).
-      idle_of seen may_leave k.relations k.counters k.parts first s shows t o.state alone.idle)
+      idle_of seen may_leave k.relations k.counters k.core first s shows t o.state alone.idle)
 
   -- an open transaction is refused only where the device has failed
-  pub open_is : (k : Kernel D g) (t : ℕ) → state_in k.parts.live.members t ≡ Some Open → open_cause (is_failed k) k.parts t ≡ (if is_failed k then Some refusal.DeviceFailed else None)
+  pub open_is : (k : Kernel D g) (t : ℕ) → state_in k.core.live.members t ≡ Some Open → open_cause (is_failed k) k.core t ≡ (if is_failed k then Some refusal.DeviceFailed else None)
   open_is k t state = ap (λ (o : Option TxnState). if is_failed k then Some refusal.DeviceFailed else unless (is_open o) refusal.Stranger) state
 
   open_failed : (k n : Kernel D g) (t : ℕ) (why : Refusal) (c : Option Refusal) → (c ≡ (if is_failed k then Some refusal.DeviceFailed else None)) → ((y : Refusal) → c ≡ Some y → n ≡ k) → (why ≢ refusal.NoMemory → c ≡ Some why) → Fails faults n why
@@ -130,15 +130,15 @@ module _ {D : Type 0} {g : Ghosts D} (seen : D → List ℕ) (may_leave : D → 
 
   -- ---- a begin
 
-  resting_few : (p : Play) (k : Kernel D g) → IsResting seen may_leave p k → length k.parts.live.members ≡ 0
+  resting_few : (p : Play) (k : Kernel D g) → IsResting seen may_leave p k → length k.core.live.members ≡ 0
   resting_few p k r = ∥∥₁_elim r.shown (hlevel props) (λ (first, s, shows, (played, nobody)). ∥∥₁_elim shows (hlevel props) (λ (origin, base, is, x).
-      no_members k.parts.live.members (λ u. no_member (member_of k.parts.live.members u) (ap (λ (z : State). z.sessions u) (sym x.state) ∙ nobody u))))
+      no_members k.core.live.members (λ u. no_member (member_of k.core.live.members u) (ap (λ (z : State). z.sessions u) (sym x.state) ∙ nobody u))))
 
-  begin_wants : (k : Kernel D g) (why : Refusal) → length k.parts.live.members ≡ 0 → why ≢ refusal.DeviceFailed → (why ≢ refusal.NoMemory → begin_cause (is_failed k) k.parts ≡ Some why) → IsBeginWant why
+  begin_wants : (k : Kernel D g) (why : Refusal) → length k.core.live.members ≡ 0 → why ≢ refusal.DeviceFailed → (why ≢ refusal.NoMemory → begin_cause (is_failed k) k.core ≡ Some why) → IsBeginWant why
   begin_wants k refusal.NoMemory none other cause = tt
-  begin_wants k why none other cause = begin_want (is_failed k) (nat_le 1000000 (length k.parts.book.items + length k.parts.live.members) || nat_le (2 ^ 40) k.parts.live.begun) (nat_lt (log_kept k.parts + 128) _) (length k.parts.live.members) _ none other (cause (λ e. cc))
+  begin_wants k why none other cause = begin_want (is_failed k) (nat_le 1000000 (length k.core.book.items + length k.core.live.members) || nat_le (2 ^ 40) k.core.live.begun) (nat_lt (log_kept k.core + 128) _) (length k.core.live.members) _ none other (cause (λ e. cc))
 
-  pub begin_refused : (p : Play) (k n : Kernel D g) (why : Refusal) → IsResting seen may_leave p k → n.parts ≡ k.parts → SameSchema k n → (why ≡ refusal.DeviceFailed → is_failed n ≡ true) → (why ≢ refusal.NoMemory → begin_cause (is_failed k) k.parts ≡ Some why)
+  pub begin_refused : (p : Play) (k n : Kernel D g) (why : Refusal) → IsResting seen may_leave p k → n.core ≡ k.core → SameSchema k n → (why ≡ refusal.DeviceFailed → is_failed n ≡ true) → (why ≢ refusal.NoMemory → begin_cause (is_failed k) k.core ≡ Some why)
       → IsAnsweredOr seen may_leave faults p k None line.Begin (refused_as why None) n
   begin_refused p k n why r same schema failed cause =
       let none = resting_few p k r in
@@ -146,8 +146,8 @@ module _ {D : Type 0} {g : Ghosts D} (seen : D → List ℕ) (may_leave : D → 
       answered_refused p None line.Begin None k n why r.nothing now (left_of p None n now) (λ is. inl (failed is))
       (λ other. inr (begin_wants k why none other cause, due_of k None line.Begin why cause))
 
-  pub begin_done : (p : Play) (k n : Kernel D g) (session txn : ℕ) → p.session ≡ session → IsResting seen may_leave p k → txn ≡ k.parts.live.begun + 1 → ((first : Base) (s : State) → Shows seen may_leave first s k → Shows seen may_leave first (begun s session) n)
-      → SetsState k.parts n.parts txn (Some Open) → IsAnsweredOr seen may_leave faults p k None line.Begin (Ok (Begun, Some txn)) n
+  pub begin_done : (p : Play) (k n : Kernel D g) (session txn : ℕ) → p.session ≡ session → IsResting seen may_leave p k → txn ≡ k.core.live.begun + 1 → ((first : Base) (s : State) → Shows seen may_leave first s k → Shows seen may_leave first (begun s session) n)
+      → SetsState k.core n.core txn (Some Open) → IsAnsweredOr seen may_leave faults p k None line.Begin (Ok (Begun, Some txn)) n
   begin_done p k n session txn own r number did opened = (
     record p { under_way = Some [] },
     turn_acts k.relations k.counters p None line.Begin r.nothing refl,
@@ -155,7 +155,7 @@ module _ {D : Type 0} {g : Ghosts D} (seen : D → List ℕ) (may_leave : D → 
       [],
       refl,
       record {
-        shown = ∥∥₁_elim r.shown (hlevel props) (λ (first, s, shows, (played, nobody)). ∥∥₁_elim (kept_of seen may_leave k.relations k.counters k.parts first s shows) (hlevel props) (λ kept.
+        shown = ∥∥₁_elim r.shown (hlevel props) (λ (first, s, shows, (played, nobody)). ∥∥₁_elim (kept_of seen may_leave k.relations k.counters k.core first s shows) (hlevel props) (λ kept.
             ∣ (
               first,
               begun s session,
@@ -165,7 +165,7 @@ module _ {D : Type 0} {g : Ghosts D} (seen : D → List ℕ) (may_leave : D → 
                 subst (λ (X : Type 0). X) (λ i. IsAlone (begun s session) (next_is first s shows i) (sym own i) []) (begins_alone first s session kept nobody),
               ),
             ) ∣₁));
-        state = opened txn ∙ ap (λ (b : Bool). cond b (Some Open) (state_in k.parts.live.members txn)) (eq_self txn);
+        state = opened txn ∙ ap (λ (b : Bool). cond b (Some Open) (state_in k.core.live.members txn)) (eq_self txn);
       },
     ),
   )
@@ -175,34 +175,34 @@ module _ {D : Type 0} {g : Ghosts D} (seen : D → List ℕ) (may_leave : D → 
 
   -- ---- a commit
 
-  none_of : (p : Play) (k : Kernel D g) (t : ℕ) (calls : List Call) → IsOpened seen may_leave p t calls k → k.parts.commits.items ≡ []
-  none_of p k t calls o = ∥∥₁_elim o.shown (hlevel props) (λ (first, s, shows, plays). no_commits seen may_leave k.relations k.counters k.parts (well_of seen may_leave k first s shows) (opened_nobody p t calls k o))
+  none_of : (p : Play) (k : Kernel D g) (t : ℕ) (calls : List Call) → IsOpened seen may_leave p t calls k → k.core.commits.items ≡ []
+  none_of p k t calls o = ∥∥₁_elim o.shown (hlevel props) (λ (first, s, shows, plays). no_commits seen may_leave k.relations k.counters k.core (well_of seen may_leave k first s shows) (opened_nobody p t calls k o))
 
-  book_of : (p : Play) (k : Kernel D g) (t : ℕ) (calls : List Call) → IsOpened seen may_leave p t calls k → length k.parts.book.items ≡ length p.book
+  book_of : (p : Play) (k : Kernel D g) (t : ℕ) (calls : List Call) → IsOpened seen may_leave p t calls k → length k.core.book.items ≡ length p.book
   book_of p k t calls o = ∥∥₁_elim o.shown (hlevel props) (λ (first, s, shows, (played, alone)). ∥∥₁_elim shows (hlevel props) (λ (origin, base, is, x).
       ap (λ (z : State). length z.book) (sym x.state) ∙ ap (λ (cs : _). length cs) played.book))
 
   pub commit_ends : (p : Play) (k n : Kernel D g) (t : ℕ) (calls : List Call) → IsOpened seen may_leave p t calls k → Stays seen may_leave k n
-      → ((c : Commit) × (c.txn ≡ t) × (c.place ≡ length (appended n.parts.operations.store.log)) × (n.parts.commits.items ≡ k.parts.commits.items ++ c ∷ []))
-      → (r : Record) → waiting n.parts.operations.store.log ≡ waiting k.parts.operations.store.log ++ r ∷ [] → IsEnding seen may_leave p t calls 8 n
+      → ((c : Commit) × (c.txn ≡ t) × (c.place ≡ length (appended n.core.operations.store.log)) × (n.core.commits.items ≡ k.core.commits.items ++ c ∷ []))
+      → (r : Record) → waiting n.core.operations.store.log ≡ waiting k.core.operations.store.log ++ r ∷ [] → IsEnding seen may_leave p t calls 8 n
   commit_ends p k n t calls o stays (c, own, place, queue) r waits = record {
     shown = ∥∥₁_map o.shown (λ (first, s, shows, plays). (first, s, stays first s shows, plays));
     commit = c;
     queue = queue ∙ ap (λ (cs : List Commit). cs ++ c ∷ []) (none_of p k t calls o);
     own = own;
-    waits = subst (λ (i : ℕ). length (durable n.parts.operations.store.log) < i) (sym place) (waits_in n.parts.operations.store.log (waiting k.parts.operations.store.log) r waits);
-    due = due_start c.place n.parts.operations.store.log (let at = place in omega (arith, at));
+    waits = subst (λ (i : ℕ). length (durable n.core.operations.store.log) < i) (sym place) (waits_in n.core.operations.store.log (waiting k.core.operations.store.log) r waits);
+    due = due_start c.place n.core.operations.store.log (let at = place in omega (arith, at));
   }
 
-  pub commit_done : (p : Play) (k n : Kernel D g) (t place : ℕ) (calls : List Call) → p.under_way ≡ Some calls → IsOpened seen may_leave p t calls k → place ≡ length k.parts.book.items + length k.parts.commits.items + 1 → IsResting seen may_leave (committed p calls) n
+  pub commit_done : (p : Play) (k n : Kernel D g) (t place : ℕ) (calls : List Call) → p.under_way ≡ Some calls → IsOpened seen may_leave p t calls k → place ≡ length k.core.book.items + length k.core.commits.items + 1 → IsResting seen may_leave (committed p calls) n
       → IsAnsweredOr seen may_leave faults p k (Some t) line.Commit (Ok (Committed place, None)) n
   commit_done p k n t place calls under o is ended =
-      let many : length k.parts.commits.items ≡ 0 = ap (λ (cs : List Commit). length cs) (none_of p k t calls o) in
+      let many : length k.core.commits.items ≡ 0 = ap (λ (cs : List Commit). length cs) (none_of p k t calls o) in
       let book = book_of p k t calls o in
       let at : length p.book + 1 ≡ place = omega (arith, is, many, book) in
       (committed p calls, subst (λ (i : ℕ). IsTurn k.relations k.counters (IsDueTo seen may_leave k (Some t)) p line.Commit (Committed i) (committed p calls)) at (turn_acts k.relations k.counters p (Some calls) line.Commit under refl), ended)
 
-  commit_cause_is : (k : Kernel D g) (t : ℕ) → state_in k.parts.live.members t ≡ Some Open → is_busy k.parts t ≡ false → commit_cause (is_failed k) k.parts t ≡ (if is_failed k then Some refusal.DeviceFailed else None)
+  commit_cause_is : (k : Kernel D g) (t : ℕ) → state_in k.core.live.members t ≡ Some Open → is_busy k.core t ≡ false → commit_cause (is_failed k) k.core t ≡ (if is_failed k then Some refusal.DeviceFailed else None)
   commit_cause_is k t state idle = ap₂ (λ (o : Option TxnState) (b : Bool). first_of (if is_failed k then Some refusal.DeviceFailed else unless (is_open o) refusal.Stranger) (if b then Some refusal.Busy else None)) state idle ∙ by (is_failed k)
     where
       by : (c : Bool) → first_of (if c then Some refusal.DeviceFailed else None) None ≡ (if c then Some refusal.DeviceFailed else None)
@@ -213,33 +213,33 @@ module _ {D : Type 0} {g : Ghosts D} (seen : D → List ℕ) (may_leave : D → 
   failing_want n refusal.NoMemory fails other = refl
   failing_want n why fails other = absurd (other (fails (λ e. cc)).0)
 
-  pub commit_refused : (p : Play) (k n : Kernel D g) (t : ℕ) (calls : List Call) (why : Refusal) → p.under_way ≡ Some calls → IsOpened seen may_leave p t calls k → Stays seen may_leave k n → SameStates k.parts n.parts
-      → (why ≢ refusal.NoMemory → commit_cause (is_failed k) k.parts t ≡ Some why) → ((y : Refusal) → commit_cause (is_failed k) k.parts t ≡ Some y → n ≡ k) → IsAnsweredOr seen may_leave faults p k (Some t) line.Commit (refused_as why (Some t)) n
+  pub commit_refused : (p : Play) (k n : Kernel D g) (t : ℕ) (calls : List Call) (why : Refusal) → p.under_way ≡ Some calls → IsOpened seen may_leave p t calls k → Stays seen may_leave k n → SameStates k.core n.core
+      → (why ≢ refusal.NoMemory → commit_cause (is_failed k) k.core t ≡ Some why) → ((y : Refusal) → commit_cause (is_failed k) k.core t ≡ Some y → n ≡ k) → IsAnsweredOr seen may_leave faults p k (Some t) line.Commit (refused_as why (Some t)) n
   commit_refused p k n t calls why under o stays states cause unmoved =
       let now = opened_stays p t calls k n o stays (states t) in
-      let fails = open_failed k n t why (commit_cause (is_failed k) k.parts t) (commit_cause_is k t o.state (opened_idle p t calls k o)) unmoved cause in
+      let fails = open_failed k n t why (commit_cause (is_failed k) k.core t) (commit_cause_is k t o.state (opened_idle p t calls k o)) unmoved cause in
       answered_refused p (Some calls) line.Commit (Some t) k n why under (calls, under, now) (left_of p (Some t) n (calls, under, now))
       (λ is. (fails (λ e. let wrong : refusal.DeviceFailed ≡ refusal.NoMemory = sym is ∙ e in cc)).1) (λ other. let want = failing_want n why fails other in inr (want, inl want))
 
   -- ---- an abort
 
-  pub abort_goes : (p : Play) (k n : Kernel D g) (t : ℕ) (calls : List Call) → IsOpened seen may_leave p t calls k → Stays seen may_leave k n → SetsState k.parts n.parts t (Some Aborting) → IsGoing seen may_leave p t n
+  pub abort_goes : (p : Play) (k n : Kernel D g) (t : ℕ) (calls : List Call) → IsOpened seen may_leave p t calls k → Stays seen may_leave k n → SetsState k.core n.core t (Some Aborting) → IsGoing seen may_leave p t n
   abort_goes p k n t calls o stays sets = record {
     shown = ∥∥₁_map o.shown (λ (first, s, shows, (played, alone)). (first, s, stays first s shows, record { played = played; others = alone.others }));
-    state = sets t ∙ ap (λ (b : Bool). cond b (Some Aborting) (state_in k.parts.live.members t)) (eq_self t);
+    state = sets t ∙ ap (λ (b : Bool). cond b (Some Aborting) (state_in k.core.live.members t)) (eq_self t);
   }
 
-  pub abort_few : (p : Play) (k n : Kernel D g) (t : ℕ) (calls : List Call) → IsOpened seen may_leave p t calls k → Stays seen may_leave k n → SetsState k.parts n.parts t (Some Aborting) → SameRunning k.parts n.parts → undo_steps n.parts t ≤ 5054310
+  pub abort_few : (p : Play) (k n : Kernel D g) (t : ℕ) (calls : List Call) → IsOpened seen may_leave p t calls k → Stays seen may_leave k n → SetsState k.core n.core t (Some Aborting) → SameRunning k.core n.core → undo_steps n.core t ≤ 5054310
   abort_few p k n t calls o stays sets running = ∥∥₁_elim o.shown (hlevel props) (λ (first, s, shows, (played, alone)).
-      let idle : is_busy n.parts t ≡ false = ap (λ (rs : List Running). list_any (λ (r : Running). r.scope.txn == t) rs) running ∙ opened_idle p t calls k o in
-      let state : state_in n.parts.live.members t ≡ Some Aborting = sets t ∙ ap (λ (b : Bool). cond b (Some Aborting) (state_in k.parts.live.members t)) (eq_self t) in
+      let idle : is_busy n.core t ≡ false = ap (λ (rs : List Running). list_any (λ (r : Running). r.scope.txn == t) rs) running ∙ opened_idle p t calls k o in
+      let state : state_in n.core.live.members t ≡ Some Aborting = sets t ∙ ap (λ (b : Bool). cond b (Some Aborting) (state_in k.core.live.members t)) (eq_self t) in
       undo_few seen may_leave n first s t (stays first s shows) (nobody_commits seen may_leave n first s t Aborting (stays first s shows) alone.others state (λ e. cc)) idle
       (λ u other lives. nobody_there seen may_leave n first s (stays first s shows) u (alone.others u other) lives))
 
-  pub abort_refused : (p : Play) (k n : Kernel D g) (t : ℕ) (calls : List Call) (why : Refusal) → IsOpened seen may_leave p t calls k → n ≡ k → open_cause (is_failed k) k.parts t ≡ Some why → IsGivenUp seen may_leave faults p n why
+  pub abort_refused : (p : Play) (k n : Kernel D g) (t : ℕ) (calls : List Call) (why : Refusal) → IsOpened seen may_leave p t calls k → n ≡ k → open_cause (is_failed k) k.core t ≡ Some why → IsGivenUp seen may_leave faults p n why
   abort_refused p k n t calls why o same cause = (
     subst (λ (x : Kernel D g). IsLeft seen may_leave p x) (sym same) (∥∥₁_map o.shown (λ (first, s, shows, (played, alone)). (first, s, shows, played))),
-    open_failed k n t why (open_cause (is_failed k) k.parts t) (open_is k t o.state) (λ y is. same) (λ other. cause),
+    open_failed k n t why (open_cause (is_failed k) k.core t) (open_is k t o.state) (λ y is. same) (λ other. cause),
   )
 
 -- without a transaction there is nothing to call, to commit or to abort

@@ -21,10 +21,10 @@ use Rattle.mt_alone.specs.Driven.{IsBeside}
 use Rattle.mt_alone.specs.Plays.{Play, Runs, starts, goes_on}
 use Rattle.mt_alone.specs.Runs.{BesideEach, HasRunLines, HasTurned, IsCut, IsCutAtEnd, IsCutShort, IsEnded, IsStopped}
 use Rattle.mt_alone.specs.Turnovers.{BesideFrom, CannotTurnOver, From, HasRunOn, HasRunOut, IsCutOff, IsLeftBy, IsTurnedOut, StandsForPlay, why_in}
-use Rattle.mt_alone.specs.declared.rotating.NotServed.{NotServed}
-use Rattle.mt_alone.specs.declared.rotating.NotServed.TheVariants.{Kept, Ended}
-use Rattle.mt_alone.specs.declared.running.RunFault.{RunFault}
-use Rattle.mt_alone.specs.declared.running.RunFault.TheVariants as fault
+use Rattle.mt_alone.specs.declared.rotation.NotServed.{NotServed}
+use Rattle.mt_alone.specs.declared.rotation.NotServed.TheVariants.{Kept, Ended}
+use Rattle.mt_alone.specs.declared.script_run.RunFault.{RunFault}
+use Rattle.mt_alone.specs.declared.script_run.RunFault.TheVariants as fault
 use Rattle.mt_restart.specs.TurnFaults.{IsTurnFault}
 use Rattle.mt_txn.specs.Shown.{Restarts, SameSchema}
 use Rattle.mt_txn.specs.declared.kernel.Kernel.{Kernel}
@@ -174,10 +174,10 @@ module _ {D : Type 0} {g : Ghosts D} (seen : D → List ℕ) (may_leave : D → 
     -- ---- a log that could not be turned over
 
     -- the book is the play's
-    book_is : (live : Option ℕ) → IsBeside seen may_leave p live k → ∥ (k.parts.book.items ≡ p.book) ∥₁
+    book_is : (live : Option ℕ) → IsBeside seen may_leave p live k → ∥ (k.core.book.items ≡ p.book) ∥₁
     book_is live beside = book_of seen may_leave p k (left_of seen may_leave faults p live k beside)
 
-    stands_play : (device : D) → IsBeside seen may_leave p None k → ((c : List ℕ) → may_leave device c → ∥ CanRestart k.relations k.counters c (after p.first k.parts.book.items) ∥₁) → StandsForPlay may_leave k.relations k.counters p device
+    stands_play : (device : D) → IsBeside seen may_leave p None k → ((c : List ℕ) → may_leave device c → ∥ CanRestart k.relations k.counters c (after p.first k.core.book.items) ∥₁) → StandsForPlay may_leave k.relations k.counters p device
     stands_play device beside stands c left = ∥∥₁_elim (book_is None beside) (hlevel props) (λ is.
         subst (λ (book : List Committed). ∥ CanRestart k.relations k.counters c (after p.first book) ∥₁) is (stands c left))
 
@@ -211,12 +211,12 @@ module _ {D : Type 0} {g : Ghosts D} (seen : D → List ℕ) (may_leave : D → 
 
 -- 2 only where a call of the device has failed
 pub end_failed : {D : Type 0} {g : Ghosts D} (seen : D → List ℕ) (may_leave : D → List ℕ → Type 0) (moment : D → ℕ) (left_since : D → ℕ → List ℕ → Type 0) (faults : D → ℕ) (k : Kernel D g) (device : D) (why : Refusal)
-    → ∥ ((forced : Kernel D g) × Keeps seen may_leave moment left_since k forced × IsForcedOut k forced × IsEndCause seen faults forced.parts.operations.store.device device why) ∥₁ → why ≡ refusal.DeviceFailed → 0 < faults device
+    → ∥ ((forced : Kernel D g) × Keeps seen may_leave moment left_since k forced × IsForcedOut k forced × IsEndCause seen faults forced.core.operations.store.device device why) ∥₁ → why ≡ refusal.DeviceFailed → 0 < faults device
 end_failed seen may_leave moment left_since faults k device why x is = ∥∥₁_elim x (hlevel props) (λ (forced, keeps, out, e).
-    let grew : faults forced.parts.operations.store.device < faults device = subst (λ (w : Refusal). IsEndCause seen faults forced.parts.operations.store.device device w) is e in omega (arith, grew))
+    let grew : faults forced.core.operations.store.device < faults device = subst (λ (w : Refusal). IsEndCause seen faults forced.core.operations.store.device device w) is e in omega (arith, grew))
 
 -- and 11 only where the next area has no room
 pub end_full : {D : Type 0} {g : Ghosts D} (seen : D → List ℕ) (may_leave : D → List ℕ → Type 0) (moment : D → ℕ) (left_since : D → ℕ → List ℕ → Type 0) (faults : D → ℕ) (k : Kernel D g) (device : D) (why : Refusal)
-    → ∥ ((forced : Kernel D g) × Keeps seen may_leave moment left_since k forced × IsForcedOut k forced × IsEndCause seen faults forced.parts.operations.store.device device why) ∥₁ → why ≡ refusal.LogFull → ∥ From seen may_leave k (CannotTurnOver seen) ∥₁
+    → ∥ ((forced : Kernel D g) × Keeps seen may_leave moment left_since k forced × IsForcedOut k forced × IsEndCause seen faults forced.core.operations.store.device device why) ∥₁ → why ≡ refusal.LogFull → ∥ From seen may_leave k (CannotTurnOver seen) ∥₁
 end_full seen may_leave moment left_since faults k device why x is = ∥∥₁_map x (λ (forced, keeps, out, e).
-    (forced, over_kept seen may_leave moment left_since k forced keeps, subst (λ (w : Refusal). IsEndCause seen faults forced.parts.operations.store.device device w) is e))
+    (forced, over_kept seen may_leave moment left_since k forced keeps, subst (λ (w : Refusal). IsEndCause seen faults forced.core.operations.store.device device w) is e))

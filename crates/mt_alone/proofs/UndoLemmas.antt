@@ -16,11 +16,11 @@ use Rattle.mt_model.specs.declared.operations.Op.{Op}
 use Rattle.mt_model.specs.Model.{Base, inverse_of}
 use Rattle.mt_op.proofs.Budget.{area_small}
 use Rattle.mt_pool.specs.Views.{pages}
-use Rattle.mt_kernel.proofs.Effects.{inverse_bytes}
-use Rattle.mt_kernel.specs.Runs.{entry_bytes, is_open, kept_bytes, taken_bytes}
-use Rattle.mt_kernel.specs.Work.{abort_steps, effect_steps, effects_left, undo_steps}
-use Rattle.mt_kernel.specs.declared.parts.Commit.{Commit}
-use Rattle.mt_kernel.specs.declared.parts.Running.{Running}
+use Rattle.mt_core.proofs.Effects.{inverse_bytes}
+use Rattle.mt_core.specs.Runs.{entry_bytes, is_open, kept_bytes, taken_bytes}
+use Rattle.mt_core.specs.Work.{abort_steps, effect_steps, effects_left, undo_steps}
+use Rattle.mt_core.specs.declared.kernel_core.Commit.{Commit}
+use Rattle.mt_core.specs.declared.kernel_core.Running.{Running}
 use Rattle.mt_txn.proofs.Living.{no_commits}
 use Rattle.mt_txn.specs.Causes.{is_busy}
 use Rattle.mt_txn.specs.Shown.{Shows}
@@ -74,20 +74,20 @@ nothing_runs ms t (r ∷ rs) owned alone none = absurd (⊎_elim
     (λ (other : r.scope.txn ≢ t). alone r.scope.txn other (at_work (member_of ms r.scope.txn) (owned 0 r (omega arith)))) (cases_eq r.scope.txn t))
 
 module _ {D : Type 0} {g : Ghosts D} (seen : D → List ℕ) (may_leave : D → List ℕ → Type 0) where
-  pub undo_few : (k : Kernel D g) (first : Base) (s : State) (t : ℕ) → Shows seen may_leave first s k → NobodyCommits k → is_busy k.parts t ≡ false → ((u : ℕ) → u ≢ t → is_some (member_of k.parts.live.members u) ≡ true → ⊥)
-      → undo_steps k.parts t ≤ 5054310
+  pub undo_few : (k : Kernel D g) (first : Base) (s : State) (t : ℕ) → Shows seen may_leave first s k → NobodyCommits k → is_busy k.core t ≡ false → ((u : ℕ) → u ≢ t → is_some (member_of k.core.live.members u) ≡ true → ⊥)
+      → undo_steps k.core t ≤ 5054310
   undo_few k first s t shows nobody idle alone = ∥∥₁_elim shows (hlevel props) (λ (origin, base, is, x).
       let fit = x.consistent.fit in
-      let none = nothing_runs k.parts.live.members t k.parts.running.items (λ i d lt. (fit.owned i d lt).at_work) alone idle in
-      let steps : undo_steps k.parts t ≡ effects_left (pages k.parts.operations.store.pool) k.parts.live.standing t = ap (λ (rs : List Running). abort_steps (pages k.parts.operations.store.pool) rs t (effects_left (pages k.parts.operations.store.pool) k.parts.live.standing t)) none in
-      let few = effects_few (pages k.parts.operations.store.pool) t k.parts.live.standing fit.right.kept.few in
-      let taken : sum_by taken_bytes k.parts.running.items ≡ 0 = ap (λ (rs : List Running). sum_by taken_bytes rs) none in
-      let kept : sum_by kept_bytes k.parts.running.items ≡ 0 = ap (λ (rs : List Running). sum_by kept_bytes rs) none in
-      let quiet : length k.parts.commits.items ≡ 0 = ap (λ (cs : List Commit). length cs) (no_commits seen may_leave k.relations k.counters k.parts (well_of seen may_leave k first s shows) nobody) in
+      let none = nothing_runs k.core.live.members t k.core.running.items (λ i d lt. (fit.owned i d lt).at_work) alone idle in
+      let steps : undo_steps k.core t ≡ effects_left (pages k.core.operations.store.pool) k.core.live.standing t = ap (λ (rs : List Running). abort_steps (pages k.core.operations.store.pool) rs t (effects_left (pages k.core.operations.store.pool) k.core.live.standing t)) none in
+      let few = effects_few (pages k.core.operations.store.pool) t k.core.live.standing fit.right.kept.few in
+      let taken : sum_by taken_bytes k.core.running.items ≡ 0 = ap (λ (rs : List Running). sum_by taken_bytes rs) none in
+      let kept : sum_by kept_bytes k.core.running.items ≡ 0 = ap (λ (rs : List Running). sum_by kept_bytes rs) none in
+      let quiet : length k.core.commits.items ≡ 0 = ap (λ (cs : List Commit). length cs) (no_commits seen may_leave k.relations k.counters k.core (well_of seen may_leave k first s shows) nobody) in
       let reserves = fit.reserves in
       let log = fit.log in
-      let small = area_small k.parts.operations.store.log in
+      let small = area_small k.core.operations.store.log in
       omega (arith, steps, few, taken, kept, quiet, reserves, log, small))
 
-  pub pages_few : (k : Kernel D g) (first : Base) (s : State) → Shows seen may_leave first s k → pages k.parts.operations.store.pool ≤ 4000
+  pub pages_few : (k : Kernel D g) (first : Base) (s : State) → Shows seen may_leave first s k → pages k.core.operations.store.pool ≤ 4000
   pages_few k first s shows = ∥∥₁_elim shows (hlevel props) (λ (origin, base, is, x). x.consistent.fit.right.kept.few)

@@ -12,10 +12,10 @@ use Rattle.mt_model.specs.History.{Call, run, after}
 use Rattle.mt_model.specs.Model.{Base, reply_of}
 use Rattle.mt_model.specs.declared.operations.Op.{Op}
 use Rattle.mt_model.specs.declared.operations.Reply.{Reply}
-use Rattle.mt_kernel.specs.Consistent.{SameCommits, SameRunning, SameStates, SameUncommitted}
-use Rattle.mt_kernel.specs.Runs.{state_in}
-use Rattle.mt_kernel.specs.Work.{LeavesUndo, steps_in, undo_steps}
-use Rattle.mt_kernel.specs.declared.parts.Commit.{Commit}
+use Rattle.mt_core.specs.Consistent.{SameCommits, SameRunning, SameStates, SameUncommitted}
+use Rattle.mt_core.specs.Runs.{state_in}
+use Rattle.mt_core.specs.Work.{LeavesUndo, steps_in, undo_steps}
+use Rattle.mt_core.specs.declared.kernel_core.Commit.{Commit}
 use Rattle.mt_txn.specs.Causes.{begin_cause, call_cause}
 use Rattle.mt_txn.specs.Due.{IsDueIn}
 use Rattle.mt_txn.specs.Events.{HasForced, IsAnsweredBy, IsForcedBy}
@@ -47,7 +47,7 @@ pub record IsUndone (first : Base) (p : Play) (t : ℕ) (s : State) : Type 0 whe
 
 -- no transaction commits
 abbrev pub NobodyCommits : {D : Type 0} {g : Ghosts D} → Kernel D g → Type 0
-NobodyCommits k = (t : ℕ) → state_in k.parts.live.members t ≢ Some Committing
+NobodyCommits k = (t : ℕ) → state_in k.core.live.members t ≢ Some Committing
 
 module _ {D : Type 0} {g : Ghosts D} (seen : D → List ℕ) (may_leave : D → List ℕ → Type 0) where
   -- the kernel shows a state of which this holds
@@ -65,7 +65,7 @@ module _ {D : Type 0} {g : Ghosts D} (seen : D → List ℕ) (may_leave : D → 
 
   pub record IsOpened (p : Play) (t : ℕ) (calls : List Call) (k : Kernel D g) : Type 0 where
     pub shown : ShowsOne (λ first s. IsPlaying first p t calls s) k
-    pub state : state_in k.parts.live.members t ≡ Some Open
+    pub state : state_in k.core.live.members t ≡ Some Open
 
   abbrev pub IsBeside : Play → Option ℕ → Kernel D g → Type 0
   IsBeside p None k = IsResting p k
@@ -76,29 +76,29 @@ module _ {D : Type 0} {g : Ghosts D} (seen : D → List ℕ) (may_leave : D → 
   -- an operation of it is under way
   pub record IsCalling (p : Play) (t : ℕ) (calls : List Call) (op : Op) (k : Kernel D g) : Type 0 where
     pub shown : ∥ ((first : Base) × (s : State) × IsKept first s × IsPlaying first p t calls s × Shows seen may_leave first (called s t op) k) ∥₁
-    pub state : state_in k.parts.live.members t ≡ Some Open
+    pub state : state_in k.core.live.members t ≡ Some Open
 
   -- its commit is begun, and not durable
   pub record IsEnding (p : Play) (t : ℕ) (calls : List Call) (steps : ℕ) (k : Kernel D g) : Type 0 where
     pub shown : ShowsOne (λ first s. IsPlaying first p t calls s) k
     pub commit : Commit
-    pub queue : k.parts.commits.items ≡ commit ∷ []
+    pub queue : k.core.commits.items ≡ commit ∷ []
     pub own : commit.txn ≡ t
-    pub waits : length (durable k.parts.operations.store.log) < commit.place
-    pub due : IsDueIn steps commit.place k.parts.operations.store.log
+    pub waits : length (durable k.core.operations.store.log) < commit.place
+    pub due : IsDueIn steps commit.place k.core.operations.store.log
 
   -- it is being undone
   pub record IsGoing (p : Play) (t : ℕ) (k : Kernel D g) : Type 0 where
     pub shown : ShowsOne (λ first s. IsUndone first p t s) k
-    pub state : state_in k.parts.live.members t ≡ Some Aborting
+    pub state : state_in k.core.live.members t ≡ Some Aborting
 
   -- ---- refusals
 
   -- the tests by which it refuses a begin, and an operation: those of the call, and else what locks, escrow, pages and log say
   abbrev pub IsTested : Kernel D g → Option ℕ → Line → Refusal → Type 0
-  IsTested k None line.Begin why = begin_cause (is_failed k) k.parts ≡ Some why
+  IsTested k None line.Begin why = begin_cause (is_failed k) k.core ≡ Some why
   IsTested k (Some t) (line.Call op) why =
-      (call_cause k.relations k.counters (is_failed k) k.parts t op ≡ Some why) ⊎ ((call_cause k.relations k.counters (is_failed k) k.parts t op ≡ None) × IsAnsweredBy seen may_leave k t op (Err why))
+      (call_cause k.relations k.counters (is_failed k) k.core t op ≡ Some why) ⊎ ((call_cause k.relations k.counters (is_failed k) k.core t op ≡ None) × IsAnsweredBy seen may_leave k t op (Err why))
   IsTested k live line why = ⊥
 
   -- A want of this kernel: memory, or what its tests say.
@@ -108,14 +108,14 @@ module _ {D : Type 0} {g : Ghosts D} (seen : D → List ℕ) (may_leave : D → 
   -- only frames were flushed, and the log was forced
   pub record Eases (k n : Kernel D g) : Type 0 where
     pub state : Stays seen may_leave k n
-    pub states : SameStates k.parts n.parts
-    pub running : SameRunning k.parts n.parts
-    pub undo : LeavesUndo k.parts n.parts
+    pub states : SameStates k.core n.core
+    pub running : SameRunning k.core n.core
+    pub undo : LeavesUndo k.core n.core
 
 module _ {D : Type 0} {g : Ghosts D} (faults : D → ℕ) where
   -- a call of it was refused with 2, a force has failed, or a call of the device has
   abbrev pub HasBroken : Kernel D g → Type 0
-  HasBroken k = (is_failed k ≡ true) ⊎ (0 < faults k.parts.operations.store.device)
+  HasBroken k = (is_failed k ≡ true) ⊎ (0 < faults k.core.operations.store.device)
 
   -- it is given up for want of memory, or since the device has failed
   abbrev pub Fails : Kernel D g → Refusal → Type 0
@@ -127,12 +127,12 @@ module _ {D : Type 0} {g : Ghosts D} (seen : D → List ℕ) (may_leave : D → 
   -- a force step
   pub record IsForcing (k : Kernel D g) (result : Result KernelForced Refusal) (n : Kernel D g) : Type 0 where
     pub forced : (first : Base) (s : State) → Shows seen may_leave first s k → HasForced seen may_leave first s result n
-    pub log : IfOk result (λ forced. IsForcedBy k.parts.operations.store.log k.parts.commits.items forced n.parts.operations.store.log n.parts.commits.items)
-    pub appended : appended n.parts.operations.store.log ≡ appended k.parts.operations.store.log
-    pub running : SameRunning k.parts n.parts
-    pub states : SameUncommitted k.parts n.parts
-    pub undo : LeavesUndo k.parts n.parts
-    pub err : OnErr result (SameStates k.parts n.parts × SameCommits k.parts n.parts)
+    pub log : IfOk result (λ forced. IsForcedBy k.core.operations.store.log k.core.commits.items forced n.core.operations.store.log n.core.commits.items)
+    pub appended : appended n.core.operations.store.log ≡ appended k.core.operations.store.log
+    pub running : SameRunning k.core n.core
+    pub states : SameUncommitted k.core n.core
+    pub undo : LeavesUndo k.core n.core
+    pub err : OnErr result (SameStates k.core n.core × SameCommits k.core n.core)
     pub cause : IfErr result (Fails faults n)
 
   -- it was given up, and what is committed is as it was
@@ -142,7 +142,7 @@ module _ {D : Type 0} {g : Ghosts D} (seen : D → List ℕ) (may_leave : D → 
   -- a step of the operation of one that is alone: it goes on, nearer to its end, or ends with the model's reply
   abbrev pub IsMoved : Play → ℕ → List Call → Op → Kernel D g → Result Stepped Refusal → Kernel D g → Type 0
   IsMoved p t calls op k (Ok (step.Replied reply)) n = (reply ≡ reply_of (run p.base calls) op) × IsOpened seen may_leave p t (calls ++ (op, reply_of (run p.base calls) op) ∷ []) n
-  IsMoved p t calls op k (Ok step.Went) n = IsCalling seen may_leave p t calls op n × (steps_in n.parts.running.items t < steps_in k.parts.running.items t)
+  IsMoved p t calls op k (Ok step.Went) n = IsCalling seen may_leave p t calls op n × (steps_in n.core.running.items t < steps_in k.core.running.items t)
   IsMoved p t calls op k (Ok (step.Wait other)) n = ⊥
   IsMoved p t calls op k (Ok step.Again) n = ⊥
   IsMoved p t calls op k (Ok step.Flush) n = ⊥
@@ -157,7 +157,7 @@ module _ {D : Type 0} {g : Ghosts D} (seen : D → List ℕ) (may_leave : D → 
   IsReplied p t calls op (Err why) n = IsGivenUp p n why
 
   abbrev pub HasReplied : Kernel D g → ℕ → Result Reply Refusal → Kernel D g → Type 0
-  HasReplied k t result n = (p : Play) (calls : List Call) (op : Op) → IsCalling seen may_leave p t calls op k → steps_in k.parts.running.items t ≤ 2 * MAX_PAGES + 9 → IsReplied p t calls op result n
+  HasReplied k t result n = (p : Play) (calls : List Call) (op : Op) → IsCalling seen may_leave p t calls op k → steps_in k.core.running.items t ≤ 2 * MAX_PAGES + 9 → IsReplied p t calls op result n
 
   -- the force steps of its commit, which is durable then
   abbrev pub IsDurable : {U : Type 0} → Play → List Call → Result U Refusal → Kernel D g → Type 0
@@ -169,7 +169,7 @@ module _ {D : Type 0} {g : Ghosts D} (seen : D → List ℕ) (may_leave : D → 
 
   -- a step of its abort
   abbrev pub IsBacked : Play → ℕ → Kernel D g → Result AbortStepped Refusal → Kernel D g → Type 0
-  IsBacked p t k (Ok abort.More) n = IsGoing seen may_leave p t n × (undo_steps n.parts t < undo_steps k.parts t)
+  IsBacked p t k (Ok abort.More) n = IsGoing seen may_leave p t n × (undo_steps n.core t < undo_steps k.core t)
   IsBacked p t k (Ok (abort.Wait other)) n = ⊥
   IsBacked p t k (Ok abort.Again) n = ⊥
   IsBacked p t k (Ok abort.Flush) n = ⊥
@@ -185,7 +185,7 @@ module _ {D : Type 0} {g : Ghosts D} (seen : D → List ℕ) (may_leave : D → 
   IsTakenBack p (Err why) n = IsGivenUp p n why
 
   abbrev pub HasUndone : {U : Type 0} → Kernel D g → ℕ → Result U Refusal → Kernel D g → Type 0
-  HasUndone k t result n = (p : Play) → IsGoing seen may_leave p t k → undo_steps k.parts t ≤ 631 * (2 * MAX_PAGES + 10) → IsTakenBack p result n
+  HasUndone k t result n = (p : Play) → IsGoing seen may_leave p t k → undo_steps k.core t ≤ 631 * (2 * MAX_PAGES + 10) → IsTakenBack p result n
 
   -- the abort of one that is open
   abbrev pub HasAborted : {U : Type 0} → Kernel D g → ℕ → Result U Refusal → Kernel D g → Type 0

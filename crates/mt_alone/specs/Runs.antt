@@ -10,8 +10,8 @@ use Rattle.mt_txn.specs.declared.kernel.Kernel.{Kernel}
 use Rattle.mt_script.specs.declared.lines.Line.{Line}
 use Rattle.mt_script.specs.declared.answers.Answer.{Answer}
 use Rattle.mt_script.specs.declared.answers.Answer.TheVariants.{Aborted, Refused}
-use Rattle.mt_alone.specs.declared.running.RunFault.{RunFault}
-use Rattle.mt_alone.specs.declared.running.RunFault.TheVariants as fault
+use Rattle.mt_alone.specs.declared.script_run.RunFault.{RunFault}
+use Rattle.mt_alone.specs.declared.script_run.RunFault.TheVariants as fault
 use Rattle.mt_script.specs.Answers.{AppendsFront, transcript_text}
 use Rattle.mt_alone.specs.Driven.{IsLeft, IsBeside, IsDueTo, IsGivenUp, HasBroken, Fails}
 use Rattle.mt_alone.specs.Plays.{Play, IsTurn, Runs, put_off}

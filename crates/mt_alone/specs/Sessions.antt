@@ -9,9 +9,9 @@ use Rattle.mt_txn.specs.declared.kernel.Kernel.{Kernel}
 use Rattle.mt_script.specs.declared.answers.Answer.{Answer}
 use Rattle.mt_script.specs.declared.lines.Line.{Line}
 use Rattle.mt_script.specs.declared.reader.Script.{Script}
-use Rattle.mt_alone.specs.declared.rotating.NotServed.{NotServed}
-use Rattle.mt_alone.specs.declared.rotating.NotServed.TheVariants.{Kept}
-use Rattle.mt_alone.specs.declared.running.RunFault.TheVariants as fault
+use Rattle.mt_alone.specs.declared.rotation.NotServed.{NotServed}
+use Rattle.mt_alone.specs.declared.rotation.NotServed.TheVariants.{Kept}
+use Rattle.mt_alone.specs.declared.script_run.RunFault.TheVariants as fault
 use Rattle.mt_script.specs.Answers.{AppendsFront, transcript_text}
 use Rattle.mt_alone.specs.Driven.{IsBeside}
 use Rattle.mt_alone.specs.Plays.{Play, HasPlayed, Runs, put_off}

@@ -13,10 +13,10 @@ use Rattle.mt_script.specs.declared.lines.Line.{Line}
 use Rattle.mt_alone.specs.Driven.{IsBeside}
 use Rattle.mt_alone.specs.Plays.{Play}
 use Rattle.mt_alone.specs.Runs.{HasRun, HasRunLines, IsCut, IsLeftFor}
-use Rattle.mt_alone.specs.declared.rotating.NotServed.{NotServed}
-use Rattle.mt_alone.specs.declared.rotating.NotServed.TheVariants.{Kept, Ended}
-use Rattle.mt_alone.specs.declared.running.RunFault.{RunFault}
-use Rattle.mt_alone.specs.declared.running.RunFault.TheVariants as fault
+use Rattle.mt_alone.specs.declared.rotation.NotServed.{NotServed}
+use Rattle.mt_alone.specs.declared.rotation.NotServed.TheVariants.{Kept, Ended}
+use Rattle.mt_alone.specs.declared.script_run.RunFault.{RunFault}
+use Rattle.mt_alone.specs.declared.script_run.RunFault.TheVariants as fault
 use Rattle.mt_restart.specs.TurnFaults.{IsTurnFault}
 use Rattle.mt_txn.specs.Shown.{Restarts}
 use Rattle.mt_txn.specs.declared.kernel.Kernel.{Kernel}
@@ -29,12 +29,12 @@ why_in (Ended why device) = why
 
 -- the device, wherever it is now
 abbrev pub device_in : {D : Type 0} {g : Ghosts D} → NotServed D g → D
-device_in (Kept why n) = n.parts.operations.store.device
+device_in (Kept why n) = n.core.operations.store.device
 device_in (Ended why device) = device
 
 -- the log of a kernel cannot turn over to its next area
 abbrev pub CannotTurnOver : {D : Type 0} {g : Ghosts D} → (D → List ℕ) → Kernel D g → Type 0
-CannotTurnOver seen k = CannotTurn (seen k.parts.operations.store.device)
+CannotTurnOver seen k = CannotTurn (seen k.core.operations.store.device)
 
 -- whatever a crash leaves of the device, it represents what the play's commits lead to
 abbrev pub StandsForPlay : {D : Type 0} → (D → List ℕ → Type 0) → ℕ → ℕ → Play → D → Type 0
@@ -74,7 +74,7 @@ module _ {D : Type 0} {g : Ghosts D} (seen : D → List ℕ) (may_leave : D → 
     pub cause : IsTurnFault why
     pub failed : why ≡ refusal.DeviceFailed → 0 < faults device
     pub full : why ≡ refusal.LogFull → ∥ From seen may_leave k (CannotTurnOver seen) ∥₁
-    pub stands : (first : Base) → Restarts seen may_leave first k → (c : List ℕ) → may_leave device c → ∥ CanRestart k.relations k.counters c (after first k.parts.book.items) ∥₁
+    pub stands : (first : Base) → Restarts seen may_leave first k → (c : List ℕ) → may_leave device c → ∥ CanRestart k.relations k.counters c (after first k.core.book.items) ∥₁
 
   -- What is left after a play where serving ended early: the kernel; or the device, since its log could not be turned over, which represents the
   -- commits. By 2 a call of it has failed; and by 11 the next area had no room for a kernel that stands there.

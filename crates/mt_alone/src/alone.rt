@@ -4,8 +4,8 @@ ghost use Rattle.mt_txn.specs.Shown.{SameSchema, StaysRestarting};
 ghost use Rattle.mt_alone.specs.Runs.{BesideEach, HasRunLines, IsCut};
 ghost use Rattle.mt_alone.specs.Turnovers.{BesideFrom, HasRunOn, HasRunOut, IsCutOff, IsLeftBy, why_in};
 
-use crate::rotating::{NotServed, turned};
-use crate::running::{end_live, end_refused, run_line};
+use crate::rotation::{NotServed, turned};
+use crate::script_run::{end_live, end_refused, run_line};
 use mt_base::TxnNo;
 use mt_disk::Device;
 use mt_script::{Line, Script};

@@ -7,13 +7,13 @@
 #![tactic(auto)]
 
 mod alone;
-mod driving;
-mod forcing;
-mod rotating;
-mod running;
+mod operation_steps;
+mod forces;
+mod rotation;
+mod script_run;
 mod sessions;
 mod turns;
 
-pub use rotating::NotServed;
-pub use running::{RunFault, run_alone};
+pub use rotation::NotServed;
+pub use script_run::{RunFault, run_alone};
 pub use sessions::run_sessions;

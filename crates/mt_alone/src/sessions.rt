@@ -7,8 +7,8 @@ ghost use Rattle.mt_script.specs.Answers.{AppendsFront};
 ghost use Rattle.mt_alone.specs.Sessions.{AreCutShort, HaveServed, IsCutWithin, IsServed, StandsEach, lines_in, session_line};
 
 use crate::alone::run_script;
-use crate::rotating::NotServed;
-use crate::running::RunFault;
+use crate::rotation::NotServed;
+use crate::script_run::RunFault;
 use itoa::Buffer;
 use mt_disk::Device;
 use mt_script::{Script, Unheard, put_all};

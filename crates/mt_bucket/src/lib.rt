@@ -6,16 +6,16 @@
 //! Nothing is decoded: a find compares the cells where they lie.
 #![tactic(auto)]
 
-mod changing;
-mod checking;
-mod finding;
-mod hashing;
+mod operations;
+mod page_rules;
+mod lookup;
+mod hashes;
 mod heads;
 
-pub use changing::{partition, push, remove, set};
-pub use checking::check;
-pub use finding::{EntryView, entry, find, place_of};
-pub use hashing::{has_bit, hash};
+pub use operations::{partition, push, remove, set};
+pub use page_rules::check;
+pub use lookup::{EntryView, entry, find, place_of};
+pub use hashes::{has_bit, hash};
 pub use heads::{
     CELL_BYTES, HEAD_BYTES, MAX_ENTRIES, count, depth, empty, next, set_depth, set_next,
 };

@@ -7,7 +7,7 @@ mod cli;
 #[cfg(test)]
 mod common;
 #[cfg(test)]
-mod driving;
+mod drivers;
 #[cfg(test)]
 mod operations;
 #[cfg(test)]

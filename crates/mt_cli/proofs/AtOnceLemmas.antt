@@ -57,14 +57,14 @@ told_anyway failed scripts texts book x = record {
 
 module _ {D : Type 0} {g : Ghosts D} (seen : D → List ℕ) (may_leave : D → List ℕ → Type 0) where
   -- it is so of a kernel that is or is not cut off
-  pub served_at_once : (c : List ℕ) (scripts : List (List Line)) (texts : List (List ℕ)) (n : Kernel D g) (d : List ℕ) → IsServedOn seen may_leave c n → AreTold (is_failed n) scripts texts n.parts.book.items
-      → ((first : Base) → Restarts seen may_leave first n → ∥ FindsCommits n.relations n.counters first n.parts d ∥₁) → (cut : Bool) → (cut ≡ false → HasNobody n × (is_failed n ≡ false)) → AreServedAtOnce cut c scripts texts d
+  pub served_at_once : (c : List ℕ) (scripts : List (List Line)) (texts : List (List ℕ)) (n : Kernel D g) (d : List ℕ) → IsServedOn seen may_leave c n → AreTold (is_failed n) scripts texts n.core.book.items
+      → ((first : Base) → Restarts seen may_leave first n → ∥ FindsCommits n.relations n.counters first n.core d ∥₁) → (cut : Bool) → (cut ≡ false → HasNobody n × (is_failed n ≡ false)) → AreServedAtOnce cut c scripts texts d
   served_at_once c scripts texts n d x told finds false rests = record {
     first = x.first;
     is = x.is;
-    book = n.parts.book.items;
+    book = n.core.book.items;
     legal = x.legal;
-    told = subst (λ (f : Bool). AreTold f scripts texts n.parts.book.items) (rests refl).1 told;
+    told = subst (λ (f : Bool). AreTold f scripts texts n.core.book.items) (rests refl).1 told;
     relations = n.relations;
     counters = n.counters;
     stands = stands_book seen may_leave (base_of x.first) n d (rests refl).0 x.began.1 (finds (base_of x.first) x.began.1);
@@ -72,9 +72,9 @@ module _ {D : Type 0} {g : Ghosts D} (seen : D → List ℕ) (may_leave : D → 
   served_at_once c scripts texts n d x told finds true rests = record {
     first = x.first;
     is = x.is;
-    book = n.parts.book.items;
+    book = n.core.book.items;
     legal = x.legal;
-    told = told_anyway (is_failed n) scripts texts n.parts.book.items told;
+    told = told_anyway (is_failed n) scripts texts n.core.book.items told;
     relations = n.relations;
     counters = n.counters;
     stands = stands_more seen may_leave (base_of x.first) n d (finds (base_of x.first) x.began.1);

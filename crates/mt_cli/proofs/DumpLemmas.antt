@@ -6,8 +6,8 @@ use Rattle.mt_base.specs.declared.refusal.Refusal.TheVariants as refusal
 use Rattle.mt_disk.specs.Disk.{LeavesOnly, Only}
 use Rattle.mt_disk.specs.declared.device.Device.{Ghosts}
 use Rattle.mt_index.specs.Pages.{depth_in}
-use Rattle.mt_kernel.proofs.Surveyed.{nobody_locks}
-use Rattle.mt_kernel.specs.declared.parts.Parts.{Parts}
+use Rattle.mt_core.proofs.Surveyed.{nobody_locks}
+use Rattle.mt_core.specs.declared.kernel_core.Core.{Core}
 use Rattle.mt_live.specs.Machine.{State}
 use Rattle.mt_live.specs.Members.{Member}
 use Rattle.mt_model.specs.Model.{Base}
@@ -16,7 +16,7 @@ use Rattle.mt_op.proofs.Surveyed.{fixed_inside, idle_page}
 use Rattle.mt_op.specs.Operations.{world}
 use Rattle.mt_op.specs.Surveyed.{IsIdle}
 use Rattle.mt_op.specs.World.{held_in}
-use Rattle.mt_op.specs.declared.surveying.Survey.{Survey}
+use Rattle.mt_op.specs.declared.survey.Survey.{Survey}
 use Rattle.mt_pool.specs.Views.{pages}
 use Rattle.mt_replay.specs.Refused.{BreaksFormat, IsCause}
 use Rattle.mt_replay.specs.Stands.{CanRestart}
@@ -41,12 +41,12 @@ module _ {D : Type 0} {g : Ghosts D} (seen : D → List ℕ) (may_leave : D → 
   -- the pages of which a survey of it tells hold its base
   pub tells_of : (relations counters : ℕ) (b : Base) (k : Kernel D g) (survey : Survey) → IsOpened seen may_leave relations counters b k → TellsBase k.relations k.counters b survey → TellsPages seen k survey → TellsOfBase relations counters b survey
   tells_of relations counters b k survey opened base told = ∥∥₁_map opened.shows (λ (origin, held, is, x).
-      let ops = k.parts.operations in
+      let ops = k.core.operations in
       let safe = x.consistent in
       let total = pages ops.store.pool in
       let page = held_in (world seen origin.pages ops) in
       let none = nobody seen may_leave b k opened.shows in
-      let free = nobody_locks k.parts.live.members k.parts.live.standing k.parts.running.items ops.locks none safe.fit.owned safe.fit.locked in
+      let free = nobody_locks k.core.live.members k.core.live.standing k.core.running.items ops.locks none safe.fit.owned safe.fit.locked in
       let idle : IsIdle seen may_leave origin.relations ops = ∣ (origin.pages, origin.counters, safe.fit.right, free) ∣₁ in
       let shows = λ (p : ℕ) (inside : p < total). idle_page seen may_leave origin.pages origin.relations origin.counters ops p safe.fit.right free inside in
       let same : held ≡ b = sym (ap (λ (s : State). s.base) x.state) in
@@ -82,7 +82,7 @@ dumps_of c (Err why) IsOn told n m b on can = tt
 -- ---- refusals
 
 -- a survey of it is refused for memory, or since the device failed
-pub unsurveyed : {D : Type 0} (failed : Bool) (k : Parts D) (why : Refusal) → k.live.members ≡ [] → survey_cause failed k ≡ Some why → why ≡ refusal.DeviceFailed
+pub unsurveyed : {D : Type 0} (failed : Bool) (k : Core D) (why : Refusal) → k.live.members ≡ [] → survey_cause failed k ≡ Some why → why ≡ refusal.DeviceFailed
 unsurveyed true k why none is = cc
 unsurveyed false k why none is =
     let count : length k.live.members ≡ 0 = ap (λ (ms : List Member). length ms) none in
@@ -93,7 +93,7 @@ is_memory : (why : Refusal) → (why ≡ refusal.NoMemory) ⊎ (why ≢ refusal.
 is_memory refusal.NoMemory = inl refl
 is_memory _ = inr (λ e. cc)
 
-pub unmade_of : {D : Type 0} (failures : D → ℕ) (failed : Bool) (k n : Parts D) (r : Result Survey Refusal) → k.live.members ≡ [] → IfErr r (λ why. why ≢ refusal.NoMemory → (survey_cause failed k ≡ Some why) ⊎ IsFault failures k n why) → IfErr r IsUnmade
+pub unmade_of : {D : Type 0} (failures : D → ℕ) (failed : Bool) (k n : Core D) (r : Result Survey Refusal) → k.live.members ≡ [] → IfErr r (λ why. why ≢ refusal.NoMemory → (survey_cause failed k ≡ Some why) ⊎ IsFault failures k n why) → IfErr r IsUnmade
 unmade_of failures failed k n (Ok survey) none cause = tt
 unmade_of failures failed k n (Err why) none cause =
     elim (is_memory why) [ inl is ↦ inl is | inr other ↦ inr (elim (cause other) [ inl is ↦ unsurveyed failed k why none is | inr fault ↦ fault.0 ]) ]

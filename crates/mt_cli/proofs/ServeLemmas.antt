@@ -19,10 +19,10 @@ use Rattle.mt_alone.specs.Turnovers.{IsCutOff, IsLeftBy, StandsForMore, why_in}
 use Rattle.mt_alone.specs.Sessions.{AreCutShort, HasServed, HaveServed, HavePlayed, IsCutWithin, unheard_line, cut_script, Serves, StandsEach, no_script, then_script, in_session}
 use Rattle.mt_script.specs.declared.answers.Answer.{Answer}
 use Rattle.mt_script.specs.declared.lines.Line.{Line}
-use Rattle.mt_alone.specs.declared.rotating.NotServed.{NotServed}
-use Rattle.mt_alone.specs.declared.rotating.NotServed.TheVariants.{Kept, Ended}
-use Rattle.mt_alone.specs.declared.running.RunFault.{RunFault}
-use Rattle.mt_alone.specs.declared.running.RunFault.TheVariants as run
+use Rattle.mt_alone.specs.declared.rotation.NotServed.{NotServed}
+use Rattle.mt_alone.specs.declared.rotation.NotServed.TheVariants.{Kept, Ended}
+use Rattle.mt_alone.specs.declared.script_run.RunFault.{RunFault}
+use Rattle.mt_alone.specs.declared.script_run.RunFault.TheVariants as run
 use Rattle.mt_folder.proofs.FolderLemmas.{kept_then, put_then}
 use Rattle.mt_cli.proofs.Trials.{ended_by, played}
 use Rattle.mt_folder.specs.Folders.{AreKept, Files, IsFileRefusal, IsHeld, IsLent, Puts}
@@ -63,15 +63,15 @@ module _ {D : Type 0} {g : Ghosts D} (seen : D → List ℕ) (may_leave : D → 
   -- ---- what the device stands for
 
   -- nobody lives where a kernel stands beside a play, and its book is the play's
-  resting : (p : Play) (n : Kernel D g) → IsBeside seen may_leave p None n → ∥ ((length n.parts.live.members ≡ 0) × (n.parts.book.items ≡ p.book)) ∥₁
+  resting : (p : Play) (n : Kernel D g) → IsBeside seen may_leave p None n → ∥ ((length n.core.live.members ≡ 0) × (n.core.book.items ≡ p.book)) ∥₁
   resting p n beside = ∥∥₁_elim beside.shown ∥∥₁_prop (λ (first, s, shows, (is, nobody)).
       ∥∥₁_map shows (λ (origin, base, at, x). (
-        no_member n.parts.live.members (λ t. sym (ap (λ (z : State). z.sessions t) x.state) ∙ nobody t),
+        no_member n.core.live.members (λ t. sym (ap (λ (z : State). z.sessions t) x.state) ∙ nobody t),
         sym (ap (λ (z : State). z.book) x.state) ∙ is.book,
       )))
 
   pub stands_all : (relations counters : ℕ) (b : Base) (p : Play) (n : Kernel D g) (c : List ℕ) → n.relations ≡ relations → n.counters ≡ counters → Restarts seen may_leave b n → IsBeside seen may_leave p None n
-      → ((first : Base) → Restarts seen may_leave first n → ∥ FindsCommits n.relations n.counters first n.parts c ∥₁) → StandForAll relations counters b p.book c
+      → ((first : Base) → Restarts seen may_leave first n → ∥ FindsCommits n.relations n.counters first n.core c ∥₁) → StandForAll relations counters b p.book c
   stands_all relations counters b p n c rs cs restarts beside finds = ∥∥₁_elim (resting p n beside) ∥∥₁_prop (λ (nobody, book).
       subst (λ (X : Type 0). X) (λ i. StandForAll (rs i) (cs i) b (book i) c) (stands_book seen may_leave b n c nobody restarts (finds b restarts)))
 
@@ -79,7 +79,7 @@ module _ {D : Type 0} {g : Ghosts D} (seen : D → List ℕ) (may_leave : D → 
 
   pub served_on : (relations counters : ℕ) (b : Base) (k n : Kernel D g) (scripts : List (List Line)) (was now : Option (List ℕ)) (c : List ℕ) → IsOpened seen may_leave relations counters b k → SameSchema k n → StaysRestarting seen may_leave k n
       → StandsEach seen may_leave k (λ p. HaveServed seen may_leave p k scripts was now n)
-      → ((first : Base) → Restarts seen may_leave first n → ∥ FindsCommits n.relations n.counters first n.parts c ∥₁) → HaveServedOn relations counters b scripts was now c
+      → ((first : Base) → Restarts seen may_leave first n → ∥ FindsCommits n.relations n.counters first n.core c ∥₁) → HaveServedOn relations counters b scripts was now c
   served_on relations counters b k n scripts was now c opened schema stays ran finds =
       let x = ran (first_on b) (beside_first relations counters b k opened) opened.restarts in
       record {

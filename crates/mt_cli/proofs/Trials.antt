@@ -15,8 +15,8 @@ use Rattle.mt_restart.specs.Schemas.{counters_in, relations_in, schema_base}
 use Rattle.mt_restart.specs.declared.schema.Schema.{Schema}
 use Rattle.mt_script.specs.declared.lines.Line.{Line}
 use Rattle.mt_script.specs.declared.answers.Answer.{Answer}
-use Rattle.mt_alone.specs.declared.running.RunFault.{RunFault}
-use Rattle.mt_alone.specs.declared.running.RunFault.TheVariants as run
+use Rattle.mt_alone.specs.declared.script_run.RunFault.{RunFault}
+use Rattle.mt_alone.specs.declared.script_run.RunFault.TheVariants as run
 use Rattle.mt_alone.specs.Driven.{IsBeside}
 use Rattle.mt_alone.specs.Plays.{Play, IsTurn, acts, refuses, Runs, starts, goes_on, HasPlayed}
 use Rattle.mt_alone.specs.Runs.{HasRun, HasTurned, IsCutShort, IsEndedFor}

@@ -8,7 +8,7 @@ use Rattle.mt_model.specs.Model.{Base}
 use Rattle.mt_model.specs.Rows.{IsOrdered}
 use Rattle.mt_model.specs.Views.{counters_of, rows_of}
 use Rattle.mt_op.specs.Surveyed.{IsSurvey}
-use Rattle.mt_op.specs.declared.surveying.Survey.{Survey}
+use Rattle.mt_op.specs.declared.survey.Survey.{Survey}
 use Rattle.mt_replay.specs.Stands.{CanRestart}
 use Rattle.mt_restart.specs.Recovered.{IsCauseToStop}
 use Rattle.mt_script.specs.Answers.{AppendsFront}

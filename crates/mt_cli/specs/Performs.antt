@@ -1,7 +1,7 @@
 -- What the program's commands do.
 use Rattle.std.specs.Prelude.{ℕ, pos, ◌≡◌, ◌⊎◌, List, [], ◌∷◌, ◌++◌, length, Option, None, IfSome, map, option_map, string_bytes}
 use Rattle.std.specs.Io.KnownBytes.{Appends, Keeps}
-use Rattle.mt_cli.specs.declared.performing.TheConstants.{AREA_MIB, PAGES}
+use Rattle.mt_cli.specs.declared.commands.TheConstants.{AREA_MIB, PAGES}
 use Rattle.mt_base.specs.Limits.{device_bytes_of}
 use Rattle.mt_base.specs.declared.refusal.Refusal.{Refusal}
 use Rattle.mt_disk.specs.declared.device.Device.{Ghosts}
@@ -17,7 +17,7 @@ use Rattle.mt_args.specs.declared.command.Command.TheVariants.{Try, Schedule, Ch
 use Rattle.mt_args.specs.declared.numbers.Numbers.{Numbers}
 use Rattle.mt_cli.specs.declared.faults.Fault.{Fault}
 use Rattle.mt_cli.specs.declared.faults.Fault.TheVariants.{Output, Refused, Unread, Unscheduled}
-use Rattle.mt_alone.specs.declared.running.RunFault.{RunFault}
+use Rattle.mt_alone.specs.declared.script_run.RunFault.{RunFault}
 use Rattle.mt_script.specs.Answers.{AppendsFront, transcript_text}
 use Rattle.mt_alone.specs.Driven.{IsBeside}
 use Rattle.mt_alone.specs.Plays.{Play, Runs}
@@ -41,7 +41,7 @@ use Rattle.mt_alone.specs.Runs.{HasTurned, IsToldFor, last_line}
 use Rattle.mt_world.specs.Schedules.{HasRunTo}
 use Rattle.mt_world.specs.declared.events.Answer.{Answer as Told}
 use Rattle.mt_world.specs.declared.events.Event.{Event}
-use Rattle.mt_world.specs.declared.standing.Standing.{Standing}
+use Rattle.mt_world.specs.declared.kernel_or_device.Standing.{Standing}
 
 -- two relations without rows, and one counter from 0 to 10 that starts at 5
 pub record IsFirstSchema (schema : Schema) : Type 0 where

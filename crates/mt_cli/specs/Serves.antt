@@ -20,8 +20,8 @@ use Rattle.mt_alone.specs.Sessions.{HavePlayed, in_session, session_line, sessio
 use Rattle.mt_script.specs.declared.answers.Answer.{Answer}
 use Rattle.mt_script.specs.declared.lines.Line.{Line}
 use Rattle.mt_script.specs.declared.words.ScriptWord.{ScriptWord}
-use Rattle.mt_alone.specs.declared.running.RunFault.{RunFault}
-use Rattle.mt_alone.specs.declared.running.RunFault.TheVariants as run
+use Rattle.mt_alone.specs.declared.script_run.RunFault.{RunFault}
+use Rattle.mt_alone.specs.declared.script_run.RunFault.TheVariants as run
 use Rattle.mt_shared.specs.Opens.{IsBaseOf}
 use Rattle.mt_cli.specs.Dumps.{IsBarred, IsEarly, StandAs}
 use Rattle.mt_folder.specs.Folders.{AreKept, Files, IsFileRefusal, IsHeld, IsLent, IsUnmade, Puts, known_in}

@@ -3,8 +3,8 @@ use Rattle.std.specs.Prelude.{ℕ, List, [], ◌∷◌, ◌++◌, codes, map}
 use Rattle.std.specs.List.{concat}
 use Rattle.std.specs.Fmt.{decimal}
 use Rattle.mt_base.specs.Refusal.{text_of}
-use Rattle.mt_kernel.specs.declared.calls.Called.TheVariants as call
-use Rattle.mt_pool.specs.declared.flushing.Flushed.TheVariants as flush
+use Rattle.mt_core.specs.declared.calls.Called.TheVariants as call
+use Rattle.mt_pool.specs.declared.flushes.Flushed.TheVariants as flush
 use Rattle.mt_script.specs.Answers.{reply_text}
 use Rattle.mt_txn.specs.declared.answers.AbortStepped.TheVariants as abort
 use Rattle.mt_txn.specs.declared.answers.KernelForced.TheVariants as forced

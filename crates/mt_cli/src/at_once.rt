@@ -50,7 +50,7 @@ fn is_cut_off<D: Device>(kernel: &Kernel<D>) -> bool
 /// Takes the device out of a kernel behind all sessions.
 fn left_behind<D: Device + Drop>(kernel: Kernel<D>, transcripts: Vec<Transcript>) -> Behind<D>
     ensures { (c : List ℕ) (scripts : List (List Line)) → IsServedOn D.seen D.may_leave c kernel
-        → AreTold (is_failed kernel) scripts transcripts.items kernel.parts.book.items
+        → AreTold (is_failed kernel) scripts transcripts.items kernel.core.book.items
         → AreServedAtOnce result.has_failed c scripts result.transcripts.items (D.seen result.device) }
 {
     kernel.can_restart();

@@ -3,21 +3,21 @@
 #![tactic(auto)]
 
 mod at_once;
-mod checking;
-mod dumping;
+mod check_command;
+mod dump_command;
 mod event_words;
 mod excess;
-mod explaining;
+mod explain_command;
 mod faults;
-mod formatting;
-mod performing;
+mod format_command;
+mod commands;
 mod read_faults;
-mod reading;
+mod named_inputs;
 mod schedules;
-mod serving;
+mod run_command;
 mod silence;
-mod telling;
+mod answer_lines;
 
 pub use mt_shared::{Gate, Point};
-pub use performing::{perform, perform_words};
+pub use commands::{perform, perform_words};
 pub use silence::Silence;

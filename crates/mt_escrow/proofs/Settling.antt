@@ -6,7 +6,7 @@ use Rattle.std.proofs.lemmas.Bool.Decides.{Decides-eqb}
 use Rattle.std.proofs.lemmas.List.Elements.{filter-append, All-filter}
 use Rattle.mt_base.specs.Limits.{IsStep}
 use Rattle.mt_model.specs.declared.counters.Count.{Count}
-use Rattle.mt_model.specs.declared.pending.Pending.{Pending}
+use Rattle.mt_model.specs.declared.pending_add.Pending.{Pending}
 use Rattle.mt_model.specs.Model.{moved}
 use Rattle.mt_model.specs.Escrow.{total}
 use Rattle.mt_model.specs.Pending.{steps_at, pending_of, pending_without, moved_by}

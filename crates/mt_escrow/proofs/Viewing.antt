@@ -8,7 +8,7 @@ use Rattle.std.proofs.lemmas.List.{length-set}
 use Rattle.std.proofs.lemmas.List.Elements.{All-nil, All-head, All-tail, All-map, All-from_get_or, All-push, All-append, All-take, All-drop}
 use Rattle.mt_base.specs.Limits.{IsStep}
 use Rattle.mt_model.specs.declared.counters.Count.{Count}
-use Rattle.mt_model.specs.declared.pending.Pending.{Pending}
+use Rattle.mt_model.specs.declared.pending_add.Pending.{Pending}
 use Rattle.mt_model.specs.Escrow.{IsAdmissible}
 use Rattle.mt_model.specs.Pending.{steps_at}
 use Rattle.mt_model.specs.Tables.{IsLimited, AreLimited, count_at, no_count}

@@ -2,7 +2,7 @@
 use Rattle.std.specs.Prelude.{ℕ, ℤ, pos, neg_ℤ, ◌+ℤ◌, ◌-ℤ◌, ◌≤ℤ◌, ◌≡◌, ◌<◌, List, length, All, slice_index_or}
 use Rattle.mt_base.specs.Limits.{IsStep}
 use Rattle.mt_model.specs.declared.counters.Count.{Count}
-use Rattle.mt_model.specs.declared.pending.Pending.{Pending}
+use Rattle.mt_model.specs.declared.pending_add.Pending.{Pending}
 use Rattle.mt_model.specs.Model.{moved}
 use Rattle.mt_model.specs.Escrow.{below, above, lowest, highest, HasRoom}
 use Rattle.mt_model.specs.Pending.{steps_at}

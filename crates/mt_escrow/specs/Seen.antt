@@ -1,7 +1,7 @@
 -- What contracts see of an escrow.
 use Rattle.std.specs.Prelude.{ℕ, ℤ, ◌≡◌, ◌≢◌, ◌<◌, List, [], ◌∷◌, ◌++◌, length, slice_index_or, Contains}
 use Rattle.mt_model.specs.declared.counters.Count.{Count}
-use Rattle.mt_model.specs.declared.pending.Pending.{Pending}
+use Rattle.mt_model.specs.declared.pending_add.Pending.{Pending}
 use Rattle.mt_model.specs.Escrow.{IsAdmissible}
 use Rattle.mt_model.specs.Pending.{steps_at}
 use Rattle.mt_model.specs.Tables.{count_at}

@@ -10,7 +10,7 @@ use Rattle.mt_log.specs.Found.{records_of}
 use Rattle.mt_log.specs.declared.batch.Batch.{Batch}
 use Rattle.mt_replay.specs.Losers.{all_finished, finished_of}
 use Rattle.mt_replay.specs.Told.{Finished}
-use Rattle.mt_replay.specs.declared.telling.Loser.{Loser}
+use Rattle.mt_replay.specs.declared.losers.Loser.{Loser}
 use Rattle.mt_explain.specs.Histories.{Recounts, history_text}
 use Rattle.mt_explain.specs.Explanations.{batch_lines, explained, note_all, noted, put_back_line, undo_line, undo_lines, unfinished}
 use Rattle.mt_explain.specs.Listings.{numbered}

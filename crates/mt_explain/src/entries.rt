@@ -9,7 +9,7 @@ ghost use Rattle.mt_script.specs.Answers.{AppendsFront};
 ghost use Rattle.mt_explain.specs.Listings.{numbered};
 ghost use Rattle.mt_explain.specs.Explanations.{added_line, batch_lines, batch_start, change_line, done_line, entry_line, image_end, image_line, inverse_line, is_plain, key_text, keyed_line, keyed_start, length_end, op_start, put_back_line, record_line, restart_start, txn_line, undo_line, undo_lines, undoes_text, valued_line};
 
-use crate::listing::write_hex;
+use crate::base_lines::write_hex;
 use crate::unfinished::Unfinished;
 use itoa::Buffer;
 use mt_base::{Bytes, CtrNo, OpNo, PageNo, RelNo, TxnNo};

@@ -4,8 +4,8 @@
 
 mod entries;
 mod history;
-mod listing;
+mod base_lines;
 mod unfinished;
 
 pub use history::{History, history_of, write_history};
-pub use listing::{write_counters, write_rows};
+pub use base_lines::{write_counters, write_rows};

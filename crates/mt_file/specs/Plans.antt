@@ -9,8 +9,8 @@ use Rattle.mt_space.specs.Kinds.{kind}
 use Rattle.mt_space.specs.Rooms.{mapped, IsFirstFree}
 use Rattle.mt_file.specs.File.{record_in, IsFile, Adds, Drops, Stays, Moves}
 use Rattle.mt_file.specs.Rooms.{fits_of}
-use Rattle.mt_file.specs.declared.reading.Found.{Found}
-use Rattle.mt_file.specs.declared.reading.Found.TheVariants as found
+use Rattle.mt_file.specs.declared.lookup.Lookup.{Lookup}
+use Rattle.mt_file.specs.declared.lookup.Lookup.TheVariants as found
 use Rattle.mt_file.specs.declared.step.Plan.{Plan}
 use Rattle.mt_file.specs.declared.step.Step.{Step}
 use Rattle.mt_file.specs.declared.step.Step.TheVariants.{Need, Done, Full}
@@ -122,7 +122,7 @@ pub record IsWhole (old new : PageBytes) (p s : ℕ) (row : Row) : Type 0 where
 
 -- ---- a reading
 
-abbrev pub IsFound : (ℕ → Option (List ℕ)) → PageBytes → ℕ → ℕ → Found → Type 0
+abbrev pub IsFound : (ℕ → Option (List ℕ)) → PageBytes → ℕ → ℕ → Lookup → Type 0
 IsFound at_hand pages p s (found.Need q mode) = (at_hand q ≡ None) × (mode ≡ Read) × (q ≡ p)
 IsFound at_hand pages p s (found.Record view) = record_in pages p s ≡ Some (record { relation = view.relation; key = view.key.now; value = view.value.now })
 IsFound at_hand pages p s found.Nothing = record_in pages p s ≡ None

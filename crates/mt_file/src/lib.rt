@@ -6,16 +6,16 @@
 //! one record, and leaves every other as it was.
 #![tactic(auto)]
 
-mod putting;
-mod reading;
-mod removing;
-mod replacing;
+mod insertion;
+mod lookup;
+mod removal;
+mod replacement;
 mod rooms;
 mod step;
 
-pub use putting::plan_put;
-pub use reading::{Found, plan_read};
-pub use removing::plan_remove;
-pub use replacing::plan_replace;
+pub use insertion::plan_put;
+pub use lookup::{Lookup, plan_read};
+pub use removal::plan_remove;
+pub use replacement::plan_replace;
 pub use rooms::{Rooms, fits};
 pub use step::{Plan, Step};

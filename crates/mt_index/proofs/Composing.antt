@@ -14,7 +14,7 @@ use Rattle.mt_index.specs.Rule.{MaySplit, SplitHere, SplitChained}
 use Rattle.mt_index.specs.Pages.{depth_in, node_of, state_of, AreMap, Turns, HasOne}
 use Rattle.mt_index.specs.Answers.{HasRoom, IsEnd, Fits, Added, Shortage}
 use Rattle.mt_index.specs.Halves.{Notes, changed, Apart, Puts, PutsInHalf, Links, AreHalves}
-use Rattle.mt_index.specs.declared.splitting.Halves.{Halves}
+use Rattle.mt_index.specs.declared.bucket_split.Halves.{Halves}
 use Rattle.mt_index.proofs.Overflow.{named_taken}
 use Rattle.mt_index.proofs.Passing.{entries_length}
 use Rattle.mt_index.proofs.Free.{Fresh}

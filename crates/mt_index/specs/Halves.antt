@@ -8,7 +8,7 @@ use Rattle.mt_space.specs.declared.changes.PageChange.{PageChange}
 use Rattle.mt_space.specs.Changes.{PageBytes, after, IsUntouched, AreShort}
 use Rattle.mt_index.specs.Maps.{Each}
 use Rattle.mt_index.specs.Pages.{TakesPage, Rewired, Parted}
-use Rattle.mt_index.specs.declared.splitting.Halves.{Halves}
+use Rattle.mt_index.specs.declared.bucket_split.Halves.{Halves}
 
 -- these pages have new bytes
 pub record Notes (xs : List (ℕ × List ℕ)) (pages : PageBytes) (changes : List PageChange) : Type 0 where

@@ -4,30 +4,30 @@
 //! its key alone; it writes nothing itself. For how a bucket page is read see `mt_bucket`.
 #![tactic(auto)]
 
-mod adding;
-mod amending;
+mod insertion;
+mod amendment;
 mod answers;
-mod checking;
+mod directory_rules;
 mod directory;
-mod finding;
+mod lookup;
 mod laws;
-mod marking;
-mod noting;
-mod planning;
-mod pointing;
-mod reading;
-mod settling;
-mod splitting;
-mod walking;
+mod bucket_marks;
+mod page_change;
+mod add_plan;
+mod pointers;
+mod index_rules;
+mod entry_rules;
+mod bucket_split;
+mod chain;
 
-pub use amending::{plan_drop, plan_set};
+pub use amendment::{plan_drop, plan_set};
 pub use answers::{Add, Amend, Find};
-pub use checking::check_directory;
+pub use directory_rules::check_directory;
 pub use directory::{DIRECTORY_HEAD_BYTES, MAX_DEPTH, depth};
-pub use finding::plan_find;
+pub use lookup::plan_find;
 pub use laws::{
     a_bucket_is_named_by_its_pattern, a_formatted_index_is_the_empty_map,
     other_changes_keep_the_map,
 };
-pub use planning::plan_add;
-pub use reading::check;
+pub use add_plan::plan_add;
+pub use index_rules::check;

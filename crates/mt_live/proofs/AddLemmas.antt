@@ -9,7 +9,7 @@ use Rattle.mt_model.specs.declared.operations.Op.{Op}
 use Rattle.mt_model.specs.declared.operations.Op.TheVariants.{Get, Insert, Update, Delete, Add, Read}
 use Rattle.mt_model.specs.declared.operations.Reply.{Reply}
 use Rattle.mt_model.specs.declared.operations.Reply.TheVariants.{Done}
-use Rattle.mt_model.specs.declared.pending.Pending.{Pending}
+use Rattle.mt_model.specs.declared.pending_add.Pending.{Pending}
 use Rattle.mt_model.specs.Model.{Base, moved, inverse_of, mode_of}
 use Rattle.mt_model.specs.Escrow.{IsAdmissible, total, lowest, highest, HasRoom}
 use Rattle.mt_model.specs.Pending.{steps_at, pending_of, pending_without}

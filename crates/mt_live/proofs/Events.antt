@@ -10,7 +10,7 @@ use Rattle.mt_model.specs.declared.operations.Reply.{Reply}
 use Rattle.mt_model.specs.declared.operations.Reply.TheVariants.{Done, OutOfBounds}
 use Rattle.mt_model.specs.declared.objects.Object.{Object}
 use Rattle.mt_model.specs.declared.objects.Object.TheVariants.{Key, Counter}
-use Rattle.mt_model.specs.declared.pending.Pending.{Pending}
+use Rattle.mt_model.specs.declared.pending_add.Pending.{Pending}
 use Rattle.mt_model.specs.Model.{Base, object_of, same_object, moved, inverse_of, mode_of, reply_of, base_after}
 use Rattle.mt_model.specs.Escrow.{total, lowest, highest, HasRoom}
 use Rattle.mt_model.specs.Locks.{Held, AreTogether}

@@ -4,7 +4,7 @@ use Rattle.std.proofs.Common.{◌≡◌, ◌≢◌, ℕ, ℤ, ◌≤ℤ◌, Bool
 use Rattle.std.proofs.lemmas.Int.{ints}
 use Rattle.std.proofs.lemmas.Bool.Decides.{Decides-eqb}
 use Rattle.mt_model.specs.declared.counters.Count.{Count}
-use Rattle.mt_model.specs.declared.pending.Pending.{Pending}
+use Rattle.mt_model.specs.declared.pending_add.Pending.{Pending}
 use Rattle.mt_model.specs.Escrow.{lowest, highest, HasRoom}
 use Rattle.mt_model.specs.Pending.{steps_at, pending_of}
 use Rattle.mt_model.proofs.Sums.{lowest_below, highest_above}

@@ -6,7 +6,7 @@ use Rattle.mt_base.specs.declared.modes.LockMode.{LockMode}
 use Rattle.mt_model.specs.declared.counters.Count.{Count}
 use Rattle.mt_model.specs.declared.objects.Object.{Object}
 use Rattle.mt_model.specs.declared.operations.Op.{Op}
-use Rattle.mt_model.specs.declared.pending.Pending.{Pending}
+use Rattle.mt_model.specs.declared.pending_add.Pending.{Pending}
 use Rattle.mt_model.specs.Model.{Base, IsBase, IsInBounds}
 use Rattle.mt_model.specs.History.{after, IsLegal}
 use Rattle.mt_model.specs.Escrow.{HasRoom}

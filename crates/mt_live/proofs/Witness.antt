@@ -8,7 +8,7 @@ use Rattle.mt_model.specs.declared.objects.Object.{Object}
 use Rattle.mt_model.specs.declared.objects.Object.TheVariants.{Key, Counter}
 use Rattle.mt_model.specs.declared.operations.Op.TheVariants.{Add}
 use Rattle.mt_model.specs.declared.operations.Reply.TheVariants.{Done}
-use Rattle.mt_model.specs.declared.pending.Pending.{Pending}
+use Rattle.mt_model.specs.declared.pending_add.Pending.{Pending}
 use Rattle.mt_model.specs.Escrow.{HasRoom}
 use Rattle.mt_model.specs.Locks.{Held, no_locks, with_lock, IsFree}
 use Rattle.mt_model.proofs.Sums.{admissible_from_room}

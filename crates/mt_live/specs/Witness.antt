@@ -4,7 +4,7 @@ use Rattle.mt_model.specs.declared.operations.Op.{Op}
 use Rattle.mt_model.specs.declared.operations.Op.TheVariants.{Insert, Add}
 use Rattle.mt_model.specs.declared.operations.Reply.TheVariants.{Done}
 use Rattle.mt_model.specs.declared.counters.Count.{Count}
-use Rattle.mt_model.specs.declared.pending.Pending.{Pending}
+use Rattle.mt_model.specs.declared.pending_add.Pending.{Pending}
 use Rattle.mt_model.specs.Model.{Base, IsBase}
 use Rattle.mt_live.specs.Machine.{State, begun, called, ended, dropped, gone, booked, undone, AllGo, last_state, start}
 

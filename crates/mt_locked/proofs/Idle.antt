@@ -5,8 +5,8 @@ use Rattle.std.specs.Prelude.{All}
 use Rattle.std.specs.Option.{option_map}
 use mathlib.Core.Logic.{∥∥₁_elim}
 use Rattle.mt_disk.specs.declared.device.Device.{Ghosts}
-use Rattle.mt_kernel.specs.Runs.{AreHeldBy, IsOwned, is_open}
-use Rattle.mt_kernel.specs.declared.parts.Running.{Running}
+use Rattle.mt_core.specs.Runs.{AreHeldBy, IsOwned, is_open}
+use Rattle.mt_core.specs.declared.kernel_core.Running.{Running}
 use Rattle.mt_live.specs.Entries.{Entry}
 use Rattle.mt_live.specs.Lives.{member_of}
 use Rattle.mt_live.specs.Members.{Member}
@@ -42,14 +42,14 @@ none_held rs (l ∷ locks) none held =
 module _ {D : Type 0} {g : Ghosts D} (seen : D → List ℕ) (may_leave : D → List ℕ → Type 0) where
   pub idle_of : (b : Base) (k : Kernel D g) → BeganOn seen may_leave b k → HasNobody k → IsIdle k
   idle_of b k began nobody =
-      let none = nobody_in k.parts.live.members nobody in
+      let none = nobody_in k.core.live.members nobody in
       record {
         nobody = nobody;
         objects = λ t x m. ∥∥₁_elim began.0 (hlevel props) (λ (s, shows). ∥∥₁_elim shows (hlevel props) (λ (origin, base, is, in_it).
-            not_true (held_of k.parts.locks t x m) (λ held.
+            not_true (held_of k.core.locks t x m) (λ held.
             let lives = in_it.consistent.fit.kept.owned.held t x m held in
             let wrong : ◌≡◌ {A = Bool} false true = ap (λ (l : List Member). is_some (option_map (λ (u : Member). u.session) (member_of l t))) (sym none) ∙ lives in absurd cc)));
         pages = ∥∥₁_elim began.0 (hlevel props) (λ (s, shows). ∥∥₁_elim shows (hlevel props) (λ (origin, base, is, in_it).
             let fit = in_it.consistent.fit in
-            none_held k.parts.running.items k.parts.operations.locks (none_runs k.parts.live.members k.parts.live.standing k.parts.running.items none fit.owned) fit.locked));
+            none_held k.core.running.items k.core.operations.locks (none_runs k.core.live.members k.core.live.standing k.core.running.items none fit.owned) fit.locked));
       }

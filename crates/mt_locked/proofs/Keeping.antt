@@ -7,10 +7,10 @@ use mathlib.Core.Logic.{∥∥₁_elim, ∥∥₁_map}
 use Rattle.mt_base.specs.declared.refusal.Refusal.{Refusal}
 use Rattle.mt_base.specs.declared.refusal.Refusal.TheVariants as refusal
 use Rattle.mt_disk.specs.declared.device.Device.{Ghosts}
-use Rattle.mt_kernel.specs.Booked.{booked_each, session_at}
-use Rattle.mt_kernel.specs.Runs.{state_in}
-use Rattle.mt_kernel.specs.declared.calls.Called.{Called}
-use Rattle.mt_kernel.specs.declared.calls.Called.TheVariants as call
+use Rattle.mt_core.specs.Booked.{booked_each, session_at}
+use Rattle.mt_core.specs.Runs.{state_in}
+use Rattle.mt_core.specs.declared.calls.Called.{Called}
+use Rattle.mt_core.specs.declared.calls.Called.TheVariants as call
 use Rattle.mt_live.specs.Machine.{State, begun, called, ended, gone, booked}
 use Rattle.mt_live.specs.declared.transactions.TxnState.{TxnState}
 use Rattle.mt_live.specs.declared.transactions.TxnState.TheVariants.{Open, Committing, Aborting}
@@ -73,17 +73,17 @@ module _ {D : Type 0} {g : Ghosts D} (seen : D → List ℕ) (may_leave : D → 
   began_so b k first s same shows again =
       (∣ (s, subst (λ (f : model.Base). Shows seen may_leave f s k) (sym same) shows) ∣₁, subst (λ (f : model.Base). Restarts seen may_leave f k) (sym same) again)
 
-  book_of : (b : Base) (k : Kernel D g) (s : State) → Shows seen may_leave (base_of b) s k → s.book ≡ k.parts.book.items
-  book_of b k s shows = ∥∥₁_elim (legal_of seen may_leave k.relations k.counters k.parts (base_of b) s shows) (hlevel (props, Books-set)) (λ (same, legal). same)
+  book_of : (b : Base) (k : Kernel D g) (s : State) → Shows seen may_leave (base_of b) s k → s.book ≡ k.core.book.items
+  book_of b k s shows = ∥∥₁_elim (legal_of seen may_leave k.relations k.counters k.core (base_of b) s shows) (hlevel (props, Books-set)) (λ (same, legal). same)
 
-  pub legal_book : (b : Base) (k : Kernel D g) → BeganOn seen may_leave b k → IsLegal (base_of b) k.parts.book.items
-  legal_book b k began = ∥∥₁_elim began.0 (IsLegal-prop (base_of b) k.parts.book.items) (λ (s, shows).
-      ∥∥₁_elim (legal_of seen may_leave k.relations k.counters k.parts (base_of b) s shows) (IsLegal-prop (base_of b) k.parts.book.items) (λ (same, legal). legal))
+  pub legal_book : (b : Base) (k : Kernel D g) → BeganOn seen may_leave b k → IsLegal (base_of b) k.core.book.items
+  legal_book b k began = ∥∥₁_elim began.0 (IsLegal-prop (base_of b) k.core.book.items) (λ (s, shows).
+      ∥∥₁_elim (legal_of seen may_leave k.relations k.counters k.core (base_of b) s shows) (IsLegal-prop (base_of b) k.core.book.items) (λ (same, legal). legal))
 
   pub still_began : (b : Base) (k n : Kernel D g) → ((s : State) → Shows seen may_leave (base_of b) s k → Goes b s n) → StaysRestarting seen may_leave k n → BeganOn seen may_leave b k → BeganOn seen may_leave b n
   still_began b k n go again began = (∥∥₁_elim began.0 (hlevel props) (λ (s, shows). ∥∥₁_map (go s shows) (λ (z, same, now). (z, now))), again (base_of b) began.1)
 
-  pub same_book : (b : Base) (k n : Kernel D g) → ((s : State) → Shows seen may_leave (base_of b) s k → Goes b s n) → BeganOn seen may_leave b k → n.parts.book.items ≡ k.parts.book.items
+  pub same_book : (b : Base) (k n : Kernel D g) → ((s : State) → Shows seen may_leave (base_of b) s k → Goes b s n) → BeganOn seen may_leave b k → n.core.book.items ≡ k.core.book.items
   same_book b k n go began = ∥∥₁_elim began.0 (hlevel (props, Books-set)) (λ (s, shows). ∥∥₁_elim (go s shows) (hlevel (props, Books-set)) (λ (z, same, now).
       sym (book_of b n z now) ∙ (same ∙ book_of b k s shows)))
 
@@ -96,7 +96,7 @@ module _ {D : Type 0} {g : Ghosts D} (seen : D → List ℕ) (may_leave : D → 
   pub turned_began : (b : Base) (k n : Kernel D g) → GoesOn k n → StaysRestarting seen may_leave k n → BeganOn seen may_leave b k → BeganOn seen may_leave b n
   turned_began b k n go again began = (∥∥₁_map began.0 (λ (s, shows). (s, go (base_of b) s began.1 shows)), again (base_of b) began.1)
 
-  pub turned_book : (b : Base) (k n : Kernel D g) → GoesOn k n → BeganOn seen may_leave b k → n.parts.book.items ≡ k.parts.book.items
+  pub turned_book : (b : Base) (k n : Kernel D g) → GoesOn k n → BeganOn seen may_leave b k → n.core.book.items ≡ k.core.book.items
   turned_book b k n go began = same_book b k n (λ s shows. ∣ (s, refl, go (base_of b) s began.1 shows) ∣₁) began
 
   -- ---- calls that leave the book
@@ -105,7 +105,7 @@ module _ {D : Type 0} {g : Ghosts D} (seen : D → List ℕ) (may_leave : D → 
   stays b k n same s shows = ∣ (s, refl, same (base_of b) s shows) ∣₁
 
   pub begins_one : {T : Type 0} → (b : Base) (k n : Kernel D g) (session : ℕ) (r : Result T Refusal) → ((s : State) → Shows seen may_leave (base_of b) s k → OnOk r (Shows seen may_leave (base_of b) (begun s session) n))
-      → OnErr r (n.parts ≡ k.parts) → SameSchema k n → (s : State) → Shows seen may_leave (base_of b) s k → Goes b s n
+      → OnErr r (n.core ≡ k.core) → SameSchema k n → (s : State) → Shows seen may_leave (base_of b) s k → Goes b s n
   begins_one b k n session (Ok x) did err schema s shows = ∣ (begun s session, refl, did s shows) ∣₁
   begins_one b k n session (Err why) did err schema s shows = ∣ (s, refl, parts_stay seen may_leave k n err schema (base_of b) s shows) ∣₁
 
@@ -114,13 +114,13 @@ module _ {D : Type 0} {g : Ghosts D} (seen : D → List ℕ) (may_leave : D → 
   calls_one b n t op (Ok (call.Wait holder)) s has = ∣ (s, refl, has) ∣₁
   calls_one b n t op (Err why) s has = ∣ (s, refl, has) ∣₁
 
-  pub steps_one : (b : Base) (k n : Kernel D g) (t : ℕ) (r : Result Stepped Refusal) → OnOk r (step_cause (is_failed k) k.parts t ≡ None) → (s : State) → Shows seen may_leave (base_of b) s k
+  pub steps_one : (b : Base) (k n : Kernel D g) (t : ℕ) (r : Result Stepped Refusal) → OnOk r (step_cause (is_failed k) k.core t ≡ None) → (s : State) → Shows seen may_leave (base_of b) s k
       → HasStepped seen may_leave (base_of b) s t r n → Goes b s n
   steps_one b k n t (Ok (step.Replied reply)) may s shows has = go (s.running t) refl
     where
       go : (o : Option Op) → s.running t ≡ o → Goes b s n
-      go None none = absurd (let both = both_hold (is_failed k) (is_open (state_in k.parts.live.members t)) (is_busy k.parts t) may in
-          let idle = idle_of seen may_leave k.relations k.counters k.parts (base_of b) s shows t (open_state (state_in k.parts.live.members t) both.0) none in
+      go None none = absurd (let both = both_hold (is_failed k) (is_open (state_in k.core.live.members t)) (is_busy k.core t) may in
+          let idle = idle_of seen may_leave k.relations k.counters k.core (base_of b) s shows t (open_state (state_in k.core.live.members t) both.0) none in
           let wrong : ◌≡◌ {A = Bool} true false = sym both.1 ∙ idle in cc)
       go (Some op) runs = ∣ (ended s t op, refl, (has op runs).0) ∣₁
   steps_one b k n t (Ok step.Went) may s shows has = ∣ (s, refl, has) ∣₁
@@ -151,6 +151,6 @@ module _ {D : Type 0} {g : Ghosts D} (seen : D → List ℕ) (may_leave : D → 
   pub forced_began : (b : Base) (k n : Kernel D g) (r : Result KernelForced Refusal) → ((s : State) → Shows seen may_leave (base_of b) s k → HasForced seen may_leave (base_of b) s r n) → StaysRestarting seen may_leave k n → BeganOn seen may_leave b k → BeganOn seen may_leave b n
   forced_began b k n r did again began = (∥∥₁_elim began.0 (hlevel props) (λ (s, shows). ∥∥₁_map (forces_one b n r s (did s shows)) (λ (z, more, now). (z, now))), again (base_of b) began.1)
 
-  pub forced_grows : (b : Base) (k n : Kernel D g) (r : Result KernelForced Refusal) → ((s : State) → Shows seen may_leave (base_of b) s k → HasForced seen may_leave (base_of b) s r n) → BeganOn seen may_leave b k → IsPrefix k.parts.book.items n.parts.book.items
-  forced_grows b k n r did began = begins k.parts.book.items n.parts.book.items (∥∥₁_elim began.0 (hlevel props) (λ (s, shows). ∥∥₁_map (forces_one b n r s (did s shows)) (λ (z, more, now).
+  pub forced_grows : (b : Base) (k n : Kernel D g) (r : Result KernelForced Refusal) → ((s : State) → Shows seen may_leave (base_of b) s k → HasForced seen may_leave (base_of b) s r n) → BeganOn seen may_leave b k → IsPrefix k.core.book.items n.core.book.items
+  forced_grows b k n r did began = begins k.core.book.items n.core.book.items (∥∥₁_elim began.0 (hlevel props) (λ (s, shows). ∥∥₁_map (forces_one b n r s (did s shows)) (λ (z, more, now).
       subst (λ (x : List Committed × List Committed). IsPrefix x.0 x.1) (λ i. (book_of b k s shows i, book_of b n z now i)) more)))

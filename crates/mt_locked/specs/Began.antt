@@ -24,8 +24,8 @@ BeganOn seen may_leave base k = StandsOn seen may_leave base k × Restarts seen 
 -- no transaction lives in it, and it holds no lock, neither of an object nor of a page
 pub record IsIdle {D : Type 0} {g : Ghosts D} (k : Kernel D g) : Type 0 where
   pub nobody : HasNobody k
-  pub objects : (t : ℕ) (x : Object) (m : LockMode) → held_of k.parts.locks t x m ≡ false
-  pub pages : length k.parts.operations.locks ≡ 0
+  pub objects : (t : ℕ) (x : Object) (m : LockMode) → held_of k.core.locks t x m ≡ false
+  pub pages : length k.core.operations.locks ≡ 0
 
 -- the base that a kernel began on, and its book of durable transactions
 pub record BasedSeen : Type 0 where

@@ -19,8 +19,8 @@ use Rattle.mt_txn.specs.declared.kernel.Kernel.{Kernel}
 pub record IsUse {D : Type 0} (g : Ghosts D) (base : Base) (u : LogUse) : Type 0 where
   pub kernel : Kernel D g
   pub began : BeganOn g.seen g.may_leave base kernel
-  pub used : u.used ≡ used kernel.parts.operations.store.log
-  pub size : u.size ≡ area_size kernel.parts.operations.store.log
+  pub used : u.used ≡ used kernel.core.operations.store.log
+  pub size : u.size ≡ area_size kernel.core.operations.store.log
 
 abbrev pub IsUseOn : {D : Type 0} → Ghosts D → Base → LogUse → Type 0
 IsUseOn g base u = ∥ IsUse g base u ∥₁
@@ -34,8 +34,8 @@ pub record IsTurn {D : Type 0} (g : Ghosts D) (base : Base) : Type 0 where
   pub now : Kernel D g
   pub begins : BeganOn g.seen g.may_leave base now
   pub shows : (s : State) → Shows g.seen g.may_leave (base_of base) s was → Shows g.seen g.may_leave (base_of base) s now
-  pub book : now.parts.book.items ≡ was.parts.book.items
-  pub images : AreImages (appended now.parts.operations.store.log)
+  pub book : now.core.book.items ≡ was.core.book.items
+  pub images : AreImages (appended now.core.operations.store.log)
 
 abbrev pub HasTurned : {D : Type 0} → Ghosts D → Base → Type 0
 HasTurned g base = ∥ IsTurn g base ∥₁

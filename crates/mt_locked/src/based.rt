@@ -27,7 +27,7 @@ impl<D: Device> Model for Based<D> {
 
     ghost Value = { BasedSeen };
 
-    ghost view = { λ b. record { base = first_base b.base.items; book = b.kernel.parts.book.items } };
+    ghost view = { λ b. record { base = first_base b.base.items; book = b.kernel.core.book.items } };
 
     ghost invariant = { λ b. BeganOn D.seen D.may_leave (first_base b.base.items) b.kernel };
 }
@@ -37,7 +37,7 @@ impl<D: Device> Based<D> {
     pub fn new(kernel: Kernel<D>, base: &Base) -> Based<D>
         requires { BeganOn D.seen D.may_leave base.now kernel }
         ensures base { result.base ≡ base.now }
-        ensures book { result.book ≡ kernel.parts.book.items }
+        ensures book { result.book ≡ kernel.core.book.items }
     {
         Based {
             kernel,
@@ -48,7 +48,7 @@ impl<D: Device> Based<D> {
     /// The kernel, which began on that base.
     pub fn into_kernel(self) -> Kernel<D>
         ensures began { BeganOn D.seen D.may_leave self.base result }
-        ensures book { result.parts.book.items ≡ self.book }
+        ensures book { result.core.book.items ≡ self.book }
     {
         let Based { kernel, base: _ } = self;
         kernel
@@ -57,7 +57,7 @@ impl<D: Device> Based<D> {
     // The kernel, if it has failed or nobody lives in it; or all as it was.
     pub(crate) fn into_idle(self) -> Result<Kernel<D>, Based<D>>
         ensures began { IfOk result (BeganOn D.seen D.may_leave self.base) }
-        ensures book { IfOk result (λ k. k.parts.book.items ≡ self.book) }
+        ensures book { IfOk result (λ k. k.core.book.items ≡ self.book) }
         ensures idle { IfOk result (λ k. is_failed k ≡ false → IsIdle k) }
         ensures same { IfErr result (λ k. k ≡ self) }
     {

@@ -50,7 +50,7 @@ impl<D: Device> Kept<D> {
     // The kernel, or the device that was left of it.
     pub(crate) fn into_kernel(self) -> Result<Kernel<D>, D>
         ensures began { IfOk result (BeganOn D.seen D.may_leave self.base) }
-        ensures book { IfOk result (λ k. k.parts.book.items ≡ self.book) }
+        ensures book { IfOk result (λ k. k.core.book.items ≡ self.book) }
         ensures left { IfErr result (λ _. self.is_left ≡ true) }
     {
         let Kept { held, past: _ } = self;
@@ -63,7 +63,7 @@ impl<D: Device> Kept<D> {
     // The kernel, if it has failed or nobody lives in it; or all as it was.
     pub(crate) fn into_idle(self) -> Result<Kernel<D>, Kept<D>>
         ensures began { IfOk result (BeganOn D.seen D.may_leave self.base) }
-        ensures book { IfOk result (λ k. k.parts.book.items ≡ self.book) }
+        ensures book { IfOk result (λ k. k.core.book.items ≡ self.book) }
         ensures idle { IfOk result (λ k. is_failed k ≡ false → IsIdle k) }
         ensures same { IfErr result (λ k. k ≡ self) }
     {

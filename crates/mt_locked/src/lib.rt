@@ -8,11 +8,11 @@
 #![tactic(auto)]
 
 mod based;
-mod closing;
+mod returned_passes;
 mod kept;
 mod locked;
 mod log_use;
-mod naming;
+mod names;
 mod pass;
 mod passes;
 mod past;
@@ -22,7 +22,7 @@ mod txn;
 pub use based::Based;
 pub use locked::{Due, Locked, Unclosed};
 pub use log_use::LogUse;
-pub use naming::Naming;
+pub use names::Naming;
 pub use pass::Pass;
 pub use passes::passes_of;
 pub use txn::{Refused, Txn, give_token, put_calls, spend_token, take_calls};

@@ -11,10 +11,10 @@ ghost use Rattle.mt_txn.specs.Shown.{is_failed};
 ghost use Rattle.mt_locked.specs.Whole.{HasAllOf, IsOfAll, IsWhole, all_own};
 
 use crate::based::Based;
-use crate::closing::{are_all, meet_all};
+use crate::returned_passes::{are_all, meet_all};
 use crate::kept::Kept;
 use crate::log_use::LogUse;
-use crate::naming::Naming;
+use crate::names::Naming;
 use crate::pass::Pass;
 use crate::txn::Txn;
 use mt_base::{Refusal, TxnNo};
@@ -251,8 +251,8 @@ impl<D: Device, J: Naming> Locked<D, J> {
     fn into_met(self, passes: Vec<Pass<J>>) -> Result<Kernel<D>, Unclosed<D, J>>
         requires whole { IsWhole self }
         requires all { IsOfAll J.book passes.items self.list }
-        ensures own { IfOk result (λ k. HasAllOf k.parts.book.items passes.items) }
-        ensures count { IfOk result (λ k. length k.parts.book.items ≡ length J.book + all_own passes.items) }
+        ensures own { IfOk result (λ k. HasAllOf k.core.book.items passes.items) }
+        ensures count { IfOk result (λ k. length k.core.book.items ≡ length J.book + all_own passes.items) }
         ensures began { IfOk result (BeganOn D.seen D.may_leave J.base) }
         ensures idle { IfOk result (λ k. is_failed k ≡ false → IsIdle k) }
         ensures why { IfErr result (λ u. IsCloseRefusal u.why) }
@@ -291,8 +291,8 @@ impl<D: Device, J: Naming> Locked<D, J> {
 
     /// The kernel, once these are all passes and none has a transaction; or all as it was, and why.
     pub fn close(self, passes: Vec<Pass<J>>) -> Result<Kernel<D>, Unclosed<D, J>>
-        ensures own { IfOk result (λ k. HasAllOf k.parts.book.items passes.items) }
-        ensures count { IfOk result (λ k. length k.parts.book.items ≡ length J.book + all_own passes.items) }
+        ensures own { IfOk result (λ k. HasAllOf k.core.book.items passes.items) }
+        ensures count { IfOk result (λ k. length k.core.book.items ≡ length J.book + all_own passes.items) }
         ensures began { IfOk result (BeganOn D.seen D.may_leave J.base) }
         ensures idle { IfOk result (λ k. is_failed k ≡ false → IsIdle k) }
         ensures why { IfErr result (λ u. IsCloseRefusal u.why) }
@@ -383,7 +383,7 @@ impl<D: Device, J: Naming> Locked<D, J> {
 
     /// The kernel, or the device that a rotation left of it.
     pub fn into_kernel(self) -> Result<Kernel<D>, D>
-        ensures book { IfOk result (λ k. k.parts.book.items ≡ self.book) }
+        ensures book { IfOk result (λ k. k.core.book.items ≡ self.book) }
         ensures began { IfOk result (BeganOn D.seen D.may_leave J.base) }
         ensures left { IfErr result (λ _. self.is_left ≡ true) }
     {

@@ -25,8 +25,8 @@ impl LogUse {
 
 // How much of a kernel's log is in use.
 pub(crate) fn log_use_of<D: Device>(kernel: &Kernel<D>) -> LogUse
-    ensures used { result.used ≡ used kernel.now.parts.operations.store.log }
-    ensures size { result.size ≡ area_size kernel.now.parts.operations.store.log }
+    ensures used { result.used ≡ used kernel.now.core.operations.store.log }
+    ensures size { result.size ≡ area_size kernel.now.core.operations.store.log }
 {
     LogUse {
         used: kernel.used(),

@@ -1,7 +1,7 @@
 ghost use Rattle.std.specs.Prelude.{◌≡◌};
 ghost use Rattle.mt_locked.specs.Seen.{Looked};
 
-use crate::naming::Naming;
+use crate::names::Naming;
 use mt_mark::Seat;
 use std::marker::{Model, PhantomData};
 

@@ -4,7 +4,7 @@ ghost use Rattle.mt_mark.specs.Rule.{labelled};
 ghost use Rattle.mt_locked.specs.Seen.{Beside};
 ghost use Rattle.mt_locked.specs.Whole.{AreNew, IsNew};
 
-use crate::naming::Naming;
+use crate::names::Naming;
 use crate::pass::Pass;
 use mt_mark::{End, Seat};
 use std::alloc::{AllocError, Global};

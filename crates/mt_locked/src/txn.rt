@@ -1,7 +1,7 @@
 ghost use Rattle.std.specs.Prelude.{◌≡◌, []};
 ghost use Rattle.mt_locked.specs.Seen.{fresh, with_calls};
 
-use crate::naming::Naming;
+use crate::names::Naming;
 use crate::pass::Pass;
 use core::mem::replace;
 use mt_base::{Refusal, TxnNo};

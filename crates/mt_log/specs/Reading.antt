@@ -7,7 +7,7 @@ use Rattle.mt_log.specs.Batch.{Stands, joined}
 use Rattle.mt_log.specs.Found.{records_of, places_of}
 use Rattle.mt_log.specs.Holds.{AreBatches, BreakNoRule, BreaksAt, places_from}
 use Rattle.mt_log.specs.Quiet.{OnlyReads}
-use Rattle.mt_log.specs.declared.reading.Reading.{Reading}
+use Rattle.mt_log.specs.declared.scan_state.Reading.{Reading}
 
 -- the batches that were read stand in a row up to the next one's gate, and break no rule
 pub record HasRead (c : List ℕ) (reading : Reading) : Type 0 where

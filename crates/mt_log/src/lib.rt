@@ -4,24 +4,24 @@
 
 mod area;
 mod batch;
-mod beginning;
+mod first_batch;
 mod fetch;
-mod forcing;
-mod lasting;
+mod forces;
+mod durability;
 mod laws;
 mod log;
 mod masters;
-mod reading;
-mod scanning;
+mod scan_state;
+mod scanner;
 mod stage;
-mod turning;
+mod master_turn;
 
 pub use area::AreaPlace;
 pub use batch::Batch;
-pub use beginning::{begin_area, begin_prepared, prepare_area};
-pub use forcing::FORCE_STEPS;
+pub use first_batch::{begin_area, begin_prepared, prepare_area};
+pub use forces::FORCE_STEPS;
 pub use laws::{a_crash_leaves_a_beginning, areas_are_read_one_way};
 pub use log::{Forced, Log};
 pub use masters::{FIRST_SLOT, SECOND_SLOT, ruling_slot};
-pub use scanning::scan;
-pub use turning::{slot_after, turn_slot};
+pub use scanner::scan;
+pub use master_turn::{slot_after, turn_slot};

@@ -1,6 +1,6 @@
 -- The adds that are pending, in the order in which they were granted, each counted singly.
 use Rattle.std.specs.Prelude.{ℕ, ℤ, ◌≡◌, ◌≢◌, ◌==◌, cond, not, List, [], ◌∷◌, ◌++◌, filter}
-use Rattle.mt_model.specs.declared.pending.Pending.{Pending}
+use Rattle.mt_model.specs.declared.pending_add.Pending.{Pending}
 use Rattle.mt_model.specs.Model.{moved}
 use Rattle.mt_model.specs.Escrow.{total}
 use Rattle.mt_model.specs.declared.counters.Count.{Count}

@@ -12,7 +12,7 @@ mod history;
 pub mod laws;
 mod objects;
 mod operations;
-mod pending;
+mod pending_add;
 mod rows;
 mod tables;
 
@@ -20,6 +20,6 @@ pub use counters::Count;
 pub use history::{Calls, Committed};
 pub use objects::Object;
 pub use operations::{Op, Reply};
-pub use pending::Pending;
+pub use pending_add::Pending;
 pub use rows::Row;
 pub use tables::Base;

@@ -16,7 +16,7 @@ use Rattle.mt_space.specs.declared.changes.Changes.{Changes}
 use Rattle.mt_space.specs.declared.changes.PageChange.{PageChange}
 use Rattle.mt_pool.specs.declared.store.Store.{Store}
 use Rattle.mt_slots.specs.Page.{IsShaped}
-use Rattle.mt_steps.specs.Drafts.{copied}
+use Rattle.mt_steps.specs.Overlays.{copied}
 use Rattle.mt_steps.specs.Held.{Holds}
 use Rattle.mt_steps.specs.Logged.{logged_of}
 use Rattle.mt_space.specs.Rooms.{mapped, free_in, free_of, reserved_of}

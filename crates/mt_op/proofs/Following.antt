@@ -10,7 +10,7 @@ use Rattle.mt_space.specs.Changes.{PageBytes, after, IsShort, AreShort}
 use Rattle.mt_space.specs.Rooms.{mapped, free_in}
 use Rattle.mt_space.specs.declared.changes.PageChange.{PageChange}
 use Rattle.mt_space.proofs.Changing.{replaced_here, replaced_other, after_push}
-use Rattle.mt_steps.proofs.Drafting.{short_at}
+use Rattle.mt_steps.proofs.Overlaid.{short_at}
 
 module _ (cs : List PageChange) (i : ℕ) (c : PageChange) (pages : PageBytes) (lt : i < length cs) (is : c ≡ get_or cs i c) where
   one_more : take (i + 1) cs ≡ take i cs ++ c ∷ []

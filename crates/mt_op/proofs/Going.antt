@@ -9,7 +9,7 @@ use Rattle.mt_pool.specs.Images.{slot}
 use Rattle.mt_pool.specs.Views.{IsPool, IsThere, view, held, framed, frame_whole}
 use Rattle.mt_pool.specs.declared.pool.Pool.{Pool}
 use Rattle.mt_steps.specs.Repeated.{by}
-use Rattle.mt_steps.specs.declared.draft.PageCopy.{PageCopy}
+use Rattle.mt_steps.specs.declared.overlay.PageCopy.{PageCopy}
 use Rattle.mt_op.specs.World.{World, held_in, unfinished_in, looked, HasNothing, IsWorld, IsUnderWay, IsAt, IsPlanning}
 use Rattle.mt_steps.specs.declared.copies.Copies.{Copies}
 use Rattle.mt_op.specs.Moves.{SameOp, Rests, Locks, Leaves, Gains, IsLed}

@@ -10,9 +10,9 @@ use Rattle.mt_model.specs.Model.{IsWithin}
 use Rattle.mt_plock.specs.declared.guards.PageLock.{PageLock}
 use Rattle.mt_plock.specs.Holding.{lock_of, DoAgree, AreTogether}
 use Rattle.mt_plock.specs.Releasing.{locks_of, locks_without}
-use Rattle.mt_steps.specs.Drafts.{copied}
+use Rattle.mt_steps.specs.Overlays.{copied}
 use Rattle.mt_steps.specs.Repeated.{Change, held, by}
-use Rattle.mt_steps.specs.declared.draft.PageCopy.{PageCopy}
+use Rattle.mt_steps.specs.declared.overlay.PageCopy.{PageCopy}
 use Rattle.mt_op.specs.World.{World, held_in, unfinished_in, IsCovered, IsWorld, looked, HasNothing, IsOpen, IsPlanning, IsAt, IsUnderWay}
 use Rattle.mt_op.specs.Moves.{Leaves, SameOp}
 use Rattle.mt_op.specs.declared.scope.OpScope.{OpScope}

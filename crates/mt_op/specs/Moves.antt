@@ -10,7 +10,7 @@ use Rattle.mt_plock.specs.Releasing.{locks_without}
 use Rattle.mt_frame.specs.PageRecords.{change_records}
 use Rattle.mt_space.specs.declared.changes.PageChange.{PageChange}
 use Rattle.mt_space.specs.Kinds.{kind}
-use Rattle.mt_steps.specs.declared.draft.PageCopy.{PageCopy}
+use Rattle.mt_steps.specs.declared.overlay.PageCopy.{PageCopy}
 use Rattle.mt_op.specs.World.{World, held_in, looked_bytes, changes_in}
 use Rattle.mt_op.specs.declared.scope.OpScope.{OpScope}
 use Rattle.mt_op.specs.declared.scope.Stage.TheVariants.{Planning}

@@ -10,7 +10,7 @@ use Rattle.mt_steps.specs.Listed.{IsSame}
 use Rattle.mt_steps.specs.Plans.{free_pages}
 use Rattle.mt_op.specs.Operations.{IsRight}
 use Rattle.mt_op.specs.declared.operations.Operations.{Operations}
-use Rattle.mt_op.specs.declared.surveying.Survey.{Survey}
+use Rattle.mt_op.specs.declared.survey.Survey.{Survey}
 
 -- None is under way, over pages of a schema of so many relations.
 abbrev pub IsIdle : {D : Type 0} → (D → List ℕ) → (D → List ℕ → Type 0) → ℕ → Operations D → Type 0

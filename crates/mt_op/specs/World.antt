@@ -17,7 +17,7 @@ use Rattle.mt_pool.specs.Writes.{IsUnfinished}
 use Rattle.mt_space.specs.declared.changes.PageChange.{PageChange}
 use Rattle.mt_space.specs.Kinds.{kind}
 use Rattle.mt_file.specs.Plans.{IsNamed}
-use Rattle.mt_steps.specs.Drafts.{copied, or_bytes, AreAtHand}
+use Rattle.mt_steps.specs.Overlays.{copied, or_bytes, AreAtHand}
 use Rattle.mt_steps.specs.Logged.{logged_of}
 use Rattle.mt_steps.specs.Plans.{IsGood, IsPlanned, TakesPages}
 use Rattle.mt_steps.specs.Repeated.{Repeated, Change, logged, held, by, changes_of, IsRepeated}

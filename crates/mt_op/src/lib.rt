@@ -7,18 +7,18 @@
 #![tactic(auto)]
 
 mod answers;
-mod holding;
+mod page_locks;
 mod operations;
-mod parting;
-mod planning;
+mod handover;
+mod steps;
 mod scope;
 mod space_map;
-mod stepping;
-mod surveying;
-mod undoing;
+mod page_writes;
+mod survey;
+mod take_back;
 
 pub use answers::{Stepped, TakenBack};
 pub use operations::{NotOpened, Operations};
-pub use parting::Idle;
+pub use handover::Idle;
 pub use scope::{OpScope, Stage};
-pub use surveying::Survey;
+pub use survey::Survey;

@@ -10,7 +10,7 @@ ghost use Rattle.mt_model.specs.Model.{IsWithin};
 ghost use Rattle.mt_space.specs.Changes.{PageBytes};
 ghost use Rattle.mt_pool.specs.Kept.{IsKept, HasOpening, Explains};
 ghost use Rattle.mt_pool.specs.Views.{IsPool, IsFull, IsWaiting, Cleans, pages, to_flush, waits_for};
-ghost use Rattle.mt_pool.specs.declared.flushing.Flushed.TheVariants as flushed;
+ghost use Rattle.mt_pool.specs.declared.flushes.Flushed.TheVariants as flushed;
 ghost use Rattle.mt_steps.specs.Plans.{IsGood, free_pages};
 ghost use Rattle.mt_op.specs.World.{IsUnderWay, IsFresh, held_in};
 ghost use Rattle.mt_op.specs.Moves.{Rests, Notes, EndsTxn};

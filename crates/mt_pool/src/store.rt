@@ -15,7 +15,7 @@ ghost use Rattle.mt_log.specs.declared.log.Forced.{Forced};
 ghost use Rattle.mt_log.specs.declared.log.Forced.TheVariants as forced;
 ghost use Rattle.mt_pool.specs.Images.{slot};
 
-use crate::writing::append_all;
+use crate::page_changes::append_all;
 use crate::{Fetched, Flushed, Pool};
 use mt_base::limits::MASTER_BYTES;
 use mt_base::{LogPos, OpNo, PageNo, Refusal, TxnNo};
@@ -128,8 +128,8 @@ impl<D: Device> Store<D> {
     ghost use Rattle.mt_frame.specs.PageRecords.{change_records, redone};
     ghost use Rattle.mt_pool.specs.Writes.{due_image, IsUnfinished};
     ghost use Rattle.mt_pool.specs.Views.{IsThere, IsFull, IsWaiting, Cleans, to_flush, view, pages, waits_for};
-    ghost use Rattle.mt_pool.specs.declared.fetching.Fetched.TheVariants as fetched;
-    ghost use Rattle.mt_pool.specs.declared.flushing.Flushed.TheVariants as flushed;
+    ghost use Rattle.mt_pool.specs.declared.fetches.Fetched.TheVariants as fetched;
+    ghost use Rattle.mt_pool.specs.declared.flushes.Flushed.TheVariants as flushed;
 
     /// A step of the log's force, as [`Log::force_step`] makes it: at most one device call, and no memory. The only
     /// refusal is [`Refusal::DeviceFailed`], where the device failed in this call or in an earlier force; what

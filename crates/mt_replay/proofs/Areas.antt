@@ -29,7 +29,7 @@ use Rattle.mt_replay.specs.Recoverable.{IsRecoverable, pages_held}
 use Rattle.mt_replay.specs.Stands.{AreHeld, CanRestart, HasArea, ShowsBase}
 use Rattle.mt_replay.specs.Told.{calls_of, op_of, Finished, losers, stands_for}
 use Rattle.mt_replay.specs.Undoing.{UndoesAll}
-use Rattle.mt_replay.specs.declared.telling.Loser.{Loser}
+use Rattle.mt_replay.specs.declared.losers.Loser.{Loser}
 
 pub if_ok : {T E : Type 0} (P Q : T → Type 0) (r : Result T E) → ((x : T) → P x → Q x) → IfOk r P → IfOk r Q
 if_ok P Q (Ok x) f p = f x p

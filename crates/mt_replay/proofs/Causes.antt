@@ -23,7 +23,7 @@ use Rattle.mt_replay.specs.Recoverable.{pages_held}
 use Rattle.mt_replay.specs.Refused.{AreRepeated, AreUndone, BreaksFormat, BreaksLog, IsCause, StopsUndoing, behind, in_area}
 use Rattle.mt_replay.specs.Stands.{HasArea}
 use Rattle.mt_replay.specs.Told.{losers}
-use Rattle.mt_replay.specs.declared.telling.Loser.{Loser}
+use Rattle.mt_replay.specs.declared.losers.Loser.{Loser}
 
 -- what a scan is refused with, told of other words for the area
 pub scan_cause : {T : Type 0} (r : Result T Refusal) (F : Type 0) (P Q : ℕ → Type 0) → ((at : ℕ) → P at → Q at) → IfErr r (λ why. (at : ℕ) → why ≡ BadFormat at → P at)

@@ -21,13 +21,13 @@ use Rattle.mt_model.specs.declared.operations.Reply.{Reply}
 use Rattle.mt_space.specs.Changes.{after}
 use Rattle.mt_space.specs.declared.changes.PageChange.{PageChange}
 use Rattle.mt_steps.specs.Counters.{AreCounters}
-use Rattle.mt_steps.specs.Drafts.{AreAtHand}
+use Rattle.mt_steps.specs.Overlays.{AreAtHand}
 use Rattle.mt_steps.specs.declared.counters.SchemaSizes.{SchemaSizes}
 use Rattle.mt_steps.specs.Plans.{IsGood, HasPages, InPages, IsPlanned, IsTight, TakesPages, free_pages, own_needs, record_bytes}
 use Rattle.mt_replay.proofs.Making.{first_agrees, inside_all, same_but_both}
 use Rattle.std.specs.Prelude.{slice_get}
 use Rattle.mt_replay.specs.Losers.{HasUndone}
-use Rattle.mt_replay.specs.declared.telling.Loser.{Loser}
+use Rattle.mt_replay.specs.declared.losers.Loser.{Loser}
 use Rattle.mt_replay.specs.Memory.{AreFirst, AreGood}
 use Rattle.mt_replay.specs.Recoverable.{IsOf}
 use Rattle.mt_replay.specs.Told.{undo_of, reply_back}

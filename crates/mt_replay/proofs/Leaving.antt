@@ -19,9 +19,9 @@ use Rattle.mt_steps.specs.Repeated.{Change, Repeated, by, held, logged, put_back
 use Rattle.mt_steps.proofs.Repeating.{put_back_append}
 use Rattle.mt_replay.specs.Memory.{AreWhole, AreFirst}
 use Rattle.mt_replay.specs.Passes.{AreKnown, Backs, IsBackTo, IsShown, change_by, changes_in, ends_it, left, stays}
-use Rattle.mt_replay.specs.declared.repeating.Repeating.{Repeating}
-use Rattle.mt_replay.specs.declared.repeating.TakingBack.{TakingBack}
-use Rattle.mt_replay.specs.declared.repeating.Unfinished.{Unfinished}
+use Rattle.mt_replay.specs.declared.repeat.Repeating.{Repeating}
+use Rattle.mt_replay.specs.declared.repeat.TakingBack.{TakingBack}
+use Rattle.mt_replay.specs.declared.repeat.Unfinished.{Unfinished}
 use Rattle.mt_replay.proofs.Imaged.{record_at}
 use Rattle.mt_replay.proofs.Restoring.{first_placed}
 use Rattle.mt_replay.proofs.Walking.{filter_all, filter_alike, filter_both, same_sides}

@@ -16,8 +16,8 @@ use Rattle.mt_frame.specs.declared.records.Record.TheVariants.{Page, OpEnd, OpDr
 use Rattle.mt_log.specs.declared.batch.Batch.{Batch}
 use Rattle.mt_replay.specs.Told.{Told, Finished, told, tell, losers, others, is_but, without}
 use Rattle.mt_replay.specs.Losers.{finished_of, all_finished, HasEnded, HasTold, Tells}
-use Rattle.mt_replay.specs.declared.telling.Loser.{Loser}
-use Rattle.mt_replay.specs.declared.telling.Telling.{Telling}
+use Rattle.mt_replay.specs.declared.losers.Loser.{Loser}
+use Rattle.mt_replay.specs.declared.losers.Telling.{Telling}
 use Rattle.mt_replay.proofs.Imaged.{record_at}
 use Rattle.mt_replay.proofs.Walking.{filter_all, filter_alike, filter_both, same_sides}
 

@@ -13,8 +13,8 @@ use Rattle.mt_space.specs.Changes.{PageBytes}
 use Rattle.mt_steps.specs.Repeated.{Change, put_back, by, but, made, changed, finished, dropped, Repeated}
 use Rattle.mt_replay.specs.Memory.{AreFirst, AreWhole}
 use Rattle.mt_replay.specs.Passes.{change_of, changes_in, changes_at, AllFit, Fits, IsShown, IsWhole, Notes, PutsBack, Repeats, Takes}
-use Rattle.mt_replay.specs.declared.repeating.Repeating.{Repeating}
-use Rattle.mt_replay.specs.declared.repeating.Unfinished.{Unfinished}
+use Rattle.mt_replay.specs.declared.repeat.Repeating.{Repeating}
+use Rattle.mt_replay.specs.declared.repeat.Unfinished.{Unfinished}
 use Rattle.mt_replay.proofs.Walking.{filter_alike, filter_both, filter_none}
 
 -- ---- one page

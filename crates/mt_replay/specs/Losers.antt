@@ -16,8 +16,8 @@ use Rattle.mt_steps.specs.Plans.{IsGood}
 use Rattle.mt_replay.specs.Memory.{AreFirst, ChangesFew}
 use Rattle.mt_replay.specs.Undoing.{UndoesAll, Finds}
 use Rattle.mt_replay.specs.Told.{Finished, losers}
-use Rattle.mt_replay.specs.declared.telling.Loser.{Loser}
-use Rattle.mt_replay.specs.declared.telling.Telling.{Telling}
+use Rattle.mt_replay.specs.declared.losers.Loser.{Loser}
+use Rattle.mt_replay.specs.declared.losers.Telling.{Telling}
 
 abbrev pub finished_of : Loser → Finished
 finished_of l = record { txn = l.txn; op = l.op; done = l.done }

@@ -1,6 +1,6 @@
 -- Which slots of pages of records the entries of bucket pages name.
 use Rattle.std.specs.Prelude.{◌≡◌, ◌⊎◌, ℕ, ◌+◌, ◌*◌, ◌<◌, Bool, true, false, List, length, get_or}
-use Rattle.mt_replay.specs.declared.checking.TheConstants.{MAX_SLOTS}
+use Rattle.mt_replay.specs.declared.page_rules.TheConstants.{MAX_SLOTS}
 use Rattle.mt_base.specs.declared.numbers.RecordName.{RecordName}
 use Rattle.mt_bucket.specs.Page.{count_of}
 use Rattle.mt_index.specs.Checks.{bytes_of, entry_at}

@@ -12,9 +12,9 @@ use Rattle.mt_pool.specs.Images.{page_in}
 use Rattle.mt_pool.specs.Kept.{carried}
 use Rattle.mt_space.specs.Changes.{PageBytes}
 use Rattle.mt_steps.specs.Repeated.{Change, Repeated, by, put_back}
-use Rattle.mt_replay.specs.declared.repeating.Unfinished.{Unfinished}
-use Rattle.mt_replay.specs.declared.repeating.Repeating.{Repeating}
-use Rattle.mt_replay.specs.declared.repeating.TakingBack.{TakingBack}
+use Rattle.mt_replay.specs.declared.repeat.Unfinished.{Unfinished}
+use Rattle.mt_replay.specs.declared.repeat.Repeating.{Repeating}
+use Rattle.mt_replay.specs.declared.repeat.TakingBack.{TakingBack}
 use Rattle.mt_replay.specs.Memory.{AreWhole, AreFirst}
 
 -- ---- images

@@ -23,7 +23,7 @@ use Rattle.mt_replay.specs.Recoverable.{pages_held}
 use Rattle.mt_replay.specs.Stands.{HasArea}
 use Rattle.mt_replay.specs.Told.{losers}
 use Rattle.mt_replay.specs.declared.figures.Figures.{Figures}
-use Rattle.mt_replay.specs.declared.telling.Loser.{Loser}
+use Rattle.mt_replay.specs.declared.losers.Loser.{Loser}
 
 -- these batches of the area that the slot names lead to these pages held, and leave these losers
 pub record AreRepeated (c : List ℕ) (slot : MasterSlot) (batches : List Batch) (held : List (List ℕ)) (list : List Loser) : Type 0 where

@@ -6,18 +6,18 @@
 //! of it is done in memory: nothing here writes to a device.
 #![tactic(auto)]
 
-mod checking;
+mod page_rules;
 mod figures;
-mod imaging;
+mod images;
 mod laws;
-mod repeating;
-mod replaying;
-mod standing;
-mod telling;
-mod undoing;
+mod repeat;
+mod pages_held;
+mod device_replay;
+mod losers;
+mod undo_pass;
 
 pub use figures::Figures;
 pub use laws::{each_inverse_finds, only_own_pages_matter, restart_finds_the_base};
-pub use standing::{Replayed, read_area, read_log, replay};
-pub use telling::{Loser, losers_of};
-pub use undoing::Restored;
+pub use device_replay::{Replayed, read_area, read_log, replay};
+pub use losers::{Loser, losers_of};
+pub use undo_pass::Restored;

@@ -10,7 +10,7 @@ use Rattle.mt_replay.specs.Laws.{OnlyOwnPagesMatter}
 use Rattle.mt_replay.specs.Stands.{CanRestart, IsReadAs, ShowsBase}
 use Rattle.mt_restart.specs.Found.{ReadsOldOrNext}
 use Rattle.mt_restart.specs.Recovered.{IsFound, StandsStill}
-use Rattle.mt_restart.specs.declared.recovering.Found.{Found}
+use Rattle.mt_restart.specs.declared.recovery.Findings.{Findings}
 use Rattle.mt_restart.proofs.Restarting.{either_restarts, read_first}
 
 module _ {D : Type 0} (seen : D → List ℕ) (may : D → List ℕ → Type 0) (moment : D → ℕ) (left_since : D → ℕ → List ℕ → Type 0) (only_now : (d : D) (c : List ℕ) → left_since d (moment d) c → may d c)
@@ -29,7 +29,7 @@ module _ {D : Type 0} (seen : D → List ℕ) (may : D → List ℕ → Type 0) 
   pub read_stands : Only (seen o) (may s) → (c : List ℕ) → may n c → CanRestart relations counters c b
   read_stands durable c left = subst (λ (x : List ℕ). CanRestart relations counters x b) (sym (durable c (reads.less c left))) found
 
-  module _ (one : OneSlot) (own : OnlyOwnPagesMatter) (frames : ℕ) (f : Found) (is : IsFound (seen s) frames f) (shows : ShowsBase relations counters f.restored.pages.items b) (items : List (List ℕ)) (whole : items ≡ f.restored.pages.items) (t : D)
+  module _ (one : OneSlot) (own : OnlyOwnPagesMatter) (frames : ℕ) (f : Findings) (is : IsFound (seen s) frames f) (shows : ShowsBase relations counters f.restored.pages.items b) (items : List (List ℕ)) (whole : items ≡ f.restored.pages.items) (t : D)
       (turns : (opening : ℕ → List ℕ) (batches : List (List Record)) → IsReadAs (seen n) f.ruling opening batches → LeavesOnly moment left_since n t (ReadsOldOrNext f.ruling opening batches items f.marks.images.items)) where
     turned_over : LeavesOnly moment left_since n t (λ c. CanRestart relations counters c b)
     turned_over =

@@ -1,7 +1,7 @@
 -- What a kernel is assembled of, over a device that was formatted.
 use Rattle.std.proofs.Common.{◌≡◌, ℕ, List, [], length, refl, ap, arith}
 use Rattle.mt_escrow.specs.Seen.{Escrowed}
-use Rattle.mt_kernel.specs.Consistent.{IsFresh}
+use Rattle.mt_core.specs.Consistent.{IsFresh}
 use Rattle.mt_log.specs.Words.{appended}
 use Rattle.mt_model.specs.Tables.{count_at}
 use Rattle.mt_model.specs.declared.counters.Count.{Count}

@@ -11,7 +11,7 @@ use Rattle.mt_txn.specs.declared.kernel.Kernel.{Kernel}
 
 -- there is none but these
 pub end_cause : {D : Type 0} {g : Ghosts D} (seen : D → List ℕ) (may_leave : D → List ℕ → Type 0) (moment : D → ℕ) (left_since : D → ℕ → List ℕ → Type 0) (faults : D → ℕ) (k : Kernel D g) (device : D) (why : Refusal)
-    → ∥ ((forced : Kernel D g) × Keeps seen may_leave moment left_since k forced × IsForcedOut k forced × IsEndCause seen faults forced.parts.operations.store.device device why) ∥₁ → IsTurnFault why
+    → ∥ ((forced : Kernel D g) × Keeps seen may_leave moment left_since k forced × IsForcedOut k forced × IsEndCause seen faults forced.core.operations.store.device device why) ∥₁ → IsTurnFault why
 end_cause seen may_leave moment left_since faults k device refusal.NoMemory x = tt
 end_cause seen may_leave moment left_since faults k device refusal.DeviceFailed x = tt
 end_cause seen may_leave moment left_since faults k device refusal.LogFull x = tt

@@ -5,7 +5,7 @@ use Rattle.std.proofs.lemmas.List.{length-map}
 use Rattle.mt_disk.specs.declared.device.Device.{Ghosts}
 use Rattle.mt_frame.specs.declared.records.Record.{Record}
 use Rattle.mt_index.specs.Checks.{bytes_of}
-use Rattle.mt_kernel.specs.Consistent.{IsFresh}
+use Rattle.mt_core.specs.Consistent.{IsFresh}
 use Rattle.mt_log.proofs.Turns.{ruling_fits, long_of}
 use Rattle.mt_frame.specs.declared.slots.MasterSlot.{MasterSlot}
 use Rattle.mt_log.specs.Masters.{IsRuling, area_size as size_of, area_start as start_of, area_end as end_of}
@@ -34,7 +34,7 @@ use Rattle.mt_restart.specs.Beside.{IsBeside}
 use Rattle.mt_restart.specs.Resumed.{IsOpened}
 use Rattle.mt_restart.specs.declared.beside.Beside.{Beside}
 use Rattle.mt_restart.specs.Recovered.{IsRecovered}
-use Rattle.mt_restart.specs.declared.recovering.Recovered.{Recovered}
+use Rattle.mt_restart.specs.declared.recovery.Recovered.{Recovered}
 use Rattle.mt_restart.proofs.Restarting.{are_images}
 
 -- a log has room behind its records

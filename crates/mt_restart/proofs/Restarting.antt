@@ -10,7 +10,7 @@ use Rattle.mt_frame.specs.declared.records.Record.{Record}
 use Rattle.mt_frame.specs.declared.records.Record.TheVariants.{Page, OpEnd, OpDropped, Commit, AbortEnd}
 use Rattle.mt_frame.specs.declared.slots.MasterSlot.{MasterSlot}
 use Rattle.mt_index.specs.Checks.{bytes_of}
-use Rattle.mt_kernel.proofs.Imaged.{images_end_nothing, images_held}
+use Rattle.mt_core.proofs.Imaged.{images_end_nothing, images_held}
 use Rattle.mt_log.specs.Batch.{joined}
 use Rattle.mt_log.specs.Masters.{IsRuling, area_size}
 use Rattle.mt_model.specs.History.{IsActed, run}
@@ -27,7 +27,7 @@ use Rattle.mt_steps.specs.Plans.{IsGood, free_pages}
 use Rattle.mt_restart.specs.Found.{ReadsOldOrNext}
 use Rattle.mt_log.specs.NextSlot.{next_slot}
 use Rattle.mt_restart.specs.Recovered.{IsFound}
-use Rattle.mt_restart.specs.declared.recovering.Found.{Found}
+use Rattle.mt_restart.specs.declared.recovery.Findings.{Findings}
 use Rattle.mt_restart.proofs.Ruled.{one_rules}
 
 -- ---- images are of no transaction
@@ -110,7 +110,7 @@ restarts_next relations counters c b next pages images each alone read fits good
     }
 
 -- so either stands for the base that the pages at hand hold
-pub either_restarts : OneSlot → OnlyOwnPagesMatter → (relations counters : ℕ) (c0 c : List ℕ) (b : Base) (frames : ℕ) (f : Found) → IsFound c0 frames f → ShowsBase relations counters f.restored.pages.items b → (found : CanRestart relations counters c0 b)
+pub either_restarts : OneSlot → OnlyOwnPagesMatter → (relations counters : ℕ) (c0 c : List ℕ) (b : Base) (frames : ℕ) (f : Findings) → IsFound c0 frames f → ShowsBase relations counters f.restored.pages.items b → (found : CanRestart relations counters c0 b)
     → ReadsOldOrNext f.ruling found.stands.opening found.stands.batches f.restored.pages.items f.marks.images.items c → CanRestart relations counters c b
 either_restarts one own relations counters c0 c b frames f is shows found either =
     let items = f.restored.pages.items in

@@ -3,7 +3,7 @@ use Rattle.std.proofs.Common.{ℕ, List, length}
 use Rattle.mt_frame.specs.declared.slots.MasterSlot.{MasterSlot}
 use Rattle.mt_index.specs.Checks.{bytes_of}
 use Rattle.mt_model.specs.Model.{Base}
-use Rattle.mt_op.specs.declared.surveying.Survey.{Survey}
+use Rattle.mt_op.specs.declared.survey.Survey.{Survey}
 use Rattle.mt_replay.specs.Laws.{OnlyOwnPagesMatter}
 use Rattle.mt_replay.specs.Refused.{IsReplayed}
 use Rattle.mt_replay.specs.Stands.{ShowsBase}

@@ -7,7 +7,7 @@ use Rattle.mt_model.specs.Model.{Base, IsBase}
 use Rattle.mt_model.specs.Views.{base_of, counters_of, relations_of}
 use Rattle.mt_model.specs.declared.tables.Base as code
 use Rattle.mt_op.specs.Surveyed.{IsSurvey}
-use Rattle.mt_op.specs.declared.surveying.Survey.{Survey}
+use Rattle.mt_op.specs.declared.survey.Survey.{Survey}
 use Rattle.mt_replay.specs.Refused.{IsReplayed}
 use Rattle.mt_replay.specs.declared.figures.Figures.{Figures}
 use Rattle.mt_steps.specs.Held.{Holds}

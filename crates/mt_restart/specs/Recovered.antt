@@ -16,9 +16,9 @@ use Rattle.mt_replay.specs.declared.figures.Figures.{Figures}
 use Rattle.mt_restart.specs.Beside.{IsBeside}
 use Rattle.mt_restart.specs.Found.{AreMarked, CanTurn, HasTurned, IsPrepared}
 use Rattle.mt_restart.specs.Turned.{AreImagesOf}
-use Rattle.mt_restart.specs.declared.finding.Marks.{Marks}
-use Rattle.mt_restart.specs.declared.recovering.Found.{Found}
-use Rattle.mt_restart.specs.declared.recovering.Recovered.{Recovered}
+use Rattle.mt_restart.specs.declared.page_marks.Marks.{Marks}
+use Rattle.mt_restart.specs.declared.recovery.Findings.{Findings}
+use Rattle.mt_restart.specs.declared.recovery.Recovered.{Recovered}
 
 -- a restart in memory makes these pages of the bytes
 pub record AreRestored (c : List ℕ) (items : List (List ℕ)) : Type 0 where
@@ -28,7 +28,7 @@ pub record AreRestored (c : List ℕ) (items : List (List ℕ)) : Type 0 where
 
 -- What is found in these bytes: pages that break no rule, the marks by which the log can turn over, and all that is in memory
 -- beside the device, with so many frames.
-pub record IsFound (c : List ℕ) (frames : ℕ) (f : Found) : Type 0 where
+pub record IsFound (c : List ℕ) (frames : ℕ) (f : Findings) : Type 0 where
   pub restored : AreRestored c f.restored.pages.items
   pub batches : List (List Record)
   pub marked : AreMarked c f.ruling f.restored.pages.items batches f.marks
@@ -71,7 +71,7 @@ IsCauseToStop c failed why = IsCause BreaksFormat c failed why ⊎ ((why ≡ Log
 
 -- What a recovery needs is found, with pages that show the base for which the bytes stand; or the cause is reported. The device is
 -- only read.
-pub record FindsAll {D : Type 0} (seen : D → List ℕ) (may_leave : D → List ℕ → Type 0) (moment : D → ℕ) (left_since : D → ℕ → List ℕ → Type 0) (failures : D → ℕ) (frames : ℕ) (d e : D) (r : Result Found Refusal) : Type 0 where
+pub record FindsAll {D : Type 0} (seen : D → List ℕ) (may_leave : D → List ℕ → Type 0) (moment : D → ℕ) (left_since : D → ℕ → List ℕ → Type 0) (failures : D → ℕ) (frames : ℕ) (d e : D) (r : Result Findings Refusal) : Type 0 where
   pub found : IfOk r (IsFound (seen d) frames)
   pub shows : (relations counters : ℕ) (b : Base) → CanRestart relations counters (seen d) b → IfOk r (λ found. ShowsBase relations counters found.restored.pages.items b)
   pub no_other_refusal : (relations counters : ℕ) (b : Base) → CanRestart relations counters (seen d) b → IfErr r (λ why. (why ≡ Refusal.NoMemory) ⊎ ((why ≡ Refusal.DeviceFailed) ⊎ (why ≡ Refusal.LogFull)))

@@ -34,5 +34,5 @@ pub record BeginsOnRestored {D : Type 0} {g : Ghosts D} (seen : D → List ℕ) 
 
 -- the device, in the kernel or handed back
 abbrev pub device_of : {D : Type 0} → {g : Ghosts D} → Result (Kernel D g) (Refusal × D) → D
-device_of (Ok kernel) = kernel.parts.operations.store.device
+device_of (Ok kernel) = kernel.core.operations.store.device
 device_of (Err gone) = gone.1

@@ -5,28 +5,28 @@
 //! [`format`] the device's pages hold a base without rows whose counters are at their starts.
 #![tactic(auto)]
 
-mod assembling;
+mod fresh_kernel;
 mod beside;
-mod finding;
+mod page_marks;
 mod first_pages;
-mod formatting;
-mod imaging;
-mod inspecting;
-mod opening;
-mod recovering;
-mod renewing;
-mod reporting;
-mod resuming;
-mod rotating;
+mod format_calls;
+mod image_marks;
+mod inspection;
+mod fresh_layers;
+mod recovery;
+mod area_renewal;
+mod log_report;
+mod opened_kernel;
+mod rotation;
 mod schema;
-mod told;
-mod writing;
+mod report_data;
+mod slot_writes;
 
-pub use assembling::fresh;
-pub use formatting::format;
-pub use inspecting::inspect;
-pub use reporting::report;
-pub use resuming::open;
-pub use rotating::{NotRotated, rotate};
+pub use fresh_kernel::fresh;
+pub use format_calls::format;
+pub use inspection::inspect;
+pub use log_report::report;
+pub use opened_kernel::open;
+pub use rotation::{NotRotated, rotate};
 pub use schema::Schema;
-pub use told::Report;
+pub use report_data::Report;

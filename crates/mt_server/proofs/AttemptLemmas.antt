@@ -18,8 +18,8 @@ use Rattle.mt_server.specs.Heard.{Heard, Hears, IsRefusable, LetsGoOn, begins, r
 use Rattle.mt_server.specs.Hearing.{AreFew, Place, Ending, HasFailed, HasRan, HasServed, IsAt, IsStopped, IsTurned, Reached, Running, Served, Turning, Turns, and_begin, between, entry_of, within}
 use Rattle.mt_server.specs.declared.attempts.Ran.{Ran}
 use Rattle.mt_server.specs.declared.attempts.Ran.TheVariants as ran
-use Rattle.mt_server.specs.declared.turning.Stop.{Stop}
-use Rattle.mt_server.specs.declared.turning.Stop.TheVariants as stop
+use Rattle.mt_server.specs.declared.line_answers.Stop.{Stop}
+use Rattle.mt_server.specs.declared.line_answers.Stop.TheVariants as stop
 use Rattle.mt_alone.proofs.TranscriptLemmas.{all_told, none_told, runs_then}
 use Rattle.mt_locked.specs.Seen.{PassSeen, fresh}
 

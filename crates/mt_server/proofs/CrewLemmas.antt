@@ -13,8 +13,8 @@ use Rattle.mt_script.specs.declared.lines.Line.{Line}
 use Rattle.mt_server.specs.Crews.{AreHeard, AreToldOf, IsBoard, IsToldOf, nothing_told, one_more}
 use Rattle.mt_server.specs.Heard.{IsTold, all_booked}
 use Rattle.mt_server.specs.Hearing.{IsSession}
-use Rattle.mt_server.specs.declared.placing.Board.{Board}
-use Rattle.mt_server.specs.declared.placing.Told.{Told}
+use Rattle.mt_server.specs.declared.board.Board.{Board}
+use Rattle.mt_server.specs.declared.board.Told.{Told}
 use Rattle.mt_server.proofs.HeardLemmas.{session_counts, session_grows, session_told, told_failing, told_on}
 use Rattle.mt_mark.proofs.Fronts.{prefix_self}
 use Rattle.mt_locked.specs.Seen.{PassSeen}

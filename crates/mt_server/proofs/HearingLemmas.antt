@@ -15,8 +15,8 @@ use Rattle.mt_script.specs.declared.lines.Line.{Line}
 use Rattle.mt_script.specs.declared.lines.Line.TheVariants as line
 use Rattle.mt_server.specs.Heard.{Heard, Hears, replies, commits, aborts, dies, refuses, IsRefusable, LetsGoOn, LetsLive}
 use Rattle.mt_server.specs.Hearing.{Place, Ending, entry_of, IsAt, IsStopped, IsTurned, Telling, Turning, Waits, between, within}
-use Rattle.mt_server.specs.declared.turning.Stop.{Stop}
-use Rattle.mt_server.specs.declared.turning.Stop.TheVariants as stop
+use Rattle.mt_server.specs.declared.line_answers.Stop.{Stop}
+use Rattle.mt_server.specs.declared.line_answers.Stop.TheVariants as stop
 use Rattle.mt_locked.specs.Seen.{PassSeen, Extends, with_call}
 
 -- what is neither 2 nor 14

@@ -11,7 +11,7 @@ use Rattle.mt_script.specs.declared.lines.Line.{Line}
 use Rattle.mt_server.specs.Crews.{IsBlank, IsBoard, IsFull}
 use Rattle.mt_server.specs.Heard.{AreTold, all_booked}
 use Rattle.mt_server.proofs.HeardLemmas.{told_failing}
-use Rattle.mt_server.specs.declared.placing.Board.{Board}
+use Rattle.mt_server.specs.declared.board.Board.{Board}
 use Rattle.mt_server.specs.Serves.{IsLate, IsServedOn, IsUnopened}
 use Rattle.mt_locked.proofs.Keeping.{legal_book}
 use Rattle.mt_locked.specs.Began.{BeganOn}

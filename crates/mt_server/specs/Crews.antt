@@ -7,8 +7,8 @@ use Rattle.mt_model.specs.History.{Call}
 use Rattle.mt_model.specs.declared.history.Committed.{Committed}
 use Rattle.mt_script.specs.declared.lines.Line.{Line}
 use Rattle.mt_server.specs.Heard.{IsTold, all_booked}
-use Rattle.mt_server.specs.declared.placing.Board.{Board}
-use Rattle.mt_server.specs.declared.placing.Told.{Told}
+use Rattle.mt_server.specs.declared.board.Board.{Board}
+use Rattle.mt_server.specs.declared.board.Told.{Told}
 use Rattle.mt_locked.specs.Seen.{PassSeen}
 
 -- the transcript of the script at its place, from 0, which reports these commits

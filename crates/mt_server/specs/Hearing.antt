@@ -13,8 +13,8 @@ use Rattle.mt_server.specs.Heard.{Heard, Hears, IsEnd}
 use Rattle.mt_alone.specs.Plays.{Runs}
 use Rattle.mt_server.specs.declared.attempts.Ran.{Ran}
 use Rattle.mt_server.specs.declared.attempts.Ran.TheVariants as ran
-use Rattle.mt_server.specs.declared.turning.Stop.{Stop}
-use Rattle.mt_server.specs.declared.turning.Stop.TheVariants as stop
+use Rattle.mt_server.specs.declared.line_answers.Stop.{Stop}
+use Rattle.mt_server.specs.declared.line_answers.Stop.TheVariants as stop
 use Rattle.mt_locked.specs.Seen.{PassSeen, Extends}
 
 -- ---- a session beside its pass

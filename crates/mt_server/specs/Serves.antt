@@ -17,7 +17,7 @@ pub record IsServedOn {D : Type 0} {g : Ghosts D} (seen : D → List ℕ) (may_l
   pub first : Base
   pub is : IsBaseOf c first
   pub began : BeganOn seen may_leave first k
-  pub legal : IsLegal (base_of first) k.parts.book.items
+  pub legal : IsLegal (base_of first) k.core.book.items
 
 -- ---- refusals
 

@@ -5,10 +5,10 @@ ghost use Rattle.mt_model.specs.declared.tables.Base.{Base};
 ghost use Rattle.mt_script.specs.declared.lines.Line.{Line};
 ghost use Rattle.mt_script.specs.declared.lines.Line.TheVariants as line;
 ghost use Rattle.mt_server.specs.Hearing.{AreFew, Ending, Running, and_begin, between, within};
-ghost use Rattle.mt_server.specs.declared.turning.Stop.TheVariants as stop;
+ghost use Rattle.mt_server.specs.declared.line_answers.Stop.TheVariants as stop;
 ghost use Rattle.mt_locked.specs.Seen.{PassSeen};
 
-use crate::turning::{Stop, fail, refuse, take_back, tell_aborted, tell_begun, turn};
+use crate::line_answers::{Stop, fail, refuse, take_back, tell_aborted, tell_begun, turn};
 use mt_base::Refusal;
 use mt_disk::Device;
 use mt_script::Line;

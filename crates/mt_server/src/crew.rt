@@ -9,7 +9,7 @@ ghost use Rattle.mt_alone.specs.Sessions.{lines_in};
 ghost use Rattle.mt_locked.specs.Seen.{PassSeen};
 ghost use Rattle.mt_locked.specs.Whole.{IsNew, all_own};
 
-use crate::placing::{Board, Told};
+use crate::board::{Board, Told};
 use crate::session::run_session;
 use crossbeam_channel::{Receiver, bounded};
 use mt_base::Refusal;

@@ -7,12 +7,12 @@
 
 mod attempts;
 mod crew;
-mod placing;
-mod serving;
+mod board;
+mod service;
 mod session;
 mod transcript;
-mod turning;
+mod line_answers;
 
 pub use mt_alone::{NotServed, RunFault, run_alone, run_sessions};
-pub use serving::{Served, serve};
+pub use service::{Served, serve};
 pub use transcript::Transcript;

@@ -4,11 +4,11 @@ ghost use Rattle.mt_model.specs.History.{Call};
 ghost use Rattle.mt_script.specs.declared.lines.Line.TheVariants.{Begin};
 ghost use Rattle.mt_server.specs.Hearing.{IsSession, Running, between};
 ghost use Rattle.mt_alone.specs.Sessions.{lines_in};
-ghost use Rattle.mt_server.specs.declared.turning.Stop.TheVariants as stop;
+ghost use Rattle.mt_server.specs.declared.line_answers.Stop.TheVariants as stop;
 
 use crate::attempts::{Ran, run_surely};
 use crate::transcript::Transcript;
-use crate::turning::{Stop, refuse};
+use crate::line_answers::{Stop, refuse};
 use mt_base::Refusal;
 use mt_disk::Device;
 use mt_script::{Line, Script};

@@ -5,12 +5,12 @@ use mathlib.Core.Logic.{∥∥₁_elim}
 use Rattle.mt_base.specs.declared.refusal.Refusal.{Refusal}
 use Rattle.mt_base.specs.declared.refusal.Refusal.TheVariants as refusal
 use Rattle.mt_disk.specs.declared.device.Device.{Ghosts}
-use Rattle.mt_kernel.specs.declared.parts.Parts.{Parts}
+use Rattle.mt_core.specs.declared.kernel_core.Core.{Core}
 use Rattle.mt_live.specs.Machine.{State, start}
 use Rattle.mt_model.specs.Model as model
 use Rattle.mt_model.specs.Views.{base_of}
 use Rattle.mt_model.specs.declared.tables.Base.{Base}
-use Rattle.mt_op.specs.declared.surveying.Survey.{Survey}
+use Rattle.mt_op.specs.declared.survey.Survey.{Survey}
 use Rattle.mt_restart.specs.Recovered.{IsCauseToStop}
 use Rattle.mt_restart.specs.Resumed.{BeginsOn, IsOpened}
 use Rattle.mt_locked.proofs.Keeping.{began_so}
@@ -36,10 +36,10 @@ module _ {D : Type 0} {g : Ghosts D} (seen : D → List ℕ) (may_leave : D → 
       began_so seen may_leave base n (base_of base) (start (base_of base)) refl (stays (base_of base) (start (base_of base)) opened.shows) (again (base_of base) opened.restarts)
 
   -- its book is empty
-  pub first_book : (first : model.Base) (k : Kernel D g) → Shows seen may_leave first (start first) k → k.parts.book.items ≡ []
-  first_book first k shows = ∥∥₁_elim (legal_of seen may_leave k.relations k.counters k.parts first (start first) shows) (hlevel (props, Books-set)) (λ (same, legal). sym same)
+  pub first_book : (first : model.Base) (k : Kernel D g) → Shows seen may_leave first (start first) k → k.core.book.items ≡ []
+  first_book first k shows = ∥∥₁_elim (legal_of seen may_leave k.relations k.counters k.core first (start first) shows) (hlevel (props, Books-set)) (λ (same, legal). sym same)
 
-  pub book_at_first : (b : model.Base) (k n : Kernel D g) → BeginsOn seen may_leave b k → Stays seen may_leave k n → n.parts.book.items ≡ []
+  pub book_at_first : (b : model.Base) (k n : Kernel D g) → BeginsOn seen may_leave b k → Stays seen may_leave k n → n.core.book.items ≡ []
   book_at_first b k n begins stays = first_book b n (stays b (start b) begins.opened.shows)
 
   -- which is the one that the bytes stood for
@@ -52,7 +52,7 @@ module _ {D : Type 0} {g : Ghosts D} (seen : D → List ℕ) (may_leave : D → 
 -- ---- refusals
 
 -- nothing keeps a survey from a kernel that has not failed, and in which nobody lives
-none_early : {D : Type 0} (failed : Bool) (k : Parts D) (why : Refusal) → failed ≡ false → length k.live.members ≡ 0 → survey_cause failed k ≡ Some why → ⊥
+none_early : {D : Type 0} (failed : Bool) (k : Core D) (why : Refusal) → failed ≡ false → length k.live.members ≡ 0 → survey_cause failed k ≡ Some why → ⊥
 none_early true k why well nobody is = cc
 none_early false k why well nobody is = let none : None ≡ Some why = rw nobody at is in cc
 
@@ -60,14 +60,14 @@ is_memory : (why : Refusal) → (why ≡ refusal.NoMemory) ⊎ (why ≢ refusal.
 is_memory refusal.NoMemory = inl refl
 is_memory _ = inr (λ e. cc)
 
-pub unsurveyed : {D : Type 0} (failures : D → ℕ) (failed : Bool) (k n : Parts D) (why : Refusal) → failed ≡ false → length k.live.members ≡ 0 → (why ≢ refusal.NoMemory → (survey_cause failed k ≡ Some why) ⊎ IsFault failures k n why) → IsUnmarked why
+pub unsurveyed : {D : Type 0} (failures : D → ℕ) (failed : Bool) (k n : Core D) (why : Refusal) → failed ≡ false → length k.live.members ≡ 0 → (why ≢ refusal.NoMemory → (survey_cause failed k ≡ Some why) ⊎ IsFault failures k n why) → IsUnmarked why
 unsurveyed failures failed k n why well nobody cause = elim (is_memory why) [
   | inl is ↦ subst IsUnmarked (sym is) tt
   | inr other ↦ elim (cause other) [ inl is ↦ absurd (none_early failed k why well nobody is) | inr fault ↦ subst IsUnmarked (sym fault.0) tt ]
 ]
 
 -- of a kernel that has not failed it is refused with 2 only where the device failed in the call
-pub survey_fault : {D : Type 0} (failures : D → ℕ) (failed : Bool) (k n : Parts D) (why : Refusal) → failed ≡ false → (why ≢ refusal.NoMemory → (survey_cause failed k ≡ Some why) ⊎ IsFault failures k n why) → why ≡ refusal.DeviceFailed
+pub survey_fault : {D : Type 0} (failures : D → ℕ) (failed : Bool) (k n : Core D) (why : Refusal) → failed ≡ false → (why ≢ refusal.NoMemory → (survey_cause failed k ≡ Some why) ⊎ IsFault failures k n why) → why ≡ refusal.DeviceFailed
     → failures k.operations.store.device < failures n.operations.store.device
 survey_fault failures true k n why well cause is = absurd cc
 survey_fault failures false k n why well cause is = elim (cause (λ e. let apart : refusal.DeviceFailed ≡ refusal.NoMemory = sym is ∙ e in cc)) [

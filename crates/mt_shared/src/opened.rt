@@ -64,9 +64,9 @@ impl<D: Device> Opened<D> {
     ) -> Result<Opened<D>, Kernel<D>>
         requires count { count < 2 ^ 32 }
         requires began { BeganOn D.seen D.may_leave base.now kernel }
-        ensures ok { IfOk result (λ o. (o.base ≡ base.now) × (o.book ≡ kernel.parts.book.items)) }
+        ensures ok { IfOk result (λ o. (o.base ≡ base.now) × (o.book ≡ kernel.core.book.items)) }
         ensures many { IfOk result (λ o. o.count ≡ count) }
-        ensures book { IfErr result (λ k. k.parts.book.items ≡ kernel.parts.book.items) }
+        ensures book { IfErr result (λ k. k.core.book.items ≡ kernel.core.book.items) }
         ensures began { IfErr result (λ k. BeganOn D.seen D.may_leave base.now k) }
         ensures same { IfErr result (λ k. k ≡ kernel) }
     {
@@ -91,7 +91,7 @@ impl<D: Device> Opened<D> {
         ensures passes { IfOk result (λ r. All (λ (p : PassSeen). dones p.seen ≡ self.book) r.1.items) }
         ensures fresh { IfOk result (λ r. All (IsNew J.book) r.1.items) }
         ensures many { IfOk result (λ r. vec_len r.1 ≡ self.count) }
-        ensures err { IfErr result (λ k. k.parts.book.items ≡ self.book) }
+        ensures err { IfErr result (λ k. k.core.book.items ≡ self.book) }
         ensures began { IfErr result (λ k. BeganOn D.seen D.may_leave self.base k) }
     {
         let Opened { kernel, end, seats } = self;

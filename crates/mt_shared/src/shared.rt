@@ -553,9 +553,9 @@ impl<D: Device, G: Gate + Drop, J: Naming> Shared<D, G, J> {
     /// history, or one lives in a kernel that has not failed.
     pub fn close(self, passes: Vec<Pass<J>>) -> Result<Kernel<D>, Closed<D, G, J>>
         ensures seen { IfOk result (λ k.
-            All (λ (p : PassSeen). IsPrefix (dones p.seen) k.parts.book.items) passes.items) }
-        ensures own { IfOk result (λ k. HasAllOf k.parts.book.items passes.items) }
-        ensures count { IfOk result (λ k. length k.parts.book.items ≡ length J.book + all_own passes.items) }
+            All (λ (p : PassSeen). IsPrefix (dones p.seen) k.core.book.items) passes.items) }
+        ensures own { IfOk result (λ k. HasAllOf k.core.book.items passes.items) }
+        ensures count { IfOk result (λ k. length k.core.book.items ≡ length J.book + all_own passes.items) }
         ensures began { IfOk result (λ k. BeganOn D.seen D.may_leave J.base k) }
         ensures idle { IfOk result (λ k. is_failed k ≡ false → IsIdle k) }
         ensures why { IfErr result (λ c. IsCloseRefusal c.why) }

@@ -7,14 +7,14 @@
 //! count, one slot's head, and the record's own bytes.
 #![tactic(auto)]
 
-mod changing;
-mod checking;
+mod operations;
+mod page_rules;
 mod heads;
-mod moving;
-mod placing;
-mod reading;
+mod compaction;
+mod placement;
+mod contents;
 
-pub use changing::{empty, insert, remove, replace};
-pub use checking::check;
-pub use placing::ROW_HEAD_BYTES;
-pub use reading::{RecordView, get, live, room};
+pub use operations::{empty, insert, remove, replace};
+pub use page_rules::check;
+pub use placement::ROW_HEAD_BYTES;
+pub use contents::{RecordView, get, live, room};

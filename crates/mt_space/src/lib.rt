@@ -8,12 +8,12 @@
 mod changes;
 mod map;
 pub mod pages;
-mod patching;
+mod patches;
 mod space;
 mod views;
 
 pub use changes::{Changes, PageChange};
 pub use map::first_free;
-pub use patching::patch;
+pub use patches::patch;
 pub use space::Space;
 pub use views::Pages;

@@ -22,12 +22,12 @@ use Rattle.mt_index.specs.declared.answers.Add.TheVariants as add
 use Rattle.mt_index.specs.declared.answers.Amend.{Amend}
 use Rattle.mt_index.specs.declared.answers.Amend.TheVariants as amend
 use Rattle.mt_index.specs.Answers.{IsInBucket, IsInAdd, AddNeeds, AmendNeeds, AreSeen}
-use Rattle.mt_steps.specs.declared.draft.PageCopy.{PageCopy}
-use Rattle.mt_steps.specs.Drafts.{AreAtHand, AreCopies, shown}
+use Rattle.mt_steps.specs.declared.overlay.PageCopy.{PageCopy}
+use Rattle.mt_steps.specs.Overlays.{AreAtHand, AreCopies, shown}
 use Rattle.mt_steps.specs.Held.{AreRows}
 use Rattle.mt_steps.specs.Plans.{HasStood}
 use Rattle.mt_steps.specs.Asks.{IsForDelete, IsForUpdate}
-use Rattle.mt_steps.proofs.Drafting.{none_shown}
+use Rattle.mt_steps.proofs.Overlaid.{none_shown}
 use Rattle.mt_steps.proofs.Entering.{first_inside}
 use Rattle.mt_steps.proofs.Naming.{needs_place}
 

@@ -2,7 +2,7 @@ mod Rows
 mod Apart
 mod Acting
 pub mod Numbers
-pub mod Drafting
+pub mod Overlaid
 mod Entering
 mod Leaving
 mod Shifting

@@ -2,7 +2,7 @@ pub mod Held
 pub mod Listed
 pub mod Acts
 pub mod Counters
-pub mod Drafts
+pub mod Overlays
 pub mod Plans
 pub mod Asks
 pub mod Repeated

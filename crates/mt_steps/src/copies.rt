@@ -2,9 +2,9 @@
 ghost use Rattle.std.specs.Prelude.{◌≡◌, ◌<◌, ◌++◌, ◌∷◌, [], OnOk};
 ghost use Rattle.std.specs.Vec.{vec_len, vec_capacity};
 ghost use Rattle.mt_base.specs.declared.limits.TheConstants.{PAGE_BYTES};
-ghost use Rattle.mt_steps.specs.declared.draft.PageCopy.{PageCopy};
+ghost use Rattle.mt_steps.specs.declared.overlay.PageCopy.{PageCopy};
 
-use crate::draft::{PageCopy, copy_of};
+use crate::overlay::{PageCopy, copy_of};
 use mt_base::PageNo;
 use mt_space::Pages;
 use std::alloc::{AllocError, Global};
@@ -109,7 +109,7 @@ impl Copies {
 
 impl Pages for Copies {
     ghost use Rattle.std.specs.Prelude.{◌≡◌, ℕ, List, length, Some};
-    ghost use Rattle.mt_steps.specs.Drafts.{copied};
+    ghost use Rattle.mt_steps.specs.Overlays.{copied};
 
     ghost is_sound = { λ copies. (p : ℕ) (bytes : List ℕ) → copied copies.list.items p ≡ Some bytes
         → length bytes ≡ PAGE_BYTES };

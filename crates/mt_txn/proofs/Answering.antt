@@ -9,19 +9,19 @@ use Rattle.mt_live.specs.Machine.{State, called}
 use Rattle.mt_live.specs.declared.transactions.TxnState.TheVariants.{Open}
 use Rattle.mt_model.specs.Model.{Base, IsWithin}
 use Rattle.mt_model.specs.declared.operations.Op.{Op}
-use Rattle.mt_kernel.specs.Consistent.{Origin, state_of, IsConsistent, IsIn, MayBeCalled, IsCalled}
-use Rattle.mt_kernel.specs.Runs.{state_in}
-use Rattle.mt_kernel.specs.declared.calls.Called.{Called}
-use Rattle.mt_kernel.specs.declared.calls.Called.TheVariants as call
-use Rattle.mt_kernel.specs.declared.parts.Parts.{Parts}
-use Rattle.mt_kernel.specs.declared.parts.Running.{Running}
+use Rattle.mt_core.specs.Consistent.{Origin, state_of, IsConsistent, IsIn, MayBeCalled, IsCalled}
+use Rattle.mt_core.specs.Runs.{state_in}
+use Rattle.mt_core.specs.declared.calls.Called.{Called}
+use Rattle.mt_core.specs.declared.calls.Called.TheVariants as call
+use Rattle.mt_core.specs.declared.kernel_core.Core.{Core}
+use Rattle.mt_core.specs.declared.kernel_core.Running.{Running}
 use Rattle.mt_txn.proofs.Showing.{open_works, within_of}
 use Rattle.mt_txn.specs.Causes.{IsNamed, IsSized}
 use Rattle.mt_txn.specs.Events.{HasCalled, HasStepped, HasForced, HasAborted}
 use Rattle.mt_txn.specs.Events.IsBack.{stands}
 use Rattle.mt_txn.specs.Shown.{Shows}
-use Rattle.mt_kernel.specs.Work.{LeavesSteps}
-use Rattle.mt_kernel.specs.declared.steps.Going.{Going}
+use Rattle.mt_core.specs.Work.{LeavesSteps}
+use Rattle.mt_core.specs.declared.steps.Going.{Going}
 use Rattle.mt_txn.specs.Work.{IsToldAs, LowersSteps, IsAbortToldAs, LowersAbort}
 use Rattle.mt_txn.specs.Well.{IsOrigin, IsWell, ShowsIn}
 use Rattle.mt_txn.specs.declared.answers.AbortStepped.{AbortStepped}
@@ -58,34 +58,34 @@ module _ {D : Type 0} {g : Ghosts D} (seen : D → List ℕ) (may_leave : D → 
 -- ---- a call
 
 module _ {D : Type 0} (seen : D → List ℕ) (may_leave : D → List ℕ → Type 0) (relations counters : ℕ) where
-  pub may_call : (k : Parts D) (t : ℕ) (op : Op) (origin : Origin) → IsOrigin relations counters origin.first origin → IsNamed relations counters op → IsSized op → state_in k.live.members t ≡ Some Open → All (λ (r : Running). r.scope.txn ≢ t) k.running.items → MayBeCalled origin k t op
+  pub may_call : (k : Core D) (t : ℕ) (op : Op) (origin : Origin) → IsOrigin relations counters origin.first origin → IsNamed relations counters op → IsSized op → state_in k.live.members t ≡ Some Open → All (λ (r : Running). r.scope.txn ≢ t) k.running.items → MayBeCalled origin k t op
   may_call k t op origin is named sized opened idle = record {
     within = subst (λ (X : Type 0). X) (λ i. IsWithin (sym is.relations_are i) (sym is.counters_are i) op) (within_of relations counters op named sized);
     at_work = open_works (member_of k.live.members t) opened;
     idle = idle;
   }
 
-  abbrev pub CallShown : Parts D → Base → State → ℕ → Op → Result Called Refusal → Type 0
+  abbrev pub CallShown : Core D → Base → State → ℕ → Op → Result Called Refusal → Type 0
   CallShown n first s t op (Ok call.Started) = ShowsIn seen may_leave relations counters first (called s t op) n
   CallShown n first s t op (Ok (call.Wait holder)) = ShowsIn seen may_leave relations counters first s n
   CallShown n first s t op (Err why) = ShowsIn seen may_leave relations counters first s n
 
-  leads_in : (n : Parts D) (first : Base) (s z : State) (f : State → State) → (origin : Origin) (base : Base) → s ≡ z → IsIn seen may_leave origin base (f z) n → IsIn seen may_leave origin base (f s) n
+  leads_in : (n : Core D) (first : Base) (s z : State) (f : State → State) → (origin : Origin) (base : Base) → s ≡ z → IsIn seen may_leave origin base (f z) n → IsIn seen may_leave origin base (f s) n
   leads_in n first s z f origin base same is = subst (λ x. IsIn seen may_leave origin base (f x) n) (sym same) is
 
-  pub call_shown : (k n : Parts D) (first : Base) (s : State) (t : ℕ) (op : Op) (res : Result Called Refusal) → ((origin : Origin) → IsOrigin relations counters origin.first origin → MayBeCalled origin k t op)
+  pub call_shown : (k n : Core D) (first : Base) (s : State) (t : ℕ) (op : Op) (res : Result Called Refusal) → ((origin : Origin) → IsOrigin relations counters origin.first origin → MayBeCalled origin k t op)
       → ((origin : Origin) (base : Base) → IsConsistent seen may_leave origin base k → MayBeCalled origin k t op → IsCalled seen may_leave origin base (state_of k base) n t op res) → ShowsIn seen may_leave relations counters first s k → CallShown n first s t op res
   call_shown k n first s t op (Ok call.Started) may go shows = ∥∥₁_map shows (λ (origin, base, is, x). (origin, base, is, leads_in n first s (state_of k base) (λ z. called z t op) origin base x.state (go origin base x.consistent (may origin (record { relations_are = is.relations_are; counters_are = is.counters_are; first_is = refl })))))
   call_shown k n first s t op (Ok (call.Wait holder)) may go shows = ∥∥₁_map shows (λ (origin, base, is, x). (origin, base, is, leads_in n first s (state_of k base) (λ z. z) origin base x.state (go origin base x.consistent (may origin (record { relations_are = is.relations_are; counters_are = is.counters_are; first_is = refl })))))
   call_shown k n first s t op (Err why) may go shows = ∥∥₁_map shows (λ (origin, base, is, x). (origin, base, is, leads_in n first s (state_of k base) (λ z. z) origin base x.state (go origin base x.consistent (may origin (record { relations_are = is.relations_are; counters_are = is.counters_are; first_is = refl })))))
 
-  pub call_well : (k n : Parts D) (t : ℕ) (op : Op) (res : Result Called Refusal) → ((origin : Origin) → IsOrigin relations counters origin.first origin → MayBeCalled origin k t op)
+  pub call_well : (k n : Core D) (t : ℕ) (op : Op) (res : Result Called Refusal) → ((origin : Origin) → IsOrigin relations counters origin.first origin → MayBeCalled origin k t op)
       → ((origin : Origin) (base : Base) → IsConsistent seen may_leave origin base k → MayBeCalled origin k t op → IsCalled seen may_leave origin base (state_of k base) n t op res) → IsWell seen may_leave relations counters k → IsWell seen may_leave relations counters n
   call_well k n t op (Ok call.Started) may go well = ∥∥₁_map well (λ (origin, base, is, safe). (origin, base, is, (go origin base safe (may origin is)).consistent))
   call_well k n t op (Ok (call.Wait holder)) may go well = ∥∥₁_map well (λ (origin, base, is, safe). (origin, base, is, (go origin base safe (may origin is)).consistent))
   call_well k n t op (Err why) may go well = ∥∥₁_map well (λ (origin, base, is, safe). (origin, base, is, (go origin base safe (may origin is)).consistent))
 
-pub call_answers : {D : Type 0} {g : Ghosts D} (seen : D → List ℕ) (may_leave : D → List ℕ → Type 0) (first : Base) (s : State) (t : ℕ) (op : Op) (res : Result Called Refusal) (n : Kernel D g) → CallShown seen may_leave n.relations n.counters n.parts first s t op res → HasCalled seen may_leave first s t op res n
+pub call_answers : {D : Type 0} {g : Ghosts D} (seen : D → List ℕ) (may_leave : D → List ℕ → Type 0) (first : Base) (s : State) (t : ℕ) (op : Op) (res : Result Called Refusal) (n : Kernel D g) → CallShown seen may_leave n.relations n.counters n.core first s t op res → HasCalled seen may_leave first s t op res n
 call_answers seen may_leave first s t op (Ok call.Started) n shows = shows
 call_answers seen may_leave first s t op (Ok (call.Wait holder)) n shows = shows
 call_answers seen may_leave first s t op (Err why) n shows = shows

@@ -6,20 +6,20 @@ use mathlib.Core.Logic.{∥∥₁_elim, ∥∥₁_map}
 use Rattle.mt_live.specs.Lives.{member_of}
 use Rattle.mt_live.specs.Members.{Member}
 use Rattle.mt_model.specs.Model.{Base}
-use Rattle.mt_kernel.proofs.Holders.{owners_same, owner_works}
-use Rattle.mt_kernel.specs.Consistent.{Origin, SameStates, AtPlace, IsConsistent, IsOwnerOf}
-use Rattle.mt_kernel.specs.Runs.{is_open}
-use Rattle.mt_kernel.specs.Steps.{IsOfOther, AwaitsOther}
-use Rattle.mt_kernel.specs.declared.parts.Parts.{Parts}
-use Rattle.mt_kernel.specs.declared.parts.Running.{Running}
-use Rattle.mt_kernel.specs.declared.steps.Going.{Going}
-use Rattle.mt_kernel.specs.declared.steps.Going.TheVariants as going
+use Rattle.mt_core.proofs.Holders.{owners_same, owner_works}
+use Rattle.mt_core.specs.Consistent.{Origin, SameStates, AtPlace, IsConsistent, IsOwnerOf}
+use Rattle.mt_core.specs.Runs.{is_open}
+use Rattle.mt_core.specs.Steps.{IsOfOther, AwaitsOther}
+use Rattle.mt_core.specs.declared.kernel_core.Core.{Core}
+use Rattle.mt_core.specs.declared.kernel_core.Running.{Running}
+use Rattle.mt_core.specs.declared.steps.Going.{Going}
+use Rattle.mt_core.specs.declared.steps.Going.TheVariants as going
 use Rattle.mt_txn.proofs.Showing.{at_place}
 use Rattle.mt_txn.specs.Well.{IsWell}
 use Rattle.std.proofs.Common.{sym, ◌≢◌, Ok, inl}
 use Rattle.std.proofs.lemmas.List.Elements.{All-get_or}
-use Rattle.mt_kernel.specs.PageLocks.{KeepsPageLocks}
-use Rattle.mt_kernel.specs.declared.steps.Stepping.TheVariants.{Going as GoingOn}
+use Rattle.mt_core.specs.PageLocks.{KeepsPageLocks}
+use Rattle.mt_core.specs.declared.steps.Stepping.TheVariants.{Going as GoingOn}
 use Rattle.mt_txn.specs.PageLocks.{AbortsLocks, BeginsAnew, StepsLocks}
 use Rattle.mt_txn.specs.Work.{IsToldAs, IsAbortToldAs, IsAnother, IsForOther, IsAbortForOther}
 use Rattle.mt_txn.specs.declared.answers.AbortStepped.{AbortStepped}
@@ -43,42 +43,42 @@ abort_goes rs g abort.Flush told is = absurd cc
 
 module _ {D : Type 0} (seen : D → List ℕ) (may_leave : D → List ℕ → Type 0) (relations counters : ℕ) where
   -- what a step of the operation at a place says that goes on
-  pub record GoesOn (k n : Parts D) (place : ℕ) (g : Going) : Type 0 where
+  pub record GoesOn (k n : Core D) (place : ℕ) (g : Going) : Type 0 where
     pub within : place < length k.running.items
     pub states : SameStates k n
     pub consistent : (origin : Origin) (base : Base) → IsConsistent seen may_leave origin base k → IsConsistent seen may_leave origin base n
     pub names : (origin : Origin) (base : Base) → IsConsistent seen may_leave origin base k → AtPlace k.running.items place (λ r. AwaitsOther n.running.items r.scope.txn g)
 
-  named_at : (k n : Parts D) (t place : ℕ) (g : Going) (origin : Origin) (base : Base) → AtPlace k.running.items place (λ r. r.scope.txn ≡ t) → GoesOn k n place g → IsConsistent seen may_leave origin base k → AwaitsOther n.running.items t g
+  named_at : (k n : Core D) (t place : ℕ) (g : Going) (origin : Origin) (base : Base) → AtPlace k.running.items place (λ r. r.scope.txn ≡ t) → GoesOn k n place g → IsConsistent seen may_leave origin base k → AwaitsOther n.running.items t g
   named_at k n t place g origin base own goes safe = let at = at_place k.running.items place goes.within in subst (λ (u : ℕ). AwaitsOther n.running.items u g) (own at.0 at.1) (goes.names origin base safe at.0 at.1)
 
   -- who has that operation lived
-  another : (k n : Parts D) (t place holder : ℕ) (g : Going) (origin : Origin) (base : Base) → GoesOn k n place g → IsConsistent seen may_leave origin base k → (o : IsOfOther n.running.items t holder) → IsAnother k.live.members t o.0
+  another : (k n : Core D) (t place holder : ℕ) (g : Going) (origin : Origin) (base : Base) → GoesOn k n place g → IsConsistent seen may_leave origin base k → (o : IsOfOther n.running.items t holder) → IsAnother k.live.members t o.0
   another k n t place holder g origin base goes safe (u, apart, owner) =
       let now = goes.consistent origin base safe in
       (apart, lived (member_of n.live.members u) (member_of k.live.members u) (goes.states u) (owner_works n.live.members n.live.standing n.running.items holder u now.fit.owned owner))
 
-  wait_other : (k n : Parts D) (t place holder other : ℕ) (g : Going) → AtPlace k.running.items place (λ r. r.scope.txn ≡ t) → GoesOn k n place g → IsWell seen may_leave relations counters k → g ≡ going.Wait holder → IsOwnerOf n.running.items holder (Some other) → IsAnother k.live.members t other
+  wait_other : (k n : Core D) (t place holder other : ℕ) (g : Going) → AtPlace k.running.items place (λ r. r.scope.txn ≡ t) → GoesOn k n place g → IsWell seen may_leave relations counters k → g ≡ going.Wait holder → IsOwnerOf n.running.items holder (Some other) → IsAnother k.live.members t other
   wait_other k n t place holder other g own goes well waits owner = ∥∥₁_elim well (hlevel props) (λ (origin, base, is, safe).
       let o : IsOfOther n.running.items t holder = subst (AwaitsOther n.running.items t) waits (named_at k n t place g origin base own goes safe) in
       let same : o.0 ≡ other = owners_same n.running.items holder o.0 other (goes.consistent origin base safe).fit.apart o.2 owner in
       subst (IsAnother k.live.members t) same (another k n t place holder g origin base goes safe o))
 
-  again_other : (k n : Parts D) (t place holder : ℕ) (g : Going) → AtPlace k.running.items place (λ r. r.scope.txn ≡ t) → GoesOn k n place g → IsWell seen may_leave relations counters k → ((g ≡ going.Wait holder) × IsOwnerOf n.running.items holder None) ⊎ (g ≡ going.Again holder)
+  again_other : (k n : Core D) (t place holder : ℕ) (g : Going) → AtPlace k.running.items place (λ r. r.scope.txn ≡ t) → GoesOn k n place g → IsWell seen may_leave relations counters k → ((g ≡ going.Wait holder) × IsOwnerOf n.running.items holder None) ⊎ (g ≡ going.Again holder)
       → ∥ ((u : ℕ) × IsAnother k.live.members t u) ∥₁
   again_other k n t place holder g own goes well told = ∥∥₁_map well (λ (origin, base, is, safe).
       let names = named_at k n t place g origin base own goes safe in
       let o : IsOfOther n.running.items t holder = ⊎_elim (λ (waits : (g ≡ going.Wait holder) × IsOwnerOf n.running.items holder None). subst (AwaitsOther n.running.items t) waits.0 names) (λ (again : g ≡ going.Again holder). subst (AwaitsOther n.running.items t) again names) told in
       (o.0, another k n t place holder g origin base goes safe o))
 
-  pub step_other : (k n : Parts D) (t place : ℕ) (g : Going) (x : Stepped) → AtPlace k.running.items place (λ r. r.scope.txn ≡ t) → GoesOn k n place g → IsWell seen may_leave relations counters k → IsToldAs n.running.items g x → IsForOther k.live.members t x
+  pub step_other : (k n : Core D) (t place : ℕ) (g : Going) (x : Stepped) → AtPlace k.running.items place (λ r. r.scope.txn ≡ t) → GoesOn k n place g → IsWell seen may_leave relations counters k → IsToldAs n.running.items g x → IsForOther k.live.members t x
   step_other k n t place g (step.Replied reply) own goes well told = tt
   step_other k n t place g step.Went own goes well told = tt
   step_other k n t place g (step.Wait other) own goes well told = wait_other k n t place told.0 other g own goes well told.1 told.2
   step_other k n t place g step.Again own goes well told = again_other k n t place told.0 g own goes well told.1
   step_other k n t place g step.Flush own goes well told = tt
 
-  pub abort_other : (k n : Parts D) (t place : ℕ) (g : Going) (x : AbortStepped) → AtPlace k.running.items place (λ r. r.scope.txn ≡ t) → GoesOn k n place g → IsWell seen may_leave relations counters k → IsAbortToldAs n.running.items g x → IsAbortForOther k.live.members t x
+  pub abort_other : (k n : Core D) (t place : ℕ) (g : Going) (x : AbortStepped) → AtPlace k.running.items place (λ r. r.scope.txn ≡ t) → GoesOn k n place g → IsWell seen may_leave relations counters k → IsAbortToldAs n.running.items g x → IsAbortForOther k.live.members t x
   abort_other k n t place g abort.More own goes well told = tt
   abort_other k n t place g (abort.Wait other) own goes well told = wait_other k n t place told.0 other g own goes well told.1 told.2
   abort_other k n t place g abort.Again own goes well told = again_other k n t place told.0 g own goes well told.1
@@ -92,18 +92,18 @@ module _ {D : Type 0} (seen : D → List ℕ) (may_leave : D → List ℕ → Ty
       subst (λ (x : Running). x.scope.number ≢ holder) (sym at.1) (All-get_or (λ (x : Running). x.scope.number ≢ holder) rs place at.0 within none) (owns at.0 at.1).0
 
   -- whose number is no operation's under way is not waited for
-  awaits_some : (k n : Parts D) (t place holder : ℕ) (g : Going) → AtPlace k.running.items place (λ r. r.scope.txn ≡ t) → GoesOn k n place g → IsWell seen may_leave relations counters k → g ≡ going.Wait holder → IsOwnerOf n.running.items holder None → ⊥
+  awaits_some : (k n : Core D) (t place holder : ℕ) (g : Going) → AtPlace k.running.items place (λ r. r.scope.txn ≡ t) → GoesOn k n place g → IsWell seen may_leave relations counters k → g ≡ going.Wait holder → IsOwnerOf n.running.items holder None → ⊥
   awaits_some k n t place holder g own goes well waits none = ∥∥₁_elim well (hlevel props) (λ (origin, base, is, safe).
       let o : IsOfOther n.running.items t holder = subst (AwaitsOther n.running.items t) waits (named_at k n t place g origin base own goes safe) in
       unowned n.running.items holder o.0 o.2 none)
 
-  again_locks : (k n : Parts D) (t place holder : ℕ) (g : Going) (r : Running) → AtPlace k.running.items place (λ q. q.scope.txn ≡ t) → GoesOn k n place g → IsWell seen may_leave relations counters k → ((g ≡ going.Wait holder) × IsOwnerOf n.running.items holder None) ⊎ (g ≡ going.Again holder)
+  again_locks : (k n : Core D) (t place holder : ℕ) (g : Going) (r : Running) → AtPlace k.running.items place (λ q. q.scope.txn ≡ t) → GoesOn k n place g → IsWell seen may_leave relations counters k → ((g ≡ going.Wait holder) × IsOwnerOf n.running.items holder None) ⊎ (g ≡ going.Again holder)
       → KeepsPageLocks k n r (Ok (GoingOn g)) → BeginsAnew k n r
   again_locks k n t place holder g r own goes well told keeps = ⊎_elim
       (λ (waits : (g ≡ going.Wait holder) × IsOwnerOf n.running.items holder None). absurd (awaits_some k n t place holder g own goes well waits.0 waits.1))
       (λ (again : g ≡ going.Again holder). (holder, subst (λ (x : Going). KeepsPageLocks k n r (Ok (GoingOn x))) again keeps)) told
 
-  pub step_locks : (k n : Parts D) (t place : ℕ) (g : Going) (x : Stepped) (r : Running) → AtPlace k.running.items place (λ q. q.scope.txn ≡ t) → GoesOn k n place g → IsWell seen may_leave relations counters k → IsToldAs n.running.items g x
+  pub step_locks : (k n : Core D) (t place : ℕ) (g : Going) (x : Stepped) (r : Running) → AtPlace k.running.items place (λ q. q.scope.txn ≡ t) → GoesOn k n place g → IsWell seen may_leave relations counters k → IsToldAs n.running.items g x
       → KeepsPageLocks k n r (Ok (GoingOn g)) → StepsLocks k n r (Ok x)
   step_locks k n t place g (step.Replied reply) r own goes well told keeps = absurd told
   step_locks k n t place g step.Went r own goes well told keeps = subst (λ (x : Going). KeepsPageLocks k n r (Ok (GoingOn x))) told keeps
@@ -111,7 +111,7 @@ module _ {D : Type 0} (seen : D → List ℕ) (may_leave : D → List ℕ → Ty
   step_locks k n t place g step.Again r own goes well told keeps = again_locks k n t place told.0 g r own goes well told.1 keeps
   step_locks k n t place g step.Flush r own goes well told keeps = subst (λ (x : Going). KeepsPageLocks k n r (Ok (GoingOn x))) told keeps
 
-  pub abort_locks : (k n : Parts D) (t place : ℕ) (g : Going) (x : AbortStepped) (r : Running) → AtPlace k.running.items place (λ q. q.scope.txn ≡ t) → GoesOn k n place g → IsWell seen may_leave relations counters k → IsAbortToldAs n.running.items g x
+  pub abort_locks : (k n : Core D) (t place : ℕ) (g : Going) (x : AbortStepped) (r : Running) → AtPlace k.running.items place (λ q. q.scope.txn ≡ t) → GoesOn k n place g → IsWell seen may_leave relations counters k → IsAbortToldAs n.running.items g x
       → KeepsPageLocks k n r (Ok (GoingOn g)) → AbortsLocks k n r (Ok x)
   abort_locks k n t place g abort.More r own goes well told keeps = inl (subst (λ (x : Going). KeepsPageLocks k n r (Ok (GoingOn x))) told keeps)
   abort_locks k n t place g (abort.Wait other) r own goes well told keeps = (told.0, told.2, subst (λ (x : Going). KeepsPageLocks k n r (Ok (GoingOn x))) told.1 keeps)

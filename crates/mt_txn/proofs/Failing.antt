@@ -3,10 +3,10 @@ use Rattle.std.proofs.Common.{◌≡◌, ℕ, Bool, true, false, List, Option, S
 use Rattle.std.specs.Prelude.{nat_lt, if◌then◌else◌}
 use Rattle.mt_base.specs.declared.refusal.Refusal.{Refusal}
 use Rattle.mt_base.specs.declared.refusal.Refusal.TheVariants as refusal
-use Rattle.mt_kernel.specs.Causes.{IsAnswered}
-use Rattle.mt_kernel.specs.Consistent.{Origin}
-use Rattle.mt_kernel.specs.Runs.{state_in}
-use Rattle.mt_kernel.specs.declared.parts.Parts.{Parts}
+use Rattle.mt_core.specs.Causes.{IsAnswered}
+use Rattle.mt_core.specs.Consistent.{Origin}
+use Rattle.mt_core.specs.Runs.{state_in}
+use Rattle.mt_core.specs.declared.kernel_core.Core.{Core}
 use Rattle.mt_model.specs.declared.operations.Op.{Op}
 use Rattle.mt_model.specs.declared.operations.Op.TheVariants.{Get, Insert, Update, Delete, Add, Read}
 use Rattle.mt_txn.specs.Causes.{busy_cause, call_cause, count_cause, first_of, is_busy, is_key, is_open, is_step, name_cause, size_cause, unless}
@@ -49,12 +49,12 @@ open_fails false true later fine is = absurd (fine is)
 open_fails false false later fine is = absurd cc
 
 -- a call that a test refuses with 2 is of a kernel that has failed
-pub call_fails : {D : Type 0} → (relations counters : ℕ) (failed : Bool) (k : Parts D) (t : ℕ) (op : Op) → call_cause relations counters failed k t op ≡ Some refusal.DeviceFailed → failed ≡ true
+pub call_fails : {D : Type 0} → (relations counters : ℕ) (failed : Bool) (k : Core D) (t : ℕ) (op : Op) → call_cause relations counters failed k t op ≡ Some refusal.DeviceFailed → failed ≡ true
 call_fails relations counters failed k t op =
     open_fails failed (is_open (state_in k.live.members t)) _
     (first_fine (busy_cause k t) _ (one_fine (is_busy k t) refusal.Busy (λ e. cc))
     (first_fine (count_cause k t) _ (one_fine _ refusal.TooManyOperations (λ e. cc)) (first_fine (name_cause relations counters op) (size_cause op) (name_fine relations counters op) (size_fine op))))
 
 -- locks, escrow, pages and log refuse none with 2
-pub answered_fine : {D : Type 0} → (seen : D → List ℕ) (origin : Origin) (k : Parts D) (kept t : ℕ) (op : Op) → IsAnswered seen origin k kept t op true (Err refusal.DeviceFailed) → ⊥
+pub answered_fine : {D : Type 0} → (seen : D → List ℕ) (origin : Origin) (k : Core D) (kept t : ℕ) (op : Op) → IsAnswered seen origin k kept t op true (Err refusal.DeviceFailed) → ⊥
 answered_fine seen origin k kept t op answered = answered.1.1

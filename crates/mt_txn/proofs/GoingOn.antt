@@ -7,16 +7,16 @@ use mathlib.Core.Logic.{∥∥₁_elim, ∥∥₁_map, ∥∥₁_prop}
 use Rattle.mt_disk.specs.declared.device.Device.{Ghosts}
 use Rattle.mt_escrow.specs.Seen.{Escrowed}
 use Rattle.mt_frame.specs.declared.records.Record.{Record}
-use Rattle.mt_kernel.proofs.First.{none_of_none}
-use Rattle.mt_kernel.proofs.Prefixed.{stands_first}
-use Rattle.mt_kernel.proofs.Recovering.{commits_since, since_legal, after_earlier}
-use Rattle.mt_kernel.proofs.Turning.{booked_holds, none_commits}
-use Rattle.mt_kernel.specs.Booked.{txns_of}
-use Rattle.mt_kernel.specs.Consistent.{Origin, IsConsistent, IsEscrowed, SameUncommitted, session_in, state_in, state_of}
-use Rattle.mt_kernel.specs.Restartable.{effects_of}
-use Rattle.mt_kernel.specs.Turned.{TurnsOver}
-use Rattle.mt_kernel.specs.declared.parts.Commit.{Commit}
-use Rattle.mt_kernel.specs.declared.parts.Parts.{Parts}
+use Rattle.mt_core.proofs.First.{none_of_none}
+use Rattle.mt_core.proofs.Prefixed.{stands_first}
+use Rattle.mt_core.proofs.Recovering.{commits_since, since_legal, after_earlier}
+use Rattle.mt_core.proofs.Turning.{booked_holds, none_commits}
+use Rattle.mt_core.specs.Booked.{txns_of}
+use Rattle.mt_core.specs.Consistent.{Origin, IsConsistent, IsEscrowed, SameUncommitted, session_in, state_in, state_of}
+use Rattle.mt_core.specs.Restartable.{effects_of}
+use Rattle.mt_core.specs.Turned.{TurnsOver}
+use Rattle.mt_core.specs.declared.kernel_core.Commit.{Commit}
+use Rattle.mt_core.specs.declared.kernel_core.Core.{Core}
 use Rattle.mt_live.specs.Laws.{in_turn}
 use Rattle.mt_live.specs.Lives.{member_of}
 use Rattle.mt_live.specs.Machine.{State}
@@ -34,7 +34,7 @@ use Rattle.mt_txn.specs.Shown.{Restarts, Stays}
 use Rattle.mt_txn.specs.Well.{IsOrigin, IsOpening, IsRestartableOn, IsWell, RestartsFrom}
 use Rattle.mt_txn.specs.declared.kernel.Kernel.{Kernel}
 
-module _ {D : Type 0} (seen : D → List ℕ) (may_leave : D → List ℕ → Type 0) (relations counters : ℕ) (first : Base) (k : Parts D) (origin : Origin) (base : Base) (nobody : length k.live.members ≡ 0) where
+module _ {D : Type 0} (seen : D → List ℕ) (may_leave : D → List ℕ → Type 0) (relations counters : ℕ) (first : Base) (k : Core D) (origin : Origin) (base : Base) (nobody : length k.live.members ≡ 0) where
   none : k.live.members ≡ []
   none = none_of_none k.live.members nobody
 
@@ -102,29 +102,29 @@ no_states (m ∷ ms) none = absurd (mine (m.number == m.number) (eq-eqb m.number
     mine false same is = absurd cc
 
 -- who does not commit goes on, and so nobody lives where nobody did
-pub nobody_still : {D : Type 0} (k n : Parts D) → length k.live.members ≡ 0 → SameUncommitted k n → length n.live.members ≡ 0
+pub nobody_still : {D : Type 0} (k n : Core D) → length k.live.members ≡ 0 → SameUncommitted k n → length n.live.members ≡ 0
 nobody_still k n nobody same =
     let none : k.live.members ≡ [] = none_of_none k.live.members nobody in
     let gone : (t : ℕ) → state_in k.live.members t ≡ None = λ t. ap (λ (ms : List Member). state_in ms t) none in
     ap (λ (ms : List Member). length ms) (no_states n.live.members (λ t. same t (λ commits. absurd (let is = gone t in cc)) ∙ gone t))
 
 module _ {D : Type 0} (seen : D → List ℕ) (may_leave : D → List ℕ → Type 0) where
-  booked_only : (k : Parts D) → length k.live.members ≡ 0 → (origin : Origin) (base : Base) → IsConsistent seen may_leave origin base k → all_commits k ≡ k.book.items
+  booked_only : (k : Core D) → length k.live.members ≡ 0 → (origin : Origin) (base : Base) → IsConsistent seen may_leave origin base k → all_commits k ≡ k.book.items
   booked_only k nobody origin base safe =
       ap (λ (cs : List Commit). k.book.items ++ in_turn (session_in k.live.members) (txns_of cs) k.live.standing) (none_commits seen may_leave origin base k (none_of_none k.live.members nobody) safe) ∙ append-nil k.book.items
 
   -- all commits are those of the book
-  pub all_booked : (k : Parts D) (relations counters : ℕ) (first : Base) → length k.live.members ≡ 0 → RestartsFrom seen may_leave relations counters first k → ∥ all_commits k ≡ k.book.items ∥₁
+  pub all_booked : (k : Core D) (relations counters : ℕ) (first : Base) → length k.live.members ≡ 0 → RestartsFrom seen may_leave relations counters first k → ∥ all_commits k ≡ k.book.items ∥₁
   all_booked k relations counters first nobody r = ∥∥₁_map r (λ (origin, base, x). booked_only k nobody origin base x.consistent)
 
 module _ {D : Type 0} {g : Ghosts D} (seen : D → List ℕ) (may_leave : D → List ℕ → Type 0) where
   -- and the same where the state stays, and so is the book
-  pub same_commits : (k m : Kernel D g) (first : Base) → length k.parts.live.members ≡ 0 → length m.parts.live.members ≡ 0 → Restarts seen may_leave first k → Stays seen may_leave k m → ∥ (all_commits m.parts ≡ all_commits k.parts) × (m.parts.book.items ≡ k.parts.book.items) ∥₁
+  pub same_commits : (k m : Kernel D g) (first : Base) → length k.core.live.members ≡ 0 → length m.core.live.members ≡ 0 → Restarts seen may_leave first k → Stays seen may_leave k m → ∥ (all_commits m.core ≡ all_commits k.core) × (m.core.book.items ≡ k.core.book.items) ∥₁
   same_commits k m first nobody still r stays = ∥∥₁_elim r ∥∥₁_prop (λ (origin, base, x).
-      ∥∥₁_map (stays first (state_of k.parts base) ∣ (origin, base, x.is, record { consistent = x.consistent; state = refl }) ∣₁) (λ (later, now, is, y).
-      let book : m.parts.book.items ≡ k.parts.book.items = sym (ap (λ (s : State). s.book) y.state) in
-      (booked_only seen may_leave m.parts still later now y.consistent ∙ book ∙ sym (booked_only seen may_leave k.parts nobody origin base x.consistent), book)))
+      ∥∥₁_map (stays first (state_of k.core base) ∣ (origin, base, x.is, record { consistent = x.consistent; state = refl }) ∣₁) (λ (later, now, is, y).
+      let book : m.core.book.items ≡ k.core.book.items = sym (ap (λ (s : State). s.book) y.state) in
+      (booked_only seen may_leave m.core still later now y.consistent ∙ book ∙ sym (booked_only seen may_leave k.core nobody origin base x.consistent), book)))
 
   -- a kernel's own facts say that nobody commits
-  pub nobody_commits : (k : Kernel D g) → length k.parts.live.members ≡ 0 → IsWell seen may_leave k.relations k.counters k.parts → ∥ k.parts.commits.items ≡ [] ∥₁
-  nobody_commits k nobody well = ∥∥₁_map well (λ (origin, base, is, safe). none_commits seen may_leave origin base k.parts (none_of_none k.parts.live.members nobody) safe)
+  pub nobody_commits : (k : Kernel D g) → length k.core.live.members ≡ 0 → IsWell seen may_leave k.relations k.counters k.core → ∥ k.core.commits.items ≡ [] ∥₁
+  nobody_commits k nobody well = ∥∥₁_map well (λ (origin, base, is, safe). none_commits seen may_leave origin base k.core (none_of_none k.core.live.members nobody) safe)

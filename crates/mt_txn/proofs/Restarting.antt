@@ -30,16 +30,16 @@ use Rattle.mt_log.specs.Masters.{IsRuling, Rules, area_size as size_of, area_sta
 use Rattle.mt_replay.specs.Recoverable.{IsRecoverable}
 use Rattle.mt_replay.specs.Stands.{CanRestart, StandsFor}
 use Rattle.mt_replay.specs.Told.{stands_for, tells}
-use Rattle.mt_kernel.proofs.Prefixed.{stands_first, tells_more}
-use Rattle.mt_kernel.proofs.Recovering.{commits_since, since_legal, after_earlier}
-use Rattle.mt_kernel.specs.Consistent.{Origin, state_of, BacksIn, IsConsistent, IsCalled, IsIn, MayBeCalled, StaysIn}
-use Rattle.mt_kernel.specs.Restartable.{Recovers, StaysRestartable}
-use Rattle.mt_kernel.specs.Steps.{Steps, UndoSteps}
-use Rattle.mt_kernel.specs.declared.calls.Called.{Called}
-use Rattle.mt_kernel.specs.declared.calls.Called.TheVariants as call
-use Rattle.mt_kernel.specs.declared.parts.Parts.{Parts}
-use Rattle.mt_kernel.specs.declared.steps.Stepping.{Stepping}
-use Rattle.mt_kernel.specs.declared.steps.Stepping.TheVariants.{Going, Ended}
+use Rattle.mt_core.proofs.Prefixed.{stands_first, tells_more}
+use Rattle.mt_core.proofs.Recovering.{commits_since, since_legal, after_earlier}
+use Rattle.mt_core.specs.Consistent.{Origin, state_of, BacksIn, IsConsistent, IsCalled, IsIn, MayBeCalled, StaysIn}
+use Rattle.mt_core.specs.Restartable.{Recovers, StaysRestartable}
+use Rattle.mt_core.specs.Steps.{Steps, UndoSteps}
+use Rattle.mt_core.specs.declared.calls.Called.{Called}
+use Rattle.mt_core.specs.declared.calls.Called.TheVariants as call
+use Rattle.mt_core.specs.declared.kernel_core.Core.{Core}
+use Rattle.mt_core.specs.declared.steps.Stepping.{Stepping}
+use Rattle.mt_core.specs.declared.steps.Stepping.TheVariants.{Going, Ended}
 use Rattle.mt_txn.proofs.Showing.{at_place}
 use Rattle.mt_txn.proofs.GoingOn.{stands_whole}
 use Rattle.mt_txn.specs.Restarted.{all_commits, FindsCommits, FindsMeanwhile}
@@ -65,53 +65,53 @@ place_durable old new place r is made = let step = subst (λ (x : Result Forced 
 
 module _ {D : Type 0} (seen : D → List ℕ) (may_leave : D → List ℕ → Type 0) where
   -- parts that are consistent become so
-  abbrev pub Goes : Parts D → Parts D → Type 0
+  abbrev pub Goes : Core D → Core D → Type 0
   Goes k n = (origin : Origin) (base : Base) → IsConsistent seen may_leave origin base k → (now : Base) × IsConsistent seen may_leave origin now n
 
-  pub stays_goes : (k n : Parts D) → StaysIn seen may_leave k n → Goes k n
+  pub stays_goes : (k n : Core D) → StaysIn seen may_leave k n → Goes k n
   stays_goes k n stays origin base safe = (base, (stays origin base safe).consistent)
 
-  pub then_goes : (k m n : Parts D) → Goes k m → Goes m n → Goes k n
+  pub then_goes : (k m n : Core D) → Goes k m → Goes m n → Goes k n
   then_goes k m n one two origin base safe = let mid = one origin base safe in two origin mid.0 mid.1
 
-  pub or_goes : {T : Type 0} (k n : Parts D) (f : State → State) (r : Result T Refusal) → ((origin : Origin) (base : Base) → IsConsistent seen may_leave origin base k → OnOk r (IsIn seen may_leave origin base (f (state_of k base)) n)) → OnErr r (n ≡ k) → Goes k n
+  pub or_goes : {T : Type 0} (k n : Core D) (f : State → State) (r : Result T Refusal) → ((origin : Origin) (base : Base) → IsConsistent seen may_leave origin base k → OnOk r (IsIn seen may_leave origin base (f (state_of k base)) n)) → OnErr r (n ≡ k) → Goes k n
   or_goes k n f (Ok x) go err origin base safe = (base, (go origin base safe).consistent)
   or_goes k n f (Err y) go err origin base safe = (base, subst (IsConsistent seen may_leave origin base) (sym err) safe)
 
-  pub either_goes : {T : Type 0} (k n : Parts D) (f : State → State) (r : Result T Refusal) → ((origin : Origin) (base : Base) → IsConsistent seen may_leave origin base k → OnOk r (IsIn seen may_leave origin base (f (state_of k base)) n))
+  pub either_goes : {T : Type 0} (k n : Core D) (f : State → State) (r : Result T Refusal) → ((origin : Origin) (base : Base) → IsConsistent seen may_leave origin base k → OnOk r (IsIn seen may_leave origin base (f (state_of k base)) n))
       → ((origin : Origin) (base : Base) → IsConsistent seen may_leave origin base k → OnErr r (IsIn seen may_leave origin base (state_of k base) n)) → Goes k n
   either_goes k n f (Ok x) go err origin base safe = (base, (go origin base safe).consistent)
   either_goes k n f (Err y) go err origin base safe = (base, (err origin base safe).consistent)
 
-  pub step_goes : (k n : Parts D) (place : ℕ) (res : Result Stepping Refusal) → place < length k.running.items → ((origin : Origin) (base : Base) → IsConsistent seen may_leave origin base k → Steps seen may_leave origin base k n place res) → Goes k n
+  pub step_goes : (k n : Core D) (place : ℕ) (res : Result Stepping Refusal) → place < length k.running.items → ((origin : Origin) (base : Base) → IsConsistent seen may_leave origin base k → Steps seen may_leave origin base k n place res) → Goes k n
   step_goes k n place (Ok (Going going)) within go origin base safe = (base, (go origin base safe).consistent)
   step_goes k n place (Err why) within go origin base safe = (base, (go origin base safe).consistent)
   step_goes k n place (Ok (Ended reply)) within go origin base safe = let at = at_place k.running.items place within in (base_after base at.0.scope.op, (go origin base safe at.0 at.1).1.consistent)
 
-  pub undo_goes : (k n : Parts D) (place : ℕ) (res : Result Stepping Refusal) → place < length k.running.items → ((origin : Origin) (base : Base) → IsConsistent seen may_leave origin base k → UndoSteps seen may_leave origin base k n place res) → Goes k n
+  pub undo_goes : (k n : Core D) (place : ℕ) (res : Result Stepping Refusal) → place < length k.running.items → ((origin : Origin) (base : Base) → IsConsistent seen may_leave origin base k → UndoSteps seen may_leave origin base k n place res) → Goes k n
   undo_goes k n place (Ok (Going going)) within go origin base safe = (base, (go origin base safe).consistent)
   undo_goes k n place (Err why) within go origin base safe = (base, (go origin base safe).consistent)
   undo_goes k n place (Ok (Ended reply)) within go origin base safe = let at = at_place k.running.items place within in (base_after base at.0.scope.op, (go origin base safe at.0 at.1).1.leads.consistent)
 
-  pub back_goes : (k n : Parts D) (place : ℕ) (res : Result TakenBack Refusal) → place < length k.running.items → ((origin : Origin) (base : Base) → IsConsistent seen may_leave origin base k → BacksIn seen may_leave origin base k n place res) → Goes k n
+  pub back_goes : (k n : Core D) (place : ℕ) (res : Result TakenBack Refusal) → place < length k.running.items → ((origin : Origin) (base : Base) → IsConsistent seen may_leave origin base k → BacksIn seen may_leave origin base k n place res) → Goes k n
   back_goes k n place (Ok taken.More) within go origin base safe = (base, (go origin base safe).consistent)
   back_goes k n place (Ok taken.Flush) within go origin base safe = (base, (go origin base safe).consistent)
   back_goes k n place (Err why) within go origin base safe = (base, (go origin base safe).consistent)
   back_goes k n place (Ok taken.Clear) within go origin base safe = let at = at_place k.running.items place within in (base, (go origin base safe at.0 at.1).leads.consistent)
 
-  called_now : (k n : Parts D) (t : ℕ) (op : Op) (res : Result Called Refusal) (origin : Origin) (base : Base) (s : State) → IsCalled seen may_leave origin base s n t op res → IsConsistent seen may_leave origin base n
+  called_now : (k n : Core D) (t : ℕ) (op : Op) (res : Result Called Refusal) (origin : Origin) (base : Base) (s : State) → IsCalled seen may_leave origin base s n t op res → IsConsistent seen may_leave origin base n
   called_now k n t op (Ok call.Started) origin base s is = is.consistent
   called_now k n t op (Ok (call.Wait holder)) origin base s is = is.consistent
   called_now k n t op (Err why) origin base s is = is.consistent
 
   module _ (relations counters : ℕ) (first : Base) where
-    renewed : (k n : Parts D) (origin : Origin) (base later : Base) → IsRestartableOn seen may_leave relations counters first origin base k → IsConsistent seen may_leave origin later n → StaysRestartable seen may_leave k n → IsRestartableOn seen may_leave relations counters first origin later n
+    renewed : (k n : Core D) (origin : Origin) (base later : Base) → IsRestartableOn seen may_leave relations counters first origin base k → IsConsistent seen may_leave origin later n → StaysRestartable seen may_leave k n → IsRestartableOn seen may_leave relations counters first origin later n
     renewed k n origin base later x now stays = record { is = x.is; bounds = x.bounds; holds = x.holds; consistent = now; restartable = stays origin base later x.consistent now x.restartable }
 
-    pub restarts_on : (k n : Parts D) → Goes k n → StaysRestartable seen may_leave k n → RestartsFrom seen may_leave relations counters first k → RestartsFrom seen may_leave relations counters first n
+    pub restarts_on : (k n : Core D) → Goes k n → StaysRestartable seen may_leave k n → RestartsFrom seen may_leave relations counters first k → RestartsFrom seen may_leave relations counters first n
     restarts_on k n go stays r = ∥∥₁_map r (λ (origin, base, x). let y = go origin base x.consistent in (origin, y.0, renewed k n origin base y.0 x y.1 stays))
 
-    pub restarts_called : (k n : Parts D) (t : ℕ) (op : Op) (res : Result Called Refusal) → ((origin : Origin) → IsOrigin relations counters origin.first origin → MayBeCalled origin k t op)
+    pub restarts_called : (k n : Core D) (t : ℕ) (op : Op) (res : Result Called Refusal) → ((origin : Origin) → IsOrigin relations counters origin.first origin → MayBeCalled origin k t op)
         → ((origin : Origin) (base : Base) → IsConsistent seen may_leave origin base k → MayBeCalled origin k t op → IsCalled seen may_leave origin base (state_of k base) n t op res) → StaysRestartable seen may_leave k n
         → RestartsFrom seen may_leave relations counters first k → RestartsFrom seen may_leave relations counters first n
     restarts_called k n t op res may go stays r = ∥∥₁_map r (λ (origin, base, x).
@@ -121,7 +121,7 @@ module _ {D : Type 0} (seen : D → List ℕ) (may_leave : D → List ℕ → Ty
     -- ---- what a restart finds
 
     -- a restart finds the base that the records stand for
-    restarted : (k : Parts D) (origin : Origin) (base : Base) (c : List ℕ) → IsRestartableOn seen may_leave relations counters first origin base k → (e : Explains origin.pages k.operations.store c) → IsRelationCount relations → CanRestart relations counters c (stands_for origin.begun (joined e.batches))
+    restarted : (k : Core D) (origin : Origin) (base : Base) (c : List ℕ) → IsRestartableOn seen may_leave relations counters first origin base k → (e : Explains origin.pages k.operations.store c) → IsRelationCount relations → CanRestart relations counters c (stands_for origin.begun (joined e.batches))
     restarted k origin base c x e schema =
         let slot = e.ruling in
         let names = e.names in
@@ -148,7 +148,7 @@ module _ {D : Type 0} (seen : D → List ℕ) (may_leave : D → List ℕ → Ty
         } in
         record { stands = stands; fits = schema; recoverable = mine }
 
-    found : (k : Parts D) (origin : Origin) (base : Base) (c : List ℕ) → IsRestartableOn seen may_leave relations counters first origin base k → Explains origin.pages k.operations.store c → IsRelationCount relations → FindsCommits relations counters first k c
+    found : (k : Core D) (origin : Origin) (base : Base) (c : List ℕ) → IsRestartableOn seen may_leave relations counters first origin base k → Explains origin.pages k.operations.store c → IsRelationCount relations → FindsCommits relations counters first k c
     found k origin base c x e schema =
         let log = k.operations.store.log in
         let front = joined e.batches in
@@ -169,20 +169,20 @@ module _ {D : Type 0} (seen : D → List ℕ) (may_leave : D → List ℕ → Ty
         }
 
     -- where nobody lives, and all records are durable, the whole book
-    whole : (k : Parts D) (origin : Origin) (base : Base) (c : List ℕ) → length k.live.members ≡ 0 → durable k.operations.store.log ≡ appended k.operations.store.log → IsRestartableOn seen may_leave relations counters first origin base k → Explains origin.pages k.operations.store c → IsRelationCount relations
+    whole : (k : Core D) (origin : Origin) (base : Base) (c : List ℕ) → length k.live.members ≡ 0 → durable k.operations.store.log ≡ appended k.operations.store.log → IsRestartableOn seen may_leave relations counters first origin base k → Explains origin.pages k.operations.store c → IsRelationCount relations
         → CanRestart relations counters c (after first k.book.items)
     whole k origin base c nobody forced x e schema =
         subst (CanRestart relations counters c) (stands_whole seen may_leave relations counters first k origin base nobody x (durable k.operations.store.log) (joined e.batches) e.beginning.more e.beginning.rest forced e.beginning.has_durable (e.beginning.of_appended ∙ sym forced)) (restarted k origin base c x e schema)
 
-    pub finds_whole : (k : Parts D) (c : List ℕ) → length k.live.members ≡ 0 → durable k.operations.store.log ≡ appended k.operations.store.log → RestartsFrom seen may_leave relations counters first k → may_leave k.operations.store.device c → IsRelationCount relations → ∥ CanRestart relations counters c (after first k.book.items) ∥₁
+    pub finds_whole : (k : Core D) (c : List ℕ) → length k.live.members ≡ 0 → durable k.operations.store.log ≡ appended k.operations.store.log → RestartsFrom seen may_leave relations counters first k → may_leave k.operations.store.device c → IsRelationCount relations → ∥ CanRestart relations counters c (after first k.book.items) ∥₁
     finds_whole k c nobody forced r left schema = ∥∥₁_map r (λ (origin, base, x). whole k origin base c nobody forced x (explains seen may_leave origin.pages k.operations.store x.consistent.fit.right.kept c left) schema)
 
-    pub finds_commits : (k : Parts D) (c : List ℕ) → RestartsFrom seen may_leave relations counters first k → may_leave k.operations.store.device c → IsRelationCount relations → ∥ FindsCommits relations counters first k c ∥₁
+    pub finds_commits : (k : Core D) (c : List ℕ) → RestartsFrom seen may_leave relations counters first k → may_leave k.operations.store.device c → IsRelationCount relations → ∥ FindsCommits relations counters first k c ∥₁
     finds_commits k c r left schema = ∥∥₁_map r (λ (origin, base, x). found k origin base c x (explains seen may_leave origin.pages k.operations.store x.consistent.fit.right.kept c left) schema)
 
     -- what it finds in what a crash leaves meanwhile
     module _ (moment : D → ℕ) (left_since : D → ℕ → List ℕ → Type 0) (only_now : (d : D) (c : List ℕ) → left_since d (moment d) c → may_leave d c) where
-      pub meanwhile : (k : Parts D) (d : D) → ((opening : PageBytes) → IsKept seen may_leave opening k.operations.store → LeavesOnly moment left_since k.operations.store.device d (Explains opening k.operations.store)) → RestartsFrom seen may_leave relations counters first k → IsRelationCount relations
+      pub meanwhile : (k : Core D) (d : D) → ((opening : PageBytes) → IsKept seen may_leave opening k.operations.store → LeavesOnly moment left_since k.operations.store.device d (Explains opening k.operations.store)) → RestartsFrom seen may_leave relations counters first k → IsRelationCount relations
           → FindsMeanwhile moment left_since relations counters first k d
       meanwhile k d explained r schema = record {
         later = ∥∥₁_elim r (hlevel props) (λ (origin, base, x). (explained origin.pages x.consistent.fit.right.kept).later);
@@ -194,7 +194,7 @@ module _ {D : Type 0} (seen : D → List ℕ) (may_leave : D → List ℕ → Ty
       }
 
       -- no call of the device was made
-      pub no_call : (k : Parts D) (d : D) → d ≡ k.operations.store.device → RestartsFrom seen may_leave relations counters first k → IsRelationCount relations → FindsMeanwhile moment left_since relations counters first k d
+      pub no_call : (k : Core D) (d : D) → d ≡ k.operations.store.device → RestartsFrom seen may_leave relations counters first k → IsRelationCount relations → FindsMeanwhile moment left_since relations counters first k d
       no_call k d same r schema = record {
         later = omega (arith, ap moment same);
         each = λ c left. finds_commits k c r (only_now k.operations.store.device c (subst (λ (e : D). left_since e (moment k.operations.store.device) c) same left)) schema;
@@ -202,7 +202,7 @@ module _ {D : Type 0} (seen : D → List ℕ) (may_leave : D → List ℕ → Ty
       }
 
       -- and behind a run of calls that leaves parts whose commits are those of k
-      pub then_finds : (k m : Parts D) (d : D) → ((c : List ℕ) → FindsCommits relations counters first m c → ∥ FindsCommits relations counters first k c ∥₁) → FindsMeanwhile moment left_since relations counters first k m.operations.store.device → FindsMeanwhile moment left_since relations counters first m d
+      pub then_finds : (k m : Core D) (d : D) → ((c : List ℕ) → FindsCommits relations counters first m c → ∥ FindsCommits relations counters first k c ∥₁) → FindsMeanwhile moment left_since relations counters first k m.operations.store.device → FindsMeanwhile moment left_since relations counters first m d
           → FindsMeanwhile moment left_since relations counters first k d
       then_finds k m d back one two = record {
         later = let a = one.later in let b = two.later in omega (arith, a, b);
@@ -215,7 +215,7 @@ module _ {D : Type 0} (seen : D → List ℕ) (may_leave : D → List ℕ → Ty
       }
 
     -- what is found of parts with the same commits, of which as many at least are durable, and with the same book, is found of k
-    pub finds_back : (k m : Parts D) → all_commits m ≡ all_commits k → m.book.items ≡ k.book.items → (more : List Record) → durable m.operations.store.log ≡ durable k.operations.store.log ++ more → (c : List ℕ) → FindsCommits relations counters first m c → FindsCommits relations counters first k c
+    pub finds_back : (k m : Core D) → all_commits m ≡ all_commits k → m.book.items ≡ k.book.items → (more : List Record) → durable m.operations.store.log ≡ durable k.operations.store.log ++ more → (c : List ℕ) → FindsCommits relations counters first m c → FindsCommits relations counters first k c
     finds_back k m same book more grown c f = record {
       base = f.base;
       found = f.found;
@@ -226,7 +226,7 @@ module _ {D : Type 0} (seen : D → List ℕ) (may_leave : D → List ℕ → Ty
     }
 
     -- where a restart finds what all commits lead to, it finds what some of the first do
-    pub finds_all : (k : Parts D) (c z : List ℕ) (b : Base) → CanRestart relations counters c b → b ≡ after first (all_commits k) → FindsCommits relations counters first k z → FindsCommits relations counters first k c
+    pub finds_all : (k : Core D) (c z : List ℕ) (b : Base) → CanRestart relations counters c b → b ≡ after first (all_commits k) → FindsCommits relations counters first k z → FindsCommits relations counters first k c
     finds_all k c z b can is f = record {
       base = b;
       found = can;

@@ -5,9 +5,9 @@ use mathlib.Core.Logic.{∥∥₁_elim}
 use Rattle.mt_base.specs.declared.refusal.Refusal.{Refusal}
 use Rattle.mt_disk.specs.declared.device.Device.{Ghosts}
 use Rattle.mt_index.specs.Pages.{depth_in}
-use Rattle.mt_kernel.proofs.Surveyed.{nobody_locks}
-use Rattle.mt_kernel.specs.Consistent.{IsConsistent, Origin}
-use Rattle.mt_kernel.specs.declared.parts.Parts.{Parts}
+use Rattle.mt_core.proofs.Surveyed.{nobody_locks}
+use Rattle.mt_core.specs.Consistent.{IsConsistent, Origin}
+use Rattle.mt_core.specs.declared.kernel_core.Core.{Core}
 use Rattle.mt_live.specs.Machine.{State}
 use Rattle.mt_model.specs.Model.{Base}
 use Rattle.mt_model.specs.Views.{base_of}
@@ -15,7 +15,7 @@ use Rattle.mt_op.proofs.Surveyed.{fixed_inside, idle_page}
 use Rattle.mt_op.specs.Operations.{world}
 use Rattle.mt_op.specs.Surveyed.{IsIdle, IsSurvey}
 use Rattle.mt_op.specs.World.{held_in}
-use Rattle.mt_op.specs.declared.surveying.Survey.{Survey}
+use Rattle.mt_op.specs.declared.survey.Survey.{Survey}
 use Rattle.mt_pool.specs.Views.{pages, view}
 use Rattle.mt_space.specs.Rooms.{free_in, mapped}
 use Rattle.mt_steps.specs.Listed.{IsSame}
@@ -23,7 +23,7 @@ use Rattle.mt_txn.specs.Surveyed.{TellsBase, TellsPages}
 use Rattle.mt_txn.specs.Well.{IsWell, ShowsIn}
 use Rattle.mt_txn.specs.declared.kernel.Kernel.{Kernel}
 
-module _ {D : Type 0} (seen : D → List ℕ) (may_leave : D → List ℕ → Type 0) (k : Parts D) where
+module _ {D : Type 0} (seen : D → List ℕ) (may_leave : D → List ℕ → Type 0) (k : Core D) where
   abbrev pub Finds : Result Survey Refusal → Type 0
   Finds r = (origin : Origin) (base : Base) → IsConsistent seen may_leave origin base k → IfOk r (IsSurvey origin.relations origin.counters (pages k.operations.store.pool) (held_in (world seen origin.pages k.operations)) base)
 
@@ -48,7 +48,7 @@ module _ {D : Type 0} (seen : D → List ℕ) (may_leave : D → List ℕ → Ty
         told.free ∙ ap (λ (bytes : List ℕ). free_in (mapped bytes (pages k.operations.store.pool))) (sym (shows 0 (fixed_inside seen may_leave origin.relations k.operations 0 (omega arith) idle))),
       ))
 
-pub pages_told : {D : Type 0} {g : Ghosts D} (seen : D → List ℕ) (may_leave : D → List ℕ → Type 0) (k : Kernel D g) (r : Result Survey Refusal) → k.parts.live.members ≡ [] → Finds seen may_leave k.parts r → IsWell seen may_leave k.relations k.counters k.parts
+pub pages_told : {D : Type 0} {g : Ghosts D} (seen : D → List ℕ) (may_leave : D → List ℕ → Type 0) (k : Kernel D g) (r : Result Survey Refusal) → k.core.live.members ≡ [] → Finds seen may_leave k.core r → IsWell seen may_leave k.relations k.counters k.core
     → IfOk r (TellsPages seen k)
 pages_told seen may_leave k (Err why) nobody finds well = tt
-pages_told seen may_leave k (Ok survey) nobody finds well = let told = shown_held seen may_leave k.parts k.relations k.counters survey nobody finds well in record { depth = told.0; free = told.1 }
+pages_told seen may_leave k (Ok survey) nobody finds well = let told = shown_held seen may_leave k.core k.relations k.counters survey nobody finds well in record { depth = told.0; free = told.1 }

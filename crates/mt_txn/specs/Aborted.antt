@@ -3,10 +3,10 @@ use Rattle.std.specs.Prelude.{ℕ, ◌≡◌, ◌≢◌, IfErr, IfOk, List, None
 use Rattle.mt_base.specs.declared.refusal.Refusal.{Refusal}
 use Rattle.mt_base.specs.declared.refusal.Refusal.TheVariants.{DeviceFailed, NoMemory}
 use Rattle.mt_disk.specs.declared.device.Device.{Ghosts}
-use Rattle.mt_kernel.specs.Consistent.{SameCommits, SameStates, SameStatesBut}
-use Rattle.mt_kernel.specs.Runs.{state_in}
-use Rattle.mt_kernel.specs.Steps.{WantsFrame}
-use Rattle.mt_kernel.specs.Work.{undo_steps}
+use Rattle.mt_core.specs.Consistent.{SameCommits, SameStates, SameStatesBut}
+use Rattle.mt_core.specs.Runs.{state_in}
+use Rattle.mt_core.specs.Steps.{WantsFrame}
+use Rattle.mt_core.specs.Work.{undo_steps}
 use Rattle.mt_live.specs.Machine.{State}
 use Rattle.mt_log.specs.Words.{durable}
 use Rattle.mt_model.specs.Model.{Base}
@@ -22,17 +22,17 @@ use Rattle.mt_txn.specs.declared.kernel.Kernel.{Kernel}
 module _ {D : Type 0} {g : Ghosts D} (seen : D → List ℕ) (may_leave : D → List ℕ → Type 0) (faults moment : D → ℕ) (left_since : D → ℕ → List ℕ → Type 0) where
   -- From kernel k it answered this of the abort of t, and left kernel n.
   pub record StepsAbort (k : Kernel D g) (t : ℕ) (result : Result AbortStepped Refusal) (n : Kernel D g) : Type 0 where
-    pub why : IfErr result (λ why. why ≢ NoMemory → IsFault faults k.parts n.parts why)
+    pub why : IfErr result (λ why. why ≢ NoMemory → IsFault faults k.core n.core why)
     pub fails : result ≡ Err DeviceFailed → is_failed n ≡ true
     pub quiet : TellsEachFault faults k result n
-    pub states : IfOk result (λ stepped. stepped ≢ Ended → SameStates k.parts n.parts)
-    pub work : LowersAbort (pages k.parts.operations.store.pool) result (undo_steps k.parts t) (undo_steps n.parts t)
-    pub other : IfOk result (λ stepped. IsAbortForOther k.parts.live.members t stepped)
-    pub full : result ≡ Ok Flush → WantsFrame k.parts n.parts
-    pub durable : durable n.parts.operations.store.log ≡ durable k.parts.operations.store.log
-    pub commits : SameCommits k.parts n.parts
-    pub err_states : OnErr result (SameStates k.parts n.parts)
-    pub out : result ≡ Ok Ended → (state_in n.parts.live.members t ≡ None) × SameStatesBut k.parts n.parts t
+    pub states : IfOk result (λ stepped. stepped ≢ Ended → SameStates k.core n.core)
+    pub work : LowersAbort (pages k.core.operations.store.pool) result (undo_steps k.core t) (undo_steps n.core t)
+    pub other : IfOk result (λ stepped. IsAbortForOther k.core.live.members t stepped)
+    pub full : result ≡ Ok Flush → WantsFrame k.core n.core
+    pub durable : durable n.core.operations.store.log ≡ durable k.core.operations.store.log
+    pub commits : SameCommits k.core n.core
+    pub err_states : OnErr result (SameStates k.core n.core)
+    pub out : result ≡ Ok Ended → (state_in n.core.live.members t ≡ None) × SameStatesBut k.core n.core t
     pub schema : SameSchema k n
     pub restarts : StaysRestarting seen may_leave k n
     pub moments : LeavesFound seen may_leave moment left_since k n

@@ -11,10 +11,10 @@ use Rattle.mt_live.specs.declared.transactions.TxnState.TheVariants.{Open, Abort
 use Rattle.mt_log.specs.Words.{area_size}
 use Rattle.mt_model.specs.declared.operations.Op.{Op}
 use Rattle.mt_model.specs.declared.operations.Op.TheVariants.{Get, Insert, Update, Delete, Add, Read}
-use Rattle.mt_kernel.specs.Consistent.{log_kept}
-use Rattle.mt_kernel.specs.Runs.{state_in}
-use Rattle.mt_kernel.specs.declared.parts.Parts.{Parts}
-use Rattle.mt_kernel.specs.declared.parts.Running.{Running}
+use Rattle.mt_core.specs.Consistent.{log_kept}
+use Rattle.mt_core.specs.Runs.{state_in}
+use Rattle.mt_core.specs.declared.kernel_core.Core.{Core}
+use Rattle.mt_core.specs.declared.kernel_core.Running.{Running}
 
 -- the first of two causes
 abbrev pub first_of : Option Refusal → Option Refusal → Option Refusal
@@ -25,7 +25,7 @@ abbrev pub unless : Bool → Refusal → Option Refusal
 unless holds why = if holds then None else Some why
 
 -- why a transaction cannot begin, if it cannot
-abbrev pub begin_cause : {D : Type 0} → Bool → Parts D → Option Refusal
+abbrev pub begin_cause : {D : Type 0} → Bool → Core D → Option Refusal
 begin_cause failed k =
     if failed then Some refusal.DeviceFailed else
     if nat_le MAX_LIVE (length k.live.members) then Some refusal.TooManyTransactions else
@@ -33,11 +33,11 @@ begin_cause failed k =
     if nat_lt (log_kept k + TRANSACTION_LOG_BYTES) (area_size k.operations.store.log) then None else Some refusal.LogFull
 
 -- the device failed in this call
-abbrev pub IsFault : {D : Type 0} → (D → ℕ) → Parts D → Parts D → Refusal → Type 0
+abbrev pub IsFault : {D : Type 0} → (D → ℕ) → Core D → Core D → Refusal → Type 0
 IsFault failures k n why = (why ≡ refusal.DeviceFailed) × (failures k.operations.store.device < failures n.operations.store.device)
 
 -- it failed in this call, or before
-abbrev pub IsFailure : {D : Type 0} → (D → ℕ) → Bool → Parts D → Parts D → Refusal → Type 0
+abbrev pub IsFailure : {D : Type 0} → (D → ℕ) → Bool → Core D → Core D → Refusal → Type 0
 IsFailure failures failed k n why = ((failed ≡ true) × (why ≡ refusal.DeviceFailed)) ⊎ IsFault failures k n why
 
 -- ---- the transaction
@@ -51,32 +51,32 @@ is_aborting (Some Aborting) = true
 is_aborting _ = false
 
 -- why a call that wants an open transaction is refused
-abbrev pub open_cause : {D : Type 0} → Bool → Parts D → ℕ → Option Refusal
+abbrev pub open_cause : {D : Type 0} → Bool → Core D → ℕ → Option Refusal
 open_cause failed k t = if failed then Some refusal.DeviceFailed else unless (is_open (state_in k.live.members t)) refusal.Stranger
 
 -- why a step of an abort is
-abbrev pub abort_cause : {D : Type 0} → Bool → Parts D → ℕ → Option Refusal
+abbrev pub abort_cause : {D : Type 0} → Bool → Core D → ℕ → Option Refusal
 abort_cause failed k t = if failed then Some refusal.DeviceFailed else unless (is_aborting (state_in k.live.members t)) refusal.Stranger
 
 -- whether an operation of it is under way
-abbrev pub is_busy : {D : Type 0} → Parts D → ℕ → Bool
+abbrev pub is_busy : {D : Type 0} → Core D → ℕ → Bool
 is_busy k t = list_any (λ (r : Running). r.scope.txn == t) k.running.items
 
-abbrev pub busy_cause : {D : Type 0} → Parts D → ℕ → Option Refusal
+abbrev pub busy_cause : {D : Type 0} → Core D → ℕ → Option Refusal
 busy_cause k t = if is_busy k t then Some refusal.Busy else None
 
-abbrev pub step_cause : {D : Type 0} → Bool → Parts D → ℕ → Option Refusal
+abbrev pub step_cause : {D : Type 0} → Bool → Core D → ℕ → Option Refusal
 step_cause failed k t = first_of (open_cause failed k t) (unless (is_busy k t) refusal.Stranger)
 
-abbrev pub commit_cause : {D : Type 0} → Bool → Parts D → ℕ → Option Refusal
+abbrev pub commit_cause : {D : Type 0} → Bool → Core D → ℕ → Option Refusal
 commit_cause failed k t = first_of (open_cause failed k t) (busy_cause k t)
 
 -- why the pages cannot be surveyed, if they cannot
-abbrev pub survey_cause : {D : Type 0} → Bool → Parts D → Option Refusal
+abbrev pub survey_cause : {D : Type 0} → Bool → Core D → Option Refusal
 survey_cause failed k = if failed then Some refusal.DeviceFailed else if nat_eq (length k.live.members) 0 then None else Some refusal.Busy
 
 -- it has called as many operations as it may, or 2^40 were called by all
-abbrev pub count_cause : {D : Type 0} → Parts D → ℕ → Option Refusal
+abbrev pub count_cause : {D : Type 0} → Core D → ℕ → Option Refusal
 count_cause k t = if nat_le MAX_OPERATIONS (length (calls_of k.live.members t)) || nat_le MAX_BEGUN k.last then Some refusal.TooManyOperations else None
 
 -- ---- the operation
@@ -127,6 +127,6 @@ size_cause (Add c d) = unless (is_step d) refusal.BadStep
 size_cause (Read c) = None
 
 -- why a call is refused before its lock is asked for, if it is: the first cause in the order of the tests
-abbrev pub call_cause : {D : Type 0} → ℕ → ℕ → Bool → Parts D → ℕ → Op → Option Refusal
+abbrev pub call_cause : {D : Type 0} → ℕ → ℕ → Bool → Core D → ℕ → Op → Option Refusal
 call_cause relations counters failed k t op =
     first_of (open_cause failed k t) (first_of (busy_cause k t) (first_of (count_cause k t) (first_of (name_cause relations counters op) (size_cause op))))

@@ -8,16 +8,16 @@ use Rattle.mt_live.specs.Machine.{State, called, ended, dropped, undone, gone}
 use Rattle.mt_live.specs.Undoing.{last_effect}
 use Rattle.mt_model.specs.Model.{Base, reply_of, inverse_of}
 use Rattle.mt_model.specs.declared.operations.Op.{Op}
-use Rattle.mt_model.specs.declared.pending.Pending.{Pending}
-use Rattle.mt_kernel.specs.Booked.{booked_each, durable_count, durable_txns}
-use Rattle.mt_kernel.specs.declared.parts.Commit.{Commit}
+use Rattle.mt_model.specs.declared.pending_add.Pending.{Pending}
+use Rattle.mt_core.specs.Booked.{booked_each, durable_count, durable_txns}
+use Rattle.mt_core.specs.declared.kernel_core.Commit.{Commit}
 use Rattle.mt_log.specs.Words.{IsStep}
 use Rattle.mt_log.specs.declared.log.Log.{Log}
 use Rattle.mt_log.specs.declared.log.Forced.TheVariants as log
-use Rattle.mt_kernel.specs.Causes.{IsAnswered}
-use Rattle.mt_kernel.specs.Consistent.{Origin, IsConsistent, log_kept}
-use Rattle.mt_kernel.specs.declared.calls.Called.{Called}
-use Rattle.mt_kernel.specs.declared.calls.Called.TheVariants as call
+use Rattle.mt_core.specs.Causes.{IsAnswered}
+use Rattle.mt_core.specs.Consistent.{Origin, IsConsistent, log_kept}
+use Rattle.mt_core.specs.declared.calls.Called.{Called}
+use Rattle.mt_core.specs.declared.calls.Called.TheVariants as call
 use Rattle.mt_txn.specs.Shown.{Shows}
 use Rattle.mt_txn.specs.Well.{IsOrigin}
 use Rattle.mt_txn.specs.declared.answers.AbortStepped.{AbortStepped}
@@ -31,7 +31,7 @@ use Rattle.mt_txn.specs.declared.kernel.Kernel.{Kernel}
 -- What locks, escrow, pages and log say to a call that asks them, in this order.
 abbrev pub IsAnsweredBy : {D : Type 0} → {g : Ghosts D} → (D → List ℕ) → (D → List ℕ → Type 0) → Kernel D g → ℕ → Op → Result Called Refusal → Type 0
 IsAnsweredBy seen may_leave k t op result =
-    ∥ ((origin : Origin) × (base : Base) × IsOrigin k.relations k.counters origin.first origin × IsConsistent seen may_leave origin base k.parts × IsAnswered seen origin k.parts (log_kept k.parts) t op true result) ∥₁
+    ∥ ((origin : Origin) × (base : Base) × IsOrigin k.relations k.counters origin.first origin × IsConsistent seen may_leave origin base k.core × IsAnswered seen origin k.core (log_kept k.core) t op true result) ∥₁
 
 -- what a call that answered this left, of a kernel in this state: only one that is started changes it
 abbrev pub HasCalled : {D : Type 0} → {g : Ghosts D} → (D → List ℕ) → (D → List ℕ → Type 0) → Base → State → ℕ → Op → Result Called Refusal → Kernel D g → Type 0

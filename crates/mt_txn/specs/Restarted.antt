@@ -1,8 +1,8 @@
 -- What a restart finds in what a crash leaves.
 use Rattle.std.specs.Prelude.{ℕ, ◌≡◌, ◌⊎◌, ◌≤◌, ◌++◌, List, length, take}
-use Rattle.mt_kernel.specs.Booked.{txns_of}
-use Rattle.mt_kernel.specs.Consistent.{session_in}
-use Rattle.mt_kernel.specs.declared.parts.Parts.{Parts}
+use Rattle.mt_core.specs.Booked.{txns_of}
+use Rattle.mt_core.specs.Consistent.{session_in}
+use Rattle.mt_core.specs.declared.kernel_core.Core.{Core}
 use Rattle.mt_live.specs.Laws.{in_turn}
 use Rattle.mt_log.specs.Words.{durable}
 use Rattle.mt_model.specs.History.{after}
@@ -12,12 +12,12 @@ use Rattle.mt_replay.specs.Stands.{CanRestart}
 use Rattle.mt_replay.specs.Told.{tells}
 
 -- the book, and after it the commits under way, in their order
-abbrev pub all_commits : {D : Type 0} → Parts D → List Committed
+abbrev pub all_commits : {D : Type 0} → Core D → List Committed
 all_commits k = k.book.items ++ in_turn (session_in k.live.members) (txns_of k.commits.items) k.live.standing
 
 -- A restart finds what some of the first commits lead to. Each that was acknowledged is in the book and one of them, and so is each whose
 -- record is durable.
-pub record FindsCommits {D : Type 0} (relations counters : ℕ) (first : Base) (k : Parts D) (c : List ℕ) : Type 0 where
+pub record FindsCommits {D : Type 0} (relations counters : ℕ) (first : Base) (k : Core D) (c : List ℕ) : Type 0 where
   pub base : Base
   pub found : CanRestart relations counters c base
   pub count : ℕ
@@ -27,7 +27,7 @@ pub record FindsCommits {D : Type 0} (relations counters : ℕ) (first : Base) (
 
 -- Whenever a crash comes until the device of k is this one, a restart finds in what it leaves what some of the first commits of k lead to,
 -- with all that were in its book then, and all whose records were durable.
-pub record FindsMeanwhile {D : Type 0} (moment : D → ℕ) (left_since : D → ℕ → List ℕ → Type 0) (relations counters : ℕ) (first : Base) (k : Parts D) (device : D) : Type 0 where
+pub record FindsMeanwhile {D : Type 0} (moment : D → ℕ) (left_since : D → ℕ → List ℕ → Type 0) (relations counters : ℕ) (first : Base) (k : Core D) (device : D) : Type 0 where
   pub later : moment k.operations.store.device ≤ moment device
   pub each : (c : List ℕ) → left_since device (moment k.operations.store.device) c → ∥ FindsCommits relations counters first k c ∥₁
   -- the same, for a run of calls that began before

@@ -13,7 +13,7 @@ use Rattle.mt_txn.specs.declared.kernel.Kernel.{Kernel}
 
 -- Begun on this base, the kernel is in this state of the laws.
 abbrev pub Shows : {D : Type 0} → {g : Ghosts D} → (D → List ℕ) → (D → List ℕ → Type 0) → Base → State → Kernel D g → Type 0
-Shows seen may_leave first s k = ShowsIn seen may_leave k.relations k.counters first s k.parts
+Shows seen may_leave first s k = ShowsIn seen may_leave k.relations k.counters first s k.core
 
 -- in whatever state it was
 abbrev pub Stays : {D : Type 0} → {g : Ghosts D} → (D → List ℕ) → (D → List ℕ → Type 0) → Kernel D g → Kernel D g → Type 0
@@ -25,7 +25,7 @@ SameSchema k n = (n.relations ≡ k.relations) × (n.counters ≡ k.counters)
 
 -- a call of it was refused with 2, or a force of its log has failed
 abbrev pub is_failed : {D : Type 0} → {g : Ghosts D} → Kernel D g → Bool
-is_failed k = k.failed || has_failed k.parts.operations.store.log
+is_failed k = k.failed || has_failed k.core.operations.store.log
 
 -- Where a call of kernel k is refused with 2, each later call of n is; and no other call marks n as failed.
 abbrev pub FailsForGood : {D T : Type 0} → {g : Ghosts D} → Kernel D g → Result T Refusal → Kernel D g → Type 0
@@ -33,11 +33,11 @@ FailsForGood k result n = (is_failed k ≡ true → (result ≡ Err DeviceFailed
 
 -- The device failed in a call of kernel k only where the call is refused with 2.
 abbrev pub TellsEachFault : {D T : Type 0} → {g : Ghosts D} → (D → ℕ) → Kernel D g → Result T Refusal → Kernel D g → Type 0
-TellsEachFault faults k result n = (result ≡ Err DeviceFailed → ⊥) → faults n.parts.operations.store.device ≡ faults k.parts.operations.store.device
+TellsEachFault faults k result n = (result ≡ Err DeviceFailed → ⊥) → faults n.core.operations.store.device ≡ faults k.core.operations.store.device
 
 -- Begun on this base, the kernel can be restarted from each beginning of its log's records; and so it stays.
 abbrev pub Restarts : {D : Type 0} → {g : Ghosts D} → (D → List ℕ) → (D → List ℕ → Type 0) → Base → Kernel D g → Type 0
-Restarts seen may_leave first k = RestartsFrom seen may_leave k.relations k.counters first k.parts
+Restarts seen may_leave first k = RestartsFrom seen may_leave k.relations k.counters first k.core
 
 abbrev pub StaysRestarting : {D : Type 0} → {g : Ghosts D} → (D → List ℕ) → (D → List ℕ → Type 0) → Kernel D g → Kernel D g → Type 0
 StaysRestarting seen may_leave k n = (first : Base) → Restarts seen may_leave first k → Restarts seen may_leave first n
@@ -45,4 +45,4 @@ StaysRestarting seen may_leave k n = (first : Base) → Restarts seen may_leave 
 -- Whenever a crash comes between k and n, a restart finds in what it leaves what some of the first commits of k lead to.
 abbrev pub LeavesFound : {D : Type 0} → {g : Ghosts D} → (D → List ℕ) → (D → List ℕ → Type 0) → (D → ℕ) → (D → ℕ → List ℕ → Type 0) → Kernel D g → Kernel D g → Type 0
 LeavesFound seen may_leave moment left_since k n = (first : Base) → Restarts seen may_leave first k → IsRelationCount k.relations
-    → FindsMeanwhile moment left_since k.relations k.counters first k.parts n.parts.operations.store.device
+    → FindsMeanwhile moment left_since k.relations k.counters first k.core n.core.operations.store.device

@@ -4,7 +4,7 @@ use Rattle.mt_disk.specs.declared.device.Device.{Ghosts}
 use Rattle.mt_index.specs.Pages.{depth_in}
 use Rattle.mt_model.specs.Model.{Base}
 use Rattle.mt_model.specs.Views.{base_of, counters_of, relations_of}
-use Rattle.mt_op.specs.declared.surveying.Survey.{Survey}
+use Rattle.mt_op.specs.declared.survey.Survey.{Survey}
 use Rattle.mt_pool.specs.Views.{pages, view}
 use Rattle.mt_steps.specs.Listed.{IsSame}
 use Rattle.mt_steps.specs.Plans.{free_pages}
@@ -18,5 +18,5 @@ pub record TellsBase (relations counters : ℕ) (base : Base) (survey : Survey) 
 
 -- It has the depth of the directory on page 1, and counts the free pages by the map on page 0, as pages and frames have them.
 pub record TellsPages {D : Type 0} {g : Ghosts D} (seen : D → List ℕ) (k : Kernel D g) (survey : Survey) : Type 0 where
-  pub depth : survey.depth ≡ depth_in (view k.parts.operations.store.pool (seen k.parts.operations.store.device) 1)
-  pub free : survey.free ≡ free_pages (pages k.parts.operations.store.pool) (λ p. view k.parts.operations.store.pool (seen k.parts.operations.store.device) p)
+  pub depth : survey.depth ≡ depth_in (view k.core.operations.store.pool (seen k.core.operations.store.device) 1)
+  pub free : survey.free ≡ free_pages (pages k.core.operations.store.pool) (λ p. view k.core.operations.store.pool (seen k.core.operations.store.device) p)

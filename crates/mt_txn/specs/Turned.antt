@@ -2,12 +2,12 @@
 use Rattle.std.specs.Prelude.{ℕ, ◌≡◌, List, length}
 use Rattle.mt_disk.specs.declared.device.Device.{Ghosts}
 use Rattle.mt_escrow.specs.Seen.{Escrowed}
-use Rattle.mt_kernel.specs.Turned as parts
+use Rattle.mt_core.specs.Turned as parts
 use Rattle.mt_log.specs.Words.{appended, durable}
 use Rattle.mt_model.specs.History.{after}
 use Rattle.mt_model.specs.Model.{Base}
 use Rattle.mt_op.specs.declared.operations.Operations.{Operations}
-use Rattle.mt_kernel.specs.declared.parts.Parts.{Parts}
+use Rattle.mt_core.specs.declared.kernel_core.Core.{Core}
 use Rattle.mt_live.specs.Machine.{State}
 use Rattle.mt_txn.specs.Shown.{Restarts, Shows}
 use Rattle.mt_txn.specs.Well.{Opens, RestartsFrom, ShowsIn}
@@ -16,29 +16,29 @@ use Rattle.mt_txn.specs.declared.rests.KernelRest.{KernelRest}
 
 -- no transaction lives
 abbrev pub HasNobody : {D : Type 0} {g : Ghosts D} → Kernel D g → Type 0
-HasNobody k = length k.parts.live.members ≡ 0
+HasNobody k = length k.core.live.members ≡ 0
 
 -- all that was appended to its log is durable
 abbrev pub IsForced : {D : Type 0} {g : Ghosts D} → Kernel D g → Type 0
-IsForced k = durable k.parts.operations.store.log ≡ appended k.parts.operations.store.log
+IsForced k = durable k.core.operations.store.log ≡ appended k.core.operations.store.log
 
 -- all of it but its operations and its escrow
 pub record IsRestOf {D : Type 0} {g : Ghosts D} (k : Kernel D g) (r : KernelRest) : Type 0 where
-  pub parts : parts.IsRestOf k.parts r.rest
+  pub parts : parts.IsRestOf k.core r.rest
   pub relations : r.relations ≡ k.relations
   pub counters : r.counters ≡ k.counters
 
 -- Nobody lives in parts that can be restarted. This is their rest, and operations and an escrow are opened on what their book leads to.
-pub record GoesOn {D : Type 0} (seen : D → List ℕ) (may_leave : D → List ℕ → Type 0) (first : Base) (k : Parts D) (rest : KernelRest) (operations : Operations D) (escrow : Escrowed) : Type 0 where
+pub record GoesOn {D : Type 0} (seen : D → List ℕ) (may_leave : D → List ℕ → Type 0) (first : Base) (k : Core D) (rest : KernelRest) (operations : Operations D) (escrow : Escrowed) : Type 0 where
   pub is : parts.IsRestOf k rest.rest
   pub nobody : length k.live.members ≡ 0
   pub restarts : RestartsFrom seen may_leave rest.relations rest.counters first k
   pub opens : Opens seen may_leave operations escrow rest.relations rest.counters (after first k.book.items)
 
 abbrev pub CanGoOn : {D : Type 0} → (D → List ℕ) → (D → List ℕ → Type 0) → KernelRest → Operations D → Escrowed → Type 0
-CanGoOn {D} seen may_leave rest operations escrow = ∥ ((first : Base) × (k : Parts D) × GoesOn seen may_leave first k rest operations escrow) ∥₁
+CanGoOn {D} seen may_leave rest operations escrow = ∥ ((first : Base) × (k : Core D) × GoesOn seen may_leave first k rest operations escrow) ∥₁
 
 -- The kernel is in whatever state such parts were in, and can be restarted.
 abbrev pub Resumes : {D : Type 0} {g : Ghosts D} → (D → List ℕ) → (D → List ℕ → Type 0) → KernelRest → Operations D → Escrowed → Kernel D g → Type 0
-Resumes {D} seen may_leave rest operations escrow n = (first : Base) (k : Parts D) → GoesOn seen may_leave first k rest operations escrow
+Resumes {D} seen may_leave rest operations escrow n = (first : Base) (k : Core D) → GoesOn seen may_leave first k rest operations escrow
     → ((s : State) → ShowsIn seen may_leave rest.relations rest.counters first s k → Shows seen may_leave first s n) × Restarts seen may_leave first n

@@ -6,9 +6,9 @@ use Rattle.mt_model.specs.Model.{Base, IsBase}
 use Rattle.mt_op.specs.Operations.{IsRight}
 use Rattle.mt_op.specs.declared.operations.Operations.{Operations}
 use Rattle.mt_steps.specs.Held.{Holds}
-use Rattle.mt_kernel.specs.Consistent.{Origin, IsSchema, IsFirstArea, IsEscrowed, IsConsistent, IsIn}
-use Rattle.mt_kernel.specs.Restartable.{IsRestartable}
-use Rattle.mt_kernel.specs.declared.parts.Parts.{Parts}
+use Rattle.mt_core.specs.Consistent.{Origin, IsSchema, IsFirstArea, IsEscrowed, IsConsistent, IsIn}
+use Rattle.mt_core.specs.Restartable.{IsRestartable}
+use Rattle.mt_core.specs.declared.kernel_core.Core.{Core}
 
 -- what a kernel of so many relations and counters began on, with this base
 pub record IsOrigin (relations counters : ℕ) (first : Base) (origin : Origin) : Type 0 where
@@ -17,12 +17,12 @@ pub record IsOrigin (relations counters : ℕ) (first : Base) (origin : Origin) 
   pub first_is : origin.first ≡ first
 
 -- its parts keep the ties between them, on the base that the pages hold
-abbrev pub IsWell : {D : Type 0} → (D → List ℕ) → (D → List ℕ → Type 0) → ℕ → ℕ → Parts D → Type 0
+abbrev pub IsWell : {D : Type 0} → (D → List ℕ) → (D → List ℕ → Type 0) → ℕ → ℕ → Core D → Type 0
 IsWell seen may_leave relations counters k =
     ∥ ((origin : Origin) × (base : Base) × IsOrigin relations counters origin.first origin × IsConsistent seen may_leave origin base k) ∥₁
 
 -- Begun on this base, they are in this state of the laws.
-abbrev pub ShowsIn : {D : Type 0} → (D → List ℕ) → (D → List ℕ → Type 0) → ℕ → ℕ → Base → State → Parts D → Type 0
+abbrev pub ShowsIn : {D : Type 0} → (D → List ℕ) → (D → List ℕ → Type 0) → ℕ → ℕ → Base → State → Core D → Type 0
 ShowsIn seen may_leave relations counters first s k =
     ∥ ((origin : Origin) × (base : Base) × IsOrigin relations counters first origin × IsIn seen may_leave origin base s k) ∥₁
 
@@ -41,12 +41,12 @@ Opens seen may_leave o e relations counters first = ∥ ((origin : Origin) × Is
 -- ---- restarts
 
 -- Where the pages hold a base when the log's area begins, they can be restarted from each beginning of its records.
-pub record IsRestartableOn {D : Type 0} (seen : D → List ℕ) (may_leave : D → List ℕ → Type 0) (relations counters : ℕ) (first : Base) (origin : Origin) (base : Base) (k : Parts D) : Type 0 where
+pub record IsRestartableOn {D : Type 0} (seen : D → List ℕ) (may_leave : D → List ℕ → Type 0) (relations counters : ℕ) (first : Base) (origin : Origin) (base : Base) (k : Core D) : Type 0 where
   pub is : IsOrigin relations counters first origin
   pub bounds : IsBase origin.begun
   pub holds : Holds origin.pages origin.begun
   pub consistent : IsConsistent seen may_leave origin base k
   pub restartable : IsRestartable origin k
 
-abbrev pub RestartsFrom : {D : Type 0} → (D → List ℕ) → (D → List ℕ → Type 0) → ℕ → ℕ → Base → Parts D → Type 0
+abbrev pub RestartsFrom : {D : Type 0} → (D → List ℕ) → (D → List ℕ → Type 0) → ℕ → ℕ → Base → Core D → Type 0
 RestartsFrom seen may_leave relations counters first k = ∥ ((origin : Origin) × (base : Base) × IsRestartableOn seen may_leave relations counters first origin base k) ∥₁

@@ -3,10 +3,10 @@ use Rattle.std.specs.Prelude.{ℕ, ◌≡◌, ◌≢◌, ◌⊎◌, ◌<◌, ◌
 use Rattle.mt_base.specs.declared.refusal.Refusal.{Refusal}
 use Rattle.mt_live.specs.Lives.{member_of}
 use Rattle.mt_live.specs.Members.{Member}
-use Rattle.mt_kernel.specs.Consistent.{IsOwnerOf}
-use Rattle.mt_kernel.specs.declared.parts.Running.{Running}
-use Rattle.mt_kernel.specs.declared.steps.Going.{Going}
-use Rattle.mt_kernel.specs.declared.steps.Going.TheVariants as going
+use Rattle.mt_core.specs.Consistent.{IsOwnerOf}
+use Rattle.mt_core.specs.declared.kernel_core.Running.{Running}
+use Rattle.mt_core.specs.declared.steps.Going.{Going}
+use Rattle.mt_core.specs.declared.steps.Going.TheVariants as going
 use Rattle.mt_txn.specs.declared.answers.AbortStepped.{AbortStepped}
 use Rattle.mt_txn.specs.declared.answers.AbortStepped.TheVariants as abort
 use Rattle.mt_txn.specs.declared.answers.Stepped.{Stepped}

@@ -5,12 +5,12 @@ ghost use Rattle.mt_live.specs.Machine.{State};
 ghost use Rattle.mt_log.specs.Words.{durable};
 ghost use Rattle.mt_model.specs.Model.{Base};
 ghost use Rattle.mt_live.specs.declared.transactions.TxnState.TheVariants.{Aborting};
-ghost use Rattle.mt_kernel.specs.Consistent.{AtPlace, SameCommits, SameRunning, SameStates, SameStatesBut, SetsState};
-ghost use Rattle.mt_kernel.specs.Runs.{state_in};
-ghost use Rattle.mt_kernel.specs.Steps.{WantsFrame};
-ghost use Rattle.mt_kernel.specs.Work.{most_steps, undo_steps};
+ghost use Rattle.mt_core.specs.Consistent.{AtPlace, SameCommits, SameRunning, SameStates, SameStatesBut, SetsState};
+ghost use Rattle.mt_core.specs.Runs.{state_in};
+ghost use Rattle.mt_core.specs.Steps.{WantsFrame};
+ghost use Rattle.mt_core.specs.Work.{most_steps, undo_steps};
 ghost use Rattle.mt_pool.specs.Views.{pages};
-ghost use Rattle.mt_kernel.specs.declared.parts.Running.{Running};
+ghost use Rattle.mt_core.specs.declared.kernel_core.Running.{Running};
 ghost use Rattle.mt_txn.specs.Aborted.{StepsAbort};
 ghost use Rattle.mt_txn.specs.Causes.{IsFault, abort_cause, is_busy, open_cause};
 ghost use Rattle.mt_txn.specs.Events.{HasAborted};
@@ -23,7 +23,7 @@ use crate::answers::AbortStepped;
 use crate::kernel::{Kernel, is_failure};
 use mt_base::{Refusal, TxnNo};
 use mt_disk::Device;
-use mt_kernel::{Going, Stepping};
+use mt_core::{Going, Stepping};
 use mt_op::TakenBack;
 
 impl<D: Device> Kernel<D> {
@@ -34,14 +34,14 @@ impl<D: Device> Kernel<D> {
     /// Refused, in this order: 2 where the device has failed, 15 where the transaction is not open. Nothing has
     /// changed then.
     pub fn abort_begin(&mut self, txn: TxnNo) -> Result<(), Refusal>
-        ensures may { OnOk result (open_cause (is_failed self.old) self.old.parts txn ≡ None) }
-        ensures cause { IfErr result (λ why. open_cause (is_failed self.old) self.old.parts txn ≡ Some why) }
+        ensures may { OnOk result (open_cause (is_failed self.old) self.old.core txn ≡ None) }
+        ensures cause { IfErr result (λ why. open_cause (is_failed self.old) self.old.core txn ≡ Some why) }
         ensures state { Stays D.seen D.may_leave self.old self.new }
-        ensures aborts { OnOk result (SetsState self.old.parts self.new.parts txn (Some Aborting)) }
-        ensures running { SameRunning self.old.parts self.new.parts }
-        ensures commits { SameCommits self.old.parts self.new.parts }
-        ensures device { self.new.parts.operations.store.device ≡ self.old.parts.operations.store.device }
-        ensures work { OnOk result (undo_steps self.new.parts txn ≤ most_steps self.old.parts txn) }
+        ensures aborts { OnOk result (SetsState self.old.core self.new.core txn (Some Aborting)) }
+        ensures running { SameRunning self.old.core self.new.core }
+        ensures commits { SameCommits self.old.core self.new.core }
+        ensures device { self.new.core.operations.store.device ≡ self.old.core.operations.store.device }
+        ensures work { OnOk result (undo_steps self.new.core txn ≤ most_steps self.old.core txn) }
         ensures fails { FailsForGood self.old result self.new }
         ensures err { OnErr result (self.new ≡ self.old) }
         ensures schema { SameSchema self.old self.new }
@@ -51,22 +51,22 @@ impl<D: Device> Kernel<D> {
         if let Some(why) = self.open_cause(txn) {
             return Err(why);
         }
-        self.parts.abort_begin(txn);
+        self.core.abort_begin(txn);
         Ok(())
     }
 
     // Takes the operation at a place back a step, which is no inverse.
     fn go_back(&mut self, txn: TxnNo, place: usize) -> Result<AbortStepped, Refusal>
-        requires within { place < length self.old.parts.running.items }
-        requires own { AtPlace self.old.parts.running.items place
+        requires within { place < length self.old.core.running.items }
+        requires own { AtPlace self.old.core.running.items place
             (λ r. (r.scope.txn ≡ txn) × (r.scope.undoes ≡ 0)) }
-        requires aborting { state_in self.old.parts.live.members txn ≡ Some Aborting }
+        requires aborting { state_in self.old.core.live.members txn ≡ Some Aborting }
         ensures steps { StepsAbort D.seen D.may_leave D.faults D.moment D.left_since self.old txn result self.new }
         ensures marks { self.new.failed ≡ true → result ≡ Err Refusal.DeviceFailed }
-        ensures locks { AtPlace self.old.parts.running.items place
-            (λ r. AbortsLocks self.old.parts self.new.parts r result) }
+        ensures locks { AtPlace self.old.core.running.items place
+            (λ r. AbortsLocks self.old.core self.new.core r result) }
     {
-        let told = self.parts.back_step(place);
+        let told = self.core.take_back_step(place);
         self.failed = is_failure(&told);
         match told? {
             TakenBack::More => Ok(AbortStepped::More),
@@ -77,15 +77,15 @@ impl<D: Device> Kernel<D> {
 
     // Makes a step of the inverse at a place.
     fn undo_step(&mut self, txn: TxnNo, place: usize) -> Result<AbortStepped, Refusal>
-        requires within { place < length self.old.parts.running.items }
-        requires own { AtPlace self.old.parts.running.items place
+        requires within { place < length self.old.core.running.items }
+        requires own { AtPlace self.old.core.running.items place
             (λ r. (r.scope.txn ≡ txn) × (r.scope.undoes ≢ 0)) }
         ensures steps { StepsAbort D.seen D.may_leave D.faults D.moment D.left_since self.old txn result self.new }
         ensures marks { self.new.failed ≡ true → result ≡ Err Refusal.DeviceFailed }
-        ensures locks { AtPlace self.old.parts.running.items place
-            (λ r. AbortsLocks self.old.parts self.new.parts r result) }
+        ensures locks { AtPlace self.old.core.running.items place
+            (λ r. AbortsLocks self.old.core self.new.core r result) }
     {
-        let told = self.parts.undo_step(self.alloc, place);
+        let told = self.core.undo_step(self.alloc, place);
         self.failed = is_failure(&told);
         match told? {
             Stepping::Ended(reply) => {
@@ -98,11 +98,11 @@ impl<D: Device> Kernel<D> {
 
     // What a step of an abort answers where its inverse goes on.
     fn going(&self, going: Going) -> AbortStepped
-        ensures { IsAbortToldAs self.now.parts.running.items going result }
+        ensures { IsAbortToldAs self.now.core.running.items going result }
     {
         match going {
             Going::Went => AbortStepped::More,
-            Going::Wait(holder) => match self.parts.owner(holder) {
+            Going::Wait(holder) => match self.core.owner(holder) {
                 Some(other) => AbortStepped::Wait(other),
                 None => AbortStepped::Again,
             },
@@ -113,16 +113,16 @@ impl<D: Device> Kernel<D> {
 
     // Begins the next inverse of a transaction that is to be undone and runs nothing, or ends its abort.
     fn undo_next(&mut self, txn: TxnNo) -> Result<AbortStepped, Refusal>
-        requires idle { All (λ (r : Running). r.scope.txn ≢ txn) self.old.parts.running.items }
-        requires aborting { state_in self.old.parts.live.members txn ≡ Some Aborting }
+        requires idle { All (λ (r : Running). r.scope.txn ≢ txn) self.old.core.running.items }
+        requires aborting { state_in self.old.core.live.members txn ≡ Some Aborting }
         ensures steps { StepsAbort D.seen D.may_leave D.faults D.moment D.left_since self.old txn result self.new }
         ensures marks { self.new.failed ≡ self.old.failed }
-        ensures locks { self.new.parts.operations.locks ≡ self.old.parts.operations.locks }
+        ensures locks { self.new.core.operations.locks ≡ self.old.core.operations.locks }
     {
-        if self.parts.undo_begin(self.alloc, txn)? {
+        if self.core.undo_begin(self.alloc, txn)? {
             return Ok(AbortStepped::More);
         }
-        self.parts.abort_end(txn)?;
+        self.core.abort_end(txn)?;
         Ok(AbortStepped::Ended)
     }
 
@@ -139,30 +139,30 @@ impl<D: Device> Kernel<D> {
     /// want of memory. It is refused with 2, too, where the device fails in this step, so no fault is passed over. The
     /// step may be asked again after 1.
     pub fn abort_step(&mut self, txn: TxnNo) -> Result<AbortStepped, Refusal>
-        ensures may { OnOk result (abort_cause (is_failed self.old) self.old.parts txn ≡ None) }
+        ensures may { OnOk result (abort_cause (is_failed self.old) self.old.core txn ≡ None) }
         ensures cause { IfErr result (λ why. why ≢ Refusal.NoMemory
-            → (abort_cause (is_failed self.old) self.old.parts txn ≡ Some why)
-            ⊎ IsFault D.faults self.old.parts self.new.parts why) }
+            → (abort_cause (is_failed self.old) self.old.core txn ≡ Some why)
+            ⊎ IsFault D.faults self.old.core self.new.core why) }
         ensures states { IfOk result (λ stepped. stepped ≢ AbortStepped.Ended
-            → SameStates self.old.parts self.new.parts) }
-        ensures work { LowersAbort (pages self.old.parts.operations.store.pool) result
-            (undo_steps self.old.parts txn) (undo_steps self.new.parts txn) }
-        ensures other { IfOk result (λ stepped. IsAbortForOther self.old.parts.live.members txn stepped) }
-        ensures full { result ≡ Ok AbortStepped.Flush → WantsFrame self.old.parts self.new.parts }
-        ensures locks { abort_cause (is_failed self.old) self.old.parts txn ≡ None
-            → is_busy self.old.parts txn ≡ true → OfRunning self.old.parts.running.items txn
-            (λ r. AbortsLocks self.old.parts self.new.parts r result) }
-        ensures idle { is_busy self.old.parts txn ≡ false
-            → self.new.parts.operations.locks ≡ self.old.parts.operations.locks }
-        ensures durable { durable self.new.parts.operations.store.log
-            ≡ durable self.old.parts.operations.store.log }
-        ensures commits { SameCommits self.old.parts self.new.parts }
-        ensures err_states { OnErr result (SameStates self.old.parts self.new.parts) }
-        ensures out { result ≡ Ok AbortStepped.Ended → (state_in self.new.parts.live.members txn ≡ None)
-            × SameStatesBut self.old.parts self.new.parts txn }
+            → SameStates self.old.core self.new.core) }
+        ensures work { LowersAbort (pages self.old.core.operations.store.pool) result
+            (undo_steps self.old.core txn) (undo_steps self.new.core txn) }
+        ensures other { IfOk result (λ stepped. IsAbortForOther self.old.core.live.members txn stepped) }
+        ensures full { result ≡ Ok AbortStepped.Flush → WantsFrame self.old.core self.new.core }
+        ensures locks { abort_cause (is_failed self.old) self.old.core txn ≡ None
+            → is_busy self.old.core txn ≡ true → OfRunning self.old.core.running.items txn
+            (λ r. AbortsLocks self.old.core self.new.core r result) }
+        ensures idle { is_busy self.old.core txn ≡ false
+            → self.new.core.operations.locks ≡ self.old.core.operations.locks }
+        ensures durable { durable self.new.core.operations.store.log
+            ≡ durable self.old.core.operations.store.log }
+        ensures commits { SameCommits self.old.core self.new.core }
+        ensures err_states { OnErr result (SameStates self.old.core self.new.core) }
+        ensures out { result ≡ Ok AbortStepped.Ended → (state_in self.new.core.live.members txn ≡ None)
+            × SameStatesBut self.old.core self.new.core txn }
         ensures fails { FailsForGood self.old result self.new }
         ensures quiet { TellsEachFault D.faults self.old result self.new }
-        ensures unmoved { (why : Refusal) → abort_cause (is_failed self.old) self.old.parts txn ≡ Some why
+        ensures unmoved { (why : Refusal) → abort_cause (is_failed self.old) self.old.core txn ≡ Some why
             → self.new ≡ self.old }
         ensures schema { SameSchema self.old self.new }
         ensures restarts { StaysRestarting D.seen D.may_leave self.old self.new }
@@ -173,10 +173,10 @@ impl<D: Device> Kernel<D> {
         if let Some(why) = self.abort_cause(txn) {
             return Err(why);
         }
-        let Some(place) = self.parts.place_of(txn) else {
+        let Some(place) = self.core.place_of(txn) else {
             return self.undo_next(txn);
         };
-        if self.parts.is_inverse(place) {
+        if self.core.is_inverse(place) {
             self.undo_step(txn, place)
         } else {
             self.go_back(txn, place)

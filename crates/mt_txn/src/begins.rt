@@ -4,7 +4,7 @@ ghost use Rattle.mt_base.specs.declared.refusal.Refusal.{Refusal};
 ghost use Rattle.mt_live.specs.Machine.{State, begun};
 ghost use Rattle.mt_model.specs.Model.{Base};
 ghost use Rattle.mt_live.specs.declared.transactions.TxnState.TheVariants.{Open};
-ghost use Rattle.mt_kernel.specs.Consistent.{SameCommits, SameRunning, SetsState};
+ghost use Rattle.mt_core.specs.Consistent.{SameCommits, SameRunning, SetsState};
 ghost use Rattle.mt_txn.specs.Causes.{begin_cause};
 ghost use Rattle.mt_txn.specs.Shown.{FailsForGood, SameSchema, Shows, StaysRestarting, is_failed};
 ghost use Rattle.mt_txn.specs.Shown.{LeavesFound};
@@ -22,17 +22,17 @@ impl<D: Device> Kernel<D> {
     /// commits and those that live make 1,000,000, or 2^40 were begun. Then 11 where the log has too few bytes left,
     /// and 1 for want of memory. Nothing has changed then.
     pub fn begin(&mut self, session: u32) -> Result<TxnNo, Refusal>
-        ensures number { IfOk result (λ txn. txn ≡ self.old.parts.live.begun + 1) }
-        ensures may { OnOk result (begin_cause (is_failed self.old) self.old.parts ≡ None) }
+        ensures number { IfOk result (λ txn. txn ≡ self.old.core.live.begun + 1) }
+        ensures may { OnOk result (begin_cause (is_failed self.old) self.old.core ≡ None) }
         ensures cause { IfErr result (λ why. why ≢ Refusal.NoMemory
-            → begin_cause (is_failed self.old) self.old.parts ≡ Some why) }
+            → begin_cause (is_failed self.old) self.old.core ≡ Some why) }
         ensures begun { (first : Base) (s : State) → Shows D.seen D.may_leave first s self.old
             → OnOk result (Shows D.seen D.may_leave first (begun s session) self.new) }
-        ensures opened { IfOk result (λ txn. SetsState self.old.parts self.new.parts txn (Some Open)) }
-        ensures running { SameRunning self.old.parts self.new.parts }
-        ensures commits { SameCommits self.old.parts self.new.parts }
-        ensures device { self.new.parts.operations.store.device ≡ self.old.parts.operations.store.device }
-        ensures err { OnErr result (self.new.parts ≡ self.old.parts) }
+        ensures opened { IfOk result (λ txn. SetsState self.old.core self.new.core txn (Some Open)) }
+        ensures running { SameRunning self.old.core self.new.core }
+        ensures commits { SameCommits self.old.core self.new.core }
+        ensures device { self.new.core.operations.store.device ≡ self.old.core.operations.store.device }
+        ensures err { OnErr result (self.new.core ≡ self.old.core) }
         ensures fails { FailsForGood self.old result self.new }
         ensures schema { SameSchema self.old self.new }
         ensures restarts { StaysRestarting D.seen D.may_leave self.old self.new }
@@ -41,15 +41,15 @@ impl<D: Device> Kernel<D> {
         if self.has_failed() {
             return Err(Refusal::DeviceFailed);
         }
-        let lives = self.parts.live().count();
+        let lives = self.core.live().count();
         if MAX_LIVE <= lives {
             return Err(Refusal::TooManyTransactions);
         }
-        if MAX_COMMITS <= self.parts.book().len() + lives
-            || MAX_BEGUN <= self.parts.live().begun()
+        if MAX_COMMITS <= self.core.book().len() + lives
+            || MAX_BEGUN <= self.core.live().begun()
         {
             return Err(Refusal::BookFull);
         }
-        self.parts.begin(session)
+        self.core.begin(session)
     }
 }

@@ -3,8 +3,8 @@ ghost use Rattle.std.specs.Prelude.{◌≡◌, ◌+◌, ◌*◌, None, Some, Err
 ghost use Rattle.mt_base.specs.declared.refusal.Refusal.{Refusal};
 ghost use Rattle.mt_live.specs.Machine.{State};
 ghost use Rattle.mt_model.specs.Model.{Base};
-ghost use Rattle.mt_kernel.specs.Consistent.{SameCommits, SameStates};
-ghost use Rattle.mt_kernel.specs.Work.{CallRuns};
+ghost use Rattle.mt_core.specs.Consistent.{SameCommits, SameStates};
+ghost use Rattle.mt_core.specs.Work.{CallRuns};
 ghost use Rattle.mt_pool.specs.Views.{pages};
 ghost use Rattle.mt_txn.specs.Causes.{call_cause};
 ghost use Rattle.mt_txn.specs.Events.{HasCalled, IsAnsweredBy};
@@ -14,7 +14,7 @@ ghost use Rattle.mt_txn.specs.Shown.{LeavesFound};
 use crate::kernel::Kernel;
 use mt_base::{Refusal, TxnNo};
 use mt_disk::Device;
-use mt_kernel::Called;
+use mt_core::Called;
 use mt_model::Op;
 
 impl<D: Device> Kernel<D> {
@@ -30,21 +30,21 @@ impl<D: Device> Kernel<D> {
     /// want of memory, at the point where it is wanted. In each of these cases nothing of the call is kept.
     pub fn call(&mut self, txn: TxnNo, op: Op) -> Result<Called, Refusal>
         ensures early { (why : Refusal)
-            → call_cause self.old.relations self.old.counters (is_failed self.old) self.old.parts txn op ≡ Some why
+            → call_cause self.old.relations self.old.counters (is_failed self.old) self.old.core txn op ≡ Some why
             → result ≡ Err why }
         ensures answer { call_cause self.old.relations self.old.counters
-            (is_failed self.old) self.old.parts txn op ≡ None
+            (is_failed self.old) self.old.core txn op ≡ None
             → IsAnsweredBy D.seen D.may_leave self.old txn op result }
-        ensures states { SameStates self.old.parts self.new.parts }
-        ensures runs { CallRuns txn (2 * pages self.old.parts.operations.store.pool + 9) self.old.parts.running.items
-            self.new.parts.running.items result }
-        ensures commits { SameCommits self.old.parts self.new.parts }
-        ensures store { self.new.parts.operations.store ≡ self.old.parts.operations.store }
+        ensures states { SameStates self.old.core self.new.core }
+        ensures runs { CallRuns txn (2 * pages self.old.core.operations.store.pool + 9) self.old.core.running.items
+            self.new.core.running.items result }
+        ensures commits { SameCommits self.old.core self.new.core }
+        ensures store { self.new.core.operations.store ≡ self.old.core.operations.store }
         ensures called { (first : Base) (s : State) → Shows D.seen D.may_leave first s self.old
             → HasCalled D.seen D.may_leave first s txn op result self.new }
         ensures fails { FailsForGood self.old result self.new }
         ensures unmoved { (why : Refusal)
-            → call_cause self.old.relations self.old.counters (is_failed self.old) self.old.parts txn op ≡ Some why
+            → call_cause self.old.relations self.old.counters (is_failed self.old) self.old.core txn op ≡ Some why
             → self.new ≡ self.old }
         ensures schema { SameSchema self.old self.new }
         ensures restarts { StaysRestarting D.seen D.may_leave self.old self.new }
@@ -53,6 +53,6 @@ impl<D: Device> Kernel<D> {
         if let Some(why) = self.call_cause(txn, &op) {
             return Err(why);
         }
-        self.parts.call(self.alloc, txn, op, true)
+        self.core.call(self.alloc, txn, op, true)
     }
 }

@@ -1,8 +1,8 @@
 // Why calls are refused, before they ask locks, escrow, pages and log.
 ghost use Rattle.std.specs.Prelude.{◌≡◌, ◌≢◌, ◌<◌, ◌^◌, All, IfNone, None, Some, false, true};
 ghost use Rattle.mt_base.specs.declared.limits.TheConstants.{MAX_BEGUN};
-ghost use Rattle.mt_kernel.specs.Runs.{state_in};
-ghost use Rattle.mt_kernel.specs.declared.parts.Running.{Running};
+ghost use Rattle.mt_core.specs.Runs.{state_in};
+ghost use Rattle.mt_core.specs.declared.kernel_core.Running.{Running};
 ghost use Rattle.mt_live.specs.declared.transactions.TxnState.TheVariants.{Open, Aborting};
 ghost use Rattle.mt_txn.specs.Shown.{is_failed};
 ghost use Rattle.mt_txn.specs.Causes.{IsNamed, IsSized, abort_cause, call_cause, count_cause, name_cause, open_cause, size_cause};
@@ -61,13 +61,13 @@ fn name_cause(relations: u16, counters: u16, op: &Op) -> Option<Refusal>
 impl<D: Device> Kernel<D> {
     // Why a call that wants an open transaction is refused, if it is.
     pub(crate) fn open_cause(&self, txn: TxnNo) -> Option<Refusal>
-        ensures cause { result ≡ open_cause (is_failed self.now) self.now.parts txn }
-        ensures opened { IfNone result (state_in self.now.parts.live.members txn ≡ Some Open) }
+        ensures cause { result ≡ open_cause (is_failed self.now) self.now.core txn }
+        ensures opened { IfNone result (state_in self.now.core.live.members txn ≡ Some Open) }
     {
         if self.has_failed() {
             return Some(Refusal::DeviceFailed);
         }
-        match self.parts.live().state(txn) {
+        match self.core.live().state(txn) {
             Some(TxnState::Open) => None,
             _ => Some(Refusal::Stranger),
         }
@@ -75,13 +75,13 @@ impl<D: Device> Kernel<D> {
 
     // Why a step of an abort is refused, if it is.
     pub(crate) fn abort_cause(&self, txn: TxnNo) -> Option<Refusal>
-        ensures cause { result ≡ abort_cause (is_failed self.now) self.now.parts txn }
-        ensures aborting { IfNone result (state_in self.now.parts.live.members txn ≡ Some Aborting) }
+        ensures cause { result ≡ abort_cause (is_failed self.now) self.now.core txn }
+        ensures aborting { IfNone result (state_in self.now.core.live.members txn ≡ Some Aborting) }
     {
         if self.has_failed() {
             return Some(Refusal::DeviceFailed);
         }
-        match self.parts.live().state(txn) {
+        match self.core.live().state(txn) {
             Some(TxnState::Aborting) => None,
             _ => Some(Refusal::Stranger),
         }
@@ -89,11 +89,11 @@ impl<D: Device> Kernel<D> {
 
     // Why an open transaction can call no further operation, if it cannot.
     fn count_cause(&self, txn: TxnNo) -> Option<Refusal>
-        requires opened { state_in self.now.parts.live.members txn ≡ Some Open }
-        ensures cause { result ≡ count_cause self.now.parts txn }
-        ensures few { IfNone result (self.now.parts.last < MAX_BEGUN) }
+        requires opened { state_in self.now.core.live.members txn ≡ Some Open }
+        ensures cause { result ≡ count_cause self.now.core txn }
+        ensures few { IfNone result (self.now.core.last < MAX_BEGUN) }
     {
-        if MAX_OPERATIONS <= self.parts.live().count_ended(txn) || MAX_BEGUN <= self.parts.last() {
+        if MAX_OPERATIONS <= self.core.live().count_ended(txn) || MAX_BEGUN <= self.core.last() {
             Some(Refusal::TooManyOperations)
         } else {
             None
@@ -103,17 +103,17 @@ impl<D: Device> Kernel<D> {
     // Why a call is refused before its lock is asked for, if it is.
     pub(crate) fn call_cause(&self, txn: TxnNo, op: &Op) -> Option<Refusal>
         ensures cause { result ≡ call_cause self.now.relations self.now.counters
-            (is_failed self.now) self.now.parts txn op.now }
-        ensures opened { IfNone result (state_in self.now.parts.live.members txn ≡ Some Open) }
-        ensures idle { IfNone result (All (λ (r : Running). r.scope.txn ≢ txn) self.now.parts.running.items) }
-        ensures few { IfNone result (self.now.parts.last < MAX_BEGUN) }
+            (is_failed self.now) self.now.core txn op.now }
+        ensures opened { IfNone result (state_in self.now.core.live.members txn ≡ Some Open) }
+        ensures idle { IfNone result (All (λ (r : Running). r.scope.txn ≢ txn) self.now.core.running.items) }
+        ensures few { IfNone result (self.now.core.last < MAX_BEGUN) }
         ensures named { IfNone result (IsNamed self.now.relations self.now.counters op.now) }
         ensures sized { IfNone result (IsSized op.now) }
     {
         if let Some(why) = self.open_cause(txn) {
             return Some(why);
         }
-        if self.parts.place_of(txn).is_some() {
+        if self.core.place_of(txn).is_some() {
             return Some(Refusal::Busy);
         }
         if let Some(why) = self.count_cause(txn) {

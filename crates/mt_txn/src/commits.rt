@@ -6,11 +6,11 @@ ghost use Rattle.mt_log.specs.Words.{appended, durable, in_flight, waiting, call
 ghost use Rattle.mt_frame.specs.declared.records.Record.TheVariants as record_of;
 ghost use Rattle.mt_model.specs.Model.{Base};
 ghost use Rattle.mt_pool.specs.Views.{IsWaiting, Cleans, to_flush};
-ghost use Rattle.mt_pool.specs.declared.flushing.Flushed.TheVariants as flushed;
+ghost use Rattle.mt_pool.specs.declared.flushes.Flushed.TheVariants as flushed;
 ghost use Rattle.mt_live.specs.declared.transactions.TxnState.TheVariants.{Committing};
-ghost use Rattle.mt_kernel.specs.Consistent.{OnlyOperations, SameCommits, SameRunning, SameStates, SameUncommitted, SetsState};
-ghost use Rattle.mt_kernel.specs.Work.{LeavesUndo};
-ghost use Rattle.mt_kernel.specs.declared.parts.Commit.{Commit};
+ghost use Rattle.mt_core.specs.Consistent.{OnlyOperations, SameCommits, SameRunning, SameStates, SameUncommitted, SetsState};
+ghost use Rattle.mt_core.specs.Work.{LeavesUndo};
+ghost use Rattle.mt_core.specs.declared.kernel_core.Commit.{Commit};
 ghost use Rattle.mt_txn.specs.Causes.{IsFailure, commit_cause};
 ghost use Rattle.mt_txn.specs.Events.{HasForced, IsForcedBy};
 ghost use Rattle.mt_txn.specs.Shown.{FailsForGood, SameSchema, Shows, Stays, StaysRestarting, TellsEachFault, is_failed};
@@ -31,29 +31,29 @@ impl<D: Device> Kernel<D> {
     /// Refused, in this order: 2 where the device has failed, 15 where the transaction is not open, 16 where an
     /// operation of it is unfinished. Then 1 for want of memory. The state is as before.
     pub fn commit_begin(&mut self, txn: TxnNo) -> Result<u64, Refusal>
-        ensures may { OnOk result (commit_cause (is_failed self.old) self.old.parts txn ≡ None) }
+        ensures may { OnOk result (commit_cause (is_failed self.old) self.old.core txn ≡ None) }
         ensures cause { IfErr result (λ why. why ≢ Refusal.NoMemory
-            → commit_cause (is_failed self.old) self.old.parts txn ≡ Some why) }
+            → commit_cause (is_failed self.old) self.old.core txn ≡ Some why) }
         ensures place { IfOk result (λ place.
-            place ≡ length self.old.parts.book.items + length self.old.parts.commits.items + 1) }
+            place ≡ length self.old.core.book.items + length self.old.core.commits.items + 1) }
         ensures state { Stays D.seen D.may_leave self.old self.new }
         ensures queue { OnOk result ((c : Commit) × (c.txn ≡ txn)
-            × (c.place ≡ length (appended self.new.parts.operations.store.log))
-            × (self.new.parts.commits.items ≡ self.old.parts.commits.items ++ c ∷ [])) }
-        ensures waits { OnOk result (waiting self.new.parts.operations.store.log
-            ≡ waiting self.old.parts.operations.store.log ++ record_of.Commit txn ∷ []) }
-        ensures durable { durable self.new.parts.operations.store.log ≡ durable self.old.parts.operations.store.log }
-        ensures in_flight { in_flight self.new.parts.operations.store.log
-            ≡ in_flight self.old.parts.operations.store.log }
-        ensures calls { calls_left self.new.parts.operations.store.log
-            ≡ calls_left self.old.parts.operations.store.log }
-        ensures commits { OnOk result (SetsState self.old.parts self.new.parts txn (Some Committing)) }
-        ensures running { SameRunning self.old.parts self.new.parts }
-        ensures device { self.new.parts.operations.store.device ≡ self.old.parts.operations.store.device }
-        ensures err { OnErr result (SameStates self.old.parts self.new.parts
-            × SameCommits self.old.parts self.new.parts) }
+            × (c.place ≡ length (appended self.new.core.operations.store.log))
+            × (self.new.core.commits.items ≡ self.old.core.commits.items ++ c ∷ [])) }
+        ensures waits { OnOk result (waiting self.new.core.operations.store.log
+            ≡ waiting self.old.core.operations.store.log ++ record_of.Commit txn ∷ []) }
+        ensures durable { durable self.new.core.operations.store.log ≡ durable self.old.core.operations.store.log }
+        ensures in_flight { in_flight self.new.core.operations.store.log
+            ≡ in_flight self.old.core.operations.store.log }
+        ensures calls { calls_left self.new.core.operations.store.log
+            ≡ calls_left self.old.core.operations.store.log }
+        ensures commits { OnOk result (SetsState self.old.core self.new.core txn (Some Committing)) }
+        ensures running { SameRunning self.old.core self.new.core }
+        ensures device { self.new.core.operations.store.device ≡ self.old.core.operations.store.device }
+        ensures err { OnErr result (SameStates self.old.core self.new.core
+            × SameCommits self.old.core self.new.core) }
         ensures fails { FailsForGood self.old result self.new }
-        ensures unmoved { (why : Refusal) → commit_cause (is_failed self.old) self.old.parts txn ≡ Some why
+        ensures unmoved { (why : Refusal) → commit_cause (is_failed self.old) self.old.core txn ≡ Some why
             → self.new ≡ self.old }
         ensures schema { SameSchema self.old self.new }
         ensures restarts { StaysRestarting D.seen D.may_leave self.old self.new }
@@ -62,10 +62,10 @@ impl<D: Device> Kernel<D> {
         if let Some(why) = self.open_cause(txn) {
             return Err(why);
         }
-        if self.parts.place_of(txn).is_some() {
+        if self.core.place_of(txn).is_some() {
             return Err(Refusal::Busy);
         }
-        let place = self.parts.commit_begin(txn)?;
+        let place = self.core.commit_begin(txn)?;
         Ok(place as u64)
     }
 
@@ -77,19 +77,19 @@ impl<D: Device> Kernel<D> {
     /// call. So no fault is passed over. The state is as before.
     pub fn force_step(&mut self) -> Result<KernelForced, Refusal>
         ensures cause { IfErr result (λ why. why ≢ Refusal.NoMemory
-            → IsFailure D.faults (is_failed self.old) self.old.parts self.new.parts why) }
-        ensures pool { self.new.parts.operations.store.pool ≡ self.old.parts.operations.store.pool }
-        ensures ruling { self.new.parts.operations.store.ruling ≡ self.old.parts.operations.store.ruling }
-        ensures appended { appended self.new.parts.operations.store.log
-            ≡ appended self.old.parts.operations.store.log }
-        ensures log { IfOk result (λ forced. IsForcedBy self.old.parts.operations.store.log
-            self.old.parts.commits.items forced self.new.parts.operations.store.log self.new.parts.commits.items) }
+            → IsFailure D.faults (is_failed self.old) self.old.core self.new.core why) }
+        ensures pool { self.new.core.operations.store.pool ≡ self.old.core.operations.store.pool }
+        ensures ruling { self.new.core.operations.store.ruling ≡ self.old.core.operations.store.ruling }
+        ensures appended { appended self.new.core.operations.store.log
+            ≡ appended self.old.core.operations.store.log }
+        ensures log { IfOk result (λ forced. IsForcedBy self.old.core.operations.store.log
+            self.old.core.commits.items forced self.new.core.operations.store.log self.new.core.commits.items) }
         ensures fails { FailsForGood self.old result self.new }
-        ensures running { SameRunning self.old.parts self.new.parts }
-        ensures states { SameUncommitted self.old.parts self.new.parts }
-        ensures undo { LeavesUndo self.old.parts self.new.parts }
-        ensures err { OnErr result (SameStates self.old.parts self.new.parts
-            × SameCommits self.old.parts self.new.parts) }
+        ensures running { SameRunning self.old.core self.new.core }
+        ensures states { SameUncommitted self.old.core self.new.core }
+        ensures undo { LeavesUndo self.old.core self.new.core }
+        ensures err { OnErr result (SameStates self.old.core self.new.core
+            × SameCommits self.old.core self.new.core) }
         ensures memory { result ≡ Err Refusal.NoMemory → self.new ≡ self.old }
         ensures quiet { TellsEachFault D.faults self.old result self.new }
         ensures forced { (first : Base) (s : State) → Shows D.seen D.may_leave first s self.old
@@ -101,14 +101,14 @@ impl<D: Device> Kernel<D> {
         if self.has_failed() {
             return Err(Refusal::DeviceFailed);
         }
-        let mut names = Vec::with_capacity(self.alloc, self.parts.count_commits())?;
-        let told = self.parts.force_step();
+        let mut names = Vec::with_capacity(self.alloc, self.core.count_commits())?;
+        let told = self.core.force_step();
         self.failed = is_failure(&told);
         match told? {
             Forced::More => Ok(KernelForced::More),
             Forced::Idle => Ok(KernelForced::Idle),
             Forced::Durable(place) => {
-                self.parts.leave_durable(place, &mut names);
+                self.core.leave_durable(place, &mut names);
                 Ok(KernelForced::Durable(names))
             }
         }
@@ -121,23 +121,23 @@ impl<D: Device> Kernel<D> {
     /// Refused with 2 where the device has failed or fails in this call, so no fault is passed over. The state is as
     /// before.
     pub fn flush_step(&mut self) -> Result<Flushed, Refusal>
-        ensures cause { IfErr result (IsFailure D.faults (is_failed self.old) self.old.parts self.new.parts) }
+        ensures cause { IfErr result (IsFailure D.faults (is_failed self.old) self.old.core self.new.core) }
         ensures written { (p : ℕ) → result ≡ Ok (flushed.Page p)
-            → Cleans self.old.parts.operations.store.pool self.new.parts.operations.store.pool
-            (length (durable self.old.parts.operations.store.log)) p }
+            → Cleans self.old.core.operations.store.pool self.new.core.operations.store.pool
+            (length (durable self.old.core.operations.store.log)) p }
         ensures barred { result ≡ Ok flushed.Force
-            → IsWaiting self.old.parts.operations.store.pool (length (durable self.old.parts.operations.store.log)) }
-        ensures waits { result ≡ Ok flushed.Force → length (durable self.old.parts.operations.store.log)
-            < length (appended self.old.parts.operations.store.log) }
+            → IsWaiting self.old.core.operations.store.pool (length (durable self.old.core.operations.store.log)) }
+        ensures waits { result ≡ Ok flushed.Force → length (durable self.old.core.operations.store.log)
+            < length (appended self.old.core.operations.store.log) }
         ensures fewer { (p : ℕ) → result ≡ Ok (flushed.Page p)
-            → to_flush self.new.parts.operations.store.pool + 1 ≡ to_flush self.old.parts.operations.store.pool }
+            → to_flush self.new.core.operations.store.pool + 1 ≡ to_flush self.old.core.operations.store.pool }
         ensures nothing { result ≡ Ok flushed.Clean
-            → (f : ℕ) → get_or self.new.parts.operations.store.pool.dirty.items f false ≡ false }
-        ensures rest { OnlyOperations self.old.parts self.new.parts }
-        ensures log { self.new.parts.operations.store.log ≡ self.old.parts.operations.store.log }
-        ensures there { self.new.parts.operations.store.pool.of_page
-            ≡ self.old.parts.operations.store.pool.of_page }
-        ensures undo { LeavesUndo self.old.parts self.new.parts }
+            → (f : ℕ) → get_or self.new.core.operations.store.pool.dirty.items f false ≡ false }
+        ensures rest { OnlyOperations self.old.core self.new.core }
+        ensures log { self.new.core.operations.store.log ≡ self.old.core.operations.store.log }
+        ensures there { self.new.core.operations.store.pool.of_page
+            ≡ self.old.core.operations.store.pool.of_page }
+        ensures undo { LeavesUndo self.old.core self.new.core }
         ensures fails { FailsForGood self.old result self.new }
         ensures quiet { TellsEachFault D.faults self.old result self.new }
         ensures state { Stays D.seen D.may_leave self.old self.new }
@@ -148,7 +148,7 @@ impl<D: Device> Kernel<D> {
         if self.has_failed() {
             return Err(Refusal::DeviceFailed);
         }
-        let told = self.parts.flush_step();
+        let told = self.core.flush_step();
         self.failed = told.is_err();
         match told {
             Ok(flushed) => Ok(flushed),

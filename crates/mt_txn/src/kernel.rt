@@ -9,8 +9,8 @@ ghost use Rattle.mt_model.specs.Model.{Base};
 ghost use Rattle.mt_model.specs.declared.operations.Op.{Op};
 ghost use Rattle.mt_base.specs.Limits.{IsRelationCount};
 ghost use Rattle.mt_frame.specs.declared.slots.MasterSlot.{MasterSlot};
-ghost use Rattle.mt_kernel.specs.Consistent.{IsFresh};
-ghost use Rattle.mt_kernel.specs.Runs.{state_in};
+ghost use Rattle.mt_core.specs.Consistent.{IsFresh};
+ghost use Rattle.mt_core.specs.Runs.{state_in};
 ghost use Rattle.mt_txn.specs.Causes.{is_busy};
 ghost use Rattle.mt_txn.specs.Restarted.{FindsCommits};
 ghost use Rattle.mt_txn.specs.Well.{IsWell, Opens, RestartsFrom};
@@ -18,7 +18,7 @@ ghost use Rattle.mt_txn.specs.Well.{IsWell, Opens, RestartsFrom};
 use mt_base::Refusal;
 use mt_disk::Device;
 use mt_escrow::Escrow;
-use mt_kernel::Parts;
+use mt_core::Core;
 use mt_model::Committed;
 use mt_op::Operations;
 use std::alloc::Global;
@@ -36,7 +36,7 @@ pub(crate) fn is_failure<T>(told: &Result<T, Refusal>) -> bool
 /// legal from the first base on. What stands of the live transactions is explained, and the pages hold the base that
 /// it leads to.
 pub struct Kernel<D: Device> {
-    pub(crate) parts: Parts<D>,
+    pub(crate) core: Core<D>,
     pub(crate) alloc: Global,
     // how many there are
     pub(crate) relations: u16,
@@ -44,9 +44,9 @@ pub struct Kernel<D: Device> {
     // whether a call was refused with 2
     pub(crate) failed: bool,
     // whatever the base that the pages hold
-    ghost well: { IsWell D.seen D.may_leave relations counters parts },
+    ghost well: { IsWell D.seen D.may_leave relations counters core },
     // it can be restarted, whatever base it began on
-    ghost starts: { ∥ ((first : Base) × RestartsFrom D.seen D.may_leave relations counters first parts) ∥₁ },
+    ghost starts: { ∥ ((first : Base) × RestartsFrom D.seen D.may_leave relations counters first core) ∥₁ },
     ghost schema: { IsRelationCount relations },
 }
 
@@ -73,10 +73,10 @@ impl<D: Device> Kernel<D> {
             → Restarts D.seen D.may_leave first result }
         ensures schema { (result.relations ≡ relations) × (result.counters ≡ counters) }
         ensures fails { is_failed result ≡ has_failed operations.store.log }
-        ensures operations { result.parts.operations ≡ operations }
+        ensures operations { result.core.operations ≡ operations }
     {
         Kernel {
-            parts: Parts::new(alloc, operations, escrow),
+            core: Core::new(alloc, operations, escrow),
             alloc,
             relations,
             counters,
@@ -89,17 +89,17 @@ impl<D: Device> Kernel<D> {
     pub fn has_failed(&self) -> bool
         ensures { result ≡ is_failed self.now }
     {
-        self.failed || self.parts.log().has_failed()
+        self.failed || self.core.log().has_failed()
     }
 
     /// The durable commits of this opening, in their order. They are those of the state that the kernel shows, and
     /// legal from its first base on. Each transaction replied as it does alone behind those before it.
     pub fn book(&self) -> &[Committed]
-        ensures book { result.now ≡ self.now.parts.book.items }
+        ensures book { result.now ≡ self.now.core.book.items }
         ensures legal { (first : Base) (s : State) → Shows D.seen D.may_leave first s self.now
             → ∥ ((s.book ≡ result.now) × IsLegal first result.now) ∥₁ }
     {
-        self.parts.book()
+        self.core.book()
     }
 
     /// Whatever state a kernel shows, the laws of mt_live keep it. Its book is legal. What stands of its live
@@ -116,21 +116,21 @@ impl<D: Device> Kernel<D> {
     /// before.
     pub fn can_restart(&self)
         ensures { (first : Base) (c : List ℕ) → Restarts D.seen D.may_leave first self.now
-            → D.may_leave self.now.parts.operations.store.device c → IsRelationCount self.now.relations
-            → ∥ FindsCommits self.now.relations self.now.counters first self.now.parts c ∥₁ }
+            → D.may_leave self.now.core.operations.store.device c → IsRelationCount self.now.relations
+            → ∥ FindsCommits self.now.relations self.now.counters first self.now.core c ∥₁ }
     {}
 
     /// Whatever state a kernel shows tells who lives, and who runs an operation; and where nobody commits, no commit is
     /// under way.
     pub fn shows_who_lives(&self)
         ensures lives { (first : Base) (s : State) → Shows D.seen D.may_leave first s self.now
-            → (t : ℕ) → is_live s t ≡ is_some (state_in self.now.parts.live.members t) }
+            → (t : ℕ) → is_live s t ≡ is_some (state_in self.now.core.live.members t) }
         ensures runs { (first : Base) (s : State) → Shows D.seen D.may_leave first s self.now
-            → (t : ℕ) (op : Op) → s.running t ≡ Some op → is_busy self.now.parts t ≡ true }
+            → (t : ℕ) (op : Op) → s.running t ≡ Some op → is_busy self.now.core t ≡ true }
         ensures idle { (first : Base) (s : State) → Shows D.seen D.may_leave first s self.now
-            → (t : ℕ) → state_in self.now.parts.live.members t ≡ Some Open → s.running t ≡ None
-            → is_busy self.now.parts t ≡ false }
-        ensures commits { ((t : ℕ) → state_in self.now.parts.live.members t ≢ Some Committing)
-            → self.now.parts.commits.items ≡ [] }
+            → (t : ℕ) → state_in self.now.core.live.members t ≡ Some Open → s.running t ≡ None
+            → is_busy self.now.core t ≡ false }
+        ensures commits { ((t : ℕ) → state_in self.now.core.live.members t ≢ Some Committing)
+            → self.now.core.commits.items ≡ [] }
     {}
 }

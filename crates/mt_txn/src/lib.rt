@@ -16,10 +16,10 @@ mod kernel;
 mod rests;
 mod steps;
 mod surveys;
-mod turning;
+mod handover;
 
 pub use answers::{AbortStepped, KernelForced, Stepped};
 pub use kernel::Kernel;
-pub use mt_kernel::Called;
+pub use mt_core::Called;
 pub use mt_op::Survey;
 pub use rests::KernelRest;

@@ -1,7 +1,7 @@
 // What outlasts an area of the log.
 ghost use Rattle.mt_base.specs.Limits.{IsRelationCount};
 
-use mt_kernel::Rest;
+use mt_core::Rest;
 use std::alloc::Global;
 
 /// What outlasts an area of the log: the book of a kernel, and the numbers of its transactions and operations.

@@ -5,10 +5,10 @@ ghost use Rattle.mt_live.specs.Machine.{State};
 ghost use Rattle.mt_log.specs.Words.{durable};
 ghost use Rattle.mt_model.specs.Model.{Base};
 ghost use Rattle.mt_pool.specs.Views.{pages};
-ghost use Rattle.mt_kernel.specs.Steps.{WantsFrame};
-ghost use Rattle.mt_kernel.specs.Work.{steps_in};
+ghost use Rattle.mt_core.specs.Steps.{WantsFrame};
+ghost use Rattle.mt_core.specs.Work.{steps_in};
 ghost use Rattle.mt_txn.specs.Work.{IsToldAs, IsForOther, LowersSteps};
-ghost use Rattle.mt_kernel.specs.Consistent.{SameCommits, SameStates};
+ghost use Rattle.mt_core.specs.Consistent.{SameCommits, SameStates};
 ghost use Rattle.mt_txn.specs.Causes.{IsFault, step_cause};
 ghost use Rattle.mt_txn.specs.Events.{HasStepped};
 ghost use Rattle.mt_txn.specs.PageLocks.{OfRunning, StepsLocks};
@@ -19,7 +19,7 @@ use crate::answers::Stepped;
 use crate::kernel::{Kernel, is_failure};
 use mt_base::{Refusal, TxnNo};
 use mt_disk::Device;
-use mt_kernel::{Going, Stepping};
+use mt_core::{Going, Stepping};
 
 impl<D: Device> Kernel<D> {
     /// Makes a step of the operation of an open transaction: it locks a page and looks at it, or writes one, or ends.
@@ -36,24 +36,24 @@ impl<D: Device> Kernel<D> {
     /// no operation under way, and 1 for want of memory. It is refused with 2, too, where the device fails in this
     /// step, so no fault is passed over. The state is as before.
     pub fn step(&mut self, txn: TxnNo) -> Result<Stepped, Refusal>
-        ensures may { OnOk result (step_cause (is_failed self.old) self.old.parts txn ≡ None) }
+        ensures may { OnOk result (step_cause (is_failed self.old) self.old.core txn ≡ None) }
         ensures cause { IfErr result (λ why. why ≢ Refusal.NoMemory
-            → (step_cause (is_failed self.old) self.old.parts txn ≡ Some why)
-            ⊎ IsFault D.faults self.old.parts self.new.parts why) }
-        ensures work { LowersSteps (pages self.old.parts.operations.store.pool) result
-            (steps_in self.old.parts.running.items txn) (steps_in self.new.parts.running.items txn) }
-        ensures full { result ≡ Ok Stepped.Flush → WantsFrame self.old.parts self.new.parts }
-        ensures commits { SameCommits self.old.parts self.new.parts }
-        ensures other { IfOk result (λ stepped. IsForOther self.old.parts.live.members txn stepped) }
-        ensures locks { step_cause (is_failed self.old) self.old.parts txn ≡ None
-            → OfRunning self.old.parts.running.items txn
-            (λ r. StepsLocks self.old.parts self.new.parts r result) }
-        ensures durable { durable self.new.parts.operations.store.log
-            ≡ durable self.old.parts.operations.store.log }
-        ensures states { SameStates self.old.parts self.new.parts }
+            → (step_cause (is_failed self.old) self.old.core txn ≡ Some why)
+            ⊎ IsFault D.faults self.old.core self.new.core why) }
+        ensures work { LowersSteps (pages self.old.core.operations.store.pool) result
+            (steps_in self.old.core.running.items txn) (steps_in self.new.core.running.items txn) }
+        ensures full { result ≡ Ok Stepped.Flush → WantsFrame self.old.core self.new.core }
+        ensures commits { SameCommits self.old.core self.new.core }
+        ensures other { IfOk result (λ stepped. IsForOther self.old.core.live.members txn stepped) }
+        ensures locks { step_cause (is_failed self.old) self.old.core txn ≡ None
+            → OfRunning self.old.core.running.items txn
+            (λ r. StepsLocks self.old.core self.new.core r result) }
+        ensures durable { durable self.new.core.operations.store.log
+            ≡ durable self.old.core.operations.store.log }
+        ensures states { SameStates self.old.core self.new.core }
         ensures fails { FailsForGood self.old result self.new }
         ensures quiet { TellsEachFault D.faults self.old result self.new }
-        ensures unmoved { (why : Refusal) → step_cause (is_failed self.old) self.old.parts txn ≡ Some why
+        ensures unmoved { (why : Refusal) → step_cause (is_failed self.old) self.old.core txn ≡ Some why
             → self.new ≡ self.old }
         ensures schema { SameSchema self.old self.new }
         ensures restarts { StaysRestarting D.seen D.may_leave self.old self.new }
@@ -64,10 +64,10 @@ impl<D: Device> Kernel<D> {
         if let Some(why) = self.open_cause(txn) {
             return Err(why);
         }
-        let Some(place) = self.parts.place_of(txn) else {
+        let Some(place) = self.core.place_of(txn) else {
             return Err(Refusal::Stranger);
         };
-        let told = self.parts.step(self.alloc, place);
+        let told = self.core.step(self.alloc, place);
         self.failed = is_failure(&told);
         match told? {
             Stepping::Ended(reply) => Ok(Stepped::Replied(reply)),
@@ -77,11 +77,11 @@ impl<D: Device> Kernel<D> {
 
     // What a step answers where its operation goes on.
     fn stepped(&self, going: Going) -> Stepped
-        ensures { IsToldAs self.now.parts.running.items going result }
+        ensures { IsToldAs self.now.core.running.items going result }
     {
         match going {
             Going::Went => Stepped::Went,
-            Going::Wait(holder) => match self.parts.owner(holder) {
+            Going::Wait(holder) => match self.core.owner(holder) {
                 Some(other) => Stepped::Wait(other),
                 None => Stepped::Again,
             },

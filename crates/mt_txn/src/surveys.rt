@@ -1,7 +1,7 @@
 // What the pages of a kernel come to.
 ghost use Rattle.std.specs.Prelude.{◌≡◌, ◌≢◌, ◌⊎◌, IfOk, IfErr, OnOk, None, Some};
 ghost use Rattle.mt_base.specs.declared.refusal.Refusal.{Refusal};
-ghost use Rattle.mt_kernel.specs.Consistent.{OnlyOperations};
+ghost use Rattle.mt_core.specs.Consistent.{OnlyOperations};
 ghost use Rattle.mt_live.specs.Machine.{State};
 ghost use Rattle.mt_model.specs.Model.{Base};
 ghost use Rattle.mt_txn.specs.Causes.{IsFault, survey_cause};
@@ -22,19 +22,19 @@ impl<D: Device> Kernel<D> {
     /// Refused, in this order: 2 where the device has failed, 16 where a transaction lives. Then 1 for want of memory
     /// and 2 where the device fails in this call, so no fault is passed over. The state is as before in any case.
     pub fn survey(&mut self) -> Result<Survey, Refusal>
-        ensures may { OnOk result (survey_cause (is_failed self.old) self.old.parts ≡ None) }
+        ensures may { OnOk result (survey_cause (is_failed self.old) self.old.core ≡ None) }
         ensures cause { IfErr result (λ why. why ≢ Refusal.NoMemory
-            → (survey_cause (is_failed self.old) self.old.parts ≡ Some why)
-            ⊎ IsFault D.faults self.old.parts self.new.parts why) }
+            → (survey_cause (is_failed self.old) self.old.core ≡ Some why)
+            ⊎ IsFault D.faults self.old.core self.new.core why) }
         ensures base { (first : Base) (s : State) → Shows D.seen D.may_leave first s self.old
             → IfOk result (TellsBase self.old.relations self.old.counters s.base) }
         ensures pages { IfOk result (TellsPages D.seen self.old) }
         ensures state { Stays D.seen D.may_leave self.old self.new }
-        ensures rest { OnlyOperations self.old.parts self.new.parts }
-        ensures log { self.new.parts.operations.store.log ≡ self.old.parts.operations.store.log }
-        ensures pool { self.new.parts.operations.store.pool ≡ self.old.parts.operations.store.pool }
-        ensures content { D.seen self.new.parts.operations.store.device
-            ≡ D.seen self.old.parts.operations.store.device }
+        ensures rest { OnlyOperations self.old.core self.new.core }
+        ensures log { self.new.core.operations.store.log ≡ self.old.core.operations.store.log }
+        ensures pool { self.new.core.operations.store.pool ≡ self.old.core.operations.store.pool }
+        ensures content { D.seen self.new.core.operations.store.device
+            ≡ D.seen self.old.core.operations.store.device }
         ensures schema { SameSchema self.old self.new }
         ensures restarts { StaysRestarting D.seen D.may_leave self.old self.new }
         ensures moments { LeavesFound D.seen D.may_leave D.moment D.left_since self.old self.new }
@@ -44,10 +44,10 @@ impl<D: Device> Kernel<D> {
         if self.has_failed() {
             return Err(Refusal::DeviceFailed);
         }
-        if self.parts.live().count() != 0 {
+        if self.core.live().count() != 0 {
             return Err(Refusal::Busy);
         }
-        let told = self.parts.survey(self.alloc);
+        let told = self.core.survey(self.alloc);
         self.failed = is_failure(&told);
         told
     }

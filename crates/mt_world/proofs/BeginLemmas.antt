@@ -8,9 +8,9 @@ use Rattle.mt_base.specs.declared.refusal.Refusal.TheVariants as refusal
 use Rattle.mt_disk.proofs.Frame.{leaves_more, runs_both, started}
 use Rattle.mt_disk.specs.Disk.{LeavesOnly}
 use Rattle.mt_disk.specs.declared.device.Device.{Ghosts}
-use Rattle.mt_kernel.specs.Booked.{txns_of}
-use Rattle.mt_kernel.specs.Consistent.{session_in}
-use Rattle.mt_kernel.specs.declared.parts.Commit.{Commit as CommitUnderWay}
+use Rattle.mt_core.specs.Booked.{txns_of}
+use Rattle.mt_core.specs.Consistent.{session_in}
+use Rattle.mt_core.specs.declared.kernel_core.Commit.{Commit as CommitUnderWay}
 use Rattle.mt_live.specs.Laws.{in_turn}
 use Rattle.mt_live.specs.Machine.{State, start}
 use Rattle.mt_log.specs.Words.{durable}
@@ -33,7 +33,7 @@ use Rattle.mt_world.proofs.RunLemmas.{none_under_way}
 use Rattle.mt_world.specs.Crashes.{BeginsOrStands, FindsSince, FoundFromFormat, FoundTo, HasBegun, HasFormatted, StandsFirst, device_under}
 use Rattle.mt_world.specs.declared.events.Answer.{Answer}
 use Rattle.mt_world.specs.declared.events.Event.{Event}
-use Rattle.mt_world.specs.declared.standing.Standing.{Standing}
+use Rattle.mt_world.specs.declared.kernel_or_device.Standing.{Standing}
 
 -- a refusal with 2 tells that the device failed
 failed_of : (c : List ℕ) (failed : Type 0) (why : Refusal) → IsCauseToStop c failed why → why ≡ refusal.DeviceFailed → failed
@@ -58,23 +58,23 @@ module _ {D : Type 0} (may_leave : D → List ℕ → Type 0) where
     left_alone only_now s device = started moment left_since device (BeginsOrStands s (may_leave device)) (λ c left. inl (inl (c, only_now device c left, record { size = refl; rest = λ i first second. refl })))
 
 module _ {D : Type 0} {g : Ghosts D} (seen : D → List ℕ) (may_leave : D → List ℕ → Type 0) (moment : D → ℕ) (left_since : D → ℕ → List ℕ → Type 0) where
-  no_commit_yet : (k : Kernel D g) (first : Base) → Shows seen may_leave first (start first) k → ∥ all_commits k.parts ≡ [] ∥₁
+  no_commit_yet : (k : Kernel D g) (first : Base) → Shows seen may_leave first (start first) k → ∥ all_commits k.core ≡ [] ∥₁
   no_commit_yet k first shows = ∥∥₁_map shows (λ (origin, base, is, x).
-      let ms = k.parts.live.members in
-      let none : k.parts.commits.items ≡ [] = none_under_way ms k.parts.commits.items x.consistent.fit.queued.each (λ t. sym (lives_of seen may_leave k.relations k.counters k.parts first (start first) shows t)) in
-      let book : k.parts.book.items ≡ [] = sym (ap (λ (s : State). s.book) x.state) in
-      ap (λ (cs : List Committed). cs ++ in_turn (session_in ms) (txns_of k.parts.commits.items) k.parts.live.standing) book
-      ∙ ap (λ (cs : List CommitUnderWay). in_turn (session_in ms) (txns_of cs) k.parts.live.standing) none)
+      let ms = k.core.live.members in
+      let none : k.core.commits.items ≡ [] = none_under_way ms k.core.commits.items x.consistent.fit.queued.each (λ t. sym (lives_of seen may_leave k.relations k.counters k.core first (start first) shows t)) in
+      let book : k.core.book.items ≡ [] = sym (ap (λ (s : State). s.book) x.state) in
+      ap (λ (cs : List Committed). cs ++ in_turn (session_in ms) (txns_of k.core.commits.items) k.core.live.standing) book
+      ∙ ap (λ (cs : List CommitUnderWay). in_turn (session_in ms) (txns_of cs) k.core.live.standing) none)
 
   -- what stands for the base that it began on is found with none of its commits
-  finds_first : (k : Kernel D g) (relations counters : ℕ) (first : Base) (c : List ℕ) → IsOpened seen may_leave relations counters first k → CanRestart relations counters c first → ∥ FindsCommits k.relations k.counters first k.parts c ∥₁
+  finds_first : (k : Kernel D g) (relations counters : ℕ) (first : Base) (c : List ℕ) → IsOpened seen may_leave relations counters first k → CanRestart relations counters c first → ∥ FindsCommits k.relations k.counters first k.core c ∥₁
   finds_first k relations counters first c opened can = ∥∥₁_map (no_commit_yet k first opened.shows) (λ none. record {
     base = first;
     found = subst (λ (X : Type 0). X) (λ i. CanRestart (sym opened.relations_are i) (sym opened.counters_are i) c first) can;
-    count = length k.parts.book.items + length (tells (durable k.parts.operations.store.log)).books + length (all_commits k.parts);
+    count = length k.core.book.items + length (tells (durable k.core.operations.store.log)).books + length (all_commits k.core);
     acknowledged = omega arith;
     durable = omega arith;
-    is = sym (ap (after first) (take_all (length k.parts.book.items + length (tells (durable k.parts.operations.store.log)).books + length (all_commits k.parts)) (all_commits k.parts) (omega arith) ∙ none));
+    is = sym (ap (after first) (take_all (length k.core.book.items + length (tells (durable k.core.operations.store.log)).books + length (all_commits k.core)) (all_commits k.core) (omega arith) ∙ none));
   })
 
   module _ (s : Schema) (device formatted : D) where

@@ -26,19 +26,19 @@ use Rattle.mt_world.specs.declared.events.Event.{Event}
 module _ {D : Type 0} {g : Ghosts D} (seen : D → List ℕ) (may_leave : D → List ℕ → Type 0) (moment : D → ℕ) (left_since : D → ℕ → List ℕ → Type 0) (only_now : (d : D) (c : List ℕ) → left_since d (moment d) c → may_leave d c) where
   -- no call of the device was made
   pub found_itself : (k : Kernel D g) → LeavesFound seen may_leave moment left_since k k
-  found_itself k = λ first r count. no_call seen may_leave k.relations k.counters first moment left_since only_now k.parts k.parts.operations.store.device refl r count
+  found_itself k = λ first r count. no_call seen may_leave k.relations k.counters first moment left_since only_now k.core k.core.operations.store.device refl r count
 
   module _ (faults : D → ℕ) (since : D) (first : Base) where
     abbrev pub Found : List Event → List Answer → Kernel D g → Type 0
     Found events answers k = ∥ FoundUntil seen may_leave moment left_since faults since first events answers k (device_under k) ∥₁
 
-    finds_now : (k : Kernel D g) (c : List ℕ) → Restarts seen may_leave first k → IsRelationCount k.relations → left_since (device_under k) (moment (device_under k)) c → ∥ FindsCommits k.relations k.counters first k.parts c ∥₁
-    finds_now k c starts count left = finds_commits seen may_leave k.relations k.counters first k.parts c starts (only_now (device_under k) c left) count
+    finds_now : (k : Kernel D g) (c : List ℕ) → Restarts seen may_leave first k → IsRelationCount k.relations → left_since (device_under k) (moment (device_under k)) c → ∥ FindsCommits k.relations k.counters first k.core c ∥₁
+    finds_now k c starts count left = finds_commits seen may_leave k.relations k.counters first k.core c starts (only_now (device_under k) c left) count
 
     -- what was acknowledged is the book
-    pub answered_of : (events : List Event) (answers : List Answer) (k : Kernel D g) → ∥ HasRun seen may_leave faults first events answers k ∥₁ → length k.parts.book.items ≡ length (acknowledged answers)
+    pub answered_of : (events : List Event) (answers : List Answer) (k : Kernel D g) → ∥ HasRun seen may_leave faults first events answers k ∥₁ → length k.core.book.items ≡ length (acknowledged answers)
     answered_of events answers k some = ∥∥₁_elim some (hlevel props) (λ r. ∥∥₁_elim r.shows (hlevel props) (λ (origin, base, is, x).
-        let book : length r.state.book ≡ length k.parts.book.items = ap (λ (s : State). length s.book) x.state in
+        let book : length r.state.book ≡ length k.core.book.items = ap (λ (s : State). length s.book) x.state in
         let told : length r.state.book ≡ length (map (λ t. commit_of (told_of events answers t)) (acknowledged answers)) = ap (λ (cs : List Committed). length cs) r.told in
         let size = length-map (acknowledged answers) (λ t. commit_of (told_of events answers t)) in
         omega (arith, book, told, size)))
@@ -49,7 +49,7 @@ module _ {D : Type 0} {g : Ghosts D} (seen : D → List ℕ) (may_leave : D → 
       last = refl;
       goes = λ i event answer lt. absurd (omega (arith, lt));
       ran = λ i le. let none : i ≡ 0 = omega (arith, le) in subst (λ (j : ℕ). ∥ HasRun seen may_leave faults first (take j []) (take j []) k ∥₁) (sym none) (has_run seen may_leave faults first [] [] k (ran_none seen may_leave faults first k shows) starts);
-      answered = λ i le. let none : i ≡ 0 = omega (arith, le) in subst (λ (j : ℕ). length k.parts.book.items ≡ length (acknowledged (take j []))) (sym none) (answered_of [] [] k (has_run seen may_leave faults first [] [] k (ran_none seen may_leave faults first k shows) starts));
+      answered = λ i le. let none : i ≡ 0 = omega (arith, le) in subst (λ (j : ℕ). length k.core.book.items ≡ length (acknowledged (take j []))) (sym none) (answered_of [] [] k (has_run seen may_leave faults first [] [] k (ran_none seen may_leave faults first k shows) starts));
       later = λ i le. omega arith;
       each = λ i c le left. ∥∥₁_map (finds_now k c starts count left) (λ f. record { made = 0; past = le; within = omega arith; finds = f });
       begun = found.later;
@@ -128,7 +128,7 @@ module _ {D : Type 0} {g : Ghosts D} (seen : D → List ℕ) (may_leave : D → 
           (cases_lt i (length events + 1))
 
       Finds : Kernel D g → List ℕ → Type 0
-      Finds m c = FindsCommits m.relations m.counters first m.parts c
+      Finds m c = FindsCommits m.relations m.counters first m.core c
 
       -- what is found of an earlier kernel, and of k
       wider : (i : ℕ) (c : List ℕ) → FindsBetween first was.behind i (length events) c → FindsBetween first next i (length (events ++ event ∷ [])) c
@@ -136,15 +136,15 @@ module _ {D : Type 0} {g : Ghosts D} (seen : D → List ℕ) (may_leave : D → 
         made = f.made;
         past = f.past;
         within = let w = f.within in omega (arith, w, longer);
-        finds = subst (λ (m : Kernel D g). FindsCommits m.relations m.counters first m.parts c) (sym (old f.made f.within)) f.finds;
+        finds = subst (λ (m : Kernel D g). FindsCommits m.relations m.counters first m.core c) (sym (old f.made f.within)) f.finds;
       }
 
-      found_here : (i : ℕ) (c : List ℕ) → i ≤ length events → FindsCommits k.relations k.counters first k.parts c → FindsBetween first next i (length (events ++ event ∷ [])) c
+      found_here : (i : ℕ) (c : List ℕ) → i ≤ length events → FindsCommits k.relations k.counters first k.core c → FindsBetween first next i (length (events ++ event ∷ [])) c
       found_here i c le f = record {
         made = length events;
         past = le;
         within = omega (arith, longer);
-        finds = subst (λ (m : Kernel D g). FindsCommits m.relations m.counters first m.parts c) (sym here) f;
+        finds = subst (λ (m : Kernel D g). FindsCommits m.relations m.counters first m.core c) (sym here) f;
       }
 
       each : (i : ℕ) (c : List ℕ) → i ≤ length (events ++ event ∷ []) → left_since (device_under n) (moment (device_under (next i))) c → ∥ FindsBetween first next i (length (events ++ event ∷ [])) c ∥₁
@@ -161,7 +161,7 @@ module _ {D : Type 0} {g : Ghosts D} (seen : D → List ℕ) (may_leave : D → 
             made = i;
             past = omega arith;
             within = le;
-            finds = subst (λ (m : Kernel D g). FindsCommits m.relations m.counters first m.parts c) (sym there) f;
+            finds = subst (λ (m : Kernel D g). FindsCommits m.relations m.counters first m.core c) (sym there) f;
           }))
           (cases_lt i (length events + 1))
 
@@ -199,7 +199,7 @@ module _ {D : Type 0} {g : Ghosts D} (seen : D → List ℕ) (may_leave : D → 
         ∥∥₁_map found (λ was. more events answers event answer k n made starts now count counts short (has_run seen may_leave faults first (events ++ event ∷ []) (answers ++ answer ∷ []) n ran now) was))
 
     -- until a device that the last kernel has left
-    pub found_until : (events : List Event) (answers : List Answer) (k : Kernel D g) (device : D) → FindsMeanwhile moment left_since k.relations k.counters first k.parts device → FoundUntil seen may_leave moment left_since faults since first events answers k (device_under k)
+    pub found_until : (events : List Event) (answers : List Answer) (k : Kernel D g) (device : D) → FindsMeanwhile moment left_since k.relations k.counters first k.core device → FoundUntil seen may_leave moment left_since faults since first events answers k (device_under k)
         → FoundUntil seen may_leave moment left_since faults since first events answers k device
     found_until events answers k device meanwhile was = record {
       behind = was.behind;
@@ -220,12 +220,12 @@ module _ {D : Type 0} {g : Ghosts D} (seen : D → List ℕ) (may_leave : D → 
           (λ f. ∣ inr (last_finds 0 c (omega arith) f) ∣₁));
     }
       where
-        last_finds : (i : ℕ) (c : List ℕ) → i ≤ length events → FindsCommits k.relations k.counters first k.parts c → FindsBetween first was.behind i (length events) c
+        last_finds : (i : ℕ) (c : List ℕ) → i ≤ length events → FindsCommits k.relations k.counters first k.core c → FindsBetween first was.behind i (length events) c
         last_finds i c le f = record {
           made = length events;
           past = le;
           within = omega arith;
-          finds = subst (λ (m : Kernel D g). FindsCommits m.relations m.counters first m.parts c) (sym was.last) f;
+          finds = subst (λ (m : Kernel D g). FindsCommits m.relations m.counters first m.core c) (sym was.last) f;
         }
 
     -- the device of a kernel itself

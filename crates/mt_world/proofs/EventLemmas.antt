@@ -6,19 +6,19 @@ use Rattle.std.proofs.Props.{props}
 use Rattle.mt_base.specs.declared.refusal.Refusal.{Refusal}
 use Rattle.mt_base.specs.declared.refusal.Refusal.TheVariants as refusal
 use Rattle.mt_disk.specs.declared.device.Device.{Ghosts}
-use Rattle.mt_kernel.specs.Consistent.{OnlyOperations, SameCommits, SameStates, SameStatesBut}
-use Rattle.mt_kernel.specs.Runs.{state_in}
-use Rattle.mt_kernel.specs.declared.calls.Called.{Called}
-use Rattle.mt_kernel.specs.declared.calls.Called.TheVariants as call
-use Rattle.mt_kernel.specs.declared.parts.Parts.{Parts}
+use Rattle.mt_core.specs.Consistent.{OnlyOperations, SameCommits, SameStates, SameStatesBut}
+use Rattle.mt_core.specs.Runs.{state_in}
+use Rattle.mt_core.specs.declared.calls.Called.{Called}
+use Rattle.mt_core.specs.declared.calls.Called.TheVariants as call
+use Rattle.mt_core.specs.declared.kernel_core.Core.{Core}
 use Rattle.mt_live.specs.Machine.{State, begun, called, ended, gone}
 use Rattle.mt_live.specs.declared.transactions.TxnState.{TxnState}
 use Rattle.mt_live.specs.declared.transactions.TxnState.TheVariants.{Open, Committing as IsCommitting, Aborting as IsAborting}
 use Rattle.mt_model.specs.Model.{Base}
 use Rattle.mt_model.specs.declared.operations.Op.{Op}
 use Rattle.mt_model.specs.declared.operations.Reply.{Reply}
-use Rattle.mt_pool.specs.declared.flushing.Flushed.{Flushed as FlushTold}
-use Rattle.mt_pool.specs.declared.flushing.Flushed.TheVariants as flush
+use Rattle.mt_pool.specs.declared.flushes.Flushed.{Flushed as FlushTold}
+use Rattle.mt_pool.specs.declared.flushes.Flushed.TheVariants as flush
 use Rattle.mt_txn.proofs.Living.{idle_of}
 use Rattle.mt_txn.specs.Causes.{begin_cause, call_cause, first_of, is_busy, is_open, unless}
 use Rattle.mt_txn.specs.Events.{HasAborted, HasCalled, HasForced, HasStepped, IsAnsweredBy, IsBack}
@@ -105,7 +105,7 @@ module _ {D : Type 0} {g : Ghosts D} (seen : D → List ℕ) (may_leave : D → 
 
   -- ---- a begin
 
-  pub begin_made : (session txn : ℕ) → txn ≡ k.parts.live.begun + 1 → begin_cause (is_failed k) k.parts ≡ None → ((first : Base) (s : State) → Shows seen may_leave first s k → Shows seen may_leave first (begun s session) n)
+  pub begin_made : (session txn : ℕ) → txn ≡ k.core.live.begun + 1 → begin_cause (is_failed k) k.core ≡ None → ((first : Base) (s : State) → Shows seen may_leave first s k → Shows seen may_leave first (begun s session) n)
       → KeepsDevice k (Begin session) n → SetsPhases k (Begin session) (Begun txn) n → SameSchema k n → FailsIn k (Begun txn) n → StaysRestarting seen may_leave k n → Found
       → HasMade seen may_leave moment left_since faults k (Begin session) (Begun txn) n
   begin_made session txn number may did device phases schema fails restarts found = record {
@@ -125,7 +125,7 @@ module _ {D : Type 0} {g : Ghosts D} (seen : D → List ℕ) (may_leave : D → 
   -- ---- a call
 
   abbrev Cause : ℕ → Op → Option Refusal
-  Cause t op = call_cause k.relations k.counters (is_failed k) k.parts t op
+  Cause t op = call_cause k.relations k.counters (is_failed k) k.core t op
 
   uncaused : (t : ℕ) (op : Op) (told : Called) → ((why : Refusal) → Cause t op ≡ Some why → ◌≡◌ {A = Result Called Refusal} (Ok told) (Err why)) → Cause t op ≡ None
   uncaused t op told early = go (Cause t op) refl
@@ -162,8 +162,8 @@ module _ {D : Type 0} {g : Ghosts D} (seen : D → List ℕ) (may_leave : D → 
     where
       ends_with : (reply : Reply) (first : Base) (s : State) → Shows seen may_leave first s k → (o : Option Op) → s.running t ≡ o → HasStepped seen may_leave first s t (Ok (step.Replied reply)) n → Leads first s (Step t) (Stepped (step.Replied reply))
       ends_with reply first s shows None none did =
-          let holds = both_hold (is_failed k) (is_open (state_in k.parts.live.members t)) (is_busy k.parts t) due.may in
-          let idle = idle_of seen may_leave k.relations k.counters k.parts first s shows t (open_state (state_in k.parts.live.members t) holds.0) none in
+          let holds = both_hold (is_failed k) (is_open (state_in k.core.live.members t)) (is_busy k.core t) due.may in
+          let idle = idle_of seen may_leave k.relations k.counters k.core first s shows t (open_state (state_in k.core.live.members t) holds.0) none in
           absurd (let wrong : true ≡ false = sym holds.1 ∙ idle in cc)
       ends_with reply first s shows (Some op) runs did =
           let ended_so = did op runs in
@@ -190,8 +190,8 @@ module _ {D : Type 0} {g : Ghosts D} (seen : D → List ℕ) (may_leave : D → 
       leads abort.Flush first s did = still (AbortStep t) (Backed abort.Flush) first s (abort_full t) did
       leads abort.Ended first s did = ∥∥₁_map did.1 (λ nothing. ([], gone s t, aborts t nothing, did.0))
 
-  pub back_phases : (t : ℕ) (told : AbortStepped) → (told ≢ abort.Ended → SameStates k.parts n.parts) → SameCommits k.parts n.parts
-      → (told ≡ abort.Ended → (state_in n.parts.live.members t ≡ None) × SameStatesBut k.parts n.parts t) → SetsPhases k (AbortStep t) (Backed told) n
+  pub back_phases : (t : ℕ) (told : AbortStepped) → (told ≢ abort.Ended → SameStates k.core n.core) → SameCommits k.core n.core
+      → (told ≡ abort.Ended → (state_in n.core.live.members t ≡ None) × SameStatesBut k.core n.core t) → SetsPhases k (AbortStep t) (Backed told) n
   back_phases t abort.More same commits out = (same (λ e. cc), commits)
   back_phases t (abort.Wait other) same commits out = (same (λ e. cc), commits)
   back_phases t abort.Again same commits out = (same (λ e. cc), commits)
@@ -200,14 +200,14 @@ module _ {D : Type 0} {g : Ghosts D} (seen : D → List ℕ) (may_leave : D → 
 
   -- ---- a step of a force, and a flush
 
-  pub rest_phases : OnlyOperations k.parts n.parts → SamePhases k n
-  rest_phases same = (λ u. ap (λ (x : Parts D). state_in x.live.members u) same, ap (λ (x : Parts D). x.commits.items) same)
+  pub rest_phases : OnlyOperations k.core n.core → SamePhases k n
+  rest_phases same = (λ u. ap (λ (x : Core D). state_in x.live.members u) same, ap (λ (x : Core D). x.commits.items) same)
 
-  pub parts_phases : n.parts ≡ k.parts → SamePhases k n
-  parts_phases same = (λ u. ap (λ (x : Parts D). state_in x.live.members u) same, ap (λ (x : Parts D). x.commits.items) same)
+  pub parts_phases : n.core ≡ k.core → SamePhases k n
+  parts_phases same = (λ u. ap (λ (x : Core D). state_in x.live.members u) same, ap (λ (x : Core D). x.commits.items) same)
 
   pub kernel_phases : n ≡ k → SamePhases k n
-  kernel_phases same = parts_phases (ap (λ (x : Kernel D g). x.parts) same)
+  kernel_phases same = parts_phases (ap (λ (x : Kernel D g). x.core) same)
 
   pub flush_told : (told : FlushTold) → ((p : ℕ) → told ≡ flush.Page p → IsFlushed k (flush.Page p) n) → (told ≡ flush.Force → IsFlushed k flush.Force n) → (told ≡ flush.Clean → IsFlushed k flush.Clean n) → IsFlushed k told n
   flush_told (flush.Page p) written barred nothing = written p refl

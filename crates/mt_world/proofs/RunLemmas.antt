@@ -10,10 +10,10 @@ use Rattle.std.proofs.Props.{props}
 use Rattle.mt_disk.specs.declared.device.Device.{Ghosts}
 use Rattle.mt_base.specs.declared.refusal.Refusal.{Refusal}
 use Rattle.mt_base.specs.declared.refusal.Refusal.TheVariants as refusal
-use Rattle.mt_kernel.specs.Booked.{booked_each, durable_count, session_at, txns_of}
-use Rattle.mt_kernel.specs.Consistent.{SameCommits, SameUncommitted, SetsState, session_in, session_or}
-use Rattle.mt_kernel.specs.Runs.{state_in}
-use Rattle.mt_kernel.specs.declared.parts.Commit.{Commit as CommitUnderWay}
+use Rattle.mt_core.specs.Booked.{booked_each, durable_count, session_at, txns_of}
+use Rattle.mt_core.specs.Consistent.{SameCommits, SameUncommitted, SetsState, session_in, session_or}
+use Rattle.mt_core.specs.Runs.{state_in}
+use Rattle.mt_core.specs.declared.kernel_core.Commit.{Commit as CommitUnderWay}
 use Rattle.mt_live.proofs.Alone.{put_other, put_own}
 use Rattle.mt_live.proofs.Keeping.{kept_explained}
 use Rattle.mt_live.specs.Entries.{calls as calls_of_entries, kept}
@@ -134,7 +134,7 @@ module _ {D : Type 0} {g : Ghosts D} (seen : D → List ℕ) (may_leave : D → 
   -- ---- what is told
 
   abbrev Phase : Kernel D g → ℕ → Option TxnState
-  Phase k t = state_in k.parts.live.members t
+  Phase k t = state_in k.core.live.members t
 
   module _ (s : State) (k n : Kernel D g) (told : ℕ → Told) (names : List ℕ) where
     abbrev TellsOn : State → Event → Answer → Type 0
@@ -146,10 +146,10 @@ module _ {D : Type 0} {g : Ghosts D} (seen : D → List ℕ) (may_leave : D → 
     same_told : SamePhases k n → AreTold s (Phase k) told names → AreTold s (Phase n) told (names ++ [])
     same_told same are = no_names s (Phase n) told (told_still s (Phase k) (Phase n) told names (λ t forward. ap is_forward (sym (same.0 t)) ∙ forward) are)
 
-    forced_told : SameUncommitted k.parts n.parts → AreTold s (Phase k) told names → AreTold s (Phase n) told (names ++ [])
+    forced_told : SameUncommitted k.core n.core → AreTold s (Phase k) told names → AreTold s (Phase n) told (names ++ [])
     forced_told same are = no_names s (Phase n) told (told_still s (Phase k) (Phase n) told names (λ t. forward_before (Phase k t) (Phase n t) (same t)) are)
 
-    set_told : (t : ℕ) (state : TxnState) → (is_forward (Some state) ≡ true → is_forward (Phase k t) ≡ true) → SetsState k.parts n.parts t (Some state) → AreTold s (Phase k) told names → AreTold s (Phase n) told (names ++ [])
+    set_told : (t : ℕ) (state : TxnState) → (is_forward (Some state) ≡ true → is_forward (Phase k t) ≡ true) → SetsState k.core n.core t (Some state) → AreTold s (Phase k) told names → AreTold s (Phase n) told (names ++ [])
     set_told t state was sets are = no_names s (Phase n) told (told_still s (Phase k) (Phase n) told names less are)
       where
         less : (u : ℕ) → is_forward (Phase n u) ≡ true → is_forward (Phase k u) ≡ true
@@ -176,7 +176,7 @@ module _ {D : Type 0} {g : Ghosts D} (seen : D → List ℕ) (may_leave : D → 
     still_tells _ _ (step_again t) due same are = same_told same are
     still_tells _ _ (step_full t) due same are = same_told same are
     still_tells _ _ (commit_begun t place) due sets are =
-        set_told t IsCommitting (λ forward. ap is_forward (open_state (Phase k t) (not_refused (is_failed k) (is_open (Phase k t)) (busy_cause k.parts t) due.0))) sets.0 are
+        set_told t IsCommitting (λ forward. ap is_forward (open_state (Phase k t) (not_refused (is_failed k) (is_open (Phase k t)) (busy_cause k.core t) due.0))) sets.0 are
     still_tells _ _ (abort_begun t) due sets are = set_told t IsAborting (λ forward. absurd cc) sets.0 are
     still_tells _ _ (abort_went t) due same are = same_told same are
     still_tells _ _ (abort_waits t other) due same are = same_told same are
@@ -187,11 +187,11 @@ module _ {D : Type 0} {g : Ghosts D} (seen : D → List ℕ) (may_leave : D → 
     still_tells _ _ (flushed told_so) due same are = same_told same are
     still_tells _ _ rotated due same are = same_told same are
 
-    undone_back : (t : ℕ) → abort_cause (is_failed k) k.parts t ≡ None → SamePhases k n → is_forward (Phase n t) ≡ false
+    undone_back : (t : ℕ) → abort_cause (is_failed k) k.core t ≡ None → SamePhases k n → is_forward (Phase n t) ≡ false
     undone_back t may same = ap is_forward (same.0 t) ∙ aborting_back (is_failed k) (Phase k t) may
 
     moves_told : (z : State) (event : Event) (answer : Answer) (more : List Act) → Moves s event answer more z → IsDue seen may_leave faults k event answer n → SetsPhases k event answer n
-        → Shows seen may_leave first z n → IsKept first s → All (λ (c : CommitUnderWay). Phase k c.txn ≡ Some IsCommitting) k.parts.commits.items → AllPairs (λ (a b : CommitUnderWay). a.txn ≢ b.txn) k.parts.commits.items
+        → Shows seen may_leave first z n → IsKept first s → All (λ (c : CommitUnderWay). Phase k c.txn ≡ Some IsCommitting) k.core.commits.items → AllPairs (λ (a b : CommitUnderWay). a.txn ≢ b.txn) k.core.commits.items
         → AreTold s (Phase k) told names → TellsOn z event answer
     moves_told _ _ _ _ (stays event answer is) due phases shows kept each apart are = still_tells event answer is due phases are
     moves_told z _ _ _ (begins session) due phases shows kept each apart are = no_names (begun s session) (Phase n) _ (told_begun first s session (Phase k) (Phase n) told names kept phases.0 are)
@@ -204,18 +204,18 @@ module _ {D : Type 0} {g : Ghosts D} (seen : D → List ℕ) (may_leave : D → 
     moves_told z _ _ _ (aborts t nothing) due phases shows kept each apart are = no_names (gone s t) (Phase n) told (told_gone s t (Phase k) (Phase n) told names (ap is_forward phases.0) phases.1 are)
     moves_told z _ _ _ (books ts) due phases shows kept each apart are =
         told_booked first s ts.items (Phase k) (Phase n) told names kept
-        (subst AreDistinct (sym due.2) (named_distinct (durable_count k.parts.commits.items due.0) k.parts.commits.items apart))
-        (subst (Each (λ t. Phase k t ≡ Some IsCommitting)) (sym due.2) (named_commit (Phase k) (durable_count k.parts.commits.items due.0) k.parts.commits.items each))
-        phases (λ u dead. none_back (Phase n u) (sym (lives_of seen may_leave n.relations n.counters n.parts first (booked_each s ts.items) shows u) ∙ dead)) are
+        (subst AreDistinct (sym due.2) (named_distinct (durable_count k.core.commits.items due.0) k.core.commits.items apart))
+        (subst (Each (λ t. Phase k t ≡ Some IsCommitting)) (sym due.2) (named_commit (Phase k) (durable_count k.core.commits.items due.0) k.core.commits.items each))
+        phases (λ u dead. none_back (Phase n u) (sym (lives_of seen may_leave n.relations n.counters n.core first (booked_each s ts.items) shows u) ∙ dead)) are
 
   -- ---- the commits that have begun
 
   module _ (s : State) (k n : Kernel D g) where
     abbrev Queues : Event → Answer → Type 0
-    Queues event answer = named answer ++ txns_of n.parts.commits.items ≡ txns_of k.parts.commits.items ++ started_by event answer
+    Queues event answer = named answer ++ txns_of n.core.commits.items ≡ txns_of k.core.commits.items ++ started_by event answer
 
-    same_queue : SameCommits k.parts n.parts → txns_of n.parts.commits.items ≡ txns_of k.parts.commits.items ++ []
-    same_queue same = ap (λ (cs : List CommitUnderWay). txns_of cs) same ∙ sym (append-nil (txns_of k.parts.commits.items))
+    same_queue : SameCommits k.core n.core → txns_of n.core.commits.items ≡ txns_of k.core.commits.items ++ []
+    same_queue same = ap (λ (cs : List CommitUnderWay). txns_of cs) same ∙ sym (append-nil (txns_of k.core.commits.items))
 
     refused_queues : (event : Event) (why : Refusal) → SetsPhases k event (Refused why) n → Queues event (Refused why)
     refused_queues (Begin session) why same = same_queue same.1
@@ -235,7 +235,7 @@ module _ {D : Type 0} {g : Ghosts D} (seen : D → List ℕ) (may_leave : D → 
     still_queues _ _ (step_waits t other) due same = same_queue same.1
     still_queues _ _ (step_again t) due same = same_queue same.1
     still_queues _ _ (step_full t) due same = same_queue same.1
-    still_queues _ _ (commit_begun t place) due sets = one_more k.parts.commits.items n.parts.commits.items t sets.1
+    still_queues _ _ (commit_begun t place) due sets = one_more k.core.commits.items n.core.commits.items t sets.1
     still_queues _ _ (abort_begun t) due sets = same_queue sets.1
     still_queues _ _ (abort_went t) due same = same_queue same.1
     still_queues _ _ (abort_waits t other) due same = same_queue same.1
@@ -255,7 +255,7 @@ module _ {D : Type 0} {g : Ghosts D} (seen : D → List ℕ) (may_leave : D → 
     moves_queue z _ _ _ (undoes t last inverse ps idle effect inverts given) due phases = same_queue phases.1
     moves_queue z _ _ _ (aborts t nothing) due phases = same_queue phases.2
     moves_queue z _ _ _ (books ts) due phases =
-        first_leave k.parts.commits.items n.parts.commits.items ts.items (durable_count k.parts.commits.items due.0) due.2 due.3 ∙ sym (append-nil (txns_of k.parts.commits.items))
+        first_leave k.core.commits.items n.core.commits.items ts.items (durable_count k.core.commits.items due.0) due.2 due.3 ∙ sym (append-nil (txns_of k.core.commits.items))
 
   makes_shows : (events : List Event) (answers : List Answer) (acts : List Act) (s : State) (n : Kernel D g) → Makes seen may_leave faults first events answers acts s n → Shows seen may_leave first s n
   makes_shows _ _ _ _ n (starts k shows) = shows
@@ -270,14 +270,14 @@ module _ {D : Type 0} {g : Ghosts D} (seen : D → List ℕ) (may_leave : D → 
   makes_told : (events : List Event) (answers : List Answer) (acts : List Act) (s : State) (n : Kernel D g) → Makes seen may_leave faults first events answers acts s n
       → ∥ AreTold s (Phase n) (λ t. told_of events answers t) (acknowledged answers) ∥₁
   makes_told _ _ _ _ n (starts k shows) = ∣ record {
-    each = λ t forward. absurd (let back : is_forward (Phase k t) ≡ false = none_back (Phase k t) (sym (lives_of seen may_leave k.relations k.counters k.parts first (start first) shows t)) in let wrong : true ≡ false = sym forward ∙ back in cc);
+    each = λ t forward. absurd (let back : is_forward (Phase k t) ≡ false = none_back (Phase k t) (sym (lives_of seen may_leave k.relations k.counters k.core first (start first) shows t)) in let wrong : true ≡ false = sym forward ∙ back in cc);
     book = refl;
     past = tt;
   } ∣₁
   makes_told _ _ _ z n (goes_on events answers acts more s _ k _ event answer before made) =
       let shows = makes_shows events answers acts s k before in
       ∥∥₁_elim (makes_told events answers acts s k before) (hlevel props) (λ are.
-      ∥∥₁_elim (kept_of seen may_leave k.relations k.counters k.parts first s shows) (hlevel props) (λ kept.
+      ∥∥₁_elim (kept_of seen may_leave k.relations k.counters k.core first s shows) (hlevel props) (λ kept.
       ∥∥₁_map shows (λ (origin, base, is, x).
       let queued = x.consistent.fit.queued in
       subst (AreTold z (Phase n) (λ t. told_of (events ++ event ∷ []) (answers ++ answer ∷ []) t)) (sym (acknowledged_more answers answer))
@@ -286,37 +286,37 @@ module _ {D : Type 0} {g : Ghosts D} (seen : D → List ℕ) (may_leave : D → 
 
   -- the acknowledged ones, and those under way behind them, are all that have begun
   makes_queue : (events : List Event) (answers : List Answer) (acts : List Act) (s : State) (n : Kernel D g) → Makes seen may_leave faults first events answers acts s n
-      → ∥ acknowledged answers ++ txns_of n.parts.commits.items ≡ committing events answers ∥₁
+      → ∥ acknowledged answers ++ txns_of n.core.commits.items ≡ committing events answers ∥₁
   makes_queue _ _ _ _ n (starts k shows) = ∥∥₁_map shows (λ (origin, base, is, x).
-      ap (λ (cs : List CommitUnderWay). txns_of cs) (none_under_way k.parts.live.members k.parts.commits.items x.consistent.fit.queued.each (λ t. sym (lives_of seen may_leave k.relations k.counters k.parts first (start first) shows t))))
+      ap (λ (cs : List CommitUnderWay). txns_of cs) (none_under_way k.core.live.members k.core.commits.items x.consistent.fit.queued.each (λ t. sym (lives_of seen may_leave k.relations k.counters k.core first (start first) shows t))))
   makes_queue _ _ _ z n (goes_on events answers acts more s _ k _ event answer before made) = ∥∥₁_map (makes_queue events answers acts s k before) (λ was.
       let queues = moves_queue s k n z event answer more made.moves made.due made.phases in
-      ap (λ (ts : List ℕ). ts ++ txns_of n.parts.commits.items) (acknowledged_more answers answer)
-      ∙ append_assoc (acknowledged answers) (named answer) (txns_of n.parts.commits.items)
+      ap (λ (ts : List ℕ). ts ++ txns_of n.core.commits.items) (acknowledged_more answers answer)
+      ∙ append_assoc (acknowledged answers) (named answer) (txns_of n.core.commits.items)
       ∙ ap (λ (ts : List ℕ). acknowledged answers ++ ts) queues
-      ∙ sym (append_assoc (acknowledged answers) (txns_of k.parts.commits.items) (started_by event answer))
+      ∙ sym (append_assoc (acknowledged answers) (txns_of k.core.commits.items) (started_by event answer))
       ∙ ap (λ (ts : List ℕ). ts ++ started_by event answer) was
       ∙ sym (committing_more events answers event answer (makes_same events answers acts s k before)))
 
   -- each with what its session was told
   order_of : (events : List Event) (answers : List Answer) (s : State) (n : Kernel D g) → AreTold s (Phase n) (λ t. told_of events answers t) (acknowledged answers) → Shows seen may_leave first s n
-      → acknowledged answers ++ txns_of n.parts.commits.items ≡ committing events answers → ∥ all_commits n.parts ≡ commit_order events answers ∥₁
+      → acknowledged answers ++ txns_of n.core.commits.items ≡ committing events answers → ∥ all_commits n.core ≡ commit_order events answers ∥₁
   order_of events answers s n are shows queue = ∥∥₁_map shows (λ (origin, base, is, x).
       let told : ℕ → Told = λ t. told_of events answers t in
-      let ms = n.parts.live.members in
-      let cs = n.parts.commits.items in
+      let ms = n.core.live.members in
+      let cs = n.core.commits.items in
       let queued = x.consistent.fit.queued in
       let whole : take (length cs) cs ≡ cs = take_all (length cs) cs (omega arith) in
       let distinct : AreDistinct (txns_of cs) = subst (λ (l : List CommitUnderWay). AreDistinct (txns_of l)) whole (named_distinct (length cs) cs queued.apart) in
       let commit : Each (λ t. Phase n t ≡ Some IsCommitting) (txns_of cs) = subst (λ (l : List CommitUnderWay). Each (λ t. Phase n t ≡ Some IsCommitting) (txns_of l)) whole (named_commit (Phase n) (length cs) cs queued.each) in
-      let known : (t : ℕ) → Phase n t ≡ Some IsCommitting → (session_in ms t ≡ (told t).session) × (calls_of_entries (kept (only t) n.parts.live.standing) ≡ (told t).calls) =
+      let known : (t : ℕ) → Phase n t ≡ Some IsCommitting → (session_in ms t ≡ (told t).session) × (calls_of_entries (kept (only t) n.core.live.standing) ≡ (told t).calls) =
       (λ t commits. let is_told = are.each t (ap is_forward commits) in (
         session_known (member_of ms t) (told t).session (sym (ap (λ (y : State). y.sessions t) x.state) ∙ is_told.session),
         sym (ap (λ (y : State). calls_of_entries (kept (only t) y.standing)) x.state) ∙ is_told.calls,
       )) in
-      let turn : in_turn (session_in ms) (txns_of cs) n.parts.live.standing ≡ map (λ t. commit_of (told t)) (txns_of cs) =
-      told_in_turn (session_in ms) told (txns_of cs) n.parts.live.standing distinct (each_map _ _ known (txns_of cs) commit) in
-      let book : n.parts.book.items ≡ map (λ t. commit_of (told t)) (acknowledged answers) = sym (ap (λ (y : State). y.book) x.state) ∙ are.book in
+      let turn : in_turn (session_in ms) (txns_of cs) n.core.live.standing ≡ map (λ t. commit_of (told t)) (txns_of cs) =
+      told_in_turn (session_in ms) told (txns_of cs) n.core.live.standing distinct (each_map _ _ known (txns_of cs) commit) in
+      let book : n.core.book.items ≡ map (λ t. commit_of (told t)) (acknowledged answers) = sym (ap (λ (y : State). y.book) x.state) ∙ are.book in
       ap₂ (λ (xs ys : List Committed). xs ++ ys) book turn
       ∙ sym (map-append (λ t. commit_of (told t)) (acknowledged answers) (txns_of cs))
       ∙ ap (λ (ts : List ℕ). map (λ t. commit_of (told t)) ts) queue)
@@ -355,7 +355,7 @@ module _ {D : Type 0} {g : Ghosts D} (seen : D → List ℕ) (may_leave : D → 
       ∥∥₁_elim (makes_told events answers acts s n made) (hlevel props) (λ told.
       ∥∥₁_elim (makes_queue events answers acts s n made) (hlevel props) (λ queue.
       ∥∥₁_elim (order_of events answers s n told shows queue) (hlevel props) (λ order.
-      ∥∥₁_map (kept_of seen may_leave n.relations n.counters n.parts first s shows) (λ kept.
+      ∥∥₁_map (kept_of seen may_leave n.relations n.counters n.core first s shows) (λ kept.
       let acted = makes_acted events answers acts s n made in record {
         acts = acts;
         state = s;

@@ -22,8 +22,8 @@ use Rattle.mt_world.specs.declared.events.Answer.{Answer}
 use Rattle.mt_world.specs.declared.events.Answer.TheVariants.{Refused}
 use Rattle.mt_world.specs.declared.events.Event.{Event}
 use Rattle.mt_world.specs.declared.events.Event.TheVariants.{Rotate}
-use Rattle.mt_world.specs.declared.standing.Standing.{Standing}
-use Rattle.mt_world.specs.declared.standing.Standing.TheVariants.{Stands, Ended}
+use Rattle.mt_world.specs.declared.kernel_or_device.Standing.{Standing}
+use Rattle.mt_world.specs.declared.kernel_or_device.Standing.TheVariants.{Stands, Ended}
 
 each_of : (P : Answer → Type 0) → ((x : Answer) → P x) → (xs : List Answer) → Each P xs
 each_of P all [] = tt

@@ -12,7 +12,7 @@ use Rattle.mt_disk.specs.Memory.{MayLeave}
 use Rattle.mt_disk.specs.declared.device.Device.{Ghosts}
 use Rattle.mt_disk.specs.declared.memory.Fill.{Fill}
 use Rattle.mt_disk.specs.declared.memory.MemDevice.{MemDevice}
-use Rattle.mt_kernel.specs.Booked.{txns_of}
+use Rattle.mt_core.specs.Booked.{txns_of}
 use Rattle.mt_model.specs.History.{after}
 use Rattle.mt_model.specs.Model.{Base}
 use Rattle.mt_model.specs.declared.history.Committed.{Committed}
@@ -29,14 +29,14 @@ use Rattle.mt_world.specs.Standings.{device_at}
 use Rattle.mt_world.specs.Stopped.{BeginsWithin, FindsFirst, IsCrashRun, IsStoppedRun}
 use Rattle.mt_world.specs.Stopping.{StopsAt, below}
 use Rattle.mt_world.specs.Told.{Told, acknowledged, commit_of, commit_order, committing, named, nothing_told, started_by, tells, told_from, told_of}
-use Rattle.mt_world.specs.declared.crashing.CrashRun.{CrashRun}
+use Rattle.mt_world.specs.declared.crash.CrashRun.{CrashRun}
 use Rattle.mt_world.specs.declared.events.Answer.{Answer}
 use Rattle.mt_world.specs.declared.events.Answer.TheVariants.{Refused}
 use Rattle.mt_world.specs.declared.events.Event.{Event}
 use Rattle.mt_world.specs.declared.events.Event.TheVariants.{Begin, Call, Step, Commit, AbortBegin, AbortStep, Force, Flush, Rotate}
-use Rattle.mt_world.specs.declared.standing.Standing.{Standing}
-use Rattle.mt_world.specs.declared.standing.Standing.TheVariants.{Stands, Ended}
-use Rattle.mt_world.specs.declared.stopping.StoppingDevice.{StoppingDevice}
+use Rattle.mt_world.specs.declared.kernel_or_device.Standing.{Standing}
+use Rattle.mt_world.specs.declared.kernel_or_device.Standing.TheVariants.{Stands, Ended}
+use Rattle.mt_world.specs.declared.stopping_device.StoppingDevice.{StoppingDevice}
 
 -- ---- what a refused event tells
 
@@ -147,14 +147,14 @@ module _ {D : Type 0} {g : Ghosts D} (seen : D → List ℕ) (may_leave : D → 
     few : length (acknowledged answers) ≤ length (commit_order events answers)
     few =
         let all = ap (λ (ts : List ℕ). length ts) run.queue in
-        let both = length-append (acknowledged answers) (txns_of k.parts.commits.items) in
+        let both = length-append (acknowledged answers) (txns_of k.core.commits.items) in
         let size = length-map (committing events answers) (λ t. commit_of (told_of events answers t)) in
         omega (arith, all, both, size)
 
-    at_base : (n : ℕ) (c : List ℕ) (b : Base) → b ≡ after (schema_base s) (take n (all_commits k.parts)) → CanRestart k.relations k.counters c b → CanRestart (relations_in s) (length (counters_in s)) c (after (schema_base s) (take n (commit_order events answers)))
+    at_base : (n : ℕ) (c : List ℕ) (b : Base) → b ≡ after (schema_base s) (take n (all_commits k.core)) → CanRestart k.relations k.counters c b → CanRestart (relations_in s) (length (counters_in s)) c (after (schema_base s) (take n (commit_order events answers)))
     at_base n c b is can = subst (λ (X : Type 0). X) (λ i. CanRestart (relations_are i) (counters_are i) c ((is ∙ ap (λ (cs : List Committed). after (schema_base s) (take n cs)) run.order) i)) can
 
-    first_some : (c : List ℕ) → FindsCommits k.relations k.counters (schema_base s) k.parts c → Finds c
+    first_some : (c : List ℕ) → FindsCommits k.relations k.counters (schema_base s) k.core c → Finds c
     first_some c f =
         let order = commit_order events answers in
         let book = answered_of seen may_leave moment left_since only_now faults since (schema_base s) events answers k ∣ run ∣₁ in
@@ -181,7 +181,7 @@ module _ {D : Type 0} {g : Ghosts D} (seen : D → List ℕ) (may_leave : D → 
         ∥∥₁_map (u.each n c (omega arith) then) (λ f.
         let at : f.made ≡ n = let past = f.past in let within = f.within in omega (arith, past, within) in
         let same : u.behind f.made ≡ k = ap u.behind at ∙ u.last in
-        first_some c (subst (λ (m : Kernel D g). FindsCommits m.relations m.counters (schema_base s) m.parts c) same f.finds))
+        first_some c (subst (λ (m : Kernel D g). FindsCommits m.relations m.counters (schema_base s) m.core c) same f.finds))
 
 module _ {D : Type 0} {g : Ghosts D} (seen : D → List ℕ) (may_leave : D → List ℕ → Type 0) (moment : D → ℕ) (left_since : D → ℕ → List ℕ → Type 0) (counts_now : (d : D) (t : ℕ) (c : List ℕ) → t ≤ moment d → may_leave d c → left_since d t c)
     (only_now : (d : D) (c : List ℕ) → left_since d (moment d) c → may_leave d c) (faults : D → ℕ) (s : Schema) (device : D) where

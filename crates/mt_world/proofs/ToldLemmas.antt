@@ -4,9 +4,9 @@ use Rattle.std.specs.Prelude.{All, AllPairs, ◌||◌, ⊤}
 use Rattle.std.proofs.lemmas.Bool.{cases_eq, cases_lt, eqb-true, ne_eqb}
 use Rattle.std.proofs.lemmas.List.{map-append}
 use Rattle.std.proofs.lemmas.List.Elements.{All-head, All-tail, filter-append}
-use Rattle.mt_kernel.proofs.Lists.{pairs_head, pairs_tail}
-use Rattle.mt_kernel.specs.Booked.{booked_each, or_zero, session_at, txns_of}
-use Rattle.mt_kernel.specs.declared.parts.Commit.{Commit}
+use Rattle.mt_core.proofs.Lists.{pairs_head, pairs_tail}
+use Rattle.mt_core.specs.Booked.{booked_each, or_zero, session_at, txns_of}
+use Rattle.mt_core.specs.declared.kernel_core.Commit.{Commit}
 use Rattle.mt_live.proofs.AddLemmas.{eq_flip, eq_self}
 use Rattle.mt_live.proofs.Alone.{put_other, put_own}
 use Rattle.mt_live.proofs.Events.{each_append}
@@ -23,7 +23,7 @@ use Rattle.mt_model.specs.History.{Call}
 use Rattle.mt_model.specs.Model.{Base, inverse_of, reply_of}
 use Rattle.mt_model.specs.declared.history.Committed.{Committed}
 use Rattle.mt_model.specs.declared.operations.Op.{Op}
-use Rattle.mt_model.specs.declared.pending.Pending.{Pending}
+use Rattle.mt_model.specs.declared.pending_add.Pending.{Pending}
 use Rattle.mt_world.specs.Told.{Told, commit_of, replied}
 
 -- ---- of one transaction

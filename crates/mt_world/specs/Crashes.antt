@@ -16,11 +16,11 @@ use Rattle.mt_world.specs.Schedules.{HasEnded, HasMade, HasRun}
 use Rattle.mt_world.specs.Told.{acknowledged}
 use Rattle.mt_world.specs.declared.events.Answer.{Answer}
 use Rattle.mt_world.specs.declared.events.Event.{Event}
-use Rattle.mt_world.specs.declared.standing.Standing.{Standing}
-use Rattle.mt_world.specs.declared.standing.Standing.TheVariants.{Stands, Ended}
+use Rattle.mt_world.specs.declared.kernel_or_device.Standing.{Standing}
+use Rattle.mt_world.specs.declared.kernel_or_device.Standing.TheVariants.{Stands, Ended}
 
 abbrev pub device_under : {D : Type 0} → {g : Ghosts D} → Kernel D g → D
-device_under k = k.parts.operations.store.device
+device_under k = k.core.operations.store.device
 
 -- A restart finds in these bytes what some of the first commits of a kernel lead to. All that were acknowledged by then are among them, for they
 -- are its book; and all whose records were durable. At least so many events were made by then, and at most so many.
@@ -28,15 +28,15 @@ pub record FindsBetween {D : Type 0} {g : Ghosts D} (first : Base) (behind : ℕ
   pub made : ℕ
   pub past : least ≤ made
   pub within : made ≤ most
-  pub finds : FindsCommits (behind made).relations (behind made).counters first (behind made).parts c
+  pub finds : FindsCommits (behind made).relations (behind made).counters first (behind made).core c
 
 -- Whatever a crash left since the device of a kernel was this one, a restart finds in it what some of the first commits of the kernel lead to.
 pub record FindsSince {D : Type 0} {g : Ghosts D} (moment : D → ℕ) (left_since : D → ℕ → List ℕ → Type 0) (since : D) (first : Base) (k : Kernel D g) : Type 0 where
   pub later : moment since ≤ moment (device_under k)
-  pub each : (c : List ℕ) → left_since (device_under k) (moment since) c → ∥ FindsCommits k.relations k.counters first k.parts c ∥₁
+  pub each : (c : List ℕ) → left_since (device_under k) (moment since) c → ∥ FindsCommits k.relations k.counters first k.core c ∥₁
   -- the same, for a run of calls that began before
   pub before : (t : ℕ) (c : List ℕ) → t ≤ moment since → left_since (device_under k) t c
-      → ∥ left_since since t c ⊎ FindsCommits k.relations k.counters first k.parts c ∥₁
+      → ∥ left_since since t c ⊎ FindsCommits k.relations k.counters first k.core c ∥₁
 
 -- The events led from kernel to kernel, the last of which is k, until the device is this one. Whatever a crash leaves since one of these
 -- kernels stood, a restart finds in it what some of the first commits of that one, or of a later one, lead to. And so it does in what a crash
@@ -50,7 +50,7 @@ pub record FoundUntil {D : Type 0} {g : Ghosts D} (seen : D → List ℕ) (may_l
       → HasMade seen may_leave moment left_since faults (behind i) (get_or events i event) (get_or answers i answer) (behind (i + 1))
   pub ran : (i : ℕ) → i ≤ length events → ∥ HasRun seen may_leave faults first (take i events) (take i answers) (behind i) ∥₁
   -- its book has each commit that was acknowledged by then
-  pub answered : (i : ℕ) → i ≤ length events → length (behind i).parts.book.items ≡ length (acknowledged (take i answers))
+  pub answered : (i : ℕ) → i ≤ length events → length (behind i).core.book.items ≡ length (acknowledged (take i answers))
   pub later : (i : ℕ) → i ≤ length events → moment (device_under (behind i)) ≤ moment device
   pub each : (i : ℕ) (c : List ℕ) → i ≤ length events → left_since device (moment (device_under (behind i))) c
       → ∥ FindsBetween first behind i (length events) c ∥₁

@@ -3,18 +3,18 @@ use Rattle.std.specs.Prelude.{ℕ, ◌≡◌, ◌⊎◌, ◌+◌, List, [], ◌�
 use Rattle.mt_base.specs.declared.refusal.Refusal.{Refusal}
 use Rattle.mt_base.specs.declared.refusal.Refusal.TheVariants as refusal
 use Rattle.mt_disk.specs.declared.device.Device.{Ghosts}
-use Rattle.mt_kernel.specs.Consistent.{SameCommits, SameStates, SameStatesBut, SameUncommitted, SetsState}
-use Rattle.mt_kernel.specs.Runs.{state_in}
-use Rattle.mt_kernel.specs.Steps.{WantsFrame}
-use Rattle.mt_kernel.specs.Work.{steps_in, undo_steps}
-use Rattle.mt_kernel.specs.declared.parts.Commit.{Commit as CommitUnderWay}
+use Rattle.mt_core.specs.Consistent.{SameCommits, SameStates, SameStatesBut, SameUncommitted, SetsState}
+use Rattle.mt_core.specs.Runs.{state_in}
+use Rattle.mt_core.specs.Steps.{WantsFrame}
+use Rattle.mt_core.specs.Work.{steps_in, undo_steps}
+use Rattle.mt_core.specs.declared.kernel_core.Commit.{Commit as CommitUnderWay}
 use Rattle.mt_live.specs.Sound.{Each}
 use Rattle.mt_live.specs.declared.transactions.TxnState.TheVariants as state
 use Rattle.mt_log.specs.Words.{appended, durable}
 use Rattle.mt_op.specs.Begun.{AreImages}
 use Rattle.mt_pool.specs.Views.{Cleans, IsWaiting, pages}
-use Rattle.mt_pool.specs.declared.flushing.Flushed.{Flushed as FlushTold}
-use Rattle.mt_pool.specs.declared.flushing.Flushed.TheVariants as flush
+use Rattle.mt_pool.specs.declared.flushes.Flushed.{Flushed as FlushTold}
+use Rattle.mt_pool.specs.declared.flushes.Flushed.TheVariants as flush
 use Rattle.mt_restart.specs.Rotated.{IsForceCause, early_cause}
 use Rattle.mt_txn.specs.Causes.{IsFailure, IsFault, abort_cause, begin_cause, call_cause, commit_cause, open_cause, step_cause}
 use Rattle.mt_txn.specs.Events.{IsAnsweredBy, IsForcedBy}
@@ -39,54 +39,54 @@ IsCaused cause why = (why ≡ refusal.NoMemory) ⊎ (cause ≡ Some why)
 module _ {D : Type 0} {g : Ghosts D} where
   -- a step of an operation has fewer left after it where it went on; it waits for another's, or lacks a frame
   pub record IsStepped (k : Kernel D g) (t : ℕ) (told : StepTold) (n : Kernel D g) : Type 0 where
-    pub may : step_cause (is_failed k) k.parts t ≡ None
-    pub work : LowersSteps (pages k.parts.operations.store.pool) (Ok told) (steps_in k.parts.running.items t) (steps_in n.parts.running.items t)
-    pub other : IsForOther k.parts.live.members t told
-    pub full : told ≡ step.Flush → WantsFrame k.parts n.parts
+    pub may : step_cause (is_failed k) k.core t ≡ None
+    pub work : LowersSteps (pages k.core.operations.store.pool) (Ok told) (steps_in k.core.running.items t) (steps_in n.core.running.items t)
+    pub other : IsForOther k.core.live.members t told
+    pub full : told ≡ step.Flush → WantsFrame k.core n.core
 
   -- and so a step of an abort
   pub record IsBacked (k : Kernel D g) (t : ℕ) (told : AbortStepped) (n : Kernel D g) : Type 0 where
-    pub may : abort_cause (is_failed k) k.parts t ≡ None
-    pub work : LowersAbort (pages k.parts.operations.store.pool) (Ok told) (undo_steps k.parts t) (undo_steps n.parts t)
-    pub other : IsAbortForOther k.parts.live.members t told
-    pub full : told ≡ abort.Flush → WantsFrame k.parts n.parts
+    pub may : abort_cause (is_failed k) k.core t ≡ None
+    pub work : LowersAbort (pages k.core.operations.store.pool) (Ok told) (undo_steps k.core t) (undo_steps n.core t)
+    pub other : IsAbortForOther k.core.live.members t told
+    pub full : told ≡ abort.Flush → WantsFrame k.core n.core
 
   -- a page was written, each page waits for the log, or there is none to be written
   abbrev pub IsFlushed : Kernel D g → FlushTold → Kernel D g → Type 0
-  IsFlushed k (flush.Page p) n = Cleans k.parts.operations.store.pool n.parts.operations.store.pool (length (durable k.parts.operations.store.log)) p
-  IsFlushed k flush.Force n = IsWaiting k.parts.operations.store.pool (length (durable k.parts.operations.store.log))
-  IsFlushed k flush.Clean n = (f : ℕ) → get_or n.parts.operations.store.pool.dirty.items f false ≡ false
+  IsFlushed k (flush.Page p) n = Cleans k.core.operations.store.pool n.core.operations.store.pool (length (durable k.core.operations.store.log)) p
+  IsFlushed k flush.Force n = IsWaiting k.core.operations.store.pool (length (durable k.core.operations.store.log))
+  IsFlushed k flush.Clean n = (f : ℕ) → get_or n.core.operations.store.pool.dirty.items f false ≡ false
 
   -- nothing was in the way, and the log has no record but the images that its area began with
   pub record IsTurnedOver (k n : Kernel D g) : Type 0 where
     pub may : early_cause k ≡ None
-    pub fresh : AreImages (appended n.parts.operations.store.log)
+    pub fresh : AreImages (appended n.core.operations.store.log)
 
 module _ {D : Type 0} {g : Ghosts D} (seen : D → List ℕ) (may_leave : D → List ℕ → Type 0) (faults : D → ℕ) where
   -- The answer is due to the kernel: a refusal has its cause, or memory was wanting, or the device failed in the call; what is not
   -- refused had no cause to be, and tells what was done.
   abbrev pub IsDue : Kernel D g → Event → Answer → Kernel D g → Type 0
-  IsDue k (Begin session) (Refused why) n = IsCaused (begin_cause (is_failed k) k.parts) why
-  IsDue k (Begin session) answer n = begin_cause (is_failed k) k.parts ≡ None
+  IsDue k (Begin session) (Refused why) n = IsCaused (begin_cause (is_failed k) k.core) why
+  IsDue k (Begin session) answer n = begin_cause (is_failed k) k.core ≡ None
   IsDue k (Call t op) (Refused why) n =
-      IsCaused (call_cause k.relations k.counters (is_failed k) k.parts t op) why ⊎ ((call_cause k.relations k.counters (is_failed k) k.parts t op ≡ None) × IsAnsweredBy seen may_leave k t op (Err why))
-  IsDue k (Call t op) (Called called) n = (call_cause k.relations k.counters (is_failed k) k.parts t op ≡ None) × IsAnsweredBy seen may_leave k t op (Ok called)
+      IsCaused (call_cause k.relations k.counters (is_failed k) k.core t op) why ⊎ ((call_cause k.relations k.counters (is_failed k) k.core t op ≡ None) × IsAnsweredBy seen may_leave k t op (Err why))
+  IsDue k (Call t op) (Called called) n = (call_cause k.relations k.counters (is_failed k) k.core t op ≡ None) × IsAnsweredBy seen may_leave k t op (Ok called)
   IsDue k (Call t op) answer n = ⊥
-  IsDue k (Step t) (Refused why) n = IsCaused (step_cause (is_failed k) k.parts t) why ⊎ IsFault faults k.parts n.parts why
+  IsDue k (Step t) (Refused why) n = IsCaused (step_cause (is_failed k) k.core t) why ⊎ IsFault faults k.core n.core why
   IsDue k (Step t) (Stepped told) n = IsStepped k t told n
   IsDue k (Step t) answer n = ⊥
-  IsDue k (Commit t) (Refused why) n = IsCaused (commit_cause (is_failed k) k.parts t) why
-  IsDue k (Commit t) (Committing place) n = (commit_cause (is_failed k) k.parts t ≡ None) × (place ≡ length k.parts.book.items + length k.parts.commits.items + 1)
+  IsDue k (Commit t) (Refused why) n = IsCaused (commit_cause (is_failed k) k.core t) why
+  IsDue k (Commit t) (Committing place) n = (commit_cause (is_failed k) k.core t ≡ None) × (place ≡ length k.core.book.items + length k.core.commits.items + 1)
   IsDue k (Commit t) answer n = ⊥
-  IsDue k (AbortBegin t) (Refused why) n = open_cause (is_failed k) k.parts t ≡ Some why
-  IsDue k (AbortBegin t) answer n = open_cause (is_failed k) k.parts t ≡ None
-  IsDue k (AbortStep t) (Refused why) n = IsCaused (abort_cause (is_failed k) k.parts t) why ⊎ IsFault faults k.parts n.parts why
+  IsDue k (AbortBegin t) (Refused why) n = open_cause (is_failed k) k.core t ≡ Some why
+  IsDue k (AbortBegin t) answer n = open_cause (is_failed k) k.core t ≡ None
+  IsDue k (AbortStep t) (Refused why) n = IsCaused (abort_cause (is_failed k) k.core t) why ⊎ IsFault faults k.core n.core why
   IsDue k (AbortStep t) (Backed told) n = IsBacked k t told n
   IsDue k (AbortStep t) answer n = ⊥
-  IsDue k Force (Refused why) n = (why ≡ refusal.NoMemory) ⊎ IsFailure faults (is_failed k) k.parts n.parts why
-  IsDue k Force (Forced told) n = IsForcedBy k.parts.operations.store.log k.parts.commits.items told n.parts.operations.store.log n.parts.commits.items
+  IsDue k Force (Refused why) n = (why ≡ refusal.NoMemory) ⊎ IsFailure faults (is_failed k) k.core n.core why
+  IsDue k Force (Forced told) n = IsForcedBy k.core.operations.store.log k.core.commits.items told n.core.operations.store.log n.core.commits.items
   IsDue k Force answer n = ⊥
-  IsDue k Flush (Refused why) n = IsFailure faults (is_failed k) k.parts n.parts why
+  IsDue k Flush (Refused why) n = IsFailure faults (is_failed k) k.core n.core why
   IsDue k Flush (Flushed told) n = IsFlushed k told n
   IsDue k Flush answer n = ⊥
   IsDue k Rotate (Refused why) n = (early_cause k ≡ Some why) × (n ≡ k) ⊎ ((early_cause k ≡ None) × IsForceCause n why)
@@ -103,26 +103,26 @@ module _ {D : Type 0} {g : Ghosts D} where
   KeepsDevice k Force n = ⊤
   KeepsDevice k Flush n = ⊤
   KeepsDevice k Rotate n = ⊤
-  KeepsDevice k event n = n.parts.operations.store.device ≡ k.parts.operations.store.device
+  KeepsDevice k event n = n.core.operations.store.device ≡ k.core.operations.store.device
 
 -- ---- which transactions are open, commit or are to be undone
 
 module _ {D : Type 0} {g : Ghosts D} where
   -- each as before, and the same commits under way
   abbrev pub SamePhases : Kernel D g → Kernel D g → Type 0
-  SamePhases k n = SameStates k.parts n.parts × SameCommits k.parts n.parts
+  SamePhases k n = SameStates k.core n.core × SameCommits k.core n.core
 
   -- a commit of the transaction is under way after the others
   abbrev pub IsQueued : Kernel D g → ℕ → Kernel D g → Type 0
-  IsQueued k t n = (c : CommitUnderWay) × (c.txn ≡ t) × (n.parts.commits.items ≡ k.parts.commits.items ++ c ∷ [])
+  IsQueued k t n = (c : CommitUnderWay) × (c.txn ≡ t) × (n.core.commits.items ≡ k.core.commits.items ++ c ∷ [])
 
   -- An event sets the state of its own transaction; a force only those of transactions that commit.
   abbrev pub SetsPhases : Kernel D g → Event → Answer → Kernel D g → Type 0
-  SetsPhases k (Begin session) (Begun t) n = SetsState k.parts n.parts t (Some state.Open) × SameCommits k.parts n.parts
-  SetsPhases k (Commit t) (Committing place) n = SetsState k.parts n.parts t (Some state.Committing) × IsQueued k t n
-  SetsPhases k (AbortBegin t) Aborting n = SetsState k.parts n.parts t (Some state.Aborting) × SameCommits k.parts n.parts
-  SetsPhases k (AbortStep t) (Backed abort.Ended) n = (state_in n.parts.live.members t ≡ None) × SameStatesBut k.parts n.parts t × SameCommits k.parts n.parts
-  SetsPhases k Force (Forced told) n = SameUncommitted k.parts n.parts
+  SetsPhases k (Begin session) (Begun t) n = SetsState k.core n.core t (Some state.Open) × SameCommits k.core n.core
+  SetsPhases k (Commit t) (Committing place) n = SetsState k.core n.core t (Some state.Committing) × IsQueued k t n
+  SetsPhases k (AbortBegin t) Aborting n = SetsState k.core n.core t (Some state.Aborting) × SameCommits k.core n.core
+  SetsPhases k (AbortStep t) (Backed abort.Ended) n = (state_in n.core.live.members t ≡ None) × SameStatesBut k.core n.core t × SameCommits k.core n.core
+  SetsPhases k Force (Forced told) n = SameUncommitted k.core n.core
   SetsPhases k event answer n = SamePhases k n
 
 -- ---- once the device has failed

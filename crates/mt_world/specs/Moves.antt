@@ -2,16 +2,16 @@
 use Rattle.std.specs.Prelude.{ℕ, ◌≡◌, true, false, List, [], ◌∷◌, Some, None, Vec}
 use Rattle.std.specs.Global.{Global}
 use Rattle.mt_base.specs.declared.refusal.Refusal.{Refusal}
-use Rattle.mt_kernel.specs.Booked.{booked_each}
-use Rattle.mt_kernel.specs.declared.calls.Called.TheVariants as call
+use Rattle.mt_core.specs.Booked.{booked_each}
+use Rattle.mt_core.specs.declared.calls.Called.TheVariants as call
 use Rattle.mt_live.specs.Adds.{GivesBack}
 use Rattle.mt_live.specs.Entries.{Entry}
 use Rattle.mt_live.specs.Machine.{State, begun, called, ended, dropped, undone, gone}
 use Rattle.mt_live.specs.Undoing.{last_effect}
 use Rattle.mt_model.specs.Model.{inverse_of, reply_of}
 use Rattle.mt_model.specs.declared.operations.Op.{Op}
-use Rattle.mt_model.specs.declared.pending.Pending.{Pending}
-use Rattle.mt_pool.specs.declared.flushing.Flushed.{Flushed as FlushTold}
+use Rattle.mt_model.specs.declared.pending_add.Pending.{Pending}
+use Rattle.mt_pool.specs.declared.flushes.Flushed.{Flushed as FlushTold}
 use Rattle.mt_txn.specs.declared.answers.AbortStepped.TheVariants as abort
 use Rattle.mt_txn.specs.declared.answers.KernelForced.TheVariants as forced
 use Rattle.mt_txn.specs.declared.answers.Stepped.TheVariants as step

@@ -3,13 +3,13 @@ use Rattle.std.specs.Prelude.{ℕ, ◌≡◌, List, [], ◌∷◌, ◌++◌, Opt
 use Rattle.mt_base.specs.declared.refusal.Refusal.{Refusal}
 use Rattle.mt_base.specs.declared.refusal.Refusal.TheVariants as refusal
 use Rattle.mt_disk.specs.declared.device.Device.{Ghosts}
-use Rattle.mt_kernel.specs.Booked.{txns_of}
+use Rattle.mt_core.specs.Booked.{txns_of}
 use Rattle.mt_live.specs.Entries.{IsExplained}
 use Rattle.mt_live.specs.Machine.{State, committed_base, start}
 use Rattle.mt_model.specs.History.{IsActed, IsLegal, run}
 use Rattle.mt_model.specs.Model.{Base}
 use Rattle.mt_restart.specs.Rotated.{IsLeft, StandsForBook}
-use Rattle.mt_restart.specs.declared.rotating.NotRotated.TheVariants.{Ended as IsEnded}
+use Rattle.mt_restart.specs.declared.rotation.NotRotated.TheVariants.{Ended as IsEnded}
 use Rattle.mt_txn.specs.Restarted.{FindsMeanwhile, all_commits}
 use Rattle.mt_txn.specs.Shown.{LeavesFound, Restarts, SameSchema, Shows, StaysRestarting}
 use Rattle.mt_txn.specs.declared.kernel.Kernel.{Kernel}
@@ -21,8 +21,8 @@ use Rattle.mt_world.specs.declared.events.Answer.{Answer}
 use Rattle.mt_world.specs.declared.events.Answer.TheVariants.{Refused}
 use Rattle.mt_world.specs.declared.events.Event.{Event}
 use Rattle.mt_world.specs.declared.events.Event.TheVariants.{Rotate}
-use Rattle.mt_world.specs.declared.standing.Standing.{Standing}
-use Rattle.mt_world.specs.declared.standing.Standing.TheVariants.{Stands, Ended}
+use Rattle.mt_world.specs.declared.kernel_or_device.Standing.{Standing}
+use Rattle.mt_world.specs.declared.kernel_or_device.Standing.TheVariants.{Stands, Ended}
 
 -- An event led a kernel to another, whatever state it showed; and whenever a crash came in it, a restart finds what some of the first
 -- commits of the kernel lead to.
@@ -69,8 +69,8 @@ module _ {D : Type 0} {g : Ghosts D} (seen : D → List ℕ) (may_leave : D → 
     pub held : run first (calls_in acts) ≡ state.base
     pub told : state.book ≡ map (λ t. commit_of (told_of events answers t)) (acknowledged answers)
     -- in the order of their records
-    pub order : all_commits n.parts ≡ commit_order events answers
-    pub queue : acknowledged answers ++ txns_of n.parts.commits.items ≡ committing events answers
+    pub order : all_commits n.core ≡ commit_order events answers
+    pub queue : acknowledged answers ++ txns_of n.core.commits.items ≡ committing events answers
     pub legal : IsLegal first state.book
     pub explained : IsExplained (committed_base first state) state.standing state.base
     pub broken : StayBroken answers
@@ -100,7 +100,7 @@ module _ {D : Type 0} {g : Ghosts D} (seen : D → List ℕ) (may_leave : D → 
     pub rotation : event ≡ Rotate
     pub refused : answer ≡ Refused why
     pub left : IsLeft seen may_leave moment left_since faults k (IsEnded why device)
-    pub found : (first : Base) → Restarts seen may_leave first k → FindsMeanwhile moment left_since k.relations k.counters first k.parts device
+    pub found : (first : Base) → Restarts seen may_leave first k → FindsMeanwhile moment left_since k.relations k.counters first k.core device
 
   -- what an event made of a kernel
   abbrev pub HasBecome : Kernel D g → Event → Answer → Standing D g → Type 0

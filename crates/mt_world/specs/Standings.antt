@@ -1,16 +1,16 @@
 -- What stands after events.
 use Rattle.std.specs.Prelude.{◌≡◌}
 use Rattle.mt_disk.specs.declared.device.Device.{Ghosts}
-use Rattle.mt_restart.specs.declared.rotating.NotRotated.{NotRotated}
-use Rattle.mt_restart.specs.declared.rotating.NotRotated.TheVariants.{Kept, Ended as IsEnded}
+use Rattle.mt_restart.specs.declared.rotation.NotRotated.{NotRotated}
+use Rattle.mt_restart.specs.declared.rotation.NotRotated.TheVariants.{Kept, Ended as IsEnded}
 use Rattle.mt_world.specs.declared.events.Answer.{Answer}
 use Rattle.mt_world.specs.declared.events.Answer.TheVariants.{Refused}
-use Rattle.mt_world.specs.declared.standing.Standing.{Standing}
-use Rattle.mt_world.specs.declared.standing.Standing.TheVariants.{Stands, Ended}
+use Rattle.mt_world.specs.declared.kernel_or_device.Standing.{Standing}
+use Rattle.mt_world.specs.declared.kernel_or_device.Standing.TheVariants.{Stands, Ended}
 
 -- its device
 abbrev pub device_at : {D : Type 0} → {g : Ghosts D} → Standing D g → D
-device_at (Stands k) = k.parts.operations.store.device
+device_at (Stands k) = k.core.operations.store.device
 device_at (Ended device) = device
 
 -- what a refused rotation leaves, and its answer

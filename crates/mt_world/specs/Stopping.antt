@@ -1,7 +1,7 @@
 -- A device that is stopped after so many calls.
 use Rattle.std.specs.Prelude.{◌<◌, ◌≤◌, ◌≡◌, ◌+◌, ℕ, length, Result, IsErr}
 use Rattle.mt_disk.specs.Disk.{HasCause}
-use Rattle.mt_world.specs.declared.stopping.StoppingDevice.{StoppingDevice}
+use Rattle.mt_world.specs.declared.stopping_device.StoppingDevice.{StoppingDevice}
 
 -- the device below it
 abbrev pub below : {D : Type 0} → StoppingDevice D → D

@@ -1,6 +1,6 @@
 -- What events and their answers tell of a transaction, and which commits they acknowledge.
 use Rattle.std.specs.Prelude.{ℕ, ◌==◌, cond, List, [], ◌∷◌, ◌++◌, map, Option, Some, None}
-use Rattle.mt_kernel.specs.declared.calls.Called.TheVariants as call
+use Rattle.mt_core.specs.declared.calls.Called.TheVariants as call
 use Rattle.mt_model.specs.History.{Call as Replied}
 use Rattle.mt_model.specs.declared.history.Committed.{Committed}
 use Rattle.mt_model.specs.declared.operations.Op.{Op}

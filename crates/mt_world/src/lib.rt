@@ -7,15 +7,15 @@
 //! a crash leaves then.
 #![tactic(auto)]
 
-mod crashing;
+mod crash;
 mod events;
-mod making;
-mod ordering;
+mod event_calls;
+mod commit_order;
 mod schedules;
-mod standing;
-mod stopping;
+mod kernel_or_device;
+mod stopping_device;
 
-pub use crashing::{CrashRun, crash_run};
+pub use crash::{CrashRun, crash_run};
 pub use events::{Answer, Event};
 pub use schedules::run_schedule;
-pub use standing::Standing;
+pub use kernel_or_device::Standing;

@@ -11,8 +11,8 @@ ghost use Rattle.mt_world.specs.Crashes.{BeginsOn, BeginsOrStands, FindsSince, F
 ghost use Rattle.mt_world.specs.Schedules.{HasRunTo, IsOfSchema};
 
 use crate::events::{Answer, Event};
-use crate::making::{FRAMES, make};
-use crate::standing::Standing;
+use crate::event_calls::{FRAMES, make};
+use crate::kernel_or_device::Standing;
 use mt_base::Refusal;
 use mt_disk::Device;
 use mt_restart::{Schema, format, open};

@@ -1,6 +1,6 @@
 use Rattle.std.proofs.Common.{◌≡◌, ◌<◌, ◌+◌, length, set, ap, sym, subst, ◌∙◌, arith, rules, to_z-of_z, SFits, w64}
 use Rattle.mt_base.specs.Limits.{IsStep}
-use Rattle.mt_model.specs.declared.pending.Pending.{Pending}
+use Rattle.mt_model.specs.declared.pending_add.Pending.{Pending}
 use Rattle.mt_model.specs.Pending.{steps_at}
 use Rattle.mt_escrow.specs.Rooms.{IsModest, settled, room_at}
 use Rattle.mt_escrow.proofs.Changing.{modest}

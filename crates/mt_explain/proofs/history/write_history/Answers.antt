@@ -4,7 +4,7 @@ use Rattle.std.proofs.KnownBytes.{Appends-trans}
 use Rattle.std.proofs.lemmas.Result.{err_from_is_err_and, on_err_weaker}
 use Rattle.mt_frame.specs.Grammar.{IsOperation}
 use Rattle.mt_replay.specs.Losers.{all_finished}
-use Rattle.mt_replay.specs.declared.telling.Loser.{Loser}
+use Rattle.mt_replay.specs.declared.losers.Loser.{Loser}
 use Rattle.mt_script.proofs.TextLemmas.{front_whole}
 use Rattle.mt_explain.proofs.ListingLemmas.{front_next}
 use Rattle.mt_explain.specs.Explanations.{batch_lines, put_back_line, undo_lines}

@@ -1,6 +1,6 @@
 use Rattle.std.proofs.Common.{◌∙◌, ap, subst}
 use Rattle.mt_restart.specs.Rotated.{IsLeft}
-use Rattle.mt_restart.specs.declared.rotating.NotRotated.{NotRotated}
+use Rattle.mt_restart.specs.declared.rotation.NotRotated.{NotRotated}
 use Rattle.mt_locked.specs.Began.{BasedSeen, first_base}
 use Rattle.mt_model.specs.Views.{base_of}
 use Rattle.mt_locked.specs.Seen.{seen_of}

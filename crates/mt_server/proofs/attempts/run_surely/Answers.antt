@@ -1,7 +1,7 @@
 use Rattle.std.proofs.Common.{◌≡◌, ◌∷◌, [], ℕ, List, Ok, Err, arith, subst, sym, ◌∙◌}
 use Rattle.mt_script.specs.declared.lines.Line.TheVariants as line
-use Rattle.mt_server.specs.declared.turning.Stop.{Stop}
-use Rattle.mt_server.specs.declared.turning.Stop.TheVariants as stop
+use Rattle.mt_server.specs.declared.line_answers.Stop.{Stop}
+use Rattle.mt_server.specs.declared.line_answers.Stop.TheVariants as stop
 use Rattle.mt_server.specs.Hearing.{Running, between}
 use Rattle.mt_server.proofs.AttemptLemmas.{cut_back, same_start}
 use Rattle.mt_server.proofs.attempts.run_surely.Goals as goal

@@ -5,8 +5,8 @@ use Rattle.mt_alone.specs.Sessions.{lines_in}
 use Rattle.mt_server.specs.Hearing.{HasFailed, HasRan, IsSession, Running, between}
 use Rattle.mt_server.specs.declared.attempts.Ran.{Ran}
 use Rattle.mt_server.specs.declared.attempts.Ran.TheVariants as ran
-use Rattle.mt_server.specs.declared.turning.Stop.{Stop}
-use Rattle.mt_server.specs.declared.turning.Stop.TheVariants as stop
+use Rattle.mt_server.specs.declared.line_answers.Stop.{Stop}
+use Rattle.mt_server.specs.declared.line_answers.Stop.TheVariants as stop
 use Rattle.mt_server.proofs.SessionRuns.{Stands, aborted_end, all_answered, at_start, failed_end, goes_on}
 use Rattle.mt_server.proofs.session.run_session.Goals as goal
 

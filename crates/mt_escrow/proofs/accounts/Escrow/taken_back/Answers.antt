@@ -1,6 +1,6 @@
 use Rattle.std.proofs.Common.{◌≡◌, ◌<◌, length, remove, Contains, ap, refl, sym, subst, ◌∙◌, arith, to_z-of_z, SFits, w64}
 use Rattle.mt_base.specs.Limits.{IsStep}
-use Rattle.mt_model.specs.declared.pending.Pending.{Pending}
+use Rattle.mt_model.specs.declared.pending_add.Pending.{Pending}
 use Rattle.mt_model.specs.Pending.{steps_at, TakesOut}
 use Rattle.mt_escrow.specs.Seen.{Escrowed, add_of, IsLastAt, LosesLast}
 use Rattle.mt_escrow.specs.Rooms.{IsModest, let_go, room_at}

@@ -11,5 +11,5 @@ invariant_of-self g c = let D = g.D.Device in let b = first_base c.self.inside.b
 
 pub returns-clause-book : goal.returns-clause-book
 returns-clause-book g c = let D = g.D.Device in let b = first_base c.self.inside.base.items in let k = c.self.inside.kernel in let n = c.force_step.new.self in
-    subst (λ (x : BasedSeen). IsPrefix x.book n.parts.book.items) c.self.view_is
+    subst (λ (x : BasedSeen). IsPrefix x.book n.core.book.items) c.self.view_is
     (forced_grows D.seen D.may_leave b k n c.force_step.result (λ s shows. c.force_step.ensures.forced (base_of b) s shows) c.self.invariant)

@@ -28,7 +28,7 @@ returns-in-Err-clause-refused g c = unopened_by _ _ c.in-Err.why c.in-Err.ensure
 pub returns-in-Err-survey-clause-refused : goal.returns-in-Err-survey-clause-refused
 returns-in-Err-survey-clause-refused g c =
     let D = g.D.Device in let begins = c.in-Ok.ensures.counted in let k = c.in-Ok.kernel in
-    inr (unsurveyed D.faults _ k.parts c.survey.new.self.parts c.in-Err-survey.why c.in-Ok.ensures.well (nobody_counts D.seen D.may_leave begins.0 k begins.1.opened.shows) c.in-Err-survey.ensures.cause)
+    inr (unsurveyed D.faults _ k.core c.survey.new.self.core c.in-Err-survey.why c.in-Ok.ensures.well (nobody_counts D.seen D.may_leave begins.0 k begins.1.opened.shows) c.in-Err-survey.ensures.cause)
 
 pub returns-in-Err-clause-failed : goal.returns-in-Err-clause-failed
 returns-in-Err-clause-failed g c = open_fault _ _ c.in-Err.why c.in-Err.ensures.cause
@@ -37,8 +37,8 @@ pub returns-in-Err-survey-clause-failed : goal.returns-in-Err-survey-clause-fail
 returns-in-Err-survey-clause-failed g c = λ is.
     let faults = g.D.Device.faults in let k = c.in-Ok.kernel in let n = c.survey.new.self in
     subst (λ (x : ℕ). x < faults c.into_device.result) c.in-Ok.ensures.quiet
-    (subst (λ d. faults k.parts.operations.store.device < faults d) (sym c.into_device.ensures)
-    (survey_fault faults _ k.parts n.parts c.in-Err-survey.why c.in-Ok.ensures.well c.in-Err-survey.ensures.cause is))
+    (subst (λ d. faults k.core.operations.store.device < faults d) (sym c.into_device.ensures)
+    (survey_fault faults _ k.core n.core c.in-Err-survey.why c.in-Ok.ensures.well c.in-Err-survey.ensures.cause is))
 
 pub returns-in-Err-survey-clause-quiet : goal.returns-in-Err-survey-clause-quiet
 returns-in-Err-survey-clause-quiet g c = λ other.
@@ -49,14 +49,14 @@ returns-in-Err-clause-settled g c = λ relations counters b can other x leaves. 
 
 pub returns-in-Err-survey-clause-settled : goal.returns-in-Err-survey-clause-settled
 returns-in-Err-survey-clause-settled g c = λ relations counters b can other x leaves.
-    let D = g.D.Device in let k = c.in-Ok.kernel in let device = c.survey.new.self.parts.operations.store.device in
+    let D = g.D.Device in let k = c.in-Ok.kernel in let device = c.survey.new.self.core.operations.store.device in
     let opened = c.in-Ok.ensures.opened relations counters b can in
     found_on D.seen D.may_leave D.moment D.left_since relations counters b k device opened (first_book D.seen D.may_leave b k opened.shows) (g.met.D.Device.counts_now device)
     (λ first restarts. c.survey.ensures.moments first restarts k.schema) x (subst (λ d. D.may_leave d x) c.into_device.ensures leaves)
 
 pub returns-clause-settled : goal.returns-clause-settled
 returns-clause-settled g c = λ relations counters b can other x leaves.
-    let D = g.D.Device in let k = c.in-Ok.kernel in let device = c.survey.new.self.parts.operations.store.device in
+    let D = g.D.Device in let k = c.in-Ok.kernel in let device = c.survey.new.self.core.operations.store.device in
     let opened = c.in-Ok.ensures.opened relations counters b can in
     let back = rw c.into_device-in-Err-new.ensures at leaves in
     let left : D.may_leave device x = rw c.in-Err-new.ensures.same at back in

@@ -10,24 +10,24 @@ use Rattle.mt_txn.proofs.kernel.Kernel.abort_step.Goals as goal
 
 pub returns-in-Some-clause-moments : goal.returns-in-Some-clause-moments
 returns-in-Some-clause-moments g c = λ first r schema. let D = g.D.Device in let k = c.args.self.now in
-    no_call D.seen D.may_leave k.relations k.counters first D.moment D.left_since g.met.D.Device.only_now k.parts _ refl r schema
+    no_call D.seen D.may_leave k.relations k.counters first D.moment D.left_since g.met.D.Device.only_now k.core _ refl r schema
 
 pub returns-in_default-place_of-clause-fails : goal.returns-in_default-place_of-clause-fails
 returns-in_default-place_of-clause-fails g c =
     let k = c.args.self.now in
-    let none : abort_cause (is_failed k) k.parts c.args.txn ≡ None = sym c.in_default.ensures.cause in (
-      λ failed. let wrong : Some DeviceFailed ≡ None = sym (ap (λ (b : Bool). abort_cause b k.parts c.args.txn) failed) ∙ none in absurd cc,
+    let none : abort_cause (is_failed k) k.core c.args.txn ≡ None = sym c.in_default.ensures.cause in (
+      λ failed. let wrong : Some DeviceFailed ≡ None = sym (ap (λ (b : Bool). abort_cause b k.core c.args.txn) failed) ∙ none in absurd cc,
       c.undo_next.ensures.steps.fails,
       λ marked.
-          let failed : is_failed k ≡ true = ap (λ (b : Bool). b || has_failed k.parts.operations.store.log) (sym c.undo_next.ensures.marks ∙ marked) in
-          let wrong : Some DeviceFailed ≡ None = sym (ap (λ (b : Bool). abort_cause b k.parts c.args.txn) failed) ∙ none in absurd cc,
+          let failed : is_failed k ≡ true = ap (λ (b : Bool). b || has_failed k.core.operations.store.log) (sym c.undo_next.ensures.marks ∙ marked) in
+          let wrong : Some DeviceFailed ≡ None = sym (ap (λ (b : Bool). abort_cause b k.core c.args.txn) failed) ∙ none in absurd cc,
     )
 
 pub returns-then-is_inverse-clause-fails : goal.returns-then-is_inverse-clause-fails
 returns-then-is_inverse-clause-fails g c =
     let k = c.args.self.now in
-    let none : abort_cause (is_failed k) k.parts c.args.txn ≡ None = sym c.in_default.ensures.cause in (
-      λ failed. let wrong : Some DeviceFailed ≡ None = sym (ap (λ (b : Bool). abort_cause b k.parts c.args.txn) failed) ∙ none in absurd cc,
+    let none : abort_cause (is_failed k) k.core c.args.txn ≡ None = sym c.in_default.ensures.cause in (
+      λ failed. let wrong : Some DeviceFailed ≡ None = sym (ap (λ (b : Bool). abort_cause b k.core c.args.txn) failed) ∙ none in absurd cc,
       c.undo_step.ensures.steps.fails,
       c.undo_step.ensures.marks,
     )
@@ -35,8 +35,8 @@ returns-then-is_inverse-clause-fails g c =
 pub returns-else-is_inverse-clause-fails : goal.returns-else-is_inverse-clause-fails
 returns-else-is_inverse-clause-fails g c =
     let k = c.args.self.now in
-    let none : abort_cause (is_failed k) k.parts c.args.txn ≡ None = sym c.in_default.ensures.cause in (
-      λ failed. let wrong : Some DeviceFailed ≡ None = sym (ap (λ (b : Bool). abort_cause b k.parts c.args.txn) failed) ∙ none in absurd cc,
+    let none : abort_cause (is_failed k) k.core c.args.txn ≡ None = sym c.in_default.ensures.cause in (
+      λ failed. let wrong : Some DeviceFailed ≡ None = sym (ap (λ (b : Bool). abort_cause b k.core c.args.txn) failed) ∙ none in absurd cc,
       c.go_back.ensures.steps.fails,
       c.go_back.ensures.marks,
     )

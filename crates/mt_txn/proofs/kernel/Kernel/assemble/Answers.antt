@@ -5,7 +5,7 @@ use Rattle.mt_log.specs.Words.{has_failed}
 use Rattle.mt_model.specs.Model.{Base, IsBase}
 use Rattle.mt_op.specs.declared.operations.Operations.{Operations}
 use Rattle.mt_steps.specs.Held.{Holds}
-use Rattle.mt_kernel.specs.Consistent.{IsIn}
+use Rattle.mt_core.specs.Consistent.{IsIn}
 use Rattle.mt_txn.proofs.kernel.Kernel.assemble.Goals as goal
 
 pub invariant_of-result : goal.invariant_of-result

@@ -1,5 +1,5 @@
 use Rattle.std.proofs.Common.{◌∙◌, ap, refl}
-use Rattle.mt_kernel.specs.Turned.{turned}
+use Rattle.mt_core.specs.Turned.{turned}
 use mathlib.Core.Logic.{∥∥₁_elim, ∥∥₁_map, ∥∥₁_prop}
 use Rattle.mt_log.specs.Words.{has_failed}
 use Rattle.mt_op.specs.declared.operations.Operations.{Operations}

@@ -9,40 +9,40 @@ use Rattle.mt_txn.proofs.Restarting.{meanwhile, no_call, restarts_on, stays_goes
 use Rattle.mt_txn.proofs.kernel.Kernel.survey.Goals as goal
 
 pub survey-told-requires-clause-safe : goal.survey-told-requires-clause-safe
-survey-told-requires-clause-safe g c = let k = c.args.self.now in sound_of g.D.Device.seen g.D.Device.may_leave k.relations k.counters k.parts k.well
+survey-told-requires-clause-safe g c = let k = c.args.self.now in sound_of g.D.Device.seen g.D.Device.may_leave k.relations k.counters k.core k.well
 
 pub invariant_of-self : goal.invariant_of-self
 invariant_of-self g c =
     let D = g.D.Device in let k = c.args.self.now in
-    record { well = well_led D.seen D.may_leave k.relations k.counters k.parts c.survey-told.new.self (λ z. z) (stays_led D.seen D.may_leave k.relations k.counters k.parts c.survey-told.new.self c.survey-told.ensures.state) k.well; starts = ∥∥₁_map c.args.self.now.starts (λ (first, r). let D = g.D.Device in let k = c.args.self.now in (first, restarts_on D.seen D.may_leave k.relations k.counters first k.parts c.survey-told.new.self (stays_goes D.seen D.may_leave k.parts c.survey-told.new.self c.survey-told.ensures.state) (c.survey-told.ensures.restartable) r)); schema = c.args.self.now.schema }
+    record { well = well_led D.seen D.may_leave k.relations k.counters k.core c.survey-told.new.self (λ z. z) (stays_led D.seen D.may_leave k.relations k.counters k.core c.survey-told.new.self c.survey-told.ensures.state) k.well; starts = ∥∥₁_map c.args.self.now.starts (λ (first, r). let D = g.D.Device in let k = c.args.self.now in (first, restarts_on D.seen D.may_leave k.relations k.counters first k.core c.survey-told.new.self (stays_goes D.seen D.may_leave k.core c.survey-told.new.self c.survey-told.ensures.state) (c.survey-told.ensures.restartable) r)); schema = c.args.self.now.schema }
 
 pub returns-clause-base : goal.returns-clause-base
 returns-clause-base g c = λ first s shows.
     let D = g.D.Device in let k = c.args.self.now in
-    base_told D.seen D.may_leave k.parts k.relations k.counters first s c.survey-told.result c.survey-told.ensures.surveyed shows
+    base_told D.seen D.may_leave k.core k.relations k.counters first s c.survey-told.result c.survey-told.ensures.surveyed shows
 
 pub returns-clause-pages : goal.returns-clause-pages
 returns-clause-pages g c =
     let D = g.D.Device in let k = c.args.self.now in
-    pages_told D.seen D.may_leave k c.survey-told.result (nil_from_length k.parts.live.members (ap (λ (l : Live). length l.members) (sym c.live.ensures) ∙ sym c.count.ensures ∙ c.if-count-ne0.false)) c.survey-told.ensures.surveyed k.well
+    pages_told D.seen D.may_leave k c.survey-told.result (nil_from_length k.core.live.members (ap (λ (l : Live). length l.members) (sym c.live.ensures) ∙ sym c.count.ensures ∙ c.if-count-ne0.false)) c.survey-told.ensures.surveyed k.well
 
 pub returns-clause-state : goal.returns-clause-state
 returns-clause-state g c = λ first s shows.
     let D = g.D.Device in let k = c.args.self.now in
-    led D.seen D.may_leave k.relations k.counters k.parts c.survey-told.new.self (λ z. z) first s (stays_led D.seen D.may_leave k.relations k.counters k.parts c.survey-told.new.self c.survey-told.ensures.state) shows
+    led D.seen D.may_leave k.relations k.counters k.core c.survey-told.new.self (λ z. z) first s (stays_led D.seen D.may_leave k.relations k.counters k.core c.survey-told.new.self c.survey-told.ensures.state) shows
 
 pub returns-clause-restarts : goal.returns-clause-restarts
 returns-clause-restarts g c = λ first r. let D = g.D.Device in let k = c.args.self.now in
-    restarts_on D.seen D.may_leave k.relations k.counters first k.parts c.survey-told.new.self (stays_goes D.seen D.may_leave k.parts c.survey-told.new.self c.survey-told.ensures.state) (c.survey-told.ensures.restartable) r
+    restarts_on D.seen D.may_leave k.relations k.counters first k.core c.survey-told.new.self (stays_goes D.seen D.may_leave k.core c.survey-told.new.self c.survey-told.ensures.state) (c.survey-told.ensures.restartable) r
 
 pub returns-then-has_failed-clause-moments : goal.returns-then-has_failed-clause-moments
 returns-then-has_failed-clause-moments g c = λ first r schema. let D = g.D.Device in let k = c.args.self.now in
-    no_call D.seen D.may_leave k.relations k.counters first D.moment D.left_since g.met.D.Device.only_now k.parts _ refl r schema
+    no_call D.seen D.may_leave k.relations k.counters first D.moment D.left_since g.met.D.Device.only_now k.core _ refl r schema
 
 pub returns-then-count-ne0-clause-moments : goal.returns-then-count-ne0-clause-moments
 returns-then-count-ne0-clause-moments g c = λ first r schema. let D = g.D.Device in let k = c.args.self.now in
-    no_call D.seen D.may_leave k.relations k.counters first D.moment D.left_since g.met.D.Device.only_now k.parts _ refl r schema
+    no_call D.seen D.may_leave k.relations k.counters first D.moment D.left_since g.met.D.Device.only_now k.core _ refl r schema
 
 pub returns-clause-moments : goal.returns-clause-moments
 returns-clause-moments g c = λ first r schema. let D = g.D.Device in let k = c.args.self.now in
-    meanwhile D.seen D.may_leave k.relations k.counters first D.moment D.left_since g.met.D.Device.only_now k.parts _ c.survey-told.ensures.moments r schema
+    meanwhile D.seen D.may_leave k.relations k.counters first D.moment D.left_since g.met.D.Device.only_now k.core _ c.survey-told.ensures.moments r schema

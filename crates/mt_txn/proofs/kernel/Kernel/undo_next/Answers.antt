@@ -11,27 +11,27 @@ use Rattle.std.proofs.Common.{◌≡◌, ◌≤◌, sym, subst}
 use Rattle.std.specs.Prelude.{Result}
 use Rattle.mt_base.specs.declared.refusal.Refusal.{Refusal}
 use Rattle.mt_pool.specs.Views.{pages}
-use Rattle.mt_kernel.specs.Work.{undo_steps}
-use Rattle.mt_kernel.specs.declared.parts.Parts.{Parts}
+use Rattle.mt_core.specs.Work.{undo_steps}
+use Rattle.mt_core.specs.declared.kernel_core.Core.{Core}
 use Rattle.mt_txn.specs.Work.{LowersAbort}
 use Rattle.mt_txn.specs.declared.answers.AbortStepped.{AbortStepped}
 use Rattle.mt_txn.proofs.Restarting.{either_goes, no_call, restarts_on, stays_goes}
 use Rattle.mt_txn.proofs.kernel.Kernel.undo_next.Goals as goal
 
 pub undo_begin-requires-clause-safe : goal.undo_begin-requires-clause-safe
-undo_begin-requires-clause-safe g c = sound_of g.D.Device.seen g.D.Device.may_leave c.args.self.now.relations c.args.self.now.counters c.args.self.now.parts c.args.self.now.well
+undo_begin-requires-clause-safe g c = sound_of g.D.Device.seen g.D.Device.may_leave c.args.self.now.relations c.args.self.now.counters c.args.self.now.core c.args.self.now.well
 
 pub invariant_of-self : goal.invariant_of-self
-invariant_of-self g c = record { well = well_led g.D.Device.seen g.D.Device.may_leave c.args.self.now.relations c.args.self.now.counters c.args.self.now.parts c.undo_begin.new.self (λ z. z) (stays_led g.D.Device.seen g.D.Device.may_leave c.args.self.now.relations c.args.self.now.counters c.args.self.now.parts c.undo_begin.new.self c.undo_begin.ensures.state) c.args.self.now.well; starts = ∥∥₁_map c.args.self.now.starts (λ (first, r). let D = g.D.Device in let k = c.args.self.now in (first, restarts_on D.seen D.may_leave k.relations k.counters first k.parts c.undo_begin.new.self (stays_goes D.seen D.may_leave k.parts c.undo_begin.new.self c.undo_begin.ensures.state) (c.undo_begin.ensures.restartable) r)); schema = c.args.self.now.schema }
+invariant_of-self g c = record { well = well_led g.D.Device.seen g.D.Device.may_leave c.args.self.now.relations c.args.self.now.counters c.args.self.now.core c.undo_begin.new.self (λ z. z) (stays_led g.D.Device.seen g.D.Device.may_leave c.args.self.now.relations c.args.self.now.counters c.args.self.now.core c.undo_begin.new.self c.undo_begin.ensures.state) c.args.self.now.well; starts = ∥∥₁_map c.args.self.now.starts (λ (first, r). let D = g.D.Device in let k = c.args.self.now in (first, restarts_on D.seen D.may_leave k.relations k.counters first k.core c.undo_begin.new.self (stays_goes D.seen D.may_leave k.core c.undo_begin.new.self c.undo_begin.ensures.state) (c.undo_begin.ensures.restartable) r)); schema = c.args.self.now.schema }
 
 pub invariant_of-self-then-branch : goal.invariant_of-self-then-branch
-invariant_of-self-then-branch g c = record { well = well_led g.D.Device.seen g.D.Device.may_leave c.args.self.now.relations c.args.self.now.counters c.args.self.now.parts c.undo_begin.new.self (λ z. z) (stays_led g.D.Device.seen g.D.Device.may_leave c.args.self.now.relations c.args.self.now.counters c.args.self.now.parts c.undo_begin.new.self c.undo_begin.ensures.state) c.args.self.now.well; starts = ∥∥₁_map c.args.self.now.starts (λ (first, r). let D = g.D.Device in let k = c.args.self.now in (first, restarts_on D.seen D.may_leave k.relations k.counters first k.parts c.undo_begin.new.self (stays_goes D.seen D.may_leave k.parts c.undo_begin.new.self c.undo_begin.ensures.state) (c.undo_begin.ensures.restartable) r)); schema = c.args.self.now.schema }
+invariant_of-self-then-branch g c = record { well = well_led g.D.Device.seen g.D.Device.may_leave c.args.self.now.relations c.args.self.now.counters c.args.self.now.core c.undo_begin.new.self (λ z. z) (stays_led g.D.Device.seen g.D.Device.may_leave c.args.self.now.relations c.args.self.now.counters c.args.self.now.core c.undo_begin.new.self c.undo_begin.ensures.state) c.args.self.now.well; starts = ∥∥₁_map c.args.self.now.starts (λ (first, r). let D = g.D.Device in let k = c.args.self.now in (first, restarts_on D.seen D.may_leave k.relations k.counters first k.core c.undo_begin.new.self (stays_goes D.seen D.may_leave k.core c.undo_begin.new.self c.undo_begin.ensures.state) (c.undo_begin.ensures.restartable) r)); schema = c.args.self.now.schema }
 
 pub abort_end-requires-clause-safe : goal.abort_end-requires-clause-safe
-abort_end-requires-clause-safe g c = sound_of g.D.Device.seen g.D.Device.may_leave c.args.self.now.relations c.args.self.now.counters c.undo_begin.new.self (well_led g.D.Device.seen g.D.Device.may_leave c.args.self.now.relations c.args.self.now.counters c.args.self.now.parts c.undo_begin.new.self (λ z. z) (stays_led g.D.Device.seen g.D.Device.may_leave c.args.self.now.relations c.args.self.now.counters c.args.self.now.parts c.undo_begin.new.self c.undo_begin.ensures.state) c.args.self.now.well)
+abort_end-requires-clause-safe g c = sound_of g.D.Device.seen g.D.Device.may_leave c.args.self.now.relations c.args.self.now.counters c.undo_begin.new.self (well_led g.D.Device.seen g.D.Device.may_leave c.args.self.now.relations c.args.self.now.counters c.args.self.now.core c.undo_begin.new.self (λ z. z) (stays_led g.D.Device.seen g.D.Device.may_leave c.args.self.now.relations c.args.self.now.counters c.args.self.now.core c.undo_begin.new.self c.undo_begin.ensures.state) c.args.self.now.well)
 
 pub invariant_of-self-2 : goal.invariant_of-self-2
-invariant_of-self-2 g c = record { well = well_either g.D.Device.seen g.D.Device.may_leave c.args.self.now.relations c.args.self.now.counters c.undo_begin.new.self c.abort_end.new.self (λ s. gone s c.args.txn) c.abort_end.result c.abort_end.ensures.gone c.abort_end.ensures.err (well_led g.D.Device.seen g.D.Device.may_leave c.args.self.now.relations c.args.self.now.counters c.args.self.now.parts c.undo_begin.new.self (λ z. z) (stays_led g.D.Device.seen g.D.Device.may_leave c.args.self.now.relations c.args.self.now.counters c.args.self.now.parts c.undo_begin.new.self c.undo_begin.ensures.state) c.args.self.now.well); starts = ∥∥₁_map c.args.self.now.starts (λ (first, r). let D = g.D.Device in let k = c.args.self.now in (first, restarts_on D.seen D.may_leave k.relations k.counters first c.undo_begin.new.self c.abort_end.new.self (either_goes D.seen D.may_leave c.undo_begin.new.self c.abort_end.new.self (λ s. gone s c.args.txn) c.abort_end.result c.abort_end.ensures.gone c.abort_end.ensures.err) c.abort_end.ensures.restartable (restarts_on D.seen D.may_leave k.relations k.counters first k.parts c.undo_begin.new.self (stays_goes D.seen D.may_leave k.parts c.undo_begin.new.self c.undo_begin.ensures.state) (c.undo_begin.ensures.restartable) r))); schema = c.args.self.now.schema }
+invariant_of-self-2 g c = record { well = well_either g.D.Device.seen g.D.Device.may_leave c.args.self.now.relations c.args.self.now.counters c.undo_begin.new.self c.abort_end.new.self (λ s. gone s c.args.txn) c.abort_end.result c.abort_end.ensures.gone c.abort_end.ensures.err (well_led g.D.Device.seen g.D.Device.may_leave c.args.self.now.relations c.args.self.now.counters c.args.self.now.core c.undo_begin.new.self (λ z. z) (stays_led g.D.Device.seen g.D.Device.may_leave c.args.self.now.relations c.args.self.now.counters c.args.self.now.core c.undo_begin.new.self c.undo_begin.ensures.state) c.args.self.now.well); starts = ∥∥₁_map c.args.self.now.starts (λ (first, r). let D = g.D.Device in let k = c.args.self.now in (first, restarts_on D.seen D.may_leave k.relations k.counters first c.undo_begin.new.self c.abort_end.new.self (either_goes D.seen D.may_leave c.undo_begin.new.self c.abort_end.new.self (λ s. gone s c.args.txn) c.abort_end.result c.abort_end.ensures.gone c.abort_end.ensures.err) c.abort_end.ensures.restartable (restarts_on D.seen D.may_leave k.relations k.counters first k.core c.undo_begin.new.self (stays_goes D.seen D.may_leave k.core c.undo_begin.new.self c.undo_begin.ensures.state) (c.undo_begin.ensures.restartable) r))); schema = c.args.self.now.schema }
 
 pub returns-in_err-undo_begin-clause-steps : goal.returns-in_err-undo_begin-clause-steps
 returns-in_err-undo_begin-clause-steps g c = record {
@@ -39,7 +39,7 @@ returns-in_err-undo_begin-clause-steps g c = record {
   fails = search rules;
   quiet = search rules;
   states = search rules;
-  work = let k = c.args.self.now.parts in let n = c.undo_begin.new.self in
+  work = let k = c.args.self.now.core in let n = c.undo_begin.new.self in
       let p = err_from_is_err_and c.from_residual.result c.from_residual.ensures.1 in
       subst (λ (r : Result AbortStepped Refusal). LowersAbort (pages k.operations.store.pool) r (undo_steps k c.args.txn) (undo_steps n c.args.txn)) (sym p.1) c.in_err-undo_begin.ensures.err_left;
   other = search rules;
@@ -50,11 +50,11 @@ returns-in_err-undo_begin-clause-steps g c = record {
   out = search rules;
   schema = search rules;
   restarts = λ first r. let D = g.D.Device in let k = c.args.self.now in
-      restarts_on D.seen D.may_leave k.relations k.counters first k.parts c.undo_begin.new.self (stays_goes D.seen D.may_leave k.parts c.undo_begin.new.self c.undo_begin.ensures.state) (c.undo_begin.ensures.restartable) r;
+      restarts_on D.seen D.may_leave k.relations k.counters first k.core c.undo_begin.new.self (stays_goes D.seen D.may_leave k.core c.undo_begin.new.self c.undo_begin.ensures.state) (c.undo_begin.ensures.restartable) r;
   moments = λ first r schema. let D = g.D.Device in let k = c.args.self.now in
-      no_call D.seen D.may_leave k.relations k.counters first D.moment D.left_since g.met.D.Device.only_now k.parts _ (ap (λ (s : Store g.row.D.Denot). s.device) c.undo_begin.ensures.store) r schema;
+      no_call D.seen D.may_leave k.relations k.counters first D.moment D.left_since g.met.D.Device.only_now k.core _ (ap (λ (s : Store g.row.D.Denot). s.device) c.undo_begin.ensures.store) r schema;
   aborted = λ first s shows. let p = err_from_is_err_and c.from_residual.result c.from_residual.ensures.1 in
-      err_aborted g.D.Device.seen g.D.Device.may_leave first s c.args.txn _ c.from_residual.result p.0 p.1 (led g.D.Device.seen g.D.Device.may_leave c.args.self.now.relations c.args.self.now.counters c.args.self.now.parts c.undo_begin.new.self (λ z. z) first s (stays_led g.D.Device.seen g.D.Device.may_leave c.args.self.now.relations c.args.self.now.counters c.args.self.now.parts c.undo_begin.new.self c.undo_begin.ensures.state) shows);
+      err_aborted g.D.Device.seen g.D.Device.may_leave first s c.args.txn _ c.from_residual.result p.0 p.1 (led g.D.Device.seen g.D.Device.may_leave c.args.self.now.relations c.args.self.now.counters c.args.self.now.core c.undo_begin.new.self (λ z. z) first s (stays_led g.D.Device.seen g.D.Device.may_leave c.args.self.now.relations c.args.self.now.counters c.args.self.now.core c.undo_begin.new.self c.undo_begin.ensures.state) shows);
 }
 
 pub returns-then-branch-clause-steps : goal.returns-then-branch-clause-steps
@@ -72,10 +72,10 @@ returns-then-branch-clause-steps g c = record {
   out = search rules;
   schema = search rules;
   restarts = λ first r. let D = g.D.Device in let k = c.args.self.now in
-      restarts_on D.seen D.may_leave k.relations k.counters first k.parts c.undo_begin.new.self (stays_goes D.seen D.may_leave k.parts c.undo_begin.new.self c.undo_begin.ensures.state) (c.undo_begin.ensures.restartable) r;
+      restarts_on D.seen D.may_leave k.relations k.counters first k.core c.undo_begin.new.self (stays_goes D.seen D.may_leave k.core c.undo_begin.new.self c.undo_begin.ensures.state) (c.undo_begin.ensures.restartable) r;
   moments = λ first r schema. let D = g.D.Device in let k = c.args.self.now in
-      no_call D.seen D.may_leave k.relations k.counters first D.moment D.left_since g.met.D.Device.only_now k.parts _ (ap (λ (s : Store g.row.D.Denot). s.device) c.undo_begin.ensures.store) r schema;
-  aborted = λ first s shows. back_stands g.D.Device.seen g.D.Device.may_leave c.args.self.now.relations c.args.self.now.counters c.undo_begin.new.self first s c.args.txn (led g.D.Device.seen g.D.Device.may_leave c.args.self.now.relations c.args.self.now.counters c.args.self.now.parts c.undo_begin.new.self (λ z. z) first s (stays_led g.D.Device.seen g.D.Device.may_leave c.args.self.now.relations c.args.self.now.counters c.args.self.now.parts c.undo_begin.new.self c.undo_begin.ensures.state) shows);
+      no_call D.seen D.may_leave k.relations k.counters first D.moment D.left_since g.met.D.Device.only_now k.core _ (ap (λ (s : Store g.row.D.Denot). s.device) c.undo_begin.ensures.store) r schema;
+  aborted = λ first s shows. back_stands g.D.Device.seen g.D.Device.may_leave c.args.self.now.relations c.args.self.now.counters c.undo_begin.new.self first s c.args.txn (led g.D.Device.seen g.D.Device.may_leave c.args.self.now.relations c.args.self.now.counters c.args.self.now.core c.undo_begin.new.self (λ z. z) first s (stays_led g.D.Device.seen g.D.Device.may_leave c.args.self.now.relations c.args.self.now.counters c.args.self.now.core c.undo_begin.new.self c.undo_begin.ensures.state) shows);
 }
 
 pub returns-in_err-abort_end-clause-steps : goal.returns-in_err-abort_end-clause-steps
@@ -84,10 +84,10 @@ returns-in_err-abort_end-clause-steps g c = record {
   fails = search rules;
   quiet = search rules;
   states = search rules;
-  work = let k = c.args.self.now.parts in let n = c.abort_end.new.self in
+  work = let k = c.args.self.now.core in let n = c.abort_end.new.self in
       let p = err_from_is_err_and c.from_residual-in_err-abort_end.result c.from_residual-in_err-abort_end.ensures.1 in
       let same : c.undo_begin.new.self ≡ k = c.undo_begin.ensures.same (c.in_ok-undo_begin.was ∙ ap Ok c.if-branch.false) in
-      let few : undo_steps n c.args.txn ≤ undo_steps k c.args.txn = subst (λ (x : Parts g.row.D.Denot). undo_steps n c.args.txn ≤ undo_steps x c.args.txn) same c.in_err-abort_end.ensures.err_left in
+      let few : undo_steps n c.args.txn ≤ undo_steps k c.args.txn = subst (λ (x : Core g.row.D.Denot). undo_steps n c.args.txn ≤ undo_steps x c.args.txn) same c.in_err-abort_end.ensures.err_left in
       subst (λ (r : Result AbortStepped Refusal). LowersAbort (pages k.operations.store.pool) r (undo_steps k c.args.txn) (undo_steps n c.args.txn)) (sym p.1) few;
   other = search rules;
   full = search rules;
@@ -98,11 +98,11 @@ returns-in_err-abort_end-clause-steps g c = record {
   schema = search rules;
   restarts = λ first r. let D = g.D.Device in let k = c.args.self.now in
       restarts_on D.seen D.may_leave k.relations k.counters first c.undo_begin.new.self c.abort_end.new.self (either_goes D.seen D.may_leave c.undo_begin.new.self c.abort_end.new.self (λ s. gone s c.args.txn) c.abort_end.result c.abort_end.ensures.gone c.abort_end.ensures.err) c.abort_end.ensures.restartable
-      (restarts_on D.seen D.may_leave k.relations k.counters first k.parts c.undo_begin.new.self (stays_goes D.seen D.may_leave k.parts c.undo_begin.new.self c.undo_begin.ensures.state) (c.undo_begin.ensures.restartable) r);
+      (restarts_on D.seen D.may_leave k.relations k.counters first k.core c.undo_begin.new.self (stays_goes D.seen D.may_leave k.core c.undo_begin.new.self c.undo_begin.ensures.state) (c.undo_begin.ensures.restartable) r);
   moments = λ first r schema. let D = g.D.Device in let k = c.args.self.now in
-      no_call D.seen D.may_leave k.relations k.counters first D.moment D.left_since g.met.D.Device.only_now k.parts _ (c.abort_end.ensures.device ∙ ap (λ (s : Store g.row.D.Denot). s.device) c.undo_begin.ensures.store) r schema;
+      no_call D.seen D.may_leave k.relations k.counters first D.moment D.left_since g.met.D.Device.only_now k.core _ (c.abort_end.ensures.device ∙ ap (λ (s : Store g.row.D.Denot). s.device) c.undo_begin.ensures.store) r schema;
   aborted = λ first s shows. let p = err_from_is_err_and c.from_residual-in_err-abort_end.result c.from_residual-in_err-abort_end.ensures.1 in
-      err_aborted g.D.Device.seen g.D.Device.may_leave first s c.args.txn _ c.from_residual-in_err-abort_end.result p.0 p.1 (led g.D.Device.seen g.D.Device.may_leave c.args.self.now.relations c.args.self.now.counters c.undo_begin.new.self c.abort_end.new.self (λ z. z) first s (λ origin base safe. (base, c.in_err-abort_end.ensures.err origin base safe)) (led g.D.Device.seen g.D.Device.may_leave c.args.self.now.relations c.args.self.now.counters c.args.self.now.parts c.undo_begin.new.self (λ z. z) first s (stays_led g.D.Device.seen g.D.Device.may_leave c.args.self.now.relations c.args.self.now.counters c.args.self.now.parts c.undo_begin.new.self c.undo_begin.ensures.state) shows));
+      err_aborted g.D.Device.seen g.D.Device.may_leave first s c.args.txn _ c.from_residual-in_err-abort_end.result p.0 p.1 (led g.D.Device.seen g.D.Device.may_leave c.args.self.now.relations c.args.self.now.counters c.undo_begin.new.self c.abort_end.new.self (λ z. z) first s (λ origin base safe. (base, c.in_err-abort_end.ensures.err origin base safe)) (led g.D.Device.seen g.D.Device.may_leave c.args.self.now.relations c.args.self.now.counters c.args.self.now.core c.undo_begin.new.self (λ z. z) first s (stays_led g.D.Device.seen g.D.Device.may_leave c.args.self.now.relations c.args.self.now.counters c.args.self.now.core c.undo_begin.new.self c.undo_begin.ensures.state) shows));
 }
 
 pub returns-clause-steps : goal.returns-clause-steps
@@ -111,8 +111,8 @@ returns-clause-steps g c = record {
   fails = search rules;
   quiet = search rules;
   states = search rules;
-  work = let same : c.undo_begin.new.self ≡ c.args.self.now.parts = c.undo_begin.ensures.same (c.in_ok-undo_begin.was ∙ ap Ok c.if-branch.false) in
-      ap (λ (x : Parts g.row.D.Denot). undo_steps x c.args.txn) (sym same) ∙ c.in_ok-abort_end.ensures.none_left;
+  work = let same : c.undo_begin.new.self ≡ c.args.self.now.core = c.undo_begin.ensures.same (c.in_ok-undo_begin.was ∙ ap Ok c.if-branch.false) in
+      ap (λ (x : Core g.row.D.Denot). undo_steps x c.args.txn) (sym same) ∙ c.in_ok-abort_end.ensures.none_left;
   other = search rules;
   full = search rules;
   durable = search rules;
@@ -122,11 +122,11 @@ returns-clause-steps g c = record {
   schema = search rules;
   restarts = λ first r. let D = g.D.Device in let k = c.args.self.now in
       restarts_on D.seen D.may_leave k.relations k.counters first c.undo_begin.new.self c.abort_end.new.self (either_goes D.seen D.may_leave c.undo_begin.new.self c.abort_end.new.self (λ s. gone s c.args.txn) c.abort_end.result c.abort_end.ensures.gone c.abort_end.ensures.err) c.abort_end.ensures.restartable
-      (restarts_on D.seen D.may_leave k.relations k.counters first k.parts c.undo_begin.new.self (stays_goes D.seen D.may_leave k.parts c.undo_begin.new.self c.undo_begin.ensures.state) (c.undo_begin.ensures.restartable) r);
+      (restarts_on D.seen D.may_leave k.relations k.counters first k.core c.undo_begin.new.self (stays_goes D.seen D.may_leave k.core c.undo_begin.new.self c.undo_begin.ensures.state) (c.undo_begin.ensures.restartable) r);
   moments = λ first r schema. let D = g.D.Device in let k = c.args.self.now in
-      no_call D.seen D.may_leave k.relations k.counters first D.moment D.left_since g.met.D.Device.only_now k.parts _ (c.abort_end.ensures.device ∙ ap (λ (s : Store g.row.D.Denot). s.device) c.undo_begin.ensures.store) r schema;
+      no_call D.seen D.may_leave k.relations k.counters first D.moment D.left_since g.met.D.Device.only_now k.core _ (c.abort_end.ensures.device ∙ ap (λ (s : Store g.row.D.Denot). s.device) c.undo_begin.ensures.store) r schema;
   aborted = λ first s shows. (
-    led g.D.Device.seen g.D.Device.may_leave c.args.self.now.relations c.args.self.now.counters c.undo_begin.new.self c.abort_end.new.self (λ z. gone z c.args.txn) first s (λ origin base safe. (base, c.in_ok-abort_end.ensures.gone origin base safe)) (led g.D.Device.seen g.D.Device.may_leave c.args.self.now.relations c.args.self.now.counters c.args.self.now.parts c.undo_begin.new.self (λ z. z) first s (stays_led g.D.Device.seen g.D.Device.may_leave c.args.self.now.relations c.args.self.now.counters c.args.self.now.parts c.undo_begin.new.self c.undo_begin.ensures.state) shows),
+    led g.D.Device.seen g.D.Device.may_leave c.args.self.now.relations c.args.self.now.counters c.undo_begin.new.self c.abort_end.new.self (λ z. gone z c.args.txn) first s (λ origin base safe. (base, c.in_ok-abort_end.ensures.gone origin base safe)) (led g.D.Device.seen g.D.Device.may_leave c.args.self.now.relations c.args.self.now.counters c.args.self.now.core c.undo_begin.new.self (λ z. z) first s (stays_led g.D.Device.seen g.D.Device.may_leave c.args.self.now.relations c.args.self.now.counters c.args.self.now.core c.undo_begin.new.self c.undo_begin.ensures.state) shows),
     ∥∥₁_map shows (λ (origin, base, is, x). ap (λ (z : State). last_effect c.args.txn z.standing) x.state ∙ c.undo_begin.ensures.nothing (c.in_ok-undo_begin.was ∙ ap Ok c.if-branch.false)),
   );
 }

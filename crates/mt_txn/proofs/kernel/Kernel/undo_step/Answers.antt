@@ -3,16 +3,16 @@ use Rattle.std.proofs.lemmas.Result.{err_from_is_err_and}
 use Rattle.std.specs.Prelude.{Result}
 use mathlib.Core.Logic.{∥∥₁_map}
 use Rattle.mt_base.specs.declared.refusal.Refusal.{Refusal}
-use Rattle.mt_kernel.specs.Consistent.{AtPlace}
-use Rattle.mt_kernel.specs.Steps.{UndoSteps, NamesOther}
-use Rattle.mt_kernel.specs.declared.steps.Stepping.{Stepping}
+use Rattle.mt_core.specs.Consistent.{AtPlace}
+use Rattle.mt_core.specs.Steps.{UndoSteps, NamesOther}
+use Rattle.mt_core.specs.declared.steps.Stepping.{Stepping}
 use Rattle.mt_txn.proofs.Answering.{err_aborted, going_aborted, going_left}
-use Rattle.mt_kernel.specs.PageLocks.{KeepsPageLocks}
+use Rattle.mt_core.specs.PageLocks.{KeepsPageLocks}
 use Rattle.mt_txn.proofs.Barring.{abort_locks, abort_goes, abort_other}
 use Rattle.mt_txn.proofs.Showing.{sound_of, undo_shown, undo_well, inverse_stage, UndoShown}
 use Rattle.std.proofs.Common.{◌≤◌, sym}
 use Rattle.mt_pool.specs.Views.{pages}
-use Rattle.mt_kernel.specs.Work.{LowersUndo, undo_steps}
+use Rattle.mt_core.specs.Work.{LowersUndo, undo_steps}
 use Rattle.mt_txn.proofs.Showing.{at_place}
 use Rattle.mt_txn.specs.Work.{LowersAbort}
 use Rattle.mt_txn.specs.declared.answers.AbortStepped.{AbortStepped}
@@ -20,16 +20,16 @@ use Rattle.mt_txn.proofs.Restarting.{meanwhile, restarts_on, undo_goes}
 use Rattle.mt_txn.proofs.kernel.Kernel.undo_step.Goals as goal
 
 pub undo_step-told-requires-clause-safe : goal.undo_step-told-requires-clause-safe
-undo_step-told-requires-clause-safe g c = sound_of g.D.Device.seen g.D.Device.may_leave c.args.self.now.relations c.args.self.now.counters c.args.self.now.parts c.args.self.now.well
+undo_step-told-requires-clause-safe g c = sound_of g.D.Device.seen g.D.Device.may_leave c.args.self.now.relations c.args.self.now.counters c.args.self.now.core c.args.self.now.well
 
 pub undo_step-told-requires-clause-stage : goal.undo_step-told-requires-clause-stage
-undo_step-told-requires-clause-stage g c = inverse_stage g.D.Device.seen g.D.Device.may_leave c.args.self.now.relations c.args.self.now.counters c.args.self.now.parts c.args.place c.args.self.now.well c.requires.within (λ r there. (c.requires.own r there).1)
+undo_step-told-requires-clause-stage g c = inverse_stage g.D.Device.seen g.D.Device.may_leave c.args.self.now.relations c.args.self.now.counters c.args.self.now.core c.args.place c.args.self.now.well c.requires.within (λ r there. (c.requires.own r there).1)
 
 pub invariant_of-self : goal.invariant_of-self
-invariant_of-self g c = record { well = undo_well g.D.Device.seen g.D.Device.may_leave c.args.self.now.relations c.args.self.now.counters c.args.self.now.parts c.undo_step-told.new.self c.args.place c.undo_step-told.result c.requires.within c.undo_step-told.ensures.steps c.args.self.now.well; starts = ∥∥₁_map c.args.self.now.starts (λ (first, r). let D = g.D.Device in let k = c.args.self.now in (first, restarts_on D.seen D.may_leave k.relations k.counters first k.parts c.undo_step-told.new.self (undo_goes D.seen D.may_leave k.parts c.undo_step-told.new.self c.args.place c.undo_step-told.result c.requires.within c.undo_step-told.ensures.steps) (c.undo_step-told.ensures.restartable) r)); schema = c.args.self.now.schema }
+invariant_of-self g c = record { well = undo_well g.D.Device.seen g.D.Device.may_leave c.args.self.now.relations c.args.self.now.counters c.args.self.now.core c.undo_step-told.new.self c.args.place c.undo_step-told.result c.requires.within c.undo_step-told.ensures.steps c.args.self.now.well; starts = ∥∥₁_map c.args.self.now.starts (λ (first, r). let D = g.D.Device in let k = c.args.self.now in (first, restarts_on D.seen D.may_leave k.relations k.counters first k.core c.undo_step-told.new.self (undo_goes D.seen D.may_leave k.core c.undo_step-told.new.self c.args.place c.undo_step-told.result c.requires.within c.undo_step-told.ensures.steps) (c.undo_step-told.ensures.restartable) r)); schema = c.args.self.now.schema }
 
 pub returns-in-Going-clause-locks : goal.returns-in-Going-clause-locks
-returns-in-Going-clause-locks g c = λ r at. let k = c.args.self.now.parts in let n = c.undo_step-told.new.self in let place = c.args.place in
+returns-in-Going-clause-locks g c = λ r at. let k = c.args.self.now.core in let n = c.undo_step-told.new.self in let place = c.args.place in
     let seen = g.D.Device.seen in let may_leave = g.D.Device.may_leave in
     let was = c.in_ok-reply.was ∙ ap Ok c.in-Going.is in
     abort_locks seen may_leave c.args.self.now.relations c.args.self.now.counters k n c.args.txn place c.in-Going.going c.going.result r (λ q there. (c.requires.own q there).0)
@@ -46,7 +46,7 @@ returns-in_err-reply-clause-steps g c = record {
   fails = search rules;
   quiet = search rules;
   states = search rules;
-  work = let k = c.args.self.now.parts in let n = c.undo_step-told.new.self in let all = pages k.operations.store.pool in
+  work = let k = c.args.self.now.core in let n = c.undo_step-told.new.self in let all = pages k.operations.store.pool in
       let at = at_place k.running.items c.args.place c.requires.within in
       let lowers = subst (λ t. LowersUndo all c.undo_step-told.result (undo_steps k t) (undo_steps n t)) (c.requires.own at.0 at.1).0 (c.undo_step-told.ensures.lowers at.0 at.1) in
       let few : undo_steps n c.args.txn ≤ undo_steps k c.args.txn = subst (λ (r : Result Stepping Refusal). LowersUndo all r (undo_steps k c.args.txn) (undo_steps n c.args.txn)) c.in_err-reply.was lowers in
@@ -60,11 +60,11 @@ returns-in_err-reply-clause-steps g c = record {
   out = search rules;
   schema = search rules;
   restarts = λ first r. let D = g.D.Device in let k = c.args.self.now in
-      restarts_on D.seen D.may_leave k.relations k.counters first k.parts c.undo_step-told.new.self (undo_goes D.seen D.may_leave k.parts c.undo_step-told.new.self c.args.place c.undo_step-told.result c.requires.within c.undo_step-told.ensures.steps) (c.undo_step-told.ensures.restartable) r;
+      restarts_on D.seen D.may_leave k.relations k.counters first k.core c.undo_step-told.new.self (undo_goes D.seen D.may_leave k.core c.undo_step-told.new.self c.args.place c.undo_step-told.result c.requires.within c.undo_step-told.ensures.steps) (c.undo_step-told.ensures.restartable) r;
   moments = λ first r schema. let D = g.D.Device in let k = c.args.self.now in
-      meanwhile D.seen D.may_leave k.relations k.counters first D.moment D.left_since g.met.D.Device.only_now k.parts _ c.undo_step-told.ensures.moments r schema;
+      meanwhile D.seen D.may_leave k.relations k.counters first D.moment D.left_since g.met.D.Device.only_now k.core _ c.undo_step-told.ensures.moments r schema;
   aborted = λ first s shows. let p = err_from_is_err_and c.from_residual.result c.from_residual.ensures.1 in
-      err_aborted g.D.Device.seen g.D.Device.may_leave first s c.args.txn _ c.from_residual.result p.0 p.1 (subst (UndoShown g.D.Device.seen g.D.Device.may_leave c.args.self.now.relations c.args.self.now.counters c.undo_step-told.new.self first s c.args.txn) (c.in_err-reply.was) (undo_shown g.D.Device.seen g.D.Device.may_leave c.args.self.now.relations c.args.self.now.counters c.args.self.now.parts c.undo_step-told.new.self first s c.args.txn c.args.place c.undo_step-told.result c.requires.within (λ r there. (c.requires.own r there).0) c.undo_step-told.ensures.steps shows));
+      err_aborted g.D.Device.seen g.D.Device.may_leave first s c.args.txn _ c.from_residual.result p.0 p.1 (subst (UndoShown g.D.Device.seen g.D.Device.may_leave c.args.self.now.relations c.args.self.now.counters c.undo_step-told.new.self first s c.args.txn) (c.in_err-reply.was) (undo_shown g.D.Device.seen g.D.Device.may_leave c.args.self.now.relations c.args.self.now.counters c.args.self.now.core c.undo_step-told.new.self first s c.args.txn c.args.place c.undo_step-told.result c.requires.within (λ r there. (c.requires.own r there).0) c.undo_step-told.ensures.steps shows));
 }
 
 pub returns-in-Ended-clause-steps : goal.returns-in-Ended-clause-steps
@@ -73,7 +73,7 @@ returns-in-Ended-clause-steps g c = record {
   fails = search rules;
   quiet = search rules;
   states = search rules;
-  work = let k = c.args.self.now.parts in let n = c.undo_step-told.new.self in let all = pages k.operations.store.pool in
+  work = let k = c.args.self.now.core in let n = c.undo_step-told.new.self in let all = pages k.operations.store.pool in
       let at = at_place k.running.items c.args.place c.requires.within in
       let lowers = subst (λ t. LowersUndo all c.undo_step-told.result (undo_steps k t) (undo_steps n t)) (c.requires.own at.0 at.1).0 (c.undo_step-told.ensures.lowers at.0 at.1) in
       subst (λ (r : Result Stepping Refusal). LowersUndo all r (undo_steps k c.args.txn) (undo_steps n c.args.txn)) (c.in_ok-reply.was ∙ ap Ok c.in-Ended.is) lowers;
@@ -85,10 +85,10 @@ returns-in-Ended-clause-steps g c = record {
   out = search rules;
   schema = search rules;
   restarts = λ first r. let D = g.D.Device in let k = c.args.self.now in
-      restarts_on D.seen D.may_leave k.relations k.counters first k.parts c.undo_step-told.new.self (undo_goes D.seen D.may_leave k.parts c.undo_step-told.new.self c.args.place c.undo_step-told.result c.requires.within c.undo_step-told.ensures.steps) (c.undo_step-told.ensures.restartable) r;
+      restarts_on D.seen D.may_leave k.relations k.counters first k.core c.undo_step-told.new.self (undo_goes D.seen D.may_leave k.core c.undo_step-told.new.self c.args.place c.undo_step-told.result c.requires.within c.undo_step-told.ensures.steps) (c.undo_step-told.ensures.restartable) r;
   moments = λ first r schema. let D = g.D.Device in let k = c.args.self.now in
-      meanwhile D.seen D.may_leave k.relations k.counters first D.moment D.left_since g.met.D.Device.only_now k.parts _ c.undo_step-told.ensures.moments r schema;
-  aborted = λ first s shows. subst (UndoShown g.D.Device.seen g.D.Device.may_leave c.args.self.now.relations c.args.self.now.counters c.undo_step-told.new.self first s c.args.txn) (c.in_ok-reply.was ∙ ap Ok c.in-Ended.is) (undo_shown g.D.Device.seen g.D.Device.may_leave c.args.self.now.relations c.args.self.now.counters c.args.self.now.parts c.undo_step-told.new.self first s c.args.txn c.args.place c.undo_step-told.result c.requires.within (λ r there. (c.requires.own r there).0) c.undo_step-told.ensures.steps shows);
+      meanwhile D.seen D.may_leave k.relations k.counters first D.moment D.left_since g.met.D.Device.only_now k.core _ c.undo_step-told.ensures.moments r schema;
+  aborted = λ first s shows. subst (UndoShown g.D.Device.seen g.D.Device.may_leave c.args.self.now.relations c.args.self.now.counters c.undo_step-told.new.self first s c.args.txn) (c.in_ok-reply.was ∙ ap Ok c.in-Ended.is) (undo_shown g.D.Device.seen g.D.Device.may_leave c.args.self.now.relations c.args.self.now.counters c.args.self.now.core c.undo_step-told.new.self first s c.args.txn c.args.place c.undo_step-told.result c.requires.within (λ r there. (c.requires.own r there).0) c.undo_step-told.ensures.steps shows);
 }
 
 pub returns-in-Going-clause-steps : goal.returns-in-Going-clause-steps
@@ -97,11 +97,11 @@ returns-in-Going-clause-steps g c = record {
   fails = search rules;
   quiet = search rules;
   states = search rules;
-  work = let k = c.args.self.now.parts in let n = c.undo_step-told.new.self in let all = pages k.operations.store.pool in
+  work = let k = c.args.self.now.core in let n = c.undo_step-told.new.self in let all = pages k.operations.store.pool in
       let at = at_place k.running.items c.args.place c.requires.within in
       let lowers = subst (λ t. LowersUndo all c.undo_step-told.result (undo_steps k t) (undo_steps n t)) (c.requires.own at.0 at.1).0 (c.undo_step-told.ensures.lowers at.0 at.1) in
       going_left n.running.items all (undo_steps k c.args.txn) (undo_steps n c.args.txn) c.in-Going.going c.going.result c.going.ensures (subst (λ (r : Result Stepping Refusal). LowersUndo all r (undo_steps k c.args.txn) (undo_steps n c.args.txn)) (c.in_ok-reply.was ∙ ap Ok c.in-Going.is) lowers);
-  other = let k = c.args.self.now.parts in let n = c.undo_step-told.new.self in let place = c.args.place in
+  other = let k = c.args.self.now.core in let n = c.undo_step-told.new.self in let place = c.args.place in
       let seen = g.D.Device.seen in let may_leave = g.D.Device.may_leave in
       let was = c.in_ok-reply.was ∙ ap Ok c.in-Going.is in
       abort_other seen may_leave c.args.self.now.relations c.args.self.now.counters k n c.args.txn place c.in-Going.going c.going.result (λ r there. (c.requires.own r there).0)
@@ -118,8 +118,8 @@ returns-in-Going-clause-steps g c = record {
   out = search rules;
   schema = search rules;
   restarts = λ first r. let D = g.D.Device in let k = c.args.self.now in
-      restarts_on D.seen D.may_leave k.relations k.counters first k.parts c.undo_step-told.new.self (undo_goes D.seen D.may_leave k.parts c.undo_step-told.new.self c.args.place c.undo_step-told.result c.requires.within c.undo_step-told.ensures.steps) (c.undo_step-told.ensures.restartable) r;
+      restarts_on D.seen D.may_leave k.relations k.counters first k.core c.undo_step-told.new.self (undo_goes D.seen D.may_leave k.core c.undo_step-told.new.self c.args.place c.undo_step-told.result c.requires.within c.undo_step-told.ensures.steps) (c.undo_step-told.ensures.restartable) r;
   moments = λ first r schema. let D = g.D.Device in let k = c.args.self.now in
-      meanwhile D.seen D.may_leave k.relations k.counters first D.moment D.left_since g.met.D.Device.only_now k.parts _ c.undo_step-told.ensures.moments r schema;
-  aborted = λ first s shows. going_aborted g.D.Device.seen g.D.Device.may_leave first s c.args.txn _ c.going.result (abort_goes _ _ _ c.going.ensures) (subst (UndoShown g.D.Device.seen g.D.Device.may_leave c.args.self.now.relations c.args.self.now.counters c.undo_step-told.new.self first s c.args.txn) (c.in_ok-reply.was ∙ ap Ok c.in-Going.is) (undo_shown g.D.Device.seen g.D.Device.may_leave c.args.self.now.relations c.args.self.now.counters c.args.self.now.parts c.undo_step-told.new.self first s c.args.txn c.args.place c.undo_step-told.result c.requires.within (λ r there. (c.requires.own r there).0) c.undo_step-told.ensures.steps shows));
+      meanwhile D.seen D.may_leave k.relations k.counters first D.moment D.left_since g.met.D.Device.only_now k.core _ c.undo_step-told.ensures.moments r schema;
+  aborted = λ first s shows. going_aborted g.D.Device.seen g.D.Device.may_leave first s c.args.txn _ c.going.result (abort_goes _ _ _ c.going.ensures) (subst (UndoShown g.D.Device.seen g.D.Device.may_leave c.args.self.now.relations c.args.self.now.counters c.undo_step-told.new.self first s c.args.txn) (c.in_ok-reply.was ∙ ap Ok c.in-Going.is) (undo_shown g.D.Device.seen g.D.Device.may_leave c.args.self.now.relations c.args.self.now.counters c.args.self.now.core c.undo_step-told.new.self first s c.args.txn c.args.place c.undo_step-told.result c.requires.within (λ r there. (c.requires.own r there).0) c.undo_step-told.ensures.steps shows));
 }

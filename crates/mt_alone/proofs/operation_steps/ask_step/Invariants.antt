@@ -1,0 +1,15 @@
+use Rattle.std.proofs.Common.{List}
+use Rattle.mt_model.specs.History.{Call}
+use Rattle.mt_model.specs.declared.operations.Op.{Op}
+use Rattle.mt_txn.specs.Shown.{SameSchema, StaysRestarting}
+use Rattle.mt_alone.specs.Driven.{IsCalling}
+use Rattle.mt_alone.specs.Plays.{Play}
+use Rattle.mt_alone.proofs.DriveLemmas.{StandsBy}
+use Rattle.mt_alone.proofs.operation_steps.ask_step.Given as goal
+
+abbrev pub invariant-loop : goal.invariant-loop
+invariant-loop g l = record {
+  stands : (p : Play) (calls : List Call) (op : Op) → IsCalling g.D.Device.seen g.D.Device.may_leave p l.txn calls op l.initial.kernel → StandsBy g.D.Device.seen g.D.Device.may_leave g.D.Device.faults p l.txn calls op l.initial.kernel l.kernel;
+  schema : SameSchema l.initial.kernel l.kernel;
+  restarts : StaysRestarting g.D.Device.seen g.D.Device.may_leave l.initial.kernel l.kernel;
+}

@@ -1,0 +1,17 @@
+use Rattle.mt_alone.proofs.RunLemmas.{end_stopped, end_unwritten, end_written}
+use Rattle.mt_alone.proofs.script_run.end_live.Goals as goal
+
+pub returns-in-Err-clause-cut : goal.returns-in-Err-clause-cut
+returns-in-Err-clause-cut g c = λ p b.
+    let D = g.D.Device in
+    end_stopped D.seen D.may_leave D.faults p c.args.kernel.now c.in-Err.refusal _ _ c.undo_open.new.kernel _ (c.in-Err.ensures.aborted p b.0 b.2) c.end_refused.ensures
+
+pub returns-in-Ok-clause-ended : goal.returns-in-Ok-clause-ended
+returns-in-Ok-clause-ended g c = λ p b.
+    let D = g.D.Device in
+    end_written D.seen D.may_leave D.faults p c.args.kernel.now _ _ c.undo_open.new.kernel (c.in_default.ensures.aborted p b.0 b.2) c.in-Ok.ensures.all
+
+pub returns-in-Err-write_answer-clause-cut : goal.returns-in-Err-write_answer-clause-cut
+returns-in-Err-write_answer-clause-cut g c = λ p b.
+    let D = g.D.Device in
+    end_unwritten D.seen D.may_leave D.faults p c.args.kernel.now _ _ c.undo_open.new.kernel (c.in_default.ensures.aborted p b.0 b.2) c.in-Err-write_answer.ensures.front

@@ -1,0 +1,39 @@
+use Rattle.std.proofs.Common.{arith}
+use Rattle.std.proofs.KnownBytes.{Keeps-refl}
+use Rattle.std.proofs.lemmas.List.{length-map}
+use Rattle.std.proofs.lemmas.Result.{IfErr-weaker, on_ok_weaker}
+use Rattle.mt_restart.specs.Resumed.{IsOpened}
+use Rattle.mt_alone.specs.Sessions.{lines_in}
+use Rattle.mt_cli.proofs.DumpLemmas.{barred_by, stands_same}
+use Rattle.mt_cli.proofs.ServeLemmas.{err_through, ok_through, on_base}
+use Rattle.mt_cli.specs.Serves.{cut_among, not_begun, too_many}
+use Rattle.mt_cli.proofs.run_command.serve_over.Goals as goal
+use Rattle.std.proofs.Common.{refl}
+
+pub returns-then-scripts-gt-MAX_SESSIONS-clause-unserved : goal.returns-then-scripts-gt-MAX_SESSIONS-clause-unserved
+returns-then-scripts-gt-MAX_SESSIONS-clause-unserved g c =
+    too_many (omega (arith, length-map c.args.scripts.now lines_in, c.if-scripts-gt-MAX_SESSIONS.true)) refl (Keeps-refl (g.O.Write.contents c.args.out.now))
+
+pub returns-in-Ok-clause-served : goal.returns-in-Ok-clause-served
+returns-in-Ok-clause-served g c =
+    let D = g.D.Device in
+    let b = c.in-Ok.ensures.begins in
+    on_ok_weaker c.ended.result
+    (λ on. on_base _ _ (λ n m b. IsOpened D.seen D.may_leave n m b c.in-Ok.kernel) on _ _ b.0 b.1 c.in-Ok.ensures.opened)
+    (ok_through _ c.serve_opened-ran.result.0 c.ended.result c.ended.ensures.ok c.serve_opened-ran.ensures.served)
+
+pub returns-in-Ok-clause-unserved : goal.returns-in-Ok-clause-unserved
+returns-in-Ok-clause-unserved g c =
+    let D = g.D.Device in
+    let b = c.in-Ok.ensures.begins in
+    IfErr-weaker c.ended.result _ _
+    (λ fault x. cut_among x.0 fault (on_base _ _ (λ n m b. IsOpened D.seen D.may_leave n m b c.in-Ok.kernel) x.1 _ _ b.0 b.1 c.in-Ok.ensures.opened) x.2)
+    (err_through _ c.serve_opened-ran.result.0 c.ended.result c.ended.ensures.err c.serve_opened-ran.ensures.short)
+
+pub returns-in-Err-clause-unserved : goal.returns-in-Err-clause-unserved
+returns-in-Err-clause-unserved g c =
+    let D = g.D.Device in
+    let new = c.in-Err.device in
+    not_begun c.in-Err.refusal (barred_by _ _ c.in-Err.refusal c.in-Err.ensures.cause)
+    (stands_same D.seen D.may_leave D.moment D.left_since c.args.device new c.requires.settled c.in-Err.ensures.moments (λ t le. g.met.D.Device.counts_now new t (D.seen new) le (g.met.D.Device.present new)))
+    (λ early. c.in-Err.ensures.unwritten early.1) (Keeps-refl (g.O.Write.contents c.args.out.now))

@@ -1,0 +1,132 @@
+// `check`: what is told of the device in a file, without a write.
+ghost use Rattle.std.specs.Prelude.{◌≡◌, IfErr, IfOk, OnErr, OnOk, map};
+ghost use Rattle.std.specs.List.{concat};
+ghost use Rattle.std.specs.Io.KnownBytes.{Appends};
+ghost use Rattle.mt_replay.specs.Refused.{BreaksFormat, IsCause};
+ghost use Rattle.mt_script.specs.Answers.{AppendsFront};
+ghost use Rattle.mt_cli.specs.Checks.{HasChecked, IsRefusedFor, IsSurveyed, IsUnchecked, IsUntold, Tells, TellsOf, check_text, figure_line, pages_text, report_text};
+ghost use Rattle.mt_folder.specs.Folders.{AreKept, known_in};
+
+use crate::faults::Fault;
+use crate::answer_lines::write_number;
+use mt_base::Refusal;
+use mt_disk::Device;
+use mt_folder::Folder;
+use mt_restart::{Report, inspect, report};
+use mt_script::{Unheard, put};
+use std::alloc::Global;
+use std::io::Write;
+
+/// Has the pages of a device inspected.
+fn look_at_pages<D: Device>(alloc: Global, device: &mut D) -> Result<(), Refusal>
+    ensures surveyed { OnOk result (IsSurveyed (D.seen device.old)) }
+    ensures cause { IfErr result (IsCause BreaksFormat (D.seen device.old) (Unit {0})) }
+    ensures seen { D.seen device.new ≡ D.seen device.old }
+{
+    inspect(alloc, device)?;
+    Ok(())
+}
+
+/// What is told of a device, whose pages are inspected too where that is asked for.
+fn told_of<D: Device>(alloc: Global, device: &mut D, pages: bool) -> Result<Report, Refusal>
+    ensures told { IfOk result (Tells pages (D.seen device.old)) }
+    ensures cause { IfErr result (IsRefusedFor pages (D.seen device.old)) }
+    ensures seen { D.seen device.new ≡ D.seen device.old }
+{
+    let told = report(alloc, device)?;
+    if pages {
+        look_at_pages(alloc, device)?;
+    }
+    Ok(told)
+}
+
+/// What is told of the device in the file of this name.
+fn told_of_file<F: Folder>(
+    alloc: Global,
+    folder: &mut F,
+    name: &str,
+    pages: bool,
+) -> Result<Report, Refusal>
+    ensures told { IfOk result (TellsOf pages (known_in (F.files folder.old) name.now)) }
+    ensures cause { IfErr result (IsUntold pages (known_in (F.files folder.old) name.now)) }
+    ensures kept { AreKept (F.files folder.old) (F.files folder.new) }
+{
+    let mut device = folder.device(name)?;
+    let told = told_of(alloc, &mut device, pages);
+    folder.back(name, device);
+    told
+}
+
+/// Writes a line for each of these figures: its word, and its number behind it.
+pub(crate) fn write_figures<W: Write>(
+    writer: &mut W,
+    figures: &[(&str, u64)],
+) -> Result<(), Unheard>
+    ensures all { OnOk result (Appends (W.contents writer.old) (W.contents writer.new)
+        (concat (map figure_line figures.now))) }
+    ensures front { OnErr result (AppendsFront (W.contents writer.old) (W.contents writer.new)
+        (concat (map figure_line figures.now))) }
+{
+    for (word, number) in figures {
+        write_number(writer, word, *number)?;
+    }
+    Ok(())
+}
+
+/// Writes a line for each figure of a report.
+fn write_report<W: Write>(writer: &mut W, report: &Report) -> Result<(), Unheard>
+    ensures all { OnOk result (Appends (W.contents writer.old) (W.contents writer.new) (report_text report.now)) }
+    ensures front { OnErr result (AppendsFront (W.contents writer.old) (W.contents writer.new)
+        (report_text report.now)) }
+{
+    let figures = [
+        ("epoch ", report.epoch),
+        ("area ", u64::from(report.area)),
+        ("batches ", report.batches),
+        ("records ", report.records),
+        ("commits ", report.commits),
+    ];
+    write_figures(writer, &figures)
+}
+
+/// The last line of a check.
+fn last_line(pages: bool) -> &'static str
+    ensures { result.now ≡ pages_text pages }
+{
+    if pages { "pages ok\n" } else { "" }
+}
+
+/// Writes what a check tells.
+fn write_check<W: Write>(writer: &mut W, report: &Report, pages: bool) -> Result<(), Unheard>
+    ensures all { OnOk result (Appends (W.contents writer.old) (W.contents writer.new)
+        (check_text pages report.now)) }
+    ensures front { OnErr result (AppendsFront (W.contents writer.old) (W.contents writer.new)
+        (check_text pages report.now)) }
+{
+    write_report(writer, report)?;
+    put(writer, last_line(pages).as_bytes())
+}
+
+/// Does `check`: tells what the log of the device in a file holds, and that its pages break no rule where that is asked
+/// for. The device is only read. Where it is refused, nothing is written.
+pub(crate) fn perform_check<F: Folder, O: Write>(
+    alloc: Global,
+    folder: &mut F,
+    name: &str,
+    pages: bool,
+    out: &mut O,
+) -> Result<(), Fault>
+    ensures checked { OnOk result (HasChecked pages (known_in (F.files folder.old) name.now) (O.contents out.old)
+        (O.contents out.new)) }
+    ensures unchecked { IfErr result (IsUnchecked pages (known_in (F.files folder.old) name.now)
+        (O.contents out.old) (O.contents out.new)) }
+    ensures kept { AreKept (F.files folder.old) (F.files folder.new) }
+{
+    match told_of_file(alloc, folder, name, pages) {
+        Ok(report) => match write_check(out, &report, pages) {
+            Ok(()) => Ok(()),
+            Err(_) => Err(Fault::Output),
+        },
+        Err(refusal) => Err(Fault::Refused(refusal)),
+    }
+}

@@ -1,0 +1,166 @@
+// `run`: scripts, served to the device in a file.
+ghost use Rattle.std.specs.Prelude.{◌≡◌, ◌≤◌, ℕ, IfErr, IsErrAnd, IsOk, OnOk, length, map, string_bytes};
+ghost use Rattle.mt_base.specs.declared.limits.TheConstants.{MAX_SESSIONS};
+ghost use Rattle.mt_disk.specs.Disk.{Only};
+ghost use Rattle.mt_model.specs.Model.{Base};
+ghost use Rattle.mt_restart.specs.Resumed.{IsOpened};
+ghost use Rattle.mt_alone.specs.Sessions.{lines_in};
+ghost use Rattle.mt_cli.specs.Serves.{AreShortOn, AreUnserved, HasNotRun, HasRunScripts, HaveServedOn, IsServedIn, IsUnservedIn, ServesFrom, fault_of};
+
+use crate::at_once::{Service, serve_file_at_once};
+use crate::faults::Fault;
+use crate::named_inputs::scripts_of;
+use mt_alone::{RunFault, run_sessions};
+use mt_base::Refusal;
+use mt_base::limits::MAX_SESSIONS;
+use mt_disk::Device;
+use mt_folder::Folder;
+use mt_restart::open;
+use mt_script::Script;
+use mt_shared::Gate;
+use mt_txn::Kernel;
+use std::alloc::Global;
+use std::io::{Read, Write};
+use std::sync::Wait;
+use std::thread::Threads;
+
+/// Serves scripts to a kernel that was just opened, and gives its device back.
+fn serve_opened<D: Device + Drop, O: Write>(
+    alloc: Global,
+    kernel: Kernel<D>,
+    frames: usize,
+    scripts: &[Script],
+    out: &mut O,
+) -> (Result<(), RunFault>, D)
+    requires few { length scripts.now ≤ MAX_SESSIONS }
+    ensures served { OnOk result.0 ((relations counters : ℕ) (b : Base)
+        → IsOpened D.seen D.may_leave relations counters b kernel → HaveServedOn relations counters b
+        (map lines_in scripts.now) (O.contents out.old) (O.contents out.new) (D.seen result.1)) }
+    ensures short { IfErr result.0 (λ why. (relations counters : ℕ) (b : Base)
+        → IsOpened D.seen D.may_leave relations counters b kernel → AreShortOn relations counters b
+        (map lines_in scripts.now) (O.contents out.old) (O.contents out.new) (D.seen result.1) why) }
+{
+    match run_sessions(alloc, kernel, frames, scripts, out) {
+        Ok(kernel) => {
+            kernel.can_restart();
+            (Ok(()), kernel.into_device())
+        }
+        Err(left) => {
+            let (why, device) = left.into_device();
+            (Err(why), device)
+        }
+    }
+}
+
+/// How a command ends whose run ended so.
+fn ended(ran: Result<(), RunFault>) -> Result<(), Fault>
+    ensures ok { OnOk result (IsOk ran) }
+    ensures err { IfErr result (λ fault. IsErrAnd ran (λ why. fault ≡ fault_of why)) }
+{
+    match ran {
+        Ok(()) => Ok(()),
+        Err(RunFault::Output) => Err(Fault::Output),
+        Err(RunFault::Refused(refusal)) => Err(Fault::Refused(refusal)),
+    }
+}
+
+/// Opens a device and serves scripts to it, and gives it back, whatever came of that.
+fn serve_over<D: Device + Drop, O: Write>(
+    alloc: Global,
+    device: D,
+    frames: usize,
+    scripts: &[Script],
+    out: &mut O,
+) -> (Result<(), Fault>, D)
+    requires settled { Only (D.seen device) (D.may_leave device) }
+    ensures served { OnOk result.0 (ServesFrom (D.seen device) (map lines_in scripts.now)
+        (O.contents out.old) (O.contents out.new) (D.seen result.1)) }
+    ensures unserved { IfErr result.0 (AreUnserved (D.seen device) (map lines_in scripts.now)
+        (O.contents out.old) (O.contents out.new) (D.seen result.1)) }
+{
+    if scripts.len() > MAX_SESSIONS {
+        return (Err(Fault::Refused(Refusal::BadLength)), device);
+    }
+    match open(alloc, device, frames) {
+        Ok(kernel) => {
+            let (ran, device) = serve_opened(alloc, kernel, frames, scripts, out);
+            (ended(ran), device)
+        }
+        Err((refusal, device)) => (Err(Fault::Refused(refusal)), device),
+    }
+}
+
+/// Serves scripts to the device in the file of this name.
+fn serve_file<F: Folder, O: Write>(
+    alloc: Global,
+    folder: &mut F,
+    frames: usize,
+    name: &str,
+    scripts: &[Script],
+    out: &mut O,
+) -> Result<(), Fault>
+    ensures served { OnOk result (IsServedIn (F.files folder.old) (F.files folder.new) name.now
+        (map lines_in scripts.now) (O.contents out.old) (O.contents out.new)) }
+    ensures unserved { IfErr result (IsUnservedIn (F.files folder.old) (F.files folder.new) name.now
+        (map lines_in scripts.now) (O.contents out.old) (O.contents out.new)) }
+{
+    let device = match folder.device(name) {
+        Ok(device) => device,
+        Err(refusal) => return Err(Fault::Refused(refusal)),
+    };
+    let served = serve_over(alloc, device, frames, scripts, out);
+    let (told, device) = served;
+    folder.back(name, device);
+    told
+}
+
+/// Does `run`: reads all scripts, then opens the device in the file of this name with so many frames, and serves the
+/// scripts to it. It serves them one after the other where there is one worker, and else at once. The device is then
+/// back in its file, and each other file is as it was. By one worker nothing is written to the output before the
+/// device is opened, and by several not before all scripts are served.
+///
+/// Refused for the first script that is not read, and for a file that cannot be opened. Refused by `BadLength` where
+/// there are more than 64 scripts, and for what keeps the device from being opened. Further by one worker where a
+/// script does not run to its end, by `NoMemory`, `DeviceFailed` or `LogFull`. The file then stands for the commits until
+/// then, or for these and some that were under way. By several it is refused where the device failed meanwhile, by
+/// `DeviceFailed`, behind the transcripts. Where `serve` of mt_server is refused, it lets
+/// the device go: what its file has is not told.
+pub(crate) fn perform_run<
+    F: Folder,
+    I: Read,
+    O: Write,
+    G: Gate + Drop + Send + Sync,
+    R: Threads + Wait + Sync,
+>(
+    rt: &R,
+    alloc: Global,
+    folder: &mut F,
+    service: Service,
+    scripts: &[String],
+    input: &mut I,
+    out: &mut O,
+    gate: G,
+) -> Result<(), Fault>
+    ensures ran { OnOk result (HasRunScripts service.entry.workers (F.files folder.old) (F.files folder.new)
+        service.entry.name.now (map string_bytes scripts.now) (I.remaining input.old)
+        (O.contents out.old) (O.contents out.new)) }
+    ensures not_run { IfErr result (HasNotRun service.entry.workers (F.files folder.old) (F.files folder.new)
+        service.entry.name.now (map string_bytes scripts.now) (I.remaining input.old)
+        (O.contents out.old) (O.contents out.new)) }
+{
+    let scripts = match scripts_of(alloc, folder, scripts, input) {
+        Ok(scripts) => scripts,
+        Err(fault) => return Err(fault),
+    };
+    if service.workers > 1 {
+        return serve_file_at_once(rt, alloc, folder, service, scripts, out, gate);
+    }
+    serve_file(
+        alloc,
+        folder,
+        service.frames,
+        service.name,
+        scripts.as_slice(),
+        out,
+    )
+}

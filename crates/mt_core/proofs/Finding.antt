@@ -1,0 +1,103 @@
+-- The inverse of a transaction's last effect finds what its record says.
+use Rattle.std.proofs.Common.{◌≡◌, inl, inr, ℕ, ◌==◌, Bool, true, false, not, cond, List, [], ◌∷◌, ◌++◌, Option, Some, None, is_some, filter, refl, sym, ap, ◌∙◌, subst}
+use Rattle.std.proofs.lemmas.Bool.{cases_Bool, eq-eqb, eqb-true}
+use Rattle.std.proofs.lemmas.List.Elements.{filter-append}
+use Rattle.mt_frame.specs.declared.records.LoggedOp.{LoggedOp}
+use Rattle.mt_frame.specs.declared.records.LoggedOp.TheVariants as logged
+use Rattle.mt_live.proofs.Cuts.{IsIdle, cut_of}
+use Rattle.mt_live.proofs.Entries.{runs-append}
+use Rattle.mt_live.proofs.Events.{commits, sound_later}
+use Rattle.mt_live.proofs.Moving.{room_bounds}
+use Rattle.mt_live.specs.Adds.{adds}
+use Rattle.mt_live.specs.Entries.{Entry, calls, runs, kept}
+use Rattle.mt_live.specs.Machine.{State, committed_base, IsKept}
+use Rattle.mt_live.specs.Members.{has_inverse}
+use Rattle.mt_live.specs.Sound.{Each, IsSound}
+use Rattle.mt_live.specs.Undoing.{others, last_effect}
+use Rattle.mt_model.specs.History.{run}
+use Rattle.mt_model.specs.Model.{Base, IsBase, reply_of, base_after, inverse_of}
+use Rattle.mt_model.specs.Pending.{steps_at}
+use Rattle.mt_model.specs.declared.operations.Op.{Op}
+use Rattle.mt_replay.proofs.Undone.{reply_after}
+use Rattle.mt_replay.specs.Told.{op_of, reply_in, undo_of, reply_back}
+use Rattle.mt_steps.specs.Logged.{logged_of}
+use Rattle.mt_core.proofs.Did.{calls_did}
+use Rattle.mt_core.proofs.Leads.{logged_did, logged_is}
+use Rattle.mt_core.proofs.Recovering.{effects_acted}
+use Rattle.mt_core.specs.Restartable.{did}
+
+-- the base is that of an operation that has just acted, as its entry says
+pub record ActedLast (e : Entry) (base : Base) : Type 0 where
+  pub before : Base
+  pub bounds : IsBase before
+  pub reply : reply_of before e.op ≡ e.reply
+  pub is : base ≡ base_after before e.op
+
+abbrev mine : ℕ → ℕ → Bool
+mine t u = not (others t u)
+
+is_mine : (t u : ℕ) → u ≡ t → mine t u ≡ true
+is_mine t u is = rw (eq-eqb u t is) refl
+
+none_mine : (t : ℕ) (es : List Entry) → Each (IsIdle t) es → filter did (kept (mine t) es) ≡ []
+none_mine t [] idle = refl
+none_mine t (e ∷ es) idle = elim (cases_Bool (e.txn == t)) [
+  | inl own ↦ let none : did e ≡ false = ap is_some (idle.0 (eqb-true e.txn t own)) in rw (own, none) (none_mine t es idle.1)
+  | inr other ↦ rw other (none_mine t es idle.1)
+]
+
+pub idle_did : (t : ℕ) (es : List Entry) → Each (IsIdle t) es → filter did (kept (others t) es) ≡ filter did es
+idle_did t [] idle = refl
+idle_did t (e ∷ es) idle = elim (cases_Bool (e.txn == t)) [
+  | inl own ↦ let none : did e ≡ false = ap is_some (idle.0 (eqb-true e.txn t own)) in rw (own, none) (idle_did t es idle.1)
+  | inr other ↦ rw other (ap (λ (fs : List Entry). cond (did e) (e ∷ fs) fs) (idle_did t es idle.1))
+]
+
+pub acted_last : (b : Base) (s : State) (t : ℕ) (e : Entry) (i : Op) → IsKept b s → last_effect t s.standing ≡ Some e → inverse_of e.op e.reply ≡ Some i → ActedLast e s.base
+acted_last b s t e i k last inverse =
+    let c = cut_of t s.standing e i last inverse in
+    let m = committed_base b s in
+    let moved = commits s.held k.locks m s.standing k.sound (others t) in
+    let m2 = runs m (kept (others t) s.standing) in
+    let front = kept (mine t) c.front in
+    let rest = kept (mine t) c.rest in
+    let here : kept (mine t) (e ∷ c.rest) ≡ e ∷ rest = ap (λ (h : Bool). cond h (e ∷ rest) rest) (is_mine t e.txn c.done.its) in
+    let parts : kept (mine t) s.standing ≡ front ++ e ∷ rest = ap (kept (mine t)) c.done.place ∙ filter-append (λ (x : Entry). mine t x.txn) c.front (e ∷ c.rest) ∙ ap (λ (xs : List Entry). front ++ xs) here in
+    let sound = sound_later s.held m2 front (e ∷ rest) (subst (IsSound s.held m2) parts moved.rest) in
+    let before = runs m2 front in
+    let effects = effects_acted (base_after before e.op) (calls rest) sound.acted.1 in
+    let none : filter has_inverse (calls rest) ≡ [] = calls_did rest ∙ ap calls (none_mine t c.rest c.done.idle) in
+    record {
+      before = before;
+      bounds = λ x. room_bounds (before.counts x) (steps_at x (adds (e ∷ rest))) (sound.room x);
+      reply = sound.acted.0;
+      is = sym k.base ∙ sym moved.same ∙ ap (runs m2) parts ∙ runs-append m2 front (e ∷ rest) ∙ sym effects.1 ∙ ap (run (base_after before e.op)) none;
+    }
+
+-- so its inverse does something there, which is logged
+undo_logged : (d : LoggedOp) → is_some (logged_of (undo_of d) (reply_back d)) ≡ true
+undo_logged (logged.Insert r k v) = refl
+undo_logged (logged.Update r k v old) = refl
+undo_logged (logged.Delete r k old) = refl
+undo_logged (logged.Add c s) = refl
+
+undo_same : (d : LoggedOp) → inverse_of (op_of d) (reply_in d) ≡ Some (undo_of d)
+undo_same (logged.Insert r k v) = refl
+undo_same (logged.Update r k v old) = refl
+undo_same (logged.Delete r k old) = refl
+undo_same (logged.Add c s) = refl
+
+some_same : (a b : Op) → Some a ≡ Some b → a ≡ b
+some_same a b is = cc
+
+pub inverse_logged : (e : Entry) (i : Op) (base : Base) → inverse_of e.op e.reply ≡ Some i → ActedLast e base → is_some (logged_of i (reply_of base i)) ≡ true
+inverse_logged e i base inverse a = go (logged_of e.op e.reply) refl
+  where
+    go : (o : Option LoggedOp) → logged_of e.op e.reply ≡ o → is_some (logged_of i (reply_of base i)) ≡ true
+    go None is = let some : is_some (inverse_of e.op e.reply) ≡ true = ap is_some inverse in let none : is_some (inverse_of e.op e.reply) ≡ false = logged_did e.op e.reply ∙ ap is_some is in absurd cc
+    go (Some d) is =
+        let tells = logged_is e.op e.reply d is in
+        let same : i ≡ undo_of d = some_same i (undo_of d) (sym inverse ∙ (λ j. inverse_of (sym tells.0 j) (sym tells.1 j)) ∙ undo_same d) in
+        let found : reply_of (base_after a.before (op_of d)) (undo_of d) ≡ reply_back d = reply_after d a.before a.bounds (ap (reply_of a.before) tells.0 ∙ a.reply ∙ sym tells.1) in
+        let here : reply_of base i ≡ reply_back d = (λ j. reply_of ((a.is ∙ ap (base_after a.before) (sym tells.0)) j) (same j)) ∙ found in
+        (λ j. is_some (logged_of (same j) (here j))) ∙ undo_logged d

@@ -1,0 +1,56 @@
+-- The first of the commits under way, and what was kept for its transaction.
+use Rattle.std.proofs.Common.{◌≡◌, ◌∙◌, ℕ, ◌≤◌, ◌+◌, List, ◌∷◌, length, get_or, Option, Some, None, refl, ap, subst, arith}
+use Rattle.std.specs.List.{sum_by, remove}
+use Rattle.std.specs.Option.{option_map}
+use Rattle.mt_live.specs.Entries.{calls, kept}
+use Rattle.mt_live.specs.Lives.{member_of}
+use Rattle.mt_live.specs.Members.{Member}
+use Rattle.mt_live.specs.Undoing.{only}
+use Rattle.mt_model.specs.History.{Call}
+use Rattle.mt_model.specs.Model.{Base}
+use Rattle.mt_op.specs.Operations.{claimed}
+use Rattle.mt_steps.specs.Plans.{undo_pages}
+use Rattle.mt_core.specs.Consistent.{Origin, session_in, IsConsistent}
+use Rattle.mt_core.specs.Runs.{undo_bytes, call_pages, call_bytes, entry_pages, entry_bytes}
+use Rattle.mt_core.specs.declared.kernel_core.Commit.{Commit}
+use Rattle.mt_core.specs.declared.kernel_core.Core.{Core}
+use Rattle.mt_core.proofs.Effects.{weighs_calls}
+use Rattle.mt_core.proofs.Enough.{claims_few, leave_claimed, leave_enough}
+use Rattle.mt_core.proofs.Leaving.{first_idle}
+
+pub first_txn : (items : List Commit) (found first : Commit) (cs : List Commit) → items ≡ first ∷ cs → found ≡ get_or items 0 found → found.txn ≡ first.txn
+first_txn items found first cs queue there = ap (λ (c : Commit). c.txn) (there ∙ ap (λ (xs : List Commit). get_or xs 0 found) queue)
+
+pub first_is : (items : List Commit) (found first : Commit) (cs : List Commit) → items ≡ first ∷ cs → found ≡ get_or items 0 found → found ≡ first
+first_is items found first cs queue there = there ∙ ap (λ (xs : List Commit). get_or xs 0 found) queue
+
+pub first_rest : (items : List Commit) (first : Commit) (cs : List Commit) → items ≡ first ∷ cs → remove items 0 ≡ cs
+first_rest items first cs queue = ap (λ (xs : List Commit). remove xs 0) queue
+
+-- the session of one that lives
+pub whose : (session t : ℕ) (ms : List Member) → Some session ≡ option_map (λ (m : Member). m.session) (member_of ms t) → session ≡ session_in ms t
+whose session t ms is = go (member_of ms t) refl is
+  where
+    go : (o : Option Member) → member_of ms t ≡ o → Some session ≡ option_map (λ (m : Member). m.session) o → session ≡ session_in ms t
+    go None at k = absurd cc
+    go (Some m) at k = let same : session ≡ m.session = cc in rw at same
+
+-- what its calls weigh is claimed and reserved
+pub record HasLeft {D : Type 0} (k : Core D) (t : ℕ) (cs : List Call) : Type 0 where
+  pub pages : sum_by call_pages cs ≡ sum_by entry_pages (kept (only t) k.live.standing)
+  pub bytes : sum_by call_bytes cs ≡ sum_by entry_bytes (kept (only t) k.live.standing)
+  pub few : claimed k.operations ≤ 4000
+  pub claims : sum_by entry_pages (kept (only t) k.live.standing) ≤ claimed k.operations
+  pub reserved : 114 + sum_by entry_bytes (kept (only t) k.live.standing) ≤ k.reserved
+
+module _ {D : Type 0} (seen : D → List ℕ) (may_leave : D → List ℕ → Type 0) (origin : Origin) (base : Base) where
+  pub left_sums : (k : Core D) (t : ℕ) (first : Commit) (cs : List Commit) → IsConsistent seen may_leave origin base k → k.commits.items ≡ first ∷ cs → first.txn ≡ t → (done : List Call) → done ≡ calls (kept (only t) k.live.standing) → HasLeft k t done
+  left_sums k t first cs safe queue is done its =
+      let some : length k.commits.items ≡ length (first ∷ cs) = ap (λ (xs : List Commit). length xs) queue in
+      record {
+        pages = ap (sum_by call_pages) its ∙ weighs_calls undo_pages (kept (only t) k.live.standing);
+        bytes = ap (sum_by call_bytes) its ∙ weighs_calls undo_bytes (kept (only t) k.live.standing);
+        few = claims_few seen may_leave origin base k safe.fit;
+        claims = leave_claimed seen may_leave origin base k t safe;
+        reserved = subst (λ (u : ℕ). 114 + sum_by entry_bytes (kept (only u) k.live.standing) ≤ k.reserved) is (leave_enough seen may_leave origin base k first.txn safe.fit (first_idle seen may_leave origin base k first cs safe.fit queue) (omega arith));
+      }

@@ -1,0 +1,113 @@
+-- The next inverse of an abort: it is within the schema, and due.
+use Rattle.std.proofs.Common.{◌≡◌, ◌≢◌, inl, inr, ℕ, ℤ, suc, ◌<◌, ◌≤◌, ◌==◌, Bool, true, false, List, [], ◌∷◌, length, get_or, Option, Some, None, IfSome, neg_ℤ, refl, ◌∙◌, subst, arith}
+use Rattle.std.specs.Prelude.{All}
+use Rattle.std.specs.Option.{option_map}
+use Rattle.std.proofs.lemmas.Int.{ints}
+use Rattle.std.proofs.lemmas.Bool.{ne_eqb}
+use Rattle.std.proofs.lemmas.List.{get_or_default}
+use Rattle.std.proofs.lemmas.List.Elements.{All-head, All-tail}
+use Rattle.mt_base.specs.Limits.{IsStep}
+use Rattle.mt_frame.specs.declared.records.Record.{Record}
+use Rattle.mt_inverse.specs.Steps.{IsWithinSteps}
+use Rattle.mt_live.proofs.Lasts.{last_within}
+use Rattle.mt_live.specs.Entries.{Entry}
+use Rattle.mt_live.specs.Lives.{member_of}
+use Rattle.mt_live.specs.Members.{Member, has_inverse, later, last_place, last_operation}
+use Rattle.mt_live.specs.Undoing.{is_effect, last_of, last_effect}
+use Rattle.mt_log.specs.Words.{appended}
+use Rattle.mt_model.specs.History.{Call}
+use Rattle.mt_model.specs.Model.{Base, inverse_of, IsWithin}
+use Rattle.mt_model.specs.declared.operations.Op.{Op}
+use Rattle.mt_model.specs.declared.operations.Op.TheVariants.{Get, Insert, Update, Delete, Add, Read}
+use Rattle.mt_model.specs.declared.operations.Reply.{Reply}
+use Rattle.mt_model.specs.declared.operations.Reply.TheVariants.{Done, Was}
+use Rattle.mt_op.specs.Operations.{world}
+use Rattle.mt_op.specs.World.{IsFresh}
+use Rattle.mt_steps.specs.Logged.{HasSmallReply}
+use Rattle.mt_core.specs.Runs.{is_open}
+use Rattle.mt_core.specs.Consistent.{Origin, IsDue, IsTold, IsConsistent}
+use Rattle.mt_core.specs.declared.kernel_core.Core.{Core}
+use Rattle.mt_core.proofs.Calling.{next_fresh}
+
+-- what holds of all entries holds of a transaction's last effect
+pub last_has : (P : Entry → Type 0) (t : ℕ) (es : List Entry) (e : Entry) → All P es → last_effect t es ≡ Some e → P e
+last_has P t [] e k is = absurd cc
+last_has P t (x ∷ es) e k is = go (last_effect t es) refl (is_effect t x) is (λ h. last_has P t es e (All-tail P x es k) h)
+  where
+    go : (o : Option Entry) → last_effect t es ≡ o → (b : Bool) → last_of o b x ≡ Some e → (last_effect t es ≡ Some e → P e) → P e
+    go (Some other) at b h rec = rec (at ∙ h)
+    go None at true h rec = let same : x ≡ e = cc in subst P same (All-head P x es k)
+    go None at false h rec = absurd cc
+
+pub within_steps : (relations counters : ℕ) (op : Op) → IsWithin relations counters op → IsWithinSteps op
+within_steps relations counters (Get r k) within = tt
+within_steps relations counters (Insert r k v) within = tt
+within_steps relations counters (Update r k v) within = tt
+within_steps relations counters (Delete r k) within = tt
+within_steps relations counters (Add c d) within = within.1
+within_steps relations counters (Read c) within = tt
+
+step_back : (d : ℤ) → IsStep d → IsStep (neg_ℤ d)
+step_back d (inl up) = inr (omega (arith, ints, up.1), omega (arith, ints, up.0))
+step_back d (inr down) = inl (omega (arith, ints, down.1), omega (arith, ints, down.0))
+
+some_within : (relations counters : ℕ) (op : Op) (reply : Reply) → IsWithin relations counters op → HasSmallReply reply → IfSome (inverse_of op reply) (IsWithin relations counters)
+some_within relations counters (Insert r k v) Done within small = (within.0, within.1)
+some_within relations counters (Update r k v) (Was old) within small = (within.0, within.1, small)
+some_within relations counters (Delete r k) (Was old) within small = (within.0, within.1, small)
+some_within relations counters (Add c d) Done within small = (within.0, step_back d within.1)
+some_within relations counters _ _ within small = tt
+
+pub inverse_within : (relations counters : ℕ) (op : Op) (reply : Reply) (i : Op) → IsWithin relations counters op → HasSmallReply reply → inverse_of op reply ≡ Some i → IsWithin relations counters i
+inverse_within relations counters op reply i within small is = subst (λ (o : Option Op). IfSome o (IsWithin relations counters)) is (some_within relations counters op reply within small)
+
+-- the last call that did something did
+last_did : (cs : List Call) (n : ℕ) (d : Call) → last_place cs ≡ Some n → has_inverse (get_or cs n d) ≡ true
+last_did [] n d is = absurd cc
+last_did (c ∷ cs) n d is = go (last_place cs) refl (has_inverse c) refl is (λ m h. last_did cs m d h)
+  where
+    go : (o : Option ℕ) → last_place cs ≡ o → (b : Bool) → has_inverse c ≡ b → later o b ≡ Some n → ((m : ℕ) → last_place cs ≡ Some m → has_inverse (get_or cs m d) ≡ true) → has_inverse (get_or (c ∷ cs) n d) ≡ true
+    go (Some m) at b here h rec = let same : suc m ≡ n = cc in subst (λ (x : ℕ). has_inverse (get_or (c ∷ cs) x d) ≡ true) same (rec m at)
+    go None at true here h rec = let same : 0 ≡ n = cc in subst (λ (x : ℕ). has_inverse (get_or (c ∷ cs) x d) ≡ true) same here
+    go None at false here h rec = absurd cc
+
+-- so it is due, under its number, which is not 0
+told_due : (last : ℕ) (records : List Record) (t u : ℕ) (m : Member) → IsTold last records t m → last_operation (Some m) ≡ Some u → IsDue records t u × (1 ≤ u)
+told_due last records t u m k named = go (last_place m.calls) refl named
+  where
+    first : (cs : List Call) → 0 < length cs → (c : Call) × (c ≡ get_or cs 0 c)
+    first [] lt = absurd (omega (arith, lt))
+    first (c ∷ cs) lt = (c, refl)
+
+    go : (o : Option ℕ) → last_place m.calls ≡ o → option_map (λ i. get_or m.operations i 0) o ≡ Some u → IsDue records t u × (1 ≤ u)
+    go None at h = absurd cc
+    go (Some n) at h =
+        let this : get_or m.operations n 0 ≡ u = cc in
+        let within : n < length m.calls = subst (λ o. IfSome o (λ i. i < length m.calls)) at (last_within m.calls) in
+        let many = k.many in
+        let some : (c : Call) × (c ≡ get_or m.calls 0 c) = first m.calls (omega (arith, within)) in
+        let it : Call = get_or m.calls n some.0 in
+        let due = k.due n it within (get_or_default m.calls n some.0 (get_or m.calls n some.0) within) (last_did m.calls n some.0 at) in
+        (subst (IsDue records t) this due, subst (λ (x : ℕ). 1 ≤ x) this (k.numbers n 0 (omega (arith, within, many))).0)
+
+module _ {D : Type 0} (seen : D → List ℕ) (may_leave : D → List ℕ → Type 0) (origin : Origin) (base : Base) where
+  -- the number that comes next is fresh for the inverse of a transaction's last effect
+  pub undo_fresh : (k : Core D) (t n u : ℕ) → IsConsistent seen may_leave origin base k → is_open (member_of k.live.members t) ≡ true → k.last < n → last_operation (member_of k.live.members t) ≡ Some u → IsFresh (world seen origin.pages k.operations) t n u × (u ≢ 0)
+  undo_fresh k t n u safe at_work above named = go (member_of k.live.members t) refl named
+    where
+      go : (o : Option Member) → member_of k.live.members t ≡ o → last_operation o ≡ Some u → IsFresh (world seen origin.pages k.operations) t n u × (u ≢ 0)
+      go None at h = absurd cc
+      go (Some m) at h =
+          let told = told_due k.last (appended k.operations.store.log) t u m (safe.told t m at) h in
+          let due = told.0 in
+          let fresh = next_fresh seen may_leave origin base k t n safe.fit at_work above in
+          let some : u ≢ 0 = λ is. let low = told.1 in absurd (omega arith) in
+          let apart : (u == 0) ≡ false = ne_eqb u 0 some in (
+            record {
+              locks = fresh.locks;
+              nothing = fresh.nothing;
+              unfinished = fresh.unfinished;
+              due = λ done. rw (apart, due.ended, due.standing) refl;
+            },
+            some,
+          )

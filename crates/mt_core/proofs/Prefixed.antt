@@ -1,0 +1,59 @@
+-- What a beginning of the records tells of commits.
+use Rattle.std.proofs.Common.{◌≡◌, ◌≤◌, ◌==◌, Bool, true, false, cond, List, [], ◌∷◌, ◌++◌, length, take, drop, map, refl, sym, ap, ◌∙◌, subst, arith, append-nil, append_assoc, length-append}
+use Rattle.std.proofs.Math.Seq.{take-append_seam}
+use Rattle.std.proofs.lemmas.List.{take-append-drop, take-map}
+use Rattle.mt_frame.specs.declared.records.Record.{Record}
+use Rattle.mt_frame.specs.declared.records.Record.TheVariants.{Page, OpEnd, OpDropped, Commit, AbortEnd}
+use Rattle.mt_model.proofs.Appends.{legal_front}
+use Rattle.mt_model.specs.History.{after, IsLegal}
+use Rattle.mt_model.specs.Model.{Base}
+use Rattle.mt_model.specs.declared.history.Committed.{Committed}
+use Rattle.mt_replay.proofs.Walking.{tell_more}
+use Rattle.mt_replay.specs.Told.{Told, Finished, calls_of, its, without, told, tell, tells, stands_for}
+use Rattle.mt_core.proofs.Recovering.{books_run}
+use Rattle.mt_core.specs.Restartable.{effects_of}
+
+-- more commits than before, and those as before
+record Follows (x y : Told) : Type 0 where
+  more : List (List Finished)
+  is : y.books ≡ x.books ++ more
+
+same_books : (x y : Told) → y.books ≡ x.books → Follows x y
+same_books x y same = record { more = []; is = same ∙ sym (append-nil x.books) }
+
+told_follows : (x : Told) (r : Record) → Follows x (told x r)
+told_follows x (Page txn op page image start old new) = same_books x x refl
+told_follows x (OpEnd txn op undoes done) = go (undoes == 0)
+  where
+    go : (c : Bool) → Follows x (cond c (record { live = x.live ++ record { txn = txn; op = op; done = done } ∷ []; books = x.books }) (record { live = without txn undoes x.live; books = x.books }))
+    go true = record { more = []; is = sym (append-nil x.books) }
+    go false = record { more = []; is = sym (append-nil x.books) }
+told_follows x (OpDropped txn op) = same_books x x refl
+told_follows x (Commit txn) = record { more = its txn x.live ∷ []; is = refl }
+told_follows x (AbortEnd txn) = record { more = []; is = sym (append-nil x.books) }
+
+tell_follows : (x : Told) (rs : List Record) → Follows x (tell x rs)
+tell_follows x [] = same_books x x refl
+tell_follows x (r ∷ rs) =
+    let one = told_follows x r in
+    let rest = tell_follows (told x r) rs in
+    record { more = one.more ++ rest.more; is = rest.is ∙ ap (λ (bs : List (List Finished)). bs ++ rest.more) one.is ∙ append_assoc x.books one.more rest.more }
+
+front_follows : (front back : List Record) → Follows (tells front) (tells (front ++ back))
+front_follows front back = subst (Follows (tells front)) (sym (tell_more (record { live = []; books = [] }) front back)) (tell_follows (tells front) back)
+
+pub tells_more : (front back : List Record) → length (tells front).books ≤ length (tells (front ++ back)).books
+tells_more front back =
+    let f = front_follows front back in
+    let same : length (tells (front ++ back)).books ≡ length ((tells front).books ++ f.more) = ap (λ (bs : List (List Finished)). length bs) f.is in
+    let sum = length-append (tells front).books f.more in omega (arith, same, sum)
+
+-- a beginning stands for what the first of the commits lead to
+pub stands_first : (first : Base) (whole : List Committed) (records front back : List Record) → records ≡ front ++ back → map calls_of (tells records).books ≡ map effects_of whole → IsLegal first whole
+    → stands_for first front ≡ after first (take (length (tells front).books) whole)
+stands_first first whole records front back is same legal =
+    let n = length (tells front).books in
+    let f = front_follows front back in
+    let mine : take n (tells records).books ≡ (tells front).books = ap (λ (rs : List Record). take n (tells rs).books) is ∙ ap (take n) f.is ∙ take-append_seam (tells front).books f.more in
+    let books : map calls_of (tells front).books ≡ map effects_of (take n whole) = ap (map calls_of) (sym mine) ∙ sym (take-map calls_of n (tells records).books) ∙ ap (take n) same ∙ take-map effects_of n whole in
+    books_run first (tells front).books (take n whole) books (legal_front first (take n whole) (drop n whole) (subst (IsLegal first) (sym (take-append-drop n whole)) legal))

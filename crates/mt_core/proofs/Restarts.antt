@@ -1,0 +1,608 @@
+-- What the records tell, and that parts stay restartable, as events of the kernel change them.
+use Rattle.std.proofs.Common.{◌≡◌, ◌≢◌, inl, inr, ℕ, zero, suc, ◌<◌, ◌≤◌, ◌+◌, ◌*◌, Bool, true, false, cond, List, [], ◌∷◌, ◌++◌, Option, Some, None, length, get_or, map, filter, take, refl, sym, ap, ◌∙◌, subst, arith, append-nil, append_assoc}
+use Rattle.std.specs.Prelude.{All, is_some}
+use Rattle.std.specs.List.{AllByRecursion}
+use Rattle.std.specs.Option.{option_map}
+use Rattle.std.proofs.lemmas.Bool.{eq-eqb, ne_eqb, cases_eq}
+use Rattle.std.proofs.lemmas.List.{map-append}
+use Rattle.std.proofs.lemmas.List.Elements.{All-head, All-tail, filter-append}
+use Rattle.mt_frame.specs.declared.records.LoggedOp.{LoggedOp}
+use Rattle.mt_frame.specs.declared.records.Record.{Record}
+use Rattle.mt_frame.specs.declared.records.Record.TheVariants.{OpEnd, Commit as CommitOf, AbortEnd}
+use Rattle.mt_live.proofs.Alone.{put_other}
+use Rattle.mt_live.proofs.Cuts.{Cut, cut_of, idle_all}
+use Rattle.mt_live.proofs.Entries.{runs-append}
+use Rattle.mt_live.proofs.Events.{commits}
+use Rattle.mt_live.specs.Entries.{Entry, calls, runs, kept}
+use Rattle.mt_live.specs.Lives.{member_of, IsChanged}
+use Rattle.mt_live.specs.Machine.{put}
+use Rattle.mt_live.specs.Members.{Member, has_inverse, with_call, with_room, with_state, taken_back, cut_at, cut_to, last_place, last_operation, operation_at}
+use Rattle.mt_live.specs.Undoing.{only, others, last_effect, cut_back}
+use Rattle.mt_live.specs.declared.transactions.TxnState.{TxnState}
+use Rattle.mt_live.specs.declared.transactions.TxnState.TheVariants.{Open, Committing}
+use Rattle.mt_log.specs.Words.{appended, durable, area_size}
+use Rattle.mt_model.proofs.Appends.{run-append, after-append}
+use Rattle.mt_model.proofs.Split.{filter-swap}
+use Rattle.mt_model.proofs.Undo.{base_effectless}
+use Rattle.mt_model.specs.History.{Call, run, after, IsActed}
+use Rattle.mt_model.specs.Model.{Base, reply_of, base_after, inverse_of, IsBase}
+use Rattle.mt_model.specs.declared.history.Committed.{Committed}
+use Rattle.mt_model.specs.declared.operations.Op.{Op}
+use Rattle.mt_model.specs.declared.operations.Reply.{Reply}
+use Rattle.mt_op.specs.Begun.{AreImages}
+use Rattle.mt_op.specs.Moves.{Rests}
+use Rattle.mt_op.specs.Operations.{world}
+use Rattle.mt_op.specs.Records.{end_with}
+use Rattle.mt_pool.specs.Views.{pages}
+use Rattle.mt_replay.proofs.Beginnings.{begin_more, begin_all, begin_one}
+use Rattle.mt_replay.proofs.Walking.{tell_more}
+use Rattle.mt_replay.specs.Recoverable.{EachBeginning, IsRecoverable, IsOf, LeadsOn, all_pages, inverse_images, pages_held}
+use Rattle.mt_replay.specs.Told.{Told, Finished, op_of, reply_in, call_of, calls_in, calls_of, its, others as others_of, without, tells, run_all}
+use Rattle.mt_slock.specs.Views.{held_of}
+use Rattle.mt_space.specs.Changes.{PageBytes}
+use Rattle.mt_steps.specs.Logged.{logged_of}
+use Rattle.mt_steps.proofs.Repeating.{logged_more}
+use Rattle.mt_steps.specs.Plans.{IsGood, free_pages}
+use Rattle.mt_steps.specs.Repeated.{held}
+use Rattle.mt_core.proofs.Did.{AreApartFrom, Tallies, tally_same, tally_end, tally_undone, tally_commit, tally_abort, tally_booked, without_did, effects_turn, effects_only, did_last, did_push, rising_apart, only_gone, calls_did}
+use Rattle.mt_core.proofs.Finding.{idle_did, acted_last, inverse_logged}
+use Rattle.mt_core.proofs.Imaged.{images_held, images_quiet}
+use Rattle.mt_core.proofs.Lasting.{lasts_same, lasts_then, stays_told, begins_told, leaves_told, starts_told}
+use Rattle.mt_core.proofs.Leads.{calls_append, leads_quietly, logged_did, logged_is}
+use Rattle.mt_core.proofs.Members.{changed_other}
+use Rattle.mt_core.proofs.Recovering.{effects_acted, recovers}
+use Rattle.mt_live.specs.Laws.{in_turn}
+use Rattle.mt_core.proofs.Between.{appends_none}
+use Rattle.mt_core.specs.Booked.{txns_of}
+use Rattle.mt_core.specs.Consistent.{Origin, session_in, state_in, state_of, IsConsistent, IsTold}
+use Rattle.mt_core.specs.Restartable.{did, effects_of, entry_of, numbers_did, numbers_of, TellsOf, Recovers, IsRestartable, TellsBook, Lasts, SameArea, IsQuiet, AppendsQuietly, AppendsEnd, QuietlyAppends, SameBook, NotesEnd, NotesUndone}
+use Rattle.mt_core.specs.Runs.{is_at_work, is_open, TakesBack}
+use Rattle.mt_core.specs.declared.kernel_core.Commit.{Commit}
+use Rattle.mt_core.specs.declared.kernel_core.Core.{Core}
+use Rattle.mt_core.specs.declared.kernel_core.Running.{Running}
+
+-- ---- records that tell nothing
+
+module _ (opening : PageBytes) (rs more : List Record) (q : IsQuiet opening rs more) where
+  pub untold : tells (rs ++ more) ≡ tells rs
+  untold = tell_more (record { live = []; books = [] }) rs more ∙ q.told (tells rs)
+
+  pub uncalled : calls_in (rs ++ more) ≡ calls_in rs
+  uncalled = calls_append rs more ∙ ap (λ (cs : List Call). calls_in rs ++ cs) q.calls ∙ append-nil (calls_in rs)
+
+  quiet_recovers : (relations counters total bytes : ℕ) (first : Base) → IsRecoverable relations counters total bytes opening first rs → IsRecoverable relations counters total bytes opening first (rs ++ more)
+  quiet_recovers relations counters total bytes first k = record {
+    leads = leads_quietly relations counters total opening rs more q.held q.calls k.leads;
+    serial = record {
+      same = ap (run first) uncalled ∙ k.serial.same ∙ sym (ap (λ (x : Told). run (run_all first x.books) (calls_of x.live)) untold);
+      acted = subst (λ (x : Told). IsActed (run_all first x.books) (calls_of x.live)) (sym untold) k.serial.acted;
+      bounds = subst (λ (x : Told). IsBase (run_all first x.books)) (sym untold) k.serial.bounds;
+    };
+    within = subst (λ (x : Told). AllByRecursion (λ (f : Finished). IsOf relations counters f.done) x.live) (sym untold) k.within;
+    free = subst (λ (X : Type 0). X) (λ i. all_pages (sym untold i).live ≤ free_pages total (sym q.held i)) k.free;
+    images = subst (λ (x : Told). inverse_images * length x.live + 5 < bytes) (sym untold) k.images;
+  }
+
+-- ---- transactions' numbers
+
+abbrev pub num : List Member → ℕ → List ℕ
+num ms t = numbers_of (member_of ms t)
+
+put_same : {A : Type 0} (f : ℕ → Option A) (t : ℕ) (x : Option A) → put f t x t ≡ x
+put_same f t x = ap (λ (c : Bool). cond c x (f t)) (eq-eqb t t refl)
+
+pub put_num : (old new : List Member) (t : ℕ) (x : Option Member) → ((u : ℕ) → member_of new u ≡ put (member_of old) t x u) → num new t ≡ numbers_of x
+put_num old new t x changed = ap numbers_of (changed t ∙ put_same (member_of old) t x)
+
+pub other_num : (old new : List Member) (t : ℕ) (x : Option Member) → ((u : ℕ) → member_of new u ≡ put (member_of old) t x u) → (u : ℕ) → u ≢ t → num new u ≡ num old u
+other_num old new t x changed u apart = ap numbers_of (changed u ∙ put_other (member_of old) t x u apart)
+
+-- where the one that changes has the same
+pub kept_num : (old new : List Member) (t : ℕ) (x : Option Member) → ((u : ℕ) → member_of new u ≡ put (member_of old) t x u) → numbers_of x ≡ num old t → (u : ℕ) → num new u ≡ num old u
+kept_num old new t x changed same u = elim (cases_eq u t) [
+  | inl is ↦ ap (num new) is ∙ put_num old new t x changed ∙ same ∙ sym (ap (num old) is)
+  | inr apart ↦ other_num old new t x changed u apart
+]
+
+record AtWork (o : Option Member) : Type 0 where
+  member : Member
+  is : o ≡ Some member
+  working : is_at_work member.state ≡ true
+
+at_work_of : (o : Option Member) → is_open o ≡ true → AtWork o
+at_work_of None is = absurd cc
+at_work_of (Some m) is = record { member = m; is = refl; working = is }
+
+open_did : (m : Member) → is_at_work m.state ≡ true → numbers_of (Some m) ≡ numbers_did m.calls m.operations
+open_did m working = ap (λ (c : Bool). cond c (numbers_did m.calls m.operations) []) working
+
+-- in another state at work it has the same
+pub same_at_work : (o : Option Member) (s : TxnState) → is_open o ≡ true → is_at_work s ≡ true → numbers_of (option_map (λ m. with_state m s) o) ≡ numbers_of o
+same_at_work None s here now = refl
+same_at_work (Some m) s here now = ap (λ (c : Bool). cond c (numbers_did m.calls m.operations) []) (now ∙ sym here)
+
+pub open_works : (o : Option Member) → option_map (λ (m : Member). m.state) o ≡ Some Open → is_open o ≡ true
+open_works None is = absurd cc
+open_works (Some m) is = let state : m.state ≡ Open = cc in ap is_at_work state
+
+pub with_room_num : (o : Option Member) → numbers_of (option_map with_room o) ≡ numbers_of o
+with_room_num None = refl
+with_room_num (Some m) = refl
+
+-- ---- none that commits is at work
+
+closed_of : (o : Option Member) → option_map (λ (m : Member). m.state) o ≡ Some Committing → is_open o ≡ false
+closed_of None is = refl
+closed_of (Some m) is = let state : m.state ≡ Committing = cc in ap is_at_work state
+
+pub apart_from : (ms : List Member) (cs : List Commit) (t : ℕ) → All (λ (c : Commit). state_in ms c.txn ≡ Some Committing) cs → is_open (member_of ms t) ≡ true → AreApartFrom t (txns_of cs)
+apart_from ms [] t all working = tt
+apart_from ms (c ∷ cs) t all working = (
+  λ same. let closed : is_open (member_of ms t) ≡ false = ap (λ (u : ℕ). is_open (member_of ms u)) (sym same) ∙ closed_of (member_of ms c.txn) (All-head (λ (d : Commit). state_in ms d.txn ≡ Some Committing) c cs all) in cc,
+  apart_from ms cs t (All-tail (λ (d : Commit). state_in ms d.txn ≡ Some Committing) c cs all) working,
+)
+
+-- what is at a place
+pub at_place : {X : Type 0} (xs : List X) (i : ℕ) → i < length xs → (x : X) × (x ≡ get_or xs i x)
+at_place [] i lt = absurd (omega (arith, lt))
+at_place (y ∷ ys) zero lt = (y, refl)
+at_place (y ∷ ys) (suc i) lt = at_place ys i (omega (arith, lt))
+
+-- ---- parts
+
+module _ {D : Type 0} (seen : D → List ℕ) (may_leave : D → List ℕ → Type 0) (origin : Origin) where
+  -- these records tell of the parts, and have led to this base
+  pub record Now (k : Core D) (rs : List Record) (base : Base) : Type 0 where
+    pub since : List Committed
+    pub book : k.book.items ≡ origin.earlier ++ since
+    pub tally : Tallies (map effects_of since) (txns_of k.commits.items) (num k.live.members) (filter did k.live.standing) (tells rs)
+    pub leads : run origin.begun (calls_in rs) ≡ base
+
+  pub base_is : (k : Core D) (base : Base) → IsConsistent seen may_leave origin base k → runs (after origin.first k.book.items) k.live.standing ≡ base
+  base_is k base safe = safe.fit.kept.base
+
+  pub now_of : (k : Core D) (rs : List Record) (base : Base) → IsConsistent seen may_leave origin base k → TellsOf origin k rs → Now k rs base
+  now_of k rs base safe t =
+      let turned = in_turn (session_in k.live.members) (txns_of k.commits.items) k.live.standing in
+      record {
+        since = t.since;
+        book = t.book;
+        tally = record {
+          books = t.telling.books ∙ map-append effects_of t.since turned ∙ ap (λ (cs : List (List Call)). map effects_of t.since ++ cs) (effects_turn (session_in k.live.members) (txns_of k.commits.items) k.live.standing);
+          live = t.telling.live ∙ without_did (txns_of k.commits.items) k.live.standing;
+          its = t.telling.numbers;
+        };
+        leads = t.calls ∙ base_is k base safe;
+      }
+
+  pub tells_of : (k : Core D) (rs : List Record) (base : Base) → IsConsistent seen may_leave origin base k → Now k rs base → TellsOf origin k rs
+  tells_of k rs base safe n =
+      let turned = in_turn (session_in k.live.members) (txns_of k.commits.items) k.live.standing in
+      record {
+        since = n.since;
+        book = n.book;
+        telling = record {
+          books = n.tally.books ∙ sym (map-append effects_of n.since turned ∙ ap (λ (cs : List (List Call)). map effects_of n.since ++ cs) (effects_turn (session_in k.live.members) (txns_of k.commits.items) k.live.standing));
+          live = n.tally.live ∙ sym (without_did (txns_of k.commits.items) k.live.standing);
+          numbers = n.tally.its;
+        };
+        calls = n.leads ∙ sym (base_is k base safe);
+      }
+
+  quiet_now : (k : Core D) (rs more : List Record) (base : Base) → IsQuiet origin.pages rs more → Now k rs base → Now k (rs ++ more) base
+  quiet_now k rs more base q n = record {
+    since = n.since;
+    book = n.book;
+    tally = subst (Tallies (map effects_of n.since) (txns_of k.commits.items) (num k.live.members) (filter did k.live.standing)) (sym (untold origin.pages rs more q)) n.tally;
+    leads = ap (run origin.begun) (uncalled origin.pages rs more q) ∙ n.leads;
+  }
+
+  appended_now : (k : Core D) (rs new : List Record) (base : Base) → AppendsQuietly origin.pages rs new → Now k rs base → Now k new base
+  appended_now k rs new base a n = subst (λ (xs : List Record). Now k xs base) (sym a.is) (quiet_now k rs a.more base (a.quiet a.more [] (sym (append-nil a.more))) n)
+
+  moved_recovers : (k n : Core D) (rs : List Record) → SameArea k n → Recovers origin k rs → Recovers origin n rs
+  moved_recovers k n rs same r = subst (λ (X : Type 0). X) (λ i. IsRecoverable origin.relations origin.counters (sym same.total i) (sym same.bytes i) origin.pages origin.begun rs) r
+
+  moved_each : (k n : Core D) → SameArea k n → IsRestartable origin k → 4194304 ≤ area_size n.operations.store.log → EachBeginning (Recovers origin n) (appended k.operations.store.log)
+  moved_each k n same r area front back is = moved_recovers k n front same (r.beginnings (subst (λ (b : ℕ). 4194304 ≤ b) same.bytes area) front back is)
+
+  -- nothing is appended that tells
+  pub stays : (k n : Core D) (later : Base) → IsConsistent seen may_leave origin later n → QuietlyAppends origin.pages k n → length n.live.members ≤ 64
+      → Now n (appended n.operations.store.log) later → TellsBook origin n → IsRestartable origin k → IsRestartable origin n
+  stays k n later safe q few now booked r =
+      let old = appended k.operations.store.log in
+      record {
+        beginnings = λ area. let each = moved_each k n q.area r area in
+            subst (EachBeginning (Recovers origin n)) (sym q.appends.is) (begin_more (Recovers origin n) old q.appends.more each
+            (λ front back is. quiet_recovers origin.pages old front (q.appends.quiet front back is) origin.relations origin.counters (pages n.operations.store.pool) (area_size n.operations.store.log) origin.begun (begin_all (Recovers origin n) old each)));
+        begun = r.begun;
+        tells = tells_of n (appended n.operations.store.log) later safe now;
+        booked = booked;
+        few = few;
+      }
+
+  -- one record is
+  pub grows : (k n : Core D) (later : Base) (entry : Record) → IsConsistent seen may_leave origin later n → SameArea k n → length n.live.members ≤ 64
+      → appended n.operations.store.log ≡ appended k.operations.store.log ++ entry ∷ []
+      → (LeadsOn origin.relations origin.counters (pages k.operations.store.pool) origin.pages (appended k.operations.store.log) → LeadsOn origin.relations origin.counters (pages k.operations.store.pool) origin.pages (appended n.operations.store.log))
+      → Now n (appended n.operations.store.log) later → TellsBook origin n → IsRestartable origin k → IsRestartable origin n
+  grows k n later entry safe same few is leads now booked r =
+      let old = appended k.operations.store.log in
+      let tells = tells_of n (appended n.operations.store.log) later safe now in
+      let led : LeadsOn origin.relations origin.counters (pages k.operations.store.pool) origin.pages old → LeadsOn origin.relations origin.counters (pages n.operations.store.pool) origin.pages (appended n.operations.store.log) = λ was. subst (λ (t : ℕ). LeadsOn origin.relations origin.counters t origin.pages (appended n.operations.store.log)) (sym same.total) (leads was) in
+      record {
+        beginnings = λ area.
+            let each = moved_each k n same r area in
+            let was : LeadsOn origin.relations origin.counters (pages k.operations.store.pool) origin.pages old = subst (λ (t : ℕ). LeadsOn origin.relations origin.counters t origin.pages old) same.total (begin_all (Recovers origin n) old each).leads in
+            let whole : Recovers origin n (appended n.operations.store.log) = recovers seen may_leave origin later n safe r.begun tells area few (led was) in
+            subst (EachBeginning (Recovers origin n)) (sym is) (begin_one (Recovers origin n) old entry each (subst (Recovers origin n) is whole));
+        begun = r.begun;
+        tells = tells;
+        booked = booked;
+        few = few;
+      }
+
+  -- ---- nothing is told anew
+
+  pub same_area : (k n : Core D) → n.operations.store ≡ k.operations.store → SameArea k n
+  same_area k n store = record { total = ap (λ s. pages s.pool) store; bytes = ap (λ s. area_size s.log) store; lasts = lasts_same k n (ap (λ s. durable s.log) store) }
+
+  pub quiet_store : (k n : Core D) → n.operations.store ≡ k.operations.store → QuietlyAppends origin.pages k n
+  quiet_store k n store = record { area = same_area k n store; appends = appends_none origin.pages (appended k.operations.store.log) (appended n.operations.store.log) (ap (λ s. appended s.log) store) }
+
+  pub stays_same : (k n : Core D) (base later : Base) → IsConsistent seen may_leave origin base k → IsConsistent seen may_leave origin later n → QuietlyAppends origin.pages k n → SameBook k n
+      → n.live.standing ≡ k.live.standing → ((t : ℕ) → num n.live.members t ≡ num k.live.members t) → length n.live.members ≤ 64 → IsRestartable origin k → IsRestartable origin n
+  stays_same k n base later safe_k safe_n q book standing numbers few r =
+      let old = appended k.operations.store.log in
+      let was = now_of k old base safe_k r.tells in
+      let bases : base ≡ later = sym (base_is k base safe_k) ∙ (λ i. runs (after origin.first (sym book.book i)) (sym standing i)) ∙ base_is n later safe_n in
+      let tally : Tallies (map effects_of was.since) (txns_of k.commits.items) (num n.live.members) (filter did k.live.standing) (tells old) = tally_same (map effects_of was.since) (txns_of k.commits.items) (num k.live.members) (num n.live.members) (filter did k.live.standing) (tells old) was.tally numbers in
+      let here : Now n old later = record { since = was.since; book = book.book ∙ was.book; tally = subst (λ (X : Type 0). X) (λ i. Tallies (map effects_of was.since) (txns_of (sym book.commits i)) (num n.live.members) (filter did (sym standing i)) (tells old)) tally; leads = was.leads ∙ bases } in
+      stays k n later safe_n q few (appended_now n old (appended n.operations.store.log) later q.appends here) (stays_told seen may_leave origin k n later safe_n q.area.lasts book r.booked) r
+
+  pub store_same : (k n : Core D) (base later : Base) → IsConsistent seen may_leave origin base k → IsConsistent seen may_leave origin later n → n.operations.store ≡ k.operations.store → SameBook k n → n.live ≡ k.live → IsRestartable origin k → IsRestartable origin n
+  store_same k n base later safe_k safe_n store book live r = stays_same k n base later safe_k safe_n (quiet_store k n store) book (ap (λ l. l.standing) live) (λ t. ap (λ l. num l.members t) live) (subst (λ l. length l.members ≤ 64) (sym live) r.few) r
+
+  pub rests_same : (k n : Core D) (base later : Base) → IsConsistent seen may_leave origin base k → IsConsistent seen may_leave origin later n → Rests (world seen origin.pages k.operations) (world seen origin.pages n.operations)
+      → area_size n.operations.store.log ≡ area_size k.operations.store.log → Lasts k n → SameBook k n → n.live ≡ k.live → IsRestartable origin k → IsRestartable origin n
+  rests_same k n base later safe_k safe_n rests area lasts book live r = stays_same k n base later safe_k safe_n
+      (record { area = record { total = rests.area.total; bytes = area; lasts = lasts }; appends = appends_none origin.pages (appended k.operations.store.log) (appended n.operations.store.log) rests.records })
+      book (ap (λ l. l.standing) live) (λ t. ap (λ l. num l.members t) live) (subst (λ l. length l.members ≤ 64) (sym live) r.few) r
+
+  pub goes_on : (k n : Core D) (base later : Base) → IsConsistent seen may_leave origin base k → IsConsistent seen may_leave origin later n → QuietlyAppends origin.pages k n → n.book ≡ k.book → n.commits ≡ k.commits → n.live ≡ k.live → IsRestartable origin k → IsRestartable origin n
+  goes_on k n base later safe_k safe_n q book commits live r = stays_same k n base later safe_k safe_n q (record { book = ap (λ v. v.items) book; commits = ap (λ v. v.items) commits }) (ap (λ l. l.standing) live) (λ t. ap (λ l. num l.members t) live) (subst (λ l. length l.members ≤ 64) (sym live) r.few) r
+
+  -- in the same store
+  pub area_then : (k m n : Core D) → SameArea k m → n.operations.store ≡ m.operations.store → SameArea k n
+  area_then k m n same store = record { total = ap (λ s. pages s.pool) store ∙ same.total; bytes = ap (λ s. area_size s.log) store ∙ same.bytes; lasts = lasts_then k m n same.lasts store }
+
+  pub quiet_then : (k m n : Core D) → QuietlyAppends origin.pages k m → n.operations.store ≡ m.operations.store → QuietlyAppends origin.pages k n
+  quiet_then k m n q store = record { area = area_then k m n q.area store; appends = record { more = q.appends.more; is = ap (λ s. appended s.log) store ∙ q.appends.is; quiet = q.appends.quiet } }
+
+  pub end_then : (k m n : Core D) (r : Running) (reply : Reply) → AppendsEnd origin (pages k.operations.store.pool) (appended k.operations.store.log) (appended m.operations.store.log) r.scope reply → n.operations.store ≡ m.operations.store
+      → AppendsEnd origin (pages k.operations.store.pool) (appended k.operations.store.log) (appended n.operations.store.log) r.scope reply
+  end_then k m n r reply a store = record {
+    is = ap (λ s. appended s.log) store ∙ a.is;
+    leads = λ led. subst (LeadsOn origin.relations origin.counters (pages k.operations.store.pool) origin.pages) (sym (ap (λ s. appended s.log) store)) (a.leads led);
+  }
+
+  -- before which nothing but the operations has changed
+  pub notes_then : (k m n : Core D) (r : Running) (reply : Reply) → m.book ≡ k.book → m.commits ≡ k.commits → m.live ≡ k.live → NotesEnd m n r reply → NotesEnd k n r reply
+  notes_then k m n r reply book commits live e = record {
+    same = record { book = e.same.book ∙ ap (λ v. v.items) book; commits = e.same.commits ∙ ap (λ v. v.items) commits };
+    standing = e.standing ∙ ap (λ l. l.standing ++ record { txn = r.scope.txn; op = r.op; reply = reply } ∷ []) live;
+    members = subst (λ l. IsChanged l.members n.live.members r.scope.txn (λ x. with_call x r.scope.number (r.op, reply))) live e.members;
+    count = e.count ∙ ap (λ l. length l.members) live;
+  }
+
+  pub undone_then : (k m n : Core D) (r : Running) → m.book ≡ k.book → m.commits ≡ k.commits → m.live ≡ k.live → NotesUndone m n r → NotesUndone k n r
+  undone_then k m n r book commits live e = record {
+    same = record { book = e.same.book ∙ ap (λ v. v.items) book; commits = e.same.commits ∙ ap (λ v. v.items) commits };
+    standing = e.standing ∙ ap (λ l. cut_back r.scope.txn l.standing) live;
+    members = subst (λ l. IsChanged l.members n.live.members r.scope.txn taken_back) live e.members;
+    count = e.count ∙ ap (λ l. length l.members) live;
+  }
+
+  -- ---- an operation has ended
+
+  pub ended : (k n : Core D) (base later : Base) (r : Running) (reply : Reply) → IsConsistent seen may_leave origin base k → IsConsistent seen may_leave origin later n → SameArea k n
+      → AppendsEnd origin (pages k.operations.store.pool) (appended k.operations.store.log) (appended n.operations.store.log) r.scope reply → NotesEnd k n r reply → r.op ≡ r.scope.op → r.scope.undoes ≡ 0
+      → is_open (member_of k.live.members r.scope.txn) ≡ true → reply_of base r.scope.op ≡ reply → IsRestartable origin k → IsRestartable origin n
+  ended k n base later r reply safe_k safe_n same a e copy fore working replies restartable = go (logged_of r.scope.op reply) refl
+    where
+      old : List Record
+      old = appended k.operations.store.log
+
+      t : ℕ
+      t = r.scope.txn
+
+      entry : Entry
+      entry = record { txn = r.scope.txn; op = r.op; reply = reply }
+
+      few : length n.live.members ≤ 64
+      few = subst (λ (m : ℕ). m ≤ 64) (sym e.count) restartable.few
+
+      was : Now k old base
+      was = now_of k old base safe_k restartable.tells
+
+      m : AtWork (member_of k.live.members t)
+      m = at_work_of (member_of k.live.members t) working
+
+      call : Call
+      call = (r.op, reply)
+
+      many : length m.member.operations ≡ length m.member.calls
+      many = (safe_k.told t m.member m.is).many
+
+      pushed : num n.live.members t ≡ num k.live.members t ++ cond (has_inverse call) (r.scope.number ∷ []) []
+      pushed =
+          ap numbers_of (e.members t ∙ put_same (member_of k.live.members) t (option_map (λ x. with_call x r.scope.number call) (member_of k.live.members t)) ∙ ap (option_map (λ x. with_call x r.scope.number call)) m.is)
+          ∙ open_did (with_call m.member r.scope.number call) m.working ∙ did_push m.member.calls m.member.operations call r.scope.number many
+          ∙ ap (λ (ns : List ℕ). ns ++ cond (has_inverse call) (r.scope.number ∷ []) []) (sym (ap numbers_of m.is ∙ open_did m.member m.working))
+
+      rest : (u : ℕ) → u ≢ t → num n.live.members u ≡ num k.live.members u
+      rest u apart = ap numbers_of (changed_other (λ x. with_call x r.scope.number call) k.live.members n.live.members t e.members u apart)
+
+      stood : filter did n.live.standing ≡ filter did k.live.standing ++ cond (did entry) (entry ∷ []) []
+      stood = ap (filter did) e.standing ∙ filter-append did k.live.standing (entry ∷ [])
+
+      later_is : later ≡ base_after base r.scope.op
+      later_is = sym (base_is n later safe_n) ∙ (λ i. runs (after origin.first (e.same.book i)) (e.standing i)) ∙ runs-append (after origin.first k.book.items) k.live.standing (entry ∷ []) ∙ (λ i. base_after (base_is k base safe_k i) (copy i))
+
+      none_same : (ns : List ℕ) (h : Bool) → has_inverse call ≡ h → h ≡ false → ns ++ cond (has_inverse call) (r.scope.number ∷ []) [] ≡ ns
+      none_same ns h is none = ap (λ (c : Bool). ns ++ cond c (r.scope.number ∷ []) []) (is ∙ none) ∙ append-nil ns
+
+      tally_in : (x : Told) (es : List Entry) → filter did n.live.standing ≡ es → Tallies (map effects_of was.since) (txns_of k.commits.items) (num n.live.members) es x
+          → Tallies (map effects_of was.since) (txns_of n.commits.items) (num n.live.members) (filter did n.live.standing) x
+      tally_in x es is tally = subst (λ (X : Type 0). X) (λ i. Tallies (map effects_of was.since) (txns_of (sym e.same.commits i)) (num n.live.members) (sym is i) x) tally
+
+      is_did : has_inverse call ≡ is_some (logged_of r.scope.op reply)
+      is_did = ap (λ (o : Op). is_some (inverse_of o reply)) copy ∙ logged_did r.scope.op reply
+
+      go : (o : Option LoggedOp) → logged_of r.scope.op reply ≡ o → IsRestartable origin n
+      go None is =
+          let none : has_inverse call ≡ false = is_did ∙ ap is_some is in
+          let records : appended n.operations.store.log ≡ old = a.is ∙ ap (λ (o : Option LoggedOp). old ++ end_with r.scope.txn r.scope.number r.scope.undoes o) is ∙ append-nil old in
+          let entries : filter did n.live.standing ≡ filter did k.live.standing = stood ∙ ap (λ (c : Bool). filter did k.live.standing ++ cond c (entry ∷ []) []) none ∙ append-nil (filter did k.live.standing) in
+          let numbers : (u : ℕ) → num n.live.members u ≡ num k.live.members u = λ u. elim (cases_eq u t) [
+            | inl own ↦ ap (num n.live.members) own ∙ pushed ∙ none_same (num k.live.members t) (has_inverse call) refl none ∙ sym (ap (num k.live.members) own)
+            | inr apart ↦ rest u apart
+          ] in
+          let nothing : inverse_of r.scope.op (reply_of base r.scope.op) ≡ None = none_of (inverse_of r.scope.op (reply_of base r.scope.op)) (ap (λ (y : Reply). is_some (inverse_of r.scope.op y)) replies ∙ logged_did r.scope.op reply ∙ ap is_some is) in
+          let tally = tally_same (map effects_of was.since) (txns_of k.commits.items) (num k.live.members) (num n.live.members) (filter did k.live.standing) (tells old) was.tally numbers in
+          let now : Now n old later = record { since = was.since; book = e.same.book ∙ was.book; tally = tally_in (tells old) (filter did k.live.standing) entries tally; leads = was.leads ∙ sym (later_is ∙ base_effectless base r.scope.op nothing) } in
+          stays k n later safe_n (record { area = same; appends = appends_none origin.pages old (appended n.operations.store.log) records }) few (subst (λ (rs : List Record). Now n rs later) (sym records) now) (stays_told seen may_leave origin k n later safe_n same.lasts e.same restartable.booked) restartable
+        where
+          none_of : {A : Type 0} (o : Option A) → is_some o ≡ false → o ≡ None
+          none_of None is = refl
+          none_of (Some x) is = absurd cc
+      go (Some done) is =
+          let it : Record = OpEnd r.scope.txn r.scope.number r.scope.undoes done in
+          let f : Finished = record { txn = r.scope.txn; op = r.scope.number; done = done } in
+          let tells_it = logged_is r.scope.op reply done is in
+          let some : has_inverse call ≡ true = is_did ∙ ap is_some is in
+          let records : appended n.operations.store.log ≡ old ++ it ∷ [] = a.is ∙ ap (λ (o : Option LoggedOp). old ++ end_with r.scope.txn r.scope.number r.scope.undoes o) is in
+          let now_told : tells (old ++ it ∷ []) ≡ record { live = (tells old).live ++ f ∷ []; books = (tells old).books } =
+          tell_more (record { live = []; books = [] }) old (it ∷ [])
+          ∙ ap {A = Bool} {B = Told} (λ (c : Bool). cond c (record { live = (tells old).live ++ f ∷ []; books = (tells old).books }) (record { live = without r.scope.txn r.scope.undoes (tells old).live; books = (tells old).books })) (eq-eqb r.scope.undoes 0 fore) in
+          let same_entry : entry_of f ≡ entry = λ i. record { txn = r.scope.txn; op = (tells_it.0 ∙ sym copy) i; reply = tells_it.1 i } in
+          let entries : filter did n.live.standing ≡ filter did k.live.standing ++ entry_of f ∷ [] = stood ∙ ap (λ (c : Bool). filter did k.live.standing ++ cond c (entry ∷ []) []) some ∙ ap (λ (x : Entry). filter did k.live.standing ++ x ∷ []) (sym same_entry) in
+          let mine : num n.live.members t ≡ num k.live.members t ++ r.scope.number ∷ [] = pushed ∙ ap (λ (c : Bool). num k.live.members t ++ cond c (r.scope.number ∷ []) []) some in
+          let tally = tally_end (map effects_of was.since) (txns_of k.commits.items) (num k.live.members) (num n.live.members) (filter did k.live.standing) (tells old) was.tally f (apart_from k.live.members k.commits.items t safe_k.fit.queued.each working) mine rest in
+          let led : run origin.begun (calls_in (old ++ it ∷ [])) ≡ later = ap (run origin.begun) (calls_append old (it ∷ [])) ∙ run-append origin.begun (calls_in old) (call_of done ∷ []) ∙ (λ i. base_after (was.leads i) (tells_it.0 i)) ∙ sym later_is in
+          let now : Now n (old ++ it ∷ []) later = record { since = was.since; book = e.same.book ∙ was.book; tally = subst (Tallies (map effects_of was.since) (txns_of n.commits.items) (num n.live.members) (filter did n.live.standing)) (sym now_told) (tally_in (record { live = (tells old).live ++ f ∷ []; books = (tells old).books }) (filter did k.live.standing ++ entry_of f ∷ []) entries tally); leads = led } in
+          grows k n later it safe_n same few records a.leads (subst (λ (rs : List Record). Now n rs later) (sym records) now) (stays_told seen may_leave origin k n later safe_n same.lasts e.same restartable.booked) restartable
+
+  -- ---- an inverse has ended
+
+  pub undone : (k n : Core D) (base : Base) (r : Running) (reply : Reply) → IsConsistent seen may_leave origin base k → IsConsistent seen may_leave origin (base_after base r.scope.op) n → SameArea k n
+      → AppendsEnd origin (pages k.operations.store.pool) (appended k.operations.store.log) (appended n.operations.store.log) r.scope reply → NotesUndone k n r → r.scope.undoes ≢ 0
+      → is_open (member_of k.live.members r.scope.txn) ≡ true → TakesBack k.live.members k.live.standing r → reply_of base r.scope.op ≡ reply → IsRestartable origin k → IsRestartable origin n
+  undone k n base r reply safe_k safe_n same a e back working takes replies restartable = go (logged_of r.scope.op reply) refl
+    where
+      old : List Record
+      old = appended k.operations.store.log
+
+      t : ℕ
+      t = r.scope.txn
+
+      few : length n.live.members ≤ 64
+      few = subst (λ (m : ℕ). m ≤ 64) (sym e.count) restartable.few
+
+      was : Now k old base
+      was = now_of k old base safe_k restartable.tells
+
+      m : AtWork (member_of k.live.members t)
+      m = at_work_of (member_of k.live.members t) working
+
+      told_of : IsTold k.last old t m.member
+      told_of = safe_k.told t m.member m.is
+
+      c : Cut t k.live.standing takes.entry r.scope.op
+      c = cut_of t k.live.standing takes.entry r.scope.op takes.last takes.inverse
+
+      front : List Entry
+      front = filter did c.front
+
+      behind : List Entry
+      behind = filter did c.rest
+
+      stood : filter did k.live.standing ≡ front ++ takes.entry ∷ behind
+      stood = ap (filter did) c.done.place ∙ filter-append did c.front (takes.entry ∷ c.rest) ∙ ap (λ (h : Bool). front ++ cond h (takes.entry ∷ behind) behind) (ap is_some takes.inverse)
+
+      stands : filter did n.live.standing ≡ front ++ behind
+      stands = ap (filter did) (e.standing ∙ c.then) ∙ filter-append did c.front (kept (others t) c.rest) ∙ ap (λ (es : List Entry). front ++ es) (idle_did t c.rest c.done.idle)
+
+      none_behind : kept (only t) behind ≡ []
+      none_behind = ap (kept (only t)) (sym (idle_did t c.rest c.done.idle)) ∙ filter-swap (λ (x : Entry). only t x.txn) did (kept (others t) c.rest) ∙ ap (filter did) (only_gone t c.rest)
+
+      rest : (u : ℕ) → u ≢ t → num n.live.members u ≡ num k.live.members u
+      rest u apart = ap numbers_of (changed_other taken_back k.live.members n.live.members t e.members u apart)
+
+      now_mine : num n.live.members t ≡ numbers_of (Some (taken_back m.member))
+      now_mine = ap numbers_of (e.members t ∙ put_same (member_of k.live.members) t (option_map taken_back (member_of k.live.members t)) ∙ ap (option_map taken_back) m.is)
+
+      named : operation_at m.member (last_place m.member.calls) ≡ Some r.scope.undoes
+      named = sym (ap last_operation m.is) ∙ takes.named
+
+      go : (o : Option LoggedOp) → logged_of r.scope.op reply ≡ o → IsRestartable origin n
+      go None is =
+          let some : is_some (logged_of r.scope.op (reply_of base r.scope.op)) ≡ true = inverse_logged takes.entry r.scope.op base takes.inverse (acted_last origin.first (state_of k base) t takes.entry r.scope.op safe_k.fit.kept takes.last takes.inverse) in
+          let none : is_some (logged_of r.scope.op (reply_of base r.scope.op)) ≡ false = ap (λ (y : Reply). is_some (logged_of r.scope.op y)) replies ∙ ap is_some is in
+          absurd cc
+      go (Some done) is = at (last_place m.member.calls) refl
+        where
+          it : Record
+          it = OpEnd r.scope.txn r.scope.number r.scope.undoes done
+
+          records : appended n.operations.store.log ≡ old ++ it ∷ []
+          records = a.is ∙ ap (λ (o : Option LoggedOp). old ++ end_with r.scope.txn r.scope.number r.scope.undoes o) is
+
+          cut_told : Told
+          cut_told = record { live = without t r.scope.undoes (tells old).live; books = (tells old).books }
+
+          now_told : tells (old ++ it ∷ []) ≡ cut_told
+          now_told =
+              tell_more (record { live = []; books = [] }) old (it ∷ [])
+              ∙ ap {A = Bool} {B = Told} (λ (h : Bool). cond h (record { live = (tells old).live ++ record { txn = r.scope.txn; op = r.scope.number; done = done } ∷ []; books = (tells old).books }) (record { live = without r.scope.txn r.scope.undoes (tells old).live; books = (tells old).books })) (ne_eqb r.scope.undoes 0 back)
+
+          tells_it : (op_of done ≡ r.scope.op) × (reply_in done ≡ reply)
+          tells_it = logged_is r.scope.op reply done is
+
+          led : run origin.begun (calls_in (old ++ it ∷ [])) ≡ base_after base r.scope.op
+          led = ap (run origin.begun) (calls_append old (it ∷ [])) ∙ run-append origin.begun (calls_in old) (call_of done ∷ []) ∙ (λ i. base_after (was.leads i) (tells_it.0 i))
+
+          tallied : Tallies (map effects_of was.since) (txns_of k.commits.items) (num n.live.members) (front ++ behind) cut_told → IsRestartable origin n
+          tallied tally =
+              let here = subst (λ (X : Type 0). X) (λ i. Tallies (map effects_of was.since) (txns_of (sym e.same.commits i)) (num n.live.members) (sym stands i) (sym now_told i)) tally in
+              let now : Now n (old ++ it ∷ []) (base_after base r.scope.op) = record { since = was.since; book = e.same.book ∙ was.book; tally = here; leads = led } in
+              grows k n (base_after base r.scope.op) it safe_n same few records a.leads (subst (λ (rs : List Record). Now n rs (base_after base r.scope.op)) (sym records) now) (stays_told seen may_leave origin k n (base_after base r.scope.op) safe_n same.lasts e.same restartable.booked) restartable
+
+          at : (o : Option ℕ) → last_place m.member.calls ≡ o → IsRestartable origin n
+          at None place = let none : operation_at m.member None ≡ Some r.scope.undoes = ap (operation_at m.member) (sym place) ∙ named in absurd cc
+          at (Some p) place =
+              let number : get_or m.member.operations p 0 ≡ r.scope.undoes = some_number (get_or m.member.operations p 0) r.scope.undoes (ap (operation_at m.member) (sym place) ∙ named) in
+              let left : num n.live.members t ≡ numbers_did (take p m.member.calls) (take p m.member.operations) = now_mine ∙ ap (λ (o : Option ℕ). numbers_of (Some (cut_to m.member o))) place ∙ open_did (cut_at m.member p) m.working in
+              let mine : num k.live.members t ≡ num n.live.members t ++ r.scope.undoes ∷ [] =
+              ap numbers_of m.is ∙ open_did m.member m.working ∙ did_last m.member.calls m.member.operations p told_of.many place ∙ (λ i. sym left i ++ number i ∷ []) in
+              let less = rising_apart m.member.calls m.member.operations (num n.live.members t) r.scope.undoes told_of.rising (sym (ap numbers_of m.is ∙ open_did m.member m.working) ∙ mine) in
+              tallied (tally_undone (map effects_of was.since) (txns_of k.commits.items) (num k.live.members) (num n.live.members) (filter did k.live.standing) (tells old) was.tally t r.scope.undoes front takes.entry behind stood c.done.its none_behind
+              (apart_from k.live.members k.commits.items t safe_k.fit.queued.each working) mine less rest)
+            where
+              some_number : (x y : ℕ) → Some x ≡ Some y → x ≡ y
+              some_number x y same = cc
+
+  -- ---- a transaction's end
+
+  ends_leads : (rs new : List Record) (entry : Record) (total : ℕ) → pages_held origin.pages (rs ++ entry ∷ []) ≡ pages_held origin.pages rs → calls_in (entry ∷ []) ≡ [] → new ≡ rs ++ entry ∷ []
+      → LeadsOn origin.relations origin.counters total origin.pages rs → LeadsOn origin.relations origin.counters total origin.pages new
+  ends_leads rs new entry total held none is k = subst (LeadsOn origin.relations origin.counters total origin.pages) (sym is) (leads_quietly origin.relations origin.counters total origin.pages rs (entry ∷ []) held none k)
+
+  ends_calls : (rs : List Record) (entry : Record) → calls_in (entry ∷ []) ≡ [] → calls_in (rs ++ entry ∷ []) ≡ calls_in rs
+  ends_calls rs entry none = calls_append rs (entry ∷ []) ∙ ap (λ (cs : List Call). calls_in rs ++ cs) none ∙ append-nil (calls_in rs)
+
+  pub committed : (k n : Core D) (base later : Base) (it : Commit) → IsConsistent seen may_leave origin base k → IsConsistent seen may_leave origin later n → SameArea k n
+      → appended n.operations.store.log ≡ appended k.operations.store.log ++ CommitOf it.txn ∷ [] → IsChanged k.live.members n.live.members it.txn (λ m. with_state m Committing) → length n.live.members ≡ length k.live.members
+      → n.live.standing ≡ k.live.standing → n.book.items ≡ k.book.items → n.commits.items ≡ k.commits.items ++ it ∷ [] → is_open (member_of k.live.members it.txn) ≡ true
+      → durable n.operations.store.log ≡ durable k.operations.store.log → length (durable k.operations.store.log) < it.place → IsRestartable origin k → IsRestartable origin n
+  committed k n base later it safe_k safe_n same records members count standing book commits working lasting behind r =
+      let old = appended k.operations.store.log in
+      let t = it.txn in
+      let was = now_of k old base safe_k r.tells in
+      let m = at_work_of (member_of k.live.members t) working in
+      let bases : base ≡ later = sym (base_is k base safe_k) ∙ (λ i. runs (after origin.first (sym book i)) (sym standing i)) ∙ base_is n later safe_n in
+      let mine : num n.live.members t ≡ [] = ap numbers_of (members t ∙ put_same (member_of k.live.members) t (option_map (λ x. with_state x Committing) (member_of k.live.members t)) ∙ ap (option_map (λ x. with_state x Committing)) m.is) in
+      let tally = tally_commit (map effects_of was.since) (txns_of k.commits.items) (num k.live.members) (num n.live.members) (filter did k.live.standing) (tells old) was.tally t mine
+      (λ u apart. ap numbers_of (changed_other (λ x. with_state x Committing) k.live.members n.live.members t members u apart)) in
+      let names : txns_of k.commits.items ++ t ∷ [] ≡ txns_of n.commits.items = sym (map-append (λ (x : Commit). x.txn) k.commits.items (it ∷ [])) ∙ sym (ap txns_of commits) in
+      let now_told : record { live = others_of t (tells old).live; books = (tells old).books ++ its t (tells old).live ∷ [] } ≡ tells (old ++ CommitOf t ∷ []) = sym (tell_more (record { live = []; books = [] }) old (CommitOf t ∷ [])) in
+      let here = subst (λ (X : Type 0). X) (λ i. Tallies (map effects_of was.since) (names i) (num n.live.members) (filter did (sym standing i)) (now_told i)) tally in
+      let now : Now n (old ++ CommitOf t ∷ []) later = record { since = was.since; book = book ∙ was.book; tally = here; leads = ap (run origin.begun) (ends_calls old (CommitOf t) refl) ∙ was.leads ∙ bases } in
+      grows k n later (CommitOf t) safe_n same (subst (λ (x : ℕ). x ≤ 64) (sym count) r.few) records (ends_leads old (appended n.operations.store.log) (CommitOf t) (pages k.operations.store.pool) (ap held (logged_more origin.pages old (CommitOf t ∷ []))) refl records)
+      (subst (λ (rs : List Record). Now n rs later) (sym records) now) (begins_told seen may_leave origin k n it lasting book commits behind r.booked) r
+
+  pub aborted : (k n : Core D) (base later : Base) (t : ℕ) → IsConsistent seen may_leave origin base k → IsConsistent seen may_leave origin later n → SameArea k n
+      → appended n.operations.store.log ≡ appended k.operations.store.log ++ AbortEnd t ∷ [] → ((u : ℕ) → member_of n.live.members u ≡ put (member_of k.live.members) t None u) → length n.live.members + 1 ≡ length k.live.members
+      → n.live.standing ≡ kept (others t) k.live.standing → SameBook k n → is_open (member_of k.live.members t) ≡ true → last_effect t k.live.standing ≡ None → IsRestartable origin k → IsRestartable origin n
+  aborted k n base later t safe_k safe_n same records members count standing book working nothing r =
+      let old = appended k.operations.store.log in
+      let was = now_of k old base safe_k r.tells in
+      let tally = tally_abort (map effects_of was.since) (txns_of k.commits.items) (num k.live.members) (num n.live.members) (filter did k.live.standing) (tells old) was.tally t (apart_from k.live.members k.commits.items t safe_k.fit.queued.each working)
+      (put_num k.live.members n.live.members t None members) (other_num k.live.members n.live.members t None members) in
+      let stands : kept (others t) (filter did k.live.standing) ≡ filter did n.live.standing = sym (ap (filter did) standing ∙ filter-swap did (λ (x : Entry). others t x.txn) k.live.standing) in
+      let now_told : record { live = others_of t (tells old).live; books = (tells old).books } ≡ tells (old ++ AbortEnd t ∷ []) = sym (tell_more (record { live = []; books = [] }) old (AbortEnd t ∷ [])) in
+      let here = subst (λ (X : Type 0). X) (λ i. Tallies (map effects_of was.since) (txns_of (sym book.commits i)) (num n.live.members) (stands i) (now_told i)) tally in
+      let effects : (z : Core D) (b : Base) → IsConsistent seen may_leave origin b z → run (after origin.first z.book.items) (calls (filter did z.live.standing)) ≡ b = λ z b safe.
+      ap (run (after origin.first z.book.items)) (sym (calls_did z.live.standing)) ∙ (effects_acted (after origin.first z.book.items) (calls z.live.standing) safe.fit.kept.sound.acted).1 ∙ base_is z b safe in
+      let still : filter did n.live.standing ≡ filter did k.live.standing = ap (filter did) standing ∙ idle_did t k.live.standing (idle_all t k.live.standing nothing) in
+      let bases : base ≡ later = sym (effects k base safe_k) ∙ (λ i. run (after origin.first (sym book.book i)) (calls (sym still i))) ∙ effects n later safe_n in
+      let now : Now n (old ++ AbortEnd t ∷ []) later = record { since = was.since; book = book.book ∙ was.book; tally = here; leads = ap (run origin.begun) (ends_calls old (AbortEnd t) refl) ∙ was.leads ∙ bases } in
+      let few = r.few in
+      grows k n later (AbortEnd t) safe_n same (omega (arith, few, count)) records (ends_leads old (appended n.operations.store.log) (AbortEnd t) (pages k.operations.store.pool) (ap held (logged_more origin.pages old (AbortEnd t ∷ []))) refl records)
+      (subst (λ (rs : List Record). Now n rs later) (sym records) now) (stays_told seen may_leave origin k n later safe_n same.lasts book r.booked) r
+
+  -- ---- a commit is booked
+
+  closed_num : (o : Option Member) → option_map (λ (x : Member). x.state) o ≡ Some Committing → numbers_of o ≡ []
+  closed_num None is = refl
+  closed_num (Some x) is = let state : x.state ≡ Committing = cc in ap (λ (y : TxnState). cond (is_at_work y) (numbers_did x.calls x.operations) []) state
+
+  pub leaves : (k n : Core D) (base later : Base) (c : Commit) (cs : List Commit) (done : Committed) → IsConsistent seen may_leave origin base k → IsConsistent seen may_leave origin later n → n.operations.store ≡ k.operations.store
+      → k.commits.items ≡ c ∷ cs → n.commits.items ≡ cs → n.book.items ≡ k.book.items ++ done ∷ [] → done.calls ≡ calls (kept (only c.txn) k.live.standing)
+      → ((u : ℕ) → member_of n.live.members u ≡ put (member_of k.live.members) c.txn None u) → length n.live.members + 1 ≡ length k.live.members → n.live.standing ≡ kept (others c.txn) k.live.standing → c.place ≤ length (durable k.operations.store.log) → IsRestartable origin k → IsRestartable origin n
+  leaves k n base later c cs done safe_k safe_n store queue rest book its_calls members count standing there r =
+      let old = appended k.operations.store.log in
+      let t = c.txn in
+      let was = now_of k old base safe_k r.tells in
+      let committing : state_in k.live.members t ≡ Some Committing = All-head (λ (x : Commit). state_in k.live.members x.txn ≡ Some Committing) c cs (subst (All (λ (x : Commit). state_in k.live.members x.txn ≡ Some Committing)) queue safe_k.fit.queued.each) in
+      let first : Tallies (map effects_of was.since) (t ∷ txns_of cs) (num k.live.members) (filter did k.live.standing) (tells old) = subst (λ (xs : List Commit). Tallies (map effects_of was.since) (txns_of xs) (num k.live.members) (filter did k.live.standing) (tells old)) queue was.tally in
+      let tally = tally_booked (map effects_of was.since) t (txns_of cs) (num k.live.members) (num n.live.members) (filter did k.live.standing) (tells old) first
+      (kept_num k.live.members n.live.members t None members (sym (closed_num (member_of k.live.members t) committing))) in
+      let effects : effects_of done ≡ calls (kept (only t) (filter did k.live.standing)) = ap (filter has_inverse) its_calls ∙ effects_only t k.live.standing in
+      let books : map effects_of was.since ++ calls (kept (only t) (filter did k.live.standing)) ∷ [] ≡ map effects_of (was.since ++ done ∷ []) = sym (map-append effects_of was.since (done ∷ []) ∙ ap (λ (cs : List Call). map effects_of was.since ++ cs ∷ []) effects) in
+      let stands : kept (others t) (filter did k.live.standing) ≡ filter did n.live.standing = sym (ap (filter did) standing ∙ filter-swap did (λ (x : Entry). others t x.txn) k.live.standing) in
+      let m = after origin.first k.book.items in
+      let moved = commits (held_of k.locks) safe_k.fit.kept.locks m k.live.standing safe_k.fit.kept.sound (only t) in
+      let booked : after origin.first n.book.items ≡ runs m (kept (only t) k.live.standing) = ap (after origin.first) book ∙ after-append origin.first k.book.items (done ∷ []) ∙ ap (run m) its_calls in
+      let bases : base ≡ later = sym (base_is k base safe_k) ∙ sym moved.same ∙ (λ i. runs (sym booked i) (sym standing i)) ∙ base_is n later safe_n in
+      let whole : n.book.items ≡ origin.earlier ++ (was.since ++ done ∷ []) = book ∙ ap (λ (xs : List Committed). xs ++ done ∷ []) was.book ∙ append_assoc origin.earlier was.since (done ∷ []) in
+      let here : Now n old later = record { since = was.since ++ done ∷ []; book = whole; tally = subst (λ (X : Type 0). X) (λ i. Tallies (books i) (txns_of (sym rest i)) (num n.live.members) (stands i) (tells old)) tally; leads = was.leads ∙ bases } in
+      let q = quiet_store k n store in
+      let few = r.few in
+      stays k n later safe_n q (omega (arith, few, count)) (appended_now n old (appended n.operations.store.log) later q.appends here) (leaves_told seen may_leave origin k n c cs done store queue rest book there r.booked) r
+
+  -- ---- the log's area begins
+
+  pub starts : (k : Core D) → IsConsistent seen may_leave origin origin.begun k → IsBase origin.begun → origin.begun ≡ after origin.first origin.earlier → k.book.items ≡ origin.earlier → k.commits.items ≡ [] → k.live.members ≡ [] → k.live.standing ≡ []
+      → AreImages (appended k.operations.store.log) → IsRestartable origin k
+  starts k safe bounds begun book commits members standing images =
+      let records = appended k.operations.store.log in
+      let total = pages k.operations.store.pool in
+      let quiet = images_quiet origin.pages records safe.fit.right.kept.sound.each.0 images in
+      let tally : Tallies [] [] (num []) [] (tells []) = record { books = refl; live = refl; its = λ t. refl } in
+      let began : Now k [] origin.begun = record {
+        since = [];
+        book = book ∙ sym (append-nil origin.earlier);
+        tally = subst (λ (X : Type 0). X) (λ i. Tallies [] (txns_of (sym commits i)) (num (sym members i)) (filter did (sym standing i)) (tells [])) tally;
+        leads = refl;
+      } in
+      let now : Now k records origin.begun = quiet_now k [] records origin.begun (begin_all (IsQuiet origin.pages []) records quiet) began in
+      let leads : LeadsOn origin.relations origin.counters total origin.pages [] = record {
+        good = subst (IsGood origin.relations origin.counters total) (images_held origin.pages records images) safe.fit.right.sound.good;
+        base = λ b holds. holds;
+        acted = λ b holds. tt;
+      } in
+      let recovered : 4194304 ≤ area_size k.operations.store.log → Recovers origin k [] = λ area. record {
+        leads = leads;
+        serial = record { same = refl; acted = tt; bounds = bounds };
+        within = tt;
+        free = omega arith;
+        images = omega (arith, area);
+      } in
+      record {
+        beginnings = λ area front back is. quiet_recovers origin.pages [] front (quiet front back is) origin.relations origin.counters total (area_size k.operations.store.log) origin.begun (recovered area);
+        begun = begun;
+        tells = tells_of k records origin.begun safe now;
+        booked = starts_told seen may_leave origin k book commits;
+        few = let nobody : length k.live.members ≡ 0 = ap (λ (ms : List Member). length ms) members in omega (arith, nobody);
+      }

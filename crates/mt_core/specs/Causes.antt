@@ -1,0 +1,69 @@
+-- Why a call is refused, and what it had where it is not.
+use Rattle.std.specs.Prelude.{ℕ, ◌<◌, ◌≤◌, ◌+◌, ◌*◌, Bool, List, Result, Ok, Err, ⊤}
+use Rattle.mt_base.specs.declared.refusal.Refusal.{Refusal}
+use Rattle.mt_base.specs.declared.refusal.Refusal.TheVariants as refusal
+use Rattle.mt_log.specs.Words.{area_size}
+use Rattle.mt_model.specs.Locks.{IsFree, IsLeastBar}
+use Rattle.mt_model.specs.Model.{object_of, mode_of}
+use Rattle.mt_model.specs.declared.operations.Op.{Op}
+use Rattle.mt_op.specs.Operations.{world, claimed}
+use Rattle.mt_op.specs.World.{held_in}
+use Rattle.mt_pool.specs.Views.{pages}
+use Rattle.mt_slock.specs.Views.{held_of}
+use Rattle.mt_steps.specs.Plans.{own_needs, undo_pages, free_pages}
+use Rattle.mt_core.specs.Runs.{undo_bytes}
+use Rattle.mt_core.specs.Consistent.{Origin, IsAskedFor}
+use Rattle.mt_core.specs.declared.calls.Called.{Called}
+use Rattle.mt_core.specs.declared.calls.Called.TheVariants as answer
+use Rattle.mt_core.specs.declared.kernel_core.Core.{Core}
+
+-- what a call reserves, for its operation and for the inverse of that: pages, and bytes of the log
+abbrev pub pages_asked : Op → Bool → ℕ
+pages_asked op split = own_needs op split + undo_pages op
+
+abbrev pub bytes_asked : Op → ℕ
+bytes_asked op = 2 * undo_bytes op
+
+-- how many of the pages held are free
+abbrev pub pages_free : {D : Type 0} → (D → List ℕ) → Origin → Core D → ℕ
+pages_free seen origin k = free_pages (pages k.operations.store.pool) (held_in (world seen origin.pages k.operations))
+
+-- so many are free beside those that are claimed
+abbrev pub HasPages : {D : Type 0} → (D → List ℕ) → Origin → Core D → ℕ → Type 0
+HasPages seen origin k count = claimed k.operations + count ≤ pages_free seen origin k
+
+-- the log has room for so many bytes beside those that are used and kept
+abbrev pub HasBytes : {D : Type 0} → Core D → ℕ → ℕ → Type 0
+HasBytes k kept bytes = kept + bytes < area_size k.operations.store.log
+
+abbrev pub HasReserves : {D : Type 0} → (D → List ℕ) → Origin → Core D → ℕ → Op → Bool → Type 0
+HasReserves seen origin k kept op split = HasPages seen origin k (pages_asked op split) × HasBytes k kept (bytes_asked op)
+
+-- too few pages; or else too little of the log
+abbrev pub IsUnreserved : {D : Type 0} → (D → List ℕ) → Origin → Core D → ℕ → Op → Bool → Refusal → Type 0
+IsUnreserved seen origin k kept op split refusal.NoRoom = pages_free seen origin k < claimed k.operations + pages_asked op split
+IsUnreserved seen origin k kept op split refusal.LogFull = HasPages seen origin k (pages_asked op split) × (area_size k.operations.store.log ≤ kept + bytes_asked op)
+IsUnreserved seen origin k kept op split refusal.NoMemory = ⊤
+IsUnreserved seen origin k kept op split _ = ⊥
+
+-- escrow admits it, and it has its reserves
+abbrev pub IsAdmittedBy : {D : Type 0} → (D → List ℕ) → Origin → Core D → ℕ → ℕ → Op → Bool → Type 0
+IsAdmittedBy seen origin k kept t op split = IsAskedFor k.escrow t op × HasReserves seen origin k kept op split
+
+-- escrow does not admit it; or else it lacks reserves
+abbrev pub IsRefusedBehind : {D : Type 0} → (D → List ℕ) → Origin → Core D → ℕ → ℕ → Op → Bool → Refusal → Type 0
+IsRefusedBehind seen origin k kept t op split refusal.Escrow = ¬ IsAskedFor k.escrow t op
+IsRefusedBehind seen origin k kept t op split refusal.NoMemory = ⊤
+IsRefusedBehind seen origin k kept t op split why = IsAskedFor k.escrow t op × IsUnreserved seen origin k kept op split why
+
+-- an older transaction is in the way of its lock; or else nobody is, and it is refused after it
+abbrev pub IsRefusedCall : {D : Type 0} → (D → List ℕ) → Origin → Core D → ℕ → ℕ → Op → Bool → Refusal → Type 0
+IsRefusedCall seen origin k kept t op split (refusal.Die holder) = IsLeastBar (held_of k.locks) t (object_of op) (mode_of op) holder × (holder < t)
+IsRefusedCall seen origin k kept t op split refusal.NoMemory = ⊤
+IsRefusedCall seen origin k kept t op split why = IsFree (held_of k.locks) t (object_of op) (mode_of op) × IsRefusedBehind seen origin k kept t op split why
+
+-- It runs only where nobody is in the way and all that it reserves is there; it waits only for a younger one.
+abbrev pub IsAnswered : {D : Type 0} → (D → List ℕ) → Origin → Core D → ℕ → ℕ → Op → Bool → Result Called Refusal → Type 0
+IsAnswered seen origin k kept t op split (Ok answer.Started) = IsFree (held_of k.locks) t (object_of op) (mode_of op) × IsAdmittedBy seen origin k kept t op split
+IsAnswered seen origin k kept t op split (Ok (answer.Wait holder)) = IsLeastBar (held_of k.locks) t (object_of op) (mode_of op) holder × (t < holder)
+IsAnswered seen origin k kept t op split (Err why) = IsRefusedCall seen origin k kept t op split why

@@ -1,0 +1,124 @@
+-- The operations under way, at most one a transaction, and what is kept for them and for what may have to be undone.
+use Rattle.std.specs.Prelude.{ℕ, ◌≡◌, ◌≢◌, ◌⊎◌, ◌≤◌, ◌+◌, ◌==◌, ◌&&◌, Bool, true, false, cond, if◌then◌else◌, List, [], ◌∷◌, Option, Some, None, is_some, All}
+use Rattle.std.specs.List.{list_any}
+use Rattle.std.specs.Option.{option_map}
+use Rattle.mt_base.specs.declared.limits.TheConstants.{OPERATION_LOG_BYTES}
+use Rattle.mt_live.specs.declared.transactions.TxnState.{TxnState}
+use Rattle.mt_live.specs.declared.transactions.TxnState.TheVariants.{Open, Committing, Aborting}
+use Rattle.mt_live.specs.Entries.{Entry}
+use Rattle.mt_live.specs.Lives.{member_of, has_room, IsAbove}
+use Rattle.mt_live.specs.Members.{Member, last_operation}
+use Rattle.mt_live.specs.Undoing.{last_effect}
+use Rattle.mt_model.specs.History.{Call}
+use Rattle.mt_model.specs.declared.operations.Op.{Op}
+use Rattle.mt_model.specs.Model.{inverse_of}
+use Rattle.mt_op.specs.Operations.{HasBudget, only_reads}
+use Rattle.mt_op.specs.World.{World, IsUnderWay, IsOther}
+use Rattle.mt_op.specs.declared.scope.Stage.{Stage}
+use Rattle.mt_op.specs.declared.scope.Stage.TheVariants.{Planning, Writing, Taking}
+use Rattle.mt_plock.specs.declared.guards.PageLock.{PageLock}
+use Rattle.mt_steps.specs.Plans.{own_needs, undo_pages}
+use Rattle.mt_core.specs.declared.kernel_core.Running.{Running}
+
+-- a transaction's operation that is no inverse
+abbrev pub is_for : ℕ → Running → Bool
+is_for t r = (r.scope.txn == t) && (r.scope.undoes == 0)
+
+abbrev pub running_in : List Running → ℕ → Option Op
+running_in [] t = None
+running_in (r ∷ rs) t = cond (is_for t r) (Some r.scope.op) (running_in rs t)
+
+abbrev pub AreApart : Running → Running → Type 0
+AreApart r q = IsOther r.scope q.scope
+
+-- an operation under way has this number
+abbrev pub is_under_way : List Running → ℕ → Bool
+is_under_way rs number = list_any (λ (r : Running). r.scope.number == number) rs
+
+-- each page lock is of an operation under way
+abbrev pub AreHeldBy : List Running → List PageLock → Type 0
+AreHeldBy rs locks = All (λ (l : PageLock). is_under_way rs l.op ≡ true) locks
+
+abbrev pub IsMoving : Stage → Type 0
+IsMoving stage = (stage ≡ Planning) ⊎ ((stage ≡ Writing) ⊎ (stage ≡ Taking))
+
+-- on the pages
+pub record IsRunning (relations counters : ℕ) (w : World) (last : ℕ) (r : Running) : Type 0 where
+  pub under : IsUnderWay relations counters w r.scope
+  pub budget : HasBudget r.scope
+  pub number : r.scope.number ≤ last
+  pub moving : IsMoving r.scope.stage
+
+-- ---- its transaction
+
+abbrev pub is_at_work : TxnState → Bool
+is_at_work Open = true
+is_at_work Committing = false
+is_at_work Aborting = true
+
+abbrev pub is_open : Option Member → Bool
+is_open None = false
+is_open (Some m) = is_at_work m.state
+
+abbrev pub state_in : List Member → ℕ → Option TxnState
+state_in ms t = option_map (λ (m : Member). m.state) (member_of ms t)
+
+-- the last entry of its transaction that did something, which it takes back, by its operation's number
+pub record TakesBack (ms : List Member) (standing : List Entry) (r : Running) : Type 0 where
+  pub named : last_operation (member_of ms r.scope.txn) ≡ Some r.scope.undoes
+  pub entry : Entry
+  pub last : last_effect r.scope.txn standing ≡ Some entry
+  pub inverse : inverse_of entry.op entry.reply ≡ Some r.scope.op
+  pub copy : r.op ≡ entry.op
+  pub unsplit : r.scope.split ≡ false
+
+-- Only what a transaction that is to be undone has called is taken back, and only of such a one are there inverses.
+pub record IsOwned (ms : List Member) (standing : List Entry) (r : Running) : Type 0 where
+  pub at_work : is_open (member_of ms r.scope.txn) ≡ true
+  pub room : r.scope.undoes ≡ 0 → has_room (member_of ms r.scope.txn) ≡ true
+  pub copy : r.scope.undoes ≡ 0 → r.op ≡ r.scope.op
+  pub inverse : r.scope.undoes ≢ 0 → TakesBack ms standing r
+  pub newest : r.scope.undoes ≡ 0 → IsAbove r.scope.number (member_of ms r.scope.txn)
+  pub taken : r.scope.stage ≡ Taking → (r.scope.undoes ≡ 0) × (state_in ms r.scope.txn ≡ Some Aborting)
+  pub aborts : r.scope.undoes ≢ 0 → state_in ms r.scope.txn ≡ Some Aborting
+
+-- ---- claims and log bytes
+
+-- log bytes that the inverse may append
+abbrev pub undo_bytes : Op → ℕ
+undo_bytes op = if only_reads op then 0 else OPERATION_LOG_BYTES
+
+-- of an entry that did something
+abbrev pub weighed : (Op → ℕ) → Entry → ℕ
+weighed weight e = cond (is_some (inverse_of e.op e.reply)) (weight e.op) 0
+
+-- of a call, as of its entry
+abbrev pub call_weighed : (Op → ℕ) → Call → ℕ
+call_weighed weight c = cond (is_some (inverse_of c.0 c.1)) (weight c.0) 0
+
+abbrev pub call_pages : Call → ℕ
+call_pages c = call_weighed undo_pages c
+
+abbrev pub call_bytes : Call → ℕ
+call_bytes c = call_weighed undo_bytes c
+
+abbrev pub entry_pages : Entry → ℕ
+entry_pages e = weighed undo_pages e
+
+abbrev pub entry_bytes : Entry → ℕ
+entry_bytes e = weighed undo_bytes e
+
+-- What is claimed for an operation and for its inverse; an inverse has what its entry claims.
+abbrev pub pages_of : Running → ℕ
+pages_of r = cond (r.scope.undoes == 0) (own_needs r.scope.op r.scope.split + undo_pages r.scope.op) 0
+
+abbrev pub left_of : Running → ℕ
+left_of r = r.scope.left
+
+-- log bytes kept for the inverse of what runs
+abbrev pub kept_bytes : Running → ℕ
+kept_bytes r = cond (r.scope.undoes == 0) (undo_bytes r.scope.op) 0
+
+-- those that an inverse which runs has taken of what was kept for it
+abbrev pub taken_bytes : Running → ℕ
+taken_bytes r = cond (r.scope.undoes == 0) 0 OPERATION_LOG_BYTES

@@ -1,0 +1,67 @@
+-- What a step of an operation does, and of an inverse.
+use Rattle.std.specs.Prelude.{ℕ, ◌≡◌, ◌≢◌, List, Some, Result, Ok, Err, ⊤, slice_index_or}
+use Rattle.mt_base.specs.declared.refusal.Refusal.{Refusal}
+use Rattle.mt_disk.specs.Disk.{LeavesOnly}
+use Rattle.mt_model.specs.Model.{Base, reply_of}
+use Rattle.mt_op.specs.declared.answers.Stepped.{Stepped}
+use Rattle.mt_op.specs.declared.answers.Stepped.TheVariants as stepped
+use Rattle.mt_pool.specs.Kept.{IsKept, Explains}
+use Rattle.mt_pool.specs.Views.{IsFull}
+use Rattle.mt_space.specs.Changes.{PageBytes}
+use Rattle.mt_core.specs.Consistent.{Origin, state_of, IsIn, EndsIn, UndoesIn, IsOwnerOf}
+use Rattle.mt_core.specs.declared.kernel_core.Core.{Core}
+use Rattle.mt_core.specs.declared.kernel_core.Running.{Running}
+use Rattle.mt_core.specs.declared.steps.Going.{Going}
+use Rattle.mt_core.specs.declared.steps.Going.TheVariants as going
+use Rattle.mt_core.specs.declared.steps.Stepping.{Stepping}
+use Rattle.mt_core.specs.declared.steps.Stepping.TheVariants.{Going as GoingOn, Ended}
+
+-- It ends, with the model's reply on the base; or the base and all that stands are as before.
+abbrev pub Steps : {D : Type 0} → (D → List ℕ) → (D → List ℕ → Type 0) → Origin → Base → Core D → Core D → ℕ → Result Stepping Refusal → Type 0
+Steps seen may_leave origin base k n place (Ok (Ended reply)) = (r : Running) → r ≡ slice_index_or k.running.items place r
+    → (reply_of base r.scope.op ≡ reply) × EndsIn seen may_leave origin base k n r
+Steps seen may_leave origin base k n place (Ok (GoingOn going)) = IsIn seen may_leave origin base (state_of k base) n
+Steps seen may_leave origin base k n place (Err why) = IsIn seen may_leave origin base (state_of k base) n
+
+-- It ends, with the model's reply, and what it takes back stands no more; or the base and all that stands are as before.
+abbrev pub UndoSteps : {D : Type 0} → (D → List ℕ) → (D → List ℕ → Type 0) → Origin → Base → Core D → Core D → ℕ → Result Stepping Refusal → Type 0
+UndoSteps seen may_leave origin base k n place (Ok (Ended reply)) = (r : Running) → r ≡ slice_index_or k.running.items place r
+    → (reply_of base r.scope.op ≡ reply) × UndoesIn seen may_leave origin base (state_of k base) n r.scope.txn r.scope.op
+UndoSteps seen may_leave origin base k n place (Ok (GoingOn going)) = IsIn seen may_leave origin base (state_of k base) n
+UndoSteps seen may_leave origin base k n place (Err why) = IsIn seen may_leave origin base (state_of k base) n
+
+-- Whenever a crash comes meanwhile, what it leaves explains the pages as before.
+abbrev pub LeavesExplained : {D : Type 0} → (D → List ℕ) → (D → List ℕ → Type 0) → (D → ℕ) → (D → ℕ → List ℕ → Type 0) → Core D → Core D → Type 0
+LeavesExplained seen may_leave moment left_since k n = (opening : PageBytes) → IsKept seen may_leave opening k.operations.store
+    → LeavesOnly moment left_since k.operations.store.device n.operations.store.device (Explains opening k.operations.store)
+
+-- Every frame holds a page that is yet to be flushed; pages, locks and log are as they were.
+abbrev pub WantsFrame : {D : Type 0} → Core D → Core D → Type 0
+WantsFrame k n = IsFull k.operations.store.pool × (n.operations ≡ k.operations)
+
+-- ---- who is in the way
+
+-- the operation of this number is under way, of another transaction than t
+abbrev pub IsOfOther : List Running → ℕ → ℕ → Type 0
+IsOfOther rs t number = (u : ℕ) × (u ≢ t) × IsOwnerOf rs number (Some u)
+
+-- An operation of t waits, or begins anew, only for one of another transaction.
+abbrev pub AwaitsOther : List Running → ℕ → Going → Type 0
+AwaitsOther rs t going.Went = ⊤
+AwaitsOther rs t (going.Wait holder) = IsOfOther rs t holder
+AwaitsOther rs t (going.Again holder) = IsOfOther rs t holder
+AwaitsOther rs t going.Flush = ⊤
+
+abbrev pub NamesOther : List Running → ℕ → Result Stepping Refusal → Type 0
+NamesOther rs t (Ok (Ended reply)) = ⊤
+NamesOther rs t (Ok (GoingOn g)) = AwaitsOther rs t g
+NamesOther rs t (Err why) = ⊤
+
+-- as the step of the operations tells it
+abbrev pub TellsOther : List Running → ℕ → Result Stepped Refusal → Type 0
+TellsOther rs t (Ok stepped.Went) = ⊤
+TellsOther rs t (Ok (stepped.Wait holder)) = IsOfOther rs t holder
+TellsOther rs t (Ok (stepped.Again holder)) = IsOfOther rs t holder
+TellsOther rs t (Ok stepped.Flush) = ⊤
+TellsOther rs t (Ok (stepped.Ready first second)) = ⊤
+TellsOther rs t (Err why) = ⊤

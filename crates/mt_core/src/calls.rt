@@ -1,0 +1,246 @@
+// Calls of operations.
+ghost use Rattle.std.specs.Prelude.{◌≡◌, ◌==◌, is_some, ◌<◌, ◌≤◌, ◌+◌, ◌*◌, ◌^◌, ℕ, length, List};
+ghost use Rattle.std.specs.Bool.{OnTrue, OnFalse};
+ghost use Rattle.std.specs.List.{list_any};
+ghost use Rattle.std.specs.Vec.{vec_len, vec_capacity};
+ghost use Rattle.mt_base.specs.declared.limits.TheConstants.{MAX_BEGUN};
+ghost use Rattle.mt_escrow.specs.Seen.{Escrowed};
+ghost use Rattle.mt_live.specs.Machine.{called};
+ghost use Rattle.mt_log.specs.Words.{area_size};
+ghost use Rattle.mt_model.specs.Model.{Base, IsWithin, object_of};
+ghost use Rattle.mt_model.specs.declared.objects.Object.{Object};
+ghost use Rattle.mt_pool.specs.Views.{pages};
+ghost use Rattle.mt_slock.specs.declared.holders.Holder.{Holder};
+ghost use Rattle.mt_core.specs.Consistent.{SameCommits, SameStates, log_kept, Origin, state_of, IsConsistent, IsPlaceOf, MayRun, MayBeCalled, IsLocked, IsGranted, IsCalled};
+ghost use Rattle.mt_core.specs.Causes.{IsAnswered};
+ghost use Rattle.mt_core.specs.Restartable.{StaysRestartable};
+ghost use Rattle.mt_core.specs.Work.{CallRuns};
+ghost use Rattle.mt_core.specs.declared.kernel_core.Running.{Running};
+ghost use Rattle.mt_core.specs.Advancing.{AdmitsCall, AsksLeave, LocksObject, StartsCall};
+
+use crate::ends::let_go;
+use crate::kernel_core::{Core, Running};
+use crate::reserves::{bytes_to_undo, left_in};
+use mt_base::{OpNo, Refusal, TxnNo};
+use mt_disk::Device;
+use mt_escrow::Escrow;
+use mt_model::{Object, Op};
+use mt_slock::Asked;
+use mt_steps::{pages_for, pages_to_undo};
+use std::alloc::Global;
+
+/// What a call answers that is not refused.
+#[derive(Clone, Copy, PartialEq, Eq, Debug)]
+pub enum Called {
+    /// The operation is under way.
+    Started,
+    /// Nothing: this transaction, the oldest that holds a lock in the way, is younger and is to be waited for.
+    Wait(TxnNo),
+}
+
+// Asks leave for an operation that is an add.
+fn ask(escrow: &mut Escrow, txn: TxnNo, op: &Op) -> Result<(), Refusal>
+    requires within { ∥ ((relations : ℕ) × IsWithin relations (length escrow.old.committed) op.now) ∥₁ }
+    ensures { AsksLeave escrow.old escrow.new txn op.now result }
+{
+    if let Op::Add(counter, step) = op {
+        escrow.ask(txn, *counter, *step)?;
+    }
+    Ok(())
+}
+
+// The object of an operation, which is spent. It takes no memory.
+fn into_object(op: Op) -> Object
+    ensures { result ≡ object_of op }
+{
+    match op {
+        Op::Get(relation, key) => Object::Key(relation, key),
+        Op::Insert(relation, key, _value) => Object::Key(relation, key),
+        Op::Update(relation, key, _value) => Object::Key(relation, key),
+        Op::Delete(relation, key) => Object::Key(relation, key),
+        Op::Add(counter, _) => Object::Counter(counter),
+        Op::Read(counter) => Object::Counter(counter),
+    }
+}
+
+// The place of a transaction's operation among those under way, if it has one.
+fn place_in(running: &[Running], txn: TxnNo) -> Option<usize>
+    ensures { IsPlaceOf running.now txn result }
+{
+    for (place, one) in running.iter().enumerate() {
+        if one.scope.txn() == txn {
+            return Some(place);
+        }
+    }
+    None
+}
+
+impl<D: Device> Core<D> {
+    /// The place of a transaction's operation among those under way; `None` where it runs nothing.
+    pub fn place_of(&self, txn: TxnNo) -> Option<usize>
+        ensures place { IsPlaceOf self.now.running.items txn result }
+        ensures busy { is_some result ≡ list_any (λ (r : Running). r.scope.txn == txn) self.now.running.items }
+    {
+        place_in(self.running.as_slice(), txn)
+    }
+
+    /// Calls an operation of a transaction at work that runs nothing, and starts it. It takes the operation's lock,
+    /// the escrow's leave where it is an add, and pages and log bytes for it and for its inverse. `split` says
+    /// whether an insert may split a bucket of the index.
+    ///
+    /// It answers [`Called::Wait`] or is refused with 14 as the lock table does, and with 9 as the escrow does. It is
+    /// refused with 10 where fewer pages are free and not claimed. It is refused with 11 where the log has no room
+    /// beside what is kept. For want of memory it is refused with 1. In each of these cases nothing of the call is
+    /// kept.
+    pub fn call(
+        &mut self,
+        alloc: Global,
+        txn: TxnNo,
+        op: Op,
+        split: bool,
+    ) -> Result<Called, Refusal>
+        requires safe { ∥ ((origin : Origin) × (base : Base) × IsConsistent D.seen D.may_leave origin base self.old
+            × MayBeCalled origin self.old txn op) ∥₁ }
+        requires few { self.old.last < MAX_BEGUN }
+        ensures called { (origin : Origin) (base : Base) → IsConsistent D.seen D.may_leave origin base self.old
+            → MayBeCalled origin self.old txn op
+            → IsCalled D.seen D.may_leave origin base (state_of self.old base) self.new txn op result }
+        ensures answer { (origin : Origin) (base : Base) → IsConsistent D.seen D.may_leave origin base self.old
+            → MayBeCalled origin self.old txn op
+            → IsAnswered D.seen origin self.old (log_kept self.old) txn op split result }
+        ensures states { SameStates self.old self.new }
+        ensures runs { CallRuns txn (2 * pages self.old.operations.store.pool + 9) self.old.running.items
+            self.new.running.items result }
+        ensures same_commits { SameCommits self.old self.new }
+        ensures store { self.new.operations.store ≡ self.old.operations.store }
+        ensures restartable { StaysRestartable D.seen D.may_leave self.old self.new }
+    {
+        let own = op.try_clone()?;
+        let object = op.object()?;
+        self.live.room(txn)?;
+        self.running.reserve(1)?;
+        self.lock(alloc, txn, op, own, split, object)
+    }
+
+    // Whether the log has room for so many bytes beside those that are kept.
+    pub(crate) fn log_takes(&self, bytes: u64) -> bool
+        requires { log_kept self.now < area_size self.now.operations.store.log }
+        ensures takes { OnTrue result (log_kept self.now + bytes < area_size self.now.operations.store.log) }
+        ensures full { OnFalse result (area_size self.now.operations.store.log ≤ log_kept self.now + bytes) }
+        ensures sum { OnTrue result (self.now.reserved + bytes < 2 ^ 64) }
+    {
+        let log = self.operations.log();
+        bytes < log.area_size() - log.used() - left_in(self.running.as_slice()) - self.reserved
+    }
+
+    // Starts an operation for which all is granted, where there are pages and log bytes for it and for its inverse.
+    // Where it is refused it is given back.
+    fn start(
+        &mut self,
+        alloc: Global,
+        txn: TxnNo,
+        own: Op,
+        end: Op,
+        split: bool,
+    ) -> Result<(), (Refusal, Op)>
+        requires granted { ∥ ((origin : Origin) × (base : Base) × (locks : List (Object × List Holder))
+            × (escrow : Escrowed) × IsGranted D.seen D.may_leave origin base locks escrow self.old txn end) ∥₁ }
+        requires same { own ≡ end }
+        requires room { vec_len self.old.running < vec_capacity self.old.running }
+        requires few { self.old.last < MAX_BEGUN }
+        ensures { StartsCall D.seen D.may_leave self.old self.new txn end split result }
+    {
+        let pages = pages_for(&own, split) + pages_to_undo(&own);
+        let bytes = bytes_to_undo(&own);
+        let takes = self.log_takes(2 * bytes);
+        match self.operations.claim(pages) {
+            Ok(()) => {}
+            Err(why) => return Err((why, end)),
+        }
+        if !takes {
+            self.operations.give_back(pages);
+            return Err((Refusal::LogFull, end));
+        }
+        let number = self.last + 1;
+        match self
+            .operations
+            .begin_op(alloc, txn, OpNo::new(number), own, 0, split)
+        {
+            Ok(scope) => {
+                self.last = number;
+                self.reserved += bytes;
+                self.running.push_reserved(Running { scope, op: end });
+                Ok(())
+            }
+            Err(why) => {
+                self.operations.give_back(pages);
+                Err((why, end))
+            }
+        }
+    }
+
+    // Asks leave for an operation that is an add, and starts it. Its lock is had. Where it is refused it is given
+    // back.
+    fn admit(
+        &mut self,
+        alloc: Global,
+        txn: TxnNo,
+        op: Op,
+        own: Op,
+        split: bool,
+    ) -> Result<(), (Refusal, Op)>
+        requires locked { ∥ ((origin : Origin) × (base : Base) × (locks : List (Object × List Holder))
+            × IsLocked D.seen D.may_leave origin base locks self.old txn op) ∥₁ }
+        requires same { own ≡ op }
+        requires room { vec_len self.old.running < vec_capacity self.old.running }
+        requires few { self.old.last < MAX_BEGUN }
+        ensures { AdmitsCall D.seen D.may_leave self.old self.new txn op split result }
+    {
+        match ask(&mut self.escrow, txn, &op) {
+            Ok(()) => {}
+            Err(why) => return Err((why, op)),
+        }
+        match self.start(alloc, txn, own, op, split) {
+            Ok(()) => Ok(()),
+            Err((why, op)) => {
+                let_go(&mut self.escrow, txn, &op);
+                Err((why, op))
+            }
+        }
+    }
+
+    // Locks the operation's object, and starts it.
+    fn lock(
+        &mut self,
+        alloc: Global,
+        txn: TxnNo,
+        op: Op,
+        own: Op,
+        split: bool,
+        object: Object,
+    ) -> Result<Called, Refusal>
+        requires safe { ∥ ((origin : Origin) × (base : Base) × IsConsistent D.seen D.may_leave origin base self.old
+            × MayRun origin self.old txn op) ∥₁ }
+        requires same { (own ≡ op) × (object ≡ object_of op) }
+        requires room { vec_len self.old.running < vec_capacity self.old.running }
+        requires few { self.old.last < MAX_BEGUN }
+        ensures { LocksObject D.seen D.may_leave self.old self.new txn op split result }
+    {
+        let mode = op.mode();
+        match self.locks.ask(txn, object, mode)? {
+            Asked::Wait(holder) => Ok(Called::Wait(holder)),
+            Asked::Granted { was_held } => {
+                match self.admit(alloc, txn, op, own, split) {
+                    Ok(()) => Ok(Called::Started),
+                    Err((why, op)) => {
+                        if was_held {
+                            return Err(why);
+                        }
+                        self.locks.take_out(txn, &into_object(op), mode);
+                        Err(why)
+                    }
+                }
+            }
+        }
+    }
+}

@@ -1,0 +1,255 @@
+// Transactions that begin, commit and leave, and the writes that make commits durable.
+ghost use Rattle.std.specs.Prelude.{◌≡◌, ◌≢◌, ◌⊎◌, ◌<◌, ◌≤◌, ◌+◌, ℕ, List, ◌∷◌, ◌++◌, [], length, drop, get_or, false, true, All, Some, Ok, Err, IsOk, IsErr, IfOk, IfErr, OnOk, OnErr};
+ghost use Rattle.mt_live.specs.Lives.{member_of};
+ghost use Rattle.mt_live.specs.Machine.{begun};
+ghost use Rattle.mt_live.specs.declared.transactions.TxnState.TheVariants.{Open, Committing, Aborting};
+ghost use Rattle.mt_disk.specs.Disk.{HasCause};
+ghost use Rattle.mt_log.specs.Words.{appended, durable, in_flight, waiting, calls_left, has_failed, area_size, IsStep};
+ghost use Rattle.mt_frame.specs.declared.records.Record.TheVariants as record_of;
+ghost use Rattle.mt_model.specs.Model.{Base};
+ghost use Rattle.mt_op.specs.Operations.{world};
+ghost use Rattle.mt_op.specs.Surveyed.{IsSurvey};
+ghost use Rattle.mt_op.specs.World.{held_in};
+ghost use Rattle.mt_pool.specs.Views.{IsWaiting, Cleans, pages, to_flush};
+ghost use Rattle.mt_pool.specs.declared.flushes.Flushed.TheVariants as flushed;
+ghost use Rattle.mt_base.specs.declared.refusal.Refusal.{Refusal};
+ghost use Rattle.mt_core.specs.Consistent.{log_kept, SameCommits, SameRunning, SameStates, SameUncommitted, SetsState, IsSound, StaysIn, OnlyOperations, Origin, state_of, state_in, IsConsistent, IsIn};
+ghost use Rattle.mt_core.specs.Restartable.{StaysRestartable};
+ghost use Rattle.mt_core.specs.Steps.{LeavesExplained};
+ghost use Rattle.mt_core.specs.Booked.{booked_each, durable_count, durable_txns};
+ghost use Rattle.mt_core.specs.Runs.{is_open};
+ghost use Rattle.mt_core.specs.Work.{LeavesUndo, most_steps, undo_steps};
+ghost use Rattle.std.specs.Vec.{vec_len, vec_capacity};
+ghost use Rattle.mt_core.specs.declared.commits.TheConstants.{END_LOG_BYTES};
+ghost use Rattle.mt_base.specs.declared.limits.TheConstants.{MAX_BEGUN, MAX_LIVE, TRANSACTION_LOG_BYTES};
+ghost use Rattle.mt_core.specs.declared.kernel_core.Commit.{Commit};
+ghost use Rattle.mt_core.specs.declared.kernel_core.Running.{Running};
+ghost use Rattle.mt_core.specs.Advancing.{LeavesFirst};
+
+use crate::kernel_core::{Commit, Core};
+use crate::reserves::{all_bytes_kept, all_pages_kept};
+use mt_base::limits::TRANSACTION_LOG_BYTES;
+use mt_base::{LogPos, Refusal, TxnNo};
+use mt_disk::{Device, DeviceFault};
+use mt_frame::Record;
+use mt_live::TxnState;
+use mt_log::Forced;
+use mt_op::Survey;
+use mt_pool::Flushed;
+use std::alloc::Global;
+
+// What the Commit of a transaction, or the end of its abort, takes of the log.
+const END_LOG_BYTES: u64 = 14;
+
+// How many of the commits stand before the first whose record is behind this place.
+fn durable_count(commits: &[Commit], place: LogPos) -> usize
+    ensures count { result ≡ durable_count commits.now place }
+    ensures within { result ≤ length commits.now }
+{
+    for (i, one) in commits.iter().enumerate() {
+        if place.get() < one.place.get() {
+            return i;
+        }
+    }
+    commits.len()
+}
+
+impl<D: Device> Core<D> {
+    /// Begins a transaction of this session, open and without operations. Its number is the next one, from 1.
+    ///
+    /// Refused with 11 where the log has no room for its end beside what is kept, else with 1 for want of memory.
+    /// Nothing has changed then.
+    pub fn begin(&mut self, session: u32) -> Result<TxnNo, Refusal>
+        requires safe { IsSound D.seen D.may_leave self.old }
+        requires few { self.old.live.begun < MAX_BEGUN }
+        ensures begun { (origin : Origin) (base : Base) → IsConsistent D.seen D.may_leave origin base self.old
+            → OnOk result (IsIn D.seen D.may_leave origin base (begun (state_of self.old base) session) self.new) }
+        ensures number { IfOk result (λ txn. txn ≡ self.old.live.begun + 1) }
+        ensures may { OnOk result
+            (log_kept self.old + TRANSACTION_LOG_BYTES < area_size self.old.operations.store.log) }
+        ensures cause { IfErr result (λ why. (why ≡ Refusal.NoMemory) ⊎ ((why ≡ Refusal.LogFull)
+            × (area_size self.old.operations.store.log ≤ log_kept self.old + TRANSACTION_LOG_BYTES))) }
+        ensures opened { IfOk result (λ txn. SetsState self.old self.new txn (Some Open)) }
+        ensures same_running { SameRunning self.old self.new }
+        ensures same_commits { SameCommits self.old self.new }
+        ensures device { self.new.operations.store.device ≡ self.old.operations.store.device }
+        ensures restartable { length self.old.live.members < MAX_LIVE
+            → StaysRestartable D.seen D.may_leave self.old self.new }
+        ensures err { OnErr result (self.new ≡ self.old) }
+    {
+        if !self.log_takes(TRANSACTION_LOG_BYTES) {
+            return Err(Refusal::LogFull);
+        }
+        let txn = self.live.begin(session)?;
+        self.reserved += TRANSACTION_LOG_BYTES;
+        Ok(txn)
+    }
+
+    /// Begins to undo an open transaction. It takes no memory.
+    pub fn abort_begin(&mut self, txn: TxnNo)
+        requires { state_in self.old.live.members txn ≡ Some Open }
+        ensures state { StaysIn D.seen D.may_leave self.old self.new }
+        ensures aborts { SetsState self.old self.new txn (Some Aborting) }
+        ensures running { self.new.running ≡ self.old.running }
+        ensures same_commits { SameCommits self.old self.new }
+        ensures few { (origin : Origin) (base : Base) → IsConsistent D.seen D.may_leave origin base self.old
+            → undo_steps self.new txn ≤ most_steps self.old txn }
+        ensures device { self.new.operations.store.device ≡ self.old.operations.store.device }
+        ensures restartable { StaysRestartable D.seen D.may_leave self.old self.new }
+    {
+        self.live.set_state(txn, TxnState::Aborting);
+    }
+
+    /// Begins the commit of a transaction at work that runs nothing: its Commit is appended, and it is the last of
+    /// the commits under way. Answers its place among all commits, from 1.
+    ///
+    /// Refused with 1 for want of memory; the transaction is at work as before.
+    pub fn commit_begin(&mut self, txn: TxnNo) -> Result<usize, Refusal>
+        requires safe { IsSound D.seen D.may_leave self.old }
+        requires at_work { is_open (member_of self.old.live.members txn) ≡ true }
+        requires idle { All (λ (r : Running). r.scope.txn ≢ txn) self.old.running.items }
+        ensures state { StaysIn D.seen D.may_leave self.old self.new }
+        ensures place { IfOk result (λ place.
+            place ≡ length self.old.book.items + length self.old.commits.items + 1) }
+        ensures queue { OnOk result ((c : Commit) × (c.txn ≡ txn)
+            × (c.place ≡ length (appended self.new.operations.store.log))
+            × (self.new.commits.items ≡ self.old.commits.items ++ c ∷ [])) }
+        ensures waits { OnOk result (waiting self.new.operations.store.log
+            ≡ waiting self.old.operations.store.log ++ record_of.Commit txn ∷ []) }
+        ensures durable { durable self.new.operations.store.log ≡ durable self.old.operations.store.log }
+        ensures in_flight { in_flight self.new.operations.store.log ≡ in_flight self.old.operations.store.log }
+        ensures calls { calls_left self.new.operations.store.log ≡ calls_left self.old.operations.store.log }
+        ensures commits { OnOk result (SetsState self.old self.new txn (Some Committing)) }
+        ensures err { OnErr result (SameStates self.old self.new × SameCommits self.old self.new) }
+        ensures same_running { SameRunning self.old self.new }
+        ensures only_memory { IfErr result (λ why. why ≡ Refusal.NoMemory) }
+        ensures device { self.new.operations.store.device ≡ self.old.operations.store.device }
+        ensures restartable { StaysRestartable D.seen D.may_leave self.old self.new }
+    {
+        self.commits.reserve(1)?;
+        self.book.reserve(self.commits.len() + 1)?;
+        let place = self.operations.append(Record::Commit { txn })?;
+        self.live.set_state(txn, TxnState::Committing);
+        self.commits.push_reserved(Commit { txn, place });
+        self.reserved -= END_LOG_BYTES;
+        Ok(self.book.len() + self.commits.len())
+    }
+
+    /// Books the first of the commits under way, whose record is durable. Its calls are the last of the book, its
+    /// adds move the counters, its locks go, and what was kept for its inverses is free. Answers its transaction. It
+    /// takes no memory.
+    fn leave_first(&mut self) -> TxnNo
+        requires safe { IsSound D.seen D.may_leave self.old }
+        requires some { (c : Commit) × (cs : List Commit) × (self.old.commits.items ≡ c ∷ cs) }
+        ensures { LeavesFirst D.seen D.may_leave self.old self.new result }
+    {
+        let reserved = self.reserved;
+        let Commit { txn, place: _ } = self.commits.remove(0);
+        let done = self.live.leave(txn);
+        let calls = done.calls.as_slice();
+        self.operations.give_back(all_pages_kept(calls));
+        self.reserved = reserved - (TRANSACTION_LOG_BYTES - END_LOG_BYTES + all_bytes_kept(calls));
+        self.book.push_reserved(done);
+        self.locks.release(txn);
+        self.escrow.commit(txn);
+        txn
+    }
+
+    /// Books each of the commits under way whose record is in the log up to this place. It does so in their order, as
+    /// [`Core::leave_first`] does, and puts their transactions behind the names. It takes no memory.
+    pub fn leave_durable(&mut self, place: LogPos, names: &mut Vec<TxnNo>)
+        requires safe { IsSound D.seen D.may_leave self.old }
+        requires room { vec_len names.old + length self.old.commits.items ≤ vec_capacity names.old }
+        ensures left { (origin : Origin) (base : Base) → IsConsistent D.seen D.may_leave origin base self.old
+            → IsIn D.seen D.may_leave origin base (booked_each (state_of self.old base)
+            (durable_txns self.old.commits.items place)) self.new }
+        ensures store { self.new.operations.store ≡ self.old.operations.store }
+        ensures names { names.new.items ≡ names.old.items ++ durable_txns self.old.commits.items place }
+        ensures rest { self.new.commits.items
+            ≡ drop (durable_count self.old.commits.items place) self.old.commits.items }
+        ensures running { self.new.running ≡ self.old.running }
+        ensures states { SameUncommitted self.old self.new }
+        ensures undo { LeavesUndo self.old self.new }
+        // Where the records up to this place are durable: none is booked that a crash may take away.
+        ensures restartable { place ≤ length (durable self.old.operations.store.log)
+            → StaysRestartable D.seen D.may_leave self.old self.new }
+    {
+        let count = durable_count(self.commits.as_slice(), place);
+        for _booked in 0..count {
+            let txn = self.leave_first();
+            names.push_reserved(txn);
+        }
+    }
+
+    /// Makes a step of the log's force, of one device call. Answers up to which record the log is durable where a
+    /// force has ended.
+    ///
+    /// Refused with 2 where the device has failed or fails in this call, so no fault is passed over.
+    pub fn force_step(&mut self) -> Result<Forced, Refusal>
+        requires safe { IsSound D.seen D.may_leave self.old }
+        ensures state { StaysIn D.seen D.may_leave self.old self.new }
+        ensures rest { OnlyOperations self.old self.new }
+        ensures pool { self.new.operations.store.pool ≡ self.old.operations.store.pool }
+        ensures ruling { self.new.operations.store.ruling ≡ self.old.operations.store.ruling }
+        ensures appended { appended self.new.operations.store.log ≡ appended self.old.operations.store.log }
+        ensures step { IfOk result (λ forced.
+            IsStep self.old.operations.store.log forced self.new.operations.store.log) }
+        ensures only_device { IfErr result (λ why. why ≡ Refusal.DeviceFailed) }
+        ensures cause { IsErr result → (D.faults self.old.operations.store.device
+            < D.faults self.new.operations.store.device ⊎ (has_failed self.old.operations.store.log ≡ true)) }
+        ensures quiet { IsOk result
+            → D.faults self.new.operations.store.device ≡ D.faults self.old.operations.store.device }
+        ensures moments { LeavesExplained D.seen D.may_leave D.moment D.left_since self.old self.new }
+        ensures restartable { StaysRestartable D.seen D.may_leave self.old self.new }
+    {
+        self.operations.force_step()
+    }
+
+    /// Writes a page into its slot, where one waits for no record that is not durable. The error is the device's.
+    pub fn flush_step(&mut self) -> Result<Flushed, DeviceFault>
+        requires safe { IsSound D.seen D.may_leave self.old }
+        ensures state { StaysIn D.seen D.may_leave self.old self.new }
+        ensures rest { OnlyOperations self.old self.new }
+        ensures log { self.new.operations.store.log ≡ self.old.operations.store.log }
+        ensures there { self.new.operations.store.pool.of_page ≡ self.old.operations.store.pool.of_page }
+        ensures written { (p : ℕ) → result ≡ Ok (flushed.Page p) → Cleans self.old.operations.store.pool
+            self.new.operations.store.pool (length (durable self.old.operations.store.log)) p }
+        ensures barred { result ≡ Ok flushed.Force
+            → IsWaiting self.old.operations.store.pool (length (durable self.old.operations.store.log)) }
+        ensures fewer { (p : ℕ) → result ≡ Ok (flushed.Page p)
+            → to_flush self.new.operations.store.pool + 1 ≡ to_flush self.old.operations.store.pool }
+        ensures forced { result ≡ Ok flushed.Force → length (durable self.old.operations.store.log)
+            < length (appended self.old.operations.store.log) }
+        ensures nothing { result ≡ Ok flushed.Clean
+            → (f : ℕ) → get_or self.new.operations.store.pool.dirty.items f false ≡ false }
+        ensures cause { HasCause (D.faults self.old.operations.store.device)
+            (D.faults self.new.operations.store.device) result }
+        ensures moments { LeavesExplained D.seen D.may_leave D.moment D.left_since self.old self.new }
+        ensures restartable { StaysRestartable D.seen D.may_leave self.old self.new }
+    {
+        self.operations.flush_step()
+    }
+
+    /// Tells what the pages come to, by their bytes, where nobody lives. Nothing has changed then. Refused for want of
+    /// memory, and with 2 if and only if the device failed in this call.
+    pub fn survey(&mut self, alloc: Global) -> Result<Survey, Refusal>
+        requires safe { IsSound D.seen D.may_leave self.old }
+        requires nobody { self.old.live.members ≡ [] }
+        ensures surveyed { (origin : Origin) (base : Base) → IsConsistent D.seen D.may_leave origin base self.old
+            → IfOk result (IsSurvey origin.relations origin.counters (pages self.old.operations.store.pool)
+            (held_in (world D.seen origin.pages self.old.operations)) base) }
+        ensures state { StaysIn D.seen D.may_leave self.old self.new }
+        ensures rest { OnlyOperations self.old self.new }
+        ensures log { self.new.operations.store.log ≡ self.old.operations.store.log }
+        ensures pool { self.new.operations.store.pool ≡ self.old.operations.store.pool }
+        ensures content { D.seen self.new.operations.store.device ≡ D.seen self.old.operations.store.device }
+        ensures cause { IfErr result (λ why. (why ≡ Refusal.NoMemory) ⊎ (why ≡ Refusal.DeviceFailed)
+            × (D.faults self.old.operations.store.device < D.faults self.new.operations.store.device)) }
+        ensures quiet { (result ≡ Err Refusal.DeviceFailed → ⊥)
+            → D.faults self.new.operations.store.device ≡ D.faults self.old.operations.store.device }
+        ensures moments { LeavesExplained D.seen D.may_leave D.moment D.left_since self.old self.new }
+        ensures restartable { StaysRestartable D.seen D.may_leave self.old self.new }
+    {
+        self.operations.survey(alloc)
+    }
+}

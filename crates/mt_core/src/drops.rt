@@ -1,0 +1,91 @@
+// Operations that are taken back unfinished.
+ghost use Rattle.std.specs.Prelude.{◌≡◌, ◌<◌, Ok, Some, IfErr, length};
+ghost use Rattle.mt_log.specs.Words.{durable};
+ghost use Rattle.mt_model.specs.Model.{Base};
+ghost use Rattle.mt_op.specs.Faults.{TellsFaults};
+ghost use Rattle.mt_op.specs.Operations.{IsCause};
+ghost use Rattle.mt_live.specs.declared.transactions.TxnState.TheVariants.{Aborting};
+ghost use Rattle.mt_core.specs.Advancing.{DropsOut, IsTakenBack};
+ghost use Rattle.mt_core.specs.Consistent.{BacksIn, state_in, IsSound, IsClearedAt, AtPlace, Origin, IsConsistent};
+ghost use Rattle.mt_core.specs.Restartable.{StaysRestartable};
+ghost use Rattle.mt_core.specs.Steps.{LeavesExplained, WantsFrame};
+ghost use Rattle.mt_core.specs.Work.{LowersBack, undo_steps};
+ghost use Rattle.mt_core.specs.declared.kernel_core.Running.{Running};
+ghost use Rattle.mt_core.specs.PageLocks.{GivesLocksBack};
+
+use crate::ends::let_go;
+use crate::kernel_core::{Core, Running};
+use crate::reserves::bytes_to_undo;
+use mt_base::Refusal;
+use mt_disk::Device;
+use mt_op::TakenBack;
+use mt_steps::{pages_for, pages_to_undo};
+
+impl<D: Device> Core<D> {
+    // Makes a step of the taking back of the operation at a place. It is no inverse, and of a transaction that is to
+    // be undone. A page that it wrote is put back. At `Clear` nothing of it is left but its page locks and its
+    // claims. The base that the pages hold stays.
+    fn take_back(&mut self, place: usize) -> Result<TakenBack, Refusal>
+        requires safe { IsSound D.seen D.may_leave self.old }
+        requires within { place < length self.old.running.items }
+        requires aborting { AtPlace self.old.running.items place (λ r. (r.scope.undoes ≡ 0)
+            × (state_in self.old.live.members r.scope.txn ≡ Some Aborting)) }
+        ensures { IsTakenBack D.seen D.may_leave D.faults D.moment D.left_since self.old self.new place result }
+    {
+        self.operations.take_back(&mut self.running[place].scope)
+    }
+
+    // Drops an operation out that was taken back and is no inverse. Its page locks go, and so does what was kept for
+    // it and for its inverse. Its add, where it is one, is pending no more. It takes no memory.
+    fn drop_out(&mut self, place: usize)
+        requires cleared { ∥ ((origin : Origin) × (base : Base)
+            × IsClearedAt D.seen D.may_leave origin base self.old place) ∥₁ }
+        requires within { place < length self.old.running.items }
+        requires forward { AtPlace self.old.running.items place (λ r. r.scope.undoes ≡ 0) }
+        ensures { DropsOut D.seen D.may_leave self.old self.new place }
+    {
+        let Running { scope, op } = self.running.remove(place);
+        let txn = scope.txn();
+        let pages = pages_for(scope.op(), scope.split()) + pages_to_undo(&op);
+        self.operations.drop_out(scope);
+        self.operations.give_back(pages);
+        self.reserved -= bytes_to_undo(&op);
+        let_go(&mut self.escrow, txn, &op);
+    }
+
+    /// Makes a step of the taking back of an operation at a place. It is no inverse, and of a transaction that is to
+    /// be undone. A page that it wrote is put back. At `Clear` it is dropped out. Its page locks go, and so does what
+    /// was kept for it and for its inverse. Its add, where it is one, is pending no more. The base that the pages
+    /// hold stays.
+    ///
+    /// Refused with 1 for want of memory, and with 2 where the device has failed; nothing has changed then.
+    pub fn take_back_step(&mut self, place: usize) -> Result<TakenBack, Refusal>
+        requires safe { IsSound D.seen D.may_leave self.old }
+        requires within { place < length self.old.running.items }
+        requires aborting { AtPlace self.old.running.items place (λ r. (r.scope.undoes ≡ 0)
+            × (state_in self.old.live.members r.scope.txn ≡ Some Aborting)) }
+        ensures back { (origin : Origin) (base : Base) → IsConsistent D.seen D.may_leave origin base self.old
+            → BacksIn D.seen D.may_leave origin base self.old self.new place result }
+        ensures lowers { AtPlace self.old.running.items place (λ r. LowersBack result
+            (undo_steps self.old r.scope.txn) (undo_steps self.new r.scope.txn)) }
+        ensures locks { AtPlace self.old.running.items place (λ r. GivesLocksBack self.old self.new r result) }
+        ensures live { self.new.live ≡ self.old.live }
+        ensures commits { self.new.commits ≡ self.old.commits }
+        ensures full { result ≡ Ok TakenBack.Flush → WantsFrame self.old self.new }
+        ensures why { IfErr result IsCause }
+        ensures faults { TellsFaults (D.faults self.old.operations.store.device)
+            (D.faults self.new.operations.store.device) result }
+        ensures durable { durable self.new.operations.store.log ≡ durable self.old.operations.store.log }
+        ensures moments { LeavesExplained D.seen D.may_leave D.moment D.left_since self.old self.new }
+        ensures restartable { StaysRestartable D.seen D.may_leave self.old self.new }
+    {
+        match self.take_back(place)? {
+            TakenBack::Clear => {
+                self.drop_out(place);
+                Ok(TakenBack::Clear)
+            }
+            TakenBack::More => Ok(TakenBack::More),
+            TakenBack::Flush => Ok(TakenBack::Flush),
+        }
+    }
+}

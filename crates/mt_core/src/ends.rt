@@ -1,0 +1,65 @@
+// The ends of operations that are ready.
+ghost use Rattle.std.specs.Prelude.{◌≡◌, ◌≢◌, ◌<◌, ◌++◌, [], List, length};
+ghost use Rattle.mt_live.specs.Adds.{GivesBack, add_before};
+ghost use Rattle.mt_model.specs.declared.pending_add.Pending.{Pending};
+ghost use Rattle.mt_model.specs.Model.{Base};
+ghost use Rattle.mt_model.specs.declared.operations.Reply.{Reply};
+ghost use Rattle.mt_core.specs.Consistent.{IsReadyAt, AtPlace, Origin};
+ghost use Rattle.mt_core.specs.declared.kernel_core.Running.{Running};
+ghost use Rattle.mt_core.specs.Advancing.{EndsInverse, EndsReady};
+
+use crate::kernel_core::{Core, Running};
+use crate::reserves::{bytes_kept, bytes_to_undo, pages_kept};
+use mt_base::TxnNo;
+use mt_disk::Device;
+use mt_escrow::Escrow;
+use mt_model::{Op, Reply};
+use mt_steps::pages_to_undo;
+
+// Where the operation is an add, the last such add of the transaction is pending no more.
+pub(crate) fn let_go(escrow: &mut Escrow, txn: TxnNo, op: &Op)
+    ensures given { GivesBack txn op.now escrow.old.pending escrow.new.pending }
+    ensures last { (ps : List Pending) → escrow.old.pending ≡ ps ++ add_before txn op.now []
+        → escrow.new.pending ≡ ps }
+    ensures committed { escrow.new.committed ≡ escrow.old.committed }
+{
+    if let Op::Add(counter, step) = op {
+        escrow.taken_back(txn, *counter, *step);
+    }
+}
+
+impl<D: Device> Core<D> {
+    // Ends an operation that is ready and no inverse: it stands behind all others, with this reply. Where it did
+    // nothing, what was kept for its inverse is free.
+    pub(crate) fn note_end(&mut self, place: usize, reply: Reply)
+        requires ready { ∥ ((origin : Origin) × (base : Base)
+            × IsReadyAt D.seen D.may_leave origin base self.old place reply) ∥₁ }
+        requires within { place < length self.old.running.items }
+        requires forward { AtPlace self.old.running.items place (λ r. r.scope.undoes ≡ 0) }
+        ensures { EndsReady D.seen D.may_leave self.old self.new place reply }
+    {
+        let Running { scope, op } = self.running.remove(place);
+        let txn = scope.txn();
+        let number = scope.number();
+        self.operations.end(scope);
+        self.operations
+            .give_back(pages_to_undo(&op) - pages_kept(&op, &reply));
+        self.reserved -= bytes_to_undo(&op) - bytes_kept(&op, &reply);
+        self.live.note(txn, number, op, reply);
+    }
+
+    // Ends an inverse that is ready: what it takes back stands no more, nor what its transaction did behind it.
+    pub(crate) fn note_undone(&mut self, place: usize)
+        requires ready { ∥ ((origin : Origin) × (base : Base) × (reply : Reply)
+            × IsReadyAt D.seen D.may_leave origin base self.old place reply) ∥₁ }
+        requires within { place < length self.old.running.items }
+        requires back { AtPlace self.old.running.items place (λ r. r.scope.undoes ≢ 0) }
+        ensures { EndsInverse D.seen D.may_leave self.old self.new place }
+    {
+        let Running { scope, op } = self.running.remove(place);
+        let txn = scope.txn();
+        self.operations.end(scope);
+        self.live.undone(txn);
+        let_go(&mut self.escrow, txn, &op);
+    }
+}

@@ -1,0 +1,24 @@
+//! The core of a kernel over pages, and the events that change its parts together: open nested transactions (Weikum
+//! 1991) with escrow (O'Neil 1986).
+//!
+//! [`Core`] has the operations over their pages, the transactions that live, their semantic locks and pending adds,
+//! and the commits. Each call of it is one event of the laws of mt_live, or leaves their state as it was. Begin with
+//! `IsConsistent` in specs, which says what the parts keep of one another. What may be called when, in which order it
+//! is tested, and what is answered, is for the kernel above.
+#![tactic(auto)]
+
+mod calls;
+mod commits;
+mod drops;
+mod ends;
+mod handover;
+mod kernel_core;
+mod reserves;
+mod steps;
+mod undo;
+mod views;
+
+pub use calls::Called;
+pub use handover::Rest;
+pub use kernel_core::{Commit, Core, Running};
+pub use steps::{Going, Stepping};

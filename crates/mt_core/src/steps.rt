@@ -1,0 +1,143 @@
+// The steps of operations.
+ghost use Rattle.std.specs.Prelude.{◌≡◌, ◌≢◌, ◌⊎◌, ◌<◌, ℕ, Ok, IfErr, length, slice_index_or};
+ghost use Rattle.mt_log.specs.Words.{durable};
+ghost use Rattle.mt_model.specs.Model.{Base};
+ghost use Rattle.mt_op.specs.declared.scope.Stage.TheVariants.{Planning, Writing};
+ghost use Rattle.mt_core.specs.Advancing.{IsAdvanced};
+ghost use Rattle.mt_core.specs.Consistent.{SameStates, IsSound, AtPlace, Origin, state_of, IsConsistent, Advances};
+ghost use Rattle.mt_op.specs.Moves.{SameOp};
+ghost use Rattle.mt_op.specs.Work.{Works};
+ghost use Rattle.mt_pool.specs.Views.{pages};
+ghost use Rattle.mt_core.specs.Work.{Lowers, LowersUndo, steps_in, undo_steps};
+ghost use Rattle.mt_op.specs.Faults.{TellsFaults};
+ghost use Rattle.mt_op.specs.Operations.{IsCause};
+ghost use Rattle.mt_core.specs.Restartable.{StaysRestartable, StepAppends};
+ghost use Rattle.mt_core.specs.Steps.{LeavesExplained, Steps, UndoSteps, TellsOther, NamesOther, WantsFrame};
+ghost use Rattle.mt_core.specs.PageLocks.{KeepsPageLocks};
+ghost use Rattle.mt_op.specs.Holds.{IsNext, KeepsLocks};
+ghost use Rattle.mt_core.specs.declared.kernel_core.Running.{Running};
+
+use crate::kernel_core::Core;
+use mt_base::{OpNo, Refusal};
+use mt_disk::Device;
+use mt_model::Reply;
+use mt_op::Stepped;
+use std::alloc::Global;
+
+/// What a step of an operation did that has not ended yet.
+#[derive(Clone, Copy, PartialEq, Eq, Debug)]
+pub enum Going {
+    /// It locked a page and looked at it, or wrote one.
+    Went,
+    /// Nothing: this operation, the smallest that holds a lock in the way, is larger and is to be waited for.
+    Wait(OpNo),
+    /// It gave all its page locks back and begins anew, since this operation, the smallest in the way, is smaller.
+    Again(OpNo),
+    /// Nothing: every frame holds a page that is yet to be flushed.
+    Flush,
+}
+
+/// What a step of an operation did.
+#[derive(Debug, Drop)]
+pub enum Stepping {
+    /// It goes on.
+    Going(Going),
+    /// It has ended, with this reply.
+    Ended(Reply),
+}
+
+impl<D: Device> Core<D> {
+    // Makes a step of the operation at a place.
+    fn advance(&mut self, alloc: Global, place: usize) -> Result<Stepped, Refusal>
+        requires safe { IsSound D.seen D.may_leave self.old }
+        requires within { place < length self.old.running.items }
+        requires stage { AtPlace self.old.running.items place (λ r. (r.scope.stage ≡ Planning) ⊎ (r.scope.stage
+            ≡ Writing)) }
+        ensures { IsAdvanced D.seen D.may_leave D.faults D.moment D.left_since self.old self.new place result }
+    {
+        self.operations.step(alloc, &mut self.running[place].scope)
+    }
+
+    /// Makes a step of an operation that is no inverse, at a place of those under way. Where it ends it has acted
+    /// once on the base that the pages hold, and stands behind all others with the model's reply. Else it leaves that
+    /// base. It waits, or begins anew, only for an operation of another transaction.
+    ///
+    /// Refused with 1 for want of memory, and with 2 where the device has failed; the base is as before.
+    pub fn step(&mut self, alloc: Global, place: usize) -> Result<Stepping, Refusal>
+        requires safe { IsSound D.seen D.may_leave self.old }
+        requires within { place < length self.old.running.items }
+        requires forward { AtPlace self.old.running.items place (λ r. r.scope.undoes ≡ 0) }
+        requires stage { AtPlace self.old.running.items place (λ r. (r.scope.stage ≡ Planning) ⊎ (r.scope.stage
+            ≡ Writing)) }
+        ensures work { AtPlace self.old.running.items place (λ r. Lowers (pages self.old.operations.store.pool) result
+            (steps_in self.old.running.items r.scope.txn) (steps_in self.new.running.items r.scope.txn)) }
+        ensures states { SameStates self.old self.new }
+        ensures commits { self.new.commits ≡ self.old.commits }
+        ensures full { result ≡ Ok (Stepping.Going Going.Flush) → WantsFrame self.old self.new }
+        ensures why { IfErr result IsCause }
+        ensures faults { TellsFaults (D.faults self.old.operations.store.device)
+            (D.faults self.new.operations.store.device) result }
+        ensures steps { (origin : Origin) (base : Base) → IsConsistent D.seen D.may_leave origin base self.old
+            → Steps D.seen D.may_leave origin base self.old self.new place result }
+        ensures other { (origin : Origin) (base : Base) → IsConsistent D.seen D.may_leave origin base self.old
+            → AtPlace self.old.running.items place (λ r. NamesOther self.new.running.items r.scope.txn result) }
+        ensures locks { AtPlace self.old.running.items place (λ r. KeepsPageLocks self.old self.new r result) }
+        ensures durable { durable self.new.operations.store.log ≡ durable self.old.operations.store.log }
+        ensures moments { LeavesExplained D.seen D.may_leave D.moment D.left_since self.old self.new }
+        ensures restartable { StaysRestartable D.seen D.may_leave self.old self.new }
+    {
+        match self.advance(alloc, place)? {
+            Stepped::Ready(reply, answer) => {
+                self.note_end(place, reply);
+                Ok(Stepping::Ended(answer))
+            }
+            Stepped::Went => Ok(Stepping::Going(Going::Went)),
+            Stepped::Wait(holder) => Ok(Stepping::Going(Going::Wait(holder))),
+            Stepped::Again(holder) => Ok(Stepping::Going(Going::Again(holder))),
+            Stepped::Flush => Ok(Stepping::Going(Going::Flush)),
+        }
+    }
+
+    /// Makes a step of an inverse, at a place of those under way. Where it ends, with the model's reply on the base,
+    /// what it takes back stands no more, nor what its transaction did behind that. Its add, where it is one, is
+    /// pending no more. It waits, or begins anew, only for an operation of another transaction.
+    ///
+    /// Refused with 1 for want of memory, and with 2 where the device has failed; the base is as before.
+    pub fn undo_step(&mut self, alloc: Global, place: usize) -> Result<Stepping, Refusal>
+        requires safe { IsSound D.seen D.may_leave self.old }
+        requires within { place < length self.old.running.items }
+        requires back { AtPlace self.old.running.items place (λ r. r.scope.undoes ≢ 0) }
+        requires stage { AtPlace self.old.running.items place (λ r. (r.scope.stage ≡ Planning) ⊎ (r.scope.stage
+            ≡ Writing)) }
+        ensures work { AtPlace self.old.running.items place (λ r. Lowers (pages self.old.operations.store.pool) result
+            (steps_in self.old.running.items r.scope.txn) (steps_in self.new.running.items r.scope.txn)) }
+        ensures lowers { AtPlace self.old.running.items place (λ r. LowersUndo (pages self.old.operations.store.pool)
+            result (undo_steps self.old r.scope.txn) (undo_steps self.new r.scope.txn)) }
+        ensures states { SameStates self.old self.new }
+        ensures commits { self.new.commits ≡ self.old.commits }
+        ensures full { result ≡ Ok (Stepping.Going Going.Flush) → WantsFrame self.old self.new }
+        ensures why { IfErr result IsCause }
+        ensures faults { TellsFaults (D.faults self.old.operations.store.device)
+            (D.faults self.new.operations.store.device) result }
+        ensures steps { (origin : Origin) (base : Base) → IsConsistent D.seen D.may_leave origin base self.old
+            → UndoSteps D.seen D.may_leave origin base self.old self.new place result }
+        ensures other { (origin : Origin) (base : Base) → IsConsistent D.seen D.may_leave origin base self.old
+            → AtPlace self.old.running.items place (λ r. NamesOther self.new.running.items r.scope.txn result) }
+        ensures locks { AtPlace self.old.running.items place (λ r. KeepsPageLocks self.old self.new r result) }
+        ensures durable { durable self.new.operations.store.log ≡ durable self.old.operations.store.log }
+        ensures moments { LeavesExplained D.seen D.may_leave D.moment D.left_since self.old self.new }
+        ensures restartable { StaysRestartable D.seen D.may_leave self.old self.new }
+    {
+        match self.advance(alloc, place)? {
+            Stepped::Ready(reply, answer) => {
+                self.note_undone(place);
+                drop(reply);
+                Ok(Stepping::Ended(answer))
+            }
+            Stepped::Went => Ok(Stepping::Going(Going::Went)),
+            Stepped::Wait(other) => Ok(Stepping::Going(Going::Wait(other))),
+            Stepped::Again(other) => Ok(Stepping::Going(Going::Again(other))),
+            Stepped::Flush => Ok(Stepping::Going(Going::Flush)),
+        }
+    }
+}

@@ -1,0 +1,98 @@
+// The inverses of an abort, and its end.
+ghost use Rattle.std.specs.Prelude.{◌≡◌, ◌≢◌, ◌<◌, ◌≤◌, ◌++◌, ◌∷◌, [], ℕ, true, false, All, None, Some, Ok, IfErr, OnOk, OnErr};
+ghost use Rattle.mt_frame.specs.declared.records.Record.TheVariants.{AbortEnd};
+ghost use Rattle.mt_live.specs.Lives.{member_of};
+ghost use Rattle.mt_log.specs.Words.{appended, durable};
+ghost use Rattle.mt_live.specs.Machine.{gone};
+ghost use Rattle.mt_live.specs.Undoing.{last_effect};
+ghost use Rattle.mt_model.specs.Model.{Base};
+ghost use Rattle.mt_live.specs.declared.transactions.TxnState.TheVariants.{Aborting};
+ghost use Rattle.mt_core.specs.Consistent.{IsSound, SameStates, SameStatesBut, StaysIn, state_in, Origin, state_of, IsConsistent, IsIn};
+ghost use Rattle.mt_core.specs.Restartable.{StaysRestartable};
+ghost use Rattle.mt_core.specs.Runs.{is_open};
+ghost use Rattle.mt_core.specs.Work.{undo_steps};
+ghost use Rattle.mt_core.specs.declared.kernel_core.Running.{Running};
+
+use crate::kernel_core::{Core, Running};
+use mt_base::limits::{OPERATION_LOG_BYTES, TRANSACTION_LOG_BYTES};
+use mt_base::{OpNo, Refusal, TxnNo};
+use mt_disk::Device;
+use mt_frame::Record;
+use mt_inverse::inverse_of;
+use std::alloc::Global;
+
+impl<D: Device> Core<D> {
+    /// Begins the inverse of the last operation that did something, of a transaction that is to be undone and runs
+    /// nothing (Weikum 1991). Answers `false` where there is none. It runs on the pages and the log bytes that were
+    /// kept for it, under the locks that its transaction holds, and splits no bucket.
+    ///
+    /// Refused with 1 for want of memory; nothing has begun then.
+    pub fn undo_begin(&mut self, alloc: Global, txn: TxnNo) -> Result<bool, Refusal>
+        requires safe { IsSound D.seen D.may_leave self.old }
+        requires aborting { state_in self.old.live.members txn ≡ Some Aborting }
+        requires idle { All (λ (r : Running). r.scope.txn ≢ txn) self.old.running.items }
+        ensures state { StaysIn D.seen D.may_leave self.old self.new }
+        ensures nothing { result ≡ Ok false → last_effect txn self.old.live.standing ≡ None }
+        ensures same { result ≡ Ok false → self.new ≡ self.old }
+        ensures fewer { result ≡ Ok true → undo_steps self.new txn < undo_steps self.old txn }
+        ensures err_left { OnErr result (undo_steps self.new txn ≤ undo_steps self.old txn) }
+        ensures store { self.new.operations.store ≡ self.old.operations.store }
+        ensures locks { self.new.operations.locks ≡ self.old.operations.locks }
+        ensures live { self.new.live ≡ self.old.live }
+        ensures commits { self.new.commits ≡ self.old.commits }
+        ensures only_memory { IfErr result (λ why. why ≡ Refusal.NoMemory) }
+        ensures restartable { StaysRestartable D.seen D.may_leave self.old self.new }
+    {
+        let Some(last) = self.live.last_to_undo(txn) else {
+            return Ok(false);
+        };
+        let Some(inverse) = inverse_of(last.op, last.reply)? else {
+            return Ok(false);
+        };
+        let op = last.op.try_clone()?;
+        let undoes = last.number.get();
+        self.running.reserve(1)?;
+        let number = self.last + 1;
+        let scope = self
+            .operations
+            .begin_op(alloc, txn, OpNo::new(number), inverse, undoes, false)?;
+        self.last = number;
+        self.reserved -= OPERATION_LOG_BYTES;
+        self.running.push_reserved(Running { scope, op });
+        Ok(true)
+    }
+
+    /// Ends an abort of which nothing is left to undo: its end is appended, the transaction is gone with its locks,
+    /// and leaves no trace.
+    ///
+    /// Refused with 1 for want of memory; the transaction lives then.
+    pub fn abort_end(&mut self, txn: TxnNo) -> Result<(), Refusal>
+        requires safe { IsSound D.seen D.may_leave self.old }
+        requires at_work { is_open (member_of self.old.live.members txn) ≡ true }
+        requires idle { All (λ (r : Running). r.scope.txn ≢ txn) self.old.running.items }
+        requires nothing { last_effect txn self.old.live.standing ≡ None }
+        ensures gone { (origin : Origin) (base : Base) → IsConsistent D.seen D.may_leave origin base self.old
+            → OnOk result (IsIn D.seen D.may_leave origin base (gone (state_of self.old base) txn) self.new) }
+        ensures ended { OnOk result (appended self.new.operations.store.log
+            ≡ appended self.old.operations.store.log ++ AbortEnd txn ∷ []) }
+        ensures durable { durable self.new.operations.store.log ≡ durable self.old.operations.store.log }
+        ensures others { SameStatesBut self.old self.new txn }
+        ensures out { OnOk result (state_in self.new.live.members txn ≡ None) }
+        ensures err_states { OnErr result (SameStates self.old self.new) }
+        ensures locks { self.new.operations.locks ≡ self.old.operations.locks }
+        ensures commits { self.new.commits ≡ self.old.commits }
+        ensures none_left { OnOk result (undo_steps self.old txn ≡ 0) }
+        ensures err_left { OnErr result (undo_steps self.new txn ≤ undo_steps self.old txn) }
+        ensures err { (origin : Origin) (base : Base) → IsConsistent D.seen D.may_leave origin base self.old
+            → OnErr result (IsIn D.seen D.may_leave origin base (state_of self.old base) self.new) }
+        ensures only_memory { IfErr result (λ why. why ≡ Refusal.NoMemory) }
+        ensures device { self.new.operations.store.device ≡ self.old.operations.store.device }
+        ensures restartable { StaysRestartable D.seen D.may_leave self.old self.new }
+    {
+        self.operations.append(Record::AbortEnd { txn })?;
+        self.live.leave(txn);
+        self.locks.release(txn);
+        self.reserved -= TRANSACTION_LOG_BYTES;
+        Ok(())
+    }
+}

@@ -1,0 +1,75 @@
+// What a kernel asks of its parts.
+ghost use Rattle.std.specs.Prelude.{◌≡◌, ◌==◌, ◌<◌, ◌≢◌, ℕ, length, Some, true, not};
+ghost use Rattle.mt_core.specs.Consistent.{AtPlace, IsOwnerOf};
+ghost use Rattle.mt_core.specs.declared.kernel_core.Running.{Running};
+
+use crate::kernel_core::{Core, Running};
+use mt_base::{OpNo, TxnNo};
+use mt_disk::Device;
+use mt_live::Live;
+use mt_log::Log;
+use mt_model::Committed;
+
+// The transaction whose operation under way has this number, if there is one.
+fn owner_in(running: &[Running], op: OpNo) -> Option<TxnNo>
+    ensures { IsOwnerOf running.now op result }
+{
+    for (place, one) in running.iter().enumerate() {
+        if one.scope.number() == op {
+            return Some(running[place].scope.txn());
+        }
+    }
+    None
+}
+
+impl<D: Device> Core<D> {
+    /// The transactions that live, lent.
+    pub fn live(&self) -> &Live
+        ensures { result.now ≡ self.now.live }
+    {
+        &self.live
+    }
+
+    /// The log, lent.
+    pub fn log(&self) -> &Log
+        ensures { result.now ≡ self.now.operations.store.log }
+    {
+        self.operations.log()
+    }
+
+    /// The number of the operation that began last.
+    pub fn last(&self) -> u64
+        ensures { result ≡ self.now.last }
+    {
+        self.last
+    }
+
+    /// How many commits are under way.
+    pub fn count_commits(&self) -> usize
+        ensures { result ≡ length self.now.commits.items }
+    {
+        self.commits.len()
+    }
+
+    /// Whether the operation at a place is an inverse.
+    pub fn is_inverse(&self, place: usize) -> bool
+        requires { place < length self.now.running.items }
+        ensures { AtPlace self.now.running.items place (λ r. result ≡ not (r.scope.undoes == 0)) }
+    {
+        self.running[place].scope.undoes() != 0
+    }
+
+    /// The durable commits, in their order.
+    pub fn book(&self) -> &[Committed]
+        ensures { result.now ≡ self.now.book.items }
+    {
+        self.book.as_slice()
+    }
+
+    /// The transaction whose operation under way has this number, if there is one.
+    pub fn owner(&self, op: OpNo) -> Option<TxnNo>
+        ensures owner { IsOwnerOf self.now.running.items op result }
+    {
+        owner_in(self.running.as_slice(), op)
+    }
+}

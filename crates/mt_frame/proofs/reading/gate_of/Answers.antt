@@ -1,4 +1,0 @@
-use Rattle.mt_frame.proofs.reading.gate_of.Goals as goal
-
-pub returns : goal.returns
-returns c = c.byte_within.ensures.value

@@ -1,5 +1,0 @@
-use Rattle.mt_index.specs.Pages.{AreZero}
-use Rattle.mt_index.proofs.checking.are_zero.Given as goal
-
-abbrev pub invariant-loop-i : goal.invariant-loop-i
-invariant-loop-i l = AreZero l.page l.fn.from l.i

@@ -1,0 +1,5 @@
+use Rattle.mt_index.specs.Checks.{bytes_of, holder_in, ArePassed}
+use Rattle.mt_index.proofs.entry_rules.pass.Given as goal
+
+abbrev pub invariant-loop-i : goal.invariant-loop-i
+invariant-loop-i l = ArePassed (bytes_of l.pages) l.bucket l.at l.i (holder_in l.holders)

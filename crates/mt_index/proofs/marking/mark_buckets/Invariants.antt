@@ -1,9 +1,0 @@
-use Rattle.std.proofs.Common.{◌≡◌, length}
-use Rattle.mt_index.specs.Checks.{bytes_of, AreMarked}
-use Rattle.mt_index.proofs.marking.mark_buckets.Given as goal
-
-abbrev pub invariant-loop-i : goal.invariant-loop-i
-invariant-loop-i l = record {
-  size : length l.homes ≡ length l.fn.homes;
-  marked : AreMarked (bytes_of l.pages) l.homes l.i;
-}

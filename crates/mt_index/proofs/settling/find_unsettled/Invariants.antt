@@ -1,6 +1,0 @@
-use Rattle.std.proofs.Common.{◌<◌, ℕ}
-use Rattle.mt_index.specs.Checks.{bytes_of, Settles}
-use Rattle.mt_index.proofs.settling.find_unsettled.Given as goal
-
-abbrev pub invariant-loop-number : goal.invariant-loop-number
-invariant-loop-number l = (p : ℕ) → p < l.number → Settles (bytes_of l.pages) l.homes p

@@ -1,5 +1,0 @@
-use Rattle.mt_index.specs.Checks.{bytes_of, holder_in, ArePassed}
-use Rattle.mt_index.proofs.settling.pass.Given as goal
-
-abbrev pub invariant-loop-i : goal.invariant-loop-i
-invariant-loop-i l = ArePassed (bytes_of l.pages) l.bucket l.at l.i (holder_in l.holders)

@@ -1,7 +1,0 @@
-use Rattle.std.proofs.Common.{◌≡◌, take}
-use Rattle.std.specs.List.{sum_by}
-use Rattle.mt_kernel.specs.Runs.{call_pages}
-use Rattle.mt_kernel.proofs.reserving.all_pages_kept.Given as goal
-
-abbrev pub invariant-loop-call : goal.invariant-loop-call
-invariant-loop-call l = l.pages ≡ sum_by call_pages (take l.call-index l.calls)

@@ -1,9 +1,0 @@
-use Rattle.std.proofs.Common.{arith, refl}
-use Rattle.mt_locked.proofs.Counts.{next_number}
-use Rattle.mt_locked.proofs.closing.are_all.Goals as goal
-
-pub numbers-preserved : goal.numbers-preserved
-numbers-preserved g c = next_number c.numbers.before c.args.passes.now (c.if-not-has_number.ensures refl) c.numbers.invariant
-
-pub returns : goal.returns
-returns g c = λ _. record { long = c.if-len-count.false; each = λ n low high. c.numbers.invariant n low (let all = c.numbers-test.false in let long = c.if-len-count.false in omega arith) }

@@ -1,4 +1,0 @@
-use Rattle.mt_locked.proofs.closing.has_number.Given as goal
-
-abbrev pub invariant-passes : goal.invariant-passes
-invariant-passes g l = Unit {0}

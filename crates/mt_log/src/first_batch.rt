@@ -1,0 +1,158 @@
+// The beginning of an area: an empty first batch, forced as any other behind a gate that is closed.
+ghost use Rattle.std.specs.Prelude.{◌≡◌, ◌⊎◌, ◌+◌, ◌-◌, ◌<◌, ◌≤◌, ◌^◌, ◌++◌, ◌∷◌, [], ℕ, List, false, length, vec_capacity, IfOk, IfErr, IsErrOf, OnOk};
+ghost use Rattle.std.specs.List.{AllByRecursion};
+ghost use Rattle.mt_base.specs.declared.refusal.Refusal.{Refusal};
+ghost use Rattle.mt_disk.specs.Disk.{Torn, Follows, LeavesOnly, Only};
+ghost use Rattle.mt_frame.specs.Grammar.{IsRecord, body_text};
+ghost use Rattle.mt_log.specs.Area.{TornFrom, AreaBegins};
+ghost use Rattle.mt_log.specs.Batch.{framed, Scans};
+ghost use Rattle.mt_frame.specs.declared.records.Record.{Record};
+ghost use Rattle.mt_log.specs.declared.area.AreaPlace.{AreaPlace};
+ghost use Rattle.mt_log.specs.Ends.{EndsForce};
+ghost use Rattle.mt_log.specs.First.{IsBegun, IsFirst};
+ghost use Rattle.mt_log.specs.Sound.{IsSound};
+ghost use Rattle.mt_log.specs.Words.{durable_batches, durable, in_flight, waiting, area_start, area_end, area_size, used, calls_left, has_failed, IsOn};
+
+use crate::area::AreaPlace;
+use crate::forces::close_text;
+use crate::durability::write_durably;
+use crate::log::{Forced, Log, head_alone, push_text};
+use crate::stage::{Stage, Step};
+use mt_base::{History, Refusal};
+use mt_disk::Device;
+use mt_frame::{CLOSED_GATE, Record};
+use std::alloc::Global;
+
+// What a force of these records writes behind the gate, and the records as a batch.
+fn first_batch(alloc: Global, records: &[Record]) -> Result<(Vec<u8>, History<Record>), Refusal>
+    requires grammar { AllByRecursion IsRecord records.now }
+    requires short { 5 + length (body_text records.now) < 2 ^ 32 }
+    ensures text { IfOk result (λ first. first.0.items ≡ framed records.now ++ 0 ∷ []) }
+    ensures room { IfOk result (λ first. 5 ≤ vec_capacity first.0) }
+    ensures records { IfOk result (λ first. first.1.items ≡ records.now) }
+    ensures only_memory { IfErr result (λ why. why ≡ Refusal.NoMemory) }
+{
+    let mut text = head_alone(alloc)?;
+    let mut batch = History::new();
+    for entry in records {
+        push_text(&mut text, entry)?;
+        batch = batch.and(entry);
+    }
+    close_text(&mut text);
+    Ok((text, batch))
+}
+
+/// Prepares the log of an area that is to begin with a batch of these records, which are images of pages and nothing
+/// else. No device is called: [`begin_prepared`] writes the batch, and takes no memory.
+///
+/// The only refusal is [`Refusal::NoMemory`].
+pub fn prepare_area(alloc: Global, place: AreaPlace, images: &[Record]) -> Result<Log, Refusal>
+    requires grammar { AllByRecursion IsRecord images.now }
+    requires fits { 5 + length (body_text images.now) < place.end - place.start }
+    ensures first { IfOk result (λ log. IsFirst place images.now log) }
+    ensures only_memory { IfErr result (λ why. why ≡ Refusal.NoMemory) }
+{
+    let pending = head_alone(alloc)?;
+    let (flight, in_flight) = first_batch(alloc, images)?;
+    Ok(Log {
+        place,
+        next: place.start,
+        behind: place.start + flight.len() as u64,
+        stage: Stage::Forcing(Step::WriteBody),
+        pending,
+        flight,
+        batched: images.len() as u64,
+        waiting_count: 0,
+        waiting: History::new(),
+        in_flight,
+        batches: History::new(),
+    })
+}
+
+// Forces the batch that is on its way, to the end.
+fn force_all<D: Device>(log: &mut Log, device: &mut D) -> Result<(), Refusal>
+    requires on { IsOn D.seen D.may_leave log.old device.old }
+    requires under_way { 0 < calls_left log.old }
+    requires well { has_failed log.old ≡ false }
+    ensures { EndsForce D.seen D.may_leave D.faults D.moment D.left_since log.old log.new device.old device.new result }
+{
+    while let Forced::More = log.force_step(device)? {}
+    Ok(())
+}
+
+/// Begins an area anew with the batch that [`prepare_area`] made ready, and answers its log. The area may hold
+/// anything before. Its first gate is closed and synced. Then the batch is written with a closed gate behind it and
+/// synced. Then the gate is opened and synced. Until the first sync a crash may leave any byte as the first gate, and
+/// the rest as it was. Until the last one it leaves a gate that is closed, or the batch; from then on the batch.
+///
+/// The only refusal is [`Refusal::DeviceFailed`]. Nothing outside of the area is touched in any case. It takes no memory.
+pub fn begin_prepared<D: Device>(device: &mut D, prepared: Log) -> Result<Log, Refusal>
+    requires prepared { (place : AreaPlace) × (images : List Record) × IsFirst place images prepared }
+    requires within { area_end prepared ≤ length (D.seen device.old) }
+    ensures on { IfOk result (λ log. IsOn D.seen D.may_leave log device.new) }
+    ensures log { (place : AreaPlace) (images : List Record) → IsFirst place images prepared
+        → IfOk result (IsBegun place images) }
+    // Whenever a crash comes in this call, and what it leaves once the call has gone well.
+    ensures begins { (place : AreaPlace) (images : List Record) → IsFirst place images prepared
+        → LeavesOnly D.moment D.left_since device.old device.new
+        (AreaBegins (D.may_leave device.old) place.start place.end images) }
+    ensures begun { (place : AreaPlace) (images : List Record) → IsFirst place images prepared
+        → OnOk result ((c : List ℕ) → D.may_leave device.new c → Scans c place.start place.end (images ∷ [])) }
+    ensures alone { OnOk result (Only (D.seen device.new) (D.may_leave device.new)) }
+    ensures moments { (place : AreaPlace) (images : List Record) → IsFirst place images prepared
+        → LeavesOnly D.moment D.left_since device.old device.new
+        (TornFrom (D.may_leave device.old) place.start (place.end - place.start)) }
+    ensures elsewhere { (place : AreaPlace) (images : List Record) → IsFirst place images prepared
+        → Follows (Torn place.start (place.end - place.start)) (D.may_leave device.old) (D.may_leave device.new) }
+    ensures rest { (place : AreaPlace) (images : List Record) → IsFirst place images prepared
+        → Torn place.start (place.end - place.start) (D.seen device.old) (D.seen device.new) }
+    ensures cause { IfErr result (λ why. (why ≡ Refusal.DeviceFailed) × (D.faults device.old < D.faults device.new)) }
+    ensures quiet { OnOk result (D.faults device.new ≡ D.faults device.old) }
+{
+    let mut log = prepared;
+    write_durably(device, log.next, &[CLOSED_GATE])?;
+    force_all(&mut log, device)?;
+    Ok(log)
+}
+
+/// Begins an area anew with an empty first batch, and answers its log. It does so by [`prepare_area`], with no image,
+/// and then [`begin_prepared`].
+///
+/// Refusals are [`Refusal::NoMemory`], before any device call, and [`Refusal::DeviceFailed`]. Nothing outside of the
+/// area is touched in any case.
+#[tactic(auto, unfolding(crate::specs::Words::durable))]
+pub fn begin_area<D: Device>(
+    alloc: Global,
+    device: &mut D,
+    place: AreaPlace,
+) -> Result<Log, Refusal>
+    requires { place.end ≤ length (D.seen device.old) }
+    ensures on { IfOk result (λ log. IsOn D.seen D.may_leave log device.new) }
+    ensures start { IfOk result (λ log. area_start log ≡ place.start) }
+    ensures end { IfOk result (λ log. area_end log ≡ place.end) }
+    ensures size { IfOk result (λ log. area_size log ≡ place.end - place.start) }
+    ensures batches { IfOk result (λ log. durable_batches log ≡ [] ∷ []) }
+    ensures durable { IfOk result (λ log. durable log ≡ []) }
+    ensures in_flight { IfOk result (λ log. in_flight log ≡ []) }
+    ensures waiting { IfOk result (λ log. waiting log ≡ []) }
+    ensures used { IfOk result (λ log. used log ≡ 5) }
+    ensures calls { IfOk result (λ log. calls_left log ≡ 0) }
+    ensures failed { IfOk result (λ log. has_failed log ≡ false) }
+    ensures sound { IfOk result (λ log. (pages : ℕ) → IsSound pages log) }
+    ensures begins { LeavesOnly D.moment D.left_since device.old device.new
+        (AreaBegins (D.may_leave device.old) place.start place.end []) }
+    ensures begun { OnOk result ((c : List ℕ) → D.may_leave device.new c → Scans c place.start place.end ([] ∷ [])) }
+    ensures moments { LeavesOnly D.moment D.left_since device.old device.new
+        (TornFrom (D.may_leave device.old) place.start (place.end - place.start)) }
+    ensures elsewhere { Follows (Torn place.start (place.end - place.start)) (D.may_leave device.old)
+        (D.may_leave device.new) }
+    ensures rest { Torn place.start (place.end - place.start) (D.seen device.old) (D.seen device.new) }
+    ensures cause { IfErr result (λ why. (why ≡ Refusal.NoMemory) ⊎ (why ≡ Refusal.DeviceFailed)
+        × (D.faults device.old < D.faults device.new)) }
+    ensures memory { IsErrOf result Refusal.NoMemory → device.new ≡ device.old }
+    ensures alone { OnOk result (Only (D.seen device.new) (D.may_leave device.new)) }
+    ensures quiet { OnOk result (D.faults device.new ≡ D.faults device.old) }
+{
+    let prepared = prepare_area(alloc, place, &[])?;
+    begin_prepared(device, prepared)
+}

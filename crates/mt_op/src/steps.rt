@@ -1,0 +1,266 @@
+// The steps of an operation, from its first page lock to its end.
+ghost use Rattle.std.specs.Prelude.{◌≡◌, ◌≢◌, ◌⊎◌, ◌<◌, ◌≤◌, ◌+◌, ◌^◌, ℕ, List, length, All, Contains, [], None, Some, Ok, true, false, MatchOption, IfErr, IsTrue, ◌↔◌};
+ghost use Rattle.mt_base.specs.declared.limits.TheConstants.{MAX_COUNTERS, MAX_PAGES, MAX_RELATIONS, MAX_WRITTEN_PAGES};
+ghost use Rattle.mt_steps.specs.Overlays.{AreAtHand};
+ghost use Rattle.mt_steps.specs.Logged.{logged_of};
+ghost use Rattle.mt_base.specs.declared.modes.Mode.TheVariants.{Write};
+ghost use Rattle.mt_disk.specs.Disk.{LeavesOnly};
+ghost use Rattle.mt_model.specs.Model.{IsWithin};
+ghost use Rattle.mt_log.specs.Words.{appended, durable, used, area_size};
+ghost use Rattle.mt_plock.specs.Holding.{lock_of};
+ghost use Rattle.mt_space.specs.Changes.{PageBytes, after, IsUntouched};
+ghost use Rattle.mt_pool.specs.Kept.{IsKept, Explains};
+ghost use Rattle.mt_pool.specs.Views.{IsFull};
+ghost use Rattle.mt_steps.specs.Plans.{own_needs, free_pages, record_bytes as bytes_put, InPages, IsPlanned, TakesPages};
+ghost use Rattle.mt_op.specs.World.{IsUnderWay, looked, held_in};
+ghost use Rattle.mt_op.specs.Operations.{world, IsRight, IsOneOf, IsOneWithin, Steps, GivesBack, IsPlannedOn, HasBudget, only_reads, IsCause, claimed};
+ghost use Rattle.mt_op.specs.Holds.{IsNext, IsAsked, IsUnseen, FindsRoom, KeepsLocks, KeepsLocksOn, KeepsScope, KeepsScopeOn};
+ghost use Rattle.mt_op.specs.Stepping.{GoesAhead, KeepsPlan, LocksPage, PlansOn};
+ghost use Rattle.mt_op.specs.Records.{KeepsRecords};
+ghost use Rattle.mt_op.specs.Work.{Works, WorksOn, ComesTo};
+ghost use Rattle.mt_op.specs.Faults.{TellsFaults};
+ghost use Rattle.mt_op.specs.declared.scope.Stage.TheVariants.{Planning, Writing};
+ghost use Rattle.mt_op.specs.declared.answers.Stepped.TheVariants as stepped;
+
+use crate::answers::Stepped;
+use crate::operations::Operations;
+use crate::scope::{OpScope, Stage};
+use mt_base::{Mode, OpNo, PageNo, Refusal};
+use mt_disk::Device;
+use mt_model::{Op, Reply};
+use mt_plock::{PageGuard, PageLock};
+use mt_space::pages::MAP;
+use mt_space::{Changes, Pages};
+use mt_steps::{Act, plan};
+use std::alloc::Global;
+
+impl<D: Device> Operations<D> {
+    /// Makes a step of an operation: it locks a page and looks at it, or writes a page with its log records, or
+    /// ends. All pages are locked and looked at before the first is written.
+    ///
+    /// [`Stepped::Wait`], [`Stepped::Flush`] and the refusals change nothing of pages, locks and log. Of the
+    /// operation they change nothing but that its plan may be made, where it is not to wait. [`Stepped::Again`] gives
+    /// the operation's locks back, so that it begins anew with its number. As many free pages as the operation may
+    /// take are to be claimed for it; with its end it has given them back. The refusals are [`Refusal::NoMemory`]
+    /// and, if and only if the device failed in this call, [`Refusal::DeviceFailed`].
+    ///
+    /// A lock is asked for on a page that the plan asks for and that was not looked at. An operation that only reads
+    /// asks for it to read it. A row's operation looks for its key first: in the directory, to read it, and in the
+    /// key's chain. The plan may ask for the space map, for a record, where no page was tried yet. A page that takes
+    /// the record and that nobody has locked is tried first then, to write it. A page that is locked is passed by. The
+    /// map itself is asked for then only if each page that takes the record is locked. Or a lock is asked for, to write
+    /// it, on a page that the plan changes.
+    ///
+    /// A record goes into the page of records that was tried first and takes it, or into a free page where none was.
+    /// A free page is taken only for such a record, or for its entry where the key's bucket is full. Only a page of
+    /// records is given back.
+    ///
+    /// How many steps: over `n` pages an operation that nobody is in the way of is ready after at most `2 n + 9`
+    /// of them. A step that answers [`Stepped::Went`] leaves less to do, [`Stepped::Again`] adds at most `2 n`
+    /// steps, and nothing else adds any.
+    pub fn step(&mut self, alloc: Global, scope: &mut OpScope) -> Result<Stepped, Refusal>
+        requires right { IsOneWithin D.seen D.may_leave self.old scope.old }
+        requires claims { own_needs scope.old.op scope.old.split ≤ claimed self.old }
+        requires stage { (scope.old.stage ≡ Planning) ⊎ (scope.old.stage ≡ Writing) }
+        requires budget { HasBudget scope.old }
+        requires room { used self.old.store.log + scope.old.left < area_size self.old.store.log }
+        ensures steps { (opening : PageBytes) (relations counters : ℕ)
+            → IsRight D.seen D.may_leave opening relations counters self.old
+            → IsUnderWay relations counters (world D.seen opening self.old) scope.old
+            → relations ≤ MAX_RELATIONS → counters ≤ MAX_COUNTERS →
+            IsRight D.seen D.may_leave opening relations counters self.new
+            × Steps relations counters (world D.seen opening self.old) (world D.seen opening self.new)
+            scope.old scope.new result }
+        ensures moments { (opening : PageBytes) → IsKept D.seen D.may_leave opening self.old.store
+            → LeavesOnly D.moment D.left_since self.old.store.device self.new.store.device
+            (Explains opening self.old.store) }
+        ensures log { used self.new.store.log + scope.new.left ≡ used self.old.store.log + scope.old.left }
+        ensures area { area_size self.new.store.log ≡ area_size self.old.store.log }
+        ensures durable { durable self.new.store.log ≡ durable self.old.store.log }
+        ensures budget { HasBudget scope.new }
+        ensures claims { GivesBack (own_needs scope.old.op scope.old.split) (claimed self.old) (claimed self.new)
+            result }
+        ensures full { result ≡ Ok stepped.Flush → IsFull self.old.store.pool × (self.new ≡ self.old) }
+        ensures stage { ComesTo scope.new.stage result }
+        ensures work { Works scope.old scope.new result }
+        ensures records { KeepsRecords scope.new (appended self.old.store.log) (appended self.new.store.log) result }
+        ensures locks { KeepsLocks scope.old.number (IsNext self.old.rooms self.old.locks scope.old) self.old.locks
+            self.new.locks result }
+        ensures scope { KeepsScope scope.old scope.new result }
+        ensures writing { scope.old.stage ≡ Writing → self.new.locks ≡ self.old.locks }
+        // Where the plan is made, a page more is written then.
+        ensures went { scope.old.stage ≡ Writing → result ≡ Ok stepped.Went
+            → scope.new.written ≡ scope.old.written + 1 }
+        ensures why { IfErr result IsCause }
+        ensures faults { TellsFaults (D.faults self.old.store.device) (D.faults self.new.store.device) result }
+    {
+        if scope.stage == Stage::Writing {
+            return self.go_on(alloc, scope);
+        }
+        match self.plan_step(alloc, scope)? {
+            Some(stepped) => Ok(stepped),
+            None => self.go_on(alloc, scope),
+        }
+    }
+
+    // Writes the next page of the plan, or ends the operation.
+    fn go_on(&mut self, alloc: Global, scope: &mut OpScope) -> Result<Stepped, Refusal>
+        requires right { IsOneWithin D.seen D.may_leave self.old scope.old }
+        requires claims { own_needs scope.old.op scope.old.split ≤ claimed self.old }
+        requires writing { scope.old.stage ≡ Writing }
+        requires budget { HasBudget scope.old }
+        requires room { used self.old.store.log + scope.old.left < area_size self.old.store.log }
+        ensures { GoesAhead D.seen D.may_leave D.moment D.left_since D.faults self.old self.new scope.old scope.new
+            result }
+    {
+        if scope.written < scope.changes.list.len() {
+            self.write_next(alloc, scope)
+        } else {
+            self.finish(scope)
+        }
+    }
+
+    // Plans over the pages that the operation has looked at: locks the one that is needed next, or keeps the
+    // plan where there is none.
+    fn plan_step(&mut self, alloc: Global, scope: &mut OpScope) -> Result<Option<Stepped>, Refusal>
+        requires right { IsOneWithin D.seen D.may_leave self.old scope.old }
+        requires claims { own_needs scope.old.op scope.old.split ≤ claimed self.old }
+        requires planning { scope.old.stage ≡ Planning }
+        requires budget { HasBudget scope.old }
+        ensures { PlansOn D.seen D.may_leave D.moment D.left_since D.faults self.old self.new scope.old scope.new
+            result }
+    {
+        match plan(alloc, &scope.seen, scope.room, &scope.op, scope.split)? {
+            Act::Lock(page, mode) => {
+                let stepped = self.lock_next(scope, page, mode)?;
+                Ok(Some(stepped))
+            }
+            Act::Made(changes, reply) => self.keep_plan(scope, changes, reply),
+            // The page that it was led to does not take the record.
+            Act::Full => {
+                scope.room = None;
+                Ok(Some(Stepped::Went))
+            }
+            Act::Broken => unreachable!(),
+        }
+    }
+
+    // Locks the page that a plan needs. Where a new page is due for a record, a page with room that nobody has locked
+    // comes first.
+    fn lock_next(
+        &mut self,
+        scope: &mut OpScope,
+        page: PageNo,
+        mode: Mode,
+    ) -> Result<Stepped, Refusal>
+        requires right { IsOneOf D.seen D.may_leave self.old scope.old }
+        requires planning { scope.old.stage ≡ Planning }
+        requires unseen { IsUnseen scope.old page mode }
+        requires asked { IsAsked scope.old page mode }
+        ensures { LocksPage D.seen D.may_leave D.moment D.left_since D.faults self.old self.new scope.old scope.new
+            result }
+    {
+        if page.get() != MAP {
+            return self.lock(scope, page, mode, scope.room);
+        }
+        match self.room_for(scope) {
+            Some(room) => self.lock(scope, room, Mode::Write, Some(room)),
+            None => self.lock(scope, page, mode, scope.room),
+        }
+    }
+
+    // The first page of records that takes the operation's record and that nobody has locked: one that is locked is
+    // passed by. `None` also where the operation puts no record, or was led to a page.
+    fn room_for(&self, scope: &OpScope) -> Option<PageNo>
+        requires few { length self.now.rooms ≤ MAX_PAGES }
+        requires short { bytes_put scope.now.op < 2 ^ 16 }
+        ensures { FindsRoom self.now.rooms self.now.locks scope.now result }
+    {
+        if scope.room.is_some() {
+            return None;
+        }
+        let bytes = record_bytes(&scope.op)?;
+        let mut from = 0;
+        while let Some(page) = self.rooms.with_room_from(from, bytes) {
+            if self.locks.is_unlocked(page) {
+                return Some(page);
+            }
+            from = page.get() + 1;
+        }
+        None
+    }
+
+    // Keeps the plan, once each page that changes is locked to be written.
+    fn keep_plan(
+        &mut self,
+        scope: &mut OpScope,
+        changes: Changes,
+        reply: Reply,
+    ) -> Result<Option<Stepped>, Refusal>
+        requires right { IsOneOf D.seen D.may_leave self.old scope.old }
+        requires planning { scope.old.stage ≡ Planning }
+        requires there { AreAtHand (looked scope.old) changes.list.items }
+        requires few { length changes.list.items ≤ MAX_WRITTEN_PAGES }
+        requires quiet { logged_of scope.old.op reply ≡ None → changes.list.items ≡ [] }
+        requires reads { only_reads scope.old.op ≡ true → changes.list.items ≡ [] }
+        requires planned { (relations counters : ℕ) → relations ≤ MAX_RELATIONS
+            → IsWithin relations counters scope.old.op
+            → InPages (looked scope.old) scope.old.room relations counters scope.old.seen.total
+            (λ pages. IsPlanned relations counters scope.old.seen.total (looked scope.old) pages changes.list.items
+            scope.old.op scope.old.split reply) }
+        requires takes { (relations counters : ℕ) → relations ≤ MAX_RELATIONS → IsWithin relations counters scope.old.op
+            → InPages (looked scope.old) scope.old.room relations counters scope.old.seen.total
+            (λ pages. TakesPages scope.old.room scope.old.op pages (after changes.list.items pages)) }
+        requires budget { HasBudget scope.old }
+        ensures { KeepsPlan D.seen D.may_leave self.old self.new scope.old scope.new result }
+    {
+        if let Some(page) = first_unlocked(scope.number, &changes, scope.guards.as_slice()) {
+            let stepped = self.upgrade(scope, page)?;
+            return Ok(Some(stepped));
+        }
+        scope.changes = changes;
+        scope.reply = Some(reply);
+        scope.stage = Stage::Writing;
+        Ok(None)
+    }
+}
+
+// The first page of the changes that the operation has not locked to write.
+fn first_unlocked(op: OpNo, changes: &Changes, guards: &[PageGuard]) -> Option<PageNo>
+    ensures { MatchOption result
+        (All (λ c. Contains guards.now (lock_of op c.page Write)) changes.now.list.items)
+        (λ p. (IsUntouched changes.now.list.items p → ⊥) × (Contains guards.now (lock_of op p Write) → ⊥)) }
+{
+    for change in &changes.list {
+        let lock = PageLock {
+            op,
+            page: change.page,
+            mode: Mode::Write,
+        };
+        if !holds(guards, &lock) {
+            return Some(change.page);
+        }
+    }
+    None
+}
+
+// Whether one of the guards is of this lock.
+fn holds(guards: &[PageGuard], lock: &PageLock) -> bool
+    ensures { IsTrue result ↔ Contains guards.now lock.now }
+{
+    guards.iter().any(|guard| guard.lock() == *lock)
+}
+
+// The bytes of the record that an operation puts, if it puts one.
+fn record_bytes(op: &Op) -> Option<u16>
+    ensures { MatchOption result (0 < bytes_put op.now → 2 ^ 16 ≤ bytes_put op.now)
+        (λ bytes. (0 < bytes) × (bytes ≡ bytes_put op.now)) }
+{
+    match op {
+        Op::Insert(_, key, value) | Op::Update(_, key, value) => {
+            let lengths = key.as_slice().len().saturating_add(value.as_slice().len());
+            u16::try_from(lengths.saturating_add(4)).ok()
+        }
+        _ => None,
+    }
+}

@@ -1,0 +1,17 @@
+use Rattle.std.proofs.Common.{◌≡◌, ◌≤◌, drop, length, map}
+use Rattle.mt_space.specs.Changes.{PageBytes}
+use Rattle.mt_steps.specs.Repeated.{put_back}
+use Rattle.mt_replay.specs.Memory.{AreFirst, AreWhole}
+use Rattle.mt_replay.specs.Passes.{change_of}
+use Rattle.mt_replay.proofs.repeat.put_all_back.Given as goal
+
+abbrev pub invariant-loop-i : goal.invariant-loop-i
+invariant-loop-i l = record {
+  inside : l.i ≤ length l.list;
+  whole : AreWhole l.pages.items;
+  count : length l.pages.items ≡ length l.fn.pages.items;
+  back : (f : PageBytes) → AreFirst l.fn.pages.items f → AreFirst l.pages.items (put_back (map change_of (drop l.i l.list)) f);
+}
+
+abbrev pub decreases-loop-i : goal.decreases-loop-i
+decreases-loop-i l = l.i

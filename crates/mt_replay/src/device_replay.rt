@@ -1,0 +1,164 @@
+// From the bytes of a device to the pages that they stand for.
+ghost use Rattle.std.specs.Prelude.{◌≡◌, ◌⊎◌, ◌<◌, ◌≤◌, ℕ, List, ◌^◌, length, IfOk, IfErr, Err};
+ghost use Rattle.mt_base.specs.declared.limits.TheConstants.{MAX_PAGES};
+ghost use Rattle.mt_base.specs.declared.refusal.Refusal.{Refusal};
+ghost use Rattle.mt_disk.specs.Disk.{LeavesOnly};
+ghost use Rattle.mt_frame.specs.declared.records.Record.{Record};
+ghost use Rattle.mt_frame.specs.declared.slots.MasterSlot.{MasterSlot};
+ghost use Rattle.mt_log.specs.Batch.{joined};
+ghost use Rattle.mt_log.specs.Found.{places_of, records_of};
+ghost use Rattle.mt_log.specs.Holds.{BreaksAt, places_from};
+ghost use Rattle.mt_log.specs.Quiet.{OnlyReads};
+ghost use Rattle.mt_model.specs.Model.{Base};
+ghost use Rattle.std.specs.List.{AllByRecursion};
+ghost use Rattle.mt_frame.specs.Grammar.{IsOperation};
+ghost use Rattle.mt_replay.specs.Memory.{AreWhole};
+ghost use Rattle.mt_log.specs.Masters.{IsRuling, IsUnformatted, area_end, area_start};
+ghost use Rattle.mt_replay.specs.Refused.{AreUndone, BreaksFormat, BreaksLog, IsCause, IsLog, IsReplayed, StopsUndoing};
+ghost use Rattle.mt_replay.specs.Stands.{AreHeld, CanRestart, HasArea, ShowsBase};
+
+use crate::figures::{Figures, figures_of};
+use crate::laws::{each_inverse_finds, only_own_pages_matter, restart_finds_the_base};
+use crate::pages_held::held_pages;
+use crate::losers::{Loser, losers_of};
+use crate::undo_pass::Restored;
+use mt_base::Refusal;
+use mt_disk::Device;
+use mt_frame::MasterSlot;
+use mt_log::{AreaPlace, Batch, ruling_slot, scan};
+use std::alloc::Global;
+
+/// What a restart finds in the bytes of a device.
+#[derive(Drop)]
+pub struct Replayed {
+    /// The master slot that rules.
+    pub ruling: MasterSlot,
+    /// What the batches of the area that it names come to.
+    pub figures: Figures,
+    /// All pages, with what is unfinished put back and the losers undone.
+    pub restored: Restored,
+}
+
+/// The batches of the log area that the ruling slot names, in their order, each at its place. The device is only read,
+/// and its content is as before in any case.
+///
+/// Refusals are [`Refusal::NoMemory`]; [`Refusal::DeviceFailed`], if and only if the device failed in this call; and
+/// [`Refusal::BadFormat`] with the place where a batch breaks a rule, as [`scan`] says.
+pub fn read_area<D: Device>(
+    alloc: Global,
+    device: &mut D,
+    ruling: &MasterSlot,
+) -> Result<Vec<Batch>, Refusal>
+    requires { IsRuling (D.seen device.old) ruling.now }
+    ensures found { IfOk result (λ batches. HasArea (D.seen device.old) ruling.now (records_of batches.items)) }
+    ensures places { IfOk result (λ batches. places_of batches.items ≡ places_from (area_start ruling.now)
+        (records_of batches.items)) }
+    ensures only { (batches : List (List Record)) → HasArea (D.seen device.old) ruling.now batches
+        → IfOk result (λ found. records_of found.items ≡ batches) }
+    ensures no_other_refusal { (batches : List (List Record)) → HasArea (D.seen device.old) ruling.now batches
+        → IfErr result (λ why. (why ≡ Refusal.NoMemory) ⊎ (why ≡ Refusal.DeviceFailed)) }
+    ensures few { IfOk result (λ batches. length (joined (records_of batches.items)) < 2 ^ 32) }
+    ensures reads { OnlyReads D.seen D.may_leave D.moment D.left_since device.old device.new }
+    ensures quiet { (result ≡ Err Refusal.DeviceFailed → ⊥) → D.faults device.new ≡ D.faults device.old }
+    ensures cause { IfErr result (λ why. (why ≡ Refusal.NoMemory)
+        ⊎ (((why ≡ Refusal.DeviceFailed) × (D.faults device.old < D.faults device.new))
+        ⊎ ((at : ℕ) × (why ≡ Refusal.BadFormat at) × BreaksAt (D.seen device.old) (area_start ruling.now)
+        (area_end ruling.now) ruling.now.pages at))) }
+{
+    let area = AreaPlace::named_by(ruling);
+    scan(alloc, device, area, ruling.pages)
+}
+
+// The pages held, once they were looked at and the losers are undone.
+fn undone(alloc: Global, pages: Vec<[u8; 4096]>, losers: &[Loser]) -> Result<Restored, Refusal>
+    requires whole { AreWhole pages.items }
+    requires some { 16 ≤ length pages.items }
+    requires few { length pages.items ≤ MAX_PAGES }
+    requires grammar { AllByRecursion (λ loser. IsOperation loser.done) losers.now }
+    ensures found { (relations counters : ℕ) (b : Base) → AreHeld relations counters pages.items losers.now b
+        → IfOk result (λ restored. ShowsBase relations counters restored.pages.items b) }
+    ensures no_other_refusal { (relations counters : ℕ) (b : Base)
+        → AreHeld relations counters pages.items losers.now b → IfErr result (λ why. why ≡ Refusal.NoMemory) }
+    ensures undone { IfOk result (λ restored. AreUndone pages.items losers.now restored.pages.items) }
+    ensures cause { IfErr result (λ why. (why ≡ Refusal.NoMemory)
+        ⊎ ((at : ℕ) × (why ≡ Refusal.BadFormat at) × StopsUndoing pages.items losers.now at)) }
+{
+    restart_finds_the_base();
+    each_inverse_finds();
+    only_own_pages_matter();
+    let checked = Restored::checked(alloc, pages)?;
+    checked.undo_all(alloc, losers)
+}
+
+/// What the bytes of a device stand for: the passes of a restart in memory. The ruling slot names the log's area. The
+/// area's records are repeated over the pages as the area found them, and what is unfinished is put back (Mohan
+/// 1992). All pages are looked at, and the losers are undone by inverses, the latest end first (Weikum 1991).
+///
+/// Of bytes that a kernel left, the pages hold the base that the area's committed transactions lead to. It is refused
+/// only for want of memory or a fault of the device then.
+///
+/// Any bytes are read. Where they are answered, the pages break no rule of their formats and of the index, those held
+/// and those that the losers' inverses leave.
+///
+/// Refusals are [`Refusal::NoMemory`], and [`Refusal::DeviceFailed`], if and only if the device failed in this call.
+/// [`Refusal::NotFormatted`] is answered if and only if it is shorter than 8192 bytes or no master slot is open, and
+/// no read failed. [`Refusal::BadFormat`] has a place where a rule is broken. It is that of a slot or a batch as
+/// [`ruling_slot`] and [`scan`] say, or of the slot of a page. Or it is that of the batch of a loser whose inverse
+/// does not find what its record says, or too few free pages. The device is only read, and its content is as before
+/// in any case.
+pub fn replay<D: Device>(alloc: Global, device: &mut D) -> Result<Replayed, Refusal>
+    ensures rules { IfOk result (λ replayed. IsRuling (D.seen device.old) replayed.ruling) }
+    ensures replayed { IfOk result (λ replayed. IsReplayed (D.seen device.old) replayed.ruling replayed.figures
+        replayed.restored.pages.items) }
+    ensures cause { IfErr result (IsCause BreaksFormat (D.seen device.old)
+        (D.faults device.old < D.faults device.new)) }
+    ensures unformatted { IsUnformatted (D.seen device.old)
+        → IfErr result (λ why. (why ≡ Refusal.NotFormatted) ⊎ (why ≡ Refusal.DeviceFailed)) }
+    ensures found { (relations counters : ℕ) (b : Base) → CanRestart relations counters (D.seen device.old) b
+        → IfOk result (λ replayed. ShowsBase relations counters replayed.restored.pages.items b) }
+    ensures no_other_refusal { (relations counters : ℕ) (b : Base)
+        → CanRestart relations counters (D.seen device.old) b
+        → IfErr result (λ why. (why ≡ Refusal.NoMemory) ⊎ (why ≡ Refusal.DeviceFailed)) }
+    ensures seen { D.seen device.new ≡ D.seen device.old }
+    ensures crash { (c : List ℕ) → D.may_leave device.new c → D.may_leave device.old c }
+    ensures moments { LeavesOnly D.moment D.left_since device.old device.new (D.may_leave device.old) }
+    ensures quiet { (result ≡ Err Refusal.DeviceFailed → ⊥) → D.faults device.new ≡ D.faults device.old }
+{
+    let ruling = ruling_slot(device)?;
+    let batches = read_area(alloc, device, &ruling)?;
+    let pages = held_pages(alloc, device, ruling.pages, &batches)?;
+    let losers = losers_of(alloc, &batches)?;
+    let restored = undone(alloc, pages, &losers)?;
+    let figures = figures_of(&batches);
+    Ok(Replayed {
+        ruling,
+        figures,
+        restored,
+    })
+}
+
+/// What the log of a device comes to: the ruling slot, and the figures of the batches of the area that it names. No
+/// page is looked at.
+///
+/// Refusals are [`Refusal::NoMemory`]; [`Refusal::DeviceFailed`], if and only if the device failed in this call;
+/// [`Refusal::NotFormatted`] and [`Refusal::BadFormat`] of a slot or a batch, as [`ruling_slot`] and [`scan`] say. The
+/// device is only read, and its content is as before in any case.
+pub fn read_log<D: Device>(alloc: Global, device: &mut D) -> Result<(MasterSlot, Figures), Refusal>
+    ensures log { IfOk result (λ log. IsLog (D.seen device.old) log.0 log.1) }
+    ensures no_other_refusal { (relations counters : ℕ) (b : Base)
+        → CanRestart relations counters (D.seen device.old) b
+        → IfErr result (λ why. (why ≡ Refusal.NoMemory) ⊎ (why ≡ Refusal.DeviceFailed)) }
+    ensures cause { IfErr result (IsCause BreaksLog (D.seen device.old)
+        (D.faults device.old < D.faults device.new)) }
+    ensures unformatted { IsUnformatted (D.seen device.old)
+        → IfErr result (λ why. (why ≡ Refusal.NotFormatted) ⊎ (why ≡ Refusal.DeviceFailed)) }
+    ensures seen { D.seen device.new ≡ D.seen device.old }
+    ensures crash { (c : List ℕ) → D.may_leave device.new c → D.may_leave device.old c }
+    ensures moments { LeavesOnly D.moment D.left_since device.old device.new (D.may_leave device.old) }
+    ensures quiet { (result ≡ Err Refusal.DeviceFailed → ⊥) → D.faults device.new ≡ D.faults device.old }
+{
+    let ruling = ruling_slot(device)?;
+    let batches = read_area(alloc, device, &ruling)?;
+    let figures = figures_of(&batches);
+    Ok((ruling, figures))
+}

@@ -1,0 +1,20 @@
+use Rattle.std.proofs.Common.{refl}
+use Rattle.std.proofs.lemmas.Result.{err_from_is_err_and}
+use Rattle.mt_restart.proofs.log_report.report.Goals as goal
+
+pub returns-in_err-ruling-clause-no_other_refusal : goal.returns-in_err-ruling-clause-no_other_refusal
+returns-in_err-ruling-clause-no_other_refusal g c = λ relations counters b can.
+    let p = err_from_is_err_and c.from_residual.result c.from_residual.ensures.1 in
+    rw (p.1, p.2) (c.in_err-ruling.ensures.no_other_refusal relations counters b can)
+
+pub returns-clause-told : goal.returns-clause-told
+returns-clause-told g c = record {
+  slot = c.in_ok-ruling.ruling;
+  figures = c.in_ok-ruling.figures;
+  log = c.in_ok-ruling.ensures.log;
+  epoch = refl;
+  area = refl;
+  batches = refl;
+  records = refl;
+  commits = refl;
+}

@@ -1,0 +1,76 @@
+use Rattle.std.proofs.Common.{◌<◌, ◌∙◌, ap, length, refl, sym, subst}
+use Rattle.mt_base.specs.declared.refusal.Refusal.{Refusal}
+use Rattle.mt_disk.specs.Disk.{LeavesOnly}
+use Rattle.mt_index.specs.Checks.{bytes_of}
+use Rattle.mt_restart.proofs.Based.{base_of_good}
+use Rattle.mt_restart.proofs.Calls.{not_refused, refused_so}
+use Rattle.mt_restart.proofs.Opened.{base_in_bounds, opened_as}
+use Rattle.mt_restart.proofs.Counted.{begins_on}
+use Rattle.mt_restart.proofs.Founded.{never_full}
+use Rattle.mt_restart.specs.Recovered.{StandsStill}
+use Rattle.mt_restart.proofs.opened_kernel.open.Goals as goal
+
+pub kernel_over-requires : goal.kernel_over-requires
+kernel_over-requires g c = record { recovered = (c.args.frames, c.in-Ok.ensures.recovered) }
+
+pub returns-in-Ok-clause-opened : goal.returns-in-Ok-clause-opened
+returns-in-Ok-clause-opened g c = λ relations counters b can.
+    let r = c.in-Ok.recovered in let e = c.in-Ok.ensures in
+    opened_as g.D.Device.seen g.D.Device.may_leave c.only_own_pages_matter.ensures relations counters c.args.frames b r.restored.pages.items r.beside c.kernel_over.result e.recovered.beside (e.shows relations counters b can)
+    (λ holds. c.kernel_over.ensures.opened b holds (base_in_bounds relations counters (g.D.Device.seen c.args.device) b can))
+
+pub returns-in-Ok-clause-begins : goal.returns-in-Ok-clause-begins
+returns-in-Ok-clause-begins g c =
+    let items = c.in-Ok.recovered.restored.pages.items in let checked = c.in-Ok.ensures.recovered.checked in
+    let based = base_of_good checked.relations checked.counters (length items) (bytes_of items) checked.good in
+    let o = c.kernel_over.ensures.opened based.0 based.1 based.2 in
+    (based.0, record { relations_are = refl; counters_are = refl; shows = o.shows; restarts = o.restarts })
+
+pub returns-in-Ok-clause-restored : goal.returns-in-Ok-clause-restored
+returns-in-Ok-clause-restored g c =
+    let items = c.in-Ok.recovered.restored.pages.items in let x = c.in-Ok.ensures in
+    let checked = x.recovered.checked in
+    let based = base_of_good checked.relations checked.counters (length items) (bytes_of items) checked.good in
+    let begins = c.kernel_over.ensures.opened based.0 based.1 based.2 in
+    record {
+      items = items;
+      restored = x.restored;
+      relations = begins.relations_are ∙ x.recovered.beside.relations;
+      counters = begins.counters_are ∙ x.recovered.beside.counters;
+      opened = λ b holds bounds. let o = c.kernel_over.ensures.opened b holds bounds in record { relations_are = refl; counters_are = refl; shows = o.shows; restarts = o.restarts };
+    }
+
+pub returns-in-Ok-clause-counted : goal.returns-in-Ok-clause-counted
+returns-in-Ok-clause-counted g c =
+    let r = c.in-Ok.recovered in
+    let pages = bytes_of r.restored.pages.items in let checked = c.in-Ok.ensures.recovered.checked in
+    let based = base_of_good checked.relations checked.counters (length r.restored.pages.items) pages checked.good in
+    (based.0, begins_on g.D.Device.seen g.D.Device.may_leave c.kernel_over.result pages r.beside.relations r.beside.counters based.0 c.in-Ok.ensures.recovered.beside.counters based.1 based.2 c.kernel_over.ensures.opened)
+
+pub returns-in-Ok-clause-moments : goal.returns-in-Ok-clause-moments
+returns-in-Ok-clause-moments g c = λ relations counters b can.
+    let D = g.D.Device in
+    subst (λ (d : _). LeavesOnly D.moment D.left_since c.args.device d (StandsStill D.may_leave relations counters b c.args.device)) (sym c.kernel_over.ensures.device) (c.recover.ensures.moments relations counters b can)
+
+pub returns-in-Ok-clause-stands : goal.returns-in-Ok-clause-stands
+returns-in-Ok-clause-stands g c = λ relations counters b can x left.
+    c.recover.ensures.settled relations counters b can (not_refused c.recover.result c.in-Ok.recovered Refusal.DeviceFailed c.in-Ok.is) x (subst (λ (d : _). g.D.Device.may_leave d x) c.kernel_over.ensures.device left)
+
+pub returns-in-Err-clause-settled : goal.returns-in-Err-clause-settled
+returns-in-Err-clause-settled g c = λ relations counters b can not.
+    c.recover.ensures.settled relations counters b can (refused_so c.recover.result c.in-Err.refusal Refusal.DeviceFailed c.in-Err.is not)
+
+pub returns-in-Err-clause-moments : goal.returns-in-Err-clause-moments
+returns-in-Err-clause-moments g c = c.recover.ensures.moments
+
+pub returns-in-Err-clause-never_full : goal.returns-in-Err-clause-never_full
+returns-in-Err-clause-never_full g c = λ s formatted. never_full c.slots_are_read_back.ensures s (g.D.Device.seen c.args.device) (g.D.Device.faults c.args.device < g.D.Device.faults c.recover.new.device) c.in-Err.refusal formatted c.in-Err.ensures.cause
+
+pub returns-in-Ok-clause-quiet : goal.returns-in-Ok-clause-quiet
+returns-in-Ok-clause-quiet g c = ap g.D.Device.faults c.kernel_over.ensures.device ∙ c.recover.ensures.quiet (not_refused c.recover.result c.in-Ok.recovered Refusal.DeviceFailed c.in-Ok.is)
+
+pub returns-in-Err-clause-quiet : goal.returns-in-Err-clause-quiet
+returns-in-Err-clause-quiet g c = λ not. c.recover.ensures.quiet (refused_so c.recover.result c.in-Err.refusal Refusal.DeviceFailed c.in-Err.is not)
+
+pub returns-in-Ok-clause-once : goal.returns-in-Ok-clause-once
+returns-in-Ok-clause-once g c = λ slot rules. c.kernel_over.ensures.ruling ∙ c.in-Ok.ensures.next slot rules

@@ -1,0 +1,149 @@
+// A kernel over a device that was used before.
+ghost use Rattle.std.specs.Prelude.{◌≡◌, ◌⊎◌, ◌<◌, ℕ, List, false, IfOk, IfErr, MatchResult};
+ghost use Rattle.mt_base.specs.declared.refusal.Refusal.{Refusal};
+ghost use Rattle.mt_disk.specs.Disk.{LeavesOnly};
+ghost use Rattle.mt_index.specs.Checks.{bytes_of};
+ghost use Rattle.mt_core.specs.Consistent.{IsFresh};
+ghost use Rattle.mt_frame.specs.declared.slots.MasterSlot.{MasterSlot};
+ghost use Rattle.mt_log.specs.Masters.{IsRuling};
+ghost use Rattle.mt_log.specs.NextSlot.{next_slot};
+ghost use Rattle.mt_log.specs.Words.{has_failed};
+ghost use Rattle.mt_model.specs.Model.{Base, IsBase};
+ghost use Rattle.mt_replay.specs.Stands.{CanRestart};
+ghost use Rattle.mt_steps.specs.Held.{Holds};
+ghost use Rattle.mt_txn.specs.Shown.{is_failed};
+ghost use Rattle.mt_txn.specs.Well.{Opens};
+ghost use Rattle.mt_restart.specs.Formats.{IsFormattedAs};
+ghost use Rattle.mt_restart.specs.Recovered.{IsCauseToStop, IsRecovered, StandsStill};
+ghost use Rattle.mt_restart.specs.Resumed.{BeginsOn, BeginsOnRestored, IsOpened, device_of};
+ghost use Rattle.mt_restart.specs.declared.schema.Schema.{Schema};
+
+use crate::beside::Beside;
+use crate::recovery::{Recovered, recover};
+use mt_base::Refusal;
+use mt_disk::Device;
+use mt_escrow::Escrow;
+use mt_frame::slots_are_read_back;
+use mt_op::Operations;
+use mt_pool::Store;
+use mt_replay::only_own_pages_matter;
+use mt_txn::Kernel;
+use std::alloc::Global;
+
+// Operations over a device that was recovered, and an escrow of its counters. It takes no memory.
+pub(crate) fn parts_over<D: Device + Drop>(
+    device: D,
+    recovered: Recovered,
+) -> (Operations<D>, Escrow)
+    requires recovered { (frames : ℕ) × IsRecovered D.seen D.may_leave frames device recovered }
+    ensures fresh { IsFresh result.0 result.1 }
+    ensures opens { (b : Base) → Holds (bytes_of recovered.restored.pages.items) b → IsBase b
+        → Opens D.seen D.may_leave result.0 result.1 recovered.beside.relations recovered.beside.counters b }
+    ensures device { result.0.store.device ≡ device }
+    ensures ruling { result.0.store.ruling ≡ recovered.ruling }
+    ensures well { has_failed result.0.store.log ≡ false }
+{
+    let Recovered {
+        log,
+        ruling,
+        restored: _,
+        images,
+        beside,
+    } = recovered;
+    let Beside {
+        pool,
+        idle,
+        escrow,
+        relations: _,
+        counters: _,
+    } = beside;
+    let store = Store::over_images(device, log, pool, ruling, &images);
+    (Operations::join(store, idle), escrow)
+}
+
+// A kernel over a device that was recovered. It takes no memory.
+fn kernel_over<D: Device + Drop>(alloc: Global, device: D, recovered: Recovered) -> Kernel<D>
+    requires recovered { (frames : ℕ) × IsRecovered D.seen D.may_leave frames device recovered }
+    ensures opened { (b : Base) → Holds (bytes_of recovered.restored.pages.items) b → IsBase b
+        → IsOpened D.seen D.may_leave recovered.beside.relations recovered.beside.counters b result }
+    ensures device { result.core.operations.store.device ≡ device }
+    ensures ruling { result.core.operations.store.ruling ≡ recovered.ruling }
+    ensures well { is_failed result ≡ false }
+{
+    let relations = recovered.beside.relations;
+    let counters = recovered.beside.counters;
+    let (operations, escrow) = parts_over(device, recovered);
+    Kernel::assemble(alloc, operations, escrow, relations, counters)
+}
+
+/// Gives a kernel over a device that was used before, whatever a crash left of it, with so many pages in frames. No
+/// transaction lives, the book is empty, and the pages hold the base that the bytes stood for. That is what the log's
+/// committed transactions lead to, in the order of their commits.
+///
+/// The device is synced. Then a restart's passes are made in memory. The ruling area's records are repeated, unfinished
+/// operations are put back, and losers are undone by their inverses (Mohan 1992; Weikum 1991). At last the log turns
+/// over to the other area, once. Its first batch has images of the pages that are neither in the ruling area nor in
+/// their slots.
+///
+/// Whenever a crash comes in this call, what it leaves is what it might have left before, or stands for the same base. So
+/// a device may be opened again, however often that is cut off.
+///
+/// Any bytes are read. Where they are answered, the kernel has not failed. It begins on the pages that those passes make
+/// of them, which break no rule of their formats. Each refusal hands the device back:
+/// - [`Refusal::NoMemory`];
+/// - [`Refusal::DeviceFailed`], if and only if the device failed in this call;
+/// - [`Refusal::NotFormatted`] and [`Refusal::BadFormat`], as `replay` of mt_replay says;
+/// - [`Refusal::LogFull`], where the ruling slot has the last epoch, or the images have no room in the next area: never
+///   as the device was formatted.
+///
+/// Its bytes are as they were, but where it failed.
+pub fn open<D: Device + Drop>(
+    alloc: Global,
+    device: D,
+    frames: usize,
+) -> Result<Kernel<D>, (Refusal, D)>
+    ensures opened { (relations counters : ℕ) (b : Base) → CanRestart relations counters (D.seen device) b
+        → IfOk result (IsOpened D.seen D.may_leave relations counters b) }
+    // On any bytes it is a kernel on some base.
+    ensures begins { IfOk result (λ kernel. (b : Base)
+        × IsOpened D.seen D.may_leave kernel.relations kernel.counters b kernel) }
+    // It is the base that the passes of a restart leave in memory.
+    ensures restored { IfOk result (BeginsOnRestored D.seen D.may_leave (D.seen device)) }
+    ensures well { IfOk result (λ kernel. is_failed kernel ≡ false) }
+    // What lies behind its last counter is open.
+    ensures counted { IfOk result (λ kernel. (b : Base) × BeginsOn D.seen D.may_leave b kernel) }
+    ensures no_other_refusal { (relations counters : ℕ) (b : Base) → CanRestart relations counters (D.seen device) b
+        → IfErr result (λ gone. (gone.0 ≡ Refusal.NoMemory)
+        ⊎ ((gone.0 ≡ Refusal.DeviceFailed) ⊎ (gone.0 ≡ Refusal.LogFull))) }
+    // As it is formatted its log can turn over.
+    ensures never_full { (s : Schema) → IsFormattedAs s (D.seen device)
+        → IfErr result (λ gone. gone.0 ≡ Refusal.LogFull → ⊥) }
+    // The log turns over once.
+    ensures once { (slot : MasterSlot) → IsRuling (D.seen device) slot
+        → IfOk result (λ kernel. kernel.core.operations.store.ruling ≡ next_slot slot) }
+    // Whenever a crash comes in this call.
+    ensures moments { (relations counters : ℕ) (b : Base) → CanRestart relations counters (D.seen device) b
+        → LeavesOnly D.moment D.left_since device (device_of result)
+        (StandsStill D.may_leave relations counters b device) }
+    // Once it has ended, unless the device failed.
+    ensures stands { (relations counters : ℕ) (b : Base) → CanRestart relations counters (D.seen device) b
+        → IfOk result (λ kernel. (c : List ℕ) → D.may_leave kernel.core.operations.store.device c
+        → CanRestart relations counters c b) }
+    ensures settled { (relations counters : ℕ) (b : Base) → CanRestart relations counters (D.seen device) b
+        → IfErr result (λ gone. (gone.0 ≡ Refusal.DeviceFailed → ⊥) → (c : List ℕ) → D.may_leave gone.1 c
+        → CanRestart relations counters c b) }
+    ensures unwritten { IfErr result (λ gone. (gone.0 ≡ Refusal.DeviceFailed → ⊥)
+        → D.seen gone.1 ≡ D.seen device) }
+    ensures cause { IfErr result (λ gone. IsCauseToStop (D.seen device) (D.faults device < D.faults gone.1) gone.0) }
+    // The device failed in no call of this one, unless it is refused with 2.
+    ensures quiet { MatchResult result (λ kernel. D.faults kernel.core.operations.store.device ≡ D.faults device)
+        (λ gone. (gone.0 ≡ Refusal.DeviceFailed → ⊥) → D.faults gone.1 ≡ D.faults device) }
+{
+    slots_are_read_back();
+    only_own_pages_matter();
+    let mut device = device;
+    match recover(alloc, &mut device, frames) {
+        Ok(recovered) => Ok(kernel_over(alloc, device, recovered)),
+        Err(refusal) => Err((refusal, device)),
+    }
+}

@@ -1,0 +1,99 @@
+// A device made one again that a kernel may begin over.
+ghost use Rattle.mt_restart.specs.Recovered.{FindsAll, Recovers};
+
+use crate::beside::{Beside, beside_of};
+use crate::page_marks::{Marks, can_turn, marks_of};
+use crate::area_renewal::{prepare_next, turn};
+use mt_base::Refusal;
+use mt_disk::Device;
+use mt_frame::{MasterSlot, Record, slots_are_read_back};
+use mt_log::{Log, slot_after};
+use mt_replay::{Replayed, Restored, only_own_pages_matter, replay};
+use std::alloc::Global;
+
+// What a recovery has at hand before its first write.
+#[derive(Drop)]
+pub(crate) struct Findings {
+    pub(crate) ruling: MasterSlot,
+    pub(crate) restored: Restored,
+    pub(crate) marks: Marks,
+    pub(crate) prepared: Log,
+    pub(crate) beside: Beside,
+}
+
+// What a recovery leaves: the log of the area that rules, and all pages, each of which is in its slot.
+#[derive(Drop)]
+pub(crate) struct Recovered {
+    // it has the images that the area began with, and no other record
+    pub(crate) log: Log,
+    // the master slot that rules now
+    pub(crate) ruling: MasterSlot,
+    // all pages of the device, as a restart restored them
+    pub(crate) restored: Restored,
+    // those that the area began with
+    pub(crate) images: Vec<Record>,
+    pub(crate) beside: Beside,
+}
+
+// What a recovery finds on a device, and takes in memory for what it will write.
+fn find<D: Device>(alloc: Global, device: &mut D, frames: usize) -> Result<Findings, Refusal>
+    ensures { FindsAll D.seen D.may_leave D.moment D.left_since D.faults frames device.old device.new result }
+{
+    let replayed = replay(alloc, device)?;
+    let marks = marks_of(alloc, device, &replayed.ruling, &replayed.restored.pages)?;
+    if !can_turn(&replayed.ruling, &marks.images) {
+        return Err(Refusal::LogFull);
+    }
+    let prepared = prepare_next(alloc, &replayed.ruling, &marks.images)?;
+    let beside = beside_of(alloc, &replayed.restored.pages, frames)?;
+    let Replayed {
+        ruling,
+        figures: _,
+        restored,
+    } = replayed;
+    Ok(Findings {
+        ruling,
+        restored,
+        marks,
+        prepared,
+        beside,
+    })
+}
+
+// Makes a device one again that a kernel may begin over, with so many frames, whatever a crash left of it.
+//
+// The device is synced first. Then the passes of a restart are made in memory, as `replay` of mt_replay does, and all
+// memory is taken. At last the log turns over. Pages with an image in the ruling area are written in place, and synced.
+// The other area begins with images of the pages that are neither there nor in their slots. Its master slot comes to
+// rule, and those pages are written in place too.
+//
+// Whatever a crash leaves in this call, it is what it might have left before, or stands for the base that the bytes
+// stood for. Behind a sync that went well it stands for that base. So it may be made again, however often it is cut
+// off.
+pub(crate) fn recover<D: Device>(
+    alloc: Global,
+    device: &mut D,
+    frames: usize,
+) -> Result<Recovered, Refusal>
+    ensures { Recovers D.seen D.may_leave D.moment D.left_since D.faults frames device.old device.new result }
+{
+    slots_are_read_back();
+    only_own_pages_matter();
+    device.sync()?;
+    let found = find(alloc, device, frames)?;
+    let Findings {
+        ruling,
+        restored,
+        marks,
+        prepared,
+        beside,
+    } = found;
+    let log = turn(device, &ruling, &restored.pages, &marks, prepared)?;
+    Ok(Recovered {
+        log,
+        ruling: slot_after(&ruling),
+        restored,
+        images: marks.images,
+        beside,
+    })
+}

@@ -1,0 +1,25 @@
+use Rattle.std.proofs.Common.{◌≤◌, arith, inr, length}
+use Rattle.std.proofs.lemmas.Result.{IfErr-weaker, IfOk-weaker}
+use Rattle.mt_base.specs.declared.refusal.Refusal.TheVariants as refusal
+use Rattle.mt_server.proofs.ServingLemmas.{served_on, unopened_by}
+use Rattle.mt_server.specs.Serves.{cut_short, too_many}
+use Rattle.mt_server.proofs.service.serve.Goals as goal
+
+pub returns-then-len-gt-MAX_SESSIONS-clause-refused : goal.returns-then-len-gt-MAX_SESSIONS-clause-refused
+returns-then-len-gt-MAX_SESSIONS-clause-refused g c = too_many (omega arith)
+
+pub returns-in_default-clause-refused : goal.returns-in_default-clause-refused
+returns-in_default-clause-refused g c = cut_short refusal.NoMemory (omega arith) (inr tt)
+
+pub returns-in-Err-clause-refused : goal.returns-in-Err-clause-refused
+returns-in-Err-clause-refused g c = cut_short c.in-Err.why (omega arith) (unopened_by _ _ c.in-Err.ensures.refused)
+
+pub returns-clause-refused : goal.returns-clause-refused
+returns-clause-refused g c =
+    let few : length c.args.scripts.items ≤ 64 = omega arith in
+    IfErr-weaker c.serve_named.result _ _ (λ why late. cut_short why few (inr late)) c.serve_named.ensures.late
+
+pub returns-clause-began : goal.returns-clause-began
+returns-clause-began g c =
+    let D = g.D.Device in
+    IfOk-weaker c.serve_named.result _ _ (λ s began. served_on D.seen D.may_leave (D.seen c.args.device) c.in-Ok-open.opened.base s.kernel c.in-Ok-open.ensures.base began) c.serve_named.ensures.began

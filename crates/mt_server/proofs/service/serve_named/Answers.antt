@@ -1,0 +1,18 @@
+use Rattle.std.proofs.Common.{arith, IfOk, length, map, subst, sym, ◌∙◌}
+use Rattle.std.proofs.lemmas.List.{length-map}
+use Rattle.mt_model.specs.declared.tables.Base.{Base}
+use Rattle.mt_server.proofs.ServingLemmas.{blank_board}
+use Rattle.mt_server.specs.Crews.{IsBlank, IsBoard}
+use Rattle.mt_alone.specs.Sessions.{lines_in}
+use Rattle.mt_locked.specs.Began.{BeganOn}
+use Rattle.mt_server.proofs.service.serve_named.Goals as goal
+
+pub close-requires : goal.close-requires
+close-requires g c =
+    let scripts = map lines_in c.args.scripts.now in
+    let blank = subst (λ n. IsBlank n c.args.board) (sym (length-map c.args.scripts.now lines_in)) c.requires.blank in
+    record { first = sym c.requires.name.2 ∙ c.requires.first; placed = λ book seen. subst (IsBoard scripts _ book) (omega arith) (c.in-Ok-gather.ensures book 0 seen (blank_board scripts c.args.board book blank)) }
+
+pub returns-in-Ok-gather-clause-began : goal.returns-in-Ok-gather-clause-began
+returns-in-Ok-gather-clause-began g c =
+    subst (λ (b : Base). IfOk c.close.result (λ s. BeganOn g.D.Device.seen g.D.Device.may_leave b s.kernel)) (sym c.requires.name.1) c.close.ensures.began

@@ -1,4 +1,0 @@
-use Rattle.mt_server.proofs.serving.serve.Given as goal
-
-abbrev pub ghosts-serve_named : goal.ghosts-serve_named
-ghosts-serve_named g a = record { mark = a.opened.mark; base = a.opened.base; book = a.opened.book }

@@ -1,6 +1,0 @@
-use Rattle.std.proofs.Common.{◌++◌, ap, sym, ◌∙◌}
-use Rattle.mt_alone.proofs.TranscriptLemmas.{text_one}
-use Rattle.mt_server.proofs.turning.tell.Goals as goal
-
-pub returns-in-Ok-clause-ok : goal.returns-in-Ok-clause-ok
-returns-in-Ok-clause-ok c = c.in-Ok.ensures.all ∙ ap (λ t. c.args.out.now.items ++ t) (sym (text_one c.args.answer.now))

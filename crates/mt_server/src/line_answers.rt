@@ -1,0 +1,293 @@
+// What a shared kernel answers to the lines of a transaction.
+ghost use Rattle.std.specs.Prelude.{◌≡◌, ◌≢◌, ◌++◌, ◌∷◌, [], false, ℕ, List, IfErr, OnOk};
+ghost use Rattle.mt_base.specs.declared.refusal.Refusal.{Refusal};
+ghost use Rattle.mt_model.specs.History.{Call};
+ghost use Rattle.mt_model.specs.declared.operations.Op.{Op};
+ghost use Rattle.mt_model.specs.declared.operations.Reply.{Reply};
+ghost use Rattle.mt_script.specs.Answers.{transcript_text};
+ghost use Rattle.mt_script.specs.declared.answers.Answer.TheVariants as answer;
+ghost use Rattle.mt_script.specs.declared.lines.Line.TheVariants as line;
+ghost use Rattle.mt_server.specs.Hearing.{IsStopped, Telling, Turning};
+ghost use Rattle.mt_server.specs.declared.line_answers.Stop.TheVariants as stop;
+
+use mt_base::Refusal;
+use mt_disk::Device;
+use mt_model::Op;
+use mt_script::{Answer, Line, write_answer, write_reply};
+use mt_shared::{Gate, Naming, Pass, Refused, Shared, Txn};
+use std::sync::Wait;
+
+/// Why a session goes on no further in its transaction.
+#[derive(Clone, Copy, PartialEq, Eq, Debug)]
+pub enum Stop {
+    /// The transaction died, and was taken back. Its line is not answered.
+    Died,
+    /// The device failed. That is the last answer.
+    Failed,
+    /// An answer found no memory. The transaction was taken back, if it had not ended.
+    Unheard,
+}
+
+/// Writes an answer. There may be no memory for it.
+fn tell(out: &mut Vec<u8>, answer: &Answer) -> Result<(), Stop>
+    ensures ok { OnOk result (out.new.items ≡ out.old.items ++ transcript_text (answer.now ∷ [])) }
+    ensures err { IfErr result (λ told. told ≡ stop.Unheard) }
+{
+    match write_answer(out, answer) {
+        Ok(()) => Ok(()),
+        Err(_) => Err(Stop::Unheard),
+    }
+}
+
+/// Writes that a transaction has begun, as [`tell`].
+pub(crate) fn tell_begun(out: &mut Vec<u8>) -> Result<(), Stop>
+    ensures ok { OnOk result (out.new.items ≡ out.old.items ++ transcript_text (answer.Begun ∷ [])) }
+    ensures err { IfErr result (λ told. told ≡ stop.Unheard) }
+{
+    tell(out, &Answer::Begun)
+}
+
+/// Writes a refusal, as [`tell`].
+pub(crate) fn refuse(out: &mut Vec<u8>, why: Refusal) -> Result<(), Stop>
+    ensures ok { OnOk result (out.new.items ≡ out.old.items ++ transcript_text (answer.Refused why ∷ [])) }
+    ensures err { IfErr result (λ told. told ≡ stop.Unheard) }
+{
+    tell(out, &Answer::Refused(why))
+}
+
+/// Writes that a transaction was taken back, as [`tell`].
+pub(crate) fn tell_aborted(out: &mut Vec<u8>) -> Result<(), Stop>
+    ensures ok { OnOk result (out.new.items ≡ out.old.items ++ transcript_text (answer.Aborted ∷ [])) }
+    ensures err { IfErr result (λ told. told ≡ stop.Unheard) }
+{
+    tell(out, &Answer::Aborted)
+}
+
+/// Writes the place of a commit, as [`tell`].
+fn tell_committed(out: &mut Vec<u8>, place: u64) -> Result<(), Stop>
+    ensures ok { OnOk result (out.new.items ≡ out.old.items ++ transcript_text (answer.Committed place ∷ [])) }
+    ensures err { IfErr result (λ told. told ≡ stop.Unheard) }
+{
+    tell(out, &Answer::Committed(place))
+}
+
+/// Writes that the device failed, as the last answer.
+pub(crate) fn fail(out: &mut Vec<u8>) -> Stop
+    ensures stops { (pass : _) → IsStopped pass out.old.items out.new.items pass result }
+    ensures lives { result ≢ stop.Died }
+{
+    match refuse(out, Refusal::DeviceFailed) {
+        Ok(()) => Stop::Failed,
+        Err(_) => Stop::Unheard,
+    }
+}
+
+/// Takes a transaction back, and answers whether the device let it.
+pub(crate) fn take_back<D: Device, G: Gate + Drop, J: Naming, R: Wait>(
+    rt: &R,
+    shared: &Shared<D, G, J>,
+    pass: &mut Pass<J>,
+    txn: Txn<J>,
+) -> bool
+    ensures { pass.new ≡ pass.old }
+{
+    let mut kept = txn;
+    'turns: for _ in rt.forever() {
+        match shared.abort(rt, pass, kept) {
+            Ok(()) => return true,
+            Err(Refused { why: _, txn: None }) => return false,
+            Err(
+                Refused {
+                    why: _,
+                    txn: Some(back),
+                },
+            ) => kept = back,
+        }
+    }
+    unreachable!()
+}
+
+/// Refuses a line, and the transaction goes on. Where there is no memory for that, it is taken back.
+fn refused<D: Device, G: Gate + Drop, J: Naming, R: Wait>(
+    rt: &R,
+    shared: &Shared<D, G, J>,
+    pass: &mut Pass<J>,
+    txn: Txn<J>,
+    why: Refusal,
+    out: &mut Vec<u8>,
+) -> Result<Option<Txn<J>>, Stop>
+    ensures tells { Telling txn pass.old out.old.items out.new.items pass.new (answer.Refused why) result }
+    ensures lives { IfErr result (λ told. told ≢ stop.Died) }
+{
+    match refuse(out, why) {
+        Ok(()) => Ok(Some(txn)),
+        Err(stop) => {
+            take_back(rt, shared, pass, txn);
+            Err(stop)
+        }
+    }
+}
+
+/// Answers a line by the last reply, and the transaction goes on.
+fn replied<D: Device, G: Gate + Drop, J: Naming, R: Wait>(
+    rt: &R,
+    shared: &Shared<D, G, J>,
+    pass: &mut Pass<J>,
+    txn: Txn<J>,
+    out: &mut Vec<u8>,
+) -> Result<Option<Txn<J>>, Stop>
+    requires one { (calls : List Call) × (op : Op) × (reply : Reply)
+        × (txn.done.calls ≡ calls ++ (op, reply) ∷ []) }
+    ensures tells { (calls : List Call) (op : Op) (reply : Reply) → txn.done.calls ≡ calls ++ (op, reply) ∷ []
+        → Telling txn pass.old out.old.items out.new.items pass.new (answer.Replied reply) result }
+    ensures lives { IfErr result (λ told. told ≢ stop.Died) }
+{
+    let calls = txn.calls();
+    match write_reply(out, &calls[calls.len() - 1].1) {
+        Ok(()) => Ok(Some(txn)),
+        Err(_) => {
+            take_back(rt, shared, pass, txn);
+            Err(Stop::Unheard)
+        }
+    }
+}
+
+/// Ends a transaction that died: it is taken back. Where that may not be told by running it again, it is the answer.
+fn died<D: Device, G: Gate + Drop, J: Naming, R: Wait>(
+    rt: &R,
+    shared: &Shared<D, G, J>,
+    pass: &mut Pass<J>,
+    txn: Txn<J>,
+    why: Refusal,
+    may_die: bool,
+    out: &mut Vec<u8>,
+) -> Result<Option<Txn<J>>, Stop>
+    requires own { txn.pass ≡ pass.old.number }
+    requires dies { (holder : ℕ) × (why ≡ Refusal.Die holder) }
+    ensures turns { (op : Op) → Turning J.base txn pass.old (line.Call op) out.old.items out.new.items pass.new result }
+    ensures lives { may_die ≡ false → IfErr result (λ told. told ≢ stop.Died) }
+{
+    if !take_back(rt, shared, pass, txn) {
+        return Err(fail(out));
+    }
+    if may_die {
+        return Err(Stop::Died);
+    }
+    refuse(out, why)?;
+    Ok(None)
+}
+
+/// Answers an operation that was refused. Its transaction goes on, unless it died or the device failed.
+fn stopped<D: Device, G: Gate + Drop, J: Naming, R: Wait>(
+    rt: &R,
+    shared: &Shared<D, G, J>,
+    pass: &mut Pass<J>,
+    txn: Txn<J>,
+    why: Refusal,
+    may_die: bool,
+    out: &mut Vec<u8>,
+) -> Result<Option<Txn<J>>, Stop>
+    requires own { txn.pass ≡ pass.old.number }
+    ensures turns { (op : Op) → Turning J.base txn pass.old (line.Call op) out.old.items out.new.items pass.new result }
+    ensures lives { may_die ≡ false → IfErr result (λ told. told ≢ stop.Died) }
+{
+    match why {
+        Refusal::Die(_) => died(rt, shared, pass, txn, why, may_die, out),
+        Refusal::DeviceFailed => {
+            take_back(rt, shared, pass, txn);
+            Err(fail(out))
+        }
+        _ => refused(rt, shared, pass, txn, why, out),
+    }
+}
+
+/// Runs an operation to its end, and answers its reply.
+fn call<D: Device, G: Gate + Drop, J: Naming, R: Wait>(
+    rt: &R,
+    shared: &Shared<D, G, J>,
+    pass: &mut Pass<J>,
+    txn: Txn<J>,
+    op: &Op,
+    may_die: bool,
+    out: &mut Vec<u8>,
+) -> Result<Option<Txn<J>>, Stop>
+    requires own { txn.pass ≡ pass.old.number }
+    ensures turns { Turning J.base txn pass.old (line.Call op.now) out.old.items out.new.items pass.new result }
+    ensures lives { may_die ≡ false → IfErr result (λ told. told ≢ stop.Died) }
+{
+    let Ok(copy) = op.try_clone() else {
+        return refused(rt, shared, pass, txn, Refusal::NoMemory, out);
+    };
+    let mut kept = txn;
+    match shared.run(rt, &mut kept, copy) {
+        Ok(()) => replied(rt, shared, pass, kept, out),
+        Err(why) => stopped(rt, shared, pass, kept, why, may_die, out),
+    }
+}
+
+/// Commits a transaction, and answers its place.
+fn commit<D: Device, G: Gate + Drop, J: Naming, R: Wait>(
+    rt: &R,
+    shared: &Shared<D, G, J>,
+    pass: &mut Pass<J>,
+    txn: Txn<J>,
+    out: &mut Vec<u8>,
+) -> Result<Option<Txn<J>>, Stop>
+    requires own { txn.pass ≡ pass.old.number }
+    ensures turns { Turning J.base txn pass.old line.Commit out.old.items out.new.items pass.new result }
+    ensures lives { IfErr result (λ told. told ≢ stop.Died) }
+{
+    match shared.commit(rt, pass, txn) {
+        Ok(place) => {
+            tell_committed(out, place)?;
+            Ok(None)
+        }
+        Err(Refused { why, txn: back }) => match back {
+            Some(back) => refused(rt, shared, pass, back, why, out),
+            None => Err(fail(out)),
+        },
+    }
+}
+
+/// Takes a transaction back where its script asks for it.
+fn abort<D: Device, G: Gate + Drop, J: Naming, R: Wait>(
+    rt: &R,
+    shared: &Shared<D, G, J>,
+    pass: &mut Pass<J>,
+    txn: Txn<J>,
+    out: &mut Vec<u8>,
+) -> Result<Option<Txn<J>>, Stop>
+    requires own { txn.pass ≡ pass.old.number }
+    ensures turns { Turning J.base txn pass.old line.Abort out.old.items out.new.items pass.new result }
+    ensures lives { IfErr result (λ told. told ≢ stop.Died) }
+{
+    if !take_back(rt, shared, pass, txn) {
+        return Err(fail(out));
+    }
+    tell_aborted(out)?;
+    Ok(None)
+}
+
+/// Answers a line within a transaction. Gives its token back, unless it has ended.
+///
+/// Where the transaction dies, its line is answered so only if it may not die to be run again.
+pub(crate) fn turn<D: Device, G: Gate + Drop, J: Naming, R: Wait>(
+    rt: &R,
+    shared: &Shared<D, G, J>,
+    pass: &mut Pass<J>,
+    txn: Txn<J>,
+    line: &Line,
+    may_die: bool,
+    out: &mut Vec<u8>,
+) -> Result<Option<Txn<J>>, Stop>
+    requires own { txn.pass ≡ pass.old.number }
+    ensures turns { Turning J.base txn pass.old line.now out.old.items out.new.items pass.new result }
+    ensures lives { may_die ≡ false → IfErr result (λ told. told ≢ stop.Died) }
+{
+    match line {
+        Line::Begin => refused(rt, shared, pass, txn, Refusal::Busy, out),
+        Line::Call(op) => call(rt, shared, pass, txn, op, may_die, out),
+        Line::Commit => commit(rt, shared, pass, txn, out),
+        Line::Abort => abort(rt, shared, pass, txn, out),
+    }
+}

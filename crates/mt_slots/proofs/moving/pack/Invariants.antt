@@ -1,5 +1,0 @@
-use Rattle.mt_slots.specs.Parts.{Packed}
-use Rattle.mt_slots.proofs.moving.pack.Given as goal
-
-abbrev pub invariant-loop-i : goal.invariant-loop-i
-invariant-loop-i l = Packed l.copy l.page l.i l.top

@@ -1,0 +1,134 @@
+use mathlib.Core.Logic.{∥∥₁_elim, ∥∥₁_map}
+use Rattle.std.proofs.Props.{props}
+use Rattle.std.proofs.Common.{rules, inl, inr, arith, ◌≡◌, ◌∙◌, ⊎_elim, ℕ, List, Option, None, Some, refl, sym, ap}
+use Rattle.mt_base.specs.declared.modes.Mode.TheVariants.{Read}
+use Rattle.mt_space.specs.Kinds.{kind}
+use Rattle.mt_slots.specs.Page.{Row}
+use Rattle.mt_file.proofs.Filed.{record_kind}
+use Rattle.mt_model.specs.declared.operations.Op.TheVariants.{Get}
+use Rattle.mt_model.specs.declared.operations.Reply.TheVariants.{Found, Missing}
+use Rattle.mt_model.specs.Model.{found}
+use Rattle.mt_steps.proofs.Rows.{none_held}
+use Rattle.mt_steps.proofs.Counted.{counters_refl, row_act, nothing_changes}
+use Rattle.mt_steps.proofs.Asking.{bucket_inside, kind_inside}
+use Rattle.mt_steps.proofs.Acting.{value_held}
+use Rattle.mt_steps.proofs.get_plan.get.Goals as goal
+
+value_of : (k v : List ℕ) (x : Row) {r : ℕ} → Some (record { relation = r; key = k; value = v }) ≡ Some x → v ≡ x.value
+value_of k v x e = ap (λ (o : Option Row). elim o [ None ↦ v | Some y ↦ y.value ]) e
+
+no_row : (x : Row) → None ≡ Some x → ⊥
+no_row x e = cc
+
+pub returns-in-Need : goal.returns-in-Need
+returns-in-Need g c = record {
+  lock = ∥∥₁_elim c.requires.good (hlevel props) (λ fact.
+      let good = fact.1 in
+      let asks = c.in-Need.ensures.need in
+      (asks.missing, bucket_inside (g.V.Pages.total c.args.views.now) c.args.key.now good.0 good.2 Read c.in-Need.page c.in-Need.mode good.3.index (asks.role good.0 good.1 good.2 good.3.index)));
+  asks = λ room split. inl c.in-Need.ensures.need.role;
+  mode = ∥∥₁_elim c.requires.good (hlevel props) (λ fact.
+      let good = fact.1 in ⊎_elim (λ d. d.1) (λ b. b.1) (c.in-Need.ensures.need.role good.0 good.1 good.2 good.3.index));
+  made = search rules;
+  quiet = search rules;
+  idle = search rules;
+  full = search rules;
+  broken = search rules;
+}
+
+pub returns-in-Missing : goal.returns-in-Missing
+returns-in-Missing g c = record {
+  lock = search rules;
+  asks = search rules;
+  mode = search rules;
+  made = λ relations pages agrees m rows.
+      nothing_changes relations (g.V.Pages.total c.args.views.now) pages c.new.result.list.items _ _ c.new.ensures
+      (row_act relations (g.V.Pages.total c.args.views.now) pages pages m (Get c.args.relation c.args.key.now) Missing (counters_refl (g.V.Pages.total c.args.views.now) pages rows.map) (λ b. refl)
+      (λ b held. ap found (none_held pages m b c.args.relation c.args.key.now rows.named held (c.in-Missing.ensures.missing pages agrees m rows.index)))
+      (λ b held. held) rows);
+  quiet = search rules;
+  idle = search rules;
+  full = search rules;
+  broken = search rules;
+}
+
+pub returns-in-Endless : goal.returns-in-Endless
+returns-in-Endless g c = record {
+  lock = search rules;
+  asks = search rules;
+  mode = search rules;
+  made = search rules;
+  quiet = search rules;
+  idle = search rules;
+  full = search rules;
+  broken = ∥∥₁_elim c.requires.good (hlevel props) (λ fact.
+      let good = fact.1 in c.in-Endless.ensures.endless good.0 good.1 good.2 good.3.index);
+}
+
+pub plan_read-requires-clause-good : goal.plan_read-requires-clause-good
+plan_read-requires-clause-good g c = ∥∥₁_map c.requires.good (λ fact.
+    let good = fact.1 in
+    let named = good.3.named.names c.args.relation c.args.key.now c.in-Found.name (c.in-Found.ensures.found good.0 good.1 good.2 good.3.index) in
+    (good.0, good.1, good.3.file, record_kind good.0 c.in-Found.name.page c.in-Found.name.slot _ named.1))
+
+pub returns-in-Need-plan_read : goal.returns-in-Need-plan_read
+returns-in-Need-plan_read g c = record {
+  lock = ∥∥₁_elim c.requires.good (hlevel props) (λ fact.
+      let good = fact.1 in
+      let named = good.3.named.names c.args.relation c.args.key.now c.in-Found.name (c.in-Found.ensures.found good.0 good.1 good.2 good.3.index) in
+      let told = c.in-Need-plan_read.ensures good.0 good.1 good.3.file (record_kind good.0 c.in-Found.name.page c.in-Found.name.slot _ named.1) in
+      (told.0, kind_inside (g.V.Pages.total c.args.views.now) good.0 good.2 c.in-Need-plan_read.page 3 good.3.index (ap (λ (p : ℕ). kind good.0 p) told.2 ∙ record_kind good.0 c.in-Found.name.page c.in-Found.name.slot _ named.1) (omega arith)));
+  asks = λ room split.
+      let told : (g.V.Pages.at_hand c.args.views.now c.in-Need-plan_read.page ≡ None) × (c.in-Need-plan_read.mode ≡ Read) × (c.in-Need-plan_read.page ≡ c.in-Found.name.page) = ∥∥₁_elim c.requires.good (hlevel props) (λ fact.
+      let good = fact.1 in
+      let named = good.3.named.names c.args.relation c.args.key.now c.in-Found.name (c.in-Found.ensures.found good.0 good.1 good.2 good.3.index) in
+      c.in-Need-plan_read.ensures good.0 good.1 good.3.file (record_kind good.0 c.in-Found.name.page c.in-Found.name.slot _ named.1)) in
+      inr (c.in-Found.name.slot, λ pages agrees m maps. c.in-Found.ensures.found pages agrees m maps ∙ ap (λ (p : ℕ). Some (record { page = p; slot = c.in-Found.name.slot })) (sym told.2), told.1);
+  mode = ∥∥₁_elim c.requires.good (hlevel props) (λ fact.
+      let good = fact.1 in
+      let named = good.3.named.names c.args.relation c.args.key.now c.in-Found.name (c.in-Found.ensures.found good.0 good.1 good.2 good.3.index) in
+      (c.in-Need-plan_read.ensures good.0 good.1 good.3.file (record_kind good.0 c.in-Found.name.page c.in-Found.name.slot _ named.1)).1);
+  made = search rules;
+  quiet = search rules;
+  idle = search rules;
+  full = search rules;
+  broken = search rules;
+}
+
+pub returns-in_ok-value-in-Record : goal.returns-in_ok-value-in-Record
+returns-in_ok-value-in-Record g c = record {
+  lock = search rules;
+  asks = search rules;
+  mode = search rules;
+  made = λ relations pages agrees m rows.
+      let name = c.in-Found.name in
+      let is = c.in-Found.ensures.found pages agrees m rows.index in
+      let named = rows.named.names c.args.relation c.args.key.now name is in
+      let told = c.in-Record.ensures pages agrees rows.file (record_kind pages name.page name.slot _ named.1) in
+      let same : named.0 ≡ c.in-Record.row.value.now = value_of _ _ _ (sym named.1 ∙ told) in
+      nothing_changes relations (g.V.Pages.total c.args.views.now) pages c.new-in-Record.result.list.items _ _ c.new-in-Record.ensures
+      (row_act relations (g.V.Pages.total c.args.views.now) pages pages m (Get c.args.relation c.args.key.now) (Found c.in_ok-value-in-Record.value) (counters_refl (g.V.Pages.total c.args.views.now) pages rows.map) (λ b. refl)
+      (λ b held. ap found (value_held pages m b name c.args.relation c.args.key.now named.0 held named.1) ∙ ap Found (same ∙ sym c.in_ok-value-in-Record.ensures))
+      (λ b held. held) rows);
+  quiet = search rules;
+  idle = search rules;
+  full = search rules;
+  broken = search rules;
+}
+
+pub returns-in-Nothing : goal.returns-in-Nothing
+returns-in-Nothing g c = record {
+  lock = search rules;
+  asks = search rules;
+  mode = search rules;
+  made = search rules;
+  quiet = search rules;
+  idle = search rules;
+  full = search rules;
+  broken = ∥∥₁_elim c.requires.good (hlevel props) (λ fact.
+      let good = fact.1 in
+      let name = c.in-Found.name in
+      let named = good.3.named.names c.args.relation c.args.key.now name (c.in-Found.ensures.found good.0 good.1 good.2 good.3.index) in
+      let told = c.in-Nothing.ensures good.0 good.1 good.3.file (record_kind good.0 name.page name.slot _ named.1) in
+      no_row _ (sym told ∙ named.1));
+}

@@ -1,0 +1,42 @@
+// A read of a row.
+ghost use Rattle.std.specs.Prelude.{◌≤◌, ◌<◌, ℕ, length};
+ghost use Rattle.mt_base.specs.declared.limits.TheConstants.{MAX_KEY_BYTES};
+ghost use Rattle.mt_steps.specs.Acts.{HasGood};
+ghost use Rattle.mt_steps.specs.Planners.{PlansGet};
+
+use crate::act::Act;
+use mt_base::{Bytes, RelNo};
+use mt_file::{Lookup, plan_read};
+use mt_index::{Find, plan_find};
+use mt_model::Reply;
+use mt_space::{Changes, Pages};
+use std::alloc::{AllocError, Global};
+
+/// Plans to read the value under a key: the directory, the key's bucket and the record's page are
+/// needed for read, and nothing changes.
+pub(crate) fn get<V: Pages>(
+    alloc: Global,
+    views: &V,
+    relation: RelNo,
+    key: &[u8],
+) -> Result<Act, AllocError>
+    requires sound { V.is_sound views.now }
+    requires good { ∥ ((relations : ℕ) × HasGood (V.at_hand views.now) relations (V.total views.now)) ∥₁ }
+    requires short { length key.now ≤ MAX_KEY_BYTES }
+    ensures { PlansGet (V.at_hand views.now) (V.total views.now) relation key.now result }
+{
+    let name = match plan_find(views, relation, key) {
+        Find::Need(page, mode) => return Ok(Act::Lock(page, mode)),
+        Find::Missing => return Ok(Act::Made(Changes::new(alloc), Reply::Missing)),
+        Find::Found(name) => name,
+        Find::Endless => return Ok(Act::Broken),
+    };
+    match plan_read(views, name) {
+        Lookup::Need(page, mode) => Ok(Act::Lock(page, mode)),
+        Lookup::Record(row) => {
+            let value = Bytes::copy_of(alloc, row.value)?;
+            Ok(Act::Made(Changes::new(alloc), Reply::Found(value)))
+        }
+        Lookup::Nothing => Ok(Act::Broken),
+    }
+}

@@ -1,0 +1,101 @@
+// Two plans of one operation, the second made over the changes of the first.
+ghost use Rattle.std.specs.Prelude.{◌≡◌, ◌≢◌, ◌+◌, ◌++◌, ◌<◌, ◌≤◌, ℕ, All, false, length, None, IfOk};
+ghost use Rattle.std.specs.Bool.{OnTrue};
+ghost use Rattle.mt_base.specs.declared.modes.Mode.TheVariants.{Write as ToWrite};
+ghost use Rattle.mt_space.specs.Changes.{PageBytes, Agrees, after, AreShort};
+ghost use Rattle.mt_steps.specs.Overlays.{AreAtHand, AreCopies, names_page, shown};
+ghost use Rattle.mt_steps.specs.Tells.{Tells, AsksForNone, IsJoined};
+
+use crate::act::Act;
+use crate::overlay::{Overlay, merged};
+use mt_base::{Mode, PageNo};
+use mt_model::Reply;
+use mt_space::pages::DIRECTORY;
+use mt_space::{Changes, Pages};
+use std::alloc::{AllocError, Global};
+
+// A page of a bucket is to be written; the directory is read.
+pub(crate) fn to_write(page: PageNo, mode: Mode) -> Mode
+    ensures directory { page ≡ 1 → result ≡ mode }
+    ensures others { page ≢ 1 → result ≡ ToWrite }
+{
+    if page.get() == DIRECTORY {
+        mode
+    } else {
+        Mode::Write
+    }
+}
+
+// The pages as they will be once these changes are made.
+pub(crate) fn overlay_of<'a, V: Pages>(
+    alloc: Global,
+    views: &'a V,
+    changes: &Changes,
+) -> Result<Overlay<'a, V>, AllocError>
+    requires sound { V.is_sound views.now }
+    requires there { AreAtHand (V.at_hand views.now) changes.now.list.items }
+    requires short { ∥ ((pages : PageBytes) × Agrees (V.at_hand views.now) pages
+        × AreShort changes.now.list.items pages) ∥₁ }
+    ensures copies { IfOk result (λ d. AreCopies (V.at_hand views.now) d.copies.items) }
+    ensures views { IfOk result (λ d. d.views.now ≡ views.now) }
+    ensures none { IfOk result (λ d. (p : ℕ) → shown d.copies.items (V.at_hand views.now) p ≡ None →
+        V.at_hand views.now p ≡ None) }
+    ensures agrees { IfOk result (λ d. (pages : PageBytes) → Agrees (V.at_hand views.now) pages →
+        Agrees (shown d.copies.items (V.at_hand views.now)) (after changes.now.list.items pages)) }
+{
+    let mut overlay = Overlay::new(alloc, views);
+    overlay.apply(changes)?;
+    Ok(overlay)
+}
+
+// The changes of both plans, and the reply.
+pub(crate) fn join<V: Pages>(
+    alloc: Global,
+    views: &V,
+    first: Changes,
+    second: Changes,
+    reply: Reply,
+) -> Result<Act, AllocError>
+    requires sound { V.is_sound views.now }
+    requires there { AreAtHand (V.at_hand views.now) first.list.items }
+    requires second_there { AreAtHand (V.at_hand views.now) second.list.items }
+    requires short { ∥ ((pages : PageBytes) × Agrees (V.at_hand views.now) pages × AreShort first.list.items pages
+        × AreShort second.list.items (after first.list.items pages)) ∥₁ }
+    ensures { IfOk result (Tells (V.at_hand views.now) (V.total views.now) AsksForNone
+        (IsJoined (V.at_hand views.now) first.list.items second.list.items reply) ⊥) }
+{
+    if are_apart(&first, &second) {
+        let changes = chained(first, second)?;
+        return Ok(Act::Made(changes, reply));
+    }
+    Ok(Act::Made(merged(alloc, views, &first, &second)?, reply))
+}
+
+// Whether these changes name a page.
+#[tactic(auto, unfolding(crate::specs::Overlays::names_page))]
+fn name_page(changes: &Changes, page: PageNo) -> bool
+    ensures { result ≡ names_page changes.now.list.items page }
+{
+    changes.list.iter().any(|change| change.page == page)
+}
+
+// Whether no page is named by both.
+fn are_apart(first: &Changes, second: &Changes) -> bool
+    ensures { OnTrue result (All (λ c. names_page first.now.list.items c.page ≡ false) second.now.list.items) }
+{
+    for change in &second.list {
+        if name_page(first, change.page) {
+            return false;
+        }
+    }
+    true
+}
+
+// The changes of both, one list behind the other.
+fn chained(first: Changes, mut second: Changes) -> Result<Changes, AllocError>
+    ensures { IfOk result (λ all. all.list.items ≡ first.list.items ++ second.list.items) }
+{
+    let mut all = first;
+    all.list.append(&mut second.list)?;
+    Ok(all)
+}

@@ -1,6 +1,0 @@
-use Rattle.std.proofs.Common.{◌≡◌, take}
-use Rattle.mt_world.specs.Told.{acknowledged}
-use Rattle.mt_world.proofs.ordering.acknowledged_in.Given as goal
-
-abbrev pub invariant-loop-answer : goal.invariant-loop-answer
-invariant-loop-answer l = l.all.items ≡ acknowledged (take l.answer-index l.answers)

@@ -1,0 +1,194 @@
+// One event, made by the kernel's call of its name, or by a rotation of its log.
+ghost use Rattle.mt_world.specs.Standings.{IsLeftAs};
+ghost use Rattle.mt_world.specs.Schedules.{GoesTo, HasBecome, HasMade, IsMadeInPlace};
+ghost use Rattle.mt_world.specs.declared.events.Event.TheVariants as event;
+
+use crate::events::{Answer, Event};
+use crate::kernel_or_device::Standing;
+use mt_base::{Refusal, TxnNo};
+use mt_disk::Device;
+use mt_model::Op;
+use mt_restart::{NotRotated, rotate};
+use mt_txn::Kernel;
+use std::alloc::Global;
+
+// How many pages a kernel keeps in frames.
+pub(crate) const FRAMES: usize = 64;
+
+// Begins a transaction.
+fn begin<D: Device>(kernel: &mut Kernel<D>, session: u32) -> Answer
+    ensures { HasMade D.seen D.may_leave D.moment D.left_since D.faults kernel.old (event.Begin session) result
+        kernel.new }
+{
+    match kernel.begin(session) {
+        Ok(txn) => Answer::Begun(txn),
+        Err(refusal) => Answer::Refused(refusal),
+    }
+}
+
+// Calls a copy of an operation.
+fn call<D: Device>(kernel: &mut Kernel<D>, txn: TxnNo, op: &Op) -> Answer
+    ensures { HasMade D.seen D.may_leave D.moment D.left_since D.faults kernel.old (event.Call txn op.now) result
+        kernel.new }
+{
+    if kernel.has_failed() {
+        return Answer::Refused(Refusal::DeviceFailed);
+    }
+    let Ok(copy) = op.try_clone() else {
+        return Answer::Refused(Refusal::NoMemory);
+    };
+    match kernel.call(txn, copy) {
+        Ok(called) => Answer::Called(called),
+        Err(refusal) => Answer::Refused(refusal),
+    }
+}
+
+// Makes a step of an operation.
+fn step<D: Device>(kernel: &mut Kernel<D>, txn: TxnNo) -> Answer
+    ensures { HasMade D.seen D.may_leave D.moment D.left_since D.faults kernel.old (event.Step txn) result
+        kernel.new }
+{
+    match kernel.step(txn) {
+        Ok(stepped) => Answer::Stepped(stepped),
+        Err(refusal) => Answer::Refused(refusal),
+    }
+}
+
+// Begins a commit.
+fn commit<D: Device>(kernel: &mut Kernel<D>, txn: TxnNo) -> Answer
+    ensures { HasMade D.seen D.may_leave D.moment D.left_since D.faults kernel.old (event.Commit txn) result
+        kernel.new }
+{
+    match kernel.commit_begin(txn) {
+        Ok(place) => Answer::Committing(place),
+        Err(refusal) => Answer::Refused(refusal),
+    }
+}
+
+// Begins an abort.
+fn abort<D: Device>(kernel: &mut Kernel<D>, txn: TxnNo) -> Answer
+    ensures { HasMade D.seen D.may_leave D.moment D.left_since D.faults kernel.old (event.AbortBegin txn) result
+        kernel.new }
+{
+    match kernel.abort_begin(txn) {
+        Ok(()) => Answer::Aborting,
+        Err(refusal) => Answer::Refused(refusal),
+    }
+}
+
+// Makes a step of an abort.
+fn go_back<D: Device>(kernel: &mut Kernel<D>, txn: TxnNo) -> Answer
+    ensures { HasMade D.seen D.may_leave D.moment D.left_since D.faults kernel.old (event.AbortStep txn) result
+        kernel.new }
+{
+    match kernel.abort_step(txn) {
+        Ok(stepped) => Answer::Backed(stepped),
+        Err(refusal) => Answer::Refused(refusal),
+    }
+}
+
+// Makes a step of a force.
+fn force<D: Device>(kernel: &mut Kernel<D>) -> Answer
+    ensures { HasMade D.seen D.may_leave D.moment D.left_since D.faults kernel.old event.Force result
+        kernel.new }
+{
+    match kernel.force_step() {
+        Ok(forced) => Answer::Forced(forced),
+        Err(refusal) => Answer::Refused(refusal),
+    }
+}
+
+// Flushes a frame.
+fn flush<D: Device>(kernel: &mut Kernel<D>) -> Answer
+    ensures { HasMade D.seen D.may_leave D.moment D.left_since D.faults kernel.old event.Flush result
+        kernel.new }
+{
+    match kernel.flush_step() {
+        Ok(flushed) => Answer::Flushed(flushed),
+        Err(refusal) => Answer::Refused(refusal),
+    }
+}
+
+// Makes an event by the kernel's call of its name, and gives what that answers; nothing for a rotation, which takes the
+// kernel itself.
+fn make_in_place<D: Device>(kernel: &mut Kernel<D>, event: &Event) -> Option<Answer>
+    ensures { IsMadeInPlace D.seen D.may_leave D.moment D.left_since D.faults kernel.old event.now result kernel.new }
+{
+    match event {
+        Event::Begin(session) => Some(begin(kernel, *session)),
+        Event::Call(txn, op) => Some(call(kernel, *txn, op)),
+        Event::Step(txn) => Some(step(kernel, *txn)),
+        Event::Commit(txn) => Some(commit(kernel, *txn)),
+        Event::AbortBegin(txn) => Some(abort(kernel, *txn)),
+        Event::AbortStep(txn) => Some(go_back(kernel, *txn)),
+        Event::Force => Some(force(kernel)),
+        Event::Flush => Some(flush(kernel)),
+        Event::Rotate => None,
+    }
+}
+
+// What stands where a rotation was refused, and its answer.
+fn refused<D: Device>(left: NotRotated<D>) -> (Standing<D>, Answer)
+    ensures { IsLeftAs left result.0 result.1 }
+{
+    match left {
+        NotRotated::Kept(refusal, kernel) => {
+            (Standing::Stands(kernel), Answer::Refused(refusal))
+        }
+        NotRotated::Ended(refusal, device) => {
+            (Standing::Ended(device), Answer::Refused(refusal))
+        }
+    }
+}
+
+// Turns the log over. The tests are those of the rotation: what is refused by them leaves the kernel itself.
+fn turn_over<D: Device + Drop>(alloc: Global, kernel: Kernel<D>) -> (Standing<D>, Answer)
+    ensures { HasBecome D.seen D.may_leave D.moment D.left_since D.faults kernel event.Rotate result.1 result.0 }
+{
+    if kernel.has_failed() {
+        return (
+            Standing::Stands(kernel),
+            Answer::Refused(Refusal::DeviceFailed),
+        );
+    }
+    if !kernel.has_nobody() {
+        return (Standing::Stands(kernel), Answer::Refused(Refusal::Busy));
+    }
+    match rotate(alloc, kernel, FRAMES) {
+        Ok(kernel) => (Standing::Stands(kernel), Answer::Rotated),
+        Err(left) => refused(left),
+    }
+}
+
+// Makes an event on a kernel.
+fn make_on<D: Device + Drop>(
+    alloc: Global,
+    kernel: Kernel<D>,
+    event: &Event,
+) -> (Standing<D>, Answer)
+    ensures { HasBecome D.seen D.may_leave D.moment D.left_since D.faults kernel event.now result.1 result.0 }
+{
+    let mut kernel = kernel;
+    match make_in_place(&mut kernel, event) {
+        Some(answer) => (Standing::Stands(kernel), answer),
+        None => turn_over(alloc, kernel),
+    }
+}
+
+/// Makes an event on what stands, and gives what stands then with the answer. Once a rotation has ended the kernel, each
+/// event is refused with 2.
+pub(crate) fn make<D: Device + Drop>(
+    alloc: Global,
+    standing: Standing<D>,
+    event: &Event,
+) -> (Standing<D>, Answer)
+    ensures { GoesTo D.seen D.may_leave D.moment D.left_since D.faults standing event.now result.1 result.0 }
+{
+    match standing {
+        Standing::Stands(kernel) => make_on(alloc, kernel, event),
+        Standing::Ended(device) => (
+            Standing::Ended(device),
+            Answer::Refused(Refusal::DeviceFailed),
+        ),
+    }
+}

@@ -75,7 +75,7 @@ read_fetched seen may_leave moment left_since o n kept views moments log place s
 -- the first so many pages are noted, and the others are not yet
 pub record IsNotedTo {D : Type 0} (seen : D → List ℕ) (may_leave : D → List ℕ → Type 0) (moment : D → ℕ) (left_since : D → ℕ → List ℕ → Type 0) (failures : D → ℕ) (o l : Operations D) (n : ℕ) : Type 0 where
   pub read : HasRead seen may_leave moment left_since o.store l.store
-  pub noted : (opening : PageBytes) → ShowsOpening seen opening o.store → (p : ℕ) → p < n → IsRoom (get_or l.map.kinds p 0) (opening p) (get_or l.rooms p 0)
+  pub noted : (opening : PageBytes) → ShowsOpening seen opening o.store → (p : ℕ) → p < n → IsRoom (get_or l.map.kinds.value p 0) (opening p) (get_or l.rooms p 0)
   pub blank : (p : ℕ) → n ≤ p → p < length l.rooms → get_or l.rooms p 0 ≡ 0
   pub size : length l.rooms ≡ length o.rooms
   pub locks : l.locks ≡ o.locks
@@ -84,10 +84,10 @@ pub record IsNotedTo {D : Type 0} (seen : D → List ℕ) (may_leave : D → Lis
 
 module _ {D : Type 0} (seen : D → List ℕ) (may_leave : D → List ℕ → Type 0) (moment : D → ℕ) (left_since : D → ℕ → List ℕ → Type 0) (failures : D → ℕ) (o l : Operations D) (n : ℕ) (before : IsNotedTo seen may_leave moment left_since failures o l n) (inside : n < length l.rooms) where
   -- a page that does not hold records
-  pub passed : get_or l.map.kinds n 0 ≢ 3 → IsNotedTo seen may_leave moment left_since failures o l (n + 1)
+  pub passed : get_or l.map.kinds.value n 0 ≢ 3 → IsNotedTo seen may_leave moment left_since failures o l (n + 1)
   passed other = record {
     read = before.read;
-    noted = λ opening shows. below_more (λ p. IsRoom (get_or l.map.kinds p 0) (opening p) (get_or l.rooms p 0)) n
+    noted = λ opening shows. below_more (λ p. IsRoom (get_or l.map.kinds.value p 0) (opening p) (get_or l.rooms p 0)) n
         (before.noted opening shows) (record { records = λ is. absurd (other is); others = λ not. before.blank n (omega arith) inside });
     blank = λ p above below. before.blank p (omega arith) below;
     size = before.size;
@@ -98,7 +98,7 @@ module _ {D : Type 0} (seen : D → List ℕ) (may_leave : D → List ℕ → Ty
 
   -- one that does, and is in a frame
   pub noted_page : (m : Operations D) (rooms : Rooms) (fits : ℕ) → HasRead seen may_leave moment left_since l.store m.store → m.locks ≡ l.locks → m.map ≡ l.map → m.rooms ≡ l.rooms → failures m.store.device ≡ failures l.store.device
-      → n < pages o.store.pool → get_or l.map.kinds n 0 ≡ 3 → rooms ≡ set m.rooms n fits → fits ≡ fits_of (view m.store.pool (seen m.store.device) n)
+      → n < pages o.store.pool → get_or l.map.kinds.value n 0 ≡ 3 → rooms ≡ set m.rooms n fits → fits ≡ fits_of (view m.store.pool (seen m.store.device) n)
       → IsNotedTo seen may_leave moment left_since failures o (record m { rooms = rooms }) (n + 1)
   noted_page m rooms fits read locks map same faults within records put is =
       let all = read_then seen may_leave moment left_since o.store l.store m.store before.read read in
@@ -109,11 +109,11 @@ module _ {D : Type 0} (seen : D → List ℕ) (may_leave : D → List ℕ → Ty
       record {
         read = all;
         noted = λ opening shows.
-            below_more (λ p. IsRoom (get_or m.map.kinds p 0) (opening p) (get_or rooms p 0)) n
-            (λ p below. subst (λ (X : Type 0). X) (λ i. IsRoom (get_or (sym map i).kinds p 0) (opening p) (sym (elsewhere p (λ e. absurd (omega arith))) i)) (before.noted opening shows p below))
+            below_more (λ p. IsRoom (get_or m.map.kinds.value p 0) (opening p) (get_or rooms p 0)) n
+            (λ p below. subst (λ (X : Type 0). X) (λ i. IsRoom (get_or (sym map i).kinds.value p 0) (opening p) (sym (elsewhere p (λ e. absurd (omega arith))) i)) (before.noted opening shows p below))
             (record {
               records = λ kind. here ∙ is ∙ ap (λ (bytes : List ℕ). fits_of bytes) (all.shows opening shows n (subst (λ (x : ℕ). n < x) (sym all.page_count) within));
-              others = λ not. absurd (not (ap (λ x. get_or x.kinds n 0) map ∙ records));
+              others = λ not. absurd (not (ap (λ x. get_or x.kinds.value n 0) map ∙ records));
             });
         blank = λ p above below. elsewhere p (λ e. absurd (omega arith)) ∙ before.blank p (omega arith) (omega arith);
         size = size ∙ before.size;
@@ -124,9 +124,9 @@ module _ {D : Type 0} (seen : D → List ℕ) (may_leave : D → List ℕ → Ty
 
 -- once all are
 pub all_noted : {D : Type 0} (seen : D → List ℕ) (may_leave : D → List ℕ → Type 0) (moment : D → ℕ) (left_since : D → ℕ → List ℕ → Type 0) (failures : D → ℕ) (o l : Operations D) (opening : PageBytes) → IsNotedTo seen may_leave moment left_since failures o l (length o.rooms)
-    → ShowsOpening seen opening o.store → o.map.kinds ≡ opening 0 → AreRooms l.rooms opening
+    → ShowsOpening seen opening o.store → o.map.kinds.value ≡ opening 0 → AreRooms l.rooms opening
 all_noted seen may_leave moment left_since failures o l opening done shows first =
-    let kinds : l.map.kinds ≡ opening 0 = ap (λ x. x.kinds) done.map ∙ first in
+    let kinds : l.map.kinds.value ≡ opening 0 = ap (λ x. x.kinds.value) done.map ∙ first in
     let size = done.size in
     record {
       records = λ p below is. (done.noted opening shows p (omega (arith, size, below))).records (ap (λ (bytes : List ℕ). get_or bytes p 0) kinds ∙ is);

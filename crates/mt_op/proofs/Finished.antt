@@ -105,10 +105,10 @@ module _ {D : Type 0} (seen : D → List ℕ) (may_leave : D → List ℕ → Ty
   short_still : AreShort (changes_in m) held_now
   short_still = subst (λ (cs : Changes). AreShort cs.list.items held_now) (sym changes) plan_now.short
 
-  kinds_held : map.kinds ≡ held_now 0
-  kinds_held = ap (λ (x : SpaceMap). x.kinds) map_same ∙ right.map
+  kinds_held : map.kinds.value ≡ held_now 0
+  kinds_held = ap (λ (x : SpaceMap). x.kinds.value) map_same ∙ right.map
 
-  whole : length map.kinds ≡ 4096
+  whole : length map.kinds.value ≡ 4096
   whole = ap (λ (bytes : List ℕ). length bytes) kinds_held ∙ right.sound.good.rows.file.whole
 
   size_held : length o.map.space.0 ≡ pages o.store.pool
@@ -135,7 +135,7 @@ module _ {D : Type 0} (seen : D → List ℕ) (may_leave : D → List ℕ → Ty
 
   -- the changes fit the map that is held, and leave enough pages free
   pub settle_asks : (claim : ℕ) → claim ≡ own_needs s.op s.split
-      → (f : PageBytes) × (f 0 ≡ map.kinds) × AreShort (changes_in m) f × (length map.kinds ≡ 4096) × (reserved_of map.space ≤ free_in (mapped (after (changes_in m) f 0) (length map.space.0)) + claim)
+      → (f : PageBytes) × (f 0 ≡ map.kinds.value) × AreShort (changes_in m) f × (length map.kinds.value ≡ 4096) × (reserved_of map.space ≤ free_in (mapped (after (changes_in m) f 0) (length map.space.0)) + claim)
   settle_asks claim own = (held_now, sym kinds_held, short_still, whole, room claim own)
 
   -- what the operation claimed is claimed still
@@ -143,11 +143,11 @@ module _ {D : Type 0} (seen : D → List ℕ) (may_leave : D → List ℕ → Ty
   settle_claimed claim own enough = let same = ap (λ (x : SpaceMap). reserved_of x.space) map_same in omega (arith, own, enough, same)
 
   -- and its free pages are those that it has as such
-  pub settle_mapped : map.space.0 ≡ mapped map.kinds (length map.space.0)
+  pub settle_mapped : map.space.0 ≡ mapped map.kinds.value (length map.space.0)
   settle_mapped = ap (λ (x : SpaceMap). x.space.0) map_same ∙ right.space ∙ (λ i. mapped (sym kinds_held i) (sym size i))
 
   -- the changes make it the map to be held
-  pub settle_gives : (new : List ℕ) → ((f : PageBytes) → f 0 ≡ map.kinds → AreShort (changes_in m) f → new ≡ after (changes_in m) f 0) → new ≡ after (changes_in s) held_now 0
+  pub settle_gives : (new : List ℕ) → ((f : PageBytes) → f 0 ≡ map.kinds.value → AreShort (changes_in m) f → new ≡ after (changes_in m) f 0) → new ≡ after (changes_in s) held_now 0
   settle_gives new follows = follows held_now (sym kinds_held) short_still ∙ ap (λ (cs : Changes). after cs.list.items held_now 0) changes
 
   pub settle_frees : (free : List Bool) (new : List ℕ) → free ≡ mapped new (length map.space.0) → free ≡ mapped new (pages o.store.pool)
@@ -249,7 +249,7 @@ module _ {D : Type 0} (seen : D → List ℕ) (may_leave : D → List ℕ → Ty
 
   -- its end was noted
   pub finished : (done : LoggedOp) (m n : Operations D) → logged_of s.op reply ≡ Some done → s.written ≡ length (changes_in s) → Notes w (world seen opening m) (OpEnd s.txn s.number s.undoes done) → IsKept seen may_leave opening m.store
-      → n.store ≡ m.store → n.locks ≡ m.locks → n.map.kinds ≡ after (changes_in s) (held_in w) 0 → n.map.space.0 ≡ mapped n.map.kinds (pages o.store.pool) → reserved_of n.map.space ≤ free_of n.map.space
+      → n.store ≡ m.store → n.locks ≡ m.locks → n.map.kinds.value ≡ after (changes_in s) (held_in w) 0 → n.map.space.0 ≡ mapped n.map.kinds.value (pages o.store.pool) → reserved_of n.map.space ≤ free_of n.map.space
       → length n.rooms ≡ length o.rooms → AreRooms n.rooms (after (changes_in s) (held_in w))
       → IsRight seen may_leave opening relations counters n × Acts relations counters w (world seen opening n) s t reply
   finished done m n due all noted kept store locks map space claims rooms fits =
@@ -257,7 +257,7 @@ module _ {D : Type 0} (seen : D → List ℕ) (may_leave : D → List ℕ → Ty
       let moved : world seen opening n ≡ z = λ i. world seen opening (record m { store = store i; locks = locks i }) in
       let e = ends relations counters w z s done noted right.sound k stage all reply is in
       let total : pages o.store.pool ≡ pages n.store.pool = sym noted.area.total ∙ sym (ap (λ (x : Store D). pages x.pool) store) in
-      let kinds : n.map.kinds ≡ held_in (world seen opening n) 0 = map ∙ sym (ap (λ (x : World). held_in x 0) moved ∙ ap (λ (f : PageBytes). f 0) e.1) in (
+      let kinds : n.map.kinds.value ≡ held_in (world seen opening n) 0 = map ∙ sym (ap (λ (x : World). held_in x 0) moved ∙ ap (λ (f : PageBytes). f 0) e.1) in (
         record {
           kept = subst (λ (x : Store D). IsKept seen may_leave opening x) (sym store) kept;
           sound = subst (IsWorld relations counters) (sym moved) e.0;
@@ -274,15 +274,15 @@ module _ {D : Type 0} (seen : D → List ℕ) (may_leave : D → List ℕ → Ty
       )
 
   -- nothing of it is logged
-  pub finished_quietly : (n : Operations D) → logged_of s.op reply ≡ None → n.store ≡ o.store → n.locks ≡ o.locks → n.map.kinds ≡ after (changes_in s) (held_in w) 0
-      → n.map.space.0 ≡ mapped n.map.kinds (pages o.store.pool) → reserved_of n.map.space ≤ free_of n.map.space → length n.rooms ≡ length o.rooms → AreRooms n.rooms (after (changes_in s) (held_in w))
+  pub finished_quietly : (n : Operations D) → logged_of s.op reply ≡ None → n.store ≡ o.store → n.locks ≡ o.locks → n.map.kinds.value ≡ after (changes_in s) (held_in w) 0
+      → n.map.space.0 ≡ mapped n.map.kinds.value (pages o.store.pool) → reserved_of n.map.space ≤ free_of n.map.space → length n.rooms ≡ length o.rooms → AreRooms n.rooms (after (changes_in s) (held_in w))
       → IsRight seen may_leave opening relations counters n × Acts relations counters w (world seen opening n) s t reply
   finished_quietly n quiet store locks map space claims rooms fits =
       let moved : world seen opening n ≡ w = λ i. world seen opening (record o { store = store i; locks = locks i }) in
       let none = nothing_changes relations counters w s reply right.sound k stage is quiet in
       let held : after (changes_in s) (held_in w) ≡ held_in w = ap (λ (cs : List PageChange). after cs (held_in w)) none in
       let total : pages o.store.pool ≡ pages n.store.pool = sym (ap (λ (x : Store D). pages x.pool) store) in
-      let kinds : n.map.kinds ≡ held_in (world seen opening n) 0 = map ∙ ap (λ (f : PageBytes). f 0) held ∙ sym (ap (λ (x : World). held_in x 0) moved) in (
+      let kinds : n.map.kinds.value ≡ held_in (world seen opening n) 0 = map ∙ ap (λ (f : PageBytes). f 0) held ∙ sym (ap (λ (x : World). held_in x 0) moved) in (
         record {
           kept = subst (λ (x : Store D). IsKept seen may_leave opening x) (sym store) right.kept;
           sound = subst (IsWorld relations counters) (sym moved) right.sound;

@@ -44,7 +44,7 @@ pub record IsKnown {D : Type 0} (seen : D → List ℕ) (may_leave : D → List 
   pub inside : (p : ℕ) → IsSome (looked s p) → p < pages o.store.pool
   pub rooms : length o.rooms ≡ pages o.store.pool
   pub unseen : (p : ℕ) → IsUnlocked o.locks p → looked s p ≡ None
-  pub records : (bytes p : ℕ) → 0 < bytes → Takes o.rooms bytes p → get_or o.map.kinds p 0 ≡ 3
+  pub records : (bytes p : ℕ) → 0 < bytes → Takes o.rooms bytes p → get_or o.map.kinds.value p 0 ≡ 3
   pub short : record_bytes s.op < 65536
 
 -- a page that nobody has locked was not looked at
@@ -92,7 +92,7 @@ module _ {D : Type 0} (seen : D → List ℕ) (may_leave : D → List ℕ → Ty
         inside = k.inside;
         rooms = right.rooms;
         unseen = λ p none. unlooked_at relations counters (world seen opening o) s p k none;
-        records = λ bytes p some takes. noted_records o.rooms o.map.kinds (held_in (world seen opening o)) bytes p right.noted right.map some takes;
+        records = λ bytes p some takes. noted_records o.rooms o.map.kinds.value (held_in (world seen opening o)) bytes p right.noted right.map some takes;
         short = short_record relations counters s.op k.within;
       })
 

@@ -21,7 +21,7 @@ pub right_held : {D : Type 0} (seen : D → List ℕ) (may_leave : D → List �
 right_held seen may_leave opening relations counters o n k kept sound held map rooms total = record {
   kept = kept;
   sound = sound;
-  map = ap (λ (m : SpaceMap). m.kinds) map ∙ k.map ∙ ap (λ (h : PageBytes). h 0) (sym held);
+  map = ap (λ (m : SpaceMap). m.kinds.value) map ∙ k.map ∙ ap (λ (h : PageBytes). h 0) (sym held);
   space = ap (λ (m : SpaceMap). m.space.0) map ∙ k.space ∙ (λ i. mapped (sym held i 0) (sym total i));
   claims = subst (λ (m : SpaceMap). reserved_of m.space ≤ free_of m.space) (sym map) k.claims;
   rooms = ap length rooms ∙ k.rooms ∙ sym total;

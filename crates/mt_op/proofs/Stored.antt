@@ -115,11 +115,11 @@ module _ {D : Type 0} (seen : D → List ℕ) (opening : PageBytes) (relations c
 
 -- all is right where none is under way
 pub unlogged_right : {D : Type 0} (seen : D → List ℕ) (may_leave : D → List ℕ → Type 0) (opening : PageBytes) (relations counters : ℕ) (o : Operations D) → IsKept seen may_leave opening o.store → AreImages (appended o.store.log)
-    → ShowsOpening seen opening o.store → o.locks ≡ [] → o.map.kinds ≡ opening 0 → o.map.space.0 ≡ mapped o.map.kinds (pages o.store.pool) → reserved_of o.map.space ≤ free_of o.map.space → length o.rooms ≡ pages o.store.pool → AreRooms o.rooms opening
+    → ShowsOpening seen opening o.store → o.locks ≡ [] → o.map.kinds.value ≡ opening 0 → o.map.space.0 ≡ mapped o.map.kinds.value (pages o.store.pool) → reserved_of o.map.space ≤ free_of o.map.space → length o.rooms ≡ pages o.store.pool → AreRooms o.rooms opening
     → IsGood relations counters (pages o.store.pool) opening → IsRight seen may_leave opening relations counters o
 unlogged_right seen may_leave opening relations counters o kept none shows free map space claims rooms noted good =
     let w = world seen opening o in
-    let kinds : o.map.kinds ≡ held_in w 0 = map ∙ ap (λ (f : PageBytes). f 0) (sym (unlogged_held w none)) in
+    let kinds : o.map.kinds.value ≡ held_in w 0 = map ∙ ap (λ (f : PageBytes). f 0) (sym (unlogged_held w none)) in
     record {
       kept = kept;
       sound = unlogged_world relations counters w none free shows good;

@@ -94,8 +94,8 @@ module _ {D : Type 0} (seen : D → List ℕ) (may_leave : D → List ℕ → Ty
 -- ---- pages
 
 module _ {D : Type 0} (seen : D → List ℕ) (may_leave : D → List ℕ → Type 0) where
-  pub kind_of : (opening : PageBytes) (relations counters : ℕ) (o : Operations D) (p i : ℕ) → IsRight seen may_leave opening relations counters o → i ≡ p → kind (held_in (world seen opening o)) p ≡ get_or o.map.kinds i 0
-  kind_of opening relations counters o p i right same = ap (λ (bytes : List ℕ). get_or bytes p 0) (sym right.map) ∙ ap (λ (j : ℕ). get_or o.map.kinds j 0) (sym same)
+  pub kind_of : (opening : PageBytes) (relations counters : ℕ) (o : Operations D) (p i : ℕ) → IsRight seen may_leave opening relations counters o → i ≡ p → kind (held_in (world seen opening o)) p ≡ get_or o.map.kinds.value i 0
+  kind_of opening relations counters o p i right same = ap (λ (bytes : List ℕ). get_or bytes p 0) (sym right.map) ∙ ap (λ (j : ℕ). get_or o.map.kinds.value j 0) (sym same)
 
   -- a fixed page is one of them
   pub fixed_inside : (relations : ℕ) (o : Operations D) (p : ℕ) → p ≤ 2 → IsIdle seen may_leave relations o → p < pages o.store.pool
@@ -124,7 +124,7 @@ records_page relations counters total pages p good records = record {
 
 -- and it is one, whoever is under way
 pub records_page_of : {D : Type 0} (seen : D → List ℕ) (may_leave : D → List ℕ → Type 0) (relations : ℕ) (o : Operations D) (p : ℕ) (bytes : List ℕ) → ((opening : PageBytes) (counters : ℕ) → IsRight seen may_leave opening relations counters o → bytes ≡ held_in (world seen opening o) p)
-    → get_or o.map.kinds p 0 ≡ 3 → IsIdle seen may_leave relations o → IsPage relations 1024 bytes
+    → get_or o.map.kinds.value p 0 ≡ 3 → IsIdle seen may_leave relations o → IsPage relations 1024 bytes
 records_page_of seen may_leave relations o p bytes is records idle = record {
   shaped = shaped_of bytes (∥∥₁_map idle (λ (opening, counters, right, free). (page_of opening counters right).shaped));
   within = λ i row there. ∥∥₁_elim idle (hlevel props) (λ (opening, counters, right, free). (page_of opening counters right).within i row there);

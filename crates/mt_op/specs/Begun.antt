@@ -42,8 +42,8 @@ pub record HasRead {D : Type 0} (seen : D → List ℕ) (may_leave : D → List 
 -- no page is noted yet, the map is the one that shows, and none of its free pages is claimed
 pub record BeginsParts {D : Type 0} (seen : D → List ℕ) (s : Store D) (rooms : Rooms) (map : SpaceMap) : Type 0 where
   pub blank : rooms ≡ replicate (pages s.pool) 0
-  pub kinds : map.kinds ≡ view s.pool (seen s.device) 0
-  pub space : map.space.0 ≡ mapped map.kinds (pages s.pool)
+  pub kinds : map.kinds.value ≡ view s.pool (seen s.device) 0
+  pub space : map.space.0 ≡ mapped map.kinds.value (pages s.pool)
   pub unclaimed : reserved_of map.space ≡ 0
 
 -- the store, in the operations or handed back
@@ -54,7 +54,7 @@ store_after (Err gone) = gone.store
 -- what operations keep beside a store fits these pages of it, and none is under way
 pub record FitsPages (total : ℕ) (held : PageBytes) (i : Idle) : Type 0 where
   pub locks : i.locks ≡ []
-  pub map : i.map.kinds ≡ held 0
+  pub map : i.map.kinds.value ≡ held 0
   pub space : i.map.space.0 ≡ mapped (held 0) total
   pub claims : reserved_of i.map.space ≤ free_of i.map.space
   pub rooms : length i.rooms ≡ total

@@ -45,7 +45,7 @@ claimed o = reserved_of o.map.space
 pub record IsRight {D : Type 0} (seen : D → List ℕ) (may_leave : D → List ℕ → Type 0) (opening : PageBytes) (relations counters : ℕ) (o : Operations D) : Type 0 where
   pub kept : IsKept seen may_leave opening o.store
   pub sound : IsWorld relations counters (world seen opening o)
-  pub map : o.map.kinds ≡ held_in (world seen opening o) 0
+  pub map : o.map.kinds.value ≡ held_in (world seen opening o) 0
   pub space : o.map.space.0 ≡ mapped (held_in (world seen opening o) 0) (pages o.store.pool)
   pub claims : reserved_of o.map.space ≤ free_of o.map.space
   pub rooms : length o.rooms ≡ pages o.store.pool

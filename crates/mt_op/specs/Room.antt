@@ -28,7 +28,7 @@ HasFollowed s map old new = ((changes_in s ≡ []) × (new ≡ old)) ⊎ HasNote
 -- What each page of records takes is noted, and nothing else has changed but frames.
 pub record HasNoted {D : Type 0} (seen : D → List ℕ) (may_leave : D → List ℕ → Type 0) (moment : D → ℕ) (left_since : D → ℕ → List ℕ → Type 0) (failures : D → ℕ) (o n : Operations D) : Type 0 where
   pub read : HasRead seen may_leave moment left_since o.store n.store
-  pub noted : (opening : PageBytes) → ShowsOpening seen opening o.store → o.map.kinds ≡ opening 0 → AreRooms n.rooms opening
+  pub noted : (opening : PageBytes) → ShowsOpening seen opening o.store → o.map.kinds.value ≡ opening 0 → AreRooms n.rooms opening
   pub size : length n.rooms ≡ length o.rooms
   pub locks : n.locks ≡ o.locks
   pub map : n.map ≡ o.map

@@ -186,7 +186,7 @@ pub record NotesLooked {D : Type 0} (o n : Operations D) (s : OpScope) : Type 0 
   pub locks : n.locks ≡ o.locks
   pub map : n.map ≡ o.map
   pub rooms : length n.rooms ≡ length o.rooms
-  pub noted : HasFollowed s o.map.kinds o.rooms n.rooms
+  pub noted : HasFollowed s o.map.kinds.value o.rooms n.rooms
 
 -- what each page takes is noted that the operation looked at, and of no other page
 pub record NotesEach {D : Type 0} (o n : Operations D) (s : OpScope) : Type 0 where
@@ -194,7 +194,7 @@ pub record NotesEach {D : Type 0} (o n : Operations D) (s : OpScope) : Type 0 wh
   pub locks : n.locks ≡ o.locks
   pub map : n.map ≡ o.map
   pub rooms : length n.rooms ≡ length o.rooms
-  pub noted : (pages : PageBytes) → Agrees (looked s) pages → AreShort (changes_in s) pages → HasRooms s o.map.kinds n.rooms pages
+  pub noted : (pages : PageBytes) → Agrees (looked s) pages → AreShort (changes_in s) pages → HasRooms s o.map.kinds.value n.rooms pages
   pub others : (p : ℕ) → looked s p ≡ None → get_or n.rooms p 0 ≡ get_or o.rooms p 0
 
 -- a page that is in a frame is written, with its records, or memory was refused

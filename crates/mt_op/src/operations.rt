@@ -341,7 +341,7 @@ impl<D: Device> Operations<D> {
     fn note_rooms(&mut self) -> Result<(), Refusal>
         requires good { ∥ ((opening : PageBytes) × (relations : ℕ) × (counters : ℕ)
             × IsKept D.seen D.may_leave opening self.old.store × IsGood relations counters (pages self.old.store.pool)
-            opening × ShowsOpening D.seen opening self.old.store × (self.old.map.kinds ≡ opening 0)) ∥₁ }
+            opening × ShowsOpening D.seen opening self.old.store × (self.old.map.kinds.value ≡ opening 0)) ∥₁ }
         requires spare { IsFull self.old.store.pool → ⊥ }
         requires blank { self.old.rooms ≡ replicate (pages self.old.store.pool) 0 }
         ensures noted { OnOk result (HasNoted D.seen D.may_leave D.moment D.left_since D.faults self.old self.new) }

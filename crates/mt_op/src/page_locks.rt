@@ -71,7 +71,7 @@ impl<D: Device> Operations<D> {
         requires planning { scope.old.stage ≡ Planning }
         requires next { IsToLook self.old.rooms self.old.locks scope.old page mode }
         requires led { (room ≡ scope.old.room)
-            ⊎ ((room ≡ Some page) × (mode ≡ Write) × (get_or self.old.map.kinds page 0 ≡ 3)) }
+            ⊎ ((room ≡ Some page) × (mode ≡ Write) × (get_or self.old.map.kinds.value page 0 ≡ 3)) }
         requires unled { (room ≡ scope.old.room) ⊎ (scope.old.room ≡ None) }
         ensures { LocksPage D.seen D.may_leave D.moment D.left_since D.faults self.old self.new scope.old scope.new
             result }
@@ -94,7 +94,7 @@ impl<D: Device> Operations<D> {
         requires planning { scope.old.stage ≡ Planning }
         requires next { IsToLook self.old.rooms self.old.locks scope.old page mode }
         requires led { (room ≡ scope.old.room)
-            ⊎ ((room ≡ Some page) × (mode ≡ Write) × (get_or self.old.map.kinds page 0 ≡ 3)) }
+            ⊎ ((room ≡ Some page) × (mode ≡ Write) × (get_or self.old.map.kinds.value page 0 ≡ 3)) }
         requires unled { (room ≡ scope.old.room) ⊎ (scope.old.room ≡ None) }
         requires there { IsThere self.old.store.pool page }
         ensures { TakesLock D.seen D.may_leave self.old self.new scope.old scope.new result }

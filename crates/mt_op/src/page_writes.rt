@@ -141,7 +141,7 @@ impl<D: Device> Operations<D> {
     fn note_looked(&mut self, scope: &OpScope)
         requires pages { ∥ ((pages : PageBytes) × Agrees (looked scope.now) pages
             × AreShort (changes_in scope.now) pages
-            × ((p : ℕ) → get_or self.old.map.kinds p 0 ≡ 3 → IsShaped (after (changes_in scope.now) pages p))) ∥₁ }
+            × ((p : ℕ) → get_or self.old.map.kinds.value p 0 ≡ 3 → IsShaped (after (changes_in scope.now) pages p))) ∥₁ }
         requires whole { (p : ℕ) (bytes : List ℕ) → looked scope.now p ≡ Some bytes → length bytes ≡ PAGE_BYTES }
         requires inside { (p : ℕ) → IsSome (looked scope.now p) → p < length self.old.rooms }
         requires few { length self.old.rooms ≤ PAGE_BYTES }
@@ -156,7 +156,7 @@ impl<D: Device> Operations<D> {
     fn note_each(&mut self, scope: &OpScope)
         requires pages { ∥ ((pages : PageBytes) × Agrees (looked scope.now) pages
             × AreShort (changes_in scope.now) pages
-            × ((p : ℕ) → get_or self.old.map.kinds p 0 ≡ 3 → IsShaped (after (changes_in scope.now) pages p))) ∥₁ }
+            × ((p : ℕ) → get_or self.old.map.kinds.value p 0 ≡ 3 → IsShaped (after (changes_in scope.now) pages p))) ∥₁ }
         requires whole { (p : ℕ) (bytes : List ℕ) → looked scope.now p ≡ Some bytes → length bytes ≡ PAGE_BYTES }
         requires inside { (p : ℕ) → IsSome (looked scope.now p) → p < length self.old.rooms }
         requires few { length self.old.rooms ≤ PAGE_BYTES }
@@ -176,10 +176,10 @@ impl<D: Device> Operations<D> {
         requires inside { page < PAGE_BYTES }
         requires whole { length before.now ≡ PAGE_BYTES }
         requires pages { ∥ ((pages : PageBytes) × (pages page ≡ before.now) × AreShort changes.now.list.items pages
-            × (get_or self.now.map.kinds page 0 ≡ 3 → IsShaped (after changes.now.list.items pages page))) ∥₁ }
+            × (get_or self.now.map.kinds.value page 0 ≡ 3 → IsShaped (after changes.now.list.items pages page))) ∥₁ }
         ensures records { (pages : PageBytes) → pages page ≡ before.now → AreShort changes.now.list.items pages
-            → get_or self.now.map.kinds page 0 ≡ 3 → result ≡ fits_of (after changes.now.list.items pages page) }
-        ensures others { get_or self.now.map.kinds page 0 ≢ 3 → result ≡ 0 }
+            → get_or self.now.map.kinds.value page 0 ≡ 3 → result ≡ fits_of (after changes.now.list.items pages page) }
+        ensures others { get_or self.now.map.kinds.value page 0 ≢ 3 → result ≡ 0 }
     {
         if self.map.kinds[usize::from(page.get())] != RECORDS {
             return 0;

@@ -8,10 +8,11 @@ use mt_space::pages::MAP;
 use mt_space::{Changes, Space, patch};
 use std::alloc::{AllocError, Global};
 
-/// The map of the space as it is held, a byte for each page, and the free pages by it, with the claims on them.
+/// The map of the space as it is held, a byte for each page, and the free pages by it, with the claims on them. Its
+/// bytes are on the heap, so that a kernel is small to move.
 #[derive(Drop)]
 pub(crate) struct SpaceMap {
-    pub(crate) kinds: [u8; 4096],
+    pub(crate) kinds: Box<[u8; 4096]>,
     pub(crate) space: Space,
 }
 
@@ -20,12 +21,12 @@ impl SpaceMap {
     pub(crate) fn of(alloc: Global, kinds: &[u8; 4096], count: u16) -> Result<SpaceMap, AllocError>
         requires whole { length kinds.now ≡ PAGE_BYTES }
         requires few { count ≤ MAX_PAGES }
-        ensures kinds { IfOk result (λ map. map.kinds ≡ kinds.now) }
+        ensures kinds { IfOk result (λ map. map.kinds.value ≡ kinds.now) }
         ensures free { IfOk result (λ map. map.space.0 ≡ mapped kinds.now count) }
         ensures none { IfOk result (λ map. reserved_of map.space ≡ 0) }
     {
         Ok(SpaceMap {
-            kinds: *kinds,
+            kinds: Box::new(alloc, *kinds)?,
             space: Space::of(alloc, kinds, count)?,
         })
     }
@@ -33,14 +34,14 @@ impl SpaceMap {
     // Gives the claim of an operation back that has ended, and follows its changes. Of the pages that were claimed it
     // has taken no more than its own.
     pub(crate) fn settle(&mut self, changes: &Changes, claim: u16)
-        requires short { ∥ ((pages : PageBytes) × (pages 0 ≡ self.old.kinds) × AreShort changes.now.list.items pages
-            × (length self.old.kinds ≡ PAGE_BYTES) × (reserved_of self.old.space
+        requires short { ∥ ((pages : PageBytes) × (pages 0 ≡ self.old.kinds.value) × AreShort changes.now.list.items pages
+            × (length self.old.kinds.value ≡ PAGE_BYTES) × (reserved_of self.old.space
             ≤ free_in (mapped (after changes.now.list.items pages 0) (length self.old.space.0)) + claim)) ∥₁ }
         requires claimed { claim ≤ reserved_of self.old.space }
-        requires mapped { self.old.space.0 ≡ mapped self.old.kinds (length self.old.space.0) }
-        ensures kinds { (pages : PageBytes) → pages 0 ≡ self.old.kinds → AreShort changes.now.list.items pages
-            → self.new.kinds ≡ after changes.now.list.items pages 0 }
-        ensures free { self.new.space.0 ≡ mapped self.new.kinds (length self.old.space.0) }
+        requires mapped { self.old.space.0 ≡ mapped self.old.kinds.value (length self.old.space.0) }
+        ensures kinds { (pages : PageBytes) → pages 0 ≡ self.old.kinds.value → AreShort changes.now.list.items pages
+            → self.new.kinds.value ≡ after changes.now.list.items pages 0 }
+        ensures free { self.new.space.0 ≡ mapped self.new.kinds.value (length self.old.space.0) }
         ensures claims { reserved_of self.new.space + claim ≡ reserved_of self.old.space }
         ensures room { reserved_of self.new.space ≤ free_of self.new.space }
     {
@@ -52,12 +53,12 @@ impl SpaceMap {
 
     // Makes the changes that are of the map; `false` where none is.
     fn follow(&mut self, changes: &Changes) -> bool
-        requires short { ∥ ((pages : PageBytes) × (pages 0 ≡ self.old.kinds) × AreShort changes.now.list.items pages
-            × (length self.old.kinds ≡ PAGE_BYTES)) ∥₁ }
-        ensures kinds { (pages : PageBytes) → pages 0 ≡ self.old.kinds → AreShort changes.now.list.items pages
-            → self.new.kinds ≡ after changes.now.list.items pages 0 }
-        ensures whole { length self.new.kinds ≡ PAGE_BYTES }
-        ensures none { result ≡ false → self.new.kinds ≡ self.old.kinds }
+        requires short { ∥ ((pages : PageBytes) × (pages 0 ≡ self.old.kinds.value) × AreShort changes.now.list.items pages
+            × (length self.old.kinds.value ≡ PAGE_BYTES)) ∥₁ }
+        ensures kinds { (pages : PageBytes) → pages 0 ≡ self.old.kinds.value → AreShort changes.now.list.items pages
+            → self.new.kinds.value ≡ after changes.now.list.items pages 0 }
+        ensures whole { length self.new.kinds.value ≡ PAGE_BYTES }
+        ensures none { result ≡ false → self.new.kinds.value ≡ self.old.kinds.value }
         ensures space { self.new.space ≡ self.old.space }
     {
         let mut followed = false;

@@ -114,8 +114,8 @@ note_looked-requires-clause-pages g c = ∥∥₁_map c.requires.right (λ (open
       | in-Some+in_ok-append_end w ↦ ap (λ (t : OpScope). t.changes) w.scope-is ∙ ap (λ (t : OpScope). t.changes) w.append_end.ensures.scope
       | in_default w ↦ ap (λ (t : OpScope). t.changes) w.scope-is
     ] in
-    let given = settle_gives seen g.D.Device.may_leave opening relations counters o s _ right k c.requires.writing c.in_ok-answer.ensures.reply c.match-done.self.map c.match-done.scope map_same changes c.settle.new.self.kinds c.settle.ensures.kinds in
-    note_asks seen g.D.Device.may_leave opening relations counters o s _ right k c.requires.writing c.in_ok-answer.ensures.reply c.match-done.scope copies c.settle.new.self.kinds changes given)
+    let given = settle_gives seen g.D.Device.may_leave opening relations counters o s _ right k c.requires.writing c.in_ok-answer.ensures.reply c.match-done.self.map c.match-done.scope map_same changes c.settle.new.self.kinds.value c.settle.ensures.kinds in
+    note_asks seen g.D.Device.may_leave opening relations counters o s _ right k c.requires.writing c.in_ok-answer.ensures.reply c.match-done.scope copies c.settle.new.self.kinds.value changes given)
 
 pub note_looked-requires-clause-whole : goal.note_looked-requires-clause-whole
 note_looked-requires-clause-whole g c = ∥∥₁_elim c.requires.right (hlevel props) (λ (opening, relations, counters, right, k, few, some). let seen = g.D.Device.seen in let s = c.args.scope.now in let o = c.args.self.now in
@@ -209,29 +209,29 @@ returns g c = let d = g.D.Device in let seen = d.seen in let o = c.args.self.now
               let map_same : c.match-done.self.map ≡ o.map = ap (λ (x : Operations g.row.D.Denot). x.map) w.self-is ∙ e.map in
               let changes : c.match-done.scope.changes ≡ s.changes = ap (λ (t : OpScope). t.changes) scope in
               let rooms : c.match-done.self.rooms ≡ o.rooms = ap (λ (x : Operations g.row.D.Denot). x.rooms) w.self-is ∙ e.rooms in
-              let given = settle_gives seen d.may_leave opening relations counters o s _ right k c.requires.writing is c.match-done.self.map c.match-done.scope map_same changes c.settle.new.self.kinds f.kinds in
-              let free = settle_frees seen d.may_leave opening relations counters o s _ right k c.requires.writing is c.match-done.self.map c.match-done.scope map_same changes c.settle.new.self.space.0 c.settle.new.self.kinds f.free in
+              let given = settle_gives seen d.may_leave opening relations counters o s _ right k c.requires.writing is c.match-done.self.map c.match-done.scope map_same changes c.settle.new.self.kinds.value f.kinds in
+              let free = settle_frees seen d.may_leave opening relations counters o s _ right k c.requires.writing is c.match-done.self.map c.match-done.scope map_same changes c.settle.new.self.space.0 c.settle.new.self.kinds.value f.free in
               let done = finished seen d.may_leave opening relations counters o s _ c.in_ok-answer.answer right k c.requires.writing is w.append_end.new.scope.left (ready ∙ ap (λ (t : OpScope). record t { reply = None; stage = Ready }) scope)
               w.in-Some.done m c.note_looked.new.self (sym c.in_ok-answer.ensures.logged ∙ w.in-Some.is) c.requires.all (w.in_ok-append_end.ensures.appends.notes opening) (e.kept opening right.kept)
-              (n.store ∙ ap (λ (x : Operations g.row.D.Denot). x.store) w.self-is) (n.locks ∙ ap (λ (x : Operations g.row.D.Denot). x.locks) w.self-is) (ap (λ (x : SpaceMap). x.kinds) n.map ∙ given)
-              (subst (λ (x : SpaceMap). x.space.0 ≡ mapped x.kinds (pages o.store.pool)) (sym n.map) free) (subst (λ (x : SpaceMap). reserved_of x.space ≤ free_of x.space) (sym n.map) f.room)
+              (n.store ∙ ap (λ (x : Operations g.row.D.Denot). x.store) w.self-is) (n.locks ∙ ap (λ (x : Operations g.row.D.Denot). x.locks) w.self-is) (ap (λ (x : SpaceMap). x.kinds.value) n.map ∙ given)
+              (subst (λ (x : SpaceMap). x.space.0 ≡ mapped x.kinds.value (pages o.store.pool)) (sym n.map) free) (subst (λ (x : SpaceMap). reserved_of x.space ≤ free_of x.space) (sym n.map) f.room)
               (n.rooms ∙ ap (λ (xs : List ℕ). length xs) rooms)
               (note_followed seen d.may_leave opening relations counters o s _ c.in_ok-answer.answer right k c.requires.writing is w.append_end.new.scope.left (ready ∙ ap (λ (t : OpScope). record t { reply = None; stage = Ready }) scope)
-              c.match-done.scope scope c.settle.new.self.kinds c.match-done.self.rooms c.note_looked.new.self.rooms given n.rooms rooms n.noted) in
+              c.match-done.scope scope c.settle.new.self.kinds.value c.match-done.self.rooms c.note_looked.new.self.rooms given n.rooms rooms n.noted) in
               (done.0, (subst (Acts relations counters (world seen opening o) (world seen opening c.note_looked.new.self) s t) same done.1, same))
           | in_default w ↦
               let map_same : c.match-done.self.map ≡ o.map = ap (λ (x : Operations g.row.D.Denot). x.map) w.self-is in
               let changes : c.match-done.scope.changes ≡ s.changes = ap (λ (t : OpScope). t.changes) w.scope-is in
               let rooms : c.match-done.self.rooms ≡ o.rooms = ap (λ (x : Operations g.row.D.Denot). x.rooms) w.self-is in
-              let given = settle_gives seen d.may_leave opening relations counters o s _ right k c.requires.writing is c.match-done.self.map c.match-done.scope map_same changes c.settle.new.self.kinds f.kinds in
-              let free = settle_frees seen d.may_leave opening relations counters o s _ right k c.requires.writing is c.match-done.self.map c.match-done.scope map_same changes c.settle.new.self.space.0 c.settle.new.self.kinds f.free in
+              let given = settle_gives seen d.may_leave opening relations counters o s _ right k c.requires.writing is c.match-done.self.map c.match-done.scope map_same changes c.settle.new.self.kinds.value f.kinds in
+              let free = settle_frees seen d.may_leave opening relations counters o s _ right k c.requires.writing is c.match-done.self.map c.match-done.scope map_same changes c.settle.new.self.space.0 c.settle.new.self.kinds.value f.free in
               let done = finished_quietly seen d.may_leave opening relations counters o s _ c.in_ok-answer.answer right k c.requires.writing is s.left (ready ∙ ap (λ (t : OpScope). record t { reply = None; stage = Ready }) w.scope-is)
               c.note_looked.new.self (sym c.in_ok-answer.ensures.logged ∙ w.in_default.is)
-              (n.store ∙ ap (λ (x : Operations g.row.D.Denot). x.store) w.self-is) (n.locks ∙ ap (λ (x : Operations g.row.D.Denot). x.locks) w.self-is) (ap (λ (x : SpaceMap). x.kinds) n.map ∙ given)
-              (subst (λ (x : SpaceMap). x.space.0 ≡ mapped x.kinds (pages o.store.pool)) (sym n.map) free) (subst (λ (x : SpaceMap). reserved_of x.space ≤ free_of x.space) (sym n.map) f.room)
+              (n.store ∙ ap (λ (x : Operations g.row.D.Denot). x.store) w.self-is) (n.locks ∙ ap (λ (x : Operations g.row.D.Denot). x.locks) w.self-is) (ap (λ (x : SpaceMap). x.kinds.value) n.map ∙ given)
+              (subst (λ (x : SpaceMap). x.space.0 ≡ mapped x.kinds.value (pages o.store.pool)) (sym n.map) free) (subst (λ (x : SpaceMap). reserved_of x.space ≤ free_of x.space) (sym n.map) f.room)
               (n.rooms ∙ ap (λ (xs : List ℕ). length xs) rooms)
               (note_followed seen d.may_leave opening relations counters o s _ c.in_ok-answer.answer right k c.requires.writing is s.left (ready ∙ ap (λ (t : OpScope). record t { reply = None; stage = Ready }) w.scope-is)
-              c.match-done.scope w.scope-is c.settle.new.self.kinds c.match-done.self.rooms c.note_looked.new.self.rooms given n.rooms rooms n.noted) in
+              c.match-done.scope w.scope-is c.settle.new.self.kinds.value c.match-done.self.rooms c.note_looked.new.self.rooms given n.rooms rooms n.noted) in
               (done.0, (subst (Acts relations counters (world seen opening o) (world seen opening c.note_looked.new.self) s t) same done.1, same))
         ];
         moments = λ opening kept. subst (λ (x : g.row.D.Denot). LeavesOnly d.moment d.left_since o.store.device x (Explains opening o.store)) (sym device) (no_call seen d.may_leave opening o.store kept d.moment d.left_since g.met.D.Device.only_now);

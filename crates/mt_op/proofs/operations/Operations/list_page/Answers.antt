@@ -25,7 +25,7 @@ list_rows-requires g c =
     let D = g.D.Device in let o = c.args.self.now in
     record {
       page = records_page_of D.seen D.may_leave (relations_of c.args.base.now) o c.args.page c.in_ok-bytes.bytes (λ opening counters right. c.in_ok-bytes.ensures.held opening (relations_of c.args.base.now) counters right)
-          (ap (λ (i : ℕ). get_or o.map.kinds i 0) (sym (c.from.ensures ∙ c.get.ensures)) ∙ c.if-self-from-ne-RECORDS.false) c.requires.idle;
+          (ap (λ (i : ℕ). get_or o.map.kinds.value i 0) (sym (c.from.ensures ∙ c.get.ensures)) ∙ c.if-self-from-ne-RECORDS.false) c.requires.idle;
     }
 
 pub returns-clause-listed : goal.returns-clause-listed

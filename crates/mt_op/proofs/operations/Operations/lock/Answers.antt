@@ -43,7 +43,7 @@ look-requires-clause-next g c = let f = c.bring.ensures in
     (subst (λ (ls : List PageLock). IsToLook c.args.self.now.rooms ls c.args.scope.now c.args.page c.args.mode) (sym f.locks) c.requires.next)
 
 pub look-requires-clause-led : goal.look-requires-clause-led
-look-requires-clause-led g c = ⊎_elim inl (λ led. inr (led.0, led.1, ap (λ m. get_or m.kinds c.args.page 0) c.bring.ensures.map ∙ led.2)) c.requires.led
+look-requires-clause-led g c = ⊎_elim inl (λ led. inr (led.0, led.1, ap (λ m. get_or m.kinds.value c.args.page 0) c.bring.ensures.map ∙ led.2)) c.requires.led
 
 pub returns : goal.returns
 returns g c = let d = g.D.Device in let f = c.bring.ensures in let l = c.look.ensures in

@@ -37,11 +37,11 @@ loop-guard-preserved g c =
                 ∙ get_or-set_other old.rooms c.lock-page.result.page p room 0 (λ same. absurd (let never : None ≡ Some w.in-Some.before.now = sym none ∙ ap (looked s) same ∙ there in cc)) ∙ before.others p none;
             noted = λ pages agrees short.
                 let bytes = agrees c.lock-page.result.page w.in-Some.before.now there in
-                subst (λ (xs : List ℕ). AreNoted s (i + 1) c.args.self.now.map.kinds xs pages) (sym (rooms ∙ ap (λ (p : ℕ). set old.rooms p room) page))
-                (noted_here s c.args.self.now.map.kinds pages i d lt is old.rooms (before.noted pages agrees short) room (subst (λ (p : ℕ). p < length old.rooms) page inside)
-                (subst (λ (p : ℕ). IsRoom (get_or c.args.self.now.map.kinds p 0) (after (changes_in s) pages p) room) page (record {
-                  records = λ kind. w.room_after-room.ensures.records pages bytes short (ap (λ (m : SpaceMap). get_or m.kinds c.lock-page.result.page 0) before.map ∙ kind);
-                  others = λ kind. w.room_after-room.ensures.others (λ e. kind (ap (λ (m : SpaceMap). get_or m.kinds c.lock-page.result.page 0) (sym before.map) ∙ e));
+                subst (λ (xs : List ℕ). AreNoted s (i + 1) c.args.self.now.map.kinds.value xs pages) (sym (rooms ∙ ap (λ (p : ℕ). set old.rooms p room) page))
+                (noted_here s c.args.self.now.map.kinds.value pages i d lt is old.rooms (before.noted pages agrees short) room (subst (λ (p : ℕ). p < length old.rooms) page inside)
+                (subst (λ (p : ℕ). IsRoom (get_or c.args.self.now.map.kinds.value p 0) (after (changes_in s) pages p) room) page (record {
+                  records = λ kind. w.room_after-room.ensures.records pages bytes short (ap (λ (m : SpaceMap). get_or m.kinds.value c.lock-page.result.page 0) before.map ∙ kind);
+                  others = λ kind. w.room_after-room.ensures.others (λ e. kind (ap (λ (m : SpaceMap). get_or m.kinds.value c.lock-page.result.page 0) (sym before.map) ∙ e));
                 })));
           }
       | in_default w ↦
@@ -51,12 +51,12 @@ loop-guard-preserved g c =
             map = ap (λ (o : Operations g.row.D.Denot). o.map) w.self-is ∙ before.map;
             rooms = ap (λ (o : Operations g.row.D.Denot). length o.rooms) w.self-is ∙ before.rooms;
             others = λ p none. ap (λ (o : Operations g.row.D.Denot). get_or o.rooms p 0) w.self-is ∙ before.others p none;
-            noted = λ pages agrees short. subst (λ (o : Operations g.row.D.Denot). AreNoted s (i + 1) c.args.self.now.map.kinds o.rooms pages) (sym w.self-is)
-                (noted_none s c.args.self.now.map.kinds pages i d lt is old.rooms (before.noted pages agrees short) (sym (ap (looked s) page) ∙ w.in_default.ensures.none));
+            noted = λ pages agrees short. subst (λ (o : Operations g.row.D.Denot). AreNoted s (i + 1) c.args.self.now.map.kinds.value o.rooms pages) (sym w.self-is)
+                (noted_none s c.args.self.now.map.kinds.value pages i d lt is old.rooms (before.noted pages agrees short) (sym (ap (looked s) page) ∙ w.in_default.ensures.none));
           }
     ]
 
 pub room_after-room-requires-clause-pages : goal.room_after-room-requires-clause-pages
 room_after-room-requires-clause-pages g c = ∥∥₁_map c.requires.pages (λ (pages, agrees, short, shaped).
     let p = c.lock-page.result.page in
-    (pages, agrees p c.in-Some.before.now c.in-Some.ensures.some, short, λ kind. shaped p (ap (λ (m : SpaceMap). get_or m.kinds p 0) (sym c.loop-guard.invariant.map) ∙ kind)))
+    (pages, agrees p c.in-Some.before.now c.in-Some.ensures.some, short, λ kind. shaped p (ap (λ (m : SpaceMap). get_or m.kinds.value p 0) (sym c.loop-guard.invariant.map) ∙ kind)))

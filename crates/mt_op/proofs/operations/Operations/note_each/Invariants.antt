@@ -11,5 +11,5 @@ invariant-loop-guard g l = record {
   map : l.self.map ≡ l.fn.self.map;
   rooms : length l.self.rooms ≡ length l.fn.self.rooms;
   others : (p : ℕ) → looked l.scope p ≡ None → get_or l.self.rooms p 0 ≡ get_or l.fn.self.rooms p 0;
-  noted : (pages : PageBytes) → Agrees (looked l.scope) pages → AreShort (changes_in l.scope) pages → AreNoted l.scope l.guard-index l.fn.self.map.kinds l.self.rooms pages;
+  noted : (pages : PageBytes) → Agrees (looked l.scope) pages → AreShort (changes_in l.scope) pages → AreNoted l.scope l.guard-index l.fn.self.map.kinds.value l.self.rooms pages;
 }

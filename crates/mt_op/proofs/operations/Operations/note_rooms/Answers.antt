@@ -48,8 +48,8 @@ fits-room-requires g c = shaped_of c.view.result.now (∥∥₁_map c.requires.g
     let all = c.count-count.ensures in let same = read.page_count in
     let below = c.loop-number-test.true in let is = c.new-page.ensures in
     let page : c.new-page.result ≡ c.from.result = c.new-page.ensures ∙ sym c.from.ensures in
-    let kinds : l.map.kinds ≡ opening 0 = ap (λ (x : SpaceMap). x.kinds) before.map ∙ first in
-    let records : get_or (opening 0) c.new-page.result 0 ≡ 3 = ap (λ (bytes : List ℕ). get_or bytes c.new-page.result 0) (sym kinds) ∙ ap (λ (p : ℕ). get_or l.map.kinds p 0) page ∙ c.if-self-from-eq-RECORDS.true in
+    let kinds : l.map.kinds.value ≡ opening 0 = ap (λ (x : SpaceMap). x.kinds.value) before.map ∙ first in
+    let records : get_or (opening 0) c.new-page.result 0 ≡ 3 = ap (λ (bytes : List ℕ). get_or bytes c.new-page.result 0) (sym kinds) ∙ ap (λ (p : ℕ). get_or l.map.kinds.value p 0) page ∙ c.if-self-from-eq-RECORDS.true in
     let within : c.new-page.result < pages m.store.pool = omega (arith, same, all, below, is) in
     subst IsShaped (sym (c.view.ensures (seen m.store.device)))
     (unlogged_shaped seen opening relations counters m.store (subst (λ (n : ℕ). IsGood relations counters n opening) (sym same) good) (read.shows opening shows) c.new-page.result within records)))
@@ -92,7 +92,7 @@ loop-number-preserved g c =
           let b = w.bring.ensures in let m = w.bring.new.self in
           subst Noted (sym w.self-is)
           (noted_page d.seen d.may_leave d.moment d.left_since d.faults o l n before inside m w.noted.new.self w.fits-room.result (read_brought d.seen d.may_leave d.moment d.left_since l m b.kept b.rests b.moments b.log b.place b.flush) b.locks b.map b.rooms (unfailed _ _ w.bring.result _ b.cause w.in_ok-bring.was)
-          within (ap (λ (p : ℕ). get_or l.map.kinds p 0) (sym from) ∙ w.if-self-from-eq-RECORDS.true)
+          within (ap (λ (p : ℕ). get_or l.map.kinds.value p 0) (sym from) ∙ w.if-self-from-eq-RECORDS.true)
           (w.noted.ensures.fits ∙ ap (λ (p : ℕ). set m.rooms p w.fits-room.result) page)
           (w.fits-room.ensures ∙ ap (λ (bytes : List ℕ). fits_of bytes) (w.view.ensures (d.seen m.store.device)) ∙ ap (λ (p : ℕ). fits_of (view m.store.pool (d.seen m.store.device) p)) page))
       | else-self-from-eq-RECORDS w ↦
@@ -103,7 +103,7 @@ loop-number-preserved g c =
                 absurd (still_spare o.store.pool l.store.pool old.frames now.frames before.read.dirty c.requires.spare (x.bring.ensures.full (x.in_ok-bring.was ∙ ap Ok x.if-branch.false)).0)
             | else-self-from-eq-RECORDS-via-else-self-from-eq-RECORDS x ↦
                 subst Noted (sym (w.self-is ∙ x.self-is))
-                (passed d.seen d.may_leave d.moment d.left_since d.faults o l n before inside (λ is. x.if-self-from-eq-RECORDS.false (ap (λ (p : ℕ). get_or l.map.kinds p 0) from ∙ is)))
+                (passed d.seen d.may_leave d.moment d.left_since d.faults o l n before inside (λ is. x.if-self-from-eq-RECORDS.false (ap (λ (p : ℕ). get_or l.map.kinds.value p 0) from ∙ is)))
           ]
     ]
 

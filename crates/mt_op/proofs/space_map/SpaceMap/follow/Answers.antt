@@ -32,7 +32,7 @@ loop-change-preserved c =
     elim c.if-get-eq-MAP.branch [
       | then-get-eq-MAP w ↦
           let here : 0 ≡ d.page = sym w.if-get-eq-MAP.true ∙ c.get.ensures in
-          let kinds = ap (λ (m : SpaceMap). m.kinds) w.self-is in
+          let kinds = ap (λ (m : SpaceMap). m.kinds.value) w.self-is in
           record {
             whole = ap (λ (bytes : List ℕ). length bytes) kinds ∙ w.patch.ensures.size;
             kinds = λ pages opened short. kinds ∙ w.patch.ensures.made ∙ (λ j. patched (w.as_slice.ensures.value j) (before.kinds pages opened short j)) ∙ sym (after_here cs i d pages lt is 0 here);
@@ -41,7 +41,7 @@ loop-change-preserved c =
           }
       | else-get-eq-MAP w ↦
           let other : 0 ≡ d.page → ⊥ = λ e. w.if-get-eq-MAP.false (c.get.ensures ∙ sym e) in
-          let kinds = ap (λ (m : SpaceMap). m.kinds) w.self-is in
+          let kinds = ap (λ (m : SpaceMap). m.kinds.value) w.self-is in
           record {
             whole = ap (λ (bytes : List ℕ). length bytes) kinds ∙ before.whole;
             kinds = λ pages opened short. kinds ∙ before.kinds pages opened short ∙ sym (after_other cs i d pages lt is 0 other);
